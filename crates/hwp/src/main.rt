@@ -2,7 +2,7 @@
 #![tactic(auto)]
 
 use hwp_io::{StdSink, StdSource};
-use hwp_top_run::{Done, Open, top, top_run};
+use hwp_top::{Done, Open, top, top_run};
 use std::process::ExitCode;
 use std::sync::Wait;
 use std::thread::Threads;

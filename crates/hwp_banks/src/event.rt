@@ -7,7 +7,7 @@ use hwp_geom::{Frame, Line};
 
 /// An event of a bank: its status, the address of the error (IA32_MCi_ADDR) and what more is known (IA32_MCi_MISC:
 /// bits 5:0 give the least significant valid bit of the address, bits 8:6 its mode, where 010 is physical).
-#[derive(Clone, Copy, Debug, PartialEq, Eq)]
+#[derive(Clone, Copy, PartialEq, Eq)]
 pub struct Event {
     pub status: Status,
     pub addr: u64,
@@ -15,7 +15,7 @@ pub struct Event {
 }
 
 /// What makes the machine log an event of its own (this project's rule).
-#[derive(Clone, Copy, Debug, PartialEq, Eq)]
+#[derive(Clone, Copy, PartialEq, Eq)]
 pub enum Origin {
     /// A load, a store or a load of the kernel met a bad line.
     Access,

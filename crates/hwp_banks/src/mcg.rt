@@ -3,7 +3,7 @@ ghost use Rattle.std.specs.Prelude.{◌≡◌, ◌↔◌, Bool, true, false, IsE
 use std::marker::Model;
 
 /// A machine check came while another was in progress. The processor shuts down (Intel SDM vol. 3).
-#[derive(Clone, Copy, Debug, PartialEq, Eq)]
+#[derive(Clone, Copy, PartialEq, Eq)]
 pub struct Shutdown;
 
 /// The bit MCIP of IA32_MCG_STATUS: whether a machine check is in progress (Intel SDM vol. 3). Clauses see it as a

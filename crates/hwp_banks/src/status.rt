@@ -3,7 +3,7 @@ ghost use Rattle.std.specs.Prelude.{⊤, ◌≡◌, ◌^◌, ◌%◌, ◌/◌, [
 use bitflags::{Flag, Flags, bitflag_items};
 
 /// A status register of a bank, IA32_MCi_STATUS (Intel SDM vol. 3). Bits without a name of their own are kept.
-#[derive(Clone, Copy, Debug, PartialEq, Eq)]
+#[derive(Clone, Copy, PartialEq, Eq)]
 pub struct Status(pub u64);
 
 bitflag_items! {

@@ -1,1 +1,4 @@
 mod InOrder
+mod PartLaws
+mod LineCounts
+mod JudgeLaws

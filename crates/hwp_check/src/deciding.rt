@@ -1,15 +1,15 @@
 ghost use Rattle.std.specs.Prelude.{◌<◌, ◌^◌, IfOk};
-ghost use Rattle.hwp_script.specs.Valid.{IsValid};
+ghost use Rattle.hwp_script_read.specs.Valid.{IsValid};
 ghost use Rattle.hwp_check_rules.specs.Standing.{last_line};
 ghost use Rattle.hwp_check_rules.specs.Verdicts.{IsVerdict};
 
 use crate::early::early_verdict;
 use crate::late::late_verdict;
-use hwp_check_events::answers_fault;
-use hwp_check_rules::Verdict;
+use hwp_check_answers::answers_fault;
+use hwp_check_rules::{Rule, Verdict};
 use hwp_geom::OutOfMemory;
-use hwp_report::Report;
-use hwp_script::Script;
+use hwp_report_text::Report;
+use hwp_script_read::Script;
 use std::alloc::Global;
 
 /// Whether a run of the script can have the report; if not, the lowest rule that is broken, and the first line that breaks it.
@@ -21,8 +21,11 @@ pub fn check(alloc: Global, script: &Script, report: &Report) -> Result<Verdict,
     if let Some(verdict) = early_verdict(script, report) {
         return Ok(verdict);
     }
-    if let Some(place) = answers_fault(alloc, script, report)? {
-        return Ok(Verdict::Not { place, rule: 3 });
+    if let Some(line) = answers_fault(alloc, script, report)? {
+        return Ok(Verdict::Not {
+            line,
+            rule: Rule::Answers,
+        });
     }
     late_verdict(alloc, script, report)
 }

@@ -1,14 +1,14 @@
 ghost use Rattle.std.specs.Prelude.{◌<◌, ◌^◌, IfOk, MatchOption};
-ghost use Rattle.hwp_script.specs.Valid.{IsValid};
+ghost use Rattle.hwp_script_read.specs.Valid.{IsValid};
 ghost use Rattle.hwp_check_rules.specs.Standing.{last_line};
 ghost use Rattle.hwp_check_rules.specs.Verdicts.{HoldBelow, IsVerdict};
 
 use hwp_check_marks::marks_fault;
-use hwp_check_rules::Verdict;
+use hwp_check_rules::{Rule, Verdict};
 use hwp_check_state::{count_fault, frames_fault, losses_fault, seen_fault, stop_fault};
 use hwp_geom::OutOfMemory;
-use hwp_report::Report;
-use hwp_script::Script;
+use hwp_report_text::Report;
+use hwp_script_read::Script;
 use std::alloc::Global;
 
 /// The verdict, where the rule of policies seen or that of marks is broken.
@@ -22,11 +22,17 @@ fn marked_verdict(
     requires below { HoldBelow 4 script.now report.now }
     ensures { IfOk result (λ found. MatchOption found (HoldBelow 6 script.now report.now) (IsVerdict script.now report.now)) }
 {
-    if let Some(place) = seen_fault(alloc, script, report)? {
-        return Ok(Some(Verdict::Not { place, rule: 4 }));
+    if let Some(line) = seen_fault(alloc, script, report)? {
+        return Ok(Some(Verdict::Not {
+            line,
+            rule: Rule::Seen,
+        }));
     }
-    if let Some(place) = marks_fault(alloc, script, report)? {
-        return Ok(Some(Verdict::Not { place, rule: 5 }));
+    if let Some(line) = marks_fault(alloc, script, report)? {
+        return Ok(Some(Verdict::Not {
+            line,
+            rule: Rule::Marks,
+        }));
     }
     Ok(None)
 }
@@ -37,14 +43,23 @@ fn counted_verdict(script: &Script, report: &Report) -> Option<Verdict>
     requires below { HoldBelow 6 script.now report.now }
     ensures { MatchOption result (HoldBelow 9 script.now report.now) (IsVerdict script.now report.now) }
 {
-    if let Some(place) = count_fault(script, report) {
-        return Some(Verdict::Not { place, rule: 6 });
+    if let Some(line) = count_fault(script, report) {
+        return Some(Verdict::Not {
+            line,
+            rule: Rule::Count,
+        });
     }
-    if let Some(place) = losses_fault(script, report) {
-        return Some(Verdict::Not { place, rule: 7 });
+    if let Some(line) = losses_fault(script, report) {
+        return Some(Verdict::Not {
+            line,
+            rule: Rule::Losses,
+        });
     }
-    if let Some(place) = stop_fault(script, report) {
-        return Some(Verdict::Not { place, rule: 8 });
+    if let Some(line) = stop_fault(script, report) {
+        return Some(Verdict::Not {
+            line,
+            rule: Rule::Stop,
+        });
     }
     None
 }
@@ -67,7 +82,10 @@ pub(crate) fn late_verdict(
         return Ok(verdict);
     }
     match frames_fault(alloc, script, report)? {
-        Some(place) => Ok(Verdict::Not { place, rule: 9 }),
+        Some(line) => Ok(Verdict::Not {
+            line,
+            rule: Rule::Frames,
+        }),
         None => Ok(Verdict::Legal),
     }
 }

@@ -3,12 +3,12 @@ use Rattle.std.proofs.Common.{◌≡◌, ◌<◌, false, List, Some, None, get_o
 use Rattle.std.proofs.lemmas.Option.{get_or_from_slice_get, slice_get-get_or, slice_get-map}
 use Rattle.hwp_geom.specs.declared.Cpu.{Cpu}
 use Rattle.hwp_page.specs.declared.At.{At}
-use Rattle.hwp_script.specs.declared.Command.{Command}
-use Rattle.hwp_report.specs.declared.Answer.{Answer}
-use Rattle.hwp_report.specs.declared.CpuLine.{CpuLine}
-use Rattle.hwp_report.specs.declared.Report.{Report}
-use Rattle.hwp_evidence.specs.Firsts.{AreAnswersOf, entry_of}
-use Rattle.hwp_evidence.specs.Named.{flagged_pages}
+use Rattle.hwp_script_read.specs.declared.Command.{Command}
+use Rattle.hwp_report_text.specs.declared.Answer.{Answer}
+use Rattle.hwp_report_text.specs.declared.CpuLine.{CpuLine}
+use Rattle.hwp_report_text.specs.declared.Report.{Report}
+use Rattle.hwp_check_evidence.specs.Firsts.{AreAnswersOf, entry_of}
+use Rattle.hwp_check_evidence.specs.Named.{flagged_pages}
 use Rattle.hwp_check_answers.specs.declared.judging.Naming.{Naming}
 use Rattle.hwp_check_answers.specs.Facts.{AreNamings}
 

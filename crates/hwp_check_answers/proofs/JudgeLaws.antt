@@ -6,19 +6,19 @@ use Rattle.hwp_geom.specs.declared.Who.{Who}
 use Rattle.hwp_geom.specs.declared.Mask.{Mask}
 use Rattle.hwp_page.specs.declared.At.{At}
 use Rattle.hwp_page.specs.declared.PageState.{PageState}
-use Rattle.hwp_script.specs.declared.Command.{Command}
-use Rattle.hwp_script.specs.declared.Command.TheVariants as commands
-use Rattle.hwp_script.specs.declared.Script.{Script}
-use Rattle.hwp_report.specs.declared.Answer.{Answer}
-use Rattle.hwp_report.specs.declared.Answer.TheVariants as answers
-use Rattle.hwp_report.specs.declared.CpuLine.{CpuLine}
-use Rattle.hwp_report.specs.declared.Report.{Report}
-use Rattle.hwp_law.specs.Commands.{process_at}
-use Rattle.hwp_law.specs.Endings.{IsOver}
-use Rattle.hwp_law.specs.Causes.{IsCaused}
-use Rattle.hwp_law.specs.States.{HadState, IsInWindow, entry_named, state_named}
-use Rattle.hwp_evidence.specs.Ends.{HadEnded}
-use Rattle.hwp_evidence.specs.Named.{HasOther}
+use Rattle.hwp_script_read.specs.declared.Command.{Command}
+use Rattle.hwp_script_read.specs.declared.Command.TheVariants as commands
+use Rattle.hwp_script_read.specs.declared.Script.{Script}
+use Rattle.hwp_report_text.specs.declared.Answer.{Answer}
+use Rattle.hwp_report_text.specs.declared.Answer.TheVariants as answers
+use Rattle.hwp_report_text.specs.declared.CpuLine.{CpuLine}
+use Rattle.hwp_report_text.specs.declared.Report.{Report}
+use Rattle.hwp_check_evidence.specs.hwp_law.Commands.{process_at}
+use Rattle.hwp_check_evidence.specs.hwp_law.Endings.{IsOver}
+use Rattle.hwp_check_evidence.specs.hwp_law.Causes.{IsCaused}
+use Rattle.hwp_check_evidence.specs.hwp_law.States.{HadState, IsInWindow, entry_named, state_named}
+use Rattle.hwp_check_evidence.specs.Ends.{HadEnded}
+use Rattle.hwp_check_evidence.specs.Named.{HasOther}
 use Rattle.hwp_check_rules.specs.AnswerFaults.{IsOutside, IsRevived, IsUnnamed}
 use Rattle.hwp_check_rules.specs.Answered.{IsRight}
 use Rattle.hwp_check_causes.specs.Asking.{IsSo, is_by_state}

@@ -10,3 +10,6 @@ mod JoinLaws
 pub mod RuleLaws
 pub mod BreakLaws
 mod RuleJoin
+mod Places
+mod Processors
+mod Reports

@@ -8,25 +8,26 @@ use Rattle.hwp_geom.specs.declared.Proc.{Proc}
 use Rattle.hwp_geom.specs.declared.Who.{Who}
 use Rattle.hwp_page.specs.declared.At.{At}
 use Rattle.hwp_page.specs.declared.Entry.{Entry}
-use Rattle.hwp_script.specs.Valid.{IsValid}
-use Rattle.hwp_script.specs.declared.Command.{Command}
-use Rattle.hwp_script.specs.declared.Script.{Script}
-use Rattle.hwp_report.specs.declared.Answer.{Answer}
-use Rattle.hwp_report.specs.declared.Answer.TheVariants as answers
-use Rattle.hwp_report.specs.declared.CpuLine.{CpuLine}
-use Rattle.hwp_report.specs.declared.CpuLine.TheVariants as lines
-use Rattle.hwp_report.specs.declared.Report.{Report}
-use Rattle.hwp_law.specs.Answers.{AreInWindows, AreNamed}
-use Rattle.hwp_law.specs.Commands.{process_at, process_of_thread, thread_of}
-use Rattle.hwp_law.specs.Endings.{EndingsStay, IsOver}
-use Rattle.hwp_law.specs.Lines.{AnswerLine, answer_among, answer_in}
-use Rattle.hwp_law.specs.Places.{command_at}
-use Rattle.hwp_law.specs.States.{IsInWindow, entry_named}
-use Rattle.hwp_evidence.specs.Named.{is_at}
-use Rattle.hwp_evidence.proofs.NamedLaws.{at-is, named-at}
-use Rattle.hwp_evidence.proofs.Reading.{item_at, item_of_take}
+use Rattle.hwp_script_read.specs.Valid.{IsValid}
+use Rattle.hwp_script_read.specs.declared.Command.{Command}
+use Rattle.hwp_script_read.specs.declared.Script.{Script}
+use Rattle.hwp_report_text.specs.declared.Answer.{Answer}
+use Rattle.hwp_report_text.specs.declared.Answer.TheVariants as answers
+use Rattle.hwp_report_text.specs.declared.CpuLine.{CpuLine}
+use Rattle.hwp_report_text.specs.declared.CpuLine.TheVariants as lines
+use Rattle.hwp_report_text.specs.declared.Report.{Report}
+use Rattle.hwp_check_evidence.specs.hwp_law.Answers.{AreInWindows, AreNamed}
+use Rattle.hwp_check_evidence.specs.hwp_law.Commands.{process_at, process_of_thread, thread_of}
+use Rattle.hwp_check_evidence.specs.hwp_law.Endings.{EndingsStay, IsOver}
+use Rattle.hwp_check_evidence.specs.hwp_law.Lines.{AnswerLine, answer_among, answer_in}
+use Rattle.hwp_check_evidence.specs.hwp_law.Places.{command_at}
+use Rattle.hwp_check_evidence.specs.hwp_law.States.{IsInWindow, entry_named}
+use Rattle.hwp_check_evidence.specs.Named.{is_at}
+use Rattle.hwp_check_evidence.proofs.NamedLaws.{at-is, named-at}
+use Rattle.hwp_check_evidence.proofs.ListItems.{item_at, item_of_take}
 use Rattle.hwp_check_rules.specs.Answered.{AreAnswered, is_answer}
-use Rattle.hwp_check_rules.specs.Verdicts.{Histories, HoldBelow, Shape}
+use Rattle.hwp_check_rules.specs.declared.Rule.TheVariants.{Histories, Shape}
+use Rattle.hwp_check_rules.specs.Verdicts.{HoldBelow}
 use Rattle.hwp_check_answers.specs.Disorders.{AreOrderly}
 use Rattle.hwp_check_answers.specs.Facts.{at_number}
 use Rattle.hwp_check_answers.specs.Judging.{IsGood}

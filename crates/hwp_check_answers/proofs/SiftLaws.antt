@@ -5,16 +5,17 @@ use Rattle.std.proofs.lemmas.Bool.{cases_eq, cases_lt}
 use Rattle.std.proofs.lemmas.Option.{same_Some, slice_get_within}
 use Rattle.hwp_geom.specs.declared.Cpu.{Cpu}
 use Rattle.hwp_geom.specs.declared.Who.{Who}
-use Rattle.hwp_script.specs.declared.Command.{Command}
-use Rattle.hwp_script.specs.declared.Script.{Script}
-use Rattle.hwp_report.specs.declared.Answer.{Answer}
-use Rattle.hwp_report.specs.declared.CpuLine.{CpuLine}
-use Rattle.hwp_report.specs.declared.CpuLine.TheVariants as lines
-use Rattle.hwp_report.specs.declared.Report.{Report}
-use Rattle.hwp_evidence.proofs.Reading.{item_at}
+use Rattle.hwp_script_read.specs.declared.Command.{Command}
+use Rattle.hwp_script_read.specs.declared.Script.{Script}
+use Rattle.hwp_report_text.specs.declared.Answer.{Answer}
+use Rattle.hwp_report_text.specs.declared.CpuLine.{CpuLine}
+use Rattle.hwp_report_text.specs.declared.CpuLine.TheVariants as lines
+use Rattle.hwp_report_text.specs.declared.Report.{Report}
+use Rattle.hwp_check_evidence.proofs.ListItems.{item_at}
 use Rattle.hwp_check_rules.specs.AnswerFaults.{IsAnswerWrong}
 use Rattle.hwp_check_rules.specs.Standing.{cpu_line}
-use Rattle.hwp_check_rules.specs.Verdicts.{HoldBelow, Shape}
+use Rattle.hwp_check_rules.specs.declared.Rule.TheVariants.{Shape}
+use Rattle.hwp_check_rules.specs.Verdicts.{HoldBelow}
 use Rattle.hwp_check_answers.specs.Facts.{at_number}
 use Rattle.hwp_check_answers.specs.Judging.{IsGood}
 use Rattle.hwp_check_answers.specs.Placing.{AreInPlace, IsFirstOut}

@@ -2,24 +2,24 @@
 use Rattle.std.specs.Prelude.{◌≡◌, ◌<◌, ℕ, false, List, Some, None, length, replicate, slice_get, slice_index_or, take}
 use Rattle.hwp_geom.specs.declared.Cpu.{Cpu}
 use Rattle.hwp_geom.specs.declared.Who.{Who}
-use Rattle.hwp_script.specs.declared.Command.{Command}
-use Rattle.hwp_script.specs.declared.Script.{Script}
-use Rattle.hwp_report.specs.declared.Answer.{Answer}
-use Rattle.hwp_report.specs.declared.CpuLine.{CpuLine}
-use Rattle.hwp_report.specs.declared.CpuLine.TheVariants as lines
-use Rattle.hwp_report.specs.declared.Report.{Report}
-use Rattle.hwp_law.specs.Lines.{answer_among}
-use Rattle.hwp_evidence.specs.Counts.{AreCounts, AreFlags}
-use Rattle.hwp_evidence.specs.Firsts.{entry_of}
-use Rattle.hwp_evidence.specs.Named.{flagged_pages}
+use Rattle.hwp_script_read.specs.declared.Command.{Command}
+use Rattle.hwp_script_read.specs.declared.Script.{Script}
+use Rattle.hwp_report_text.specs.declared.Answer.{Answer}
+use Rattle.hwp_report_text.specs.declared.CpuLine.{CpuLine}
+use Rattle.hwp_report_text.specs.declared.CpuLine.TheVariants as lines
+use Rattle.hwp_report_text.specs.declared.Report.{Report}
+use Rattle.hwp_check_evidence.specs.hwp_law.Lines.{answer_among}
+use Rattle.hwp_check_evidence.specs.Counts.{AreCounts, AreFlags}
+use Rattle.hwp_check_evidence.specs.Firsts.{entry_of}
+use Rattle.hwp_check_evidence.specs.Named.{flagged_pages}
 use Rattle.hwp_check_rules.specs.AnswerFaults.{IsAnswerWrong}
 use Rattle.hwp_check_causes.specs.Befores.{AreBefore}
 use Rattle.hwp_check_answers.specs.Judging.{IsGood}
 use Rattle.hwp_check_causes.specs.Knowing.{IsKnown, IsOwn}
 use Rattle.hwp_check_answers.specs.declared.facts.Facts.{Facts}
 use Rattle.hwp_check_answers.specs.declared.judging.Naming.{Naming}
-use Rattle.hwp_check_causes.specs.declared.Known.{Known}
-use Rattle.hwp_check_causes.specs.declared.Own.{Own}
+use Rattle.hwp_check_causes.specs.declared.ReportFacts.{ReportFacts}
+use Rattle.hwp_check_causes.specs.declared.ProcessorFacts.{ProcessorFacts}
 
 -- the policies, the events and the ends of the commands
 pub record AreFacts (commands : List Command) (rows : List CpuLine) (facts : Facts) : Type 0 where
@@ -64,7 +64,7 @@ pub record IsFirstBad (script : Script) (report : Report) (cpu : Cpu) (commands 
   pub before : AreGoodRows script report cpu commands rows row
 
 -- all that is known of a processor, whose commands and lines these are
-pub record IsReady (script : Script) (report : Report) (cpu : Cpu) (commands : List Command) (rows : List CpuLine) (known : Known) (own : Own) (facts : Facts) (naming : Naming) : Type 0 where
+pub record IsReady (script : Script) (report : Report) (cpu : Cpu) (commands : List Command) (rows : List CpuLine) (known : ReportFacts) (own : ProcessorFacts) (facts : Facts) (naming : Naming) : Type 0 where
   pub of_script : slice_get script.lists cpu.0 ≡ Some commands
   pub of_report : slice_get report.cpus cpu.0 ≡ Some rows
   pub report_known : IsKnown script report known

@@ -1,11 +1,11 @@
 -- The lines that break the rule of answers: those of answers and those of events.
 use Rattle.std.specs.Prelude.{◌≡◌, ◌⊎◌, ℕ, false, List, Some, slice_get}
 use Rattle.hwp_geom.specs.declared.Cpu.{Cpu}
-use Rattle.hwp_script.specs.declared.Command.{Command}
-use Rattle.hwp_script.specs.declared.Script.{Script}
-use Rattle.hwp_report.specs.declared.CpuLine.{CpuLine}
-use Rattle.hwp_report.specs.declared.Report.{Report}
-use Rattle.hwp_law.specs.Events.{AreEvents}
+use Rattle.hwp_script_read.specs.declared.Command.{Command}
+use Rattle.hwp_script_read.specs.declared.Script.{Script}
+use Rattle.hwp_report_text.specs.declared.CpuLine.{CpuLine}
+use Rattle.hwp_report_text.specs.declared.Report.{Report}
+use Rattle.hwp_check_evidence.specs.hwp_law.Events.{AreEvents}
 use Rattle.hwp_check_rules.specs.AnswerFaults.{IsEventWrong, LacksEvents}
 use Rattle.hwp_check_rules.specs.Answered.{is_answer, seq_of}
 use Rattle.hwp_check_rules.specs.Standing.{row_line}

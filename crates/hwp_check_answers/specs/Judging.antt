@@ -4,20 +4,20 @@ use Rattle.hwp_geom.specs.declared.Cpu.{Cpu}
 use Rattle.hwp_geom.specs.declared.Proc.{Proc}
 use Rattle.hwp_geom.specs.declared.Who.{Who}
 use Rattle.hwp_page.specs.Orders.{IsEarlier}
-use Rattle.hwp_script.specs.declared.Command.{Command}
-use Rattle.hwp_script.specs.declared.Script.{Script}
-use Rattle.hwp_report.specs.declared.Answer.{Answer}
-use Rattle.hwp_report.specs.declared.Answer.TheVariants as answers
-use Rattle.hwp_report.specs.declared.CpuLine.{CpuLine}
-use Rattle.hwp_report.specs.declared.CpuLine.TheVariants as lines
-use Rattle.hwp_report.specs.declared.Report.{Report}
-use Rattle.hwp_law.specs.Commands.{process_at}
-use Rattle.hwp_law.specs.Endings.{WasGone}
-use Rattle.hwp_law.specs.Lines.{answer_among}
-use Rattle.hwp_law.specs.States.{entry_named}
-use Rattle.hwp_evidence.specs.Ends.{process_numbers}
-use Rattle.hwp_evidence.specs.Named.{flagged_pages}
-use Rattle.hwp_evidence.specs.Windows.{AreOfEarlier, floors_of}
+use Rattle.hwp_script_read.specs.declared.Command.{Command}
+use Rattle.hwp_script_read.specs.declared.Script.{Script}
+use Rattle.hwp_report_text.specs.declared.Answer.{Answer}
+use Rattle.hwp_report_text.specs.declared.Answer.TheVariants as answers
+use Rattle.hwp_report_text.specs.declared.CpuLine.{CpuLine}
+use Rattle.hwp_report_text.specs.declared.CpuLine.TheVariants as lines
+use Rattle.hwp_report_text.specs.declared.Report.{Report}
+use Rattle.hwp_check_evidence.specs.hwp_law.Commands.{process_at}
+use Rattle.hwp_check_evidence.specs.hwp_law.Endings.{WasGone}
+use Rattle.hwp_check_evidence.specs.hwp_law.Lines.{answer_among}
+use Rattle.hwp_check_evidence.specs.hwp_law.States.{entry_named}
+use Rattle.hwp_check_evidence.specs.Ends.{process_numbers}
+use Rattle.hwp_check_evidence.specs.Named.{flagged_pages}
+use Rattle.hwp_check_evidence.specs.Windows.{AreOfEarlier, floors_of}
 use Rattle.hwp_check_rules.specs.AnswerFaults.{IsOutside, IsRevived, IsUnnamed}
 use Rattle.hwp_check_rules.specs.Answered.{IsRight, seq_of}
 use Rattle.hwp_check_answers.specs.declared.judging.Course.{Course}

@@ -4,3 +4,4 @@ pub mod Judging
 pub mod Facts
 pub mod Sifting
 pub mod Joining
+pub mod Firsts

@@ -1,9 +1,10 @@
 ghost use Rattle.std.specs.Prelude.{◌<◌, ◌^◌, IfOk, MatchOption};
-ghost use Rattle.hwp_script.specs.Valid.{IsValid};
+ghost use Rattle.hwp_script_read.specs.Valid.{IsValid};
 ghost use Rattle.hwp_check_rules.specs.Firsts.{IsLeast};
 ghost use Rattle.hwp_check_rules.specs.Standing.{last_line};
-ghost use Rattle.hwp_check_rules.specs.Verdicts.{Answers, HoldBelow, Holds, IsBroken};
-ghost use Rattle.hwp_law.specs.Events.{AreEvents};
+ghost use Rattle.hwp_check_rules.specs.declared.Rule.TheVariants.{Answers};
+ghost use Rattle.hwp_check_rules.specs.Verdicts.{HoldBelow, Holds, IsBroken};
+ghost use Rattle.hwp_check_evidence.specs.hwp_law.Events.{AreEvents};
 ghost use Rattle.hwp_check_answers.specs.Joining.{BreakEvents, IsEventLine};
 ghost use Rattle.hwp_check_answers.specs.Sifting.{AreAllRight, IsAnswerLine};
 
@@ -11,8 +12,8 @@ use crate::disorders::disorders;
 use crate::sifting::unsound_answers;
 use hwp_check_rules::soonest;
 use hwp_geom::OutOfMemory;
-use hwp_report::Report;
-use hwp_script::Script;
+use hwp_report_text::Report;
+use hwp_script_read::Script;
 use std::alloc::Global;
 
 /// The first line of a report that is out of place, where a command has no answer, or where an answer is wrong; its event lines

@@ -1,14 +1,14 @@
 ghost use Rattle.std.specs.Prelude.{◌≡◌, IfOk, [], false, length, replicate};
-ghost use Rattle.hwp_evidence.specs.Ends.{process_numbers};
-ghost use Rattle.hwp_evidence.specs.Windows.{raised};
+ghost use Rattle.hwp_check_evidence.specs.Ends.{process_numbers};
+ghost use Rattle.hwp_check_evidence.specs.Windows.{raised};
 ghost use Rattle.hwp_check_answers.specs.Judging.{IsCourse, gone_after, gone_by};
 
 use crate::judging::Course;
 use hwp_check_causes::process_at;
-use hwp_evidence::{no_floors, raise};
+use hwp_check_evidence::{no_floors, raise};
 use hwp_geom::{Cpu, OutOfMemory, Proc, Who};
-use hwp_report::{Answer, CpuLine, Report};
-use hwp_script::Script;
+use hwp_report_text::{Answer, CpuLine, Report};
+use hwp_script_read::Script;
 use std::alloc::Global;
 
 /// The numbers that a process can have.

@@ -4,12 +4,12 @@ ghost use Rattle.hwp_check_answers.specs.Facts.{AreFacts, AreNamings};
 ghost use Rattle.hwp_check_causes.specs.Knowing.{IsOwn};
 
 use crate::judging::Naming;
-use hwp_check_causes::{Own, Told, own_of, policies_before};
-use hwp_evidence::{entries_named, event_counts, event_ends, first_answers};
+use hwp_check_causes::{CommandFacts, ProcessorFacts, own_of, policies_before};
+use hwp_check_evidence::{entries_named, event_counts, event_ends, first_answers};
 use hwp_geom::{Cpu, OutOfMemory};
 use hwp_kill::Policy;
-use hwp_report::{CpuLine, Report};
-use hwp_script::{Command, Script};
+use hwp_report_text::{CpuLine, Report};
+use hwp_script_read::{Command, Script};
 use std::alloc::Global;
 
 /// What is known of the commands of one processor by their numbers.
@@ -49,7 +49,7 @@ pub(crate) fn own_and_naming(
     cpu: Cpu,
     commands: &[Command],
     rows: &[CpuLine],
-) -> Result<(Own, Naming), OutOfMemory>
+) -> Result<(ProcessorFacts, Naming), OutOfMemory>
     requires { length report.now.pages ≤ 256 }
     ensures own { IfOk result (λ known. IsOwn script.now report.now cpu known.0) }
     ensures naming { IfOk result (λ known. AreNamings report.now cpu commands.now rows.now known.1) }
@@ -92,12 +92,12 @@ fn ends_at(facts: &Facts, seq: u32) -> bool
 }
 
 /// What is known of the command with the number.
-pub(crate) fn told_at(facts: &Facts, seq: u32) -> Told
+pub(crate) fn told_at(facts: &Facts, seq: u32) -> CommandFacts
     ensures old { result.old ≡ slice_index_or facts.now.policies.items seq Default }
     ensures events { result.events ≡ slice_index_or facts.now.counts.items seq 0 }
     ensures ends { result.ends ≡ slice_index_or facts.now.ends.items seq false }
 {
-    Told {
+    CommandFacts {
         old: policy_at(facts, seq),
         events: count_at(facts, seq),
         ends: ends_at(facts, seq),

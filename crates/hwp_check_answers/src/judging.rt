@@ -1,17 +1,19 @@
 ghost use Rattle.std.specs.Prelude.{◌≡◌, ◌⊎◌, ◌↔◌, ◌<◌, IsTrue, MatchBool, Some, length, slice_index_or, false};
-ghost use Rattle.hwp_law.specs.Endings.{IsOver};
-ghost use Rattle.hwp_law.specs.States.{IsInWindow, state_named};
-ghost use Rattle.hwp_evidence.specs.Ends.{HadEnded};
+ghost use Rattle.hwp_check_evidence.specs.hwp_law.Endings.{IsOver};
+ghost use Rattle.hwp_check_evidence.specs.hwp_law.States.{IsInWindow, state_named};
+ghost use Rattle.hwp_check_evidence.specs.Ends.{HadEnded};
 ghost use Rattle.hwp_check_rules.specs.AnswerFaults.{IsAnswerWrong, IsOutside, IsRevived, IsUnnamed};
 ghost use Rattle.hwp_check_answers.specs.Judging.{HadGone, IsCourse, IsGood, IsNaming};
 ghost use Rattle.hwp_check_causes.specs.Knowing.{IsKnown, IsOwn, IsTold};
 
-use hwp_check_causes::{Known, Own, Told, is_right, named_state, process_at};
-use hwp_evidence::{had_ended, is_elsewhere, is_in_span, is_not_below};
+use hwp_check_causes::{
+    CommandFacts, ProcessorFacts, ReportFacts, is_right, named_state, process_at,
+};
+use hwp_check_evidence::{had_ended, is_elsewhere, is_in_span, is_not_below};
 use hwp_geom::{Proc, Who};
 use hwp_page::At;
-use hwp_report::{Answer, CpuLine, Report};
-use hwp_script::{Command, Script};
+use hwp_report_text::{Answer, CpuLine, Report};
+use hwp_script_read::{Command, Script};
 
 /// What the lines before an answer tell.
 #[derive(Drop)]
@@ -70,7 +72,7 @@ fn had_gone(
 fn was_over(
     script: &Script,
     report: &Report,
-    own: &Own,
+    own: &ProcessorFacts,
     before: &[CpuLine],
     course: &Course,
     later: Who,
@@ -89,7 +91,7 @@ fn was_over(
 pub(crate) fn is_revived(
     script: &Script,
     report: &Report,
-    own: &Own,
+    own: &ProcessorFacts,
     before: &[CpuLine],
     course: &Course,
     later: Who,
@@ -112,7 +114,7 @@ pub(crate) fn is_revived(
 fn is_in_window(
     script: &Script,
     report: &Report,
-    own: &Own,
+    own: &ProcessorFacts,
     before: &[CpuLine],
     course: &Course,
     who: Who,
@@ -134,7 +136,7 @@ fn is_in_window(
 pub(crate) fn is_outside(
     script: &Script,
     report: &Report,
-    own: &Own,
+    own: &ProcessorFacts,
     before: &[CpuLine],
     course: &Course,
     who: Who,
@@ -172,9 +174,9 @@ pub(crate) fn is_unnamed(report: &Report, naming: &Naming, who: Who, answer: &An
 pub(crate) fn is_good(
     script: &Script,
     report: &Report,
-    known: &Known,
-    own: &Own,
-    told: Told,
+    known: &ReportFacts,
+    own: &ProcessorFacts,
+    told: CommandFacts,
     naming: &Naming,
     before: &[CpuLine],
     course: &Course,

@@ -1,13 +1,17 @@
-//! The rule of answers: each line of a processor in its place, an answer for each command, and each answer right.
+//! The rule of answers: each line of a processor in its place, an answer for each command, each answer and each event line right;
+//! and the first line of a report that breaks it.
 #![tactic(auto)]
 
 mod answering;
 mod course;
 mod disorders;
+mod events;
 mod facts;
 mod judging;
 mod placing;
+mod rule;
 mod sifting;
 mod walk;
 
 pub use answering::{answer_lines, first_of_both};
+pub use rule::answers_fault;

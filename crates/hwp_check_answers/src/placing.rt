@@ -4,8 +4,8 @@ ghost use Rattle.hwp_check_answers.specs.Placing.{AreInPlace, AreSet, HasNone, H
 
 use hwp_check_rules::is_answer;
 use hwp_geom::OutOfMemory;
-use hwp_report::CpuLine;
-use hwp_script::Command;
+use hwp_report_text::CpuLine;
+use hwp_script_read::Command;
 use std::alloc::Global;
 
 /// The number of the command that a line is of.

@@ -1,5 +1,5 @@
 ghost use Rattle.std.specs.Prelude.{◌≡◌, ◌+◌, ◌<◌, ◌≤◌, ◌^◌, IfOk, MatchOption, Some, length, slice_get};
-ghost use Rattle.hwp_script.specs.Valid.{IsValid};
+ghost use Rattle.hwp_script_read.specs.Valid.{IsValid};
 ghost use Rattle.hwp_check_answers.specs.Facts.{AreGoodRows, IsFirstBad};
 ghost use Rattle.hwp_check_causes.specs.Knowing.{IsKnown};
 ghost use Rattle.hwp_check_answers.specs.Sifting.{AreAllSound, AreSound, IsCut, IsFirstAnswer, IsUnsound};
@@ -10,11 +10,11 @@ use crate::course::begin;
 use crate::facts::{facts_of, own_and_naming};
 use crate::placing::first_out;
 use crate::walk::first_bad;
-use hwp_check_causes::{Known, known_of};
+use hwp_check_causes::{ReportFacts, known_of};
 use hwp_check_rules::{commands_of, cpu_at, rows_on};
 use hwp_geom::{Cpu, OutOfMemory};
-use hwp_report::{CpuLine, Report};
-use hwp_script::{Command, Script};
+use hwp_report_text::{CpuLine, Report};
+use hwp_script_read::{Command, Script};
 use std::alloc::Global;
 
 /// How many lines of a processor are in place.
@@ -33,7 +33,7 @@ fn first_wrong(
     alloc: Global,
     script: &Script,
     report: &Report,
-    known: &Known,
+    known: &ReportFacts,
     cpu: Cpu,
     commands: &[Command],
     rows: &[CpuLine],
@@ -60,7 +60,7 @@ fn unsound(
     alloc: Global,
     script: &Script,
     report: &Report,
-    known: &Known,
+    known: &ReportFacts,
     cpu: Cpu,
     commands: &[Command],
     rows: &[CpuLine],

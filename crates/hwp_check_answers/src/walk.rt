@@ -1,7 +1,7 @@
 ghost use Rattle.std.specs.Prelude.{◌≡◌, ◌≤◌, [], MatchBool, MatchOption, Some, count_by, length, slice_get, take};
 ghost use Rattle.std.specs.Option.{option_copied};
-ghost use Rattle.hwp_report.specs.declared.CpuLine.TheVariants as lines;
-ghost use Rattle.hwp_law.specs.Lines.{answer_among};
+ghost use Rattle.hwp_report_text.specs.declared.CpuLine.TheVariants as lines;
+ghost use Rattle.hwp_check_evidence.specs.hwp_law.Lines.{answer_among};
 ghost use Rattle.hwp_check_rules.specs.Answered.{is_answer};
 ghost use Rattle.hwp_check_answers.specs.Facts.{AreGoodRows, IsBadRow, IsFirstBad, IsGoodRow, IsReady, at_number};
 ghost use Rattle.hwp_check_answers.specs.Judging.{IsCourse, IsNextOf};
@@ -10,17 +10,17 @@ ghost use Rattle.hwp_check_answers.specs.Placing.{FirstInPlace};
 use crate::course::note;
 use crate::facts::{Facts, told_at};
 use crate::judging::{Course, Naming, is_good};
-use hwp_check_causes::{Known, Own};
+use hwp_check_causes::{ProcessorFacts, ReportFacts};
 use hwp_geom::{Cpu, Who};
-use hwp_report::{Answer, CpuLine, Report};
-use hwp_script::{Command, Script};
+use hwp_report_text::{Answer, CpuLine, Report};
+use hwp_script_read::{Command, Script};
 
 /// Whether nothing is wrong about the answer of a command, if there is such a command.
 fn is_good_answer(
     script: &Script,
     report: &Report,
-    known: &Known,
-    own: &Own,
+    known: &ReportFacts,
+    own: &ProcessorFacts,
     facts: &Facts,
     naming: &Naming,
     cpu: Cpu,
@@ -59,8 +59,8 @@ fn command_at(commands: &[Command], seq: u32) -> Option<&Command>
 fn is_good_row(
     script: &Script,
     report: &Report,
-    known: &Known,
-    own: &Own,
+    known: &ReportFacts,
+    own: &ProcessorFacts,
     facts: &Facts,
     naming: &Naming,
     cpu: Cpu,
@@ -89,8 +89,8 @@ fn is_good_row(
 pub(crate) fn first_bad(
     script: &Script,
     report: &Report,
-    known: &Known,
-    own: &Own,
+    known: &ReportFacts,
+    own: &ProcessorFacts,
     facts: &Facts,
     naming: &Naming,
     cpu: Cpu,

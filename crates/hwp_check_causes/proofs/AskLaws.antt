@@ -5,15 +5,15 @@ use Rattle.hwp_geom.specs.declared.Who.{Who}
 use Rattle.hwp_kill.specs.declared.Reply.{Reply}
 use Rattle.hwp_kill.specs.declared.Reply.TheVariants as replies
 use Rattle.hwp_page.specs.declared.At.{At}
-use Rattle.hwp_script.specs.declared.Command.{Command}
-use Rattle.hwp_script.specs.declared.Command.TheVariants as commands
-use Rattle.hwp_script.specs.declared.Script.{Script}
-use Rattle.hwp_report.specs.declared.Answer.{Answer}
-use Rattle.hwp_report.specs.declared.Answer.TheVariants as answers
-use Rattle.hwp_report.specs.declared.Report.{Report}
-use Rattle.hwp_law.specs.Answers.{reply_answer}
-use Rattle.hwp_law.specs.Causes.{IsCaused}
-use Rattle.hwp_law.specs.States.{state_named}
+use Rattle.hwp_script_read.specs.declared.Command.{Command}
+use Rattle.hwp_script_read.specs.declared.Command.TheVariants as commands
+use Rattle.hwp_script_read.specs.declared.Script.{Script}
+use Rattle.hwp_report_text.specs.declared.Answer.{Answer}
+use Rattle.hwp_report_text.specs.declared.Answer.TheVariants as answers
+use Rattle.hwp_report_text.specs.declared.Report.{Report}
+use Rattle.hwp_check_evidence.specs.hwp_law.Answers.{reply_answer}
+use Rattle.hwp_check_evidence.specs.hwp_law.Causes.{IsCaused}
+use Rattle.hwp_check_evidence.specs.hwp_law.States.{state_named}
 use Rattle.hwp_check_causes.specs.Asking.{IsAsked, is_by_state}
 
 -- no reply of prctl(2) is so

@@ -8,10 +8,10 @@ use Rattle.hwp_geom.specs.declared.Thread.{Thread}
 use Rattle.hwp_kill.specs.declared.Policy.{Policy}
 use Rattle.hwp_kill.specs.declared.Policy.TheVariants.{Default}
 use Rattle.hwp_kill.specs.Prctl.{policy_set}
-use Rattle.hwp_script.specs.declared.Command.{Command}
-use Rattle.hwp_script.specs.declared.Command.TheVariants as commands
-use Rattle.hwp_script.specs.declared.PrctlArgs.{PrctlArgs}
-use Rattle.hwp_law.specs.Policies.{arguments, setting_of, settings}
+use Rattle.hwp_script_read.specs.declared.Command.{Command}
+use Rattle.hwp_script_read.specs.declared.Command.TheVariants as commands
+use Rattle.hwp_script_read.specs.declared.PrctlArgs.{PrctlArgs}
+use Rattle.hwp_check_evidence.specs.hwp_law.Policies.{arguments, setting_of, settings}
 use Rattle.hwp_check_causes.specs.Befores.{AreBefore, policies_before, policy_of, set_by, set_to, thread_numbers}
 
 -- the last of some policies behind one

@@ -12,12 +12,13 @@ use Rattle.hwp_page.specs.declared.Entry.{Entry}
 use Rattle.hwp_page.specs.declared.PageState.{PageState}
 use Rattle.hwp_page.specs.declared.What.{What}
 use Rattle.hwp_page.specs.declared.What.TheVariants as entries
-use Rattle.hwp_script.specs.Valid.{IsValid}
-use Rattle.hwp_script.specs.declared.Script.{Script}
-use Rattle.hwp_report.specs.declared.Report.{Report}
-use Rattle.hwp_evidence.specs.Glances.{AreLegalSteps}
+use Rattle.hwp_script_read.specs.Valid.{IsValid}
+use Rattle.hwp_script_read.specs.declared.Script.{Script}
+use Rattle.hwp_report_text.specs.declared.Report.{Report}
+use Rattle.hwp_check_evidence.specs.Glances.{AreLegalSteps}
 use Rattle.hwp_check_rules.specs.Rules.{HistoriesFit, ShapeFits}
-use Rattle.hwp_check_rules.specs.Verdicts.{Histories, HoldBelow, Shape}
+use Rattle.hwp_check_rules.specs.declared.Rule.TheVariants.{Histories, Shape}
+use Rattle.hwp_check_rules.specs.Verdicts.{HoldBelow}
 
 declared : (o : Option TransDecl) (P : TransDecl → Type 0) → IsSomeAnd o P → (t : TransDecl) × (o ≡ Some t)
 declared None P some = absurd some

@@ -4,12 +4,12 @@ use Rattle.std.specs.Int.Bits.{and_zero_r}
 use Rattle.std.proofs.lemmas.Option.{get_or_from_slice_get, slice_get-get_or, slice_get_within}
 use Rattle.hwp_geom.specs.declared.Mask.{Mask}
 use Rattle.hwp_page.specs.declared.At.{At}
-use Rattle.hwp_report.specs.declared.FrameLine.{FrameLine}
-use Rattle.hwp_report.specs.declared.Report.{Report}
-use Rattle.hwp_script.specs.declared.Script.{Script}
-use Rattle.hwp_law.specs.Causes.{AreBadLines, HadBadLines}
-use Rattle.hwp_law.specs.Lines.{bad_lines_of}
-use Rattle.hwp_law.specs.States.{HadState}
+use Rattle.hwp_report_text.specs.declared.FrameLine.{FrameLine}
+use Rattle.hwp_report_text.specs.declared.Report.{Report}
+use Rattle.hwp_script_read.specs.declared.Script.{Script}
+use Rattle.hwp_check_evidence.specs.hwp_law.Causes.{AreBadLines, HadBadLines}
+use Rattle.hwp_check_evidence.specs.hwp_law.Lines.{bad_lines_of}
+use Rattle.hwp_check_evidence.specs.hwp_law.States.{HadState}
 
 abbrev bad_in : Option FrameLine → ℕ
 bad_in o = unwrap_or (option_map (λ (l : FrameLine). l.bad.0) o) 0

@@ -11,16 +11,16 @@ use Rattle.hwp_page.specs.declared.Entry.{Entry}
 use Rattle.hwp_page.specs.declared.Met.TheVariants.{Sigbus, Word}
 use Rattle.hwp_page.specs.declared.What.{What}
 use Rattle.hwp_page.specs.declared.What.TheVariants as entries
-use Rattle.hwp_script.specs.declared.Command.{Command}
-use Rattle.hwp_script.specs.declared.Command.TheVariants as commands
-use Rattle.hwp_script.specs.declared.Script.{Script}
-use Rattle.hwp_report.specs.declared.Answer.{Answer}
-use Rattle.hwp_report.specs.declared.Answer.TheVariants as answers
-use Rattle.hwp_report.specs.declared.Report.{Report}
-use Rattle.hwp_law.specs.Answers.{StandsAt, reply_answer}
-use Rattle.hwp_law.specs.Causes.{IsCaused}
-use Rattle.hwp_law.specs.Places.{entry_at}
-use Rattle.hwp_law.specs.States.{entry_named}
+use Rattle.hwp_script_read.specs.declared.Command.{Command}
+use Rattle.hwp_script_read.specs.declared.Command.TheVariants as commands
+use Rattle.hwp_script_read.specs.declared.Script.{Script}
+use Rattle.hwp_report_text.specs.declared.Answer.{Answer}
+use Rattle.hwp_report_text.specs.declared.Answer.TheVariants as answers
+use Rattle.hwp_report_text.specs.declared.Report.{Report}
+use Rattle.hwp_check_evidence.specs.hwp_law.Answers.{StandsAt, reply_answer}
+use Rattle.hwp_check_evidence.specs.hwp_law.Causes.{IsCaused}
+use Rattle.hwp_check_evidence.specs.hwp_law.Places.{entry_at}
+use Rattle.hwp_check_evidence.specs.hwp_law.States.{entry_named}
 use Rattle.hwp_check_causes.specs.Telling.{IsLoadOf, IsStoreOf, IsToldAt, is_by_entry}
 
 -- no reply of prctl(2) names an entry

@@ -3,10 +3,10 @@ use Rattle.std.specs.Prelude.{◌≡◌, ℕ, ◌<◌, List, [], ◌∷◌, Opti
 use Rattle.hwp_geom.specs.declared.Thread.{Thread}
 use Rattle.hwp_kill.specs.declared.Policy.{Policy}
 use Rattle.hwp_kill.specs.declared.Policy.TheVariants.{Default}
-use Rattle.hwp_script.specs.declared.Command.{Command}
-use Rattle.hwp_script.specs.declared.Command.TheVariants as commands
-use Rattle.hwp_script.specs.declared.PrctlArgs.{PrctlArgs}
-use Rattle.hwp_law.specs.Policies.{last_policy, setting_of, settings}
+use Rattle.hwp_script_read.specs.declared.Command.{Command}
+use Rattle.hwp_script_read.specs.declared.Command.TheVariants as commands
+use Rattle.hwp_script_read.specs.declared.PrctlArgs.{PrctlArgs}
+use Rattle.hwp_check_evidence.specs.hwp_law.Policies.{last_policy, setting_of, settings}
 
 -- the numbers that a thread can have
 abbrev pub thread_numbers : ℕ

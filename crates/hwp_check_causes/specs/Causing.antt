@@ -4,17 +4,17 @@ use Rattle.hwp_geom.specs.declared.Mask.{Mask}
 use Rattle.hwp_geom.specs.declared.Who.{Who}
 use Rattle.hwp_kill.specs.Prctl.{reply}
 use Rattle.hwp_page.specs.declared.At.{At}
-use Rattle.hwp_script.specs.declared.Command.{Command}
-use Rattle.hwp_script.specs.declared.Command.TheVariants as commands
-use Rattle.hwp_script.specs.declared.Script.{Script}
-use Rattle.hwp_report.specs.declared.Answer.{Answer}
-use Rattle.hwp_report.specs.declared.Answer.TheVariants as answers
-use Rattle.hwp_report.specs.declared.Report.{Report}
-use Rattle.hwp_law.specs.Answers.{reply_answer}
-use Rattle.hwp_law.specs.Causes.{AreBadLines, HadBadLines, IsFailureAnswer, IsOfflineAnswer, IsUnpoisonAnswer}
-use Rattle.hwp_law.specs.Commands.{is_kernels}
-use Rattle.hwp_law.specs.Lines.{bad_lines_of}
-use Rattle.hwp_law.specs.Policies.{arguments, policy_before}
+use Rattle.hwp_script_read.specs.declared.Command.{Command}
+use Rattle.hwp_script_read.specs.declared.Command.TheVariants as commands
+use Rattle.hwp_script_read.specs.declared.Script.{Script}
+use Rattle.hwp_report_text.specs.declared.Answer.{Answer}
+use Rattle.hwp_report_text.specs.declared.Answer.TheVariants as answers
+use Rattle.hwp_report_text.specs.declared.Report.{Report}
+use Rattle.hwp_check_evidence.specs.hwp_law.Answers.{reply_answer}
+use Rattle.hwp_check_evidence.specs.hwp_law.Causes.{AreBadLines, HadBadLines, IsFailureAnswer, IsOfflineAnswer, IsUnpoisonAnswer}
+use Rattle.hwp_check_evidence.specs.hwp_law.Commands.{is_kernels}
+use Rattle.hwp_check_evidence.specs.hwp_law.Lines.{bad_lines_of}
+use Rattle.hwp_check_evidence.specs.hwp_law.Policies.{arguments, policy_before}
 use Rattle.hwp_check_causes.specs.Asking.{is_by_state}
 use Rattle.hwp_check_causes.specs.Plain.{is_plain}
 use Rattle.hwp_check_causes.specs.Telling.{is_by_entry}

@@ -1,16 +1,16 @@
 -- Answers that the command alone, the layout, a frame's bad lines, or the number of the command's event lines explains.
 use Rattle.std.specs.Prelude.{◌≡◌, ℕ, ◌<◌, Bool, true, false}
 use Rattle.hwp_geom.specs.declared.Who.{Who}
-use Rattle.hwp_script.specs.declared.Command.{Command}
-use Rattle.hwp_script.specs.declared.Command.TheVariants as commands
-use Rattle.hwp_script.specs.declared.Script.{Script}
-use Rattle.hwp_report.specs.declared.Answer.{Answer}
-use Rattle.hwp_report.specs.declared.Answer.TheVariants as answers
-use Rattle.hwp_report.specs.declared.Report.{Report}
-use Rattle.hwp_law.specs.Answers.{is_ample}
-use Rattle.hwp_law.specs.Causes.{AreBadLines, IsEventCount}
-use Rattle.hwp_law.specs.Commands.{is_kernels}
-use Rattle.hwp_law.specs.Lines.{bad_lines_of}
+use Rattle.hwp_script_read.specs.declared.Command.{Command}
+use Rattle.hwp_script_read.specs.declared.Command.TheVariants as commands
+use Rattle.hwp_script_read.specs.declared.Script.{Script}
+use Rattle.hwp_report_text.specs.declared.Answer.{Answer}
+use Rattle.hwp_report_text.specs.declared.Answer.TheVariants as answers
+use Rattle.hwp_report_text.specs.declared.Report.{Report}
+use Rattle.hwp_check_evidence.specs.hwp_law.Answers.{is_ample}
+use Rattle.hwp_check_evidence.specs.hwp_law.Causes.{AreBadLines, IsEventCount}
+use Rattle.hwp_check_evidence.specs.hwp_law.Commands.{is_kernels}
+use Rattle.hwp_check_evidence.specs.hwp_law.Lines.{bad_lines_of}
 
 -- the command calls prctl(2), and so its answer is another matter; the same of one that takes back a failure, where it is done
 abbrev pub is_other : Command → Bool

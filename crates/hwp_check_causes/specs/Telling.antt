@@ -12,12 +12,12 @@ use Rattle.hwp_page.specs.declared.Met.{Met}
 use Rattle.hwp_page.specs.declared.Met.TheVariants.{Sigbus, Word}
 use Rattle.hwp_page.specs.declared.What.{What}
 use Rattle.hwp_page.specs.declared.What.TheVariants as entries
-use Rattle.hwp_script.specs.declared.Command.{Command}
-use Rattle.hwp_script.specs.declared.Command.TheVariants as commands
-use Rattle.hwp_report.specs.declared.Answer.{Answer}
-use Rattle.hwp_report.specs.declared.Answer.TheVariants as answers
-use Rattle.hwp_law.specs.Causes.{SendsSigbus}
-use Rattle.hwp_law.specs.Places.{entry_at}
+use Rattle.hwp_script_read.specs.declared.Command.{Command}
+use Rattle.hwp_script_read.specs.declared.Command.TheVariants as commands
+use Rattle.hwp_report_text.specs.declared.Answer.{Answer}
+use Rattle.hwp_report_text.specs.declared.Answer.TheVariants as answers
+use Rattle.hwp_check_evidence.specs.hwp_law.Causes.{SendsSigbus}
+use Rattle.hwp_check_evidence.specs.hwp_law.Places.{entry_at}
 
 -- the answer names an entry, and that alone says whether it is right
 abbrev pub is_by_entry : Answer → Bool

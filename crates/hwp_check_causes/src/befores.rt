@@ -5,7 +5,7 @@ ghost use Rattle.hwp_kill.specs.declared.Policy.TheVariants.{Default};
 use hwp_check_rules::setting_of;
 use hwp_geom::OutOfMemory;
 use hwp_kill::Policy;
-use hwp_script::Command;
+use hwp_script_read::Command;
 use std::alloc::Global;
 
 /// The numbers that a thread can have.

@@ -1,25 +1,25 @@
 ghost use Rattle.std.specs.Prelude.{◌≡◌, ◌↔◌, IsTrue, length, true};
 ghost use Rattle.hwp_kill.specs.Prctl.{reply};
 ghost use Rattle.hwp_page.specs.declared.What.TheVariants as entries;
-ghost use Rattle.hwp_law.specs.Answers.{StandsAt, is_ample, reply_answer};
-ghost use Rattle.hwp_law.specs.Causes.{IsFailureAnswer, IsOfflineAnswer, IsUnpoisonAnswer};
-ghost use Rattle.hwp_law.specs.Policies.{arguments};
-ghost use Rattle.hwp_evidence.specs.Marked.{reported};
-ghost use Rattle.hwp_records.specs.Nears.{IsPast};
-ghost use Rattle.hwp_records.specs.Results.{AreResults};
+ghost use Rattle.hwp_check_evidence.specs.hwp_law.Answers.{StandsAt, is_ample, reply_answer};
+ghost use Rattle.hwp_check_evidence.specs.hwp_law.Causes.{IsFailureAnswer, IsOfflineAnswer, IsUnpoisonAnswer};
+ghost use Rattle.hwp_check_evidence.specs.hwp_law.Policies.{arguments};
+ghost use Rattle.hwp_check_evidence.specs.Marked.{reported};
+ghost use Rattle.hwp_check_poison.specs.Nears.{IsPast};
+ghost use Rattle.hwp_check_poison.specs.Results.{AreResults};
 
 use crate::plain::{are_bad_lines, bad_lines_of};
 use crate::telling::entry_at;
-use hwp_evidence::was_hardware_seen;
-use hwp_form::PrctlArgs;
+use hwp_check_evidence::was_hardware_seen;
+use hwp_check_poison::{
+    MarkIndex, Results, came_to, was_moved, was_poisoned, was_taken_back, was_taken_free,
+};
 use hwp_geom::{Frame, List, Who};
 use hwp_kill::{Policy, Reply, prctl};
 use hwp_page::{At, Entry, Outcome, What};
-use hwp_records::{
-    Past, Results, came_to, was_moved, was_poisoned, was_taken_back, was_taken_free,
-};
-use hwp_report::{Answer, Report};
-use hwp_script::Script;
+use hwp_report_text::{Answer, Report};
+use hwp_script_lines::PrctlArgs;
+use hwp_script_read::Script;
 
 /// Whether the answer is that number of a policy.
 fn is_number(answer: &Answer, number: u64) -> bool
@@ -48,7 +48,7 @@ pub(crate) fn is_reply(old: Policy, args: &PrctlArgs, answer: &Answer) -> bool
 /// Whether the answer is that of a failure of a frame that a command brings about.
 pub(crate) fn is_failure(
     report: &Report,
-    past: &Past,
+    past: &MarkIndex,
     results: &Results,
     who: Who,
     frame: Frame,
@@ -82,7 +82,7 @@ pub(crate) fn is_offline(
     script: &Script,
     report: &Report,
     ample: bool,
-    past: &Past,
+    past: &MarkIndex,
     results: &Results,
     who: Who,
     frame: Frame,
@@ -110,7 +110,7 @@ pub(crate) fn is_offline(
 pub(crate) fn is_unpoison(
     report: &Report,
     first: u64,
-    past: &Past,
+    past: &MarkIndex,
     results: &Results,
     who: Who,
     frame: Frame,

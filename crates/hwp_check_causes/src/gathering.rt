@@ -1,30 +1,30 @@
 ghost use Rattle.std.specs.Prelude.{◌≡◌, ◌≤◌, false, replicate, IfOk, length};
-ghost use Rattle.hwp_evidence.specs.Glances.{AreLegalSteps};
-ghost use Rattle.hwp_evidence.specs.Named.{flagged_pages};
+ghost use Rattle.hwp_check_evidence.specs.Glances.{AreLegalSteps};
+ghost use Rattle.hwp_check_evidence.specs.Named.{flagged_pages};
 ghost use Rattle.hwp_check_causes.specs.Knowing.{IsKnown, IsOwn};
 ghost use Rattle.hwp_check_rules.specs.Verdicts.{HoldBelow};
-ghost use Rattle.hwp_script.specs.Valid.{IsValid};
+ghost use Rattle.hwp_script_read.specs.Valid.{IsValid};
 
-use crate::known::Known;
-use crate::right::Own;
-use hwp_evidence::{Findings, findings_of, glances_of, is_ample, reported};
+use crate::known::ReportFacts;
+use crate::right::ProcessorFacts;
+use hwp_check_evidence::{Findings, findings_of, glances_of, is_ample, reported};
+use hwp_check_poison::{past_of, results_of};
 use hwp_geom::{Cpu, OutOfMemory};
 use hwp_page::At;
-use hwp_records::{past_of, results_of};
-use hwp_report::Report;
-use hwp_script::Script;
+use hwp_report_text::Report;
+use hwp_script_read::Script;
 use std::alloc::Global;
 
 /// What is known of a report whose histories are legal.
 #[tactic(auto, using(crate::proofs::Legal::legal_steps, crate::proofs::Legal::pages_fit))]
-pub fn known_of(alloc: Global, script: &Script, report: &Report) -> Result<Known, OutOfMemory>
+pub fn known_of(alloc: Global, script: &Script, report: &Report) -> Result<ReportFacts, OutOfMemory>
     requires valid { IsValid script.now }
     requires below { HoldBelow 3 script.now report.now }
     ensures { IfOk result (λ known. IsKnown script.now report.now known) }
 {
     let ample = is_ample(alloc, script)?;
     let glances = glances_of(alloc, &script.layout, report.pages.as_slice())?;
-    Ok(Known { ample, glances })
+    Ok(ReportFacts { ample, glances })
 }
 
 /// What is known of it for the answers of so many commands of one processor, which name these places; and which of the commands
@@ -36,7 +36,7 @@ pub fn own_of(
     cpu: Cpu,
     commands: usize,
     named: &[Option<At>],
-) -> Result<(Own, Vec<bool>), OutOfMemory>
+) -> Result<(ProcessorFacts, Vec<bool>), OutOfMemory>
     requires { length report.now.pages ≤ 256 }
     ensures own { IfOk result (λ known. IsOwn script.now report.now cpu known.0) }
     ensures others { IfOk result (λ known. known.1.items ≡ flagged_pages named.now cpu (replicate commands false) 0 report.now.pages) }
@@ -53,7 +53,7 @@ pub fn own_of(
         spans,
         others,
     } = found;
-    let own = Own {
+    let own = ProcessorFacts {
         ends,
         ended,
         spans,

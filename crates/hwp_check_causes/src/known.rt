@@ -1,28 +1,28 @@
 ghost use Rattle.std.specs.Prelude.{◌≡◌, ◌↔◌, Any, IsTrue, true};
-ghost use Rattle.hwp_law.specs.Causes.{AreBadLines, HadBadLines, IsCaused};
-ghost use Rattle.hwp_law.specs.Commands.{process_at, process_of_thread, thread_of};
-ghost use Rattle.hwp_law.specs.Endings.{IsGone};
-ghost use Rattle.hwp_law.specs.States.{HadState};
-ghost use Rattle.hwp_report.specs.declared.Answer.TheVariants as answers;
-ghost use Rattle.hwp_evidence.specs.Ends.{ArePageEnds};
+ghost use Rattle.hwp_check_evidence.specs.hwp_law.Causes.{AreBadLines, HadBadLines, IsCaused};
+ghost use Rattle.hwp_check_evidence.specs.hwp_law.Commands.{process_at, process_of_thread, thread_of};
+ghost use Rattle.hwp_check_evidence.specs.hwp_law.Endings.{IsGone};
+ghost use Rattle.hwp_check_evidence.specs.hwp_law.States.{HadState};
+ghost use Rattle.hwp_report_text.specs.declared.Answer.TheVariants as answers;
+ghost use Rattle.hwp_check_evidence.specs.Ends.{ArePageEnds};
 ghost use Rattle.hwp_check_causes.specs.Asking.{IsSo, IsUnusedBy, is_by_state as is_by_state_of};
 ghost use Rattle.hwp_check_causes.specs.Causing.{IsBadSomewhere, MetBadLines, is_by_thread as is_by_thread_of};
 ghost use Rattle.hwp_check_causes.specs.Knowing.{IsKnown};
 
 use crate::asking::{is_askable, named_state};
 use crate::plain::are_bad_lines;
-use hwp_check_rules::command_of;
-use hwp_evidence::{
+use hwp_check_evidence::{
     Glance, Repeats, has_ending, was_away, was_cached, was_dirty, was_mapped, was_unused,
 };
+use hwp_check_rules::command_of;
 use hwp_geom::{Layout, List, Mask, Page, Proc, Thread, Who};
 use hwp_page::At;
-use hwp_report::{Answer, FrameLine, Report};
-use hwp_script::{Command, Script};
+use hwp_report_text::{Answer, FrameLine, Report};
+use hwp_script_read::{Command, Script};
 
 /// What is known of a script and its report for the answers of all processors.
 #[derive(Drop)]
-pub struct Known {
+pub struct ReportFacts {
     /// Whether there are frames enough at any time.
     pub ample: bool,
     /// The states of pages at all places of their histories.
@@ -30,7 +30,13 @@ pub struct Known {
 }
 
 /// Whether the translation that the command frees wasn't in use at the place.
-fn was_unused_by(script: &Script, report: &Report, known: &Known, command: &Command, at: At) -> bool
+fn was_unused_by(
+    script: &Script,
+    report: &Report,
+    known: &ReportFacts,
+    command: &Command,
+    at: At,
+) -> bool
     requires { IsKnown script.now report.now known.now }
     ensures { IsTrue result ↔ HadState script.now.layout report.now.pages at (IsUnusedBy command.now) }
 {
@@ -47,7 +53,7 @@ fn was_unused_by(script: &Script, report: &Report, known: &Known, command: &Comm
 fn was_so(
     script: &Script,
     report: &Report,
-    known: &Known,
+    known: &ReportFacts,
     command: &Command,
     answer: &Answer,
     at: At,
@@ -70,7 +76,7 @@ fn was_so(
 pub(crate) fn is_by_state(
     script: &Script,
     report: &Report,
-    known: &Known,
+    known: &ReportFacts,
     who: Who,
     command: &Command,
     answer: &Answer,
@@ -105,7 +111,7 @@ fn are_bad_somewhere(report: &Report, mask: Mask) -> bool
 
 /// Whether the page was cached at the place, and the lines are bad in some frame.
 #[tactic(auto, using(crate::proofs::LineLaws::lines_had, crate::proofs::LineLaws::had_lines))]
-fn had_bad_lines(script: &Script, report: &Report, known: &Known, mask: Mask, at: At) -> bool
+fn had_bad_lines(script: &Script, report: &Report, known: &ReportFacts, mask: Mask, at: At) -> bool
     requires { IsKnown script.now report.now known.now }
     ensures { IsTrue result ↔ HadBadLines script.now report.now mask at }
 {
@@ -118,7 +124,7 @@ fn had_bad_lines(script: &Script, report: &Report, known: &Known, mask: Mask, at
 fn met_bad_lines(
     script: &Script,
     report: &Report,
-    known: &Known,
+    known: &ReportFacts,
     command: &Command,
     mask: Mask,
     at: At,
@@ -139,7 +145,7 @@ fn met_bad_lines(
 pub(crate) fn is_by_lines(
     script: &Script,
     report: &Report,
-    known: &Known,
+    known: &ReportFacts,
     who: Who,
     command: &Command,
     mask: Mask,

@@ -13,5 +13,5 @@ mod telling;
 pub use asking::named_state;
 pub use befores::policies_before;
 pub use gathering::{known_of, own_of};
-pub use known::{Known, process_at};
-pub use right::{Own, Told, is_right};
+pub use known::{ReportFacts, process_at};
+pub use right::{CommandFacts, ProcessorFacts, is_right};

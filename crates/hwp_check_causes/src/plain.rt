@@ -1,13 +1,13 @@
 ghost use Rattle.std.specs.Prelude.{◌≡◌, ◌↔◌, IsTrue, length, true};
-ghost use Rattle.hwp_law.specs.Answers.{is_ample};
-ghost use Rattle.hwp_law.specs.Causes.{AreBadLines, IsCaused};
-ghost use Rattle.hwp_law.specs.Commands.{is_kernels};
-ghost use Rattle.hwp_law.specs.Lines.{bad_lines_of, events_of};
+ghost use Rattle.hwp_check_evidence.specs.hwp_law.Answers.{is_ample};
+ghost use Rattle.hwp_check_evidence.specs.hwp_law.Causes.{AreBadLines, IsCaused};
+ghost use Rattle.hwp_check_evidence.specs.hwp_law.Commands.{is_kernels};
+ghost use Rattle.hwp_check_evidence.specs.hwp_law.Lines.{bad_lines_of, events_of};
 ghost use Rattle.hwp_check_causes.specs.Plain.{AreRaised, AreScrubbed, HasTheseBad, IsDone, IsLossTold, IsOfKernel, IsPlain, IsShort, IsUsed, is_plain};
 
 use hwp_geom::{Frame, Layout, Mask, Who};
-use hwp_report::{Answer, Report};
-use hwp_script::{Command, Script};
+use hwp_report_text::{Answer, Report};
+use hwp_script_read::{Command, Script};
 
 /// Whether the frame is the kernel's own.
 pub(crate) fn is_kernels(layout: &Layout, frame: Frame) -> bool

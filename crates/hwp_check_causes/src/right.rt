@@ -1,8 +1,8 @@
 ghost use Rattle.std.specs.Prelude.{◌≡◌, ◌≢◌, ◌↔◌, ◌<◌, IsTrue, true};
-ghost use Rattle.hwp_report.specs.declared.Answer.TheVariants as answers;
+ghost use Rattle.hwp_report_text.specs.declared.Answer.TheVariants as answers;
 ghost use Rattle.std.specs.List.{list_any};
-ghost use Rattle.hwp_law.specs.Causes.{IsCaused, IsHeeded, ends_machine};
-ghost use Rattle.hwp_law.specs.Lines.{events_of};
+ghost use Rattle.hwp_check_evidence.specs.hwp_law.Causes.{IsCaused, IsHeeded, ends_machine};
+ghost use Rattle.hwp_check_evidence.specs.hwp_law.Lines.{events_of};
 ghost use Rattle.hwp_check_rules.specs.Answered.{IsRight};
 ghost use Rattle.hwp_check_causes.specs.Asking.{is_by_state as is_by_state_of};
 ghost use Rattle.hwp_check_causes.specs.Befores.{thread_numbers};
@@ -12,19 +12,19 @@ ghost use Rattle.hwp_check_causes.specs.Plain.{is_plain as is_plain_of};
 ghost use Rattle.hwp_check_causes.specs.Telling.{is_by_entry as is_by_entry_of};
 
 use crate::causes::{is_failure, is_offline, is_reply, is_unpoison};
-use crate::known::{Known, is_by_end, is_by_lines, is_by_state};
+use crate::known::{ReportFacts, is_by_end, is_by_lines, is_by_state};
 use crate::plain::{is_kernels, is_plain};
 use crate::telling::is_by_entry;
-use hwp_evidence::Span;
+use hwp_check_evidence::Span;
+use hwp_check_poison::{MarkIndex, Results};
 use hwp_geom::{List, Thread, Who};
 use hwp_kill::Policy;
-use hwp_records::{Past, Results};
-use hwp_report::{Answer, Report};
-use hwp_script::{Command, Script};
+use hwp_report_text::{Answer, Report};
+use hwp_script_read::{Command, Script};
 
 /// What is known of a report for the answers of one processor.
 #[derive(Drop)]
-pub struct Own {
+pub struct ProcessorFacts {
     /// The commands by which processes had ended in each page.
     pub ends: Vec<List<u64>>,
     /// The commands of the processor by which processes had ended.
@@ -34,14 +34,14 @@ pub struct Own {
     /// The command at whose end a bank's event had poisoned some frame.
     pub reported: u64,
     /// What is kept of the records of frames for its commands.
-    pub past: Past,
+    pub past: MarkIndex,
     /// What the marks of frames say of its commands.
     pub results: Results,
 }
 
 /// What is known of one command.
 #[derive(Clone, Copy)]
-pub struct Told {
+pub struct CommandFacts {
     /// The policy of the command's thread before it.
     pub old: Policy,
     /// How many event lines it has.
@@ -87,7 +87,7 @@ fn speaks_plainly(command: &Command, answer: &Answer) -> bool
     }
 }
 
-/// The number of a thread is of its width.
+/// A thread id fits its type (proof only).
 fn small(thread: Thread)
     ensures { thread.0 < thread_numbers }
 {
@@ -98,9 +98,9 @@ fn small(thread: Thread)
 fn is_last_right(
     script: &Script,
     report: &Report,
-    known: &Known,
-    own: &Own,
-    told: Told,
+    known: &ReportFacts,
+    own: &ProcessorFacts,
+    told: CommandFacts,
     who: Who,
     command: &Command,
     answer: &Answer,
@@ -137,9 +137,9 @@ fn is_last_right(
 fn is_last(
     script: &Script,
     report: &Report,
-    known: &Known,
-    own: &Own,
-    told: Told,
+    known: &ReportFacts,
+    own: &ProcessorFacts,
+    told: CommandFacts,
     who: Who,
     command: &Command,
     answer: &Answer,
@@ -157,9 +157,9 @@ fn is_last(
 fn is_caused(
     script: &Script,
     report: &Report,
-    known: &Known,
-    own: &Own,
-    told: Told,
+    known: &ReportFacts,
+    own: &ProcessorFacts,
+    told: CommandFacts,
     who: Who,
     command: &Command,
     answer: &Answer,
@@ -202,7 +202,7 @@ fn is_stopped(answer: &Answer) -> bool
 }
 
 /// Whether the answer is `stopped` where one of the command's events stopped the machine, or was a panic.
-fn is_heeded(report: &Report, told: Told, who: Who, answer: &Answer) -> bool
+fn is_heeded(report: &Report, told: CommandFacts, who: Who, answer: &Answer) -> bool
     requires { told.ends ≡ list_any ends_machine (events_of report.now who) }
     ensures { IsTrue result ↔ IsHeeded report.now who answer.now }
 {
@@ -215,9 +215,9 @@ fn is_heeded(report: &Report, told: Told, who: Who, answer: &Answer) -> bool
 pub fn is_right(
     script: &Script,
     report: &Report,
-    known: &Known,
-    own: &Own,
-    told: Told,
+    known: &ReportFacts,
+    own: &ProcessorFacts,
+    told: CommandFacts,
     who: Who,
     command: &Command,
     answer: &Answer,

@@ -1,15 +1,15 @@
 ghost use Rattle.std.specs.Prelude.{◌≡◌, ◌↔◌, IsTrue, true};
 ghost use Rattle.std.specs.Option.{option_copied};
-ghost use Rattle.hwp_law.specs.Causes.{IsCaused, SendsSigbus};
-ghost use Rattle.hwp_law.specs.Places.{entry_at};
-ghost use Rattle.hwp_law.specs.States.{entry_named};
+ghost use Rattle.hwp_check_evidence.specs.hwp_law.Causes.{IsCaused, SendsSigbus};
+ghost use Rattle.hwp_check_evidence.specs.hwp_law.Places.{entry_at};
+ghost use Rattle.hwp_check_evidence.specs.hwp_law.States.{entry_named};
 ghost use Rattle.hwp_check_causes.specs.Telling.{HasOwnSigbus, IsDoneTo, IsLoadOf, IsSent, IsSigbusTo, IsStoreOf, IsStored, IsToldAt, IsValue, Tells, is_by_entry};
 
 use hwp_geom::{Line, List, Page, Thread, VSlot, Who};
 use hwp_kill::{Code, Signal};
 use hwp_page::{At, Entry, Met, What};
-use hwp_report::{Answer, Report};
-use hwp_script::{Command, Script};
+use hwp_report_text::{Answer, Report};
+use hwp_script_read::{Command, Script};
 
 /// The entry at a place.
 pub(crate) fn entry_at(pages: &[List<Entry>], at: At) -> Option<&Entry>

@@ -1,7 +1,18 @@
-//! The rule of answers and events: the first line of a report that breaks it.
+//! The event lines of a report: whether the lines of a command are those that its machine checks ask, and if not, which is the
+//! first that isn't, and whether some lack.
 #![tactic(auto)]
 
-mod events;
-mod rule;
+mod accesses;
+mod checks;
+mod faults;
+mod index;
+mod judge;
+mod known;
+mod misfits;
+mod processors;
+mod tables;
+mod walk;
 
-pub use rule::answers_fault;
+pub use checks::checkers_of;
+pub use misfits::Misfits;
+pub use processors::{processor_faults, small_masks};

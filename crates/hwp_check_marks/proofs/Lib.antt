@@ -1,10 +1,10 @@
-mod Tallying
-mod Unpairing
-mod Counting
+mod TallyLaws
+mod UnpairedLaws
+mod MarkExtras
 mod WalkLaws
 mod LowLaws
-mod LackingLaws
+mod LackLaws
 mod NeededLaws
 mod UrgentLaws
 mod MisLaws
-mod Deciding
+mod MarkRule

@@ -3,16 +3,16 @@ use Rattle.std.proofs.Common.{◌≡◌, inl, inr, ℕ, ◌+◌, ◌≤◌, ◌=
 use Rattle.std.specs.HashMap.{HashMap}
 use Rattle.std.proofs.lemmas.Bool.{cases_lt, eq-eqb, le-ltb, lt-ltb, ne_eqb}
 use Rattle.std.proofs.lemmas.Option.{slice_get_past}
-use Rattle.hwp_banks.specs.Addresses.{frame_at}
-use Rattle.hwp_report.specs.declared.CpuLine.{CpuLine}
-use Rattle.hwp_report.specs.declared.CpuLine.TheVariants as lines
-use Rattle.hwp_report.specs.declared.Report.{Report}
-use Rattle.hwp_law.specs.Lines.{EventLine, events_among}
-use Rattle.hwp_law.specs.Records.{result_of}
+use Rattle.hwp_report_text.specs.hwp_banks.Addresses.{frame_at}
+use Rattle.hwp_report_text.specs.declared.CpuLine.{CpuLine}
+use Rattle.hwp_report_text.specs.declared.CpuLine.TheVariants as lines
+use Rattle.hwp_report_text.specs.declared.Report.{Report}
+use Rattle.hwp_check_rules.specs.hwp_law.Lines.{EventLine, events_among}
+use Rattle.hwp_check_rules.specs.hwp_law.Records.{result_of}
 use Rattle.hwp_check_rules.specs.MarkFaults.{lower, lowest_of}
 use Rattle.hwp_check_marks.specs.Lows.{AreLows, low_at, lows_below, row_low, rows_low}
-use Rattle.hwp_check_records.specs.Counts.{is_pair}
-use Rattle.hwp_check_records.proofs.Raising.{eqb-swap}
+use Rattle.hwp_check_frames.specs.Counts.{is_pair}
+use Rattle.hwp_check_frames.proofs.CountRises.{eqb-swap}
 
 -- the lower of two frames, where there are any
 merged : Option ℕ → Option ℕ → Option ℕ

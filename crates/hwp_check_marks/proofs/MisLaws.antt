@@ -9,22 +9,22 @@ use Rattle.hwp_page.specs.declared.Entry.{Entry}
 use Rattle.hwp_page.specs.declared.Situation.{Situation}
 use Rattle.hwp_page.specs.declared.What.{What}
 use Rattle.hwp_page.specs.declared.What.TheVariants as entries
-use Rattle.hwp_report.specs.declared.FrameLine.{FrameLine}
-use Rattle.hwp_report.specs.declared.Report.{Report}
-use Rattle.hwp_law.specs.Pairings.{entries_of, has_page, is_failure, is_required, situation_number, urgent_from}
+use Rattle.hwp_report_text.specs.declared.FrameLine.{FrameLine}
+use Rattle.hwp_report_text.specs.declared.Report.{Report}
+use Rattle.hwp_check_rules.specs.hwp_law.Pairings.{entries_of, has_page, is_failure, is_required, situation_number, urgent_from}
 use Rattle.hwp_check_rules.specs.MarkFaults.{IsMisrequired}
 use Rattle.hwp_check_rules.specs.Standing.{entry_height, entry_line, page_height, page_line}
-use Rattle.hwp_check_records.specs.Counts.{at_key}
+use Rattle.hwp_check_frames.specs.Counts.{at_key}
 use Rattle.hwp_check_marks.specs.Needed.{differs, frames_urgent, is_misneeded, is_misrequired, pages_needed}
-use Rattle.hwp_check_records.specs.Said.{AreNoted, said_below}
+use Rattle.hwp_check_frames.specs.Said.{AreNoted, said_below}
 use Rattle.hwp_check_marks.specs.Tallies.{key_of}
 use Rattle.hwp_check_marks.specs.Walks.{IsAskedIn, IsLowest, walk_pages}
 use Rattle.hwp_check_marks.specs.declared.kinds.Kind.TheVariants as kinds
 use Rattle.hwp_check_marks.proofs.NeededLaws.{needed-is}
-use Rattle.hwp_check_records.proofs.Shown.{and-both, and-left, and-right, same-situation}
+use Rattle.hwp_check_frames.proofs.FramePlaces.{and-both, and-left, and-right, same-situation}
 use Rattle.hwp_check_marks.proofs.UrgentLaws.{urgent-is}
 use Rattle.hwp_check_marks.proofs.WalkLaws.{other-words, walked}
-use Rattle.hwp_check_records.specs.declared.Noted.{Noted}
+use Rattle.hwp_check_frames.specs.declared.Noted.{Noted}
 
 abbrev line-of : Entry → ℕ → ℕ
 line-of e line = line

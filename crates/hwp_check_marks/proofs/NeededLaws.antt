@@ -6,16 +6,16 @@ use Rattle.hwp_page.specs.declared.Entry.{Entry}
 use Rattle.hwp_page.specs.declared.Situation.{Situation}
 use Rattle.hwp_page.specs.declared.What.{What}
 use Rattle.hwp_page.specs.declared.What.TheVariants as entries
-use Rattle.hwp_report.specs.declared.Report.{Report}
-use Rattle.hwp_law.specs.Lines.{is_same_command}
-use Rattle.hwp_law.specs.Pairings.{entries_of, is_required, situation_number}
+use Rattle.hwp_report_text.specs.declared.Report.{Report}
+use Rattle.hwp_check_rules.specs.hwp_law.Lines.{is_same_command}
+use Rattle.hwp_check_rules.specs.hwp_law.Pairings.{entries_of, is_required, situation_number}
 use Rattle.hwp_check_rules.specs.Standing.{entry_height, page_height}
-use Rattle.hwp_check_records.specs.Counts.{raise}
+use Rattle.hwp_check_frames.specs.Counts.{raise}
 use Rattle.hwp_check_marks.specs.Needed.{entry_needed, page_needed, pages_needed, what_needed}
 use Rattle.hwp_check_marks.specs.Tallies.{key_of}
 use Rattle.hwp_check_marks.specs.declared.kinds.Kind.TheVariants as kinds
-use Rattle.hwp_check_marks.proofs.Tallying.{and-none, entry-lines, raise-is, same-sum}
-use Rattle.hwp_check_records.proofs.Raising.{flag, raise-one}
+use Rattle.hwp_check_marks.proofs.TallyLaws.{and-none, entry-lines, raise-is, same-sum}
+use Rattle.hwp_check_frames.proofs.CountRises.{flag, raise-one}
 
 entry-one : (q : (ℕ × ℕ) × ℕ) (e : Entry) → entry_needed q e ≤ 1
 entry-one q e = at e.what

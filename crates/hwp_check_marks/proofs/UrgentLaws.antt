@@ -8,27 +8,27 @@ use Rattle.std.proofs.lemmas.List.Sums.{sum_by-cons, sum_by_more}
 use Rattle.hwp_geom.specs.declared.Who.{Who}
 use Rattle.hwp_page.specs.declared.Outcome.{Outcome}
 use Rattle.hwp_page.specs.declared.Situation.{Situation}
-use Rattle.hwp_report.specs.declared.FrameLine.{FrameLine}
-use Rattle.hwp_report.specs.declared.How.{How}
-use Rattle.hwp_report.specs.declared.How.TheVariants as hows
-use Rattle.hwp_report.specs.declared.MarkLine.{MarkLine}
-use Rattle.hwp_report.specs.declared.MarkLine.TheVariants as marks
-use Rattle.hwp_report.specs.declared.Report.{Report}
-use Rattle.hwp_law.specs.Lines.{EventLine, is_same_command}
-use Rattle.hwp_law.specs.Pairings.{is_urgent, situation_number, urgent_from}
-use Rattle.hwp_law.specs.Records.{hardware_marks, is_by_hardware, result_lines, who_in}
+use Rattle.hwp_report_text.specs.declared.FrameLine.{FrameLine}
+use Rattle.hwp_report_text.specs.declared.How.{How}
+use Rattle.hwp_report_text.specs.declared.How.TheVariants as hows
+use Rattle.hwp_report_text.specs.declared.MarkLine.{MarkLine}
+use Rattle.hwp_report_text.specs.declared.MarkLine.TheVariants as marks
+use Rattle.hwp_report_text.specs.declared.Report.{Report}
+use Rattle.hwp_check_rules.specs.hwp_law.Lines.{EventLine, is_same_command}
+use Rattle.hwp_check_rules.specs.hwp_law.Pairings.{is_urgent, situation_number, urgent_from}
+use Rattle.hwp_check_rules.specs.hwp_law.Records.{hardware_marks, is_by_hardware, result_lines, who_in}
 use Rattle.hwp_check_rules.specs.Standing.{frame_height}
-use Rattle.hwp_check_records.specs.Counts.{raise}
+use Rattle.hwp_check_frames.specs.Counts.{raise}
 use Rattle.hwp_check_marks.specs.Needed.{frames_urgent, how_urgent, is_nine, mark_urgent, marks_urgent}
-use Rattle.hwp_check_records.specs.Own.{own_raise}
-use Rattle.hwp_check_records.specs.Said.{AreNoted, row_at, said_below}
+use Rattle.hwp_check_frames.specs.Own.{own_raise}
+use Rattle.hwp_check_frames.specs.Said.{AreNoted, row_at, said_below}
 use Rattle.hwp_check_marks.specs.Tallies.{key_of}
 use Rattle.hwp_check_marks.specs.declared.kinds.Kind.TheVariants as kinds
-use Rattle.hwp_check_records.proofs.SaidLaws.{row-in, said-all}
-use Rattle.hwp_check_records.proofs.Shown.{same-who}
-use Rattle.hwp_check_marks.proofs.Tallying.{raise-is}
-use Rattle.hwp_check_records.proofs.Raising.{flag, raise-one, same-swap}
-use Rattle.hwp_check_records.specs.declared.Noted.{Noted}
+use Rattle.hwp_check_frames.proofs.SaidLaws.{row-in, said-all}
+use Rattle.hwp_check_frames.proofs.FramePlaces.{same-who}
+use Rattle.hwp_check_marks.proofs.TallyLaws.{raise-is}
+use Rattle.hwp_check_frames.proofs.CountRises.{flag, raise-one, same-swap}
+use Rattle.hwp_check_frames.specs.declared.Noted.{Noted}
 
 module _ {S : Type 0} (rows : HashMap (((ℕ × ℕ) × ℕ) × ℕ) Noted S) where
   -- counts that are the same lead to the same

@@ -3,13 +3,13 @@ use Rattle.std.specs.Prelude.{◌≡◌, ℕ, ◌&&◌, nat_lt, cond, List, [], 
 use Rattle.std.specs.HashMap.{HashMap}
 use Rattle.std.specs.HashMap as hash
 use Rattle.hwp_geom.specs.declared.Who.{Who}
-use Rattle.hwp_banks.specs.Addresses.{frame_at}
-use Rattle.hwp_report.specs.declared.CpuLine.{CpuLine}
-use Rattle.hwp_report.specs.declared.CpuLine.TheVariants as lines
-use Rattle.hwp_report.specs.declared.Report.{Report}
-use Rattle.hwp_law.specs.Lines.{events_of}
-use Rattle.hwp_law.specs.Records.{result_of}
-use Rattle.hwp_check_records.specs.Counts.{is_pair}
+use Rattle.hwp_report_text.specs.hwp_banks.Addresses.{frame_at}
+use Rattle.hwp_report_text.specs.declared.CpuLine.{CpuLine}
+use Rattle.hwp_report_text.specs.declared.CpuLine.TheVariants as lines
+use Rattle.hwp_report_text.specs.declared.Report.{Report}
+use Rattle.hwp_check_rules.specs.hwp_law.Lines.{events_of}
+use Rattle.hwp_check_rules.specs.hwp_law.Records.{result_of}
+use Rattle.hwp_check_frames.specs.Counts.{is_pair}
 use Rattle.hwp_check_rules.specs.MarkFaults.{lower, lowest_of}
 
 abbrev pub low_at : {S : Type 0} → HashMap (ℕ × ℕ) ℕ S → ℕ × ℕ → Option ℕ

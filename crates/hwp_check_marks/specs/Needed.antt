@@ -7,18 +7,18 @@ use Rattle.hwp_page.specs.declared.Entry.{Entry}
 use Rattle.hwp_page.specs.declared.Situation.{Situation}
 use Rattle.hwp_page.specs.declared.What.{What}
 use Rattle.hwp_page.specs.declared.What.TheVariants as entries
-use Rattle.hwp_report.specs.declared.FrameLine.{FrameLine}
-use Rattle.hwp_report.specs.declared.How.{How}
-use Rattle.hwp_report.specs.declared.How.TheVariants as hows
-use Rattle.hwp_report.specs.declared.MarkLine.{MarkLine}
-use Rattle.hwp_report.specs.declared.MarkLine.TheVariants as marks
-use Rattle.hwp_law.specs.Pairings.{has_page}
-use Rattle.hwp_check_records.specs.Counts.{at_key, raise}
-use Rattle.hwp_check_records.specs.Said.{row_at}
-use Rattle.hwp_check_records.specs.Own.{own_raise}
+use Rattle.hwp_report_text.specs.declared.FrameLine.{FrameLine}
+use Rattle.hwp_report_text.specs.declared.How.{How}
+use Rattle.hwp_report_text.specs.declared.How.TheVariants as hows
+use Rattle.hwp_report_text.specs.declared.MarkLine.{MarkLine}
+use Rattle.hwp_report_text.specs.declared.MarkLine.TheVariants as marks
+use Rattle.hwp_check_rules.specs.hwp_law.Pairings.{has_page}
+use Rattle.hwp_check_frames.specs.Counts.{at_key, raise}
+use Rattle.hwp_check_frames.specs.Said.{row_at}
+use Rattle.hwp_check_frames.specs.Own.{own_raise}
 use Rattle.hwp_check_marks.specs.Tallies.{key_of}
 use Rattle.hwp_check_marks.specs.declared.kinds.Kind.TheVariants as kinds
-use Rattle.hwp_check_records.specs.declared.Noted.{Noted}
+use Rattle.hwp_check_frames.specs.declared.Noted.{Noted}
 
 -- how much an entry raises the count of a key
 abbrev pub what_needed : (ℕ × ℕ) × ℕ → Who → What → ℕ

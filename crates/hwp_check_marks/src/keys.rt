@@ -1,9 +1,9 @@
 ghost use Rattle.std.specs.Prelude.{◌≡◌};
-ghost use Rattle.hwp_law.specs.Pairings.{has_page, situation_number};
+ghost use Rattle.hwp_check_rules.specs.hwp_law.Pairings.{has_page, situation_number};
 ghost use Rattle.hwp_check_marks.specs.Tallies.{key_of, kind_number};
 
 use crate::kinds::Kind;
-use hwp_check_records::Key;
+use hwp_check_frames::Key;
 use hwp_geom::Who;
 use hwp_page::Situation;
 

@@ -1,12 +1,12 @@
 ghost use Rattle.std.specs.Prelude.{◌≡◌, ℕ, cond, length, IfOk, OnOk, Some};
 ghost use Rattle.hwp_check_rules.specs.MarkFaults.{lower};
-ghost use Rattle.hwp_check_records.specs.Counts.{is_pair};
+ghost use Rattle.hwp_check_frames.specs.Counts.{is_pair};
 ghost use Rattle.hwp_check_marks.specs.Lows.{AreLows, low_at, row_low, rows_low};
 
-use hwp_check_records::is_result;
+use hwp_check_frames::is_result;
 use hwp_check_rules::rows_on;
 use hwp_geom::{Cpu, OutOfMemory};
-use hwp_report::{CpuLine, Report};
+use hwp_report_text::{CpuLine, Report};
 use std::alloc::Global;
 use std::collections::HashMap;
 

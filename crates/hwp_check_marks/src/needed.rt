@@ -1,12 +1,12 @@
 ghost use Rattle.std.specs.Prelude.{◌≡◌, ◌+◌, ◌<◌, ◌^◌, ℕ, IfOk, OnOk, length};
 ghost use Rattle.std.specs.List.{sum_by};
 ghost use Rattle.hwp_check_rules.specs.Standing.{page_height};
-ghost use Rattle.hwp_check_records.specs.Counts.{at_key};
+ghost use Rattle.hwp_check_frames.specs.Counts.{at_key};
 ghost use Rattle.hwp_check_marks.specs.Needed.{entry_needed, page_needed, pages_needed};
 
 use crate::keys::key_of;
 use crate::kinds::Kind;
-use hwp_check_records::{Counts, add_if};
+use hwp_check_frames::{Counts, add_if};
 use hwp_geom::{List, OutOfMemory};
 use hwp_page::{Entry, What};
 use std::alloc::Global;

@@ -1,15 +1,15 @@
 ghost use Rattle.std.specs.Prelude.{◌≡◌, ◌+◌, ◌<◌, ◌^◌, ℕ, IfOk, OnOk, length};
 ghost use Rattle.std.specs.List.{sum_by};
-ghost use Rattle.hwp_check_records.specs.Counts.{at_key};
+ghost use Rattle.hwp_check_frames.specs.Counts.{at_key};
 ghost use Rattle.hwp_check_marks.specs.Tallies.{entry_raise, frames_raise, how_raise, mark_raise, marks_raise, page_raise, pages_raise};
 ghost use Rattle.hwp_check_rules.specs.Standing.{entry_height, frame_height, page_height};
 
 use crate::keys::key_of;
 use crate::kinds::Kind;
-use hwp_check_records::{Counts, add, add_if};
+use hwp_check_frames::{Counts, add, add_if};
 use hwp_geom::{List, OutOfMemory, Who};
 use hwp_page::{Entry, What};
-use hwp_report::{FrameLine, How, MarkLine};
+use hwp_report_text::{FrameLine, How, MarkLine};
 use std::alloc::Global;
 use std::collections::HashMap;
 

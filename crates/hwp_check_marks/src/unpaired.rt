@@ -1,6 +1,6 @@
 ghost use Rattle.std.specs.Prelude.{◌≡◌, ◌+◌, ◌<◌, ◌^◌, [], length, IfOk, MatchOption, None};
 ghost use Rattle.std.specs.List.{sum_by};
-ghost use Rattle.hwp_check_records.specs.MarkScans.{IsClear, IsFirstFault};
+ghost use Rattle.hwp_check_frames.specs.MarkScans.{IsClear, IsFirstFault};
 ghost use Rattle.hwp_check_marks.specs.Tallies.{CountEntries, CountMarks, is_over, is_reached, may_have};
 ghost use Rattle.hwp_check_marks.specs.Unpaired.{AllFew, IsExtra, IsFirstExtra, NoneExtra};
 ghost use Rattle.hwp_check_rules.specs.Standing.{frame_height, last_line};
@@ -8,9 +8,9 @@ ghost use Rattle.hwp_check_rules.specs.Standing.{frame_height, last_line};
 use crate::keys::{has_page, key_of};
 use crate::kinds::Kind;
 use crate::tallies::{add_mark, entry_counts};
-use hwp_check_records::{Counts, count};
+use hwp_check_frames::{Counts, count};
 use hwp_geom::{OutOfMemory, Who};
-use hwp_report::{FrameLine, How, MarkLine, Report};
+use hwp_report_text::{FrameLine, How, MarkLine, Report};
 use std::alloc::Global;
 use std::collections::HashMap;
 

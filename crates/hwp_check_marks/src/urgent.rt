@@ -1,14 +1,14 @@
 ghost use Rattle.std.specs.Prelude.{◌≡◌, ◌+◌, ◌<◌, ◌^◌, ◌&&◌, ℕ, IfOk, OnOk, length};
 ghost use Rattle.std.specs.List.{sum_by};
 ghost use Rattle.hwp_check_rules.specs.Standing.{frame_height};
-ghost use Rattle.hwp_check_records.specs.Counts.{at_key};
+ghost use Rattle.hwp_check_frames.specs.Counts.{at_key};
 ghost use Rattle.hwp_check_marks.specs.Needed.{frames_urgent, how_urgent, is_nine, mark_urgent, marks_urgent};
 
 use crate::keys::key_of;
 use crate::kinds::Kind;
-use hwp_check_records::{Counts, Noted, Rows, add_if, add_own, count, row_of};
+use hwp_check_frames::{Counts, Noted, Rows, add_if, add_own, count, row_of};
 use hwp_geom::{OutOfMemory, Who};
-use hwp_report::{FrameLine, How, MarkLine};
+use hwp_report_text::{FrameLine, How, MarkLine};
 use std::alloc::Global;
 use std::collections::HashMap;
 

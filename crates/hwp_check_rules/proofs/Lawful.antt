@@ -10,17 +10,19 @@ use Rattle.hwp_page.specs.History.{IsReplay, Leads}
 use Rattle.hwp_page.specs.Step.{after, opening_of}
 use Rattle.hwp_page.specs.declared.Entry.{Entry}
 use Rattle.hwp_page.specs.declared.PageState.{PageState}
-use Rattle.hwp_script.specs.declared.Script.{Script}
-use Rattle.hwp_report.specs.declared.Answer.TheVariants as answers
-use Rattle.hwp_report.specs.declared.CpuLine.{CpuLine}
-use Rattle.hwp_report.specs.declared.CpuLine.TheVariants as lines
-use Rattle.hwp_report.specs.declared.FrameLine.{FrameLine}
-use Rattle.hwp_report.specs.declared.Report.{Report}
-use Rattle.hwp_law.specs.Frames.{IsFrameLine}
-use Rattle.hwp_law.specs.Law.{IsLawful}
-use Rattle.hwp_law.specs.Report.{IsHistory}
+use Rattle.hwp_script_read.specs.declared.Script.{Script}
+use Rattle.hwp_report_text.specs.declared.Answer.TheVariants as answers
+use Rattle.hwp_report_text.specs.declared.CpuLine.{CpuLine}
+use Rattle.hwp_report_text.specs.declared.CpuLine.TheVariants as lines
+use Rattle.hwp_report_text.specs.declared.FrameLine.{FrameLine}
+use Rattle.hwp_report_text.specs.declared.Report.{Report}
+use Rattle.hwp_check_events.specs.hwp_law.Frames.{IsFrameLine}
+use Rattle.hwp_check_events.specs.hwp_law.Law.{IsLawful}
+use Rattle.hwp_check_events.specs.hwp_law.Report.{IsHistory}
 use Rattle.hwp_check_rules.specs.Rules.{AnswersFit, FramesFit, HistoriesFit, MarksFit, SeenFit, ShapeFits, StopFits}
-use Rattle.hwp_check_rules.specs.Verdicts.{Holds, Rule, Shape, Histories, Answers, Seen, Marks, Count, Losses, Stop, Frames}
+use Rattle.hwp_check_rules.specs.declared.verdicts.Rule.{Rule}
+use Rattle.hwp_check_rules.specs.declared.verdicts.Rule.TheVariants.{Shape, Histories, Answers, Seen, Marks, Count, Losses, Stop, Frames}
+use Rattle.hwp_check_rules.specs.Verdicts.{Holds}
 use Rattle.hwp_check_rules.proofs.AnswersByRow.{by-rows, rows-by, told-of}
 
 leads-same : (layout : Layout) (page : Page) (s : PageState) (entries : List Entry) (t u : PageState) → Leads layout page s entries t → Leads layout page s entries u → t ≡ u

@@ -9,16 +9,16 @@ use Rattle.std.proofs.lemmas.List.Elements.{filter_map-append}
 use Rattle.hwp_geom.specs.declared.Cpu.{Cpu}
 use Rattle.hwp_geom.specs.declared.Thread.{Thread}
 use Rattle.hwp_kill.specs.declared.Policy.{Policy}
-use Rattle.hwp_script.specs.declared.Command.{Command}
-use Rattle.hwp_script.specs.declared.Script.{Script}
-use Rattle.hwp_report.specs.declared.Answer.{Answer}
-use Rattle.hwp_report.specs.declared.CpuLine.{CpuLine}
-use Rattle.hwp_report.specs.declared.CpuLine.TheVariants as lines
-use Rattle.hwp_report.specs.declared.Report.{Report}
-use Rattle.hwp_law.specs.Lines.{AnswerLine, answer_among, answer_in}
-use Rattle.hwp_law.specs.Policies.{setting_of, settings}
-use Rattle.hwp_law.specs.Seen.{commands_around, cpu_of_thread, is_done}
-use Rattle.hwp_check_rules.specs.declared.pasts.Past.{Past}
+use Rattle.hwp_script_read.specs.declared.Command.{Command}
+use Rattle.hwp_script_read.specs.declared.Script.{Script}
+use Rattle.hwp_report_text.specs.declared.Answer.{Answer}
+use Rattle.hwp_report_text.specs.declared.CpuLine.{CpuLine}
+use Rattle.hwp_report_text.specs.declared.CpuLine.TheVariants as lines
+use Rattle.hwp_report_text.specs.declared.Report.{Report}
+use Rattle.hwp_check_events.specs.hwp_law.Lines.{AnswerLine, answer_among, answer_in}
+use Rattle.hwp_check_events.specs.hwp_law.Policies.{setting_of, settings}
+use Rattle.hwp_check_events.specs.hwp_law.Seen.{commands_around, cpu_of_thread, is_done}
+use Rattle.hwp_check_rules.specs.declared.pasts.ThreadPolicies.{ThreadPolicies}
 use Rattle.hwp_check_rules.specs.Pasts.{AreDone, IsPast, counts, noted}
 
 -- one command more
@@ -87,7 +87,7 @@ note_more rows flags after back d within done are = (
     split = drop_more rows at d here ∙ (λ i. slice_index_or rows (sym place i) d ∷ drop (next i) rows)
 
 -- what stands in a past
-pub past_is : (script : Script) (report : Report) (thread : Thread) (past : Past) (commands : List Command) (rows : List CpuLine) (flags : List Bool) → cpu_of_thread script thread ≡ Some past.cpu
+pub past_is : (script : Script) (report : Report) (thread : Thread) (past : ThreadPolicies) (commands : List Command) (rows : List CpuLine) (flags : List Bool) → cpu_of_thread script thread ≡ Some past.cpu
     → commands ≡ unwrap_or (slice_get script.lists past.cpu.0) [] → rows ≡ unwrap_or (slice_get report.cpus past.cpu.0) []
     → length flags ≡ length commands → AreDone rows flags → past.policies ≡ settings thread commands → past.done ≡ counts thread 0 commands flags → IsPast script report thread past
 past_is script report thread past commands rows flags of_cpu commands-are rows-are each done policies counted = record {
@@ -103,9 +103,9 @@ past_is script report thread past commands rows flags of_cpu commands-are rows-a
     around = commands-are ∙ ap (λ (o : Option Cpu). unwrap_or (option_and_then (λ (cpu : Cpu). slice_get script.lists cpu.0) o) []) (sym of_cpu)
 
 -- one thread more
-pub pasts-more : (script : Script) (report : Report) (pasts : List Past) (past : Past) (thread : Thread) → length pasts ≡ thread.0
-    → ((t : Thread) (p : Past) → slice_get pasts t.0 ≡ Some p → IsPast script report t p) → IsPast script report thread past
-    → (t : Thread) (p : Past) → slice_get (pasts ++ past ∷ []) t.0 ≡ Some p → IsPast script report t p
+pub pasts-more : (script : Script) (report : Report) (pasts : List ThreadPolicies) (past : ThreadPolicies) (thread : Thread) → length pasts ≡ thread.0
+    → ((t : Thread) (p : ThreadPolicies) → slice_get pasts t.0 ≡ Some p → IsPast script report t p) → IsPast script report thread past
+    → (t : Thread) (p : ThreadPolicies) → slice_get (pasts ++ past ∷ []) t.0 ≡ Some p → IsPast script report t p
 pasts-more script report pasts past thread many each is t p there = which (cases_lt t.0 (length pasts))
   where
     within : t.0 < length (pasts ++ past ∷ [])

@@ -6,19 +6,19 @@ use Rattle.hwp_geom.specs.declared.Who.{Who}
 use Rattle.hwp_page.specs.Orders.{IsEarlier}
 use Rattle.hwp_page.specs.declared.At.{At}
 use Rattle.hwp_page.specs.declared.Entry.{Entry}
-use Rattle.hwp_script.specs.declared.Command.{Command}
-use Rattle.hwp_script.specs.declared.Script.{Script}
-use Rattle.hwp_report.specs.declared.Answer.{Answer}
-use Rattle.hwp_report.specs.declared.CpuLine.{CpuLine}
-use Rattle.hwp_report.specs.declared.CpuLine.TheVariants as lines
-use Rattle.hwp_report.specs.declared.Report.{Report}
-use Rattle.hwp_law.specs.Answers.{is_answering}
-use Rattle.hwp_law.specs.Commands.{process_at}
-use Rattle.hwp_law.specs.Endings.{HasEnded, IsOver, WasGone}
-use Rattle.hwp_law.specs.Lines.{events_of}
-use Rattle.hwp_law.specs.Places.{command_at, entry_at}
-use Rattle.hwp_law.specs.States.{IsInWindow, entry_named, state_named}
-use Rattle.hwp_events.specs.Misfits.{IsWrong, Lacks, found_by}
+use Rattle.hwp_script_read.specs.declared.Command.{Command}
+use Rattle.hwp_script_read.specs.declared.Script.{Script}
+use Rattle.hwp_report_text.specs.declared.Answer.{Answer}
+use Rattle.hwp_report_text.specs.declared.CpuLine.{CpuLine}
+use Rattle.hwp_report_text.specs.declared.CpuLine.TheVariants as lines
+use Rattle.hwp_report_text.specs.declared.Report.{Report}
+use Rattle.hwp_check_events.specs.hwp_law.Answers.{is_answering}
+use Rattle.hwp_check_events.specs.hwp_law.Commands.{process_at}
+use Rattle.hwp_check_events.specs.hwp_law.Endings.{HasEnded, IsOver, WasGone}
+use Rattle.hwp_check_events.specs.hwp_law.Lines.{events_of}
+use Rattle.hwp_check_events.specs.hwp_law.Places.{command_at, entry_at}
+use Rattle.hwp_check_events.specs.hwp_law.States.{IsInWindow, entry_named, state_named}
+use Rattle.hwp_check_events.specs.Misfits.{IsWrong, Lacks, found_by}
 use Rattle.hwp_check_rules.specs.Answered.{HasAnswer, IsInPlace, IsRight, is_answer, seq_of}
 use Rattle.hwp_check_rules.specs.Standing.{cpu_line, row_line}
 

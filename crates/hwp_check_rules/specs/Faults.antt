@@ -12,15 +12,15 @@ use Rattle.hwp_page.specs.Step.{Allowed, opening_of}
 use Rattle.hwp_page.specs.declared.At.{At}
 use Rattle.hwp_page.specs.declared.Entry.{Entry}
 use Rattle.hwp_page.specs.declared.PageState.{PageState}
-use Rattle.hwp_script.specs.declared.Script.{Script}
-use Rattle.hwp_report.specs.declared.FrameLine.{FrameLine}
-use Rattle.hwp_report.specs.declared.Place.{Place}
-use Rattle.hwp_report.specs.declared.Place.TheVariants as places
-use Rattle.hwp_report.specs.declared.Report.{Report}
-use Rattle.hwp_law.specs.Entries.{IsMadeBy}
-use Rattle.hwp_law.specs.Places.{entry_at}
-use Rattle.hwp_law.specs.Report.{is_of}
-use Rattle.hwp_law.specs.Seen.{IsOwnCount, IsPolicySeen, seen_in}
+use Rattle.hwp_script_read.specs.declared.Script.{Script}
+use Rattle.hwp_report_text.specs.declared.FrameLine.{FrameLine}
+use Rattle.hwp_report_text.specs.declared.Whereabouts.{Whereabouts}
+use Rattle.hwp_report_text.specs.declared.Whereabouts.TheVariants as places
+use Rattle.hwp_report_text.specs.declared.Report.{Report}
+use Rattle.hwp_check_events.specs.hwp_law.Entries.{IsMadeBy}
+use Rattle.hwp_check_events.specs.hwp_law.Places.{entry_at}
+use Rattle.hwp_check_events.specs.hwp_law.Report.{is_of}
+use Rattle.hwp_check_events.specs.hwp_law.Seen.{IsOwnCount, IsPolicySeen, seen_in}
 use Rattle.hwp_check_rules.specs.Rules.{CountFits, IsBalanced, IsFrameShown, StopFits}
 use Rattle.hwp_check_rules.specs.Standing.{count_line, cpu_line, entry_line, file_line, frame_line, page_line, seen_line, stop_line}
 
@@ -135,7 +135,7 @@ pub record IsSaidTwice (script : Script) (report : Report) (line : ℕ) : Type 0
   pub ends : EndsIn script report page state
   pub enough : holders state ≤ sayers page (take frame.0 report.frames)
 
-abbrev pub is_free : Place → Bool
+abbrev pub is_free : Whereabouts → Bool
 is_free places.Free = true
 is_free _ = false
 

@@ -2,15 +2,15 @@
 use Rattle.std.specs.Prelude.{◌≡◌, ℕ, ◌+◌, ◌<◌, ◌&&◌, Bool, List, [], ◌∷◌, Some, is_some, length, slice_get, slice_index_or, slice_set, unwrap_or}
 use Rattle.std.specs.Int.{from_bool}
 use Rattle.hwp_geom.specs.declared.Thread.{Thread}
-use Rattle.hwp_script.specs.declared.Command.{Command}
-use Rattle.hwp_script.specs.declared.Script.{Script}
-use Rattle.hwp_report.specs.declared.CpuLine.{CpuLine}
-use Rattle.hwp_report.specs.declared.CpuLine.TheVariants as lines
-use Rattle.hwp_report.specs.declared.Report.{Report}
-use Rattle.hwp_law.specs.Lines.{answer_among}
-use Rattle.hwp_law.specs.Policies.{setting_of, settings}
-use Rattle.hwp_law.specs.Seen.{commands_around, cpu_of_thread, is_done}
-use Rattle.hwp_check_rules.specs.declared.pasts.Past.{Past}
+use Rattle.hwp_script_read.specs.declared.Command.{Command}
+use Rattle.hwp_script_read.specs.declared.Script.{Script}
+use Rattle.hwp_report_text.specs.declared.CpuLine.{CpuLine}
+use Rattle.hwp_report_text.specs.declared.CpuLine.TheVariants as lines
+use Rattle.hwp_report_text.specs.declared.Report.{Report}
+use Rattle.hwp_check_events.specs.hwp_law.Lines.{answer_among}
+use Rattle.hwp_check_events.specs.hwp_law.Policies.{setting_of, settings}
+use Rattle.hwp_check_events.specs.hwp_law.Seen.{commands_around, cpu_of_thread, is_done}
+use Rattle.hwp_check_rules.specs.declared.pasts.ThreadPolicies.{ThreadPolicies}
 
 -- which commands were answered `done`, a value for each command
 abbrev pub AreDone : List CpuLine → List Bool → Type 0
@@ -28,7 +28,7 @@ counts thread count (command ∷ commands) (done ∷ flags) =
 counts thread count _ _ = count ∷ []
 
 -- what is known of a thread: its processor, the policies that the processor's commands set, and the counts of those done
-pub record IsPast (script : Script) (report : Report) (thread : Thread) (past : Past) : Type 0 where
+pub record IsPast (script : Script) (report : Report) (thread : Thread) (past : ThreadPolicies) : Type 0 where
   pub flags : List Bool
   pub of_cpu : cpu_of_thread script thread ≡ Some past.cpu
   pub policies : past.policies ≡ settings thread (commands_around script thread)
@@ -37,6 +37,6 @@ pub record IsPast (script : Script) (report : Report) (thread : Thread) (past : 
   pub done : past.done ≡ counts thread 0 (commands_around script thread) flags
 
 -- of each thread of the script
-pub record ArePasts (script : Script) (report : Report) (pasts : List Past) : Type 0 where
+pub record ArePasts (script : Script) (report : Report) (pasts : List ThreadPolicies) : Type 0 where
   pub many : length pasts ≡ length script.layout.threads
-  pub each : (thread : Thread) (past : Past) → slice_get pasts thread.0 ≡ Some past → IsPast script report thread past
+  pub each : (thread : Thread) (past : ThreadPolicies) → slice_get pasts thread.0 ≡ Some past → IsPast script report thread past

@@ -1,8 +1,10 @@
 -- The verdict on a report: legal, or the lowest rule that is broken with the first line that breaks it.
-use Rattle.std.specs.Prelude.{◌≡◌, ℕ, ◌<◌, ◌≤◌}
-use Rattle.hwp_script.specs.declared.Script.{Script}
-use Rattle.hwp_report.specs.declared.Report.{Report}
-use Rattle.hwp_law.specs.Law.{IsLawful}
+use Rattle.std.specs.Prelude.{ℕ, ◌<◌, ◌≤◌}
+use Rattle.hwp_script_read.specs.declared.Script.{Script}
+use Rattle.hwp_report_text.specs.declared.Report.{Report}
+use Rattle.hwp_check_events.specs.hwp_law.Law.{IsLawful}
+use Rattle.hwp_check_rules.specs.declared.verdicts.Rule.{Rule}
+use Rattle.hwp_check_rules.specs.declared.verdicts.Rule.TheVariants.{Shape, Histories, Answers, Seen, Marks, Count, Losses, Stop, Frames}
 use Rattle.hwp_check_rules.specs.declared.verdicts.Verdict.{Verdict}
 use Rattle.hwp_check_rules.specs.declared.verdicts.Verdict.TheVariants as verdicts
 use Rattle.hwp_check_rules.specs.AnswerFaults.{IsAnswerFault}
@@ -10,19 +12,7 @@ use Rattle.hwp_check_rules.specs.Faults.{IsCountFault, IsFrameFault, IsHistoryFa
 use Rattle.hwp_check_rules.specs.MarkFaults.{IsMarkFault}
 use Rattle.hwp_check_rules.specs.Rules.{AnswersFit, CountFits, FramesFit, HistoriesFit, LossesFit, MarksFit, SeenFit, ShapeFits, StopFits}
 
--- the rules
-pub data Rule : Type 0 where
-  Shape : Rule
-  Histories : Rule
-  Answers : Rule
-  Seen : Rule
-  Marks : Rule
-  Count : Rule
-  Losses : Rule
-  Stop : Rule
-  Frames : Rule
-
--- their numbers
+-- the numbers of the rules
 abbrev pub number : Rule → ℕ
 number Shape = 1
 number Histories = 2
@@ -71,4 +61,4 @@ pub record IsBroken (rule : Rule) (script : Script) (report : Report) (line : �
 -- the verdict on a report, by the law and by its rules
 abbrev pub IsVerdict : Script → Report → Verdict → Type 0
 IsVerdict script report verdicts.Legal = IsLawful script report
-IsVerdict script report (verdicts.Not place n) = (rule : Rule) × (number rule ≡ n) × HoldBelow n script report × IsBroken rule script report place
+IsVerdict script report (verdicts.Not line rule) = HoldBelow (number rule) script report × IsBroken rule script report line

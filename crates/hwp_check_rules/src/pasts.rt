@@ -1,23 +1,23 @@
 ghost use Rattle.std.specs.Prelude.{◌≡◌, ◌≤◌, ◌++◌, ◌&&◌, Some, is_some, length, IfOk, OnOk};
 ghost use Rattle.std.specs.Int.{from_bool};
 ghost use Rattle.std.specs.Option.{option_to_list};
-ghost use Rattle.hwp_law.specs.Policies.{setting_of, settings};
-ghost use Rattle.hwp_law.specs.Seen.{cpu_of_thread};
+ghost use Rattle.hwp_check_events.specs.hwp_law.Policies.{setting_of, settings};
+ghost use Rattle.hwp_check_events.specs.hwp_law.Seen.{cpu_of_thread};
 ghost use Rattle.hwp_check_rules.specs.Pasts.{AreDone, ArePasts, IsPast, counts, noted};
 
 use crate::policies::setting_of;
 use crate::rows::{commands_of, rows_on};
-use hwp_form::Command;
 use hwp_geom::{Cpu, List, OutOfMemory, Thread};
 use hwp_kill::Policy;
-use hwp_report::{Answer, CpuLine, Report};
-use hwp_script::Script;
+use hwp_report_text::{Answer, CpuLine, Report};
+use hwp_script_lines::Command;
+use hwp_script_read::Script;
 use std::alloc::Global;
 
 /// What is known of a thread: its processor, the policies that the processor's commands set, and how many of them were set
 /// by commands that were done, before each command and behind the last.
 #[derive(Drop)]
-pub struct Past {
+pub struct ThreadPolicies {
     pub cpu: Cpu,
     pub policies: List<Policy>,
     pub done: List<u64>,
@@ -109,7 +109,7 @@ fn past_of(
     report: &Report,
     thread: Thread,
     cpu: Cpu,
-) -> Result<Past, OutOfMemory>
+) -> Result<ThreadPolicies, OutOfMemory>
     requires { cpu_of_thread script.now thread ≡ Some cpu }
     ensures { IfOk result (λ past. IsPast script.now report.now thread past) }
 {
@@ -117,7 +117,7 @@ fn past_of(
     let flags = done_of(alloc, commands.len(), rows_on(report, cpu))?;
     let policies = policies_of(alloc, thread, commands)?;
     let done = counts_of(alloc, thread, commands, flags.as_slice())?;
-    Ok(Past {
+    Ok(ThreadPolicies {
         cpu,
         policies,
         done,
@@ -125,7 +125,11 @@ fn past_of(
 }
 
 /// What is known of each thread of the script.
-pub fn pasts_of(alloc: Global, script: &Script, report: &Report) -> Result<Vec<Past>, OutOfMemory>
+pub fn pasts_of(
+    alloc: Global,
+    script: &Script,
+    report: &Report,
+) -> Result<Vec<ThreadPolicies>, OutOfMemory>
     requires { length script.now.layout.threads ≤ 256 }
     ensures { IfOk result (λ pasts. ArePasts script.now report.now pasts.items) }
 {

@@ -4,7 +4,7 @@ ghost use Rattle.hwp_check_rules.specs.Standing.{cpu_height, cpu_line, entry_hei
 
 use hwp_geom::List;
 use hwp_page::{Entry, What};
-use hwp_report::{CpuLine, FrameLine, Report};
+use hwp_report_text::{CpuLine, FrameLine, Report};
 
 /// The lines of an entry.
 pub fn entry_height(entry: &Entry) -> u64

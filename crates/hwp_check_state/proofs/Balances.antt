@@ -10,22 +10,23 @@ use Rattle.std.proofs.lemmas.Option.{same_Some, none-some, slice_get_within}
 use Rattle.hwp_geom.specs.declared.FileNo.{FileNo}
 use Rattle.hwp_geom.specs.declared.PageKind.{PageKind}
 use Rattle.hwp_page.specs.declared.Entry.{Entry}
-use Rattle.hwp_script.specs.declared.Command.{Command}
-use Rattle.hwp_report.specs.declared.CpuLine.{CpuLine}
-use Rattle.hwp_report.specs.declared.CpuLine.TheVariants as lines
-use Rattle.hwp_law.specs.Lines.{AnswerLine, answer_in}
-use Rattle.hwp_law.specs.Losses.{lost_in, told}
+use Rattle.hwp_script_read.specs.declared.Command.{Command}
+use Rattle.hwp_report_text.specs.declared.CpuLine.{CpuLine}
+use Rattle.hwp_report_text.specs.declared.CpuLine.TheVariants as lines
+use Rattle.hwp_check_rules.specs.hwp_law.Lines.{AnswerLine, answer_in}
+use Rattle.hwp_check_rules.specs.hwp_law.Losses.{lost_in, told}
 use Rattle.hwp_check_rules.specs.Answered.{is_answer}
 use Rattle.hwp_page.specs.Losses.{file_behind, is_loss, is_same_file, losses_in}
 use Rattle.hwp_page.specs.declared.What.{What}
 use Rattle.hwp_page.specs.declared.What.TheVariants as entries
 use Rattle.hwp_page.specs.declared.Situation.TheVariants as situations
-use Rattle.hwp_script.specs.declared.Script.{Script}
-use Rattle.hwp_report.specs.declared.Report.{Report}
-use Rattle.hwp_law.specs.Losses.{answered}
+use Rattle.hwp_script_read.specs.declared.Script.{Script}
+use Rattle.hwp_report_text.specs.declared.Report.{Report}
+use Rattle.hwp_check_rules.specs.hwp_law.Losses.{answered}
 use Rattle.hwp_check_rules.specs.Rules.{IsBalanced}
 use Rattle.hwp_check_rules.specs.Standing.{entry_height, file_line, last_line, page_height, what_height}
-use Rattle.hwp_check_rules.specs.Verdicts.{IsBroken, Losses}
+use Rattle.hwp_check_rules.specs.declared.Rule.TheVariants.{Losses}
+use Rattle.hwp_check_rules.specs.Verdicts.{IsBroken}
 use Rattle.hwp_check_state.specs.Balances.{capped, told_at, told_lines}
 
 zip-nil : {X Y : Type 0} (xs : List X) → zip {X = Y} xs [] ≡ []

@@ -20,15 +20,15 @@ use Rattle.hwp_page.specs.declared.What.{What}
 use Rattle.hwp_page.specs.declared.What.TheVariants as entries
 use Rattle.hwp_page.specs.Actions.{acted}
 use Rattle.hwp_page.proofs.Histories.{Leads-state}
-use Rattle.hwp_script.specs.declared.Command.{Command}
-use Rattle.hwp_script.specs.declared.Command.TheVariants as commands
-use Rattle.hwp_script.specs.declared.Script.{Script}
-use Rattle.hwp_report.specs.declared.FrameLine.{FrameLine}
-use Rattle.hwp_report.specs.declared.Place.{Place}
-use Rattle.hwp_report.specs.declared.Place.TheVariants as places
-use Rattle.hwp_report.specs.declared.Report.{Report}
-use Rattle.hwp_law.specs.Frames.{IsPlaced, WasDone}
-use Rattle.hwp_law.specs.Report.{is_of}
+use Rattle.hwp_script_read.specs.declared.Command.{Command}
+use Rattle.hwp_script_read.specs.declared.Command.TheVariants as commands
+use Rattle.hwp_script_read.specs.declared.Script.{Script}
+use Rattle.hwp_report_text.specs.declared.FrameLine.{FrameLine}
+use Rattle.hwp_report_text.specs.declared.Whereabouts.{Whereabouts}
+use Rattle.hwp_report_text.specs.declared.Whereabouts.TheVariants as places
+use Rattle.hwp_report_text.specs.declared.Report.{Report}
+use Rattle.hwp_check_rules.specs.hwp_law.Frames.{IsPlaced, WasDone}
+use Rattle.hwp_check_rules.specs.hwp_law.Report.{is_of}
 use Rattle.hwp_check_rules.specs.Faults.{EndsIn, sayers}
 use Rattle.hwp_check_state.specs.Frames.{AreDoneOf, bad_bit, cached_after, cached_by, ends_of, is_beyond, is_placed, keeps, weak_bit, with_bits}
 use Rattle.hwp_check_state.proofs.SightLaws.{cons-cases, nothing}
@@ -147,7 +147,7 @@ module _ (script : Script) (report : Report) (done : List Command) (are : AreDon
 -- ---- places
 
 module _ (layout : Layout) where
-  pub placed-is : (kernel poisoned : Bool) (place : Place) → is_placed (length layout.pages) kernel poisoned place ≡ true → IsPlaced layout kernel poisoned place
+  pub placed-is : (kernel poisoned : Bool) (place : Whereabouts) → is_placed (length layout.pages) kernel poisoned place ≡ true → IsPlaced layout kernel poisoned place
   placed-is false false places.Free is = (refl, refl)
   placed-is true poisoned places.Free is = absurd (true≢false (sym is))
   placed-is false true places.Free is = absurd (true≢false (sym is))
@@ -158,7 +158,7 @@ module _ (layout : Layout) where
   placed-is true poisoned (places.Of page) is = absurd (true≢false (sym is))
   placed-is false true (places.Of page) is = absurd (true≢false (sym is))
 
-  pub not-placed : (kernel poisoned : Bool) (place : Place) → is_placed (length layout.pages) kernel poisoned place ≡ false → IsPlaced layout kernel poisoned place → ⊥
+  pub not-placed : (kernel poisoned : Bool) (place : Whereabouts) → is_placed (length layout.pages) kernel poisoned place ≡ false → IsPlaced layout kernel poisoned place → ⊥
   not-placed false false places.Free is of = true≢false is
   not-placed true poisoned places.Free is of = true≢false of.0
   not-placed false true places.Free is of = true≢false of.1
@@ -213,7 +213,7 @@ module _ (script : Script) (report : Report) (page : Page) (state : PageState) (
 
 -- ---- the frames that say a page
 
-pub beyond-is : (cached : List Bool) (front : List FrameLine) (place : Place) → is_beyond cached front place ≡ true
+pub beyond-is : (cached : List Bool) (front : List FrameLine) (place : Whereabouts) → is_beyond cached front place ≡ true
     → (page : Page) × (is_of page place ≡ true) × (page.0 < length cached) × (cond (slice_index_or cached page.0 false) 1 0 ≤ sayers page front)
 beyond-is cached front places.Free is = absurd (true≢false (sym is))
 beyond-is cached front places.Kernel is = absurd (true≢false (sym is))
@@ -226,7 +226,7 @@ beyond-is cached front (places.Of page) is = which (nat_lt page.0 (length cached
     which true true within less both = absurd (true≢false (sym both))
     which false b within less both = absurd (true≢false (sym both))
 
-pub not-beyond : (cached : List Bool) (front : List FrameLine) (place : Place) (page : Page) → is_beyond cached front place ≡ false → is_of page place ≡ true → page.0 < length cached
+pub not-beyond : (cached : List Bool) (front : List FrameLine) (place : Whereabouts) (page : Page) → is_beyond cached front place ≡ false → is_of page place ≡ true → page.0 < length cached
     → sayers page front < cond (slice_index_or cached page.0 false) 1 0
 not-beyond cached front places.Free page is says within = absurd (true≢false (sym says))
 not-beyond cached front places.Kernel page is says within = absurd (true≢false (sym says))

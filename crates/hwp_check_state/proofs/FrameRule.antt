@@ -9,21 +9,22 @@ use Rattle.hwp_geom.specs.declared.Page.{Page}
 use Rattle.hwp_page.specs.History.{IsReplay}
 use Rattle.hwp_page.specs.declared.Entry.{Entry}
 use Rattle.hwp_page.specs.declared.PageState.{PageState}
-use Rattle.hwp_script.specs.declared.Command.{Command}
-use Rattle.hwp_script.specs.declared.Command.TheVariants as commands
-use Rattle.hwp_script.specs.declared.Script.{Script}
-use Rattle.hwp_report.specs.declared.FrameLine.{FrameLine}
-use Rattle.hwp_report.specs.declared.Place.TheVariants as places
-use Rattle.hwp_report.specs.declared.Report.{Report}
-use Rattle.hwp_law.specs.Frames.{WasDone}
-use Rattle.hwp_law.specs.Records.{ends_poisoned}
-use Rattle.hwp_law.specs.Report.{is_of}
+use Rattle.hwp_script_read.specs.declared.Command.{Command}
+use Rattle.hwp_script_read.specs.declared.Command.TheVariants as commands
+use Rattle.hwp_script_read.specs.declared.Script.{Script}
+use Rattle.hwp_report_text.specs.declared.FrameLine.{FrameLine}
+use Rattle.hwp_report_text.specs.declared.Whereabouts.TheVariants as places
+use Rattle.hwp_report_text.specs.declared.Report.{Report}
+use Rattle.hwp_check_rules.specs.hwp_law.Frames.{WasDone}
+use Rattle.hwp_check_rules.specs.hwp_law.Records.{ends_poisoned}
+use Rattle.hwp_check_rules.specs.hwp_law.Report.{is_of}
 use Rattle.hwp_check_rules.specs.Faults.{EndsIn, IsFrameFault, IsFrameWrong, IsSaidTwice, IsUnsaid, first_free, holders, sayers}
 use Rattle.hwp_check_rules.specs.Firsts.{soonest}
 use Rattle.hwp_check_state.specs.Frames.{AreDoneOf, AreRight, bad_bit, cached_after, ends_of, is_beyond, is_placed, is_right_frame, is_right_line, is_unsaid_from, weak_bit, with_bits}
 use Rattle.hwp_check_rules.specs.Rules.{FramesFit, IsFrameShown}
 use Rattle.hwp_check_rules.specs.Standing.{frame_height, frame_line}
-use Rattle.hwp_check_rules.specs.Verdicts.{Frames, IsBroken}
+use Rattle.hwp_check_rules.specs.declared.Rule.TheVariants.{Frames}
+use Rattle.hwp_check_rules.specs.Verdicts.{IsBroken}
 use Rattle.hwp_check_state.proofs.FrameLaws.{bad-is, beyond-is, end-cached, end-within, frame_of, not-beyond, not-placed, placed-is, same-bits, weak-is}
 
 -- four tests at once

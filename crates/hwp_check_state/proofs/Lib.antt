@@ -8,8 +8,8 @@ mod SightLaws
 mod SeenRule
 mod StopScans
 mod StopLaws
-mod Walking
-mod Wrongs
+mod WalkLaws
+mod HistoryWrongs
 mod DoneLaws
 mod FrameLaws
 mod FrameRule

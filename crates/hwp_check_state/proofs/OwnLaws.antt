@@ -8,14 +8,14 @@ use Rattle.hwp_geom.specs.declared.Cpu.{Cpu}
 use Rattle.hwp_geom.specs.declared.Thread.{Thread}
 use Rattle.hwp_geom.specs.declared.Who.{Who}
 use Rattle.hwp_kill.specs.declared.Seen.{Seen}
-use Rattle.hwp_script.specs.declared.Command.{Command}
-use Rattle.hwp_script.specs.declared.Script.{Script}
-use Rattle.hwp_report.specs.declared.CpuLine.{CpuLine}
-use Rattle.hwp_report.specs.declared.Report.{Report}
-use Rattle.hwp_law.specs.Lines.{answer_among, rows_of}
-use Rattle.hwp_law.specs.Policies.{commands_before, setting_of}
-use Rattle.hwp_law.specs.Seen.{IsOwnCount, commands_around, is_done, settings_done}
-use Rattle.hwp_check_rules.specs.declared.Past.{Past}
+use Rattle.hwp_script_read.specs.declared.Command.{Command}
+use Rattle.hwp_script_read.specs.declared.Script.{Script}
+use Rattle.hwp_report_text.specs.declared.CpuLine.{CpuLine}
+use Rattle.hwp_report_text.specs.declared.Report.{Report}
+use Rattle.hwp_check_rules.specs.hwp_law.Lines.{answer_among, rows_of}
+use Rattle.hwp_check_rules.specs.hwp_law.Policies.{commands_before, setting_of}
+use Rattle.hwp_check_rules.specs.hwp_law.Seen.{IsOwnCount, commands_around, is_done, settings_done}
+use Rattle.hwp_check_rules.specs.declared.ThreadPolicies.{ThreadPolicies}
 use Rattle.hwp_check_rules.specs.Pasts.{IsPast, counts}
 
 pub counts-length : (thread : Thread) (count : ℕ) (list : List Command) (flags : List Bool) → length flags ≡ length list → length (counts thread count list flags) ≡ length list + 1
@@ -60,7 +60,7 @@ module _ (thread : Thread) (rows : List CpuLine) where
       ∙ ap (λ (l : List Command). count + settings_done thread rows n l) (take_min seq list)
 
 -- what the count before a command is
-module _ (script : Script) (report : Report) (seen : Seen) (past : Past) (is : IsPast script report seen.thread past) (who : Who) where
+module _ (script : Script) (report : Report) (seen : Seen) (past : ThreadPolicies) (is : IsPast script report seen.thread past) (who : Who) where
   abbrev pub list : List Command
   list = commands_around script seen.thread
 

@@ -9,17 +9,18 @@ use Rattle.hwp_geom.specs.declared.Who.{Who}
 use Rattle.hwp_kill.specs.declared.Seen.{Seen}
 use Rattle.hwp_page.specs.declared.At.{At}
 use Rattle.hwp_page.specs.declared.Entry.{Entry}
-use Rattle.hwp_script.specs.declared.Script.{Script}
-use Rattle.hwp_report.specs.declared.Report.{Report}
-use Rattle.hwp_law.specs.Places.{entry_at}
-use Rattle.hwp_law.specs.Seen.{IsOwnCount, seen_in}
+use Rattle.hwp_script_read.specs.declared.Script.{Script}
+use Rattle.hwp_report_text.specs.declared.Report.{Report}
+use Rattle.hwp_check_rules.specs.hwp_law.Places.{entry_at}
+use Rattle.hwp_check_rules.specs.hwp_law.Seen.{IsOwnCount, seen_in}
 use Rattle.hwp_check_state.specs.declared.sights.Sight.{Sight}
 use Rattle.hwp_check_rules.specs.Faults.{HasFallen, IsSeenFault}
 use Rattle.hwp_check_rules.specs.Firsts.{soonest}
 use Rattle.hwp_check_rules.specs.Rules.{SeenFit}
 use Rattle.hwp_check_state.specs.Sights.{IsBelow, IsFirstOf, IsLineOf, IsNotBelow, IsRight, IsWrong, sights}
 use Rattle.hwp_check_rules.specs.Standing.{seen_line}
-use Rattle.hwp_check_rules.specs.Verdicts.{IsBroken, Seen as SeenRule}
+use Rattle.hwp_check_rules.specs.declared.Rule.TheVariants.{Seen as SeenRule}
+use Rattle.hwp_check_rules.specs.Verdicts.{IsBroken}
 use Rattle.hwp_check_state.proofs.FirstLaws.{not-both}
 use Rattle.hwp_check_state.proofs.SightLaws.{IsSight, from-place, has-sight, sight-has, to-place}
 

@@ -9,9 +9,9 @@ use Rattle.hwp_geom.specs.declared.Who.{Who}
 use Rattle.hwp_kill.specs.declared.Seen.{Seen}
 use Rattle.hwp_page.specs.declared.At.{At}
 use Rattle.hwp_page.specs.declared.Entry.{Entry}
-use Rattle.hwp_report.specs.declared.Report.{Report}
-use Rattle.hwp_law.specs.Places.{entry_at}
-use Rattle.hwp_law.specs.Seen.{seen_in}
+use Rattle.hwp_report_text.specs.declared.Report.{Report}
+use Rattle.hwp_check_rules.specs.hwp_law.Places.{entry_at}
+use Rattle.hwp_check_rules.specs.hwp_law.Seen.{seen_in}
 use Rattle.hwp_check_state.specs.declared.sights.Sight.{Sight}
 use Rattle.hwp_check_state.specs.Sights.{entry_sights, listed_sights, page_sights, pages_sights, sights}
 use Rattle.hwp_check_rules.specs.Standing.{entry_height, page_height, page_line, seen_line}

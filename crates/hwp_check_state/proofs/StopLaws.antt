@@ -1,17 +1,18 @@
 -- When the stop of a report fits, by what is found of all its processors.
 use Rattle.std.proofs.Common.{◌≡◌, ℕ, zero, suc, Bool, true, false, ◌&&◌, ◌||◌, List, [], ◌∷◌, Option, Some, None, IfSome, IsSome, slice_get, true≢false, refl, sym, ap, ◌∙◌, subst, arith}
 use Rattle.std.proofs.lemmas.Option.{same_Some, none-some}
-use Rattle.hwp_script.specs.declared.Script.{Script}
-use Rattle.hwp_report.specs.declared.Answer.TheVariants as answers
-use Rattle.hwp_report.specs.declared.CpuLine.{CpuLine}
-use Rattle.hwp_report.specs.declared.CpuLine.TheVariants as lines
-use Rattle.hwp_report.specs.declared.Report.{Report}
-use Rattle.hwp_report.specs.declared.Stop.{Stop as StopRecord}
-use Rattle.hwp_law.specs.Halts.{IsStopOf}
-use Rattle.hwp_law.specs.Stops.{StaysStopped}
+use Rattle.hwp_script_read.specs.declared.Script.{Script}
+use Rattle.hwp_report_text.specs.declared.Answer.TheVariants as answers
+use Rattle.hwp_report_text.specs.declared.CpuLine.{CpuLine}
+use Rattle.hwp_report_text.specs.declared.CpuLine.TheVariants as lines
+use Rattle.hwp_report_text.specs.declared.Report.{Report}
+use Rattle.hwp_report_text.specs.declared.Stop.{Stop as StopRecord}
+use Rattle.hwp_check_rules.specs.hwp_law.Halts.{IsStopOf}
+use Rattle.hwp_check_rules.specs.hwp_law.Stops.{StaysStopped}
 use Rattle.hwp_check_rules.specs.Rules.{StopFits}
 use Rattle.hwp_check_state.specs.Stopping.{IsCausedStop, all_stay, has_stopped, some_stopped, stays}
-use Rattle.hwp_check_rules.specs.Verdicts.{IsBroken, Stop}
+use Rattle.hwp_check_rules.specs.declared.Rule.TheVariants.{Stop}
+use Rattle.hwp_check_rules.specs.Verdicts.{IsBroken}
 use Rattle.hwp_check_state.proofs.StopScans.{has-is, is-has, stays-is}
 
 both : (a b : Bool) → (a && b) ≡ true → (a ≡ true) × (b ≡ true)

@@ -4,14 +4,14 @@ use Rattle.std.specs.List.{list_any}
 use Rattle.std.proofs.lemmas.Bool.{eqb-true, eq-eqb}
 use Rattle.std.proofs.lemmas.Option.{same_Some, none-some}
 use Rattle.hwp_geom.specs.declared.Frame.{Frame}
-use Rattle.hwp_report.specs.declared.Answer.{Answer}
-use Rattle.hwp_report.specs.declared.Answer.TheVariants as answers
-use Rattle.hwp_report.specs.declared.CpuLine.{CpuLine}
-use Rattle.hwp_report.specs.declared.CpuLine.TheVariants as lines
-use Rattle.hwp_law.specs.Checks.{is_stopping}
-use Rattle.hwp_law.specs.Halts.{IsStoppedBy, is_panic_of}
-use Rattle.hwp_law.specs.Lines.{EventLine, events_among}
-use Rattle.hwp_law.specs.Stops.{StaysStopped}
+use Rattle.hwp_report_text.specs.declared.Answer.{Answer}
+use Rattle.hwp_report_text.specs.declared.Answer.TheVariants as answers
+use Rattle.hwp_report_text.specs.declared.CpuLine.{CpuLine}
+use Rattle.hwp_report_text.specs.declared.CpuLine.TheVariants as lines
+use Rattle.hwp_check_rules.specs.hwp_law.Checks.{is_stopping}
+use Rattle.hwp_check_rules.specs.hwp_law.Halts.{IsStoppedBy, is_panic_of}
+use Rattle.hwp_check_rules.specs.hwp_law.Lines.{EventLine, events_among}
+use Rattle.hwp_check_rules.specs.hwp_law.Stops.{StaysStopped}
 use Rattle.hwp_check_state.specs.Stopping.{goes_on, has_stopped, is_lower, is_stopped, is_stopper, rows_panic, rows_stopped_by, stays, stopped_by}
 
 which : (b : Bool) → (b ≡ true) ⊎ (b ≡ false)

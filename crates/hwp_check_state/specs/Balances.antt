@@ -2,12 +2,12 @@
 use Rattle.std.specs.Prelude.{ℕ, ◌-◌, ◌^◌, min, List, Option, Some, None, filter_map, flat_map, slice_get}
 use Rattle.std.specs.List.{zip}
 use Rattle.hwp_geom.specs.declared.FileNo.{FileNo}
-use Rattle.hwp_script.specs.declared.Command.{Command}
-use Rattle.hwp_report.specs.declared.Answer.{Answer}
-use Rattle.hwp_report.specs.declared.CpuLine.{CpuLine}
-use Rattle.hwp_report.specs.declared.CpuLine.TheVariants as lines
-use Rattle.hwp_law.specs.Lines.{AnswerLine, answer_in}
-use Rattle.hwp_law.specs.Losses.{told_by}
+use Rattle.hwp_script_read.specs.declared.Command.{Command}
+use Rattle.hwp_report_text.specs.declared.Answer.{Answer}
+use Rattle.hwp_report_text.specs.declared.CpuLine.{CpuLine}
+use Rattle.hwp_report_text.specs.declared.CpuLine.TheVariants as lines
+use Rattle.hwp_check_rules.specs.hwp_law.Lines.{AnswerLine, answer_in}
+use Rattle.hwp_check_rules.specs.hwp_law.Losses.{told_by}
 
 abbrev pub capped : ℕ → ℕ
 capped n = min n (2 ^ 64 - 1)

@@ -7,18 +7,18 @@ use Rattle.hwp_page.specs.declared.Situation.{Situation}
 use Rattle.hwp_page.specs.declared.Situation.TheVariants as situations
 use Rattle.hwp_page.specs.declared.What.{What}
 use Rattle.hwp_page.specs.declared.What.TheVariants as entries
-use Rattle.hwp_script.specs.declared.Command.{Command}
-use Rattle.hwp_script.specs.declared.Command.TheVariants as commands
-use Rattle.hwp_script.specs.declared.Script.{Script}
-use Rattle.hwp_report.specs.declared.Answer.TheVariants as answers
-use Rattle.hwp_report.specs.declared.FrameLine.{FrameLine}
-use Rattle.hwp_report.specs.declared.Place.{Place}
-use Rattle.hwp_report.specs.declared.Place.TheVariants as places
-use Rattle.hwp_report.specs.declared.Report.{Report}
-use Rattle.hwp_law.specs.Frames.{WasDone}
-use Rattle.hwp_law.specs.Lines.{answer_of}
-use Rattle.hwp_law.specs.Places.{command_at}
-use Rattle.hwp_law.specs.Records.{ends_poisoned}
+use Rattle.hwp_script_read.specs.declared.Command.{Command}
+use Rattle.hwp_script_read.specs.declared.Command.TheVariants as commands
+use Rattle.hwp_script_read.specs.declared.Script.{Script}
+use Rattle.hwp_report_text.specs.declared.Answer.TheVariants as answers
+use Rattle.hwp_report_text.specs.declared.FrameLine.{FrameLine}
+use Rattle.hwp_report_text.specs.declared.Whereabouts.{Whereabouts}
+use Rattle.hwp_report_text.specs.declared.Whereabouts.TheVariants as places
+use Rattle.hwp_report_text.specs.declared.Report.{Report}
+use Rattle.hwp_check_rules.specs.hwp_law.Frames.{WasDone}
+use Rattle.hwp_check_rules.specs.hwp_law.Lines.{answer_of}
+use Rattle.hwp_check_rules.specs.hwp_law.Places.{command_at}
+use Rattle.hwp_check_rules.specs.hwp_law.Records.{ends_poisoned}
 use Rattle.hwp_check_rules.specs.Faults.{sayers}
 
 -- a failure of a frame that is free, or the kernel's, takes no page from it
@@ -78,14 +78,14 @@ with_bits bit mask [] = mask
 with_bits bit mask (command ∷ rest) = with_bits bit (bit_or mask (bit command)) rest
 
 -- a frame's place fits: whether the frame is the kernel's, and whether it is poisoned
-abbrev pub is_placed : ℕ → Bool → Bool → Place → Bool
+abbrev pub is_placed : ℕ → Bool → Bool → Whereabouts → Bool
 is_placed pages kernel poisoned places.Free = not kernel && not poisoned
 is_placed pages kernel poisoned places.Kernel = kernel
 is_placed pages kernel poisoned places.Handled = not kernel && poisoned
 is_placed pages kernel poisoned (places.Of page) = not kernel && not poisoned && nat_lt page.0 pages
 
 -- the place says a page that as many frames as should say before
-abbrev pub is_beyond : List Bool → List FrameLine → Place → Bool
+abbrev pub is_beyond : List Bool → List FrameLine → Whereabouts → Bool
 is_beyond cached front (places.Of page) = nat_lt page.0 (length cached) && not (nat_lt (sayers page front) (cond (slice_index_or cached page.0 false) 1 0))
 is_beyond cached front _ = false
 

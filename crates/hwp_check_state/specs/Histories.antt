@@ -5,8 +5,8 @@ use Rattle.hwp_page.specs.History.{IsReplay}
 use Rattle.hwp_page.specs.Step.{Allowed}
 use Rattle.hwp_page.specs.declared.Entry.{Entry}
 use Rattle.hwp_page.specs.declared.PageState.{PageState}
-use Rattle.hwp_script.specs.declared.Script.{Script}
-use Rattle.hwp_law.specs.Entries.{IsMadeBy}
+use Rattle.hwp_script_read.specs.declared.Script.{Script}
+use Rattle.hwp_check_rules.specs.hwp_law.Entries.{IsMadeBy}
 use Rattle.hwp_check_rules.specs.Standing.{entry_height}
 
 -- the state allows the entry, its command makes it, and the last command of its processor, with this number, is no later one

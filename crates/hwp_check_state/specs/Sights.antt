@@ -3,9 +3,9 @@ use Rattle.std.specs.Prelude.{◌≡◌, ◌⊎◌, ℕ, ◌+◌, ◌*◌, ◌^�
 use Rattle.hwp_geom.specs.declared.Who.{Who}
 use Rattle.hwp_kill.specs.declared.Seen.{Seen}
 use Rattle.hwp_page.specs.declared.Entry.{Entry}
-use Rattle.hwp_script.specs.declared.Script.{Script}
-use Rattle.hwp_report.specs.declared.Report.{Report}
-use Rattle.hwp_law.specs.Seen.{IsOwnCount, IsPolicySeen, seen_in}
+use Rattle.hwp_script_read.specs.declared.Script.{Script}
+use Rattle.hwp_report_text.specs.declared.Report.{Report}
+use Rattle.hwp_check_rules.specs.hwp_law.Seen.{IsOwnCount, IsPolicySeen, seen_in}
 use Rattle.hwp_check_state.specs.declared.sights.Sight.{Sight}
 use Rattle.hwp_check_rules.specs.Firsts.{IsLeast}
 use Rattle.hwp_check_rules.specs.Standing.{entry_height, page_height, page_line}

@@ -1,14 +1,14 @@
 -- How the stop and the answers `stopped` are found, line by line.
 use Rattle.std.specs.Prelude.{ℕ, ◌==◌, ◌&&◌, ◌||◌, nat_lt, Bool, true, false, cond, List, [], ◌∷◌, IfSome}
-use Rattle.hwp_report.specs.declared.Answer.TheVariants as answers
-use Rattle.hwp_report.specs.declared.CpuLine.{CpuLine}
-use Rattle.hwp_report.specs.declared.CpuLine.TheVariants as lines
-use Rattle.hwp_law.specs.Checks.{is_stopping}
+use Rattle.hwp_report_text.specs.declared.Answer.TheVariants as answers
+use Rattle.hwp_report_text.specs.declared.CpuLine.{CpuLine}
+use Rattle.hwp_report_text.specs.declared.CpuLine.TheVariants as lines
+use Rattle.hwp_check_rules.specs.hwp_law.Checks.{is_stopping}
 use Rattle.hwp_geom.specs.declared.Frame.{Frame}
-use Rattle.hwp_script.specs.declared.Script.{Script}
-use Rattle.hwp_report.specs.declared.Report.{Report}
-use Rattle.hwp_law.specs.Halts.{IsStopOf, is_panic_of}
-use Rattle.hwp_law.specs.Lines.{EventLine}
+use Rattle.hwp_script_read.specs.declared.Script.{Script}
+use Rattle.hwp_report_text.specs.declared.Report.{Report}
+use Rattle.hwp_check_rules.specs.hwp_law.Halts.{IsStopOf, is_panic_of}
+use Rattle.hwp_check_rules.specs.hwp_law.Lines.{EventLine}
 
 -- the line is an answer `stopped`; it is another answer
 abbrev pub is_stopped : CpuLine → Bool

@@ -1,10 +1,11 @@
 ghost use Rattle.std.specs.Prelude.{◌≡◌, MatchOption, IsTrue};
-ghost use Rattle.hwp_law.specs.Frames.{poisoned_count};
-ghost use Rattle.hwp_law.specs.Records.{ends_poisoned, is_poisoning};
-ghost use Rattle.hwp_check_rules.specs.Verdicts.{Count, Holds, IsBroken};
+ghost use Rattle.hwp_check_rules.specs.hwp_law.Frames.{poisoned_count};
+ghost use Rattle.hwp_check_rules.specs.hwp_law.Records.{ends_poisoned, is_poisoning};
+ghost use Rattle.hwp_check_rules.specs.declared.Rule.TheVariants.{Count};
+ghost use Rattle.hwp_check_rules.specs.Verdicts.{Holds, IsBroken};
 
-use hwp_report::{FrameLine, MarkLine, Report};
-use hwp_script::Script;
+use hwp_report_text::{FrameLine, MarkLine, Report};
+use hwp_script_read::Script;
 
 /// Whether the mark is of a poisoning.
 pub(crate) fn is_poisoning(mark: &MarkLine) -> bool

@@ -2,10 +2,10 @@ ghost use Rattle.std.specs.Prelude.{◌≡◌, ◌≤◌, ◌++◌, ◌∷◌, [
 ghost use Rattle.hwp_check_state.specs.Frames.{AreDoneOf, flagged};
 
 use hwp_check_rules::{commands_of, done_of, rows_on};
-use hwp_form::Command;
 use hwp_geom::{Cpu, OutOfMemory};
-use hwp_report::Report;
-use hwp_script::Script;
+use hwp_report_text::Report;
+use hwp_script_lines::Command;
+use hwp_script_read::Script;
 use std::alloc::Global;
 
 /// Adds a command that is flagged.

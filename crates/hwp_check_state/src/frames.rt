@@ -1,19 +1,20 @@
 ghost use Rattle.std.specs.Prelude.{◌≡◌, ◌≤◌, ◌<◌, ◌^◌, false, Some, None, cond, length, map, option_map, IfOk, IfSome, MatchOption};
-ghost use Rattle.hwp_script.specs.Valid.{IsValid};
-ghost use Rattle.hwp_law.specs.Report.{is_of};
+ghost use Rattle.hwp_script_read.specs.Valid.{IsValid};
+ghost use Rattle.hwp_check_rules.specs.hwp_law.Report.{is_of};
 ghost use Rattle.hwp_check_rules.specs.Faults.{first_free, is_free, sayers};
 ghost use Rattle.hwp_check_state.specs.Frames.{AreRight, bad_bit, cached_after, cached_by, is_beyond, is_placed, is_right_frame, is_right_line, is_unsaid_from, keeps, weak_bit, with_bits};
 ghost use Rattle.hwp_check_rules.specs.Standing.{frame_line, last_line};
-ghost use Rattle.hwp_check_rules.specs.Verdicts.{Frames as FrameRule, HoldBelow, Holds, IsBroken};
+ghost use Rattle.hwp_check_rules.specs.declared.Rule.TheVariants.{Frames as FrameRule};
+ghost use Rattle.hwp_check_rules.specs.Verdicts.{HoldBelow, Holds, IsBroken};
 
 use crate::count::ends_poisoned;
 use crate::dones::done_commands;
 use hwp_check_rules::{frame_at, soonest};
-use hwp_form::Command;
 use hwp_geom::{Line, List, OutOfMemory, Page};
 use hwp_page::{Entry, Situation, What};
-use hwp_report::{FrameLine, Place, Report};
-use hwp_script::Script;
+use hwp_report_text::{FrameLine, Report, Whereabouts};
+use hwp_script_lines::Command;
+use hwp_script_read::Script;
 use std::alloc::Global;
 
 /// Whether a failure in this situation leaves the page cached.
@@ -61,11 +62,11 @@ fn ends_of(alloc: Global, pages: &[List<Entry>]) -> Result<Vec<bool>, OutOfMemor
 }
 
 /// Whether the place is this page's.
-fn is_of(page: Page, place: &Place) -> bool
+fn is_of(page: Page, place: &Whereabouts) -> bool
     ensures { result ≡ is_of page place.now }
 {
     match place {
-        Place::Of(other) => other.0 == page.0,
+        Whereabouts::Of(other) => other.0 == page.0,
         _ => false,
     }
 }
@@ -131,23 +132,23 @@ fn weak_lines(number: u16, done: &[Command]) -> u64
 }
 
 /// Whether the place fits the layout and the frame's record.
-fn is_placed(pages: usize, kernel: bool, poisoned: bool, place: &Place) -> bool
+fn is_placed(pages: usize, kernel: bool, poisoned: bool, place: &Whereabouts) -> bool
     ensures { result ≡ is_placed pages kernel poisoned place.now }
 {
     match place {
-        Place::Free => !kernel && !poisoned,
-        Place::Kernel => kernel,
-        Place::Handled => !kernel && poisoned,
-        Place::Of(page) => !kernel && !poisoned && usize::from(page.0) < pages,
+        Whereabouts::Free => !kernel && !poisoned,
+        Whereabouts::Kernel => kernel,
+        Whereabouts::Handled => !kernel && poisoned,
+        Whereabouts::Of(page) => !kernel && !poisoned && usize::from(page.0) < pages,
     }
 }
 
 /// Whether the place says a page that as many frames as should say before.
-fn is_beyond(cached: &[bool], front: &[FrameLine], place: &Place) -> bool
+fn is_beyond(cached: &[bool], front: &[FrameLine], place: &Whereabouts) -> bool
     ensures { result ≡ is_beyond cached.now front.now place.now }
 {
     match place {
-        Place::Of(page) => {
+        Whereabouts::Of(page) => {
             let number = usize::from(page.0);
             number < cached.len() && !(sayers(*page, front) < u64::from(cached[number]))
         }
@@ -225,10 +226,10 @@ fn is_some_unsaid(cached: &[bool], frames: &[FrameLine]) -> bool
 }
 
 /// Whether the frame is free.
-fn is_free(place: &Place) -> bool
+fn is_free(place: &Whereabouts) -> bool
     ensures { result ≡ is_free place.now }
 {
-    matches!(place, Place::Free)
+    matches!(place, Whereabouts::Free)
 }
 
 /// The first frame that is free, or frame 0 where none is.

@@ -1,20 +1,21 @@
 ghost use Rattle.std.specs.Prelude.{◌≡◌, ◌+◌, ◌-◌, ◌*◌, ◌<◌, ◌≤◌, ◌^◌, ◌==◌, cond, length, min, slice_index, take, IfOk, MatchBool, MatchOption};
 ghost use Rattle.std.specs.List.{All};
 ghost use Rattle.std.specs.List.Sorted.{IsNonDecreasingBy};
-ghost use Rattle.hwp_law.specs.Policies.{last_policy};
-ghost use Rattle.hwp_law.specs.Seen.{IsOwnCount, IsPolicySeen};
-ghost use Rattle.hwp_script.specs.Valid.{IsValid};
+ghost use Rattle.hwp_check_rules.specs.hwp_law.Policies.{last_policy};
+ghost use Rattle.hwp_check_rules.specs.hwp_law.Seen.{IsOwnCount, IsPolicySeen};
+ghost use Rattle.hwp_script_read.specs.Valid.{IsValid};
 ghost use Rattle.hwp_check_rules.specs.Pasts.{ArePasts, IsPast};
 ghost use Rattle.hwp_check_state.specs.Sights.{IsBelow, IsFirstOf, IsNotBelow, IsRight, IsSmall, IsWrong, group_of, key_of, top_of};
 ghost use Rattle.hwp_check_rules.specs.Standing.{last_line};
-ghost use Rattle.hwp_check_rules.specs.Verdicts.{Holds, IsBroken, Seen as SeenRule};
+ghost use Rattle.hwp_check_rules.specs.declared.Rule.TheVariants.{Seen as SeenRule};
+ghost use Rattle.hwp_check_rules.specs.Verdicts.{Holds, IsBroken};
 
 use crate::sights::{Sight, add_pages};
-use hwp_check_rules::{Past, page_at, pasts_of, sooner_if, soonest};
+use hwp_check_rules::{ThreadPolicies, page_at, pasts_of, sooner_if, soonest};
 use hwp_geom::OutOfMemory;
 use hwp_kill::{Policy, Seen};
-use hwp_report::Report;
-use hwp_script::Script;
+use hwp_report_text::Report;
+use hwp_script_read::Script;
 use std::alloc::Global;
 
 /// The policy after so many settings.
@@ -30,7 +31,7 @@ fn policy_after(policies: &[Policy], n: usize) -> Policy
 }
 
 /// Whether the policy is the one after the thread's setting of that number.
-fn is_policy_seen(script: &Script, report: &Report, past: &Past, seen: Seen) -> bool
+fn is_policy_seen(script: &Script, report: &Report, past: &ThreadPolicies, seen: Seen) -> bool
     requires { IsPast script.now report.now seen.thread past.now }
     ensures { MatchBool result (IsPolicySeen script.now seen) (IsPolicySeen script.now seen → ⊥) }
 {
@@ -48,7 +49,7 @@ fn count_before(done: &[u64], seq: u32) -> u64
 }
 
 /// Whether the number of settings is that of those done before the command, where the thread is of the command's processor.
-fn is_own_count(script: &Script, report: &Report, past: &Past, sight: &Sight) -> bool
+fn is_own_count(script: &Script, report: &Report, past: &ThreadPolicies, sight: &Sight) -> bool
     requires { IsPast script.now report.now sight.now.seen.thread past.now }
     ensures { MatchBool result (IsOwnCount script.now report.now sight.now.who sight.now.seen) (IsOwnCount script.now report.now sight.now.who sight.now.seen → ⊥) }
 {
@@ -60,7 +61,7 @@ fn is_own_count(script: &Script, report: &Report, past: &Past, sight: &Sight) ->
 
 /// Whether a policy seen of this thread is right by itself.
 
-fn is_right_of(script: &Script, report: &Report, past: &Past, sight: &Sight) -> bool
+fn is_right_of(script: &Script, report: &Report, past: &ThreadPolicies, sight: &Sight) -> bool
     requires { IsPast script.now report.now sight.now.seen.thread past.now }
     ensures { MatchBool result (IsRight script.now report.now sight.now) (IsWrong script.now report.now sight.now) }
 {
@@ -68,7 +69,7 @@ fn is_right_of(script: &Script, report: &Report, past: &Past, sight: &Sight) -> 
 }
 
 /// Whether a policy seen is right by itself. A thread that isn't declared has none but the default.
-fn is_right(script: &Script, report: &Report, pasts: &[Past], sight: &Sight) -> bool
+fn is_right(script: &Script, report: &Report, pasts: &[ThreadPolicies], sight: &Sight) -> bool
     requires { ArePasts script.now report.now pasts.now }
     ensures { MatchBool result (IsRight script.now report.now sight.now) (IsWrong script.now report.now sight.now) }
 {
@@ -86,7 +87,12 @@ fn small(sight: Sight)
 }
 
 /// The first line of a policy seen that is wrong by itself.
-fn first_wrong(script: &Script, report: &Report, pasts: &[Past], list: &[Sight]) -> Option<u64>
+fn first_wrong(
+    script: &Script,
+    report: &Report,
+    pasts: &[ThreadPolicies],
+    list: &[Sight],
+) -> Option<u64>
     requires { ArePasts script.now report.now pasts.now }
     ensures first { IsFirstOf (IsRight script.now report.now) (IsWrong script.now report.now) list.now result }
     ensures small { All IsSmall list.now }

@@ -1,11 +1,12 @@
 ghost use Rattle.std.specs.Prelude.{◌≡◌, ◌↔◌, true, IsSome, IsTrue, MatchOption};
 ghost use Rattle.hwp_check_rules.specs.Rules.{StopFits};
 ghost use Rattle.hwp_check_state.specs.Stopping.{some_stopped};
-ghost use Rattle.hwp_check_rules.specs.Verdicts.{Holds, IsBroken, Stop};
+ghost use Rattle.hwp_check_rules.specs.declared.Rule.TheVariants.{Stop};
+ghost use Rattle.hwp_check_rules.specs.Verdicts.{Holds, IsBroken};
 
 use crate::stopping::{all_stay, is_caused, some_stopped};
-use hwp_report::Report;
-use hwp_script::Script;
+use hwp_report_text::Report;
+use hwp_script_read::Script;
 
 /// Whether there is a stop where some answer is `stopped`.
 fn is_told(report: &Report) -> bool

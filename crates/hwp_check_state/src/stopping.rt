@@ -1,15 +1,15 @@
 ghost use Rattle.std.specs.Prelude.{◌≡◌, ◌↔◌, false, Some, IsTrue};
-ghost use Rattle.hwp_report.specs.declared.Answer.TheVariants as answers;
-ghost use Rattle.hwp_law.specs.Checks.{is_panic, is_stopping};
-ghost use Rattle.hwp_law.specs.Commands.{arrival_of};
-ghost use Rattle.hwp_law.specs.Halts.{CanStop, IsStopOf, IsStoppedBy, Panics, is_panic_of};
-ghost use Rattle.hwp_law.specs.Lines.{answer_of, events_of};
+ghost use Rattle.hwp_report_text.specs.declared.Answer.TheVariants as answers;
+ghost use Rattle.hwp_check_rules.specs.hwp_law.Checks.{is_panic, is_stopping};
+ghost use Rattle.hwp_check_rules.specs.hwp_law.Commands.{arrival_of};
+ghost use Rattle.hwp_check_rules.specs.hwp_law.Halts.{CanStop, IsStopOf, IsStoppedBy, Panics, is_panic_of};
+ghost use Rattle.hwp_check_rules.specs.hwp_law.Lines.{answer_of, events_of};
 ghost use Rattle.hwp_check_state.specs.Stopping.{IsCausedStop, all_stay, goes_on, has_stopped, is_lower, is_of_event, is_stopped, is_stopper, rows_panic, rows_stopped_by, some_stopped, stays};
 
 use hwp_check_rules::{answer_among, command_of, rows_of};
 use hwp_geom::{Frame, List, Mode, Who};
-use hwp_report::{Acted, Answer, CpuLine, Report, Stop, StopCause};
-use hwp_script::{Command, Script};
+use hwp_report_text::{Acted, Answer, CpuLine, Report, Stop, StopCause};
+use hwp_script_read::{Command, Script};
 use hwp_severity::McgBits;
 
 /// Whether the line is an answer `stopped`.

@@ -1,13 +1,13 @@
-pub mod Grabbing
-pub mod GrabCosts
-pub mod FrameSlots
-pub mod Leaving
-pub mod Meeting
-pub mod MeetCosts
-pub mod Retiring
-pub mod Poisoning
-pub mod Keeping
-pub mod Claiming
-pub mod Adding
-pub mod ClaimCosts
-pub mod ClaimOwns
+pub mod Quiet
+pub mod FailLaws
+pub mod FailAdds
+pub mod FailLeaves
+pub mod FailRank
+pub mod FailTells
+pub mod InjectLaws
+pub mod InjectEnds
+pub mod InjectRank
+pub use Rattle.hwp_claim_act.proofs as of_hwp_claim_act
+pub use Rattle.hwp_claim_frame.proofs as of_hwp_claim_frame
+pub use Rattle.hwp_claim_frame.proofs.of_hwp_core as of_hwp_core
+pub use Rattle.hwp_claim_act.proofs.of_hwp_evict as of_hwp_evict

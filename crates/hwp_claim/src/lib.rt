@@ -1,11 +1,8 @@
-//! The parts of a memory failure that take a poisoned frame from those that use it, or could: a free one is taken out of
-//! the free ones, and one in use is met under its locks.
+//! A memory failure of a frame, from its poison to its end, and the command that brings one about.
 #![tactic(auto)]
 
-mod claim;
-mod grab;
-mod meet;
+mod fail;
+mod inject;
 
-pub use claim::{Claim, ClaimAnswer};
-pub use grab::{Grab, GrabAnswer};
-pub use meet::{Meet, MeetAnswer};
+pub use fail::{Fail, FailAnswer};
+pub use inject::Inject;

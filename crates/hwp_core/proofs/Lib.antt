@@ -1,8 +1,14 @@
-pub mod Closable
-pub mod Crews
-pub mod Led
-pub mod Played
-pub mod Came
-pub mod Whole
-mod Tabled
-pub mod Serving
+pub mod PinLaws
+pub mod ReleaseLaws
+pub mod HoldLaws
+pub mod UnholdLaws
+pub mod HoldEnds
+pub mod TaskCosts
+pub mod FreeWords
+pub mod ReferLaws
+pub mod BodyStates
+pub mod UnlockLaws
+pub mod GiveUpLaws
+pub mod ReferCosts
+pub mod GiveUpCosts
+pub mod TaskTells

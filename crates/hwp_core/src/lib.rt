@@ -1,13 +1,20 @@
-//! The core: the processors of a script, one task each, at one table or on one plain board, turn by turn in the order of the
-//! schedule; and the report of what they came to.
+//! The first tasks: a reference taken and given back, a page held and let go, a frame let go, and a command given up.
 #![tactic(auto)]
 
-mod crew;
-mod plain;
-mod playing;
-mod running;
+mod give_up;
+mod hold;
+mod pin;
+mod refer;
+mod release;
+mod unhold;
+mod unlock;
 
-pub use crew::{Rows, crew_of, rows_of};
-pub use plain::{report_of, run_plain};
-pub use playing::play;
-pub use running::{Finished, finish_run, run_in_turns};
+pub use give_up::GiveUp;
+pub use hold::Hold;
+pub use hwp_core_rule::{SharedWord, Step, View};
+pub use hwp_core_task::{Board, Met, Ops, Ranked, Scheduled, Task, Turn, advance};
+pub use pin::{Pin, PinAnswer};
+pub use refer::Refer;
+pub use release::{Release, ReleaseAnswer};
+pub use unhold::{Unhold, UnholdAnswer};
+pub use unlock::Unlock;

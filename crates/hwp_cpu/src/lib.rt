@@ -1,6 +1,7 @@
-//! A processor of the simulated machine: what it does when a machine check arrives.
+//! The commands of one processor as one task: they run one after the other, and each comes to a row.
 #![tactic(auto)]
 
-mod handling;
+mod processor;
 
-pub use handling::{Decision, handle};
+pub use hwp_severity::{Decision, handle};
+pub use processor::Processor;

@@ -12,36 +12,36 @@ use Rattle.hwp_page.specs.declared.At.{At}
 use Rattle.hwp_page.specs.History.{BodyValue}
 use Rattle.hwp_words.specs.declared.Pte.TheVariants as ptes
 use Rattle.hwp_words.specs.Stops.{is_stopped}
-use Rattle.hwp_rule.specs.declared.Place.TheVariants as places
-use Rattle.hwp_rule.specs.declared.State.{State}
-use Rattle.hwp_rule.specs.declared.Step.{Step}
-use Rattle.hwp_rule.specs.declared.Step.TheVariants as steps
-use Rattle.hwp_rule.specs.declared.View.{View}
-use Rattle.hwp_rule.specs.Lasting.{IsMild}
-use Rattle.hwp_rule.specs.Steps.{place_of, word_after}
-use Rattle.hwp_rule.specs.Words.{Words, read}
-use Rattle.hwp_step.specs.declared.Turn.{Turn}
-use Rattle.hwp_rule.specs.Moves.{Move}
-use Rattle.hwp_step.specs.Boards.{view_of}
-use Rattle.hwp_step.specs.Calls.{rec_of}
-use Rattle.hwp_step.specs.Hands.{hand_of, empty}
-use Rattle.hwp_step.specs.Classes.{TellsClass}
-use Rattle.hwp_step.specs.Ranks.{Member, member, Made, CostFalls, IsRanked, OtherHand, Quiet, HasFrame, HasPage, is_waits, words_at}
-use Rattle.hwp_step.proofs.Ranking.{met, words-kept, steps-on, rank-of}
-use Rattle.hwp_hold.specs.declared.give_up.GiveUp.{GiveUp}
-use Rattle.hwp_hold.specs.declared.give_up.GiveUpAt.{GiveUpAt}
-use Rattle.hwp_hold.specs.declared.give_up.GiveUpAt.TheVariants as give_up_at
-use Rattle.hwp_hold.specs.declared.hold.Hold.{Hold}
-use Rattle.hwp_hold.specs.declared.hold.HoldAt.{HoldAt}
-use Rattle.hwp_hold.specs.declared.hold.HoldAt.TheVariants as hold_at
-use Rattle.hwp_hold.specs.declared.unhold.Unhold.{Unhold}
-use Rattle.hwp_hold.specs.GiveUps as give_ups
-use Rattle.hwp_hold.specs.Holds as holds
-use Rattle.hwp_hold.specs.Unholds as unholds
-use Rattle.hwp_hold.specs.Unlocks as unlocks
-use Rattle.hwp_hold.proofs.GiveUpCosts.{give-up-falls, give-up-goes, give-up-mild, give-up-ranked, give-up-small}
-use Rattle.hwp_hold.proofs.Ranking.{hold-falls, hold-mild, hold-small, hold-class, hold-ranked, unhold-falls, unhold-mild, unhold-small, unhold-class}
-use Rattle.hwp_hold.proofs.Telling.{Tells, hold-tells, unhold-tells, give-up-tells, frame-tells, no-frame, no-page}
+use Rattle.hwp_core_rule.specs.declared.SharedWord.TheVariants as places
+use Rattle.hwp_core_rule.specs.declared.State.{State}
+use Rattle.hwp_core_rule.specs.declared.Step.{Step}
+use Rattle.hwp_core_rule.specs.declared.Step.TheVariants as steps
+use Rattle.hwp_core_rule.specs.declared.View.{View}
+use Rattle.hwp_core_rule.specs.Lasting.{IsMild}
+use Rattle.hwp_core_rule.specs.Steps.{place_of, word_after}
+use Rattle.hwp_core_rule.specs.Words.{Words, read}
+use Rattle.hwp_core_task.specs.declared.Turn.{Turn}
+use Rattle.hwp_core_rule.specs.Moves.{Move}
+use Rattle.hwp_core_task.specs.Boards.{view_of}
+use Rattle.hwp_core_task.specs.Calls.{rec_of}
+use Rattle.hwp_core_task.specs.Hands.{hand_of, empty}
+use Rattle.hwp_core_task.specs.Classes.{TellsClass}
+use Rattle.hwp_core_task.specs.Ranks.{Member, member, Made, CostFalls, IsRanked, OtherHand, Quiet, HasFrame, HasPage, is_waits, words_at}
+use Rattle.hwp_core_task.proofs.StepRanks.{met, words-kept, steps-on, rank-of}
+use Rattle.hwp_core.specs.declared.give_up.GiveUp.{GiveUp}
+use Rattle.hwp_core.specs.declared.give_up.GiveUpAt.{GiveUpAt}
+use Rattle.hwp_core.specs.declared.give_up.GiveUpAt.TheVariants as give_up_at
+use Rattle.hwp_core.specs.declared.hold.Hold.{Hold}
+use Rattle.hwp_core.specs.declared.hold.HoldAt.{HoldAt}
+use Rattle.hwp_core.specs.declared.hold.HoldAt.TheVariants as hold_at
+use Rattle.hwp_core.specs.declared.unhold.Unhold.{Unhold}
+use Rattle.hwp_core.specs.GiveUps as give_ups
+use Rattle.hwp_core.specs.Holds as holds
+use Rattle.hwp_core.specs.Unholds as unholds
+use Rattle.hwp_core.specs.Unlocks as unlocks
+use Rattle.hwp_core.proofs.GiveUpCosts.{give-up-falls, give-up-goes, give-up-mild, give-up-ranked, give-up-small}
+use Rattle.hwp_core.proofs.TaskCosts.{hold-falls, hold-mild, hold-small, hold-class, hold-ranked, unhold-falls, unhold-mild, unhold-small, unhold-class}
+use Rattle.hwp_core.proofs.TaskTells.{Tells, hold-tells, unhold-tells, give-up-tells, frame-tells, no-frame, no-page}
 use Rattle.hwp_evict.specs.declared.clear.Clear.{Clear}
 use Rattle.hwp_evict.specs.declared.evict.Evict.{Evict}
 use Rattle.hwp_evict.specs.declared.evict.EvictAnswer.{EvictAnswer}
@@ -57,8 +57,8 @@ use Rattle.hwp_evict.specs.Evictions.{copies, absence}
 use Rattle.hwp_evict.specs.Evicts.{AfterBad, AfterHeld, AfterHold, AfterHoldAt, Enters, Fits, FitsAt, Follows, FollowsAt, Shows, ShowsAt, after_clear, after_stop, after_unhold, after_vacate, bare, bare_at, class, class_at, cost, cost_at, GoesOut, place, plan, plan_at, put, refused, turn_after}
 use Rattle.hwp_evict.specs.Clears as clears
 use Rattle.hwp_evict.specs.Vacates as vacates
-use Rattle.hwp_evict.proofs.Clearing.{clear-mild, clear-small, clears-fall}
-use Rattle.hwp_evict.proofs.Evicting.{both}
+use Rattle.hwp_evict.proofs.ClearLaws.{clear-mild, clear-small, clears-fall}
+use Rattle.hwp_evict.proofs.EvictLaws.{both}
 use Rattle.hwp_evict.proofs.VacateCosts.{vacate-falls, vacate-mild, vacate-small, vacate-class, vacate-tells}
 
 -- ---- what the next states cost

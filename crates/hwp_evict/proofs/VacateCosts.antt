@@ -3,23 +3,23 @@ use Rattle.std.proofs.Common.{◌≡◌, ℕ, ◌+◌, ◌<◌, ◌≤◌, min, 
 use Rattle.std.proofs.lemmas.Bool.{both_ways}
 use Rattle.std.proofs.lemmas.Option.{none-some, same_Some}
 use Rattle.hwp_geom.specs.declared.Layout.{Layout}
-use Rattle.hwp_rule.specs.declared.Step.{Step}
-use Rattle.hwp_rule.specs.declared.Step.TheVariants as steps
-use Rattle.hwp_rule.specs.declared.View.{View}
-use Rattle.hwp_rule.specs.Lasting.{IsMild}
-use Rattle.hwp_rule.specs.Words.{Words}
-use Rattle.hwp_step.specs.declared.Turn.TheVariants.{Moved}
-use Rattle.hwp_rule.specs.declared.InHand.{InHand}
-use Rattle.hwp_step.specs.Hands.{hand_of}
-use Rattle.hwp_step.specs.Ranks.{Member, member, IsRanked, is_waits, words_at}
-use Rattle.hwp_step.proofs.Ranking.{rank-of}
-use Rattle.hwp_known.proofs.Listing.{ListsNone}
-use Rattle.hwp_hold.specs.declared.release.Release.{Release}
-use Rattle.hwp_hold.specs.declared.release.ReleaseAt.{ReleaseAt}
-use Rattle.hwp_hold.specs.declared.release.ReleaseAt.TheVariants as release_at
-use Rattle.hwp_hold.specs.Releases as releases
-use Rattle.hwp_hold.proofs.Ranking.{release-falls, release-lists, release-mild, release-small}
-use Rattle.hwp_hold.proofs.Telling.{Tells, frame-tells, page-tells}
+use Rattle.hwp_core_rule.specs.declared.Step.{Step}
+use Rattle.hwp_core_rule.specs.declared.Step.TheVariants as steps
+use Rattle.hwp_core_rule.specs.declared.View.{View}
+use Rattle.hwp_core_rule.specs.Lasting.{IsMild}
+use Rattle.hwp_core_rule.specs.Words.{Words}
+use Rattle.hwp_core_task.specs.declared.Turn.TheVariants.{Moved}
+use Rattle.hwp_core_rule.specs.declared.InHand.{InHand}
+use Rattle.hwp_core_task.specs.Hands.{hand_of}
+use Rattle.hwp_core_task.specs.Ranks.{Member, member, IsRanked, is_waits, words_at}
+use Rattle.hwp_core_task.proofs.StepRanks.{rank-of}
+use Rattle.hwp_core_task.proofs.MadeEntries.{ListsNone}
+use Rattle.hwp_core.specs.declared.release.Release.{Release}
+use Rattle.hwp_core.specs.declared.release.ReleaseAt.{ReleaseAt}
+use Rattle.hwp_core.specs.declared.release.ReleaseAt.TheVariants as release_at
+use Rattle.hwp_core.specs.Releases as releases
+use Rattle.hwp_core.proofs.TaskCosts.{release-falls, release-lists, release-mild, release-small}
+use Rattle.hwp_core.proofs.TaskTells.{Tells, frame-tells, page-tells}
 use Rattle.hwp_evict.specs.declared.vacate.Vacate.{Vacate}
 use Rattle.hwp_evict.specs.declared.vacate.VacateAt.{VacateAt}
 use Rattle.hwp_evict.specs.declared.vacate.VacateAt.TheVariants as at
@@ -31,11 +31,11 @@ release-cost r w = which r.at
   where
     which : (x : ReleaseAt) → cost_at (after_release (record r { at = x })) w ≡ releases.cost (record r { at = x }) w + 1
     which release_at.Put = refl
-    which release_at.Give = refl
-    which release_at.Unreserve = refl
-    which release_at.Adopt = refl
-    which release_at.Retire = refl
-    which release_at.Back = refl
+    which (release_at.Give word) = refl
+    which (release_at.Unreserve word) = refl
+    which (release_at.Adopt word) = refl
+    which (release_at.Retire word) = refl
+    which (release_at.Back word) = refl
 
 pub vacate-falls : (w now : Words) (v : Vacate) (step : Step) (found : ℕ) → plan v ≡ Some step → cost (next (bare v) found) now < cost v w
 vacate-falls w now v step found is = which v.at is
@@ -67,11 +67,11 @@ vacate-class v = which v.at
   where
     by : (x : ReleaseAt) → (1 ≤ min (releases.class_at x) 2) × (min (releases.class_at x) 2 ≤ 4)
     by release_at.Put = (omega arith, omega arith)
-    by release_at.Give = (omega arith, omega arith)
-    by release_at.Unreserve = (omega arith, omega arith)
-    by release_at.Adopt = (omega arith, omega arith)
-    by release_at.Retire = (omega arith, omega arith)
-    by release_at.Back = (omega arith, omega arith)
+    by (release_at.Give word) = (omega arith, omega arith)
+    by (release_at.Unreserve word) = (omega arith, omega arith)
+    by (release_at.Adopt word) = (omega arith, omega arith)
+    by (release_at.Retire word) = (omega arith, omega arith)
+    by (release_at.Back word) = (omega arith, omega arith)
 
     which : (x : VacateAt) → (1 ≤ class_at x) × (class_at x ≤ 4)
     which at.SetCache = (omega arith, omega arith)
@@ -122,11 +122,11 @@ vacate-tells layout view v fits on = which v.at fits.at on
   where
     by : (r : Release) (x : ReleaseAt) (trans : List ℕ) (taken : InHand) → hand_of view ≡ releasing r.frame r.count x (page_held v.page None trans taken) → Tells view (min (releases.class_at x) 2)
     by r release_at.Put trans taken is = page-tells view is 2 refl refl refl (omega arith)
-    by r release_at.Give trans taken is = frame-tells view
-    by r release_at.Unreserve trans taken is = frame-tells view
-    by r release_at.Adopt trans taken is = frame-tells view
-    by r release_at.Retire trans taken is = frame-tells view
-    by r release_at.Back trans taken is = page-tells view is 2 refl refl refl (omega arith)
+    by r (release_at.Give word) trans taken is = frame-tells view
+    by r (release_at.Unreserve word) trans taken is = frame-tells view
+    by r (release_at.Adopt word) trans taken is = frame-tells view
+    by r (release_at.Retire word) trans taken is = frame-tells view
+    by r (release_at.Back word) trans taken is = page-tells view is 2 refl refl refl (omega arith)
 
     which : (x : VacateAt) → FitsAt layout view (record v { at = x }) x → is_none (plan_at v.page v.frame x) ≡ false → Tells view (class_at x)
     which at.SetCache has on = frame-tells view

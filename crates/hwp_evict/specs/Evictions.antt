@@ -12,9 +12,9 @@ use Rattle.hwp_page.specs.declared.What.{What}
 use Rattle.hwp_page.specs.declared.What.TheVariants as entries
 use Rattle.hwp_page.specs.Refusals.{IsAway, IsDirty, IsMapped, IsUnsaved, IsUnused}
 use Rattle.hwp_page.specs.Step.{IsOf, is_file}
-use Rattle.hwp_rule.specs.declared.View.{View}
-use Rattle.hwp_known.specs.Known.{HasMade, HasMadeNone, SawBadOf, SawStop}
-use Rattle.hwp_known.specs.Pages.{SawState}
+use Rattle.hwp_core_rule.specs.declared.View.{View}
+use Rattle.hwp_core_task.specs.Known.{HasMade, HasMadeNone, SawBadOf, SawStop}
+use Rattle.hwp_core_task.specs.Pages.{SawState}
 use Rattle.hwp_evict.specs.declared.evict.EvictAnswer.{EvictAnswer}
 use Rattle.hwp_evict.specs.declared.evict.EvictAnswer.TheVariants as answers
 use Rattle.hwp_evict.specs.declared.evict.Eviction.{Eviction}

@@ -13,30 +13,30 @@ use Rattle.hwp_page.specs.History.{BodyValue, IsReplay}
 use Rattle.hwp_page.specs.Step.{Allowed, after}
 use Rattle.hwp_words.specs.Stops.{is_stopped}
 use Rattle.hwp_words.specs.declared.Pte.TheVariants as ptes
-use Rattle.hwp_rule.specs.declared.InHand.{InHand}
-use Rattle.hwp_rule.specs.declared.Log.{Log}
-use Rattle.hwp_rule.specs.declared.Place.TheVariants as places
-use Rattle.hwp_rule.specs.declared.Step.{Step}
-use Rattle.hwp_rule.specs.declared.Step.TheVariants as steps
-use Rattle.hwp_rule.specs.declared.View.{View}
-use Rattle.hwp_rule.specs.Logs.{log_of, state_of}
-use Rattle.hwp_rule.specs.Views.{body_of, more_of}
-use Rattle.hwp_rule.specs.Words.{Words}
-use Rattle.hwp_rule.specs.parts.Entries.{HasSeen}
-use Rattle.hwp_step.specs.declared.Turn.{Turn}
-use Rattle.hwp_step.specs.declared.Turn.TheVariants.{Moved, Answered}
-use Rattle.hwp_step.specs.Calls.{IsOnTurn}
-use Rattle.hwp_step.specs.Hands.{hand_of, empty, body_in}
-use Rattle.hwp_known.specs.Known.{HasMadeNone, SawLog}
-use Rattle.hwp_hold.specs.declared.give_up.GiveUp.{GiveUp}
-use Rattle.hwp_hold.specs.declared.hold.Hold.{Hold}
-use Rattle.hwp_hold.specs.declared.hold.HoldAt.{HoldAt}
-use Rattle.hwp_hold.specs.declared.hold.HoldAt.TheVariants as hold_at
-use Rattle.hwp_hold.specs.declared.unhold.Unhold.{Unhold}
-use Rattle.hwp_hold.specs.GiveUps as give_ups
-use Rattle.hwp_hold.specs.Holds as holds
-use Rattle.hwp_hold.specs.Holds.{HoldsPage, held}
-use Rattle.hwp_hold.specs.Unholds as unholds
+use Rattle.hwp_core_rule.specs.declared.InHand.{InHand}
+use Rattle.hwp_core_rule.specs.declared.Log.{Log}
+use Rattle.hwp_core_rule.specs.declared.SharedWord.TheVariants as places
+use Rattle.hwp_core_rule.specs.declared.Step.{Step}
+use Rattle.hwp_core_rule.specs.declared.Step.TheVariants as steps
+use Rattle.hwp_core_rule.specs.declared.View.{View}
+use Rattle.hwp_core_rule.specs.Logs.{log_of, state_of}
+use Rattle.hwp_core_rule.specs.Views.{body_of, more_of}
+use Rattle.hwp_core_rule.specs.Words.{Words}
+use Rattle.hwp_core_rule.specs.parts.Entries.{HasSeen}
+use Rattle.hwp_core_task.specs.declared.Turn.{Turn}
+use Rattle.hwp_core_task.specs.declared.Turn.TheVariants.{Moved, Answered}
+use Rattle.hwp_core_task.specs.Calls.{IsOnTurn}
+use Rattle.hwp_core_task.specs.Hands.{hand_of, empty, body_in}
+use Rattle.hwp_core_task.specs.Known.{HasMadeNone, SawLog}
+use Rattle.hwp_core.specs.declared.give_up.GiveUp.{GiveUp}
+use Rattle.hwp_core.specs.declared.hold.Hold.{Hold}
+use Rattle.hwp_core.specs.declared.hold.HoldAt.{HoldAt}
+use Rattle.hwp_core.specs.declared.hold.HoldAt.TheVariants as hold_at
+use Rattle.hwp_core.specs.declared.unhold.Unhold.{Unhold}
+use Rattle.hwp_core.specs.GiveUps as give_ups
+use Rattle.hwp_core.specs.Holds as holds
+use Rattle.hwp_core.specs.Holds.{HoldsPage, held}
+use Rattle.hwp_core.specs.Unholds as unholds
 use Rattle.hwp_evict.specs.declared.clear.Clear.{Clear}
 use Rattle.hwp_evict.specs.declared.evict.Evict.{Evict}
 use Rattle.hwp_evict.specs.declared.evict.EvictAnswer.{EvictAnswer}

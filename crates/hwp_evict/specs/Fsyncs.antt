@@ -3,17 +3,17 @@ use Rattle.std.specs.Prelude.{◌≡◌, ℕ, ◌<◌, ◌==◌, cond, Option, S
 use Rattle.hwp_geom.specs.declared.FileNo.{FileNo}
 use Rattle.hwp_geom.specs.declared.Layout.{Layout}
 use Rattle.hwp_geom.specs.declared.Who.{Who}
-use Rattle.hwp_rule.specs.declared.Place.TheVariants as places
-use Rattle.hwp_rule.specs.declared.Step.{Step}
-use Rattle.hwp_rule.specs.declared.Step.TheVariants as steps
-use Rattle.hwp_rule.specs.declared.View.{View}
-use Rattle.hwp_rule.specs.Words.{Words}
-use Rattle.hwp_step.specs.declared.Turn.{Turn}
-use Rattle.hwp_step.specs.declared.Turn.TheVariants.{Moved, Answered}
-use Rattle.hwp_step.specs.Calls.{IsOnTurn}
-use Rattle.hwp_step.specs.Hands.{hand_of, empty}
+use Rattle.hwp_core_rule.specs.declared.SharedWord.TheVariants as places
+use Rattle.hwp_core_rule.specs.declared.Step.{Step}
+use Rattle.hwp_core_rule.specs.declared.Step.TheVariants as steps
+use Rattle.hwp_core_rule.specs.declared.View.{View}
+use Rattle.hwp_core_rule.specs.Words.{Words}
+use Rattle.hwp_core_task.specs.declared.Turn.{Turn}
+use Rattle.hwp_core_task.specs.declared.Turn.TheVariants.{Moved, Answered}
+use Rattle.hwp_core_task.specs.Calls.{IsOnTurn}
+use Rattle.hwp_core_task.specs.Hands.{hand_of, empty}
 use Rattle.hwp_words.specs.Stops.{is_stopped}
-use Rattle.hwp_known.specs.Known.{Saw, SawStop, HasMadeNone}
+use Rattle.hwp_core_task.specs.Known.{Saw, SawStop, HasMadeNone}
 use Rattle.hwp_evict.specs.declared.fsync.Fsync.{Fsync}
 use Rattle.hwp_evict.specs.declared.fsync.FsyncAt.{FsyncAt}
 use Rattle.hwp_evict.specs.declared.fsync.FsyncAt.TheVariants as at

@@ -3,3 +3,4 @@ pub mod Vacates
 pub mod Clears
 pub mod Evictions
 pub mod Evicts
+pub use Rattle.hwp_core.specs as hwp_core

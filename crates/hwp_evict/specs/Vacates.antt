@@ -9,23 +9,23 @@ use Rattle.hwp_geom.specs.declared.Who.{Who}
 use Rattle.hwp_geom.specs.Layout.{IsSound}
 use Rattle.hwp_page.specs.Endings.{has_ending}
 use Rattle.hwp_page.specs.History.{BodyValue}
-use Rattle.hwp_rule.specs.declared.InHand.{InHand}
-use Rattle.hwp_rule.specs.declared.Step.{Step}
-use Rattle.hwp_rule.specs.declared.Step.TheVariants as steps
-use Rattle.hwp_rule.specs.declared.View.{View}
-use Rattle.hwp_rule.specs.Asks.{Extends}
-use Rattle.hwp_rule.specs.Lists.{SomeMember}
-use Rattle.hwp_rule.specs.Logs.{log_of, state_of}
-use Rattle.hwp_rule.specs.Views.{unpoisoned}
-use Rattle.hwp_rule.specs.Words.{Words}
-use Rattle.hwp_rule.specs.parts.Fits.{FitsWords}
-use Rattle.hwp_step.specs.Calls.{IsOnTurn}
-use Rattle.hwp_step.specs.Hands.{Hand, hand_of, empty}
-use Rattle.hwp_hold.specs.declared.release.Release.{Release}
-use Rattle.hwp_hold.specs.declared.release.ReleaseAt.{ReleaseAt}
-use Rattle.hwp_hold.specs.declared.release.ReleaseAt.TheVariants as release_at
-use Rattle.hwp_hold.specs.Holds.{page_lock, one_ref}
-use Rattle.hwp_hold.specs.Releases as releases
+use Rattle.hwp_core_rule.specs.declared.InHand.{InHand}
+use Rattle.hwp_core_rule.specs.declared.Step.{Step}
+use Rattle.hwp_core_rule.specs.declared.Step.TheVariants as steps
+use Rattle.hwp_core_rule.specs.declared.View.{View}
+use Rattle.hwp_core_rule.specs.Asks.{Extends}
+use Rattle.hwp_core_rule.specs.Lists.{SomeMember}
+use Rattle.hwp_core_rule.specs.Logs.{log_of, state_of}
+use Rattle.hwp_core_rule.specs.Views.{unpoisoned}
+use Rattle.hwp_core_rule.specs.Words.{Words}
+use Rattle.hwp_core_rule.specs.parts.Fits.{FitsWords}
+use Rattle.hwp_core_task.specs.Calls.{IsOnTurn}
+use Rattle.hwp_core_task.specs.Hands.{Hand, hand_of, empty}
+use Rattle.hwp_core.specs.declared.release.Release.{Release}
+use Rattle.hwp_core.specs.declared.release.ReleaseAt.{ReleaseAt}
+use Rattle.hwp_core.specs.declared.release.ReleaseAt.TheVariants as release_at
+use Rattle.hwp_core.specs.Holds.{page_lock, one_ref}
+use Rattle.hwp_core.specs.Releases as releases
 use Rattle.hwp_evict.specs.declared.vacate.Vacate.{Vacate}
 use Rattle.hwp_evict.specs.declared.vacate.VacateAt.{VacateAt}
 use Rattle.hwp_evict.specs.declared.vacate.VacateAt.TheVariants as at
@@ -60,7 +60,7 @@ abbrev pub bare : Vacate → Vacate
 bare v = record v { body = left_at v.body v.at }
 
 abbrev pub after_release_at : Release → ReleaseAt → VacateAt
-after_release_at r release_at.Back = at.UnlockPage
+after_release_at r (release_at.Back word) = at.UnlockPage
 after_release_at r _ = at.Release r
 
 abbrev pub after_release : Release → VacateAt
@@ -89,11 +89,11 @@ with_frame frame owner handled poisoned count h =
 -- what is held beside it while a frame is released
 abbrev pub releasing : Frame → ℕ → ReleaseAt → Hand → Hand
 releasing frame count release_at.Put h = record h { refs = record { frame = frame; count = count } ∷ [] }
-releasing frame count release_at.Give h = record h { hands = unpoisoned frame ∷ [] }
-releasing frame count release_at.Unreserve h = record h { reserved = 1 }
-releasing frame count release_at.Adopt h = record h { hands = record { frame = frame; poisoned = true } ∷ [] }
-releasing frame count release_at.Retire h = record h { refs = one_ref frame; locks = releases.poisoned_lock frame ∷ [] }
-releasing frame count release_at.Back h = h
+releasing frame count (release_at.Give word) h = record h { hands = unpoisoned frame ∷ [] }
+releasing frame count (release_at.Unreserve word) h = record h { reserved = 1 }
+releasing frame count (release_at.Adopt word) h = record h { hands = record { frame = frame; poisoned = true } ∷ [] }
+releasing frame count (release_at.Retire word) h = record h { refs = one_ref frame; locks = releases.poisoned_lock frame ∷ [] }
+releasing frame count (release_at.Back word) h = h
 
 -- the body, with the entries that it has now, can go onto its page's shelf: the page's words, which are these, fit it there
 pub record GoesToShelf (layout : Layout) (who : Who) (view : View) (page : Page) (given : Option BodyValue) (trans : List ℕ) (taken : InHand) : Type 0 where

@@ -1,11 +1,11 @@
 ghost use Rattle.std.specs.Prelude.{◌≡◌, is_none};
 ghost use Rattle.hwp_evict.specs.Clears.{IsBegun, plan, pte_of};
 
+use hwp_core_rule::Step;
+use hwp_core_task::{Ranked, Task, Turn};
 use hwp_geom::{Frame, Layout, Page, VSlot, Who};
 use hwp_kill::Slots;
 use hwp_page::Body;
-use hwp_rule::Step;
-use hwp_step::{Machine, Ranked, Turn};
 use hwp_words::Pte;
 
 /// Writes the translations that lead to a page's frame, in rising order, so that they no longer do: empty, or with a poison
@@ -69,9 +69,9 @@ fn pte_of(barred: bool) -> Pte
     if barred { Pte::Poison } else { Pte::Empty }
 }
 
-impl Machine for Clear {
+impl Task for Clear {
     ghost use Rattle.std.specs.Prelude.{◌≡◌, None};
-    ghost use Rattle.hwp_step.specs.declared.Turn.TheVariants.{Moved};
+    ghost use Rattle.hwp_core_task.specs.declared.Turn.TheVariants.{Moved};
     ghost use Rattle.hwp_evict.specs.Clears.{plan, Shows, Follows, Fits};
 
     ghost who = { λ c. c.who };

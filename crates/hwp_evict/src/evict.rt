@@ -5,24 +5,24 @@ ghost use Rattle.hwp_evict.specs.declared.evict.Eviction.TheVariants as eviction
 ghost use Rattle.hwp_evict.specs.Evictions.{entry_of, copies, absence, IsJudged};
 ghost use Rattle.hwp_evict.specs.Clears as clears;
 ghost use Rattle.hwp_evict.specs.Vacates as vacates;
-ghost use Rattle.hwp_hold.specs.GiveUps as give_ups;
-ghost use Rattle.hwp_hold.specs.Holds as holds;
-ghost use Rattle.hwp_hold.specs.Unholds as unholds;
+ghost use Rattle.hwp_core.specs.GiveUps as give_ups;
+ghost use Rattle.hwp_core.specs.Holds as holds;
+ghost use Rattle.hwp_core.specs.Unholds as unholds;
 ghost use Rattle.hwp_evict.specs.Evicts.{begin, answer, CanEnter, CanEnterHeld, CanMakeEntry, after_stop, AfterHold, AfterHeld, AfterBad, Enters, GoesOut, FollowsAt, IsCleared, ShowsAt, StartsClearing, freed, refused, with_entry, after_clear, after_vacate, after_unhold, turn_after};
 
 use crate::clear::Clear;
 use crate::vacate::Vacate;
+use hwp_core::{GiveUp, Hold, Unhold};
+use hwp_core_rule::{SharedWord, Step};
+use hwp_core_task::{Ranked, Scheduled, Task, Turn};
 use hwp_geom::{Frame, Layout, Mask, Page, VSlot, Who};
-use hwp_hold::{GiveUp, Hold, Unhold};
 use hwp_kill::Slots;
 use hwp_page::{At, Body, Entry, PageState, What};
-use hwp_rule::{Place, Step};
-use hwp_step::{Machine, Ranked, Scheduled, Turn};
 use hwp_words::{Pte, is_stopped};
 use std::mem;
 
 /// How much of a page leaves its frame (this project's rule).
-#[derive(Clone, Copy, Debug, PartialEq, Eq)]
+#[derive(Clone, Copy)]
 pub enum Eviction {
     /// A translation is no longer in use.
     Free { slot: VSlot },
@@ -35,7 +35,7 @@ pub enum Eviction {
 }
 
 /// Why a page is left as it is (this project's rule).
-#[derive(Clone, Copy, Debug, PartialEq, Eq)]
+#[derive(Clone, Copy)]
 pub enum Refusal {
     /// The translation is not in use.
     NotMapped,
@@ -50,7 +50,7 @@ pub enum Refusal {
 }
 
 /// What an `Evict` came to (this project's rule).
-#[derive(Clone, Copy, Debug, PartialEq, Eq)]
+#[derive(Clone, Copy)]
 pub enum EvictAnswer {
     /// The machine has stopped.
     Stopped,
@@ -374,7 +374,7 @@ fn after_clear(who: Who, page: Page, clear: Clear, body: Body, done: At) -> Evic
     }
 }
 
-/// A translation more is written.
+/// Clears the next translation.
 fn clear_more(
     who: Who,
     page: Page,
@@ -421,7 +421,7 @@ fn freed(who: Who, page: Page, frame: Frame, body: Body, done: At) -> EvictAt
     }
 }
 
-/// The page goes on leaving its frame.
+/// Runs one more step of taking the page out of its frame.
 fn vacate_more(layout: &Layout, vacate: Vacate, found: u64, got: Option<Body>, done: At) -> EvictAt
     ensures { result ≡ after_vacate (vacates.next vacate found) done }
 {
@@ -430,7 +430,7 @@ fn vacate_more(layout: &Layout, vacate: Vacate, found: u64, got: Option<Body>, d
     after_vacate(vacate, done)
 }
 
-/// The page goes on being let go.
+/// Runs one more step of letting the page go.
 fn unhold_more(
     layout: &Layout,
     unhold: Unhold,
@@ -486,7 +486,7 @@ fn moved(at: EvictAt) -> (EvictAt, Turn)
     (at, turn)
 }
 
-/// The page goes on being held.
+/// Runs one more step of holding the page.
 fn hold_more(
     who: Who,
     page: Page,
@@ -505,7 +505,7 @@ fn hold_more(
     (after_hold(who, page, what, hold), turn)
 }
 
-/// The command goes on giving up.
+/// Runs one more step of giving the command up.
 fn give_up_more(layout: &Layout, give_up: GiveUp, found: u64, got: Option<Body>) -> (EvictAt, Turn)
     ensures { (result.0 ≡ states.GiveUp (give_ups.next give_up found)) × (result.1 ≡ give_ups.turn give_up) }
 {
@@ -554,7 +554,7 @@ fn settled(
     }
 }
 
-impl Machine for Evict {
+impl Task for Evict {
     ghost use Rattle.hwp_evict.specs.Evicts.{plan, put, bare, Shows, Follows, Fits};
 
     ghost who = { λ e. e.who };
@@ -577,10 +577,12 @@ impl Machine for Evict {
 
     fn plan(&self) -> Option<Step> {
         match &self.at {
-            EvictAt::LoadStop => Some(Step::Load { place: Place::Stop }),
+            EvictAt::LoadStop => Some(Step::Load {
+                place: SharedWord::Stop,
+            }),
             EvictAt::Hold { hold } => hold.plan(),
             EvictAt::LoadBad { frame, .. } => Some(Step::Load {
-                place: Place::Bad(*frame),
+                place: SharedWord::Bad(*frame),
             }),
             EvictAt::SetPte { slot, .. } => Some(Step::SetPte {
                 slot: *slot,

@@ -1,21 +1,21 @@
 ghost use Rattle.std.specs.Prelude.{◌≡◌, is_some, is_none};
 ghost use Rattle.hwp_evict.specs.Fsyncs.{begin, plan, answer, after_stop, after_report};
 
+use hwp_core_rule::{SharedWord, Step};
+use hwp_core_task::{Ranked, Scheduled, Task, Turn};
 use hwp_geom::{FileNo, Layout, Who};
 use hwp_page::Body;
-use hwp_rule::{Place, Step};
-use hwp_step::{Machine, Ranked, Scheduled, Turn};
 use hwp_words::is_stopped;
 
 /// Takes the number of losses of a file since they were taken last (Linux errseq_t, of which this is a simple form).
-#[derive(Clone, Copy, Debug, PartialEq, Eq)]
+#[derive(Clone, Copy)]
 pub struct Fsync {
     who: Who,
     file: FileNo,
     at: FsyncAt,
 }
 
-#[derive(Clone, Copy, Debug, PartialEq, Eq)]
+#[derive(Clone, Copy)]
 enum FsyncAt {
     LoadStop,
     Report,
@@ -23,7 +23,7 @@ enum FsyncAt {
 }
 
 /// What an `Fsync` came to (this project's rule).
-#[derive(Clone, Copy, Debug, PartialEq, Eq)]
+#[derive(Clone, Copy)]
 pub enum FsyncAnswer {
     /// The machine has stopped.
     Stopped,
@@ -81,7 +81,7 @@ impl Fsync {
     }
 }
 
-impl Machine for Fsync {
+impl Task for Fsync {
     ghost use Rattle.std.specs.Prelude.{◌≡◌, None};
     ghost use Rattle.hwp_evict.specs.Fsyncs.{plan, next, turn, Fits};
 
@@ -105,7 +105,9 @@ impl Machine for Fsync {
 
     fn plan(&self) -> Option<Step> {
         match self.at {
-            FsyncAt::LoadStop => Some(Step::Load { place: Place::Stop }),
+            FsyncAt::LoadStop => Some(Step::Load {
+                place: SharedWord::Stop,
+            }),
             FsyncAt::Report => Some(Step::ReportLost { file: self.file }),
             FsyncAt::Over { .. } => None,
         }

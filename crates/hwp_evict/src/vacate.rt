@@ -1,11 +1,11 @@
 ghost use Rattle.std.specs.Prelude.{◌≡◌, is_none};
 ghost use Rattle.hwp_evict.specs.Vacates.{begin, plan, after_release};
 
+use hwp_core::Release;
+use hwp_core_rule::Step;
+use hwp_core_task::{Ranked, Task, Turn};
 use hwp_geom::{Frame, Layout, Page, Who};
-use hwp_hold::Release;
 use hwp_page::Body;
-use hwp_rule::Step;
-use hwp_step::{Machine, Ranked, Turn};
 use std::cmp::min;
 use std::mem;
 
@@ -21,7 +21,7 @@ pub struct Vacate {
     at: VacateAt,
 }
 
-#[derive(Clone, Copy, Debug, PartialEq, Eq)]
+#[derive(Clone, Copy)]
 enum VacateAt {
     SetCache,
     SetOwner,
@@ -71,9 +71,9 @@ impl Vacate {
     }
 }
 
-impl Machine for Vacate {
+impl Task for Vacate {
     ghost use Rattle.std.specs.Prelude.{◌≡◌};
-    ghost use Rattle.hwp_step.specs.declared.Turn.TheVariants.{Moved};
+    ghost use Rattle.hwp_core_task.specs.declared.Turn.TheVariants.{Moved};
     ghost use Rattle.hwp_evict.specs.Vacates.{plan, put, bare, next, Fits};
 
     ghost who = { λ v. v.who };

@@ -12,50 +12,50 @@ use Rattle.hwp_page.specs.History.{BodyValue}
 use Rattle.hwp_words.specs.Frames.{is_locked, lock_of, count_of, is_handled}
 use Rattle.hwp_words.specs.Names.{page_named}
 use Rattle.hwp_words.specs.Stops.{is_stopped}
-use Rattle.hwp_rule.specs.declared.Place.{Place}
-use Rattle.hwp_rule.specs.declared.Place.TheVariants as places
-use Rattle.hwp_rule.specs.declared.State.{State}
-use Rattle.hwp_rule.specs.declared.Step.{Step}
-use Rattle.hwp_rule.specs.declared.Step.TheVariants as steps
-use Rattle.hwp_rule.specs.declared.View.{View}
-use Rattle.hwp_rule.specs.Moves.{Move}
-use Rattle.hwp_rule.specs.Rule.{Holds}
-use Rattle.hwp_rule.specs.Lasting.{IsMild}
-use Rattle.hwp_rule.specs.Steps.{place_of, word_after}
-use Rattle.hwp_rule.specs.Views.{frame_in}
-use Rattle.hwp_rule.specs.Words.{Words, read, put as put_word, index, free_words}
-use Rattle.hwp_rule.proofs.Lists.{same-number}
-use Rattle.hwp_rule.proofs.Meeting.{frame-free, same-frame}
-use Rattle.hwp_rule.proofs.Moving.{shaped}
-use Rattle.hwp_step.specs.declared.Turn.{Turn}
-use Rattle.hwp_step.specs.declared.Turn.TheVariants.{Moved, Waits}
-use Rattle.hwp_step.specs.Boards.{view_of}
-use Rattle.hwp_step.specs.Calls.{logs, rec_of}
-use Rattle.hwp_step.specs.Classes.{TellsClass}
-use Rattle.hwp_step.specs.Hands.{Hand, hand_of}
-use Rattle.hwp_step.specs.Ranks.{Member, member, Made, CostFalls, HasFailed, IsRanked, Quiet, OtherHand, HasFrame, HasPage, failures_left, is_waits, stale, words_at}
-use Rattle.hwp_step.proofs.Ranking.{met, words-after, words-kept, no-lock, failed, rank-failing}
-use Rattle.hwp_hold.specs.declared.GiveUp.{GiveUp}
-use Rattle.hwp_hold.specs.declared.give_up.GiveUpAt.{GiveUpAt}
-use Rattle.hwp_hold.specs.declared.give_up.GiveUpAt.TheVariants as give_up_at
-use Rattle.hwp_hold.specs.declared.Pin.{Pin}
-use Rattle.hwp_hold.specs.declared.pin.PinAt.{PinAt}
-use Rattle.hwp_hold.specs.declared.pin.PinAt.TheVariants as pin_at
-use Rattle.hwp_hold.specs.declared.Release.{Release}
-use Rattle.hwp_hold.specs.declared.release.ReleaseAt.{ReleaseAt}
-use Rattle.hwp_hold.specs.declared.release.ReleaseAt.TheVariants as release_at
-use Rattle.hwp_hold.specs.declared.Unlock.{Unlock}
-use Rattle.hwp_hold.specs.declared.unlock.UnlockAt.{UnlockAt}
-use Rattle.hwp_hold.specs.declared.unlock.UnlockAt.TheVariants as unlock_at
-use Rattle.hwp_hold.specs.GiveUps as give_ups
-use Rattle.hwp_hold.specs.Pins as pins
-use Rattle.hwp_hold.specs.Pins.{is_gone}
-use Rattle.hwp_hold.specs.Releases as releases
-use Rattle.hwp_hold.specs.Unlocks as unlocks
-use Rattle.hwp_hold.proofs.GiveUpCosts.{give-up-falls, give-up-goes, give-up-mild, give-up-ranked, give-up-small}
-use Rattle.hwp_hold.proofs.Pinning as pinning
-use Rattle.hwp_hold.proofs.Ranking.{met-own, left-own, pin-falls, pin-mild, pin-small, pin-goes, stale-most}
-use Rattle.hwp_hold.proofs.Unlocking.{mild as unlock-mild, unlock-falls, unlock-small, unlock-class}
+use Rattle.hwp_core_rule.specs.declared.SharedWord.{SharedWord}
+use Rattle.hwp_core_rule.specs.declared.SharedWord.TheVariants as places
+use Rattle.hwp_core_rule.specs.declared.State.{State}
+use Rattle.hwp_core_rule.specs.declared.Step.{Step}
+use Rattle.hwp_core_rule.specs.declared.Step.TheVariants as steps
+use Rattle.hwp_core_rule.specs.declared.View.{View}
+use Rattle.hwp_core_rule.specs.Moves.{Move}
+use Rattle.hwp_core_rule.specs.Rule.{Holds}
+use Rattle.hwp_core_rule.specs.Lasting.{IsMild}
+use Rattle.hwp_core_rule.specs.Steps.{place_of, word_after}
+use Rattle.hwp_core_rule.specs.Views.{frame_in}
+use Rattle.hwp_core_rule.specs.Words.{Words, read, put as put_word, index, free_words}
+use Rattle.hwp_core_rule.proofs.Lists.{same-number}
+use Rattle.hwp_core_rule.proofs.MetWords.{frame-free, same-frame}
+use Rattle.hwp_core_rule.proofs.MoveKeeps.{shaped}
+use Rattle.hwp_core_task.specs.declared.Turn.{Turn}
+use Rattle.hwp_core_task.specs.declared.Turn.TheVariants.{Moved, Waits}
+use Rattle.hwp_core_task.specs.Boards.{view_of}
+use Rattle.hwp_core_task.specs.Calls.{logs, rec_of}
+use Rattle.hwp_core_task.specs.Classes.{TellsClass}
+use Rattle.hwp_core_task.specs.Hands.{Hand, hand_of}
+use Rattle.hwp_core_task.specs.Ranks.{Member, member, Made, CostFalls, HasFailed, IsRanked, Quiet, OtherHand, HasFrame, HasPage, failures_left, is_waits, stale, words_at}
+use Rattle.hwp_core_task.proofs.StepRanks.{met, words-after, words-kept, no-lock, failed, rank-failing}
+use Rattle.hwp_core.specs.declared.GiveUp.{GiveUp}
+use Rattle.hwp_core.specs.declared.give_up.GiveUpAt.{GiveUpAt}
+use Rattle.hwp_core.specs.declared.give_up.GiveUpAt.TheVariants as give_up_at
+use Rattle.hwp_core.specs.declared.Pin.{Pin}
+use Rattle.hwp_core.specs.declared.pin.PinAt.{PinAt}
+use Rattle.hwp_core.specs.declared.pin.PinAt.TheVariants as pin_at
+use Rattle.hwp_core.specs.declared.Release.{Release}
+use Rattle.hwp_core.specs.declared.release.ReleaseAt.{ReleaseAt}
+use Rattle.hwp_core.specs.declared.release.ReleaseAt.TheVariants as release_at
+use Rattle.hwp_core.specs.declared.Unlock.{Unlock}
+use Rattle.hwp_core.specs.declared.unlock.UnlockAt.{UnlockAt}
+use Rattle.hwp_core.specs.declared.unlock.UnlockAt.TheVariants as unlock_at
+use Rattle.hwp_core.specs.GiveUps as give_ups
+use Rattle.hwp_core.specs.Pins as pins
+use Rattle.hwp_core.specs.Pins.{is_gone}
+use Rattle.hwp_core.specs.Releases as releases
+use Rattle.hwp_core.specs.Unlocks as unlocks
+use Rattle.hwp_core.proofs.GiveUpCosts.{give-up-falls, give-up-goes, give-up-mild, give-up-ranked, give-up-small}
+use Rattle.hwp_core.proofs.PinLaws as pinning
+use Rattle.hwp_core.proofs.TaskCosts.{met-own, left-own, pin-falls, pin-mild, pin-small, pin-goes, stale-most}
+use Rattle.hwp_core.proofs.UnlockLaws.{mild as unlock-mild, unlock-falls, unlock-small, unlock-class}
 use Rattle.hwp_fault.specs.declared.access.Access.{Access}
 use Rattle.hwp_fault.specs.declared.access.Request.{Request}
 use Rattle.hwp_fault.specs.declared.access.AccessAt.{AccessAt}
@@ -68,10 +68,10 @@ use Rattle.hwp_fault.specs.declared.fault.FaultAt.TheVariants as fault_at
 use Rattle.hwp_fault.specs.declared.fault.FaultAnswer.TheVariants as fault_answers
 use Rattle.hwp_fault.specs.Accesses.{plan, plan_at, put, put_at, bare, bare_at, at_start, after_process, at_process, leading, at_translation, pinned, ended, unlocked, after_fault, is_frame, leads_to, Prepares, LooksOf, LooksAgain, Next, NextAt, FaultStepped, IsPinned, IsFaulting, IsOfFrame, Fits, FitsAt, class, class_at, moved_away, then_cost, cost, cost_at}
 use Rattle.hwp_fault.specs.Faults as faults
-use Rattle.hwp_fault.proofs.Accessing.{slot-within}
+use Rattle.hwp_fault.proofs.AccessLaws.{slot-within}
 use Rattle.hwp_fault.proofs.FaultCosts.{fault-mild, fault-ranked, fault-small, fault-class}
-use Rattle.hwp_fault.proofs.Faulting as faulting
-use Rattle.hwp_fault.proofs.Translating.{named-referenced}
+use Rattle.hwp_fault.proofs.FaultLaws as faulting
+use Rattle.hwp_fault.proofs.TranslationWords.{named-referenced}
 
 -- ---- costs
 
@@ -149,11 +149,11 @@ release-leaves slot w x r step is = which r.at is
 
     which : (y : ReleaseAt) → releases.plan_at r.frame r.count y ≡ Some step → faults.again slot (put_word (place_of step) x w) ≡ faults.again slot w
     which release_at.Put e = of e refl
-    which release_at.Give e = of e (ap (λ (n : ℕ). n + 20 + stale (is_some (frame_in (slice_index w.trans slot.0)))) (length-set w.frees (r.frame.0 / 64) x))
-    which release_at.Unreserve e = of e refl
-    which release_at.Adopt e = of e refl
-    which release_at.Retire e = of e refl
-    which release_at.Back e = absurd (none-some step e)
+    which (release_at.Give word) e = of e (ap (λ (n : ℕ). n + 20 + stale (is_some (frame_in (slice_index w.trans slot.0)))) (length-set w.frees (r.frame.0 / 64) x))
+    which (release_at.Unreserve word) e = of e refl
+    which (release_at.Adopt word) e = of e refl
+    which (release_at.Retire word) e = of e refl
+    which (release_at.Back word) e = absurd (none-some step e)
 
 unlock-leaves : (slot : VSlot) (w : Words) (x : ℕ) (u : Unlock) (step : Step) → unlocks.plan u ≡ Some step → faults.again slot (put_word (place_of step) x w) ≡ faults.again slot w
 unlock-leaves slot w x u step is = which u.at is
@@ -218,7 +218,7 @@ module _ {layout : Layout} {seat : ℕ} {a b : State} {s t : Access} {turn : Tur
   few = few-frees layout a made.rule
 
   -- a load leaves all words
-  load-kept : {place : Place} → Some (steps.Load place) ≡ Some made.step → now ≡ w
+  load-kept : {place : SharedWord} → Some (steps.Load place) ≡ Some made.step → now ≡ w
   load-kept e = left-own w now made.found e (words-kept made) refl
 
   -- other steps leave all words but theirs
@@ -278,10 +278,10 @@ module _ {layout : Layout} {seat : ℕ} {a b : State} {s t : Access} {turn : Tur
       then = put_word (places.Frame p.frame) (word_after made.step made.found) w
 
       now-is : now ≡ put_word (places.Frame p.frame) (word_after made.step made.found) w
-      now-is = words-after made ∙ ap (λ (q : Place). put_word q (word_after made.step made.found) w) here
+      now-is = words-after made ∙ ap (λ (q : SharedWord). put_word q (word_after made.step made.found) w) here
 
       met-here : read (places.Frame p.frame) w ≡ made.found
-      met-here = ap (λ (q : Place). read q w) (sym here) ∙ met made
+      met-here = ap (λ (q : SharedWord). read q w) (sym here) ∙ met made
 
       IsGone : PinAt → Type 0
       IsGone (pin_at.Gone word) = is_gone made.found ≡ true
@@ -483,11 +483,11 @@ unlock-tells layout view u fits on = which u.at fits.at on
   where
     released : (r : Release) (x : ReleaseAt) → hand_of view ≡ unlocks.releasing r.frame x → is_none (releases.plan_at r.frame r.count x) ≡ false → (HasFrame view → releases.class_at x ≡ 1) × (view.pages ≡ [])
     released r release_at.Put hand on = (λ has. absurd (no-frame view _ hand refl refl refl has), ap (λ (h : Hand). h.pages) hand)
-    released r release_at.Give hand on = (λ has. refl, ap (λ (h : Hand). h.pages) hand)
-    released r release_at.Unreserve hand on = (λ has. refl, ap (λ (h : Hand). h.pages) hand)
-    released r release_at.Adopt hand on = (λ has. refl, ap (λ (h : Hand). h.pages) hand)
-    released r release_at.Retire hand on = (λ has. refl, ap (λ (h : Hand). h.pages) hand)
-    released r release_at.Back hand on = absurd (both_ways true on refl)
+    released r (release_at.Give word) hand on = (λ has. refl, ap (λ (h : Hand). h.pages) hand)
+    released r (release_at.Unreserve word) hand on = (λ has. refl, ap (λ (h : Hand). h.pages) hand)
+    released r (release_at.Adopt word) hand on = (λ has. refl, ap (λ (h : Hand). h.pages) hand)
+    released r (release_at.Retire word) hand on = (λ has. refl, ap (λ (h : Hand). h.pages) hand)
+    released r (release_at.Back word) hand on = absurd (both_ways true on refl)
 
     which : (x : UnlockAt) → unlocks.FitsAt layout view u.who x → is_none (unlocks.plan_at x) ≡ false → (HasFrame view → unlocks.class_at x ≡ 1) × (view.pages ≡ [])
     which (unlock_at.UnlockFrame frame None) has on = (λ some. refl, ap (λ (h : Hand). h.pages) has.hand_is)

@@ -16,57 +16,57 @@ use Rattle.hwp_page.specs.History.{BodyValue}
 use Rattle.hwp_words.specs.declared.Pte.{Pte}
 use Rattle.hwp_words.specs.declared.Pte.TheVariants as ptes
 use Rattle.hwp_words.specs.Translations.{pte_reading}
-use Rattle.hwp_rule.specs.declared.InHand.{InHand}
-use Rattle.hwp_rule.specs.declared.Made.{Made}
-use Rattle.hwp_rule.specs.declared.Place.TheVariants as places
-use Rattle.hwp_rule.specs.declared.Stamp.{Stamp}
-use Rattle.hwp_rule.specs.declared.Step.{Step}
-use Rattle.hwp_rule.specs.declared.Step.TheVariants as steps
-use Rattle.hwp_rule.specs.declared.View.{View}
-use Rattle.hwp_rule.specs.Lists.{EachMember}
-use Rattle.hwp_rule.specs.Logs.{log_of}
-use Rattle.hwp_rule.specs.Views.{body_of, is_body_of, made_from, more_of}
-use Rattle.hwp_rule.proofs.MoreEntries.{each-append, made-each}
-use Rattle.hwp_rule.proofs.Without.{find-is}
-use Rattle.hwp_step.specs.Calls.{CanMake, Steps, logs}
-use Rattle.hwp_step.specs.Hands.{body_in, hand_of}
-use Rattle.hwp_step.proofs.Stepping.{hand-planned, steps-planned}
-use Rattle.hwp_known.specs.Known.{HasMade, HasOnly, IsAt, IsOnTheWay, Precedes, deeds, is_by}
-use Rattle.hwp_known.proofs.Listing.{Lists, ListsNone, deeds-none, deeds-one, deeds-same, each-filter, frame-lists, has-made, has-made-stays, has-only-stays, page-lists}
-use Rattle.hwp_fill.specs.declared.Fill.{Fill}
-use Rattle.hwp_fill.specs.declared.fill.FillAt.{FillAt}
-use Rattle.hwp_fill.specs.declared.fill.FillAt.TheVariants as fill_at
-use Rattle.hwp_hold.specs.declared.GiveUp.{GiveUp}
-use Rattle.hwp_hold.specs.declared.give_up.GiveUpAt.{GiveUpAt}
-use Rattle.hwp_hold.specs.declared.give_up.GiveUpAt.TheVariants as give_up_at
-use Rattle.hwp_hold.specs.declared.Hold.{Hold}
-use Rattle.hwp_hold.specs.declared.hold.HoldAt.{HoldAt}
-use Rattle.hwp_hold.specs.declared.hold.HoldAt.TheVariants as hold_at
-use Rattle.hwp_hold.specs.declared.Refer.{Refer}
-use Rattle.hwp_hold.specs.declared.refer.ReferAt.{ReferAt}
-use Rattle.hwp_hold.specs.declared.refer.ReferAt.TheVariants as refer_at
-use Rattle.hwp_hold.specs.declared.Release.{Release}
-use Rattle.hwp_hold.specs.declared.release.ReleaseAt.{ReleaseAt}
-use Rattle.hwp_hold.specs.declared.release.ReleaseAt.TheVariants as release_at
-use Rattle.hwp_fill.specs.declared.Take.{Take}
-use Rattle.hwp_fill.specs.declared.take.TakeAt.{TakeAt}
-use Rattle.hwp_fill.specs.declared.take.TakeAt.TheVariants as take_at
-use Rattle.hwp_hold.specs.declared.Unhold.{Unhold}
-use Rattle.hwp_hold.specs.declared.unhold.UnholdAt.{UnholdAt}
-use Rattle.hwp_hold.specs.declared.unhold.UnholdAt.TheVariants as unhold_at
-use Rattle.hwp_hold.specs.declared.Unlock.{Unlock}
-use Rattle.hwp_hold.specs.declared.unlock.UnlockAt.{UnlockAt}
-use Rattle.hwp_hold.specs.declared.unlock.UnlockAt.TheVariants as unlock_at
-use Rattle.hwp_fill.specs.Fills as fills
-use Rattle.hwp_hold.specs.GiveUps as give_ups
-use Rattle.hwp_hold.specs.Holds as holds
-use Rattle.hwp_hold.specs.Holds.{HoldsPage}
-use Rattle.hwp_hold.specs.Refers as refers
-use Rattle.hwp_hold.specs.Releases as releases
-use Rattle.hwp_fill.specs.Takes as takes
-use Rattle.hwp_hold.specs.Unholds as unholds
-use Rattle.hwp_hold.specs.Unlocks as unlocks
-use Rattle.hwp_hold.proofs.Ranking.{hold-lists, release-lists}
+use Rattle.hwp_core_rule.specs.declared.InHand.{InHand}
+use Rattle.hwp_core_rule.specs.declared.Made.{Made}
+use Rattle.hwp_core_rule.specs.declared.SharedWord.TheVariants as places
+use Rattle.hwp_core_rule.specs.declared.Stamp.{Stamp}
+use Rattle.hwp_core_rule.specs.declared.Step.{Step}
+use Rattle.hwp_core_rule.specs.declared.Step.TheVariants as steps
+use Rattle.hwp_core_rule.specs.declared.View.{View}
+use Rattle.hwp_core_rule.specs.Lists.{EachMember}
+use Rattle.hwp_core_rule.specs.Logs.{log_of}
+use Rattle.hwp_core_rule.specs.Views.{body_of, is_body_of, made_from, more_of}
+use Rattle.hwp_core_rule.proofs.MoreEntries.{each-append, made-each}
+use Rattle.hwp_core_rule.proofs.ListDrops.{find-is}
+use Rattle.hwp_core_task.specs.Calls.{CanMake, Steps, logs}
+use Rattle.hwp_core_task.specs.Hands.{body_in, hand_of}
+use Rattle.hwp_core_task.proofs.StepLeaves.{hand-planned, steps-planned}
+use Rattle.hwp_core_task.specs.Known.{HasMade, HasOnly, IsAt, IsOnTheWay, Precedes, deeds, is_by}
+use Rattle.hwp_core_task.proofs.MadeEntries.{Lists, ListsNone, deeds-none, deeds-one, deeds-same, each-filter, frame-lists, has-made, has-made-stays, has-only-stays, page-lists}
+use Rattle.hwp_fault_fill.specs.declared.Fill.{Fill}
+use Rattle.hwp_fault_fill.specs.declared.fill.FillAt.{FillAt}
+use Rattle.hwp_fault_fill.specs.declared.fill.FillAt.TheVariants as fill_at
+use Rattle.hwp_core.specs.declared.GiveUp.{GiveUp}
+use Rattle.hwp_core.specs.declared.give_up.GiveUpAt.{GiveUpAt}
+use Rattle.hwp_core.specs.declared.give_up.GiveUpAt.TheVariants as give_up_at
+use Rattle.hwp_core.specs.declared.Hold.{Hold}
+use Rattle.hwp_core.specs.declared.hold.HoldAt.{HoldAt}
+use Rattle.hwp_core.specs.declared.hold.HoldAt.TheVariants as hold_at
+use Rattle.hwp_core.specs.declared.Refer.{Refer}
+use Rattle.hwp_core.specs.declared.refer.ReferAt.{ReferAt}
+use Rattle.hwp_core.specs.declared.refer.ReferAt.TheVariants as refer_at
+use Rattle.hwp_core.specs.declared.Release.{Release}
+use Rattle.hwp_core.specs.declared.release.ReleaseAt.{ReleaseAt}
+use Rattle.hwp_core.specs.declared.release.ReleaseAt.TheVariants as release_at
+use Rattle.hwp_fault_fill.specs.declared.Take.{Take}
+use Rattle.hwp_fault_fill.specs.declared.take.TakeAt.{TakeAt}
+use Rattle.hwp_fault_fill.specs.declared.take.TakeAt.TheVariants as take_at
+use Rattle.hwp_core.specs.declared.Unhold.{Unhold}
+use Rattle.hwp_core.specs.declared.unhold.UnholdAt.{UnholdAt}
+use Rattle.hwp_core.specs.declared.unhold.UnholdAt.TheVariants as unhold_at
+use Rattle.hwp_core.specs.declared.Unlock.{Unlock}
+use Rattle.hwp_core.specs.declared.unlock.UnlockAt.{UnlockAt}
+use Rattle.hwp_core.specs.declared.unlock.UnlockAt.TheVariants as unlock_at
+use Rattle.hwp_fault_fill.specs.Fills as fills
+use Rattle.hwp_core.specs.GiveUps as give_ups
+use Rattle.hwp_core.specs.Holds as holds
+use Rattle.hwp_core.specs.Holds.{HoldsPage}
+use Rattle.hwp_core.specs.Refers as refers
+use Rattle.hwp_core.specs.Releases as releases
+use Rattle.hwp_fault_fill.specs.Takes as takes
+use Rattle.hwp_core.specs.Unholds as unholds
+use Rattle.hwp_core.specs.Unlocks as unlocks
+use Rattle.hwp_core.proofs.TaskCosts.{hold-lists, release-lists}
 use Rattle.hwp_fault.specs.declared.fault.FaultAnswer.{FaultAnswer}
 use Rattle.hwp_fault.specs.declared.fault.FaultAnswer.TheVariants as answers
 use Rattle.hwp_fault.specs.declared.fault.FaultAt.{FaultAt}
@@ -79,8 +79,8 @@ use Rattle.hwp_fault.specs.MapIns as map_ins
 use Rattle.hwp_fault.specs.MapIns.{IsBringing}
 use Rattle.hwp_fault.specs.Touches.{as_snapshot, refusal, refusal_entry, refused}
 use Rattle.hwp_fault.specs.Faults.{AddsOnly, FitsAt, HasListed, HasToList, IsEnding, MadeAt, after_fill_at, after_give_up, after_hold_at, after_map_in_at, after_pte, after_unhold, bare_at, is_sigbus, let_go, next_at, plan_at, put_at, refuse, with_room}
-use Rattle.hwp_fault.proofs.Loading.{in-hand}
-use Rattle.hwp_fault.proofs.Refusing.{none-left, refusal-made}
+use Rattle.hwp_fault.proofs.TranslationLoads.{in-hand}
+use Rattle.hwp_fault.proofs.AccessRefusals.{none-left, refusal-made}
 
 -- ---- steps that list no entry
 
@@ -184,11 +184,11 @@ unhold-bare u found = which u.at
   where
     after-release : (r : Release) (y : ReleaseAt) → unholds.put_at (unholds.after_release_at r y) ≡ None
     after-release r release_at.Put = refl
-    after-release r release_at.Give = refl
-    after-release r release_at.Unreserve = refl
-    after-release r release_at.Adopt = refl
-    after-release r release_at.Retire = refl
-    after-release r release_at.Back = refl
+    after-release r (release_at.Give word) = refl
+    after-release r (release_at.Unreserve word) = refl
+    after-release r (release_at.Adopt word) = refl
+    after-release r (release_at.Retire word) = refl
+    after-release r (release_at.Back word) = refl
 
     which : (x : UnholdAt) → unholds.put_at (unholds.next_at u.who (unholds.bare_at x) found) ≡ None
     which (unhold_at.UnlockFrame frame count body) = refl
@@ -201,11 +201,11 @@ unlock-bare u found = which u.at
   where
     after-release : (r : Release) (y : ReleaseAt) → unlocks.put_at (unlocks.after_release_at r y) ≡ None
     after-release r release_at.Put = refl
-    after-release r release_at.Give = refl
-    after-release r release_at.Unreserve = refl
-    after-release r release_at.Adopt = refl
-    after-release r release_at.Retire = refl
-    after-release r release_at.Back = refl
+    after-release r (release_at.Give word) = refl
+    after-release r (release_at.Unreserve word) = refl
+    after-release r (release_at.Adopt word) = refl
+    after-release r (release_at.Retire word) = refl
+    after-release r (release_at.Back word) = refl
 
     which : (x : UnlockAt) → unlocks.put_at (unlocks.next_at u.who (unlocks.bare_at x) found) ≡ None
     which (unlock_at.UnlockFrame frame body) = refl

@@ -13,55 +13,55 @@ use Rattle.hwp_page.specs.Step.{IsOf}
 use Rattle.hwp_words.specs.declared.Pte.{Pte}
 use Rattle.hwp_words.specs.declared.Pte.TheVariants as ptes
 use Rattle.hwp_words.specs.Translations.{pte_reading, pte_word}
-use Rattle.hwp_rule.specs.declared.Place.{Place}
-use Rattle.hwp_rule.specs.declared.Place.TheVariants as places
-use Rattle.hwp_rule.specs.declared.State.{State}
-use Rattle.hwp_rule.specs.declared.Step.{Step}
-use Rattle.hwp_rule.specs.declared.Step.TheVariants as steps
-use Rattle.hwp_rule.specs.Moves.{Move}
-use Rattle.hwp_rule.specs.Rule.{Holds}
-use Rattle.hwp_rule.specs.Lasting.{IsMild}
-use Rattle.hwp_rule.specs.Steps.{place_of, word_after}
-use Rattle.hwp_rule.specs.Views.{frame_in}
-use Rattle.hwp_rule.specs.Words.{Words, free_bit, free_words, index, put as put_word}
-use Rattle.hwp_rule.proofs.Lists.{set_here}
-use Rattle.hwp_rule.proofs.Meeting.{frame-named}
-use Rattle.hwp_rule.proofs.Moving.{shaped}
-use Rattle.hwp_step.specs.declared.Turn.{Turn}
-use Rattle.hwp_step.specs.Boards.{view_of}
-use Rattle.hwp_step.specs.Calls.{logs, rec_of}
-use Rattle.hwp_step.specs.Ranks.{Member, member, Made, CostFalls, HasFailed, IsRanked, Quiet, failures_left, is_waits, stale, words_at}
-use Rattle.hwp_step.proofs.Ranking.{me, met, words-after, words-kept, failed, rank-failing}
-use Rattle.hwp_fill.specs.declared.Fill.{Fill}
-use Rattle.hwp_fill.specs.declared.fill.FillAt.{FillAt}
-use Rattle.hwp_fill.specs.declared.fill.FillAt.TheVariants as fill_at
-use Rattle.hwp_hold.specs.declared.GiveUp.{GiveUp}
-use Rattle.hwp_hold.specs.declared.Hold.{Hold}
-use Rattle.hwp_hold.specs.declared.hold.HoldAt.{HoldAt}
-use Rattle.hwp_hold.specs.declared.hold.HoldAt.TheVariants as hold_at
-use Rattle.hwp_hold.specs.declared.Refer.{Refer}
-use Rattle.hwp_hold.specs.declared.refer.ReferAt.{ReferAt}
-use Rattle.hwp_hold.specs.declared.refer.ReferAt.TheVariants as refer_at
-use Rattle.hwp_hold.specs.declared.Release.{Release}
-use Rattle.hwp_hold.specs.declared.release.ReleaseAt.{ReleaseAt}
-use Rattle.hwp_hold.specs.declared.release.ReleaseAt.TheVariants as release_at
-use Rattle.hwp_fill.specs.declared.Take.{Take}
-use Rattle.hwp_fill.specs.declared.take.TakeAt.{TakeAt}
-use Rattle.hwp_fill.specs.declared.take.TakeAt.TheVariants as take_at
-use Rattle.hwp_hold.specs.declared.Unhold.{Unhold}
-use Rattle.hwp_hold.specs.declared.unhold.UnholdAt.{UnholdAt}
-use Rattle.hwp_hold.specs.declared.unhold.UnholdAt.TheVariants as unhold_at
-use Rattle.hwp_fill.specs.Fills as fills
-use Rattle.hwp_hold.specs.GiveUps as give_ups
-use Rattle.hwp_hold.specs.Holds as holds
-use Rattle.hwp_hold.specs.Refers as refers
-use Rattle.hwp_hold.specs.Releases as releases
-use Rattle.hwp_fill.specs.Takes as takes
-use Rattle.hwp_hold.specs.Unholds as unholds
-use Rattle.hwp_hold.proofs.GiveUpCosts.{give-up-mild, give-up-ranked, give-up-small}
-use Rattle.hwp_hold.proofs.ReferCosts.{refer-small}
-use Rattle.hwp_fill.proofs.FillCosts.{fill-mild, fill-ranked}
-use Rattle.hwp_hold.proofs.Ranking.{left-own, met-own, hold-mild, hold-ranked, hold-small, stale-most, unhold-mild, unhold-ranked, unhold-small}
+use Rattle.hwp_core_rule.specs.declared.SharedWord.{SharedWord}
+use Rattle.hwp_core_rule.specs.declared.SharedWord.TheVariants as places
+use Rattle.hwp_core_rule.specs.declared.State.{State}
+use Rattle.hwp_core_rule.specs.declared.Step.{Step}
+use Rattle.hwp_core_rule.specs.declared.Step.TheVariants as steps
+use Rattle.hwp_core_rule.specs.Moves.{Move}
+use Rattle.hwp_core_rule.specs.Rule.{Holds}
+use Rattle.hwp_core_rule.specs.Lasting.{IsMild}
+use Rattle.hwp_core_rule.specs.Steps.{place_of, word_after}
+use Rattle.hwp_core_rule.specs.Views.{frame_in}
+use Rattle.hwp_core_rule.specs.Words.{Words, free_bit, free_words, index, put as put_word}
+use Rattle.hwp_core_rule.proofs.Lists.{set_here}
+use Rattle.hwp_core_rule.proofs.MetWords.{frame-named}
+use Rattle.hwp_core_rule.proofs.MoveKeeps.{shaped}
+use Rattle.hwp_core_task.specs.declared.Turn.{Turn}
+use Rattle.hwp_core_task.specs.Boards.{view_of}
+use Rattle.hwp_core_task.specs.Calls.{logs, rec_of}
+use Rattle.hwp_core_task.specs.Ranks.{Member, member, Made, CostFalls, HasFailed, IsRanked, Quiet, failures_left, is_waits, stale, words_at}
+use Rattle.hwp_core_task.proofs.StepRanks.{me, met, words-after, words-kept, failed, rank-failing}
+use Rattle.hwp_fault_fill.specs.declared.Fill.{Fill}
+use Rattle.hwp_fault_fill.specs.declared.fill.FillAt.{FillAt}
+use Rattle.hwp_fault_fill.specs.declared.fill.FillAt.TheVariants as fill_at
+use Rattle.hwp_core.specs.declared.GiveUp.{GiveUp}
+use Rattle.hwp_core.specs.declared.Hold.{Hold}
+use Rattle.hwp_core.specs.declared.hold.HoldAt.{HoldAt}
+use Rattle.hwp_core.specs.declared.hold.HoldAt.TheVariants as hold_at
+use Rattle.hwp_core.specs.declared.Refer.{Refer}
+use Rattle.hwp_core.specs.declared.refer.ReferAt.{ReferAt}
+use Rattle.hwp_core.specs.declared.refer.ReferAt.TheVariants as refer_at
+use Rattle.hwp_core.specs.declared.Release.{Release}
+use Rattle.hwp_core.specs.declared.release.ReleaseAt.{ReleaseAt}
+use Rattle.hwp_core.specs.declared.release.ReleaseAt.TheVariants as release_at
+use Rattle.hwp_fault_fill.specs.declared.Take.{Take}
+use Rattle.hwp_fault_fill.specs.declared.take.TakeAt.{TakeAt}
+use Rattle.hwp_fault_fill.specs.declared.take.TakeAt.TheVariants as take_at
+use Rattle.hwp_core.specs.declared.Unhold.{Unhold}
+use Rattle.hwp_core.specs.declared.unhold.UnholdAt.{UnholdAt}
+use Rattle.hwp_core.specs.declared.unhold.UnholdAt.TheVariants as unhold_at
+use Rattle.hwp_fault_fill.specs.Fills as fills
+use Rattle.hwp_core.specs.GiveUps as give_ups
+use Rattle.hwp_core.specs.Holds as holds
+use Rattle.hwp_core.specs.Refers as refers
+use Rattle.hwp_core.specs.Releases as releases
+use Rattle.hwp_fault_fill.specs.Takes as takes
+use Rattle.hwp_core.specs.Unholds as unholds
+use Rattle.hwp_core.proofs.GiveUpCosts.{give-up-mild, give-up-ranked, give-up-small}
+use Rattle.hwp_core.proofs.ReferCosts.{refer-small}
+use Rattle.hwp_fault_fill.proofs.FillCosts.{fill-mild, fill-ranked}
+use Rattle.hwp_core.proofs.TaskCosts.{left-own, met-own, hold-mild, hold-ranked, hold-small, stale-most, unhold-mild, unhold-ranked, unhold-small}
 use Rattle.hwp_fault.specs.declared.fault.Fault.{Fault}
 use Rattle.hwp_fault.specs.declared.fault.FaultAt.{FaultAt}
 use Rattle.hwp_fault.specs.declared.fault.FaultAt.TheVariants as at
@@ -74,9 +74,9 @@ use Rattle.hwp_fault.specs.declared.touch.Touch.{Touch}
 use Rattle.hwp_fault.specs.MapIns as map_ins
 use Rattle.hwp_fault.specs.Faults.{plan, plan_at, put, put_at, bare, bare_at, let_go, refuse, with_room, after_hold, after_pte, after_fill, after_map_in, after_unhold, after_give_up, next_at, turn_at, Follows, Fits, FitsAt, class, class_at, again, owed, rest, cost, cost_at}
 use Rattle.hwp_fault.specs.Touches.{as_snapshot, refused}
-use Rattle.hwp_fault.proofs.Loading.{pte-met, reads-frame, reads-poison}
+use Rattle.hwp_fault.proofs.TranslationLoads.{pte-met, reads-frame, reads-poison}
 use Rattle.hwp_fault.proofs.MapInCosts.{map-in-mild, map-in-ranked, map-in-small}
-use Rattle.hwp_fault.proofs.MappingIn.{declared}
+use Rattle.hwp_fault.proofs.MapInLaws.{declared}
 
 -- ---- a part that runs
 
@@ -107,11 +107,11 @@ whole (inr other) so = inr other
 -- ---- the words
 
 -- a place that isn't a translation's
-abbrev is_trans : Place → Bool
+abbrev is_trans : SharedWord → Bool
 is_trans (places.Trans slot) = true
 is_trans _ = false
 
-trans-kept : (place : Place) (word : ℕ) (w : Words) → is_trans place ≡ false → (put_word place word w).trans ≡ w.trans
+trans-kept : (place : SharedWord) (word : ℕ) (w : Words) → is_trans place ≡ false → (put_word place word w).trans ≡ w.trans
 trans-kept (places.Frame frame) word w other = refl
 trans-kept (places.Trans slot) word w other = absurd (both_ways true other refl)
 trans-kept (places.Cache page) word w other = refl
@@ -131,11 +131,11 @@ release-place r step is = which r.at is
   where
     which : (x : ReleaseAt) → releases.plan_at r.frame r.count x ≡ Some step → is_trans (place_of step) ≡ false
     which release_at.Put e = ap (λ (s : Step). is_trans (place_of s)) (sym (same_Some _ step e))
-    which release_at.Give e = ap (λ (s : Step). is_trans (place_of s)) (sym (same_Some _ step e))
-    which release_at.Unreserve e = ap (λ (s : Step). is_trans (place_of s)) (sym (same_Some _ step e))
-    which release_at.Adopt e = ap (λ (s : Step). is_trans (place_of s)) (sym (same_Some _ step e))
-    which release_at.Retire e = ap (λ (s : Step). is_trans (place_of s)) (sym (same_Some _ step e))
-    which release_at.Back e = absurd (none-some step e)
+    which (release_at.Give word) e = ap (λ (s : Step). is_trans (place_of s)) (sym (same_Some _ step e))
+    which (release_at.Unreserve word) e = ap (λ (s : Step). is_trans (place_of s)) (sym (same_Some _ step e))
+    which (release_at.Adopt word) e = ap (λ (s : Step). is_trans (place_of s)) (sym (same_Some _ step e))
+    which (release_at.Retire word) e = ap (λ (s : Step). is_trans (place_of s)) (sym (same_Some _ step e))
+    which (release_at.Back word) e = absurd (none-some step e)
 
 unhold-place : (u : Unhold) (step : Step) → unholds.plan u ≡ Some step → is_trans (place_of step) ≡ false
 unhold-place u step is = which u.at is

@@ -3,18 +3,18 @@ use Rattle.std.proofs.Common.{◌≡◌, ℕ, ◌+◌, ◌<◌, ◌≤◌, true,
 use Rattle.std.proofs.lemmas.Bool.{both_ways}
 use Rattle.std.proofs.lemmas.Option.{none-some, same_Some}
 use Rattle.hwp_words.specs.declared.Pte.TheVariants as ptes
-use Rattle.hwp_rule.specs.declared.Step.{Step}
-use Rattle.hwp_rule.specs.declared.Step.TheVariants as steps
-use Rattle.hwp_rule.specs.Lasting.{IsMild}
-use Rattle.hwp_rule.specs.Steps.{place_of, word_after}
-use Rattle.hwp_rule.specs.Words.{Words, read}
-use Rattle.hwp_step.specs.Ranks.{Member, member, IsRanked, is_waits, words_at}
-use Rattle.hwp_step.proofs.Ranking.{met, words-kept, rank-of}
-use Rattle.hwp_hold.specs.declared.Refer.{Refer}
-use Rattle.hwp_hold.specs.declared.refer.ReferAt.{ReferAt}
-use Rattle.hwp_hold.specs.declared.refer.ReferAt.TheVariants as refer_at
-use Rattle.hwp_hold.specs.Refers as refers
-use Rattle.hwp_hold.proofs.ReferCosts.{refer-falls, refer-goes, refer-mild, refer-small}
+use Rattle.hwp_core_rule.specs.declared.Step.{Step}
+use Rattle.hwp_core_rule.specs.declared.Step.TheVariants as steps
+use Rattle.hwp_core_rule.specs.Lasting.{IsMild}
+use Rattle.hwp_core_rule.specs.Steps.{place_of, word_after}
+use Rattle.hwp_core_rule.specs.Words.{Words, read}
+use Rattle.hwp_core_task.specs.Ranks.{Member, member, IsRanked, is_waits, words_at}
+use Rattle.hwp_core_task.proofs.StepRanks.{met, words-kept, rank-of}
+use Rattle.hwp_core.specs.declared.Refer.{Refer}
+use Rattle.hwp_core.specs.declared.refer.ReferAt.{ReferAt}
+use Rattle.hwp_core.specs.declared.refer.ReferAt.TheVariants as refer_at
+use Rattle.hwp_core.specs.Refers as refers
+use Rattle.hwp_core.proofs.ReferCosts.{refer-falls, refer-goes, refer-mild, refer-small}
 use Rattle.hwp_fault.specs.declared.map_in.MapIn.{MapIn}
 use Rattle.hwp_fault.specs.declared.map_in.MapInAt.{MapInAt}
 use Rattle.hwp_fault.specs.declared.map_in.MapInAt.TheVariants as at

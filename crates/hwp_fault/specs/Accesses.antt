@@ -19,34 +19,34 @@ use Rattle.hwp_page.specs.Step.{after}
 use Rattle.hwp_words.specs.Frames.{is_locked}
 use Rattle.hwp_words.specs.Names.{page_named}
 use Rattle.hwp_words.specs.Stops.{is_stopped}
-use Rattle.hwp_rule.specs.declared.InHand.{InHand}
-use Rattle.hwp_rule.specs.declared.Place.TheVariants as places
-use Rattle.hwp_rule.specs.declared.Step.{Step}
-use Rattle.hwp_rule.specs.declared.Step.TheVariants as steps
-use Rattle.hwp_rule.specs.declared.View.{View}
-use Rattle.hwp_rule.specs.Logs.{log_of}
-use Rattle.hwp_rule.specs.Views.{body_of, frame_in, more_of}
-use Rattle.hwp_rule.specs.Words.{Words}
-use Rattle.hwp_step.specs.declared.Turn.{Turn}
-use Rattle.hwp_step.specs.declared.Turn.TheVariants.{Moved, Waits}
-use Rattle.hwp_step.specs.Calls.{IsOnTurn}
-use Rattle.hwp_step.specs.Hands.{hand_of, empty, body_in}
-use Rattle.hwp_step.specs.Ranks.{stale}
-use Rattle.hwp_known.specs.Known.{Saw, SawStop, HasMadeNone, Precedes, HasOnly, HasMade}
-use Rattle.hwp_known.specs.Pages.{SawState}
-use Rattle.hwp_hold.specs.declared.GiveUp.{GiveUp}
-use Rattle.hwp_hold.specs.declared.give_up.GiveUpAt.{GiveUpAt}
-use Rattle.hwp_hold.specs.declared.give_up.GiveUpAt.TheVariants as give_up_at
-use Rattle.hwp_hold.specs.declared.Pin.{Pin}
-use Rattle.hwp_hold.specs.declared.pin.PinAt.{PinAt}
-use Rattle.hwp_hold.specs.declared.pin.PinAt.TheVariants as pin_at
-use Rattle.hwp_hold.specs.declared.Unlock.{Unlock}
-use Rattle.hwp_hold.specs.declared.unlock.UnlockAt.{UnlockAt}
-use Rattle.hwp_hold.specs.declared.unlock.UnlockAt.TheVariants as unlock_at
-use Rattle.hwp_hold.specs.GiveUps as give_ups
-use Rattle.hwp_hold.specs.Holds.{one_ref}
-use Rattle.hwp_hold.specs.Pins as pins
-use Rattle.hwp_hold.specs.Unlocks as unlocks
+use Rattle.hwp_core_rule.specs.declared.InHand.{InHand}
+use Rattle.hwp_core_rule.specs.declared.SharedWord.TheVariants as places
+use Rattle.hwp_core_rule.specs.declared.Step.{Step}
+use Rattle.hwp_core_rule.specs.declared.Step.TheVariants as steps
+use Rattle.hwp_core_rule.specs.declared.View.{View}
+use Rattle.hwp_core_rule.specs.Logs.{log_of}
+use Rattle.hwp_core_rule.specs.Views.{body_of, frame_in, more_of}
+use Rattle.hwp_core_rule.specs.Words.{Words}
+use Rattle.hwp_core_task.specs.declared.Turn.{Turn}
+use Rattle.hwp_core_task.specs.declared.Turn.TheVariants.{Moved, Waits}
+use Rattle.hwp_core_task.specs.Calls.{IsOnTurn}
+use Rattle.hwp_core_task.specs.Hands.{hand_of, empty, body_in}
+use Rattle.hwp_core_task.specs.Ranks.{stale}
+use Rattle.hwp_core_task.specs.Known.{Saw, SawStop, HasMadeNone, Precedes, HasOnly, HasMade}
+use Rattle.hwp_core_task.specs.Pages.{SawState}
+use Rattle.hwp_core.specs.declared.GiveUp.{GiveUp}
+use Rattle.hwp_core.specs.declared.give_up.GiveUpAt.{GiveUpAt}
+use Rattle.hwp_core.specs.declared.give_up.GiveUpAt.TheVariants as give_up_at
+use Rattle.hwp_core.specs.declared.Pin.{Pin}
+use Rattle.hwp_core.specs.declared.pin.PinAt.{PinAt}
+use Rattle.hwp_core.specs.declared.pin.PinAt.TheVariants as pin_at
+use Rattle.hwp_core.specs.declared.Unlock.{Unlock}
+use Rattle.hwp_core.specs.declared.unlock.UnlockAt.{UnlockAt}
+use Rattle.hwp_core.specs.declared.unlock.UnlockAt.TheVariants as unlock_at
+use Rattle.hwp_core.specs.GiveUps as give_ups
+use Rattle.hwp_core.specs.Holds.{one_ref}
+use Rattle.hwp_core.specs.Pins as pins
+use Rattle.hwp_core.specs.Unlocks as unlocks
 use Rattle.hwp_fault.specs.declared.access.Access.{Access}
 use Rattle.hwp_fault.specs.declared.access.Request.{Request}
 use Rattle.hwp_fault.specs.declared.access.AccessAt.{AccessAt}

@@ -5,11 +5,11 @@ use Rattle.hwp_geom.specs.declared.Who.{Who}
 use Rattle.hwp_page.specs.declared.Met.{Met}
 use Rattle.hwp_page.specs.declared.What.{What}
 use Rattle.hwp_page.specs.declared.What.TheVariants as entries
-use Rattle.hwp_rule.specs.declared.Made.{Made}
-use Rattle.hwp_rule.specs.declared.View.{View}
-use Rattle.hwp_known.specs.Known.{deeds, such_deeds}
-use Rattle.hwp_hold.specs.declared.unlock.UnlockAt.{UnlockAt}
-use Rattle.hwp_hold.specs.declared.unlock.UnlockAt.TheVariants as unlock_at
+use Rattle.hwp_core_rule.specs.declared.Made.{Made}
+use Rattle.hwp_core_rule.specs.declared.View.{View}
+use Rattle.hwp_core_task.specs.Known.{deeds, such_deeds}
+use Rattle.hwp_core.specs.declared.unlock.UnlockAt.{UnlockAt}
+use Rattle.hwp_core.specs.declared.unlock.UnlockAt.TheVariants as unlock_at
 use Rattle.hwp_fault.specs.declared.access.Request.{Request}
 use Rattle.hwp_fault.specs.declared.access.AccessAt.{AccessAt}
 use Rattle.hwp_fault.specs.declared.access.AccessAt.TheVariants as at

@@ -15,35 +15,35 @@ use Rattle.hwp_page.specs.Step.{IsOf, IsRefused}
 use Rattle.hwp_words.specs.declared.Pte.{Pte}
 use Rattle.hwp_words.specs.declared.Pte.TheVariants as ptes
 use Rattle.hwp_words.specs.Translations.{pte_reading}
-use Rattle.hwp_rule.specs.declared.InHand.{InHand}
-use Rattle.hwp_rule.specs.declared.Place.TheVariants as places
-use Rattle.hwp_rule.specs.declared.Step.{Step}
-use Rattle.hwp_rule.specs.declared.Step.TheVariants as steps
-use Rattle.hwp_rule.specs.declared.View.{View}
-use Rattle.hwp_rule.specs.Lists.{EachMember}
-use Rattle.hwp_rule.specs.Logs.{log_of}
-use Rattle.hwp_rule.specs.Views.{body_of, frame_in, more_of}
-use Rattle.hwp_rule.specs.Words.{Words}
-use Rattle.hwp_step.specs.declared.Turn.{Turn}
-use Rattle.hwp_step.specs.declared.Turn.TheVariants.{Moved}
-use Rattle.hwp_step.specs.Calls.{IsOnTurn}
-use Rattle.hwp_step.specs.Hands.{hand_of, empty}
-use Rattle.hwp_step.specs.Ranks.{stale}
-use Rattle.hwp_known.specs.Known.{Saw, SawLog, HasOnly, HasMade, Precedes}
-use Rattle.hwp_known.specs.Pages.{SawState}
-use Rattle.hwp_fill.specs.declared.Fill.{Fill}
-use Rattle.hwp_fill.specs.declared.fill.FillAt.{FillAt}
-use Rattle.hwp_fill.specs.declared.fill.FillAt.TheVariants as fill_at
-use Rattle.hwp_hold.specs.declared.GiveUp.{GiveUp}
-use Rattle.hwp_hold.specs.declared.Hold.{Hold}
-use Rattle.hwp_hold.specs.declared.hold.HoldAt.{HoldAt}
-use Rattle.hwp_hold.specs.declared.hold.HoldAt.TheVariants as hold_at
-use Rattle.hwp_hold.specs.declared.Unhold.{Unhold}
-use Rattle.hwp_fill.specs.Fills as fills
-use Rattle.hwp_hold.specs.GiveUps as give_ups
-use Rattle.hwp_hold.specs.Holds as holds
-use Rattle.hwp_hold.specs.Holds.{HoldsPage}
-use Rattle.hwp_hold.specs.Unholds as unholds
+use Rattle.hwp_core_rule.specs.declared.InHand.{InHand}
+use Rattle.hwp_core_rule.specs.declared.SharedWord.TheVariants as places
+use Rattle.hwp_core_rule.specs.declared.Step.{Step}
+use Rattle.hwp_core_rule.specs.declared.Step.TheVariants as steps
+use Rattle.hwp_core_rule.specs.declared.View.{View}
+use Rattle.hwp_core_rule.specs.Lists.{EachMember}
+use Rattle.hwp_core_rule.specs.Logs.{log_of}
+use Rattle.hwp_core_rule.specs.Views.{body_of, frame_in, more_of}
+use Rattle.hwp_core_rule.specs.Words.{Words}
+use Rattle.hwp_core_task.specs.declared.Turn.{Turn}
+use Rattle.hwp_core_task.specs.declared.Turn.TheVariants.{Moved}
+use Rattle.hwp_core_task.specs.Calls.{IsOnTurn}
+use Rattle.hwp_core_task.specs.Hands.{hand_of, empty}
+use Rattle.hwp_core_task.specs.Ranks.{stale}
+use Rattle.hwp_core_task.specs.Known.{Saw, SawLog, HasOnly, HasMade, Precedes}
+use Rattle.hwp_core_task.specs.Pages.{SawState}
+use Rattle.hwp_fault_fill.specs.declared.Fill.{Fill}
+use Rattle.hwp_fault_fill.specs.declared.fill.FillAt.{FillAt}
+use Rattle.hwp_fault_fill.specs.declared.fill.FillAt.TheVariants as fill_at
+use Rattle.hwp_core.specs.declared.GiveUp.{GiveUp}
+use Rattle.hwp_core.specs.declared.Hold.{Hold}
+use Rattle.hwp_core.specs.declared.hold.HoldAt.{HoldAt}
+use Rattle.hwp_core.specs.declared.hold.HoldAt.TheVariants as hold_at
+use Rattle.hwp_core.specs.declared.Unhold.{Unhold}
+use Rattle.hwp_fault_fill.specs.Fills as fills
+use Rattle.hwp_core.specs.GiveUps as give_ups
+use Rattle.hwp_core.specs.Holds as holds
+use Rattle.hwp_core.specs.Holds.{HoldsPage}
+use Rattle.hwp_core.specs.Unholds as unholds
 use Rattle.hwp_fault.specs.declared.fault.Fault.{Fault}
 use Rattle.hwp_fault.specs.declared.fault.FaultAt.{FaultAt}
 use Rattle.hwp_fault.specs.declared.fault.FaultAt.TheVariants as at

@@ -11,23 +11,23 @@ use Rattle.hwp_page.specs.History.{BodyValue, Leads}
 use Rattle.hwp_page.specs.Step.{Allowed, after}
 use Rattle.hwp_words.specs.declared.Pte.TheVariants as ptes
 use Rattle.hwp_words.specs.Names.{frame_name}
-use Rattle.hwp_rule.specs.declared.Log.{Log}
-use Rattle.hwp_rule.specs.declared.Step.{Step}
-use Rattle.hwp_rule.specs.declared.Step.TheVariants as steps
-use Rattle.hwp_rule.specs.declared.View.{View}
-use Rattle.hwp_rule.specs.Lists.{EachMember}
-use Rattle.hwp_rule.specs.Logs.{log_of, state_of}
-use Rattle.hwp_rule.specs.Words.{Words}
-use Rattle.hwp_rule.specs.parts.Fits.{FitsWords}
-use Rattle.hwp_step.specs.declared.Turn.{Turn}
-use Rattle.hwp_step.specs.declared.Turn.TheVariants.{Moved}
-use Rattle.hwp_step.specs.Calls.{IsOnTurn}
-use Rattle.hwp_step.specs.Hands.{hand_of, body_in}
-use Rattle.hwp_hold.specs.declared.Refer.{Refer}
-use Rattle.hwp_hold.specs.declared.refer.ReferAt.{ReferAt}
-use Rattle.hwp_hold.specs.declared.refer.ReferAt.TheVariants as refer_at
-use Rattle.hwp_hold.specs.Refers as refers
-use Rattle.hwp_hold.specs.Unholds.{holding}
+use Rattle.hwp_core_rule.specs.declared.Log.{Log}
+use Rattle.hwp_core_rule.specs.declared.Step.{Step}
+use Rattle.hwp_core_rule.specs.declared.Step.TheVariants as steps
+use Rattle.hwp_core_rule.specs.declared.View.{View}
+use Rattle.hwp_core_rule.specs.Lists.{EachMember}
+use Rattle.hwp_core_rule.specs.Logs.{log_of, state_of}
+use Rattle.hwp_core_rule.specs.Words.{Words}
+use Rattle.hwp_core_rule.specs.parts.Fits.{FitsWords}
+use Rattle.hwp_core_task.specs.declared.Turn.{Turn}
+use Rattle.hwp_core_task.specs.declared.Turn.TheVariants.{Moved}
+use Rattle.hwp_core_task.specs.Calls.{IsOnTurn}
+use Rattle.hwp_core_task.specs.Hands.{hand_of, body_in}
+use Rattle.hwp_core.specs.declared.Refer.{Refer}
+use Rattle.hwp_core.specs.declared.refer.ReferAt.{ReferAt}
+use Rattle.hwp_core.specs.declared.refer.ReferAt.TheVariants as refer_at
+use Rattle.hwp_core.specs.Refers as refers
+use Rattle.hwp_core.specs.Unholds.{holding}
 use Rattle.hwp_fault.specs.declared.map_in.MapIn.{MapIn}
 use Rattle.hwp_fault.specs.declared.map_in.MapInAt.{MapInAt}
 use Rattle.hwp_fault.specs.declared.map_in.MapInAt.TheVariants as at

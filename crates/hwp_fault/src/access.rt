@@ -1,17 +1,17 @@
 ghost use Rattle.std.specs.Prelude.{◌≡◌, ◌↔◌, Option, IsBitSet, IsTrue, is_none};
-ghost use Rattle.hwp_hold.specs.GiveUps as give_ups;
-ghost use Rattle.hwp_hold.specs.Pins as pins;
-ghost use Rattle.hwp_hold.specs.Unlocks as unlocks;
+ghost use Rattle.hwp_core.specs.GiveUps as give_ups;
+ghost use Rattle.hwp_core.specs.Pins as pins;
+ghost use Rattle.hwp_core.specs.Unlocks as unlocks;
 ghost use Rattle.hwp_fault.specs.declared.access.AccessAt.TheVariants as states;
 ghost use Rattle.hwp_fault.specs.Faults as faults;
 
 use crate::fault::{Fault, FaultAnswer};
 use crate::touch::{AccessKind, Touch};
+use hwp_core::{GiveUp, Pin, PinAnswer, Unlock};
+use hwp_core_rule::{SharedWord, Step, frame_in};
+use hwp_core_task::{Ranked, Scheduled, Task, Turn};
 use hwp_geom::{Frame, Layout, Line, Mask, Page, Proc, Thread, VSlot, Who};
-use hwp_hold::{GiveUp, Pin, PinAnswer, Unlock};
 use hwp_page::{Body, Entry, Met, What};
-use hwp_rule::{Place, Step, frame_in};
-use hwp_step::{Machine, Ranked, Scheduled, Turn};
 use hwp_words::{FrameWord, ProcessWord, is_stopped};
 use std::mem;
 
@@ -36,7 +36,7 @@ pub struct Request {
 }
 
 /// What an `Access` came to. A place is the number of an entry in the page's history, from 0 (this project's rule).
-#[derive(Clone, Copy, Debug, PartialEq, Eq)]
+#[derive(Clone, Copy)]
 pub enum AccessAnswer {
     /// This word was read: the entry at the place.
     Value {
@@ -184,6 +184,7 @@ impl Access {
         ensures { result ≡ unlocked unlock then }
     {
         if unlock.is_over() {
+            drop(unlock);
             match then {
                 Some(answer) => AccessAt::Over { answer },
                 None => AccessAt::LoadTranslation,
@@ -197,13 +198,22 @@ impl Access {
         ensures { result ≡ after_fault page fault }
     {
         match fault.answer() {
-            Some(FaultAnswer::Again) => AccessAt::LoadTranslation,
-            Some(FaultAnswer::NoFrame { .. }) => AccessAt::Over {
-                answer: AccessAnswer::NoFrame,
-            },
-            Some(FaultAnswer::Sigbus { place }) => AccessAt::Over {
-                answer: AccessAnswer::Sigbus { page, place },
-            },
+            Some(FaultAnswer::Again) => {
+                drop(fault);
+                AccessAt::LoadTranslation
+            }
+            Some(FaultAnswer::NoFrame { .. }) => {
+                drop(fault);
+                AccessAt::Over {
+                    answer: AccessAnswer::NoFrame,
+                }
+            }
+            Some(FaultAnswer::Sigbus { place }) => {
+                drop(fault);
+                AccessAt::Over {
+                    answer: AccessAnswer::Sigbus { page, place },
+                }
+            }
             None => AccessAt::Fault { fault },
         }
     }
@@ -378,28 +388,36 @@ impl Request {
         ensures { NextAt layout.now self.now at found got result.0 result.1 }
     {
         match at {
-            AccessAt::LoadStop => (Access::at_start(found), Turn::Moved),
-            AccessAt::LoadProcess => (Access::at_process(found), Turn::Moved),
-            AccessAt::LoadTranslation => (self.at_translation(found), Turn::Moved),
+            AccessAt::LoadStop => (Access::at_start(found), moved(got)),
+            AccessAt::LoadProcess => (Access::at_process(found), moved(got)),
+            AccessAt::LoadTranslation => (self.at_translation(found), moved(got)),
             AccessAt::Pin { pin } => pin_more(layout, pin, found, got),
             AccessAt::LockFrame { frame } => lock_more(frame, found, got),
             AccessAt::LoadAgain { frame, body } => {
-                (self.at_again(frame, body, found), Turn::Moved)
+                (self.at_again(frame, body, found), moved(got))
             }
-            AccessAt::LoadBad { frame, body } => (self.let_go(frame, body, found), Turn::Moved),
+            AccessAt::LoadBad { frame, body } => (self.let_go(frame, body, found), moved(got)),
             AccessAt::Unlock { unlock, then } => {
                 (unlock_more(layout, unlock, found, got, then), Turn::Moved)
             }
             AccessAt::Fault { fault } => fault_more(layout, self.page, fault, found, got),
             AccessAt::GiveUp { give_up } => give_up_more(layout, give_up, found, got),
-            AccessAt::Over { answer } => (AccessAt::Over { answer }, Turn::Moved),
+            AccessAt::Over { answer } => (AccessAt::Over { answer }, moved(got)),
         }
     }
 }
 
+ghost use Rattle.hwp_core_task.specs.declared.Turn.TheVariants.{Moved};
 ghost use Rattle.hwp_fault.specs.Accesses.{FaultStepped, LocksFrame, is_bad, leads_to, pinned, unlocked};
 
-/// The frame goes on being pinned.
+/// The turn of a step that moved; the body that it met is let go.
+fn moved(_got: Option<Body>) -> Turn
+    ensures { result ≡ Moved }
+{
+    Turn::Moved
+}
+
+/// Runs one more step of taking a reference to the frame.
 fn pin_more(layout: &Layout, pin: Pin, found: u64, got: Option<Body>) -> (AccessAt, Turn)
     ensures { (result.0 ≡ pinned (pins.next pin found)) × (result.1 ≡ pins.turn pin found) }
 {
@@ -408,18 +426,19 @@ fn pin_more(layout: &Layout, pin: Pin, found: u64, got: Option<Body>) -> (Access
     (Access::pinned(pin), turn)
 }
 
-/// The frame is locked, or its lock waited for.
+/// Tries the frame's lock once more.
 fn lock_more(frame: Frame, found: u64, got: Option<Body>) -> (AccessAt, Turn)
     ensures { LocksFrame frame found got result.0 result.1 }
 {
     if FrameWord::unpack(found).locked {
+        drop(got);
         (AccessAt::LockFrame { frame }, Turn::Waits(found))
     } else {
         (AccessAt::LoadAgain { frame, body: got }, Turn::Moved)
     }
 }
 
-/// The frame goes on being let go.
+/// Runs one more step of letting the frame go.
 fn unlock_more(
     layout: &Layout,
     unlock: Unlock,
@@ -434,7 +453,7 @@ fn unlock_more(
     Access::unlocked(unlock, then)
 }
 
-/// The page goes on being brought in.
+/// Runs one more step of the page fault.
 fn fault_more(
     layout: &Layout,
     page: Page,
@@ -450,7 +469,7 @@ fn fault_more(
     (Access::after_fault(page, fault), turn)
 }
 
-/// The command goes on giving up.
+/// Runs one more step of giving the command up.
 fn give_up_more(layout: &Layout, give_up: GiveUp, found: u64, got: Option<Body>) -> (AccessAt, Turn)
     ensures { (result.0 ≡ states.GiveUp (give_ups.next give_up found)) × (result.1 ≡ give_ups.turn give_up) }
 {
@@ -477,7 +496,7 @@ fn leads_to(frame: Frame, word: u64) -> bool
     }
 }
 
-impl Machine for Access {
+impl Task for Access {
     ghost use Rattle.hwp_fault.specs.Accesses.{plan, put, bare, Next, Shows, Fits};
 
     ghost who = { λ a. a.request.who };
@@ -500,17 +519,19 @@ impl Machine for Access {
 
     fn plan(&self) -> Option<Step> {
         match &self.at {
-            AccessAt::LoadStop => Some(Step::Load { place: Place::Stop }),
+            AccessAt::LoadStop => Some(Step::Load {
+                place: SharedWord::Stop,
+            }),
             AccessAt::LoadProcess => Some(Step::Load {
-                place: Place::Process(self.request.process),
+                place: SharedWord::Process(self.request.process),
             }),
             AccessAt::LoadTranslation | AccessAt::LoadAgain { .. } => Some(Step::Load {
-                place: Place::Trans(self.request.slot),
+                place: SharedWord::Trans(self.request.slot),
             }),
             AccessAt::Pin { pin } => pin.plan(),
             AccessAt::LockFrame { frame } => Some(Step::LockFrame { frame: *frame }),
             AccessAt::LoadBad { frame, .. } => Some(Step::Load {
-                place: Place::Bad(*frame),
+                place: SharedWord::Bad(*frame),
             }),
             AccessAt::Unlock { unlock, .. } => unlock.plan(),
             AccessAt::Fault { fault } => fault.plan(),
@@ -538,7 +559,7 @@ impl Machine for Access {
     fn settle(&mut self, layout: &Layout, found: u64, body: Option<Body>) -> Turn {
         let at = mem::replace(&mut self.at, AccessAt::LoadStop);
         let (after, turn) = self.request.settled(layout, at, found, body);
-        self.at = after;
+        drop(mem::replace(&mut self.at, after));
         turn
     }
 }

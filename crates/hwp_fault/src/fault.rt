@@ -1,18 +1,18 @@
 ghost use Rattle.std.specs.Prelude.{◌≡◌, false, is_none};
-ghost use Rattle.hwp_hold.specs.GiveUps as give_ups;
-ghost use Rattle.hwp_hold.specs.Holds as holds;
-ghost use Rattle.hwp_hold.specs.Unholds as unholds;
-ghost use Rattle.hwp_fill.specs.Fills as fills;
+ghost use Rattle.hwp_core.specs.GiveUps as give_ups;
+ghost use Rattle.hwp_core.specs.Holds as holds;
+ghost use Rattle.hwp_core.specs.Unholds as unholds;
+ghost use Rattle.hwp_fault_fill.specs.Fills as fills;
 ghost use Rattle.hwp_fault.specs.MapIns as map_ins;
 
 use crate::map_in::MapIn;
 use crate::touch::Touch;
-use hwp_fill::{Fill, FillAnswer};
+use hwp_core::{GiveUp, Hold, Unhold};
+use hwp_core_rule::{SharedWord, Step};
+use hwp_core_task::{Ranked, Task, Turn};
+use hwp_fault_fill::{Fill, FillAnswer};
 use hwp_geom::{Frame, Layout, Page, VSlot, Who};
-use hwp_hold::{GiveUp, Hold, Unhold};
 use hwp_page::{Body, Entry};
-use hwp_rule::{Place, Step};
-use hwp_step::{Machine, Ranked, Turn};
 use hwp_words::Pte;
 use std::mem;
 use std::snapshot::Snapshot;
@@ -62,7 +62,7 @@ enum FaultAt {
 }
 
 /// What a `Fault` came to (this project's rule).
-#[derive(Clone, Copy, Debug, PartialEq, Eq)]
+#[derive(Clone, Copy)]
 pub enum FaultAnswer {
     /// The translation led to a frame: the access starts over.
     Again,
@@ -262,6 +262,7 @@ impl Fault {
         ensures { result ≡ after_unhold unhold answer }
     {
         if unhold.is_over() {
+            drop(unhold);
             FaultAt::Over {
                 answer: Some(answer),
             }
@@ -274,6 +275,7 @@ impl Fault {
         ensures { result ≡ after_give_up give_up }
     {
         if give_up.is_over() {
+            drop(give_up);
             FaultAt::Over { answer: None }
         } else {
             FaultAt::GiveUp { give_up }
@@ -294,10 +296,12 @@ impl Fault {
         match at {
             FaultAt::Hold { hold } => hold_more(layout, hold, found, got),
             FaultAt::LoadPte { frame, body } => {
+                drop(got);
                 let pte = Pte::unpack(found);
                 (self.after_pte(layout, frame, body, pte), Turn::Moved)
             }
             FaultAt::Kill { frame, body, place } => {
+                drop(got);
                 let answer = FaultAnswer::Sigbus { place };
                 let next = Fault::let_go(self.who, self.page, frame, body, answer);
                 (next, Turn::Moved)
@@ -312,14 +316,17 @@ impl Fault {
                 (unhold_more(layout, unhold, found, got, answer), Turn::Moved)
             }
             FaultAt::GiveUp { give_up } => give_up_more(layout, give_up, found, got),
-            FaultAt::Over { answer } => (FaultAt::Over { answer }, Turn::Moved),
+            FaultAt::Over { answer } => {
+                drop(got);
+                (FaultAt::Over { answer }, Turn::Moved)
+            }
         }
     }
 }
 
 ghost use Rattle.hwp_fault.specs.Faults.{after_give_up, after_hold, after_map_in, after_unhold, IsFilled};
 
-/// The page goes on being held.
+/// Runs one more step of holding the page.
 fn hold_more(layout: &Layout, hold: Hold, found: u64, got: Option<Body>) -> (FaultAt, Turn)
     requires { holds.Shows hold found got }
     ensures { (result.0 ≡ after_hold (holds.next hold found got)) × (result.1 ≡ holds.turn hold found) }
@@ -329,7 +336,7 @@ fn hold_more(layout: &Layout, hold: Hold, found: u64, got: Option<Body>) -> (Fau
     (Fault::after_hold(hold), turn)
 }
 
-/// The page goes on being put into a frame.
+/// Runs one more step of filling a frame with the page.
 fn fill_more(
     who: Who,
     page: Page,
@@ -347,7 +354,7 @@ fn fill_more(
     (Fault::after_fill(who, page, slot, fill), turn)
 }
 
-/// The translation goes on coming into use.
+/// Runs one more step of mapping the page.
 fn map_in_more(
     who: Who,
     page: Page,
@@ -364,7 +371,7 @@ fn map_in_more(
     (Fault::after_map_in(who, page, map_in), turn)
 }
 
-/// The page goes on being let go.
+/// Runs one more step of letting the page go.
 fn unhold_more(
     layout: &Layout,
     unhold: Unhold,
@@ -379,7 +386,7 @@ fn unhold_more(
     Fault::after_unhold(unhold, answer)
 }
 
-/// The command goes on giving up.
+/// Runs one more step of giving the command up.
 fn give_up_more(layout: &Layout, give_up: GiveUp, found: u64, got: Option<Body>) -> (FaultAt, Turn)
     ensures { (result.0 ≡ after_give_up (give_ups.next give_up found)) × (result.1 ≡ give_ups.turn give_up) }
 {
@@ -388,7 +395,7 @@ fn give_up_more(layout: &Layout, give_up: GiveUp, found: u64, got: Option<Body>)
     (Fault::after_give_up(give_up), turn)
 }
 
-impl Machine for Fault {
+impl Task for Fault {
     ghost use Rattle.std.specs.Prelude.{◌≡◌};
     ghost use Rattle.hwp_fault.specs.Faults.{plan, put, bare, Follows, Shows, Fits};
 
@@ -414,7 +421,7 @@ impl Machine for Fault {
         match &self.at {
             FaultAt::Hold { hold } => hold.plan(),
             FaultAt::LoadPte { .. } => Some(Step::Load {
-                place: Place::Trans(self.slot),
+                place: SharedWord::Trans(self.slot),
             }),
             FaultAt::Kill { body, .. } => Some(Step::Kill {
                 process: self.touch.process,
@@ -445,7 +452,7 @@ impl Machine for Fault {
     fn settle(&mut self, layout: &Layout, found: u64, body: Option<Body>) -> Turn {
         let at = mem::replace(&mut self.at, FaultAt::Over { answer: None });
         let (after, turn) = self.settled(layout, at, found, body);
-        self.at = after;
+        drop(mem::replace(&mut self.at, after));
         turn
     }
 }

@@ -1,11 +1,11 @@
 ghost use Rattle.std.specs.Prelude.{◌≡◌};
 ghost use Rattle.hwp_fault.specs.MapIns.{HasRoomFor, mapped};
 
+use hwp_core::Refer;
+use hwp_core_rule::Step;
+use hwp_core_task::{Ranked, Task, Turn};
 use hwp_geom::{Frame, Layout, Page, VSlot, Who};
-use hwp_hold::Refer;
 use hwp_page::{Body, Entry, What};
-use hwp_rule::Step;
-use hwp_step::{Machine, Ranked, Turn};
 use hwp_words::Pte;
 
 /// Brings a translation of a page into use, when the page is held with its frame (Linux set_pte_at).
@@ -19,7 +19,7 @@ pub struct MapIn {
     at: MapInAt,
 }
 
-#[derive(Clone, Copy, Debug, PartialEq, Eq)]
+#[derive(Clone, Copy)]
 enum MapInAt {
     Refer { refer: Refer },
     SetPte,
@@ -92,7 +92,7 @@ fn map(who: Who, slot: VSlot, body: &mut Body)
     });
 }
 
-impl Machine for MapIn {
+impl Task for MapIn {
     ghost use Rattle.std.specs.Prelude.{◌≡◌, None};
     ghost use Rattle.hwp_fault.specs.MapIns.{plan, next, turn, Shows, Fits};
 
@@ -137,11 +137,15 @@ impl Machine for MapIn {
                 turn
             }
             MapInAt::SetPte => {
+                drop(body);
                 map(self.who, self.slot, &mut self.body);
                 self.at = MapInAt::Over;
                 Turn::Moved
             }
-            MapInAt::Over => Turn::Moved,
+            MapInAt::Over => {
+                drop(body);
+                Turn::Moved
+            }
         }
     }
 }

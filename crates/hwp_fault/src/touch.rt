@@ -6,7 +6,7 @@ use hwp_geom::{Layout, Line, Proc, Thread, VSlot};
 use hwp_page::{Met, What};
 
 /// What an access does.
-#[derive(Clone, Copy, Debug, PartialEq, Eq)]
+#[derive(Clone, Copy)]
 pub enum AccessKind {
     /// It reads the word of the line.
     Load,

@@ -1,6 +1,6 @@
 /// The kinds of atomic step, one for each way to access a shared word; a schedule of a script names them. (This
 /// project's rule.)
-#[derive(Clone, Copy, Debug, PartialEq, Eq)]
+#[derive(Clone, Copy, PartialEq, Eq)]
 pub enum Kind {
     LoadPte,
     LoadCache,

@@ -36,14 +36,14 @@ fn limits()
 {}
 
 /// What stands behind a page: nothing (anonymous memory), or a file whose words are all `fill` at opening.
-#[derive(Clone, Copy, Debug, PartialEq, Eq)]
+#[derive(Clone, Copy, PartialEq, Eq)]
 pub enum PageKind {
     Anon,
     File { file: FileNo, fill: u64 },
 }
 
 /// A thread: its process, the processor that runs it, and whether it has a SIGBUS handler (sigaction(2)).
-#[derive(Clone, Copy, Debug, PartialEq, Eq)]
+#[derive(Clone, Copy)]
 pub struct ThreadDecl {
     pub process: Proc,
     pub cpu: Cpu,
@@ -51,7 +51,7 @@ pub struct ThreadDecl {
 }
 
 /// A translation: its process, and the page that it leads to.
-#[derive(Clone, Copy, Debug, PartialEq, Eq)]
+#[derive(Clone, Copy)]
 pub struct TransDecl {
     pub process: Proc,
     pub page: Page,

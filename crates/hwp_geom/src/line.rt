@@ -7,7 +7,7 @@ use std::marker::Model;
 pub const LINES: usize = 64;
 
 /// A line of a frame or a page, 0 to 63.
-#[derive(Clone, Copy, Debug, PartialEq, Eq)]
+#[derive(Clone, Copy, PartialEq, Eq)]
 pub struct Line(u8);
 
 impl Model for Line {

@@ -97,8 +97,8 @@ impl Model for MemSink {
 }
 
 impl MemSink {
-    /// A sink that takes at most `take` bytes in a write, and of which the writes numbered in
-    /// `fail` fail. The first write has the number 1. It takes no memory until it is written to.
+    /// A sink that accepts at most `take` bytes a write, and fails the writes whose numbers (from 1)
+    /// are in `fail`. It takes no memory until it is written to.
     pub fn new(alloc: Global, take: usize, fail: Vec<u64>) -> MemSink
         requires { 0 < take }
         ensures { result ≡ record

@@ -1,8 +1,8 @@
 pub mod Membership
-pub mod Nexting
+pub mod NextLaws
 pub mod Order
-pub mod ReadingOn
-pub mod Readings
+pub mod PolicyReads
+pub mod PolicyOwners
 pub mod Search
 pub mod Tables
 pub mod Unique

@@ -2,26 +2,26 @@
 -- machine check that takes the frame and sends the thread SIGBUS, and so is a later load. The report has these lines.
 use Rattle.std.proofs.Common.{◌≡◌, ℕ, suc, zero, true, false, List, [], ◌∷◌, Some, None, refl, sym, subst, inr, lit<, lit≤, true≢false, IsBitSet, arith}
 use Rattle.std.proofs.lemmas.Option.{same_Some, none-some}
-use Rattle.hwp_geom.specs.declared.Layout.{Layout}
-use Rattle.hwp_geom.specs.declared.PageKind.TheVariants.{Anon}
-use Rattle.hwp_geom.specs.declared.Who.{Who}
-use Rattle.hwp_kill.specs.declared.Code.TheVariants.{Ar}
-use Rattle.hwp_page.specs.declared.Entry.{Entry}
-use Rattle.hwp_page.specs.declared.Met.TheVariants.{Word, Sigbus}
-use Rattle.hwp_page.specs.declared.Outcome.TheVariants as outcomes
-use Rattle.hwp_page.specs.declared.Situation.{Situation}
-use Rattle.hwp_page.specs.declared.Situation.TheVariants as situations
-use Rattle.hwp_page.specs.declared.What.TheVariants as entries
-use Rattle.hwp_script.specs.declared.Command.TheVariants as commands
-use Rattle.hwp_script.specs.declared.Script.{Script}
-use Rattle.hwp_report.specs.declared.Acted.TheVariants as acts
-use Rattle.hwp_report.specs.declared.Answer.TheVariants as answers
-use Rattle.hwp_report.specs.declared.CpuLine.TheVariants as lines
-use Rattle.hwp_report.specs.declared.How.TheVariants as hows
-use Rattle.hwp_report.specs.declared.MarkLine.{MarkLine}
-use Rattle.hwp_report.specs.declared.MarkLine.TheVariants as marks
-use Rattle.hwp_report.specs.declared.Place.TheVariants as places
-use Rattle.hwp_report.specs.declared.Report.{Report}
+use Rattle.hwp_script_read.specs.hwp_geom.declared.Layout.{Layout}
+use Rattle.hwp_script_read.specs.hwp_geom.declared.PageKind.TheVariants.{Anon}
+use Rattle.hwp_script_read.specs.hwp_geom.declared.Who.{Who}
+use Rattle.hwp_report_text.specs.hwp_kill.declared.Code.TheVariants.{Ar}
+use Rattle.hwp_report_text.specs.hwp_page.declared.Entry.{Entry}
+use Rattle.hwp_report_text.specs.hwp_page.declared.Met.TheVariants.{Word, Sigbus}
+use Rattle.hwp_report_text.specs.hwp_page.declared.Outcome.TheVariants as outcomes
+use Rattle.hwp_report_text.specs.hwp_page.declared.Situation.{Situation}
+use Rattle.hwp_report_text.specs.hwp_page.declared.Situation.TheVariants as situations
+use Rattle.hwp_report_text.specs.hwp_page.declared.What.TheVariants as entries
+use Rattle.hwp_script_read.specs.declared.Command.TheVariants as commands
+use Rattle.hwp_script_read.specs.declared.Script.{Script}
+use Rattle.hwp_report_text.specs.declared.Acted.TheVariants as acts
+use Rattle.hwp_report_text.specs.declared.Answer.TheVariants as answers
+use Rattle.hwp_report_text.specs.declared.CpuLine.TheVariants as lines
+use Rattle.hwp_report_text.specs.declared.How.TheVariants as hows
+use Rattle.hwp_report_text.specs.declared.MarkLine.{MarkLine}
+use Rattle.hwp_report_text.specs.declared.MarkLine.TheVariants as marks
+use Rattle.hwp_report_text.specs.declared.Whereabouts.TheVariants as places
+use Rattle.hwp_report_text.specs.declared.Report.{Report}
 use Rattle.hwp_law.specs.Checks.{empty_banks}
 use Rattle.hwp_law.specs.Commands.{arrival_of}
 use Rattle.hwp_law.specs.Events.{AreEventsOf}

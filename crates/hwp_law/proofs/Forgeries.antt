@@ -2,25 +2,25 @@
 use Rattle.std.proofs.Common.{◌≡◌, ℕ, suc, zero, ◌<◌, ◌≤◌, Bool, true, false, List, [], ◌∷◌, Some, None, take, ◌&&◌, nat_lt, slice_get, refl, sym, ap, ◌∙◌, inl, lit<, true≢false, arith}
 use Rattle.std.proofs.lemmas.Option.{none-some, same_Some}
 use Rattle.std.specs.List.{list_any}
-use Rattle.hwp_kill.specs.declared.Policy.{Policy}
-use Rattle.hwp_kill.specs.declared.Policy.TheVariants as policies
-use Rattle.hwp_page.specs.declared.At.{At}
-use Rattle.hwp_page.specs.declared.Met.TheVariants.{Word}
-use Rattle.hwp_page.specs.declared.Outcome.TheVariants as outcomes
-use Rattle.hwp_page.specs.declared.Situation.TheVariants as situations
-use Rattle.hwp_page.specs.declared.What.TheVariants as entries
-use Rattle.hwp_banks.specs.declared.Origin.TheVariants as origins
-use Rattle.hwp_script.specs.declared.Command.TheVariants as commands
-use Rattle.hwp_report.specs.declared.Acted.{Acted}
-use Rattle.hwp_report.specs.declared.Acted.TheVariants as acts
-use Rattle.hwp_report.specs.declared.Answer.{Answer}
-use Rattle.hwp_report.specs.declared.Answer.TheVariants as answers
-use Rattle.hwp_report.specs.declared.CpuLine.TheVariants as lines
-use Rattle.hwp_report.specs.declared.How.TheVariants as hows
-use Rattle.hwp_report.specs.declared.MarkLine.{MarkLine}
-use Rattle.hwp_report.specs.declared.MarkLine.TheVariants as marks
-use Rattle.hwp_report.specs.declared.Place.TheVariants as places
-use Rattle.hwp_report.specs.declared.Report.{Report}
+use Rattle.hwp_report_text.specs.hwp_kill.declared.Policy.{Policy}
+use Rattle.hwp_report_text.specs.hwp_kill.declared.Policy.TheVariants as policies
+use Rattle.hwp_report_text.specs.hwp_page.declared.At.{At}
+use Rattle.hwp_report_text.specs.hwp_page.declared.Met.TheVariants.{Word}
+use Rattle.hwp_report_text.specs.hwp_page.declared.Outcome.TheVariants as outcomes
+use Rattle.hwp_report_text.specs.hwp_page.declared.Situation.TheVariants as situations
+use Rattle.hwp_report_text.specs.hwp_page.declared.What.TheVariants as entries
+use Rattle.hwp_report_text.specs.hwp_banks.declared.Origin.TheVariants as origins
+use Rattle.hwp_script_read.specs.declared.Command.TheVariants as commands
+use Rattle.hwp_report_text.specs.declared.Acted.{Acted}
+use Rattle.hwp_report_text.specs.declared.Acted.TheVariants as acts
+use Rattle.hwp_report_text.specs.declared.Answer.{Answer}
+use Rattle.hwp_report_text.specs.declared.Answer.TheVariants as answers
+use Rattle.hwp_report_text.specs.declared.CpuLine.TheVariants as lines
+use Rattle.hwp_report_text.specs.declared.How.TheVariants as hows
+use Rattle.hwp_report_text.specs.declared.MarkLine.{MarkLine}
+use Rattle.hwp_report_text.specs.declared.MarkLine.TheVariants as marks
+use Rattle.hwp_report_text.specs.declared.Whereabouts.TheVariants as places
+use Rattle.hwp_report_text.specs.declared.Report.{Report}
 use Rattle.hwp_law.specs.Causes.{IsCaused}
 use Rattle.hwp_law.specs.Checks.{Banks, IsFailureAct, empty_banks, is_stopping}
 use Rattle.hwp_law.specs.Commands.{arrival_of}

@@ -1,19 +1,19 @@
 -- The banks of a processor, and the event lines of one machine check.
 use Rattle.std.specs.Prelude.{◌≡◌, ◌⊎◌, ℕ, ◌+◌, nat_le, Bool, true, false, not, ◌||◌, List, [], ◌∷◌, Option, Some, None, replicate, slice_index_or, slice_set, MatchBool, Contains}
 use Rattle.std.specs.List.{list_any}
-use Rattle.hwp_geom.specs.declared.Who.{Who}
-use Rattle.hwp_banks.specs.declared.Event.{Event}
-use Rattle.hwp_banks.specs.Addresses.{frame_at}
-use Rattle.hwp_banks.specs.Events.{bank_count}
-use Rattle.hwp_banks.specs.Logged.{logged}
-use Rattle.hwp_severity.specs.declared.Severity.{Severity}
-use Rattle.hwp_severity.specs.declared.Severity.TheVariants as severities
-use Rattle.hwp_severity.specs.Graded.{graded}
-use Rattle.hwp_script.specs.declared.Script.{Script}
-use Rattle.hwp_report.specs.declared.Acted.{Acted}
-use Rattle.hwp_report.specs.declared.Acted.TheVariants as acts
-use Rattle.hwp_report.specs.declared.MarkLine.{MarkLine}
-use Rattle.hwp_report.specs.declared.Report.{Report}
+use Rattle.hwp_script_read.specs.hwp_geom.declared.Who.{Who}
+use Rattle.hwp_report_text.specs.hwp_banks.declared.Event.{Event}
+use Rattle.hwp_report_text.specs.hwp_banks.Addresses.{frame_at}
+use Rattle.hwp_report_text.specs.hwp_banks.Events.{bank_count}
+use Rattle.hwp_report_text.specs.hwp_banks.Logged.{logged}
+use Rattle.hwp_report_text.specs.hwp_severity.declared.Severity.{Severity}
+use Rattle.hwp_report_text.specs.hwp_severity.declared.Severity.TheVariants as severities
+use Rattle.hwp_report_text.specs.hwp_severity.Graded.{graded}
+use Rattle.hwp_script_read.specs.declared.Script.{Script}
+use Rattle.hwp_report_text.specs.declared.Acted.{Acted}
+use Rattle.hwp_report_text.specs.declared.Acted.TheVariants as acts
+use Rattle.hwp_report_text.specs.declared.MarkLine.{MarkLine}
+use Rattle.hwp_report_text.specs.declared.Report.{Report}
 use Rattle.hwp_law.specs.Commands.{Arrival}
 use Rattle.hwp_law.specs.Lines.{EventLine, marks_of}
 use Rattle.hwp_law.specs.Records.{WasPoisoned, hardware_marks, mark_results}

@@ -1,21 +1,21 @@
 -- The events of a processor along its commands, what they leave in its banks, and the event lines that tell them.
 use Rattle.std.specs.Prelude.{◌≡◌, ℕ, zero, suc, ◌+◌, ◌-◌, ◌≤◌, Bool, true, false, List, [], ◌∷◌, ◌++◌, Option, Some, None, slice_get, slice_set, IsBitSet, IsSomeAnd, MatchBool}
-use Rattle.hwp_geom.specs.declared.Cpu.{Cpu}
-use Rattle.hwp_geom.specs.declared.Frame.{Frame}
-use Rattle.hwp_geom.specs.declared.Who.{Who}
-use Rattle.hwp_banks.specs.declared.Event.{Event}
-use Rattle.hwp_banks.specs.declared.Origin.{Origin}
-use Rattle.hwp_banks.specs.declared.Origin.TheVariants as origins
-use Rattle.hwp_banks.specs.Events.{bank_of, own_event}
-use Rattle.hwp_page.specs.declared.What.{What}
-use Rattle.hwp_page.specs.declared.What.TheVariants as entries
-use Rattle.hwp_page.specs.Orders.{IsEarlier}
-use Rattle.hwp_script.specs.declared.Command.{Command}
-use Rattle.hwp_script.specs.declared.Command.TheVariants as commands
-use Rattle.hwp_script.specs.declared.Script.{Script}
-use Rattle.hwp_report.specs.declared.Answer.{Answer}
-use Rattle.hwp_report.specs.declared.Answer.TheVariants as answers
-use Rattle.hwp_report.specs.declared.Report.{Report}
+use Rattle.hwp_script_read.specs.hwp_geom.declared.Cpu.{Cpu}
+use Rattle.hwp_script_read.specs.hwp_geom.declared.Frame.{Frame}
+use Rattle.hwp_script_read.specs.hwp_geom.declared.Who.{Who}
+use Rattle.hwp_report_text.specs.hwp_banks.declared.Event.{Event}
+use Rattle.hwp_report_text.specs.hwp_banks.declared.Origin.{Origin}
+use Rattle.hwp_report_text.specs.hwp_banks.declared.Origin.TheVariants as origins
+use Rattle.hwp_report_text.specs.hwp_banks.Events.{bank_of, own_event}
+use Rattle.hwp_report_text.specs.hwp_page.declared.What.{What}
+use Rattle.hwp_report_text.specs.hwp_page.declared.What.TheVariants as entries
+use Rattle.hwp_report_text.specs.hwp_page.Orders.{IsEarlier}
+use Rattle.hwp_script_read.specs.declared.Command.{Command}
+use Rattle.hwp_script_read.specs.declared.Command.TheVariants as commands
+use Rattle.hwp_script_read.specs.declared.Script.{Script}
+use Rattle.hwp_report_text.specs.declared.Answer.{Answer}
+use Rattle.hwp_report_text.specs.declared.Answer.TheVariants as answers
+use Rattle.hwp_report_text.specs.declared.Report.{Report}
 use Rattle.hwp_law.specs.Checks.{AreLinesOf, Banks, IsCheck, empty_banks, log_in}
 use Rattle.hwp_law.specs.Commands.{Arrival, arrival_of}
 use Rattle.hwp_law.specs.Lines.{EventLine, answer_of, bad_lines_of, events_of, weak_lines_of}

@@ -1,23 +1,23 @@
 -- The lines of frames: where each is, which of its lines are marked, and how many are poisoned.
 use Rattle.std.specs.Prelude.{◌≡◌, ◌↔◌, ℕ, ◌<◌, Bool, true, false, List, Some, length, count_by, IsBitSet}
-use Rattle.hwp_geom.specs.declared.Frame.{Frame}
-use Rattle.hwp_geom.specs.declared.Layout.{Layout}
-use Rattle.hwp_geom.specs.declared.Who.{Who}
-use Rattle.hwp_script.specs.declared.Command.{Command}
-use Rattle.hwp_script.specs.declared.Command.TheVariants as commands
-use Rattle.hwp_script.specs.declared.Script.{Script}
-use Rattle.hwp_report.specs.declared.Answer.TheVariants as answers
-use Rattle.hwp_report.specs.declared.FrameLine.{FrameLine}
-use Rattle.hwp_report.specs.declared.Place.{Place}
-use Rattle.hwp_report.specs.declared.Place.TheVariants as places
-use Rattle.hwp_report.specs.declared.Report.{Report}
+use Rattle.hwp_script_read.specs.hwp_geom.declared.Frame.{Frame}
+use Rattle.hwp_script_read.specs.hwp_geom.declared.Layout.{Layout}
+use Rattle.hwp_script_read.specs.hwp_geom.declared.Who.{Who}
+use Rattle.hwp_script_read.specs.declared.Command.{Command}
+use Rattle.hwp_script_read.specs.declared.Command.TheVariants as commands
+use Rattle.hwp_script_read.specs.declared.Script.{Script}
+use Rattle.hwp_report_text.specs.declared.Answer.TheVariants as answers
+use Rattle.hwp_report_text.specs.declared.FrameLine.{FrameLine}
+use Rattle.hwp_report_text.specs.declared.Whereabouts.{Whereabouts}
+use Rattle.hwp_report_text.specs.declared.Whereabouts.TheVariants as places
+use Rattle.hwp_report_text.specs.declared.Report.{Report}
 use Rattle.hwp_law.specs.Lines.{answer_of}
 use Rattle.hwp_law.specs.Places.{command_at}
 use Rattle.hwp_law.specs.Records.{IsFrameRecord, ends_poisoned}
 
 -- a frame's place fits the layout and its record: `kernel` is by the layout, and `handled` exactly where another frame is
 -- poisoned
-abbrev pub IsPlaced : Layout → Bool → Bool → Place → Type 0
+abbrev pub IsPlaced : Layout → Bool → Bool → Whereabouts → Type 0
 IsPlaced layout kernel poisoned places.Free = (kernel ≡ false) × (poisoned ≡ false)
 IsPlaced layout kernel poisoned places.Kernel = kernel ≡ true
 IsPlaced layout kernel poisoned places.Handled = (kernel ≡ false) × (poisoned ≡ true)

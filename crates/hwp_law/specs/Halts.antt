@@ -1,19 +1,19 @@
 -- When the stop record of a report fits its lines and answers.
 use Rattle.std.specs.Prelude.{◌≡◌, ℕ, ◌==◌, ◌&&◌, nat_lt, Bool, true, false, List, Some, IsSomeAnd, slice_get, take}
 use Rattle.std.specs.List.{list_any}
-use Rattle.hwp_geom.specs.declared.Cpu.{Cpu}
-use Rattle.hwp_geom.specs.declared.Frame.{Frame}
-use Rattle.hwp_geom.specs.declared.Who.{Who}
-use Rattle.hwp_banks.specs.Addresses.{frame_at}
-use Rattle.hwp_script.specs.declared.Command.{Command}
-use Rattle.hwp_script.specs.declared.Command.TheVariants as commands
-use Rattle.hwp_script.specs.declared.Script.{Script}
-use Rattle.hwp_report.specs.declared.Answer.TheVariants as answers
-use Rattle.hwp_report.specs.declared.CpuLine.{CpuLine}
-use Rattle.hwp_report.specs.declared.Report.{Report}
-use Rattle.hwp_report.specs.declared.Stop.{Stop}
-use Rattle.hwp_report.specs.declared.StopCause.{StopCause}
-use Rattle.hwp_report.specs.declared.StopCause.TheVariants as causes
+use Rattle.hwp_script_read.specs.hwp_geom.declared.Cpu.{Cpu}
+use Rattle.hwp_script_read.specs.hwp_geom.declared.Frame.{Frame}
+use Rattle.hwp_script_read.specs.hwp_geom.declared.Who.{Who}
+use Rattle.hwp_report_text.specs.hwp_banks.Addresses.{frame_at}
+use Rattle.hwp_script_read.specs.declared.Command.{Command}
+use Rattle.hwp_script_read.specs.declared.Command.TheVariants as commands
+use Rattle.hwp_script_read.specs.declared.Script.{Script}
+use Rattle.hwp_report_text.specs.declared.Answer.TheVariants as answers
+use Rattle.hwp_report_text.specs.declared.CpuLine.{CpuLine}
+use Rattle.hwp_report_text.specs.declared.Report.{Report}
+use Rattle.hwp_report_text.specs.declared.Stop.{Stop}
+use Rattle.hwp_report_text.specs.declared.StopCause.{StopCause}
+use Rattle.hwp_report_text.specs.declared.StopCause.TheVariants as causes
 use Rattle.hwp_law.specs.Checks.{is_panic, is_stopping}
 use Rattle.hwp_law.specs.Commands.{arrival_of}
 use Rattle.hwp_law.specs.Lines.{EventLine, answer_of, events_of}

@@ -1,17 +1,17 @@
 -- What the marks of a command have beside them: its entries in the histories, and its answer.
 use Rattle.std.specs.Prelude.{◌≡◌, ℕ, ◌+◌, ◌≤◌, ◌==◌, ◌&&◌, Bool, true, false, not, List, [], ◌∷◌, Option, Some, is_some, count_by, sum_by}
 use Rattle.std.specs.List.{zip}
-use Rattle.hwp_geom.specs.declared.Who.{Who}
-use Rattle.hwp_page.specs.declared.Entry.{Entry}
-use Rattle.hwp_page.specs.declared.Situation.{Situation}
-use Rattle.hwp_page.specs.declared.Situation.TheVariants as situations
-use Rattle.hwp_page.specs.declared.What.{What}
-use Rattle.hwp_page.specs.declared.What.TheVariants as entries
-use Rattle.hwp_report.specs.declared.FrameLine.{FrameLine}
-use Rattle.hwp_report.specs.declared.How.{How}
-use Rattle.hwp_report.specs.declared.How.TheVariants as hows
-use Rattle.hwp_report.specs.declared.MarkLine.{MarkLine}
-use Rattle.hwp_report.specs.declared.Report.{Report}
+use Rattle.hwp_script_read.specs.hwp_geom.declared.Who.{Who}
+use Rattle.hwp_report_text.specs.hwp_page.declared.Entry.{Entry}
+use Rattle.hwp_report_text.specs.hwp_page.declared.Situation.{Situation}
+use Rattle.hwp_report_text.specs.hwp_page.declared.Situation.TheVariants as situations
+use Rattle.hwp_report_text.specs.hwp_page.declared.What.{What}
+use Rattle.hwp_report_text.specs.hwp_page.declared.What.TheVariants as entries
+use Rattle.hwp_report_text.specs.declared.FrameLine.{FrameLine}
+use Rattle.hwp_report_text.specs.declared.How.{How}
+use Rattle.hwp_report_text.specs.declared.How.TheVariants as hows
+use Rattle.hwp_report_text.specs.declared.MarkLine.{MarkLine}
+use Rattle.hwp_report_text.specs.declared.Report.{Report}
 use Rattle.hwp_law.specs.Lines.{EventLine, is_same_command}
 use Rattle.hwp_law.specs.Records.{hardware_marks, how_in, is_by_hardware, result_lines, who_in}
 

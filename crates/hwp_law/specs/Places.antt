@@ -1,10 +1,10 @@
 -- What a script has at a command's place, and a report at an entry's.
 use Rattle.std.specs.Prelude.{Option, List, slice_get, option_and_then}
-use Rattle.hwp_geom.specs.declared.Who.{Who}
-use Rattle.hwp_page.specs.declared.At.{At}
-use Rattle.hwp_page.specs.declared.Entry.{Entry}
-use Rattle.hwp_script.specs.declared.Command.{Command}
-use Rattle.hwp_script.specs.declared.Script.{Script}
+use Rattle.hwp_script_read.specs.hwp_geom.declared.Who.{Who}
+use Rattle.hwp_report_text.specs.hwp_page.declared.At.{At}
+use Rattle.hwp_report_text.specs.hwp_page.declared.Entry.{Entry}
+use Rattle.hwp_script_read.specs.declared.Command.{Command}
+use Rattle.hwp_script_read.specs.declared.Script.{Script}
 
 -- the command of a processor with a number
 abbrev pub command_at : Script → Who → Option Command

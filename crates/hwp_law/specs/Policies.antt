@@ -1,14 +1,14 @@
 -- The policies that a processor's commands set.
 use Rattle.std.specs.Prelude.{ℕ, ◌==◌, cond, List, [], ◌∷◌, Option, None, take, fold, filter_map, slice_get, unwrap_or}
-use Rattle.hwp_geom.specs.declared.Thread.{Thread}
-use Rattle.hwp_geom.specs.declared.Who.{Who}
-use Rattle.hwp_kill.specs.declared.Policy.{Policy}
-use Rattle.hwp_kill.specs.declared.Policy.TheVariants.{Default}
-use Rattle.hwp_kill.specs.Prctl.{policy_set}
-use Rattle.hwp_script.specs.declared.PrctlArgs.{PrctlArgs}
-use Rattle.hwp_script.specs.declared.Command.{Command}
-use Rattle.hwp_script.specs.declared.Command.TheVariants as commands
-use Rattle.hwp_script.specs.declared.Script.{Script}
+use Rattle.hwp_script_read.specs.hwp_geom.declared.Thread.{Thread}
+use Rattle.hwp_script_read.specs.hwp_geom.declared.Who.{Who}
+use Rattle.hwp_report_text.specs.hwp_kill.declared.Policy.{Policy}
+use Rattle.hwp_report_text.specs.hwp_kill.declared.Policy.TheVariants.{Default}
+use Rattle.hwp_report_text.specs.hwp_kill.Prctl.{policy_set}
+use Rattle.hwp_script_read.specs.declared.PrctlArgs.{PrctlArgs}
+use Rattle.hwp_script_read.specs.declared.Command.{Command}
+use Rattle.hwp_script_read.specs.declared.Command.TheVariants as commands
+use Rattle.hwp_script_read.specs.declared.Script.{Script}
 
 -- the five arguments in their order
 abbrev pub arguments : PrctlArgs → List ℕ

@@ -1,16 +1,16 @@
 -- When the history of a page is that of a state, and one frame says where the page is.
 use Rattle.std.specs.Prelude.{◌≡◌, Bool, false, cond, ◌==◌, List, count_by}
-use Rattle.hwp_geom.specs.declared.Layout.{Layout}
-use Rattle.hwp_geom.specs.declared.Page.{Page}
-use Rattle.hwp_page.specs.declared.Entry.{Entry}
-use Rattle.hwp_page.specs.declared.PageState.{PageState}
-use Rattle.hwp_page.specs.History.{IsReplay}
-use Rattle.hwp_report.specs.declared.FrameLine.{FrameLine}
-use Rattle.hwp_report.specs.declared.Place.{Place}
-use Rattle.hwp_report.specs.declared.Place.TheVariants as places
+use Rattle.hwp_script_read.specs.hwp_geom.declared.Layout.{Layout}
+use Rattle.hwp_script_read.specs.hwp_geom.declared.Page.{Page}
+use Rattle.hwp_report_text.specs.hwp_page.declared.Entry.{Entry}
+use Rattle.hwp_report_text.specs.hwp_page.declared.PageState.{PageState}
+use Rattle.hwp_report_text.specs.hwp_page.History.{IsReplay}
+use Rattle.hwp_report_text.specs.declared.FrameLine.{FrameLine}
+use Rattle.hwp_report_text.specs.declared.Whereabouts.{Whereabouts}
+use Rattle.hwp_report_text.specs.declared.Whereabouts.TheVariants as places
 
 -- the place is this page's
-abbrev pub is_of : Page → Place → Bool
+abbrev pub is_of : Page → Whereabouts → Bool
 is_of page places.Free = false
 is_of page places.Kernel = false
 is_of page places.Handled = false

@@ -1,21 +1,21 @@
 -- The policies that a failure's entry lists as seen.
 use Rattle.std.specs.Prelude.{◌≡◌, ℕ, ◌+◌, ◌<◌, ◌≤◌, ◌&&◌, Bool, true, false, List, [], ◌∷◌, Option, Some, is_some, length, slice_get, option_and_then, unwrap_or, Contains}
 use Rattle.std.specs.Int.{from_bool}
-use Rattle.hwp_geom.specs.declared.Cpu.{Cpu}
-use Rattle.hwp_geom.specs.declared.Thread.{Thread}
-use Rattle.hwp_geom.specs.declared.ThreadDecl.{ThreadDecl}
-use Rattle.hwp_geom.specs.declared.Who.{Who}
-use Rattle.hwp_kill.specs.declared.Seen.{Seen}
-use Rattle.hwp_page.specs.declared.At.{At}
-use Rattle.hwp_page.specs.declared.Entry.{Entry}
-use Rattle.hwp_page.specs.declared.What.{What}
-use Rattle.hwp_page.specs.declared.What.TheVariants as entries
-use Rattle.hwp_script.specs.declared.Command.{Command}
-use Rattle.hwp_script.specs.declared.Script.{Script}
-use Rattle.hwp_report.specs.declared.Answer.{Answer}
-use Rattle.hwp_report.specs.declared.Answer.TheVariants as answers
-use Rattle.hwp_report.specs.declared.CpuLine.{CpuLine}
-use Rattle.hwp_report.specs.declared.Report.{Report}
+use Rattle.hwp_script_read.specs.hwp_geom.declared.Cpu.{Cpu}
+use Rattle.hwp_script_read.specs.hwp_geom.declared.Thread.{Thread}
+use Rattle.hwp_script_read.specs.hwp_geom.declared.ThreadDecl.{ThreadDecl}
+use Rattle.hwp_script_read.specs.hwp_geom.declared.Who.{Who}
+use Rattle.hwp_report_text.specs.hwp_kill.declared.Seen.{Seen}
+use Rattle.hwp_report_text.specs.hwp_page.declared.At.{At}
+use Rattle.hwp_report_text.specs.hwp_page.declared.Entry.{Entry}
+use Rattle.hwp_report_text.specs.hwp_page.declared.What.{What}
+use Rattle.hwp_report_text.specs.hwp_page.declared.What.TheVariants as entries
+use Rattle.hwp_script_read.specs.declared.Command.{Command}
+use Rattle.hwp_script_read.specs.declared.Script.{Script}
+use Rattle.hwp_report_text.specs.declared.Answer.{Answer}
+use Rattle.hwp_report_text.specs.declared.Answer.TheVariants as answers
+use Rattle.hwp_report_text.specs.declared.CpuLine.{CpuLine}
+use Rattle.hwp_report_text.specs.declared.Report.{Report}
 use Rattle.hwp_law.specs.Lines.{answer_among, rows_of}
 use Rattle.hwp_law.specs.Places.{entry_at}
 use Rattle.hwp_law.specs.Policies.{commands_before, policy_after, setting_of, settings}

@@ -1,3 +1,4 @@
 pub mod Histories
-mod Gathering
-mod Killing
+mod SetUnion
+mod KillSignals
+pub use Rattle.hwp_kill.proofs as of_hwp_kill

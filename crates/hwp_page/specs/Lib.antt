@@ -6,3 +6,4 @@ pub mod Refusals
 pub mod Orders
 pub mod Endings
 pub mod Losses
+pub use Rattle.hwp_kill.specs as hwp_kill

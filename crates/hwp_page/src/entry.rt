@@ -6,7 +6,7 @@ use hwp_kill::{Seen, Signal};
 use std::alloc::Global;
 
 /// A place in a history: the entry's number in its page, from 0.
-#[derive(Clone, Copy, Debug, PartialEq, Eq)]
+#[derive(Clone, Copy)]
 pub struct At {
     pub page: Page,
     pub entry: u64,
@@ -14,7 +14,7 @@ pub struct At {
 
 /// What an access met: the word at its line, with the lines of the frame that were bad at that moment, or a SIGBUS to
 /// the thread.
-#[derive(Clone, Copy, Debug, PartialEq, Eq)]
+#[derive(Clone, Copy)]
 pub enum Met {
     Word { mask: Mask, word: u64 },
     Sigbus { thread: Thread },

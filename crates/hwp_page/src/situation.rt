@@ -2,7 +2,7 @@ ghost use Rattle.std.specs.Prelude.{◌≡◌};
 ghost use Rattle.hwp_page.specs.Situations.{is_signalling, outcome_of};
 
 /// What a memory failure finds in its frame (after Linux hwpoison.rst; these seven cases are this project's rule).
-#[derive(Clone, Copy, Debug, PartialEq, Eq)]
+#[derive(Clone, Copy, PartialEq, Eq)]
 pub enum Situation {
     /// The frame has no page.
     Free,
@@ -21,7 +21,7 @@ pub enum Situation {
 }
 
 /// What came of a memory failure (Linux hwpoison.rst has these words).
-#[derive(Clone, Copy, Debug, PartialEq, Eq)]
+#[derive(Clone, Copy, PartialEq, Eq)]
 pub enum Outcome {
     /// The page was taken away, and its content or the loss of it is settled.
     Recovered,

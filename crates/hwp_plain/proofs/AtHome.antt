@@ -4,16 +4,16 @@ use Rattle.std.proofs.lemmas.List.{length-map}
 use Rattle.std.proofs.lemmas.Option.{none-some, same_Some}
 use Rattle.hwp_geom.specs.declared.Layout.{Layout}
 use Rattle.hwp_page.specs.History.{BodyValue}
-use Rattle.hwp_rule.specs.declared.Log.{Log}
-use Rattle.hwp_rule.specs.Lists.{EachMember}
-use Rattle.hwp_rule.specs.declared.State.{State}
-use Rattle.hwp_rule.specs.Rule.{Holds}
-use Rattle.hwp_rule.specs.Slots.{IsIn}
-use Rattle.hwp_rule.specs.parts.Holdings.{HoldsNothing}
-use Rattle.hwp_rule.proofs.Lists.{each-map}
-use Rattle.hwp_step.specs.Calls.{FitsLayout}
-use Rattle.hwp_opening.specs.Openings.{home_with}
-use Rattle.hwp_closing.proofs.AllHome.{all-home}
+use Rattle.hwp_core_rule.specs.declared.Log.{Log}
+use Rattle.hwp_core_rule.specs.Lists.{EachMember}
+use Rattle.hwp_core_rule.specs.declared.State.{State}
+use Rattle.hwp_core_rule.specs.Rule.{Holds}
+use Rattle.hwp_core_rule.specs.Slots.{IsIn}
+use Rattle.hwp_core_rule.specs.parts.Holdings.{HoldsNothing}
+use Rattle.hwp_core_rule.proofs.Lists.{each-map}
+use Rattle.hwp_core_task.specs.Calls.{FitsLayout}
+use Rattle.hwp_plain_words.specs.Openings.{home_with}
+use Rattle.hwp_plain_words.proofs.AllHome.{all-home}
 use Rattle.hwp_plain.specs.declared.slot.Slot.{Slot}
 use Rattle.hwp_plain.specs.declared.slot.Slot.TheVariants.{Home, Out}
 use Rattle.hwp_plain.specs.Slots.{home_of, in_slot, body_in, IsSlotOf, AreOfLayout}

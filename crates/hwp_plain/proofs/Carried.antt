@@ -4,9 +4,9 @@ use Rattle.std.proofs.lemmas.List.{map-set}
 use Rattle.std.proofs.lemmas.Option.{slice_get_read}
 use Rattle.hwp_geom.specs.declared.Layout.{Layout}
 use Rattle.hwp_page.specs.History.{BodyValue}
-use Rattle.hwp_rule.specs.Logs.{log_of}
-use Rattle.hwp_rule.proofs.Lists.{at_map, each-set}
-use Rattle.hwp_step.specs.Calls.{FitsLayout}
+use Rattle.hwp_core_rule.specs.Logs.{log_of}
+use Rattle.hwp_core_rule.proofs.Lists.{at_map, each-set}
+use Rattle.hwp_core_task.specs.Calls.{FitsLayout}
 use Rattle.hwp_plain.specs.declared.slot.Slot.{Slot}
 use Rattle.hwp_plain.specs.declared.slot.Slot.TheVariants.{Home, Out}
 use Rattle.hwp_plain.specs.Slots.{home_of, IsSlotOf, AreOfLayout}

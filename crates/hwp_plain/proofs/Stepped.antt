@@ -7,36 +7,36 @@ use Rattle.hwp_geom.specs.declared.Cpu.{Cpu}
 use Rattle.hwp_geom.specs.declared.Layout.{Layout}
 use Rattle.hwp_geom.specs.declared.Who.{Who}
 use Rattle.hwp_page.specs.History.{BodyValue, IsReplay}
-use Rattle.hwp_rule.specs.declared.Log.{Log}
-use Rattle.hwp_rule.specs.declared.Place.{Place}
-use Rattle.hwp_rule.specs.declared.Rec.{Rec}
-use Rattle.hwp_rule.specs.declared.SlotMove.{SlotMove}
-use Rattle.hwp_rule.specs.declared.State.{State}
-use Rattle.hwp_rule.specs.declared.Step.{Step}
-use Rattle.hwp_rule.specs.declared.View.{View}
-use Rattle.hwp_rule.specs.Asks.{AsksOf}
-use Rattle.hwp_rule.specs.Logs.{log_of}
-use Rattle.hwp_rule.specs.Moves.{Move, Told}
-use Rattle.hwp_rule.specs.Opening.{opening_view}
-use Rattle.hwp_rule.specs.Slots.{slot_move, is_out, homes_moved, takes, IsWithin, LeavesHome, MeetsSlot}
-use Rattle.hwp_rule.specs.Steps.{place_of, word_after, kind_of}
-use Rattle.hwp_rule.specs.Views.{view_after}
-use Rattle.hwp_rule.specs.Words.{index, size, IsPlace}
-use Rattle.hwp_rule.proofs.Moving.{holds-moved}
-use Rattle.hwp_rule.proofs.Served.{keeps}
+use Rattle.hwp_core_rule.specs.declared.Log.{Log}
+use Rattle.hwp_core_rule.specs.declared.SharedWord.{SharedWord}
+use Rattle.hwp_core_rule.specs.declared.Rec.{Rec}
+use Rattle.hwp_core_rule.specs.declared.SlotMove.{SlotMove}
+use Rattle.hwp_core_rule.specs.declared.State.{State}
+use Rattle.hwp_core_rule.specs.declared.Step.{Step}
+use Rattle.hwp_core_rule.specs.declared.View.{View}
+use Rattle.hwp_core_rule.specs.Asks.{AsksOf}
+use Rattle.hwp_core_rule.specs.Logs.{log_of}
+use Rattle.hwp_core_rule.specs.Moves.{Move, Told}
+use Rattle.hwp_core_rule.specs.Opening.{opening_view}
+use Rattle.hwp_core_rule.specs.Slots.{slot_move, is_out, homes_moved, takes, IsWithin, LeavesHome, MeetsSlot}
+use Rattle.hwp_core_rule.specs.Steps.{place_of, word_after, kind_of}
+use Rattle.hwp_core_rule.specs.Views.{view_after}
+use Rattle.hwp_core_rule.specs.Words.{index, size, IsPlace}
+use Rattle.hwp_core_rule.proofs.MoveKeeps.{holds-moved}
+use Rattle.hwp_core_rule.proofs.StepKeeps.{keeps}
 use Rattle.hwp_geom.specs.declared.Kind.{Kind}
-use Rattle.hwp_step.specs.declared.Turn.{Turn}
-use Rattle.hwp_step.specs.declared.Turn.TheVariants as turns
-use Rattle.hwp_step.specs.Boards.{Played}
-use Rattle.hwp_step.specs.Calls.{CanMake, FitsLayout, Steps, logs, rec_of}
+use Rattle.hwp_core_task.specs.declared.Turn.{Turn}
+use Rattle.hwp_core_task.specs.declared.Turn.TheVariants as turns
+use Rattle.hwp_core_task.specs.Boards.{Played}
+use Rattle.hwp_core_task.specs.Calls.{CanMake, FitsLayout, Steps, logs, rec_of}
 use Rattle.hwp_plain.specs.declared.slot.Slot.{Slot}
 use Rattle.hwp_plain.specs.declared.trail.Trail.{Trail}
 use Rattle.hwp_plain.specs.declared.trail.Trail.TheViews.{Made}
 use Rattle.hwp_plain.specs.Boards.{Board, IsBoard, IsReached, Moves, logged, own_view, state_of}
 use Rattle.hwp_plain.specs.Slots.{home_of, AreOfLayout}
 use Rattle.hwp_plain.specs.Trails.{made_of, played, views_of}
-use Rattle.hwp_rule.proofs.Meeting.{asks-taken, slot-within, slot-home}
-use Rattle.hwp_plain.proofs.Trailing.{view-there, view-now, views-are}
+use Rattle.hwp_core_rule.proofs.MetWords.{asks-taken, slot-within, slot-home}
+use Rattle.hwp_plain.proofs.TrailViews.{view-there, view-now, views-are}
 
 -- the content is that of the body that went out, or came home
 content-flow : (t : Bool) (content got put : Option BodyValue) → content ≡ cond t got put → option_map log_of content ≡ cond t (logs got) (logs put)
@@ -146,7 +146,7 @@ pub record IsBegun (layout : Layout) (words : List ℕ) (view : View) (who : Who
   pub met : found ≡ slice_index words (index layout (place_of step))
   pub to_is : to ≡ slot_move layout step found
 
-pub begun : {layout l m : Layout} {words : List ℕ} {view : View} {who : Who} {step : Step} {put : Option BodyValue} {place : Place} {at found : ℕ} {to : SlotMove}
+pub begun : {layout l m : Layout} {words : List ℕ} {view : View} {who : Who} {step : Step} {put : Option BodyValue} {place : SharedWord} {at found : ℕ} {to : SlotMove}
     → CanMake layout who step put view → length words ≡ size layout → l ≡ layout → m ≡ layout → place ≡ place_of step → at ≡ index l place → (IsPlace l place → at < size l)
     → found ≡ get_or words at found → to ≡ slot_move m step found → IsBegun layout words view who step put at found to
 begun {layout} {l} {m} {words} {view} {who} {step} {put} {place} {at} {found} {to} can whole l-is m-is place-is at-is within value to-is = record {

@@ -1,22 +1,21 @@
 ghost use Rattle.std.specs.Prelude.{◌≡◌, ◌<◌, true, false, [], cond, None, IfOk, length};
 ghost use Rattle.hwp_geom.specs.Layout.{IsSound};
-ghost use Rattle.hwp_rule.specs.Lists.{EachMember};
-ghost use Rattle.hwp_rule.specs.Opening.{opening};
-ghost use Rattle.hwp_rule.specs.parts.Holdings.{HoldsNothing};
-ghost use Rattle.hwp_step.specs.Calls.{CanMake, Steps, logs, rec_of};
+ghost use Rattle.hwp_core_rule.specs.Lists.{EachMember};
+ghost use Rattle.hwp_core_rule.specs.Opening.{opening};
+ghost use Rattle.hwp_core_rule.specs.parts.Holdings.{HoldsNothing};
+ghost use Rattle.hwp_core_task.specs.Calls.{CanMake, Steps, logs, rec_of};
 ghost use Rattle.hwp_plain.specs.Boards.{IsReached, Moves, own_view, with_turn};
-ghost use Rattle.hwp_closing.specs.Ends.{AreHistories};
-ghost use Rattle.hwp_step.specs.Boards.{AreSeated};
+ghost use Rattle.hwp_plain_words.specs.Ends.{AreHistories};
+ghost use Rattle.hwp_core_task.specs.Boards.{AreSeated};
 
 use crate::bodies::{bodies_of, slots_of};
 use crate::slot::{Slot, carry};
 use crate::trail::{Trail, tell};
-use hwp_closing::histories;
+use hwp_core_rule::{SharedWord, Step, index};
+use hwp_core_task::{Met, Turn};
 use hwp_geom::{Cpu, Kind, Layout, List, OutOfMemory, Page, Who};
-use hwp_opening::{opening_bodies, opening_words};
 use hwp_page::{Body, Entry};
-use hwp_rule::{Place, Step, index};
-use hwp_step::{Met, Turn};
+use hwp_plain_words::{histories, opening_bodies, opening_words};
 use std::alloc::Global;
 use std::marker::Model;
 use std::snapshot::Snapshot;
@@ -39,7 +38,7 @@ impl Model for PlainBoard {
     ghost use Rattle.std.specs.Arc.{arc_value};
     ghost use Rattle.hwp_plain.specs.Boards.{Board, IsBoard, state_of};
     ghost use Rattle.hwp_plain.specs.Trails.{played};
-    ghost use Rattle.hwp_kill.specs.contracts.Slots as sets;
+    ghost use Rattle.hwp_page.specs.hwp_kill.contracts.Slots as sets;
     ghost use Rattle.std.specs.Coded.{codes};
 
     ghost Value = { Board };
@@ -96,7 +95,7 @@ impl PlainBoard {
     }
 
     /// The moves of the log led from the opening to the board as it is, the frame rule holds of it, and each processor has
-    /// the seat of its number. It does nothing.
+    /// the seat of its number. Proof only: a call tells its clauses.
     pub fn reached(&self)
         ensures reached { IsReached self.now.layout self.now.log self.now.state }
         ensures seats { AreSeated self.now.layout self.now.state (λ cpu. cpu.0) }
@@ -173,7 +172,7 @@ impl PlainBoard {
             slots,
             ..
         } = self;
-        let from = index(&layout, Place::Cache(Page(0)));
+        let from = index(&layout, SharedWord::Cache(Page(0)));
         let caches = &words[from..from + layout.pages.len()];
         let bodies = bodies_of(alloc, slots)?;
         histories(alloc, bodies, usize::from(layout.frames), caches)

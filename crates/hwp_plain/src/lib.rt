@@ -11,3 +11,4 @@ mod trail;
 mod turns;
 
 pub use board::PlainBoard;
+pub use hwp_plain_order::step_all;

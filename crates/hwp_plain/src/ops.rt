@@ -1,10 +1,10 @@
 ghost use Rattle.std.specs.Prelude.{◌≡◌, true};
 
 use crate::board::PlainBoard;
+use hwp_core_rule::Step;
+use hwp_core_task::{Met, Ops};
 use hwp_geom::{Layout, Who};
 use hwp_page::Body;
-use hwp_rule::Step;
-use hwp_step::{Met, Ops};
 
 impl Ops for PlainBoard {
     ghost use Rattle.hwp_plain.specs.Boards.{own_view, Moves};

@@ -1,13 +1,13 @@
 ghost use Rattle.std.specs.Prelude.{◌≡◌, false, Some, None, cond, map, length, option_map};
 ghost use Rattle.hwp_geom.specs.declared.Layout.{Layout};
 ghost use Rattle.hwp_page.specs.History.{BodyValue, IsReplay};
-ghost use Rattle.hwp_rule.specs.Logs.{log_of};
-ghost use Rattle.hwp_rule.specs.Slots.{IsWithin, LeavesHome, MeetsSlot, homes_moved, is_out};
-ghost use Rattle.hwp_step.specs.Calls.{FitsLayout};
+ghost use Rattle.hwp_core_rule.specs.Logs.{log_of};
+ghost use Rattle.hwp_core_rule.specs.Slots.{IsWithin, LeavesHome, MeetsSlot, homes_moved, is_out};
+ghost use Rattle.hwp_core_task.specs.Calls.{FitsLayout};
 ghost use Rattle.hwp_plain.specs.Slots.{home_of, AreOfLayout};
 
+use hwp_core_rule::SlotMove;
 use hwp_page::Body;
-use hwp_rule::SlotMove;
 use std::mem;
 use std::snapshot::Snapshot;
 
@@ -64,7 +64,7 @@ pub fn carry(slots: &mut Vec<Slot>, to: SlotMove, body: Option<Body>) -> Carried
     }
 }
 
-/// A body has the state of its history. It does nothing.
+/// A body has the state of its history. Proof only: a call tells its clauses.
 fn kept(body: &Option<Body>)
     ensures { (b : BodyValue) → body.now ≡ Some b → IsReplay b.layout b.page b.log b.state }
 {

@@ -1,10 +1,10 @@
 ghost use Rattle.std.specs.Prelude.{◌≡◌};
 ghost use Rattle.hwp_plain.specs.Trails.{played, told, views_of};
 
+use hwp_core_rule::Step;
+use hwp_core_task::Turn;
 use hwp_geom::{Cpu, Who};
 use hwp_page::Body;
-use hwp_rule::Step;
-use hwp_step::Turn;
 use std::snapshot::Snapshot;
 
 /// The moves of a board since its opening: at run time the last one alone, and the rest for clauses.

@@ -1,6 +1,6 @@
 use crate::board::PlainBoard;
+use hwp_core_task::{Board, Task, Turn, advance};
 use hwp_geom::{Cpu, Kind};
-use hwp_step::{Board, Machine, Turn, advance};
 
 impl Board for PlainBoard {
     ghost machine = { λ b. b.layout };
@@ -15,7 +15,7 @@ impl Board for PlainBoard {
         self.reached();
     }
 
-    fn advance<M: Machine>(&mut self, cpu: Cpu, task: &mut M) -> (Turn, Option<Kind>) {
+    fn advance<M: Task>(&mut self, cpu: Cpu, task: &mut M) -> (Turn, Option<Kind>) {
         self.begin(cpu);
         let turn = advance(task, self);
         self.end(turn);

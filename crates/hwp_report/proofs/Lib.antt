@@ -1,1 +1,12 @@
-mod Numbered
+mod CutLaws
+mod LinesRead
+mod TextLaws
+mod FitsLaws
+mod FormsFit
+mod FollowLaws
+mod LineLaws
+mod ReportReads
+mod PartialEnds
+mod HeadBounds
+mod FaultLaws
+mod ByteWalk

@@ -1,2 +1,4 @@
-pub mod Terms
-pub mod Text
+pub mod Cutting
+pub mod Fits
+pub mod Texts
+pub mod Follows

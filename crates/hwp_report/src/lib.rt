@@ -1,15 +1,12 @@
-//! The report of a run: its type, and its one text.
+//! The text of a report, read back.
 #![tactic(auto)]
 
-mod frames;
-mod lines;
-mod printing;
-mod report;
-mod terms;
+mod cuts;
+mod partial;
+mod reading;
 
-pub use frames::{FrameLine, How, MarkLine, Place};
-pub use hwp_page::Outcome;
-pub use lines::{Acted, Answer, CpuLine};
-pub use printing::print;
-pub use report::{Report, Stop, StopCause};
-pub use terms::{acted_word, outcome_word, policy_word, situation_word};
+pub use cuts::first_line;
+pub use hwp_report_text::{
+    Acted, Answer, CpuLine, FrameLine, How, MarkLine, Report, Stop, StopCause, Whereabouts, print,
+};
+pub use reading::{BadReport, read};

@@ -3,15 +3,15 @@ use Rattle.std.proofs.Common.{◌≡◌, ℕ, ◌≤◌, ◌==◌, ◌⊎◌, if
 use Rattle.hwp_geom.specs.declared.Who.{Who}
 use Rattle.hwp_page.specs.declared.What.{What}
 use Rattle.hwp_page.specs.declared.What.TheVariants as whats
-use Rattle.hwp_report.specs.declared.CpuLine.{CpuLine}
-use Rattle.hwp_report.specs.declared.MarkLine.TheVariants as marks
-use Rattle.hwp_report.specs.Text.{entry_words, cpu_line_words}
+use Rattle.hwp_report_text.specs.declared.CpuLine.{CpuLine}
+use Rattle.hwp_report_text.specs.declared.MarkLine.TheVariants as marks
+use Rattle.hwp_report_text.specs.Text.{entry_words, cpu_line_words}
 use Rattle.hwp_report_words.proofs.SameWords.{tag, word_at}
-use Rattle.hwp_page_lines.specs.declared.Verb.TheVariants as verbs
-use Rattle.hwp_page_lines.specs.Verbs.{verb_of, verb_text}
-use Rattle.hwp_cpu_lines.specs.Fits.{CpuLineFits}
-use Rattle.hwp_report_lines.specs.declared.form.Form.{Form}
-use Rattle.hwp_report_lines.specs.declared.form.Form.TheVariants as forms
+use Rattle.hwp_report_page_lines.specs.declared.Verb.TheVariants as verbs
+use Rattle.hwp_report_page_lines.specs.Verbs.{verb_of, verb_text}
+use Rattle.hwp_report_cpu_lines.specs.Fits.{CpuLineFits}
+use Rattle.hwp_report_lines.specs.declared.report_line.ReportLine.{ReportLine}
+use Rattle.hwp_report_lines.specs.declared.report_line.ReportLine.TheVariants as forms
 use Rattle.hwp_report_lines.specs.declared.heads.Head.{Head}
 use Rattle.hwp_report_lines.specs.declared.heads.Head.TheVariants as heads
 use Rattle.hwp_report_lines.specs.Forms.{FormFits, IsFormRead, IsRestRead, form_words}
@@ -66,7 +66,7 @@ head_high (heads.Entry verbs.Soft) = omega arith
 head_high h = omega arith
 
 -- a line that begins with its first word
-record IsHeaded (f : Form) : Type 0 where
+record IsHeaded (f : ReportLine) : Type 0 where
   head : Head
   is : head_of f ≡ Some head
   word : get_or (form_words f) 0 [] ≡ head_text head
@@ -75,7 +75,7 @@ entry_verb : (who : Who) (what : What) → get_or (entry_words who what) 0 [] �
 entry_verb who whats.FaultIn = refl
 entry_verb who what = refl
 
-headed : (f : Form) → ((line : CpuLine) × (f ≡ forms.CpuLine line)) ⊎ IsHeaded f
+headed : (f : ReportLine) → ((line : CpuLine) × (f ≡ forms.CpuLine line)) ⊎ IsHeaded f
 headed (forms.CpuLine line) = inl (line, refl)
 headed forms.Header = inr (record { head = heads.Header; is = refl; word = refl })
 headed (forms.Stop None) = inr (record { head = heads.Stop; is = refl; word = refl })
@@ -94,7 +94,7 @@ headed (forms.Cpu n count) = inr (record { head = heads.Cpu; is = refl; word = r
 headed forms.End = inr (record { head = heads.End; is = refl; word = refl })
 
 -- what the words behind a first word are read as, the line is read as
-pub rest_read : (first : List ℕ) (ws : List (List ℕ)) (h : Head) (read : Option Form) → first ≡ head_text h → IsRestRead h ws read → IsFormRead (first ∷ ws) read
+pub rest_read : (first : List ℕ) (ws : List (List ℕ)) (h : Head) (read : Option ReportLine) → first ≡ head_text h → IsRestRead h ws read → IsFormRead (first ∷ ws) read
 rest_read first ws h None e none = λ f fits same. elim (headed f) [
   | inl l ↦
       let words : first ∷ ws ≡ cpu_line_words l.0 = same ∙ ap form_words l.1 in
@@ -108,7 +108,7 @@ rest_read first ws h (Some f) e some = (some.0, ap (λ w. w ∷ ws) e ∙ some.1
 
 -- words that begin with no first word, and are no line of a processor, are no line
 pub no_words : (first : List ℕ) (ws : List (List ℕ)) → ((h : Head) → first ≡ head_text h → ⊥)
-    → ((line : CpuLine) → CpuLineFits line → first ∷ ws ≡ cpu_line_words line → ⊥) → (f : Form) → FormFits f → first ∷ ws ≡ form_words f → ⊥
+    → ((line : CpuLine) → CpuLineFits line → first ∷ ws ≡ cpu_line_words line → ⊥) → (f : ReportLine) → FormFits f → first ∷ ws ≡ form_words f → ⊥
 no_words first ws no_head no_line f fits same = elim (headed f) [
   | inl l ↦ no_line l.0 (subst FormFits l.1 fits) (same ∙ ap form_words l.1)
   | inr x ↦ no_head x.head (word_at 0 same ∙ x.word)

@@ -5,7 +5,7 @@ use Rattle.std.proofs.lemmas.List.{append_cancel_right}
 use Rattle.std.proofs.lemmas.List.Splits.{join_with_byte-slice_split}
 use Rattle.hwp_geom.specs.Words.{IsLine, line, cut}
 use Rattle.hwp_geom.proofs.Cuts.{joined, line-joined, cut-joined_line}
-use Rattle.hwp_report_lines.specs.declared.form.Form.{Form}
+use Rattle.hwp_report_lines.specs.declared.report_line.ReportLine.{ReportLine}
 use Rattle.hwp_report_lines.specs.Forms.{form_words, IsFormRead, IsLineRead}
 use Rattle.hwp_report_lines.proofs.WordsPut.{line_of_form}
 
@@ -25,6 +25,6 @@ parts_of_line bytes ws h e =
     ap cut (append_cancel_right bytes (joined ws) (10 ∷ []) (e ∙ line-joined ws)) ∙ cut-joined_line ws h
 
 -- what the words of a line are read as, the line is read as
-pub line_read : (bytes : List ℕ) (ws : List (List ℕ)) (read : Option Form) → ws ≡ cut bytes → IsFormRead ws read → IsLineRead bytes read
+pub line_read : (bytes : List ℕ) (ws : List (List ℕ)) (read : Option ReportLine) → ws ≡ cut bytes → IsFormRead ws read → IsLineRead bytes read
 line_read bytes ws None e none = λ f fits same. none f fits (e ∙ parts_of_line bytes (form_words f) (line_of_form f fits) same)
 line_read bytes ws (Some f) e some = (some.0, line_of_parts bytes ∙ ap line (sym e ∙ some.1))

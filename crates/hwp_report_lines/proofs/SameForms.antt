@@ -7,26 +7,26 @@ use Rattle.std.proofs.lemmas.Fmt.{decimal_is_IsNumeral}
 use Rattle.hwp_geom.specs.declared.Who.{Who}
 use Rattle.hwp_page.specs.declared.What.{What}
 use Rattle.hwp_page.specs.declared.What.TheVariants as whats
-use Rattle.hwp_report.specs.declared.CpuLine.{CpuLine}
-use Rattle.hwp_report.specs.declared.CpuLine.TheVariants as lines
-use Rattle.hwp_report.specs.declared.MarkLine.TheVariants as marks
-use Rattle.hwp_report.specs.Text.{cpu_line_words}
+use Rattle.hwp_report_text.specs.declared.CpuLine.{CpuLine}
+use Rattle.hwp_report_text.specs.declared.CpuLine.TheVariants as lines
+use Rattle.hwp_report_text.specs.declared.MarkLine.TheVariants as marks
+use Rattle.hwp_report_text.specs.Text.{cpu_line_words}
 use Rattle.hwp_report_words.proofs.SameWords.{tag, tag_at, word_at, same_u8, same_u16, same_u32, same_u64, same_mask, same_policy, same_code, same_situation, same_who}
-use Rattle.hwp_page_lines.specs.declared.Failure.{Failure}
-use Rattle.hwp_page_lines.specs.Fits.{FailFits, PlainFits}
-use Rattle.hwp_page_lines.specs.Words.{failure_words}
-use Rattle.hwp_page_lines.proofs.SameWords.{same_place, same_mark, same_required, same_entry}
-use Rattle.hwp_cpu_lines.specs.Fits.{CpuLineFits}
-use Rattle.hwp_cpu_lines.proofs.SameWords.{same_stop, same_cpu_line}
-use Rattle.hwp_report_lines.specs.declared.form.Form.{Form}
-use Rattle.hwp_report_lines.specs.declared.form.Form.TheVariants as forms
+use Rattle.hwp_report_page_lines.specs.declared.Failure.{Failure}
+use Rattle.hwp_report_page_lines.specs.Fits.{FailFits, PlainFits}
+use Rattle.hwp_report_page_lines.specs.Words.{failure_words}
+use Rattle.hwp_report_page_lines.proofs.SameWords.{same_place, same_mark, same_required, same_entry}
+use Rattle.hwp_report_cpu_lines.specs.Fits.{CpuLineFits}
+use Rattle.hwp_report_cpu_lines.proofs.SameWords.{same_stop, same_cpu_line}
+use Rattle.hwp_report_lines.specs.declared.report_line.ReportLine.{ReportLine}
+use Rattle.hwp_report_lines.specs.declared.report_line.ReportLine.TheVariants as forms
 use Rattle.hwp_report_lines.specs.Forms.{FormFits, form_words}
 
 -- the kind of a line, by its first word
 abbrev class_of_tag : ℕ → ℕ
 class_of_tag n = if n == tag (codes "hwp-report") then 1 else if n == tag (codes "stop") then 2 else if n == tag (codes "count") then 3 else if n == tag (codes "file") then 4 else if n == tag (codes "frame") then 5 else if n == tag (codes "poisoned") then 6 else if n == tag (codes "unpoisoned") then 6 else if n == tag (codes "page") then 7 else if n == tag (codes "load") then 8 else if n == tag (codes "store") then 8 else if n == tag (codes "in") then 8 else if n == tag (codes "map") then 8 else if n == tag (codes "free") then 8 else if n == tag (codes "drop") then 8 else if n == tag (codes "sync") then 8 else if n == tag (codes "out") then 8 else if n == tag (codes "mce") then 8 else if n == tag (codes "soft") then 8 else if n == tag (codes "fail") then 9 else if n == tag (codes "seen") then 10 else if n == tag (codes "signal") then 11 else if n == tag (codes "cpu") then 12 else if n == tag (codes "end") then 13 else 0
 
-abbrev class_of : Form → ℕ
+abbrev class_of : ReportLine → ℕ
 class_of forms.Header = 1
 class_of (forms.Stop stop) = 2
 class_of (forms.Count count) = 3
@@ -47,11 +47,11 @@ abbrev first_byte : List (List ℕ) → ℕ
 first_byte ws = get_or (get_or ws 0 []) 0 0
 
 -- a line of a processor begins with a digit, any other with a letter and the word of its kind
-pub record IsNumbered (f : Form) : Type 0 where
+pub record IsNumbered (f : ReportLine) : Type 0 where
   pub class : class_of f ≡ 14
   pub byte : first_byte (form_words f) < 58
 
-pub record IsNamed (f : Form) : Type 0 where
+pub record IsNamed (f : ReportLine) : Type 0 where
   pub class : class_of_tag (tag_at 0 (form_words f)) ≡ class_of f
   pub byte : 97 ≤ first_byte (form_words f)
 
@@ -76,7 +76,7 @@ named_entry : (who : Who) (what : What) → PlainFits what → IsNamed (forms.En
 named_entry who (whats.Fail situation required seen signals) h = absurd h
 named_entry who what h = record { class = refl; byte = omega arith }
 
-kind : (f : Form) → FormFits f → IsNumbered f ⊎ IsNamed f
+kind : (f : ReportLine) → FormFits f → IsNumbered f ⊎ IsNamed f
 kind (forms.CpuLine line) h = inl (numbered line h)
 kind (forms.Stop None) h = inr (record { class = refl; byte = omega arith })
 kind (forms.Stop (Some stop)) h = inr (record { class = refl; byte = omega arith })
@@ -86,7 +86,7 @@ kind (forms.Entry entry) h = inr (named_entry entry.who entry.what h.1)
 kind f h = inr (record { class = refl; byte = omega arith })
 
 -- two lines of the same words are of the same kind
-same_class : (f g : Form) → FormFits f → FormFits g → form_words f ≡ form_words g → class_of f ≡ class_of g
+same_class : (f g : ReportLine) → FormFits f → FormFits g → form_words f ≡ form_words g → class_of f ≡ class_of g
 same_class f g a b e = elim (kind f a) [
   | inl x ↦ elim (kind g b) [
     | inl y ↦ x.class ∙ sym y.class
@@ -109,7 +109,7 @@ same_failure a b f g e =
       signals = same_u64 {m = a.signals} {n = b.signals} (omega (arith, f.signals)) (omega (arith, g.signals)) (word_at 1 behind.1) i;
     }
 
-pub form_unique : (f g : Form) → FormFits f → FormFits g → form_words f ≡ form_words g → f ≡ g
+pub form_unique : (f g : ReportLine) → FormFits f → FormFits g → form_words f ≡ form_words g → f ≡ g
 form_unique forms.Header forms.Header a b e = refl
 form_unique forms.Header g a b e = absurd (omega (arith, same_class forms.Header g a b e))
 form_unique (forms.Stop stop) (forms.Stop stop2) a b e = λ i. forms.Stop (same_stop stop stop2 a b e i)

@@ -6,17 +6,17 @@ use Rattle.hwp_geom.specs.Words.{IsWord, IsLine}
 use Rattle.hwp_geom.proofs.WordsPut.{IsPut, ArePut, put_word, fixed, then, nothing}
 use Rattle.hwp_page.specs.declared.What.{What}
 use Rattle.hwp_page.specs.declared.What.TheVariants as whats
-use Rattle.hwp_report.specs.declared.CpuLine.TheVariants as lines
-use Rattle.hwp_report.specs.declared.MarkLine.TheVariants as marks
-use Rattle.hwp_report.specs.Text.{entry_words}
+use Rattle.hwp_report_text.specs.declared.CpuLine.TheVariants as lines
+use Rattle.hwp_report_text.specs.declared.MarkLine.TheVariants as marks
+use Rattle.hwp_report_text.specs.Text.{entry_words}
 use Rattle.hwp_report_words.proofs.WordsPut.{put_small, put_policy, put_code, put_situation, put_u8, put_u16, put_u32, put_u64, put_mask}
-use Rattle.hwp_page_lines.proofs.WordsPut.{put_state, put_mark, put_required, put_entry}
-use Rattle.hwp_cpu_lines.proofs.WordsPut.{put_stop, put_cpu_line}
-use Rattle.hwp_report_lines.specs.declared.form.Form.{Form}
-use Rattle.hwp_report_lines.specs.declared.form.Form.TheVariants as forms
+use Rattle.hwp_report_page_lines.proofs.WordsPut.{put_state, put_mark, put_required, put_entry}
+use Rattle.hwp_report_cpu_lines.proofs.WordsPut.{put_stop, put_cpu_line}
+use Rattle.hwp_report_lines.specs.declared.report_line.ReportLine.{ReportLine}
+use Rattle.hwp_report_lines.specs.declared.report_line.ReportLine.TheVariants as forms
 use Rattle.hwp_report_lines.specs.Forms.{FormFits, form_words}
 
-put_form : (f : Form) → FormFits f → ArePut (form_words f)
+put_form : (f : ReportLine) → FormFits f → ArePut (form_words f)
 put_form forms.Header h = then (fixed _ _ refl) (then (fixed _ _ refl) nothing)
 put_form (forms.Stop stop) h = put_stop stop h
 put_form (forms.Count count) h = then (fixed _ _ refl) (then (put_u64 h) nothing)
@@ -41,7 +41,7 @@ some_entry : (who : Who) (what : What) → entry_words who what ≡ [] → ⊥
 some_entry who whats.FaultIn e = cc
 some_entry who what e = cc
 
-some_words : (f : Form) → FormFits f → form_words f ≢ []
+some_words : (f : ReportLine) → FormFits f → form_words f ≢ []
 some_words (forms.Stop None) h e = cc
 some_words (forms.Stop (Some stop)) h e = cc
 some_words (forms.Mark (marks.Poisoned cycle who how)) h e = cc
@@ -51,5 +51,5 @@ some_words (forms.CpuLine (lines.Answer seq answer)) h e = cc
 some_words (forms.Entry entry) h e = some_entry entry.who entry.what e
 some_words f h e = cc
 
-pub line_of_form : (f : Form) → FormFits f → IsLine (form_words f)
+pub line_of_form : (f : ReportLine) → FormFits f → IsLine (form_words f)
 line_of_form f h = record { some = some_words f h; each = All-weaker IsPut IsWord (λ w k. put_word k) (form_words f) (put_form f h).each }

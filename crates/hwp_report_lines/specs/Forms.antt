@@ -1,19 +1,19 @@
 -- The lines of a report as data, and the words of each.
 use Rattle.std.specs.Prelude.{◌≡◌, ℕ, ◌^◌, ◌<◌, List, [], ◌∷◌, ◌++◌, codes, decimal, Option, Some, IfSome, MatchOption}
 use Rattle.hwp_geom.specs.Words.{line as line_text}
-use Rattle.hwp_report.specs.declared.MarkLine.{MarkLine}
-use Rattle.hwp_report.specs.Text.{stop_words, frame_words, mark_words, entry_words, seen_words, signal_words, cpu_line_words}
+use Rattle.hwp_report_text.specs.declared.MarkLine.{MarkLine}
+use Rattle.hwp_report_text.specs.Text.{stop_words, frame_words, mark_words, entry_words, seen_words, signal_words, cpu_line_words}
 use Rattle.hwp_report_words.specs.Reads.{IsReadAs}
-use Rattle.hwp_page_lines.specs.Fits.{PlaceFits, MarkFits, PlainEntryFits, FailFits, SeenFits, SignalFits}
-use Rattle.hwp_page_lines.specs.Words.{failure_words}
-use Rattle.hwp_cpu_lines.specs.Fits.{StopFits, CpuLineFits}
-use Rattle.hwp_report_lines.specs.declared.form.Form.{Form}
-use Rattle.hwp_report_lines.specs.declared.form.Form.TheVariants as forms
+use Rattle.hwp_report_page_lines.specs.Fits.{PlaceFits, MarkFits, PlainEntryFits, FailFits, SeenFits, SignalFits}
+use Rattle.hwp_report_page_lines.specs.Words.{failure_words}
+use Rattle.hwp_report_cpu_lines.specs.Fits.{StopFits, CpuLineFits}
+use Rattle.hwp_report_lines.specs.declared.report_line.ReportLine.{ReportLine}
+use Rattle.hwp_report_lines.specs.declared.report_line.ReportLine.TheVariants as forms
 use Rattle.hwp_report_lines.specs.declared.heads.Head.{Head}
 use Rattle.hwp_report_lines.specs.Heads.{head_of, head_text, mark_head}
 
 -- the words of a line, as they are printed
-abbrev pub form_words : Form → List (List ℕ)
+abbrev pub form_words : ReportLine → List (List ℕ)
 form_words forms.Header = codes "hwp-report" ∷ codes "1" ∷ []
 form_words (forms.Stop stop) = stop_words stop
 form_words (forms.Count count) = codes "count" ∷ decimal count ∷ []
@@ -30,7 +30,7 @@ form_words (forms.CpuLine line) = cpu_line_words line
 form_words forms.End = codes "end" ∷ []
 
 -- each number of a line is within its type
-abbrev pub FormFits : Form → Type 0
+abbrev pub FormFits : ReportLine → Type 0
 FormFits forms.Header = Unit {0}
 FormFits (forms.Stop stop) = IfSome stop StopFits
 FormFits (forms.Count count) = count < 2 ^ 64
@@ -47,10 +47,10 @@ FormFits (forms.CpuLine line) = CpuLineFits line
 FormFits forms.End = Unit {0}
 
 -- the words behind this first word are read as the line that they are of
-abbrev pub IsRestRead : Head → List (List ℕ) → Option Form → Type 0
+abbrev pub IsRestRead : Head → List (List ℕ) → Option ReportLine → Type 0
 IsRestRead head ws read =
     MatchOption read
-    ((f : Form) → head_of f ≡ Some head → FormFits f → head_text head ∷ ws ≡ form_words f → ⊥)
+    ((f : ReportLine) → head_of f ≡ Some head → FormFits f → head_text head ∷ ws ≡ form_words f → ⊥)
     (λ f. FormFits f × (head_text head ∷ ws ≡ form_words f))
 
 -- the words behind this first word are read as the mark that they are of
@@ -61,9 +61,9 @@ IsMarkRead head ws read =
     (λ m. MarkFits m × (head_text head ∷ ws ≡ mark_words m))
 
 -- the words are read as the line that they are of
-abbrev pub IsFormRead : List (List ℕ) → Option Form → Type 0
+abbrev pub IsFormRead : List (List ℕ) → Option ReportLine → Type 0
 IsFormRead ws read = IsReadAs FormFits form_words ws read
 
 -- the bytes of a line without its line feed are read as the line that they are of
-abbrev pub IsLineRead : List ℕ → Option Form → Type 0
+abbrev pub IsLineRead : List ℕ → Option ReportLine → Type 0
 IsLineRead bytes read = IsReadAs FormFits (λ f. line_text (form_words f)) (bytes ++ 10 ∷ []) read

@@ -1,11 +1,11 @@
 -- The first words of the lines of a report.
 use Rattle.std.specs.Prelude.{ℕ, List, Option, Some, None, codes}
-use Rattle.hwp_report.specs.declared.MarkLine.{MarkLine}
-use Rattle.hwp_report.specs.declared.MarkLine.TheVariants as marks
-use Rattle.hwp_page_lines.specs.declared.Verb.TheVariants as verbs
-use Rattle.hwp_page_lines.specs.Verbs.{verb_of, verb_text}
-use Rattle.hwp_report_lines.specs.declared.form.Form.{Form}
-use Rattle.hwp_report_lines.specs.declared.form.Form.TheVariants as forms
+use Rattle.hwp_report_text.specs.declared.MarkLine.{MarkLine}
+use Rattle.hwp_report_text.specs.declared.MarkLine.TheVariants as marks
+use Rattle.hwp_report_page_lines.specs.declared.Verb.TheVariants as verbs
+use Rattle.hwp_report_page_lines.specs.Verbs.{verb_of, verb_text}
+use Rattle.hwp_report_lines.specs.declared.report_line.ReportLine.{ReportLine}
+use Rattle.hwp_report_lines.specs.declared.report_line.ReportLine.TheVariants as forms
 use Rattle.hwp_report_lines.specs.declared.heads.Head.{Head}
 use Rattle.hwp_report_lines.specs.declared.heads.Head.TheVariants as heads
 
@@ -31,7 +31,7 @@ mark_head (marks.Poisoned cycle who how) = heads.Poisoned
 mark_head (marks.Unpoisoned cycle who) = heads.Unpoisoned
 
 -- which first word a line has; that of a processor begins with a number
-abbrev pub head_of : Form → Option Head
+abbrev pub head_of : ReportLine → Option Head
 head_of forms.Header = Some heads.Header
 head_of (forms.Stop stop) = Some heads.Stop
 head_of (forms.Count count) = Some heads.Count

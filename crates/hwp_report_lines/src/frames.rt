@@ -1,14 +1,14 @@
 ghost use Rattle.std.specs.Prelude.{map};
 ghost use Rattle.hwp_report_lines.specs.Forms.{IsMarkRead, IsRestRead};
 
-use crate::form::Form;
 use crate::heads::Head;
-use hwp_page_lines::{read_how, read_standing};
-use hwp_report::MarkLine;
+use crate::report_line::ReportLine;
+use hwp_report_page_lines::{read_how, read_standing};
+use hwp_report_text::MarkLine;
 use hwp_report_words::{read_number, read_u32, read_who};
 
 /// A frame, by the words behind `frame`.
-pub(crate) fn read_frame(words: &[&[u8]]) -> Option<Form>
+pub(crate) fn read_frame(words: &[&[u8]]) -> Option<ReportLine>
     ensures { IsRestRead Head.Frame (map (λ w. w.now) words.now) result }
 {
     let [number, rest @ ..] = words else {
@@ -20,7 +20,7 @@ pub(crate) fn read_frame(words: &[&[u8]]) -> Option<Form>
     let Some((place, bad, weak)) = read_standing(rest) else {
         return None;
     };
-    Some(Form::Frame {
+    Some(ReportLine::Frame {
         number,
         place,
         bad,

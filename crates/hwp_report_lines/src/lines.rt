@@ -3,12 +3,12 @@ ghost use Rattle.std.specs.List.{slice_split};
 ghost use Rattle.hwp_report_words.specs.Reads.{AreBelow, Below, IsReadAs, two_words};
 ghost use Rattle.hwp_report_lines.specs.Forms.{IsFormRead, IsLineRead, IsRestRead};
 
-use crate::form::Form;
 use crate::frames::{read_frame, read_poisoned, read_unpoisoned};
 use crate::heads::{Head, read_head};
-use hwp_cpu_lines::{read_cpu_line, read_stop};
+use crate::report_line::ReportLine;
 use hwp_geom::OutOfMemory;
-use hwp_page_lines::{Verb, read_failure, read_plain_entry, read_seen, read_signal};
+use hwp_report_cpu_lines::{read_cpu_line, read_stop};
+use hwp_report_page_lines::{Verb, read_failure, read_plain_entry, read_seen, read_signal};
 use hwp_report_words::{is_text, read_number};
 use std::alloc::Global;
 
@@ -46,7 +46,7 @@ fn two_numbers(words: &[&[u8]]) -> Option<(u64, u64)>
 }
 
 /// A file, by the words behind `file`.
-fn read_file(words: &[&[u8]]) -> Option<Form>
+fn read_file(words: &[&[u8]]) -> Option<ReportLine>
     ensures { IsRestRead Head.File (map (λ w. w.now) words.now) result }
 {
     let [number, middle, lost] = words else {
@@ -61,88 +61,88 @@ fn read_file(words: &[&[u8]]) -> Option<Form>
     let Some(lost) = read_number(lost) else {
         return None;
     };
-    Some(Form::File { number, lost })
+    Some(ReportLine::File { number, lost })
 }
 
 /// The head of a report, by the words behind `hwp-report`.
-fn read_header(words: &[&[u8]]) -> Option<Form>
+fn read_header(words: &[&[u8]]) -> Option<ReportLine>
     ensures { IsRestRead Head.Header (map (λ w. w.now) words.now) result }
 {
     match words {
-        [b"1"] => Some(Form::Header),
+        [b"1"] => Some(ReportLine::Header),
         _ => None,
     }
 }
 
 /// The end, by the words behind `end`.
-fn read_end(words: &[&[u8]]) -> Option<Form>
+fn read_end(words: &[&[u8]]) -> Option<ReportLine>
     ensures { IsRestRead Head.End (map (λ w. w.now) words.now) result }
 {
     match words {
-        [] => Some(Form::End),
+        [] => Some(ReportLine::End),
         _ => None,
     }
 }
 
 /// A page, by the words behind `page`.
-fn read_page(words: &[&[u8]]) -> Option<Form>
+fn read_page(words: &[&[u8]]) -> Option<ReportLine>
     ensures { IsRestRead Head.Page (map (λ w. w.now) words.now) result }
 {
     let Some((number, entries)) = two_numbers(words) else {
         return None;
     };
-    Some(Form::Page { number, entries })
+    Some(ReportLine::Page { number, entries })
 }
 
 /// An entry, by the words behind its first.
-fn read_entry(verb: Verb, words: &[&[u8]]) -> Option<Form>
+fn read_entry(verb: Verb, words: &[&[u8]]) -> Option<ReportLine>
     ensures { IsRestRead (Head.Entry verb) (map (λ w. w.now) words.now) result }
 {
     if let Verb::Fail = verb {
         let Some(failure) = read_failure(words) else {
             return None;
         };
-        return Some(Form::Fail(failure));
+        return Some(ReportLine::Fail(failure));
     }
     let Some(entry) = read_plain_entry(verb, words) else {
         return None;
     };
-    Some(Form::Entry(entry))
+    Some(ReportLine::Entry(entry))
 }
 
 /// A processor, by the words behind `cpu`.
-fn read_cpu(words: &[&[u8]]) -> Option<Form>
+fn read_cpu(words: &[&[u8]]) -> Option<ReportLine>
     ensures { IsRestRead Head.Cpu (map (λ w. w.now) words.now) result }
 {
     let Some((number, lines)) = two_numbers(words) else {
         return None;
     };
-    Some(Form::Cpu { number, lines })
+    Some(ReportLine::Cpu { number, lines })
 }
 
 /// The line of this first word, by the words behind it.
-fn read_rest(head: Head, words: &[&[u8]]) -> Option<Form>
+fn read_rest(head: Head, words: &[&[u8]]) -> Option<ReportLine>
     ensures { IsRestRead head (map (λ w. w.now) words.now) result }
 {
     match head {
         Head::Header => read_header(words),
-        Head::Count => Some(Form::Count(one_number(words)?)),
+        Head::Count => Some(ReportLine::Count(one_number(words)?)),
         Head::File => read_file(words),
         Head::Page => read_page(words),
         Head::Cpu => read_cpu(words),
         Head::End => read_end(words),
-        Head::Stop => Some(Form::Stop(read_stop(words)?)),
+        Head::Stop => Some(ReportLine::Stop(read_stop(words)?)),
         Head::Frame => read_frame(words),
-        Head::Poisoned => Some(Form::Mark(read_poisoned(words)?)),
-        Head::Unpoisoned => Some(Form::Mark(read_unpoisoned(words)?)),
+        Head::Poisoned => Some(ReportLine::Mark(read_poisoned(words)?)),
+        Head::Unpoisoned => Some(ReportLine::Mark(read_unpoisoned(words)?)),
         Head::Entry(verb) => read_entry(verb, words),
-        Head::Seen => Some(Form::Seen(read_seen(words)?)),
-        Head::Signal => Some(Form::Signal(read_signal(words)?)),
+        Head::Seen => Some(ReportLine::Seen(read_seen(words)?)),
+        Head::Signal => Some(ReportLine::Signal(read_signal(words)?)),
     }
 }
 
 /// The line of a report that these words are.
-fn read_words(words: &[&[u8]]) -> Option<Form>
+fn read_words(words: &[&[u8]]) -> Option<ReportLine>
     ensures { IsFormRead (map (λ w. w.now) words.now) result }
 {
     let [first, rest @ ..] = words else {
@@ -154,13 +154,13 @@ fn read_words(words: &[&[u8]]) -> Option<Form>
             let Some(line) = read_cpu_line(words) else {
                 return None;
             };
-            Some(Form::CpuLine(line))
+            Some(ReportLine::CpuLine(line))
         }
     }
 }
 
 /// The line of a report that these bytes without a line feed are.
-pub fn read_line(alloc: Global, line: &[u8]) -> Result<Option<Form>, OutOfMemory>
+pub fn read_line(alloc: Global, line: &[u8]) -> Result<Option<ReportLine>, OutOfMemory>
     ensures { IfOk result (IsLineRead line.now) }
 {
     let words = parts(alloc, line, b' ')?;

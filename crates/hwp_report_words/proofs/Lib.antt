@@ -1,5 +1,5 @@
 mod HexLaws
-pub mod Naming
+pub mod NamedValues
 pub mod Rests
 pub mod SameWords
 pub mod WordsPut

@@ -15,9 +15,9 @@ use Rattle.hwp_page.specs.declared.Situation.{Situation}
 use Rattle.hwp_page.specs.declared.Situation.TheVariants as situations
 use Rattle.hwp_page.specs.declared.Outcome.{Outcome}
 use Rattle.hwp_page.specs.declared.Outcome.TheVariants as outcomes
-use Rattle.hwp_report.specs.declared.Acted.{Acted}
-use Rattle.hwp_report.specs.declared.Acted.TheVariants as acts
-use Rattle.hwp_report.specs.Terms.{flag_number, mode_word, policy_word, code_word, situation_word, outcome_word, origin_word, acted_word}
+use Rattle.hwp_report_text.specs.declared.Acted.{Acted}
+use Rattle.hwp_report_text.specs.declared.Acted.TheVariants as acts
+use Rattle.hwp_report_text.specs.Terms.{flag_number, mode_word, policy_word, code_word, situation_word, outcome_word, origin_word, acted_word}
 use Rattle.hwp_report_words.specs.Words.{AtFits}
 
 -- a word as a number

@@ -19,7 +19,7 @@ pub fn is_text(word: &[u8], text: &str) -> bool
 pub fn read_number(word: &[u8]) -> Option<u64>
     ensures { IsReadAs (Below (2 ^ 64)) decimal word.now result }
 {
-    hwp_form::read_number(word)
+    hwp_script_lines::read_number(word)
 }
 
 /// The number that a word is, where it is below a bound.

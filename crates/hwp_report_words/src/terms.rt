@@ -1,5 +1,5 @@
 ghost use Rattle.std.specs.Prelude.{decimal};
-ghost use Rattle.hwp_report.specs.Terms as terms;
+ghost use Rattle.hwp_report_text.specs.Terms as terms;
 ghost use Rattle.hwp_report_words.specs.Reads.{IsNamedBy};
 
 use crate::numbers::{is_text, read_below};
@@ -7,7 +7,7 @@ use crate::words::{HasWord, named};
 use hwp_geom::Mode;
 use hwp_kill::{Code, Policy};
 use hwp_page::{Outcome, Situation};
-use hwp_report::{Acted, acted_word, outcome_word, policy_word, situation_word};
+use hwp_report_text::{Acted, acted_word, outcome_word, policy_word, situation_word};
 
 /// All policies.
 const POLICIES: [Policy; 3] = [Policy::Late, Policy::Early, Policy::Default];

@@ -1,12 +1,5 @@
-pub mod WordLaws
-pub mod ContextLaws
-pub mod CleanLaws
-pub mod CleanLists
-pub mod SumLaws
-pub mod CollectLaws
-pub mod JudgeLaws
-pub mod NameLaws
-pub mod FitLaws
-pub mod ValidLaws
-pub mod ReadLaws
-pub mod OneScript
+pub mod Lists
+pub mod ChoiceLaws
+pub mod Made
+pub mod CommandFits
+pub mod Valid

@@ -1,8 +1,4 @@
-pub mod Limits
-pub mod Context
-pub mod Reasons
-pub mod Collects
-pub mod Sums
-pub mod Refusals
-pub mod Valid
-pub mod Reads
+pub mod Draws
+pub mod Machine
+pub mod Commands
+pub mod Generated

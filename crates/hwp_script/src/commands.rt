@@ -1,117 +1,202 @@
-ghost use Rattle.std.specs.Prelude.{◌≡◌, ℕ, ◌<◌, ◌≤◌, ◌↔◌, length, slice_get, option_and_then, IsTrue, MatchOption};
-ghost use Rattle.hwp_script.specs.Reasons.{IsClean, IsLowest, IsForeign, IsNoFilePage, IsNoAnonPage, IsUndeclared, IsElsewhere, actor};
-ghost use Rattle.hwp_script.specs.Sums.{Sums};
+ghost use Rattle.std.specs.Prelude.{◌≡◌, ◌<◌, ◌≤◌, IfOk};
+ghost use Rattle.hwp_script.specs.Commands.{accessed, called, chosen, chosen_access, chosen_change, chosen_failure, command, frame_at, marred, numbered, page_at, scrub_of, slot_at, stored, thread_at};
+ghost use Rattle.hwp_script.specs.Draws.{after, drawn};
 
-use crate::context::Summary;
-use crate::faults::is_misplaced;
-use crate::why::Why;
-use hwp_form::{Command, Form};
-use hwp_geom::{MAX_COMMANDS, Page, PageKind, Thread, VSlot};
+use crate::draws::{draw, draw_word};
+use hwp_geom::{FileNo, Frame, Line, Page, Thread, VSlot};
+use hwp_script_lines::{Command, PrctlArgs};
+use rand_pcg::Lcg64Xsh32;
 
-/// Whether a thread and a translation are not both declared, or are of two processes.
-fn is_foreign(summary: &Summary, thread: Thread, slot: VSlot) -> bool
-    ensures { IsTrue result ↔ IsForeign (slice_get summary.now.threads thread.0) (slice_get summary.now.trans slot.0) }
+/// A command of a processor, whose kind is drawn first.
+pub(crate) fn draw_command(cpu: u8, rng: &mut Lcg64Xsh32) -> Command
+    requires cpu { cpu < 4 }
+    ensures { (result, rng.new) ≡ command cpu rng.old }
 {
-    let thread = summary.threads.as_slice().get(usize::from(thread.0));
-    let slot = summary.trans.as_slice().get(usize::from(slot.0));
-    match (thread, slot) {
-        (Some(thread), Some(slot)) => thread.process.0 != slot.process.0,
-        _ => true,
-    }
+    let kind = draw(rng, 100);
+    draw_chosen(cpu, kind, rng)
 }
 
-/// Whether a page is not declared with a file behind it.
-fn is_no_file_page(summary: &Summary, page: Page) -> bool
-    ensures { IsTrue result ↔ IsNoFilePage (slice_get summary.now.pages page.0) }
+/// A command of the kind that a number below 100 chooses.
+fn draw_chosen(cpu: u8, kind: u8, rng: &mut Lcg64Xsh32) -> Command
+    requires cpu { cpu < 4 }
+    ensures { (result, rng.new) ≡ chosen cpu kind rng.old }
 {
-    !matches!(
-        summary.pages.as_slice().get(usize::from(page.0)),
-        Some(PageKind::File { .. })
-    )
-}
-
-/// Whether a page is not declared with nothing behind it.
-fn is_no_anon_page(summary: &Summary, page: Page) -> bool
-    ensures { IsTrue result ↔ IsNoAnonPage (slice_get summary.now.pages page.0) }
-{
-    !matches!(
-        summary.pages.as_slice().get(usize::from(page.0)),
-        Some(PageKind::Anon)
-    )
-}
-
-/// Whether a command names what is not declared, or what is not of its kind.
-fn is_undeclared(summary: &Summary, above: &[Form], command: &Command) -> bool
-    requires { Sums above.now summary.now }
-    ensures { IsTrue result ↔ IsUndeclared above.now command.now }
-{
-    let frames = summary.frames;
-    match *command {
-        Command::Load { thread, slot, .. }
-        | Command::Fetch { thread, slot, .. }
-        | Command::KLoad { thread, slot, .. }
-        | Command::Store { thread, slot, .. } => is_foreign(summary, thread, slot),
-        Command::Free { slot } => usize::from(slot.0) >= summary.trans.len(),
-        Command::Drop { page } => usize::from(page.0) >= summary.pages.len(),
-        Command::Sync { page } => is_no_file_page(summary, page),
-        Command::Out { page } => is_no_anon_page(summary, page),
-        Command::Fsync { file } => file.0 >= summary.files,
-        Command::Prctl { thread, .. } | Command::RaiseUser { thread, .. } => {
-            usize::from(thread.0) >= summary.threads.len()
-        }
-        Command::Bad { frame, .. } | Command::Weak { frame, .. } => frame.0 >= frames,
-        Command::Scrub { first, last } => first.0 >= frames || last.0 >= frames,
-        Command::Log { .. } | Command::RaiseKernel { .. } | Command::RaiseNested => false,
-        Command::Inject { frame } | Command::Soft { frame } | Command::Unpoison { frame } => {
-            frame.0 >= frames
-        }
-    }
-}
-
-/// The thread that a command is of.
-fn actor_of(command: &Command) -> Option<usize>
-    ensures { result ≡ actor command.now }
-{
-    match *command {
-        Command::Load { thread, .. }
-        | Command::Fetch { thread, .. }
-        | Command::KLoad { thread, .. }
-        | Command::Store { thread, .. }
-        | Command::Prctl { thread, .. }
-        | Command::RaiseUser { thread, .. } => Some(usize::from(thread.0)),
-        _ => None,
-    }
-}
-
-/// Whether a command of a thread, if it is one's, would stand in no list, or in another processor's.
-fn is_elsewhere(summary: &Summary, thread: Option<usize>) -> bool
-    ensures { IsTrue result ↔ IsElsewhere summary.now.place (option_and_then (λ t. slice_get summary.now.threads t) thread) }
-{
-    let Some(place) = summary.place else {
-        return true;
-    };
-    let Some(thread) = thread else {
-        return false;
-    };
-    match summary.threads.as_slice().get(thread) {
-        Some(thread) => u64::from(thread.cpu.0) != place,
-        None => false,
-    }
-}
-
-/// The lowest reason that applies to a command below these lines, if any does.
-pub(crate) fn command_fault(summary: &Summary, above: &[Form], command: &Command) -> Option<Why>
-    requires sums { Sums above.now summary.now }
-    requires some { 0 < length above.now }
-    ensures { MatchOption result (IsClean above.now (Form.Command command.now)) (λ why. IsLowest above.now (Form.Command command.now) why) }
-{
-    if summary.commands >= MAX_COMMANDS {
-        Some(Why::OverLimit)
-    } else if is_undeclared(summary, above, command) {
-        Some(Why::Undeclared)
-    } else if is_misplaced(summary, above, 11) || is_elsewhere(summary, actor_of(command)) {
-        Some(Why::WrongPlace)
+    if kind < 74 {
+        draw_access(cpu, kind, rng)
+    } else if kind < 91 {
+        draw_change(cpu, kind, rng)
     } else {
-        None
+        draw_failure(kind, rng)
     }
+}
+
+/// A load, a store or a fetch.
+fn draw_access(cpu: u8, kind: u8, rng: &mut Lcg64Xsh32) -> Command
+    requires cpu { cpu < 4 }
+    ensures { (result, rng.new) ≡ chosen_access cpu kind rng.old }
+{
+    if kind < 45 {
+        draw_load(cpu, rng)
+    } else if kind < 70 {
+        draw_store(cpu, rng)
+    } else {
+        draw_fetch(cpu, rng)
+    }
+}
+
+fn draw_load(cpu: u8, rng: &mut Lcg64Xsh32) -> Command
+    requires cpu { cpu < 4 }
+    ensures { (result, rng.new) ≡ accessed Command.Load cpu rng.old }
+{
+    let thread = draw_thread(cpu, rng);
+    let slot = draw_slot(cpu, rng);
+    let line = draw_line(rng);
+    Command::Load { thread, slot, line }
+}
+
+fn draw_fetch(cpu: u8, rng: &mut Lcg64Xsh32) -> Command
+    requires cpu { cpu < 4 }
+    ensures { (result, rng.new) ≡ accessed Command.Fetch cpu rng.old }
+{
+    let thread = draw_thread(cpu, rng);
+    let slot = draw_slot(cpu, rng);
+    let line = draw_line(rng);
+    Command::Fetch { thread, slot, line }
+}
+
+fn draw_store(cpu: u8, rng: &mut Lcg64Xsh32) -> Command
+    requires cpu { cpu < 4 }
+    ensures { (result, rng.new) ≡ stored cpu rng.old }
+{
+    let thread = draw_thread(cpu, rng);
+    let slot = draw_slot(cpu, rng);
+    let line = draw_line(rng);
+    let word = u64::from(draw_word(rng));
+    Command::Store {
+        thread,
+        slot,
+        line,
+        word,
+    }
+}
+
+/// A command by which pages, files or policies change.
+fn draw_change(cpu: u8, kind: u8, rng: &mut Lcg64Xsh32) -> Command
+    requires cpu { cpu < 4 }
+    ensures { (result, rng.new) ≡ chosen_change cpu kind rng.old }
+{
+    if kind < 78 {
+        let slot = VSlot(u16::from(draw(rng, 80)));
+        Command::Free { slot }
+    } else if kind < 81 {
+        let page = Page(u16::from(draw(rng, 40)));
+        Command::Drop { page }
+    } else if kind < 84 {
+        let page = Page(u16::from(draw(rng, 20)) * 2 + 1);
+        Command::Sync { page }
+    } else if kind < 87 {
+        let page = Page(u16::from(draw(rng, 20)) * 2);
+        Command::Out { page }
+    } else if kind < 89 {
+        let file = FileNo(draw(rng, 2));
+        Command::Fsync { file }
+    } else {
+        draw_call(cpu, rng)
+    }
+}
+
+/// A call of prctl(2) that sets the policy of a thread: PR_MCE_KILL, PR_MCE_KILL_SET, and late, early or default.
+fn draw_call(cpu: u8, rng: &mut Lcg64Xsh32) -> Command
+    requires cpu { cpu < 4 }
+    ensures { (result, rng.new) ≡ called cpu rng.old }
+{
+    let thread = draw_thread(cpu, rng);
+    let args = PrctlArgs {
+        operation: 33,
+        arg2: 1,
+        arg3: u64::from(draw(rng, 3)),
+        arg4: 0,
+        arg5: 0,
+    };
+    Command::Prctl { thread, args }
+}
+
+/// A command by which memory fails, or is tested or taken back.
+fn draw_failure(kind: u8, rng: &mut Lcg64Xsh32) -> Command
+    ensures { (result, rng.new) ≡ chosen_failure kind rng.old }
+{
+    if kind < 94 {
+        draw_damage(kind, rng)
+    } else if kind < 95 {
+        let first = u16::from(draw(rng, 4)) * 16;
+        Command::Scrub {
+            first: Frame(first),
+            last: Frame(first + 15),
+        }
+    } else if kind < 97 {
+        let frame = draw_frame(rng);
+        Command::Inject { frame }
+    } else if kind < 99 {
+        let frame = draw_frame(rng);
+        Command::Soft { frame }
+    } else {
+        let frame = draw_frame(rng);
+        Command::Unpoison { frame }
+    }
+}
+
+/// A line that goes bad, or gets weak.
+fn draw_damage(kind: u8, rng: &mut Lcg64Xsh32) -> Command
+    requires kind { kind < 94 }
+    ensures { (result, rng.new) ≡ chosen_failure kind rng.old }
+{
+    let frame = draw_frame(rng);
+    let line = draw_line(rng);
+    if kind < 93 {
+        Command::Bad { frame, line }
+    } else {
+        Command::Weak { frame, line }
+    }
+}
+
+/// One of the two threads of a processor.
+fn draw_thread(cpu: u8, rng: &mut Lcg64Xsh32) -> Thread
+    requires cpu { cpu < 4 }
+    ensures thread { result ≡ thread_at cpu (drawn 2 rng.old) }
+    ensures after { rng.new ≡ after rng.old }
+{
+    Thread(cpu + draw(rng, 2) * 4)
+}
+
+/// One of the twenty translations of the process of the processor's number.
+fn draw_slot(cpu: u8, rng: &mut Lcg64Xsh32) -> VSlot
+    requires cpu { cpu < 4 }
+    ensures slot { result ≡ slot_at cpu (drawn 20 rng.old) }
+    ensures after { rng.new ≡ after rng.old }
+{
+    let place = draw(rng, 20);
+    let slot = if place < 10 {
+        cpu + place * 4
+    } else {
+        40 + (cpu + 3) % 4 + (place - 10) * 4
+    };
+    VSlot(u16::from(slot))
+}
+
+/// One of the first 64 frames.
+fn draw_frame(rng: &mut Lcg64Xsh32) -> Frame
+    ensures frame { result ≡ frame_at (drawn 64 rng.old) }
+    ensures after { rng.new ≡ after rng.old }
+{
+    Frame(u16::from(draw(rng, 64)))
+}
+
+fn draw_line(rng: &mut Lcg64Xsh32) -> Line
+    ensures line { result ≡ drawn 64 rng.old }
+    ensures after { rng.new ≡ after rng.old }
+{
+    let Some(line) = Line::new(draw(rng, 64)) else {
+        unreachable!()
+    };
+    line
 }

@@ -1,17 +1,11 @@
-//! The fault script: its type, and its reading from bytes.
+//! Fault scripts made from a seed: 4,000 commands of all kinds on a fixed machine, and 20,000 words of schedule.
 #![tactic(auto)]
 
-mod adding;
 mod commands;
-mod context;
-mod faults;
-mod judging;
-mod reading;
-mod script;
-mod why;
+mod draws;
+mod machine;
+mod seeding;
 
-pub use hwp_form::{Command, Go, PrctlArgs, Until};
-pub use hwp_geom::MAX_COMMANDS;
-pub use reading::{ReadScript, read};
-pub use script::{MAX_SCHEDULE, MAX_SCRIPT, Script};
-pub use why::{Refused, Why};
+pub use hwp_script_print::print;
+pub use hwp_script_read::{Command, Go, PrctlArgs, ReadScript, Refused, Script, Until, Why, read};
+pub use seeding::generate;

@@ -1,20 +1,20 @@
 -- When no reason applies to a line, kind by kind.
 use Rattle.std.proofs.Common.{ℕ, Bool, ◌≡◌, ◌<◌, ◌≤◌, ◌+◌, List, [], length, inl, inr, arith, Option, None, Some}
 use Rattle.std.specs.Prelude.{Contains, IsSome}
-use Rattle.hwp_script.specs.Limits.{schedule_limit}
+use Rattle.hwp_script_read.specs.Limits.{schedule_limit}
 use Rattle.hwp_geom.specs.Limits.{command_limit}
-use Rattle.hwp_script.specs.Context.{cpus_in, kernel_in, recovery_in, early_in, lists_in, commands_in, go_in}
-use Rattle.hwp_script.specs.Reasons.{Applies, IsMisplaced, IsClean}
-use Rattle.hwp_form.specs.declared.Command.{Command}
-use Rattle.hwp_form.specs.declared.Backing.{Backing}
-use Rattle.hwp_form.specs.declared.Go.{Go}
-use Rattle.hwp_form.specs.declared.Form.{Form}
-use Rattle.hwp_form.specs.declared.Form.TheVariants as forms
-use Rattle.hwp_script.specs.declared.Why.{Why}
-use Rattle.hwp_script.specs.declared.Why.TheVariants as whys
-use Rattle.hwp_script.proofs.CleanLaws.{IsPlaced, IsCpusClean, IsFramesClean, IsKernelClean, IsRecoveryClean, IsEarlyClean, IsFileClean, IsProcClean, IsThreadClean, IsPageClean, IsTransClean, IsCpuClean, IsCommandClean, IsScheduleClean}
+use Rattle.hwp_script_read.specs.Context.{cpus_in, kernel_in, recovery_in, early_in, lists_in, commands_in, go_in}
+use Rattle.hwp_script_read.specs.Reasons.{Applies, IsMisplaced, IsClean}
+use Rattle.hwp_script_lines.specs.declared.Command.{Command}
+use Rattle.hwp_script_lines.specs.declared.Backing.{Backing}
+use Rattle.hwp_script_lines.specs.declared.Go.{Go}
+use Rattle.hwp_script_lines.specs.declared.ScriptLine.{ScriptLine}
+use Rattle.hwp_script_lines.specs.declared.ScriptLine.TheVariants as forms
+use Rattle.hwp_script_read.specs.declared.Why.{Why}
+use Rattle.hwp_script_read.specs.declared.Why.TheVariants as whys
+use Rattle.hwp_script_read.proofs.CleanLaws.{IsPlaced, IsCpusClean, IsFramesClean, IsKernelClean, IsRecoveryClean, IsEarlyClean, IsFileClean, IsProcClean, IsThreadClean, IsPageClean, IsTransClean, IsCpuClean, IsCommandClean, IsScheduleClean}
 
-not_misplaced : {above : List Form} {g : ℕ} → IsPlaced above g → IsMisplaced above g → ⊥
+not_misplaced : {above : List ScriptLine} {g : ℕ} → IsPlaced above g → IsMisplaced above g → ⊥
 not_misplaced h (inl e) = omega (arith, h.late, e)
 not_misplaced h (inr (inl e)) = omega (arith, h.some_cpu, e)
 not_misplaced h (inr (inr e)) = omega (arith, h.some_frame, e)
@@ -26,7 +26,7 @@ no_header w e = e
 pub put_header : IsClean [] forms.Header
 put_header = record { none = no_header }
 
-no_cpus : {above : List Form} {n : ℕ} → 0 < length above → IsCpusClean above n → (w : Why) → Applies above (forms.Cpus n) w → ⊥
+no_cpus : {above : List ScriptLine} {n : ℕ} → 0 < length above → IsCpusClean above n → (w : Why) → Applies above (forms.Cpus n) w → ⊥
 no_cpus l h whys.BadHeader e = omega (arith, l, e)
 no_cpus l h whys.OverLimit (inl e) = omega (arith, h.some, e)
 no_cpus {above} {n} l h whys.OverLimit (inr e) = let big : 8 < n = e in omega (arith, h.few, big)
@@ -34,10 +34,10 @@ no_cpus l h whys.Twice e = omega (arith, h.first, e)
 no_cpus l h whys.WrongPlace e = omega (arith, h.late, e)
 no_cpus l h w e = e
 
-pub put_cpus : {above : List Form} {n : ℕ} → 0 < length above → IsCpusClean above n → IsClean above (forms.Cpus n)
+pub put_cpus : {above : List ScriptLine} {n : ℕ} → 0 < length above → IsCpusClean above n → IsClean above (forms.Cpus n)
 put_cpus l h = record { none = no_cpus l h }
 
-no_frames : {above : List Form} {n : ℕ} → 0 < length above → IsFramesClean above n → 0 < cpus_in above → (w : Why) → Applies above (forms.Frames n) w → ⊥
+no_frames : {above : List ScriptLine} {n : ℕ} → 0 < length above → IsFramesClean above n → 0 < cpus_in above → (w : Why) → Applies above (forms.Frames n) w → ⊥
 no_frames l h k whys.BadHeader e = omega (arith, l, e)
 no_frames l h k whys.OverLimit (inl e) = omega (arith, h.some, e)
 no_frames {above} {n} l h k whys.OverLimit (inr e) = let big : 256 < n = e in omega (arith, h.few, big)
@@ -46,10 +46,10 @@ no_frames l h k whys.WrongPlace (inl e) = omega (arith, h.late, e)
 no_frames l h k whys.WrongPlace (inr e) = omega (arith, k, e)
 no_frames l h k w e = e
 
-pub put_frames : {above : List Form} {n : ℕ} → 0 < length above → IsFramesClean above n → 0 < cpus_in above → IsClean above (forms.Frames n)
+pub put_frames : {above : List ScriptLine} {n : ℕ} → 0 < length above → IsFramesClean above n → 0 < cpus_in above → IsClean above (forms.Frames n)
 put_frames l h k = record { none = no_frames l h k }
 
-no_kernel : {above : List Form} {n : ℕ} → 0 < length above → IsKernelClean above n → (Contains (kernel_in above) n → ⊥) → (w : Why)
+no_kernel : {above : List ScriptLine} {n : ℕ} → 0 < length above → IsKernelClean above n → (Contains (kernel_in above) n → ⊥) → (w : Why)
     → Applies above (forms.Kernel n) w → ⊥
 no_kernel l h k whys.BadHeader e = omega (arith, l, e)
 no_kernel {above} {n} l h k whys.OverLimit e = let big : 256 ≤ n = e in omega (arith, h.low, big)
@@ -58,34 +58,34 @@ no_kernel l h k whys.Twice e = k e
 no_kernel l h k whys.WrongPlace e = not_misplaced h.placed e
 no_kernel l h k w e = e
 
-pub put_kernel : {above : List Form} {n : ℕ} → 0 < length above → IsKernelClean above n → (Contains (kernel_in above) n → ⊥) → IsClean above (forms.Kernel n)
+pub put_kernel : {above : List ScriptLine} {n : ℕ} → 0 < length above → IsKernelClean above n → (Contains (kernel_in above) n → ⊥) → IsClean above (forms.Kernel n)
 put_kernel l h k = record { none = no_kernel l h k }
 
 no_some : {A : Type 0} (o : Option A) → o ≡ None → IsSome o → ⊥
 no_some None e h = cc
 no_some (Some x) e h = cc
 
-no_recovery : {above : List Form} {b : ℕ} → 0 < length above → IsRecoveryClean above → b ≤ 1 → (w : Why) → Applies above (forms.Recovery b) w → ⊥
+no_recovery : {above : List ScriptLine} {b : ℕ} → 0 < length above → IsRecoveryClean above → b ≤ 1 → (w : Why) → Applies above (forms.Recovery b) w → ⊥
 no_recovery l h k whys.BadHeader e = omega (arith, l, e)
 no_recovery l h k whys.OverLimit e = omega (arith, k, e)
 no_recovery {above} l h k whys.Twice e = no_some (recovery_in above) h.first e
 no_recovery l h k whys.WrongPlace e = not_misplaced h.placed e
 no_recovery l h k w e = e
 
-pub put_recovery : {above : List Form} {b : ℕ} → 0 < length above → IsRecoveryClean above → b ≤ 1 → IsClean above (forms.Recovery b)
+pub put_recovery : {above : List ScriptLine} {b : ℕ} → 0 < length above → IsRecoveryClean above → b ≤ 1 → IsClean above (forms.Recovery b)
 put_recovery l h k = record { none = no_recovery l h k }
 
-no_early : {above : List Form} {b : ℕ} → 0 < length above → IsEarlyClean above → b ≤ 1 → (w : Why) → Applies above (forms.Early b) w → ⊥
+no_early : {above : List ScriptLine} {b : ℕ} → 0 < length above → IsEarlyClean above → b ≤ 1 → (w : Why) → Applies above (forms.Early b) w → ⊥
 no_early l h k whys.BadHeader e = omega (arith, l, e)
 no_early l h k whys.OverLimit e = omega (arith, k, e)
 no_early {above} l h k whys.Twice e = no_some (early_in above) h.first e
 no_early l h k whys.WrongPlace e = not_misplaced h.placed e
 no_early l h k w e = e
 
-pub put_early : {above : List Form} {b : ℕ} → 0 < length above → IsEarlyClean above → b ≤ 1 → IsClean above (forms.Early b)
+pub put_early : {above : List ScriptLine} {b : ℕ} → 0 < length above → IsEarlyClean above → b ≤ 1 → IsClean above (forms.Early b)
 put_early l h k = record { none = no_early l h k }
 
-no_file : {above : List Form} {n : ℕ} → 0 < length above → IsFileClean above n → (w : Why) → Applies above (forms.File n) w → ⊥
+no_file : {above : List ScriptLine} {n : ℕ} → 0 < length above → IsFileClean above n → (w : Why) → Applies above (forms.File n) w → ⊥
 no_file l h whys.BadHeader e = omega (arith, l, e)
 no_file {above} {n} l h whys.OverLimit e = let big : 16 ≤ n = e in omega (arith, h.few, big)
 no_file l h whys.Twice e = omega (arith, h.next, e)
@@ -93,10 +93,10 @@ no_file l h whys.WrongPlace (inl e) = not_misplaced h.placed e
 no_file l h whys.WrongPlace (inr e) = omega (arith, h.next, e)
 no_file l h w e = e
 
-pub put_file : {above : List Form} {n : ℕ} → 0 < length above → IsFileClean above n → IsClean above (forms.File n)
+pub put_file : {above : List ScriptLine} {n : ℕ} → 0 < length above → IsFileClean above n → IsClean above (forms.File n)
 put_file l h = record { none = no_file l h }
 
-no_proc : {above : List Form} {n : ℕ} → 0 < length above → IsProcClean above n → (w : Why) → Applies above (forms.Proc n) w → ⊥
+no_proc : {above : List ScriptLine} {n : ℕ} → 0 < length above → IsProcClean above n → (w : Why) → Applies above (forms.Proc n) w → ⊥
 no_proc l h whys.BadHeader e = omega (arith, l, e)
 no_proc {above} {n} l h whys.OverLimit e = let big : 16 ≤ n = e in omega (arith, h.few, big)
 no_proc l h whys.Twice e = omega (arith, h.next, e)
@@ -104,10 +104,10 @@ no_proc l h whys.WrongPlace (inl e) = not_misplaced h.placed e
 no_proc l h whys.WrongPlace (inr e) = omega (arith, h.next, e)
 no_proc l h w e = e
 
-pub put_proc : {above : List Form} {n : ℕ} → 0 < length above → IsProcClean above n → IsClean above (forms.Proc n)
+pub put_proc : {above : List ScriptLine} {n : ℕ} → 0 < length above → IsProcClean above n → IsClean above (forms.Proc n)
 put_proc l h = record { none = no_proc l h }
 
-no_thread : {above : List Form} {t p c : ℕ} (b : Bool) → 0 < length above → IsThreadClean above t p c → (w : Why) → Applies above (forms.Thread t p c b) w → ⊥
+no_thread : {above : List ScriptLine} {t p c : ℕ} (b : Bool) → 0 < length above → IsThreadClean above t p c → (w : Why) → Applies above (forms.Thread t p c b) w → ⊥
 no_thread b l h whys.BadHeader e = omega (arith, l, e)
 no_thread {above} {t} b l h whys.OverLimit (inl e) = let big : 32 ≤ t = e in omega (arith, h.few, big)
 no_thread {above} {t} {p} b l h whys.OverLimit (inr (inl e)) = let big : 16 ≤ p = e in omega (arith, h.low_process, big)
@@ -119,10 +119,10 @@ no_thread b l h whys.WrongPlace (inl e) = not_misplaced h.placed e
 no_thread b l h whys.WrongPlace (inr e) = omega (arith, h.next, e)
 no_thread b l h w e = e
 
-pub put_thread : {above : List Form} {t p c : ℕ} (b : Bool) → 0 < length above → IsThreadClean above t p c → IsClean above (forms.Thread t p c b)
+pub put_thread : {above : List ScriptLine} {t p c : ℕ} (b : Bool) → 0 < length above → IsThreadClean above t p c → IsClean above (forms.Thread t p c b)
 put_thread b l h = record { none = no_thread b l h }
 
-no_page : {above : List Form} {q : ℕ} {b : Backing} → 0 < length above → IsPageClean above q b → (w : Why) → Applies above (forms.Page q b) w → ⊥
+no_page : {above : List ScriptLine} {q : ℕ} {b : Backing} → 0 < length above → IsPageClean above q b → (w : Why) → Applies above (forms.Page q b) w → ⊥
 no_page l h whys.BadHeader e = omega (arith, l, e)
 no_page {above} {q} l h whys.OverLimit (inl e) = let big : 256 ≤ q = e in omega (arith, h.few, big)
 no_page l h whys.OverLimit (inr e) = h.low e
@@ -132,10 +132,10 @@ no_page l h whys.WrongPlace (inl e) = not_misplaced h.placed e
 no_page l h whys.WrongPlace (inr e) = omega (arith, h.next, e)
 no_page l h w e = e
 
-pub put_page : {above : List Form} {q : ℕ} {b : Backing} → 0 < length above → IsPageClean above q b → IsClean above (forms.Page q b)
+pub put_page : {above : List ScriptLine} {q : ℕ} {b : Backing} → 0 < length above → IsPageClean above q b → IsClean above (forms.Page q b)
 put_page l h = record { none = no_page l h }
 
-no_trans : {above : List Form} {v p q : ℕ} → 0 < length above → IsTransClean above v p q → (w : Why) → Applies above (forms.Trans v p q) w → ⊥
+no_trans : {above : List ScriptLine} {v p q : ℕ} → 0 < length above → IsTransClean above v p q → (w : Why) → Applies above (forms.Trans v p q) w → ⊥
 no_trans l h whys.BadHeader e = omega (arith, l, e)
 no_trans {above} {v} l h whys.OverLimit (inl e) = let big : 512 ≤ v = e in omega (arith, h.few, big)
 no_trans {above} {v} {p} l h whys.OverLimit (inr (inl e)) = let big : 16 ≤ p = e in omega (arith, h.low_process, big)
@@ -147,10 +147,10 @@ no_trans l h whys.WrongPlace (inl e) = not_misplaced h.placed e
 no_trans l h whys.WrongPlace (inr e) = omega (arith, h.next, e)
 no_trans l h w e = e
 
-pub put_trans : {above : List Form} {v p q : ℕ} → 0 < length above → IsTransClean above v p q → IsClean above (forms.Trans v p q)
+pub put_trans : {above : List ScriptLine} {v p q : ℕ} → 0 < length above → IsTransClean above v p q → IsClean above (forms.Trans v p q)
 put_trans l h = record { none = no_trans l h }
 
-no_cpu : {above : List Form} {c : ℕ} → 0 < length above → IsCpuClean above c → (Contains (lists_in above) c → ⊥) → (w : Why) → Applies above (forms.Cpu c) w → ⊥
+no_cpu : {above : List ScriptLine} {c : ℕ} → 0 < length above → IsCpuClean above c → (Contains (lists_in above) c → ⊥) → (w : Why) → Applies above (forms.Cpu c) w → ⊥
 no_cpu l h k whys.BadHeader e = omega (arith, l, e)
 no_cpu {above} {c} l h k whys.OverLimit e = let big : 8 ≤ c = e in omega (arith, h.low, big)
 no_cpu l h k whys.Undeclared e = omega (arith, h.cpu, e)
@@ -158,10 +158,10 @@ no_cpu l h k whys.Twice e = k e
 no_cpu l h k whys.WrongPlace e = not_misplaced h.placed e
 no_cpu l h k w e = e
 
-pub put_cpu : {above : List Form} {c : ℕ} → 0 < length above → IsCpuClean above c → (Contains (lists_in above) c → ⊥) → IsClean above (forms.Cpu c)
+pub put_cpu : {above : List ScriptLine} {c : ℕ} → 0 < length above → IsCpuClean above c → (Contains (lists_in above) c → ⊥) → IsClean above (forms.Cpu c)
 put_cpu l h k = record { none = no_cpu l h k }
 
-no_command : {above : List Form} {c : Command} → 0 < length above → IsCommandClean above c → (w : Why) → Applies above (forms.Command c) w → ⊥
+no_command : {above : List ScriptLine} {c : Command} → 0 < length above → IsCommandClean above c → (w : Why) → Applies above (forms.Command c) w → ⊥
 no_command l h whys.BadHeader e = omega (arith, l, e)
 no_command {above} l h whys.OverLimit e = let big : command_limit ≤ commands_in above = e in omega (arith, h.few, big)
 no_command l h whys.Undeclared e = h.named e
@@ -169,23 +169,23 @@ no_command l h whys.WrongPlace (inl e) = not_misplaced h.placed e
 no_command l h whys.WrongPlace (inr e) = h.here e
 no_command l h w e = e
 
-pub put_command : {above : List Form} {c : Command} → 0 < length above → IsCommandClean above c → IsClean above (forms.Command c)
+pub put_command : {above : List ScriptLine} {c : Command} → 0 < length above → IsCommandClean above c → IsClean above (forms.Command c)
 put_command l h = record { none = no_command l h }
 
-no_schedule : {above : List Form} {ws : List Go} → 0 < length above → IsScheduleClean above ws → (w : Why) → Applies above (forms.Schedule ws) w → ⊥
+no_schedule : {above : List ScriptLine} {ws : List Go} → 0 < length above → IsScheduleClean above ws → (w : Why) → Applies above (forms.Schedule ws) w → ⊥
 no_schedule l h whys.BadHeader e = omega (arith, l, e)
 no_schedule {above} {ws} l h whys.OverLimit e = let big : schedule_limit < length (go_in above) + length ws = e in omega (arith, h.few, big)
 no_schedule l h whys.Undeclared e = omega (arith, h.cpus, e)
 no_schedule l h whys.WrongPlace e = not_misplaced h.placed e
 no_schedule l h w e = e
 
-pub put_schedule : {above : List Form} {ws : List Go} → 0 < length above → IsScheduleClean above ws → IsClean above (forms.Schedule ws)
+pub put_schedule : {above : List ScriptLine} {ws : List Go} → 0 < length above → IsScheduleClean above ws → IsClean above (forms.Schedule ws)
 put_schedule l h = record { none = no_schedule l h }
 
-no_end : {above : List Form} → 0 < length above → IsPlaced above 12 → (w : Why) → Applies above forms.End w → ⊥
+no_end : {above : List ScriptLine} → 0 < length above → IsPlaced above 12 → (w : Why) → Applies above forms.End w → ⊥
 no_end l h whys.BadHeader e = omega (arith, l, e)
 no_end l h whys.WrongPlace e = not_misplaced h e
 no_end l h w e = e
 
-pub put_end : {above : List Form} → 0 < length above → IsPlaced above 12 → IsClean above forms.End
+pub put_end : {above : List ScriptLine} → 0 < length above → IsPlaced above 12 → IsClean above forms.End
 put_end l h = record { none = no_end l h }

@@ -3,28 +3,28 @@ use Rattle.std.proofs.Common.{ℕ, ◌≡◌, ◌<◌, ◌+◌, ◌++◌, ◌==�
 use Rattle.std.specs.Prelude.{fold, filter_map, option_to_list}
 use Rattle.std.specs.List.{range_with_len, cons_option}
 use Rattle.std.proofs.lemmas.List.{append-nil, append_assoc}
-use Rattle.hwp_form.specs.declared.Form.{Form}
-use Rattle.hwp_form.specs.declared.Form.TheVariants as forms
-use Rattle.hwp_form.specs.declared.Command.{Command}
-use Rattle.hwp_form.specs.declared.Go.{Go}
-use Rattle.hwp_script.specs.Context.{command_of, commands_in, place_after}
-use Rattle.hwp_script.specs.Collects.{command_at, commands_from, commands_of}
-use Rattle.hwp_script.proofs.CollectLaws.{no_command, same_lists, same, other}
+use Rattle.hwp_script_lines.specs.declared.ScriptLine.{ScriptLine}
+use Rattle.hwp_script_lines.specs.declared.ScriptLine.TheVariants as forms
+use Rattle.hwp_script_lines.specs.declared.Command.{Command}
+use Rattle.hwp_script_lines.specs.declared.Go.{Go}
+use Rattle.hwp_script_read.specs.Context.{command_of, commands_in, place_after}
+use Rattle.hwp_script_read.specs.Collects.{command_at, commands_from, commands_of}
+use Rattle.hwp_script_read.proofs.CollectLaws.{no_command, same_lists, same, other}
 use Rattle.hwp_script_print.specs.Text.{list_forms, numbered, go_row}
 
 -- one part of the lines after another
-commands_from-append : (p : Option ℕ) (c : ℕ) (xs ys : List Form) → commands_from p c (xs ++ ys) ≡ commands_from p c xs ++ commands_from (fold place_after p xs) c ys
+commands_from-append : (p : Option ℕ) (c : ℕ) (xs ys : List ScriptLine) → commands_from p c (xs ++ ys) ≡ commands_from p c xs ++ commands_from (fold place_after p xs) c ys
 commands_from-append p c [] ys = refl
 commands_from-append p c (x ∷ xs) ys =
     ap (λ t. option_to_list (command_at p c x) ++ t) (commands_from-append (place_after p x) c xs ys)
     ∙ sym (append_assoc (option_to_list (command_at p c x)) (commands_from (place_after p x) c xs) (commands_from (fold place_after (place_after p x) xs) c ys))
 
 -- lines that are no commands
-none_of : (f : Form) (o : Option Command) (rest : List Command) → command_of f ≡ o → length (cons_option o rest) ≡ 0 → (command_of f ≡ None) × (length rest ≡ 0)
+none_of : (f : ScriptLine) (o : Option Command) (rest : List Command) → command_of f ≡ o → length (cons_option o rest) ≡ 0 → (command_of f ≡ None) × (length rest ≡ 0)
 none_of f None rest e h = (e, h)
 none_of f (Some x) rest e h = absurd (omega (arith, h))
 
-pub none_from : (p : Option ℕ) (c : ℕ) (xs : List Form) → commands_in xs ≡ 0 → commands_from p c xs ≡ []
+pub none_from : (p : Option ℕ) (c : ℕ) (xs : List ScriptLine) → commands_in xs ≡ 0 → commands_from p c xs ≡ []
 none_from p c [] h = refl
 none_from p c (x ∷ xs) h =
     let parts = none_of x (command_of x) (filter_map command_of xs) refl h in
@@ -81,7 +81,7 @@ lists_back p m (list ∷ lists) =
     cc
 
 -- the commands of a processor, where the lists stand between lines that have none
-pub between : (c : ℕ) (front : List Form) (lists : List (List Command)) (go : List Go) (n : ℕ) → commands_in front ≡ 0
+pub between : (c : ℕ) (front : List ScriptLine) (lists : List (List Command)) (go : List Go) (n : ℕ) → commands_in front ≡ 0
     → commands_of (front ++ numbered list_forms 0 lists ++ map (go_row go) (range_with_len 0 n) ++ forms.End ∷ []) c
     ≡ commands_from (fold place_after None front) c (numbered list_forms 0 lists)
 between c front lists go n h =

@@ -1,3 +1,4 @@
+mod PrintLaws
 pub mod PutLaws
 pub mod WordsPut
 pub mod ReadBack

@@ -14,14 +14,14 @@ use Rattle.hwp_geom.specs.declared.ThreadDecl.{ThreadDecl}
 use Rattle.hwp_geom.specs.declared.TransDecl.{TransDecl}
 use Rattle.hwp_geom.specs.declared.PageKind.{PageKind}
 use Rattle.hwp_geom.specs.declared.PageKind.TheVariants as kinds
-use Rattle.hwp_form.specs.Grammar.{CommandFits, IsAccessWithin}
-use Rattle.hwp_form.specs.declared.Form.{Form}
-use Rattle.hwp_form.specs.declared.Form.TheVariants as forms
-use Rattle.hwp_form.specs.declared.Command.{Command}
-use Rattle.hwp_form.specs.declared.Command.TheVariants as commands
-use Rattle.hwp_script.specs.Context.{cpus_in, frames_in, files_in, threads_in, pages_in, trans_in, lists_in, commands_in, place_in}
-use Rattle.hwp_script.specs.Reasons.{IsClean, IsForeign, IsNoFilePage, IsNoAnonPage, IsUndeclared, IsElsewhere, actor}
-use Rattle.hwp_script.specs.Valid.{IsThreadOf, IsAccess, IsFile, IsAnon, IsCommandOf, AreLists, HasWords}
+use Rattle.hwp_script_lines.specs.Grammar.{CommandFits, IsAccessWithin}
+use Rattle.hwp_script_lines.specs.declared.ScriptLine.{ScriptLine}
+use Rattle.hwp_script_lines.specs.declared.ScriptLine.TheVariants as forms
+use Rattle.hwp_script_lines.specs.declared.Command.{Command}
+use Rattle.hwp_script_lines.specs.declared.Command.TheVariants as commands
+use Rattle.hwp_script_read.specs.Context.{cpus_in, frames_in, files_in, threads_in, pages_in, trans_in, lists_in, commands_in, place_in}
+use Rattle.hwp_script_read.specs.Reasons.{IsClean, IsForeign, IsNoFilePage, IsNoAnonPage, IsUndeclared, IsElsewhere, actor}
+use Rattle.hwp_script_read.specs.Valid.{IsThreadOf, IsAccess, IsFile, IsAnon, IsCommandOf, AreLists, HasWords}
 use Rattle.hwp_script_print.specs.Text.{list_forms, numbered}
 use Rattle.hwp_script_print.proofs.CleanPut.{put_cpu, put_command}
 use Rattle.hwp_script_print.proofs.Sections.{Known, IsMade, made_push, made_then, made_nil, placed, plain}
@@ -36,7 +36,7 @@ pub record IsLaidOut (k : Known) (l : Layout) : Type 0 where
   pub pages : k.pages ≡ l.pages
   pub trans : k.trans ≡ l.trans
 
-pub record AreAbove (fs : List Form) (l : Layout) : Type 0 where
+pub record AreAbove (fs : List ScriptLine) (l : Layout) : Type 0 where
   pub cpus : cpus_in fs ≡ l.cpus
   pub frames : frames_in fs ≡ l.frames
   pub files : files_in fs ≡ l.files
@@ -44,7 +44,7 @@ pub record AreAbove (fs : List Form) (l : Layout) : Type 0 where
   pub pages : pages_in fs ≡ l.pages
   pub trans : trans_in fs ≡ l.trans
 
-above_made : {fs : List Form} {g : ℕ} {k : Known} {l : Layout} → IsMade fs g k → IsLaidOut k l → AreAbove fs l
+above_made : {fs : List ScriptLine} {g : ℕ} {k : Known} {l : Layout} → IsMade fs g k → IsLaidOut k l → AreAbove fs l
 above_made {fs} {g} {k} {l} h laid = record {
   cpus = ap (λ (x : Known). x.cpus) h.same ∙ laid.cpus;
   frames = ap (λ (x : Known). x.frames) h.same ∙ laid.frames;
@@ -80,11 +80,11 @@ not_foreign c None p h e = absurd h
 not_foreign c (Some t) None h e = absurd h.1
 not_foreign c (Some t) (Some w) h e = e (sym (ap (λ q. q.0) h.1))
 
-access_named : {fs : List Form} {l : Layout} (c : ℕ) (t : Thread) (v : VSlot) → AreAbove fs l → IsAccess l c t v
+access_named : {fs : List ScriptLine} {l : Layout} (c : ℕ) (t : Thread) (v : VSlot) → AreAbove fs l → IsAccess l c t v
     → IsForeign (slice_get (threads_in fs) t.0) (slice_get (trans_in fs) v.0) → ⊥
 access_named {fs} {l} c t v a h e = not_foreign c (slice_get l.threads t.0) (slice_get l.trans v.0) h (rw (a.threads, a.trans) at e)
 
-thread_named : {fs : List Form} {l : Layout} (c : ℕ) (t : Thread) → AreAbove fs l → IsThreadOf l c t → length (threads_in fs) ≤ t.0 → ⊥
+thread_named : {fs : List ScriptLine} {l : Layout} (c : ℕ) (t : Thread) → AreAbove fs l → IsThreadOf l c t → length (threads_in fs) ≤ t.0 → ⊥
 thread_named {fs} {l} c t a h e = omega (arith, some_within (IsOn c) l.threads t.0 h, ap length a.threads, e)
 
 is_file_page : (o : Option PageKind) → IsSomeAnd o IsFile → IsNoFilePage o → ⊥
@@ -97,10 +97,10 @@ is_anon_page None h e = absurd h
 is_anon_page (Some kinds.Anon) h e = e
 is_anon_page (Some (kinds.File n x)) h e = absurd h
 
-frame_named : {fs : List Form} {l : Layout} (f : ℕ) → AreAbove fs l → f < l.frames → frames_in fs ≤ f → ⊥
+frame_named : {fs : List ScriptLine} {l : Layout} (f : ℕ) → AreAbove fs l → f < l.frames → frames_in fs ≤ f → ⊥
 frame_named {fs} {l} f a h e = omega (arith, a.frames, h, e)
 
-not_undeclared : {fs : List Form} {l : Layout} (c : ℕ) (cmd : Command) → AreAbove fs l → IsCommandOf l c cmd → IsUndeclared fs cmd → ⊥
+not_undeclared : {fs : List ScriptLine} {l : Layout} (c : ℕ) (cmd : Command) → AreAbove fs l → IsCommandOf l c cmd → IsUndeclared fs cmd → ⊥
 not_undeclared c (commands.Load t v x) a h e = access_named c t v a h.0 e
 not_undeclared c (commands.Fetch t v x) a h e = access_named c t v a h.0 e
 not_undeclared c (commands.KLoad t v x) a h e = access_named c t v a h.0 e
@@ -174,7 +174,7 @@ command_fits l c (commands.Soft f) s h w = below f.0 l.frames frame_limit h s.fr
 command_fits l c (commands.Unpoison f) s h w = below f.0 l.frames frame_limit h s.frames
 
 -- the commands of a list
-pub made_commands : {fs : List Form} (k : Known) (l : Layout) (c n : ℕ) (cmds : List Command) → IsMade fs 11 (record k { commands = n }) → IsLaidOut k l → 0 < k.cpus → 0 < k.frames
+pub made_commands : {fs : List ScriptLine} (k : Known) (l : Layout) (c n : ℕ) (cmds : List Command) → IsMade fs 11 (record k { commands = n }) → IsLaidOut k l → 0 < k.cpus → 0 < k.frames
     → k.place ≡ Some c → All (IsCommandOf l c) cmds → All HasWords cmds → n + length cmds ≤ command_limit
     → IsMade (fs ++ map forms.Command cmds) 11 (record k { commands = n + length cmds })
 made_commands k l c n [] h laid some_c some_f here own words few = let e : n + zero ≡ n = omega arith in rw e (made_nil h)
@@ -199,7 +199,7 @@ abbrev pub placed_at : Option ℕ → ℕ → List (List Command) → Option ℕ
 placed_at p m [] = p
 placed_at p m (list ∷ lists) = placed_at (Some m) (m + 1) lists
 
-pub made_lists : {fs : List Form} (k : Known) (l : Layout) (done : List ℕ) (p : Option ℕ) (n m : ℕ) (lists : List (List Command))
+pub made_lists : {fs : List ScriptLine} (k : Known) (l : Layout) (done : List ℕ) (p : Option ℕ) (n m : ℕ) (lists : List (List Command))
     → IsMade fs 11 (record k { lists = done; place = p; commands = n }) → IsLaidOut k l → 0 < k.cpus → 0 < k.frames
     → All (λ i. i < m) done → m + length lists ≤ k.cpus → k.cpus ≤ cpu_limit → AreLists l m lists → All (All HasWords) lists → n + sum_by length lists ≤ command_limit
     → IsMade (fs ++ numbered list_forms m lists) 11 (record k { lists = done ++ range_with_len m (length lists); place = placed_at p m lists; commands = n + sum_by length lists })

@@ -4,30 +4,30 @@ use Rattle.std.proofs.lemmas.List.{take_more, length-take-le, take_all}
 use Rattle.std.proofs.lemmas.List.FromFn.{map-range_with_len_more}
 use Rattle.std.proofs.lemmas.List.Concat.{flat_map-append}
 use Rattle.hwp_geom.specs.Words.{line}
-use Rattle.hwp_form.specs.Grammar.{form_words}
-use Rattle.hwp_form_print.specs.Printed.{forms_text}
-use Rattle.hwp_form.specs.declared.Form.{Form}
-use Rattle.hwp_form.specs.declared.Form.TheVariants as forms
-use Rattle.hwp_script.specs.declared.Script.{Script}
+use Rattle.hwp_script_lines.specs.Grammar.{form_words}
+use Rattle.hwp_script_print.specs.Printed.{forms_text}
+use Rattle.hwp_script_lines.specs.declared.ScriptLine.{ScriptLine}
+use Rattle.hwp_script_lines.specs.declared.ScriptLine.TheVariants as forms
+use Rattle.hwp_script_read.specs.declared.Script.{Script}
 use Rattle.hwp_script_print.specs.Text.{numbered, counted, head_forms, kernel_forms, setting_forms, file_form, proc_form, thread_forms, page_forms, trans_forms, list_forms, go_row, rows_of, script_text}
 
-pub forms_text-append : (xs ys : List Form) → forms_text (xs ++ ys) ≡ forms_text xs ++ forms_text ys
+pub forms_text-append : (xs ys : List ScriptLine) → forms_text (xs ++ ys) ≡ forms_text xs ++ forms_text ys
 forms_text-append xs ys = flat_map-append (λ f. line (form_words f)) xs ys
 
 -- one text of lines after another
-pub put_more : (old now new : List ℕ) (xs ys : List Form) → now ≡ old ++ forms_text xs → new ≡ now ++ forms_text ys → new ≡ old ++ forms_text (xs ++ ys)
+pub put_more : (old now new : List ℕ) (xs ys : List ScriptLine) → now ≡ old ++ forms_text xs → new ≡ now ++ forms_text ys → new ≡ old ++ forms_text (xs ++ ys)
 put_more old now new xs ys e f =
     f ∙ ap (λ t. t ++ forms_text ys) e ∙ append_assoc old (forms_text xs) (forms_text ys) ∙ ap (λ t. old ++ t) (sym (forms_text-append xs ys))
 
 -- one line after a text of lines
-pub put_one : (old now new : List ℕ) (xs : List Form) (f : Form) → now ≡ old ++ forms_text xs → new ≡ now ++ line (form_words f) → new ≡ old ++ forms_text (xs ++ f ∷ [])
+pub put_one : (old now new : List ℕ) (xs : List ScriptLine) (f : ScriptLine) → now ≡ old ++ forms_text xs → new ≡ now ++ line (form_words f) → new ≡ old ++ forms_text (xs ++ f ∷ [])
 put_one old now new xs f e g = put_more old now new xs (f ∷ []) e (g ∙ ap (λ t. now ++ t) (sym (append-nil (line (form_words f)))))
 
 -- one line
-pub put_line : (old new : List ℕ) (f : Form) → new ≡ old ++ line (form_words f) → new ≡ old ++ forms_text (f ∷ [])
+pub put_line : (old new : List ℕ) (f : ScriptLine) → new ≡ old ++ line (form_words f) → new ≡ old ++ forms_text (f ∷ [])
 put_line old new f g = g ∙ ap (λ t. old ++ t) (sym (append-nil (line (form_words f))))
 
-numbered-push : {A : Type 0} (forms_of : ℕ → A → List Form) (n : ℕ) (xs : List A) (x : A)
+numbered-push : {A : Type 0} (forms_of : ℕ → A → List ScriptLine) (n : ℕ) (xs : List A) (x : A)
     → numbered forms_of n (xs ++ x ∷ []) ≡ numbered forms_of n xs ++ forms_of (n + length xs) x
 numbered-push forms_of n [] x = append-nil (forms_of n x) ∙ ap (λ k. forms_of k x) (sym (add-zero n))
 numbered-push forms_of n (y ∷ ys) x =
@@ -36,7 +36,7 @@ numbered-push forms_of n (y ∷ ys) x =
     ∙ ap (λ k. (forms_of n y ++ numbered forms_of (n + 1) ys) ++ forms_of k x) (omega arith)
 
 -- after the text of the items below i, the text of item i
-pub put_numbered : {A : Type 0} (forms_of : ℕ → A → List Form) (old now new : List ℕ) (xs : List A) (i : ℕ) (d x : A) → i < length xs
+pub put_numbered : {A : Type 0} (forms_of : ℕ → A → List ScriptLine) (old now new : List ℕ) (xs : List A) (i : ℕ) (d x : A) → i < length xs
     → now ≡ old ++ forms_text (numbered forms_of 0 (take i xs)) → new ≡ now ++ forms_text (forms_of i x) → x ≡ get_or xs i d
     → new ≡ old ++ forms_text (numbered forms_of 0 (take (i + 1) xs))
 put_numbered forms_of old now new xs i d x l e f is =
@@ -47,17 +47,17 @@ put_numbered forms_of old now new xs i d x l e f is =
     put_more old now new (numbered forms_of 0 (take i xs)) (forms_of i x) e f ∙ ap (λ fs. old ++ forms_text fs) (sym more)
 
 -- after the lines of the numbers below i, the line of i
-pub put_counted : (form_of : ℕ → Form) (old now new : List ℕ) (i : ℕ) → now ≡ old ++ forms_text (counted form_of i)
+pub put_counted : (form_of : ℕ → ScriptLine) (old now new : List ℕ) (i : ℕ) → now ≡ old ++ forms_text (counted form_of i)
     → new ≡ now ++ line (form_words (form_of i)) → new ≡ old ++ forms_text (counted form_of (i + 1))
 put_counted form_of old now new i e f =
     let more : counted form_of (i + 1) ≡ counted form_of i ++ form_of i ∷ [] =
     map-range_with_len_more form_of 0 i i (omega arith) in
     put_one old now new (counted form_of i) (form_of i) e f ∙ ap (λ fs. old ++ forms_text fs) (sym more)
 
-forms_text-one : (f : Form) → forms_text (f ∷ []) ≡ line (form_words f)
+forms_text-one : (f : ScriptLine) → forms_text (f ∷ []) ≡ line (form_words f)
 forms_text-one f = append-nil (line (form_words f))
 
-text_parts : (a b c d e f g h i j : List Form) (z : Form) → forms_text (a ++ b ++ c ++ d ++ e ++ f ++ g ++ h ++ i ++ j ++ z ∷ [])
+text_parts : (a b c d e f g h i j : List ScriptLine) (z : ScriptLine) → forms_text (a ++ b ++ c ++ d ++ e ++ f ++ g ++ h ++ i ++ j ++ z ∷ [])
     ≡ forms_text a ++ forms_text b ++ forms_text c ++ forms_text d ++ forms_text e ++ forms_text f ++ forms_text g ++ forms_text h ++ forms_text i ++ forms_text j ++ line (form_words z)
 text_parts a b c d e f g h i j z = simp (forms_text-append, forms_text-one)
 

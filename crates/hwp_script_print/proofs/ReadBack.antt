@@ -12,22 +12,22 @@ use Rattle.hwp_geom.specs.Words.{IsWord, IsLine, hex, pieces}
 use Rattle.hwp_geom.specs.Pairs.{Pairs}
 use Rattle.hwp_geom.proofs.Cuts.{joined, differs, none_is, pieces-line, cut-joined_line}
 use Rattle.hwp_geom.proofs.WordsPut.{IsHigh, IsPut, ArePut, put_word}
-use Rattle.hwp_form.specs.Kinds.{kind_text}
-use Rattle.hwp_form.specs.Numbers.{IsRegister, register}
-use Rattle.hwp_form.specs.Grammar.{rest_words, form_words, turn_text, until_text, turn_pieces, pieces_of, command_words, CommandFits, IsTurn, AreRestWords, AreCommandWords, IsForm}
-use Rattle.hwp_form.specs.Lines.{words_of, is_comment, is_skipped, numbered_from, IsNumbered, AreLinesOf}
-use Rattle.hwp_form_print.specs.Printed.{forms_text}
-use Rattle.hwp_form.specs.declared.Form.{Form}
-use Rattle.hwp_form.specs.declared.Command.{Command}
-use Rattle.hwp_form.specs.declared.Go.{Go}
-use Rattle.hwp_form.specs.declared.Until.{Until}
-use Rattle.hwp_form.specs.declared.Numbered.{Numbered}
-use Rattle.hwp_form.specs.declared.Form.TheVariants as forms
-use Rattle.hwp_form.specs.declared.Command.TheVariants as commands
-use Rattle.hwp_form.specs.declared.Until.TheVariants as untils
-use Rattle.hwp_form.specs.declared.LineRead.TheVariants as reads
-use Rattle.hwp_form.proofs.CommandLaws.{low}
-use Rattle.hwp_script.specs.Refusals.{AreForms}
+use Rattle.hwp_script_lines.specs.Kinds.{kind_text}
+use Rattle.hwp_script_lines.specs.Numbers.{IsRegister, register}
+use Rattle.hwp_script_lines.specs.Grammar.{rest_words, form_words, turn_text, until_text, turn_pieces, pieces_of, command_words, CommandFits, IsTurn, AreRestWords, AreCommandWords, IsForm}
+use Rattle.hwp_script_lines.specs.Lines.{words_of, is_comment, is_skipped, numbered_from, IsNumbered, AreLinesOf}
+use Rattle.hwp_script_print.specs.Printed.{forms_text}
+use Rattle.hwp_script_lines.specs.declared.ScriptLine.{ScriptLine}
+use Rattle.hwp_script_lines.specs.declared.Command.{Command}
+use Rattle.hwp_script_lines.specs.declared.Go.{Go}
+use Rattle.hwp_script_lines.specs.declared.Until.{Until}
+use Rattle.hwp_script_lines.specs.declared.Numbered.{Numbered}
+use Rattle.hwp_script_lines.specs.declared.ScriptLine.TheVariants as forms
+use Rattle.hwp_script_lines.specs.declared.Command.TheVariants as commands
+use Rattle.hwp_script_lines.specs.declared.Until.TheVariants as untils
+use Rattle.hwp_script_lines.specs.declared.LineRead.TheVariants as reads
+use Rattle.hwp_script_lines.proofs.CommandLaws.{low}
+use Rattle.hwp_script_read.specs.Refusals.{AreForms}
 use Rattle.hwp_script_print.proofs.WordsPut.{IsNoAt, IsWhole, put_words, no_at-decimal, no_at-kind}
 
 -- a word of the schedule, cut at `@`
@@ -80,12 +80,12 @@ command_put : (c : Command) → CommandFits c → AreCommandWords (command_words
 command_put (commands.Log s a m) h = record { three = refl; status = register_put s h.0; addr = register_put a h.1; misc = register_put m h.2 }
 command_put c h = refl
 
-rest_put : (f : Form) → IsWhole f → AreRestWords (rest_words f) f
+rest_put : (f : ScriptLine) → IsWhole f → AreRestWords (rest_words f) f
 rest_put (forms.Command c) h = command_put c h.fits
 rest_put (forms.Schedule ts) h = turns_put ts h.turns
 rest_put f h = refl
 
-form_put : (f : Form) → IsWhole f → IsForm (form_words f) f
+form_put : (f : ScriptLine) → IsWhole f → IsForm (form_words f) f
 form_put f h = record { rest = rest_words f; same = refl; is = record { kind = refl; fits = h.fits; same = rest_put f h } }
 
 -- the words of a line are all that stands between its spaces
@@ -126,11 +126,11 @@ put_line w ws h =
     }
 
 -- the lines of these forms, counted from n
-abbrev pub lines_at : ℕ → List Form → List Numbered
+abbrev pub lines_at : ℕ → List ScriptLine → List Numbered
 lines_at n [] = []
-lines_at n (f ∷ fs) = record { line = n; read = reads.Form f } ∷ lines_at (n + 1) fs
+lines_at n (f ∷ fs) = record { line = n; read = reads.ScriptLine f } ∷ lines_at (n + 1) fs
 
-lines_put : (n : ℕ) (fs : List Form) → All IsWhole fs → Pairs IsNumbered (numbered_from n (pieces (forms_text fs))) (lines_at n fs)
+lines_put : (n : ℕ) (fs : List ScriptLine) → All IsWhole fs → Pairs IsNumbered (numbered_from n (pieces (forms_text fs))) (lines_at n fs)
 lines_put n [] h = tt
 lines_put n (f ∷ fs) h =
     let whole = All-head IsWhole f fs h in
@@ -141,9 +141,9 @@ lines_put n (f ∷ fs) h =
     (record { number = refl; read = form_put f whole }, lines_put (n + 1) fs (All-tail IsWhole f fs h))
 
 -- a text of lines is read as these lines
-pub text_read : (fs : List Form) → All IsWhole fs → AreLinesOf (forms_text fs) (lines_at 1 fs)
+pub text_read : (fs : List ScriptLine) → All IsWhole fs → AreLinesOf (forms_text fs) (lines_at 1 fs)
 text_read fs h = record { each = lines_put 1 fs h }
 
-pub forms_read : (n : ℕ) (fs : List Form) → AreForms (lines_at n fs) fs
+pub forms_read : (n : ℕ) (fs : List ScriptLine) → AreForms (lines_at n fs) fs
 forms_read n [] = record { same = refl }
-forms_read n (f ∷ fs) = record { same = ap (λ t. reads.Form f ∷ t) (forms_read (n + 1) fs).same }
+forms_read n (f ∷ fs) = record { same = ap (λ t. reads.ScriptLine f ∷ t) (forms_read (n + 1) fs).same }

@@ -9,15 +9,15 @@ use Rattle.hwp_geom.specs.Layout.{IsSound, IsBacked}
 use Rattle.hwp_geom.specs.declared.Layout.{Layout}
 use Rattle.hwp_geom.specs.declared.PageKind.{PageKind}
 use Rattle.hwp_geom.specs.declared.PageKind.TheVariants as kinds
-use Rattle.hwp_form.specs.declared.Form.{Form}
-use Rattle.hwp_form.specs.declared.Form.TheVariants as forms
-use Rattle.hwp_script.specs.declared.Script.{Script}
-use Rattle.hwp_script.specs.Context.{cpus_in, commands_in, place_after}
-use Rattle.hwp_script.specs.Collects.{Collects, IsEnded, commands_of, commands_from}
-use Rattle.hwp_script.specs.Limits.{script_limit}
-use Rattle.hwp_script.specs.Reads.{Reads}
-use Rattle.hwp_script.specs.Valid.{IsValid, HasFill}
-use Rattle.hwp_script.proofs.CleanLists.{slice_get-append_at}
+use Rattle.hwp_script_lines.specs.declared.ScriptLine.{ScriptLine}
+use Rattle.hwp_script_lines.specs.declared.ScriptLine.TheVariants as forms
+use Rattle.hwp_script_read.specs.declared.Script.{Script}
+use Rattle.hwp_script_read.specs.Context.{cpus_in, commands_in, place_after}
+use Rattle.hwp_script_read.specs.Collects.{Collects, IsEnded, commands_of, commands_from}
+use Rattle.hwp_script_read.specs.Limits.{script_limit}
+use Rattle.hwp_script_read.specs.Reads.{Reads}
+use Rattle.hwp_script_read.specs.Valid.{IsValid, HasFill}
+use Rattle.hwp_script_read.proofs.CleanLists.{slice_get-append_at}
 use Rattle.hwp_script_print.specs.Text.{numbered, counted, head_forms, kernel_forms, setting_forms, file_form, proc_form, thread_forms, page_forms, trans_forms, list_forms, go_row, rows_of, script_forms, script_text}
 use Rattle.hwp_script_print.specs.Round.{IsTextOf}
 use Rattle.hwp_script_print.proofs.CleanPut.{put_end}
@@ -26,10 +26,10 @@ use Rattle.hwp_script_print.proofs.Sections.{Known, IsMade, nothing, marked, Has
 use Rattle.hwp_script_print.proofs.ListsPut.{made_lists, placed_at}
 use Rattle.hwp_script_print.proofs.RowsPut.{made_rows}
 use Rattle.hwp_script_print.proofs.CommandsBack.{lists_back, between}
-use Rattle.hwp_script.proofs.OneScript.{one_script}
+use Rattle.hwp_script_read.proofs.OneScript.{one_script}
 
 -- the lines of the declarations
-abbrev layout_forms : Layout → List Form
+abbrev layout_forms : Layout → List ScriptLine
 layout_forms l =
     head_forms l.cpus l.frames ++ numbered kernel_forms 0 l.kernel ++ setting_forms l.recovery l.early ++ counted file_form l.files
     ++ counted proc_form l.procs ++ numbered thread_forms 0 l.threads ++ numbered page_forms 0 l.pages ++ numbered trans_forms 0 l.trans
@@ -163,7 +163,7 @@ script_back s v =
       go = sym (ap (λ (x : Known). x.go) made.same);
     }
 
-ended : (fs : List Form) → IsEnded (fs ++ forms.End ∷ [])
+ended : (fs : List ScriptLine) → IsEnded (fs ++ forms.End ∷ [])
 ended fs = let at : length (fs ++ forms.End ∷ []) - 1 ≡ length fs = omega (arith, length_push fs forms.End) in rw at (slice_get-append_at fs forms.End)
 
 reads_back : (s : Script) → IsValid s → length (script_text s) ≤ script_limit → Reads (script_text s) s

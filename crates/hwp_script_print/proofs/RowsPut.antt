@@ -5,11 +5,11 @@ use Rattle.std.specs.List.{range_with_len}
 use Rattle.std.proofs.lemmas.List.{length-take, length-drop}
 use Rattle.std.proofs.lemmas.List.Elements.{All-head, All-tail, All-take, All-drop, All-weaker}
 use Rattle.hwp_geom.specs.Limits.{cpu_limit}
-use Rattle.hwp_form.specs.declared.Form.{Form}
-use Rattle.hwp_form.specs.declared.Go.{Go}
-use Rattle.hwp_script.specs.Limits.{schedule_limit}
-use Rattle.hwp_script.specs.Context.{cpus_in, go_in}
-use Rattle.hwp_script.specs.Reasons.{IsClean, top_cpu}
+use Rattle.hwp_script_lines.specs.declared.ScriptLine.{ScriptLine}
+use Rattle.hwp_script_lines.specs.declared.Go.{Go}
+use Rattle.hwp_script_read.specs.Limits.{schedule_limit}
+use Rattle.hwp_script_read.specs.Context.{cpus_in, go_in}
+use Rattle.hwp_script_read.specs.Reasons.{IsClean, top_cpu}
 use Rattle.hwp_script_print.specs.Text.{go_row, rows_of}
 use Rattle.hwp_script_print.proofs.WordsPut.{IsWhole}
 use Rattle.hwp_script_print.proofs.CleanPut.{put_schedule}
@@ -48,7 +48,7 @@ abbrev pub placed_rows : Option ℕ → ℕ → Option ℕ
 placed_rows p zero = p
 placed_rows p (suc n) = placed_rows None n
 
-pub made_rows : {fs : List Form} (k : Known) (go : List Go) (p : Option ℕ) (i n : ℕ) → IsMade fs 12 (record k { place = p; go = take (i * 50) go })
+pub made_rows : {fs : List ScriptLine} (k : Known) (go : List Go) (p : Option ℕ) (i n : ℕ) → IsMade fs 12 (record k { place = p; go = take (i * 50) go })
     → 0 < k.cpus → 0 < k.frames → k.cpus ≤ cpu_limit → All (IsGoBelow k.cpus) go → length go ≤ schedule_limit → i + n ≤ rows_of (length go)
     → IsMade (fs ++ map (go_row go) (range_with_len i n)) 12 (record k { place = placed_rows p n; go = take ((i + n) * 50) go })
 made_rows k go p i zero h some_c some_f few_c own few l = let e : i + zero ≡ i = omega arith in rw e (made_nil h)

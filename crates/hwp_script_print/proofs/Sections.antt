@@ -9,17 +9,17 @@ use Rattle.hwp_geom.specs.declared.ThreadDecl.{ThreadDecl}
 use Rattle.hwp_geom.specs.declared.TransDecl.{TransDecl}
 use Rattle.hwp_geom.specs.declared.PageKind.{PageKind}
 use Rattle.hwp_geom.specs.declared.PageKind.TheVariants as kinds
-use Rattle.hwp_form.specs.declared.Form.{Form}
-use Rattle.hwp_form.specs.declared.Go.{Go}
-use Rattle.hwp_form.specs.declared.Form.TheVariants as forms
-use Rattle.hwp_script.specs.Context.{cpus_of, frames_of, kernel_of, recovery_of, early_of, file_of, proc_of, thread_of, page_of, trans_of, cpu_of, command_of, words_of, kind_of, cpus_in, frames_in, kernel_in, recovery_in, early_in, files_in, procs_in, threads_in, pages_in, trans_in, lists_in, commands_in, go_in, place_in, place_after, group, highest}
-use Rattle.hwp_script.specs.Reasons.{IsClean, AreClean, IsBackingOver, IsBackingUndeclared}
-use Rattle.hwp_script.proofs.ContextLaws.{onto, plus, more, either, pushed}
-use Rattle.hwp_script.proofs.CleanLaws.{IsPlaced}
-use Rattle.hwp_script.proofs.CleanLists.{AreClean-none, AreClean-push}
-use Rattle.hwp_script.proofs.ValidLaws.{IsNamedThread, IsNamedTrans}
+use Rattle.hwp_script_lines.specs.declared.ScriptLine.{ScriptLine}
+use Rattle.hwp_script_lines.specs.declared.Go.{Go}
+use Rattle.hwp_script_lines.specs.declared.ScriptLine.TheVariants as forms
+use Rattle.hwp_script_read.specs.Context.{cpus_of, frames_of, kernel_of, recovery_of, early_of, file_of, proc_of, thread_of, page_of, trans_of, cpu_of, command_of, words_of, kind_of, cpus_in, frames_in, kernel_in, recovery_in, early_in, files_in, procs_in, threads_in, pages_in, trans_in, lists_in, commands_in, go_in, place_in, place_after, group, highest}
+use Rattle.hwp_script_read.specs.Reasons.{IsClean, AreClean, IsBackingOver, IsBackingUndeclared}
+use Rattle.hwp_script_read.proofs.ContextLaws.{onto, plus, more, either, pushed}
+use Rattle.hwp_script_read.proofs.CleanLaws.{IsPlaced}
+use Rattle.hwp_script_read.proofs.CleanLists.{AreClean-none, AreClean-push}
+use Rattle.hwp_script_read.proofs.ValidLaws.{IsNamedThread, IsNamedTrans}
 use Rattle.hwp_script_print.specs.Text.{backing_of, numbered, head_forms, kernel_forms, setting_forms, file_form, proc_form, thread_forms, page_forms, trans_forms}
-use Rattle.hwp_form.specs.Grammar.{bit, Fits}
+use Rattle.hwp_script_lines.specs.Grammar.{bit, Fits}
 use Rattle.hwp_script_print.proofs.WordsPut.{IsWhole}
 use Rattle.hwp_script_print.proofs.CleanPut.{put_header, put_cpus, put_frames, put_kernel, put_recovery, put_early, put_file, put_proc, put_thread, put_page, put_trans}
 
@@ -40,7 +40,7 @@ pub record Known : Type 0 where
   pub commands : ℕ
   pub go : List Go
 
-abbrev pub known : List Form → Known
+abbrev pub known : List ScriptLine → Known
 known fs = record {
   cpus = cpus_in fs;
   frames = frames_in fs;
@@ -67,7 +67,7 @@ go_more-is xs [] = sym (append-nil xs)
 go_more-is xs (w ∷ ws) = refl
 
 -- what they declare with one more
-abbrev pub next : Known → Form → Known
+abbrev pub next : Known → ScriptLine → Known
 next k f = record {
   cpus = plus (cpus_of f) k.cpus;
   frames = plus (frames_of f) k.frames;
@@ -85,13 +85,13 @@ next k f = record {
   go = go_more k.go (words_of f);
 }
 
-known_push : (fs : List Form) (f : Form) → known (fs ++ f ∷ []) ≡ next (known fs) f
+known_push : (fs : List ScriptLine) (f : ScriptLine) → known (fs ++ f ∷ []) ≡ next (known fs) f
 known_push fs f =
     let p = pushed fs f in
     rw (p.cpus, p.frames, p.kernel, p.recovery, p.early, p.files, p.procs, p.threads, p.pages, p.trans, p.lists, p.place, p.commands, p.go, go_more-is) refl
 
 -- the lines are clean, of groups up to g, and declare this
-pub record IsMade (fs : List Form) (g : ℕ) (k : Known) : Type 0 where
+pub record IsMade (fs : List ScriptLine) (g : ℕ) (k : Known) : Type 0 where
   pub some : 0 < length fs
   pub clean : AreClean fs
   pub late : highest fs ≤ g
@@ -99,10 +99,10 @@ pub record IsMade (fs : List Form) (g : ℕ) (k : Known) : Type 0 where
   pub same : known fs ≡ k
 
 -- a line that is none of the schedule
-pub plain : {f : Form} → Fits f → words_of f ≡ [] → IsWhole f
+pub plain : {f : ScriptLine} → Fits f → words_of f ≡ [] → IsWhole f
 plain {f} h e = record { fits = h; turns = rw e (All-nil (λ (t : Go). t.cpu.0 < cpu_limit)) }
 
-pub made_push : {fs : List Form} {g : ℕ} {k : Known} (f : Form) → IsMade fs g k → group f ≤ g → IsWhole f → IsClean fs f → IsMade (fs ++ f ∷ []) g (next k f)
+pub made_push : {fs : List ScriptLine} {g : ℕ} {k : Known} (f : ScriptLine) → IsMade fs g k → group f ≤ g → IsWhole f → IsClean fs f → IsMade (fs ++ f ∷ []) g (next k f)
 made_push {fs} {g} {k} f h l w c = record {
   some = omega (arith, length_push fs f);
   clean = AreClean-push fs f h.clean c;
@@ -111,16 +111,16 @@ made_push {fs} {g} {k} f h l w c = record {
   same = known_push fs f ∙ ap (λ x. next x f) h.same;
 }
 
-pub made_later : {fs : List Form} {g : ℕ} {k : Known} (h : ℕ) → IsMade fs g k → g ≤ h → IsMade fs h k
+pub made_later : {fs : List ScriptLine} {g : ℕ} {k : Known} (h : ℕ) → IsMade fs g k → g ≤ h → IsMade fs h k
 made_later h made l = record { some = made.some; clean = made.clean; late = omega (arith, made.late, l); whole = made.whole; same = made.same }
 
-pub made_then : {g : ℕ} {k : Known} (fs : List Form) (f : Form) (rest : List Form) → IsMade ((fs ++ f ∷ []) ++ rest) g k → IsMade (fs ++ f ∷ rest) g k
+pub made_then : {g : ℕ} {k : Known} (fs : List ScriptLine) (f : ScriptLine) (rest : List ScriptLine) → IsMade ((fs ++ f ∷ []) ++ rest) g k → IsMade (fs ++ f ∷ rest) g k
 made_then {g} {k} fs f rest h = subst (λ xs. IsMade xs g k) (append_assoc fs (f ∷ []) rest) h
 
-pub made_nil : {fs : List Form} {g : ℕ} {k : Known} → IsMade fs g k → IsMade (fs ++ []) g k
+pub made_nil : {fs : List ScriptLine} {g : ℕ} {k : Known} → IsMade fs g k → IsMade (fs ++ []) g k
 made_nil {fs} h = rw append-nil h
 
-pub placed : {fs : List Form} {g : ℕ} {k : Known} → IsMade fs g k → 0 < k.cpus → 0 < k.frames → IsPlaced fs g
+pub placed : {fs : List ScriptLine} {g : ℕ} {k : Known} → IsMade fs g k → 0 < k.cpus → 0 < k.frames → IsPlaced fs g
 placed {fs} {g} {k} h c f =
     let cpus : cpus_in fs ≡ k.cpus = ap (λ (x : Known). x.cpus) h.same in
     let frames : frames_in fs ≡ k.frames = ap (λ (x : Known). x.frames) h.same in
@@ -162,7 +162,7 @@ marked n [] = []
 marked n (true ∷ bs) = n ∷ marked (n + 1) bs
 marked n (false ∷ bs) = marked (n + 1) bs
 
-pub made_kernel : {fs : List Form} (k : Known) (done : List ℕ) (n : ℕ) (bs : List Bool) → IsMade fs 3 (record k { kernel = done }) → 0 < k.cpus → 0 < k.frames → k.frames ≤ 256
+pub made_kernel : {fs : List ScriptLine} (k : Known) (done : List ℕ) (n : ℕ) (bs : List Bool) → IsMade fs 3 (record k { kernel = done }) → 0 < k.cpus → 0 < k.frames → k.frames ≤ 256
     → All (λ m. m < n) done → n + length bs ≤ k.frames → IsMade (fs ++ numbered kernel_forms n bs) 3 (record k { kernel = done ++ marked n bs })
 made_kernel k done n [] h c f few low l = rw (append-nil done) (made_nil h)
 made_kernel k done n (false ∷ bs) h c f few low l =
@@ -185,7 +185,7 @@ pub bit_is : (b : Bool) → (bit b == 1) ≡ b
 bit_is true = refl
 bit_is false = refl
 
-pub made_settings : {fs : List Form} (k : Known) (recovery early : Bool) → IsMade fs 5 (record k { recovery = None; early = None }) → highest fs ≤ 3 → 0 < k.cpus → 0 < k.frames
+pub made_settings : {fs : List ScriptLine} (k : Known) (recovery early : Bool) → IsMade fs 5 (record k { recovery = None; early = None }) → highest fs ≤ 3 → 0 < k.cpus → 0 < k.frames
     → IsMade (fs ++ setting_forms recovery early) 5 (record k { recovery = Some recovery; early = Some early })
 made_settings {fs} k recovery early h low c f =
     let first : IsMade fs 4 (record k { recovery = None; early = None }) = record { some = h.some; clean = h.clean; late = omega (arith, low); whole = h.whole; same = h.same } in
@@ -197,7 +197,7 @@ made_settings {fs} k recovery early h low c f =
     rw (bit_is recovery, bit_is early) at (made_then fs (forms.Recovery (bit recovery)) (forms.Early (bit early) ∷ []) two)
 
 -- the files and the processes
-pub made_files : {fs : List Form} (k : Known) (m n : ℕ) → IsMade fs 6 (record k { files = m }) → 0 < k.cpus → 0 < k.frames → m + n ≤ 16
+pub made_files : {fs : List ScriptLine} (k : Known) (m n : ℕ) → IsMade fs 6 (record k { files = m }) → 0 < k.cpus → 0 < k.frames → m + n ≤ 16
     → IsMade (fs ++ map file_form (range_with_len m n)) 6 (record k { files = m + n })
 made_files k m zero h c f l = let e : m + zero ≡ m = omega arith in rw e (made_nil h)
 made_files {fs} k m (suc n) h c f l =
@@ -205,7 +205,7 @@ made_files {fs} k m (suc n) h c f l =
     let e : m + suc n ≡ (m + 1) + n = omega arith in
     rw e (made_then fs (forms.File m) (map file_form (range_with_len (m + 1) n)) (made_files k (m + 1) n (made_push (forms.File m) h (omega arith) (plain (omega arith) refl) clean) c f (omega arith)))
 
-pub made_procs : {fs : List Form} (k : Known) (m n : ℕ) → IsMade fs 7 (record k { procs = m }) → 0 < k.cpus → 0 < k.frames → m + n ≤ 16
+pub made_procs : {fs : List ScriptLine} (k : Known) (m n : ℕ) → IsMade fs 7 (record k { procs = m }) → 0 < k.cpus → 0 < k.frames → m + n ≤ 16
     → IsMade (fs ++ map proc_form (range_with_len m n)) 7 (record k { procs = m + n })
 made_procs k m zero h c f l = let e : m + zero ≡ m = omega arith in rw e (made_nil h)
 made_procs {fs} k m (suc n) h c f l =
@@ -214,7 +214,7 @@ made_procs {fs} k m (suc n) h c f l =
     rw e (made_then fs (forms.Proc m) (map proc_form (range_with_len (m + 1) n)) (made_procs k (m + 1) n (made_push (forms.Proc m) h (omega arith) (plain (omega arith) refl) clean) c f (omega arith)))
 
 -- the threads, the pages and the translations
-pub made_threads : {fs : List Form} (k : Known) (done ts : List ThreadDecl) → IsMade fs 8 (record k { threads = done }) → 0 < k.cpus → 0 < k.frames
+pub made_threads : {fs : List ScriptLine} (k : Known) (done ts : List ThreadDecl) → IsMade fs 8 (record k { threads = done }) → 0 < k.cpus → 0 < k.frames
     → k.cpus ≤ 8 → k.procs ≤ 16 → length done + length ts ≤ 32 → All (IsNamedThread k.procs k.cpus) ts
     → IsMade (fs ++ numbered thread_forms (length done) ts) 8 (record k { threads = done ++ ts })
 made_threads k done [] h c f few_c few_p l names = rw (append-nil done) (made_nil h)
@@ -249,7 +249,7 @@ no_over : (n : ℕ) (kind : PageKind) → HasFile n kind → n ≤ 16 → IsBack
 no_over n kinds.Anon h l e = e
 no_over n (kinds.File file fill) h l e = let big : 16 ≤ file.0 = e in omega (arith, h.0, big)
 
-no_undeclared : (fs : List Form) (n : ℕ) (kind : PageKind) → HasFile n kind → files_in fs ≡ n → IsBackingUndeclared fs (backing_of kind) → ⊥
+no_undeclared : (fs : List ScriptLine) (n : ℕ) (kind : PageKind) → HasFile n kind → files_in fs ≡ n → IsBackingUndeclared fs (backing_of kind) → ⊥
 no_undeclared fs n kinds.Anon h same e = e
 no_undeclared fs n (kinds.File file fill) h same e = omega (arith, h.0, e)
 
@@ -257,7 +257,7 @@ page_fits : (n q : ℕ) (kind : PageKind) → HasFile n kind → n ≤ 16 → q 
 page_fits n q kinds.Anon h l low = low
 page_fits n q (kinds.File file fill) h l low = (low, omega (arith, h.0), h.1)
 
-pub made_pages : {fs : List Form} (k : Known) (done qs : List PageKind) → IsMade fs 9 (record k { pages = done }) → 0 < k.cpus → 0 < k.frames
+pub made_pages : {fs : List ScriptLine} (k : Known) (done qs : List PageKind) → IsMade fs 9 (record k { pages = done }) → 0 < k.cpus → 0 < k.frames
     → k.files ≤ 16 → length done + length qs ≤ 256 → All (HasFile k.files) qs
     → IsMade (fs ++ numbered page_forms (length done) qs) 9 (record k { pages = done ++ qs })
 made_pages k done [] h c f few l files = rw (append-nil done) (made_nil h)
@@ -276,7 +276,7 @@ made_pages {fs} k done (q ∷ qs) h c f few l files =
     let rest = made_pages k (done ++ q ∷ []) qs made c f few (rw length_push (omega arith)) (All-tail (HasFile k.files) q qs files) in
     made_then fs (forms.Page (length done) (backing_of q)) (numbered page_forms (length done + 1) qs) (rw (length_push, append_assoc done (q ∷ []) qs) at rest)
 
-pub made_trans : {fs : List Form} (k : Known) (done vs : List TransDecl) → IsMade fs 10 (record k { trans = done }) → 0 < k.cpus → 0 < k.frames
+pub made_trans : {fs : List ScriptLine} (k : Known) (done vs : List TransDecl) → IsMade fs 10 (record k { trans = done }) → 0 < k.cpus → 0 < k.frames
     → k.procs ≤ 16 → length k.pages ≤ 256 → length done + length vs ≤ 512 → All (IsNamedTrans k.procs (length k.pages)) vs
     → IsMade (fs ++ numbered trans_forms (length done) vs) 10 (record k { trans = done ++ vs })
 made_trans k done [] h c f few_p few_q l names = rw (append-nil done) (made_nil h)

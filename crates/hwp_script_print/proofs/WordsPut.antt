@@ -12,19 +12,19 @@ use Rattle.hwp_geom.specs.Words.{hex}
 use Rattle.hwp_geom.specs.declared.Kind.{Kind}
 use Rattle.hwp_geom.specs.declared.Kind.TheVariants as kinds
 use Rattle.hwp_geom.proofs.WordsPut.{IsHigh, IsPut, ArePut, put_append, put_decimal, put_hex, are_fixed, fixed_high, fixed, then, nothing}
-use Rattle.hwp_form.specs.Kinds.{kind_text}
-use Rattle.hwp_form.specs.Numbers.{register}
-use Rattle.hwp_form.specs.Grammar.{bit, keyword, keyword_text, command_words, rest_words, form_words, handler_text, turn_text, until_text, Fits, CommandFits}
-use Rattle.hwp_script.specs.Context.{words_of as turns_in}
-use Rattle.hwp_form.specs.declared.Form.{Form}
-use Rattle.hwp_form.specs.declared.Command.{Command}
-use Rattle.hwp_form.specs.declared.Go.{Go}
-use Rattle.hwp_form.specs.declared.Until.{Until}
-use Rattle.hwp_form.specs.declared.Form.TheVariants as forms
-use Rattle.hwp_form.specs.declared.Command.TheVariants as commands
-use Rattle.hwp_form.specs.declared.Backing.TheVariants as backings
-use Rattle.hwp_form.specs.declared.Until.TheVariants as untils
-use Rattle.hwp_form.proofs.CommandLaws.{bit_low, low}
+use Rattle.hwp_script_lines.specs.Kinds.{kind_text}
+use Rattle.hwp_script_lines.specs.Numbers.{register}
+use Rattle.hwp_script_lines.specs.Grammar.{bit, keyword, keyword_text, command_words, rest_words, form_words, handler_text, turn_text, until_text, Fits, CommandFits}
+use Rattle.hwp_script_read.specs.Context.{words_of as turns_in}
+use Rattle.hwp_script_lines.specs.declared.ScriptLine.{ScriptLine}
+use Rattle.hwp_script_lines.specs.declared.Command.{Command}
+use Rattle.hwp_script_lines.specs.declared.Go.{Go}
+use Rattle.hwp_script_lines.specs.declared.Until.{Until}
+use Rattle.hwp_script_lines.specs.declared.ScriptLine.TheVariants as forms
+use Rattle.hwp_script_lines.specs.declared.Command.TheVariants as commands
+use Rattle.hwp_script_lines.specs.declared.Backing.TheVariants as backings
+use Rattle.hwp_script_lines.specs.declared.Until.TheVariants as untils
+use Rattle.hwp_script_lines.proofs.CommandLaws.{bit_low, low}
 
 -- not `@`
 abbrev pub IsNoAt : ℕ → Type 0
@@ -58,7 +58,7 @@ pub put_register : (n : ℕ) → n < 2 ^ 64 → IsPut (register n)
 put_register n h = put_append (hex n) (fixed 48 (120 ∷ []) refl) (put_hex n h).high
 
 -- the first word of a line
-put_first : (f : Form) → IsPut (keyword_text (keyword f))
+put_first : (f : ScriptLine) → IsPut (keyword_text (keyword f))
 put_first forms.Header = fixed _ _ refl
 put_first forms.End = fixed _ _ refl
 put_first (forms.Cpus n) = fixed _ _ refl
@@ -181,11 +181,11 @@ put_command (commands.RaiseKernel r e) h = then (fixed _ _ refl) (then (put_deci
 put_command commands.RaiseNested h = then (fixed _ _ refl) nothing
 
 -- the numbers of a line fit, also in words of the schedule
-pub record IsWhole (f : Form) : Type 0 where
+pub record IsWhole (f : ScriptLine) : Type 0 where
   pub fits : Fits f
   pub turns : All (λ (t : Go). t.cpu.0 < cpu_limit) (turns_in f)
 
-put_rest : (f : Form) → Fits f → All (λ (t : Go). t.cpu.0 < cpu_limit) (turns_in f) → ArePut (rest_words f)
+put_rest : (f : ScriptLine) → Fits f → All (λ (t : Go). t.cpu.0 < cpu_limit) (turns_in f) → ArePut (rest_words f)
 put_rest forms.Header h k = then (fixed _ _ refl) nothing
 put_rest (forms.Cpus n) h k = then (put_decimal n h) nothing
 put_rest (forms.Frames n) h k = then (put_decimal n h) nothing
@@ -203,5 +203,5 @@ put_rest (forms.Command c) h k = put_command c h
 put_rest (forms.Schedule ts) h k = put_turns ts k
 put_rest forms.End h k = nothing
 
-pub put_words : (f : Form) → IsWhole f → ArePut (form_words f)
+pub put_words : (f : ScriptLine) → IsWhole f → ArePut (form_words f)
 put_words f h = then (put_first f) (put_rest f h.fits h.turns)

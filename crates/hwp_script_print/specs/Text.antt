@@ -5,15 +5,15 @@ use Rattle.hwp_geom.specs.declared.PageKind.{PageKind}
 use Rattle.hwp_geom.specs.declared.ThreadDecl.{ThreadDecl}
 use Rattle.hwp_geom.specs.declared.TransDecl.{TransDecl}
 use Rattle.hwp_geom.specs.declared.PageKind.TheVariants as kinds
-use Rattle.hwp_form.specs.Grammar.{bit}
-use Rattle.hwp_form_print.specs.Printed.{forms_text}
-use Rattle.hwp_form.specs.declared.Form.{Form}
-use Rattle.hwp_form.specs.declared.Command.{Command}
-use Rattle.hwp_form.specs.declared.Backing.{Backing}
-use Rattle.hwp_form.specs.declared.Go.{Go}
-use Rattle.hwp_form.specs.declared.Form.TheVariants as forms
-use Rattle.hwp_form.specs.declared.Backing.TheVariants as backings
-use Rattle.hwp_script.specs.declared.Script.{Script}
+use Rattle.hwp_script_lines.specs.Grammar.{bit}
+use Rattle.hwp_script_print.specs.Printed.{forms_text}
+use Rattle.hwp_script_lines.specs.declared.ScriptLine.{ScriptLine}
+use Rattle.hwp_script_lines.specs.declared.Command.{Command}
+use Rattle.hwp_script_lines.specs.declared.Backing.{Backing}
+use Rattle.hwp_script_lines.specs.declared.Go.{Go}
+use Rattle.hwp_script_lines.specs.declared.ScriptLine.TheVariants as forms
+use Rattle.hwp_script_lines.specs.declared.Backing.TheVariants as backings
+use Rattle.hwp_script_read.specs.declared.Script.{Script}
 
 -- what stands behind a page, with its numbers
 abbrev pub backing_of : PageKind → Backing
@@ -21,49 +21,49 @@ backing_of kinds.Anon = backings.Anon
 backing_of (kinds.File n x) = backings.File n.0 x
 
 -- the lines of each item of a list, with its number, counted from n
-abbrev pub numbered : {A : Type 0} → (ℕ → A → List Form) → ℕ → List A → List Form
+abbrev pub numbered : {A : Type 0} → (ℕ → A → List ScriptLine) → ℕ → List A → List ScriptLine
 numbered forms_of n [] = []
 numbered forms_of n (x ∷ xs) = forms_of n x ++ numbered forms_of (n + 1) xs
 
 -- a line for each number below n
-abbrev pub counted : (ℕ → Form) → ℕ → List Form
+abbrev pub counted : (ℕ → ScriptLine) → ℕ → List ScriptLine
 counted form_of n = map form_of (range_with_len 0 n)
 
 -- the header, and the numbers of processors and frames
-abbrev pub head_forms : ℕ → ℕ → List Form
+abbrev pub head_forms : ℕ → ℕ → List ScriptLine
 head_forms cpus frames = forms.Header ∷ forms.Cpus cpus ∷ forms.Frames frames ∷ []
 
 -- a line for a frame of the kernel
-abbrev pub kernel_forms : ℕ → Bool → List Form
+abbrev pub kernel_forms : ℕ → Bool → List ScriptLine
 kernel_forms n true = forms.Kernel n ∷ []
 kernel_forms n false = []
 
 -- both settings
-abbrev pub setting_forms : Bool → Bool → List Form
+abbrev pub setting_forms : Bool → Bool → List ScriptLine
 setting_forms recovery early = forms.Recovery (bit recovery) ∷ forms.Early (bit early) ∷ []
 
 -- a file
-abbrev pub file_form : ℕ → Form
+abbrev pub file_form : ℕ → ScriptLine
 file_form n = forms.File n
 
 -- a process
-abbrev pub proc_form : ℕ → Form
+abbrev pub proc_form : ℕ → ScriptLine
 proc_form n = forms.Proc n
 
 -- a thread
-abbrev pub thread_forms : ℕ → ThreadDecl → List Form
+abbrev pub thread_forms : ℕ → ThreadDecl → List ScriptLine
 thread_forms n t = forms.Thread n t.process.0 t.cpu.0 t.handler ∷ []
 
 -- a page
-abbrev pub page_forms : ℕ → PageKind → List Form
+abbrev pub page_forms : ℕ → PageKind → List ScriptLine
 page_forms n kind = forms.Page n (backing_of kind) ∷ []
 
 -- a translation
-abbrev pub trans_forms : ℕ → TransDecl → List Form
+abbrev pub trans_forms : ℕ → TransDecl → List ScriptLine
 trans_forms n t = forms.Trans n t.process.0 t.page.0 ∷ []
 
 -- a processor and its commands
-abbrev pub list_forms : ℕ → List Command → List Form
+abbrev pub list_forms : ℕ → List Command → List ScriptLine
 list_forms n cmds = forms.Cpu n ∷ map forms.Command cmds
 
 -- how many lines a schedule of n words has: 50 words stand on a line
@@ -71,11 +71,11 @@ abbrev pub rows_of : ℕ → ℕ
 rows_of n = (n + 49) / 50
 
 -- a line of the schedule
-abbrev pub go_row : List Go → ℕ → Form
+abbrev pub go_row : List Go → ℕ → ScriptLine
 go_row go i = forms.Schedule (take 50 (drop (i * 50) go))
 
 -- the lines of a script, in the order of their groups
-abbrev pub script_forms : Script → List Form
+abbrev pub script_forms : Script → List ScriptLine
 script_forms s =
     head_forms s.layout.cpus s.layout.frames
     ++ numbered kernel_forms 0 s.layout.kernel

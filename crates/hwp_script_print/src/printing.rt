@@ -1,16 +1,16 @@
 ghost use Rattle.std.specs.Prelude.{◌≡◌, ◌∷◌, ◌++◌, [], Bool, OnOk, IfOk, length, take, drop, ◌<◌, ◌≤◌, ◌+◌, ◌*◌, ◌⊎◌, string_bytes};
 ghost use Rattle.hwp_geom.specs.Words.{line};
-ghost use Rattle.hwp_form.specs.Grammar.{form_words};
-ghost use Rattle.hwp_form_print.specs.Printed.{forms_text};
-ghost use Rattle.hwp_script.specs.Limits.{script_limit};
-ghost use Rattle.hwp_script.specs.Valid.{IsValid};
+ghost use Rattle.hwp_script_lines.specs.Grammar.{form_words};
+ghost use Rattle.hwp_script_print.specs.Printed.{forms_text};
+ghost use Rattle.hwp_script_read.specs.Limits.{script_limit};
+ghost use Rattle.hwp_script_read.specs.Valid.{IsValid};
 ghost use Rattle.hwp_script_print.specs.Round.{IsTextOf};
 ghost use Rattle.hwp_script_print.specs.Text.{backing_of, head_forms, kernel_forms, setting_forms, thread_forms, page_forms, trans_forms, list_forms, go_row, numbered, counted, file_form, proc_form, rows_of, script_text};
 
-use hwp_form::{Backing, Form};
-use hwp_form_print::put_form;
+use crate::put_form;
 use hwp_geom::{List, OutOfMemory, PageKind, Text, ThreadDecl, TransDecl};
-use hwp_script::{Command, Go, Script};
+use hwp_script_lines::{Backing, ScriptLine};
+use hwp_script_read::{Command, Go, Script};
 use std::alloc::Global;
 
 /// How many words of the schedule stand on a line.
@@ -34,16 +34,16 @@ pub fn print(alloc: Global, script: &Script) -> Result<Text, OutOfMemory>
     put_trans(&mut out, layout.trans.as_slice())?;
     put_lists(&mut out, script.lists.as_slice())?;
     put_schedule(alloc, &mut out, script.go.as_slice())?;
-    put_form(&mut out, &Form::End)?;
+    put_form(&mut out, &ScriptLine::End)?;
     Ok(Text::from_string(out))
 }
 
 fn put_head(out: &mut String, cpus: u8, frames: u16) -> Result<(), OutOfMemory>
     ensures { OnOk result (string_bytes out.new ≡ string_bytes out.old ++ forms_text (head_forms cpus frames)) }
 {
-    put_form(out, &Form::Header)?;
-    put_form(out, &Form::Cpus(u64::from(cpus)))?;
-    put_form(out, &Form::Frames(u64::from(frames)))?;
+    put_form(out, &ScriptLine::Header)?;
+    put_form(out, &ScriptLine::Cpus(u64::from(cpus)))?;
+    put_form(out, &ScriptLine::Frames(u64::from(frames)))?;
     Ok(())
 }
 
@@ -60,7 +60,7 @@ fn put_mark(out: &mut String, number: usize, is_kernel: bool) -> Result<(), OutO
     ensures { OnOk result (string_bytes out.new ≡ string_bytes out.old ++ forms_text (kernel_forms number is_kernel)) }
 {
     if is_kernel {
-        put_form(out, &Form::Kernel(number as u64))?;
+        put_form(out, &ScriptLine::Kernel(number as u64))?;
     }
     Ok(())
 }
@@ -68,8 +68,8 @@ fn put_mark(out: &mut String, number: usize, is_kernel: bool) -> Result<(), OutO
 fn put_settings(out: &mut String, recovery: bool, early: bool) -> Result<(), OutOfMemory>
     ensures { OnOk result (string_bytes out.new ≡ string_bytes out.old ++ forms_text (setting_forms recovery early)) }
 {
-    put_form(out, &Form::Recovery(u64::from(recovery)))?;
-    put_form(out, &Form::Early(u64::from(early)))?;
+    put_form(out, &ScriptLine::Recovery(u64::from(recovery)))?;
+    put_form(out, &ScriptLine::Early(u64::from(early)))?;
     Ok(())
 }
 
@@ -77,7 +77,7 @@ fn put_files(out: &mut String, count: u8) -> Result<(), OutOfMemory>
     ensures { OnOk result (string_bytes out.new ≡ string_bytes out.old ++ forms_text (counted file_form count)) }
 {
     for file in 0..count {
-        put_form(out, &Form::File(u64::from(file)))?;
+        put_form(out, &ScriptLine::File(u64::from(file)))?;
     }
     Ok(())
 }
@@ -86,7 +86,7 @@ fn put_procs(out: &mut String, count: u8) -> Result<(), OutOfMemory>
     ensures { OnOk result (string_bytes out.new ≡ string_bytes out.old ++ forms_text (counted proc_form count)) }
 {
     for process in 0..count {
-        put_form(out, &Form::Proc(u64::from(process)))?;
+        put_form(out, &ScriptLine::Proc(u64::from(process)))?;
     }
     Ok(())
 }
@@ -103,7 +103,7 @@ fn put_threads(out: &mut String, threads: &[ThreadDecl]) -> Result<(), OutOfMemo
 fn put_thread(out: &mut String, number: usize, thread: ThreadDecl) -> Result<(), OutOfMemory>
     ensures { OnOk result (string_bytes out.new ≡ string_bytes out.old ++ forms_text (thread_forms number thread)) }
 {
-    let form = Form::Thread {
+    let form = ScriptLine::Thread {
         thread: number as u64,
         process: u64::from(thread.process.0),
         cpu: u64::from(thread.cpu.0),
@@ -138,7 +138,7 @@ fn put_pages(out: &mut String, pages: &[PageKind]) -> Result<(), OutOfMemory>
 fn put_page(out: &mut String, number: usize, kind: PageKind) -> Result<(), OutOfMemory>
     ensures { OnOk result (string_bytes out.new ≡ string_bytes out.old ++ forms_text (page_forms number kind)) }
 {
-    let form = Form::Page {
+    let form = ScriptLine::Page {
         page: number as u64,
         backing: backing(kind),
     };
@@ -158,7 +158,7 @@ fn put_trans(out: &mut String, trans: &[TransDecl]) -> Result<(), OutOfMemory>
 fn put_slot(out: &mut String, number: usize, slot: TransDecl) -> Result<(), OutOfMemory>
     ensures { OnOk result (string_bytes out.new ≡ string_bytes out.old ++ forms_text (trans_forms number slot)) }
 {
-    let form = Form::Trans {
+    let form = ScriptLine::Trans {
         slot: number as u64,
         process: u64::from(slot.process.0),
         page: u64::from(slot.page.0),
@@ -179,9 +179,9 @@ fn put_lists(out: &mut String, lists: &[List<Command>]) -> Result<(), OutOfMemor
 fn put_list(out: &mut String, number: usize, commands: &[Command]) -> Result<(), OutOfMemory>
     ensures { OnOk result (string_bytes out.new ≡ string_bytes out.old ++ forms_text (list_forms number commands.now)) }
 {
-    put_form(out, &Form::Cpu(number as u64))?;
+    put_form(out, &ScriptLine::Cpu(number as u64))?;
     for command in commands {
-        put_form(out, &Form::Command(*command))?;
+        put_form(out, &ScriptLine::Command(*command))?;
     }
     Ok(())
 }
@@ -211,7 +211,7 @@ fn put_row(alloc: Global, out: &mut String, go: &[Go], row: usize) -> Result<(),
     requires { row < rows_of (length go.now) }
     ensures { OnOk result (string_bytes out.new ≡ string_bytes out.old ++ line (form_words (go_row go.now row))) }
 {
-    let form = Form::Schedule(List::from_vec(row_of(go, row).to_vec(alloc)?));
+    let form = ScriptLine::Schedule(List::from_vec(row_of(go, row).to_vec(alloc)?));
     put_form(out, &form)?;
     Ok(())
 }

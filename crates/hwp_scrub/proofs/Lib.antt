@@ -1,4 +1,5 @@
-pub mod Visiting
-pub mod Scrubbing
+pub mod VisitLaws
+pub mod ScrubLaws
 pub mod ScrubRank
-pub mod Adding
+pub mod ScrubAdds
+pub use Rattle.hwp_cpu_check.proofs as of_hwp_cpu_check

@@ -8,37 +8,37 @@ use Rattle.hwp_geom.specs.declared.Layout.{Layout}
 use Rattle.hwp_banks.specs.declared.Origin.TheVariants as origins
 use Rattle.hwp_banks.specs.Events.{bank_count, bank_of}
 use Rattle.hwp_words.specs.Stops.{is_stopped}
-use Rattle.hwp_rule.specs.declared.Place.TheVariants as places
-use Rattle.hwp_rule.specs.declared.State.{State}
-use Rattle.hwp_rule.specs.declared.Step.{Step}
-use Rattle.hwp_rule.specs.declared.Step.TheVariants as steps
-use Rattle.hwp_rule.specs.declared.View.{View}
-use Rattle.hwp_rule.specs.Moves.{Move}
-use Rattle.hwp_rule.specs.Rule.{Holds}
-use Rattle.hwp_rule.specs.Lasting.{IsMild, LeavesPoison}
-use Rattle.hwp_rule.specs.Words.{Words}
-use Rattle.hwp_step.specs.declared.Turn.{Turn}
-use Rattle.hwp_step.specs.Boards.{view_of}
-use Rattle.hwp_step.specs.Calls.{logs, rec_of}
-use Rattle.hwp_step.specs.Classes.{TellsClass}
-use Rattle.hwp_step.specs.Hands.{hand_of, empty}
-use Rattle.hwp_step.specs.Ranks.{CostFalls, HasFailed, HasFrame, HasPage, IsRanked, Made, Member, OtherHand, Pending, Quiet, failure_weight, failures_left, is_refused, is_waits, member, top, words_at}
-use Rattle.hwp_step.proofs.Ranking.{part-made, pending-kept}
-use Rattle.hwp_hold.proofs.Telling.{no-frame, no-page}
-use Rattle.hwp_fail.specs.Fails as fails
-use Rattle.hwp_fail.proofs.FailRank.{fail-small}
-use Rattle.hwp_law.specs.Checks.{Banks, has_stop}
-use Rattle.hwp_handler.specs.declared.Handler.{Handler}
-use Rattle.hwp_handler.specs.declared.Told.{Told}
-use Rattle.hwp_handler.specs.declared.handler.HandlerAt.{HandlerAt}
-use Rattle.hwp_handler.specs.declared.handler.HandlerAt.TheVariants as handler_at
-use Rattle.hwp_handler.specs.Events.{held_in}
-use Rattle.hwp_handler.specs.Fits as handler_fits
-use Rattle.hwp_handler.specs.Fits.{events_of}
-use Rattle.hwp_handler.specs.Handlers as handlers
-use Rattle.hwp_handler.proofs.Grading.{found-in}
-use Rattle.hwp_handler.proofs.HandlerRank.{handler-lasting, handler-member, handler-ranked, handler-tells}
-use Rattle.hwp_handler.proofs.Telling.{tell-cost, tell-idle}
+use Rattle.hwp_core_rule.specs.declared.SharedWord.TheVariants as places
+use Rattle.hwp_core_rule.specs.declared.State.{State}
+use Rattle.hwp_core_rule.specs.declared.Step.{Step}
+use Rattle.hwp_core_rule.specs.declared.Step.TheVariants as steps
+use Rattle.hwp_core_rule.specs.declared.View.{View}
+use Rattle.hwp_core_rule.specs.Moves.{Move}
+use Rattle.hwp_core_rule.specs.Rule.{Holds}
+use Rattle.hwp_core_rule.specs.Lasting.{IsMild, LeavesPoison}
+use Rattle.hwp_core_rule.specs.Words.{Words}
+use Rattle.hwp_core_task.specs.declared.Turn.{Turn}
+use Rattle.hwp_core_task.specs.Boards.{view_of}
+use Rattle.hwp_core_task.specs.Calls.{logs, rec_of}
+use Rattle.hwp_core_task.specs.Classes.{TellsClass}
+use Rattle.hwp_core_task.specs.Hands.{hand_of, empty}
+use Rattle.hwp_core_task.specs.Ranks.{CostFalls, HasFailed, HasFrame, HasPage, IsRanked, Made, Member, OtherHand, Pending, Quiet, failure_weight, failures_left, is_refused, is_waits, member, top, words_at}
+use Rattle.hwp_core_task.proofs.StepRanks.{part-made, pending-kept}
+use Rattle.hwp_cpu_check.proofs.of_hwp_core.TaskTells.{no-frame, no-page}
+use Rattle.hwp_cpu_check.specs.hwp_claim.Fails as fails
+use Rattle.hwp_cpu_check.proofs.of_hwp_claim.FailRank.{fail-small}
+use Rattle.hwp_cpu_check.specs.hwp_law.Checks.{Banks, has_stop}
+use Rattle.hwp_cpu_check.specs.declared.Handler.{Handler}
+use Rattle.hwp_cpu_check.specs.declared.EventOutcome.{EventOutcome}
+use Rattle.hwp_cpu_check.specs.declared.handler.HandlerAt.{HandlerAt}
+use Rattle.hwp_cpu_check.specs.declared.handler.HandlerAt.TheVariants as handler_at
+use Rattle.hwp_cpu_check.specs.Events.{held_in}
+use Rattle.hwp_cpu_check.specs.Fits as handler_fits
+use Rattle.hwp_cpu_check.specs.Fits.{events_of}
+use Rattle.hwp_cpu_check.specs.Handlers as handlers
+use Rattle.hwp_cpu_check.proofs.BankGrades.{found-in}
+use Rattle.hwp_cpu_check.proofs.HandlerRank.{handler-lasting, handler-member, handler-ranked, handler-tells}
+use Rattle.hwp_cpu_check.proofs.EventTells.{tell-cost, tell-idle}
 use Rattle.hwp_scrub.specs.Costs.{aborts, aborts_at, claims, claims_at, class, class_at, cost, cost_at, rest_cost}
 use Rattle.hwp_scrub.specs.Fits.{Fits, FitsAt}
 use Rattle.hwp_scrub.specs.Scrubs.{AfterBadBy, AfterWeakBy, BeginsCheck, Follows, FollowsAt, after_handler, after_handler_by, bare, bare_at, emptied, gone_on, handler_of, kept, plan, plan_at, put, put_at, with_room}
@@ -47,7 +47,7 @@ use Rattle.hwp_scrub.specs.declared.scrub.Scrub.{Scrub}
 use Rattle.hwp_scrub.specs.declared.scrub.ScrubAnswer.TheVariants as answers
 use Rattle.hwp_scrub.specs.declared.scrub.ScrubAt.{ScrubAt}
 use Rattle.hwp_scrub.specs.declared.scrub.ScrubAt.TheVariants as at
-use Rattle.hwp_scrub.proofs.Visiting.{left-banks}
+use Rattle.hwp_scrub.proofs.VisitLaws.{left-banks}
 
 abbrev pub scrub-member : Member Scrub
 scrub-member = member (λ s. s.who) plan put bare (λ layout s found got after result. Follows layout s found got after result) Fits class cost aborts claims
@@ -67,7 +67,7 @@ scrub-class s = which s.at
 
 handler-few : (h : Handler) (w : Words) → length (events_of h.events) ≤ bank_count → handlers.cost h w ≤ 8874
 handler-few h w few =
-    let all : length (events_of h.events) ≡ length (map (λ (t : Told). t.held) h.events.told) + length h.events.left = length-append (map (λ (t : Told). t.held) h.events.told) h.events.left in which h.at (omega (arith, all, few))
+    let all : length (events_of h.events) ≡ length (map (λ (t : EventOutcome). t.held) h.events.told) + length h.events.left = length-append (map (λ (t : EventOutcome). t.held) h.events.told) h.events.left in which h.at (omega (arith, all, few))
   where
     which : (x : HandlerAt) → length h.events.left ≤ 3 → handlers.cost_with (length h.events.left) x w ≤ 8874
     which handler_at.Stop left = omega arith

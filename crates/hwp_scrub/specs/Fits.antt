@@ -5,19 +5,19 @@ use Rattle.hwp_geom.specs.declared.Layout.{Layout}
 use Rattle.hwp_geom.specs.declared.Who.{Who}
 use Rattle.hwp_geom.specs.Layout.{IsSound}
 use Rattle.hwp_banks.specs.Events.{bank_count}
-use Rattle.hwp_rule.specs.declared.Made.{Made}
-use Rattle.hwp_rule.specs.declared.Place.TheVariants as places
-use Rattle.hwp_rule.specs.declared.View.{View}
-use Rattle.hwp_step.specs.Calls.{IsOnTurn}
-use Rattle.hwp_step.specs.Hands.{hand_of, empty}
-use Rattle.hwp_known.specs.Known.{HasMadeNone, HasOnly, SawStop, is_failure}
-use Rattle.hwp_law.specs.Checks.{Banks, empty_banks, has_stop}
-use Rattle.hwp_handler.specs.declared.Handler.{Handler}
-use Rattle.hwp_handler.specs.Events.{held_in}
-use Rattle.hwp_handler.specs.Fits as handler_fits
-use Rattle.hwp_handler.specs.Fits.{IsAtRest, IsStoppedIf, events_of}
-use Rattle.hwp_handler.specs.Handlers as handlers
-use Rattle.hwp_handler.specs.Told.{halts}
+use Rattle.hwp_core_rule.specs.declared.Made.{Made}
+use Rattle.hwp_core_rule.specs.declared.SharedWord.TheVariants as places
+use Rattle.hwp_core_rule.specs.declared.View.{View}
+use Rattle.hwp_core_task.specs.Calls.{IsOnTurn}
+use Rattle.hwp_core_task.specs.Hands.{hand_of, empty}
+use Rattle.hwp_core_task.specs.Known.{HasMadeNone, HasOnly, SawStop, is_failure}
+use Rattle.hwp_cpu_check.specs.hwp_law.Checks.{Banks, empty_banks, has_stop}
+use Rattle.hwp_cpu_check.specs.declared.Handler.{Handler}
+use Rattle.hwp_cpu_check.specs.Events.{held_in}
+use Rattle.hwp_cpu_check.specs.Fits as handler_fits
+use Rattle.hwp_cpu_check.specs.Fits.{IsAtRest, IsStoppedIf, events_of}
+use Rattle.hwp_cpu_check.specs.Handlers as handlers
+use Rattle.hwp_cpu_check.specs.Told.{halts}
 use Rattle.hwp_scrub.specs.Visits.{AreBanks, AreVisits, Find, IsBadFind, SawLowest, Visit, left_by, left_by_bad, lines_of, scrubbing, with_bad}
 use Rattle.hwp_scrub.specs.declared.scrub.Scrub.{Scrub}
 use Rattle.hwp_scrub.specs.declared.scrub.ScrubAnswer.{ScrubAnswer}

@@ -10,18 +10,18 @@ use Rattle.hwp_banks.specs.Events.{bank_count, own_event}
 use Rattle.hwp_banks.specs.Logged.{logged}
 use Rattle.hwp_page.specs.History.{BodyValue}
 use Rattle.hwp_words.specs.Stops.{is_stopped}
-use Rattle.hwp_rule.specs.declared.Place.TheVariants as places
-use Rattle.hwp_rule.specs.declared.Step.{Step}
-use Rattle.hwp_rule.specs.declared.Step.TheVariants as steps
-use Rattle.hwp_step.specs.declared.Turn.{Turn}
-use Rattle.hwp_step.specs.declared.Turn.TheVariants.{Moved, NoMemory}
-use Rattle.hwp_report.specs.declared.Acted.TheVariants as acts
-use Rattle.hwp_law.specs.Checks.{Banks, empty_banks}
-use Rattle.hwp_handler.specs.declared.Handler.{Handler}
-use Rattle.hwp_handler.specs.declared.Told.{Told}
-use Rattle.hwp_handler.specs.Events.{graded_in}
-use Rattle.hwp_handler.specs.Handlers as handlers
-use Rattle.hwp_handler.specs.Lines.{no_lines, with_lines}
+use Rattle.hwp_core_rule.specs.declared.SharedWord.TheVariants as places
+use Rattle.hwp_core_rule.specs.declared.Step.{Step}
+use Rattle.hwp_core_rule.specs.declared.Step.TheVariants as steps
+use Rattle.hwp_core_task.specs.declared.Turn.{Turn}
+use Rattle.hwp_core_task.specs.declared.Turn.TheVariants.{Moved, NoMemory}
+use Rattle.hwp_report_text.specs.declared.Acted.TheVariants as acts
+use Rattle.hwp_cpu_check.specs.hwp_law.Checks.{Banks, empty_banks}
+use Rattle.hwp_cpu_check.specs.declared.Handler.{Handler}
+use Rattle.hwp_cpu_check.specs.declared.EventOutcome.{EventOutcome}
+use Rattle.hwp_cpu_check.specs.Events.{graded_in}
+use Rattle.hwp_cpu_check.specs.Handlers as handlers
+use Rattle.hwp_cpu_check.specs.Lines.{no_lines, with_lines}
 use Rattle.hwp_scrub.specs.Visits.{IsLowest, scrub_bank, scrubbing, with_bad}
 use Rattle.hwp_scrub.specs.declared.scrub.Scrub.{Scrub}
 use Rattle.hwp_scrub.specs.declared.scrub.ScrubAnswer.{ScrubAnswer}
@@ -118,10 +118,10 @@ abbrev pub gone_on : Scrub → Frame → Scrub
 gone_on s frame = record s { at = cond (nat_lt frame.0 s.last.0) (at.LoadBad (record { 0 = frame.0 + 1 })) (at.Over (Some answers.Scrubbed)) }
 
 -- what the scrubber's bank holds with a weak line is kept on record, and taken out
-abbrev pub kept_line : Event → Told
+abbrev pub kept_line : Event → EventOutcome
 kept_line event = record { held = graded_in scrubbing (scrub_bank, event); acted = acts.Keep; found = None }
 
-abbrev pub kept_lines : Option Event → List Told
+abbrev pub kept_lines : Option Event → List EventOutcome
 kept_lines None = []
 kept_lines (Some event) = kept_line event ∷ []
 

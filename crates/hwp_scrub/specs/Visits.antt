@@ -8,23 +8,23 @@ use Rattle.hwp_geom.specs.Bits.{HasNoBitFrom, IsLowestBit}
 use Rattle.hwp_banks.specs.declared.Event.{Event}
 use Rattle.hwp_banks.specs.declared.Origin.TheVariants as origins
 use Rattle.hwp_banks.specs.Events.{bank_count, bank_of}
-use Rattle.hwp_rule.specs.declared.Place.{Place}
-use Rattle.hwp_rule.specs.declared.Place.TheVariants as places
-use Rattle.hwp_rule.specs.declared.View.{View}
-use Rattle.hwp_known.specs.Known.{Saw}
-use Rattle.hwp_law.specs.Checks.{Banks, empty_banks}
-use Rattle.hwp_law.specs.Commands.{Arrival}
-use Rattle.hwp_handler.specs.declared.Told.{Told}
-use Rattle.hwp_handler.specs.Checks.{IsActedOn, restarting, with_own}
-use Rattle.hwp_handler.specs.Events.{graded_in}
-use Rattle.hwp_handler.specs.Fits.{AreTold}
+use Rattle.hwp_core_rule.specs.declared.SharedWord.{SharedWord}
+use Rattle.hwp_core_rule.specs.declared.SharedWord.TheVariants as places
+use Rattle.hwp_core_rule.specs.declared.View.{View}
+use Rattle.hwp_core_task.specs.Known.{Saw}
+use Rattle.hwp_cpu_check.specs.hwp_law.Checks.{Banks, empty_banks}
+use Rattle.hwp_cpu_check.specs.hwp_law.Commands.{Arrival}
+use Rattle.hwp_cpu_check.specs.declared.EventOutcome.{EventOutcome}
+use Rattle.hwp_cpu_check.specs.Checks.{IsActedOn, restarting, with_own}
+use Rattle.hwp_cpu_check.specs.Events.{graded_in}
+use Rattle.hwp_cpu_check.specs.Fits.{AreTold}
 
 -- the lowest line that the word marks, if it marks one
 abbrev pub IsLowest : ℕ → Option ℕ → Type 0
 IsLowest word line = MatchOption line (HasNoBitFrom word 0) (IsLowestBit word 0)
 
 -- a step of the command showed the word at the place, and this is its lowest line
-pub record SawLowest (view : View) (who : Who) (place : Place) (line : Option ℕ) : Type 0 where
+pub record SawLowest (view : View) (who : Who) (place : SharedWord) (line : Option ℕ) : Type 0 where
   pub word : ℕ
   pub saw : Saw view who place word
   pub lowest : IsLowest word line
@@ -47,14 +47,14 @@ pub record AreBanks (banks : Banks) : Type 0 where
 -- what was found of one of a frame's two words: its lowest line, and what was done about events
 pub record Find : Type 0 where
   pub line : Option ℕ
-  pub lines : List Told
+  pub lines : List EventOutcome
 
 -- the banks with the event of a bad line
 abbrev pub with_bad : Frame → ℕ → Banks → Banks
 with_bad frame line banks = with_own origins.BadLine frame line banks
 
 -- a bad line is a machine check, which leaves the banks empty
-abbrev pub IsBadMet : Layout → View → Who → Frame → Banks → Option ℕ → List Told → Type 0
+abbrev pub IsBadMet : Layout → View → Who → Frame → Banks → Option ℕ → List EventOutcome → Type 0
 IsBadMet layout view who frame banks None lines = lines ≡ []
 IsBadMet layout view who frame banks (Some line) lines = IsActedOn layout view who None scrubbing (with_bad frame line banks) lines
 
@@ -67,13 +67,13 @@ pub record IsBadFind (layout : Layout) (view : View) (who : Who) (frame : Frame)
   pub met : IsBadMet layout view who frame banks f.line f.lines
 
 -- the event of a weak line is logged, and what the scrubber's bank holds then is told and taken out
-pub record IsKept (layout : Layout) (view : View) (who : Who) (frame : Frame) (banks : Banks) (line : ℕ) (lines : List Told) : Type 0 where
+pub record IsKept (layout : Layout) (view : View) (who : Who) (frame : Frame) (banks : Banks) (line : ℕ) (lines : List EventOutcome) : Type 0 where
   pub event : Event
   pub held : slice_get (with_own origins.WeakLine frame line banks) scrub_bank ≡ Some (Some event)
-  pub events : map (λ (t : Told). t.held) lines ≡ graded_in scrubbing (scrub_bank, event) ∷ []
+  pub events : map (λ (t : EventOutcome). t.held) lines ≡ graded_in scrubbing (scrub_bank, event) ∷ []
   pub told : AreTold layout view who None false lines
 
-abbrev pub IsWeakMet : Layout → View → Who → Frame → Banks → Option ℕ → List Told → Type 0
+abbrev pub IsWeakMet : Layout → View → Who → Frame → Banks → Option ℕ → List EventOutcome → Type 0
 IsWeakMet layout view who frame banks None lines = lines ≡ []
 IsWeakMet layout view who frame banks (Some line) lines = IsKept layout view who frame banks line lines
 
@@ -97,7 +97,7 @@ pub record IsVisit (layout : Layout) (view : View) (who : Who) (frame : Frame) (
 abbrev pub left_by_visit : Visit → Banks → Banks
 left_by_visit v banks = left_by_weak v.weak.line (left_by_bad v.bad.line banks)
 
-abbrev pub lines_of_visit : Visit → List Told
+abbrev pub lines_of_visit : Visit → List EventOutcome
 lines_of_visit v = v.bad.lines ++ v.weak.lines
 
 -- ---- frames in rising order
@@ -110,5 +110,5 @@ abbrev pub left_by : Banks → List Visit → Banks
 left_by banks [] = banks
 left_by banks (v ∷ vs) = left_by (left_by_visit v banks) vs
 
-abbrev pub lines_of : List Visit → List Told
+abbrev pub lines_of : List Visit → List EventOutcome
 lines_of visits = flat_map lines_of_visit visits

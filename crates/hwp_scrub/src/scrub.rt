@@ -1,18 +1,18 @@
 ghost use Rattle.std.specs.Prelude.{◌≡◌, ◌≤◌, length, MatchOption};
 ghost use Rattle.hwp_geom.specs.Bits.{HasNoBitFrom, IsLowestBit};
 ghost use Rattle.hwp_banks.specs.Events.{bank_count};
-ghost use Rattle.hwp_law.specs.Checks.{empty_banks};
+ghost use Rattle.hwp_cpu_check.specs.hwp_law.Checks.{empty_banks};
 ghost use Rattle.hwp_scrub.specs.Visits.{with_bad};
 ghost use Rattle.hwp_scrub.specs.Scrubs.{AfterBad, AfterWeak, BeginsCheck, MeetsWeak, after_handler, after_stop, answer, begin, gone_on, kept, kept_line};
 
 use hwp_banks::{BANKS, Bank, Event, Origin};
+use hwp_core_rule::{SharedWord, Step};
+use hwp_core_task::{Ranked, Scheduled, Task, Turn};
+use hwp_cpu_check::{EventOutcome, Handler, Held, ToldLines, no_events};
 use hwp_geom::{Frame, Layout, Line, List, Mode, Who, lowest_bit};
-use hwp_handler::{Handler, Held, Told, ToldLines, no_events};
 use hwp_page::Body;
-use hwp_report::Acted;
-use hwp_rule::{Place, Step};
+use hwp_report_text::Acted;
 use hwp_severity::{McgBits, grade};
-use hwp_step::{Machine, Ranked, Scheduled, Turn};
 use hwp_words::is_stopped;
 use std::alloc::Global;
 use std::mem;
@@ -92,23 +92,25 @@ impl Scrub {
     }
 
     /// What was done about the events that it met, in order.
-    pub fn told(&self) -> &[Told]
+    pub fn told(&self) -> &[EventOutcome]
         ensures { result.now ≡ self.now.lines.told }
     {
         self.lines.told()
     }
 
     /// The same as a list, and its processor's banks are put back, once it is over.
-    pub fn finish(self, banks: &mut [Bank; BANKS]) -> List<Told>
+    pub fn finish(self, banks: &mut [Bank; BANKS]) -> List<EventOutcome>
         ensures told { result ≡ self.lines.told }
         ensures banks { banks.new ≡ self.banks }
     {
         let Scrub {
             banks: left,
             lines,
+            at,
             ..
         } = self;
         *banks = left;
+        drop(at);
         lines.into_list()
     }
 
@@ -116,13 +118,21 @@ impl Scrub {
     fn after_stop(&mut self, found: u64)
         ensures { self.new ≡ after_stop self.old found }
     {
-        self.at = if is_stopped(found) {
+        let at = if is_stopped(found) {
             ScrubAt::Over {
                 answer: Some(ScrubAnswer::Stopped),
             }
         } else {
             ScrubAt::LoadBad { frame: self.first }
         };
+        self.set(at);
+    }
+
+    fn set(&mut self, at: ScrubAt)
+        ensures { self.new ≡ record self.old { at = at } }
+    {
+        // in one call, and not part by part
+        drop(mem::replace(&mut self.at, at));
     }
 
     /// What follows the word of the frame's bad lines.
@@ -131,7 +141,7 @@ impl Scrub {
     {
         match lowest_line(found) {
             Some(line) => self.check(layout, frame, line),
-            None => self.at = ScrubAt::LoadWeak { frame },
+            None => self.set(ScrubAt::LoadWeak { frame }),
         }
     }
 
@@ -141,7 +151,7 @@ impl Scrub {
         ensures { BeginsCheck layout.now self.old frame line self.new }
     {
         if self.lines.room().is_err() {
-            self.at = ScrubAt::GiveUp;
+            self.set(ScrubAt::GiveUp);
             return;
         }
         let banks = self.take_banks(frame, line);
@@ -173,17 +183,19 @@ impl Scrub {
         ensures { self.new ≡ after_handler self.old frame handler }
     {
         let Some(stopped) = handler.answer() else {
-            self.at = ScrubAt::Handle { frame, handler };
+            self.set(ScrubAt::Handle { frame, handler });
             return;
         };
         self.lines.append(handler.told());
-        self.at = if stopped {
+        drop(handler);
+        let at = if stopped {
             ScrubAt::Over {
                 answer: Some(ScrubAnswer::Stopped),
             }
         } else {
             ScrubAt::LoadWeak { frame }
         };
+        self.set(at);
     }
 
     /// What follows the word of the frame's weak lines.
@@ -201,7 +213,7 @@ impl Scrub {
         ensures { MeetsWeak self.old frame line self.new }
     {
         if self.lines.room().is_err() {
-            self.at = ScrubAt::GiveUp;
+            self.set(ScrubAt::GiveUp);
             return;
         }
         self.keep(frame, line);
@@ -224,7 +236,7 @@ impl Scrub {
     fn go_on(&mut self, frame: Frame)
         ensures { self.new ≡ gone_on self.old frame }
     {
-        self.at = if frame.0 < self.last.0 {
+        let at = if frame.0 < self.last.0 {
             ScrubAt::LoadBad {
                 frame: Frame(frame.0 + 1),
             }
@@ -233,6 +245,7 @@ impl Scrub {
                 answer: Some(ScrubAnswer::Scrubbed),
             }
         };
+        self.set(at);
     }
 }
 
@@ -247,10 +260,10 @@ fn lowest_line(word: u64) -> Option<Line>
 }
 
 /// What is told of the event that the scrubber's bank holds with a weak line: a corrected error, which is kept on record.
-fn kept_line(event: Event) -> Told
+fn kept_line(event: Event) -> EventOutcome
     ensures { result ≡ kept_line event }
 {
-    Told {
+    EventOutcome {
         held: Held {
             bank: Origin::WeakLine.bank() as u8,
             event,
@@ -261,7 +274,7 @@ fn kept_line(event: Event) -> Told
     }
 }
 
-impl Machine for Scrub {
+impl Task for Scrub {
     ghost use Rattle.hwp_scrub.specs.Scrubs.{Follows, Shows, bare, plan, put};
     ghost use Rattle.hwp_scrub.specs.Fits.{Fits};
 
@@ -285,13 +298,15 @@ impl Machine for Scrub {
 
     fn plan(&self) -> Option<Step> {
         match &self.at {
-            ScrubAt::LoadStop => Some(Step::Load { place: Place::Stop }),
+            ScrubAt::LoadStop => Some(Step::Load {
+                place: SharedWord::Stop,
+            }),
             ScrubAt::LoadBad { frame } => Some(Step::Load {
-                place: Place::Bad(*frame),
+                place: SharedWord::Bad(*frame),
             }),
             ScrubAt::Handle { handler, .. } => handler.plan(),
             ScrubAt::LoadWeak { frame } => Some(Step::Load {
-                place: Place::Weak(*frame),
+                place: SharedWord::Weak(*frame),
             }),
             ScrubAt::GiveUp => Some(Step::GiveUp),
             ScrubAt::Over { .. } => None,
@@ -310,12 +325,17 @@ impl Machine for Scrub {
     }
 
     fn settle(&mut self, layout: &Layout, found: u64, body: Option<Body>) -> Turn {
-        match mem::replace(&mut self.at, ScrubAt::Over { answer: None }) {
+        let at = mem::replace(&mut self.at, ScrubAt::Over { answer: None });
+        match at {
             ScrubAt::LoadStop => {
+                drop(at);
+                drop(body);
                 self.after_stop(found);
                 Turn::Moved
             }
             ScrubAt::LoadBad { frame } => {
+                drop(at);
+                drop(body);
                 self.after_bad(layout, frame, found);
                 Turn::Moved
             }
@@ -325,12 +345,20 @@ impl Machine for Scrub {
                 turn
             }
             ScrubAt::LoadWeak { frame } => {
+                drop(at);
+                drop(body);
                 self.after_weak(frame, found);
                 Turn::Moved
             }
-            ScrubAt::GiveUp => Turn::NoMemory,
+            ScrubAt::GiveUp => {
+                drop(at);
+                drop(body);
+                Turn::NoMemory
+            }
             ScrubAt::Over { answer } => {
-                self.at = ScrubAt::Over { answer };
+                drop(at);
+                drop(body);
+                self.set(ScrubAt::Over { answer });
                 Turn::Moved
             }
         }

@@ -1,1 +1,3 @@
 pub mod Graded
+pub mod Handling
+pub use Rattle.hwp_banks.specs as hwp_banks

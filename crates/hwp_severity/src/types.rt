@@ -1,5 +1,5 @@
 /// What is done about an event (this project's rule, with the Intel SDM's names for uncorrected recoverable errors).
-#[derive(Clone, Copy, Debug, PartialEq, Eq)]
+#[derive(Clone, Copy, PartialEq, Eq)]
 pub enum Severity {
     /// There is no event, or its reporting is not enabled.
     None,
@@ -18,7 +18,7 @@ pub enum Severity {
 }
 
 /// The severity of an event, and the row of the table that gave it, 1 to 14.
-#[derive(Clone, Copy, Debug, PartialEq, Eq)]
+#[derive(Clone, Copy, PartialEq, Eq)]
 pub struct Grade {
     pub severity: Severity,
     pub row: u8,
@@ -26,7 +26,7 @@ pub struct Grade {
 
 /// The bits RIPV (the program can be started again at the saved instruction) and EIPV (the saved instruction goes with
 /// the error) of IA32_MCG_STATUS (Intel SDM vol. 3).
-#[derive(Clone, Copy, Debug, PartialEq, Eq)]
+#[derive(Clone, Copy, PartialEq, Eq)]
 pub struct McgBits {
     pub ripv: bool,
     pub eipv: bool,

@@ -11,71 +11,71 @@ use Rattle.hwp_page.specs.declared.At.{At}
 use Rattle.hwp_page.specs.History.{BodyValue}
 use Rattle.hwp_words.specs.Frames.{cycle_of, is_poisoned}
 use Rattle.hwp_words.specs.Stops.{is_stopped}
-use Rattle.hwp_rule.specs.declared.State.{State}
-use Rattle.hwp_rule.specs.declared.Step.{Step}
-use Rattle.hwp_rule.specs.declared.Step.TheVariants as steps
-use Rattle.hwp_rule.specs.Moves.{Move}
-use Rattle.hwp_rule.specs.Rule.{Holds}
-use Rattle.hwp_rule.specs.Lasting.{IsMild}
-use Rattle.hwp_rule.specs.Words.{Words, free_words}
-use Rattle.hwp_step.specs.declared.Turn.{Turn}
-use Rattle.hwp_step.specs.declared.Turn.TheVariants.{Moved}
-use Rattle.hwp_step.specs.Boards.{view_of}
-use Rattle.hwp_step.specs.Calls.{logs, rec_of}
-use Rattle.hwp_step.specs.Hands.{Hand}
-use Rattle.hwp_step.specs.Ranks.{IsRanked, Made, Member, OtherHand, Pending, Quiet, failures_left, is_waits, member, words_at}
-use Rattle.hwp_step.proofs.Ranking.{failed, met, pending-kept, retire-fails, steps-on, words-after, words-kept}
-use Rattle.hwp_hold.specs.declared.give_up.GiveUp.{GiveUp}
-use Rattle.hwp_hold.specs.declared.refer.Refer.{Refer}
-use Rattle.hwp_hold.specs.declared.refer.ReferAt.{ReferAt}
-use Rattle.hwp_hold.specs.declared.refer.ReferAt.TheVariants as refer_at
-use Rattle.hwp_hold.specs.declared.release.Release.{Release}
-use Rattle.hwp_hold.specs.declared.release.ReleaseAt.{ReleaseAt}
-use Rattle.hwp_hold.specs.declared.release.ReleaseAt.TheVariants as release_at
-use Rattle.hwp_fill.specs.declared.take.Take.{Take}
-use Rattle.hwp_fill.specs.declared.take.TakeAt.{TakeAt}
-use Rattle.hwp_fill.specs.declared.take.TakeAt.TheVariants as take_at
-use Rattle.hwp_hold.specs.declared.unhold.Unhold.{Unhold}
-use Rattle.hwp_hold.specs.GiveUps as give_ups
-use Rattle.hwp_hold.specs.Refers as refers
-use Rattle.hwp_hold.specs.Releases as releases
-use Rattle.hwp_fill.specs.Takes as takes
-use Rattle.hwp_hold.specs.Unholds as unholds
-use Rattle.hwp_hold.proofs.GiveUpCosts.{give-up-falls, give-up-goes, give-up-mild, give-up-ranked, give-up-small}
-use Rattle.hwp_hold.proofs.Freeing.{frees-length}
-use Rattle.hwp_fill.proofs.Making.{is-met, words_then}
-use Rattle.hwp_hold.proofs.Ranking.{release-falls, release-mild, release-small, unhold-class, unhold-falls, unhold-mild, unhold-small}
-use Rattle.hwp_fill.proofs.TakeCosts as taking
-use Rattle.hwp_claim.specs.declared.grab.Grab.{Grab}
-use Rattle.hwp_claim.specs.declared.grab.GrabAnswer.{GrabAnswer}
-use Rattle.hwp_claim.specs.declared.grab.GrabAnswer.TheVariants as grab_answers
-use Rattle.hwp_claim.specs.declared.meet.Meet.{Meet}
-use Rattle.hwp_claim.specs.declared.meet.MeetAt.{MeetAt}
-use Rattle.hwp_claim.specs.declared.meet.MeetAt.TheVariants as meet_at
-use Rattle.hwp_claim.specs.declared.meet.MeetAnswer.{MeetAnswer}
-use Rattle.hwp_claim.specs.declared.meet.MeetAnswer.TheVariants as meet_answers
-use Rattle.hwp_claim.specs.Grabs as grabs
-use Rattle.hwp_claim.specs.Meets as meets
-use Rattle.hwp_claim.proofs.Poisoning.{poison-owns}
-use Rattle.hwp_claim.proofs.Retiring.{Keeps, drops-now, owned-by, retired}
-use Rattle.hwp_move.specs.declared.discard.Discard.{Discard}
-use Rattle.hwp_move.specs.declared.discard.DiscardAt.{DiscardAt}
-use Rattle.hwp_move.specs.declared.discard.DiscardAt.TheVariants as discard_at
-use Rattle.hwp_move.specs.declared.relocate.Relocate.{Relocate}
-use Rattle.hwp_move.specs.declared.relocate.RelocateAt.{RelocateAt}
-use Rattle.hwp_move.specs.declared.relocate.RelocateAt.TheVariants as relocate_at
-use Rattle.hwp_move.specs.declared.remap.Remap.{Remap}
-use Rattle.hwp_move.specs.declared.seize.Seize.{Seize}
-use Rattle.hwp_move.specs.declared.seize.SeizeAt.{SeizeAt}
-use Rattle.hwp_move.specs.declared.seize.SeizeAt.TheVariants as seize_at
-use Rattle.hwp_move.specs.Discards as discards
-use Rattle.hwp_move.specs.Relocating as relocating
-use Rattle.hwp_move.specs.Relocations as relocations
-use Rattle.hwp_move.specs.Remaps.{old_lock}
-use Rattle.hwp_move.specs.Seizes as seizes
-use Rattle.hwp_move.proofs.Discarding.{discard-class, discard-falls, discard-member, discard-owns, discard-small}
-use Rattle.hwp_move.proofs.RelocateCosts.{relocate-class, relocate-falls, relocate-goes, relocate-mild, relocate-small}
-use Rattle.hwp_move.proofs.SeizeCosts.{seize-class, seize-falls, seize-leaves, seize-member, seize-mild, seize-small, seize-waits}
+use Rattle.hwp_core_rule.specs.declared.State.{State}
+use Rattle.hwp_core_rule.specs.declared.Step.{Step}
+use Rattle.hwp_core_rule.specs.declared.Step.TheVariants as steps
+use Rattle.hwp_core_rule.specs.Moves.{Move}
+use Rattle.hwp_core_rule.specs.Rule.{Holds}
+use Rattle.hwp_core_rule.specs.Lasting.{IsMild}
+use Rattle.hwp_core_rule.specs.Words.{Words, free_words}
+use Rattle.hwp_core_task.specs.declared.Turn.{Turn}
+use Rattle.hwp_core_task.specs.declared.Turn.TheVariants.{Moved}
+use Rattle.hwp_core_task.specs.Boards.{view_of}
+use Rattle.hwp_core_task.specs.Calls.{logs, rec_of}
+use Rattle.hwp_core_task.specs.Hands.{Hand}
+use Rattle.hwp_core_task.specs.Ranks.{IsRanked, Made, Member, OtherHand, Pending, Quiet, failures_left, is_waits, member, words_at}
+use Rattle.hwp_core_task.proofs.StepRanks.{failed, met, pending-kept, retire-fails, steps-on, words-after, words-kept}
+use Rattle.hwp_core.specs.declared.give_up.GiveUp.{GiveUp}
+use Rattle.hwp_core.specs.declared.refer.Refer.{Refer}
+use Rattle.hwp_core.specs.declared.refer.ReferAt.{ReferAt}
+use Rattle.hwp_core.specs.declared.refer.ReferAt.TheVariants as refer_at
+use Rattle.hwp_core.specs.declared.release.Release.{Release}
+use Rattle.hwp_core.specs.declared.release.ReleaseAt.{ReleaseAt}
+use Rattle.hwp_core.specs.declared.release.ReleaseAt.TheVariants as release_at
+use Rattle.hwp_fault_fill.specs.declared.take.Take.{Take}
+use Rattle.hwp_fault_fill.specs.declared.take.TakeAt.{TakeAt}
+use Rattle.hwp_fault_fill.specs.declared.take.TakeAt.TheVariants as take_at
+use Rattle.hwp_core.specs.declared.unhold.Unhold.{Unhold}
+use Rattle.hwp_core.specs.GiveUps as give_ups
+use Rattle.hwp_core.specs.Refers as refers
+use Rattle.hwp_core.specs.Releases as releases
+use Rattle.hwp_fault_fill.specs.Takes as takes
+use Rattle.hwp_core.specs.Unholds as unholds
+use Rattle.hwp_core.proofs.GiveUpCosts.{give-up-falls, give-up-goes, give-up-mild, give-up-ranked, give-up-small}
+use Rattle.hwp_core.proofs.FreeWords.{frees-length}
+use Rattle.hwp_fault_fill.proofs.StepWords.{is-met, words_then}
+use Rattle.hwp_core.proofs.TaskCosts.{release-falls, release-mild, release-small, unhold-class, unhold-falls, unhold-mild, unhold-small}
+use Rattle.hwp_fault_fill.proofs.TakeCosts as taking
+use Rattle.hwp_soft_move.specs.hwp_claim_frame.declared.grab.Grab.{Grab}
+use Rattle.hwp_soft_move.specs.hwp_claim_frame.declared.grab.GrabAnswer.{GrabAnswer}
+use Rattle.hwp_soft_move.specs.hwp_claim_frame.declared.grab.GrabAnswer.TheVariants as grab_answers
+use Rattle.hwp_soft_move.specs.hwp_claim_frame.declared.meet.Meet.{Meet}
+use Rattle.hwp_soft_move.specs.hwp_claim_frame.declared.meet.MeetAt.{MeetAt}
+use Rattle.hwp_soft_move.specs.hwp_claim_frame.declared.meet.MeetAt.TheVariants as meet_at
+use Rattle.hwp_soft_move.specs.hwp_claim_frame.declared.meet.MeetAnswer.{MeetAnswer}
+use Rattle.hwp_soft_move.specs.hwp_claim_frame.declared.meet.MeetAnswer.TheVariants as meet_answers
+use Rattle.hwp_soft_move.specs.hwp_claim_frame.Grabs as grabs
+use Rattle.hwp_soft_move.specs.hwp_claim_frame.Meets as meets
+use Rattle.hwp_soft_move.proofs.of_hwp_claim_frame.PoisonLaws.{poison-owns}
+use Rattle.hwp_soft_move.proofs.of_hwp_claim_frame.ClaimKeeps.{Keeps, drops-now, owned-by, retired}
+use Rattle.hwp_soft_move.specs.declared.discard.Discard.{Discard}
+use Rattle.hwp_soft_move.specs.declared.discard.DiscardAt.{DiscardAt}
+use Rattle.hwp_soft_move.specs.declared.discard.DiscardAt.TheVariants as discard_at
+use Rattle.hwp_soft_move.specs.declared.relocate.Relocate.{Relocate}
+use Rattle.hwp_soft_move.specs.declared.relocate.RelocateAt.{RelocateAt}
+use Rattle.hwp_soft_move.specs.declared.relocate.RelocateAt.TheVariants as relocate_at
+use Rattle.hwp_soft_move.specs.declared.remap.Remap.{Remap}
+use Rattle.hwp_soft_move.specs.declared.seize.Seize.{Seize}
+use Rattle.hwp_soft_move.specs.declared.seize.SeizeAt.{SeizeAt}
+use Rattle.hwp_soft_move.specs.declared.seize.SeizeAt.TheVariants as seize_at
+use Rattle.hwp_soft_move.specs.Discards as discards
+use Rattle.hwp_soft_move.specs.Relocating as relocating
+use Rattle.hwp_soft_move.specs.Relocations as relocations
+use Rattle.hwp_soft_move.specs.Remaps.{old_lock}
+use Rattle.hwp_soft_move.specs.Seizes as seizes
+use Rattle.hwp_soft_move.proofs.DiscardLaws.{discard-class, discard-falls, discard-member, discard-owns, discard-small}
+use Rattle.hwp_soft_move.proofs.RelocateCosts.{relocate-class, relocate-falls, relocate-goes, relocate-mild, relocate-small}
+use Rattle.hwp_soft_move.proofs.SeizeCosts.{seize-class, seize-falls, seize-leaves, seize-member, seize-mild, seize-small, seize-waits}
 use Rattle.hwp_soft.specs.declared.soft.Soft.{Soft}
 use Rattle.hwp_soft.specs.declared.soft.SoftAnswer.{SoftAnswer}
 use Rattle.hwp_soft.specs.declared.soft.SoftAnswer.TheVariants as answers
@@ -83,7 +83,7 @@ use Rattle.hwp_soft.specs.declared.soft.SoftAt.{SoftAt}
 use Rattle.hwp_soft.specs.declared.soft.SoftAt.TheVariants as at
 use Rattle.hwp_soft.specs.Offline.{Fits, FitsAt, IsDiscarding, IsRelocating, IsSeizing}
 use Rattle.hwp_soft.specs.Softs.{Follows, FollowsAt, Moves, ShowsAt, TakesOne, aborts, aborts_at, after_discard, after_relocate, after_release, after_seize, after_take, after_unhold, bare, bare_at, claim_of, claims, claims_at, class, class_at, cost, cost_at, ended, given_up, let_go, plan, plan_at, put, put_at}
-use Rattle.hwp_soft.proofs.Softening.{both}
+use Rattle.hwp_soft.proofs.SoftFits.{both}
 
 abbrev pub soft-member : Member Soft
 soft-member = member (λ s. s.who) plan put bare (λ layout s found got after result. Follows layout s found got after result) Fits class cost aborts claims
@@ -182,11 +182,11 @@ module _ (who : Who) (frame : Frame) where
     where
       which : (x : ReleaseAt) → cost_at (after_release who frame page body (record r { at = x })) w ≤ releases.cost_at x + 5
       which release_at.Put = omega arith
-      which release_at.Give = omega arith
-      which release_at.Unreserve = omega arith
-      which release_at.Adopt = omega arith
-      which release_at.Retire = omega arith
-      which release_at.Back = omega arith
+      which (release_at.Give word) = omega arith
+      which (release_at.Unreserve word) = omega arith
+      which (release_at.Adopt word) = omega arith
+      which (release_at.Retire word) = omega arith
+      which (release_at.Back word) = omega arith
 
 discard-ends : (d : Discard) (w : Words) → cost_at (after_discard d) w ≤ discards.cost d w
 discard-ends d w = which d.at
@@ -271,11 +271,11 @@ module _ (frame : Frame) (r : Relocate) (to : Frame) (place : At) (cycle : ℕ) 
     where
       which : (x : ReleaseAt) → Claims (relocations.after_release (record l { at = x }))
       which release_at.Put = refl
-      which release_at.Give = refl
-      which release_at.Unreserve = refl
-      which release_at.Adopt = refl
-      which release_at.Retire = refl
-      which release_at.Back = refl
+      which (release_at.Give word) = refl
+      which (release_at.Unreserve word) = refl
+      which (release_at.Adopt word) = refl
+      which (release_at.Retire word) = refl
+      which (release_at.Back word) = refl
 
 -- ---- each turn
 

@@ -4,34 +4,34 @@ use Rattle.std.proofs.lemmas.Bool.{both_ways}
 use Rattle.std.proofs.lemmas.Option.{none-some, same_Some}
 use Rattle.hwp_geom.specs.declared.Frame.{Frame}
 use Rattle.hwp_geom.specs.declared.Layout.{Layout}
-use Rattle.hwp_rule.specs.declared.Place.TheVariants as places
-use Rattle.hwp_rule.specs.declared.Step.{Step}
-use Rattle.hwp_rule.specs.declared.Step.TheVariants as steps
-use Rattle.hwp_rule.specs.declared.View.{View}
-use Rattle.hwp_rule.specs.Lasting.{LeavesPoison}
-use Rattle.hwp_step.specs.Classes.{TellsClass}
-use Rattle.hwp_step.specs.Hands.{empty, hand_of}
-use Rattle.hwp_step.proofs.Failures.{mild-leaves}
-use Rattle.hwp_hold.specs.declared.give_up.GiveUp.{GiveUp}
-use Rattle.hwp_hold.specs.declared.give_up.GiveUpAt.{GiveUpAt}
-use Rattle.hwp_hold.specs.declared.give_up.GiveUpAt.TheVariants as give_up_at
-use Rattle.hwp_hold.specs.GiveUps as give_ups
-use Rattle.hwp_hold.proofs.GiveUpCosts.{give-up-mild}
-use Rattle.hwp_hold.proofs.Ranking.{release-mild, unhold-mild}
-use Rattle.hwp_fill.proofs.TakeCosts as taking
-use Rattle.hwp_hold.proofs.Telling.{Tells, empty-tells, frame-tells, give-up-tells, no-frame, no-page, unhold-tells}
-use Rattle.hwp_move.specs.declared.discard.Discard.{Discard}
-use Rattle.hwp_move.specs.declared.discard.DiscardAt.{DiscardAt}
-use Rattle.hwp_move.specs.declared.discard.DiscardAt.TheVariants as discard_at
-use Rattle.hwp_move.specs.declared.relocate.Relocate.{Relocate}
-use Rattle.hwp_move.specs.declared.relocate.RelocateAt.{RelocateAt}
-use Rattle.hwp_move.specs.declared.relocate.RelocateAt.TheVariants as relocate_at
-use Rattle.hwp_move.specs.Discards as discards
-use Rattle.hwp_move.specs.Relocations as relocations
-use Rattle.hwp_move.proofs.Discarding.{discard-lasting, discard-tells}
-use Rattle.hwp_move.proofs.RelocateCosts.{relocate-mild, relocate-tells}
-use Rattle.hwp_move.proofs.SeizeCosts.{seize-mild}
-use Rattle.hwp_move.proofs.Seizing.{seize-tells}
+use Rattle.hwp_core_rule.specs.declared.SharedWord.TheVariants as places
+use Rattle.hwp_core_rule.specs.declared.Step.{Step}
+use Rattle.hwp_core_rule.specs.declared.Step.TheVariants as steps
+use Rattle.hwp_core_rule.specs.declared.View.{View}
+use Rattle.hwp_core_rule.specs.Lasting.{LeavesPoison}
+use Rattle.hwp_core_task.specs.Classes.{TellsClass}
+use Rattle.hwp_core_task.specs.Hands.{empty, hand_of}
+use Rattle.hwp_core_task.proofs.Failures.{mild-leaves}
+use Rattle.hwp_core.specs.declared.give_up.GiveUp.{GiveUp}
+use Rattle.hwp_core.specs.declared.give_up.GiveUpAt.{GiveUpAt}
+use Rattle.hwp_core.specs.declared.give_up.GiveUpAt.TheVariants as give_up_at
+use Rattle.hwp_core.specs.GiveUps as give_ups
+use Rattle.hwp_core.proofs.GiveUpCosts.{give-up-mild}
+use Rattle.hwp_core.proofs.TaskCosts.{release-mild, unhold-mild}
+use Rattle.hwp_fault_fill.proofs.TakeCosts as taking
+use Rattle.hwp_core.proofs.TaskTells.{Tells, empty-tells, frame-tells, give-up-tells, no-frame, no-page, unhold-tells}
+use Rattle.hwp_soft_move.specs.declared.discard.Discard.{Discard}
+use Rattle.hwp_soft_move.specs.declared.discard.DiscardAt.{DiscardAt}
+use Rattle.hwp_soft_move.specs.declared.discard.DiscardAt.TheVariants as discard_at
+use Rattle.hwp_soft_move.specs.declared.relocate.Relocate.{Relocate}
+use Rattle.hwp_soft_move.specs.declared.relocate.RelocateAt.{RelocateAt}
+use Rattle.hwp_soft_move.specs.declared.relocate.RelocateAt.TheVariants as relocate_at
+use Rattle.hwp_soft_move.specs.Discards as discards
+use Rattle.hwp_soft_move.specs.Relocations as relocations
+use Rattle.hwp_soft_move.proofs.DiscardLaws.{discard-lasting, discard-tells}
+use Rattle.hwp_soft_move.proofs.RelocateCosts.{relocate-mild, relocate-tells}
+use Rattle.hwp_soft_move.proofs.SeizeCosts.{seize-mild}
+use Rattle.hwp_soft_move.proofs.SeizeLaws.{seize-tells}
 use Rattle.hwp_soft.specs.declared.soft.Soft.{Soft}
 use Rattle.hwp_soft.specs.declared.soft.SoftAt.{SoftAt}
 use Rattle.hwp_soft.specs.declared.soft.SoftAt.TheVariants as at

@@ -2,13 +2,13 @@
 use Rattle.std.specs.Prelude.{◌≡◌, ℕ, ◌+◌, false, List, [], ◌∷◌, Option, Some, None}
 use Rattle.hwp_geom.specs.declared.Frame.{Frame}
 use Rattle.hwp_geom.specs.declared.Who.{Who}
-use Rattle.hwp_rule.specs.declared.Mark.{Mark}
-use Rattle.hwp_rule.specs.declared.View.{View}
-use Rattle.hwp_claim.specs.Done.{Grows, Marking, counts_owed, marking_of, poisoning}
-use Rattle.hwp_move.specs.declared.discard.DiscardAt.{DiscardAt}
-use Rattle.hwp_move.specs.declared.discard.DiscardAt.TheVariants as discard_at
-use Rattle.hwp_move.specs.declared.relocate.RelocateAt.{RelocateAt}
-use Rattle.hwp_move.specs.declared.relocate.RelocateAt.TheVariants as relocate_at
+use Rattle.hwp_core_rule.specs.declared.Mark.{Mark}
+use Rattle.hwp_core_rule.specs.declared.View.{View}
+use Rattle.hwp_soft_move.specs.hwp_claim_frame.Done.{Grows, Marking, counts_owed, marking_of, poisoning}
+use Rattle.hwp_soft_move.specs.declared.discard.DiscardAt.{DiscardAt}
+use Rattle.hwp_soft_move.specs.declared.discard.DiscardAt.TheVariants as discard_at
+use Rattle.hwp_soft_move.specs.declared.relocate.RelocateAt.{RelocateAt}
+use Rattle.hwp_soft_move.specs.declared.relocate.RelocateAt.TheVariants as relocate_at
 use Rattle.hwp_soft.specs.declared.soft.SoftAt.{SoftAt}
 use Rattle.hwp_soft.specs.declared.soft.SoftAt.TheVariants as at
 use Rattle.hwp_soft.specs.Softs.{cycle_in}

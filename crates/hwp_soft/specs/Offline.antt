@@ -6,44 +6,44 @@ use Rattle.hwp_geom.specs.declared.Page.{Page}
 use Rattle.hwp_geom.specs.declared.Who.{Who}
 use Rattle.hwp_page.specs.declared.What.TheVariants as entries
 use Rattle.hwp_page.specs.History.{BodyValue}
-use Rattle.hwp_rule.specs.declared.Place.TheVariants as places
-use Rattle.hwp_rule.specs.declared.View.{View}
-use Rattle.hwp_rule.specs.Logs.{log_of}
-use Rattle.hwp_rule.specs.Views.{unpoisoned, with_refs}
-use Rattle.hwp_rule.specs.parts.Entries.{HasSeen}
-use Rattle.hwp_step.specs.Calls.{IsOnTurn}
-use Rattle.hwp_step.specs.Hands.{Hand, hand_of, empty}
-use Rattle.hwp_known.specs.Known.{HasMade, HasMadeNone, Saw, SawBadOf, SawStop}
-use Rattle.hwp_hold.specs.declared.give_up.GiveUp.{GiveUp}
-use Rattle.hwp_hold.specs.declared.release.Release.{Release}
-use Rattle.hwp_hold.specs.declared.release.ReleaseAt.{ReleaseAt}
-use Rattle.hwp_hold.specs.declared.release.ReleaseAt.TheVariants as release_at
-use Rattle.hwp_fill.specs.declared.take.Take.{Take}
-use Rattle.hwp_fill.specs.declared.take.TakeAt.{TakeAt}
-use Rattle.hwp_fill.specs.declared.take.TakeAt.TheVariants as take_at
-use Rattle.hwp_hold.specs.declared.unhold.Unhold.{Unhold}
-use Rattle.hwp_hold.specs.GiveUps as give_ups
-use Rattle.hwp_hold.specs.Holds.{IsBodyOf, held}
-use Rattle.hwp_hold.specs.Releases as releases
-use Rattle.hwp_fill.specs.Takes as takes
-use Rattle.hwp_hold.specs.Releases.{adopted_lock, new_lock}
-use Rattle.hwp_hold.specs.Unholds as unholds
-use Rattle.hwp_claim.specs.Claims.{HasMarked, SawPoison}
-use Rattle.hwp_claim.specs.Grabs.{WasFree}
-use Rattle.hwp_claim.specs.Meets.{AsTaken, HoldsMet}
-use Rattle.hwp_move.specs.declared.discard.Discard.{Discard}
-use Rattle.hwp_move.specs.declared.relocate.Relocate.{Relocate}
-use Rattle.hwp_move.specs.declared.seize.Seize.{Seize}
+use Rattle.hwp_core_rule.specs.declared.SharedWord.TheVariants as places
+use Rattle.hwp_core_rule.specs.declared.View.{View}
+use Rattle.hwp_core_rule.specs.Logs.{log_of}
+use Rattle.hwp_core_rule.specs.Views.{unpoisoned, with_refs}
+use Rattle.hwp_core_rule.specs.parts.Entries.{HasSeen}
+use Rattle.hwp_core_task.specs.Calls.{IsOnTurn}
+use Rattle.hwp_core_task.specs.Hands.{Hand, hand_of, empty}
+use Rattle.hwp_core_task.specs.Known.{HasMade, HasMadeNone, Saw, SawBadOf, SawStop}
+use Rattle.hwp_core.specs.declared.give_up.GiveUp.{GiveUp}
+use Rattle.hwp_core.specs.declared.release.Release.{Release}
+use Rattle.hwp_core.specs.declared.release.ReleaseAt.{ReleaseAt}
+use Rattle.hwp_core.specs.declared.release.ReleaseAt.TheVariants as release_at
+use Rattle.hwp_fault_fill.specs.declared.take.Take.{Take}
+use Rattle.hwp_fault_fill.specs.declared.take.TakeAt.{TakeAt}
+use Rattle.hwp_fault_fill.specs.declared.take.TakeAt.TheVariants as take_at
+use Rattle.hwp_core.specs.declared.unhold.Unhold.{Unhold}
+use Rattle.hwp_core.specs.GiveUps as give_ups
+use Rattle.hwp_core.specs.Holds.{IsBodyOf, held}
+use Rattle.hwp_core.specs.Releases as releases
+use Rattle.hwp_fault_fill.specs.Takes as takes
+use Rattle.hwp_core.specs.Releases.{adopted_lock, new_lock}
+use Rattle.hwp_core.specs.Unholds as unholds
+use Rattle.hwp_soft_move.specs.hwp_claim_frame.Claims.{HasMarked, SawPoison}
+use Rattle.hwp_soft_move.specs.hwp_claim_frame.Grabs.{WasFree}
+use Rattle.hwp_soft_move.specs.hwp_claim_frame.Meets.{AsTaken, HoldsMet}
+use Rattle.hwp_soft_move.specs.declared.discard.Discard.{Discard}
+use Rattle.hwp_soft_move.specs.declared.relocate.Relocate.{Relocate}
+use Rattle.hwp_soft_move.specs.declared.seize.Seize.{Seize}
 use Rattle.hwp_soft.specs.declared.soft.Soft.{Soft}
 use Rattle.hwp_soft.specs.declared.soft.SoftAnswer.{SoftAnswer}
 use Rattle.hwp_soft.specs.declared.soft.SoftAnswer.TheVariants as answers
 use Rattle.hwp_soft.specs.declared.soft.SoftAt.{SoftAt}
 use Rattle.hwp_soft.specs.declared.soft.SoftAt.TheVariants as at
-use Rattle.hwp_move.specs.Discards as discards
-use Rattle.hwp_move.specs.Relocating as relocating
-use Rattle.hwp_move.specs.Relocations as relocations
-use Rattle.hwp_move.specs.Seizes as seizes
-use Rattle.hwp_move.specs.Seizes.{IsUsers, SawKernel}
+use Rattle.hwp_soft_move.specs.Discards as discards
+use Rattle.hwp_soft_move.specs.Relocating as relocating
+use Rattle.hwp_soft_move.specs.Relocations as relocations
+use Rattle.hwp_soft_move.specs.Seizes as seizes
+use Rattle.hwp_soft_move.specs.Seizes.{IsUsers, SawKernel}
 use Rattle.hwp_soft.specs.Softs.{CanMakeEntry}
 
 -- ---- why the command answers so
@@ -125,11 +125,11 @@ pub record HoldsSpare (layout : Layout) (view : View) (who : Who) (frame : Frame
 -- what is held while it is released
 abbrev pub releasing : Frame → ReleaseAt → Hand → Hand
 releasing to release_at.Put h = record h { refs = with_refs to 1 h.refs }
-releasing to release_at.Give h = record h { hands = unpoisoned to ∷ [] }
-releasing to release_at.Unreserve h = record h { reserved = 1 }
-releasing to release_at.Adopt h = record h { hands = record { frame = to; poisoned = true } ∷ [] }
-releasing to release_at.Retire h = record h { locks = h.locks ++ adopted_lock to true ∷ []; refs = with_refs to 1 h.refs }
-releasing to release_at.Back h = h
+releasing to (release_at.Give word) h = record h { hands = unpoisoned to ∷ [] }
+releasing to (release_at.Unreserve word) h = record h { reserved = 1 }
+releasing to (release_at.Adopt word) h = record h { hands = record { frame = to; poisoned = true } ∷ [] }
+releasing to (release_at.Retire word) h = record h { locks = h.locks ++ adopted_lock to true ∷ []; refs = with_refs to 1 h.refs }
+releasing to (release_at.Back word) h = h
 
 pub record IsReleasing (layout : Layout) (view : View) (who : Who) (frame : Frame) (page : Page) (body : BodyValue) (r : Release) : Type 0 where
   pub good : HoldsGood layout view who frame page body (releasing r.frame r.at)

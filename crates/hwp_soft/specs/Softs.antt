@@ -10,38 +10,38 @@ use Rattle.hwp_page.specs.History.{BodyValue}
 use Rattle.hwp_page.specs.Step.{Allowed}
 use Rattle.hwp_words.specs.Frames.{cycle_of, is_poisoned}
 use Rattle.hwp_words.specs.Stops.{is_stopped}
-use Rattle.hwp_rule.specs.declared.Place.TheVariants as places
-use Rattle.hwp_rule.specs.declared.Step.{Step}
-use Rattle.hwp_rule.specs.declared.Step.TheVariants as steps
-use Rattle.hwp_rule.specs.Words.{Words}
-use Rattle.hwp_step.specs.declared.Turn.{Turn}
-use Rattle.hwp_step.specs.declared.Turn.TheVariants.{Moved, Answered}
-use Rattle.hwp_hold.specs.declared.release.Release.{Release}
-use Rattle.hwp_fill.specs.declared.take.Take.{Take}
-use Rattle.hwp_fill.specs.declared.take.TakeAnswer.{TakeAnswer}
-use Rattle.hwp_fill.specs.declared.take.TakeAnswer.TheVariants as take_answers
-use Rattle.hwp_hold.specs.declared.unhold.Unhold.{Unhold}
-use Rattle.hwp_hold.specs.GiveUps as give_ups
-use Rattle.hwp_hold.specs.Releases as releases
-use Rattle.hwp_fill.specs.Takes as takes
-use Rattle.hwp_hold.specs.Unholds as unholds
-use Rattle.hwp_move.specs.declared.discard.Discard.{Discard}
-use Rattle.hwp_move.specs.declared.relocate.Relocate.{Relocate}
-use Rattle.hwp_move.specs.declared.relocate.RelocateAt.{RelocateAt}
-use Rattle.hwp_move.specs.declared.relocate.RelocateAt.TheVariants as relocate_at
-use Rattle.hwp_move.specs.declared.seize.Seize.{Seize}
-use Rattle.hwp_move.specs.declared.seize.SeizeAt.{SeizeAt}
-use Rattle.hwp_move.specs.declared.seize.SeizeAt.TheVariants as seize_at
-use Rattle.hwp_move.specs.declared.seize.SeizeAnswer.{SeizeAnswer}
-use Rattle.hwp_move.specs.declared.seize.SeizeAnswer.TheVariants as seize_answers
+use Rattle.hwp_core_rule.specs.declared.SharedWord.TheVariants as places
+use Rattle.hwp_core_rule.specs.declared.Step.{Step}
+use Rattle.hwp_core_rule.specs.declared.Step.TheVariants as steps
+use Rattle.hwp_core_rule.specs.Words.{Words}
+use Rattle.hwp_core_task.specs.declared.Turn.{Turn}
+use Rattle.hwp_core_task.specs.declared.Turn.TheVariants.{Moved, Answered}
+use Rattle.hwp_core.specs.declared.release.Release.{Release}
+use Rattle.hwp_fault_fill.specs.declared.take.Take.{Take}
+use Rattle.hwp_fault_fill.specs.declared.take.TakeAnswer.{TakeAnswer}
+use Rattle.hwp_fault_fill.specs.declared.take.TakeAnswer.TheVariants as take_answers
+use Rattle.hwp_core.specs.declared.unhold.Unhold.{Unhold}
+use Rattle.hwp_core.specs.GiveUps as give_ups
+use Rattle.hwp_core.specs.Releases as releases
+use Rattle.hwp_fault_fill.specs.Takes as takes
+use Rattle.hwp_core.specs.Unholds as unholds
+use Rattle.hwp_soft_move.specs.declared.discard.Discard.{Discard}
+use Rattle.hwp_soft_move.specs.declared.relocate.Relocate.{Relocate}
+use Rattle.hwp_soft_move.specs.declared.relocate.RelocateAt.{RelocateAt}
+use Rattle.hwp_soft_move.specs.declared.relocate.RelocateAt.TheVariants as relocate_at
+use Rattle.hwp_soft_move.specs.declared.seize.Seize.{Seize}
+use Rattle.hwp_soft_move.specs.declared.seize.SeizeAt.{SeizeAt}
+use Rattle.hwp_soft_move.specs.declared.seize.SeizeAt.TheVariants as seize_at
+use Rattle.hwp_soft_move.specs.declared.seize.SeizeAnswer.{SeizeAnswer}
+use Rattle.hwp_soft_move.specs.declared.seize.SeizeAnswer.TheVariants as seize_answers
 use Rattle.hwp_soft.specs.declared.soft.Soft.{Soft}
 use Rattle.hwp_soft.specs.declared.soft.SoftAnswer.{SoftAnswer}
 use Rattle.hwp_soft.specs.declared.soft.SoftAnswer.TheVariants as answers
 use Rattle.hwp_soft.specs.declared.soft.SoftAt.{SoftAt}
 use Rattle.hwp_soft.specs.declared.soft.SoftAt.TheVariants as at
-use Rattle.hwp_move.specs.Discards as discards
-use Rattle.hwp_move.specs.Relocations as relocations
-use Rattle.hwp_move.specs.Seizes as seizes
+use Rattle.hwp_soft_move.specs.Discards as discards
+use Rattle.hwp_soft_move.specs.Relocations as relocations
+use Rattle.hwp_soft_move.specs.Seizes as seizes
 
 abbrev pub begin : Who → Frame → Soft
 begin who frame = record { who = who; frame = frame; at = at.LoadStop }

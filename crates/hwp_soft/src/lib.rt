@@ -3,4 +3,5 @@
 
 mod soft;
 
+pub use hwp_soft_unpoison::{Unpoison, UnpoisonAnswer};
 pub use soft::{Soft, SoftAnswer};

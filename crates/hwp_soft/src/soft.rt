@@ -1,26 +1,26 @@
 ghost use Rattle.std.specs.Prelude.{◌≡◌, true};
-ghost use Rattle.hwp_hold.specs.GiveUps as give_ups;
-ghost use Rattle.hwp_hold.specs.Releases as releases;
-ghost use Rattle.hwp_hold.specs.Unholds as unholds;
-ghost use Rattle.hwp_fill.specs.Takes as takes;
+ghost use Rattle.hwp_core.specs.GiveUps as give_ups;
+ghost use Rattle.hwp_core.specs.Releases as releases;
+ghost use Rattle.hwp_core.specs.Unholds as unholds;
+ghost use Rattle.hwp_fault_fill.specs.Takes as takes;
 ghost use Rattle.hwp_soft.specs.declared.soft.SoftAt.TheVariants as states;
-ghost use Rattle.hwp_move.specs.Discards as discards;
-ghost use Rattle.hwp_move.specs.Relocations as relocations;
-ghost use Rattle.hwp_move.specs.Seizes as seizes;
+ghost use Rattle.hwp_soft_move.specs.Discards as discards;
+ghost use Rattle.hwp_soft_move.specs.Relocations as relocations;
+ghost use Rattle.hwp_soft_move.specs.Seizes as seizes;
 ghost use Rattle.hwp_soft.specs.Softs.{begin, answer, after_stop, after_seize, after_discard, AfterBad, after_take, AfterPoison, after_relocate, CanMakeEntry, IsRelocated, Moves, after_release, after_unhold, let_go, ended, FollowsAt, ShowsAt};
 
-use hwp_fill::{Take, TakeAnswer};
+use hwp_core::{GiveUp, Release, Unhold};
+use hwp_core_rule::{SharedWord, Step};
+use hwp_core_task::{Ranked, Scheduled, Task, Turn};
+use hwp_fault_fill::{Take, TakeAnswer};
 use hwp_geom::{Frame, Layout, Mask, Page, Who};
-use hwp_hold::{GiveUp, Release, Unhold};
-use hwp_move::{Discard, Relocate, Seize, SeizeAnswer};
 use hwp_page::{At, Body, Entry, What};
-use hwp_rule::{Place, Step};
-use hwp_step::{Machine, Ranked, Scheduled, Turn};
+use hwp_soft_move::{Discard, Relocate, Seize, SeizeAnswer};
 use hwp_words::{FrameWord, is_stopped};
 use std::mem;
 
 /// What a `Soft` came to (this project's rule).
-#[derive(Clone, Copy, Debug, PartialEq, Eq)]
+#[derive(Clone, Copy)]
 pub enum SoftAnswer {
     /// The machine has stopped.
     Stopped,
@@ -156,18 +156,30 @@ fn after_seize(who: Who, frame: Frame, seize: Seize) -> SoftAt
 {
     match seize.answer() {
         None => SoftAt::Seize { seize },
-        Some(SeizeAnswer::Kernel) => SoftAt::Over {
-            answer: SoftAnswer::Kernel,
-        },
-        Some(SeizeAnswer::Already) => SoftAt::Over {
-            answer: SoftAnswer::Already,
-        },
-        Some(SeizeAnswer::Grabbed) => SoftAt::Discard {
-            discard: Discard::new(who, frame, false),
-        },
-        Some(SeizeAnswer::Free) => SoftAt::Discard {
-            discard: Discard::new(who, frame, true),
-        },
+        Some(SeizeAnswer::Kernel) => {
+            drop(seize);
+            SoftAt::Over {
+                answer: SoftAnswer::Kernel,
+            }
+        }
+        Some(SeizeAnswer::Already) => {
+            drop(seize);
+            SoftAt::Over {
+                answer: SoftAnswer::Already,
+            }
+        }
+        Some(SeizeAnswer::Grabbed) => {
+            drop(seize);
+            SoftAt::Discard {
+                discard: Discard::new(who, frame, false),
+            }
+        }
+        Some(SeizeAnswer::Free) => {
+            drop(seize);
+            SoftAt::Discard {
+                discard: Discard::new(who, frame, true),
+            }
+        }
         Some(SeizeAnswer::Owned(page)) => SoftAt::LoadBad {
             page,
             body: seize.body(),
@@ -180,12 +192,18 @@ fn after_discard(discard: Discard) -> SoftAt
 {
     match discard.answer() {
         None => SoftAt::Discard { discard },
-        Some(None) => SoftAt::Over {
-            answer: SoftAnswer::Already,
-        },
-        Some(Some(cycle)) => SoftAt::Over {
-            answer: SoftAnswer::TakenFree { cycle },
-        },
+        Some(None) => {
+            drop(discard);
+            SoftAt::Over {
+                answer: SoftAnswer::Already,
+            }
+        }
+        Some(Some(cycle)) => {
+            drop(discard);
+            SoftAt::Over {
+                answer: SoftAnswer::TakenFree { cycle },
+            }
+        }
     }
 }
 
@@ -296,6 +314,7 @@ fn after_relocate(relocate: Relocate, answer: SoftAnswer) -> SoftAt
     ensures { result ≡ after_relocate relocate answer }
 {
     if relocate.is_over() {
+        drop(relocate);
         SoftAt::Over { answer }
     } else {
         SoftAt::Relocate { relocate, answer }
@@ -306,6 +325,7 @@ fn after_unhold(unhold: Unhold, answer: SoftAnswer) -> SoftAt
     ensures { result ≡ after_unhold unhold answer }
 {
     if unhold.is_over() {
+        drop(unhold);
         SoftAt::Over { answer }
     } else {
         SoftAt::Unhold { unhold, answer }
@@ -475,7 +495,7 @@ fn settled(
     }
 }
 
-impl Machine for Soft {
+impl Task for Soft {
     ghost use Rattle.hwp_soft.specs.Softs.{plan, put, bare, Shows, Follows};
     ghost use Rattle.hwp_soft.specs.Offline.{Fits};
 
@@ -499,11 +519,13 @@ impl Machine for Soft {
 
     fn plan(&self) -> Option<Step> {
         match &self.at {
-            SoftAt::LoadStop => Some(Step::Load { place: Place::Stop }),
+            SoftAt::LoadStop => Some(Step::Load {
+                place: SharedWord::Stop,
+            }),
             SoftAt::Seize { seize } => seize.plan(),
             SoftAt::Discard { discard } => discard.plan(),
             SoftAt::LoadBad { .. } => Some(Step::Load {
-                place: Place::Bad(self.frame),
+                place: SharedWord::Bad(self.frame),
             }),
             SoftAt::Take { take, .. } => take.plan(),
             SoftAt::Poison { .. } => Some(Step::Poison {
@@ -539,7 +561,7 @@ impl Machine for Soft {
     fn settle(&mut self, layout: &Layout, found: u64, body: Option<Body>) -> Turn {
         let at = mem::replace(&mut self.at, SoftAt::LoadStop);
         let (after, turn) = settled(self.who, self.frame, layout, at, found, body);
-        self.at = after;
+        drop(mem::replace(&mut self.at, after));
         turn
     }
 }

@@ -1,117 +1,108 @@
--- The table at opening: its one seat has all there is.
-use Rattle.std.proofs.Common.{◌≡◌, ℕ, zero, suc, ◌+◌, ◌<◌, ◌≤◌, ◌==◌, List, [], ◌∷◌, inl, inr, map, length, slice_get, refl, sym, ap, ◌∙◌, subst, arith}
+-- The seats of the processors at opening, where the first has all rights.
+use Rattle.std.proofs.Common.{◌≡◌, ℕ, ◌<◌, List, [], ◌∷◌, inl, inr, length, map, set, slice_get, get_or, refl, sym, ap, ◌∙◌, subst}
 use Rattle.std.specs.Prelude.{Some}
-use mathlib.Core.Option.{some, some-injective}
 use Rattle.std.proofs.lemmas.List.{length-map}
-use Rattle.std.proofs.lemmas.List.Sums.{sum_by-cons}
-use Rattle.std.proofs.lemmas.Option.{none-some, same_Some}
-use Rattle.std.specs.List.{sum_by}
-use Rattle.std.specs.Int.{from_bool}
-use Rattle.atomic_table.specs.Table as table
+use Rattle.std.proofs.lemmas.Option.{same_Some, slice_get_within, get_or_from_slice_get}
+use Rattle.atomic_table.specs.Seated.{TableId}
 use Rattle.hwp_geom.specs.declared.Layout.{Layout}
 use Rattle.hwp_geom.specs.Layout.{IsSound}
-use Rattle.hwp_rule.specs.declared.State.{State}
-use Rattle.hwp_rule.specs.declared.View.{View}
-use Rattle.hwp_rule.specs.Lists.{EachMember}
-use Rattle.hwp_rule.specs.Opening.{below, opening, opening_homes, opening_view, opening_words}
-use Rattle.hwp_rule.specs.Words.{size}
-use Rattle.hwp_rule.proofs.Lists.{same-or, map-was, at_map, at_push, sum-map, from_bool-same, from_bool-other}
-use Rattle.hwp_rule.proofs.OpeningHolds.{opening-holds, homes-length}
-use Rattle.hwp_rule.proofs.OpeningWords.{below-at}
-use Rattle.hwp_step.specs.Calls.{FitsLayout}
-use Rattle.hwp_opening.specs.Openings.{home_with}
-use Rattle.hwp_table.specs.Known.{Known, Whole, first_known, times, views_for}
-use Rattle.hwp_table.specs.Order.{in_rule}
-use Rattle.hwp_table.specs.Rules.{IsOwn, IsWhole, Reached, Ruled}
-use Rattle.hwp_table.specs.Stands.{Content, Table, home_of, stand, AreOfLayout}
-use Rattle.hwp_table.proofs.Owning.{first-own}
-use Rattle.hwp_table.proofs.Reading.{as-slice}
-use Rattle.hwp_table.proofs.Rotating.{length-in_rule}
-use Rattle.hwp_table.proofs.Ruling.{Of, each-one}
-use Rattle.hwp_table.proofs.Times.{times-append, times-cons}
+use Rattle.hwp_core_rule.specs.declared.View.{View}
+use Rattle.hwp_core_rule.specs.Opening.{below, opening, opening_homes, opening_view, opening_words}
+use Rattle.hwp_core_rule.specs.Rule.{Holds}
+use Rattle.hwp_core_rule.proofs.Lists.{at_map, at_set, map-was, set_here}
+use Rattle.hwp_core_rule.proofs.BoardOpens.{opening-holds}
+use Rattle.hwp_core_rule.proofs.WordsOpen.{below-at, length-below}
+use Rattle.hwp_plain.specs.Boards.{IsReached}
+use Rattle.hwp_table_words.specs.Known.{Whole, first_known, note, with_note}
+use Rattle.hwp_table_words.specs.Seats.{SeatValue, mine}
+use Rattle.hwp_table_words.specs.Stands.{Me}
+use Rattle.hwp_table_words.proofs.Opened.{times-in}
+use Rattle.hwp_table.specs.Boards.{IsSeatBoard, state_of}
+use Rattle.hwp_table.specs.Seats.{AreSeats, IsHeld, IsSeatOf, seat_open, whole_at, with_rights}
+use Rattle.hwp_table.specs.Turns.{played}
+use Rattle.hwp_table.proofs.SeatRights.{mines-set, seats-set, whole-there}
 
--- the numbers below n, each once
-below-less : (n i c : ℕ) → slice_get (below n) i ≡ Some c → c < n
-below-less zero i c e = absurd (none-some c e)
-below-less (suc n) i c e = elim (at_push (below n) n c i e) [
-  | inl was ↦ let less = below-less n i c was in omega (arith, less)
-  | inr last ↦ omega (arith, last)
-]
+map-mines : (id : TableId) (layout : Layout) (l : List ℕ) → map mine (map (seat_open id layout) l) ≡ map opening_view l
+map-mines id layout [] = refl
+map-mines id layout (x ∷ xs) = ap (λ (l : List View). opening_view x ∷ l) (map-mines id layout xs)
 
-one-last : (n c : ℕ) → times c (below (suc n)) ≡ times c (below n) + from_bool (n == c)
-one-last n c = let all = times-append c (below n) (n ∷ []) in let one = times-cons c n [] in omega (arith, all, one)
+module _ (id : TableId) (layout : Layout) (sound : IsSound layout) where
+  abbrev dealt : List SeatValue
+  dealt = map (seat_open id layout) (below layout.cpus)
 
-times-out : (n c : ℕ) → n ≤ c → times c (below n) ≡ 0
-times-out zero c less = refl
-times-out (suc n) c less =
-    let all = one-last n c in
-    let none = from_bool-other n c (λ e. omega (arith, e, less)) in
-    let rest = times-out n c (omega (arith, less)) in
-    omega (arith, all, none, rest)
+  -- the first, with all rights
+  abbrev pub first : SeatValue
+  first = with_rights (seat_open id layout 0) (first_known layout)
 
-times-once : (n c : ℕ) → times c (below n) ≤ 1
-times-once zero c = omega arith
-times-once (suc n) c = let all = one-last n c in elim (same-or n c) [
-  | inl same ↦ let one = from_bool-same n c same in let rest = times-out n c (omega (arith, same)) in omega (arith, all, one, rest)
-  | inr other ↦ let none = from_bool-other n c other in let rest = times-once n c in omega (arith, all, none, rest)
-]
+  abbrev seats : List SeatValue
+  seats = set dealt 0 first
 
-pub times-in : (n c : ℕ) → c < n → 0 < times c (below n)
-times-in zero c less = absurd (omega (arith, less))
-times-in (suc n) c less = let all = one-last n c in elim (same-or n c) [
-  | inl same ↦ let one = from_bool-same n c same in omega (arith, all, one)
-  | inr other ↦ let rest = times-in n c (omega (arith, less, other)) in omega (arith, all, rest)
-]
+  abbrev w : Whole
+  w = record { words = opening_words layout; homes = opening_homes layout; log = [] }
 
-own-view : (n i : ℕ) (y : ℕ × View) → slice_get (map (λ (c : ℕ). (c, opening_view c)) (below n)) i ≡ Some y → slice_get (map opening_view (below n)) y.0 ≡ Some y.1
-own-view n i y e =
-    let was = map-was (λ (c : ℕ). (c, opening_view c)) (below n) i y e in
-    subst (λ (x : ℕ × View). slice_get (map opening_view (below n)) x.0 ≡ Some x.1) was.2 (at_map opening_view (below n) was.0 was.0 (below-at n was.0 (below-less n i was.0 was.1)))
+  first-there : slice_get dealt 0 ≡ Some (seat_open id layout 0)
+  first-there = at_map (seat_open id layout) (below layout.cpus) 0 0 (below-at layout.cpus 0 sound.some_cpu)
 
-homes-some : (slots : List Content) → map home_of (map some slots) ≡ map home_with slots
-homes-some [] = refl
-homes-some (x ∷ xs) = λ i. Some (Rattle.hwp_step.specs.Calls.logs x) ∷ homes-some xs i
+  each-dealt : (i : ℕ) (s : SeatValue) → slice_get dealt i ≡ Some s → seat_open id layout i ≡ s
+  each-dealt i s e =
+      let was = map-was (seat_open id layout) (below layout.cpus) i s e in
+      let within : i < layout.cpus = subst (λ (n : ℕ). i < n) (length-below layout.cpus) (slice_get_within (below layout.cpus) i was.0 was.1) in
+      let number : i ≡ was.0 = same_Some i was.0 (sym (below-at layout.cpus i within) ∙ was.1) in
+      ap (seat_open id layout) number ∙ was.2
 
-module _ (layout : Layout) (words : List ℕ) (slots : List Content) (sound : IsSound layout) (words-are : in_rule words ≡ opening_words layout) (homes-are : map home_with slots ≡ opening_homes layout) where
-  abbrev pub opened : Table
-  opened = table.opening words slots (first_known layout)
+  are : AreSeats id layout seats
+  are = seats-set id layout dealt 0 first (record {
+    count = length-map (below layout.cpus) (seat_open id layout) ∙ length-below layout.cpus;
+    each = λ i s e. subst (IsSeatOf id layout i) (each-dealt i s e) (record { table = refl; layout_is = refl; number_is = refl; one = refl });
+  }) (record { table = refl; layout_is = refl; number_is = refl; one = refl })
 
-  state-open : stand (map opening_view (below layout.cpus)) opened ≡ opening layout
-  state-open = λ i. record { words = words-are i; homes = (homes-some slots ∙ homes-are) i; views = map opening_view (below layout.cpus) }
+  there : slice_get seats 0 ≡ Some first
+  there = set_here dealt 0 first (seat_open id layout 0) first-there
 
-  single : (f : Known → ℕ) → f (first_known layout) ≤ 1 → sum_by f (first_known layout ∷ []) ≤ 1
-  single f less = let all = sum_by-cons f (first_known layout) [] in omega (arith, all, less)
-
-  first-whole : (w : Whole) → (first_known layout).whole ≡ Some w → IsWhole layout (opening layout) [] (below layout.cpus) w
-  first-whole w e = subst (IsWhole layout (opening layout) [] (below layout.cpus)) (same_Some _ w e) (record { words = refl; homes = refl; moves = refl; all = times-in layout.cpus })
-
-  first-ruled : Ruled layout (opening layout) [] (first_known layout ∷ [])
-  first-ruled = record {
-    mines = each-one (λ (v : Known). EachMember (Of (opening layout)) v.mines) (first_known layout) (own-view layout.cpus);
-    own = each-one (IsOwn []) (first_known layout) (first-own (first_known layout) refl);
-    one_view = λ c. single (λ (v : Known). views_for c v.mines)
-        (subst (λ (n : ℕ). n ≤ 1) (sym (sum-map (λ (x : ℕ × View). from_bool (x.0 == c)) (λ (d : ℕ). (d, opening_view d)) (below layout.cpus))) (times-once layout.cpus c));
-    one_right = λ c. single (λ (v : Known). times c v.rights) (times-once layout.cpus c);
-    whole = each-one (λ (v : Known). (w : Whole) → v.whole ≡ Some w → IsWhole layout (opening layout) [] v.rights w) (first_known layout) first-whole;
+  held : IsHeld layout seats 0 w
+  held = record {
+    seat = first;
+    there = there;
+    whole = refl;
+    all = λ c less. times-in layout.cpus c less;
+    others = λ i s other e. elim (at_set dealt 0 i first s e) [
+      | inl here ↦ absurd (other here.0)
+      | inr else ↦ ap (λ (t : SeatValue). t.known.whole) (sym (each-dealt i s else.1))
+    ];
   }
 
-  all-fit : EachMember (FitsLayout layout) slots → AreOfLayout layout opened.homes
-  all-fit each slot content e =
-      let was = map-was some slots slot (some content) (as-slice (map some slots) slot (some content) e) in
-      subst (FitsLayout layout) (some-injective was.0 content was.2) (each slot was.0 was.1)
+  at : whole_at seats 0 ≡ w
+  at = whole-there seats 0 first w there refl
 
-  pub opens : EachMember (FitsLayout layout) slots → Reached layout opened
-  opens each = record {
-    sound = sound;
-    log = [];
-    views = map opening_view (below layout.cpus);
-    run = state-open;
-    ruled = subst (λ (s : State). Ruled layout s [] (first_known layout ∷ [])) (sym state-open) first-ruled;
-    bodies = all-fit each;
+  pub state-open : state_of seats 0 ≡ opening layout
+  state-open = λ i. record { words = (at i).words; homes = (at i).homes; views = (mines-set dealt 0 (seat_open id layout 0) first first-there refl ∙ map-mines id layout (below layout.cpus)) i }
+
+  pub log-open : (whole_at seats 0).log ≡ []
+  log-open = ap (λ (x : Whole). x.log) at
+
+  pub board-open : IsSeatBoard id layout seats 0 [] 0
+  board-open = record {
+    are = are;
+    held = subst (IsHeld layout seats 0) (sym at) held;
+    reached = subst (λ (x : Whole). IsReached layout (played x.log []) (state_of seats 0)) (sym at) (record { run = state-open; holds = subst (Holds layout) (sym state-open) (opening-holds layout sound) });
+    count = sym (ap length log-open);
+    seated = sound.some_cpu;
   }
 
-  pub counted-words : length words ≡ size layout
-  counted-words = sym (length-in_rule words) ∙ ap length words-are ∙ (opening-holds layout sound).words
+  -- the same of the seats as the code makes them
+  module _ (items : List SeatValue) (items-are : items ≡ dealt) (s : SeatValue) (s-at : s ≡ get_or items 0 s) where
+    pub s-is : s ≡ seat_open id layout 0
+    s-is = s-at ∙ ap (λ (l : List SeatValue). get_or l 0 s) items-are ∙ get_or_from_slice_get dealt 0 (seat_open id layout 0) s first-there
 
-  pub counted-slots : length slots ≡ layout.frames + length layout.pages
-  counted-slots = sym (length-map slots home_with) ∙ ap length homes-are ∙ homes-length layout
+    module _ (n : Me) (n-is : n ≡ (note (first_known layout), [])) (g : SeatValue) (g-is : g ≡ record s { known = with_note s.known n.0 }) where
+      seats-now : set items 0 g ≡ seats
+      seats-now = λ i. set (items-are i) 0 ((g-is ∙ (λ j. record (s-is j) { known = with_note (s-is j).known (n-is j).0 })) i)
+
+      pub board-now : IsSeatBoard id layout (set items 0 g) 0 [] 0
+      board-now = subst (λ (l : List SeatValue). IsSeatBoard id layout l 0 [] 0) (sym seats-now) board-open
+
+      pub state-now : state_of (set items 0 g) 0 ≡ opening layout
+      state-now = ap (λ (l : List SeatValue). state_of l 0) seats-now ∙ state-open
+
+      pub log-now : played (whole_at (set items 0 g) 0).log [] ≡ []
+      log-now = ap (λ (l : List SeatValue). played (whole_at l 0).log []) seats-now ∙ ap (λ (x : Whole). played x.log []) at

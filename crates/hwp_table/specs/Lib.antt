@@ -1,9 +1,3 @@
-pub mod Order
-pub mod Operations
-pub mod Known
-pub mod Stands
-pub mod Rules
-pub mod Carrying
-pub mod Plays
 pub mod Seats
-pub mod Ends
+pub mod Turns
+pub mod Boards

@@ -1,86 +1,100 @@
--- One seat with the slots that it carries.
-use Rattle.std.specs.Prelude.{◌≡◌, ℕ, ◌+◌, ◌<◌, List, [], ◌∷◌, ◌++◌, Some, map, length}
+-- The seats of a board, one for each processor. One of them has all rights, and knows the whole.
+use Rattle.std.specs.Prelude.{◌≡◌, ◌≢◌, ℕ, ◌<◌, ◌≤◌, List, [], ◌∷◌, ◌++◌, Option, Some, None, length, map, slice_get, slice_set}
 use Rattle.atomic_table.specs.Seated.{TableId}
 use Rattle.hwp_geom.specs.declared.Layout.{Layout}
-use Rattle.hwp_geom.specs.Layout.{IsSound}
-use Rattle.hwp_rule.specs.declared.FrameLock.{FrameLock}
-use Rattle.hwp_rule.specs.declared.PageLock.{PageLock}
-use Rattle.hwp_rule.specs.declared.Rec.{Rec}
-use Rattle.hwp_rule.specs.declared.View.{View}
-use Rattle.hwp_rule.specs.Lists.{SomeMember}
-use Rattle.hwp_rule.specs.Opening.{opening_view}
-use Rattle.hwp_rule.specs.Slots.{slot_move}
-use Rattle.hwp_rule.specs.Steps.{place_of}
-use Rattle.hwp_rule.specs.Words.{index, size}
-use Rattle.hwp_step.specs.Calls.{CanMake}
-use Rattle.hwp_table.specs.Carrying.{vacant}
-use Rattle.hwp_table.specs.Known.{Known, Whole, known_after, times}
-use Rattle.hwp_table.specs.Order.{in_table}
-use Rattle.hwp_table.specs.Plays.{Call, Finds, IsFront}
-use Rattle.hwp_table.specs.Stands.{Content, Me}
+use Rattle.hwp_core_rule.specs.declared.View.{View}
+use Rattle.hwp_core_rule.specs.Lists.{EachMember}
+use Rattle.hwp_core_rule.specs.Opening.{opening_view}
+use Rattle.hwp_core_rule.specs.parts.Holdings.{HoldsNothing}
+use Rattle.hwp_table_words.specs.Known.{Known, Whole, let_go, note, times, views_for, with_note}
+use Rattle.hwp_table_words.specs.Seats.{IsTableOf, SeatValue, cpu, mine}
+use Rattle.hwp_table_words.specs.Stands.{Me}
 
--- the processor of a seat that has one view, and that view
-abbrev pub cpu_of : List (ℕ × View) → ℕ
-cpu_of [] = 0
-cpu_of (x ∷ xs) = x.0
+-- what a seat knows of the whole
+abbrev pub no_whole : Whole
+no_whole = record { words = []; homes = []; log = [] }
 
-abbrev pub mine_of : List (ℕ × View) → View
-mine_of [] = opening_view 0
-mine_of (x ∷ xs) = x.1
+abbrev pub whole_in : Option Whole → Whole
+whole_in None = no_whole
+whole_in (Some w) = w
 
--- what clauses see of a seat: which table it is of, the machine, and what it knows
-pub record SeatValue : Type 0 where
+abbrev pub whole_of : Option SeatValue → Whole
+whole_of None = no_whole
+whole_of (Some s) = whole_in s.known.whole
+
+abbrev pub whole_at : List SeatValue → ℕ → Whole
+whole_at seats holder = whole_of (slice_get seats holder)
+
+-- each seat is at this table, and has the view of the processor of its number
+pub record IsSeatOf (id : TableId) (layout : Layout) (number : ℕ) (s : SeatValue) : Type 0 where
+  pub table : s.table ≡ id
+  pub layout_is : s.layout ≡ layout
+  pub number_is : cpu s ≡ number
+  pub one : s.known.mines ≡ (cpu s, mine s) ∷ []
+
+pub record AreSeats (id : TableId) (layout : Layout) (seats : List SeatValue) : Type 0 where
+  pub count : length seats ≡ layout.cpus
+  pub each : (i : ℕ) (s : SeatValue) → slice_get seats i ≡ Some s → IsSeatOf id layout i s
+
+-- one seat has all rights and knows this of the whole, and no other knows it
+pub record IsHeld (layout : Layout) (seats : List SeatValue) (holder : ℕ) (w : Whole) : Type 0 where
+  pub seat : SeatValue
+  pub there : slice_get seats holder ≡ Some seat
+  pub whole : seat.known.whole ≡ Some w
+  pub all : (c : ℕ) → c < layout.cpus → 0 < times c seat.known.rights
+  pub others : (i : ℕ) (s : SeatValue) → i ≢ holder → slice_get seats i ≡ Some s → s.known.whole ≡ None
+
+-- a seat whose rights are gone, and one that took those of another
+abbrev pub without_rights : SeatValue → SeatValue
+without_rights s = record s { known = let_go s.known }
+
+abbrev pub with_rights : SeatValue → Known → SeatValue
+with_rights s v = record s { known = with_note s.known (note v) }
+
+-- all rights went from one seat to another
+pub record Handed (a b : List SeatValue) (from to : ℕ) : Type 0 where
+  pub giver : SeatValue
+  pub taker : SeatValue
+  pub from_there : slice_get a from ≡ Some giver
+  pub to_there : slice_get (slice_set a from (without_rights giver)) to ≡ Some taker
+  pub next : b ≡ slice_set (slice_set a from (without_rights giver)) to (with_rights taker giver.known)
+
+-- the seats at opening: each has its view, and none has a right yet
+abbrev pub seat_open : TableId → Layout → ℕ → SeatValue
+seat_open id layout c = record { table = id; layout = layout; known = record { mines = (c, opening_view c) ∷ []; own = []; rights = []; whole = None } }
+
+-- no table
+abbrev pub no_table : TableId
+no_table = record { words = 0; slots = 0; views_name = 0; atom = 0; block = 0; offset = 0; slot_names = [] }
+
+-- The seats that are left are a front of all, and one seat has what the others had. It has the rights if their holder is not
+-- among those that are left.
+pub record IsGathered (id : TableId) (layout : Layout) (all : List SeatValue) (holder : ℕ) (w : Whole) (left : List SeatValue) (of : TableId) (me : Me) : Type 0 where
+  pub rest : List SeatValue
+  pub front : all ≡ left ++ rest
+  pub same : of ≡ id
+  pub bare : me.1 ≡ []
+  pub views : EachMember (λ (x : ℕ × View). slice_get (map mine all) x.0 ≡ Some x.1) me.0.mines
+  pub each : (c : ℕ) → length left ≤ c → c < layout.cpus → 0 < views_for c me.0.mines
+  pub none : holder < length left → me.0.whole ≡ None
+  pub whole : length left ≤ holder → me.0.whole ≡ Some w
+
+-- the seats of a board, none of which holds anything
+pub record CanGather (id : TableId) (layout : Layout) (all : List SeatValue) (holder : ℕ) (w : Whole) : Type 0 where
+  pub are : AreSeats id layout all
+  pub held : IsHeld layout all holder w
+  pub some_cpu : 0 < layout.cpus
+  pub nothing : EachMember HoldsNothing (map mine all)
+
+-- which seats these are
+pub record Gathering : Type 0 where
   pub table : TableId
   pub layout : Layout
-  pub known : Known
+  pub holder : ℕ
+  pub whole : Whole
 
-abbrev pub cpu : SeatValue → ℕ
-cpu s = cpu_of s.known.mines
-
-abbrev pub mine : SeatValue → View
-mine s = mine_of s.known.mines
-
--- the slots of the locks that a view lists
-abbrev pub slots_of : Layout → View → List ℕ
-slots_of layout v = map (λ (l : FrameLock). l.frame.0) v.locks ++ map (λ (q : ℕ). layout.frames + q) (map (λ (l : PageLock). l.page.0) v.pages)
-
--- a table has a word and a slot for all that the layout has
-pub record IsTableOf (layout : Layout) (id : TableId) : Type 0 where
-  pub sound : IsSound layout
-  pub words : id.words ≡ size layout
-  pub slots : id.slots ≡ layout.frames + length layout.pages
-
--- the slots that a seat with this view carries are those of its locks, in this order, and nothing is in them between its steps
-pub record Carries (layout : Layout) (view : View) (slots : List (ℕ × Content)) (order : List ℕ) : Type 0 where
-  pub empty : slots ≡ vacant order
-  pub same : (slot : ℕ) → times slot order ≡ times slot (slots_of layout view)
-  pub few : length order ≡ length (slots_of layout view)
-
--- the step can be played as this call: by this seat of the table, which has the processor's view and right, on this word
-pub record CanPlay (id : TableId) (layout : Layout) (call : Call) (of : TableId) (me : Me) (word : ℕ) : Type 0 where
-  pub same : of ≡ id
-  pub table : IsTableOf layout id
-  pub layout_is : call.layout ≡ layout
-  pub word_is : word ≡ in_table (size layout) (index layout (place_of call.step))
-  pub inside : word < id.words
-  pub view : SomeMember (λ (x : ℕ × View). x ≡ (call.cpu, call.mine)) me.0.mines
-  pub right : 0 < times call.cpu me.0.rights
-  pub can : CanMake layout call.who call.step call.put call.mine
-  pub front : (found : ℕ) → IsFront (slot_move layout call.step found) call.put me.1
-
--- what a seat with its table is: it has the view of one processor
-pub record IsSeat (layout key : Layout) (id of : TableId) (me : Me) (order : List ℕ) : Type 0 where
-  pub key_is : key ≡ layout
-  pub table : IsTableOf layout id
-  pub same : of ≡ id
-  pub one : me.0.mines ≡ (cpu_of me.0.mines, mine_of me.0.mines) ∷ []
-  pub carries : Carries layout (mine_of me.0.mines) me.1 order
-
--- it has the right to make steps of its processor
-abbrev pub HasRight : Known → Type 0
-HasRight v = 0 < times (cpu_of v.mines) v.rights
-
--- one step of the seat: what it knows then, and that it met what it knew where it knew the whole
-pub record Moves (a : SeatValue) (r : Rec) (b : SeatValue) : Type 0 where
-  pub next : b ≡ record a { known = known_after a.layout (cpu a) r a.known }
-  pub found : (w : Whole) → a.known.whole ≡ Some w → Finds a.layout r w
+-- the seats are these, at the table of this sheet
+pub record AreThese (g : Gathering) (sheet : TableId) (all : List SeatValue) : Type 0 where
+  pub sheet_is : sheet ≡ g.table
+  pub table_is : IsTableOf g.layout g.table
+  pub can : CanGather g.table g.layout all g.holder g.whole

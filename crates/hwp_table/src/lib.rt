@@ -1,22 +1,12 @@
-//! The machine's words and page bodies in one table of atomic words, for many threads. The frame rule is the rule of the
-//! table, so that it holds between any two steps of any threads. A processor has a seat, which makes its steps.
+//! The processors of a machine as seats at one table, under a scheduler: one seat at a time has all rights, and makes one
+//! step. That the moves of the board led from the opening to it, and that the frame rule holds of it, stands in its type.
 #![tactic(auto)]
 
-mod baton;
-mod carrying;
-mod closing;
-mod knowledge;
-mod opening;
-mod operation;
+mod board;
+mod dealing;
+mod hand;
 mod ops;
-mod plays;
-mod seat;
-mod steps;
-mod words;
+mod turns;
 
-pub use baton::{join, let_go, split};
-pub use closing::{Ended, close};
-pub use knowledge::Knowledge;
-pub use opening::begin;
-pub use plays::{Pass, Rule, Sheet, Slot, WordTable};
-pub use seat::SeatOps;
+pub use board::{OfTable, SeatBoard};
+pub use hwp_table_words::{Ended, Pass, SeatOps, Sheet, WordTable, begin, close, join, split};

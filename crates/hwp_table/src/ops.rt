@@ -1,17 +1,19 @@
-use crate::seat::SeatOps;
-use hwp_geom::{Layout, Who};
+ghost use Rattle.std.specs.Prelude.{◌≡◌, true};
+
+use crate::board::{OfTable, SeatBoard};
+use hwp_core_rule::Step;
+use hwp_core_task::{Board, Met, Ops, Task, Turn, advance};
+use hwp_geom::{Cpu, Kind, Layout, Who};
 use hwp_page::Body;
-use hwp_rule::Step;
-use hwp_step::{Met, Ops};
 
-impl<'a> Ops for SeatOps<'a> {
-    ghost use Rattle.hwp_table.specs.Seats.{HasRight, Moves, mine};
+impl<'a, N: OfTable> Ops for SeatBoard<'a, N> {
+    ghost use Rattle.hwp_plain.specs.Boards.{own_view, Moves};
 
-    ghost machine = { λ s. s.layout };
+    ghost machine = { λ b. b.layout };
 
-    ghost view = { λ s. mine s };
+    ghost view = { λ b. own_view b };
 
-    ghost ready = { λ s. HasRight s.known };
+    ghost ready = { λ b. b.ready ≡ true };
 
     ghost moves = { λ a r b. Moves a r b };
 
@@ -21,5 +23,27 @@ impl<'a> Ops for SeatOps<'a> {
 
     fn step(&mut self, who: Who, step: &Step, body: Option<Body>) -> Met {
         self.make(who, step, body)
+    }
+}
+
+impl<'a, N: OfTable> Board for SeatBoard<'a, N> {
+    ghost machine = { λ b. b.layout };
+
+    ghost state = { λ b. b.state };
+
+    ghost seat = { λ b cpu. cpu.0 };
+
+    ghost log = { λ b. b.log };
+
+    fn keeps(&self) {
+        self.reached();
+    }
+
+    fn advance<M: Task>(&mut self, cpu: Cpu, task: &mut M) -> (Turn, Option<Kind>) {
+        self.begin(cpu);
+        let turn = advance(task, self);
+        self.end(turn);
+        self.keeps();
+        (turn, self.made())
     }
 }

@@ -1,2 +1,3 @@
-pub mod Growing
-pub mod Taking
+pub mod WorkerRuns
+pub mod WorkerTurn
+pub use Rattle.hwp_threads_order.proofs as of_hwp_threads_order

@@ -3,11 +3,11 @@ use Rattle.std.specs.Prelude.{◌≡◌, ℕ, false, List, [], ◌∷◌, Some, 
 use Rattle.crossbeam_utils.specs.declared.CachePadded.{CachePadded}
 use Rattle.crossbeam_utils.specs.Padded.{padded_value}
 use Rattle.hwp_geom.specs.declared.Layout.{Layout}
-use Rattle.hwp_rule.specs.declared.Rec.{Rec}
-use Rattle.hwp_rule.specs.declared.View.{View}
-use Rattle.hwp_rule.specs.Lists.{EachMember}
-use Rattle.hwp_step.specs.Ranks.{Member, is_refused}
-use Rattle.hwp_interleaved.specs.Own.{IsOwnRun, Standing, Turned, made_of}
+use Rattle.hwp_core_task.specs.hwp_core_rule.declared.Rec.{Rec}
+use Rattle.hwp_core_task.specs.hwp_core_rule.declared.View.{View}
+use Rattle.hwp_core_task.specs.hwp_core_rule.Lists.{EachMember}
+use Rattle.hwp_core_task.specs.Ranks.{Member, is_refused}
+use Rattle.hwp_threads_order.specs.Own.{IsOwnRun, Standing, Turned, made_of}
 use Rattle.hwp_threads.specs.declared.worker.Worker.{Worker}
 
 -- a seat that can make a step can make another one after it

@@ -1,7 +1,7 @@
 use hwp_geom::Cpu;
 
 /// Where a worker stands in a command of its processor.
-#[derive(Clone, Copy, Debug, PartialEq, Eq)]
+#[derive(Clone, Copy)]
 pub enum Point {
     /// The command's first turn is made.
     Begun,
@@ -16,7 +16,7 @@ pub trait Gate {
 }
 
 /// A gate that does nothing.
-#[derive(Clone, Copy, Debug, Drop)]
+#[derive(Clone, Copy, Drop)]
 pub struct Open;
 
 impl Gate for Open {

@@ -1,13 +1,13 @@
 ghost use Rattle.std.specs.Prelude.{◌≡◌, All, length};
 ghost use Rattle.crossbeam_utils.specs.Padded.{padded_value};
-ghost use Rattle.hwp_step.specs.Ranks.{member};
+ghost use Rattle.hwp_core_task.specs.Ranks.{member};
 ghost use Rattle.hwp_threads.specs.Workers.{AllRan, CanRun, RanToEnd, StaysReady};
 
 use crate::gate::{Gate, Point};
 use crate::worker::Worker;
 use crossbeam_utils::{Backoff, CachePadded};
+use hwp_core_task::{Ops, Scheduled, Turn};
 use hwp_geom::Who;
-use hwp_step::{Ops, Scheduled, Turn};
 use std::sync::Wait;
 use std::thread;
 use std::thread::Threads;

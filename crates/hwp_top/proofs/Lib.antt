@@ -1,2 +1,3 @@
+mod ReportLevel
 pub mod Statuses
 pub mod Completes

@@ -1,68 +1,23 @@
--- The statuses of the top call are those of its list.
-use Rattle.std.specs.Prelude.{◌≡◌, ℕ, List, [], ◌∷◌, Contains, Bool, true, false, if◌then◌else◌, is_some, ◌⊎◌, Option, Some, None}
+-- The statuses of the top call for runs on threads are those of its list.
+use Rattle.std.specs.Prelude.{◌≡◌, ℕ, List, ◌⊎◌, Option, Some, None}
 use Rattle.std.proofs.Common.{lit<, refl, subst, sym, inl, inr}
-use Rattle.hwp_report.specs.declared.Report.{Report}
-use Rattle.hwp_table.specs.Ends.{EndValue}
-use Rattle.hwp_top.specs.declared.served.Call.{Call}
-use Rattle.hwp_top.specs.declared.served.Call.TheVariants as calls
-use Rattle.hwp_check_rules.specs.declared.verdicts.Verdict.{Verdict}
-use Rattle.hwp_check_rules.specs.declared.verdicts.Verdict.TheVariants as verdicts
-use Rattle.hwp_top.specs.Checked.{verdict_status}
-use Rattle.hwp_top.specs.Outputs.{IsOutputOf}
-use Rattle.hwp_top.specs.Top.{IsDone, done_status}
+use Rattle.hwp_report_text.specs.declared.Report.{Report}
+use Rattle.hwp_top_step.specs.hwp_table_words.Ends.{EndValue}
+use Rattle.hwp_top_step.specs.Outputs.{HasRun}
+use Rattle.hwp_top_step.specs.Top.{IsDone}
+use Rattle.hwp_top_step.proofs.Statuses.{RunStatus, report_is_done, report_is_run_status}
+use Rattle.hwp_top.specs.Top.{IsThreaded}
 
-abbrev Listed : ℕ → Type 0
-Listed n = Contains (0 ∷ 1 ∷ 2 ∷ 3 ∷ 4 ∷ 5 ∷ 6 ∷ 8 ∷ []) n
+module _ (left left' : Option (List ℕ)) (status : ℕ) (text : List ℕ) where
+  -- the output of `run` has the status of a report that is written
+  pub output-done : (report : Option Report) (ended : Option EndValue) → HasRun report ended (IsThreaded left left' status text) → IsDone status
+  output-done (Some report) (Some ended) o = subst IsDone (sym o.status_is) (report_is_done report)
+  output-done (Some report) None o = elim o [ ]
+  output-done None ended o = elim o [ ]
 
-done_is_listed : (n : ℕ) → IsDone n → Listed n
-done_is_listed n (inl zero) = subst Listed (sym zero) (0, lit< tt, refl)
-done_is_listed n (inr (inl one)) = subst Listed (sym one) (1, lit< tt, refl)
-done_is_listed n (inr (inr eight)) = subst Listed (sym eight) (7, lit< tt, refl)
-
-pub fault_is_listed : (n : ℕ) → (n ≡ 3) ⊎ ((n ≡ 4) ⊎ (n ≡ 6)) → Listed n
-fault_is_listed n (inl is) = subst Listed (sym is) (3, lit< tt, refl)
-fault_is_listed n (inr (inl is)) = subst Listed (sym is) (4, lit< tt, refl)
-fault_is_listed n (inr (inr is)) = subst Listed (sym is) (6, lit< tt, refl)
-
-pub report_is_done : (report : Report) → IsDone (done_status report)
-report_is_done report = by (is_some report.stop)
-  where
-    by : (stopped : Bool) → IsDone (if stopped then 8 else 0)
-    by true = inr (inr refl)
-    by false = inl refl
-
-verdict_is_done : (verdict : Verdict) → IsDone (verdict_status verdict)
-verdict_is_done verdicts.Legal = inl refl
-verdict_is_done (verdicts.Not place rule) = inr (inl refl)
-
--- an output has the status of a call that is done
-output_is_done : (call : Call) (left left' : Option (List ℕ)) (status : ℕ) (text : List ℕ) (report : Option Report) (ended : Option EndValue) → IsOutputOf call left left' status text report ended → IsDone status
-output_is_done calls.Step left left' status text (Some report) (Some ended) o = subst IsDone (sym o.status_is) (report_is_done report)
-output_is_done calls.Step left left' status text (Some report) None o = elim o [ ]
-output_is_done calls.Step left left' status text None ended o = elim o [ ]
-output_is_done calls.Check left left' status text report ended o = subst IsDone (sym o.0.status_is) (verdict_is_done o.0.verdict)
-output_is_done (calls.Gen seed) left left' status text report ended o = inl o.1
-output_is_done (calls.Sum seed) left left' status text (Some report) (Some ended) o = inl o.status_is
-output_is_done (calls.Sum seed) left left' status text (Some report) None o = elim o [ ]
-output_is_done (calls.Sum seed) left left' status text None ended o = elim o [ ]
-
--- an output that is written, whole or in part, ends with a status of the list
-pub output_is_listed : (call : Call) (left left' : Option (List ℕ)) (status n : ℕ) (text : List ℕ) (report : Option Report) (ended : Option EndValue) → IsOutputOf call left left' status text report ended → (n ≡ status) ⊎ (n ≡ 5) → Listed n
-output_is_listed call left left' status n text report ended o (inl whole) = subst Listed (sym whole) (done_is_listed status (output_is_done call left left' status text report ended o))
-output_is_listed call left left' status n text report ended o (inr cut) = subst Listed (sym cut) (5, lit< tt, refl)
-
--- the statuses of a call that gives one run, by its report or its trace: all of the list but 1, which is a verdict's
-abbrev pub RunStatus : ℕ → Type 0
-RunStatus n = Contains (0 ∷ 2 ∷ 3 ∷ 4 ∷ 5 ∷ 6 ∷ 8 ∷ []) n
-
-pub fault_is_run_status : (n : ℕ) → (n ≡ 3) ⊎ ((n ≡ 4) ⊎ (n ≡ 6)) → RunStatus n
-fault_is_run_status n (inl is) = subst RunStatus (sym is) (2, lit< tt, refl)
-fault_is_run_status n (inr (inl is)) = subst RunStatus (sym is) (3, lit< tt, refl)
-fault_is_run_status n (inr (inr is)) = subst RunStatus (sym is) (5, lit< tt, refl)
-
-pub report_is_run_status : (report : Report) → RunStatus (done_status report)
-report_is_run_status report = by (is_some report.stop)
-  where
-    by : (stopped : Bool) → RunStatus (if stopped then 8 else 0)
-    by true = (6, lit< tt, refl)
-    by false = (0, lit< tt, refl)
+  -- and where it is written, whole or in part, the call ends with a status of the list
+  pub output-listed : (report : Option Report) (ended : Option EndValue) (n : ℕ) → HasRun report ended (IsThreaded left left' status text) → (n ≡ status) ⊎ (n ≡ 5) → RunStatus n
+  output-listed (Some report) (Some ended) n o (inl whole) = subst RunStatus (sym whole) (subst RunStatus (sym o.status_is) (report_is_run_status report))
+  output-listed (Some report) None n o (inl whole) = elim o [ ]
+  output-listed None ended n o (inl whole) = elim o [ ]
+  output-listed report ended n o (inr cut) = subst RunStatus (sym cut) (4, lit< tt, refl)

@@ -1,92 +1,33 @@
--- What the top call promises: of what was read, of what was written, and of each status.
-use Rattle.std.specs.Prelude.{◌≡◌, ◌≢◌, ℕ, ◌++◌, ◌==◌, if◌then◌else◌, List, [], ◌∷◌, Option, Some, None, is_some, codes, decimal, ◌⊎◌}
-use Rattle.std.specs.Io.KnownBytes.{Appends, Consumes, IsAtEnd}
-use Rattle.hwp_io.specs.Causes.{Rose}
-use Rattle.hwp_script.specs.declared.Script.{Script}
-use Rattle.hwp_script.specs.declared.Refused.{Refused}
-use Rattle.hwp_script.specs.declared.Why.{Why}
-use Rattle.hwp_script.specs.declared.Why.TheVariants as whys
-use Rattle.hwp_script.specs.Reads.{Reads, IsRefused}
-use Rattle.hwp_report.specs.declared.Report.{Report}
-use Rattle.hwp_law.specs.Law.{IsLawful}
-use Rattle.hwp_law.specs.Runs.{IsOfRun}
-use Rattle.hwp_table.specs.Ends.{EndValue}
-use Rattle.hwp_core.specs.Runs.{IsCoreRun, IsTableRun}
+-- What `run` writes.
+use Rattle.std.specs.Prelude.{◌≡◌, ℕ, List, [], ◌∷◌, Option, codes}
+use Rattle.hwp_top_step.specs.hwp_script_read.declared.Script.{Script}
+use Rattle.hwp_report_text.specs.declared.Report.{Report}
+use Rattle.hwp_report_text.specs.Text.{report_text}
+use Rattle.hwp_top_step.specs.hwp_law.Law.{IsLawful}
+use Rattle.hwp_top_step.specs.hwp_law.Runs.{IsOfRun}
+use Rattle.hwp_top_step.specs.hwp_table_words.Ends.{EndValue}
+use Rattle.hwp_top_threads.specs.Runs.{IsThreadRun}
+use Rattle.hwp_top_step.specs.Top.{Takes, done_status}
 
--- a source gave these bytes, and they are refused so: they are the text of no script; all reasons but the length need the whole input
-pub record Refuses (left left' : Option (List ℕ)) (refused : Refused) : Type 0 where
-  pub bytes : List ℕ
-  pub consumed : Consumes left left' bytes
-  pub whole : refused.why ≢ whys.TooLong → IsAtEnd left'
-  pub refusal : IsRefused bytes refused
+-- the words ask for a run on threads
+abbrev pub IsRun : List (List ℕ) → Type 0
+IsRun words = words ≡ codes "run" ∷ []
 
--- a source gave these bytes to its end, and they are the text of the script
-pub record Takes (left left' : Option (List ℕ)) (script : Script) : Type 0 where
-  pub bytes : List ℕ
-  pub consumed : Consumes left left' bytes
-  pub at_end : IsAtEnd left'
-  pub reads : Reads bytes script
-
--- the report is one of the script, and of a run of its processors on the written schedule; and the table at which they made that
--- run was closed with this
-pub record IsReportOfRun (script : Script) (report : Report) (ended : EndValue) : Type 0 where
+-- the report is one of the script, and of a run of its processors, each on a thread of its own; and the table at which they made
+-- that run was closed with this
+pub record IsReportOfThreads (script : Script) (report : Report) (ended : EndValue) : Type 0 where
   pub run : IsOfRun script report
   pub lawful : IsLawful script report
-  pub core : IsCoreRun script report
-  pub table : IsTableRun script report ended
+  pub threads : IsThreadRun script report ended
 
 -- the report is one of the script that a source gave
 pub record Reports (left left' : Option (List ℕ)) (report : Report) (ended : EndValue) : Type 0 where
   pub script : Script
   pub takes : Takes left left' script
-  pub report_of : IsReportOfRun script report ended
+  pub report_of : IsReportOfThreads script report ended
 
--- the name of a reason
-abbrev pub why_text : Why → List ℕ
-why_text whys.BadHeader = codes "BadHeader"
-why_text whys.UnknownWord = codes "UnknownWord"
-why_text whys.BadNumber = codes "BadNumber"
-why_text whys.OverLimit = codes "OverLimit"
-why_text whys.Undeclared = codes "Undeclared"
-why_text whys.Twice = codes "Twice"
-why_text whys.WrongPlace = codes "WrongPlace"
-why_text whys.NoEnd = codes "NoEnd"
-why_text whys.TooLong = codes "TooLong"
-
--- `script line L: WHY`, and a line feed
-abbrev pub refusal_text : Refused → List ℕ
-refusal_text refused = codes "script line " ++ (decimal refused.line ++ (codes ": " ++ (why_text refused.why ++ 10 ∷ [])))
-
--- a sink took the text, or its count of faults rose
-abbrev pub Told : Option (List ℕ) → Option (List ℕ) → ℕ → ℕ → List ℕ → Type 0
-Told taken taken' faults faults' text = Appends taken taken' text ⊎ Rose faults faults'
-
--- the texts of the statuses that have one text each
-abbrev pub usage_text : List ℕ
-usage_text = codes "usage: hwp step|run|check|gen N|sum N" ++ 10 ∷ []
-
-abbrev pub read_fault_text : List ℕ
-read_fault_text = codes "read fault" ++ 10 ∷ []
-
-abbrev pub write_fault_text : List ℕ
-write_fault_text = codes "write fault" ++ 10 ∷ []
-
-abbrev pub memory_text : List ℕ
-memory_text = codes "out of memory" ++ 10 ∷ []
-
--- the text that a status tells on the error sink, but for status 3, whose text names the line and the reason
-abbrev pub told_text : ℕ → Option (List ℕ)
-told_text status =
-    if status == 2 then Some usage_text
-    else if status == 4 then Some read_fault_text
-    else if status == 5 then Some write_fault_text
-    else if status == 6 then Some memory_text
-    else None
-
--- the whole output was written
-abbrev pub IsDone : ℕ → Type 0
-IsDone status = (status ≡ 0) ⊎ ((status ≡ 1) ⊎ (status ≡ 8))
-
--- the status of a report that was written: 8 where the machine stopped
-abbrev pub done_status : Report → ℕ
-done_status report = if is_some report.stop then 8 else 0
+-- the report of a script that a source gave, its text, and its status
+pub record IsThreaded (left left' : Option (List ℕ)) (status : ℕ) (text : List ℕ) (report : Report) (ended : EndValue) : Type 0 where
+  pub reports : Reports left left' report ended
+  pub status_is : status ≡ done_status report
+  pub text_is : text ≡ report_text report

@@ -1,16 +1,9 @@
-//! The top calls: a command's words and input to its output and status.
+//! The top call for runs on threads: the word `run` and its script to the report and the status.
 #![tactic(auto)]
 
 mod calls;
-mod checking;
-mod inputs;
-mod messages;
-mod outputs;
-mod served;
-mod words;
+mod running;
 
-pub use calls::{Done, deliver, tell_fault, top};
-pub use inputs::{InputFault, take_script};
-pub use messages::{USAGE, tell};
-pub use outputs::{Output, status_of};
-pub use served::Call;
+pub use calls::top_run;
+pub use hwp_threads::{Gate, Open, Point};
+pub use hwp_top_step::{Done, top};

@@ -6,7 +6,7 @@ mod showing;
 
 use calls::show;
 use hwp_io::{StdSink, StdSource};
-use hwp_top::Done;
+use hwp_top_step::Done;
 use std::process::ExitCode;
 use std::{env, io};
 

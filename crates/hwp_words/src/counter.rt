@@ -1,7 +1,7 @@
 /// The word of the two counts of memory failures (this project's rule). `poisoned` may be negative for a while: a frame's
 /// poison can be cleared before the failure that set it has counted it. So the word is `hardware * 2^32 + poisoned`
 /// modulo 2^64.
-#[derive(Clone, Copy, Debug, PartialEq, Eq)]
+#[derive(Clone, Copy, PartialEq, Eq)]
 pub struct CounterWord {
     /// Bits 32 to 63: the failures that a bank reported.
     pub hardware: u32,

@@ -15,7 +15,7 @@ pub const REFERENCE: u64 = 16;
 
 /// The word of a frame. The fields stand from bit 0 up (this project's rule; the notions are those of Linux's
 /// struct page).
-#[derive(Clone, Copy, Debug, PartialEq, Eq)]
+#[derive(Clone, Copy, PartialEq, Eq)]
 pub struct FrameWord {
     /// Bit 0: a processor works on the frame (Linux PG_locked).
     pub locked: bool,

@@ -5,7 +5,7 @@ use crate::field::field;
 use hwp_kill::Policy;
 
 /// The word of a thread's policy (this project's rule; the policies are those of prctl(2), PR_MCE_KILL).
-#[derive(Clone, Copy, Debug, PartialEq, Eq)]
+#[derive(Clone, Copy, PartialEq, Eq)]
 pub struct PolicyWord {
     /// Bits 0 and 1: 0 late, 1 early, 2 default.
     pub policy: Policy,

@@ -9,7 +9,7 @@ use crate::names::{frame_name, frame_named, page_name, page_named};
 use hwp_geom::{Frame, Line, Mask, Page, lowest_bit};
 
 /// The word of a page (this project's rule).
-#[derive(Clone, Copy, Debug, PartialEq, Eq)]
+#[derive(Clone, Copy, PartialEq, Eq)]
 pub struct PageWord {
     /// Bit 0: a processor works on the page.
     pub locked: bool,
@@ -36,7 +36,7 @@ impl PageWord {
 
 /// The cache word of a page: the frame that has the page's content (Linux's page cache and swap cache; the form is this
 /// project's rule).
-#[derive(Clone, Copy, Debug, PartialEq, Eq)]
+#[derive(Clone, Copy, PartialEq, Eq)]
 pub struct CacheWord {
     /// The whole word: the frame's number plus 1, or 0.
     pub frame: Option<Frame>,
@@ -62,7 +62,7 @@ impl CacheWord {
 }
 
 /// The word of a process (this project's rule).
-#[derive(Clone, Copy, Debug, PartialEq, Eq)]
+#[derive(Clone, Copy, PartialEq, Eq)]
 pub struct ProcessWord {
     /// The whole word: the page of the signal that ended the process, as its number plus 1, or 0.
     pub ended_by: Option<Page>,
@@ -88,7 +88,7 @@ impl ProcessWord {
 }
 
 /// A word of the free frames, one for each 64 frames (this project's rule).
-#[derive(Clone, Copy, Debug, PartialEq, Eq)]
+#[derive(Clone, Copy, PartialEq, Eq)]
 pub struct FreeWord {
     /// Bit `n` of word `k`: frame `64 * k + n` is free.
     pub frames: u64,
@@ -119,7 +119,7 @@ impl FreeWord {
 }
 
 /// The word of the free frames that nobody has reserved (this project's rule).
-#[derive(Clone, Copy, Debug, PartialEq, Eq)]
+#[derive(Clone, Copy, PartialEq, Eq)]
 pub struct AvailableWord {
     /// The whole word: how many they are.
     pub frames: u64,
@@ -142,7 +142,7 @@ impl AvailableWord {
 }
 
 /// The word of a frame's damaged lines: bad ones in one word, weak ones in another (this project's rule).
-#[derive(Clone, Copy, Debug, PartialEq, Eq)]
+#[derive(Clone, Copy, PartialEq, Eq)]
 pub struct DamageWord {
     /// Bit `n`: line `n` is damaged.
     pub lines: Mask,
@@ -177,7 +177,7 @@ impl DamageWord {
 
 /// The word of a file: what fsync(2) has not yet reported (the `errseq_t` of a Linux mapping; the form is this project's
 /// rule).
-#[derive(Clone, Copy, Debug, PartialEq, Eq)]
+#[derive(Clone, Copy, PartialEq, Eq)]
 pub struct LossWord {
     /// The whole word: the dirty pages lost since the last fsync.
     pub lost: u64,

@@ -6,7 +6,7 @@ use crate::names::{cpu_name, cpu_named};
 use hwp_geom::Cpu;
 
 /// The word that stops the machine (this project's rule).
-#[derive(Clone, Copy, Debug, PartialEq, Eq)]
+#[derive(Clone, Copy, PartialEq, Eq)]
 pub struct StopWord {
     /// Bits 0 to 7: the processor that stopped the machine, as its number plus 1, or 0.
     pub cpu: Option<Cpu>,

@@ -3,7 +3,7 @@ use crate::names::{frame_name, frame_named};
 use hwp_geom::Frame;
 
 /// The word of a translation, a page-table entry (this project's rule).
-#[derive(Clone, Copy, Debug, PartialEq, Eq)]
+#[derive(Clone, Copy, PartialEq, Eq)]
 pub enum Pte {
     /// No bit: the translation leads nowhere.
     Empty,

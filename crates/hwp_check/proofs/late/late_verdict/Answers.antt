@@ -1,9 +1,9 @@
 use Rattle.std.proofs.Common.{refl}
-use Rattle.hwp_check_rules.specs.Verdicts.{Frames}
+use Rattle.hwp_check_rules.specs.declared.Rule.TheVariants.{Frames}
 use Rattle.hwp_check.proofs.InOrder.{all-hold, one-more}
 use Rattle.hwp_check.proofs.late.late_verdict.Goals as goal
 
 pub returns-in-None : goal.returns-in-None
 returns-in-None c =
     all-hold c.args.script.now c.args.report.now
-    (one-more c.args.script.now c.args.report.now Frames 9 refl c.in_default-counted_verdict.ensures (rw c.in-None.is at c.in_ok-place.ensures))
+    (one-more c.args.script.now c.args.report.now Frames 9 refl c.in_default-counted_verdict.ensures (rw c.in-None.is at c.in_ok-line.ensures))

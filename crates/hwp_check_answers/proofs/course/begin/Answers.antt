@@ -1,5 +1,5 @@
 use Rattle.std.proofs.Common.{ℕ, [], ap, ◌∙◌}
-use Rattle.hwp_evidence.specs.Windows.{floors_of}
+use Rattle.hwp_check_evidence.specs.Windows.{floors_of}
 use Rattle.hwp_check_answers.proofs.CourseLaws.{begins}
 use Rattle.hwp_check_answers.proofs.course.begin.Goals as goal
 

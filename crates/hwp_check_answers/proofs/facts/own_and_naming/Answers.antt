@@ -1,8 +1,8 @@
 use Rattle.std.proofs.Common.{Option, List, false, ap, length, map, replicate, ◌∙◌}
 use Rattle.hwp_page.specs.declared.At.{At}
-use Rattle.hwp_report.specs.declared.Answer.{Answer}
-use Rattle.hwp_evidence.specs.Firsts.{entry_of}
-use Rattle.hwp_evidence.specs.Named.{flagged_pages}
+use Rattle.hwp_report_text.specs.declared.Answer.{Answer}
+use Rattle.hwp_check_evidence.specs.Firsts.{entry_of}
+use Rattle.hwp_check_evidence.specs.Named.{flagged_pages}
 use Rattle.hwp_check_answers.proofs.FactLaws.{namings}
 use Rattle.hwp_check_answers.proofs.facts.own_and_naming.Goals as goal
 

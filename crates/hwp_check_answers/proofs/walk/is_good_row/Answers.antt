@@ -1,5 +1,5 @@
 use Rattle.std.proofs.Common.{MatchBool, sym, subst, take}
-use Rattle.hwp_report.specs.declared.CpuLine.{CpuLine}
+use Rattle.hwp_report_text.specs.declared.CpuLine.{CpuLine}
 use Rattle.hwp_check_answers.specs.Facts.{IsBadRow, IsGoodRow}
 use Rattle.hwp_check_answers.proofs.walk.is_good_row.Goals as goal
 

@@ -1,9 +1,9 @@
 use Rattle.std.proofs.Common.{◌≡◌, ◌↔◌, IsTrue, sym, subst}
 use Rattle.hwp_kill.specs.declared.Policy.{Policy}
 use Rattle.hwp_kill.specs.Prctl.{reply}
-use Rattle.hwp_script.specs.declared.Command.{Command}
-use Rattle.hwp_law.specs.Answers.{reply_answer}
-use Rattle.hwp_law.specs.Policies.{arguments, policy_before}
+use Rattle.hwp_script_read.specs.declared.Command.{Command}
+use Rattle.hwp_check_evidence.specs.hwp_law.Answers.{reply_answer}
+use Rattle.hwp_check_evidence.specs.hwp_law.Policies.{arguments, policy_before}
 use Rattle.hwp_check_causes.specs.Causing.{IsLast}
 use Rattle.hwp_check_causes.proofs.right.is_last_right.Goals as goal
 

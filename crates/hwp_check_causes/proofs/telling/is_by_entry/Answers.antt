@@ -1,5 +1,5 @@
 use Rattle.std.proofs.Common.{◌≡◌, ◌↔◌, Some, IsTrue, sym, ◌∙◌}
-use Rattle.hwp_law.specs.States.{entry_named}
+use Rattle.hwp_check_evidence.specs.hwp_law.States.{entry_named}
 use Rattle.hwp_check_causes.specs.Telling.{IsToldAt}
 use Rattle.hwp_check_causes.proofs.TellLaws.{caused-told, told-caused}
 use Rattle.hwp_check_causes.proofs.telling.is_by_entry.Goals as goal

@@ -3,7 +3,7 @@ use Rattle.hwp_check_rules.specs.Firsts.{IsLeast}
 use Rattle.hwp_check_rules.specs.MarkFaults.{IsMarkLacking}
 use Rattle.hwp_check_marks.specs.Lacking.{IsHomeLacking}
 use Rattle.hwp_check_marks.specs.Walks.{IsLowest}
-use Rattle.hwp_check_marks.proofs.LackingLaws.{line-least, lowest-of, none-lacks}
+use Rattle.hwp_check_marks.proofs.LackLaws.{line-least, lowest-of, none-lacks}
 use Rattle.hwp_check_marks.proofs.lacking.lacking.Goals as goal
 
 pub returns-in-Some : goal.returns-in-Some

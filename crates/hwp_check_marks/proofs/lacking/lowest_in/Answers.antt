@@ -1,4 +1,4 @@
-use Rattle.hwp_check_marks.proofs.LackingLaws.{pages-next}
+use Rattle.hwp_check_marks.proofs.LackLaws.{pages-next}
 use Rattle.hwp_check_marks.proofs.lacking.lowest_in.Goals as goal
 
 pub loop-entries-preserved : goal.loop-entries-preserved

@@ -1,9 +1,10 @@
 use Rattle.std.proofs.Common.{◌≡◌, ◌∙◌, ℕ, Option, MatchOption, ap, sym, subst, arith}
 use Rattle.hwp_check_rules.specs.Firsts.{soonest}
 use Rattle.hwp_check_rules.specs.Rules.{MarksFit}
-use Rattle.hwp_check_rules.specs.Verdicts.{IsBroken, Marks}
-use Rattle.hwp_check_marks.proofs.Deciding.{marks-decided}
-use Rattle.hwp_check_records.proofs.Keeping.{as-many}
+use Rattle.hwp_check_rules.specs.declared.Rule.TheVariants.{Marks}
+use Rattle.hwp_check_rules.specs.Verdicts.{IsBroken}
+use Rattle.hwp_check_marks.proofs.MarkRule.{marks-decided}
+use Rattle.hwp_check_frames.proofs.RecordLaws.{as-many}
 use Rattle.hwp_check_marks.proofs.marks.marks_fault.Goals as goal
 
 pub returns : goal.returns

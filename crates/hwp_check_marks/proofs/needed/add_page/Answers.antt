@@ -1,5 +1,5 @@
 use Rattle.std.proofs.Common.{◌≡◌, ◌+◌, take, arith}
-use Rattle.hwp_check_records.specs.Counts.{at_key}
+use Rattle.hwp_check_frames.specs.Counts.{at_key}
 use Rattle.hwp_check_marks.specs.Needed.{page_needed}
 use Rattle.hwp_check_marks.proofs.NeededLaws.{needed-front-low}
 use Rattle.hwp_check_marks.proofs.needed.add_page.Goals as goal

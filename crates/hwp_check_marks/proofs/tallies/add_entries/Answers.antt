@@ -1,7 +1,7 @@
 use Rattle.std.proofs.Common.{◌≡◌, ◌+◌, take, arith}
-use Rattle.hwp_check_records.specs.Counts.{at_key}
+use Rattle.hwp_check_frames.specs.Counts.{at_key}
 use Rattle.hwp_check_marks.specs.Tallies.{page_raise}
-use Rattle.hwp_check_marks.proofs.Tallying.{entries-front-low}
+use Rattle.hwp_check_marks.proofs.TallyLaws.{entries-front-low}
 use Rattle.hwp_check_marks.proofs.tallies.add_entries.Goals as goal
 
 pub add_entry-requires : goal.add_entry-requires

@@ -1,7 +1,7 @@
 use Rattle.std.proofs.Common.{◌≡◌, ◌+◌, take, arith}
-use Rattle.hwp_check_records.specs.Counts.{at_key}
+use Rattle.hwp_check_frames.specs.Counts.{at_key}
 use Rattle.hwp_check_marks.specs.Tallies.{marks_raise}
-use Rattle.hwp_check_marks.proofs.Tallying.{front-low}
+use Rattle.hwp_check_marks.proofs.TallyLaws.{front-low}
 use Rattle.hwp_check_marks.proofs.tallies.add_marks.Goals as goal
 
 pub add_mark-requires : goal.add_mark-requires

@@ -1,7 +1,7 @@
 use Rattle.std.proofs.Common.{◌≡◌, take, arith}
-use Rattle.hwp_check_records.specs.Counts.{at_key}
+use Rattle.hwp_check_frames.specs.Counts.{at_key}
 use Rattle.hwp_check_marks.specs.Tallies.{pages_raise}
-use Rattle.hwp_check_marks.proofs.Tallying.{pages-room}
+use Rattle.hwp_check_marks.proofs.TallyLaws.{pages-room}
 use Rattle.hwp_check_marks.proofs.tallies.entry_counts.Goals as goal
 
 pub add_entries-requires : goal.add_entries-requires

@@ -1,7 +1,7 @@
 use Rattle.std.proofs.Common.{◌≡◌, take, arith}
-use Rattle.hwp_check_records.specs.Counts.{at_key}
+use Rattle.hwp_check_frames.specs.Counts.{at_key}
 use Rattle.hwp_check_marks.specs.Tallies.{frames_raise}
-use Rattle.hwp_check_marks.proofs.Tallying.{frames-room}
+use Rattle.hwp_check_marks.proofs.TallyLaws.{frames-room}
 use Rattle.hwp_check_marks.proofs.tallies.mark_counts.Goals as goal
 
 pub add_marks-requires : goal.add_marks-requires

@@ -1,5 +1,5 @@
 use Rattle.std.proofs.Common.{refl, arith}
-use Rattle.hwp_check_marks.proofs.Counting.{counted-next, counts-room, extra-here, extra-not}
+use Rattle.hwp_check_marks.proofs.MarkExtras.{counted-next, counts-room, extra-here, extra-not}
 use Rattle.hwp_check_marks.proofs.unpaired.first_extra.Goals as goal
 
 pub returns-then-is_over-clause-found : goal.returns-then-is_over-clause-found

@@ -1,7 +1,7 @@
 use Rattle.std.proofs.Common.{◌≡◌, ◌≤◌, List, length, ap, ◌∙◌, arith}
-use Rattle.hwp_report.specs.declared.FrameLine.{FrameLine}
-use Rattle.hwp_check_marks.proofs.Counting.{first-frame, next-frame, place-within, room-here}
-use Rattle.hwp_check_marks.proofs.Unpairing.{few-clear}
+use Rattle.hwp_report_text.specs.declared.FrameLine.{FrameLine}
+use Rattle.hwp_check_marks.proofs.MarkExtras.{first-frame, next-frame, place-within, room-here}
+use Rattle.hwp_check_marks.proofs.UnpairedLaws.{few-clear}
 use Rattle.hwp_check_marks.proofs.unpaired.unpaired.Goals as goal
 
 pub first_extra-requires-clause-small : goal.first_extra-requires-clause-small

@@ -1,6 +1,6 @@
 use Rattle.std.proofs.Common.{[], take}
 use Rattle.hwp_check_marks.specs.Tallies.{CountMarks}
-use Rattle.hwp_check_marks.proofs.Unpairing.{FewBelow}
+use Rattle.hwp_check_marks.proofs.UnpairedLaws.{FewBelow}
 use Rattle.hwp_check_marks.proofs.unpaired.unpaired.Given as goal
 
 abbrev pub invariant-loop-number : goal.invariant-loop-number

@@ -1,4 +1,4 @@
-use Rattle.hwp_check_records.specs.Counts.{at_key}
+use Rattle.hwp_check_frames.specs.Counts.{at_key}
 use Rattle.hwp_check_marks.proofs.UrgentLaws.{urgent-step}
 use Rattle.hwp_check_marks.proofs.urgent.add_how.Goals as goal
 

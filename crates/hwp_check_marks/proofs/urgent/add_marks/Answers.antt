@@ -1,5 +1,5 @@
 use Rattle.std.proofs.Common.{arith}
-use Rattle.hwp_check_records.specs.Counts.{at_key}
+use Rattle.hwp_check_frames.specs.Counts.{at_key}
 use Rattle.hwp_check_marks.proofs.UrgentLaws.{marks-most, marks-next, own-next}
 use Rattle.hwp_check_marks.proofs.urgent.add_marks.Goals as goal
 

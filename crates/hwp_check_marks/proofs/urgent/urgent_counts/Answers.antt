@@ -1,5 +1,5 @@
 use Rattle.std.proofs.Common.{◌<◌, ℕ, get_or, length, ap, arith}
-use Rattle.hwp_check_records.specs.Counts.{at_key}
+use Rattle.hwp_check_frames.specs.Counts.{at_key}
 use Rattle.hwp_check_marks.proofs.UrgentLaws.{frames-most, frames-next}
 use Rattle.hwp_check_marks.proofs.urgent.urgent_counts.Goals as goal
 

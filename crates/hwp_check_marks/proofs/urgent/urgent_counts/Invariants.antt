@@ -1,6 +1,6 @@
 use Rattle.std.proofs.Common.{◌≡◌, ◌+◌, ◌≤◌, ℕ, drop, take, sum_by}
 use Rattle.hwp_check_rules.specs.Standing.{frame_height}
-use Rattle.hwp_check_records.specs.Counts.{at_key}
+use Rattle.hwp_check_frames.specs.Counts.{at_key}
 use Rattle.hwp_check_marks.specs.Needed.{frames_urgent}
 use Rattle.hwp_check_marks.proofs.urgent.urgent_counts.Given as goal
 

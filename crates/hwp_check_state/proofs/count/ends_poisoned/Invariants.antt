@@ -1,5 +1,5 @@
 use Rattle.std.proofs.Common.{◌≡◌, take}
-use Rattle.hwp_law.specs.Records.{ends_poisoned}
+use Rattle.hwp_check_rules.specs.hwp_law.Records.{ends_poisoned}
 use Rattle.hwp_check_state.proofs.count.ends_poisoned.Given as goal
 
 abbrev pub invariant-loop-mark : goal.invariant-loop-mark

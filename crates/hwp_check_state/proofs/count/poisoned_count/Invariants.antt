@@ -1,5 +1,5 @@
 use Rattle.std.proofs.Common.{◌≡◌, ◌≤◌, take}
-use Rattle.hwp_law.specs.Frames.{poisoned_count}
+use Rattle.hwp_check_rules.specs.hwp_law.Frames.{poisoned_count}
 use Rattle.hwp_check_state.proofs.count.poisoned_count.Given as goal
 
 abbrev pub invariant-loop-frame : goal.invariant-loop-frame

@@ -1,11 +1,12 @@
 use Rattle.std.proofs.Common.{◌≡◌, ◌<◌, ℕ, Bool, false, List, Option, Some, None, MatchOption, cond, length, map, ap, sym, subst, ◌∙◌, arith}
-use Rattle.hwp_script.specs.declared.Command.{Command}
+use Rattle.hwp_script_read.specs.declared.Command.{Command}
 use Rattle.hwp_check_rules.specs.Faults.{first_free}
 use Rattle.hwp_check_rules.specs.Firsts.{soonest}
 use Rattle.hwp_check_state.specs.Frames.{AreDoneOf, AreRight, cached_after, ends_of, is_right_frame, is_unsaid_from}
 use Rattle.hwp_check_rules.specs.Rules.{FramesFit}
 use Rattle.hwp_check_rules.specs.Standing.{frame_line}
-use Rattle.hwp_check_rules.specs.Verdicts.{Frames, Histories, IsBroken, Shape}
+use Rattle.hwp_check_rules.specs.declared.Rule.TheVariants.{Frames, Histories, Shape}
+use Rattle.hwp_check_rules.specs.Verdicts.{IsBroken}
 use Rattle.hwp_check_state.proofs.FrameRule.{frames-is}
 use Rattle.hwp_check_state.proofs.frames.frames_fault.Goals as goal
 

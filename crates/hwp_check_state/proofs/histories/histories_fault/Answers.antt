@@ -1,6 +1,6 @@
 use Rattle.std.proofs.Common.{◌≡◌, Some, slice_get, refl, sym, ap, ◌∙◌}
 use Rattle.std.proofs.lemmas.Option.{slice_get_read}
-use Rattle.hwp_check_state.proofs.Wrongs.{all-fit, come-next, come-wrong}
+use Rattle.hwp_check_state.proofs.HistoryWrongs.{all-fit, come-next, come-wrong}
 use Rattle.hwp_check_state.proofs.histories.histories_fault.Goals as goal
 
 pub returns-in-Err : goal.returns-in-Err

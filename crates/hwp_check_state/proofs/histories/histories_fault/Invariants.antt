@@ -1,4 +1,4 @@
-use Rattle.hwp_check_state.proofs.Wrongs.{Come}
+use Rattle.hwp_check_state.proofs.HistoryWrongs.{Come}
 use Rattle.hwp_check_state.proofs.histories.histories_fault.Given as goal
 
 abbrev pub invariant-loop-number : goal.invariant-loop-number

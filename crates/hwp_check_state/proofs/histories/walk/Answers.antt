@@ -1,6 +1,6 @@
 use Rattle.std.proofs.Common.{rules, arith, ◌≡◌, ◌<◌, Some, slice_get, get_or, refl, ap}
 use Rattle.std.proofs.lemmas.Option.{slice_get_read}
-use Rattle.hwp_check_state.proofs.Walking.{maps-within, walked-end, walked-next, walked-room, walked-start, walked-wrong}
+use Rattle.hwp_check_state.proofs.WalkLaws.{maps-within, walked-end, walked-next, walked-room, walked-start, walked-wrong}
 use Rattle.hwp_check_state.proofs.histories.walk.Goals as goal
 
 pub loop-entry-init : goal.loop-entry-init

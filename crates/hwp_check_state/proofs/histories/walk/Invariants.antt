@@ -1,4 +1,4 @@
-use Rattle.hwp_check_state.proofs.Walking.{Walked}
+use Rattle.hwp_check_state.proofs.WalkLaws.{Walked}
 use Rattle.hwp_check_state.proofs.histories.walk.Given as goal
 
 abbrev pub invariant-loop-entry : goal.invariant-loop-entry

@@ -1,5 +1,5 @@
 use Rattle.std.proofs.Common.{◌≡◌, sum_by, take}
-use Rattle.hwp_law.specs.Losses.{told}
+use Rattle.hwp_check_rules.specs.hwp_law.Losses.{told}
 use Rattle.hwp_check_state.specs.Balances.{capped, told_lines}
 use Rattle.hwp_check_state.proofs.losses.all_told.Given as goal
 

@@ -1,6 +1,6 @@
 use Rattle.std.proofs.Common.{rules, ◌≡◌, ◌+◌, sum_by}
 use Rattle.std.specs.List.{zip}
-use Rattle.hwp_law.specs.Losses.{answered, lost_in, told}
+use Rattle.hwp_check_rules.specs.hwp_law.Losses.{answered, lost_in, told}
 use Rattle.hwp_check_state.specs.Balances.{capped}
 use Rattle.hwp_check_state.proofs.Balances.{balanced-is}
 use Rattle.hwp_check_state.proofs.losses.is_balanced.Goals as goal

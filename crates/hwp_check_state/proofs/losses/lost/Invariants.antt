@@ -1,6 +1,6 @@
 use Rattle.std.proofs.Common.{◌≡◌, sum_by, take}
 use Rattle.std.specs.List.{zip}
-use Rattle.hwp_law.specs.Losses.{lost_in}
+use Rattle.hwp_check_rules.specs.hwp_law.Losses.{lost_in}
 use Rattle.hwp_check_state.specs.Balances.{capped}
 use Rattle.hwp_check_state.proofs.losses.lost.Given as goal
 

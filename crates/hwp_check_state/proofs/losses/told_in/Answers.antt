@@ -1,7 +1,7 @@
 use Rattle.std.proofs.Common.{rules, ◌≡◌, sum_by, refl, [], arith}
 use Rattle.std.specs.List.{zip}
-use Rattle.hwp_law.specs.Lines.{AnswerLine}
-use Rattle.hwp_law.specs.Losses.{told}
+use Rattle.hwp_check_rules.specs.hwp_law.Lines.{AnswerLine}
+use Rattle.hwp_check_rules.specs.hwp_law.Losses.{told}
 use Rattle.hwp_check_rules.proofs.AnswersByRow.{count-next}
 use Rattle.hwp_check_state.proofs.Balances.{told-next, told-none}
 use Rattle.hwp_check_state.proofs.losses.told_in.Goals as goal

@@ -1,7 +1,7 @@
 use Rattle.std.proofs.Common.{◌≡◌, ◌≤◌, count_by, filter_map, sum_by, take}
 use Rattle.std.specs.List.{zip}
-use Rattle.hwp_law.specs.Lines.{answer_in}
-use Rattle.hwp_law.specs.Losses.{told}
+use Rattle.hwp_check_rules.specs.hwp_law.Lines.{answer_in}
+use Rattle.hwp_check_rules.specs.hwp_law.Losses.{told}
 use Rattle.hwp_check_rules.specs.Answered.{is_answer}
 use Rattle.hwp_check_state.specs.Balances.{capped}
 use Rattle.hwp_check_state.proofs.losses.told_in.Given as goal

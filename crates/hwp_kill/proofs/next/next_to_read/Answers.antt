@@ -1,4 +1,4 @@
-use Rattle.hwp_kill.proofs.Nexting.{next-found, all-done}
+use Rattle.hwp_kill.proofs.NextLaws.{next-found, all-done}
 use Rattle.hwp_kill.proofs.next.next_to_read.Goals as goal
 
 pub returns-in-Some : goal.returns-in-Some

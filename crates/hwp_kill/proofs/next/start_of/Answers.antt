@@ -1,6 +1,6 @@
 use Rattle.std.proofs.Common.{arith, sym}
-use Rattle.hwp_kill.proofs.Nexting.{last-is, owner-of, owner-is, last-within, start-late, start-early}
-use Rattle.hwp_kill.proofs.Readings.{nobody}
+use Rattle.hwp_kill.proofs.NextLaws.{last-is, owner-of, owner-is, last-within, start-late, start-early}
+use Rattle.hwp_kill.proofs.PolicyOwners.{nobody}
 use Rattle.hwp_kill.proofs.next.start_of.Goals as goal
 
 pub bounds-threads-from : goal.bounds-threads-from

@@ -1,5 +1,5 @@
 use Rattle.std.proofs.Common.{refl}
-use Rattle.hwp_kill.proofs.Readings.{policies_read, read_declared, denied}
+use Rattle.hwp_kill.proofs.PolicyOwners.{policies_read, read_declared, denied}
 use Rattle.hwp_kill.proofs.reading.are_policies_read.Goals as goal
 
 pub returns-then-not-are_declared : goal.returns-then-not-are_declared

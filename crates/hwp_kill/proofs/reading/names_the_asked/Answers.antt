@@ -1,5 +1,5 @@
 use Rattle.std.proofs.Common.{arith, below_more}
-use Rattle.hwp_kill.proofs.Readings.{named_right, named_wrong, process_declared, nobody, differ, equal, refused, granted}
+use Rattle.hwp_kill.proofs.PolicyOwners.{named_right, named_wrong, process_declared, nobody, differ, equal, refused, granted}
 use Rattle.hwp_kill.proofs.reading.names_the_asked.Goals as goal
 
 pub returns-then-is_asked-names : goal.returns-then-is_asked-names

@@ -1,5 +1,5 @@
 use Rattle.hwp_kill.proofs.Order.{pairs_in_order}
-use Rattle.hwp_kill.proofs.Readings.{granted}
+use Rattle.hwp_kill.proofs.PolicyOwners.{granted}
 use Rattle.hwp_kill.proofs.reading.stand_in_order.Goals as goal
 
 pub returns : goal.returns

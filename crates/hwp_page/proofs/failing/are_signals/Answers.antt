@@ -1,4 +1,4 @@
-use Rattle.hwp_page.proofs.Killing.{is_killed}
+use Rattle.hwp_page.proofs.KillSignals.{is_killed}
 use Rattle.hwp_page.proofs.failing.are_signals.Goals as goal
 
 pub returns : goal.returns

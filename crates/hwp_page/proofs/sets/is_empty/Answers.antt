@@ -1,4 +1,4 @@
-use Rattle.hwp_page.proofs.Gathering.{is_empty_is}
+use Rattle.hwp_page.proofs.SetUnion.{is_empty_is}
 use Rattle.hwp_page.proofs.sets.is_empty.Goals as goal
 
 pub returns : goal.returns

@@ -1,4 +1,4 @@
-use Rattle.hwp_page.proofs.Gathering.{Gathered-next, Gathered-all}
+use Rattle.hwp_page.proofs.SetUnion.{Gathered-next, Gathered-all}
 use Rattle.hwp_page.proofs.sets.put_all.Goals as goal
 
 pub loop-slot-preserved : goal.loop-slot-preserved

@@ -1,5 +1,5 @@
 use Rattle.std.proofs.Common.{◌-◌}
-use Rattle.hwp_page.proofs.Gathering.{Gathered}
+use Rattle.hwp_page.proofs.SetUnion.{Gathered}
 use Rattle.hwp_page.proofs.sets.put_all.Given as goal
 
 abbrev pub invariant-loop-slot : goal.invariant-loop-slot

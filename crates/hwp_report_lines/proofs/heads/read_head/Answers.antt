@@ -1,7 +1,7 @@
 use Rattle.hwp_report_lines.specs.declared.heads.Head.TheVariants as heads
 use Rattle.hwp_report_lines.specs.Heads.{head_text}
-use Rattle.hwp_report_words.proofs.Naming.{named_read}
-use Rattle.hwp_report_lines.proofs.Naming.{all_heads, head_listed}
+use Rattle.hwp_report_words.proofs.NamedValues.{named_read}
+use Rattle.hwp_report_lines.proofs.HeadWords.{all_heads, head_listed}
 use Rattle.hwp_report_lines.proofs.heads.read_head.Goals as goal
 
 pub returns : goal.returns

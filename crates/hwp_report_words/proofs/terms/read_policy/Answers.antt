@@ -1,6 +1,6 @@
 use Rattle.hwp_kill.specs.declared.Policy.TheVariants as policies
-use Rattle.hwp_report.specs.Terms as terms
-use Rattle.hwp_report_words.proofs.Naming.{all_policies, policy_listed, named_read}
+use Rattle.hwp_report_text.specs.Terms as terms
+use Rattle.hwp_report_words.proofs.NamedValues.{all_policies, policy_listed, named_read}
 use Rattle.hwp_report_words.proofs.terms.read_policy.Goals as goal
 
 pub returns : goal.returns

@@ -1,6 +1,6 @@
 use Rattle.hwp_page.specs.declared.Situation.TheVariants as situations
-use Rattle.hwp_report.specs.Terms as terms
-use Rattle.hwp_report_words.proofs.Naming.{all_situations, situation_listed, named_read}
+use Rattle.hwp_report_text.specs.Terms as terms
+use Rattle.hwp_report_words.proofs.NamedValues.{all_situations, situation_listed, named_read}
 use Rattle.hwp_report_words.proofs.terms.read_situation.Goals as goal
 
 pub returns : goal.returns

@@ -1,5 +1,5 @@
 use Rattle.std.proofs.Common.{◌≡◌, arith, rules}
-use Rattle.hwp_report_words.proofs.Naming.{none_all, none_more}
+use Rattle.hwp_report_words.proofs.NamedValues.{none_all, none_more}
 use Rattle.hwp_report_words.proofs.words.named.Goals as goal
 
 pub loop-one-preserved : goal.loop-one-preserved

@@ -1,5 +1,5 @@
 use Rattle.std.proofs.Common.{◌≡◌}
-use Rattle.hwp_report_words.proofs.Naming.{IsNoneOf}
+use Rattle.hwp_report_words.proofs.NamedValues.{IsNoneOf}
 use Rattle.hwp_report_words.proofs.words.named.Given as goal
 
 abbrev pub invariant-loop-one : goal.invariant-loop-one

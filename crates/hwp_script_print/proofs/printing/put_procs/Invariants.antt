@@ -1,5 +1,5 @@
 use Rattle.std.proofs.Common.{◌≡◌, ◌++◌, string_bytes}
-use Rattle.hwp_form_print.specs.Printed.{forms_text}
+use Rattle.hwp_script_print.specs.Printed.{forms_text}
 use Rattle.hwp_script_print.specs.Text.{counted, proc_form}
 use Rattle.hwp_script_print.proofs.printing.put_procs.Given as goal
 

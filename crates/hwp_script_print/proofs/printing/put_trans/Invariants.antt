@@ -1,5 +1,5 @@
 use Rattle.std.proofs.Common.{◌≡◌, ◌++◌, string_bytes, take}
-use Rattle.hwp_form_print.specs.Printed.{forms_text}
+use Rattle.hwp_script_print.specs.Printed.{forms_text}
 use Rattle.hwp_script_print.specs.Text.{numbered, trans_forms}
 use Rattle.hwp_script_print.proofs.printing.put_trans.Given as goal
 

@@ -1,6 +1,6 @@
 use Rattle.std.proofs.Common.{ap, ◌∙◌}
 use Rattle.hwp_page.specs.declared.PageState.{PageState}
-use Rattle.hwp_soft.proofs.Moving.{begins-moving}
+use Rattle.hwp_soft.proofs.MoveBegins.{begins-moving}
 use Rattle.hwp_soft.proofs.soft.relocate.Goals as goal
 
 pub returns : goal.returns

@@ -1,4 +1,4 @@
-use Rattle.hwp_threads.proofs.Growing.{run-more}
+use Rattle.hwp_threads.proofs.WorkerRuns.{run-more}
 use Rattle.hwp_threads.proofs.running.run.Goals as goal
 
 pub loop-preserved : goal.loop-preserved

@@ -1,5 +1,5 @@
 use Rattle.hwp_evict.proofs.evict.EvictScheduled.tells.Goals as goal
-use Rattle.hwp_step.proofs.Revivals.{mild-pays}
+use Rattle.hwp_core_task.proofs.Revivals.{mild-pays}
 use Rattle.hwp_evict.proofs.EvictCosts.{evict-member, evict-mild, evict-tells}
 
 pub returns-clause-class : goal.returns-clause-class

@@ -1,5 +1,5 @@
 use Rattle.hwp_fault.proofs.access.AccessScheduled.tells.Goals as goal
-use Rattle.hwp_step.proofs.Revivals.{mild-pays}
+use Rattle.hwp_core_task.proofs.Revivals.{mild-pays}
 use Rattle.hwp_fault.proofs.AccessCosts.{access-member, access-mild, access-tells}
 
 pub returns-clause-class : goal.returns-clause-class

@@ -1,5 +1,5 @@
 use Rattle.hwp_fault.proofs.fault.Fault.with_room.Goals as goal
-use Rattle.hwp_fault.proofs.Rooming.{fills-up, maps-in}
+use Rattle.hwp_fault.proofs.FaultRoom.{fills-up, maps-in}
 
 pub returns-in-Some : goal.returns-in-Some
 returns-in-Some c = maps-in c.args.who c.args.page c.args.slot c.args.frame c.args.body c.room.new.self c.in-Ok.ensures.ok c.in-Some.frame c.new.result c.in-Some.is c.new.ensures

@@ -2,12 +2,12 @@ use Rattle.std.proofs.Common.{◌+◌, ◌-◌, length, take, drop, refl, sym, a
 use Rattle.std.specs.Prelude.{IfOk}
 use Rattle.std.specs.Arc.{arc_value}
 use Rattle.hwp_geom.specs.declared.Layout.{Layout}
-use Rattle.hwp_rule.specs.Lists.{EachMember, Homes}
-use Rattle.hwp_rule.specs.Words.{index}
-use Rattle.hwp_rule.specs.declared.Place.TheVariants as places
-use Rattle.hwp_rule.specs.parts.Holdings.{HoldsNothing}
-use Rattle.hwp_closing.specs.Ends.{AreHistories, AreLed}
-use Rattle.hwp_closing.proofs.AllHome.{led-here}
+use Rattle.hwp_core_rule.specs.Lists.{EachMember, Homes}
+use Rattle.hwp_core_rule.specs.Words.{index}
+use Rattle.hwp_core_rule.specs.declared.SharedWord.TheVariants as places
+use Rattle.hwp_core_rule.specs.parts.Holdings.{HoldsNothing}
+use Rattle.hwp_plain_words.specs.Ends.{AreHistories, AreLed}
+use Rattle.hwp_plain_words.proofs.AllHome.{led-here}
 use Rattle.hwp_plain.specs.Boards.{Board, state_of}
 use Rattle.hwp_plain.proofs.AtHome.{bodies-taken}
 use Rattle.hwp_plain.proofs.board.PlainBoard.histories.Goals as goal

@@ -1,12 +1,12 @@
 use Rattle.std.proofs.Common.{◌≡◌, ap, ◌∙◌, sym, subst, rules}
 use Rattle.std.specs.Arc.{arc_value}
 use Rattle.hwp_geom.specs.declared.Layout.{Layout}
-use Rattle.hwp_rule.specs.Opening.{opening_homes}
+use Rattle.hwp_core_rule.specs.Opening.{opening_homes}
 use Rattle.hwp_plain.specs.declared.trail.Trail.TheVariants.{Opening}
 use Rattle.hwp_plain.specs.Boards.{IsBoard, state_of}
 use Rattle.hwp_plain.specs.Slots.{AreOfLayout}
 use Rattle.hwp_plain.proofs.AtHome.{homes-made, layouts-made}
-use Rattle.hwp_plain.proofs.Openings.{state-open, board-open}
+use Rattle.hwp_plain.proofs.BoardOpens.{state-open, board-open}
 use Rattle.hwp_plain.proofs.board.PlainBoard.new.Goals as goal
 
 pub invariant_of-result : goal.invariant_of-result

@@ -1,9 +1,9 @@
 use Rattle.std.proofs.Common.{subst}
 use Rattle.std.specs.Arc.{arc_value}
 use Rattle.hwp_geom.specs.declared.Cpu.{Cpu}
-use Rattle.hwp_step.specs.Boards.{AreSeated}
+use Rattle.hwp_core_task.specs.Boards.{AreSeated}
 use Rattle.hwp_plain.specs.Boards.{Board}
-use Rattle.hwp_plain.proofs.Turning.{seated}
+use Rattle.hwp_plain.proofs.BoardTurns.{seated}
 use Rattle.hwp_plain.proofs.board.PlainBoard.reached.Goals as goal
 
 pub returns-clause-seats : goal.returns-clause-seats

@@ -1,5 +1,5 @@
 use Rattle.hwp_scrub.proofs.scrub.ScrubScheduled.tells.Goals as goal
-use Rattle.hwp_step.proofs.Revivals.{lasting-pays}
+use Rattle.hwp_core_task.proofs.Revivals.{lasting-pays}
 use Rattle.hwp_scrub.proofs.ScrubRank.{scrub-lasting, scrub-member, scrub-tells}
 
 pub returns-clause-class : goal.returns-clause-class

@@ -1,5 +1,5 @@
 use Rattle.hwp_soft.proofs.soft.SoftScheduled.tells.Goals as goal
-use Rattle.hwp_step.proofs.Revivals.{lasting-pays}
+use Rattle.hwp_core_task.proofs.Revivals.{lasting-pays}
 use Rattle.hwp_soft.proofs.SoftRank.{soft-member}
 use Rattle.hwp_soft.proofs.SoftTells.{soft-lasting, soft-tells-class}
 

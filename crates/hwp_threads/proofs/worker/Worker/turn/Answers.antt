@@ -1,5 +1,5 @@
 use Rattle.std.proofs.Common.{◌≡◌}
-use Rattle.hwp_threads.proofs.Taking.{either-none, took}
+use Rattle.hwp_threads.proofs.WorkerTurn.{either-none, took}
 use Rattle.hwp_threads.proofs.worker.Worker.turn.Goals as goal
 
 pub returns-clause-turn : goal.returns-clause-turn

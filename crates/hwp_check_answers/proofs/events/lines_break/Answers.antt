@@ -1,0 +1,5 @@
+use Rattle.hwp_check_answers.proofs.Reports.{breaks}
+use Rattle.hwp_check_answers.proofs.events.lines_break.Goals as goal
+
+pub returns : goal.returns
+returns c = breaks c.args.script.now c.args.report.now c.requires c.small_masks.ensures

@@ -1,0 +1,126 @@
+-- What is wrong about the lines of a command, by its kind.
+use Rattle.std.proofs.Common.{◌≡◌, ◌⊎◌, inl, inr, ℕ, ◌<◌, ◌≤◌, ◌==◌, ◌+◌, ◌-◌, Bool, true, false, cond, List, Option, None, MatchBool, is_some, length, map, sym, ap, ◌∙◌, subst, arith}
+use Rattle.std.specs.Bool.{nat_lt}
+use Rattle.std.specs.Int.{from_bool}
+use Rattle.std.proofs.lemmas.Bool.{ltb-false, ltb-true}
+use Rattle.std.proofs.lemmas.List.{length-map}
+use Rattle.hwp_geom.specs.Limits.{line_limit}
+use Rattle.hwp_geom.specs.declared.Frame.{Frame}
+use Rattle.hwp_geom.specs.declared.Thread.{Thread}
+use Rattle.hwp_geom.specs.declared.VSlot.{VSlot}
+use Rattle.hwp_geom.specs.declared.Who.{Who}
+use Rattle.hwp_banks.specs.declared.Event.{Event}
+use Rattle.hwp_banks.specs.declared.Origin.{Origin}
+use Rattle.hwp_banks.specs.declared.Origin.TheVariants as origins
+use Rattle.hwp_script_read.specs.declared.Command.{Command}
+use Rattle.hwp_script_read.specs.declared.Command.TheVariants as commands
+use Rattle.hwp_script_read.specs.declared.Script.{Script}
+use Rattle.hwp_report_text.specs.declared.Answer.{Answer}
+use Rattle.hwp_report_text.specs.declared.Report.{Report}
+use Rattle.hwp_check_poison.specs.hwp_law.Commands.{Arrival, arrival_of}
+use Rattle.hwp_check_poison.specs.hwp_law.Events.{is_check, is_raised}
+use Rattle.hwp_check_poison.specs.hwp_law.Lines.{EventLine, answer_of}
+use Rattle.hwp_check_poison.specs.hwp_law.Pairings.{entries_of}
+use Rattle.hwp_check_poison.specs.hwp_law.Policies.{commands_before}
+use Rattle.hwp_check_events.specs.Accesses.{Access, IsAccessLine, IsRaisedLine, access_by, asked_by_access}
+use Rattle.hwp_check_event_line.specs.Firsts.{IsScanned}
+use Rattle.hwp_check_events.specs.Judged.{IsAccessJudged, IsJudged, IsScrubJudged, IsTable}
+use Rattle.hwp_check_events.specs.Misfits.{access_of, course_of, is_scrubbed, low_of}
+use Rattle.hwp_check_scrub.specs.Scrubs.{Course, after_all, bound_from, lacking, lowest, reach_from}
+use Rattle.hwp_check_scrub.specs.Scrubbing.{IsRightIn, course_by, low_of as low_by}
+use Rattle.hwp_check_event_line.specs.Told.{told}
+use Rattle.hwp_check_event_line.specs.declared.Faults.{Faults}
+use Rattle.hwp_check_events.specs.declared.known.Checks.{Checks}
+use Rattle.hwp_check_event_line.specs.declared.Shown.{Shown}
+
+less-decides : (a b : ℕ) (t : Bool) → t ≡ nat_lt a b → MatchBool t (a < b) (a < b → ⊥)
+less-decides a b true is = ltb-true a b (sym is)
+less-decides a b false is = λ less. let most : b ≤ a = ltb-false a b (sym is) in omega (arith, most, less)
+
+module _ (script : Script) (report : Report) (who : Who) (raw left : Option Event) (shown : List Shown) (wrong : Option ℕ) (lacks : Bool) where
+  abbrev lines : List EventLine
+  lines = map told shown
+
+  pub access-judged : (how expected : Arrival) (origin : Origin) (at : ℕ) (checks : Checks) → how ≡ expected → checks.origin ≡ origin → checks.at ≡ at → checks.count ≡ entries_of report who is_check
+      → IsScanned (IsAccessLine script report who how (access_by checks raw) lines) lines wrong → lacks ≡ nat_lt (length shown) (asked_by_access (access_by checks raw)) → left ≡ cond (checks.count == 0) raw None
+      → IsScanned (IsAccessLine script report who expected (access_of report who origin at raw) lines) lines wrong
+      × MatchBool lacks (length lines < asked_by_access (access_of report who origin at raw)) (length lines < asked_by_access (access_of report who origin at raw) → ⊥) × (left ≡ cond (entries_of report who is_check == 0) raw None)
+  access-judged how expected origin at checks how_is origin_is at_is count_is scanned lacks_is left_is = (
+    subst (λ (a : Access). IsScanned (IsAccessLine script report who expected a lines) lines wrong) same (subst (λ (h : Arrival). IsScanned (IsAccessLine script report who h (access_by checks raw) lines) lines wrong) how_is scanned),
+    less-decides (length lines) (asked_by_access (access_of report who origin at raw)) lacks (lacks_is ∙ ap (λ (n : ℕ). nat_lt n (asked_by_access (access_by checks raw))) (sym (length-map shown told)) ∙ ap (λ (a : Access). nat_lt (length lines) (asked_by_access a)) same),
+    left_is ∙ ap (λ (n : ℕ). cond (n == 0) raw None) count_is,
+  )
+    where
+      same : access_by checks raw ≡ access_of report who origin at raw
+      same = λ i. record { origin = origin_is i; at = at_is i; checks = count_is i; raw = raw }
+
+  pub raise-judged : (how expected : Arrival) (answer : Option Answer) → how ≡ expected → answer ≡ answer_of report who
+      → IsScanned (λ (n : ℕ) (l : EventLine). MatchBool (is_raised answer lines) (IsRaisedLine script report who how raw n l) ⊥) lines wrong → lacks ≡ nat_lt (length shown) (cond (is_raised answer lines) (from_bool (is_some raw)) 0) → left ≡ cond (is_raised answer lines) None raw
+      → IsScanned (λ (n : ℕ) (l : EventLine). MatchBool (is_raised (answer_of report who) lines) (IsRaisedLine script report who expected raw n l) ⊥) lines wrong
+      × MatchBool lacks (length lines < cond (is_raised (answer_of report who) lines) (from_bool (is_some raw)) 0) (length lines < cond (is_raised (answer_of report who) lines) (from_bool (is_some raw)) 0 → ⊥)
+      × (left ≡ cond (is_raised (answer_of report who) lines) None raw)
+  raise-judged how expected answer how_is answer_is scanned lacks_is left_is = (
+    subst (λ (a : Option Answer). IsScanned (λ (n : ℕ) (l : EventLine). MatchBool (is_raised a lines) (IsRaisedLine script report who expected raw n l) ⊥) lines wrong) answer_is
+        (subst (λ (h : Arrival). IsScanned (λ (n : ℕ) (l : EventLine). MatchBool (is_raised answer lines) (IsRaisedLine script report who h raw n l) ⊥) lines wrong) how_is scanned),
+    less-decides (length lines) (cond (is_raised (answer_of report who) lines) (from_bool (is_some raw)) 0) lacks (lacks_is ∙ ap (λ (n : ℕ). nat_lt n (cond (is_raised answer lines) (from_bool (is_some raw)) 0)) (sym (length-map shown told))
+        ∙ ap (λ (a : Option Answer). nat_lt (length lines) (cond (is_raised a lines) (from_bool (is_some raw)) 0)) answer_is),
+    left_is ∙ ap (λ (a : Option Answer). cond (is_raised a lines) None raw) answer_is,
+  )
+
+  -- the course by the table
+  same-low : (table : List ℕ) (whole : Bool) → IsTable script who table → whole ≡ is_scrubbed (answer_of report who) → (place : ℕ) → low_by table whole place ≡ low_of script report who place
+  same-low table whole is whole_is place = ap (λ (n : ℕ). cond whole n line_limit) (is place) ∙ ap (λ (b : Bool). cond b (lowest (commands_before script who) place) line_limit) whole_is
+
+  same-course : (table : List ℕ) (whole : Bool) (first last : Frame) → IsTable script who table → whole ≡ is_scrubbed (answer_of report who) → course_by report table whole first last ≡ course_of script report who first last
+  same-course table whole first last is whole_is =
+      ap (λ (low : ℕ → ℕ). record { low = low; last = last.0; bound = bound_from report low 0 first.0 (last.0 + 1 - first.0) }) (λ i place. same-low table whole is whole_is place i)
+
+  pub scrub-judged : (how expected : Arrival) (table : List ℕ) (whole : Bool) (first last : Frame) → how ≡ expected → IsTable script who table → whole ≡ is_scrubbed (answer_of report who)
+      → IsScanned (IsRightIn script report who how (course_by report table whole first last) (reach_from first raw) lines) lines wrong
+      → lacks ≡ nat_lt (after_all report (course_by report table whole first last) (reach_from first raw) lines).strays (lacking (course_by report table whole first last) (after_all report (course_by report table whole first last) (reach_from first raw) lines))
+      → left ≡ (after_all report (course_by report table whole first last) (reach_from first raw) lines).raw
+      → IsScanned (IsRightIn script report who expected (course_of script report who first last) (reach_from first raw) lines) lines wrong
+      × MatchBool lacks ((after_all report (course_of script report who first last) (reach_from first raw) lines).strays < lacking (course_of script report who first last) (after_all report (course_of script report who first last) (reach_from first raw) lines))
+      ((after_all report (course_of script report who first last) (reach_from first raw) lines).strays < lacking (course_of script report who first last) (after_all report (course_of script report who first last) (reach_from first raw) lines) → ⊥)
+      × (left ≡ (after_all report (course_of script report who first last) (reach_from first raw) lines).raw)
+  scrub-judged how expected table whole first last how_is is whole_is scanned lacks_is left_is = (
+    subst (λ (c : Course). IsScanned (IsRightIn script report who expected c (reach_from first raw) lines) lines wrong) same (subst (λ (h : Arrival). IsScanned (IsRightIn script report who h (course_by report table whole first last) (reach_from first raw) lines) lines wrong) how_is scanned),
+    less-decides _ _ lacks (lacks_is ∙ ap (λ (c : Course). nat_lt (after_all report c (reach_from first raw) lines).strays (lacking c (after_all report c (reach_from first raw) lines))) same),
+    left_is ∙ ap (λ (c : Course). (after_all report c (reach_from first raw) lines).raw) same,
+  )
+    where
+      same : course_by report table whole first last ≡ course_of script report who first last
+      same = same-course table whole first last is whole_is
+
+-- the same of the commands themselves
+module _ (script : Script) (report : Report) (who : Who) (command : Command) (raw left : Option Event) (lines : List EventLine) (faults : Faults) (how : Arrival) (how_is : how ≡ arrival_of command) where
+  abbrev Judged : Command → Type 0
+  Judged c = IsJudged script report who c raw left lines faults
+
+  load-judged : (thread : Thread) (slot : VSlot) (at : ℕ) → command ≡ commands.Load thread slot at → IsAccessJudged script report who how origins.Access at raw left lines faults → Judged command
+  load-judged thread slot at is judged =
+      let j = subst (λ (h : Arrival). IsAccessJudged script report who h origins.Access at raw left lines faults) (how_is ∙ ap arrival_of is) judged in
+      subst Judged (sym is) (record { scanned = j.scanned; lacks = j.lacks; left_is = j.left_is })
+
+  kload-judged : (thread : Thread) (slot : VSlot) (at : ℕ) → command ≡ commands.KLoad thread slot at → IsAccessJudged script report who how origins.Access at raw left lines faults → Judged command
+  kload-judged thread slot at is judged =
+      let j = subst (λ (h : Arrival). IsAccessJudged script report who h origins.Access at raw left lines faults) (how_is ∙ ap arrival_of is) judged in
+      subst Judged (sym is) (record { scanned = j.scanned; lacks = j.lacks; left_is = j.left_is })
+
+  store-judged : (thread : Thread) (slot : VSlot) (at word : ℕ) → command ≡ commands.Store thread slot at word → IsAccessJudged script report who how origins.Access at raw left lines faults → Judged command
+  store-judged thread slot at word is judged =
+      let j = subst (λ (h : Arrival). IsAccessJudged script report who h origins.Access at raw left lines faults) (how_is ∙ ap arrival_of is) judged in
+      subst Judged (sym is) (record { scanned = j.scanned; lacks = j.lacks; left_is = j.left_is })
+
+  -- any of the three
+  pub accessed-judged : (at : ℕ) → ((thread : Thread) × (slot : VSlot) × (command ≡ commands.Load thread slot at))
+      ⊎ (((thread : Thread) × (slot : VSlot) × (command ≡ commands.KLoad thread slot at)) ⊎ ((thread : Thread) × (slot : VSlot) × (word : ℕ) × (command ≡ commands.Store thread slot at word)))
+      → IsAccessJudged script report who how origins.Access at raw left lines faults → Judged command
+  accessed-judged at (inl (thread, slot, is)) judged = load-judged thread slot at is judged
+  accessed-judged at (inr (inl (thread, slot, is))) judged = kload-judged thread slot at is judged
+  accessed-judged at (inr (inr (thread, slot, word, is))) judged = store-judged thread slot at word is judged
+
+  pub scrubbed-judged : (first last : Frame) → command ≡ commands.Scrub first last → IsScrubJudged script report who how first last raw left lines faults → Judged command
+  scrubbed-judged first last is judged =
+      let j = subst (λ (h : Arrival). IsScrubJudged script report who h first last raw left lines faults) (how_is ∙ ap arrival_of is) judged in
+      subst Judged (sym is) (record { scanned = j.scanned; lacks = j.lacks; left_is = j.left_is })

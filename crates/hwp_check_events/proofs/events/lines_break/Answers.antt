@@ -1,5 +1,0 @@
-use Rattle.hwp_check_events.proofs.Reports.{breaks}
-use Rattle.hwp_check_events.proofs.events.lines_break.Goals as goal
-
-pub returns : goal.returns
-returns c = breaks c.args.script.now c.args.report.now c.requires c.small_masks.ensures

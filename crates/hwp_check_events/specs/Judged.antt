@@ -1,0 +1,49 @@
+-- What is said of the event lines of a command.
+use Rattle.std.specs.Prelude.{◌≡◌, ℕ, ◌<◌, ◌==◌, cond, List, Option, None, MatchBool, length, slice_index_or}
+use Rattle.hwp_geom.specs.Limits.{line_limit}
+use Rattle.hwp_geom.specs.declared.Frame.{Frame}
+use Rattle.hwp_geom.specs.declared.Who.{Who}
+use Rattle.hwp_banks.specs.declared.Event.{Event}
+use Rattle.hwp_banks.specs.declared.Origin.{Origin}
+use Rattle.hwp_script_read.specs.declared.Command.{Command}
+use Rattle.hwp_script_read.specs.declared.Script.{Script}
+use Rattle.hwp_report_text.specs.declared.Report.{Report}
+use Rattle.hwp_check_poison.specs.hwp_law.Commands.{Arrival}
+use Rattle.hwp_check_poison.specs.hwp_law.Events.{is_check}
+use Rattle.hwp_check_poison.specs.hwp_law.Lines.{EventLine}
+use Rattle.hwp_check_poison.specs.hwp_law.Pairings.{entries_of}
+use Rattle.hwp_check_poison.specs.hwp_law.Policies.{commands_before}
+use Rattle.hwp_check_events.specs.Accesses.{IsAccessLine, asked_by_access}
+use Rattle.hwp_check_event_line.specs.Firsts.{IsScanned}
+use Rattle.hwp_check_events.specs.Misfits.{IsRightLine, Lacks, access_of, course_of, leaves}
+use Rattle.hwp_check_scrub.specs.Scrubs.{after_all, lacking, lowest, reach_from}
+use Rattle.hwp_check_scrub.specs.Scrubbing.{IsRightIn}
+use Rattle.hwp_check_scrub.specs.declared.Reach.{Reach}
+use Rattle.hwp_check_event_line.specs.declared.Faults.{Faults}
+
+-- where a command found `raw` in bank 1, and leaves `left` there: the first of its lines that is wrong, and whether it lacks some
+pub record IsJudged (script : Script) (report : Report) (who : Who) (command : Command) (raw left : Option Event) (lines : List EventLine) (faults : Faults) : Type 0 where
+  pub scanned : IsScanned (IsRightLine script report who command raw lines) lines faults.wrong
+  pub lacks : MatchBool faults.lacks (Lacks script report who command raw lines) (Lacks script report who command raw lines → ⊥)
+  pub left_is : left ≡ leaves script report who command raw lines
+
+-- the same of an access whose machine checks arrive so, and of a scrub
+pub record IsAccessJudged (script : Script) (report : Report) (who : Who) (how : Arrival) (origin : Origin) (at : ℕ) (raw left : Option Event) (lines : List EventLine) (faults : Faults) : Type 0 where
+  pub scanned : IsScanned (IsAccessLine script report who how (access_of report who origin at raw) lines) lines faults.wrong
+  pub lacks : MatchBool faults.lacks (length lines < asked_by_access (access_of report who origin at raw)) (length lines < asked_by_access (access_of report who origin at raw) → ⊥)
+  pub left_is : left ≡ cond (entries_of report who is_check == 0) raw None
+
+-- how far a scrub comes
+abbrev pub end_of : Script → Report → Who → Frame → Frame → Option Event → List EventLine → Reach
+end_of script report who first last raw lines = after_all report (course_of script report who first last) (reach_from first raw) lines
+
+pub record IsScrubJudged (script : Script) (report : Report) (who : Who) (how : Arrival) (first last : Frame) (raw left : Option Event) (lines : List EventLine) (faults : Faults) : Type 0 where
+  pub scanned : IsScanned (IsRightIn script report who how (course_of script report who first last) (reach_from first raw) lines) lines faults.wrong
+  pub lacks :
+      MatchBool faults.lacks ((end_of script report who first last raw lines).strays < lacking (course_of script report who first last) (end_of script report who first last raw lines))
+      ((end_of script report who first last raw lines).strays < lacking (course_of script report who first last) (end_of script report who first last raw lines) → ⊥)
+  pub left_is : left ≡ (end_of script report who first last raw lines).raw
+
+-- the table has the lowest lines that earlier commands of the processor marked
+abbrev pub IsTable : Script → Who → List ℕ → Type 0
+IsTable script who table = (place : ℕ) → slice_index_or table place line_limit ≡ lowest (commands_before script who) place

@@ -1,0 +1,184 @@
+ghost use Rattle.std.specs.Prelude.{◌≡◌, ◌≤◌, ◌+◌, ◌<◌, ◌^◌, true, false, length, map};
+ghost use Rattle.hwp_check_poison.specs.hwp_law.Commands.{arrival_of};
+ghost use Rattle.hwp_check_poison.specs.hwp_law.Events.{is_check};
+ghost use Rattle.hwp_check_poison.specs.hwp_law.Lines.{answer_of};
+ghost use Rattle.hwp_check_poison.specs.hwp_law.Pairings.{entries_of};
+ghost use Rattle.hwp_check_event_line.specs.Firsts.{IsScanned};
+ghost use Rattle.hwp_check_event_line.specs.Found.{of_access};
+ghost use Rattle.hwp_check_event_line.specs.Told.{coming, told};
+ghost use Rattle.hwp_check_events.specs.Judged.{IsAccessJudged, IsJudged, IsScrubJudged, IsTable};
+ghost use Rattle.hwp_check_events.specs.Misfits.{IsFit, is_scrubbed, logged_if};
+
+use crate::faults::{access_faults, any, raise_faults};
+use crate::known::{Checks, Known};
+use hwp_banks::{Bank, Event, Origin, Status};
+use hwp_check_event_line::{Arrival, Faults, Shown, Traced};
+use hwp_check_scrub::scrub_faults;
+use hwp_geom::{Frame, Line, Mode, Who};
+use hwp_report_text::Answer;
+use hwp_script_read::{Command, Script};
+use hwp_severity::McgBits;
+
+/// How the machine checks of a command arrive.
+fn arrival_of(command: &Command) -> Arrival
+    ensures { coming result ≡ arrival_of command.now }
+{
+    let (ripv, eipv, mode) = match command {
+        Command::KLoad { .. } | Command::Scrub { .. } => (true, true, Mode::Kernel),
+        Command::RaiseUser { ripv, eipv, .. } => (*ripv, *eipv, Mode::User),
+        Command::RaiseKernel { ripv, eipv } => (*ripv, *eipv, Mode::Kernel),
+        _ => (true, true, Mode::User),
+    };
+    Arrival {
+        mcg: McgBits { ripv, eipv },
+        mode,
+    }
+}
+
+/// The machine checks of an access at a line.
+fn checks_of(origin: Origin, at: Line, known: &Known) -> Checks
+    ensures { (result.origin ≡ origin) × (result.at ≡ at) × (result.count ≡ known.now.checks) }
+{
+    Checks {
+        origin,
+        at,
+        count: known.checks,
+    }
+}
+
+/// Whether the answer says that a scrub went to its end.
+fn is_scrubbed(answer: Option<Answer>) -> bool
+    ensures { result ≡ is_scrubbed answer }
+{
+    matches!(answer, Some(Answer::Scrubbed(..)))
+}
+
+/// Logs a raw event where its command was done.
+fn log_if_done(answer: Option<Answer>, event: Event, raw: &mut Bank)
+    ensures { raw.new ≡ logged_if answer event raw.old }
+{
+    if matches!(answer, Some(Answer::Done)) {
+        raw.log(event);
+    }
+}
+
+/// What is wrong where no lines are asked.
+fn none_asked(lines: &[Shown]) -> Faults
+    ensures scanned { IsScanned (λ number line. ⊥) (map told lines.now) result.wrong }
+    ensures lacks { result.lacks ≡ false }
+{
+    Faults {
+        wrong: any(lines),
+        lacks: false,
+    }
+}
+
+/// What is wrong about the lines of an access, by what the report says of it.
+fn judge_access(
+    script: &Script,
+    report: &Traced<'_>,
+    who: Who,
+    how: Arrival,
+    origin: Origin,
+    at: Line,
+    known: &Known,
+    raw: &mut Bank,
+    lines: &[Shown],
+) -> Faults
+    requires access { of_access origin ≡ true }
+    requires frames { length report.now.frames ≤ 65536 }
+    requires few { known.now.checks + 1 < 2 ^ 64 }
+    requires checks { known.now.checks ≡ entries_of report.now who is_check }
+    ensures { IsAccessJudged script.now report.now who (coming how) origin at raw.old raw.new (map told lines.now) result }
+{
+    let checks = checks_of(origin, at, known);
+    access_faults(script, report, who, how, &checks, raw, lines)
+}
+
+/// What is wrong about the lines of a scrub, by what the report says of it.
+fn judge_scrub(
+    script: &Script,
+    report: &Traced<'_>,
+    who: Who,
+    how: Arrival,
+    first: Frame,
+    last: Frame,
+    known: &Known,
+    table: &[u8],
+    raw: &mut Bank,
+    lines: &[Shown],
+) -> Faults
+    requires answer { known.now.answer ≡ answer_of report.now who }
+    requires table { IsTable script.now who table.now }
+    requires fit { first.0 ≤ last.0 }
+    ensures { IsScrubJudged script.now report.now who (coming how) first last raw.old raw.new (map told lines.now) result }
+{
+    let whole = is_scrubbed(known.answer);
+    scrub_faults(
+        script, report, who, how, table, whole, first, last, raw, lines,
+    )
+}
+
+/// What is wrong about the event lines of a command, where bank 1 holds this; bank 1 is left as the command leaves it.
+pub(crate) fn command_faults(
+    script: &Script,
+    report: &Traced<'_>,
+    who: Who,
+    command: &Command,
+    known: &Known,
+    table: &[u8],
+    raw: &mut Bank,
+    lines: &[Shown],
+) -> Faults
+    requires frames { length report.now.frames ≤ 65536 }
+    requires few { known.now.checks + 1 < 2 ^ 64 }
+    requires checks { known.now.checks ≡ entries_of report.now who is_check }
+    requires answer { known.now.answer ≡ answer_of report.now who }
+    requires table { IsTable script.now who table.now }
+    requires fit { IsFit command.now }
+    ensures { IsJudged script.now report.now who command.now raw.old raw.new (map told lines.now) result }
+{
+    let how = arrival_of(command);
+    match *command {
+        Command::Load { line, .. } | Command::KLoad { line, .. } | Command::Store { line, .. } => {
+            judge_access(
+                script,
+                report,
+                who,
+                how,
+                Origin::Access,
+                line,
+                known,
+                raw,
+                lines,
+            )
+        }
+        Command::Fetch { line, .. } => {
+            judge_access(
+                script,
+                report,
+                who,
+                how,
+                Origin::Fetch,
+                line,
+                known,
+                raw,
+                lines,
+            )
+        }
+        Command::Scrub { first, last } => {
+            judge_scrub(
+                script, report, who, how, first, last, known, table, raw, lines,
+            )
+        }
+        Command::RaiseUser { .. } | Command::RaiseKernel { .. } => {
+            raise_faults(script, report, who, how, known.answer, raw, lines)
+        }
+        Command::Log { status, addr, misc } => {
+            let status = Status(status);
+            log_if_done(known.answer, Event { status, addr, misc }, raw);
+            none_asked(lines)
+        }
+        _ => none_asked(lines),
+    }
+}

@@ -1,0 +1,14 @@
+pub mod ListItems
+mod AmpleLaws
+mod RepeatLaws
+mod GlanceLaws
+mod SpanLaws
+pub mod WindowLaws
+mod FloorLaws
+mod EndLaws
+mod MarkLaws
+pub mod NamedLaws
+mod CountLaws
+mod FirstLaws
+mod FindingLaws
+pub use Rattle.hwp_law.proofs as of_hwp_law

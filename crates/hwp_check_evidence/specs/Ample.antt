@@ -1,0 +1,25 @@
+-- The frames that a script names, as flags.
+use Rattle.std.specs.Prelude.{ℕ, ◌+◌, ◌||◌, Bool, true, false, cond, List, [], ◌∷◌, Option, Some, None, fold, replicate, length, slice_index_or, slice_set}
+use Rattle.hwp_script_read.specs.declared.Command.{Command}
+use Rattle.hwp_script_read.specs.declared.Script.{Script}
+use Rattle.hwp_law.specs.Answers.{frame_named}
+
+-- the flags after a frame was named, if one was
+abbrev pub noted : List Bool → Option ℕ → List Bool
+noted flags None = flags
+noted flags (Some frame) = slice_set flags frame true
+
+-- after a command, and after commands, and after lists of them
+abbrev pub noted_in : List Bool → Command → List Bool
+noted_in flags command = noted flags (frame_named command)
+
+abbrev pub noted_list : List Bool → List Command → List Bool
+noted_list flags list = fold noted_in flags list
+
+abbrev pub flags_of : Script → List Bool
+flags_of script = fold noted_list (replicate (length script.layout.kernel) false) script.lists
+
+-- how many frames from number n on are neither the kernel's nor flagged
+abbrev pub usable_by : List Bool → ℕ → List Bool → ℕ
+usable_by flags n [] = 0
+usable_by flags n (kernel ∷ rest) = cond (kernel || slice_index_or flags n false) 0 1 + usable_by flags (n + 1) rest

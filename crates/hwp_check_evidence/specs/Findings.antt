@@ -1,0 +1,30 @@
+-- What the histories tell of the commands of one processor.
+use Rattle.std.specs.Prelude.{◌≡◌, ℕ, false, List, [], ◌∷◌, ◌++◌, Option, length, replicate}
+use Rattle.hwp_geom.specs.declared.Cpu.{Cpu}
+use Rattle.hwp_geom.specs.declared.Layout.{Layout}
+use Rattle.hwp_geom.specs.declared.Page.{Page}
+use Rattle.hwp_page.specs.declared.At.{At}
+use Rattle.hwp_page.specs.declared.Entry.{Entry}
+use Rattle.hwp_check_evidence.specs.Ends.{ArePageEnds, own_ends, own_page_ends, page_ends, process_numbers}
+use Rattle.hwp_check_evidence.specs.Named.{flagged_page, flagged_pages}
+use Rattle.hwp_check_evidence.specs.Windows.{AreSpans, IsSpan}
+use Rattle.hwp_check_evidence.specs.declared.findings.Findings.{Findings}
+use Rattle.hwp_check_evidence.specs.declared.windows.Span.{Span}
+
+-- what was found with one page more
+pub record IsAdded (layout : Layout) (named : List (Option At)) (cpu : Cpu) (page : Page) (entries : List Entry) (old new : Findings) : Type 0 where
+  pub ends : new.ends.items ≡ old.ends.items ++ page_ends layout cpu entries ∷ []
+  pub many : length new.ended.items ≡ process_numbers
+  pub ended : new.ended.items ≡ own_page_ends layout cpu old.ended.items entries
+  pub span : Span
+  pub is_span : IsSpan cpu entries span
+  pub spans : new.spans.items ≡ old.spans.items ++ span ∷ []
+  pub others : new.others.items ≡ flagged_page named cpu page old.others.items 0 entries
+
+-- and with all pages, of so many commands whose answers name these places
+pub record AreFound (layout : Layout) (named : List (Option At)) (cpu : Cpu) (commands : ℕ) (pages : List (List Entry)) (found : Findings) : Type 0 where
+  pub ends : ArePageEnds layout cpu pages found.ends.items
+  pub ended : found.ended.items ≡ own_ends layout cpu pages
+  pub spans : AreSpans cpu pages found.spans.items
+  pub others : found.others.items ≡ flagged_pages named cpu (replicate commands false) 0 pages
+  pub many : length found.others.items ≡ commands

@@ -1,0 +1,9 @@
+pub mod FramePlaces
+pub mod CountRises
+mod Results
+pub mod RecordLaws
+pub mod SaidLaws
+mod OwnLaws
+mod GivenLaws
+mod FlagLaws
+mod IndexLaws

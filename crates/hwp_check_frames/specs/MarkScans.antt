@@ -1,0 +1,155 @@
+-- How the records of frames are judged, mark by mark, and the lines of processors beside them.
+use Rattle.std.specs.Prelude.{◌≡◌, ◌⊎◌, ℕ, ◌+◌, ◌<◌, ◌≤◌, ◌==◌, ◌&&◌, ◌||◌, nat_lt, Bool, true, false, cond, List, [], ◌∷◌, Option, Some, None, filter_map, is_some, length, slice_get, take}
+use Rattle.hwp_geom.specs.declared.Frame.{Frame}
+use Rattle.hwp_geom.specs.declared.Who.{Who}
+use Rattle.hwp_report_text.specs.hwp_banks.Addresses.{frame_at}
+use Rattle.hwp_page.specs.declared.Outcome.{Outcome}
+use Rattle.hwp_script_read.specs.declared.Command.{Command}
+use Rattle.hwp_script_read.specs.declared.Command.TheVariants as commands
+use Rattle.hwp_script_read.specs.declared.Script.{Script}
+use Rattle.hwp_report_text.specs.declared.Acted.{Acted}
+use Rattle.hwp_report_text.specs.declared.Answer.TheVariants as answers
+use Rattle.hwp_report_text.specs.declared.CpuLine.{CpuLine}
+use Rattle.hwp_report_text.specs.declared.CpuLine.TheVariants as lines
+use Rattle.hwp_report_text.specs.declared.FrameLine.{FrameLine}
+use Rattle.hwp_report_text.specs.declared.How.TheVariants as hows
+use Rattle.hwp_report_text.specs.declared.MarkLine.{MarkLine}
+use Rattle.hwp_report_text.specs.declared.MarkLine.TheVariants as marks
+use Rattle.hwp_report_text.specs.declared.Report.{Report}
+use Rattle.hwp_check_rules.specs.hwp_law.Lines.{answer_of, marks_of, rows_of}
+use Rattle.hwp_check_rules.specs.hwp_law.Places.{command_at}
+use Rattle.hwp_check_rules.specs.hwp_law.Records.{IsAnswered, IsFound, IsFrameRecord, IsMarkAt, hardware_marks, is_moved, outcome_act, outcome_answer, result_of}
+use Rattle.hwp_check_rules.specs.MarkFaults.{HasNoEvent, IsEventBeyond, IsMisfound}
+use Rattle.hwp_check_rules.specs.Standing.{mark_line}
+
+-- each frame's record is right: the first half of the rule
+abbrev pub RecordsFit : Script → Report → Type 0
+RecordsFit script report = (frame : Frame) (kernel : Bool) (line : FrameLine) → slice_get script.layout.kernel frame.0 ≡ Some kernel → slice_get report.frames frame.0 ≡ Some line → IsFrameRecord script report kernel frame
+
+-- a mark that is wrong in its record, or by the answer or the event beside it
+pub record IsRecordWrong (script : Script) (report : Report) (line : ℕ) : Type 0 where
+  pub frame : Frame
+  pub kernel : Bool
+  pub place : ℕ
+  pub mark : MarkLine
+  pub declared : slice_get script.layout.kernel frame.0 ≡ Some kernel
+  pub there : slice_get (marks_of report frame.0) place ≡ Some mark
+  pub line_is : line ≡ mark_line report frame.0 place
+  pub wrong : (IsMarkAt place mark → ⊥) ⊎ IsMisfound kernel mark ⊎ (IsAnswered script report frame mark → ⊥) ⊎ HasNoEvent report frame place mark
+
+-- which lines break the first half of the rule
+abbrev pub IsRecordFault : Script → Report → ℕ → Type 0
+IsRecordFault script report line = IsRecordWrong script report line ⊎ IsEventBeyond report line
+
+-- nothing breaks a rule, and it holds
+pub record IsClear (Fits : Type 0) (IsFault : ℕ → Type 0) : Type 0 where
+  pub fits : Fits
+  pub none : (line : ℕ) → IsFault line → ⊥
+
+-- a rule is broken, first by this line
+pub record IsFirstFault (Fits : Type 0) (IsFault : ℕ → Type 0) (line : ℕ) : Type 0 where
+  pub broken : Fits → ⊥
+  pub at : IsFault line
+  pub first : (other : ℕ) → IsFault other → line ≤ other
+
+-- the mark finds what can be in such a frame
+abbrev pub FindsRight : Bool → MarkLine → Type 0
+FindsRight kernel (marks.Poisoned cycle who how) = IsFound kernel how
+FindsRight kernel (marks.Unpoisoned cycle who) = Unit {0}
+
+-- the command injected into the frame, and was answered by what came of it
+abbrev pub WasInjected : Script → Report → Who → Frame → Outcome → Type 0
+WasInjected script report who frame outcome = (command_at script who ≡ Some (commands.Inject frame)) × (answer_of report who ≡ Some (outcome_answer outcome))
+
+-- it took the frame softly out of use, and its content moved; or it had none
+abbrev pub WasMoved : Script → Report → Who → Frame → Type 0
+WasMoved script report who frame = (command_at script who ≡ Some (commands.Soft frame)) × (is_moved (answer_of report who) ≡ true)
+
+abbrev pub WasTakenFree : Script → Report → Who → Frame → Type 0
+WasTakenFree script report who frame = (command_at script who ≡ Some (commands.Soft frame)) × (answer_of report who ≡ Some answers.TakenFree)
+
+-- it made the frame no longer poisoned
+abbrev pub WasUnpoisoned : Script → Report → Who → Frame → Type 0
+WasUnpoisoned script report who frame = (command_at script who ≡ Some (commands.Unpoison frame)) × (answer_of report who ≡ Some answers.Done)
+
+abbrev pub IsInject : Frame → Option Command → Type 0
+IsInject frame command = command ≡ Some (commands.Inject frame)
+
+abbrev pub IsSoft : Frame → Option Command → Type 0
+IsSoft frame command = command ≡ Some (commands.Soft frame)
+
+abbrev pub IsUnpoison : Frame → Option Command → Type 0
+IsUnpoison frame command = command ≡ Some (commands.Unpoison frame)
+
+-- the result for the frame that a line of the command with this number says
+abbrev pub result_in : ℕ → ℕ → CpuLine → Option Acted
+result_in seq frame (lines.Event s bank status addr misc row acted) = cond ((seq == s) && (frame == frame_at addr)) (result_of acted) None
+result_in seq frame (lines.Answer s answer) = None
+
+-- all that its lines say
+abbrev pub results_in : ℕ → ℕ → List CpuLine → List Acted
+results_in seq frame rows = filter_map (result_in seq frame) rows
+
+-- behind these marks the next of the command's results for the frame is this one
+pub record IsNextResult (report : Report) (frame : Frame) (before : List MarkLine) (who : Who) (outcome : Outcome) : Type 0 where
+  pub is : slice_get (results_in who.seq frame.0 (rows_of report who)) (length (hardware_marks who before)) ≡ Some (outcome_act outcome)
+
+-- a mark that an event caused has the next of its command's results for the frame
+abbrev pub HasEvent : Report → Frame → List MarkLine → MarkLine → Type 0
+HasEvent report frame before (marks.Poisoned cycle who (hows.Failure true situation outcome)) = IsNextResult report frame before who outcome
+HasEvent report frame before (marks.Poisoned cycle who (hows.Failure false situation outcome)) = Unit {0}
+HasEvent report frame before (marks.Poisoned cycle who hows.Moved) = Unit {0}
+HasEvent report frame before (marks.Poisoned cycle who hows.TakenFree) = Unit {0}
+HasEvent report frame before (marks.Unpoisoned cycle who) = Unit {0}
+
+-- the mark is right
+pub record IsRightMark (script : Script) (report : Report) (kernel : Bool) (frame : Frame) (list : List MarkLine) (place : ℕ) (mark : MarkLine) : Type 0 where
+  pub in_place : IsMarkAt place mark
+  pub found : FindsRight kernel mark
+  pub answered : IsAnswered script report frame mark
+  pub event : HasEvent report frame (take place list) mark
+
+abbrev pub IsWrongMark : Script → Report → Bool → Frame → List MarkLine → ℕ → MarkLine → Type 0
+IsWrongMark script report kernel frame list place mark =
+    (IsMarkAt place mark → ⊥) ⊎ (FindsRight kernel mark → ⊥) ⊎ (IsAnswered script report frame mark → ⊥) ⊎ (HasEvent report frame (take place list) mark → ⊥)
+
+-- so many first marks of a record are right
+abbrev pub AreRightMarks : Script → Report → Bool → Frame → List MarkLine → ℕ → Type 0
+AreRightMarks script report kernel frame list n = (place : ℕ) (mark : MarkLine) → place < n → slice_get list place ≡ Some mark → IsRightMark script report kernel frame list place mark
+
+-- this is the first that isn't
+pub record IsFirstWrongMark (script : Script) (report : Report) (kernel : Bool) (frame : Frame) (list : List MarkLine) (place : ℕ) : Type 0 where
+  pub mark : MarkLine
+  pub there : slice_get list place ≡ Some mark
+  pub before : AreRightMarks script report kernel frame list place
+  pub wrong : IsWrongMark script report kernel frame list place mark
+
+-- the command with this number has more results for the frame than marks
+abbrev pub is_beyond : List MarkLine → List CpuLine → ℕ → ℕ → ℕ → Bool
+is_beyond list rows frame cpu seq = nat_lt (length (hardware_marks (record { cpu = record { 0 = cpu }; seq = seq }) list)) (length (results_in seq frame rows))
+
+-- a line is of such a command; some of these lines is
+abbrev pub row_beyond : List MarkLine → List CpuLine → ℕ → ℕ → CpuLine → Bool
+row_beyond list rows frame cpu (lines.Event s bank status addr misc row acted) =
+    is_some (result_in s frame (lines.Event s bank status addr misc row acted)) && is_beyond list rows frame cpu s
+row_beyond list rows frame cpu (lines.Answer s answer) = false
+
+abbrev pub rows_beyond : List MarkLine → List CpuLine → ℕ → ℕ → List CpuLine → Bool
+rows_beyond list rows frame cpu [] = false
+rows_beyond list rows frame cpu (r ∷ rs) = row_beyond list rows frame cpu r || rows_beyond list rows frame cpu rs
+
+-- so many processors have no such line; and this one has
+abbrev pub NoneBeyond : Report → List MarkLine → ℕ → ℕ → Type 0
+NoneBeyond report list frame n = (cpu : ℕ) (rows : List CpuLine) → cpu < n → slice_get report.cpus cpu ≡ Some rows → rows_beyond list rows frame cpu rows ≡ false
+
+abbrev pub SomeBeyond : Report → List MarkLine → ℕ → Type 0
+SomeBeyond report list frame = (cpu : ℕ) × (rows : List CpuLine) × (slice_get report.cpus cpu ≡ Some rows) × (rows_beyond list rows frame cpu rows ≡ true)
+
+-- the frame's record is right, or this is its first line that is wrong, where its heading stands at `heading`
+abbrev pub FrameFits : Script → Report → Bool → Frame → List MarkLine → Type 0
+FrameFits script report kernel frame list = NoneBeyond report list frame.0 (length report.cpus) × AreRightMarks script report kernel frame list (length list)
+
+abbrev pub IsFrameFaultAt : Script → Report → Bool → Frame → List MarkLine → ℕ → ℕ → Type 0
+IsFrameFaultAt script report kernel frame list heading line =
+    (SomeBeyond report list frame.0 × (line ≡ heading))
+    ⊎ (NoneBeyond report list frame.0 (length report.cpus) × ((place : ℕ) × IsFirstWrongMark script report kernel frame list place × (line ≡ heading + 1 + place)))

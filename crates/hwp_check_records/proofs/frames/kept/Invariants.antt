@@ -1,5 +1,0 @@
-use Rattle.hwp_check_records.proofs.Keeping.{KeptBelow}
-use Rattle.hwp_check_records.proofs.frames.kept.Given as goal
-
-abbrev pub invariant-loop-frame : goal.invariant-loop-frame
-invariant-loop-frame l = KeptBelow l.fn.script l.fn.report l.frame l.heading

@@ -1,7 +1,0 @@
-use Rattle.std.proofs.Common.{◌≡◌, ◌+◌, ℕ, take}
-use Rattle.hwp_check_records.specs.Counts.{at_key}
-use Rattle.hwp_check_records.specs.Own.{marks_own}
-use Rattle.hwp_check_records.proofs.own.add_owns.Given as goal
-
-abbrev pub invariant-loop-mark : goal.invariant-loop-mark
-invariant-loop-mark l = (q : (ℕ × ℕ) × ℕ) → at_key l.own q ≡ at_key l.fn.own q + marks_own l.fn.frame q (take l.mark-index l.fn.marks)

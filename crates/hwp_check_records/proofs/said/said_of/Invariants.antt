@@ -1,5 +1,0 @@
-use Rattle.hwp_check_records.specs.Said.{AreNoted, said_below}
-use Rattle.hwp_check_records.proofs.said.said_of.Given as goal
-
-abbrev pub invariant-loop-cpu : goal.invariant-loop-cpu
-invariant-loop-cpu l = AreNoted (said_below l.cpu l.fn.report) l.said.many l.said.rows

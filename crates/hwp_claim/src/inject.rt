@@ -1,0 +1,159 @@
+ghost use Rattle.std.specs.Prelude.{◌≡◌};
+ghost use Rattle.hwp_claim.specs.Injects.{answer, begin, loaded};
+
+use crate::fail::{Fail, FailAnswer};
+use hwp_core_rule::{SharedWord, Step};
+use hwp_core_task::{Ranked, Scheduled, Task, Turn};
+use hwp_geom::{Frame, Layout, Who};
+use hwp_page::Body;
+use hwp_words::is_stopped;
+use std::alloc::Global;
+use std::mem;
+
+/// A command by which a frame fails, as software asked (after Linux hwpoison-inject; this project's rule).
+#[derive(Drop)]
+pub struct Inject {
+    alloc: Global,
+    who: Who,
+    frame: Frame,
+    at: InjectAt,
+}
+
+#[derive(Drop)]
+enum InjectAt {
+    LoadStop,
+    Fail { fail: Fail },
+    Stopped,
+}
+
+impl Inject {
+    /// The command at its beginning.
+    pub fn new(alloc: Global, who: Who, frame: Frame) -> Inject
+        ensures { result ≡ begin alloc who frame }
+    {
+        Inject {
+            alloc,
+            who,
+            frame,
+            at: InjectAt::LoadStop,
+        }
+    }
+
+    /// The frame that fails.
+    pub fn frame(&self) -> Frame
+        ensures { result ≡ self.now.frame }
+    {
+        self.frame
+    }
+
+    /// What the failure came to; `None` until it is over, and where it gave up because memory ran out.
+    pub fn answer(&self) -> Option<FailAnswer>
+        ensures { result ≡ answer self.now }
+    {
+        match &self.at {
+            InjectAt::LoadStop => None,
+            InjectAt::Fail { fail } => fail.answer(),
+            InjectAt::Stopped => Some(FailAnswer::Stopped),
+        }
+    }
+}
+
+/// The failure begins, unless the machine has stopped.
+fn loaded(alloc: Global, layout: &Layout, who: Who, frame: Frame, found: u64) -> InjectAt
+    ensures { result ≡ loaded layout.now.recovery alloc who frame found }
+{
+    if is_stopped(found) {
+        return InjectAt::Stopped;
+    }
+    InjectAt::Fail {
+        fail: Fail::new(alloc, layout, who, frame, None, false),
+    }
+}
+
+impl Task for Inject {
+    ghost use Rattle.hwp_claim.specs.Injects.{plan, put, bare, Shows, Follows, Fits};
+
+    ghost who = { λ i. i.who };
+
+    ghost plan = { λ i. plan i };
+
+    ghost put = { λ i. put i };
+
+    ghost bare = { λ i. bare i };
+
+    ghost shows = { λ i found got. Shows i found got };
+
+    ghost next = { λ layout i found got after result. Follows layout i found got after result };
+
+    ghost fits = { λ layout view i. Fits layout view i };
+
+    fn who(&self) -> Who {
+        self.who
+    }
+
+    fn plan(&self) -> Option<Step> {
+        match &self.at {
+            InjectAt::LoadStop => Some(Step::Load {
+                place: SharedWord::Stop,
+            }),
+            InjectAt::Fail { fail } => fail.plan(),
+            InjectAt::Stopped => None,
+        }
+    }
+
+    fn give(&mut self) -> Option<Body> {
+        match &mut self.at {
+            InjectAt::Fail { fail } => fail.give(),
+            InjectAt::LoadStop | InjectAt::Stopped => None,
+        }
+    }
+
+    fn settle(&mut self, layout: &Layout, found: u64, body: Option<Body>) -> Turn {
+        match &mut self.at {
+            InjectAt::LoadStop => {
+                drop(body);
+                let at = loaded(self.alloc, layout, self.who, self.frame, found);
+                drop(mem::replace(&mut self.at, at));
+                Turn::Moved
+            }
+            InjectAt::Fail { fail } => fail.settle(layout, found, body),
+            InjectAt::Stopped => {
+                drop(body);
+                Turn::Moved
+            }
+        }
+    }
+}
+
+impl Ranked for Inject {
+    ghost use Rattle.hwp_claim.specs.Injects.{aborts, claims, class, cost};
+
+    ghost class_of = { λ i. class i };
+
+    ghost cost = { λ i words. cost i words };
+
+    ghost aborts = { λ i. aborts i };
+
+    ghost claims = { λ i. claims i };
+
+    fn class(&self) -> u8 {
+        match &self.at {
+            InjectAt::Fail { fail } => fail.class(),
+            InjectAt::LoadStop | InjectAt::Stopped => 4,
+        }
+    }
+
+    fn ranked(&self) {}
+}
+
+impl Scheduled for Inject {
+    fn is_over(&self) -> bool {
+        match &self.at {
+            InjectAt::LoadStop => false,
+            InjectAt::Fail { fail } => fail.is_over(),
+            InjectAt::Stopped => true,
+        }
+    }
+
+    fn tells(&self) {}
+}

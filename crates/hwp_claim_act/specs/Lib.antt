@@ -1,0 +1,7 @@
+pub mod Abandoned
+pub mod Abandons
+pub mod Acting
+pub mod Acts
+pub mod Failing
+pub mod Reads
+pub use Rattle.hwp_evict.specs as hwp_evict

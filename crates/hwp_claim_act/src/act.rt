@@ -1,0 +1,390 @@
+ghost use Rattle.std.specs.Prelude.{◌≡◌, ◌<◌, true};
+ghost use Rattle.hwp_evict.specs.Clears as clears;
+ghost use Rattle.hwp_core.specs.GiveUps as give_ups;
+ghost use Rattle.hwp_claim_act.specs.Abandons as abandons;
+ghost use Rattle.hwp_claim_act.specs.Reads as reads;
+ghost use Rattle.hwp_claim_act.specs.Failing.{CanEnter};
+ghost use Rattle.hwp_claim_act.specs.Acts.{AfterRead, Begins, CanReadOn, Enters, FollowsAt, IsCleared, IsReadOn, ShowsAt, Starts, after_abandon, after_clear, after_give_up, answer, given_up};
+
+use crate::abandon::{Abandon, Failed, Losses};
+use crate::failing::{Entered, bars, enter};
+use crate::read_policies::ReadPolicies;
+use hwp_core::GiveUp;
+use hwp_core_rule::Step;
+use hwp_core_task::{Ranked, Task, Turn};
+use hwp_evict::Clear;
+use hwp_geom::{Frame, Layout, List, Page, Thread, Who};
+use hwp_kill::{Seen, SignalRoom};
+use hwp_page::Body;
+use std::alloc::Global;
+use std::mem;
+
+/// A memory failure acts on the page in its frame: it reads the policies of the threads that it may signal, makes its entry,
+/// takes the translations to the frame away, and the page out of the frame for good (Linux hwpoison_user_mappings and
+/// page_action). The page is held, with its frame.
+#[derive(Drop)]
+pub struct Act {
+    who: Who,
+    page: Page,
+    frame: Frame,
+    at: ActAt,
+}
+
+#[derive(Drop)]
+enum ActAt {
+    Read {
+        read: ReadPolicies,
+    },
+    Clear {
+        clear: Clear,
+        losses: Losses,
+        failed: Failed,
+        body: Body,
+    },
+    Abandon {
+        abandon: Abandon,
+    },
+    GiveUp {
+        give_up: GiveUp,
+    },
+    /// `None` where it gave up.
+    Over {
+        failed: Option<Failed>,
+    },
+}
+
+impl Act {
+    /// The command's failure acts on the page in this frame, where `required` is the thread that needs the page now.
+    pub fn new(
+        alloc: Global,
+        who: Who,
+        page: Page,
+        frame: Frame,
+        required: Option<Thread>,
+        body: Body,
+    ) -> Act
+        requires cached { body.state.cached ≡ true }
+        ensures begun { (result.who ≡ who) × (result.page ≡ page) × (result.frame ≡ frame) }
+        ensures starts { Starts who page frame required body result.at }
+    {
+        Act {
+            who,
+            page,
+            frame,
+            at: start(alloc, who, page, frame, required, body),
+        }
+    }
+
+    /// What it came to; `None` until the page is let go, and where it gave up.
+    pub fn answer(&self) -> Option<Failed>
+        ensures { result ≡ answer self.now }
+    {
+        match &self.at {
+            ActAt::Over { failed } => *failed,
+            ActAt::Read { .. }
+            | ActAt::Clear { .. }
+            | ActAt::Abandon { .. }
+            | ActAt::GiveUp { .. } => None,
+        }
+    }
+}
+
+/// Room is made for the entry, and the failure begins.
+fn start(
+    alloc: Global,
+    who: Who,
+    page: Page,
+    frame: Frame,
+    required: Option<Thread>,
+    body: Body,
+) -> ActAt
+    requires cached { body.state.cached ≡ true }
+    ensures { Starts who page frame required body result }
+{
+    let mut body = body;
+    match body.room() {
+        Ok(()) => begin(alloc, who, page, frame, required, body),
+        Err(_) => given_up(who, page, frame, body),
+    }
+}
+
+/// Room is made for the signals and, where the failure signals, for the policies, which are read then; else the entry is made.
+fn begin(
+    alloc: Global,
+    who: Who,
+    page: Page,
+    frame: Frame,
+    required: Option<Thread>,
+    body: Body,
+) -> ActAt
+    requires cached { body.state.cached ≡ true }
+    requires room { 0 < body.spare }
+    ensures { Begins who page frame required body result }
+{
+    let Ok(room) = SignalRoom::new(alloc) else {
+        return given_up(who, page, frame, body);
+    };
+    let signalling = body.state().situation().signals();
+    if signalling {
+        match Vec::with_capacity(alloc, body.layout().threads.len()) {
+            Ok(seen) => {
+                let read = ReadPolicies::new(who, frame, required, body, seen, room);
+                after_read(who, page, frame, read)
+            }
+            Err(_) => given_up(who, page, frame, body),
+        }
+    } else {
+        go_out(who, page, frame, required, body, List::new(alloc), room)
+    }
+}
+
+/// Memory is refused, and the command gives up.
+fn given_up(who: Who, page: Page, frame: Frame, body: Body) -> ActAt
+    ensures { result ≡ given_up who page frame body }
+{
+    ActAt::GiveUp {
+        give_up: GiveUp::with_page(who, page, Some(frame), 1, body),
+    }
+}
+
+/// Once all policies are read, the entry is made.
+fn after_read(who: Who, page: Page, frame: Frame, read: ReadPolicies) -> ActAt
+    requires { CanReadOn read }
+    ensures { AfterRead who page frame read result }
+{
+    if read.is_over() {
+        let required = read.required();
+        let (body, seen, room) = read.into_parts();
+        go_out(who, page, frame, required, body, seen, room)
+    } else {
+        ActAt::Read { read }
+    }
+}
+
+/// The entry is made, and the translations that were in use are written.
+fn go_out(
+    who: Who,
+    page: Page,
+    frame: Frame,
+    required: Option<Thread>,
+    body: Body,
+    seen: List<Seen>,
+    room: SignalRoom,
+) -> ActAt
+    requires { CanEnter required body seen }
+    ensures { Enters who page frame required body seen result }
+{
+    let maps = body.state().maps.copy();
+    let barred = bars(body.state().situation());
+    let entered = enter(who, required, body, seen, room);
+    let clear = Clear::new(who, page, frame, maps, barred);
+    after_clear(who, page, frame, clear, entered)
+}
+
+/// Once all are written, the page leaves its frame.
+fn after_clear(who: Who, page: Page, frame: Frame, clear: Clear, entered: Entered) -> ActAt
+    ensures { result ≡ after_clear who page frame clear entered }
+{
+    let Entered {
+        body,
+        losses,
+        failed,
+    } = entered;
+    if clear.is_over() {
+        ActAt::Abandon {
+            abandon: Abandon::new(who, page, frame, clear.count(), losses, failed, body),
+        }
+    } else {
+        ActAt::Clear {
+            clear,
+            losses,
+            failed,
+            body,
+        }
+    }
+}
+
+/// Reads the next policy.
+fn read_more(
+    who: Who,
+    page: Page,
+    frame: Frame,
+    layout: &Layout,
+    read: ReadPolicies,
+    found: u64,
+    got: Option<Body>,
+) -> ActAt
+    requires shows { reads.Shows read found }
+    requires ready { CanReadOn read }
+    ensures { IsReadOn who page frame read found result }
+{
+    let mut read = read;
+    let _turn = read.settle(layout, found, got);
+    after_read(who, page, frame, read)
+}
+
+/// Clears the next translation.
+fn clear_more(
+    who: Who,
+    page: Page,
+    frame: Frame,
+    layout: &Layout,
+    clear: Clear,
+    found: u64,
+    got: Option<Body>,
+    entered: Entered,
+) -> ActAt
+    requires { clears.Shows clear }
+    ensures { IsCleared who page frame clear entered result }
+{
+    let mut clear = clear;
+    let _turn = clear.settle(layout, found, got);
+    after_clear(who, page, frame, clear, entered)
+}
+
+/// Where the command is after its step, with the turn that brought it there.
+fn settled(
+    who: Who,
+    page: Page,
+    frame: Frame,
+    layout: &Layout,
+    at: ActAt,
+    found: u64,
+    got: Option<Body>,
+) -> (ActAt, Turn)
+    requires { ShowsAt at found }
+    ensures { FollowsAt who page frame at found result.0 result.1 }
+{
+    match at {
+        ActAt::Read { read } => (
+            read_more(who, page, frame, layout, read, found, got),
+            Turn::Moved,
+        ),
+        ActAt::Clear {
+            clear,
+            losses,
+            failed,
+            body,
+        } => {
+            let entered = Entered {
+                body,
+                losses,
+                failed,
+            };
+            (
+                clear_more(who, page, frame, layout, clear, found, got, entered),
+                Turn::Moved,
+            )
+        }
+        ActAt::Abandon { abandon } => (abandon_more(layout, abandon, found, got), Turn::Moved),
+        ActAt::GiveUp { give_up } => give_up_more(layout, give_up, found, got),
+        ActAt::Over { failed } => (ActAt::Over { failed }, Turn::Moved),
+    }
+}
+
+/// Runs one more step of taking the page out of its frame.
+fn abandon_more(layout: &Layout, abandon: Abandon, found: u64, got: Option<Body>) -> ActAt
+    requires { abandons.Shows abandon }
+    ensures { result ≡ after_abandon (abandons.next abandon) }
+{
+    let mut abandon = abandon;
+    let _turn = abandon.settle(layout, found, got);
+    match abandon.answer() {
+        Some(failed) => ActAt::Over {
+            failed: Some(failed),
+        },
+        None => ActAt::Abandon { abandon },
+    }
+}
+
+/// Runs one more step of giving the command up.
+fn give_up_more(layout: &Layout, give_up: GiveUp, found: u64, got: Option<Body>) -> (ActAt, Turn)
+    ensures { (result.0 ≡ after_give_up (give_ups.next give_up found)) × (result.1 ≡ give_ups.turn give_up) }
+{
+    let mut give_up = give_up;
+    let turn = give_up.settle(layout, found, got);
+    (after_give_up(give_up), turn)
+}
+
+fn after_give_up(give_up: GiveUp) -> ActAt
+    ensures { result ≡ after_give_up give_up }
+{
+    if give_up.is_over() {
+        ActAt::Over { failed: None }
+    } else {
+        ActAt::GiveUp { give_up }
+    }
+}
+
+impl Task for Act {
+    ghost use Rattle.hwp_claim_act.specs.Acts.{plan, put, bare, Shows, Follows};
+    ghost use Rattle.hwp_claim_act.specs.Acting.{Fits};
+
+    ghost who = { λ a. a.who };
+
+    ghost plan = { λ a. plan a };
+
+    ghost put = { λ a. put a };
+
+    ghost bare = { λ a. bare a };
+
+    ghost shows = { λ a found got. Shows a found };
+
+    ghost next = { λ layout a found got after result. Follows a found after result };
+
+    ghost fits = { λ layout view a. Fits layout view a };
+
+    fn who(&self) -> Who {
+        self.who
+    }
+
+    fn plan(&self) -> Option<Step> {
+        match &self.at {
+            ActAt::Read { read } => read.plan(),
+            ActAt::Clear { clear, .. } => clear.plan(),
+            ActAt::Abandon { abandon } => abandon.plan(),
+            ActAt::GiveUp { give_up } => give_up.plan(),
+            ActAt::Over { .. } => None,
+        }
+    }
+
+    fn give(&mut self) -> Option<Body> {
+        match &mut self.at {
+            ActAt::Abandon { abandon } => abandon.give(),
+            ActAt::GiveUp { give_up } => give_up.give(),
+            ActAt::Read { .. } | ActAt::Clear { .. } | ActAt::Over { .. } => None,
+        }
+    }
+
+    fn settle(&mut self, layout: &Layout, found: u64, body: Option<Body>) -> Turn {
+        let at = mem::replace(&mut self.at, ActAt::Over { failed: None });
+        let (after, turn) = settled(self.who, self.page, self.frame, layout, at, found, body);
+        self.at = after;
+        turn
+    }
+}
+
+impl Ranked for Act {
+    ghost use Rattle.std.specs.Prelude.{false, None};
+    ghost use Rattle.hwp_claim_act.specs.Acts.{class, cost};
+
+    ghost class_of = { λ a. class a };
+
+    ghost cost = { λ a words. cost a words };
+
+    ghost aborts = { λ a. false };
+
+    ghost claims = { λ a. None };
+
+    fn class(&self) -> u8 {
+        match &self.at {
+            ActAt::Read { read } => read.class(),
+            ActAt::Clear { clear, .. } => clear.class(),
+            ActAt::Abandon { abandon } => abandon.class(),
+            ActAt::GiveUp { give_up } => give_up.class(),
+            ActAt::Over { .. } => 4,
+        }
+    }
+
+    fn ranked(&self) {}
+}

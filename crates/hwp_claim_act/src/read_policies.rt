@@ -1,0 +1,151 @@
+ghost use Rattle.std.specs.Prelude.{◌≡◌, [], is_none, vec_capacity};
+ghost use Rattle.hwp_claim_act.specs.Reads.{IsBegun, plan};
+
+use hwp_core_rule::{SharedWord, Step};
+use hwp_core_task::{Ranked, Task, Turn};
+use hwp_geom::{Frame, Layout, List, Thread, Who};
+use hwp_kill::{Seen, SignalRoom, next_to_read};
+use hwp_page::Body;
+use hwp_words::PolicyWord;
+
+/// Reads the policies of the threads that a memory failure may signal (prctl(2), PR_MCE_KILL), one thread after another
+/// (Linux collect_procs; the order is this project's rule). The page is held, with its frame.
+#[derive(Drop)]
+pub struct ReadPolicies {
+    who: Who,
+    frame: Frame,
+    required: Option<Thread>,
+    body: Body,
+    /// Has room for all threads of the layout.
+    seen: Vec<Seen>,
+    /// The thread that comes.
+    next: Option<Thread>,
+    /// For the signals, once all policies are read.
+    room: SignalRoom,
+}
+
+impl ReadPolicies {
+    /// The command reads the policies for the page of this body, in this frame, where `required` is the thread that needs
+    /// the page now. What it reads it puts into `seen`, which is empty; the room for the signals is kept.
+    pub fn new(
+        who: Who,
+        frame: Frame,
+        required: Option<Thread>,
+        body: Body,
+        seen: Vec<Seen>,
+        room: SignalRoom,
+    ) -> ReadPolicies
+        requires { seen.items ≡ [] }
+        ensures { IsBegun who frame required body (vec_capacity seen) result }
+    {
+        let maps = &body.state().maps;
+        let next = next_to_read(body.layout(), maps, required, seen.as_slice());
+        ReadPolicies {
+            who,
+            frame,
+            required,
+            body,
+            seen,
+            next,
+            room,
+        }
+    }
+
+    /// Whether all are read.
+    pub fn is_over(&self) -> bool
+        ensures { result ≡ is_none self.now.next }
+    {
+        self.next.is_none()
+    }
+
+    /// The thread that needs the page now.
+    pub fn required(&self) -> Option<Thread>
+        ensures { result ≡ self.now.required }
+    {
+        self.required
+    }
+
+    /// The page's body, what was read, and the room for the signals.
+    pub fn into_parts(self) -> (Body, List<Seen>, SignalRoom)
+        ensures { (result.0 ≡ self.body) × (result.1 ≡ self.seen.items) }
+    {
+        let ReadPolicies {
+            body,
+            seen,
+            room,
+            ..
+        } = self;
+        (body, List::from_vec(seen), room)
+    }
+}
+
+impl Task for ReadPolicies {
+    ghost use Rattle.std.specs.Prelude.{◌≡◌, None};
+    ghost use Rattle.hwp_core_task.specs.declared.Turn.TheVariants.{Moved};
+    ghost use Rattle.hwp_claim_act.specs.Reads.{plan, Shows, Follows, Fits};
+
+    ghost who = { λ r. r.who };
+
+    ghost plan = { λ r. plan r };
+
+    ghost put = { λ r. None };
+
+    ghost bare = { λ r. r };
+
+    ghost shows = { λ r found got. Shows r found };
+
+    ghost next = { λ layout r found got after result. Follows r found after × (result ≡ Moved) };
+
+    ghost fits = { λ layout view r. Fits layout view r };
+
+    fn who(&self) -> Who {
+        self.who
+    }
+
+    fn plan(&self) -> Option<Step> {
+        match self.next {
+            Some(thread) => Some(Step::Load {
+                place: SharedWord::Policy(thread),
+            }),
+            None => None,
+        }
+    }
+
+    fn give(&mut self) -> Option<Body> {
+        None
+    }
+
+    fn settle(&mut self, _layout: &Layout, found: u64, _body: Option<Body>) -> Turn {
+        if let Some(thread) = self.next {
+            let word = PolicyWord::unpack(found);
+            self.seen.push_reserved(Seen {
+                thread,
+                policy: word.policy,
+                n: word.settings as u32,
+            });
+            let maps = &self.body.state().maps;
+            let seen = self.seen.as_slice();
+            self.next = next_to_read(self.body.layout(), maps, self.required, seen);
+        }
+        Turn::Moved
+    }
+}
+
+impl Ranked for ReadPolicies {
+    ghost use Rattle.std.specs.Prelude.{false, None};
+    ghost use Rattle.hwp_claim_act.specs.Reads.{cost};
+
+    ghost class_of = { λ r. 1 };
+
+    ghost cost = { λ r words. cost r };
+
+    ghost aborts = { λ r. false };
+
+    ghost claims = { λ r. None };
+
+    fn class(&self) -> u8 {
+        1
+    }
+
+    fn ranked(&self) {}
+}

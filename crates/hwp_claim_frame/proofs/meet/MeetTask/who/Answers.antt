@@ -1,0 +1,5 @@
+use Rattle.hwp_claim_frame.proofs.meet.MeetTask.who.Goals as goal
+use Rattle.hwp_claim_frame.proofs.MeetLaws.{can, stays}
+
+pub returns-clause-law : goal.returns-clause-law
+returns-clause-law c = record { can = can; stays = stays }

@@ -1,0 +1,501 @@
+ghost use Rattle.std.specs.Prelude.{◌≡◌, Option, is_some, is_none, true, cond};
+
+use hwp_core::Release;
+use hwp_core_rule::Step;
+use hwp_core_task::{Ranked, Task, Turn};
+use hwp_geom::{Frame, Layout, Page, Who};
+use hwp_page::Body;
+use hwp_words::FrameWord;
+use std::mem;
+
+/// Meets a frame that is in use: takes a reference to it and its lock, and before that the lock of the page that is in it, if
+/// any; and looks, under the locks, whether the frame is still what it was (Linux memory_failure, from get_hwpoison_page on, and
+/// soft_offline_in_use_page).
+#[derive(Drop)]
+pub struct Meet {
+    who: Who,
+    frame: Frame,
+    /// That of the failure that the frame is met for, if it is met for one.
+    cycle: Option<u32>,
+    at: MeetAt,
+}
+
+#[derive(Drop)]
+enum MeetAt {
+    GetRef {
+        seen: u64,
+    },
+    LockFree,
+    LockPage {
+        page: Page,
+    },
+    LockOwned {
+        page: Page,
+        shelf: Option<Body>,
+    },
+    Unlock {
+        body: Option<Body>,
+        ended: bool,
+    },
+    UnlockFrame {
+        page: Page,
+        shelf: Option<Body>,
+        body: Option<Body>,
+        ended: bool,
+    },
+    UnlockPage {
+        page: Page,
+        shelf: Option<Body>,
+        ended: bool,
+    },
+    Release {
+        release: Release,
+        ended: bool,
+    },
+    Back {
+        ended: bool,
+    },
+    Free,
+    Owned {
+        page: Page,
+        body: Body,
+    },
+}
+
+/// What a `Meet` came to (this project's rule).
+#[derive(Clone, Copy)]
+pub enum MeetAnswer {
+    /// The frame changed meanwhile: its word has to be looked at again. Nothing is held.
+    LookAgain,
+    /// Others have ended the failure. Nothing is held.
+    Ended,
+    /// The frame is locked, and no page is in it.
+    Free,
+    /// This page is locked, and so is the frame, which it is in; and the page's body is in hand.
+    Owned(Page),
+}
+
+impl Meet {
+    ghost use Rattle.hwp_claim_frame.specs.Meets.{begin, plan, answer, is_owned, IsBody};
+
+    /// The command meets the frame, for its failure of this cycle or for none. Its word was `seen`.
+    pub fn new(who: Who, frame: Frame, cycle: Option<u32>, seen: u64) -> Meet
+        ensures { result ≡ begin who frame cycle seen }
+    {
+        Meet {
+            who,
+            frame,
+            cycle,
+            at: MeetAt::GetRef { seen },
+        }
+    }
+
+    /// What the task came to; `None` until it is over.
+    pub fn answer(&self) -> Option<MeetAnswer>
+        ensures answer { result ≡ answer self.now }
+        ensures over { is_some result ≡ is_none (plan self.now) }
+    {
+        match &self.at {
+            MeetAt::Release { release, ended } => {
+                if release.is_over() {
+                    Some(back(*ended))
+                } else {
+                    None
+                }
+            }
+            MeetAt::Back { ended } => Some(back(*ended)),
+            MeetAt::Free => Some(MeetAnswer::Free),
+            MeetAt::Owned { page, .. } => Some(MeetAnswer::Owned(*page)),
+            MeetAt::GetRef { .. }
+            | MeetAt::LockFree
+            | MeetAt::LockPage { .. }
+            | MeetAt::LockOwned { .. }
+            | MeetAt::Unlock { .. }
+            | MeetAt::UnlockFrame { .. }
+            | MeetAt::UnlockPage { .. } => None,
+        }
+    }
+
+    /// The body of the page that the frame was met with.
+    pub fn body(self) -> Body
+        requires owned { is_owned self ≡ true }
+        ensures { IsBody self result }
+    {
+        match self.at {
+            MeetAt::Owned { body, .. } => body,
+            MeetAt::GetRef { .. }
+            | MeetAt::LockFree
+            | MeetAt::LockPage { .. }
+            | MeetAt::LockOwned { .. }
+            | MeetAt::Unlock { .. }
+            | MeetAt::UnlockFrame { .. }
+            | MeetAt::UnlockPage { .. }
+            | MeetAt::Release { .. }
+            | MeetAt::Back { .. }
+            | MeetAt::Free => unreachable!(),
+        }
+    }
+}
+
+ghost use Rattle.hwp_core.specs.Holds.{is_free};
+ghost use Rattle.hwp_claim_frame.specs.Meets.{
+  back,
+  is_ended,
+  has_ended,
+  is_taken,
+  is_owner,
+  referenced,
+  owner_in,
+  free_at,
+  owned_at,
+  released,
+  next_at,
+  turn_at,
+  ShowsAt,
+};
+
+fn back(ended: bool) -> MeetAnswer
+    ensures { result ≡ back ended }
+{
+    if ended {
+        MeetAnswer::Ended
+    } else {
+        MeetAnswer::LookAgain
+    }
+}
+
+/// The lock's word says that it was free.
+fn is_free(word: u64) -> bool
+    ensures { result ≡ is_free word }
+{
+    word & 1 == 0
+}
+
+/// The failure of this cycle has ended: the frame isn't poisoned, or is so in another cycle.
+pub(crate) fn is_ended(cycle: u32, word: u64) -> bool
+    ensures { result ≡ is_ended cycle word }
+{
+    let frame = FrameWord::unpack(word);
+    !(frame.poisoned && frame.cycle == cycle)
+}
+
+/// The failure that the frame is met for, if it is met for one, has ended.
+fn has_ended(cycle: Option<u32>, word: u64) -> bool
+    ensures { result ≡ has_ended cycle word }
+{
+    match cycle {
+        Some(cycle) => is_ended(cycle, word),
+        None => false,
+    }
+}
+
+/// The frame is out of use already, or a page's.
+fn is_taken(word: u64) -> bool
+    ensures { result ≡ is_taken word }
+{
+    let frame = FrameWord::unpack(word);
+    frame.handled || frame.owner.is_some()
+}
+
+/// The page is in the frame.
+fn is_owner(page: Page, word: u64) -> bool
+    ensures { result ≡ is_owner page word }
+{
+    match FrameWord::unpack(word).owner {
+        Some(owner) => owner.0 == page.0,
+        None => false,
+    }
+}
+
+fn referenced(seen: u64) -> MeetAt
+    ensures { result ≡ referenced (owner_in seen) }
+{
+    match FrameWord::unpack(seen).owner {
+        Some(page) => MeetAt::LockPage { page },
+        None => MeetAt::LockFree,
+    }
+}
+
+fn free_at(cycle: Option<u32>, found: u64, got: Option<Body>) -> MeetAt
+    ensures { result ≡ free_at got (has_ended cycle found) (is_taken found) }
+{
+    if has_ended(cycle, found) {
+        MeetAt::Unlock {
+            body: got,
+            ended: true,
+        }
+    } else if is_taken(found) {
+        MeetAt::Unlock {
+            body: got,
+            ended: false,
+        }
+    } else {
+        drop(got);
+        MeetAt::Free
+    }
+}
+
+fn owned_at(
+    page: Page,
+    cycle: Option<u32>,
+    found: u64,
+    shelf: Option<Body>,
+    got: Option<Body>,
+) -> MeetAt
+    ensures { result ≡ owned_at page shelf got (has_ended cycle found) (is_owner page found) }
+{
+    if has_ended(cycle, found) {
+        MeetAt::UnlockFrame {
+            page,
+            shelf,
+            body: got,
+            ended: true,
+        }
+    } else if is_owner(page, found) {
+        match got {
+            Some(body) => {
+                drop(shelf);
+                MeetAt::Owned { page, body }
+            }
+            None => MeetAt::LockOwned { page, shelf },
+        }
+    } else {
+        MeetAt::UnlockFrame {
+            page,
+            shelf,
+            body: got,
+            ended: false,
+        }
+    }
+}
+
+fn released(release: Release, ended: bool) -> MeetAt
+    ensures { result ≡ released release ended }
+{
+    if release.is_over() {
+        MeetAt::Back { ended }
+    } else {
+        MeetAt::Release { release, ended }
+    }
+}
+
+ghost use Rattle.std.specs.Prelude.{◌==◌, false};
+ghost use Rattle.hwp_core_task.specs.declared.Turn.TheVariants.{Changed, Moved, Waits};
+ghost use Rattle.hwp_claim_frame.specs.declared.meet.MeetAt.TheVariants.{
+  Back,
+  LockFree,
+  LockOwned,
+  LockPage,
+  Release as Releasing,
+};
+
+/// The turn of a step that moved; the body that it met is let go.
+pub(crate) fn moved(_got: Option<Body>) -> Turn
+    ensures { result ≡ Moved }
+{
+    Turn::Moved
+}
+
+fn get_ref(seen: u64, found: u64, got: Option<Body>) -> (MeetAt, Turn)
+    ensures at { result.0 ≡ cond (found == seen) (referenced (owner_in seen)) (Back false) }
+    ensures turn { result.1 ≡ cond (found == seen) Moved (Changed found) }
+{
+    drop(got);
+    if found == seen {
+        (referenced(seen), Turn::Moved)
+    } else {
+        (MeetAt::Back { ended: false }, Turn::Changed(found))
+    }
+}
+
+fn lock_free(cycle: Option<u32>, found: u64, got: Option<Body>) -> (MeetAt, Turn)
+    ensures at { result.0 ≡ cond (is_free found) (free_at got (has_ended cycle found) (is_taken found)) LockFree }
+    ensures turn { result.1 ≡ cond (is_free found) Moved (Waits found) }
+{
+    if is_free(found) {
+        (free_at(cycle, found, got), Turn::Moved)
+    } else {
+        drop(got);
+        (MeetAt::LockFree, Turn::Waits(found))
+    }
+}
+
+fn lock_page(page: Page, found: u64, got: Option<Body>) -> (MeetAt, Turn)
+    ensures at { result.0 ≡ cond (is_free found) (LockOwned page got) (LockPage page) }
+    ensures turn { result.1 ≡ cond (is_free found) Moved (Waits found) }
+{
+    if is_free(found) {
+        (MeetAt::LockOwned { page, shelf: got }, Turn::Moved)
+    } else {
+        drop(got);
+        (MeetAt::LockPage { page }, Turn::Waits(found))
+    }
+}
+
+fn lock_owned(
+    page: Page,
+    cycle: Option<u32>,
+    found: u64,
+    shelf: Option<Body>,
+    got: Option<Body>,
+) -> (MeetAt, Turn)
+    ensures at { result.0 ≡ cond (is_free found) (owned_at page shelf got (has_ended cycle found) (is_owner page found)) (LockOwned page shelf) }
+    ensures turn { result.1 ≡ cond (is_free found) Moved (Waits found) }
+{
+    if is_free(found) {
+        (owned_at(page, cycle, found, shelf, got), Turn::Moved)
+    } else {
+        drop(got);
+        (MeetAt::LockOwned { page, shelf }, Turn::Waits(found))
+    }
+}
+
+/// What follows from the word and the body that a step of this state met, and which turn it was.
+fn settled(
+    who: Who,
+    frame: Frame,
+    cycle: Option<u32>,
+    layout: &Layout,
+    at: MeetAt,
+    found: u64,
+    got: Option<Body>,
+) -> (MeetAt, Turn)
+    requires { ShowsAt cycle at found got }
+    ensures at { result.0 ≡ next_at who frame cycle at found got }
+    ensures turn { result.1 ≡ turn_at at found }
+{
+    match at {
+        MeetAt::GetRef { seen } => get_ref(seen, found, got),
+        MeetAt::LockFree => lock_free(cycle, found, got),
+        MeetAt::LockPage { page } => lock_page(page, found, got),
+        MeetAt::LockOwned { page, shelf } => lock_owned(page, cycle, found, shelf, got),
+        MeetAt::Unlock { body, ended } => (give_back(who, frame, body, ended), moved(got)),
+        MeetAt::UnlockFrame {
+            page,
+            shelf,
+            body,
+            ended,
+        } => {
+            drop(body);
+            (MeetAt::UnlockPage { page, shelf, ended }, moved(got))
+        }
+        MeetAt::UnlockPage { shelf, ended, .. } => {
+            (give_back(who, frame, shelf, ended), moved(got))
+        }
+        MeetAt::Release { mut release, ended } => {
+            let turn = release.settle(layout, found, got);
+            (released(release, ended), turn)
+        }
+        MeetAt::Back { ended } => (MeetAt::Back { ended }, moved(got)),
+        MeetAt::Free => (MeetAt::Free, moved(got)),
+        MeetAt::Owned { page, body } => (MeetAt::Owned { page, body }, moved(got)),
+    }
+}
+
+ghost use Rattle.hwp_core.specs.Releases.{begin as begin_release};
+
+/// The last lock is given back with the body that it guards, and now the reference is to be.
+fn give_back(who: Who, frame: Frame, _body: Option<Body>, ended: bool) -> MeetAt
+    ensures { result ≡ Releasing (begin_release who frame 1) ended }
+{
+    MeetAt::Release {
+        release: Release::new(who, frame, 1),
+        ended,
+    }
+}
+
+impl Task for Meet {
+    ghost use Rattle.std.specs.Prelude.{◌≡◌};
+    ghost use Rattle.hwp_claim_frame.specs.Meets.{plan, put, bare, next, turn, Shows, Fits};
+
+    ghost who = { λ m. m.who };
+
+    ghost plan = { λ m. plan m };
+
+    ghost put = { λ m. put m };
+
+    ghost bare = { λ m. bare m };
+
+    ghost shows = { λ m found got. Shows m found got };
+
+    ghost next = { λ layout m found got after result. (after ≡ next m found got) × (result ≡ turn m found) };
+
+    ghost fits = { λ layout view m. Fits layout view m };
+
+    fn who(&self) -> Who {
+        self.who
+    }
+
+    fn plan(&self) -> Option<Step> {
+        match &self.at {
+            MeetAt::GetRef { seen } => Some(Step::GetRef {
+                frame: self.frame,
+                seen: *seen,
+                count: 1,
+            }),
+            MeetAt::LockFree | MeetAt::LockOwned { .. } => {
+                Some(Step::LockFrame { frame: self.frame })
+            }
+            MeetAt::LockPage { page } => Some(Step::LockPage { page: *page }),
+            MeetAt::Unlock { .. } | MeetAt::UnlockFrame { .. } => {
+                Some(Step::UnlockFrame { frame: self.frame })
+            }
+            MeetAt::UnlockPage { page, .. } => Some(Step::UnlockPage { page: *page }),
+            MeetAt::Release { release, .. } => release.plan(),
+            MeetAt::Back { .. } | MeetAt::Free | MeetAt::Owned { .. } => None,
+        }
+    }
+
+    fn give(&mut self) -> Option<Body> {
+        match &mut self.at {
+            MeetAt::Unlock { body, .. } => mem::replace(body, None),
+            MeetAt::UnlockFrame { body, .. } => mem::replace(body, None),
+            MeetAt::UnlockPage { shelf, .. } => mem::replace(shelf, None),
+            MeetAt::GetRef { .. }
+            | MeetAt::LockFree
+            | MeetAt::LockPage { .. }
+            | MeetAt::LockOwned { .. }
+            | MeetAt::Release { .. }
+            | MeetAt::Back { .. }
+            | MeetAt::Free
+            | MeetAt::Owned { .. } => None,
+        }
+    }
+
+    fn settle(&mut self, layout: &Layout, found: u64, body: Option<Body>) -> Turn {
+        let at = mem::replace(&mut self.at, MeetAt::Free);
+        let (after, turn) = settled(self.who, self.frame, self.cycle, layout, at, found, body);
+        drop(mem::replace(&mut self.at, after));
+        turn
+    }
+}
+
+impl Ranked for Meet {
+    ghost use Rattle.std.specs.Prelude.{false, None};
+    ghost use Rattle.hwp_claim_frame.specs.Meets.{class, cost};
+
+    ghost class_of = { λ m. class m };
+
+    ghost cost = { λ m words. cost m words };
+
+    ghost aborts = { λ m. false };
+
+    ghost claims = { λ m. None };
+
+    fn class(&self) -> u8 {
+        match &self.at {
+            MeetAt::GetRef { .. }
+            | MeetAt::LockFree
+            | MeetAt::LockPage { .. }
+            | MeetAt::Back { .. } => 4,
+            MeetAt::LockOwned { .. } | MeetAt::UnlockPage { .. } => 2,
+            MeetAt::Unlock { .. }
+            | MeetAt::UnlockFrame { .. }
+            | MeetAt::Free
+            | MeetAt::Owned { .. } => 1,
+            MeetAt::Release { release, .. } => release.class(),
+        }
+    }
+
+    fn ranked(&self) {}
+}

@@ -1,2 +1,0 @@
-pub mod AllHome
-mod Taking

@@ -1,6 +1,0 @@
-pub mod Glancing
-pub mod Reading
-pub mod Nesting
-pub mod Calling
-pub mod Replying
-pub mod Spoiling

@@ -1,9 +1,0 @@
-use Rattle.hwp_control.proofs.spoil.SpoilScheduled.tells.Goals as goal
-use Rattle.hwp_step.proofs.Revivals.{mild-pays}
-use Rattle.hwp_control.proofs.Spoiling.{mild, tells, the-member}
-
-pub returns-clause-class : goal.returns-clause-class
-returns-clause-class c = tells
-
-pub returns-clause-pays : goal.returns-clause-pays
-returns-clause-pays c = mild-pays the-member mild

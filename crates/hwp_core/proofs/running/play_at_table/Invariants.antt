@@ -1,4 +1,0 @@
-use Rattle.hwp_core.proofs.running.play_at_table.Given as goal
-
-abbrev pub ghosts-seat_all : goal.ghosts-seat_all
-ghosts-seat_all a = record { table = a.sheet.now.table_id }

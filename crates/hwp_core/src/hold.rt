@@ -1,0 +1,230 @@
+ghost use Rattle.std.specs.Prelude.{◌≡◌, is_some, true};
+
+use crate::pin::{Pin, PinAnswer};
+use crate::unhold::Unhold;
+use hwp_core_rule::{SharedWord, Step, frame_in};
+use hwp_core_task::{Ranked, Task, Turn};
+use hwp_geom::{Frame, Layout, Page, Who};
+use hwp_page::Body;
+use std::mem;
+
+/// Locks a page and, where the page is in a frame, takes a reference to that frame and locks it too; and takes the page's
+/// body in hand, from the frame or from the page's shelf (this project's rule).
+#[derive(Drop)]
+pub struct Hold {
+    who: Who,
+    page: Page,
+    at: HoldAt,
+}
+
+#[derive(Drop)]
+enum HoldAt {
+    LockPage,
+    LoadCache { body: Option<Body> },
+    Pin { pin: Pin },
+    LockFrame { frame: Frame },
+    Held { frame: Option<Frame>, body: Body },
+}
+
+impl Hold {
+    ghost use Rattle.std.specs.Prelude.{None};
+    ghost use Rattle.hwp_core_rule.specs.Views.{frame_in};
+    ghost use Rattle.hwp_core.specs.Holds.{begin, answer, named_at, pinned, locked_at, IsBody};
+    ghost use Rattle.hwp_core.specs.Unholds.{LetsGo};
+
+    /// The command holds the page.
+    pub fn new(who: Who, page: Page) -> Hold
+        ensures { result ≡ begin who page }
+    {
+        Hold {
+            who,
+            page,
+            at: HoldAt::LockPage,
+        }
+    }
+
+    /// The frame that the page is in and that is locked, if any; `None` until the task is over.
+    pub fn answer(&self) -> Option<Option<Frame>>
+        ensures { result ≡ answer self.now }
+    {
+        match self.at {
+            HoldAt::Held { frame, .. } => Some(frame),
+            HoldAt::LockPage
+            | HoldAt::LoadCache { .. }
+            | HoldAt::Pin { .. }
+            | HoldAt::LockFrame { .. } => None,
+        }
+    }
+
+    /// The page's body, when the task is over.
+    pub fn body(self) -> Body
+        requires over { is_some (answer self) ≡ true }
+        ensures { IsBody self result }
+    {
+        match self.at {
+            HoldAt::Held { body, .. } => body,
+            HoldAt::LockPage
+            | HoldAt::LoadCache { .. }
+            | HoldAt::Pin { .. }
+            | HoldAt::LockFrame { .. } => unreachable!(),
+        }
+    }
+
+    /// Lets the page go, when the task is over, with its body as it was taken.
+    pub fn let_go(self) -> Unhold
+        requires over { is_some (answer self) ≡ true }
+        ensures { LetsGo self result }
+    {
+        let Hold { who, page, at } = self;
+        match at {
+            HoldAt::Held { frame, body } => Unhold::new(who, page, frame, 1, body),
+            HoldAt::LockPage
+            | HoldAt::LoadCache { .. }
+            | HoldAt::Pin { .. }
+            | HoldAt::LockFrame { .. } => unreachable!(),
+        }
+    }
+
+    fn at_cache(who: Who, body: Option<Body>, found: u64) -> HoldAt
+        requires { frame_in found ≡ None → is_some body ≡ true }
+        ensures { result ≡ named_at who body (frame_in found) }
+    {
+        match frame_in(found) {
+            Some(frame) => HoldAt::Pin {
+                pin: Pin::new(who, frame),
+            },
+            None => match body {
+                Some(body) => HoldAt::Held { frame: None, body },
+                None => unreachable!(),
+            },
+        }
+    }
+
+    fn at_pinned(pin: Pin) -> HoldAt
+        ensures { result ≡ pinned pin }
+    {
+        match pin.answer() {
+            Some(PinAnswer::Held(_)) => HoldAt::LockFrame { frame: pin.frame() },
+            Some(PinAnswer::Gone(_)) | None => HoldAt::Pin { pin },
+        }
+    }
+
+    fn at_locked(frame: Frame, body: Option<Body>) -> HoldAt
+        requires { is_some body ≡ true }
+        ensures { result ≡ locked_at frame body }
+    {
+        match body {
+            Some(body) => HoldAt::Held {
+                frame: Some(frame),
+                body,
+            },
+            None => unreachable!(),
+        }
+    }
+}
+
+ghost use Rattle.hwp_core.specs.Holds.{is_free};
+
+/// The lock's word says that it was free.
+fn is_free(word: u64) -> bool
+    ensures { result ≡ is_free word }
+{
+    word & 1 == 0
+}
+
+impl Task for Hold {
+    ghost use Rattle.std.specs.Prelude.{◌≡◌, None};
+    ghost use Rattle.hwp_core.specs.Holds.{plan, next, turn, Shows, Fits};
+
+    ghost who = { λ h. h.who };
+
+    ghost plan = { λ h. plan h };
+
+    ghost put = { λ h. None };
+
+    ghost bare = { λ h. h };
+
+    ghost shows = { λ h found got. Shows h found got };
+
+    ghost next = { λ layout h found got after result. (after ≡ next h found got) × (result ≡ turn h found) };
+
+    ghost fits = { λ layout view h. Fits layout view h };
+
+    fn who(&self) -> Who {
+        self.who
+    }
+
+    fn plan(&self) -> Option<Step> {
+        match self.at {
+            HoldAt::LockPage => Some(Step::LockPage { page: self.page }),
+            HoldAt::LoadCache { .. } => Some(Step::Load {
+                place: SharedWord::Cache(self.page),
+            }),
+            HoldAt::Pin { pin } => pin.plan(),
+            HoldAt::LockFrame { frame } => Some(Step::LockFrame { frame }),
+            HoldAt::Held { .. } => None,
+        }
+    }
+
+    fn give(&mut self) -> Option<Body> {
+        None
+    }
+
+    fn settle(&mut self, layout: &Layout, found: u64, body: Option<Body>) -> Turn {
+        match mem::replace(&mut self.at, HoldAt::LockPage) {
+            HoldAt::LockPage => {
+                if is_free(found) {
+                    self.at = HoldAt::LoadCache { body };
+                    Turn::Moved
+                } else {
+                    Turn::Waits(found)
+                }
+            }
+            HoldAt::LoadCache { body } => {
+                self.at = Hold::at_cache(self.who, body, found);
+                Turn::Moved
+            }
+            HoldAt::Pin { mut pin } => {
+                let turn = pin.settle(layout, found, body);
+                self.at = Hold::at_pinned(pin);
+                turn
+            }
+            HoldAt::LockFrame { frame } => {
+                if is_free(found) {
+                    self.at = Hold::at_locked(frame, body);
+                    Turn::Moved
+                } else {
+                    self.at = HoldAt::LockFrame { frame };
+                    Turn::Waits(found)
+                }
+            }
+            HoldAt::Held { frame, body } => {
+                self.at = HoldAt::Held { frame, body };
+                Turn::Moved
+            }
+        }
+    }
+}
+
+impl Ranked for Hold {
+    ghost use Rattle.std.specs.Prelude.{false, None};
+    ghost use Rattle.hwp_core.specs.Holds.{class, cost};
+
+    ghost class_of = { λ h. class h };
+
+    ghost cost = { λ h words. cost h words };
+
+    ghost aborts = { λ h. false };
+
+    ghost claims = { λ h. None };
+
+    fn class(&self) -> u8 {
+        match self.at {
+            HoldAt::LockPage => 4,
+            HoldAt::LoadCache { .. } | HoldAt::Pin { .. } | HoldAt::LockFrame { .. } => 2,
+            HoldAt::Held { frame, .. } => if frame.is_some() { 1 } else { 2 },
+        }
+    }
+
+    fn ranked(&self) {}
+}

@@ -1,0 +1,131 @@
+ghost use Rattle.std.specs.Prelude.{◌≡◌, is_none};
+
+use hwp_core_rule::{SharedWord, Step};
+use hwp_core_task::{Ranked, Task, Turn};
+use hwp_geom::{Frame, Layout, Who};
+use hwp_page::Body;
+
+/// Takes more references to a frame that the processor has references to already (Linux get_page).
+#[derive(Clone, Copy)]
+pub struct Refer {
+    who: Who,
+    frame: Frame,
+    count: u32,
+    at: ReferAt,
+}
+
+#[derive(Clone, Copy)]
+enum ReferAt {
+    Load,
+    Get { seen: u64 },
+    Over,
+}
+
+impl Refer {
+    ghost use Rattle.hwp_core.specs.Refers.{begin, plan};
+
+    /// The command takes so many references to the frame more.
+    pub fn new(who: Who, frame: Frame, count: u32) -> Refer
+        ensures { result ≡ begin who frame count }
+    {
+        Refer {
+            who,
+            frame,
+            count,
+            at: ReferAt::Load,
+        }
+    }
+
+    /// The frame.
+    pub fn frame(&self) -> Frame
+        ensures { result ≡ self.now.frame }
+    {
+        self.frame
+    }
+
+    /// Whether the references are taken.
+    pub fn is_over(&self) -> bool
+        ensures { result ≡ is_none (plan self.now) }
+    {
+        matches!(self.at, ReferAt::Over)
+    }
+}
+
+impl Task for Refer {
+    ghost use Rattle.std.specs.Prelude.{◌≡◌, None};
+    ghost use Rattle.hwp_core.specs.Refers.{plan, next, turn, Fits};
+
+    ghost who = { λ r. r.who };
+
+    ghost plan = { λ r. plan r };
+
+    ghost put = { λ r. None };
+
+    ghost bare = { λ r. r };
+
+    ghost shows = { λ r found got. Unit {0} };
+
+    ghost next = { λ layout r found got after result. (after ≡ next r found) × (result ≡ turn r found) };
+
+    ghost fits = { λ layout view r. Fits layout view r };
+
+    fn who(&self) -> Who {
+        self.who
+    }
+
+    fn plan(&self) -> Option<Step> {
+        match self.at {
+            ReferAt::Load => Some(Step::Load {
+                place: SharedWord::Frame(self.frame),
+            }),
+            ReferAt::Get { seen } => Some(Step::GetRef {
+                frame: self.frame,
+                seen,
+                count: self.count,
+            }),
+            ReferAt::Over => None,
+        }
+    }
+
+    fn give(&mut self) -> Option<Body> {
+        None
+    }
+
+    fn settle(&mut self, _layout: &Layout, found: u64, _body: Option<Body>) -> Turn {
+        match self.at {
+            ReferAt::Load => {
+                self.at = ReferAt::Get { seen: found };
+                Turn::Moved
+            }
+            ReferAt::Get { seen } => {
+                if found == seen {
+                    self.at = ReferAt::Over;
+                    Turn::Moved
+                } else {
+                    self.at = ReferAt::Get { seen: found };
+                    Turn::Changed(found)
+                }
+            }
+            ReferAt::Over => Turn::Moved,
+        }
+    }
+}
+
+impl Ranked for Refer {
+    ghost use Rattle.std.specs.Prelude.{false, None};
+    ghost use Rattle.hwp_core.specs.Refers.{cost};
+
+    ghost class_of = { λ r. 4 };
+
+    ghost cost = { λ r words. cost r words };
+
+    ghost aborts = { λ r. false };
+
+    ghost claims = { λ r. None };
+
+    fn class(&self) -> u8 {
+        4
+    }
+
+    fn ranked(&self) {}
+}

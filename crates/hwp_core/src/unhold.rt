@@ -1,0 +1,196 @@
+ghost use Rattle.std.specs.Prelude.{◌≡◌, is_some, is_none};
+
+use crate::release::Release;
+use hwp_core_rule::Step;
+use hwp_core_task::{Ranked, Task, Turn};
+use hwp_geom::{Frame, Layout, Page, Who};
+use hwp_page::Body;
+use std::cmp::min;
+use std::mem;
+
+/// Lets a page go: its body goes home, to the frame that it is in, which is unlocked and released, or to the page's shelf;
+/// and the page is unlocked (this project's rule).
+#[derive(Drop)]
+pub struct Unhold {
+    who: Who,
+    page: Page,
+    at: UnholdAt,
+}
+
+#[derive(Drop)]
+enum UnholdAt {
+    UnlockFrame {
+        frame: Frame,
+        count: u32,
+        body: Option<Body>,
+    },
+    Release {
+        release: Release,
+    },
+    UnlockPage {
+        body: Option<Body>,
+    },
+    Over,
+}
+
+/// What an `Unhold` came to (this project's rule).
+#[derive(Clone, Copy, PartialEq, Eq)]
+pub enum UnholdAnswer {
+    /// The page is let go.
+    Done,
+}
+
+impl Unhold {
+    ghost use Rattle.hwp_core.specs.Unholds.{begin, plan, answer, after_release};
+
+    /// The command lets the page go, with the frame that it is in, if any, so many references to that frame, and the
+    /// page's body.
+    pub fn new(who: Who, page: Page, frame: Option<Frame>, count: u32, body: Body) -> Unhold
+        ensures { result ≡ begin who page frame count body }
+    {
+        Unhold {
+            who,
+            page,
+            at: match frame {
+                Some(frame) => UnholdAt::UnlockFrame {
+                    frame,
+                    count,
+                    body: Some(body),
+                },
+                None => UnholdAt::UnlockPage { body: Some(body) },
+            },
+        }
+    }
+
+    /// Whether the page is let go.
+    pub fn is_over(&self) -> bool
+        ensures { result ≡ is_none (plan self.now) }
+    {
+        match self.at {
+            UnholdAt::UnlockFrame { .. } | UnholdAt::UnlockPage { .. } => false,
+            UnholdAt::Release { release } => release.is_over(),
+            UnholdAt::Over => true,
+        }
+    }
+
+    /// What the task came to; `None` until it is over.
+    pub fn answer(&self) -> Option<UnholdAnswer>
+        ensures answer { result ≡ answer self.now }
+        ensures over { is_some result ≡ is_none (plan self.now) }
+    {
+        if self.is_over() {
+            Some(UnholdAnswer::Done)
+        } else {
+            None
+        }
+    }
+
+    fn after_release(release: Release) -> UnholdAt
+        ensures { result ≡ after_release release }
+    {
+        if release.is_over() {
+            UnholdAt::UnlockPage { body: None }
+        } else {
+            UnholdAt::Release { release }
+        }
+    }
+}
+
+impl Task for Unhold {
+    ghost use Rattle.std.specs.Prelude.{◌≡◌};
+    ghost use Rattle.hwp_core_task.specs.declared.Turn.TheVariants.{Moved};
+    ghost use Rattle.hwp_core.specs.Unholds.{plan, put, bare, next, Fits};
+
+    ghost who = { λ u. u.who };
+
+    ghost plan = { λ u. plan u };
+
+    ghost put = { λ u. put u };
+
+    ghost bare = { λ u. bare u };
+
+    ghost shows = { λ u found got. Unit {0} };
+
+    ghost next = { λ layout u found got after result. (after ≡ next u found) × (result ≡ Moved) };
+
+    ghost fits = { λ layout view u. Fits layout view u };
+
+    fn who(&self) -> Who {
+        self.who
+    }
+
+    fn plan(&self) -> Option<Step> {
+        match self.at {
+            UnholdAt::UnlockFrame { frame, .. } => Some(Step::UnlockFrame { frame }),
+            UnholdAt::Release { release } => release.plan(),
+            UnholdAt::UnlockPage { .. } => Some(Step::UnlockPage { page: self.page }),
+            UnholdAt::Over => None,
+        }
+    }
+
+    fn give(&mut self) -> Option<Body> {
+        match mem::replace(&mut self.at, UnholdAt::Over) {
+            UnholdAt::UnlockFrame { frame, count, body } => {
+                self.at = UnholdAt::UnlockFrame {
+                    frame,
+                    count,
+                    body: None,
+                };
+                body
+            }
+            UnholdAt::UnlockPage { body } => {
+                self.at = UnholdAt::UnlockPage { body: None };
+                body
+            }
+            UnholdAt::Release { release } => {
+                self.at = UnholdAt::Release { release };
+                None
+            }
+            UnholdAt::Over => None,
+        }
+    }
+
+    fn settle(&mut self, layout: &Layout, found: u64, body: Option<Body>) -> Turn {
+        match self.at {
+            UnholdAt::UnlockFrame { frame, count, .. } => {
+                self.at = UnholdAt::Release {
+                    release: Release::new(self.who, frame, count),
+                };
+                Turn::Moved
+            }
+            UnholdAt::Release { mut release } => {
+                let turn = release.settle(layout, found, body);
+                self.at = Unhold::after_release(release);
+                turn
+            }
+            UnholdAt::UnlockPage { .. } | UnholdAt::Over => {
+                self.at = UnholdAt::Over;
+                Turn::Moved
+            }
+        }
+    }
+}
+
+impl Ranked for Unhold {
+    ghost use Rattle.std.specs.Prelude.{false, None};
+    ghost use Rattle.hwp_core.specs.Unholds.{class, cost};
+
+    ghost class_of = { λ u. class u };
+
+    ghost cost = { λ u words. cost u words };
+
+    ghost aborts = { λ u. false };
+
+    ghost claims = { λ u. None };
+
+    fn class(&self) -> u8 {
+        match self.at {
+            UnholdAt::UnlockFrame { .. } => 1,
+            UnholdAt::Release { release } => min(release.class(), 2),
+            UnholdAt::UnlockPage { .. } => 2,
+            UnholdAt::Over => 4,
+        }
+    }
+
+    fn ranked(&self) {}
+}

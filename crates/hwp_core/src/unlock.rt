@@ -1,0 +1,144 @@
+ghost use Rattle.std.specs.Prelude.{◌≡◌, Option, is_none};
+
+use crate::release::Release;
+use hwp_core_rule::Step;
+use hwp_core_task::{Ranked, Task, Turn};
+use hwp_geom::{Frame, Layout, Who};
+use hwp_page::Body;
+use std::mem;
+
+/// Lets a frame go that is held without its page: its body, if it has one, goes home, the frame is unlocked, and its
+/// reference is given back (this project's rule).
+#[derive(Drop)]
+pub struct Unlock {
+    who: Who,
+    at: UnlockAt,
+}
+
+#[derive(Drop)]
+enum UnlockAt {
+    UnlockFrame { frame: Frame, body: Option<Body> },
+    Release { release: Release },
+    Over,
+}
+
+impl Unlock {
+    ghost use Rattle.hwp_core.specs.Unlocks.{begin, plan, after_release};
+
+    /// The command has the frame's lock, one reference to it and the body that was in it, if any, but no page's lock.
+    pub fn new(who: Who, frame: Frame, body: Option<Body>) -> Unlock
+        ensures { result ≡ begin who frame body }
+    {
+        Unlock {
+            who,
+            at: UnlockAt::UnlockFrame { frame, body },
+        }
+    }
+
+    /// Whether the frame is let go.
+    pub fn is_over(&self) -> bool
+        ensures { result ≡ is_none (plan self.now) }
+    {
+        match &self.at {
+            UnlockAt::UnlockFrame { .. } => false,
+            UnlockAt::Release { release } => release.is_over(),
+            UnlockAt::Over => true,
+        }
+    }
+
+    fn after_release(release: Release) -> UnlockAt
+        ensures { result ≡ after_release release }
+    {
+        if release.is_over() {
+            UnlockAt::Over
+        } else {
+            UnlockAt::Release { release }
+        }
+    }
+}
+
+impl Task for Unlock {
+    ghost use Rattle.std.specs.Prelude.{◌≡◌};
+    ghost use Rattle.hwp_core_task.specs.declared.Turn.TheVariants.{Moved};
+    ghost use Rattle.hwp_core.specs.Unlocks.{plan, put, bare, next, Fits};
+
+    ghost who = { λ u. u.who };
+
+    ghost plan = { λ u. plan u };
+
+    ghost put = { λ u. put u };
+
+    ghost bare = { λ u. bare u };
+
+    ghost shows = { λ u found got. Unit {0} };
+
+    ghost next = { λ layout u found got after result. (after ≡ next u found) × (result ≡ Moved) };
+
+    ghost fits = { λ layout view u. Fits layout view u };
+
+    fn who(&self) -> Who {
+        self.who
+    }
+
+    fn plan(&self) -> Option<Step> {
+        match &self.at {
+            UnlockAt::UnlockFrame { frame, .. } => Some(Step::UnlockFrame { frame: *frame }),
+            UnlockAt::Release { release } => release.plan(),
+            UnlockAt::Over => None,
+        }
+    }
+
+    fn give(&mut self) -> Option<Body> {
+        match mem::replace(&mut self.at, UnlockAt::Over) {
+            UnlockAt::UnlockFrame { frame, body } => {
+                self.at = UnlockAt::UnlockFrame { frame, body: None };
+                body
+            }
+            UnlockAt::Release { release } => {
+                self.at = UnlockAt::Release { release };
+                None
+            }
+            UnlockAt::Over => None,
+        }
+    }
+
+    fn settle(&mut self, layout: &Layout, found: u64, body: Option<Body>) -> Turn {
+        match mem::replace(&mut self.at, UnlockAt::Over) {
+            UnlockAt::UnlockFrame { frame, .. } => {
+                self.at = UnlockAt::Release {
+                    release: Release::new(self.who, frame, 1),
+                };
+                Turn::Moved
+            }
+            UnlockAt::Release { mut release } => {
+                let turn = release.settle(layout, found, body);
+                self.at = Unlock::after_release(release);
+                turn
+            }
+            UnlockAt::Over => Turn::Moved,
+        }
+    }
+}
+
+impl Ranked for Unlock {
+    ghost use Rattle.std.specs.Prelude.{false, None};
+    ghost use Rattle.hwp_core.specs.Unlocks.{class, cost};
+
+    ghost class_of = { λ u. class u };
+
+    ghost cost = { λ u words. cost u words };
+
+    ghost aborts = { λ u. false };
+
+    ghost claims = { λ u. None };
+
+    fn class(&self) -> u8 {
+        match &self.at {
+            UnlockAt::UnlockFrame { .. } => 1,
+            UnlockAt::Release { release } => release.class(),
+            UnlockAt::Over => 4,
+        }
+    }
+
+    fn ranked(&self) {}
+}

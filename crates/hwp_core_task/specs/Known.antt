@@ -1,0 +1,93 @@
+-- What a processor knows of one of its commands: the words that its steps showed, the histories that it saw, and the entries
+-- that it made.
+use Rattle.std.specs.Prelude.{◌≡◌, ◌⊎◌, ℕ, ◌+◌, ◌==◌, ◌&&◌, Bool, true, false, List, [], ◌∷◌, ◌++◌, Some, filter}
+use Rattle.hwp_geom.specs.declared.Frame.{Frame}
+use Rattle.hwp_geom.specs.declared.Page.{Page}
+use Rattle.hwp_geom.specs.declared.VSlot.{VSlot}
+use Rattle.hwp_geom.specs.declared.Who.{Who}
+use Rattle.hwp_page.specs.declared.What.{What}
+use Rattle.hwp_page.specs.declared.What.TheVariants as entries
+use Rattle.hwp_core_rule.specs.hwp_words.Stops.{is_stopped}
+use Rattle.hwp_core_rule.specs.declared.Length.{Length}
+use Rattle.hwp_core_rule.specs.declared.Log.{Log}
+use Rattle.hwp_core_rule.specs.declared.Made.{Made}
+use Rattle.hwp_core_rule.specs.declared.SharedWord.{SharedWord}
+use Rattle.hwp_core_rule.specs.declared.SharedWord.TheVariants as places
+use Rattle.hwp_core_rule.specs.declared.Sight.{Sight}
+use Rattle.hwp_core_rule.specs.declared.View.{View}
+use Rattle.hwp_core_rule.specs.Lists.{EachMember, SomeMember}
+
+-- a step of the command showed the word at the place
+abbrev pub IsShown : Who → SharedWord → ℕ → Sight → Type 0
+IsShown who place word s = (s.stamp.who ≡ who) × (s.place ≡ place) × (s.word ≡ word)
+
+abbrev pub Saw : View → Who → SharedWord → ℕ → Type 0
+Saw view who place word = SomeMember (IsShown who place word) view.sights
+
+-- a step of the command, under the lock of a frame that the page owns, showed which of the frame's lines are bad
+abbrev pub IsLook : Who → Page → Frame → ℕ → Sight → Type 0
+IsLook who page frame mask s = IsShown who (places.Bad frame) mask s × (s.stamp.frame ≡ Some frame) × (s.stamp.owner ≡ Some (page.0 + 1))
+
+abbrev pub SawBadOf : View → Who → Page → Frame → ℕ → Type 0
+SawBadOf view who page frame mask = SomeMember (IsLook who page frame mask) view.sights
+
+-- a step of the command showed that a processor had stopped the machine
+pub record SawStop (view : View) (who : Who) : Type 0 where
+  pub word : ℕ
+  pub stopped : is_stopped word ≡ true
+  pub saw : Saw view who places.Stop word
+
+-- a step of the command, under the page's lock, took the page's body, whose history was this
+abbrev pub IsMet : Who → Log → Length → Type 0
+IsMet who log l = (l.stamp.who ≡ who) × (l.stamp.page ≡ Some log.page) × (l.log ≡ log)
+
+abbrev pub SawLog : View → Who → Log → Type 0
+SawLog view who log = SomeMember (IsMet who log) view.lengths
+
+-- the entries that the command made, in the order in which they were listed
+abbrev pub is_by : Who → Made → Bool
+is_by who m = (m.entry.who.cpu.0 == who.cpu.0) && (m.entry.who.seq == who.seq)
+
+abbrev pub deeds : Who → View → List Made
+deeds who view = filter (is_by who) view.made
+
+-- those of them that the test finds
+abbrev pub such_deeds : (What → Bool) → Who → View → List Made
+such_deeds test who view = filter (λ (m : Made). test m.entry.what) (deeds who view)
+
+-- the command has made no entry
+abbrev pub HasMadeNone : View → Who → Type 0
+HasMadeNone view who = deeds who view ≡ []
+
+-- the entry that was made stands at this place of the page's history
+abbrev pub IsAt : Page → ℕ → What → Made → Type 0
+IsAt page place what m = (m.page ≡ page) × (m.place ≡ place) × (m.entry.what ≡ what)
+
+-- the entry is the failure of a frame
+abbrev pub is_failure : What → Bool
+is_failure (entries.Fail situation required seen signals) = true
+is_failure _ = false
+
+-- an access makes such an entry on its way: the page came into a frame, or the translation into use, or the line was bad
+abbrev pub IsOnTheWay : VSlot → ℕ → What → Type 0
+IsOnTheWay slot line entries.FaultIn = Unit {0}
+IsOnTheWay slot line (entries.Map other) = other ≡ slot
+IsOnTheWay slot line (entries.Mce other bad mask) = (other ≡ slot) × (bad ≡ line)
+IsOnTheWay slot line _ = ⊥
+
+-- the entry may stand before the one that answers an access: the access made it on its way, in its page; or memory failed, in
+-- whichever page
+abbrev pub Precedes : Page → VSlot → ℕ → Made → Type 0
+Precedes page slot line m = ((m.page ≡ page) × IsOnTheWay slot line m.entry.what) ⊎ (is_failure m.entry.what ≡ true)
+
+-- so far the command has made such entries alone
+abbrev pub HasOnly : (Made → Type 0) → View → Who → Type 0
+HasOnly Such view who = EachMember Such (deeds who view)
+
+-- the command made such entries, and then one more at this place of the page's history
+pub record HasMade (Such : Made → Type 0) (view : View) (who : Who) (page : Page) (place : ℕ) (what : What) : Type 0 where
+  pub before : List Made
+  pub last : Made
+  pub all : deeds who view ≡ before ++ last ∷ []
+  pub such : EachMember Such before
+  pub at : IsAt page place what last

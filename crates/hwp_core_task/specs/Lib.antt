@@ -1,0 +1,12 @@
+pub mod Calls
+pub mod Turns
+pub mod Hands
+pub mod Boards
+pub mod Ranks
+pub mod Classes
+pub mod Known
+pub mod Pages
+pub use Rattle.hwp_core_rule.specs as hwp_core_rule
+pub use Rattle.hwp_geom.specs as hwp_geom
+pub use Rattle.hwp_page.specs as hwp_page
+pub use Rattle.hwp_core_rule.specs.hwp_words as hwp_words

@@ -1,0 +1,19 @@
+//! The step interface: what a processor can do to the shared words, one atomic step a call; tasks, which are data that say
+//! which step comes; the one driver that makes their steps; and what a processor knows of one of its commands.
+#![tactic(auto)]
+
+mod board;
+mod driver;
+mod ops;
+mod ranked;
+mod scheduled;
+mod task;
+mod turn;
+
+pub use board::Board;
+pub use driver::advance;
+pub use ops::{Met, Ops};
+pub use ranked::Ranked;
+pub use scheduled::Scheduled;
+pub use task::Task;
+pub use turn::Turn;

@@ -1,0 +1,46 @@
+ghost use Rattle.std.specs.Prelude.{◌≡◌};
+ghost use Rattle.hwp_geom.specs.declared.Layout.{Layout as LayoutOf};
+ghost use Rattle.hwp_core_rule.specs.declared.Rec.{Rec};
+ghost use Rattle.hwp_core_rule.specs.declared.View.{View};
+ghost use Rattle.hwp_core_task.specs.Calls.{CanMake, Steps, logs, rec_of};
+
+use hwp_core_rule::Step;
+use hwp_geom::{Layout, Who};
+use hwp_page::Body;
+
+/// What a step met: the word that it found, and the body of the slot whose lock it took.
+#[derive(Drop)]
+pub struct Met {
+    pub found: u64,
+    pub body: Option<Body>,
+}
+
+/// The steps of one processor on the shared words.
+///
+/// Bodies go with locks: a step that takes a lock answers the body of its slot, and a step that frees it takes the body
+/// that is to be there.
+pub trait Ops {
+    /// The layout of the machine.
+    ghost machine: { Self → LayoutOf };
+
+    /// What the processor knows.
+    ghost view: { Self → View };
+
+    /// A step can be made.
+    ghost ready: { Self → Type 0 };
+
+    /// A step with this record leads from one board to another.
+    ghost moves: { Self → Rec → Self → Type 0 };
+
+    /// The layout of the machine.
+    fn layout(&self) -> &Layout
+        ensures { result.now ≡ machine self.now };
+
+    /// One atomic step on one word, of this command.
+    fn step(&mut self, who: Who, step: &Step, body: Option<Body>) -> Met
+        requires ready { ready self.old }
+        requires can { CanMake (machine self.old) who step.now body (view self.old) }
+        ensures same { machine self.new ≡ machine self.old }
+        ensures told { Steps (machine self.old) who step.now (logs body) (view self.old) (view self.new) result.found result.body }
+        ensures moved { moves self.old (rec_of (machine self.old) who step.now (logs body) result.found result.body) self.new };
+}

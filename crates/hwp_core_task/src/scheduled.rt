@@ -1,0 +1,18 @@
+ghost use Rattle.std.specs.Prelude.{◌≡◌, ◌↔◌, IsTrue, Option, Some, None};
+ghost use Rattle.hwp_core_task.specs.Ranks.{PaysRevival, member};
+ghost use Rattle.hwp_core_task.specs.Classes.{TellsClass};
+
+use crate::ranked::Ranked;
+
+/// A task that a scheduler may run: its class tells what it holds, and where it takes poison back its cost pays for that.
+pub trait Scheduled: Ranked {
+    /// Whether no step is left.
+    fn is_over(&self) -> bool
+        ensures { IsTrue result ↔ (Self.plan self.now ≡ None) };
+
+    /// Its clauses are of all tasks of this type: the class tells what a task holds, and each turn pays for the frames that
+    /// may fail again after it. Proof only: a call tells its clauses.
+    fn tells(&self)
+        ensures class { TellsClass (member Self.who Self.plan Self.put Self.bare Self.next Self.fits Self.class_of Self.cost Self.aborts Self.claims) }
+        ensures pays { PaysRevival (member Self.who Self.plan Self.put Self.bare Self.next Self.fits Self.class_of Self.cost Self.aborts Self.claims) };
+}

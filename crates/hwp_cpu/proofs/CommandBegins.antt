@@ -1,0 +1,216 @@
+-- When the command that runs has its answer, its row is right, and the next command may begin.
+use Rattle.std.proofs.Common.{◌≡◌, ℕ, ◌+◌, ◌<◌, ◌≤◌, ◌⊎◌, inl, inr, List, [], ◌∷◌, ◌++◌, Option, Some, None, length, slice_get, refl, sym, ap, ◌∙◌, subst, arith}
+use Rattle.std.proofs.lemmas.List.{length-append}
+use Rattle.std.proofs.lemmas.Option.{same_Some, slice_get_within}
+use Rattle.hwp_geom.specs.declared.Cpu.{Cpu}
+use Rattle.hwp_geom.specs.declared.Layout.{Layout}
+use Rattle.hwp_geom.specs.declared.Who.{Who}
+use Rattle.hwp_geom.specs.Limits.{command_limit}
+use Rattle.hwp_geom.specs.Pairs.{Pairs}
+use Rattle.hwp_script_lines.specs.declared.Command.{Command}
+use Rattle.hwp_report_text.specs.declared.Answer.{Answer}
+use Rattle.hwp_report_text.specs.declared.Answer.TheVariants as answers
+use Rattle.hwp_core_rule.specs.declared.Debts.{Debts}
+use Rattle.hwp_core_rule.specs.declared.Mark.{Mark}
+use Rattle.hwp_core_rule.specs.declared.Part.{Part}
+use Rattle.hwp_core_rule.specs.declared.Reported.{Reported}
+use Rattle.hwp_core_rule.specs.declared.Setting.{Setting}
+use Rattle.hwp_core_rule.specs.declared.View.{View}
+use Rattle.hwp_core_rule.specs.Lists.{EachMember, SomeMember}
+use Rattle.hwp_core_rule.specs.Views.{no_debts}
+use Rattle.hwp_core_rule.proofs.Lists.{at_last}
+use Rattle.hwp_core_task.specs.Calls.{IsLater, IsOnTurn}
+use Rattle.hwp_core_task.specs.Hands.{Hand, hand_of, empty}
+use Rattle.hwp_core_task.specs.Known.{HasMadeNone}
+use Rattle.hwp_core_task.proofs.MadeEntries.{made-none}
+use Rattle.hwp_cpu_row.specs.declared.Row.{Row}
+use Rattle.hwp_cpu_check.specs.hwp_law.Checks.{Banks, empty_banks}
+use Rattle.hwp_cpu_command.specs.declared.job.Job.{Job}
+use Rattle.hwp_cpu_command.specs.Begins.{Begins}
+use Rattle.hwp_cpu_command.specs.Jobs as jobs
+use Rattle.hwp_cpu_command.specs.Jobs.{banks_after, banks_before, left_in}
+use Rattle.hwp_cpu_command.specs.Runs.{Runs}
+use Rattle.hwp_cpu_command.specs.Stays.{IsAtStop, IsHalted, KnowsPolicies, Stepped}
+use Rattle.hwp_cpu_command.proofs.JobEnds.{ends}
+use Rattle.hwp_cpu_command_laws.proofs.CommandRuns.{before-begins, begins-fits, begins-runs, runs-who}
+use Rattle.hwp_cpu_command_laws.proofs.PolicyKeeps.{counted, left, policies-end, policies-next}
+use Rattle.hwp_cpu_command_laws.proofs.CommandStops.{begins-stop, has-stopped, only-stopped, stopped-halts}
+use Rattle.hwp_cpu_causes.specs.hwp_law_holds.Accounts.{IsNote}
+use Rattle.hwp_cpu_causes.specs.hwp_law_holds.Rows.{notes_from}
+use Rattle.hwp_cpu_causes.specs.hwp_law_holds.Served.{IsOneOf, IsOwnSpoil, IsOwnStop, IsRowServed}
+use Rattle.hwp_cpu_causes.proofs.of_hwp_law_holds.CommandKeeps.{made-none-later}
+use Rattle.hwp_cpu_causes.proofs.of_hwp_law_holds.lines.ScrubBank.{banks-free, empty-free}
+use Rattle.hwp_cpu_causes.proofs.RowServed.{row-served}
+use Rattle.hwp_cpu.specs.Processors.{BeginsAt, at_number, left_of}
+use Rattle.hwp_cpu.specs.Serving.{FitsAt, HasAccount, HasStopped, HasStoppedIt, IsDone, IsListed, IsRunning, Serves}
+use Rattle.hwp_cpu.proofs.ProcessorKeeps.{can, carried, other, own}
+use Rattle.hwp_cpu.proofs.EachKind.{can-stop, on-turn}
+use Rattle.hwp_cpu.proofs.ProcessorNotes.{account-starts, failed-end, noted-end, noted-starts, owes-nothing, spoils-end, unmarked-starts}
+use Rattle.hwp_cpu.proofs.Revivals.{revival-left}
+use Rattle.hwp_cpu.proofs.Rows.{at_front, past-end, rows-more, stays-more, stop-more, stopped-was}
+
+-- ---- the turn
+
+-- a processor that has come to a command may make steps of the next one, with no body in hand
+next-turn : (view : View) (cpu : Cpu) (n : ℕ) → view.bodies ≡ [] → IsOnTurn view (at_number cpu n) → IsOnTurn view (at_number cpu (n + 1))
+next-turn view cpu n none on = record {
+  turn = record { part = later on.turn.part };
+  begins = λ i p there same less. none;
+  later = λ i p there same. let few : p.latest ≤ n = on.later i p there same in omega arith;
+}
+  where
+    later : SomeMember (λ (p : Part). (p.cpu ≡ cpu) × (p.latest ≤ n)) view.parts → SomeMember (λ (p : Part). (p.cpu ≡ cpu) × (p.latest ≤ n + 1)) view.parts
+    later (i, p, there, h) = let few : p.latest ≤ n = h.1 in (i, p, there, (h.0, omega (arith, few)))
+
+-- ---- a command that stops the machine
+
+-- it is answered `stopped`, as the first of its processor
+module _ (layout : Layout) (view : View) (cpu : Cpu) (list : List Command) (rows : List Row) (banks : Banks) (k : Job) (a : Answer) (run : IsRunning layout view cpu list rows banks k) (has : jobs.answer k ≡ Some a) where
+  own-stop : (who : Who) → HasStoppedIt rows k who → IsOwnStop layout cpu list (rows ++ jobs.row_of k a ∷ []) who
+  own-stop who it = subst (IsOwnStop layout cpu list (rows ++ jobs.row_of k a ∷ [])) (sym named) (record {
+    cpu_is = refl;
+    command = run.command;
+    there = run.there;
+    row = jobs.row_of k a;
+    can = can-stop layout view (at_number cpu (length rows)) run.command k run.runs run.fits it.has;
+    answered = record {
+      row_is = at_last rows (jobs.row_of k a);
+      stopped = same_Some a answers.Stopped (sym has ∙ has-stopped k it.has);
+      first = λ i earlier less is stopped. it.first (i, earlier, at_front rows (jobs.row_of k a ∷ []) i earlier less is, stopped);
+    };
+  })
+    where
+      named : who ≡ at_number cpu (length rows)
+      named = sym it.who_is ∙ runs-who layout (at_number cpu (length rows)) run.command k run.runs
+
+-- ---- the answer
+
+module _ (layout : Layout) (old new : View) (cpu : Cpu) (list : List Command) (rows : List Row) (banks : Banks) (j k : Job) (run : IsRunning layout old cpu list rows banks j) (made : Stepped layout old new j k)
+    (a : Answer) (has : jobs.answer k ≡ Some a) (few : length list ≤ command_limit) where
+  abbrev n : ℕ
+  n = length rows
+
+  abbrev row : Row
+  row = jobs.row_of k a
+
+  abbrev longer : List Row
+  longer = rows ++ row ∷ []
+
+  -- what the command leaves in the banks
+  abbrev after : Banks
+  after = banks_after k banks
+
+  now : IsRunning layout new cpu list rows banks k
+  now = carried layout old new cpu list rows banks j k run made
+
+  named : jobs.who k ≡ at_number cpu n
+  named = runs-who layout (at_number cpu n) now.command k now.runs
+
+  number : length longer ≡ n + 1
+  number = length-append rows (row ∷ [])
+
+  served : IsRowServed layout list new (at_number cpu n) now.command (banks_before k banks) row after
+  served = row-served layout list new (at_number cpu n) now.command k banks now.runs now.fits has (λ thread replied. counted now.policies thread replied)
+      now.account.marked (failed-end layout new (at_number cpu n) k a now.fits has named now.account) now.account.taken now.account.set
+
+  unowing : new.owed ≡ no_debts
+  unowing = owes-nothing layout new (at_number cpu n) k a now.fits has named now.account
+
+  noting : Pairs IsNote (notes_from cpu 0 longer) new.marks
+  noting = noted-end new cpu rows k row now.noted (sym now.account.marked ∙ served.accounted.marked)
+
+  spoiling : EachMember (IsOwnSpoil cpu list longer) new.spoiled
+  spoiling i s there = spoils-end layout cpu list rows now.command k a s now.there now.runs has (now.spoiled i s there)
+
+  serves : Serves layout new cpu list longer after
+  serves = record {
+    rows_are = rows-more layout list new cpu 0 empty_banks list rows (banks_before k banks) n now.command row after (omega arith) now.serves.rows_are now.there served;
+    stays = stays-more rows row now.serves.stays (λ some. only-stopped k (now.stopped some) has);
+    halted = λ some. by (stopped-was rows row some);
+  }
+    where
+      by : HasStopped rows ⊎ (a ≡ answers.Stopped) → IsHalted new
+      by (inl early) = now.serves.halted early
+      by (inr last) = stopped-halts layout new k now.fits (has ∙ ap (λ (x : Answer). Some x) last)
+
+  stops : EachMember (IsOwnStop layout cpu list longer) new.stops
+  stops i who there = which (now.stops i who there)
+    where
+      which : IsOwnStop layout cpu list rows who ⊎ HasStoppedIt rows k who → IsOwnStop layout cpu list longer who
+      which (inl early) = stop-more layout cpu list rows row who early
+      which (inr it) = own-stop layout new cpu list rows banks k a now has who it
+
+  -- no later command has made an entry
+  later-none : (q : ℕ) → n < q → HasMadeNone new (at_number cpu q)
+  later-none q less = made-none-later (can layout old new cpu list rows banks j k run made) made.made (at_number cpu q) (other layout old new cpu list rows banks j k run made q (λ same. absurd (omega arith))) (made-none made.made (at_number cpu q) n less later)
+    where
+      later : IsLater old (at_number cpu q) n
+      later = (subst (IsOnTurn old) (own layout old new cpu list rows banks j k run made) (on-turn layout old j run.fits)).later
+
+  nothing : hand_of new ≡ empty
+  nothing = (ends layout new k now.fits has).0
+
+  done : slice_get list (n + 1) ≡ None → IsDone layout new cpu list longer after
+  done none = record {
+    serves = serves;
+    all = same;
+    made = λ q past. later-none q (let at : length longer ≡ n + 1 = number in let all : length longer ≡ length list = same in omega (arith, past));
+    hand_is = nothing;
+    owed = unowing;
+    stops = stops;
+    listed = subst (IsListed new cpu) (let at : length longer ≡ n + 1 = number in let all : length longer ≡ length list = same in omega arith) now.listed;
+    noted = noting;
+    spoiled = spoiling;
+    policies = policies-end layout list new (at_number cpu n) now.command k a now.runs now.fits has now.there now.policies;
+  }
+    where
+      same : length longer ≡ length list
+      same =
+          let most : length list ≤ n + 1 = past-end list (n + 1) none in
+          let within : n < length list = slice_get_within list n now.command now.there in
+          let at : length longer ≡ n + 1 = number in
+          omega arith
+
+  begun : (command : Command) (b : Job) → slice_get list (n + 1) ≡ Some command → Begins layout (at_number cpu (n + 1)) command after b → IsRunning layout new cpu list longer (left_in b after) b
+  begun command b there begins = record {
+    serves = subst (Serves layout new cpu list longer) (sym (before-begins layout (at_number cpu (n + 1)) command after b begins)) serves;
+    command = command;
+    there = subst (λ (i : ℕ). slice_get list i ≡ Some command) (sym number) there;
+    runs = subst (λ (i : ℕ). Runs layout (at_number cpu i) command b) (sym number) (begins-runs layout (at_number cpu (n + 1)) command after b begins);
+    fits = begins-fits layout new (at_number cpu (n + 1)) command after b begins (banks-free layout list new cpu 0 empty_banks list longer after serves.rows_are empty-free) (record {
+      on_turn = next-turn new cpu n (ap (λ (h : Hand). h.bodies) nothing) (subst (IsOnTurn new) named (on-turn layout new k now.fits));
+      hand_is = nothing;
+      paid = ap (λ (d : Debts). d.losses) unowing;
+      made = later-none (n + 1) (omega arith);
+      unmarked = unmarked-starts new cpu (n + 1) now.listed;
+      left = left know start (let within : n + 1 < length list = slice_get_within list (n + 1) command there in omega (arith, few, within));
+      revivals = revival-left new cpu longer noting (let within : n + 1 < length list = slice_get_within list (n + 1) command there in omega (arith, few, within, number));
+    });
+    policies = subst (λ (i : ℕ). KnowsPolicies layout list new (at_number cpu i) b) (sym number) know;
+    stopped = λ some. inl start;
+    stops = λ i who at. inl (stops i who at);
+    listed = subst (λ (i : ℕ). IsListed new cpu (i + 1)) (sym number) (record { marked = later (λ (m : Mark). m.stamp.who) new.marks now.listed.marked; taken = later (λ (r : Reported). r.stamp.who) new.reported now.listed.taken; set = later (λ (g : Setting). g.stamp.who) new.settings now.listed.set });
+    account = subst (λ (i : ℕ). HasAccount new (at_number cpu i) b) (sym number) (account-starts new cpu (n + 1) b now.listed (later-none (n + 1) (omega arith)) unowing start);
+    noted = noted-starts new cpu longer b (subst (IsListed new cpu) (sym number) now.listed) start noting;
+    spoiled = λ i s at. inl (spoiling i s at);
+  }
+    where
+      start : IsAtStop b
+      start = begins-stop layout (at_number cpu (n + 1)) command after b begins
+
+      -- what is of the commands so far is of them and the next one
+      later : {A : Type 0} (by : A → Who) (l : List A) → EachMember (λ (x : A). IsOneOf cpu (n + 1) (by x)) l → EachMember (λ (x : A). IsOneOf cpu (n + 1 + 1) (by x)) l
+      later by l each i x at = ((each i x at).0, (let less = (each i x at).1 in omega (arith, less)))
+
+      know : KnowsPolicies layout list new (at_number cpu (n + 1)) b
+      know = policies-next layout list new (at_number cpu n) now.command k a now.runs now.fits has now.there now.policies (at_number cpu (n + 1)) b refl start
+
+  -- the next command begins, where there is one
+  pub settled : (b : Option Job) → BeginsAt layout (at_number cpu (n + 1)) (slice_get list (n + 1)) after b → FitsAt layout new cpu list longer (left_of b after) b
+  settled b begins = which (slice_get list (n + 1)) refl b begins
+    where
+      which : (o : Option Command) → slice_get list (n + 1) ≡ o → (x : Option Job) → BeginsAt layout (at_number cpu (n + 1)) o after x → FitsAt layout new cpu list longer (left_of x after) x
+      which (Some command) there (Some x) at = begun command x there at
+      which None there None at = done there
+      which (Some command) there None at = absurd at
+      which None there (Some x) at = absurd at

@@ -1,0 +1,122 @@
+-- What is so of each kind of command.
+use Rattle.std.proofs.Common.{◌≡◌, ℕ, true, sym, ap, ◌∙◌, subst}
+use Rattle.hwp_geom.specs.declared.Damage.{Damage}
+use Rattle.hwp_geom.specs.declared.Damage.TheVariants as damages
+use Rattle.hwp_geom.specs.declared.Frame.{Frame}
+use Rattle.hwp_geom.specs.declared.Layout.{Layout}
+use Rattle.hwp_geom.specs.declared.Who.{Who}
+use Rattle.hwp_script_lines.specs.declared.Command.{Command}
+use Rattle.hwp_script_lines.specs.declared.Command.TheVariants as commands
+use Rattle.hwp_core_rule.specs.declared.Spoiled.{Spoiled}
+use Rattle.hwp_core_rule.specs.declared.View.{View}
+use Rattle.hwp_core_task.specs.Calls.{IsOnTurn}
+use Rattle.hwp_cpu_command.specs.hwp_cpu_control.declared.Spoil.{Spoil}
+use Rattle.hwp_cpu_command.specs.hwp_cpu_control.Spoils as spoils
+use Rattle.hwp_cpu_check.specs.Told.{halts}
+use Rattle.hwp_cpu_command.specs.hwp_cpu_access.declared.Instruction.{Instruction}
+use Rattle.hwp_cpu_command.specs.hwp_cpu_raise.declared.Raise.{Raise}
+use Rattle.hwp_cpu_command.specs.hwp_scrub.declared.Scrub.{Scrub}
+use Rattle.hwp_cpu_command.specs.declared.job.Job.{Job}
+use Rattle.hwp_cpu_command.specs.declared.job.Job.TheVariants as kinds
+use Rattle.hwp_cpu_command.specs.Jobs as jobs
+use Rattle.hwp_cpu_command.specs.Runs.{Runs, anew}
+use Rattle.hwp_cpu_command.specs.Stays as stays
+use Rattle.hwp_cpu_command.proofs.OfKind.{of-evict, of-fsync, of-inject, of-instruction, of-log, of-nested, of-prctl, of-raise, of-scrub, of-soft, of-spoil, of-unpoison}
+use Rattle.hwp_cpu_command_laws.proofs.CommandStops.{unrecovered}
+use Rattle.hwp_cpu_causes.specs.hwp_law_holds.Served.{CanStop, spoiling}
+
+-- a command that fits is that of the turn
+pub on-turn : (layout : Layout) (view : View) (j : Job) → jobs.Fits layout view j → IsOnTurn view (jobs.who j)
+on-turn layout view (kinds.Instruction i) fits = fits.on_turn
+on-turn layout view (kinds.Evict e) fits = fits.on_turn
+on-turn layout view (kinds.Fsync f) fits = fits.on_turn
+on-turn layout view (kinds.Prctl p) fits = fits.on_turn
+on-turn layout view (kinds.Log l) fits = fits.read.on_turn
+on-turn layout view (kinds.Raise r) fits = fits.on_turn
+on-turn layout view (kinds.Scrub s) fits = fits.on_turn
+on-turn layout view (kinds.Spoil s) fits = fits.on_turn
+on-turn layout view (kinds.Nested n) fits = fits.on_turn
+on-turn layout view (kinds.Inject i) fits = fits.on_turn
+on-turn layout view (kinds.Soft s) fits = fits.on_turn
+on-turn layout view (kinds.Unpoison u) fits = fits.on_turn
+
+-- ---- a command that stops the machine
+
+-- by an event of its machine checks
+module _ (j : Job) (has : stays.HasStopped j) where
+  instruction-halts : {x : Instruction} → anew j ≡ kinds.Instruction x → halts (jobs.told_of j) ≡ true
+  instruction-halts is = let task = of-instruction j is in ap (λ (k : Job). halts (jobs.told_of k)) task.1 ∙ (subst stays.HasStopped task.1 has).1
+
+  raise-halts : {x : Raise} → anew j ≡ kinds.Raise x → halts (jobs.told_of j) ≡ true
+  raise-halts is = let task = of-raise j is in ap (λ (k : Job). halts (jobs.told_of k)) task.1 ∙ (subst stays.HasStopped task.1 has).1
+
+  scrub-halts : {x : Scrub} → anew j ≡ kinds.Scrub x → halts (jobs.told_of j) ≡ true
+  scrub-halts is = let task = of-scrub j is in ap (λ (k : Job). halts (jobs.told_of k)) task.1 ∙ (subst stays.HasStopped task.1 has).1
+
+-- is one that can
+pub can-stop : (layout : Layout) (view : View) (who : Who) (command : Command) (j : Job) → Runs layout who command j → jobs.Fits layout view j → stays.HasStopped j → CanStop layout command (jobs.told_of j)
+can-stop layout view who (commands.Load thread slot line) j runs fits has = instruction-halts j has runs.job_is
+can-stop layout view who (commands.Fetch thread slot line) j runs fits has = instruction-halts j has runs.job_is
+can-stop layout view who (commands.KLoad thread slot line) j runs fits has = instruction-halts j has runs.job_is
+can-stop layout view who (commands.Store thread slot line word) j runs fits has = instruction-halts j has runs.job_is
+can-stop layout view who (commands.RaiseUser thread ripv eipv) j runs fits has = raise-halts j has runs.job_is
+can-stop layout view who (commands.RaiseKernel ripv eipv) j runs fits has = raise-halts j has runs.job_is
+can-stop layout view who (commands.Scrub first last) j runs fits has = scrub-halts j has runs.job_is
+can-stop layout view who commands.RaiseNested j runs fits has = tt
+can-stop layout view who (commands.Inject frame) j runs fits has = let task = of-inject j runs.job_is in unrecovered layout view task.0 (subst (jobs.Fits layout view) task.1 fits) (subst stays.HasStopped task.1 has)
+can-stop layout view who (commands.Free slot) j runs fits has = absurd (subst stays.HasStopped (of-evict j runs.1.job_is).1 has)
+can-stop layout view who (commands.Drop page) j runs fits has = absurd (subst stays.HasStopped (of-evict j runs.job_is).1 has)
+can-stop layout view who (commands.Sync page) j runs fits has = absurd (subst stays.HasStopped (of-evict j runs.job_is).1 has)
+can-stop layout view who (commands.Out page) j runs fits has = absurd (subst stays.HasStopped (of-evict j runs.job_is).1 has)
+can-stop layout view who (commands.Fsync file) j runs fits has = absurd (subst stays.HasStopped (of-fsync j runs.1).1 has)
+can-stop layout view who (commands.Prctl thread args) j runs fits has = absurd (subst stays.HasStopped (of-prctl j runs.job_is).1 has)
+can-stop layout view who (commands.Log status addr misc) j runs fits has = absurd (subst stays.HasStopped (of-log j runs.job_is).1 has)
+can-stop layout view who (commands.Bad frame line) j runs fits has = absurd (subst stays.HasStopped (of-spoil j runs.job_is).1 has)
+can-stop layout view who (commands.Weak frame line) j runs fits has = absurd (subst stays.HasStopped (of-spoil j runs.job_is).1 has)
+can-stop layout view who (commands.Soft frame) j runs fits has = absurd (subst stays.HasStopped (of-soft j runs.job_is).1 has)
+can-stop layout view who (commands.Unpoison frame) j runs fits has = absurd (subst stays.HasStopped (of-unpoison j runs.job_is).1 has)
+
+-- ---- a command that spoils a line
+
+-- is the command for that
+module _ (j : Job) (s : Spoiled) (has : stays.HasSpoiled j s) where
+  abbrev Is : Who → Command → Type 0
+  Is who command = (s.stamp.who ≡ who) × (command ≡ spoiling s.damage s.frame s.line)
+
+  spoil-is : {who : Who} {frame : Frame} {line : ℕ} (damage : Damage) → anew j ≡ kinds.Spoil (spoils.begin who frame line damage) → Is who (spoiling damage frame line)
+  spoil-is {who} {frame} {line} damage is = (
+    sym its.1 ∙ ap (λ (x : Spoil). x.who) task.2,
+    ap (λ (d : Damage). spoiling d frame line) (sym (ap (λ (x : Spoil). x.damage) task.2) ∙ its.4) ∙ ap (λ (f : Frame). spoiling s.damage f line) (sym (ap (λ (x : Spoil). x.frame) task.2) ∙ its.2)
+        ∙ ap (spoiling s.damage s.frame) (sym (ap (λ (x : Spoil). x.line) task.2) ∙ its.3),
+  )
+    where
+      task : (x : Spoil) × (j ≡ kinds.Spoil x) × (spoils.begin x.who x.frame x.line x.damage ≡ spoils.begin who frame line damage)
+      task = of-spoil j is
+
+      its : stays.HasSpoiled (kinds.Spoil task.0) s
+      its = subst (λ (k : Job). stays.HasSpoiled k s) task.1 has
+
+  none : {k : Job} → j ≡ k → stays.HasSpoiled k s
+  none is = subst (λ (x : Job). stays.HasSpoiled x s) is has
+
+pub spoils-line : (layout : Layout) (who : Who) (command : Command) (j : Job) (s : Spoiled) → Runs layout who command j → stays.HasSpoiled j s → (s.stamp.who ≡ who) × (command ≡ spoiling s.damage s.frame s.line)
+spoils-line layout who (commands.Bad frame line) j s runs has = spoil-is j s has damages.Bad runs.job_is
+spoils-line layout who (commands.Weak frame line) j s runs has = spoil-is j s has damages.Weak runs.job_is
+spoils-line layout who (commands.Load thread slot line) j s runs has = absurd (none j s has (of-instruction j runs.job_is).1)
+spoils-line layout who (commands.Fetch thread slot line) j s runs has = absurd (none j s has (of-instruction j runs.job_is).1)
+spoils-line layout who (commands.KLoad thread slot line) j s runs has = absurd (none j s has (of-instruction j runs.job_is).1)
+spoils-line layout who (commands.Store thread slot line word) j s runs has = absurd (none j s has (of-instruction j runs.job_is).1)
+spoils-line layout who (commands.Free slot) j s runs has = absurd (none j s has (of-evict j runs.1.job_is).1)
+spoils-line layout who (commands.Drop page) j s runs has = absurd (none j s has (of-evict j runs.job_is).1)
+spoils-line layout who (commands.Sync page) j s runs has = absurd (none j s has (of-evict j runs.job_is).1)
+spoils-line layout who (commands.Out page) j s runs has = absurd (none j s has (of-evict j runs.job_is).1)
+spoils-line layout who (commands.Fsync file) j s runs has = absurd (none j s has (of-fsync j runs.1).1)
+spoils-line layout who (commands.Prctl thread args) j s runs has = absurd (none j s has (of-prctl j runs.job_is).1)
+spoils-line layout who (commands.Log status addr misc) j s runs has = absurd (none j s has (of-log j runs.job_is).1)
+spoils-line layout who (commands.RaiseUser thread ripv eipv) j s runs has = absurd (none j s has (of-raise j runs.job_is).1)
+spoils-line layout who (commands.RaiseKernel ripv eipv) j s runs has = absurd (none j s has (of-raise j runs.job_is).1)
+spoils-line layout who (commands.Scrub first last) j s runs has = absurd (none j s has (of-scrub j runs.job_is).1)
+spoils-line layout who commands.RaiseNested j s runs has = absurd (none j s has (of-nested j runs).1)
+spoils-line layout who (commands.Inject frame) j s runs has = absurd (none j s has (of-inject j runs.job_is).1)
+spoils-line layout who (commands.Soft frame) j s runs has = absurd (none j s has (of-soft j runs.job_is).1)
+spoils-line layout who (commands.Unpoison frame) j s runs has = absurd (none j s has (of-unpoison j runs.job_is).1)

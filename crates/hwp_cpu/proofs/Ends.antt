@@ -1,0 +1,78 @@
+-- A processor fits at its beginning, stays the processor that it is, and has served its commands at its end.
+use Rattle.std.proofs.Common.{◌≡◌, ℕ, ◌<◌, ◌≤◌, ◌⊎◌, inl, inr, List, [], Option, Some, None, length, map, option_map, sym, ap, ◌∙◌, subst, arith}
+use Rattle.std.proofs.lemmas.Bool.{cases_lt}
+use Rattle.std.proofs.lemmas.List.{get_or_past, length-map}
+use Rattle.std.proofs.lemmas.Option.{get_or_from_slice_get}
+use Rattle.hwp_geom.specs.declared.Cpu.{Cpu}
+use Rattle.hwp_geom.specs.declared.Layout.{Layout}
+use Rattle.hwp_geom.specs.Limits.{command_limit}
+use Rattle.hwp_page.specs.History.{BodyValue}
+use Rattle.hwp_script_lines.specs.declared.Command.{Command}
+use Rattle.hwp_report_text.specs.declared.Answer.{Answer}
+use Rattle.hwp_cpu_row.specs.declared.Row.{Row}
+use Rattle.hwp_cpu_check.specs.hwp_law.Checks.{Banks}
+use Rattle.hwp_core_rule.specs.declared.State.{State}
+use Rattle.hwp_core_rule.specs.declared.View.{View}
+use Rattle.hwp_core_rule.specs.Opening.{below, opening, opening_view}
+use Rattle.hwp_core_rule.specs.Rule.{Holds}
+use Rattle.hwp_core_rule.proofs.Lists.{at_map}
+use Rattle.hwp_core_rule.proofs.WordsOpen.{below-at, length-below}
+use Rattle.hwp_core_task.specs.declared.Turn.{Turn}
+use Rattle.hwp_core_task.specs.Boards.{AreSeated, view_of}
+use Rattle.hwp_cpu_command.specs.declared.job.Job.{Job}
+use Rattle.hwp_cpu_command.specs.Jobs as jobs
+use Rattle.hwp_cpu_causes.specs.hwp_law_holds.Served.{IsServed}
+use Rattle.hwp_cpu.specs.declared.processor.Processor.{Processor}
+use Rattle.hwp_cpu.specs.Processors.{AtBeginning, Follows, Next, NextOf, bare, who}
+use Rattle.hwp_cpu.specs.Serving.{Fits, FitsAt}
+use Rattle.hwp_cpu.proofs.ProcessorOpens.{begun}
+use Rattle.hwp_cpu.proofs.ProcessorServes.{served}
+use Rattle.hwp_cpu.proofs.ProcessorLaws.{own-cpu}
+
+-- ---- the beginning
+
+-- at opening each seat knows what a processor of its number knows
+opening-view : (layout : Layout) (i : ℕ) → view_of (opening layout) i ≡ opening_view i
+opening-view layout i = which (cases_lt i layout.cpus)
+  where
+    which : (i < layout.cpus) ⊎ (layout.cpus ≤ i) → view_of (opening layout) i ≡ opening_view i
+    which (inl inside) = get_or_from_slice_get (map opening_view (below layout.cpus)) i (opening_view i) (opening_view i) (at_map opening_view (below layout.cpus) i i (below-at layout.cpus i inside))
+    which (inr past) = get_or_past (map opening_view (below layout.cpus)) i (opening_view i) (let all : length (map opening_view (below layout.cpus)) ≡ layout.cpus = length-map (below layout.cpus) opening_view ∙ length-below layout.cpus in omega arith)
+
+pub opening-fits : (layout : Layout) (cpu : Cpu) (list : List Command) (p : Processor) → AtBeginning layout cpu list p → Fits layout (view_of (opening layout) cpu.0) p
+opening-fits layout cpu list p at = subst (λ (v : View). Fits layout v p) (sym (opening-view layout cpu.0)) (record {
+  ready = at.ready;
+  layout_is = at.layout_is;
+  at = subst (λ (c : Cpu). FitsAt layout (opening_view cpu.0) c p.commands p.rows.items p.banks p.job) (sym at.cpu_is)
+      (subst (λ (l : List Command). FitsAt layout (opening_view cpu.0) cpu l p.rows.items p.banks p.job) (sym at.commands_are)
+      (subst (λ (l : List Row). FitsAt layout (opening_view cpu.0) cpu list l p.banks p.job) (sym at.no_row)
+      (subst (λ (b : Banks). FitsAt layout (opening_view cpu.0) cpu list [] b p.job) (sym at.banks_are)
+      (begun layout cpu list (subst (λ (l : List Command). length l ≤ command_limit) at.commands_are at.ready.commands.few) p.job at.begins))));
+})
+
+-- its commands are those of the processor
+fits-own : (layout : Layout) (view : View) (p : Processor) → Fits layout view p → (who p).cpu ≡ p.cpu
+fits-own layout view p fits = own-cpu layout view p.cpu p.commands p.rows.items p.banks p.job fits.at
+
+pub opening-own : (layout : Layout) (cpu : Cpu) (list : List Command) (p : Processor) → AtBeginning layout cpu list p → (who p).cpu ≡ cpu
+opening-own layout cpu list p at = fits-own layout (view_of (opening layout) cpu.0) p (opening-fits layout cpu list p at) ∙ at.cpu_is
+
+-- ---- a turn
+
+pub next-keeps : (layout : Layout) (p after : Processor) (found : ℕ) (got : Option BodyValue) (turn : Turn) → Next layout (bare p) found got after turn → (after.cpu ≡ p.cpu) × (after.commands ≡ p.commands)
+next-keeps layout p after found got turn next = which (option_map jobs.bare p.job) next
+  where
+    by : (k : Job) (t : Turn) (o : Option Answer) → Follows (bare p) k o t after turn → (after.cpu ≡ p.cpu) × (after.commands ≡ p.commands)
+    by k t None (is, turn_is) = (ap (λ (x : Processor). x.cpu) is, ap (λ (x : Processor). x.commands) is)
+    by k t (Some a) (answered, turn_is) = (answered.cpu_is, answered.commands_are)
+
+    which : (x : Option Job) → NextOf layout (bare p) x found got after turn → (after.cpu ≡ p.cpu) × (after.commands ≡ p.commands)
+    which (Some j) so = by so.0 so.1 (jobs.answer so.0) so.3
+    which None so = (ap (λ (x : Processor). x.cpu) so.0, ap (λ (x : Processor). x.commands) so.0)
+
+-- ---- the end
+
+pub served-of : (layout : Layout) (last : State) (seat : Cpu → ℕ) → Holds layout last → AreSeated layout last seat → (p : Processor) → p.cpu.0 < layout.cpus
+    → Fits layout (view_of last (seat p.cpu)) p → p.job ≡ None → IsServed layout (view_of last (seat p.cpu)) p.cpu p.commands p.rows.items
+served-of layout last seat holds seated p inside fits none =
+    served layout last seat holds seated p.cpu inside p.commands p.rows.items p.banks (subst (FitsAt layout (view_of last (seat p.cpu)) p.cpu p.commands p.rows.items p.banks) none fits.at)

@@ -1,0 +1,297 @@
+-- What a processor's view lists of its commands beside entries, and its notes: over a step, when a command is answered, and when the
+-- next one begins.
+use Rattle.std.proofs.Common.{◌≡◌, ◌⊎◌, inl, inr, ℕ, suc, ◌+◌, ◌≤◌, Bool, true, false, List, [], ◌∷◌, ◌++◌, Option, Some, None, drop, filter, filter_map, length, map, slice_get, append_assoc, append-nil, refl, sym, ap, ◌∙◌, subst, arith}
+use Rattle.std.specs.List.{cons_option}
+use Rattle.std.specs.Int.{from_bool}
+use Rattle.std.specs.Prelude.{option_map}
+use Rattle.std.proofs.lemmas.Bool.{false_from_ne_true}
+use Rattle.std.proofs.lemmas.List.{length-map, map-append, nil_from_length}
+use Rattle.std.proofs.lemmas.Option.{none-some, same_Some}
+use Rattle.hwp_geom.specs.declared.Cpu.{Cpu}
+use Rattle.hwp_geom.specs.declared.Frame.{Frame}
+use Rattle.hwp_geom.specs.declared.Layout.{Layout}
+use Rattle.hwp_geom.specs.declared.Page.{Page}
+use Rattle.hwp_geom.specs.declared.Who.{Who}
+use Rattle.hwp_geom.specs.Pairs.{Pairs}
+use Rattle.hwp_page.specs.declared.What.{What}
+use Rattle.hwp_page.specs.declared.What.TheVariants as entries
+use Rattle.hwp_page.specs.Losses.{is_loss}
+use Rattle.hwp_page.specs.Situations.{outcome_of}
+use Rattle.hwp_core_rule.specs.declared.Made.{Made}
+use Rattle.hwp_core_rule.specs.declared.Mark.{Mark}
+use Rattle.hwp_core_rule.specs.declared.MarkKind.TheVariants as mark_kinds
+use Rattle.hwp_core_rule.specs.declared.Reported.{Reported}
+use Rattle.hwp_core_rule.specs.declared.Setting.{Setting}
+use Rattle.hwp_core_rule.specs.declared.Spoiled.{Spoiled}
+use Rattle.hwp_core_rule.specs.declared.View.{View}
+use Rattle.hwp_core_rule.specs.Lists.{EachMember}
+use Rattle.hwp_core_rule.specs.Views.{no_debts}
+use Rattle.hwp_core_rule.proofs.Lists.{at_last, at_push, each-push, sum-zero}
+use Rattle.hwp_core_task.specs.Calls.{CanMake}
+use Rattle.hwp_core_task.specs.Known.{HasMadeNone, deeds}
+use Rattle.hwp_cpu_check.specs.hwp_claim_act.declared.Failed.{Failed}
+use Rattle.hwp_cpu_check.specs.hwp_claim_act.Abandoned as abandoned
+use Rattle.hwp_cpu_check.specs.hwp_claim_frame.Claims.{HasMarkedNone, is_own}
+use Rattle.hwp_cpu_check.specs.hwp_claim_frame.Done.{Grows, Marking, counts_owed, marking_of, poisoning}
+use Rattle.hwp_script_lines.specs.declared.Command.{Command}
+use Rattle.hwp_report_text.specs.declared.Answer.{Answer}
+use Rattle.hwp_report_text.specs.declared.Answer.TheVariants as answers
+use Rattle.hwp_report_text.specs.declared.How.{How}
+use Rattle.hwp_report_text.specs.declared.How.TheVariants as hows
+use Rattle.hwp_report_text.specs.declared.MarkLine.TheVariants as lines
+use Rattle.hwp_cpu_check.specs.declared.Found.{Found}
+use Rattle.hwp_cpu_row.specs.declared.FrameChange.{FrameChange}
+use Rattle.hwp_cpu_row.specs.declared.FrameChange.TheVariants as owns
+use Rattle.hwp_cpu_row.specs.declared.Row.{Row}
+use Rattle.hwp_cpu_check.specs.declared.EventOutcome.{EventOutcome}
+use Rattle.hwp_cpu_check.specs.Done.{marked_in}
+use Rattle.hwp_cpu_check.specs.Told.{frame_of}
+use Rattle.hwp_cpu_command.specs.hwp_cpu_access.Done.{FailuresGrow}
+use Rattle.hwp_cpu_command.specs.declared.Job.{Job}
+use Rattle.hwp_cpu_command.specs.Done.{HasDone, failed_now, marked_now, policies_now, taken_now}
+use Rattle.hwp_cpu_command.specs.Jobs as jobs
+use Rattle.hwp_cpu_command.specs.Runs.{Runs}
+use Rattle.hwp_cpu_command.specs.Stays.{HasSpoiled, IsAtStop, Stepped}
+use Rattle.hwp_cpu_command.proofs.JobEnds.{answered-over, paid-at-end}
+use Rattle.hwp_cpu_command_laws.proofs.CommandDeeds.{done, failures-at-end, grown, none-listed, unfailed-at-start, unmarked-at-start, unowed-at-end, unowed-at-start, unset-policies-at-start, untaken-at-start}
+use Rattle.hwp_cpu_command_laws.proofs.CommandRuns.{can-fail-stays}
+use Rattle.hwp_cpu_command_laws.proofs.CommandStops.{has-spoiled, spoils-after}
+use Rattle.hwp_cpu_causes.specs.hwp_law_holds.Accounts.{IsHow, IsNote, failures, is_same, marking_by, markings_in, own_marking}
+use Rattle.hwp_cpu_causes.specs.hwp_law_holds.Owed.{OwesOwn, loss_of, losses_by}
+use Rattle.hwp_cpu_causes.specs.hwp_law_holds.Rows.{Note, note_by, note_of, notes_from, own_note, row_notes, told_note}
+use Rattle.hwp_cpu_causes.specs.hwp_law_holds.Served.{IsOneOf, IsOwnSpoil, spoiling}
+use Rattle.hwp_cpu_causes.proofs.of_hwp_law_holds.AccountKeeps.{marks-own, reported-own, settings-own}
+use Rattle.hwp_cpu_causes.proofs.of_hwp_law_holds.PoisonMarks.{same-who}
+use Rattle.hwp_cpu_causes.proofs.of_hwp_law_holds.Picked.{picked-has}
+use Rattle.hwp_cpu_causes.proofs.of_hwp_law_holds.losses.LossesOwed.{owes-own}
+use Rattle.hwp_cpu_causes.proofs.of_hwp_law_holds.marks.Marked.{same-self}
+use Rattle.hwp_cpu.specs.Processors.{at_number}
+use Rattle.hwp_cpu.specs.Serving.{AreNoted, HasAccount, IsListed}
+use Rattle.hwp_cpu.proofs.Rows.{notes-more, spoil-more}
+use Rattle.hwp_cpu.proofs.EachKind.{spoils-line}
+
+-- ---- over a step
+
+failed-grown : {old new before after : List Failed} → FailuresGrow old new before after → old ≡ before → new ≡ after
+failed-grown (inl (same, alike)) was = same ∙ was ∙ sym alike
+failed-grown (inr (f, more, longer)) was = more ∙ ap (λ (l : List Failed). l ++ f ∷ []) was ∙ sym longer
+
+module _ {layout : Layout} {old new : View} {cpu : Cpu} {n : ℕ} {j k : Job} (s : Stepped layout old new j k) (can : CanMake layout (jobs.who j) s.step (jobs.put j) old) (own : jobs.who j ≡ at_number cpu n) where
+  pub listed-on : IsListed old cpu (n + 1) → IsListed new cpu (n + 1)
+  listed-on was = record {
+    marked = marks-own s.made (IsOneOf cpu (n + 1)) one was.marked;
+    taken = reported-own s.made (IsOneOf cpu (n + 1)) one was.taken;
+    set = settings-own s.made (IsOneOf cpu (n + 1)) one was.set;
+  }
+    where
+      one : IsOneOf cpu (n + 1) (jobs.who j)
+      one = (ap (λ (w : Who). w.cpu) own, (let same : (jobs.who j).seq ≡ n = ap (λ (w : Who). w.seq) own in omega (arith, same)))
+
+  did : HasDone old new (at_number cpu n) j k
+  did = subst (λ (w : Who). HasDone old new w j k) own (done s)
+
+  pub account-on : HasAccount old (at_number cpu n) j → HasAccount new (at_number cpu n) k
+  account-on was = record {
+    marked = grown (λ (m : Mark). m.stamp.who) marking_of (is_same (at_number cpu n)) old.marks new.marks (at_number cpu n) (marked_now j) (marked_now k) (same-self (at_number cpu n) (at_number cpu n) refl) did.marked was.marked;
+    failed = λ fails. failed-grown (did.failed fails) (was.failed (sym (can-fail-stays layout j k s.found s.got s.turn s.follows) ∙ fails));
+    taken = grown (λ (r : Reported). r.stamp.who) (λ (r : Reported). (r.file, r.count)) (is_same (at_number cpu n)) old.reported new.reported (at_number cpu n) (taken_now j) (taken_now k) (same-self (at_number cpu n) (at_number cpu n) refl) did.taken was.taken;
+    set = grown (λ (x : Setting). x.stamp.who) (λ (x : Setting). (x.thread, x.policy)) (is_same (at_number cpu n)) old.settings new.settings (at_number cpu n) (policies_now j) (policies_now k) (same-self (at_number cpu n) (at_number cpu n) refl) did.set was.set;
+    counted = did.counted was.counted;
+    losses = subst (λ (w : Who). OwesOwn w new) own (owes-own (jobs.who j) can s.made (subst (λ (w : Who). OwesOwn w old) (sym own) was.losses));
+  }
+
+  pub noted-on : (rows : List Row) → length rows ≡ n → AreNoted old cpu rows j → AreNoted new cpu rows k
+  noted-on rows number was = which did.marked
+    where
+      which : Grows (λ (m : Mark). m.stamp.who) marking_of old.marks new.marks (at_number cpu n) (marked_now j) (marked_now k) → AreNoted new cpu rows k
+      which (inl (same, alike)) = record { earlier = was.earlier; last = was.last; all = same ∙ was.all; noted = was.noted; before = was.before; own = was.own; marked = was.marked ∙ sym alike }
+      which (inr (x, more, is, longer)) = record {
+        earlier = was.earlier;
+        last = was.last ++ x ∷ [];
+        all = more ∙ ap (λ (l : List Mark). l ++ x ∷ []) was.all ∙ append_assoc was.earlier was.last (x ∷ []);
+        noted = was.noted;
+        before = was.before;
+        own = each-push (λ (m : Mark). m.stamp.who ≡ at_number cpu (length rows)) was.last x (is ∙ ap (at_number cpu) (sym number)) was.own;
+        marked = map-append marking_of was.last (x ∷ []) ∙ ap (λ (l : List Marking). l ++ marking_of x ∷ []) was.marked ∙ sym longer;
+      }
+
+  -- a line that a command spoiled is one from before, or that of this step
+  pub spoils-on : (list : List Command) (rows : List Row) → EachMember (λ (x : Spoiled). IsOwnSpoil cpu list rows x ⊎ HasSpoiled j x) old.spoiled → EachMember (λ (x : Spoiled). IsOwnSpoil cpu list rows x ⊎ HasSpoiled k x) new.spoiled
+  spoils-on list rows was i x there = which (spoils-after s)
+    where
+      early : slice_get old.spoiled i ≡ Some x → IsOwnSpoil cpu list rows x ⊎ HasSpoiled k x
+      early at = elim (was i x at) [
+        | inl own ↦ inl own
+        | inr has ↦ absurd (none-some s.step (sym (answered-over j (has-spoiled j x has)) ∙ s.planned))
+      ]
+
+      which : (new.spoiled ≡ old.spoiled) ⊎ ((y : Spoiled) × (new.spoiled ≡ old.spoiled ++ y ∷ []) × HasSpoiled k y) → IsOwnSpoil cpu list rows x ⊎ HasSpoiled k x
+      which (inl same) = early (sym (ap (λ (l : List Spoiled). slice_get l i) same) ∙ there)
+      which (inr (y, more, has)) = elim (at_push old.spoiled y x i (sym (ap (λ (l : List Spoiled). slice_get l i) more) ∙ there)) [
+        | inl at ↦ early at
+        | inr is ↦ inr (subst (HasSpoiled k) is has)
+      ]
+
+-- ---- at the end of a command
+
+later-one : (cpu : Cpu) (n : ℕ) (who : Who) → IsOneOf cpu n who → is_same (at_number cpu n) who ≡ false
+later-one cpu n who (own, less) = false_from_ne_true (is_same (at_number cpu n) who) (λ is. let same : who.seq ≡ n = ap (λ (w : Who). w.seq) (same-who (at_number cpu n) who is) in absurd (omega (arith, less, same)))
+
+none-own : (cpu : Cpu) (n : ℕ) (l : List Mark) → EachMember (λ (m : Mark). IsOneOf cpu n m.stamp.who) l → filter (is_own (at_number cpu n)) l ≡ []
+none-own cpu n l before = nil_from_length (filter (is_own (at_number cpu n)) l) (
+    sym (length-map (filter (is_own (at_number cpu n)) l) (λ (m : Mark). m.frame))
+    ∙ ap length (none-listed (λ (m : Mark). m.stamp.who) (λ (m : Mark). m.frame) (is_same (at_number cpu n)) l (λ i m at. later-one cpu n m.stamp.who (before i m at)))
+    )
+
+-- a command that begins has marked no frame
+pub unmarked-starts : (view : View) (cpu : Cpu) (n : ℕ) → IsListed view cpu n → HasMarkedNone view (at_number cpu n)
+unmarked-starts view cpu n listed = none-own cpu n view.marks listed.marked
+
+-- the note of a poisoning tells its mark
+note-tells : (who : Who) (hardware : Bool) (how : How) (frame : Frame) (cycle : ℕ) (m : Mark) → IsHow hardware how → m.stamp.who ≡ who → marking_of m ≡ poisoning frame hardware cycle → IsNote (frame, lines.Poisoned cycle who how) m
+note-tells who hardware how frame cycle m is own marked = record {
+  frame = sym (ap (λ (x : Marking). x.frame) marked);
+  kind = mark_kinds.Poisoned hardware;
+  kind_is = ap (λ (x : Marking). x.kind) marked;
+  line = (how, is, ap (λ (c : ℕ). lines.Poisoned c who how) (sym (ap (λ (x : Marking). x.cycle) marked)) ∙ ap (λ (w : Who). lines.Poisoned m.cycle w how) (sym own));
+}
+
+-- a failure's, and that of what the command did to a frame itself
+failure-tells : (who : Who) (hardware : Bool) (frame : Frame) (found : Found) (m : Mark) → m.stamp.who ≡ who → marking_of m ≡ poisoning frame hardware found.cycle → IsNote (note_of who hardware frame found) m
+failure-tells who hardware frame found m = note-tells who hardware (hows.Failure hardware found.situation (outcome_of found.situation)) frame found.cycle m (refl, refl)
+
+own-tells : (who : Who) (own : FrameChange) (m : Mark) → m.stamp.who ≡ who → marking_of m ≡ marking_by own → IsNote (note_by who own) m
+own-tells who (owns.Failed frame found) m own marked = failure-tells who false frame found m own marked
+own-tells who (owns.Offlined frame cycle true) m own marked = note-tells who false hows.Moved frame cycle m refl own marked
+own-tells who (owns.Offlined frame cycle false) m own marked = note-tells who false hows.TakenFree frame cycle m refl own marked
+own-tells who (owns.Revived frame cycle) m own marked = record {
+  frame = sym (ap (λ (x : Marking). x.frame) marked);
+  kind = mark_kinds.Revived;
+  kind_is = ap (λ (x : Marking). x.kind) marked;
+  line = ap (λ (c : ℕ). lines.Unpoisoned c who) (sym (ap (λ (x : Marking). x.cycle) marked)) ∙ ap (lines.Unpoisoned m.cycle) (sym own);
+}
+
+-- a note, if there is one, tells the mark that was made; and those behind tell the others
+first-noted : {A : Type 0} (who : Who) (note : A → Note) (marking : A → Marking) → ((x : A) (m : Mark) → m.stamp.who ≡ who → marking_of m ≡ marking x → IsNote (note x) m) → (o : Option A) (more : List Note) (rest : List Marking) (ms : List Mark)
+    → EachMember (λ (m : Mark). m.stamp.who ≡ who) ms → map marking_of ms ≡ cons_option (option_map marking o) rest → ((l : List Mark) → EachMember (λ (m : Mark). m.stamp.who ≡ who) l → map marking_of l ≡ rest → Pairs IsNote more l)
+    → Pairs IsNote (cons_option (option_map note o) more) ms
+first-noted who note marking tells None more rest ms own are tell = tell ms own are
+first-noted who note marking tells (Some x) more rest [] own are tell = let none : 0 ≡ suc (length rest) = ap length are in absurd (omega (arith, none))
+first-noted who note marking tells (Some x) more rest (m ∷ ms) own are tell = (
+  tells x m (own 0 m refl) (same_Some (marking_of m) (marking x) (ap (λ (l : List Marking). slice_get l 0) are)),
+  tell ms (λ i y there. own (suc i) y there) (ap (λ (l : List Marking). drop 1 l) are),
+)
+
+none-noted : (ms : List Mark) → map marking_of ms ≡ [] → Pairs IsNote [] ms
+none-noted [] none = tt
+none-noted (m ∷ ms) none = let some : suc (length (map marking_of ms)) ≡ 0 = ap length none in absurd (omega (arith, some))
+
+own-noted : (who : Who) (own : Option FrameChange) (ms : List Mark) → EachMember (λ (m : Mark). m.stamp.who ≡ who) ms → map marking_of ms ≡ cons_option (own_marking own) [] → Pairs IsNote (cons_option (own_note who own) []) ms
+own-noted who own ms by are = first-noted who (note_by who) marking_by (own-tells who) own [] [] ms by are (λ l of none. none-noted l none)
+
+-- the notes of a command tell its marks
+row-noted : (who : Who) (told : List EventOutcome) (own : Option FrameChange) (ms : List Mark) → EachMember (λ (m : Mark). m.stamp.who ≡ who) ms → map marking_of ms ≡ filter_map marked_in told ++ cons_option (own_marking own) []
+    → Pairs IsNote (filter_map (told_note who) told ++ cons_option (own_note who own) []) ms
+row-noted who [] own ms by are = own-noted who own ms by are
+row-noted who (t ∷ ts) own ms by are = subst (λ (l : List Note). Pairs IsNote l ms) (sym (onto (told_note who t) (filter_map (told_note who) ts) (cons_option (own_note who own) [])))
+    (first-noted who (note_of who true (frame_of t.held)) (λ (found : Found). poisoning (frame_of t.held) true found.cycle) (failure-tells who true (frame_of t.held)) t.found (filter_map (told_note who) ts ++ cons_option (own_note who own) []) (filter_map marked_in ts ++ cons_option (own_marking own) []) ms by
+    (are ∙ onto (marked_in t) (filter_map marked_in ts) (cons_option (own_marking own) [])) (row-noted who ts own))
+  where
+    onto : {A : Type 0} (o : Option A) (xs ys : List A) → cons_option o xs ++ ys ≡ cons_option o (xs ++ ys)
+    onto None xs ys = refl
+    onto (Some x) xs ys = refl
+
+-- all marks are noted
+pub noted-end : (view : View) (cpu : Cpu) (rows : List Row) (j : Job) (row : Row) → AreNoted view cpu rows j → marked_now j ≡ markings_in row → Pairs IsNote (notes_from cpu 0 (rows ++ row ∷ [])) view.marks
+noted-end view cpu rows j row are marked =
+    subst (λ (l : List Note). Pairs IsNote l view.marks) (sym (notes-more cpu 0 rows (length rows) row (omega arith)))
+    (subst (λ (l : List Mark). Pairs IsNote (notes_from cpu 0 rows ++ row_notes (at_number cpu (length rows)) row) l) (sym are.all)
+    (joined (notes_from cpu 0 rows) (row_notes (at_number cpu (length rows)) row) are.earlier are.last are.noted (row-noted (at_number cpu (length rows)) row.told row.own are.last are.own (are.marked ∙ marked))))
+  where
+    joined : (xs ys : List Note) (ms ns : List Mark) → Pairs IsNote xs ms → Pairs IsNote ys ns → Pairs IsNote (xs ++ ys) (ms ++ ns)
+    joined [] ys [] ns first second = second
+    joined [] ys (m ∷ ms) ns first second = absurd first
+    joined (x ∷ xs) ys [] ns first second = absurd first
+    joined (x ∷ xs) ys (m ∷ ms) ns first second = (first.0, joined xs ys ms ns first.1 second)
+
+-- a line that the command has spoiled is one of a command that is answered
+pub spoils-end : (layout : Layout) (cpu : Cpu) (list : List Command) (rows : List Row) (command : Command) (j : Job) (a : Answer) (s : Spoiled) → slice_get list (length rows) ≡ Some command → Runs layout (at_number cpu (length rows)) command j
+    → jobs.answer j ≡ Some a → IsOwnSpoil cpu list rows s ⊎ HasSpoiled j s → IsOwnSpoil cpu list (rows ++ jobs.row_of j a ∷ []) s
+spoils-end layout cpu list rows command j a s there runs is (inl own) = spoil-more cpu list rows (jobs.row_of j a) s own
+spoils-end layout cpu list rows command j a s there runs is (inr has) = record {
+  cpu_is = ap (λ (w : Who). w.cpu) by.0;
+  there = ap (slice_get list) number ∙ there ∙ ap (λ (c : Command). Some c) by.1;
+  row = jobs.row_of j a;
+  row_is = ap (slice_get (rows ++ jobs.row_of j a ∷ [])) number ∙ at_last rows (jobs.row_of j a);
+  answered = same_Some a answers.Done (sym is ∙ has-spoiled j s has);
+}
+  where
+    by : (s.stamp.who ≡ at_number cpu (length rows)) × (command ≡ spoiling s.damage s.frame s.line)
+    by = spoils-line layout (at_number cpu (length rows)) command j s runs has
+
+    number : s.stamp.who.seq ≡ length rows
+    number = ap (λ (w : Who). w.seq) by.0
+
+-- entries of which none is a failure cost no content
+unfailed-lossless : (view : View) (who : Who) → failures who view ≡ [] → losses_by who view ≡ 0
+unfailed-lossless view who none = sum-zero loss_of (deeds who view) (λ i m at. by m.page m.place m.entry.what (none-in (deeds who view) i m none at))
+  where
+    none-in : (l : List Made) (i : ℕ) (m : Made) → filter_map abandoned.failed_in l ≡ [] → slice_get l i ≡ Some m → abandoned.failed_in m ≡ None
+    none-in l i m empty at = which (abandoned.failed_in m) refl
+      where
+        which : (o : Option Failed) → abandoned.failed_in m ≡ o → o ≡ None
+        which None is = refl
+        which (Some f) is = let some = picked-has abandoned.failed_in l i m f at is in absurd (none-some f (sym (ap (λ (x : List Failed). slice_get x some.0) empty) ∙ some.1))
+
+    by : (page : Page) (place : ℕ) (what : What) → abandoned.failed_of page place what ≡ None → from_bool (is_loss what) ≡ 0
+    by page place (entries.Fail situation required seen signals) is = absurd (none-some _ (sym is))
+    by page place what is = refl
+
+-- when a command is answered its failures are those that it knows of
+pub failed-end : (layout : Layout) (view : View) (who : Who) (j : Job) (a : Answer) → jobs.Fits layout view j → jobs.answer j ≡ Some a → jobs.who j ≡ who → HasAccount view who j → failures who view ≡ failed_now j
+failed-end layout view who j a fits has own account = subst (λ (w : Who). failures w view ≡ failed_now j) own (failures-at-end layout view j fits has (λ fails. subst (λ (w : Who). failures w view ≡ failed_now j) (sym own) (account.failed fails)))
+
+-- a command that is answered owes no loss: one that may make some owes none by then, and the others make none
+no-loss : (layout : Layout) (view : View) (who : Who) (j : Job) (a : Answer) → jobs.Fits layout view j → jobs.answer j ≡ Some a → jobs.who j ≡ who → HasAccount view who j → length view.owed.losses ≡ 0
+no-loss layout view who j a fits has own account = elim (paid-at-end layout view j fits has) [
+  | inl paid ↦ ap length paid
+  | inr none ↦ let made : losses_by who view ≡ 0 = unfailed-lossless view who (failed-end layout view who j a fits has own account ∙ none) in let owes : length view.owed.losses ≤ losses_by who view = account.losses in omega (arith, owes, made)
+]
+
+-- nothing is owed
+pub owes-nothing : (layout : Layout) (view : View) (who : Who) (j : Job) (a : Answer) → jobs.Fits layout view j → jobs.answer j ≡ Some a → jobs.who j ≡ who → HasAccount view who j → view.owed ≡ no_debts
+owes-nothing layout view who j a fits has own account =
+    let none : counts_owed view ≡ 0 = account.counted ∙ unowed-at-end j has in
+    λ t. record { counts = counts none t; hardware = hardware none t; uncounts = uncounts none t; losses = nil_from_length view.owed.losses (no-loss layout view who j a fits has own account) t }
+  where
+    counts : view.owed.counts + view.owed.hardware + view.owed.uncounts ≡ 0 → view.owed.counts ≡ 0
+    counts none = omega (arith, none)
+
+    hardware : view.owed.counts + view.owed.hardware + view.owed.uncounts ≡ 0 → view.owed.hardware ≡ 0
+    hardware none = omega (arith, none)
+
+    uncounts : view.owed.counts + view.owed.hardware + view.owed.uncounts ≡ 0 → view.owed.uncounts ≡ 0
+    uncounts none = omega (arith, none)
+
+-- ---- when a command begins
+
+pub account-starts : (view : View) (cpu : Cpu) (n : ℕ) (j : Job) → IsListed view cpu n → HasMadeNone view (at_number cpu n) → view.owed ≡ no_debts → IsAtStop j → HasAccount view (at_number cpu n) j
+account-starts view cpu n j listed made owed start = record {
+  marked = none-listed (λ (m : Mark). m.stamp.who) marking_of (is_same (at_number cpu n)) view.marks (λ i m at. later-one cpu n m.stamp.who (listed.marked i m at)) ∙ sym (unmarked-at-start j start);
+  failed = λ fails. ap (filter_map abandoned.failed_in) made ∙ sym (unfailed-at-start j start);
+  taken = none-listed (λ (r : Reported). r.stamp.who) (λ (r : Reported). (r.file, r.count)) (is_same (at_number cpu n)) view.reported (λ i r at. later-one cpu n r.stamp.who (listed.taken i r at)) ∙ sym (untaken-at-start j start);
+  set = none-listed (λ (x : Setting). x.stamp.who) (λ (x : Setting). (x.thread, x.policy)) (is_same (at_number cpu n)) view.settings (λ i x at. later-one cpu n x.stamp.who (listed.set i x at)) ∙ sym (unset-policies-at-start j start);
+  counted = ap (λ d. d.counts + d.hardware + d.uncounts) owed ∙ sym (unowed-at-start j start);
+  losses = let none : length view.owed.losses ≡ 0 = ap (λ d. length d.losses) owed in omega (arith, none);
+}
+
+pub noted-starts : (view : View) (cpu : Cpu) (rows : List Row) (j : Job) → IsListed view cpu (length rows) → IsAtStop j → Pairs IsNote (notes_from cpu 0 rows) view.marks → AreNoted view cpu rows j
+noted-starts view cpu rows j listed start noted = record {
+  earlier = view.marks;
+  last = [];
+  all = sym (append-nil view.marks);
+  noted = noted;
+  before = listed.marked;
+  own = λ i m at. absurd (none-some m at);
+  marked = sym (unmarked-at-start j start);
+}

@@ -1,0 +1,103 @@
+-- At opening a processor fits: it has made no step, and its first command begins.
+use Rattle.std.proofs.Common.{◌≡◌, ℕ, zero, suc, ◌<◌, ◌≤◌, inl, List, [], ◌∷◌, Option, Some, None, length, slice_get, refl, sym, subst, arith}
+use Rattle.std.proofs.lemmas.Option.{none-some, same_Some, slice_get_within}
+use Rattle.hwp_geom.specs.declared.Cpu.{Cpu}
+use Rattle.hwp_geom.specs.declared.Layout.{Layout}
+use Rattle.hwp_geom.specs.Limits.{command_limit}
+use Rattle.hwp_script_lines.specs.declared.Command.{Command}
+use Rattle.hwp_core_rule.specs.declared.Part.{Part}
+use Rattle.hwp_core_rule.specs.declared.View.{View}
+use Rattle.hwp_core_rule.specs.Opening.{opening_view}
+use Rattle.hwp_core_task.specs.Calls.{IsOnTurn}
+use Rattle.hwp_cpu_command.specs.declared.job.Job.{Job}
+use Rattle.hwp_cpu_command.specs.Begins.{Begins}
+use Rattle.hwp_cpu_command.specs.Jobs.{banks_before, left_in}
+use Rattle.hwp_cpu_command.specs.Stays.{IsAtStop, KnowsPolicies}
+use Rattle.hwp_cpu_command_laws.proofs.CommandRuns.{before-begins, begins-fits, begins-runs}
+use Rattle.hwp_cpu_command_laws.proofs.PolicyKeeps.{left, policies-first}
+use Rattle.hwp_cpu_command_laws.proofs.CommandStops.{begins-stop}
+use Rattle.hwp_cpu_check.specs.hwp_law.Checks.{Banks, empty_banks}
+use Rattle.hwp_cpu_check.specs.hwp_law.Policies.{settings}
+use Rattle.hwp_cpu_causes.specs.hwp_law_holds.Served.{AreRowsServed}
+use Rattle.hwp_cpu_causes.proofs.of_hwp_law_holds.lines.ScrubBank.{empty-free}
+use Rattle.hwp_cpu.specs.Processors.{BeginsAt, at_number, left_of}
+use Rattle.hwp_cpu.specs.Serving.{FitsAt, IsDone, IsListed, IsRunning, Serves}
+use Rattle.hwp_cpu.proofs.Rows.{past-end}
+use Rattle.hwp_cpu.proofs.ProcessorNotes.{account-starts, noted-starts}
+use Rattle.hwp_cpu.proofs.Revivals.{revival-left}
+
+module _ (layout : Layout) (cpu : Cpu) (list : List Command) (few : length list ≤ command_limit) where
+  abbrev view : View
+  view = opening_view cpu.0
+
+  first-part : (i : ℕ) (p : Part) → slice_get view.parts i ≡ Some p → p.latest ≤ 0
+  first-part zero p there = subst (λ (x : Part). x.latest ≤ 0) (same_Some _ p there) (omega arith)
+  first-part (suc i) p there = absurd (none-some p there)
+
+  first-turn : IsOnTurn view (at_number cpu 0)
+  first-turn = record {
+    turn = record { part = (0, record { cpu = record { 0 = cpu.0 }; latest = 0 }, refl, (refl, omega arith)) };
+    begins = λ i p there same less. refl;
+    later = λ i p there same. first-part i p there;
+  }
+
+  -- nothing is listed
+  listed : (n : ℕ) → IsListed view cpu n
+  listed n = record { marked = λ i m at. absurd (none-some m at); taken = λ i r at. absurd (none-some r at); set = λ i s at. absurd (none-some s at) }
+
+  -- none is answered, so the banks are as at first
+  serves : (banks : Banks) → banks ≡ empty_banks → Serves layout view cpu list [] banks
+  serves banks none = record {
+    rows_are = by list;
+    stays = λ i j row later less first second stopped. absurd (none-some _ first);
+    halted = λ some. absurd (none-some _ some.2);
+  }
+    where
+      by : (l : List Command) → AreRowsServed layout list view cpu 0 empty_banks l [] banks
+      by [] = none
+      by (c ∷ cs) = none
+
+  running : (command : Command) (j : Job) → slice_get list 0 ≡ Some command → Begins layout (at_number cpu 0) command empty_banks j → IsRunning layout view cpu list [] (left_in j empty_banks) j
+  running command j there begins = record {
+    serves = serves (banks_before j (left_in j empty_banks)) (before-begins layout (at_number cpu 0) command empty_banks j begins);
+    command = command;
+    there = there;
+    runs = begins-runs layout (at_number cpu 0) command empty_banks j begins;
+    fits = begins-fits layout view (at_number cpu 0) command empty_banks j begins empty-free (record { on_turn = first-turn; hand_is = refl; paid = refl; made = refl; unmarked = refl; left = left know start (let within : 0 < length list = slice_get_within list 0 command there in omega (arith, few, within)); revivals = revival-left view cpu [] tt (omega arith) });
+    policies = know;
+    stopped = λ some. inl start;
+    stops = λ i who at. absurd (none-some who at);
+    listed = listed 1;
+    account = account-starts view cpu 0 j (listed 0) refl refl start;
+    noted = noted-starts view cpu [] j (listed 0) start tt;
+    spoiled = λ i s at. absurd (none-some s at);
+  }
+    where
+      start : IsAtStop j
+      start = begins-stop layout (at_number cpu 0) command empty_banks j begins
+
+      know : KnowsPolicies layout list view (at_number cpu 0) j
+      know = policies-first layout list view (at_number cpu 0) j refl refl start
+
+  done : slice_get list 0 ≡ None → IsDone layout view cpu list [] empty_banks
+  done none = record {
+    serves = serves empty_banks refl;
+    all = sym (let most : length list ≤ 0 = past-end list 0 none in omega arith);
+    made = λ k past. refl;
+    hand_is = refl;
+    owed = refl;
+    stops = λ i who at. absurd (none-some who at);
+    listed = listed (length list);
+    noted = tt;
+    spoiled = λ i s at. absurd (none-some s at);
+    policies = λ thread. (settings thread list, refl);
+  }
+
+  pub begun : (x : Option Job) → BeginsAt layout (at_number cpu 0) (slice_get list 0) empty_banks x → FitsAt layout view cpu list [] (left_of x empty_banks) x
+  begun x begins = which (slice_get list 0) refl x begins
+    where
+      which : (o : Option Command) → slice_get list 0 ≡ o → (y : Option Job) → BeginsAt layout (at_number cpu 0) o empty_banks y → FitsAt layout view cpu list [] (left_of y empty_banks) y
+      which (Some command) there (Some j) at = running command j there at
+      which None there None at = done there
+      which (Some command) there None at = absurd at
+      which None there (Some j) at = absurd at

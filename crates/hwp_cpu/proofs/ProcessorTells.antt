@@ -1,0 +1,39 @@
+-- The class of a processor tells what it holds.
+use Rattle.std.proofs.Common.{◌≡◌, ◌≢◌, ℕ, ◌≤◌, Option, Some, None}
+use Rattle.std.proofs.lemmas.Option.{none-some}
+use Rattle.hwp_geom.specs.declared.Frame.{Frame}
+use Rattle.hwp_geom.specs.declared.Layout.{Layout}
+use Rattle.hwp_core_rule.specs.declared.View.{View}
+use Rattle.hwp_core_task.specs.Classes.{TellsClass}
+use Rattle.hwp_core_task.specs.Ranks.{HasFrame, HasPage}
+use Rattle.hwp_cpu_command.proofs.of_hwp_cpu_control.EmptyHands.{no-frame, no-page}
+use Rattle.hwp_cpu_command.specs.declared.job.Job.{Job}
+use Rattle.hwp_cpu_command.proofs.JobLaws as jobbing
+use Rattle.hwp_cpu.specs.declared.processor.Processor.{Processor}
+use Rattle.hwp_cpu.specs.Processors.{claims, claims_of, class, class_of, plan, plan_of}
+use Rattle.hwp_cpu.specs.Serving.{Fits, FitsAt}
+use Rattle.hwp_cpu.proofs.ProcessorCosts.{the-member}
+
+pub tells : TellsClass the-member
+tells = record { frame = frame; page = page; claim = claim }
+  where
+    frame : (layout : Layout) (view : View) (p : Processor) → Fits layout view p → HasFrame view → (class p ≡ 1) × (plan p ≢ None)
+    frame layout view p fits has = which p.job fits.at
+      where
+        which : (x : Option Job) → FitsAt layout view p.cpu p.commands p.rows.items p.banks x → (class_of x ≡ 1) × (plan_of x ≢ None)
+        which (Some j) at = jobbing.tells.frame layout view j at.fits has
+        which None at = absurd (no-frame view at.hand_is has)
+
+    page : (layout : Layout) (view : View) (p : Processor) → Fits layout view p → HasPage view → (class p ≤ 2) × (plan p ≢ None)
+    page layout view p fits has = which p.job fits.at
+      where
+        which : (x : Option Job) → FitsAt layout view p.cpu p.commands p.rows.items p.banks x → (class_of x ≤ 2) × (plan_of x ≢ None)
+        which (Some j) at = jobbing.tells.page layout view j at.fits has
+        which None at = absurd (no-page view at.hand_is has)
+
+    claim : (layout : Layout) (view : View) (p : Processor) (f : Frame) (cycle : ℕ) → Fits layout view p → claims p ≡ Some (f, cycle) → (class p ≤ 3) × (plan p ≢ None)
+    claim layout view p f cycle fits has = which p.job fits.at has
+      where
+        which : (x : Option Job) → FitsAt layout view p.cpu p.commands p.rows.items p.banks x → claims_of x ≡ Some (f, cycle) → (class_of x ≤ 3) × (plan_of x ≢ None)
+        which (Some j) at is = jobbing.tells.claim layout view j f cycle at.fits is
+        which None at is = absurd (none-some (f, cycle) is)

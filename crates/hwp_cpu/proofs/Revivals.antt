@@ -1,0 +1,111 @@
+-- A command takes poison back once at most, so a processor can do it with each of its commands.
+use Rattle.std.proofs.Common.{◌≡◌, ℕ, ◌+◌, ◌<◌, ◌≤◌, ◌==◌, ◌&&◌, Bool, true, false, not, List, [], ◌∷◌, ◌++◌, Option, Some, None, length, filter_map, ap, ◌∙◌, refl, arith}
+use Rattle.std.proofs.lemmas.List.Sums.{sum_by-append, sum_by-cons}
+use Rattle.std.specs.Int.{from_bool}
+use Rattle.std.specs.List.{cons_option, sum_by}
+use Rattle.hwp_geom.specs.declared.Cpu.{Cpu}
+use Rattle.hwp_geom.specs.declared.Who.{Who}
+use Rattle.hwp_geom.specs.Limits.{command_limit}
+use Rattle.hwp_geom.specs.Pairs.{Pairs}
+use Rattle.hwp_cpu_check.specs.declared.Found.{Found}
+use Rattle.hwp_cpu_check.specs.declared.EventOutcome.{EventOutcome}
+use Rattle.hwp_cpu_check.specs.Told.{frame_of}
+use Rattle.hwp_cpu_check.specs.hwp_law.Records.{is_poisoning}
+use Rattle.hwp_report_text.specs.declared.MarkLine.{MarkLine}
+use Rattle.hwp_core_rule.specs.declared.Mark.{Mark}
+use Rattle.hwp_core_rule.specs.declared.MarkKind.{MarkKind}
+use Rattle.hwp_core_rule.specs.declared.MarkKind.TheVariants as mark_kinds
+use Rattle.hwp_core_rule.specs.declared.View.{View}
+use Rattle.hwp_core_rule.specs.parts.Counter.{is_revival}
+use Rattle.hwp_core_rule.specs.parts.Marks.{revivals_by}
+use Rattle.hwp_cpu_row.specs.declared.FrameChange.{FrameChange}
+use Rattle.hwp_cpu_row.specs.declared.FrameChange.TheVariants as owns
+use Rattle.hwp_cpu_row.specs.declared.Row.{Row}
+use Rattle.hwp_cpu_causes.specs.hwp_law_holds.Accounts.{IsLineOf, IsNote}
+use Rattle.hwp_cpu_causes.specs.hwp_law_holds.Rows.{Note, note_by, note_of, notes_from, own_note, row_notes, told_note}
+use Rattle.hwp_cpu_command.specs.hwp_soft_unpoison.Unpoisons.{HasRevivalLeft}
+use Rattle.hwp_cpu.specs.Processors.{at_number}
+
+-- 1 for the note of a poison that was taken back, else 0
+abbrev taken_back : Note → ℕ
+taken_back n = from_bool (not (is_poisoning n.1))
+
+-- each mark of that kind has such a note
+mark-taken : (cpu : Cpu) (n : Note) (m : Mark) → IsNote n m → from_bool ((m.stamp.who.cpu.0 == cpu.0) && is_revival m.kind) ≤ taken_back n
+mark-taken cpu n m note = which note.kind note.kind_is note.line
+  where
+    bit : (c : Bool) → from_bool c ≤ 1
+    bit true = omega arith
+    bit false = omega arith
+
+    none : (c : Bool) → from_bool (c && false) ≡ 0
+    none true = refl
+    none false = refl
+
+    which : (kind : MarkKind) → m.kind ≡ kind → IsLineOf kind m n.1 → from_bool ((m.stamp.who.cpu.0 == cpu.0) && is_revival m.kind) ≤ taken_back n
+    which (mark_kinds.Poisoned hardware) is line =
+        let zero : from_bool ((m.stamp.who.cpu.0 == cpu.0) && is_revival m.kind) ≡ 0 = ap (λ (k : MarkKind). from_bool ((m.stamp.who.cpu.0 == cpu.0) && is_revival k)) is ∙ none (m.stamp.who.cpu.0 == cpu.0) in
+        omega (arith, zero)
+    which mark_kinds.Revived is line =
+        let one : taken_back n ≡ 1 = ap (λ (l : MarkLine). from_bool (not (is_poisoning l))) line in
+        let most : from_bool ((m.stamp.who.cpu.0 == cpu.0) && is_revival m.kind) ≤ 1 = bit ((m.stamp.who.cpu.0 == cpu.0) && is_revival m.kind) in
+        omega (arith, one, most)
+
+marks-taken : (cpu : Cpu) (ns : List Note) (ms : List Mark) → Pairs IsNote ns ms → revivals_by cpu ms ≤ sum_by taken_back ns
+marks-taken cpu [] [] pairs = omega arith
+marks-taken cpu [] (m ∷ ms) pairs = absurd pairs
+marks-taken cpu (n ∷ ns) [] pairs = absurd pairs
+marks-taken cpu (n ∷ ns) (m ∷ ms) pairs =
+    let marks : revivals_by cpu (m ∷ ms) ≡ from_bool ((m.stamp.who.cpu.0 == cpu.0) && is_revival m.kind) + revivals_by cpu ms = sum_by-cons (λ (x : Mark). from_bool ((x.stamp.who.cpu.0 == cpu.0) && is_revival x.kind)) m ms in
+    let notes : sum_by taken_back (n ∷ ns) ≡ taken_back n + sum_by taken_back ns = sum_by-cons taken_back n ns in
+    let first : from_bool ((m.stamp.who.cpu.0 == cpu.0) && is_revival m.kind) ≤ taken_back n = mark-taken cpu n m pairs.0 in
+    let rest : revivals_by cpu ms ≤ sum_by taken_back ns = marks-taken cpu ns ms pairs.1 in
+    omega (arith, marks, notes, first, rest)
+
+-- what a command told of machine checks takes no poison back
+told-none : (who : Who) (told : List EventOutcome) → sum_by taken_back (filter_map (told_note who) told) ≡ 0
+told-none who [] = refl
+told-none who (t ∷ ts) = which t.found (told-none who ts)
+  where
+    which : (found : Option Found) → sum_by taken_back (filter_map (told_note who) ts) ≡ 0 → sum_by taken_back (filter_map (told_note who) (record t { found = found } ∷ ts)) ≡ 0
+    which None rest = rest
+    which (Some found) rest =
+        let one : sum_by taken_back (filter_map (told_note who) (record t { found = Some found } ∷ ts)) ≡ 0 + sum_by taken_back (filter_map (told_note who) ts) = sum_by-cons taken_back (note_of who true (frame_of t.held) found) (filter_map (told_note who) ts) in
+        let none : sum_by taken_back (filter_map (told_note who) ts) ≡ 0 = rest in
+        omega (arith, one, none)
+
+own-few : (who : Who) (own : Option FrameChange) → sum_by taken_back (cons_option (own_note who own) []) ≤ 1
+own-few who None = omega arith
+own-few who (Some own) =
+    let one : sum_by taken_back (note_by who own ∷ []) ≡ taken_back (note_by who own) + 0 = sum_by-cons taken_back (note_by who own) [] in
+    let most : taken_back (note_by who own) ≤ 1 = which own in
+    omega (arith, one, most)
+  where
+    which : (o : FrameChange) → taken_back (note_by who o) ≤ 1
+    which (owns.Failed frame found) = omega arith
+    which (owns.Offlined frame cycle moved) = omega arith
+    which (owns.Revived frame cycle) = omega arith
+
+row-few : (who : Who) (row : Row) → sum_by taken_back (row_notes who row) ≤ 1
+row-few who row =
+    let both : sum_by taken_back (row_notes who row) ≡ sum_by taken_back (filter_map (told_note who) row.told) + sum_by taken_back (cons_option (own_note who row.own) []) =
+    sum_by-append taken_back (filter_map (told_note who) row.told) (cons_option (own_note who row.own) []) in
+    let none : sum_by taken_back (filter_map (told_note who) row.told) ≡ 0 = told-none who row.told in
+    let few : sum_by taken_back (cons_option (own_note who row.own) []) ≤ 1 = own-few who row.own in
+    omega (arith, both, none, few)
+
+rows-few : (cpu : Cpu) (n : ℕ) (rows : List Row) → sum_by taken_back (notes_from cpu n rows) ≤ length rows
+rows-few cpu n [] = omega arith
+rows-few cpu n (row ∷ rows) =
+    let both : sum_by taken_back (row_notes (at_number cpu n) row ++ notes_from cpu (n + 1) rows) ≡ sum_by taken_back (row_notes (at_number cpu n) row) + sum_by taken_back (notes_from cpu (n + 1) rows) =
+    sum_by-append taken_back (row_notes (at_number cpu n) row) (notes_from cpu (n + 1) rows) in
+    let first : sum_by taken_back (row_notes (at_number cpu n) row) ≤ 1 = row-few (at_number cpu n) row in
+    let rest : sum_by taken_back (notes_from cpu (n + 1) rows) ≤ length rows = rows-few cpu (n + 1) rows in
+    omega (arith, both, first, rest)
+
+-- where all marks are noted, and fewer commands answered than a processor may have, it can take a poison back
+pub revival-left : (view : View) (cpu : Cpu) (rows : List Row) → Pairs IsNote (notes_from cpu 0 rows) view.marks → length rows < command_limit → HasRevivalLeft cpu view
+revival-left view cpu rows noted within =
+    let marks : revivals_by cpu view.marks ≤ sum_by taken_back (notes_from cpu 0 rows) = marks-taken cpu (notes_from cpu 0 rows) view.marks noted in
+    let few : sum_by taken_back (notes_from cpu 0 rows) ≤ length rows = rows-few cpu 0 rows in
+    omega (arith, marks, few, within)

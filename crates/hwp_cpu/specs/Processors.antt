@@ -1,0 +1,148 @@
+-- The commands of one processor as one task: in all that it plans, shows and needs it is the command that runs, until that is
+-- answered; then the next one begins.
+use Rattle.std.specs.Prelude.{◌≡◌, ℕ, ◌+◌, ◌-◌, ◌*◌, ◌<◌, ◌≤◌, Bool, false, List, [], ◌∷◌, ◌++◌, Option, Some, None, All, length, option_map, slice_get, vec_capacity}
+use Rattle.std.specs.Arc.{arc_value}
+use Rattle.hwp_geom.specs.declared.Cpu.{Cpu}
+use Rattle.hwp_geom.specs.declared.Frame.{Frame}
+use Rattle.hwp_geom.specs.declared.Layout.{Layout}
+use Rattle.hwp_geom.specs.declared.Who.{Who}
+use Rattle.hwp_geom.specs.Layout.{IsSound}
+use Rattle.hwp_geom.specs.Limits.{command_limit}
+use Rattle.hwp_page.specs.History.{BodyValue}
+use Rattle.hwp_script_lines.specs.declared.Command.{Command}
+use Rattle.hwp_cpu_check.specs.hwp_script_read.Valid.{IsCommandOf}
+use Rattle.hwp_report_text.specs.declared.Answer.{Answer}
+use Rattle.hwp_core_rule.specs.declared.Step.{Step}
+use Rattle.hwp_core_rule.specs.Words.{Words}
+use Rattle.hwp_core_task.specs.declared.Turn.{Turn}
+use Rattle.hwp_core_task.specs.declared.Turn.TheVariants as turns
+use Rattle.hwp_cpu_command.specs.declared.Job.{Job}
+use Rattle.hwp_cpu_command.specs.Begins.{Begins}
+use Rattle.hwp_cpu_command.specs.Jobs as jobs
+use Rattle.hwp_cpu_command.specs.Jobs.{banks_after, left_in, row_of}
+use Rattle.hwp_cpu_check.specs.hwp_law.Checks.{Banks, empty_banks}
+use Rattle.hwp_cpu.specs.declared.processor.Processor.{Processor}
+
+-- the command of this number of the processor
+abbrev pub at_number : Cpu → ℕ → Who
+at_number cpu n = record { cpu = cpu; seq = n }
+
+-- commands of the processor, which name what the layout declares, no more than a script has
+pub record AreCommands (layout : Layout) (cpu : Cpu) (list : List Command) : Type 0 where
+  pub named : All (IsCommandOf layout cpu.0) list
+  pub few : length list ≤ command_limit
+
+-- the processor can run its commands, and has memory for a row of each
+pub record IsReady (p : Processor) : Type 0 where
+  pub sound : IsSound (arc_value p.layout)
+  pub commands : AreCommands (arc_value p.layout) p.cpu p.commands
+  pub room : length p.commands ≤ vec_capacity p.rows
+
+-- the command is at its beginning, where the banks of the processor hold this; past the last command none runs
+abbrev pub BeginsAt : Layout → Who → Option Command → Banks → Option Job → Type 0
+BeginsAt layout who (Some command) banks (Some j) = Begins layout who command banks j
+BeginsAt layout who None banks None = Unit {0}
+BeginsAt layout who _ banks _ = ⊥
+
+-- what the banks hold when it has begun: some commands take that
+abbrev pub left_of : Option Job → Banks → Banks
+left_of (Some j) banks = left_in j banks
+left_of None banks = banks
+
+-- the processor is at the beginning of its first command, and has answered none; its banks held nothing
+pub record AtBeginning (layout : Layout) (cpu : Cpu) (list : List Command) (p : Processor) : Type 0 where
+  pub layout_is : arc_value p.layout ≡ layout
+  pub cpu_is : p.cpu ≡ cpu
+  pub commands_are : p.commands ≡ list
+  pub ready : IsReady p
+  pub no_row : p.rows.items ≡ []
+  pub begins : BeginsAt layout (at_number cpu 0) (slice_get list 0) empty_banks p.job
+  pub banks_are : p.banks ≡ left_of p.job empty_banks
+
+-- ---- the command that runs
+
+abbrev pub who_of : Cpu → Option Job → Who
+who_of cpu (Some j) = jobs.who j
+who_of cpu None = at_number cpu 0
+
+abbrev pub who : Processor → Who
+who p = who_of p.cpu p.job
+
+abbrev pub plan_of : Option Job → Option Step
+plan_of (Some j) = jobs.plan j
+plan_of None = None
+
+abbrev pub plan : Processor → Option Step
+plan p = plan_of p.job
+
+abbrev pub put_of : Option Job → Option BodyValue
+put_of (Some j) = jobs.put j
+put_of None = None
+
+abbrev pub put : Processor → Option BodyValue
+put p = put_of p.job
+
+abbrev pub bare : Processor → Processor
+bare p = record p { job = option_map jobs.bare p.job }
+
+abbrev pub class_of : Option Job → ℕ
+class_of (Some j) = jobs.class j
+class_of None = 4
+
+abbrev pub class : Processor → ℕ
+class p = class_of p.job
+
+abbrev pub cost_of : Option Job → Words → ℕ
+cost_of (Some j) words = jobs.cost j words
+cost_of None words = 0
+
+-- what the command that runs claims, and whether it gives up what it has begun
+abbrev pub claims_of : Option Job → Option (Frame × ℕ)
+claims_of (Some j) = jobs.claims j
+claims_of None = None
+
+abbrev pub claims : Processor → Option (Frame × ℕ)
+claims p = claims_of p.job
+
+abbrev pub aborts_of : Option Job → Bool
+aborts_of (Some j) = jobs.aborts j
+aborts_of None = false
+
+abbrev pub aborts : Processor → Bool
+aborts p = aborts_of p.job
+
+-- each command that isn't answered costs more than all turns of one, and the one that runs its turns beside
+abbrev pub cost : Processor → Words → ℕ
+cost p words = 131072 * (length p.commands - length p.rows.items) + cost_of p.job words
+
+-- ---- what a turn comes to
+
+-- what the command shows, where there is a command that can be answered
+abbrev pub ShowsOf : Processor → Option Job → ℕ → Option BodyValue → Type 0
+ShowsOf p (Some j) found got = jobs.Shows j found got × IsReady p × (length p.rows.items < length p.commands)
+ShowsOf p None found got = Unit {0}
+
+abbrev pub Shows : Processor → ℕ → Option BodyValue → Type 0
+Shows p found got = ShowsOf p p.job found got
+
+-- the command that ran is answered so, its row is the last one, and the next command begins with what it left in the banks
+pub record IsAnswered (p : Processor) (j : Job) (answer : Answer) (after : Processor) : Type 0 where
+  pub layout_is : arc_value after.layout ≡ arc_value p.layout
+  pub cpu_is : after.cpu ≡ p.cpu
+  pub commands_are : after.commands ≡ p.commands
+  pub rows_are : after.rows.items ≡ p.rows.items ++ row_of j answer ∷ []
+  pub room : vec_capacity after.rows ≡ vec_capacity p.rows
+  pub begins : BeginsAt (arc_value p.layout) (at_number p.cpu (length p.rows.items + 1)) (slice_get p.commands (length p.rows.items + 1)) (banks_after j p.banks) after.job
+  pub banks_are : after.banks ≡ left_of after.job (banks_after j p.banks)
+
+-- the turn is that of the command, until the command has its answer
+abbrev pub Follows : Processor → Job → Option Answer → Turn → Processor → Turn → Type 0
+Follows p j None t after turn = (after ≡ record p { job = Some j }) × (turn ≡ t)
+Follows p j (Some answer) t after turn = IsAnswered p j answer after × (turn ≡ turns.Answered)
+
+abbrev pub NextOf : Layout → Processor → Option Job → ℕ → Option BodyValue → Processor → Turn → Type 0
+NextOf layout p (Some j) found got after turn = (k : Job) × (t : Turn) × jobs.Next layout j found got k t × Follows p k (jobs.answer k) t after turn
+NextOf layout p None found got after turn = (after ≡ p) × (turn ≡ turns.Moved)
+
+abbrev pub Next : Layout → Processor → ℕ → Option BodyValue → Processor → Turn → Type 0
+Next layout p found got after turn = NextOf layout p p.job found got after turn

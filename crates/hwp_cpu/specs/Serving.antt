@@ -1,0 +1,117 @@
+-- What a processor keeps while it runs its commands.
+use Rattle.std.specs.Prelude.{◌≡◌, ℕ, ◌+◌, ◌≤◌, ◌⊎◌, true, List, ◌++◌, Option, Some, None, length, map, slice_get}
+use Rattle.std.specs.Arc.{arc_value}
+use Rattle.hwp_geom.specs.declared.Cpu.{Cpu}
+use Rattle.hwp_geom.specs.declared.Layout.{Layout}
+use Rattle.hwp_geom.specs.declared.Thread.{Thread}
+use Rattle.hwp_geom.specs.declared.Who.{Who}
+use Rattle.hwp_geom.specs.Pairs.{Pairs}
+use Rattle.hwp_script_lines.specs.declared.Command.{Command}
+use Rattle.hwp_report_text.specs.declared.Answer.TheVariants as answers
+use Rattle.hwp_core_rule.specs.declared.Mark.{Mark}
+use Rattle.hwp_core_rule.specs.declared.Reported.{Reported}
+use Rattle.hwp_core_rule.specs.declared.Setting.{Setting}
+use Rattle.hwp_core_rule.specs.declared.Spoiled.{Spoiled}
+use Rattle.hwp_core_rule.specs.declared.View.{View}
+use Rattle.hwp_core_rule.specs.Lists.{EachMember, StartsWith}
+use Rattle.hwp_core_rule.specs.Views.{no_debts}
+use Rattle.hwp_core_task.specs.Hands.{hand_of, empty}
+use Rattle.hwp_core_task.specs.Known.{HasMadeNone}
+use Rattle.hwp_cpu_check.specs.hwp_claim_frame.Done.{marking_of}
+use Rattle.hwp_cpu_row.specs.declared.Row.{Row}
+use Rattle.hwp_cpu_check.specs.hwp_law.Checks.{Banks, empty_banks}
+use Rattle.hwp_cpu_check.specs.hwp_law.Policies.{settings}
+use Rattle.hwp_cpu_command.specs.declared.job.Job.{Job}
+use Rattle.hwp_cpu_command.specs.Done.{HasCounted, can_fail, failed_now, marked_now, policies_now, taken_now}
+use Rattle.hwp_cpu_command.specs.Jobs as jobs
+use Rattle.hwp_cpu_command.specs.Jobs.{banks_before}
+use Rattle.hwp_cpu_command.specs.Runs.{Runs}
+use Rattle.hwp_cpu_command.specs.Settings.{policies_in}
+use Rattle.hwp_cpu_command.specs.Stays as stays
+use Rattle.hwp_cpu_command.specs.Stays.{EndsStopped, HasSpoiled, IsHalted, KnowsPolicies}
+use Rattle.hwp_cpu_causes.specs.hwp_law_holds.Accounts.{IsNote, failures, losses_taken, markings, policies_set}
+use Rattle.hwp_cpu_causes.specs.hwp_law_holds.Owed.{OwesOwn}
+use Rattle.hwp_cpu_causes.specs.hwp_law_holds.Rows.{notes_from}
+use Rattle.hwp_cpu_causes.specs.hwp_law_holds.Served.{AreRowsServed, IsOneOf, IsOwnSpoil, IsOwnStop, StaysStopped}
+use Rattle.hwp_cpu.specs.declared.processor.Processor.{Processor}
+use Rattle.hwp_cpu.specs.Processors.{IsReady, at_number}
+
+-- some command was answered `stopped`
+abbrev pub HasStopped : List Row → Type 0
+HasStopped rows = (i : ℕ) × (row : Row) × (slice_get rows i ≡ Some row) × (row.answer ≡ answers.Stopped)
+
+-- what the processor's view lists of marks, losses taken and policies is of its first n commands
+pub record IsListed (view : View) (cpu : Cpu) (n : ℕ) : Type 0 where
+  pub marked : EachMember (λ (m : Mark). IsOneOf cpu n m.stamp.who) view.marks
+  pub taken : EachMember (λ (r : Reported). IsOneOf cpu n r.stamp.who) view.reported
+  pub set : EachMember (λ (s : Setting). IsOneOf cpu n s.stamp.who) view.settings
+
+-- what it lists of the command that runs is what that has done so far
+pub record HasAccount (view : View) (who : Who) (j : Job) : Type 0 where
+  pub marked : markings who view ≡ marked_now j
+  pub failed : can_fail j ≡ true → failures who view ≡ failed_now j
+  pub taken : losses_taken who view ≡ taken_now j
+  pub set : policies_set who view ≡ policies_now j
+  pub counted : HasCounted j view
+  pub losses : OwesOwn who view
+
+-- the marks of commands that are answered are noted; the others are those of the command that runs
+pub record AreNoted (view : View) (cpu : Cpu) (rows : List Row) (j : Job) : Type 0 where
+  pub earlier : List Mark
+  pub last : List Mark
+  pub all : view.marks ≡ earlier ++ last
+  pub noted : Pairs IsNote (notes_from cpu 0 rows) earlier
+  pub before : EachMember (λ (m : Mark). IsOneOf cpu (length rows) m.stamp.who) earlier
+  pub own : EachMember (λ (m : Mark). m.stamp.who ≡ at_number cpu (length rows)) last
+  pub marked : map marking_of last ≡ marked_now j
+
+-- what holds of the rows so far, which lead from empty banks to these: each is right, and after a `stopped` all are, on a machine
+-- that has stopped
+pub record Serves (layout : Layout) (view : View) (cpu : Cpu) (list : List Command) (rows : List Row) (banks : Banks) : Type 0 where
+  pub rows_are : AreRowsServed layout list view cpu 0 empty_banks list rows banks
+  pub stays : StaysStopped rows
+  pub halted : HasStopped rows → IsHalted view
+
+-- the command that runs has stopped the machine, and no command before it was answered `stopped`
+pub record HasStoppedIt (rows : List Row) (j : Job) (who : Who) : Type 0 where
+  pub has : stays.HasStopped j
+  pub who_is : jobs.who j ≡ who
+  pub first : HasStopped rows → ⊥
+
+-- the command after those that are answered runs, and knows what those left
+pub record IsRunning (layout : Layout) (view : View) (cpu : Cpu) (list : List Command) (rows : List Row) (banks : Banks) (j : Job) : Type 0 where
+  pub serves : Serves layout view cpu list rows (banks_before j banks)
+  pub command : Command
+  pub there : slice_get list (length rows) ≡ Some command
+  pub runs : Runs layout (at_number cpu (length rows)) command j
+  pub fits : jobs.Fits layout view j
+  pub policies : KnowsPolicies layout list view (at_number cpu (length rows)) j
+  pub stopped : HasStopped rows → EndsStopped j
+  pub stops : EachMember (λ (who : Who). IsOwnStop layout cpu list rows who ⊎ HasStoppedIt rows j who) view.stops
+  pub listed : IsListed view cpu (length rows + 1)
+  pub account : HasAccount view (at_number cpu (length rows)) j
+  pub noted : AreNoted view cpu rows j
+  pub spoiled : EachMember (λ (s : Spoiled). IsOwnSpoil cpu list rows s ⊎ HasSpoiled j s) view.spoiled
+
+-- all commands are answered, none past them was begun, and nothing is held or owed
+pub record IsDone (layout : Layout) (view : View) (cpu : Cpu) (list : List Command) (rows : List Row) (banks : Banks) : Type 0 where
+  pub serves : Serves layout view cpu list rows banks
+  pub all : length rows ≡ length list
+  pub made : (k : ℕ) → length list ≤ k → HasMadeNone view (at_number cpu k)
+  pub hand_is : hand_of view ≡ empty
+  pub owed : view.owed ≡ no_debts
+  pub stops : EachMember (IsOwnStop layout cpu list rows) view.stops
+  pub listed : IsListed view cpu (length list)
+  pub noted : Pairs IsNote (notes_from cpu 0 rows) view.marks
+  pub spoiled : EachMember (IsOwnSpoil cpu list rows) view.spoiled
+  pub policies : (thread : Thread) → StartsWith (policies_in thread view) (settings thread list)
+
+abbrev pub FitsAt : Layout → View → Cpu → List Command → List Row → Banks → Option Job → Type 0
+FitsAt layout view cpu list rows banks (Some j) = IsRunning layout view cpu list rows banks j
+FitsAt layout view cpu list rows banks None = IsDone layout view cpu list rows banks
+
+-- the processor is of the machine, and its commands are answered or run
+pub record Fits (layout : Layout) (view : View) (p : Processor) : Type 0 where
+  pub ready : IsReady p
+  pub layout_is : arc_value p.layout ≡ layout
+  pub at : FitsAt layout view p.cpu p.commands p.rows.items p.banks p.job

@@ -1,0 +1,225 @@
+ghost use Rattle.std.specs.Prelude.{◌≡◌, ◌+◌, ◌<◌, ◌≤◌, length, slice_get, None, IsSome, IfOk, OnErr, IsSomeAnd};
+ghost use Rattle.std.specs.Arc.{arc_value};
+ghost use Rattle.hwp_geom.specs.Layout.{IsSound};
+ghost use Rattle.hwp_cpu.specs.Processors.{AreCommands, AtBeginning, BeginsAt, IsAnswered, IsReady, at_number, left_of};
+
+use hwp_banks::{BANKS, Bank};
+use hwp_core_rule::Step;
+use hwp_core_task::{Ranked, Scheduled, Task, Turn};
+use hwp_cpu_check::no_events;
+use hwp_cpu_command::Job;
+use hwp_cpu_row::Row;
+use hwp_geom::{Cpu, Layout, List, OutOfMemory, Who};
+use hwp_page::Body;
+use hwp_report_text::Answer;
+use hwp_script_lines::Command;
+use std::alloc::{AllocError, Global};
+use std::mem;
+use std::sync::Arc;
+
+/// The commands of one processor, which run one after the other. Each comes to a row.
+#[derive(Drop)]
+pub struct Processor {
+    alloc: Global,
+    layout: Arc<Layout, Global>,
+    cpu: Cpu,
+    commands: List<Command>,
+    /// Rows of the answered commands; capacity is reserved for all of them.
+    rows: Vec<Row>,
+    /// What the banks hold, but for those of a command that runs and has taken what they held.
+    banks: [Bank; BANKS],
+    /// The command that runs, whose number is that of the rows; none where all are answered.
+    job: Option<Job>,
+}
+
+impl Processor {
+    /// The processor at the beginning of its first command; its banks hold nothing.
+    pub fn new(
+        alloc: Global,
+        layout: &Arc<Layout, Global>,
+        cpu: Cpu,
+        commands: &[Command],
+    ) -> Result<Processor, OutOfMemory>
+        requires sound { IsSound (arc_value layout.now) }
+        requires commands { AreCommands (arc_value layout.now) cpu commands.now }
+        ensures { IfOk result (λ p. AtBeginning (arc_value layout.now) cpu commands.now p) }
+    {
+        let layout = layout.clone()?;
+        let list = List::from_vec(Vec::from_slice(alloc, commands)?);
+        let rows = Vec::with_capacity(alloc, commands.len())?;
+        let mut banks = no_events();
+        let job = begin(alloc, &layout, cpu, commands, 0, &mut banks);
+        Ok(Processor {
+            alloc,
+            layout,
+            cpu,
+            commands: list,
+            rows,
+            banks,
+            job,
+        })
+    }
+
+    /// The rows so far: of the first commands, in order.
+    pub fn rows(&self) -> &[Row]
+        ensures { result.now ≡ self.now.rows.items }
+    {
+        self.rows.as_slice()
+    }
+
+    /// The rows of all commands, in order.
+    ///
+    /// # Errors
+    /// `OutOfMemory` where a command is not answered: of a processor that is over, one that gave up because memory ran out.
+    pub fn finish(self) -> Result<List<Row>, OutOfMemory>
+        ensures all { IfOk result (λ rows. (rows ≡ self.rows.items) × (self.job ≡ None)) }
+        ensures gave_up { OnErr result (IsSome self.job) }
+    {
+        let Processor { rows, job, .. } = self;
+        let gave_up = job.is_some();
+        // here, and not part by part at each exit
+        drop(job);
+        if gave_up {
+            return Err(AllocError);
+        }
+        Ok(List::from_vec(rows))
+    }
+
+    /// The command that runs is answered so: its row is kept, and the next one begins with what it left in the banks.
+    fn answer(&mut self, answer: Answer)
+        requires ready { IsReady self.old }
+        requires running { IsSome self.old.job }
+        requires room { length self.old.rows.items < length self.old.commands }
+        ensures { IsSomeAnd self.old.job (λ j. IsAnswered self.old j answer self.new) }
+    {
+        let Some(job) = self.job.take() else {
+            return;
+        };
+        let row = job.finish(self.alloc, answer, &mut self.banks);
+        let number = self.rows.len();
+        self.rows.push_reserved(row);
+        let commands = self.commands.as_slice();
+        let next = begin(
+            self.alloc,
+            &self.layout,
+            self.cpu,
+            commands,
+            number + 1,
+            &mut self.banks,
+        );
+        // in one call, and not part by part
+        drop(mem::replace(&mut self.job, next));
+    }
+}
+
+/// The command of this number at its beginning; `None` past the last. It takes what the banks hold, if it can add to that.
+fn begin(
+    alloc: Global,
+    layout: &Layout,
+    cpu: Cpu,
+    commands: &[Command],
+    number: usize,
+    banks: &mut [Bank; BANKS],
+) -> Option<Job>
+    requires sound { IsSound layout.now }
+    requires commands { AreCommands layout.now cpu commands.now }
+    requires inside { number ≤ length commands.now }
+    ensures begins { BeginsAt layout.now (at_number cpu number) (slice_get commands.now number) banks.old result }
+    ensures banks { banks.new ≡ left_of result banks.old }
+{
+    let Some(command) = commands.get(number) else {
+        return None;
+    };
+    let who = Who {
+        cpu,
+        seq: number as u32,
+    };
+    Some(Job::new(alloc, layout, who, *command, banks))
+}
+
+impl Task for Processor {
+    ghost use Rattle.hwp_cpu.specs.Processors.{Next, Shows, bare, plan, put, who};
+    ghost use Rattle.hwp_cpu.specs.Serving.{Fits};
+
+    ghost who = { λ p. who p };
+
+    ghost plan = { λ p. plan p };
+
+    ghost put = { λ p. put p };
+
+    ghost bare = { λ p. bare p };
+
+    ghost shows = { λ p found got. Shows p found got };
+
+    ghost next = { λ layout p found got after result. Next layout p found got after result };
+
+    ghost fits = { λ layout view p. Fits layout view p };
+
+    fn who(&self) -> Who {
+        match &self.job {
+            Some(job) => job.who(),
+            None => Who {
+                cpu: self.cpu,
+                seq: 0,
+            },
+        }
+    }
+
+    fn plan(&self) -> Option<Step> {
+        match &self.job {
+            Some(job) => job.plan(),
+            None => None,
+        }
+    }
+
+    fn give(&mut self) -> Option<Body> {
+        match &mut self.job {
+            Some(job) => job.give(),
+            None => None,
+        }
+    }
+
+    fn settle(&mut self, layout: &Layout, found: u64, body: Option<Body>) -> Turn {
+        let Some(job) = &mut self.job else {
+            return Turn::Moved;
+        };
+        let turn = job.settle(layout, found, body);
+        let Some(answer) = job.answer() else {
+            return turn;
+        };
+        self.answer(answer);
+        Turn::Answered
+    }
+}
+
+impl Ranked for Processor {
+    ghost use Rattle.hwp_cpu.specs.Processors.{aborts, claims, class, cost};
+
+    ghost class_of = { λ p. class p };
+
+    ghost cost = { λ p words. cost p words };
+
+    ghost aborts = { λ p. aborts p };
+
+    ghost claims = { λ p. claims p };
+
+    fn class(&self) -> u8 {
+        match &self.job {
+            Some(job) => job.class(),
+            None => 4,
+        }
+    }
+
+    fn ranked(&self) {}
+}
+
+impl Scheduled for Processor {
+    fn is_over(&self) -> bool {
+        match &self.job {
+            Some(job) => job.is_over(),
+            None => true,
+        }
+    }
+
+    fn tells(&self) {}
+}

@@ -1,0 +1,11 @@
+pub mod CheckLaws
+pub mod Quiet
+pub mod CommandGrows
+pub mod InstructionLaws
+pub mod InstructionAdds
+pub mod OwnEvents
+pub mod FailureWords
+pub mod InstructionCosts
+pub mod AccessTurns
+pub mod AloneTurns
+pub mod InstructionRank

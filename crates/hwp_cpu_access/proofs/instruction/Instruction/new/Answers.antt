@@ -1,0 +1,13 @@
+use Rattle.hwp_cpu_access.proofs.instruction.Instruction.new.Goals as goal
+
+pub returns : goal.returns
+returns c = λ k. record {
+  alloc = c.args.alloc;
+  request = c.args.request;
+  origin = c.args.origin;
+  mode = c.args.mode;
+  before = record { marker = record {}; value = c.of.ensures k };
+  banks = c.args.banks;
+  lines = c.new.ensures k;
+  at = c.first.ensures k;
+}

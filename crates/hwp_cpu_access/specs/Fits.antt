@@ -1,0 +1,162 @@
+-- What is held and known while an instruction accesses a line, and acts on the machine checks that it meets.
+use Rattle.std.specs.Prelude.{◌≡◌, ◌⊎◌, ℕ, ◌+◌, ◌<◌, ◌≤◌, true, false, List, [], Some, None, length}
+use Rattle.std.specs.Int.{from_bool}
+use Rattle.hwp_geom.specs.declared.Frame.{Frame}
+use Rattle.hwp_geom.specs.declared.Layout.{Layout}
+use Rattle.hwp_geom.specs.declared.Who.{Who}
+use Rattle.hwp_geom.specs.Layout.{IsSound}
+use Rattle.hwp_banks.specs.declared.Origin.{Origin}
+use Rattle.hwp_banks.specs.declared.Origin.TheVariants as origins
+use Rattle.hwp_banks.specs.Events.{bank_count}
+use Rattle.hwp_page.specs.declared.At.{At}
+use Rattle.hwp_core_rule.specs.declared.SharedWord.TheVariants as places
+use Rattle.hwp_core_rule.specs.declared.View.{View}
+use Rattle.hwp_core_task.specs.Calls.{IsOnTurn}
+use Rattle.hwp_core_task.specs.Hands.{hand_of, empty}
+use Rattle.hwp_core_task.specs.Known.{HasOnly, Precedes, Saw, such_deeds}
+use Rattle.hwp_fault.specs.declared.Access.{Access}
+use Rattle.hwp_fault.specs.declared.AccessAnswer.{AccessAnswer}
+use Rattle.hwp_fault.specs.declared.AccessAnswer.TheVariants as access_answers
+use Rattle.hwp_fault.specs.declared.Request.{Request}
+use Rattle.hwp_fault.specs.Accesses as accesses
+use Rattle.hwp_fault.specs.Adds.{has_checked}
+use Rattle.hwp_cpu_check.specs.hwp_claim_frame.Claims.{IsStopped}
+use Rattle.hwp_cpu_check.specs.hwp_law.Checks.{Banks, empty_banks}
+use Rattle.hwp_cpu_check.specs.hwp_law.Events.{is_check}
+use Rattle.hwp_cpu_check.specs.declared.Handler.{Handler}
+use Rattle.hwp_cpu_check.specs.declared.EventOutcome.{EventOutcome}
+use Rattle.hwp_cpu_check.specs.Events.{held_in}
+use Rattle.hwp_cpu_check.specs.Fits as handler_fits
+use Rattle.hwp_cpu_check.specs.Fits.{events_of}
+use Rattle.hwp_cpu_check.specs.Handlers as handlers
+use Rattle.hwp_cpu_check.specs.Told.{first_signal, halts}
+use Rattle.hwp_cpu_check.specs.Checks.{Check, left_by, lines_of, restarting, with_own}
+use Rattle.hwp_cpu_access.specs.Checks.{AreChecks, SawBad}
+use Rattle.hwp_cpu_access.specs.declared.instruction.Instruction.{Instruction}
+use Rattle.hwp_cpu_access.specs.declared.instruction.InstructionAnswer.{InstructionAnswer}
+use Rattle.hwp_cpu_access.specs.declared.instruction.InstructionAnswer.TheVariants as answers
+use Rattle.hwp_cpu_access.specs.declared.instruction.InstructionAt.{InstructionAt}
+use Rattle.hwp_cpu_access.specs.declared.instruction.InstructionAt.TheVariants as at
+
+-- the command made only such entries as may stand before the one that answers it
+abbrev pub HasOnlyBefore : View → Request → Type 0
+HasOnlyBefore view a = HasOnly (Precedes a.page a.slot a.line) view a.who
+
+-- a step of the command showed that the thread's process hasn't ended
+abbrev pub IsGoing : View → Request → Type 0
+IsGoing view a = Saw view a.who (places.Process a.process) 0
+
+-- the machine checks of the command, by the entries that it made
+abbrev pub checks_made : Who → View → ℕ
+checks_made who view = length (such_deeds is_check who view)
+
+-- the lines tell of no event that stopped the machine, and of no failure that signalled the thread
+pub record LetsGoOn (told : List EventOutcome) : Type 0 where
+  pub halts_none : halts told ≡ false
+  pub signals_none : first_signal told ≡ None
+
+-- ---- how it ends
+
+-- by the answer of its access
+pub record IsOwnEnd (layout : Layout) (view : View) (a : Request) (told : List EventOutcome) (answer : AccessAnswer) : Type 0 where
+  pub answered : accesses.Answered layout view a answer
+  pub lets : LetsGoOn told
+
+-- by the first failure that signalled the thread
+pub record IsSignalled (view : View) (a : Request) (told : List EventOutcome) (place : At) : Type 0 where
+  pub first : first_signal told ≡ Some place
+  pub halts_none : halts told ≡ false
+  pub going : IsGoing view a
+  pub only : HasOnlyBefore view a
+
+-- because one of its events stopped the machine
+pub record IsHalted (view : View) (a : Request) (told : List EventOutcome) : Type 0 where
+  pub halted : halts told ≡ true
+  pub stopped : IsStopped view a.who
+  pub only : HasOnlyBefore view a
+
+abbrev pub IsEnd : Layout → View → Request → List EventOutcome → InstructionAnswer → Type 0
+IsEnd layout view a told (answers.Value word place) = IsOwnEnd layout view a told (access_answers.Value word place.page place.entry)
+IsEnd layout view a told (answers.Stored place) = IsOwnEnd layout view a told (access_answers.Stored place.page place.entry)
+IsEnd layout view a told (answers.Sigbus place) = IsOwnEnd layout view a told (access_answers.Sigbus place.page place.entry) ⊎ IsSignalled view a told place
+IsEnd layout view a told answers.NoFrame = IsOwnEnd layout view a told access_answers.NoFrame
+IsEnd layout view a told (answers.Gone page) = IsOwnEnd layout view a told (access_answers.Gone page)
+IsEnd layout view a told answers.Stopped = IsOwnEnd layout view a told access_answers.Stopped ⊎ IsHalted view a told
+
+-- ---- what is held
+
+-- the access goes on, perhaps after machine checks
+pub record IsAccessing (layout : Layout) (view : View) (i : Instruction) (checks : List Check) (a : Access) : Type 0 where
+  pub access : accesses.Fits layout view a
+  pub own : a.request ≡ i.request
+  pub unanswered : accesses.answer a ≡ None
+  pub paid : view.owed.losses ≡ []
+  pub lets : LetsGoOn i.lines.told
+  pub made : checks_made i.request.who view ≡ length checks + from_bool (has_checked a.at)
+
+-- the machine check of a line that was bad in the frame, after others
+pub record HasHandler (layout : Layout) (view : View) (i : Instruction) (checks : List Check) (frame : Frame) (h : Handler) : Type 0 where
+  pub handler : handler_fits.Fits layout view h
+  pub own : h.who ≡ i.request.who
+  pub thread_is : h.thread ≡ Some i.request.thread
+  pub going : IsGoing view i.request
+  pub bad : SawBad layout view i.request frame
+  pub events : events_of h.events ≡ held_in (restarting i.mode) (with_own i.origin frame i.request.line (left_by i.before.value checks))
+  pub room : bank_count ≤ i.lines.spare
+  pub lets : LetsGoOn i.lines.told
+  pub only : HasOnlyBefore view i.request
+  pub made : checks_made i.request.who view ≡ length checks + 1
+
+pub record IsHandling (layout : Layout) (view : View) (i : Instruction) (checks : List Check) (frame : Frame) (h : Handler) : Type 0 where
+  pub has : HasHandler layout view i checks frame h
+  pub unanswered : handlers.answer h ≡ None
+
+-- the end of the frame's failure is awaited
+pub record IsWaiting (layout : Layout) (view : View) (i : Instruction) (checks : List Check) (frame : Frame) : Type 0 where
+  pub hand_is : hand_of view ≡ empty
+  pub paid : view.owed.losses ≡ []
+  pub lets : LetsGoOn i.lines.told
+  pub only : HasOnlyBefore view i.request
+  pub made : checks_made i.request.who view ≡ length checks
+  pub within : frame.0 < layout.frames
+  pub empty_are : i.banks ≡ empty_banks
+
+-- nothing is held any more, and the answer has its cause
+pub record IsAnswered (layout : Layout) (view : View) (i : Instruction) (checks : List Check) (answer : InstructionAnswer) : Type 0 where
+  pub hand_is : hand_of view ≡ empty
+  pub paid : view.owed.losses ≡ []
+  pub made : checks_made i.request.who view ≡ length checks
+  pub ended : IsEnd layout view i.request i.lines.told answer
+
+abbrev pub FitsAt : Layout → View → Instruction → List Check → InstructionAt → Type 0
+FitsAt layout view i checks (at.Access a) = IsAccessing layout view i checks a
+FitsAt layout view i checks (at.Handle frame h) = IsHandling layout view i checks frame h
+FitsAt layout view i checks (at.LoadFrame frame) = IsWaiting layout view i checks frame
+FitsAt layout view i checks (at.LoadStop frame) = IsWaiting layout view i checks frame
+FitsAt layout view i checks at.GiveUp = hand_of view ≡ empty
+FitsAt layout view i checks (at.Over None) = hand_of view ≡ empty
+FitsAt layout view i checks (at.Over (Some answer)) = IsAnswered layout view i checks answer
+
+-- an access of data, or of an instruction
+abbrev pub IsOfAccess : Origin → Type 0
+IsOfAccess origins.Access = Unit {0}
+IsOfAccess origins.Fetch = Unit {0}
+IsOfAccess origin = ⊥
+
+-- what the banks hold: during a machine check nothing
+abbrev pub banks_at : Banks → List Check → InstructionAt → Banks
+banks_at before checks (at.Handle frame h) = empty_banks
+banks_at before checks x = left_by before checks
+
+-- the machine checks so far, the lines that tell of them, and what they left in the banks
+pub record Fits (layout : Layout) (view : View) (i : Instruction) : Type 0 where
+  pub on_turn : IsOnTurn view i.request.who
+  pub sound : IsSound layout
+  pub names : accesses.IsDeclared layout i.request
+  pub origin : IsOfAccess i.origin
+  pub three : length i.before.value ≡ bank_count
+  pub checks : List Check
+  pub checked : AreChecks layout view i.request i.origin i.mode i.before.value checks
+  pub told_is : i.lines.told ≡ lines_of checks
+  pub banks_are : i.banks ≡ banks_at i.before.value checks i.at
+  pub at : FitsAt layout view i checks i.at

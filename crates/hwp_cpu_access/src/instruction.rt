@@ -1,0 +1,423 @@
+ghost use Rattle.std.specs.Prelude.{◌≡◌, ◌≤◌, length};
+ghost use Rattle.hwp_cpu_check.specs.hwp_law.Checks.{empty_banks};
+ghost use Rattle.hwp_cpu_check.specs.Checks.{with_own};
+ghost use Rattle.hwp_banks.specs.Events.{bank_count};
+ghost use Rattle.hwp_cpu_access.specs.Instructions.{AfterAccess, BeginsCheck, after_handler, after_load, after_stop, answer, answered, begin, first, is_pending, over, over_at, restarted, turn_of_load, turn_of_stop};
+
+use hwp_banks::{BANKS, Bank, Origin};
+use hwp_core_rule::{SharedWord, Step};
+use hwp_core_task::{Ranked, Scheduled, Task, Turn};
+use hwp_cpu_check::{EventOutcome, Handler, ToldLines, no_events};
+use hwp_fault::{Access, AccessAnswer, Request};
+use hwp_geom::{Frame, Layout, List, Mode, Page, Who};
+use hwp_page::{At, Body};
+use hwp_severity::McgBits;
+use hwp_words::{FrameWord, StopWord};
+use std::alloc::Global;
+use std::mem;
+use std::snapshot::Snapshot;
+
+/// An instruction that accesses a line of a page. Where the line is bad it is a machine check, which is acted on, and
+/// afterwards the instruction is made again, unless the machine is stopped or its thread was signalled (this project's rule).
+#[derive(Drop)]
+pub struct Instruction {
+    alloc: Global,
+    request: Request,
+    /// What makes the machine log its own event where the line is bad.
+    origin: Origin,
+    mode: Mode,
+    /// What the banks held at the beginning.
+    before: Snapshot<[Bank; BANKS]>,
+    banks: [Bank; BANKS],
+    lines: ToldLines,
+    at: InstructionAt,
+}
+
+#[derive(Drop)]
+enum InstructionAt {
+    Access { access: Access },
+    /// The machine check of a line that was bad in this frame.
+    Handle { frame: Frame, handler: Handler },
+    /// The frame of the machine check was poisoned already: is its failure ended?
+    LoadFrame { frame: Frame },
+    /// It isn't. Has another processor given up?
+    LoadStop { frame: Frame },
+    GiveUp,
+    /// No answer: the instruction gave up because memory ran out.
+    Over { answer: Option<InstructionAnswer> },
+}
+
+/// What an `Instruction` came to (this project's rule).
+#[derive(Clone, Copy)]
+pub enum InstructionAnswer {
+    /// This word was read, by the entry.
+    Value { word: u64, at: At },
+    /// The word was written, by the entry.
+    Stored { at: At },
+    /// The thread was signalled SIGBUS: by the entry of the access, or by the first entry of a memory failure that did so.
+    Sigbus { at: At },
+    /// No frame was available for the page.
+    NoFrame,
+    /// The thread's process has ended, by a signal in the history of this page.
+    Gone { page: Page },
+    /// The machine is stopped.
+    Stopped,
+}
+
+impl Instruction {
+    /// The instruction at its beginning: an access of this origin, in this mode, by a processor whose banks hold this.
+    pub fn new(
+        alloc: Global,
+        request: Request,
+        origin: Origin,
+        mode: Mode,
+        banks: [Bank; BANKS],
+    ) -> Instruction
+        ensures { result ≡ begin alloc request origin mode banks }
+    {
+        Instruction {
+            alloc,
+            request,
+            origin,
+            mode,
+            before: Snapshot::of(&banks),
+            banks,
+            lines: ToldLines::new(alloc),
+            at: first(&request),
+        }
+    }
+
+    /// What it came to; `None` until it is over, and where it gave up because memory ran out.
+    pub fn answer(&self) -> Option<InstructionAnswer>
+        ensures { result ≡ answer self.now }
+    {
+        match self.at {
+            InstructionAt::Over { answer } => answer,
+            InstructionAt::Access { .. }
+            | InstructionAt::Handle { .. }
+            | InstructionAt::LoadFrame { .. }
+            | InstructionAt::LoadStop { .. }
+            | InstructionAt::GiveUp => None,
+        }
+    }
+
+    /// What was done about the events of its machine checks, in order.
+    pub fn told(&self) -> &[EventOutcome]
+        ensures { result.now ≡ self.now.lines.told }
+    {
+        self.lines.told()
+    }
+
+    /// The same as a list, and its processor's banks are put back, once it is over.
+    pub fn finish(self, banks: &mut [Bank; BANKS]) -> List<EventOutcome>
+        ensures told { result ≡ self.lines.told }
+        ensures banks { banks.new ≡ self.banks }
+    {
+        let Instruction {
+            banks: left,
+            lines,
+            at,
+            ..
+        } = self;
+        *banks = left;
+        drop(at);
+        lines.into_list()
+    }
+
+    /// The access goes on, or has its answer.
+    fn after_access(&mut self, layout: &Layout, access: Access)
+        ensures { AfterAccess layout.now self.old access self.new }
+    {
+        let Some(answer) = access.answer() else {
+            self.set(InstructionAt::Access { access });
+            return;
+        };
+        drop(access);
+        match answer {
+            AccessAnswer::Checked { frame, .. } => self.check(layout, frame),
+            AccessAnswer::Value { word, page, place } => self.end(InstructionAnswer::Value {
+                word,
+                at: At { page, entry: place },
+            }),
+            AccessAnswer::Stored { page, place } => self.end(InstructionAnswer::Stored {
+                at: At { page, entry: place },
+            }),
+            AccessAnswer::Sigbus { page, place } => self.end(InstructionAnswer::Sigbus {
+                at: At { page, entry: place },
+            }),
+            AccessAnswer::NoFrame => self.end(InstructionAnswer::NoFrame),
+            AccessAnswer::Gone { page } => self.end(InstructionAnswer::Gone { page }),
+            AccessAnswer::Stopped => self.end(InstructionAnswer::Stopped),
+        }
+    }
+
+    /// The line was bad in this frame: the event is logged, and the machine check begins, which leaves the banks empty. Where
+    /// there is no room for its lines the command is given up.
+    fn check(&mut self, layout: &Layout, frame: Frame)
+        ensures { BeginsCheck layout.now self.old frame self.new }
+    {
+        if self.lines.room().is_err() {
+            self.set(InstructionAt::GiveUp);
+            return;
+        }
+        let banks = self.take_banks(frame);
+        let handler = Handler::new(
+            self.alloc,
+            layout,
+            self.request.who,
+            Some(self.request.thread),
+            RESTARTS,
+            self.mode,
+            &banks,
+        );
+        self.after_handler(frame, handler);
+    }
+
+    /// The banks with the machine's own event of the line in this frame. They are left empty.
+    fn take_banks(&mut self, frame: Frame) -> [Bank; BANKS]
+        ensures found { result ≡ with_own self.old.origin frame self.old.request.line self.old.banks }
+        ensures left { self.new ≡ record self.old { banks = empty_banks } }
+    {
+        let event = self.origin.event(frame, self.request.line);
+        let mut banks = mem::replace(&mut self.banks, no_events());
+        banks[self.origin.bank()].log(event);
+        banks
+    }
+
+    /// The machine check goes on, or is over.
+    fn after_handler(&mut self, frame: Frame, handler: Handler)
+        requires { length handler.events.told ≤ self.old.lines.spare }
+        ensures { self.new ≡ after_handler self.old frame handler }
+    {
+        let Some(stopped) = handler.answer() else {
+            self.set(InstructionAt::Handle { frame, handler });
+            return;
+        };
+        self.lines.append(handler.told());
+        let at = self.after_check(frame, &handler, stopped);
+        drop(handler);
+        self.set(at);
+    }
+
+    /// What follows a machine check that is over.
+    fn after_check(&self, frame: Frame, handler: &Handler, stopped: bool) -> InstructionAt
+        ensures { result ≡ over_at self.now frame handler.now stopped }
+    {
+        if stopped {
+            over(InstructionAnswer::Stopped)
+        } else if let Some(at) = handler.signalled() {
+            over(InstructionAnswer::Sigbus { at })
+        } else if handler.was_poisoned(frame) {
+            InstructionAt::LoadFrame { frame }
+        } else {
+            self.restarted()
+        }
+    }
+
+    fn set(&mut self, at: InstructionAt)
+        ensures { self.new ≡ record self.old { at = at } }
+    {
+        // in one call, and not part by part
+        drop(mem::replace(&mut self.at, at));
+    }
+
+    fn end(&mut self, answer: InstructionAnswer)
+        ensures { self.new ≡ answered self.old answer }
+    {
+        self.set(over(answer));
+    }
+
+    fn restarted(&self) -> InstructionAt
+        ensures { result ≡ restarted self.now }
+    {
+        InstructionAt::Access {
+            access: Access::again(self.request),
+        }
+    }
+
+    /// Waits until the failure of the frame is ended; then the access is made again.
+    fn after_load(&mut self, frame: Frame, found: u64) -> Turn
+        ensures next { self.new ≡ after_load self.old frame found }
+        ensures turn { result ≡ turn_of_load found }
+    {
+        if is_pending(found) {
+            self.set(InstructionAt::LoadStop { frame });
+            Turn::Waits(found)
+        } else {
+            let at = self.restarted();
+            self.set(at);
+            Turn::Moved
+        }
+    }
+
+    /// Looks at the frame again, unless another processor has given up.
+    fn after_stop(&mut self, frame: Frame, found: u64) -> Turn
+        ensures next { self.new ≡ after_stop self.old frame found }
+        ensures turn { result ≡ turn_of_stop found }
+    {
+        if StopWord::unpack(found).no_memory {
+            self.set(InstructionAt::Over { answer: None });
+            Turn::NoMemory
+        } else {
+            self.set(InstructionAt::LoadFrame { frame });
+            Turn::Moved
+        }
+    }
+}
+
+/// The access at its beginning.
+fn first(request: &Request) -> InstructionAt
+    ensures { result ≡ first request.now }
+{
+    InstructionAt::Access {
+        access: Access::new(*request),
+    }
+}
+
+fn over(answer: InstructionAnswer) -> InstructionAt
+    ensures { result ≡ over answer }
+{
+    InstructionAt::Over {
+        answer: Some(answer),
+    }
+}
+
+/// A thread's access can be started again, and its machine check goes with it.
+const RESTARTS: McgBits = McgBits {
+    ripv: true,
+    eipv: true,
+};
+
+/// Whether the failure of the frame with this word is under way.
+fn is_pending(word: u64) -> bool
+    ensures { result ≡ is_pending word }
+{
+    let word = FrameWord::unpack(word);
+    word.poisoned && !(word.handled || word.kernel)
+}
+
+impl Task for Instruction {
+    ghost use Rattle.hwp_cpu_access.specs.Instructions.{Follows, Shows, bare, plan, put};
+    ghost use Rattle.hwp_cpu_access.specs.Fits.{Fits};
+
+    ghost who = { λ i. i.request.who };
+
+    ghost plan = { λ i. plan i };
+
+    ghost put = { λ i. put i };
+
+    ghost bare = { λ i. bare i };
+
+    ghost shows = { λ i found got. Shows i found got };
+
+    ghost next = { λ layout i found got after result. Follows layout i found got after result };
+
+    ghost fits = { λ layout view i. Fits layout view i };
+
+    fn who(&self) -> Who {
+        self.request.who
+    }
+
+    fn plan(&self) -> Option<Step> {
+        match &self.at {
+            InstructionAt::Access { access } => access.plan(),
+            InstructionAt::Handle { handler, .. } => handler.plan(),
+            InstructionAt::LoadFrame { frame } => Some(Step::Load {
+                place: SharedWord::Frame(*frame),
+            }),
+            InstructionAt::LoadStop { .. } => Some(Step::Load {
+                place: SharedWord::Stop,
+            }),
+            InstructionAt::GiveUp => Some(Step::GiveUp),
+            InstructionAt::Over { .. } => None,
+        }
+    }
+
+    fn give(&mut self) -> Option<Body> {
+        match &mut self.at {
+            InstructionAt::Access { access } => access.give(),
+            InstructionAt::Handle { handler, .. } => handler.give(),
+            InstructionAt::LoadFrame { .. }
+            | InstructionAt::LoadStop { .. }
+            | InstructionAt::GiveUp
+            | InstructionAt::Over { .. } => None,
+        }
+    }
+
+    fn settle(&mut self, layout: &Layout, found: u64, body: Option<Body>) -> Turn {
+        let at = mem::replace(&mut self.at, InstructionAt::Over { answer: None });
+        match at {
+            InstructionAt::Access { mut access } => {
+                let turn = access.settle(layout, found, body);
+                self.after_access(layout, access);
+                turn
+            }
+            InstructionAt::Handle { frame, mut handler } => {
+                let turn = handler.settle(layout, found, body);
+                self.after_handler(frame, handler);
+                turn
+            }
+            InstructionAt::LoadFrame { frame } => {
+                drop(at);
+                drop(body);
+                self.after_load(frame, found)
+            }
+            InstructionAt::LoadStop { frame } => {
+                drop(at);
+                drop(body);
+                self.after_stop(frame, found)
+            }
+            InstructionAt::GiveUp => {
+                drop(at);
+                drop(body);
+                Turn::NoMemory
+            }
+            InstructionAt::Over { answer } => {
+                drop(at);
+                drop(body);
+                self.set(InstructionAt::Over { answer });
+                Turn::Moved
+            }
+        }
+    }
+}
+
+impl Ranked for Instruction {
+    ghost use Rattle.hwp_cpu_access.specs.Costs.{aborts, claims, class, cost};
+
+    ghost class_of = { λ i. class i };
+
+    ghost cost = { λ i words. cost i words };
+
+    ghost aborts = { λ i. aborts i };
+
+    ghost claims = { λ i. claims i };
+
+    fn class(&self) -> u8 {
+        match &self.at {
+            InstructionAt::Access { access } => access.class(),
+            InstructionAt::Handle { handler, .. } => handler.class(),
+            InstructionAt::LoadFrame { .. }
+            | InstructionAt::LoadStop { .. }
+            | InstructionAt::GiveUp
+            | InstructionAt::Over { .. } => 4,
+        }
+    }
+
+    fn ranked(&self) {}
+}
+
+impl Scheduled for Instruction {
+    fn is_over(&self) -> bool {
+        match &self.at {
+            InstructionAt::Access { access } => access.is_over(),
+            InstructionAt::Handle { handler, .. } => handler.is_over(),
+            InstructionAt::LoadFrame { .. }
+            | InstructionAt::LoadStop { .. }
+            | InstructionAt::GiveUp => false,
+            InstructionAt::Over { .. } => true,
+        }
+    }
+
+    fn tells(&self) {}
+}

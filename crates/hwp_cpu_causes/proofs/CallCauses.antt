@@ -1,0 +1,260 @@
+-- Why a command that makes no entry is answered so: of a file's losses, of an event that is logged, of damage to a line, and of a
+-- thread's policy.
+use Rattle.std.proofs.Common.{◌≡◌, ℕ, ◌<◌, eq-eqb, Bool, cond, List, [], ◌∷◌, ◌++◌, Option, Some, map, take, refl, sym, ap, ◌∙◌, subst, inl, inr}
+use Rattle.std.specs.List.{fold}
+use Rattle.std.specs.Option.{option_map}
+use Rattle.std.proofs.lemmas.List.{append-nil, map-append, same_from_push}
+use Rattle.hwp_law_holds.specs.hwp_geom.declared.Damage.{Damage}
+use Rattle.hwp_law_holds.specs.hwp_geom.declared.Damage.TheVariants as damages
+use Rattle.hwp_law_holds.specs.hwp_geom.declared.FileNo.{FileNo}
+use Rattle.hwp_law_holds.specs.hwp_geom.declared.Frame.{Frame}
+use Rattle.hwp_law_holds.specs.hwp_geom.declared.Layout.{Layout}
+use Rattle.hwp_law_holds.specs.hwp_geom.declared.Thread.{Thread}
+use Rattle.hwp_law_holds.specs.hwp_geom.declared.ThreadDecl.{ThreadDecl}
+use Rattle.hwp_law_holds.specs.hwp_geom.declared.Who.{Who}
+use Rattle.hwp_law_holds.specs.hwp_geom.Limits.{line_limit}
+use Rattle.hwp_law_holds.specs.hwp_kill.declared.Policy.{Policy}
+use Rattle.hwp_law_holds.specs.hwp_kill.declared.Policy.TheVariants as policy_names
+use Rattle.hwp_law_holds.specs.hwp_kill.declared.Reply.{Reply}
+use Rattle.hwp_law_holds.specs.hwp_kill.declared.Reply.TheVariants as replies
+use Rattle.hwp_law_holds.specs.hwp_kill.Prctl.{reply}
+use Rattle.hwp_law_holds.specs.hwp_core_rule.declared.SharedWord.TheVariants as places
+use Rattle.hwp_law_holds.specs.hwp_core_rule.declared.Setting.{Setting}
+use Rattle.hwp_law_holds.specs.hwp_core_rule.declared.View.{View}
+use Rattle.hwp_law_holds.specs.hwp_core_rule.parts.Policies.{last_policy, settings_of}
+use Rattle.hwp_law_holds.specs.hwp_script_lines.declared.Command.{Command}
+use Rattle.hwp_law_holds.specs.hwp_script_lines.declared.Command.TheVariants as commands
+use Rattle.hwp_law_holds.specs.hwp_script_lines.declared.PrctlArgs.{PrctlArgs}
+use Rattle.hwp_law_holds.specs.hwp_report_text.declared.Answer.{Answer}
+use Rattle.hwp_law_holds.specs.hwp_law.Answers.{reply_answer}
+use Rattle.hwp_law_holds.specs.hwp_law.Checks.{Banks}
+use Rattle.hwp_law_holds.specs.hwp_law.Events.{raw_event}
+use Rattle.hwp_law_holds.specs.hwp_law.Policies.{arguments, settings}
+use Rattle.hwp_law_holds.specs.hwp_law.Policies as laws
+use Rattle.hwp_law_holds.specs.hwp_core_task.Known.{Saw}
+use Rattle.hwp_cpu_command.specs.hwp_cpu_control.declared.NestedAnswer.{NestedAnswer}
+use Rattle.hwp_cpu_command.specs.hwp_cpu_control.declared.NestedAnswer.TheVariants as nested_answers
+use Rattle.hwp_cpu_command.specs.hwp_cpu_control.declared.Nested.{Nested}
+use Rattle.hwp_cpu_command.specs.hwp_cpu_control.declared.Prctl.{Prctl}
+use Rattle.hwp_cpu_command.specs.hwp_cpu_control.declared.PrctlAnswer.{PrctlAnswer}
+use Rattle.hwp_cpu_command.specs.hwp_cpu_control.declared.PrctlAnswer.TheVariants as prctl_answers
+use Rattle.hwp_cpu_command.specs.hwp_cpu_control.declared.ReadStopAnswer.{ReadStopAnswer}
+use Rattle.hwp_cpu_command.specs.hwp_cpu_control.declared.ReadStopAnswer.TheVariants as read_answers
+use Rattle.hwp_cpu_command.specs.hwp_cpu_control.declared.Spoil.{Spoil}
+use Rattle.hwp_cpu_command.specs.hwp_cpu_control.declared.SpoilAnswer.{SpoilAnswer}
+use Rattle.hwp_cpu_command.specs.hwp_cpu_control.declared.SpoilAnswer.TheVariants as spoil_answers
+use Rattle.hwp_cpu_command.specs.hwp_cpu_control.declared.nested.NestedAt.TheVariants as nested_at
+use Rattle.hwp_cpu_command.specs.hwp_cpu_control.declared.prctl.PrctlAt.{PrctlAt}
+use Rattle.hwp_cpu_command.specs.hwp_cpu_control.declared.prctl.PrctlAt.TheVariants as prctl_at
+use Rattle.hwp_cpu_command.specs.hwp_cpu_control.declared.read_stop.ReadStopAt.TheVariants as read_at
+use Rattle.hwp_cpu_command.specs.hwp_cpu_control.declared.spoil.SpoilAt.TheVariants as spoil_at
+use Rattle.hwp_cpu_command.specs.hwp_cpu_control.Nesteds as nesteds
+use Rattle.hwp_cpu_command.specs.hwp_cpu_control.Prctls as prctls
+use Rattle.hwp_cpu_command.specs.hwp_cpu_control.ReadStops as read_stops
+use Rattle.hwp_cpu_command.specs.hwp_cpu_control.Spoils as spoils
+use Rattle.hwp_law_holds.specs.hwp_evict.declared.Fsync.{Fsync}
+use Rattle.hwp_law_holds.specs.hwp_evict.declared.FsyncAnswer.{FsyncAnswer}
+use Rattle.hwp_law_holds.specs.hwp_evict.declared.FsyncAnswer.TheVariants as fsync_answers
+use Rattle.hwp_law_holds.specs.hwp_evict.Fsyncs as fsyncs
+use Rattle.hwp_law_holds.specs.hwp_cpu_check.declared.EventOutcome.{EventOutcome}
+use Rattle.hwp_cpu_command.specs.hwp_cpu_raise.declared.Log.{Log}
+use Rattle.hwp_cpu_command.specs.hwp_cpu_raise.Logs as logs
+use Rattle.hwp_law_holds.specs.hwp_cpu_row.declared.FrameChange.{FrameChange}
+use Rattle.hwp_cpu_command.specs.declared.Job.{Job}
+use Rattle.hwp_cpu_command.specs.declared.Job.TheVariants as jobs
+use Rattle.hwp_cpu_command.specs.Answers.{fsync_answer, nested_answer, prctl_answer, read_stop_answer, spoil_answer}
+use Rattle.hwp_cpu_command.specs.Begins.{BeginsLog, BeginsPrctl, BeginsSpoil}
+use Rattle.hwp_cpu_command.specs.Jobs.{Fits, answer}
+use Rattle.hwp_cpu_command.specs.Runs.{anew}
+use Rattle.hwp_cpu_command.specs.Settings.{HasReplied, IsCounted, policies_in, set_at}
+use Rattle.hwp_cpu_command.proofs.JobEnds.{fsync-over, mapped, nested-over, prctl-over, read-over, spoil-over}
+use Rattle.hwp_cpu_command.proofs.OfKind.{of-fsync, of-log, of-nested, of-prctl, of-spoil}
+use Rattle.hwp_law_holds.specs.Causes.{IsAnswerCaused, IsReplied, SawProcess}
+use Rattle.hwp_law_holds.specs.Served.{spoiling}
+use Rattle.hwp_cpu_causes.proofs.StopCauses.{found-stopped}
+
+-- ---- the losses of a file
+
+pub fsync-caused : (layout : Layout) (list : List Command) (view : View) (told : List EventOutcome) (did : Option FrameChange) {who : Who} {file : FileNo} (j : Job) {a : Answer} → anew j ≡ jobs.Fsync (fsyncs.begin who file) → Fits layout view j → answer j ≡ Some a → IsAnswerCaused layout list view who (commands.Fsync file) told did a
+fsync-caused layout list view told did {who} {file} j {a} runs fits is =
+    subst (λ (f : Fsync). IsAnswerCaused layout list view f.who (commands.Fsync f.file) told did a) task.2
+    (subst (IsAnswerCaused layout list view task.0.who (commands.Fsync task.0.file) told did) own.2 (by own.0 (subst (fsyncs.FitsAt view task.0.who task.0.file) (fsync-over task.0 own.1) fit.at)))
+  where
+    task : (f : Fsync) × (j ≡ jobs.Fsync f) × (fsyncs.begin f.who f.file ≡ fsyncs.begin who file)
+    task = of-fsync j runs
+
+    own : (x : FsyncAnswer) × (fsyncs.answer task.0 ≡ Some x) × (fsync_answer x ≡ a)
+    own = mapped fsync_answer (fsyncs.answer task.0) (sym (ap answer task.1) ∙ is)
+
+    fit : fsyncs.Fits layout view task.0
+    fit = subst (Fits layout view) task.1 fits
+
+    by : (x : FsyncAnswer) → fsyncs.IsCaused view task.0.who task.0.file x → IsAnswerCaused layout list view task.0.who (commands.Fsync task.0.file) told did (fsync_answer x)
+    by fsync_answers.Stopped has = found-stopped layout (commands.Fsync task.0.file) view task.0.who (inl has) fit.made_none
+    by fsync_answers.Done has = (fit.made_none, has)
+    by (fsync_answers.Eio lost) has = (fit.made_none, has.0, has.1)
+
+-- ---- commands of machine checks
+
+pub log-caused : (layout : Layout) (list : List Command) (view : View) (told : List EventOutcome) (did : Option FrameChange) {who : Who} {status addr misc : ℕ} {banks : Banks} (j : Job) {a : Answer} → BeginsLog layout who (raw_event status addr misc) banks (anew j) → Fits layout view j → answer j ≡ Some a
+    → IsAnswerCaused layout list view who (commands.Log status addr misc) told did a
+log-caused layout list view told did {who} {status} {addr} {misc} {banks} j {a} runs fits is =
+    subst (λ (l : Log). IsAnswerCaused layout list view l.read.who (commands.Log status addr misc) told did a) task.2
+    (subst (IsAnswerCaused layout list view task.0.read.who (commands.Log status addr misc) told did) own.2 (by own.0 (subst (read_stops.FitsAt view task.0.read.who) (read-over task.0.read own.1) fit.read.at)))
+  where
+    task : (l : Log) × (j ≡ jobs.Log l) × (logs.begin l.read.who l.event l.before.value ≡ logs.begin who (raw_event status addr misc) banks)
+    task = of-log j runs.job_is
+
+    own : (x : ReadStopAnswer) × (logs.answer task.0 ≡ Some x) × (read_stop_answer x ≡ a)
+    own = mapped read_stop_answer (logs.answer task.0) (sym (ap answer task.1) ∙ is)
+
+    fit : logs.Fits layout view task.0
+    fit = subst (Fits layout view) task.1 fits
+
+    by : (x : ReadStopAnswer) → read_stops.FitsAt view task.0.read.who (read_at.Over x) → IsAnswerCaused layout list view task.0.read.who (commands.Log status addr misc) told did (read_stop_answer x)
+    by read_answers.Stopped has = found-stopped layout (commands.Log status addr misc) view task.0.read.who (inl has) fit.read.made
+    by read_answers.Done has = fit.read.made
+
+pub nested-caused : (layout : Layout) (list : List Command) (view : View) (told : List EventOutcome) (did : Option FrameChange) {who : Who} (j : Job) {a : Answer} → anew j ≡ jobs.Nested (nesteds.begin who) → Fits layout view j → answer j ≡ Some a → IsAnswerCaused layout list view who commands.RaiseNested told did a
+nested-caused layout list view told did {who} j {a} runs fits is =
+    subst (λ (n : Nested). IsAnswerCaused layout list view n.who commands.RaiseNested told did a) task.2
+    (subst (IsAnswerCaused layout list view task.0.who commands.RaiseNested told did) own.2 (by own.0 (subst (nesteds.FitsAt view task.0.who) (nested-over task.0 own.1) fit.at)))
+  where
+    task : (n : Nested) × (j ≡ jobs.Nested n) × (nesteds.begin n.who ≡ nesteds.begin who)
+    task = of-nested j runs
+
+    own : (x : NestedAnswer) × (nesteds.answer task.0 ≡ Some x) × (nested_answer x ≡ a)
+    own = mapped nested_answer (nesteds.answer task.0) (sym (ap answer task.1) ∙ is)
+
+    fit : nesteds.Fits layout view task.0
+    fit = subst (Fits layout view) task.1 fits
+
+    by : (x : NestedAnswer) → nesteds.FitsAt view task.0.who (nested_at.Over (Some x)) → IsAnswerCaused layout list view task.0.who commands.RaiseNested told did (nested_answer x)
+    by nested_answers.Shutdown has = found-stopped layout commands.RaiseNested view task.0.who (inr has) fit.made
+    by nested_answers.Stopped has = found-stopped layout commands.RaiseNested view task.0.who (inl has) fit.made
+
+-- ---- damage to a line
+
+pub spoil-caused : (layout : Layout) (list : List Command) (view : View) (told : List EventOutcome) (did : Option FrameChange) {who : Who} {frame : Frame} {line : ℕ} {damage : Damage} (j : Job) {a : Answer} → BeginsSpoil layout who frame line damage (anew j) → Fits layout view j → answer j ≡ Some a
+    → IsAnswerCaused layout list view who (spoiling damage frame line) told did a
+spoil-caused layout list view told did {who} {frame} {line} {damage} j {a} runs fits is =
+    subst (λ (s : Spoil). IsAnswerCaused layout list view s.who (spoiling s.damage s.frame s.line) told did a) task.2
+    (subst (IsAnswerCaused layout list view task.0.who (spoiling task.0.damage task.0.frame task.0.line) told did) own.2
+    (by task.0.damage own.0 (subst (spoils.FitsAt view task.0.who task.0.frame task.0.line task.0.damage) (spoil-over task.0 own.1) fit.at)))
+  where
+    task : (s : Spoil) × (j ≡ jobs.Spoil s) × (spoils.begin s.who s.frame s.line s.damage ≡ spoils.begin who frame line damage)
+    task = of-spoil j runs.job_is
+
+    own : (x : SpoilAnswer) × (spoils.answer task.0 ≡ Some x) × (spoil_answer x ≡ a)
+    own = mapped spoil_answer (spoils.answer task.0) (sym (ap answer task.1) ∙ is)
+
+    fit : spoils.Fits layout view task.0
+    fit = subst (Fits layout view) task.1 fits
+
+    inside : task.0.line < line_limit
+    inside = subst (λ (s : Spoil). s.line < line_limit) (sym task.2) runs.inside
+
+    by : (d : Damage) (x : SpoilAnswer) → spoils.FitsAt view task.0.who task.0.frame task.0.line d (spoil_at.Over x) → IsAnswerCaused layout list view task.0.who (spoiling d task.0.frame task.0.line) told did (spoil_answer x)
+    by damages.Bad spoil_answers.Stopped has = found-stopped layout (commands.Bad task.0.frame task.0.line) view task.0.who (inl has) fit.made
+    by damages.Weak spoil_answers.Stopped has = found-stopped layout (commands.Weak task.0.frame task.0.line) view task.0.who (inl has) fit.made
+    by damages.Bad spoil_answers.Done has = record { within = inside; spoiled = has; made = fit.made }
+    by damages.Weak spoil_answers.Done has = record { within = inside; spoiled = has; made = fit.made }
+
+-- ---- calls of prctl(2)
+
+-- the last policy of some settings is that of their policies
+last-same : (d : Policy) (l : List Setting) → last_policy d l ≡ fold (λ earlier later. later) d (map (λ (s : Setting). s.policy) l)
+last-same d [] = refl
+last-same d (s ∷ l) = last-same s.policy l
+
+module _ (list : List Command) (view : View) (p : Prctl) where
+  -- what was set before the call is what the commands before it set
+  before-is : (policy : Policy) (before : List Setting) (last : Setting) → settings_of p.thread view.settings ≡ before ++ last ∷ [] → p.at ≡ prctl_at.Over (prctl_answers.Replied (replies.Set policy)) → IsCounted list view p.who (jobs.Prctl p) p.thread
+      → map (λ (s : Setting). s.policy) before ≡ settings p.thread (take p.who.seq list)
+  before-is policy before last all over counted = (same_from_push (map (λ (s : Setting). s.policy) before) (settings p.thread (take p.who.seq list)) last.policy policy (
+      sym (map-append (λ (s : Setting). s.policy) before (last ∷ []))
+      ∙ sym (ap (map (λ (s : Setting). s.policy)) all)
+      ∙ counted
+      ∙ ap (λ (b : Bool). settings p.thread (take p.who.seq list) ++ cond b (set_at p.at) []) (eq-eqb p.thread.0 p.thread.0 refl)
+      ∙ ap (λ (x : PrctlAt). settings p.thread (take p.who.seq list) ++ set_at x) over
+      )).0
+
+  now-is : set_at p.at ≡ [] → IsCounted list view p.who (jobs.Prctl p) p.thread → policies_in p.thread view ≡ settings p.thread (take p.who.seq list)
+  now-is none counted = counted
+      ∙ ap (λ (b : Bool). settings p.thread (take p.who.seq list) ++ cond b (set_at p.at) []) (eq-eqb p.thread.0 p.thread.0 refl)
+      ∙ ap (λ (x : List Policy). settings p.thread (take p.who.seq list) ++ x) none
+      ∙ append-nil (settings p.thread (take p.who.seq list))
+
+  -- the reply to the policies that were set before
+  replied-so : (r : Reply) → p.at ≡ prctl_at.Over (prctl_answers.Replied r) → prctls.WasReplied view p.who p.thread p.arguments r → IsCounted list view p.who (jobs.Prctl p) p.thread
+      → r ≡ reply (laws.last_policy (settings p.thread (take p.who.seq list))) p.arguments
+  replied-so (replies.Set policy) over has counted =
+      sym has.says ∙ ap (λ (x : Policy). reply x p.arguments) (last-same policy_names.Default has.before ∙ ap laws.last_policy (before-is policy has.before has.last has.all over counted))
+  replied-so (replies.Is policy) over has counted =
+      sym has ∙ ap (λ (x : Policy). reply x p.arguments) (last-same policy_names.Default (settings_of p.thread view.settings) ∙ ap laws.last_policy (now-is (ap set_at over) counted))
+  replied-so replies.Einval over has counted =
+      sym has ∙ ap (λ (x : Policy). reply x p.arguments) (last-same policy_names.Default (settings_of p.thread view.settings) ∙ ap laws.last_policy (now-is (ap set_at over) counted))
+
+module _ {layout : Layout} (list : List Command) {view : View} (told : List EventOutcome) (did : Option FrameChange) (p : Prctl) (fits : prctls.Fits layout view p) where
+  going : {word : ℕ} → Saw view p.who (places.Process p.process) word → SawProcess layout view p.who p.thread word
+  going saw = record { process = p.process; process_is = ap (option_map (λ (t : ThreadDecl). t.process)) fits.declared ∙ ap Some fits.process_is; saw = saw }
+
+  replied-caused : {args : PrctlArgs} → p.arguments ≡ arguments args → (r : Reply) → IsReplied layout list view p.who p.thread p.arguments (reply_answer r) → IsAnswerCaused layout list view p.who (commands.Prctl p.thread args) told did (reply_answer r)
+  replied-caused same (replies.Set policy) has = subst (λ (given : List ℕ). IsReplied layout list view p.who p.thread given (reply_answer (replies.Set policy))) same has
+  replied-caused same (replies.Is policy) has = subst (λ (given : List ℕ). IsReplied layout list view p.who p.thread given (reply_answer (replies.Is policy))) same has
+  replied-caused same replies.Einval has = subst (λ (given : List ℕ). IsReplied layout list view p.who p.thread given (reply_answer replies.Einval)) same has
+
+  called : {args : PrctlArgs} → p.arguments ≡ arguments args → (x : PrctlAnswer) → p.at ≡ prctl_at.Over x → prctls.FitsOver view p.who p.thread p.process p.arguments x → ((r : Reply) → x ≡ prctl_answers.Replied r → IsCounted list view p.who (jobs.Prctl p) p.thread)
+      → IsAnswerCaused layout list view p.who (commands.Prctl p.thread args) told did (prctl_answer x)
+  called {args} same prctl_answers.Stopped over has counted = found-stopped layout (commands.Prctl p.thread args) view p.who (inl has) fits.made
+  called same (prctl_answers.Gone page) over has counted = (record { ended = going has }, fits.made)
+  called same (prctl_answers.Replied r) over has counted =
+      replied-caused same r (record { going = going has.0; made = fits.made; replied = ap reply_answer (replied-so list view p r over has.1 (counted r refl)) })
+
+-- what is known of a call that has its answer
+pub record KnowsPrctl (layout : Layout) (view : View) (who : Who) (thread : Thread) (args : PrctlArgs) (j : Job) (answer : Answer) : Type 0 where
+  pub task : Prctl
+  pub job_is : j ≡ jobs.Prctl task
+  pub who_is : task.who ≡ who
+  pub thread_is : task.thread ≡ thread
+  pub arguments_are : task.arguments ≡ arguments args
+  pub own : PrctlAnswer
+  pub said : prctls.answer task ≡ Some own
+  pub over : task.at ≡ prctl_at.Over own
+  pub answer_is : prctl_answer own ≡ answer
+  pub fits : prctls.Fits layout view task
+
+pub knows-prctl : {layout : Layout} {view : View} {who : Who} {thread : Thread} {args : PrctlArgs} (j : Job) {a : Answer} → BeginsPrctl layout who thread args (anew j) → Fits layout view j → answer j ≡ Some a → KnowsPrctl layout view who thread args j a
+knows-prctl {layout} {view} {who} {thread} {args} j {a} runs fits is = record {
+  task = task.0;
+  job_is = task.1;
+  who_is = ap (λ (p : Prctl). p.who) task.2;
+  thread_is = ap (λ (p : Prctl). p.thread) task.2;
+  arguments_are = ap (λ (p : Prctl). p.arguments) task.2;
+  own = own.0;
+  said = own.1;
+  over = prctl-over task.0 own.1;
+  answer_is = own.2;
+  fits = subst (Fits layout view) task.1 fits;
+}
+  where
+    task : (p : Prctl) × (j ≡ jobs.Prctl p) × (prctls.begin p.who p.thread p.process p.arguments ≡ prctls.begin who thread runs.decl.process (arguments args))
+    task = of-prctl j runs.job_is
+
+    own : (x : PrctlAnswer) × (prctls.answer task.0 ≡ Some x) × (prctl_answer x ≡ a)
+    own = mapped prctl_answer (prctls.answer task.0) (sym (ap answer task.1) ∙ is)
+
+pub prctl-caused : {layout : Layout} (list : List Command) (view : View) (told : List EventOutcome) (did : Option FrameChange) {who : Who} {thread : Thread} {args : PrctlArgs} (j : Job) {a : Answer} → BeginsPrctl layout who thread args (anew j) → Fits layout view j → answer j ≡ Some a
+    → ((t : Thread) → HasReplied j t → IsCounted list view who j t) → IsAnswerCaused layout list view who (commands.Prctl thread args) told did a
+prctl-caused {layout} list view told did {who} {thread} {args} j {a} runs fits is counted =
+    subst (λ (w : Who). IsAnswerCaused layout list view w (commands.Prctl thread args) told did a) k.who_is
+    (subst (λ (t : Thread). IsAnswerCaused layout list view k.task.who (commands.Prctl t args) told did a) k.thread_is
+    (subst (IsAnswerCaused layout list view k.task.who (commands.Prctl k.task.thread args) told did) k.answer_is
+    (called list told did k.task k.fits k.arguments_are k.own k.over (subst (prctls.FitsAt view k.task.who k.task.thread k.task.process k.task.arguments) k.over k.fits.at) known)))
+  where
+    k : KnowsPrctl layout view who thread args j a
+    k = knows-prctl j runs fits is
+
+    known : (r : Reply) → k.own ≡ prctl_answers.Replied r → IsCounted list view k.task.who (jobs.Prctl k.task) k.task.thread
+    known r replied = subst (λ (q : Job). IsCounted list view k.task.who q k.task.thread) k.job_is
+        (subst (λ (w : Who). IsCounted list view w j k.task.thread) (sym k.who_is) (counted k.task.thread (subst (λ (q : Job). HasReplied q k.task.thread) (sym k.job_is) (refl, r, k.said ∙ ap Some replied))))

@@ -1,0 +1,16 @@
+mod AccessCauses
+mod EvictCauses
+mod CallCauses
+mod RaiseCauses
+mod ScrubCauses
+mod InjectCauses
+mod OfflineCauses
+mod UnpoisonCauses
+mod StopCauses
+mod CauseLaws
+mod RowAccounts
+mod CommandTells
+pub mod RowServed
+pub use Rattle.hwp_law_holds.proofs as of_hwp_law_holds
+pub use Rattle.hwp_law_holds.proofs.of_hwp_law_run as of_hwp_law_run
+pub use Rattle.hwp_law_holds.proofs.of_hwp_plain_order as of_hwp_plain_order

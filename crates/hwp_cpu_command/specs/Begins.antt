@@ -1,0 +1,170 @@
+-- The task that a command begins as.
+use Rattle.std.specs.declared.alloc.Global.{Global}
+use Rattle.std.specs.Prelude.{◌≡◌, ℕ, ◌<◌, Some, None, length, slice_get}
+use Rattle.hwp_geom.specs.declared.Damage.{Damage}
+use Rattle.hwp_geom.specs.declared.Damage.TheVariants as damages
+use Rattle.hwp_geom.specs.declared.Frame.{Frame}
+use Rattle.hwp_geom.specs.declared.Layout.{Layout}
+use Rattle.hwp_geom.specs.declared.Mode.{Mode}
+use Rattle.hwp_geom.specs.declared.Mode.TheVariants as modes
+use Rattle.hwp_geom.specs.declared.Page.{Page}
+use Rattle.hwp_geom.specs.declared.Proc.{Proc}
+use Rattle.hwp_geom.specs.declared.Thread.{Thread}
+use Rattle.hwp_geom.specs.declared.ThreadDecl.{ThreadDecl}
+use Rattle.hwp_geom.specs.declared.VSlot.{VSlot}
+use Rattle.hwp_geom.specs.declared.Who.{Who}
+use Rattle.hwp_geom.specs.Layout.{IsSound}
+use Rattle.hwp_geom.specs.Limits.{line_limit}
+use Rattle.hwp_banks.specs.declared.Event.{Event}
+use Rattle.hwp_banks.specs.declared.Origin.{Origin}
+use Rattle.hwp_banks.specs.declared.Origin.TheVariants as origins
+use Rattle.hwp_banks.specs.Events.{bank_count}
+use Rattle.hwp_severity.specs.declared.McgBits.{McgBits}
+use Rattle.hwp_script_lines.specs.declared.Command.{Command}
+use Rattle.hwp_script_lines.specs.declared.Command.TheVariants as commands
+use Rattle.hwp_script_lines.specs.declared.PrctlArgs.{PrctlArgs}
+use Rattle.hwp_cpu_check.specs.hwp_law.Checks.{Banks}
+use Rattle.hwp_cpu_check.specs.hwp_law.Commands.{arrival_of}
+use Rattle.hwp_cpu_check.specs.hwp_law.Events.{raw_event}
+use Rattle.hwp_cpu_check.specs.hwp_law.Policies.{arguments}
+use Rattle.hwp_cpu_control.specs.Nesteds as nesteds
+use Rattle.hwp_cpu_control.specs.Prctls as prctls
+use Rattle.hwp_cpu_control.specs.Spoils as spoils
+use Rattle.hwp_evict.specs.declared.Eviction.{Eviction}
+use Rattle.hwp_evict.specs.declared.Eviction.TheVariants as evictions
+use Rattle.hwp_evict.specs.Evictions.{IsOfKind}
+use Rattle.hwp_evict.specs.Evicts as evicts
+use Rattle.hwp_evict.specs.Fsyncs as fsyncs
+use Rattle.hwp_fault.specs.declared.AccessKind.{AccessKind}
+use Rattle.hwp_fault.specs.declared.AccessKind.TheVariants as kinds
+use Rattle.hwp_fault.specs.declared.Request.{Request}
+use Rattle.hwp_fault.specs.Accesses as accesses
+use Rattle.hwp_claim.specs.Injects as injects
+use Rattle.hwp_cpu_access.specs.Instructions as instructions
+use Rattle.hwp_cpu_raise.specs.Logs as logs
+use Rattle.hwp_cpu_raise.specs.Raises as raises
+use Rattle.hwp_scrub.specs.Fits.{AreFrames}
+use Rattle.hwp_scrub.specs.Scrubs as scrubs
+use Rattle.hwp_soft.specs.Softs as softs
+use Rattle.hwp_soft_unpoison.specs.Unpoisons as unpoisons
+use Rattle.hwp_cpu_command.specs.declared.job.Job.{Job}
+use Rattle.hwp_cpu_command.specs.declared.job.Job.TheVariants as jobs
+
+abbrev pub request_of : Who → Thread → VSlot → ℕ → AccessKind → Page → Proc → Request
+request_of who thread slot line kind page process = record { who = who; thread = thread; slot = slot; line = line; kind = kind; page = page; process = process }
+
+abbrev pub begun_access : Global → Request → Origin → Mode → Banks → Job
+begun_access alloc request origin mode banks = jobs.Instruction (instructions.begin alloc request origin mode banks)
+
+-- an access by a thread, through a translation of the thread's own process to the page; it takes what the banks hold
+pub record BeginsAccess (layout : Layout) (who : Who) (thread : Thread) (slot : VSlot) (line : ℕ) (kind : AccessKind) (origin : Origin) (mode : Mode) (banks : Banks) (j : Job) : Type 0 where
+  pub sound : IsSound layout
+  pub three : length banks ≡ bank_count
+  pub page : Page
+  pub process : Proc
+  pub names : accesses.IsDeclared layout (request_of who thread slot line kind page process)
+  pub alloc : Global
+  pub job_is : j ≡ begun_access alloc (request_of who thread slot line kind page process) origin mode banks
+
+-- a load of data by the program, of an instruction, or of data by the kernel; a store
+abbrev pub BeginsLoad : Layout → Who → Thread → VSlot → ℕ → Banks → Job → Type 0
+BeginsLoad layout who thread slot line banks j = BeginsAccess layout who thread slot line kinds.Load origins.Access modes.User banks j
+
+abbrev pub BeginsFetch : Layout → Who → Thread → VSlot → ℕ → Banks → Job → Type 0
+BeginsFetch layout who thread slot line banks j = BeginsAccess layout who thread slot line kinds.Load origins.Fetch modes.User banks j
+
+abbrev pub BeginsKernelLoad : Layout → Who → Thread → VSlot → ℕ → Banks → Job → Type 0
+BeginsKernelLoad layout who thread slot line banks j = BeginsAccess layout who thread slot line kinds.Load origins.Access modes.Kernel banks j
+
+abbrev pub BeginsStore : Layout → Who → Thread → VSlot → ℕ → ℕ → Banks → Job → Type 0
+BeginsStore layout who thread slot line word banks j = BeginsAccess layout who thread slot line (kinds.Store word) origins.Access modes.User banks j
+
+-- an eviction of a page of the layout that is of the command's kind
+pub record BeginsEviction (layout : Layout) (who : Who) (page : Page) (what : Eviction) (j : Job) : Type 0 where
+  pub within : page.0 < length layout.pages
+  pub kind : IsOfKind layout page what
+  pub job_is : j ≡ jobs.Evict (evicts.begin who page what)
+
+-- a call of prctl(2) by a thread of the processor
+pub record BeginsPrctl (layout : Layout) (who : Who) (thread : Thread) (args : PrctlArgs) (j : Job) : Type 0 where
+  pub decl : ThreadDecl
+  pub declared : slice_get layout.threads thread.0 ≡ Some decl
+  pub own : decl.cpu ≡ who.cpu
+  pub within : decl.process.0 < layout.procs
+  pub job_is : j ≡ jobs.Prctl (prctls.begin who thread decl.process (arguments args))
+
+-- a failure of a frame of the layout
+pub record BeginsInject (layout : Layout) (who : Who) (frame : Frame) (j : Job) : Type 0 where
+  pub sound : IsSound layout
+  pub within : frame.0 < layout.frames
+  pub alloc : Global
+  pub job_is : j ≡ jobs.Inject (injects.begin alloc who frame)
+
+-- a raw event of these registers
+pub record BeginsLog (layout : Layout) (who : Who) (event : Event) (banks : Banks) (j : Job) : Type 0 where
+  pub three : length banks ≡ bank_count
+  pub job_is : j ≡ jobs.Log (logs.begin who event banks)
+
+-- a machine check by a thread of the processor, of what the banks hold
+pub record BeginsRaiseUser (layout : Layout) (who : Who) (thread : Thread) (mcg : McgBits) (banks : Banks) (j : Job) : Type 0 where
+  pub sound : IsSound layout
+  pub three : length banks ≡ bank_count
+  pub decl : ThreadDecl
+  pub declared : slice_get layout.threads thread.0 ≡ Some decl
+  pub own : decl.cpu ≡ who.cpu
+  pub within : decl.process.0 < layout.procs
+  pub alloc : Global
+  pub job_is : j ≡ jobs.Raise (raises.begin alloc who (Some (record { thread = thread; process = decl.process })) mcg banks)
+
+-- a machine check by the kernel, of what the banks hold
+pub record BeginsRaiseKernel (layout : Layout) (who : Who) (mcg : McgBits) (banks : Banks) (j : Job) : Type 0 where
+  pub sound : IsSound layout
+  pub three : length banks ≡ bank_count
+  pub alloc : Global
+  pub job_is : j ≡ jobs.Raise (raises.begin alloc who None mcg banks)
+
+-- a scrub of frames of the layout
+pub record BeginsScrub (layout : Layout) (who : Who) (first last : Frame) (banks : Banks) (j : Job) : Type 0 where
+  pub sound : IsSound layout
+  pub frames : AreFrames layout first last
+  pub alloc : Global
+  pub job_is : j ≡ jobs.Scrub (scrubs.begin alloc who first last banks)
+
+-- damage to a line of a frame of the layout
+pub record BeginsSpoil (layout : Layout) (who : Who) (frame : Frame) (line : ℕ) (damage : Damage) (j : Job) : Type 0 where
+  pub within : frame.0 < layout.frames
+  pub inside : line < line_limit
+  pub job_is : j ≡ jobs.Spoil (spoils.begin who frame line damage)
+
+-- a frame of the layout is taken out of use
+pub record BeginsSoft (layout : Layout) (who : Who) (frame : Frame) (j : Job) : Type 0 where
+  pub within : frame.0 < layout.frames
+  pub job_is : j ≡ jobs.Soft (softs.begin who frame)
+
+-- the poison of a frame of the layout is taken back
+pub record BeginsUnpoison (layout : Layout) (who : Who) (frame : Frame) (j : Job) : Type 0 where
+  pub within : frame.0 < layout.frames
+  pub job_is : j ≡ jobs.Unpoison (unpoisons.begin who frame)
+
+-- the task is at the beginning of the command, of a processor whose banks hold this
+abbrev pub Begins : Layout → Who → Command → Banks → Job → Type 0
+Begins layout who (commands.Load thread slot line) banks j = BeginsLoad layout who thread slot line banks j
+Begins layout who (commands.Fetch thread slot line) banks j = BeginsFetch layout who thread slot line banks j
+Begins layout who (commands.KLoad thread slot line) banks j = BeginsKernelLoad layout who thread slot line banks j
+Begins layout who (commands.Store thread slot line word) banks j = BeginsStore layout who thread slot line word banks j
+Begins layout who (commands.Free slot) banks j = (page : Page) × BeginsEviction layout who page (evictions.Free slot) j
+Begins layout who (commands.Drop page) banks j = BeginsEviction layout who page evictions.Drop j
+Begins layout who (commands.Sync page) banks j = BeginsEviction layout who page evictions.Sync j
+Begins layout who (commands.Out page) banks j = BeginsEviction layout who page evictions.Out j
+Begins layout who (commands.Fsync file) banks j = (file.0 < layout.files) × (j ≡ jobs.Fsync (fsyncs.begin who file))
+Begins layout who (commands.Prctl thread args) banks j = BeginsPrctl layout who thread args j
+Begins layout who (commands.Bad frame line) banks j = BeginsSpoil layout who frame line damages.Bad j
+Begins layout who (commands.Weak frame line) banks j = BeginsSpoil layout who frame line damages.Weak j
+Begins layout who (commands.Scrub first last) banks j = BeginsScrub layout who first last banks j
+Begins layout who (commands.Log status addr misc) banks j = BeginsLog layout who (raw_event status addr misc) banks j
+Begins layout who (commands.RaiseUser thread ripv eipv) banks j = BeginsRaiseUser layout who thread (arrival_of (commands.RaiseUser thread ripv eipv)).mcg banks j
+Begins layout who (commands.RaiseKernel ripv eipv) banks j = BeginsRaiseKernel layout who (arrival_of (commands.RaiseKernel ripv eipv)).mcg banks j
+Begins layout who commands.RaiseNested banks j = j ≡ jobs.Nested (nesteds.begin who)
+Begins layout who (commands.Inject frame) banks j = BeginsInject layout who frame j
+Begins layout who (commands.Soft frame) banks j = BeginsSoft layout who frame j
+Begins layout who (commands.Unpoison frame) banks j = BeginsUnpoison layout who frame j

@@ -1,0 +1,59 @@
+-- Which command a task is of, whatever state it is in, and what a processor has where a command begins.
+use Rattle.std.specs.Prelude.{◌≡◌, []}
+use Rattle.hwp_geom.specs.declared.Layout.{Layout}
+use Rattle.hwp_geom.specs.declared.Thread.{Thread}
+use Rattle.hwp_geom.specs.declared.Who.{Who}
+use Rattle.hwp_script_lines.specs.declared.Command.{Command}
+use Rattle.hwp_core_rule.specs.declared.View.{View}
+use Rattle.hwp_core_task.specs.Calls.{IsOnTurn}
+use Rattle.hwp_core_task.specs.Hands.{hand_of, empty}
+use Rattle.hwp_core_task.specs.Known.{HasMadeNone}
+use Rattle.hwp_soft_unpoison.specs.hwp_claim_frame.Claims.{HasMarkedNone}
+use Rattle.hwp_cpu_control.specs.Nesteds as nesteds
+use Rattle.hwp_cpu_control.specs.Prctls as prctls
+use Rattle.hwp_cpu_control.specs.Prctls.{HasSettingLeft}
+use Rattle.hwp_cpu_control.specs.Spoils as spoils
+use Rattle.hwp_evict.specs.Evicts as evicts
+use Rattle.hwp_evict.specs.Fsyncs as fsyncs
+use Rattle.hwp_claim.specs.Injects as injects
+use Rattle.hwp_cpu_access.specs.Instructions as instructions
+use Rattle.hwp_cpu_raise.specs.Logs as logs
+use Rattle.hwp_cpu_raise.specs.Raises as raises
+use Rattle.hwp_scrub.specs.Scrubs as scrubs
+use Rattle.hwp_soft.specs.Softs as softs
+use Rattle.hwp_soft_unpoison.specs.Unpoisons as unpoisons
+use Rattle.hwp_soft_unpoison.specs.Unpoisons.{HasRevivalLeft}
+use Rattle.hwp_cpu_command.specs.declared.job.Job.{Job}
+use Rattle.hwp_cpu_command.specs.declared.job.Job.TheVariants as jobs
+use Rattle.hwp_cpu_command.specs.Begins.{Begins}
+use Rattle.hwp_cpu_command.specs.Jobs.{banks_before}
+
+-- the task of the same command at its beginning
+abbrev pub anew : Job → Job
+anew (jobs.Instruction i) = jobs.Instruction (instructions.begin i.alloc i.request i.origin i.mode i.before.value)
+anew (jobs.Evict e) = jobs.Evict (evicts.begin e.who e.page e.what)
+anew (jobs.Fsync f) = jobs.Fsync (fsyncs.begin f.who f.file)
+anew (jobs.Prctl p) = jobs.Prctl (prctls.begin p.who p.thread p.process p.arguments)
+anew (jobs.Log l) = jobs.Log (logs.begin l.read.who l.event l.before.value)
+anew (jobs.Raise r) = jobs.Raise (raises.begin r.alloc r.who r.raiser r.mcg r.before.value)
+anew (jobs.Scrub s) = jobs.Scrub (scrubs.begin s.alloc s.who s.first s.last s.before.value)
+anew (jobs.Spoil s) = jobs.Spoil (spoils.begin s.who s.frame s.line s.damage)
+anew (jobs.Nested n) = jobs.Nested (nesteds.begin n.who)
+anew (jobs.Inject i) = jobs.Inject (injects.begin i.alloc i.who i.frame)
+anew (jobs.Soft s) = jobs.Soft (softs.begin s.who s.frame)
+anew (jobs.Unpoison u) = jobs.Unpoison (unpoisons.begin u.who u.frame)
+
+-- the task is of the command: begun anew, it is what the command begins as, where the banks hold what they held then
+abbrev pub Runs : Layout → Who → Command → Job → Type 0
+Runs layout who command j = Begins layout who command (banks_before j []) (anew j)
+
+-- the processor holds nothing and owes no loss, and may begin the command, which has made no entry and marked no frame yet; each
+-- thread can be set once more, and a poison taken back once more
+pub record AtRest (view : View) (who : Who) : Type 0 where
+  pub on_turn : IsOnTurn view who
+  pub hand_is : hand_of view ≡ empty
+  pub paid : view.owed.losses ≡ []
+  pub made : HasMadeNone view who
+  pub unmarked : HasMarkedNone view who
+  pub left : (thread : Thread) → HasSettingLeft thread view
+  pub revivals : HasRevivalLeft who.cpu view

@@ -1,0 +1,166 @@
+-- What stays true from one command of a processor to the next: the stop of the machine, what bars a thread from setting its
+-- policy, and the policies that are set.
+use Rattle.std.specs.Prelude.{◌≡◌, ◌≢◌, ◌⊎◌, ℕ, ◌+◌, ◌≤◌, true, List, [], ◌∷◌, ◌++◌, Option, Some, length}
+use Rattle.hwp_geom.specs.declared.Frame.{Frame}
+use Rattle.hwp_geom.specs.declared.Layout.{Layout}
+use Rattle.hwp_geom.specs.declared.Proc.{Proc}
+use Rattle.hwp_geom.specs.declared.Thread.{Thread}
+use Rattle.hwp_geom.specs.declared.Who.{Who}
+use Rattle.hwp_kill.specs.declared.Policy.{Policy}
+use Rattle.hwp_page.specs.History.{BodyValue}
+use Rattle.hwp_core_rule.specs.hwp_words.Stops.{is_stopped}
+use Rattle.hwp_core_rule.specs.declared.SharedWord.TheVariants as places
+use Rattle.hwp_core_rule.specs.declared.Sight.{Sight}
+use Rattle.hwp_core_rule.specs.declared.Spoiled.{Spoiled}
+use Rattle.hwp_core_rule.specs.declared.Step.{Step}
+use Rattle.hwp_core_rule.specs.declared.View.{View}
+use Rattle.hwp_core_rule.specs.Lists.{SomeMember, StartsWith}
+use Rattle.hwp_core_rule.specs.parts.Policies.{settings_of}
+use Rattle.hwp_core_task.specs.declared.Turn.{Turn}
+use Rattle.hwp_core_task.specs.Calls.{Steps, logs}
+use Rattle.hwp_script_lines.specs.declared.Command.{Command}
+use Rattle.hwp_report_text.specs.declared.Answer.TheVariants as answers
+use Rattle.hwp_cpu_check.specs.hwp_law.Commands.{process_of_thread}
+use Rattle.hwp_cpu_check.specs.hwp_law.Policies.{settings}
+use Rattle.hwp_cpu_control.specs.declared.NestedAnswer.TheVariants as nested_answers
+use Rattle.hwp_cpu_control.specs.declared.PrctlAnswer.TheVariants as prctl_answers
+use Rattle.hwp_cpu_control.specs.declared.SpoilAnswer.TheVariants as spoil_answers
+use Rattle.hwp_cpu_control.specs.declared.nested.NestedAt.TheVariants as nested_at
+use Rattle.hwp_cpu_control.specs.declared.prctl.PrctlAt.{PrctlAt}
+use Rattle.hwp_cpu_control.specs.declared.prctl.PrctlAt.TheVariants as prctl_at
+use Rattle.hwp_cpu_control.specs.declared.read_stop.ReadStopAt.TheVariants as read_stop_at
+use Rattle.hwp_cpu_control.specs.declared.spoil.SpoilAt.TheVariants as spoil_at
+use Rattle.hwp_evict.specs.declared.evict.EvictAt.TheVariants as evict_at
+use Rattle.hwp_evict.specs.declared.fsync.FsyncAt.TheVariants as fsync_at
+use Rattle.hwp_fault.specs.declared.Access.{Access}
+use Rattle.hwp_fault.specs.declared.access.AccessAt.TheVariants as access_at
+use Rattle.hwp_soft_unpoison.specs.hwp_claim_frame.declared.claim.Claim.{Claim}
+use Rattle.hwp_soft_unpoison.specs.hwp_claim_frame.declared.claim.ClaimAt.TheVariants as claim_at
+use Rattle.hwp_claim.specs.declared.fail.Fail.{Fail}
+use Rattle.hwp_claim.specs.declared.fail.FailAt.TheVariants as fail_at
+use Rattle.hwp_claim.specs.declared.FailAnswer.TheVariants as fail_answers
+use Rattle.hwp_claim.specs.declared.inject.InjectAt.TheVariants as inject_at
+use Rattle.hwp_cpu_check.specs.declared.Handler.{Handler}
+use Rattle.hwp_cpu_check.specs.declared.handler.HandlerAt.TheVariants as handler_at
+use Rattle.hwp_cpu_check.specs.Told.{halts}
+use Rattle.hwp_cpu_access.specs.declared.InstructionAnswer.TheVariants as instruction_answers
+use Rattle.hwp_cpu_access.specs.declared.instruction.InstructionAt.TheVariants as instruction_at
+use Rattle.hwp_cpu_access.specs.Instructions as instructions
+use Rattle.hwp_cpu_raise.specs.declared.RaiseAnswer.TheVariants as raise_answers
+use Rattle.hwp_cpu_raise.specs.declared.raise.RaiseAt.TheVariants as raise_at
+use Rattle.hwp_cpu_raise.specs.Raises as raises
+use Rattle.hwp_scrub.specs.declared.ScrubAnswer.TheVariants as scrub_answers
+use Rattle.hwp_scrub.specs.declared.scrub.ScrubAt.TheVariants as scrub_at
+use Rattle.hwp_scrub.specs.Scrubs as scrubs
+use Rattle.hwp_soft.specs.declared.soft.SoftAt.TheVariants as soft_at
+use Rattle.hwp_soft_unpoison.specs.declared.unpoison.UnpoisonAt.TheVariants as unpoison_at
+use Rattle.hwp_cpu_command.specs.declared.job.Job.{Job}
+use Rattle.hwp_cpu_command.specs.declared.job.Job.TheVariants as jobs
+use Rattle.hwp_cpu_command.specs.Jobs.{Fits, Next, answer, bare, plan, put, who}
+use Rattle.hwp_cpu_command.specs.Settings.{IsCounted, policies_in, set_now}
+
+-- the command made the step that came, and what follows is told
+pub record Stepped (layout : Layout) (old new : View) (j after : Job) : Type 0 where
+  pub step : Step
+  pub found : ℕ
+  pub got : Option BodyValue
+  pub turn : Turn
+  pub fits : Fits layout old j
+  pub planned : plan j ≡ Some step
+  pub made : Steps layout (who j) step (logs (put j)) old new found got
+  pub follows : Next layout (bare j) found got after turn
+
+-- ---- the stop
+
+-- a step showed that a processor had stopped the machine, or a command of this one stopped it
+abbrev pub IsHalted : View → Type 0
+IsHalted view = SomeMember (λ (s : Sight). (s.place ≡ places.Stop) × (is_stopped s.word ≡ true)) view.sights ⊎ SomeMember (λ (w : Who). Unit {0}) view.stops
+
+-- the command has yet to look whether the machine has stopped, and has told nothing
+abbrev pub IsAtStop : Job → Type 0
+IsAtStop (jobs.Instruction i) = (a : Access) × (i.at ≡ instruction_at.Access a) × (a.at ≡ access_at.LoadStop) × (i.lines.told ≡ [])
+IsAtStop (jobs.Evict e) = e.at ≡ evict_at.LoadStop
+IsAtStop (jobs.Fsync f) = f.at ≡ fsync_at.LoadStop
+IsAtStop (jobs.Prctl p) = p.at ≡ prctl_at.LoadStop
+IsAtStop (jobs.Log l) = l.read.at ≡ read_stop_at.LoadStop
+IsAtStop (jobs.Raise r) = (r.at ≡ raise_at.LoadStop) × (r.lines.told ≡ [])
+IsAtStop (jobs.Scrub s) = (s.at ≡ scrub_at.LoadStop) × (s.lines.told ≡ [])
+IsAtStop (jobs.Spoil s) = s.at ≡ spoil_at.LoadStop
+IsAtStop (jobs.Nested n) = n.at ≡ nested_at.LoadStop
+IsAtStop (jobs.Inject i) = i.at ≡ inject_at.LoadStop
+IsAtStop (jobs.Soft s) = s.at ≡ soft_at.LoadStop
+IsAtStop (jobs.Unpoison u) = u.at ≡ unpoison_at.LoadStop
+
+-- on a machine that has stopped the command has no other answer: it has yet to look, or is answered `stopped`
+abbrev pub EndsStopped : Job → Type 0
+EndsStopped j = IsAtStop j ⊎ (answer j ≡ Some answers.Stopped)
+
+-- the step of the command is to stop the machine: for an event of its machine check, as a machine check inside a machine check, or
+-- for a failure on a machine that doesn't recover
+abbrev pub IsStopping : Job → Type 0
+IsStopping (jobs.Instruction i) = (frame : Frame) × (h : Handler) × (i.at ≡ instruction_at.Handle frame h) × (h.at ≡ handler_at.Stop)
+IsStopping (jobs.Raise r) = (h : Handler) × (r.at ≡ raise_at.Handle h) × (h.at ≡ handler_at.Stop)
+IsStopping (jobs.Scrub s) = (frame : Frame) × (h : Handler) × (s.at ≡ scrub_at.Handle frame h) × (h.at ≡ handler_at.Stop)
+IsStopping (jobs.Nested n) = n.at ≡ nested_at.Stop
+IsStopping (jobs.Inject i) = (f : Fail) × (c : Claim) × (i.at ≡ inject_at.Fail f) × (f.at ≡ fail_at.Claim c) × (c.at ≡ claim_at.Stop)
+IsStopping _ = ⊥
+
+-- the command that could stop the machine found it stopped by that step, or stopped it
+abbrev pub HasStopped : Job → Type 0
+HasStopped (jobs.Instruction i) = (instructions.answer i ≡ Some instruction_answers.Stopped) × (halts i.lines.told ≡ true)
+HasStopped (jobs.Raise r) = (raises.answer r ≡ Some raise_answers.Stopped) × (halts r.lines.told ≡ true)
+HasStopped (jobs.Scrub s) = (scrubs.answer s ≡ Some scrub_answers.Stopped) × (halts s.lines.told ≡ true)
+HasStopped (jobs.Nested n) = n.at ≡ nested_at.Over (Some nested_answers.Shutdown)
+HasStopped (jobs.Inject i) = (f : Fail) × (i.at ≡ inject_at.Fail f) × (f.at ≡ fail_at.Over fail_answers.Stopped)
+HasStopped _ = ⊥
+
+-- the command stopped the machine with this step
+pub record StopsItself (j after : Job) (old new : View) : Type 0 where
+  pub stopping : IsStopping j
+  pub has : HasStopped after
+  pub stops_are : new.stops ≡ old.stops ++ who j ∷ []
+
+-- ---- damage
+
+-- the command made this damage to a line
+abbrev pub HasSpoiled : Job → Spoiled → Type 0
+HasSpoiled (jobs.Spoil s) spoiled = (s.at ≡ spoil_at.Over spoil_answers.Done) × (s.who ≡ spoiled.stamp.who) × (s.frame ≡ spoiled.frame) × (s.line ≡ spoiled.line) × (s.damage ≡ spoiled.damage)
+HasSpoiled _ spoiled = ⊥
+
+-- ---- threads that can't set their policy
+
+-- a step showed that the thread's process had ended
+pub record HasEnded (layout : Layout) (view : View) (thread : Thread) : Type 0 where
+  pub process : Proc
+  pub process_is : process_of_thread layout thread ≡ Some process
+  pub shown : SomeMember (λ (s : Sight). (s.place ≡ places.Process process) × (s.word ≢ 0)) view.sights
+
+-- a call of prctl(2) by the thread that begins now comes to no reply
+abbrev pub IsBarred : Layout → View → Thread → Type 0
+IsBarred layout view thread = IsHalted view ⊎ HasEnded layout view thread
+
+-- the call hasn't got past the word of its process
+abbrev pub IsNotPast : PrctlAt → Type 0
+IsNotPast prctl_at.LoadPolicy = ⊥
+IsNotPast (prctl_at.SetPolicy policy settings) = ⊥
+IsNotPast (prctl_at.Over (prctl_answers.Replied reply)) = ⊥
+IsNotPast _ = Unit {0}
+
+-- the command is no call by the thread, or is one that hasn't got past the word of the process
+abbrev pub HasNotReplied : Thread → Job → Type 0
+HasNotReplied thread (jobs.Prctl p) = p.thread ≡ thread → IsNotPast p.at
+HasNotReplied thread _ = Unit {0}
+
+-- neither this command nor a later one sets the thread's policy or tells it
+abbrev pub CannotReply : Layout → View → Thread → Job → Type 0
+CannotReply layout view thread j = (IsHalted view × EndsStopped j) ⊎ (HasEnded layout view thread × HasNotReplied thread j)
+
+-- ---- policies
+
+-- What a processor knows of policies while it runs a command of its list: those of each thread are listed as the commands say,
+-- but for threads that can't set theirs any more; those listed before this command begin what the commands say; and no thread was
+-- set more often than there were commands.
+pub record KnowsPolicies (layout : Layout) (list : List Command) (view : View) (who : Who) (j : Job) : Type 0 where
+  pub each : (thread : Thread) → CannotReply layout view thread j ⊎ IsCounted list view who j thread
+  pub starts : (thread : Thread) → (before : List Policy) × StartsWith before (settings thread list) × (policies_in thread view ≡ before ++ set_now thread j)
+  pub few : (thread : Thread) → length (settings_of thread view.settings) ≤ who.seq + length (set_now thread j)

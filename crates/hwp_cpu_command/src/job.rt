@@ -1,0 +1,471 @@
+ghost use Rattle.std.specs.Prelude.{◌≡◌, [], None, option_and_then};
+
+use hwp_banks::{BANKS, Bank};
+use hwp_claim::{FailAnswer, Inject};
+use hwp_core_rule::Step;
+use hwp_core_task::{Ranked, Scheduled, Task, Turn};
+use hwp_cpu_access::{Instruction, InstructionAnswer};
+use hwp_cpu_check::{EventOutcome, Found};
+use hwp_cpu_control::{
+    Nested, NestedAnswer, Prctl, PrctlAnswer, ReadStopAnswer, Spoil, SpoilAnswer,
+};
+use hwp_cpu_raise::{Log, Raise, RaiseAnswer};
+use hwp_cpu_row::{FrameChange, Row};
+use hwp_evict::{Evict, EvictAnswer, Fsync, FsyncAnswer, Refusal};
+use hwp_geom::{Frame, Layout, List, Who};
+use hwp_kill::Reply;
+use hwp_page::{At, Body, Outcome};
+use hwp_report_text::Answer;
+use hwp_scrub::{Scrub, ScrubAnswer};
+use hwp_soft::{Soft, SoftAnswer};
+use hwp_soft_unpoison::{Unpoison, UnpoisonAnswer};
+use std::alloc::Global;
+
+/// A command of a fault script that runs.
+#[derive(Drop)]
+pub enum Job {
+    /// A load, a fetch, a load in kernel mode or a store.
+    Instruction(Instruction),
+    /// A command by which a page, or a part of it, leaves its frame.
+    Evict(Evict),
+    /// The losses of a file are taken.
+    Fsync(Fsync),
+    /// A call of prctl(2).
+    Prctl(Prctl),
+    /// A raw event is logged.
+    Log(Log),
+    /// A machine check is raised.
+    Raise(Raise),
+    /// Frames are scrubbed.
+    Scrub(Scrub),
+    /// A line of a frame goes bad, or gets weak.
+    Spoil(Spoil),
+    /// A machine check inside a machine check.
+    Nested(Nested),
+    /// A failure of a frame.
+    Inject(Inject),
+    /// A frame is taken out of use.
+    Soft(Soft),
+    /// A frame's poison is taken back.
+    Unpoison(Unpoison),
+}
+
+impl Job {
+    ghost use Rattle.hwp_cpu_command.specs.Jobs.{answer, banks_after, row_of};
+
+    /// What the command answers; `None` until it is over, and where it gave up because memory ran out.
+    pub fn answer(&self) -> Option<Answer>
+        ensures { result ≡ answer self.now }
+    {
+        match self {
+            Job::Instruction(instruction) => {
+                instruction
+                    .answer()
+                    .map(|answer| instruction_answer(answer))
+            }
+            Job::Evict(evict) => evict.answer().map(|answer| evict_answer(answer)),
+            Job::Fsync(fsync) => fsync.answer().map(|answer| fsync_answer(answer)),
+            Job::Prctl(prctl) => prctl.answer().map(|answer| prctl_answer(answer)),
+            Job::Log(log) => log.answer().map(|answer| read_stop_answer(answer)),
+            Job::Raise(raise) => {
+                let lines = raise.told().len();
+                raise.answer().map(|answer| raise_answer(lines, answer))
+            }
+            Job::Scrub(scrub) => {
+                let lines = scrub.told().len();
+                scrub.answer().map(|answer| scrub_answer(lines, answer))
+            }
+            Job::Spoil(spoil) => spoil.answer().map(|answer| spoil_answer(answer)),
+            Job::Nested(nested) => nested.answer().map(|answer| nested_answer(answer)),
+            Job::Inject(inject) => inject.answer().map(|answer| fail_answer(answer)),
+            Job::Soft(soft) => soft.answer().map(|answer| soft_answer(answer)),
+            Job::Unpoison(unpoison) => unpoison.answer().map(|answer| unpoison_answer(answer)),
+        }
+    }
+
+    /// The row of a command that is over, with this answer. The banks get back what the command took from them, and has left.
+    pub fn finish(self, alloc: Global, answer: Answer, banks: &mut [Bank; BANKS]) -> Row
+        ensures row { result ≡ row_of self answer }
+        ensures banks { banks.new ≡ banks_after self banks.old }
+    {
+        match self {
+            Job::Instruction(instruction) => row(instruction.finish(banks), None, answer),
+            Job::Raise(raise) => row(raise.finish(banks), None, answer),
+            Job::Scrub(scrub) => row(scrub.finish(banks), None, answer),
+            Job::Log(log) => {
+                log.finish(banks);
+                row(List::new(alloc), None, answer)
+            }
+            Job::Inject(inject) => {
+                let own = own_of(inject.frame(), inject.answer());
+                drop(inject);
+                row(List::new(alloc), own, answer)
+            }
+            Job::Soft(soft) => {
+                let own = offlined_of(soft.frame(), soft.answer());
+                drop(soft);
+                row(List::new(alloc), own, answer)
+            }
+            Job::Unpoison(unpoison) => {
+                let own = revived_of(unpoison.frame(), unpoison.answer());
+                drop(unpoison);
+                row(List::new(alloc), own, answer)
+            }
+            Job::Evict(evict) => answered(alloc, evict, answer),
+            Job::Fsync(fsync) => answered(alloc, fsync, answer),
+            Job::Prctl(prctl) => answered(alloc, prctl, answer),
+            Job::Spoil(spoil) => answered(alloc, spoil, answer),
+            Job::Nested(nested) => answered(alloc, nested, answer),
+        }
+    }
+}
+
+ghost use Rattle.hwp_cpu_command.specs.Answers.{evict_answer, fail_answer, fsync_answer, instruction_answer, nested_answer, prctl_answer, raise_answer, read_stop_answer, refusal_answer, scrub_answer, soft_answer, spoil_answer, unpoison_answer};
+ghost use Rattle.hwp_cpu_command.specs.Jobs.{offlined_by, own_by, revived_by, row};
+ghost use Rattle.hwp_cpu_check.specs.Told.{found_by};
+ghost use Rattle.hwp_cpu_check.specs.hwp_law.Answers.{reply_answer};
+ghost use Rattle.hwp_cpu_check.specs.hwp_law.Records.{outcome_answer};
+
+fn row(told: List<EventOutcome>, own: Option<FrameChange>, answer: Answer) -> Row
+    ensures { result ≡ row told own answer }
+{
+    Row { told, own, answer }
+}
+
+/// The row of a command that comes to no more than its answer.
+fn answered<T: Drop>(alloc: Global, task: T, answer: Answer) -> Row
+    ensures { result ≡ row [] None answer }
+{
+    drop(task);
+    row(List::new(alloc), None, answer)
+}
+
+/// The report's answer for an access.
+fn instruction_answer(answer: InstructionAnswer) -> Answer
+    ensures { result ≡ instruction_answer answer }
+{
+    match answer {
+        InstructionAnswer::Value { word, at } => Answer::Value { word, at },
+        InstructionAnswer::Stored { at } => Answer::Stored(at),
+        InstructionAnswer::Sigbus { at } => Answer::Sigbus(at),
+        InstructionAnswer::NoFrame => Answer::NoFrame,
+        InstructionAnswer::Gone { page } => Answer::Gone(page),
+        InstructionAnswer::Stopped => Answer::Stopped,
+    }
+}
+
+/// What it says of a page that was left as it was.
+fn refusal_answer(refusal: Refusal, at: At) -> Answer
+    ensures { result ≡ refusal_answer refusal at }
+{
+    match refusal {
+        Refusal::NotMapped => Answer::NotMapped(at),
+        Refusal::NotResident => Answer::NotResident(at),
+        Refusal::Dirty => Answer::Dirty(at),
+        Refusal::Mapped => Answer::Mapped(at),
+        Refusal::BadLines(mask) => Answer::BadLines(mask, at),
+    }
+}
+
+/// What it says of a page, or a part of it, that was to leave its frame.
+fn evict_answer(answer: EvictAnswer) -> Answer
+    ensures { result ≡ evict_answer answer }
+{
+    match answer {
+        EvictAnswer::Stopped => Answer::Stopped,
+        EvictAnswer::Done(at) => Answer::DoneAt(at),
+        EvictAnswer::Refused(refusal, at) => refusal_answer(refusal, at),
+    }
+}
+
+/// What it says of the losses of a file.
+fn fsync_answer(answer: FsyncAnswer) -> Answer
+    ensures { result ≡ fsync_answer answer }
+{
+    match answer {
+        FsyncAnswer::Stopped => Answer::Stopped,
+        FsyncAnswer::Done => Answer::Done,
+        FsyncAnswer::Eio(lost) => Answer::Eio(lost),
+    }
+}
+
+/// What it says of a reply of prctl(2).
+fn reply_answer(reply: Reply) -> Answer
+    ensures { result ≡ reply_answer reply }
+{
+    match reply {
+        Reply::Set(_) => Answer::Done,
+        Reply::Is(policy) => Answer::Is(policy.number()),
+        Reply::Einval => Answer::Einval,
+    }
+}
+
+/// What it says of a call of prctl(2).
+fn prctl_answer(answer: PrctlAnswer) -> Answer
+    ensures { result ≡ prctl_answer answer }
+{
+    match answer {
+        PrctlAnswer::Replied(reply) => reply_answer(reply),
+        PrctlAnswer::Gone(page) => Answer::Gone(page),
+        PrctlAnswer::Stopped => Answer::Stopped,
+    }
+}
+
+/// What it says of a machine check, which has this many event lines.
+fn raise_answer(lines: usize, answer: RaiseAnswer) -> Answer
+    ensures { result ≡ raise_answer lines answer }
+{
+    match answer {
+        RaiseAnswer::Raised => Answer::Raised(lines as u64),
+        RaiseAnswer::Gone(page) => Answer::Gone(page),
+        RaiseAnswer::Stopped => Answer::Stopped,
+    }
+}
+
+/// What it says of a scrub, which has this many event lines.
+fn scrub_answer(lines: usize, answer: ScrubAnswer) -> Answer
+    ensures { result ≡ scrub_answer lines answer }
+{
+    match answer {
+        ScrubAnswer::Scrubbed => Answer::Scrubbed(lines as u64),
+        ScrubAnswer::Stopped => Answer::Stopped,
+    }
+}
+
+/// What it says of damage to a line.
+fn spoil_answer(answer: SpoilAnswer) -> Answer
+    ensures { result ≡ spoil_answer answer }
+{
+    match answer {
+        SpoilAnswer::Done => Answer::Done,
+        SpoilAnswer::Stopped => Answer::Stopped,
+    }
+}
+
+/// What it says of a command that else only looked whether the machine had stopped.
+fn read_stop_answer(answer: ReadStopAnswer) -> Answer
+    ensures { result ≡ read_stop_answer answer }
+{
+    match answer {
+        ReadStopAnswer::Done => Answer::Done,
+        ReadStopAnswer::Stopped => Answer::Stopped,
+    }
+}
+
+/// What it says of a machine check inside a machine check.
+fn nested_answer(answer: NestedAnswer) -> Answer
+    ensures { result ≡ nested_answer answer }
+{
+    match answer {
+        NestedAnswer::Shutdown | NestedAnswer::Stopped => Answer::Stopped,
+    }
+}
+
+/// What it says of a memory failure.
+fn fail_answer(answer: FailAnswer) -> Answer
+    ensures { result ≡ fail_answer answer }
+{
+    match answer {
+        FailAnswer::Stopped => Answer::Stopped,
+        FailAnswer::Already => Answer::Already,
+        FailAnswer::Done { situation, .. } => outcome_answer(situation.outcome()),
+    }
+}
+
+/// What it says of a frame that was to be taken out of use.
+fn soft_answer(answer: SoftAnswer) -> Answer
+    ensures { result ≡ soft_answer answer }
+{
+    match answer {
+        SoftAnswer::Stopped => Answer::Stopped,
+        SoftAnswer::Kernel => Answer::Kernel,
+        SoftAnswer::Already => Answer::Already,
+        SoftAnswer::HasBad(mask) => Answer::HasBad(mask),
+        SoftAnswer::NoFrame => Answer::NoFrame,
+        SoftAnswer::TakenFree { .. } => Answer::TakenFree,
+        SoftAnswer::Moved { frame, at, .. } => Answer::Moved(frame, at),
+    }
+}
+
+/// What it says of a frame whose poison was to be taken back.
+fn unpoison_answer(answer: UnpoisonAnswer) -> Answer
+    ensures { result ≡ unpoison_answer answer }
+{
+    match answer {
+        UnpoisonAnswer::Done { .. } => Answer::Done,
+        UnpoisonAnswer::Stopped => Answer::Stopped,
+        UnpoisonAnswer::NotPoisoned => Answer::NotPoisoned,
+        UnpoisonAnswer::HardwareSeen => Answer::HardwareSeen,
+        UnpoisonAnswer::HasBad(mask) => Answer::HasBad(mask),
+        UnpoisonAnswer::InUse { count } => Answer::InUse(u64::from(count)),
+    }
+}
+
+/// What it says of the outcome of a memory failure.
+fn outcome_answer(outcome: Outcome) -> Answer
+    ensures { result ≡ outcome_answer outcome }
+{
+    match outcome {
+        Outcome::Recovered => Answer::Recovered,
+        Outcome::Delayed => Answer::Delayed,
+        Outcome::Ignored => Answer::Ignored,
+    }
+}
+
+/// What a failure found, where it poisoned its frame.
+fn found_by(answer: FailAnswer) -> Option<Found>
+    ensures { result ≡ found_by answer }
+{
+    match answer {
+        FailAnswer::Stopped | FailAnswer::Already => None,
+        FailAnswer::Done {
+            situation,
+            cycle,
+            at,
+            signalled,
+        } => Some(Found {
+            situation,
+            cycle,
+            at,
+            signalled,
+        }),
+    }
+}
+
+/// What a failure did to its frame.
+fn own_of(frame: Frame, answer: Option<FailAnswer>) -> Option<FrameChange>
+    ensures { result ≡ own_by frame answer }
+{
+    let found = found_by(answer?)?;
+    Some(FrameChange::Failed { frame, found })
+}
+
+/// What a command that takes a frame out of use did to it.
+fn offlined_by(frame: Frame, answer: SoftAnswer) -> Option<FrameChange>
+    ensures { result ≡ offlined_by frame answer }
+{
+    match answer {
+        SoftAnswer::Stopped
+        | SoftAnswer::Kernel
+        | SoftAnswer::Already
+        | SoftAnswer::HasBad(_)
+        | SoftAnswer::NoFrame => None,
+        SoftAnswer::TakenFree { cycle } => Some(FrameChange::Offlined {
+            frame,
+            cycle,
+            moved: false,
+        }),
+        SoftAnswer::Moved { cycle, .. } => Some(FrameChange::Offlined {
+            frame,
+            cycle,
+            moved: true,
+        }),
+    }
+}
+
+fn offlined_of(frame: Frame, answer: Option<SoftAnswer>) -> Option<FrameChange>
+    ensures { result ≡ option_and_then (offlined_by frame) answer }
+{
+    offlined_by(frame, answer?)
+}
+
+/// What a command that takes a frame's poison back did to it.
+fn revived_by(frame: Frame, answer: UnpoisonAnswer) -> Option<FrameChange>
+    ensures { result ≡ revived_by frame answer }
+{
+    match answer {
+        UnpoisonAnswer::Done { cycle } => Some(FrameChange::Revived { frame, cycle }),
+        UnpoisonAnswer::Stopped
+        | UnpoisonAnswer::NotPoisoned
+        | UnpoisonAnswer::HardwareSeen
+        | UnpoisonAnswer::HasBad(_)
+        | UnpoisonAnswer::InUse { .. } => None,
+    }
+}
+
+fn revived_of(frame: Frame, answer: Option<UnpoisonAnswer>) -> Option<FrameChange>
+    ensures { result ≡ option_and_then (revived_by frame) answer }
+{
+    revived_by(frame, answer?)
+}
+
+/// A `match` whose arms are alike: what the task of a command does, whatever its kind.
+macro_rules! of_kind {
+    ($job:expr, $task:ident => $does:expr) => {
+        match $job {
+            Job::Instruction($task) => $does,
+            Job::Evict($task) => $does,
+            Job::Fsync($task) => $does,
+            Job::Prctl($task) => $does,
+            Job::Log($task) => $does,
+            Job::Raise($task) => $does,
+            Job::Scrub($task) => $does,
+            Job::Spoil($task) => $does,
+            Job::Nested($task) => $does,
+            Job::Inject($task) => $does,
+            Job::Soft($task) => $does,
+            Job::Unpoison($task) => $does,
+        }
+    };
+}
+
+impl Task for Job {
+    ghost use Rattle.std.specs.Prelude.{◌≡◌};
+    ghost use Rattle.hwp_cpu_command.specs.Jobs.{Fits, Next, Shows, bare, plan, put, who};
+
+    ghost who = { λ j. who j };
+
+    ghost plan = { λ j. plan j };
+
+    ghost put = { λ j. put j };
+
+    ghost bare = { λ j. bare j };
+
+    ghost shows = { λ j found got. Shows j found got };
+
+    ghost next = { λ layout j found got after result. Next layout j found got after result };
+
+    ghost fits = { λ layout view j. Fits layout view j };
+
+    fn who(&self) -> Who {
+        of_kind!(self, task => task.who())
+    }
+
+    fn plan(&self) -> Option<Step> {
+        of_kind!(self, task => task.plan())
+    }
+
+    fn give(&mut self) -> Option<Body> {
+        of_kind!(self, task => task.give())
+    }
+
+    fn settle(&mut self, layout: &Layout, found: u64, body: Option<Body>) -> Turn {
+        of_kind!(self, task => task.settle(layout, found, body))
+    }
+}
+
+impl Ranked for Job {
+    ghost use Rattle.hwp_cpu_command.specs.Jobs.{aborts, claims, class, cost};
+
+    ghost class_of = { λ j. class j };
+
+    ghost cost = { λ j words. cost j words };
+
+    ghost aborts = { λ j. aborts j };
+
+    ghost claims = { λ j. claims j };
+
+    fn class(&self) -> u8 {
+        of_kind!(self, task => task.class())
+    }
+
+    fn ranked(&self) {}
+}
+
+impl Scheduled for Job {
+    fn is_over(&self) -> bool {
+        of_kind!(self, task => task.is_over())
+    }
+
+    fn tells(&self) {}
+}

@@ -1,0 +1,140 @@
+-- The turns of a command are few.
+use Rattle.std.proofs.Common.{◌≡◌, ℕ, ◌<◌, ◌≤◌, length, sym, subst, arith}
+use Rattle.hwp_cpu_command.specs.hwp_geom.declared.Layout.{Layout}
+use Rattle.hwp_cpu_command.specs.hwp_geom.declared.Mode.{Mode}
+use Rattle.hwp_cpu_command.specs.hwp_geom.declared.Thread.{Thread}
+use Rattle.hwp_cpu_command.specs.hwp_geom.declared.VSlot.{VSlot}
+use Rattle.hwp_cpu_command.specs.hwp_geom.declared.Who.{Who}
+use Rattle.hwp_cpu_command.specs.hwp_banks.declared.Origin.{Origin}
+use Rattle.hwp_cpu_command.specs.hwp_banks.Events.{bank_count}
+use Rattle.hwp_cpu_command.specs.hwp_script_lines.declared.Command.{Command}
+use Rattle.hwp_cpu_command.specs.hwp_script_lines.declared.Command.TheVariants as commands
+use Rattle.hwp_cpu_command.specs.hwp_core_rule.declared.State.{State}
+use Rattle.hwp_cpu_command.specs.hwp_core_rule.declared.View.{View}
+use Rattle.hwp_cpu_command.specs.hwp_core_rule.Rule.{Holds}
+use Rattle.hwp_cpu_command.specs.hwp_core_rule.Words.{Words}
+use Rattle.hwp_cpu_command.specs.hwp_core_task.Ranks.{words_at}
+use Rattle.hwp_cpu_command.proofs.of_hwp_cpu_control.PrctlLaws as calling
+use Rattle.hwp_cpu_command.proofs.of_hwp_cpu_control.NestedLaws as nesting
+use Rattle.hwp_cpu_command.proofs.of_hwp_cpu_control.ReadStopLaws as reading
+use Rattle.hwp_cpu_command.proofs.of_hwp_cpu_control.SpoilLaws as spoiling
+use Rattle.hwp_cpu_command.specs.hwp_evict.declared.Eviction.TheVariants as evictions
+use Rattle.hwp_cpu_command.specs.hwp_evict.Evicts as evicts
+use Rattle.hwp_cpu_command.specs.hwp_evict.Fsyncs as fsyncs
+use Rattle.hwp_cpu_command.proofs.of_hwp_evict.EvictCosts.{evict-below}
+use Rattle.hwp_cpu_command.proofs.of_hwp_evict.FsyncLaws.{fsync-below}
+use Rattle.hwp_cpu_command.specs.hwp_claim.declared.fail.Fail.{Fail}
+use Rattle.hwp_cpu_command.specs.hwp_claim.declared.inject.InjectAt.TheVariants as inject_at
+use Rattle.hwp_cpu_command.specs.hwp_claim.Fails as fails
+use Rattle.hwp_cpu_command.specs.hwp_claim.Injects as injects
+use Rattle.hwp_cpu_command.proofs.of_hwp_claim.InjectRank.{inject-below}
+use Rattle.hwp_cpu_command.specs.hwp_fault.declared.AccessKind.{AccessKind}
+use Rattle.hwp_cpu_command.specs.hwp_fault.Accesses as accesses
+use Rattle.hwp_cpu_command.specs.hwp_cpu_check.declared.Handler.{Handler}
+use Rattle.hwp_cpu_command.specs.hwp_cpu_check.declared.handler.HandlerAt.{HandlerAt}
+use Rattle.hwp_cpu_command.specs.hwp_cpu_check.declared.handler.HandlerAt.TheVariants as handler_at
+use Rattle.hwp_cpu_command.specs.hwp_cpu_check.Handlers as handlers
+use Rattle.hwp_cpu_command.specs.hwp_cpu_access.declared.Instruction.{Instruction}
+use Rattle.hwp_cpu_command.specs.hwp_cpu_access.Costs as instruction_costs
+use Rattle.hwp_cpu_command.specs.hwp_cpu_access.Instructions as instructions
+use Rattle.hwp_cpu_command.proofs.of_hwp_cpu_access.InstructionCosts.{again-cost, few-frees, held-most, instruction-below, left-few}
+use Rattle.hwp_cpu_command.specs.hwp_law.Checks.{Banks}
+use Rattle.hwp_cpu_command.specs.hwp_cpu_raise.declared.Raise.{Raise}
+use Rattle.hwp_cpu_command.specs.hwp_cpu_raise.declared.raise.RaiseAt.{RaiseAt}
+use Rattle.hwp_cpu_command.specs.hwp_cpu_raise.declared.raise.RaiseAt.TheVariants as raise_at
+use Rattle.hwp_cpu_command.specs.hwp_cpu_raise.Costs as raise_costs
+use Rattle.hwp_cpu_command.specs.hwp_cpu_raise.Fits as raise_fits
+use Rattle.hwp_cpu_command.proofs.of_hwp_scrub.ScrubRank.{scrub-below}
+use Rattle.hwp_cpu_command.specs.hwp_soft.Softs as softs
+use Rattle.hwp_cpu_command.proofs.of_hwp_soft.SoftRank.{soft-small}
+use Rattle.hwp_cpu_command.specs.hwp_soft_unpoison.Unpoisons as unpoisons
+use Rattle.hwp_cpu_command.proofs.of_hwp_soft_unpoison.UnpoisonCosts.{small as unpoison-small}
+use Rattle.hwp_cpu_command.specs.declared.job.Job.{Job}
+use Rattle.hwp_cpu_command.specs.declared.job.Job.TheVariants as jobs
+use Rattle.hwp_cpu_command.specs.Begins.{Begins, BeginsAccess, request_of}
+use Rattle.hwp_cpu_command.specs.Jobs.{Fits, cost}
+
+-- ---- a machine check
+
+fail-few : (f : Fail) (w : Words) → fails.cost f w ≤ 8871
+fail-few f w = inject-below (record { alloc = f.alloc; who = f.who; frame = f.frame; at = inject_at.Fail f }) w
+
+handler-few : (h : Handler) (w : Words) → length h.events.left ≤ bank_count → handlers.cost h w ≤ 8874
+handler-few h w few = which h.at
+  where
+    which : (x : HandlerAt) → handlers.cost_with (length h.events.left) x w ≤ 8874
+    which handler_at.Stop = omega arith
+    which (handler_at.Fail f) = let most : fails.cost f w ≤ 8871 = fail-few f w in omega (arith, few, most)
+    which handler_at.GaveUp = omega arith
+    which (handler_at.Over stopped) = omega arith
+
+raise-below : (layout : Layout) (view : View) (r : Raise) (w : Words) → raise_fits.Fits layout view r → raise_costs.cost r w < 32768
+raise-below layout view r w fits = which r.at fits.at
+  where
+    which : (x : RaiseAt) → raise_fits.FitsAt layout view r x → raise_costs.cost_at x w < 32768
+    which raise_at.LoadStop has = omega arith
+    which (raise_at.LoadProcess raiser) has = omega arith
+    which (raise_at.Handle h) has = let most : handlers.cost h w ≤ 8874 = handler-few h w (left-few h has.0.handler.found.few) in omega (arith, most)
+    which raise_at.GiveUp has = omega arith
+    which (raise_at.Over answer) has = omega arith
+
+-- ---- a command that runs
+
+wider : {n : ℕ} → n < 32768 → n < 131072
+wider {n} less = let few : n < 32768 = less in omega (arith, few)
+
+pub job-below : (layout : Layout) (a : State) (view : View) (j : Job) → Holds layout a → Fits layout view j → cost j (words_at layout a) < 131072
+job-below layout a view (jobs.Instruction i) rule fits = wider (instruction-below layout a view i rule fits)
+job-below layout a view (jobs.Evict e) rule fits = wider (evict-below (words_at layout a) e)
+job-below layout a view (jobs.Fsync f) rule fits = let most = fsync-below f (words_at layout a) in omega (arith, most)
+job-below layout a view (jobs.Prctl p) rule fits = let most = calling.small p in omega (arith, most)
+job-below layout a view (jobs.Log l) rule fits = let most = reading.small l.read in omega (arith, most)
+job-below layout a view (jobs.Raise r) rule fits = wider (raise-below layout view r (words_at layout a) fits)
+job-below layout a view (jobs.Scrub c) rule fits = wider (scrub-below layout view c (words_at layout a) fits)
+job-below layout a view (jobs.Spoil s) rule fits = let most = spoiling.small s in omega (arith, most)
+job-below layout a view (jobs.Nested n) rule fits = let most = nesting.small n in omega (arith, most)
+job-below layout a view (jobs.Inject i) rule fits = let most = inject-below i (words_at layout a) in omega (arith, most)
+job-below layout a view (jobs.Soft s) rule fits = let most : softs.cost s (words_at layout a) ≤ 9380 = soft-small layout a s rule in omega (arith, most)
+job-below layout a view (jobs.Unpoison u) rule fits = let most : unpoisons.cost u (words_at layout a) ≤ 69640 = unpoison-small u (words_at layout a) in omega (arith, most)
+
+-- ---- and one that begins
+
+access-begins : {layout : Layout} {by : Who} {thread : Thread} {slot : VSlot} {line : ℕ} {kind : AccessKind} {origin : Origin} {mode : Mode} {banks : Banks} {j : Job} (w : Words) → length w.frees ≤ 4 → BeginsAccess layout by thread slot line kind origin mode banks j → cost j w < 131072
+access-begins {layout} {by} {thread} {slot} {line} {kind} {origin} {mode} {banks} {j} w few begun = subst (λ (x : Job). cost x w < 131072) (sym begun.job_is)
+    (let most : accesses.cost (accesses.again i.request) w ≤ 4121 = again-cost i w few in
+    let held : instruction_costs.held_cost banks ≤ instruction_costs.anew_after_wait = held-most banks in
+    omega (arith, most, held))
+  where
+    i : Instruction
+    i = instructions.begin begun.alloc (request_of by thread slot line kind begun.page begun.process) origin mode banks
+
+pub begins-below : (layout : Layout) (a : State) (by : Who) (command : Command) (banks : Banks) (j : Job) → Holds layout a → Begins layout by command banks j → cost j (words_at layout a) < 131072
+begins-below layout a by command banks j rule begun = which command begun
+  where
+    w : Words
+    w = words_at layout a
+
+    below : {x : Job} → j ≡ x → cost x w < 131072 → cost j w < 131072
+    below is less = subst (λ (x : Job). cost x w < 131072) (sym is) less
+
+    which : (c : Command) → Begins layout by c banks j → cost j w < 131072
+    which (commands.Load thread slot line) b = access-begins w (few-frees layout a rule) b
+    which (commands.Fetch thread slot line) b = access-begins w (few-frees layout a rule) b
+    which (commands.KLoad thread slot line) b = access-begins w (few-frees layout a rule) b
+    which (commands.Store thread slot line word) b = access-begins w (few-frees layout a rule) b
+    which (commands.Free slot) b = below b.1.job_is (wider (evict-below w (evicts.begin by b.0 (evictions.Free slot))))
+    which (commands.Drop page) b = below b.job_is (wider (evict-below w (evicts.begin by page evictions.Drop)))
+    which (commands.Sync page) b = below b.job_is (wider (evict-below w (evicts.begin by page evictions.Sync)))
+    which (commands.Out page) b = below b.job_is (wider (evict-below w (evicts.begin by page evictions.Out)))
+    which (commands.Fsync file) b = below b.1 (let most = fsync-below (fsyncs.begin by file) w in omega (arith, most))
+    which (commands.Prctl thread args) b = below b.job_is (omega arith)
+    which (commands.Bad frame line) b = below b.job_is (omega arith)
+    which (commands.Weak frame line) b = below b.job_is (omega arith)
+    which (commands.Scrub first last) b = below b.job_is (let frames : layout.frames ≤ 256 = b.sound.frames in let within : last.0 < layout.frames = b.frames.within in omega (arith, frames, within))
+    which (commands.Log status addr misc) b = below b.job_is (omega arith)
+    which (commands.RaiseUser thread ripv eipv) b = below b.job_is (omega arith)
+    which (commands.RaiseKernel ripv eipv) b = below b.job_is (omega arith)
+    which commands.RaiseNested b = below b (omega arith)
+    which (commands.Inject frame) b = below b.job_is (let most = inject-below (injects.begin b.alloc by frame) w in omega (arith, most))
+    which (commands.Soft frame) b = below b.job_is (omega arith)
+    which (commands.Unpoison frame) b = below b.job_is (omega arith)

@@ -1,0 +1,376 @@
+-- A task stays one of its command, from the beginning on; and a command that may begin fits.
+use Rattle.std.proofs.Common.{◌≡◌, inl, inr, ℕ, Bool, true, false, [], Option, Some, None, refl, sym, ap, ◌∙◌, subst}
+use Rattle.std.specs.declared.alloc.Global.{Global}
+use Rattle.hwp_cpu_command.specs.hwp_geom.declared.Damage.{Damage}
+use Rattle.hwp_cpu_command.specs.hwp_geom.declared.Frame.{Frame}
+use Rattle.hwp_cpu_command.specs.hwp_geom.declared.Layout.{Layout}
+use Rattle.hwp_cpu_command.specs.hwp_geom.declared.Mode.{Mode}
+use Rattle.hwp_cpu_command.specs.hwp_geom.declared.Page.{Page}
+use Rattle.hwp_cpu_command.specs.hwp_geom.declared.Thread.{Thread}
+use Rattle.hwp_cpu_command.specs.hwp_geom.declared.VSlot.{VSlot}
+use Rattle.hwp_cpu_command.specs.hwp_geom.declared.Who.{Who}
+use Rattle.hwp_cpu_command.specs.hwp_banks.declared.Event.{Event}
+use Rattle.hwp_cpu_command.specs.hwp_banks.declared.Origin.{Origin}
+use Rattle.hwp_cpu_command.specs.hwp_severity.declared.McgBits.{McgBits}
+use Rattle.hwp_cpu_command.specs.hwp_page.History.{BodyValue}
+use Rattle.hwp_cpu_command.specs.hwp_words.Names.{page_named}
+use Rattle.hwp_cpu_command.specs.hwp_words.Stops.{is_stopped}
+use Rattle.hwp_cpu_command.specs.hwp_script_lines.declared.Command.{Command}
+use Rattle.hwp_cpu_command.specs.hwp_script_lines.declared.Command.TheVariants as commands
+use Rattle.hwp_cpu_command.specs.hwp_script_lines.declared.PrctlArgs.{PrctlArgs}
+use Rattle.hwp_cpu_command.specs.hwp_core_rule.declared.View.{View}
+use Rattle.hwp_cpu_command.specs.hwp_core_task.declared.Turn.{Turn}
+use Rattle.hwp_cpu_command.specs.hwp_law.Checks.{Banks}
+use Rattle.hwp_cpu_command.specs.hwp_cpu_control.declared.ReadStopAnswer.{ReadStopAnswer}
+use Rattle.hwp_cpu_command.specs.hwp_evict.declared.Evict.{Evict}
+use Rattle.hwp_cpu_command.specs.hwp_evict.declared.Eviction.{Eviction}
+use Rattle.hwp_cpu_command.specs.hwp_claim.declared.Inject.{Inject}
+use Rattle.hwp_cpu_command.specs.hwp_fault.declared.AccessAnswer.{AccessAnswer}
+use Rattle.hwp_cpu_command.specs.hwp_fault.declared.AccessAnswer.TheVariants as access_answers
+use Rattle.hwp_cpu_command.specs.hwp_fault.declared.AccessKind.{AccessKind}
+use Rattle.hwp_cpu_command.specs.hwp_fault.declared.Request.{Request}
+use Rattle.hwp_cpu_command.specs.hwp_fault.Accesses as accesses
+use Rattle.hwp_cpu_command.specs.hwp_cpu_check.declared.Handler.{Handler}
+use Rattle.hwp_cpu_command.specs.hwp_cpu_check.Handlers as handlers
+use Rattle.hwp_cpu_command.specs.hwp_cpu_access.declared.Instruction.{Instruction}
+use Rattle.hwp_cpu_command.specs.hwp_cpu_access.declared.instruction.InstructionAt.{InstructionAt}
+use Rattle.hwp_cpu_command.specs.hwp_cpu_access.declared.instruction.InstructionAt.TheVariants as instruction_at
+use Rattle.hwp_cpu_command.specs.hwp_cpu_access.Fits.{IsOfAccess}
+use Rattle.hwp_cpu_command.specs.hwp_cpu_access.Instructions as instructions
+use Rattle.hwp_cpu_command.proofs.of_hwp_cpu_access.InstructionLaws as instructing
+use Rattle.hwp_cpu_command.specs.hwp_cpu_raise.declared.Log.{Log}
+use Rattle.hwp_cpu_command.specs.hwp_cpu_raise.declared.Raise.{Raise}
+use Rattle.hwp_cpu_command.specs.hwp_cpu_raise.declared.Raiser.{Raiser}
+use Rattle.hwp_cpu_command.specs.hwp_cpu_raise.declared.raise.RaiseAt.{RaiseAt}
+use Rattle.hwp_cpu_command.specs.hwp_cpu_raise.declared.raise.RaiseAt.TheVariants as raise_at
+use Rattle.hwp_cpu_command.specs.hwp_cpu_raise.Logs as logs
+use Rattle.hwp_cpu_command.specs.hwp_cpu_raise.Raises as raises
+use Rattle.hwp_cpu_command.specs.hwp_scrub.declared.Scrub.{Scrub}
+use Rattle.hwp_cpu_command.specs.hwp_scrub.declared.scrub.ScrubAt.{ScrubAt}
+use Rattle.hwp_cpu_command.specs.hwp_scrub.declared.scrub.ScrubAt.TheVariants as scrub_at
+use Rattle.hwp_cpu_command.specs.hwp_scrub.Scrubs as scrubs
+use Rattle.hwp_cpu_command.specs.hwp_scrub.Visits.{AreBanks}
+use Rattle.hwp_cpu_command.proofs.of_hwp_scrub.ScrubLaws as scrubbing
+use Rattle.hwp_cpu_command.specs.hwp_soft.declared.Soft.{Soft}
+use Rattle.hwp_cpu_command.specs.declared.job.Job.{Job}
+use Rattle.hwp_cpu_command.specs.declared.job.Job.TheVariants as jobs
+use Rattle.hwp_cpu_command.specs.Begins.{Begins, BeginsAccess, BeginsEviction, BeginsInject, BeginsLog, BeginsPrctl, BeginsRaiseKernel, BeginsRaiseUser, BeginsScrub, BeginsSoft, BeginsSpoil, BeginsUnpoison, request_of}
+use Rattle.hwp_cpu_command.specs.Done.{can_fail}
+use Rattle.hwp_cpu_command.specs.Jobs.{Fits, Next, banks_before, bare, claims, class, left_in, who}
+use Rattle.hwp_cpu_command.specs.Runs.{AtRest, Runs, anew}
+use Rattle.hwp_cpu_command.specs.Stays.{IsAtStop}
+
+-- ---- what a task asks for never changes
+
+abbrev AskedAccess : Type 0
+AskedAccess = Global × Request × Origin × Mode × Banks
+
+abbrev asked-access : Instruction → AskedAccess
+asked-access i = (i.alloc, i.request, i.origin, i.mode, i.before.value)
+
+access-handled : (i : Instruction) (frame : Frame) (h : Handler) → asked-access (instructions.after_handler i frame h) ≡ asked-access i
+access-handled i frame h = which (handlers.answer h)
+  where
+    which : (o : Option Bool) → asked-access (instructions.after_handler_by i frame h o) ≡ asked-access i
+    which None = refl
+    which (Some stopped) = refl
+
+instruction-kept : (layout : Layout) (i k : Instruction) (found : ℕ) (got : Option BodyValue) (turn : Turn) → instructions.Follows layout (instructions.bare i) found got k turn → asked-access k ≡ asked-access i
+instruction-kept layout i k found got turn follows = which i.at follows
+  where
+    accessed : (a : _) (o : Option AccessAnswer) → instructions.AfterAccessBy layout (instructions.bare i) a o k → asked-access k ≡ asked-access i
+    accessed a (Some (access_answers.Checked frame page place)) (inl refused) = ap asked-access refused
+    accessed a (Some (access_answers.Checked frame page place)) (inr (spare, room, is)) =
+        ap asked-access is ∙ access-handled (instructions.emptied (instructions.bare i) spare) frame (instructions.handler_of layout (instructions.bare i) frame)
+    accessed a None is = ap asked-access is
+    accessed a (Some (access_answers.Value word page place)) is = ap asked-access is
+    accessed a (Some (access_answers.Stored page place)) is = ap asked-access is
+    accessed a (Some (access_answers.Sigbus page place)) is = ap asked-access is
+    accessed a (Some access_answers.NoFrame) is = ap asked-access is
+    accessed a (Some (access_answers.Gone page)) is = ap asked-access is
+    accessed a (Some access_answers.Stopped) is = ap asked-access is
+
+    which : (x : InstructionAt) → instructions.FollowsAt layout (instructions.bare i) (instructions.bare_at x) found got k turn → asked-access k ≡ asked-access i
+    which (instruction_at.Access a) next = accessed next.access (accesses.answer next.access) next.next_is
+    which (instruction_at.Handle frame h) next = ap asked-access next.next_is ∙ access-handled (instructions.bare i) frame next.handler
+    which (instruction_at.LoadFrame frame) next = ap asked-access next.0
+    which (instruction_at.LoadStop frame) next = ap asked-access next.0
+    which instruction_at.GiveUp next = ap asked-access next.0
+    which (instruction_at.Over answer) next = ap asked-access next.0
+
+abbrev AskedRaise : Type 0
+AskedRaise = Global × Who × Option Raiser × McgBits × Banks
+
+abbrev asked-raise : Raise → AskedRaise
+asked-raise r = (r.alloc, r.who, r.raiser, r.mcg, r.before.value)
+
+raise-handled : (r : Raise) (h : Handler) → asked-raise (raises.after_handler r h) ≡ asked-raise r
+raise-handled r h = which (handlers.answer h)
+  where
+    which : (o : Option Bool) → asked-raise (raises.after_handler_by r h o) ≡ asked-raise r
+    which None = refl
+    which (Some stopped) = refl
+
+raise-kept : (layout : Layout) (r k : Raise) (found : ℕ) (got : Option BodyValue) (turn : Turn) → raises.Follows layout (raises.bare r) found got k turn → asked-raise k ≡ asked-raise r
+raise-kept layout r k found got turn follows = which r.at follows
+  where
+    begun : raises.BeginsCheck layout (raises.bare r) k → asked-raise k ≡ asked-raise r
+    begun (inl refused) = ap asked-raise refused
+    begun (inr (spare, room, is)) = ap asked-raise is ∙ raise-handled (raises.emptied (raises.bare r) spare) (raises.handler_of layout (raises.bare r))
+
+    by-stop : (b : Bool) (o : Option Raiser) → raises.AfterStopBy layout (raises.bare r) b o k → asked-raise k ≡ asked-raise r
+    by-stop true o is = ap asked-raise is
+    by-stop false (Some raiser) is = ap asked-raise is
+    by-stop false None is = begun is
+
+    by-process : (o : Option Page) → raises.AfterProcessBy layout (raises.bare r) o k → asked-raise k ≡ asked-raise r
+    by-process (Some page) is = ap asked-raise is
+    by-process None is = begun is
+
+    which : (x : RaiseAt) → raises.FollowsAt layout (raises.bare r) (raises.bare_at x) found got k turn → asked-raise k ≡ asked-raise r
+    which raise_at.LoadStop next = by-stop (is_stopped found) r.raiser next.0
+    which (raise_at.LoadProcess raiser) next = by-process (page_named found) next.0
+    which (raise_at.Handle h) next = ap asked-raise next.next_is ∙ raise-handled (raises.bare r) next.handler
+    which raise_at.GiveUp next = ap asked-raise next.0
+    which (raise_at.Over answer) next = ap asked-raise next.0
+
+abbrev AskedScrub : Type 0
+AskedScrub = Global × Who × Frame × Frame × Banks
+
+abbrev asked-scrub : Scrub → AskedScrub
+asked-scrub s = (s.alloc, s.who, s.first, s.last, s.before.value)
+
+scrub-handled : (s : Scrub) (frame : Frame) (h : Handler) → asked-scrub (scrubs.after_handler s frame h) ≡ asked-scrub s
+scrub-handled s frame h = which (handlers.answer h)
+  where
+    which : (o : Option Bool) → asked-scrub (scrubs.after_handler_by s frame h o) ≡ asked-scrub s
+    which None = refl
+    which (Some stopped) = refl
+
+scrub-kept : (layout : Layout) (s k : Scrub) (found : ℕ) (got : Option BodyValue) (turn : Turn) → scrubs.Follows layout (scrubs.bare s) found got k turn → asked-scrub k ≡ asked-scrub s
+scrub-kept layout s k found got turn follows = which s.at follows
+  where
+    bad : (frame : Frame) (o : Option ℕ) → scrubs.AfterBadBy layout (scrubs.bare s) frame o k → asked-scrub k ≡ asked-scrub s
+    bad frame None is = ap asked-scrub is
+    bad frame (Some line) (inl refused) = ap asked-scrub refused
+    bad frame (Some line) (inr (spare, room, is)) = ap asked-scrub is ∙ scrub-handled (scrubs.emptied (scrubs.bare s) spare) frame (scrubs.handler_of layout (scrubs.bare s) frame line)
+
+    weak : (frame : Frame) (o : Option ℕ) → scrubs.AfterWeakBy (scrubs.bare s) frame o k → asked-scrub k ≡ asked-scrub s
+    weak frame None is = ap asked-scrub is
+    weak frame (Some line) (inl refused) = ap asked-scrub refused
+    weak frame (Some line) (inr (spare, room, is)) = ap asked-scrub is
+
+    which : (x : ScrubAt) → scrubs.FollowsAt layout (scrubs.bare s) (scrubs.bare_at x) found got k turn → asked-scrub k ≡ asked-scrub s
+    which scrub_at.LoadStop next = ap asked-scrub next.0
+    which (scrub_at.LoadBad frame) next = bad frame next.0.0 next.0.2
+    which (scrub_at.Handle frame h) next = ap asked-scrub next.next_is ∙ scrub-handled (scrubs.bare s) frame next.handler
+    which (scrub_at.LoadWeak frame) next = weak frame next.0.0 next.0.2
+    which scrub_at.GiveUp next = ap asked-scrub next.0
+    which (scrub_at.Over answer) next = ap asked-scrub next.0
+
+abbrev asked-log : Log → Who × Event × Banks
+asked-log l = (l.read.who, l.event, l.before.value)
+
+log-kept : (l : Log) (found : ℕ) → asked-log (logs.next l found) ≡ asked-log l
+log-kept l found = which (logs.answer l)
+  where
+    which : (o : Option ReadStopAnswer) → asked-log (logs.next_by l found o) ≡ asked-log l
+    which None = refl
+    which (Some answer) = refl
+
+-- ---- a task of its command
+
+-- the same command goes on
+record GoesOn (j after : Job) : Type 0 where
+  anew_is : anew after ≡ anew j
+  before : (kept : Banks) → banks_before after kept ≡ banks_before j kept
+  fails : can_fail after ≡ can_fail j
+
+goes-on : (layout : Layout) (found : ℕ) (got : Option BodyValue) (turn : Turn) (j after : Job) → Next layout (bare j) found got after turn → GoesOn j after
+goes-on layout found got turn (jobs.Instruction i) after next = subst (GoesOn (jobs.Instruction i)) (sym next.1) (record {
+  anew_is = ap (λ (a : AskedAccess). jobs.Instruction (instructions.begin a.0 a.1 a.2 a.3 a.4)) (instruction-kept layout i next.0 found got turn next.2);
+  before = λ kept. ap (λ (a : AskedAccess). a.4) (instruction-kept layout i next.0 found got turn next.2);
+  fails = refl;
+})
+goes-on layout found got turn (jobs.Raise r) after next = subst (GoesOn (jobs.Raise r)) (sym next.1) (record {
+  anew_is = ap (λ (a : AskedRaise). jobs.Raise (raises.begin a.0 a.1 a.2 a.3 a.4)) (raise-kept layout r next.0 found got turn next.2);
+  before = λ kept. ap (λ (a : AskedRaise). a.4) (raise-kept layout r next.0 found got turn next.2);
+  fails = refl;
+})
+goes-on layout found got turn (jobs.Scrub s) after next = subst (GoesOn (jobs.Scrub s)) (sym next.1) (record {
+  anew_is = ap (λ (a : AskedScrub). jobs.Scrub (scrubs.begin a.0 a.1 a.2 a.3 a.4)) (scrub-kept layout s next.0 found got turn next.2);
+  before = λ kept. ap (λ (a : AskedScrub). a.4) (scrub-kept layout s next.0 found got turn next.2);
+  fails = refl;
+})
+goes-on layout found got turn (jobs.Log l) after next = subst (GoesOn (jobs.Log l)) (sym next.0) (record {
+  anew_is = ap (λ (a : Who × Event × Banks). jobs.Log (logs.begin a.0 a.1 a.2)) (log-kept l found);
+  before = λ kept. ap (λ (a : Who × Event × Banks). a.2) (log-kept l found);
+  fails = refl;
+})
+goes-on layout found got turn (jobs.Evict e) after next = subst (GoesOn (jobs.Evict e)) (sym next.1) (record { anew_is = ap (λ (x : Evict). anew (jobs.Evict x)) next.2.0; before = λ kept. refl; fails = refl })
+goes-on layout found got turn (jobs.Inject i) after next = subst (GoesOn (jobs.Inject i)) (sym next.1) (record { anew_is = ap (λ (x : Inject). anew (jobs.Inject x)) next.2.0; before = λ kept. refl; fails = refl })
+goes-on layout found got turn (jobs.Soft s) after next = subst (GoesOn (jobs.Soft s)) (sym next.1) (record { anew_is = ap (λ (x : Soft). anew (jobs.Soft x)) next.2.0; before = λ kept. refl; fails = refl })
+goes-on layout found got turn (jobs.Unpoison u) after next = subst (GoesOn (jobs.Unpoison u)) (sym next.0) (record { anew_is = refl; before = λ kept. refl; fails = refl })
+goes-on layout found got turn (jobs.Fsync f) after next = subst (GoesOn (jobs.Fsync f)) (sym next.0) (record { anew_is = refl; before = λ kept. refl; fails = refl })
+goes-on layout found got turn (jobs.Prctl p) after next = subst (GoesOn (jobs.Prctl p)) (sym next.0) (record { anew_is = refl; before = λ kept. refl; fails = refl })
+goes-on layout found got turn (jobs.Spoil s) after next = subst (GoesOn (jobs.Spoil s)) (sym next.0) (record { anew_is = refl; before = λ kept. refl; fails = refl })
+goes-on layout found got turn (jobs.Nested n) after next = subst (GoesOn (jobs.Nested n)) (sym next.0) (record { anew_is = refl; before = λ kept. refl; fails = refl })
+
+pub before-stays : (layout : Layout) (j after : Job) (found : ℕ) (got : Option BodyValue) (turn : Turn) → Next layout (bare j) found got after turn → (kept : Banks) → banks_before after kept ≡ banks_before j kept
+before-stays layout j after found got turn next = (goes-on layout found got turn j after next).before
+
+pub can-fail-stays : (layout : Layout) (j after : Job) (found : ℕ) (got : Option BodyValue) (turn : Turn) → Next layout (bare j) found got after turn → can_fail after ≡ can_fail j
+can-fail-stays layout j after found got turn next = (goes-on layout found got turn j after next).fails
+
+pub runs-on : (layout : Layout) (who : Who) (command : Command) (j after : Job) (found : ℕ) (got : Option BodyValue) (turn : Turn) → Runs layout who command j → Next layout (bare j) found got after turn → Runs layout who command after
+runs-on layout by command j after found got turn runs next = let on = goes-on layout found got turn j after next in
+    subst (λ (b : Banks). Begins layout by command b (anew after)) (sym (on.before [])) (subst (Begins layout by command (banks_before j [])) (sym on.anew_is) runs)
+
+-- ---- where it begins
+
+-- a call of prctl(2), and other tasks; and commands that are one
+abbrev pub is_call : Job → Bool
+is_call (jobs.Prctl p) = true
+is_call _ = false
+
+abbrev pub is_prctl : Command → Bool
+is_prctl (commands.Prctl thread args) = true
+is_prctl _ = false
+
+-- a task at the beginning of its command
+pub record HasBegun (layout : Layout) (by : Who) (command : Command) (banks : Banks) (j : Job) : Type 0 where
+  pub runs : Runs layout by command j
+  pub who_is : who j ≡ by
+  pub start : IsAtStop j
+  pub before : banks_before j (left_in j banks) ≡ banks
+  pub idle : (class j ≡ 4) × (claims j ≡ None)
+  pub call : is_call j ≡ is_prctl command
+
+pub has-begun : (layout : Layout) (by : Who) (command : Command) (banks : Banks) (j : Job) → Begins layout by command banks j → HasBegun layout by command banks j
+has-begun layout by command banks j begun = which command begun
+  where
+    from : (c : Command) (x : Job) → j ≡ x → (Begins layout by c banks x → HasBegun layout by c banks x) → Begins layout by c banks j → HasBegun layout by c banks j
+    from c x is has b = subst (HasBegun layout by c banks) (sym is) (has (subst (Begins layout by c banks) is b))
+
+    which : (c : Command) → Begins layout by c banks j → HasBegun layout by c banks j
+    which (commands.Load thread slot line) b = from (commands.Load thread slot line) _ b.job_is (λ r. record { runs = r; who_is = refl; start = (_, refl, refl, refl); before = refl; idle = (refl, refl); call = refl }) b
+    which (commands.Fetch thread slot line) b = from (commands.Fetch thread slot line) _ b.job_is (λ r. record { runs = r; who_is = refl; start = (_, refl, refl, refl); before = refl; idle = (refl, refl); call = refl }) b
+    which (commands.KLoad thread slot line) b = from (commands.KLoad thread slot line) _ b.job_is (λ r. record { runs = r; who_is = refl; start = (_, refl, refl, refl); before = refl; idle = (refl, refl); call = refl }) b
+    which (commands.Store thread slot line word) b = from (commands.Store thread slot line word) _ b.job_is (λ r. record { runs = r; who_is = refl; start = (_, refl, refl, refl); before = refl; idle = (refl, refl); call = refl }) b
+    which (commands.Free slot) b = from (commands.Free slot) _ b.1.job_is (λ r. record { runs = r; who_is = refl; start = refl; before = refl; idle = (refl, refl); call = refl }) b
+    which (commands.Drop page) b = from (commands.Drop page) _ b.job_is (λ r. record { runs = r; who_is = refl; start = refl; before = refl; idle = (refl, refl); call = refl }) b
+    which (commands.Sync page) b = from (commands.Sync page) _ b.job_is (λ r. record { runs = r; who_is = refl; start = refl; before = refl; idle = (refl, refl); call = refl }) b
+    which (commands.Out page) b = from (commands.Out page) _ b.job_is (λ r. record { runs = r; who_is = refl; start = refl; before = refl; idle = (refl, refl); call = refl }) b
+    which (commands.Fsync file) b = from (commands.Fsync file) _ b.1 (λ r. record { runs = r; who_is = refl; start = refl; before = refl; idle = (refl, refl); call = refl }) b
+    which (commands.Prctl thread args) b = from (commands.Prctl thread args) _ b.job_is (λ r. record { runs = r; who_is = refl; start = refl; before = refl; idle = (refl, refl); call = refl }) b
+    which (commands.Bad frame line) b = from (commands.Bad frame line) _ b.job_is (λ r. record { runs = r; who_is = refl; start = refl; before = refl; idle = (refl, refl); call = refl }) b
+    which (commands.Weak frame line) b = from (commands.Weak frame line) _ b.job_is (λ r. record { runs = r; who_is = refl; start = refl; before = refl; idle = (refl, refl); call = refl }) b
+    which (commands.Scrub first last) b = from (commands.Scrub first last) _ b.job_is (λ r. record { runs = r; who_is = refl; start = (refl, refl); before = refl; idle = (refl, refl); call = refl }) b
+    which (commands.Log status addr misc) b = from (commands.Log status addr misc) _ b.job_is (λ r. record { runs = r; who_is = refl; start = refl; before = refl; idle = (refl, refl); call = refl }) b
+    which (commands.RaiseUser thread ripv eipv) b = from (commands.RaiseUser thread ripv eipv) _ b.job_is (λ r. record { runs = r; who_is = refl; start = (refl, refl); before = refl; idle = (refl, refl); call = refl }) b
+    which (commands.RaiseKernel ripv eipv) b = from (commands.RaiseKernel ripv eipv) _ b.job_is (λ r. record { runs = r; who_is = refl; start = (refl, refl); before = refl; idle = (refl, refl); call = refl }) b
+    which commands.RaiseNested b = from commands.RaiseNested _ b (λ r. record { runs = r; who_is = refl; start = refl; before = refl; idle = (refl, refl); call = refl }) b
+    which (commands.Inject frame) b = from (commands.Inject frame) _ b.job_is (λ r. record { runs = r; who_is = refl; start = refl; before = refl; idle = (refl, refl); call = refl }) b
+    which (commands.Soft frame) b = from (commands.Soft frame) _ b.job_is (λ r. record { runs = r; who_is = refl; start = refl; before = refl; idle = (refl, refl); call = refl }) b
+    which (commands.Unpoison frame) b = from (commands.Unpoison frame) _ b.job_is (λ r. record { runs = r; who_is = refl; start = refl; before = refl; idle = (refl, refl); call = refl }) b
+
+pub begins-runs : (layout : Layout) (who : Who) (command : Command) (banks : Banks) (j : Job) → Begins layout who command banks j → Runs layout who command j
+begins-runs layout by command banks j begun = (has-begun layout by command banks j begun).runs
+
+pub before-begins : (layout : Layout) (who : Who) (command : Command) (banks : Banks) (j : Job) → Begins layout who command banks j → banks_before j (left_in j banks) ≡ banks
+before-begins layout by command banks j begun = (has-begun layout by command banks j begun).before
+
+-- the command is the one that is its turn
+anew-who : (j : Job) → who (anew j) ≡ who j
+anew-who (jobs.Instruction i) = refl
+anew-who _ = refl
+
+pub runs-who : (layout : Layout) (by : Who) (command : Command) (j : Job) → Runs layout by command j → who j ≡ by
+runs-who layout by command j runs = sym (anew-who j) ∙ (has-begun layout by command (banks_before j []) (anew j) runs).who_is
+
+-- ---- a command that may begin
+
+module _ {layout : Layout} {view : View} {who : Who} (rest : AtRest view who) {j : Job} where
+  access-fits : {thread : Thread} {slot : VSlot} {line : ℕ} {kind : AccessKind} {origin : Origin} {mode : Mode} {banks : Banks} → IsOfAccess origin → BeginsAccess layout who thread slot line kind origin mode banks j → Fits layout view j
+  access-fits {thread} {slot} {line} {kind} {origin} {mode} {banks} of begun = subst (Fits layout view) (sym begun.job_is)
+      (instructing.begins layout view (instructions.begin begun.alloc (request_of who thread slot line kind begun.page begun.process) origin mode banks) refl rest.on_turn begun.sound begun.names of begun.three rest.hand_is rest.paid rest.made)
+
+  eviction-fits : {page : Page} {what : Eviction} → BeginsEviction layout who page what j → Fits layout view j
+  eviction-fits begun = subst (Fits layout view) (sym begun.job_is) (record { on_turn = rest.on_turn; page = begun.within; kind = begun.kind; at = (rest.hand_is, rest.made) })
+
+  prctl-fits : {thread : Thread} {args : PrctlArgs} → BeginsPrctl layout who thread args j → Fits layout view j
+  prctl-fits {thread} begun = subst (Fits layout view) (sym begun.job_is) (record {
+    on_turn = rest.on_turn;
+    hand_is = rest.hand_is;
+    made = rest.made;
+    decl = begun.decl;
+    declared = begun.declared;
+    own = begun.own;
+    process_is = refl;
+    process = begun.within;
+    at = rest.left thread;
+  })
+
+  spoil-fits : {frame : Frame} {line : ℕ} {damage : Damage} → BeginsSpoil layout who frame line damage j → Fits layout view j
+  spoil-fits begun = subst (Fits layout view) (sym begun.job_is) (record { on_turn = rest.on_turn; hand_is = rest.hand_is; made = rest.made; frame = begun.within; at = tt })
+
+  log-fits : {event : Event} {banks : Banks} → BeginsLog layout who event banks j → Fits layout view j
+  log-fits begun = subst (Fits layout view) (sym begun.job_is) (record { read = record { on_turn = rest.on_turn; hand_is = rest.hand_is; made = rest.made; at = tt }; three = begun.three; banks_are = refl })
+
+  raise-user-fits : {thread : Thread} {mcg : McgBits} {banks : Banks} → BeginsRaiseUser layout who thread mcg banks j → Fits layout view j
+  raise-user-fits begun = subst (Fits layout view) (sym begun.job_is) (record {
+    on_turn = rest.on_turn;
+    sound = begun.sound;
+    raiser = record { decl = begun.decl; declared = begun.declared; process_is = refl; process = begun.within };
+    three = begun.three;
+    at = record { rest = record { hand_is = rest.hand_is; paid = rest.paid }; unchecked = record { told_none = refl; banks_are = refl; made = rest.made } };
+  })
+
+  raise-kernel-fits : {mcg : McgBits} {banks : Banks} → BeginsRaiseKernel layout who mcg banks j → Fits layout view j
+  raise-kernel-fits begun = subst (Fits layout view) (sym begun.job_is) (record {
+    on_turn = rest.on_turn;
+    sound = begun.sound;
+    raiser = tt;
+    three = begun.three;
+    at = record { rest = record { hand_is = rest.hand_is; paid = rest.paid }; unchecked = record { told_none = refl; banks_are = refl; made = rest.made } };
+  })
+
+  scrub-fits : {first last : Frame} {banks : Banks} → BeginsScrub layout who first last banks j → AreBanks banks → Fits layout view j
+  scrub-fits {first} {last} {banks} begun free = subst (Fits layout view) (sym begun.job_is)
+      (scrubbing.begins layout view (scrubs.begin begun.alloc who first last banks) refl rest.on_turn begun.sound begun.frames free (record { hand_is = rest.hand_is; paid = rest.paid }) rest.made)
+
+  inject-fits : {frame : Frame} → BeginsInject layout who frame j → Fits layout view j
+  inject-fits begun = subst (Fits layout view) (sym begun.job_is) (record {
+    on_turn = rest.on_turn;
+    sound = begun.sound;
+    frame = begun.within;
+    at = record { hand_is = rest.hand_is; paid = rest.paid; made = rest.made; unmarked = rest.unmarked };
+  })
+
+  soft-fits : {frame : Frame} → BeginsSoft layout who frame j → Fits layout view j
+  soft-fits begun = subst (Fits layout view) (sym begun.job_is) (record { on_turn = rest.on_turn; frame = begun.within; at = (rest.hand_is, rest.made) })
+
+  unpoison-fits : {frame : Frame} → BeginsUnpoison layout who frame j → Fits layout view j
+  unpoison-fits begun = subst (Fits layout view) (sym begun.job_is) (record { on_turn = rest.on_turn; hand_is = rest.hand_is; made = rest.made; frame = begun.within; at = rest.revivals })
+
+pub begins-fits : (layout : Layout) (view : View) (who : Who) (command : Command) (banks : Banks) (j : Job) → Begins layout who command banks j → AreBanks banks → AtRest view who → Fits layout view j
+begins-fits layout view by (commands.Load thread slot line) banks j begun free rest = access-fits rest tt begun
+begins-fits layout view by (commands.Fetch thread slot line) banks j begun free rest = access-fits rest tt begun
+begins-fits layout view by (commands.KLoad thread slot line) banks j begun free rest = access-fits rest tt begun
+begins-fits layout view by (commands.Store thread slot line word) banks j begun free rest = access-fits rest tt begun
+begins-fits layout view by (commands.Free slot) banks j begun free rest = eviction-fits rest begun.1
+begins-fits layout view by (commands.Drop page) banks j begun free rest = eviction-fits rest begun
+begins-fits layout view by (commands.Sync page) banks j begun free rest = eviction-fits rest begun
+begins-fits layout view by (commands.Out page) banks j begun free rest = eviction-fits rest begun
+begins-fits layout view by (commands.Fsync file) banks j begun free rest = subst (Fits layout view) (sym begun.1) (record { on_turn = rest.on_turn; hand_is = rest.hand_is; file = begun.0; made_none = rest.made; at = tt })
+begins-fits layout view by (commands.Prctl thread args) banks j begun free rest = prctl-fits rest begun
+begins-fits layout view by (commands.Bad frame line) banks j begun free rest = spoil-fits rest begun
+begins-fits layout view by (commands.Weak frame line) banks j begun free rest = spoil-fits rest begun
+begins-fits layout view by (commands.Scrub first last) banks j begun free rest = scrub-fits rest begun free
+begins-fits layout view by (commands.Log status addr misc) banks j begun free rest = log-fits rest begun
+begins-fits layout view by (commands.RaiseUser thread ripv eipv) banks j begun free rest = raise-user-fits rest begun
+begins-fits layout view by (commands.RaiseKernel ripv eipv) banks j begun free rest = raise-kernel-fits rest begun
+begins-fits layout view by (commands.Inject frame) banks j begun free rest = inject-fits rest begun
+begins-fits layout view by (commands.Soft frame) banks j begun free rest = soft-fits rest begun
+begins-fits layout view by commands.RaiseNested banks j begun free rest = subst (Fits layout view) (sym begun) (record { on_turn = rest.on_turn; hand_is = rest.hand_is; made = rest.made; at = tt })
+begins-fits layout view by (commands.Unpoison frame) banks j begun free rest = unpoison-fits rest begun

@@ -1,4 +1,0 @@
-pub mod WordsPut
-pub mod SameWords
-mod NoLines
-mod Naming

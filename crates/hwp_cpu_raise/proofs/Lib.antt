@@ -1,0 +1,4 @@
+pub mod LogLaws
+pub mod RaiseLaws
+pub mod RaiseRank
+pub mod RaiseAdds

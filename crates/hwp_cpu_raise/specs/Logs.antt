@@ -1,0 +1,45 @@
+-- A raw event that a command logs: the task's states, its step and what it comes to.
+use Rattle.std.specs.Prelude.{◌≡◌, ℕ, Option, Some, None, length}
+use Rattle.hwp_geom.specs.declared.Layout.{Layout}
+use Rattle.hwp_geom.specs.declared.Who.{Who}
+use Rattle.hwp_banks.specs.declared.Event.{Event}
+use Rattle.hwp_banks.specs.Events.{bank_count}
+use Rattle.hwp_core_rule.specs.declared.Step.{Step}
+use Rattle.hwp_core_rule.specs.declared.View.{View}
+use Rattle.hwp_cpu_control.specs.declared.ReadStopAnswer.{ReadStopAnswer}
+use Rattle.hwp_cpu_control.specs.declared.ReadStopAnswer.TheVariants as answers
+use Rattle.hwp_cpu_control.specs.ReadStops as reads
+use Rattle.hwp_cpu_check.specs.hwp_law.Checks.{Banks, log_in}
+use Rattle.hwp_cpu_check.specs.hwp_law.Events.{raw_bank}
+use Rattle.hwp_cpu_raise.specs.declared.log.Log.{Log}
+
+abbrev pub begin : Who → Event → Banks → Log
+begin who event banks = record { read = reads.begin who; event = event; before = record { marker = record {}; value = banks }; banks = banks }
+
+abbrev pub plan : Log → Option Step
+plan l = reads.plan l.read
+
+abbrev pub answer : Log → Option ReadStopAnswer
+answer l = reads.answer l.read
+
+-- the event is logged where the machine goes on
+abbrev pub logged_by : Option ReadStopAnswer → Event → Banks → Banks
+logged_by (Some answers.Done) event banks = log_in raw_bank event banks
+logged_by _ event banks = banks
+
+abbrev pub next_by : Log → ℕ → Option ReadStopAnswer → Log
+next_by l found None = record l { read = reads.next l.read found; banks = logged_by (reads.answer (reads.next l.read found)) l.event l.banks }
+next_by l found (Some answer) = l
+
+abbrev pub next : Log → ℕ → Log
+next l found = next_by l found (answer l)
+
+-- nothing is held, the command makes no entry, and the banks hold what its answer says
+pub record Fits (layout : Layout) (view : View) (l : Log) : Type 0 where
+  pub read : reads.Fits layout view l.read
+  pub three : length l.before.value ≡ bank_count
+  pub banks_are : l.banks ≡ logged_by (answer l) l.event l.before.value
+
+-- the turns that are left
+abbrev pub cost : Log → ℕ
+cost l = reads.cost l.read

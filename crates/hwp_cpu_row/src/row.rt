@@ -1,0 +1,35 @@
+use hwp_cpu_check::{EventOutcome, Found};
+use hwp_geom::{Frame, List};
+use hwp_report_text::Answer;
+
+/// What a command did to a frame itself, beside the failures that its machine checks told (this project's rule).
+#[derive(Clone, Copy)]
+pub enum FrameChange {
+    /// It made the frame fail: what the failure found where it poisoned the frame.
+    Failed {
+        frame: Frame,
+        found: Found,
+    },
+    /// It took the frame out of use while its content was good, and poisoned it in this cycle; `moved` if a page left it for
+    /// another frame, and not if it had no page.
+    Offlined {
+        frame: Frame,
+        cycle: u32,
+        moved: bool,
+    },
+    /// It took back the frame's poison of this cycle.
+    Revived {
+        frame: Frame,
+        cycle: u32,
+    },
+}
+
+/// What a command came to (this project's rule).
+#[derive(Drop)]
+pub struct Row {
+    /// What was done about the events of its machine checks, in order.
+    pub told: List<EventOutcome>,
+    /// What it did to a frame itself.
+    pub own: Option<FrameChange>,
+    pub answer: Answer,
+}

@@ -1,5 +1,0 @@
-mod EndLaws
-mod ActLaws
-pub mod FoundLaws
-pub mod LineLaws
-pub mod Scanning

@@ -1,6 +1,0 @@
-use Rattle.std.proofs.Common.{◌≡◌, drop}
-use Rattle.hwp_records.specs.Results.{has_result}
-use Rattle.hwp_event_lines.proofs.records.has_result.Given as goal
-
-abbrev pub invariant-loop-mark : goal.invariant-loop-mark
-invariant-loop-mark l = has_result l.fn.who l.fn.acted (drop l.mark-index l.fn.marks) ≡ has_result l.fn.who l.fn.acted l.fn.marks

@@ -1,6 +1,0 @@
-use Rattle.std.proofs.Common.{◌≡◌, false, not, drop}
-use Rattle.hwp_event_lines.specs.Ended.{may_end}
-use Rattle.hwp_event_lines.proofs.records.may_end.Given as goal
-
-abbrev pub invariant-loop-mark : goal.invariant-loop-mark
-invariant-loop-mark l = may_end l.fn.who l.fn.poisoned l.may l.late (drop l.mark-index l.fn.marks) ≡ may_end l.fn.who l.fn.poisoned (not l.fn.poisoned) false l.fn.marks

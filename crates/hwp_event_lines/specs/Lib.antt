@@ -1,5 +1,0 @@
-pub mod Ended
-pub mod Told
-pub mod Firsts
-pub mod Found
-pub mod Lines

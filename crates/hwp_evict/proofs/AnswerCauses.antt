@@ -1,0 +1,134 @@
+-- Why a command answers so: it stays so, and it comes to be so when the body goes home.
+use Rattle.std.proofs.Common.{◌≡◌, ℕ, List, [], ◌∷◌, ◌++◌, Option, Some, None, length, refl, sym, ◌∙◌, subst}
+use Rattle.std.proofs.lemmas.Option.{none-some, same_Some}
+use Rattle.hwp_geom.specs.declared.Frame.{Frame}
+use Rattle.hwp_geom.specs.declared.Layout.{Layout}
+use Rattle.hwp_geom.specs.declared.Page.{Page}
+use Rattle.hwp_geom.specs.declared.Who.{Who}
+use Rattle.hwp_page.specs.declared.At.{At}
+use Rattle.hwp_page.specs.History.{BodyValue}
+use Rattle.hwp_core_rule.specs.declared.InHand.{InHand}
+use Rattle.hwp_core_rule.specs.declared.Log.{Log}
+use Rattle.hwp_core_rule.specs.declared.Made.{Made}
+use Rattle.hwp_core_rule.specs.declared.Stamp.{Stamp}
+use Rattle.hwp_core_rule.specs.declared.Step.{Step}
+use Rattle.hwp_core_rule.specs.declared.Step.TheVariants as steps
+use Rattle.hwp_core_rule.specs.declared.View.{View}
+use Rattle.hwp_core_rule.specs.Lists.{EachMember}
+use Rattle.hwp_core_rule.specs.Logs.{log_of}
+use Rattle.hwp_core_rule.specs.Views.{is_body_of}
+use Rattle.std.specs.List.{find}
+use Rattle.hwp_core_task.specs.Calls.{Steps, logs}
+use Rattle.hwp_core_task.specs.Known.{HasMade, IsAt, deeds}
+use Rattle.hwp_core_task.proofs.MadeEntries.{Lists, ListsNone, deeds-none, deeds-one, deeds-same, frame-lists, has-made, has-made-stays, page-lists}
+use Rattle.hwp_core_task.proofs.SightKeeps.{saw-bad-of-stays, saw-stays, saw-state-stays}
+use Rattle.hwp_core.specs.declared.release.Release.{Release}
+use Rattle.hwp_core.specs.declared.release.ReleaseAt.{ReleaseAt}
+use Rattle.hwp_core.specs.declared.release.ReleaseAt.TheVariants as release_at
+use Rattle.hwp_core.specs.declared.unhold.Unhold.{Unhold}
+use Rattle.hwp_core.specs.declared.unhold.UnholdAt.{UnholdAt}
+use Rattle.hwp_core.specs.declared.unhold.UnholdAt.TheVariants as unhold_at
+use Rattle.hwp_core.specs.Unholds as unholds
+use Rattle.hwp_core.specs.Releases as releases
+use Rattle.hwp_core_task.proofs.StepLeaves.{steps-planned}
+use Rattle.hwp_core.proofs.TaskCosts.{release-lists}
+use Rattle.hwp_evict.specs.declared.evict.EvictAnswer.{EvictAnswer}
+use Rattle.hwp_evict.specs.declared.evict.EvictAnswer.TheVariants as answers
+use Rattle.hwp_evict.specs.declared.evict.Eviction.{Eviction}
+use Rattle.hwp_evict.specs.declared.evict.Refusal.{Refusal}
+use Rattle.hwp_evict.specs.declared.evict.Refusal.TheVariants as refusals
+use Rattle.hwp_evict.specs.Evictions.{entry_of, SawLines, SawRefusal, IsCaused}
+use Rattle.hwp_evict.specs.Evicts.{Comes, IsAhead, KnowsPut}
+
+module _ {layout : Layout} {by : Who} {step : Step} {put : Option Log} {old new : View} {found : ℕ} {got : Option BodyValue} (made : Steps layout by step put old new found got) where
+  lines-stay : (who : Who) (page : Page) (refusal : Refusal) → SawLines layout old who page refusal → SawLines layout new who page refusal
+  lines-stay who page refusals.NotMapped saw = tt
+  lines-stay who page refusals.NotResident saw = tt
+  lines-stay who page refusals.Dirty saw = tt
+  lines-stay who page refusals.Mapped saw = tt
+  lines-stay who page (refusals.BadLines mask) saw = (saw.0, (saw.1.0, saw.1.1, saw-bad-of-stays made page saw.1.2))
+
+  pub refusal-stays : {who : Who} {page : Page} {what : Eviction} {refusal : Refusal} {at : At} → SawRefusal layout old who page what refusal at → SawRefusal layout new who page what refusal at
+  refusal-stays {who} {page} {what} {refusal} saw = record { page_is = saw.page_is; state = saw-state-stays made saw.state; lines = lines-stay who page refusal saw.lines }
+
+  -- where no entry more is the command's, what it answers stays so
+  pub caused-stays : (who : Who) (page : Page) (what : Eviction) (answer : EvictAnswer) → deeds who new ≡ deeds who old → IsCaused layout old who page what answer → IsCaused layout new who page what answer
+  caused-stays who page what answers.Stopped same is = (same ∙ is.0, record { word = is.1.word; saw = saw-stays made is.1.saw; stopped = is.1.stopped })
+  caused-stays who page what (answers.Done at) same is = (is.0, has-made-stays who old new same is.1)
+  caused-stays who page what (answers.Refused refusal at) same is = (same ∙ is.0, refusal-stays is.1)
+
+  -- and what it will answer too, while its body stays in hand
+  comes-stay : (who : Who) (page : Page) (what : Eviction) (answer : EvictAnswer) (taken : InHand) (body : BodyValue) → Comes layout old who page what answer taken body → Comes layout new who page what answer taken body
+  comes-stay who page what answers.Stopped taken body comes = absurd comes
+  comes-stay who page what (answers.Done at) taken body comes = comes
+  comes-stay who page what (answers.Refused refusal at) taken body comes = (comes.0, refusal-stays comes.1)
+
+  pub ahead-stays : {who : Who} {page : Page} {what : Eviction} {answer : EvictAnswer} {body : BodyValue} → deeds who new ≡ deeds who old → new.bodies ≡ old.bodies → IsAhead layout old who page what answer body → IsAhead layout new who page what answer body
+  ahead-stays {who} {page} {what} {answer} {body} same bodies ahead = record {
+    taken = ahead.taken;
+    there = subst (λ (l : List InHand). find (is_body_of body.page) l ≡ Some ahead.taken) (sym bodies) ahead.there;
+    page_is = ahead.page_is;
+    made_none = same ∙ ahead.made_none;
+    comes = comes-stay who page what answer ahead.taken body ahead.comes;
+  }
+
+-- when the body is home, the command has made what it answers
+module _ {layout : Layout} {who : Who} {page : Page} {what : Eviction} {step : Step} {put : Option Log} {old new : View} {found : ℕ} {got : Option BodyValue} {stamp : Stamp} {body : BodyValue} (made : Steps layout who step put old new found got) where
+  comes-home : (answer : EvictAnswer) (ahead : IsAhead layout old who page what answer body) → Lists old new stamp ahead.taken (log_of body) → IsCaused layout new who page what answer
+  comes-home answer ahead lists = which answer ahead.comes
+    where
+      none : EachMember (λ (m : Made). ⊥) (deeds who old)
+      none = subst (EachMember (λ (m : Made). ⊥)) (sym ahead.made_none) (λ i m at. none-some m at)
+
+      which : (a : EvictAnswer) → Comes layout old who page what a ahead.taken body → IsCaused layout new who page what a
+      which answers.Stopped comes = absurd comes
+      which (answers.Refused refusal at) comes = (deeds-none who lists comes.0 ∙ ahead.made_none, refusal-stays made comes.1)
+      which (answers.Done at) comes = subst (λ (a : At). (a.page ≡ page) × HasMade (λ (m : Made). ⊥) new who page a.entry (entry_of what)) (sym comes.1) (
+        refl,
+        has-made who old new one.0 one.1
+            (subst (λ (p : Page). IsAt p (length ahead.taken.log.entries) (entry_of what) one.0) ahead.page_is one.2) none,
+      )
+        where
+          one : (m : Made) × (deeds who new ≡ deeds who old ++ m ∷ []) × IsAt body.page (length ahead.taken.log.entries) (entry_of what) m
+          one = deeds-one who lists (record { who = who; what = entry_of what }) comes.0 refl
+
+module _ {layout : Layout} {who : Who} {page : Page} {what : Eviction} {old new : View} {found : ℕ} {got : Option BodyValue} {answer : EvictAnswer} {body : BodyValue} (ahead : IsAhead layout old who page what answer body) where
+  pub home-by-frame : {frame : Frame} → Steps layout who (steps.UnlockFrame frame) (Some (log_of body)) old new found got → IsCaused layout new who page what answer
+  home-by-frame made = comes-home made answer ahead (frame-lists ahead.there made)
+
+  pub home-by-page : {other : Page} → Steps layout who (steps.UnlockPage other) (Some (log_of body)) old new found got → IsCaused layout new who page what answer
+  home-by-page made = comes-home made answer ahead (page-lists ahead.there made)
+
+-- once the page is being let go, its body has gone home
+released-puts : (r : Release) → unholds.put_at (unholds.after_release r) ≡ None
+released-puts r = which r.at
+  where
+    which : (x : ReleaseAt) → unholds.put_at (unholds.after_release (record r { at = x })) ≡ None
+    which release_at.Put = refl
+    which (release_at.Give word) = refl
+    which (release_at.Unreserve word) = refl
+    which (release_at.Adopt word) = refl
+    which (release_at.Retire word) = refl
+    which (release_at.Back word) = refl
+
+pub home-after : (u : Unhold) (found : ℕ) → unholds.put (unholds.next (unholds.bare u) found) ≡ None
+home-after u found = which u.at
+  where
+    which : (x : UnholdAt) → unholds.put_at (unholds.next_at u.who (unholds.bare_at x) found) ≡ None
+    which (unhold_at.UnlockFrame frame count body) = refl
+    which (unhold_at.Release r) = released-puts (releases.next r found)
+    which (unhold_at.UnlockPage body) = refl
+    which unhold_at.Over = refl
+
+-- a step by which a page is let go leaves the answer caused, or causes it
+pub unhold-causes : {layout : Layout} {old new : View} (page : Page) (what : Eviction) (u : Unhold) {step : Step} {found : ℕ} {got : Option BodyValue} (answer : EvictAnswer) → unholds.plan u ≡ Some step
+    → Steps layout u.who step (logs (unholds.put u)) old new found got → KnowsPut layout old u.who page what answer (unholds.put u) → IsCaused layout new u.who page what answer
+unhold-causes {layout} {old} {new} page what u {step} {found} {got} answer is made knows = which u.at is made knows
+  where
+    which : (x : UnholdAt) → unholds.plan_at u.page x ≡ Some step → Steps layout u.who step (logs (unholds.put_at x)) old new found got → KnowsPut layout old u.who page what answer (unholds.put_at x) → IsCaused layout new u.who page what answer
+    which (unhold_at.UnlockFrame frame count None) e made knows = caused-stays made u.who page what answer (deeds-same u.who (subst ListsNone (same_Some (steps.UnlockFrame frame) step e) tt) made) knows
+    which (unhold_at.UnlockFrame frame count (Some body)) e made knows = home-by-frame knows (steps-planned e made)
+    which (unhold_at.Release r) e made knows = caused-stays made u.who page what answer (deeds-same u.who (release-lists r step e) made) knows
+    which (unhold_at.UnlockPage None) e made knows = caused-stays made u.who page what answer (deeds-same u.who (subst ListsNone (same_Some (steps.UnlockPage u.page) step e) tt) made) knows
+    which (unhold_at.UnlockPage (Some body)) e made knows = home-by-page knows (steps-planned e made)
+    which unhold_at.Over e made knows = absurd (none-some step e)

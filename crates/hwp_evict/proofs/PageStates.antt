@@ -1,0 +1,238 @@
+-- What a page's state says of a command: its kind stays, a translation in use is not barred, and why a command is refused.
+use Rattle.std.proofs.Common.{◌≡◌, inl, inr, ℕ, ◌+◌, ◌==◌, ◌&&◌, ◌||◌, Bool, true, false, not, List, [], ◌∷◌, Option, Some, None, slice_get, refl, sym, ap, ◌∙◌, subst, arith, IsSomeAnd}
+use Rattle.std.proofs.lemmas.Bool.{both_ways, eqb-true, ne_eqb}
+use Rattle.std.specs.Cmp.{nat_cmp_total, unsigned_tied}
+use Rattle.std.specs.FinSet as set
+use Rattle.std.specs.Ordering.{nat_cmp}
+use Rattle.hwp_geom.specs.declared.Frame.{Frame}
+use Rattle.hwp_geom.specs.declared.Layout.{Layout}
+use Rattle.hwp_geom.specs.declared.Page.{Page}
+use Rattle.hwp_geom.specs.declared.PageKind.{PageKind}
+use Rattle.hwp_geom.specs.declared.TransDecl.{TransDecl}
+use Rattle.hwp_page.specs.declared.Entry.{Entry}
+use Rattle.hwp_page.specs.declared.Met.TheVariants.{Word, Sigbus}
+use Rattle.hwp_page.specs.declared.PageState.{PageState}
+use Rattle.hwp_page.specs.declared.Situation.{Situation}
+use Rattle.hwp_page.specs.declared.Situation.TheVariants as situations
+use Rattle.hwp_page.specs.declared.What.{What}
+use Rattle.hwp_page.specs.declared.What.TheVariants as entries
+use Rattle.hwp_page.specs.Actions.{acted}
+use Rattle.hwp_page.specs.History.{BodyValue, IsReplay, Leads}
+use Rattle.hwp_page.specs.Refusals.{IsUnsaved}
+use Rattle.hwp_page.specs.Step.{Allowed, after, opening_of, is_file}
+use Rattle.hwp_core_rule.specs.Logs.{log_of, state_of}
+use Rattle.hwp_core_rule.proofs.OwedLosses.{after-kind}
+use Rattle.hwp_core.specs.Holds.{IsBodyOf}
+use Rattle.hwp_core.proofs.BodyStates.{replay-state, replay-unused}
+use Rattle.hwp_evict.specs.declared.evict.Eviction.{Eviction}
+use Rattle.hwp_evict.specs.declared.evict.Eviction.TheVariants as evictions
+use Rattle.hwp_evict.specs.declared.evict.Refusal.{Refusal}
+use Rattle.hwp_evict.specs.declared.evict.Refusal.TheVariants as refusals
+use Rattle.hwp_evict.specs.Evictions.{entry_of, copies, absence, IsOfKind, Passes, Bars, IsWhy}
+use Rattle.hwp_evict.specs.Evicts.{CanMakeEntry}
+
+-- ---- what entries leave
+
+led-kind : (layout : Layout) (page : Page) (s t : PageState) (list : List Entry) → Leads layout page s list t → t.kind ≡ s.kind
+led-kind layout page s t [] leads = ap (λ (x : PageState). x.kind) (sym leads)
+led-kind layout page s t (e ∷ es) leads = led-kind layout page (after s e.what) t es leads.1 ∙ after-kind s e.what
+
+-- a translation in use isn't barred
+abbrev IsApart : PageState → Type 0
+IsApart s = (slot : ℕ) → set.contains s.maps slot ≡ true → set.contains s.bar slot ≡ false
+
+unmapped-apart : (s t : PageState) → t.maps ≡ set.empty → IsApart t
+unmapped-apart s t none slot used = absurd (both_ways (set.contains t.maps slot) (ap (λ m. set.contains m slot) none ∙ set.contains-empty nat_cmp slot) used)
+
+acted-apart : (s : PageState) (situation : Situation) → IsApart s → IsApart (acted s situation)
+acted-apart s situations.Free was = was
+acted-apart s situations.Kernel was = was
+acted-apart s situations.FileClean was = unmapped-apart s (acted s situations.FileClean) refl
+acted-apart s situations.FileDirty was = unmapped-apart s (acted s situations.FileDirty) refl
+acted-apart s situations.AnonOnly was = unmapped-apart s (acted s situations.AnonOnly) refl
+acted-apart s situations.SwapClean was = unmapped-apart s (acted s situations.SwapClean) refl
+acted-apart s situations.SwapDirty was = unmapped-apart s (acted s situations.SwapDirty) refl
+
+-- what a set has with a number more, and without one
+has-more : (s : set.FinSet nat_cmp) (k q : ℕ) → set.contains (set.insert s k) q ≡ ((q == k) || set.contains s q)
+has-more s k q = set.contains-insert nat_cmp_total s k q ∙ ap (λ (b : Bool). b || set.contains s q) (unsigned_tied q k)
+
+pub has-less : (s : set.FinSet nat_cmp) (k q : ℕ) → set.contains (set.remove s k) q ≡ (not (q == k) && set.contains s q)
+has-less s k q = set.contains-remove nat_cmp_total s k q ∙ ap (λ (b : Bool). not b && set.contains s q) (unsigned_tied q k)
+
+mapped-apart : (s : PageState) (k : ℕ) → set.contains s.bar k ≡ false → IsApart s → IsApart (record s { maps = set.insert s.maps k })
+mapped-apart s k free was q used = which (q == k) refl (sym (has-more s.maps k q) ∙ used)
+  where
+    which : (b : Bool) → (q == k) ≡ b → ((q == k) || set.contains s.maps q) ≡ true → set.contains s.bar q ≡ false
+    which true is used = subst (λ (n : ℕ). set.contains s.bar n ≡ false) (sym (eqb-true q k is)) free
+    which false is used = was q (sym (ap (λ (b : Bool). b || set.contains s.maps q) is) ∙ used)
+
+freed-apart : (s : PageState) (k : ℕ) → IsApart s → IsApart (record s { maps = set.remove s.maps k })
+freed-apart s k was q used = which (q == k) refl (sym (has-less s.maps k q) ∙ used)
+  where
+    which : (b : Bool) → (q == k) ≡ b → (not (q == k) && set.contains s.maps q) ≡ true → set.contains s.bar q ≡ false
+    which true is used = absurd (both_ways true (sym used ∙ ap (λ (b : Bool). not b && set.contains s.maps q) is) refl)
+    which false is used = was q (sym (ap (λ (b : Bool). not b && set.contains s.maps q) is) ∙ used)
+
+after-apart : (layout : Layout) (page : Page) (s : PageState) (what : What) → IsApart s → Allowed layout page s what → IsApart (after s what)
+after-apart layout page s (entries.Load slot line met) was allowed = was
+after-apart layout page s (entries.Store slot line (Word mask word)) was allowed = was
+after-apart layout page s (entries.Store slot line (Sigbus thread)) was allowed = was
+after-apart layout page s entries.FaultIn was allowed = was
+after-apart layout page s (entries.Map slot) was allowed = mapped-apart s slot.0 allowed.3 was
+after-apart layout page s (entries.Free slot) was allowed = freed-apart s slot.0 was
+after-apart layout page s entries.Drop was allowed = was
+after-apart layout page s entries.Sync was allowed = was
+after-apart layout page s entries.Out was allowed = unmapped-apart s (after s entries.Out) refl
+after-apart layout page s (entries.Mce slot line mask) was allowed = was
+after-apart layout page s (entries.Fail situation required seen signals) was allowed = acted-apart s situation was
+after-apart layout page s entries.Soft was allowed = was
+
+led-apart : (layout : Layout) (page : Page) (s t : PageState) (list : List Entry) → Leads layout page s list t → IsApart s → IsApart t
+led-apart layout page s t [] leads was = subst IsApart leads was
+led-apart layout page s t (e ∷ es) leads was = led-apart layout page (after s e.what) t es leads.1 (after-apart layout page s e.what was leads.0)
+
+pub replay-apart : {layout : Layout} {page : Page} {list : List Entry} {state : PageState} → IsReplay layout page list state → (slot : ℕ) → set.contains state.maps slot ≡ true → set.contains state.bar slot ≡ false
+replay-apart {layout} {page} {list} {state} replay = led-apart layout page (opening_of replay.kind) state list replay.leads (unmapped-apart (opening_of replay.kind) (opening_of replay.kind) refl)
+
+-- a translation in use is one of the page
+abbrev AreOwn : Layout → Page → PageState → Type 0
+AreOwn layout page s = (slot : ℕ) → set.contains s.maps slot ≡ true → IsSomeAnd (slice_get layout.trans slot) (λ (t : TransDecl). t.page ≡ page)
+
+unmapped-own : (layout : Layout) (page : Page) (t : PageState) → t.maps ≡ set.empty → AreOwn layout page t
+unmapped-own layout page t none slot used = absurd (both_ways (set.contains t.maps slot) (ap (λ m. set.contains m slot) none ∙ set.contains-empty nat_cmp slot) used)
+
+acted-own : (layout : Layout) (page : Page) (s : PageState) (situation : Situation) → AreOwn layout page s → AreOwn layout page (acted s situation)
+acted-own layout page s situations.Free was = was
+acted-own layout page s situations.Kernel was = was
+acted-own layout page s situations.FileClean was = unmapped-own layout page (acted s situations.FileClean) refl
+acted-own layout page s situations.FileDirty was = unmapped-own layout page (acted s situations.FileDirty) refl
+acted-own layout page s situations.AnonOnly was = unmapped-own layout page (acted s situations.AnonOnly) refl
+acted-own layout page s situations.SwapClean was = unmapped-own layout page (acted s situations.SwapClean) refl
+acted-own layout page s situations.SwapDirty was = unmapped-own layout page (acted s situations.SwapDirty) refl
+
+mapped-own : (layout : Layout) (page : Page) (s : PageState) (k : ℕ) → IsSomeAnd (slice_get layout.trans k) (λ (t : TransDecl). t.page ≡ page) → AreOwn layout page s → AreOwn layout page (record s { maps = set.insert s.maps k })
+mapped-own layout page s k own was q used = which (q == k) refl (sym (has-more s.maps k q) ∙ used)
+  where
+    which : (b : Bool) → (q == k) ≡ b → ((q == k) || set.contains s.maps q) ≡ true → IsSomeAnd (slice_get layout.trans q) (λ (t : TransDecl). t.page ≡ page)
+    which true is used = subst (λ (n : ℕ). IsSomeAnd (slice_get layout.trans n) (λ (t : TransDecl). t.page ≡ page)) (sym (eqb-true q k is)) own
+    which false is used = was q (sym (ap (λ (b : Bool). b || set.contains s.maps q) is) ∙ used)
+
+freed-own : (layout : Layout) (page : Page) (s : PageState) (k : ℕ) → AreOwn layout page s → AreOwn layout page (record s { maps = set.remove s.maps k })
+freed-own layout page s k was q used = which (q == k) refl (sym (has-less s.maps k q) ∙ used)
+  where
+    which : (b : Bool) → (q == k) ≡ b → (not (q == k) && set.contains s.maps q) ≡ true → IsSomeAnd (slice_get layout.trans q) (λ (t : TransDecl). t.page ≡ page)
+    which true is used = absurd (both_ways true (sym used ∙ ap (λ (b : Bool). not b && set.contains s.maps q) is) refl)
+    which false is used = was q (sym (ap (λ (b : Bool). not b && set.contains s.maps q) is) ∙ used)
+
+after-own : (layout : Layout) (page : Page) (s : PageState) (what : What) → AreOwn layout page s → Allowed layout page s what → AreOwn layout page (after s what)
+after-own layout page s (entries.Load slot line met) was allowed = was
+after-own layout page s (entries.Store slot line (Word mask word)) was allowed = was
+after-own layout page s (entries.Store slot line (Sigbus thread)) was allowed = was
+after-own layout page s entries.FaultIn was allowed = was
+after-own layout page s (entries.Map slot) was allowed = mapped-own layout page s slot.0 allowed.1 was
+after-own layout page s (entries.Free slot) was allowed = freed-own layout page s slot.0 was
+after-own layout page s entries.Drop was allowed = was
+after-own layout page s entries.Sync was allowed = was
+after-own layout page s entries.Out was allowed = unmapped-own layout page (after s entries.Out) refl
+after-own layout page s (entries.Mce slot line mask) was allowed = was
+after-own layout page s (entries.Fail situation required seen signals) was allowed = acted-own layout page s situation was
+after-own layout page s entries.Soft was allowed = was
+
+led-own : (layout : Layout) (page : Page) (s t : PageState) (list : List Entry) → Leads layout page s list t → AreOwn layout page s → AreOwn layout page t
+led-own layout page s t [] leads was = subst (AreOwn layout page) leads was
+led-own layout page s t (e ∷ es) leads was = led-own layout page (after s e.what) t es leads.1 (after-own layout page s e.what was leads.0)
+
+pub replay-own : {layout : Layout} {page : Page} {list : List Entry} {state : PageState} → IsReplay layout page list state → (slot : ℕ) → set.contains state.maps slot ≡ true → IsSomeAnd (slice_get layout.trans slot) (λ (t : TransDecl). t.page ≡ page)
+replay-own {layout} {page} {list} {state} replay = led-own layout page (opening_of replay.kind) state list replay.leads (unmapped-own layout page (opening_of replay.kind) refl)
+
+-- the kind of a page's state is the declared one
+some-is : {A : Type 0} (P : A → Type 0) (o : Option A) (x : A) → o ≡ Some x → IsSomeAnd o P → P x
+some-is P o x is has = subst (λ p. IsSomeAnd p P) is has
+
+-- ---- a body that is held
+
+module _ {layout : Layout} {page : Page} {frame : Option Frame} {body : BodyValue} (is : IsBodyOf layout page frame body) where
+  pub own-replay : IsReplay layout body.page body.log body.state
+  own-replay = subst (λ (p : Page). IsReplay layout p body.log body.state) (sym is.page_is) is.replay
+
+  -- its state is that of its history
+  pub state-is : state_of layout (log_of body) ≡ body.state
+  state-is = replay-state own-replay
+
+  pub replay-is : IsReplay layout page body.log (state_of layout (log_of body))
+  replay-is = subst (λ (s : PageState). IsReplay layout page body.log s) (sym state-is) is.replay
+
+-- in a frame it is cached
+pub is-cached : {layout : Layout} {page : Page} {frame : Frame} {body : BodyValue} → IsBodyOf layout page (Some frame) body → (state_of layout (log_of body)).cached ≡ true
+is-cached {frame} is = sym is.cached ∙ ap not (ne_eqb (frame.0 + 1) 0 (λ e. omega (arith, e)))
+
+-- and without a frame it is not: the command is refused
+pub away-why : {layout : Layout} {page : Page} {body : BodyValue} (what : Eviction) → IsBodyOf layout page None body → IsWhy what (absence what) (state_of layout (log_of body))
+away-why {layout} {page} {body} what is = which what
+  where
+    away : (state_of layout (log_of body)).cached ≡ false
+    away = sym is.cached
+
+    none : (state_of layout (log_of body)).maps ≡ set.empty
+    none = replay-unused (replay-is is) away
+
+    which : (w : Eviction) → IsWhy w (absence w) (state_of layout (log_of body))
+    which (evictions.Free slot) = ap (λ m. set.contains m slot.0) none ∙ set.contains-empty nat_cmp slot.0
+    which evictions.Sync = away
+    which evictions.Drop = away
+    which evictions.Out = away
+
+-- what bars the command is why it is refused
+barred-why : (what : Eviction) (s : PageState) (refusal : Refusal) → s.cached ≡ true → Bars what s refusal → IsWhy what refusal s
+barred-why (evictions.Free slot) s refusals.NotMapped cached bars = bars
+barred-why evictions.Drop s refusals.Dirty cached bars = (cached, bars)
+barred-why evictions.Drop s refusals.Mapped cached bars = (cached, bars.0, bars.1)
+barred-why (evictions.Free slot) s refusals.NotResident cached bars = absurd bars
+barred-why (evictions.Free slot) s refusals.Dirty cached bars = absurd bars
+barred-why (evictions.Free slot) s refusals.Mapped cached bars = absurd bars
+barred-why (evictions.Free slot) s (refusals.BadLines mask) cached bars = absurd bars
+barred-why evictions.Sync s refusal cached bars = absurd bars
+barred-why evictions.Out s refusal cached bars = absurd bars
+barred-why evictions.Drop s refusals.NotMapped cached bars = absurd bars
+barred-why evictions.Drop s refusals.NotResident cached bars = absurd bars
+barred-why evictions.Drop s (refusals.BadLines mask) cached bars = absurd bars
+
+pub bars-why : {layout : Layout} {page : Page} {frame : Frame} {body : BodyValue} (what : Eviction) (refusal : Refusal) → IsBodyOf layout page (Some frame) body → Bars what body.state refusal → IsWhy what refusal (state_of layout (log_of body))
+bars-why {layout} {page} {frame} {body} what refusal is bars = barred-why what (state_of layout (log_of body)) refusal (is-cached is) (subst (λ (s : PageState). Bars what s refusal) (sym (state-is is)) bars)
+
+is-clean : (s : PageState) → (IsUnsaved s → ⊥) → s.dirty ≡ false
+is-clean s saved = which s.dirty refl
+  where
+    which : (b : Bool) → s.dirty ≡ b → s.dirty ≡ false
+    which true dirty = absurd (saved (inl dirty))
+    which false clean = clean
+
+-- a page in a frame that lets the command go on allows its entry
+passes-allowed : (layout : Layout) (page : Page) (what : Eviction) (s : PageState) (kind : PageKind) → slice_get layout.pages page.0 ≡ Some kind → s.kind ≡ kind → s.cached ≡ true → IsOfKind layout page what → Passes what s → Allowed layout page s (entry_of what)
+passes-allowed layout page (evictions.Free slot) s kind declared is cached own passes = passes
+passes-allowed layout page evictions.Sync s kind declared is cached own passes =
+    (ap is_file is ∙ some-is (λ (k : PageKind). is_file k ≡ true) (slice_get layout.pages page.0) kind declared own, cached)
+passes-allowed layout page evictions.Out s kind declared is cached own passes =
+    (ap is_file is ∙ some-is (λ (k : PageKind). is_file k ≡ false) (slice_get layout.pages page.0) kind declared own, cached)
+passes-allowed layout page evictions.Drop s kind declared is cached own passes =
+    record { cached = cached; unused = passes.1; clean = is-clean s passes.0; backed = λ none. passes.0 (inr none) }
+
+module _ {layout : Layout} {page : Page} {frame : Frame} {body : BodyValue} (what : Eviction) (is : IsBodyOf layout page (Some frame) body) (own : IsOfKind layout page what) where
+  pub allows : Passes what body.state → Allowed layout page (state_of layout (log_of body)) (entry_of what)
+  allows passes = passes-allowed layout page what (state_of layout (log_of body)) replay.kind replay.declared (led-kind layout page (opening_of replay.kind) (state_of layout (log_of body)) body.log replay.leads) (is-cached is) own
+      (subst (Passes what) (sym (state-is is)) passes)
+    where
+      replay : IsReplay layout page body.log (state_of layout (log_of body))
+      replay = replay-is is
+
+  pub can-enter : Passes what body.state → CanMakeEntry what body
+  can-enter passes = subst (λ (l : Layout). Allowed l body.page body.state (entry_of what)) (sym is.layout_is)
+      (subst (λ (p : Page). Allowed layout p body.state (entry_of what)) (sym is.page_is) (subst (λ (s : PageState). Allowed layout page s (entry_of what)) (state-is is) (allows passes)))
+
+-- a command that copies the content is let go on by each state
+pub copying-passes : (what : Eviction) (s : PageState) → copies what ≡ true → Passes what s
+copying-passes (evictions.Free slot) s is = absurd (both_ways true (sym is) refl)
+copying-passes evictions.Sync s is = tt
+copying-passes evictions.Out s is = tt
+copying-passes evictions.Drop s is = absurd (both_ways true (sym is) refl)

@@ -1,6 +1,0 @@
-use Rattle.std.proofs.Common.{◌≡◌, drop, fold}
-use Rattle.hwp_evidence.specs.Ample.{flags_of, noted_list}
-use Rattle.hwp_evidence.proofs.ample.flags_of.Given as goal
-
-abbrev pub invariant-loop-list : goal.invariant-loop-list
-invariant-loop-list l = fold noted_list l.flags.items (drop l.list-index l.fn.script.lists) ≡ flags_of l.fn.script

@@ -1,6 +1,0 @@
-use Rattle.std.proofs.Common.{◌≡◌}
-use Rattle.hwp_evidence.proofs.FindingLaws.{IsFoundUpTo}
-use Rattle.hwp_evidence.proofs.findings.findings_of.Given as goal
-
-abbrev pub invariant-loop-entries : goal.invariant-loop-entries
-invariant-loop-entries l = (l.number ≡ l.entries-index) × IsFoundUpTo l.fn.layout l.fn.named l.fn.cpu l.fn.commands l.fn.pages l.entries-index l.found

@@ -1,9 +1,0 @@
-pub mod Quiet
-pub mod Failing
-pub mod Adding
-pub mod FailLeaves
-pub mod FailRank
-pub mod FailTells
-pub mod Injecting
-pub mod InjectEnds
-pub mod InjectRank

@@ -1,8 +1,0 @@
-//! A memory failure of a frame, from its poison to its end, and the command that brings one about.
-#![tactic(auto)]
-
-mod fail;
-mod inject;
-
-pub use fail::{Fail, FailAnswer};
-pub use inject::Inject;

@@ -1,5 +1,0 @@
-use Rattle.hwp_fault.proofs.fault.FaultMachine.plan.Goals as goal
-use Rattle.hwp_fault.proofs.Rooming.{kill-planned}
-
-pub returns-in-Kill : goal.returns-in-Kill
-returns-in-Kill c = kill-planned c.args.self.now c.in-Kill.frame c.in-Kill.body c.in-Kill.place c.of.result c.in-Kill.is c.of.ensures

@@ -1,0 +1,206 @@
+ghost use Rattle.std.specs.Prelude.{◌≡◌, None};
+ghost use Rattle.hwp_fault_fill.specs.Fills.{HasRoomFor, brought};
+
+use crate::take::{Take, TakeAnswer};
+use hwp_core::Refer;
+use hwp_core_rule::Step;
+use hwp_core_task::{Ranked, Task, Turn};
+use hwp_geom::{Frame, Layout, Page, Who};
+use hwp_page::{Body, Entry, What};
+
+/// Puts a page that is held, and in no frame, into a free frame: the first half of a fault on it (this project's rule).
+#[derive(Drop)]
+pub struct Fill {
+    who: Who,
+    page: Page,
+    body: Body,
+    at: FillAt,
+}
+
+#[derive(Clone, Copy)]
+enum FillAt {
+    Take { take: Take },
+    SetOwner { frame: Frame },
+    Refer { refer: Refer },
+    SetCache { frame: Frame },
+    Over { frame: Option<Frame> },
+}
+
+/// What a `Fill` came to (this project's rule).
+#[derive(Clone, Copy)]
+pub enum FillAnswer {
+    /// The page is in the frame, whose lock and one reference the processor has.
+    Filled(Frame),
+    /// No frame was available.
+    NoFrame,
+}
+
+impl Fill {
+    ghost use Rattle.hwp_fault_fill.specs.Fills.{begin, plan, answer, after_take, after_refer};
+
+    /// The command puts the page into a frame. The body has room for one entry more.
+    pub fn new(who: Who, page: Page, body: Body) -> Fill
+        ensures { result ≡ begin who page body }
+    {
+        Fill {
+            who,
+            page,
+            body,
+            at: FillAt::Take {
+                take: Take::new(who),
+            },
+        }
+    }
+
+    /// What the task came to; `None` until it is over.
+    pub fn answer(&self) -> Option<FillAnswer>
+        ensures { result ≡ answer self.now }
+    {
+        match self.at {
+            FillAt::Over { frame: Some(frame) } => Some(FillAnswer::Filled(frame)),
+            FillAt::Over { frame: None } => Some(FillAnswer::NoFrame),
+            FillAt::Take { .. }
+            | FillAt::SetOwner { .. }
+            | FillAt::Refer { .. }
+            | FillAt::SetCache { .. } => None,
+        }
+    }
+
+    /// The page's body, when the task is over.
+    pub fn body(self) -> Body
+        requires over { plan self ≡ None }
+        ensures { result ≡ self.body }
+    {
+        self.body
+    }
+
+    fn after_take(take: Take) -> FillAt
+        ensures { result ≡ after_take take }
+    {
+        match take.answer() {
+            Some(TakeAnswer::Taken(frame)) => FillAt::SetOwner { frame },
+            Some(TakeAnswer::NoFrame) => FillAt::Over { frame: None },
+            None => FillAt::Take { take },
+        }
+    }
+
+    fn after_refer(refer: Refer) -> FillAt
+        ensures { result ≡ after_refer refer }
+    {
+        if refer.is_over() {
+            FillAt::SetCache {
+                frame: refer.frame(),
+            }
+        } else {
+            FillAt::Refer { refer }
+        }
+    }
+}
+
+/// Appends the entry that the page was brought into a frame.
+fn bring(who: Who, body: &mut Body)
+    requires { HasRoomFor body.old }
+    ensures { body.new ≡ brought who body.old }
+{
+    body.append(Entry {
+        who,
+        what: What::FaultIn,
+    });
+}
+
+impl Task for Fill {
+    ghost use Rattle.std.specs.Prelude.{◌≡◌, None};
+    ghost use Rattle.hwp_fault_fill.specs.Fills.{plan, next, turn, Shows, Fits};
+
+    ghost who = { λ f. f.who };
+
+    ghost plan = { λ f. plan f };
+
+    ghost put = { λ f. None };
+
+    ghost bare = { λ f. f };
+
+    ghost shows = { λ f found got. Shows f found got };
+
+    ghost next = { λ layout f found got after result. (after ≡ next layout f found) × (result ≡ turn f found) };
+
+    ghost fits = { λ layout view f. Fits layout view f };
+
+    fn who(&self) -> Who {
+        self.who
+    }
+
+    fn plan(&self) -> Option<Step> {
+        match self.at {
+            FillAt::Take { take } => take.plan(),
+            FillAt::SetOwner { frame } => Some(Step::SetOwner {
+                frame,
+                page: self.page,
+                owned: true,
+            }),
+            FillAt::Refer { refer } => refer.plan(),
+            FillAt::SetCache { frame } => Some(Step::SetCache {
+                page: self.page,
+                frame: Some(frame),
+            }),
+            FillAt::Over { .. } => None,
+        }
+    }
+
+    fn give(&mut self) -> Option<Body> {
+        None
+    }
+
+    fn settle(&mut self, layout: &Layout, found: u64, body: Option<Body>) -> Turn {
+        match self.at {
+            FillAt::Take { mut take } => {
+                let turn = take.settle(layout, found, body);
+                self.at = Fill::after_take(take);
+                turn
+            }
+            FillAt::SetOwner { frame } => {
+                self.at = FillAt::Refer {
+                    refer: Refer::new(self.who, frame, 1),
+                };
+                Turn::Moved
+            }
+            FillAt::Refer { mut refer } => {
+                let turn = refer.settle(layout, found, body);
+                self.at = Fill::after_refer(refer);
+                turn
+            }
+            FillAt::SetCache { frame } => {
+                bring(self.who, &mut self.body);
+                self.at = FillAt::Over { frame: Some(frame) };
+                Turn::Moved
+            }
+            FillAt::Over { .. } => Turn::Moved,
+        }
+    }
+}
+
+impl Ranked for Fill {
+    ghost use Rattle.std.specs.Prelude.{false, None};
+    ghost use Rattle.hwp_fault_fill.specs.Fills.{class, cost};
+
+    ghost class_of = { λ f. class f };
+
+    ghost cost = { λ f words. cost f words };
+
+    ghost aborts = { λ f. false };
+
+    ghost claims = { λ f. None };
+
+    fn class(&self) -> u8 {
+        match self.at {
+            FillAt::Take { take } => { if take.class() == 1 { 1 } else { 2 } }
+            FillAt::SetOwner { .. }
+            | FillAt::Refer { .. }
+            | FillAt::SetCache { .. }
+            | FillAt::Over { frame: Some(_) } => 1,
+            FillAt::Over { frame: None } => 2,
+        }
+    }
+
+    fn ranked(&self) {}
+}

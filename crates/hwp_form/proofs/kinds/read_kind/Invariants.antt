@@ -1,7 +1,0 @@
-use Rattle.std.proofs.Common.{◌≡◌}
-use Rattle.hwp_form.specs.Kinds.{kind_text}
-use Rattle.hwp_form.proofs.Searches.{IsNoneOf}
-use Rattle.hwp_form.proofs.kinds.read_kind.Given as goal
-
-abbrev pub invariant-loop-kind : goal.invariant-loop-kind
-invariant-loop-kind l = IsNoneOf (λ k. l.word ≡ kind_text k) l.kind-items l.kind-index

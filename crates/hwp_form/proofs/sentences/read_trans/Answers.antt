@@ -1,9 +1,0 @@
-use Rattle.hwp_form.proofs.NumberLaws.{within}
-use Rattle.hwp_form.proofs.KeywordLaws.{trans_sentence}
-use Rattle.hwp_form.proofs.sentences.read_trans.Goals as goal
-
-pub returns-in-Ok : goal.returns-in-Ok
-returns-in-Ok c = trans_sentence _ c.in-Ok.numbers c.in-Ok.ensures
-
-pub returns-in-Err : goal.returns-in-Err
-returns-in-Err c = within _ _ _ c.in-Err.misfit c.in-Err.ensures

@@ -1,7 +1,0 @@
-use Rattle.std.proofs.Common.{take}
-use Rattle.std.specs.Prelude.{All}
-use Rattle.hwp_form.specs.Grammar.{IsPrintable}
-use Rattle.hwp_form.proofs.words.is_printable.Given as goal
-
-abbrev pub invariant-loop-byte : goal.invariant-loop-byte
-invariant-loop-byte l = All IsPrintable (take l.byte-index l.fn.word)

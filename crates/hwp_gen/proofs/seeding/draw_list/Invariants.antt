@@ -1,7 +1,0 @@
-use Rattle.std.proofs.Common.{◌≡◌}
-use Rattle.hwp_gen.specs.Commands.{command}
-use Rattle.hwp_gen.specs.Generated.{many}
-use Rattle.hwp_gen.proofs.seeding.draw_list.Given as goal
-
-abbrev pub invariant-loop-number : goal.invariant-loop-number
-invariant-loop-number l = (l.list, l.rng) ≡ many (command l.fn.cpu) l._number l.fn.rng

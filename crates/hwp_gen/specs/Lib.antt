@@ -1,4 +1,0 @@
-pub mod Draws
-pub mod Machine
-pub mod Commands
-pub mod Generated

@@ -1,9 +1,0 @@
-use Rattle.hwp_handler.proofs.handler.HandlerScheduled.tells.Goals as goal
-use Rattle.hwp_step.proofs.Revivals.{lasting-pays}
-use Rattle.hwp_handler.proofs.HandlerRank.{handler-lasting, handler-member, handler-tells}
-
-pub returns-clause-class : goal.returns-clause-class
-returns-clause-class c = handler-tells
-
-pub returns-clause-pays : goal.returns-clause-pays
-returns-clause-pays c = lasting-pays handler-member handler-lasting

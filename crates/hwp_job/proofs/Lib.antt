@@ -1,4 +1,0 @@
-pub mod OfKind
-pub mod Ending
-pub mod Refusing
-pub mod Jobbing

@@ -1,3 +1,0 @@
-mod PartLaws
-mod LineCounts
-mod JudgeLaws

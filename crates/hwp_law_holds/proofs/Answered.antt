@@ -1,0 +1,249 @@
+-- Each command has its answer, in order, and the report shows its cause.
+use Rattle.std.proofs.Common.{◌≡◌, ◌≢◌, ◌⊎◌, inl, inr, ℕ, ◌<◌, Bool, true, false, bit_and, List, [], Option, Some, length, slice_get, option_and_then, option_map, take, unwrap_or, refl, sym, ap, ◌∙◌, subst}
+use Rattle.std.proofs.lemmas.List.{length-map}
+use Rattle.std.proofs.lemmas.Option.{get_or_from_slice_get, slice_get_within}
+use Rattle.hwp_law_run.specs.hwp_geom.declared.Cpu.{Cpu}
+use Rattle.hwp_law_run.specs.hwp_geom.declared.Frame.{Frame}
+use Rattle.hwp_law_run.specs.hwp_geom.declared.Mask.{Mask}
+use Rattle.hwp_law_run.specs.hwp_geom.declared.Page.{Page}
+use Rattle.hwp_law_run.specs.hwp_geom.declared.Thread.{Thread}
+use Rattle.hwp_law_run.specs.hwp_geom.declared.Who.{Who}
+use Rattle.hwp_law_run.specs.hwp_kill.Prctl.{reply}
+use Rattle.hwp_law_run.specs.hwp_page.declared.At.{At}
+use Rattle.hwp_law_run.specs.hwp_page.declared.Entry.{Entry}
+use Rattle.hwp_law_run.specs.hwp_page.declared.Outcome.{Outcome}
+use Rattle.hwp_law_run.specs.hwp_page.declared.PageState.{PageState}
+use Rattle.hwp_law_run.specs.hwp_page.declared.What.{What}
+use Rattle.hwp_law_run.specs.hwp_page.declared.Met.TheVariants.{Sigbus}
+use Rattle.hwp_law_run.specs.hwp_page.declared.What.TheVariants as entries
+use Rattle.hwp_law_run.specs.hwp_core_rule.declared.Length.{Length}
+use Rattle.hwp_law_run.specs.hwp_core_rule.declared.Log.{Log}
+use Rattle.hwp_law_run.specs.hwp_core_rule.declared.Made.{Made}
+use Rattle.hwp_law_run.specs.hwp_core_rule.declared.SharedWord.TheVariants as places
+use Rattle.hwp_law_run.specs.hwp_core_rule.declared.State.{State}
+use Rattle.hwp_law_run.specs.hwp_core_rule.declared.View.{View}
+use Rattle.hwp_law_run.specs.hwp_core_rule.Logs.{state_of}
+use Rattle.hwp_law_run.specs.hwp_core_task.Boards.{view_of}
+use Rattle.hwp_law_run.specs.hwp_core_task.Known.{HasMade, Saw, SawBadOf}
+use Rattle.hwp_law_run.specs.hwp_core_task.Pages.{SawState}
+use Rattle.hwp_law_run.proofs.of_hwp_core_task.SightKeeps.{bad-lines-stay}
+use Rattle.hwp_soft.specs.hwp_soft_move.Seizes.{IsUsers}
+use Rattle.hwp_law_run.specs.hwp_script_read.declared.PrctlArgs.{PrctlArgs}
+use Rattle.hwp_law_run.specs.hwp_script_read.declared.Command.{Command}
+use Rattle.hwp_law_run.specs.hwp_script_read.declared.Command.TheVariants as commands
+use Rattle.hwp_law_run.specs.hwp_script_read.declared.Script.{Script}
+use Rattle.hwp_law_run.specs.hwp_report_text.declared.Answer.{Answer}
+use Rattle.hwp_law_run.specs.hwp_report_text.declared.Answer.TheVariants as answers
+use Rattle.hwp_law_run.specs.hwp_report_text.declared.FrameLine.{FrameLine}
+use Rattle.hwp_law_run.specs.hwp_report_text.declared.MarkLine.{MarkLine}
+use Rattle.hwp_law_run.specs.hwp_report_text.declared.Report.{Report}
+use Rattle.hwp_law_run.specs.hwp_law.Answers.{StandsAt, reply_answer}
+use Rattle.hwp_law_run.specs.hwp_law.Causes.{AreBadLines, ComesTo, HadBadLines, HasMark, IsCaused as IsLawCaused, IsFailureAnswer, IsOfflineAnswer, IsSigbus, IsUnpoisonAnswer, SendsSigbus, TakesBack}
+use Rattle.hwp_law_run.specs.hwp_law.Commands.{current_thread}
+use Rattle.hwp_law_run.specs.hwp_law.Lines.{EventLine, bad_lines_of, events_of}
+use Rattle.hwp_law_run.specs.hwp_law.Places.{command_at, entry_at}
+use Rattle.hwp_law_run.specs.hwp_law.Policies.{arguments, last_policy, policy_before, settings}
+use Rattle.hwp_law_run.specs.hwp_law.Records.{how_in}
+use Rattle.hwp_law_run.specs.hwp_law.States.{HadState}
+use Rattle.hwp_law_run.proofs.Homes.{there-is}
+use Rattle.hwp_law_run.proofs.Reported.{listed-entry, seen-had}
+use Rattle.hwp_cpu_row.specs.declared.FrameChange.{FrameChange}
+use Rattle.hwp_cpu_row.specs.declared.FrameChange.TheVariants as owns
+use Rattle.hwp_cpu_row.specs.declared.Row.{Row}
+use Rattle.hwp_scrub.specs.hwp_cpu_check.declared.EventOutcome.{EventOutcome}
+use Rattle.hwp_scrub.specs.hwp_cpu_check.Told.{first_signal}
+use Rattle.hwp_law_holds.specs.Causes.{FoundState, HasCome, IsAnswerCaused, IsInjectCaused, IsOfflineCaused, IsSoftCaused, IsUnpoisonCaused, SawBadLines}
+use Rattle.hwp_law_holds.specs.Rows.{offlined}
+use Rattle.hwp_law_holds.specs.Runs.{row_at}
+use Rattle.hwp_law_holds.proofs.Ample.{not-ample}
+use Rattle.hwp_law_holds.proofs.RunEnds.{IsEnd, IsOf}
+use Rattle.hwp_law_holds.proofs.endings.Gone.{is-gone}
+use Rattle.hwp_law_holds.proofs.deeds.Made.{command-is, some-so}
+use Rattle.hwp_law_holds.proofs.lines.Records.{own-mark}
+use Rattle.hwp_law_holds.proofs.marks.RecordPlaces.{was-hardware-seen, was-poisoned}
+use Rattle.hwp_law_holds.proofs.RowLines.{event_at, events-told}
+use Rattle.hwp_law_holds.proofs.Seen.{HasSignalled, MadeWhat, has-signalled, made-what}
+use Rattle.hwp_law_holds.proofs.Signalled.{signalled-sends}
+use Rattle.hwp_law_holds.proofs.Stops.{stop-there}
+
+module _ (script : Script) (seat : Cpu → ℕ) (last : State) (report : Report) (end : IsEnd script seat last report) (cpu : Cpu) (inside : cpu.0 < script.layout.cpus) where
+  abbrev view : View
+  view = view_of last (seat cpu)
+
+  there : slice_get last.views (seat cpu) ≡ Some view
+  there = end.seated.there cpu inside
+
+  -- the entry that the command made stands in the report
+  stands : {Such : Made → Type 0} {who : Who} {at : At} {what : What} → HasMade Such view who at.page at.entry what → StandsAt report.pages who at what
+  stands {who = who} {at = at} {what = what} has =
+      let m : MadeWhat view who at what = made-what has in
+      let listed = listed-entry script.layout last report end.board (seat cpu) m.j view m.made there m.there in
+      sym (ap (λ (b : At). entry_at report.pages b) m.place_is) ∙ listed ∙ ap (λ (e : Entry). Some e) m.entry_is
+
+  -- and the page was in the state in which the command saw it
+  pub had : {who : Who} {at : At} {Such : PageState → Type 0} → SawState script.layout view who at.page at.entry Such → HadState script.layout report.pages at Such
+  had {at = at} {Such = Such} saw =
+      let x : Length = saw.saw.1 in
+      let log : x.log ≡ saw.log = saw.saw.3.2 in
+      let page : x.log.page ≡ at.page = ap (λ (l : Log). l.page) log ∙ saw.page_is in
+      let long : length x.log.entries ≡ at.entry = ap (λ (l : Log). length l.entries) log ∙ saw.place_is in
+      let was = seen-had script.layout last report end.board (seat cpu) saw.saw.0 view x there saw.saw.2 Such (subst (λ (l : Log). Such (state_of script.layout l)) (sym log) saw.such) in
+      subst (λ (p : Page). HadState script.layout report.pages (record { page = p; entry = at.entry }) Such) page
+      (subst (λ (n : ℕ). HadState script.layout report.pages (record { page = x.log.page; entry = n }) Such) long was)
+
+  -- the entry that sent SIGBUS stands in the report
+  sigbus : (who : Who) (command : Command) (thread : Thread) (at : At) (what : What) → current_thread command ≡ Some thread → SendsSigbus thread what → StandsAt report.pages who at what → IsSigbus report who command at
+  sigbus who command thread at what current sends stands_ = record {
+    entry = record { who = who; what = what };
+    there = stands_;
+    own = refl;
+    sends = some-so (λ (t : Thread). SendsSigbus t what) (current_thread command) thread current sends;
+  }
+
+  -- a look at the page's frame showed its bad lines
+  looked : {who : Who} (page : Page) {frame : Frame} {mask : ℕ} → SawBadOf view who page frame mask → Saw view who (places.Bad frame) mask
+  looked page saw = (saw.0, saw.1, saw.2, saw.3.0)
+
+  -- lines that a step of the command showed as bad in a frame are bad in it at the end
+  bad-at-end : {who : Who} (frame : Frame) (mask : Mask) → frame.0 < script.layout.frames → mask.0 ≢ 0 → Saw view who (places.Bad frame) mask.0 → AreBadLines (bad_lines_of report frame.0) mask.0
+  bad-at-end frame mask inside_ some saw =
+      let line = there-is report.frames frame.0 (subst (λ (n : ℕ). frame.0 < n) (sym end.board.frames_fit) inside_) in
+      let bads = (end.board.ends.frames frame line.0 line.1).bad in
+      record {
+        some = some;
+        within = subst (λ (bad : ℕ). bit_and mask.0 bad ≡ mask.0) (sym (ap (λ (o : Option FrameLine). unwrap_or (option_map (λ (l : FrameLine). l.bad.0) o) 0) line.1))
+            (bad-lines-stay script.layout last end.board.holds (seat cpu) there frame saw bads);
+      }
+
+  -- those of a page's frame
+  bad-lines : (who : Who) (page : Page) (mask : Mask) (at : At) → FoundState script.layout view who at (λ (s : PageState). s.cached ≡ true) → SawBadLines script.layout view who page mask → HadBadLines script report mask at
+  bad-lines who page mask at found lines = record { cached = had found.saw; frame = lines.frame.0; bad = bad-at-end lines.frame mask lines.inside lines.some (looked page lines.saw) }
+
+  -- a failure came to its answer
+  failure : (who : Who) (frame : Frame) (own : Option FrameChange) (answer : Answer) → ((frame : Frame) (outcome : Outcome) → HasCome script.layout view who frame own outcome → HasMark report who frame (ComesTo outcome))
+      → IsInjectCaused script.layout view who frame own answer → IsFailureAnswer report who frame answer
+  failure who frame own answers.Recovered marked come = marked frame _ come
+  failure who frame own answers.Delayed marked come = marked frame _ come
+  failure who frame own answers.Ignored marked come = marked frame _ come
+  failure who frame own answers.Already marked found = was-poisoned script seat last report end cpu inside who frame found.0.word true found.0.poisoned found.0.saw
+  failure who frame own _ marked caused = absurd caused
+
+  -- a frame that isn't the kernel's is one of the script's
+  users-inside : (frame : Frame) → IsUsers script.layout frame → frame.0 < script.layout.frames
+  users-inside frame users = subst (λ (n : ℕ). frame.0 < n) end.board.holds.sound.kernel (slice_get_within script.layout.kernel frame.0 false users)
+
+  abbrev IsMarkedSo : Who → Option FrameChange → Type 0
+  IsMarkedSo who own = (frame : Frame) (cycle : ℕ) (moved : Bool) → own ≡ Some (owns.Offlined frame cycle moved) → HasMark report who frame (λ (m : MarkLine). how_in m ≡ Some (offlined moved))
+
+  abbrev IsRevivedSo : Who → Option FrameChange → Type 0
+  IsRevivedSo who own = (frame : Frame) (cycle : ℕ) → own ≡ Some (owns.Revived frame cycle) → HasMark report who frame TakesBack
+
+  -- an answer of a soft offline of a frame that isn't the kernel's
+  offline : (who : Who) (frame : Frame) (own : Option FrameChange) (answer : Answer) → frame.0 < script.layout.frames → IsMarkedSo who own → IsOfflineCaused script.layout view who frame own answer → IsOfflineAnswer script report who frame answer
+  offline who frame own (answers.Moved other bt) inside_ marked caused = (stands caused.made.made, marked frame caused.cycle true caused.own_is)
+  offline who frame own answers.TakenFree inside_ marked caused = marked frame caused.cycle false caused.own_is
+  offline who frame own answers.Already inside_ marked caused = was-poisoned script seat last report end cpu inside who frame caused.0.word true caused.0.poisoned caused.0.saw
+  offline who frame own (answers.HasBad mask) inside_ marked caused = bad-at-end frame mask inside_ caused.0.some (looked caused.0.page caused.0.saw)
+  offline who frame own answers.NoFrame inside_ marked caused = not-ample script seat last report end cpu inside who caused.1
+  offline who frame own _ inside_ marked caused = absurd caused
+
+  soft : (who : Who) (frame : Frame) (own : Option FrameChange) (answer : Answer) → IsMarkedSo who own → IsSoftCaused script.layout view who frame own answer → IsLawCaused script report who (commands.Soft frame) answer
+  soft who frame own answers.Stopped marked caused = absurd caused.1
+  soft who frame own answers.Kernel marked caused = get_or_from_slice_get script.layout.kernel frame.0 true false caused.0.declared
+  soft who frame own answer marked caused = (get_or_from_slice_get script.layout.kernel frame.0 false false caused.0, offline who frame own answer (users-inside frame caused.0) marked caused.1)
+
+  -- an answer of a command that takes a poison back
+  unpoison : (who : Who) (frame : Frame) (own : Option FrameChange) (answer : Answer) → IsRevivedSo who own → IsUnpoisonCaused script.layout view who frame own answer → IsUnpoisonAnswer report who frame answer
+  unpoison who frame own answers.Done marked caused = marked frame caused.cycle caused.own_is
+  unpoison who frame own answers.NotPoisoned marked caused = was-poisoned script seat last report end cpu inside who frame caused.word false caused.sound caused.saw
+  unpoison who frame own answers.HardwareSeen marked caused = was-hardware-seen script seat last report end cpu inside who caused.word caused.some caused.saw
+  unpoison who frame own (answers.HasBad mask) marked caused = bad-at-end frame mask caused.inside caused.some caused.saw
+  unpoison who frame own (answers.InUse count) marked caused = tt
+  unpoison who frame own _ marked caused = absurd caused
+
+  -- the entry of a failure that signalled the thread
+  by-failure : (who : Who) (command : Command) (at : At) → HasSignalled view who command at → IsSigbus report who command at
+  by-failure who command at has = signalled-sends script seat last report end cpu inside who command at has
+
+  -- the policy that prctl(2) met is the one of the report
+  replied : (who : Who) (list : List Command) → slice_get script.lists who.cpu.0 ≡ Some list → (thread : Thread) (args : PrctlArgs) → reply_answer (reply (last_policy (settings thread (take who.seq list))) (arguments args)) ≡ reply_answer (reply (policy_before script who thread) (arguments args))
+  replied who list list_is thread args = ap (λ (l : List Command). reply_answer (reply (last_policy (settings thread (take who.seq l))) (arguments args))) (sym (ap (λ (o : Option (List Command)). unwrap_or o []) list_is))
+
+  neither : ⊥ ⊎ ⊥ → ⊥
+  neither (inl never) = never
+  neither (inr never) = never
+
+  -- what the row of a command says of its entries, its event lines and its mark
+  pub record HasFacts (who : Who) (command : Command) (told : List EventOutcome) (own : Option FrameChange) : Type 0 where
+    pub signalled : (at : At) → first_signal told ≡ Some at → HasSignalled view who command at
+    pub count : length (events_of report who) ≡ length told
+    pub marked : (frame : Frame) (outcome : Outcome) → HasCome script.layout view who frame own outcome → HasMark report who frame (ComesTo outcome)
+    pub offlined : IsMarkedSo who own
+    pub revived : IsRevivedSo who own
+
+  pub law-caused : (who : Who) (list : List Command) → slice_get script.lists who.cpu.0 ≡ Some list → (command : Command) (told : List EventOutcome) (own : Option FrameChange) (answer : Answer) → command_at script who ≡ Some command → HasFacts who command told own
+      → IsAnswerCaused script.layout list view who command told own answer → IsLawCaused script report who command answer
+  law-caused who list list_is command told own answers.Stopped at facts caused = stop-there script seat last report end cpu who command inside caused
+  law-caused who list list_is (commands.Load thread slot line) told own (answers.Value word bt) at facts caused = (caused.0, stands caused.1.made)
+  law-caused who list list_is (commands.Load thread slot line) told own (answers.Sigbus bt) at facts (inl caused) = sigbus who (commands.Load thread slot line) thread bt (entries.Load slot line (Sigbus thread)) refl refl (stands caused.made)
+  law-caused who list list_is (commands.Load thread slot line) told own (answers.Sigbus bt) at facts (inr was) = by-failure who (commands.Load thread slot line) bt (facts.signalled bt was.first)
+  law-caused who list list_is (commands.Load thread slot line) told own answers.NoFrame at facts caused = not-ample script seat last report end cpu inside who caused.available
+  law-caused who list list_is (commands.Load thread slot line) told own (answers.Gone page) at facts caused = is-gone script seat last report end cpu inside who (commands.Load thread slot line) thread page at refl caused.0
+  law-caused who list list_is (commands.Fetch thread slot line) told own (answers.Value word bt) at facts caused = (caused.0, stands caused.1.made)
+  law-caused who list list_is (commands.Fetch thread slot line) told own (answers.Sigbus bt) at facts (inl caused) = sigbus who (commands.Fetch thread slot line) thread bt (entries.Load slot line (Sigbus thread)) refl refl (stands caused.made)
+  law-caused who list list_is (commands.Fetch thread slot line) told own (answers.Sigbus bt) at facts (inr was) = by-failure who (commands.Fetch thread slot line) bt (facts.signalled bt was.first)
+  law-caused who list list_is (commands.Fetch thread slot line) told own answers.NoFrame at facts caused = not-ample script seat last report end cpu inside who caused.available
+  law-caused who list list_is (commands.Fetch thread slot line) told own (answers.Gone page) at facts caused = is-gone script seat last report end cpu inside who (commands.Fetch thread slot line) thread page at refl caused.0
+  law-caused who list list_is (commands.KLoad thread slot line) told own (answers.Value word bt) at facts caused = (caused.0, stands caused.1.made)
+  law-caused who list list_is (commands.KLoad thread slot line) told own (answers.Sigbus bt) at facts (inl caused) = sigbus who (commands.KLoad thread slot line) thread bt (entries.Load slot line (Sigbus thread)) refl refl (stands caused.made)
+  law-caused who list list_is (commands.KLoad thread slot line) told own (answers.Sigbus bt) at facts (inr was) = by-failure who (commands.KLoad thread slot line) bt (facts.signalled bt was.first)
+  law-caused who list list_is (commands.KLoad thread slot line) told own answers.NoFrame at facts caused = not-ample script seat last report end cpu inside who caused.available
+  law-caused who list list_is (commands.KLoad thread slot line) told own (answers.Gone page) at facts caused = is-gone script seat last report end cpu inside who (commands.KLoad thread slot line) thread page at refl caused.0
+  law-caused who list list_is (commands.Store thread slot line word) told own (answers.Stored bt) at facts caused = (caused.0, stands caused.1.made)
+  law-caused who list list_is (commands.Store thread slot line word) told own (answers.Sigbus bt) at facts (inl caused) = sigbus who (commands.Store thread slot line word) thread bt (entries.Store slot line (Sigbus thread)) refl refl (stands caused.made)
+  law-caused who list list_is (commands.Store thread slot line word) told own (answers.Sigbus bt) at facts (inr was) = by-failure who (commands.Store thread slot line word) bt (facts.signalled bt was.first)
+  law-caused who list list_is (commands.Store thread slot line word) told own answers.NoFrame at facts caused = not-ample script seat last report end cpu inside who caused.available
+  law-caused who list list_is (commands.Store thread slot line word) told own (answers.Gone page) at facts caused = is-gone script seat last report end cpu inside who (commands.Store thread slot line word) thread page at refl caused.0
+  law-caused who list list_is (commands.Free slot) told own (answers.DoneAt bt) at facts caused = stands caused.1.made
+  law-caused who list list_is (commands.Free slot) told own (answers.NotMapped bt) at facts caused = (caused.0, had caused.1.saw)
+  law-caused who list list_is (commands.Drop page) told own (answers.DoneAt bt) at facts caused = (caused.0, stands caused.1.made)
+  law-caused who list list_is (commands.Drop page) told own (answers.NotResident bt) at facts caused = (caused.0, had caused.1.saw)
+  law-caused who list list_is (commands.Drop page) told own (answers.Dirty bt) at facts caused = (caused.0, had caused.1.saw)
+  law-caused who list list_is (commands.Drop page) told own (answers.Mapped bt) at facts caused = (caused.0, had caused.1.saw)
+  law-caused who list list_is (commands.Sync page) told own (answers.DoneAt bt) at facts caused = (caused.0, stands caused.1.made)
+  law-caused who list list_is (commands.Sync page) told own (answers.NotResident bt) at facts caused = (caused.0, had caused.1.saw)
+  law-caused who list list_is (commands.Sync page) told own (answers.BadLines mask bt) at facts caused = (caused.0, bad-lines who page mask bt caused.1 caused.2)
+  law-caused who list list_is (commands.Out page) told own (answers.DoneAt bt) at facts caused = (caused.0, stands caused.1.made)
+  law-caused who list list_is (commands.Out page) told own (answers.NotResident bt) at facts caused = (caused.0, had caused.1.saw)
+  law-caused who list list_is (commands.Out page) told own (answers.BadLines mask bt) at facts caused = (caused.0, bad-lines who page mask bt caused.1 caused.2)
+  law-caused who list list_is (commands.Fsync file) told own answers.Done at facts caused = tt
+  law-caused who list list_is (commands.Fsync file) told own (answers.Eio lost) at facts caused = caused.1
+  law-caused who list list_is (commands.Prctl thread args) told own (answers.Gone page) at facts caused = is-gone script seat last report end cpu inside who (commands.Prctl thread args) thread page at refl caused.0
+  law-caused who list list_is (commands.Prctl thread args) told own (answers.Sigbus bt) at facts (inl caused) = caused.replied ∙ replied who list list_is thread args
+  law-caused who list list_is (commands.Prctl thread args) told own (answers.Sigbus bt) at facts (inr was) = absurd was
+  law-caused who list list_is (commands.Prctl thread args) told own answer at facts caused = caused.replied ∙ replied who list list_is thread args
+  law-caused who list list_is (commands.Log status addr misc) told own answers.Done at facts caused = tt
+  law-caused who list list_is (commands.Bad frame line) told own answers.Done at facts caused = tt
+  law-caused who list list_is (commands.Weak frame line) told own answers.Done at facts caused = tt
+  law-caused who list list_is (commands.RaiseUser thread ripv eipv) told own (answers.Raised n) at facts caused = caused.1.count ∙ sym facts.count
+  law-caused who list list_is (commands.RaiseUser thread ripv eipv) told own (answers.Gone page) at facts caused = is-gone script seat last report end cpu inside who (commands.RaiseUser thread ripv eipv) thread page at refl caused.0
+  law-caused who list list_is (commands.RaiseKernel ripv eipv) told own (answers.Raised n) at facts caused = caused.count ∙ sym facts.count
+  law-caused who list list_is (commands.Scrub first last_frame) told own (answers.Scrubbed n) at facts caused = caused.count ∙ sym facts.count
+  law-caused who list list_is (commands.Inject frame) told own answer at facts caused = (caused.0, failure who frame own answer facts.marked caused.1)
+  law-caused who list list_is (commands.Soft frame) told own answer at facts caused = soft who frame own answer facts.offlined caused
+  law-caused who list list_is (commands.Unpoison frame) told own answer at facts caused = unpoison who frame own answer facts.revived caused.1
+  law-caused who list list_is command told own (answers.Sigbus bt) at facts caused = absurd (neither caused)
+  law-caused who list list_is command told own answer at facts caused = absurd caused
+
+-- the report shows the cause of an answer
+pub is-caused : (script : Script) (seat : Cpu → ℕ) (last : State) (report : Report) (end : IsEnd script seat last report) → (who : Who) (of : IsOf script end.rows (view_of last (seat who.cpu)) who) → IsLawCaused script report who of.command of.row.answer
+is-caused script seat last report end who of =
+    let row_is : row_at end.rows who ≡ Some of.row = ap (λ (o : Option (List Row)). option_and_then (λ (own : List Row). slice_get own who.seq) o) of.own_is ∙ of.row_is in
+    law-caused script seat last report end who.cpu of.inside who of.list of.list_is of.command of.row.told of.row.own of.row.answer (command-is script who of.list of.command of.list_is of.command_is)
+    (record {
+      signalled = λ at is. has-signalled (view_of last (seat who.cpu)) who of.command of.row at of.served.accounted is;
+      count = ap (λ (l : List EventLine). length l) (events-told script seat last report end (view_of last (seat who.cpu)) who of) ∙ length-map of.row.told (event_at who.seq);
+      marked = λ frame outcome come. own-mark script seat last report end who of.row row_is (owns.Failed frame come.found) come.own_is (ComesTo outcome) come.outcome_is;
+      offlined = λ frame cycle moved own_is. own-mark script seat last report end who of.row row_is (owns.Offlined frame cycle moved) own_is (λ (m : MarkLine). how_in m ≡ Some (offlined moved)) refl;
+      revived = λ frame cycle own_is. own-mark script seat last report end who of.row row_is (owns.Revived frame cycle) own_is TakesBack tt;
+    }) of.served.caused

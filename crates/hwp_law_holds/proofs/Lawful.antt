@@ -1,0 +1,56 @@
+-- The report of a run keeps the whole law.
+use Rattle.hwp_law_run.specs.hwp_geom.declared.Cpu.{Cpu}
+use Rattle.std.proofs.Common.{ℕ, List}
+use Rattle.hwp_law_run.specs.hwp_core_rule.declared.State.{State}
+use Rattle.hwp_law_run.specs.hwp_core_task.Boards.{Played}
+use Rattle.hwp_law_run.specs.hwp_script_read.declared.Script.{Script}
+use Rattle.hwp_law_run.specs.hwp_report_text.declared.Report.{Report}
+use Rattle.hwp_law_run.specs.hwp_law.Law.{AnswersFit, HasShape, HistoriesFit, IsLawful}
+use Rattle.hwp_law_run.proofs.Reported.{histories-lead, histories-ordered}
+use Rattle.hwp_law_holds.specs.Runs.{IsRunOf}
+use Rattle.hwp_law_holds.proofs.Caused.{all-caused, stop-agrees}
+use Rattle.hwp_law_holds.proofs.RunEnds.{IsEnd}
+use Rattle.hwp_law_holds.proofs.endings.Endings.{endings-stay}
+use Rattle.hwp_law_holds.proofs.lines.Framed.{frames-lawful}
+use Rattle.hwp_law_holds.proofs.LastBoard.{ended}
+use Rattle.hwp_law_holds.proofs.losses.LossesAgree.{losses-lawful}
+use Rattle.hwp_law_holds.proofs.deeds.Made.{entries-made-by, entries-named}
+use Rattle.hwp_law_holds.proofs.lines.Events.{events-are}
+use Rattle.hwp_law_holds.proofs.policies.Policies.{are-seen, never-falls}
+use Rattle.hwp_law_holds.proofs.Windows.{states-in-windows}
+
+module _ (script : Script) (seat : Cpu → ℕ) (turns : List Played) (last : State) (report : Report) (run : IsRunOf script seat turns last report) where
+  abbrev end : IsEnd script seat last report
+  end = ended script seat turns last report run
+
+  pub shape-fits : HasShape script report
+  shape-fits = record { frames = run.lengths.frames; pages = run.lengths.pages; cpus = run.lengths.cpus }
+
+  pub histories-fit : HistoriesFit script report
+  histories-fit = record {
+    legal = histories-lead script.layout last report end.board;
+    made = entries-made-by script seat last report end;
+    ordered = histories-ordered script.layout last report end.board;
+    seen = are-seen script seat turns last report run;
+    falls_never = never-falls script seat turns last report run;
+  }
+
+  pub answers-fit : AnswersFit script report
+  answers-fit = record {
+    caused = all-caused script seat turns last report run;
+    named = entries-named script seat last report end;
+    windows = states-in-windows script seat last report end;
+    endings = endings-stay script seat turns last report run;
+    events = events-are script seat turns last report run;
+    stop = stop-agrees script seat turns last report run;
+  }
+
+  -- the whole
+  pub law-holds : IsLawful script report
+  law-holds = record {
+    shape = shape-fits;
+    histories = histories-fit;
+    answers = answers-fit;
+    frames = frames-lawful script seat turns last report run;
+    losses = losses-lawful script seat turns last report run;
+  }

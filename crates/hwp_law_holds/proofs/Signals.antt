@@ -1,0 +1,40 @@
+-- A report that keeps the law tells failures, losses and poisoned frames as the model has them.
+use Rattle.std.proofs.Common.{◌≡◌, true, List, Option, Some, sym, ap, subst}
+use Rattle.std.specs.Prelude.{Contains}
+use Rattle.hwp_law_run.specs.hwp_geom.declared.Thread.{Thread}
+use Rattle.hwp_law_run.specs.hwp_kill.declared.Seen.{Seen}
+use Rattle.hwp_law_run.specs.hwp_kill.declared.Signal.{Signal}
+use Rattle.hwp_law_run.specs.hwp_kill.Kill.{Killed}
+use Rattle.hwp_law_run.specs.hwp_page.declared.At.{At}
+use Rattle.hwp_law_run.specs.hwp_page.declared.Entry.{Entry}
+use Rattle.hwp_law_run.specs.hwp_page.declared.PageState.{PageState}
+use Rattle.hwp_law_run.specs.hwp_page.declared.Situation.{Situation}
+use Rattle.hwp_law_run.specs.hwp_page.declared.What.TheVariants.{Fail}
+use Rattle.hwp_law_run.specs.hwp_page.Actions.{situation_of}
+use Rattle.hwp_law_run.specs.hwp_page.Situations.{is_signalling}
+use Rattle.hwp_law_run.specs.hwp_page.Step.{IsFailure, IsSeenList}
+use Rattle.hwp_law_run.specs.hwp_script_read.declared.Script.{Script}
+use Rattle.hwp_law_run.specs.hwp_report_text.declared.Report.{Report}
+use Rattle.hwp_law_run.specs.hwp_law.Law.{IsLawful}
+use Rattle.hwp_law_run.specs.hwp_law.Places.{entry_at}
+use Rattle.hwp_law_run.specs.hwp_law.Seen.{seen_in}
+use Rattle.hwp_law_run.specs.hwp_law.States.{HadState}
+use Rattle.hwp_law_holds.specs.Signals.{AreFailuresAsModel, IsFailureAsModel}
+use Rattle.hwp_law_holds.proofs.AllowedThere.{allowed-there, had-so}
+
+module _ (script : Script) (report : Report) (lawful : IsLawful script report) where
+  failure : (at : At) (e : Entry) (situation : Situation) (required : Option Thread) (seen : List Seen) (signals : List Signal) → entry_at report.pages at ≡ Some e → e.what ≡ Fail situation required seen signals → IsFailureAsModel script report at situation required seen signals
+  failure at e situation required seen signals is what =
+      let there : HadState script.layout report.pages at (λ (s : PageState). IsFailure script.layout s situation required seen signals) = allowed-there script.layout report lawful.histories.legal at e (Fail situation required seen signals) is what in
+      record {
+        resident = had-so (λ (s : PageState). IsFailure script.layout s situation required seen signals) (λ (s : PageState). s.cached ≡ true) (λ s f. f.cached) there;
+        situation_is = had-so (λ (s : PageState). IsFailure script.layout s situation required seen signals) (λ (s : PageState). situation ≡ situation_of s) (λ s f. f.actual) there;
+        asked = had-so (λ (s : PageState). IsFailure script.layout s situation required seen signals) (λ (s : PageState). IsSeenList script.layout s.maps (is_signalling situation) required seen) (λ s f. f.policies) there;
+        signalled = had-so (λ (s : PageState). IsFailure script.layout s situation required seen signals) (λ (s : PageState). Killed script.layout s.maps (is_signalling situation) required seen signals) (λ s f. f.killed) there;
+        had = λ one listed. (lawful.histories.seen at e one is (subst (λ (l : List Seen). Contains l one) (sym (ap seen_in what)) listed)).0;
+      }
+
+  -- Each failure has the situation of its page's state, and the signals of the kill table for policies that the threads had; the
+  -- losses told and left are those of the histories; and the count is that of the frames that end poisoned.
+  pub signals-as-model : AreFailuresAsModel script report
+  signals-as-model = record { failures = failure; losses = lawful.losses.balance; poisoned = lawful.frames.count }

@@ -1,0 +1,270 @@
+-- Each event that a bank holds, and each failure that a command tells, is of a frame that the script names: a raw event's, or one that
+-- has a bad line.
+use Rattle.std.proofs.Common.{◌≡◌, ◌⊎◌, inl, inr, ℕ, zero, suc, ◌+◌, ◌*◌, ◌<◌, ◌==◌, ◌||◌, Bool, true, false, cond, List, [], ◌∷◌, Option, None, Some, length, slice_get, slice_index_or, refl, sym, ap, ◌∙◌, subst, arith}
+use Rattle.std.specs.Int.{bit_at}
+use Rattle.std.specs.List.{cons_option, filter_map, flat_map, list_any}
+use Rattle.std.proofs.lemmas.Bool.{eq-eqb}
+use Rattle.std.proofs.lemmas.List.Folds.{list_any-append}
+use Rattle.std.proofs.lemmas.Option.{none-some, same_Some}
+use Rattle.hwp_law_run.specs.hwp_geom.declared.Cpu.{Cpu}
+use Rattle.hwp_law_run.specs.hwp_geom.declared.Damage.TheVariants as damages
+use Rattle.hwp_law_run.specs.hwp_geom.declared.Frame.{Frame}
+use Rattle.hwp_law_run.specs.hwp_geom.declared.Who.{Who}
+use Rattle.hwp_law_run.specs.hwp_core_rule.declared.SharedWord.TheVariants as places
+use Rattle.hwp_law_run.specs.hwp_core_rule.declared.State.{State}
+use Rattle.hwp_law_run.specs.hwp_core_rule.declared.View.{View}
+use Rattle.hwp_law_run.proofs.of_hwp_core_rule.Lists.{at_map, map-was}
+use Rattle.hwp_law_run.specs.hwp_core_task.Boards.{view_of}
+use Rattle.hwp_law_run.specs.hwp_core_task.Known.{Saw}
+use Rattle.hwp_law_run.specs.hwp_script_read.declared.Command.{Command}
+use Rattle.hwp_law_run.specs.hwp_script_read.declared.Command.TheVariants as commands
+use Rattle.hwp_law_run.specs.hwp_script_read.declared.Script.{Script}
+use Rattle.hwp_law_run.specs.hwp_report_text.declared.Answer.{Answer}
+use Rattle.hwp_law_run.specs.hwp_report_text.declared.Answer.TheVariants as answers
+use Rattle.hwp_law_run.specs.hwp_report_text.declared.Report.{Report}
+use Rattle.hwp_law_run.specs.hwp_law.Answers.{frame_named, named_frames}
+use Rattle.hwp_law_holds.proofs.RunEnds.{IsEnd, served-of}
+use Rattle.std.proofs.Common.{◌/◌, replicate}
+use Rattle.hwp_law_run.specs.hwp_geom.declared.Layout.{Layout}
+use Rattle.hwp_law_run.specs.hwp_geom.declared.Mode.{Mode}
+use Rattle.hwp_law_run.specs.hwp_geom.declared.Mode.TheVariants as modes
+use Rattle.hwp_law_run.specs.hwp_geom.declared.Thread.{Thread}
+use Rattle.std.specs.Prelude.{MatchBool}
+use Rattle.hwp_law_run.specs.hwp_banks.declared.Event.{Event}
+use Rattle.hwp_law_run.specs.hwp_banks.declared.Origin.{Origin}
+use Rattle.hwp_law_run.specs.hwp_banks.declared.Origin.TheVariants as origins
+use Rattle.hwp_law_run.specs.hwp_banks.Addresses.{frame_at, line_address}
+use Rattle.hwp_law_run.specs.hwp_banks.Events.{bank_count, bank_of, own_event}
+use Rattle.hwp_law_run.specs.hwp_banks.Logged.{Class, Corrected, Fatal, Uncorrected, class_of, logged, overwritten, stored}
+use Rattle.hwp_law_run.specs.hwp_banks.Status.{is_valid}
+use Rattle.hwp_law_run.specs.hwp_core_rule.Lists.{EachMember}
+use Rattle.hwp_law_run.proofs.of_hwp_core_rule.Lists.{each-set}
+use Rattle.hwp_law_run.proofs.of_hwp_core_rule.MoreEntries.{each-append}
+use Rattle.hwp_law_run.specs.hwp_law.Checks.{Banks, empty_banks, held_from, log_in}
+use Rattle.hwp_law_run.specs.hwp_law.Commands.{Arrival, arrival_of}
+use Rattle.hwp_law_run.specs.hwp_law.Events.{logged_if_done, raw_bank, raw_event}
+use Rattle.hwp_law_run.specs.hwp_law.Places.{command_at}
+use Rattle.hwp_scrub.specs.hwp_cpu_check.declared.Found.{Found}
+use Rattle.hwp_scrub.specs.hwp_cpu_check.declared.Held.{Held}
+use Rattle.hwp_cpu_row.specs.declared.Row.{Row}
+use Rattle.hwp_scrub.specs.hwp_cpu_check.declared.EventOutcome.{EventOutcome}
+use Rattle.hwp_scrub.specs.hwp_cpu_check.Checks.{AreChecks, Check, IsActedOn, SawBad, left_by, lines_of, with_own}
+use Rattle.hwp_scrub.specs.hwp_cpu_check.Events.{graded_in}
+use Rattle.hwp_scrub.specs.Visits as scrubs
+use Rattle.hwp_scrub.specs.Visits.{AreBanks, AreVisits, IsBadMet, IsWeakMet, SawLowest, Visit, left_by_bad, left_by_visit, left_by_weak, lines_of_visit, scrub_bank, scrubbing, with_bad}
+use Rattle.hwp_scrub.proofs.VisitLaws.{bad-leaves, left-banks}
+use Rattle.hwp_law_holds.specs.Served.{AreRowsServed}
+use Rattle.hwp_law_holds.specs.Told.{AreToldBy, IsAccessTold, IsCutShort, IsRaiseTold, IsScrubTold, IsUntold, is_raised}
+use Rattle.hwp_law_holds.proofs.lines.ScrubBank.{empty-free, kept-so, row-free}
+use Rattle.hwp_law_holds.proofs.lines.SpoiledLines.{set-at, spoiled-at-end, spoiled-so}
+use Rattle.hwp_law_holds.proofs.marks.RowNotes.{each-cons}
+use Rattle.std.proofs.lemmas.Option.{option_and_then_some}
+
+-- ---- named frames
+
+or-true : (b : Bool) → (b || true) ≡ true
+or-true true = refl
+or-true false = refl
+
+-- a command of a list names its frame, and so does the script
+named-in : (f : ℕ) (list : List Command) (j : ℕ) (c : Command) → slice_get list j ≡ Some c → frame_named c ≡ Some f → list_any (λ n. n == f) (filter_map frame_named list) ≡ true
+named-in f [] j c there is = absurd (none-some c there)
+named-in f (d ∷ ds) zero c there is =
+    let own : frame_named d ≡ Some f = ap frame_named (same_Some d c there) ∙ is in
+    ap (λ (o : Option ℕ). list_any (λ n. n == f) (cons_option o (filter_map frame_named ds))) own ∙ ap (λ (b : Bool). b || list_any (λ n. n == f) (filter_map frame_named ds)) (eq-eqb f f refl)
+named-in f (d ∷ ds) (suc j) c there is = by (frame_named d) (named-in f ds j c there is)
+  where
+    by : (o : Option ℕ) → list_any (λ n. n == f) (filter_map frame_named ds) ≡ true → list_any (λ n. n == f) (cons_option o (filter_map frame_named ds)) ≡ true
+    by None rest = rest
+    by (Some n) rest = ap (λ (b : Bool). (n == f) || b) rest ∙ or-true (n == f)
+
+named-of : (f : ℕ) (lists : List (List Command)) (i j : ℕ) (list : List Command) (c : Command) → slice_get lists i ≡ Some list → slice_get list j ≡ Some c → frame_named c ≡ Some f → list_any (λ n. n == f) (flat_map (filter_map frame_named) lists) ≡ true
+named-of f [] i j list c at there is = absurd (none-some list at)
+named-of f (l ∷ ls) zero j list c at there is =
+    list_any-append (λ n. n == f) (filter_map frame_named l) (flat_map (filter_map frame_named) ls)
+    ∙ ap (λ (b : Bool). b || list_any (λ n. n == f) (flat_map (filter_map frame_named) ls)) (named-in f l j c (ap (λ (x : List Command). slice_get x j) (same_Some l list at) ∙ there) is)
+named-of f (l ∷ ls) (suc i) j list c at there is =
+    list_any-append (λ n. n == f) (filter_map frame_named l) (flat_map (filter_map frame_named) ls)
+    ∙ ap (λ (b : Bool). list_any (λ n. n == f) (filter_map frame_named l) || b) (named-of f ls i j list c at there is) ∙ or-true (list_any (λ n. n == f) (filter_map frame_named l))
+
+-- a command of the script names its frame
+pub named-at : (script : Script) (who : Who) (command : Command) (f : ℕ) → command_at script who ≡ Some command → frame_named command ≡ Some f → list_any (λ n. n == f) (named_frames script) ≡ true
+named-at script who command f at is = option_and_then_some (λ (l : List Command). slice_get l who.seq) (slice_get script.lists who.cpu.0) command at (λ list list_is there. named-of f script.lists who.cpu.0 who.seq list command list_is there is)
+
+-- ---- addresses of events
+
+-- each event that the banks hold has such an address
+abbrev HoldSuch : (ℕ → Type 0) → Banks → Type 0
+HoldSuch P banks = EachMember (λ (o : Option Event). (e : Event) → o ≡ Some e → P e.addr) banks
+
+-- and each that is told as a failure
+abbrev IsSuch : (ℕ → Type 0) → EventOutcome → Type 0
+IsSuch P t = (found : Found) → t.found ≡ Some found → P t.held.event.addr
+
+abbrev pub AreSuch : (ℕ → Type 0) → List EventOutcome → Type 0
+AreSuch P told = EachMember (IsSuch P) told
+
+module _ (P : ℕ → Type 0) where
+  stored-such : (b : Option Event) (e : Event) → ((x : Event) → b ≡ Some x → P x.addr) → P e.addr → P (stored b e).addr
+  stored-such None e held new = new
+  stored-such (Some x) e held new = which (class_of x.status) (class_of e.status)
+    where
+      which : (a c : Class) → P (overwritten a c x e).addr
+      which Corrected Corrected = held x refl
+      which Corrected Uncorrected = new
+      which Corrected Fatal = new
+      which Uncorrected Corrected = held x refl
+      which Uncorrected Uncorrected = held x refl
+      which Uncorrected Fatal = new
+      which Fatal Corrected = held x refl
+      which Fatal Uncorrected = held x refl
+      which Fatal Fatal = held x refl
+
+  logged-such : (b : Option Event) (e : Event) → ((x : Event) → b ≡ Some x → P x.addr) → P e.addr → (x : Event) → logged b e ≡ Some x → P x.addr
+  logged-such b e held new x is = which (is_valid e.status) is
+    where
+      which : (v : Bool) → cond v (Some (stored b e)) b ≡ Some x → P x.addr
+      which true is = subst (λ (y : Event). P y.addr) (same_Some (stored b e) x is) (stored-such b e held new)
+      which false is = held x is
+
+  bank-such : (banks : Banks) (i : ℕ) (x : Event) → HoldSuch P banks → slice_index_or banks i None ≡ Some x → P x.addr
+  bank-such [] i x each is = absurd (none-some x is)
+  bank-such (b ∷ bs) zero x each is = each 0 b refl x is
+  bank-such (b ∷ bs) (suc i) x each is = bank-such bs i x (λ k o there. each (suc k) o there) is
+
+  log-such : (bank : ℕ) (e : Event) (banks : Banks) → HoldSuch P banks → P e.addr → HoldSuch P (log_in bank e banks)
+  log-such bank e banks each new =
+      each-set (λ (o : Option Event). (x : Event) → o ≡ Some x → P x.addr) banks bank (logged (slice_index_or banks bank None) e) (logged-such (slice_index_or banks bank None) e (λ x is. bank-such banks bank x each is) new) each
+
+  empty-such : (n : ℕ) → HoldSuch P (replicate n None)
+  empty-such zero = λ i o there. absurd (none-some o there)
+  empty-such (suc n) = each-cons (λ (o : Option Event). (e : Event) → o ≡ Some e → P e.addr) None (replicate n None) (λ e is. absurd (none-some e is)) (empty-such n)
+
+  held-such : (n : ℕ) (banks : Banks) → HoldSuch P banks → EachMember (λ (b : ℕ × Event). P b.1.addr) (held_from n banks)
+  held-such n [] each = λ i b there. absurd (none-some b there)
+  held-such n (None ∷ banks) each = held-such (n + 1) banks (λ k o there. each (suc k) o there)
+  held-such n (Some e ∷ banks) each = each-cons (λ (b : ℕ × Event). P b.1.addr) (n, e) (held_from (n + 1) banks) (each 0 (Some e) refl e refl) (held-such (n + 1) banks (λ k o there. each (suc k) o there))
+
+  -- ---- of a command
+
+  module _ (layout : Layout) (view : View) (who : Who) where
+    acted-such : (thread : Option Thread) (how : Arrival) (banks : Banks) (lines : List EventOutcome) → IsActedOn layout view who thread how banks lines → HoldSuch P banks → AreSuch P lines
+    acted-such thread how banks lines acted each i t there found some =
+        let was = map-was (graded_in how) (held_from 0 banks) i t.held (sym (ap (λ (l : List Held). slice_get l i) acted.events) ∙ at_map (λ (x : EventOutcome). x.held) lines i t there) in
+        subst (λ (h : Held). P h.event.addr) was.2 (held-such 0 banks each i was.0 was.1)
+
+    checks-such : (thread : Thread) (line : ℕ) (origin : Origin) (mode : Mode) (banks : Banks) (checks : List Check) → ((frame : Frame) → SawBad layout view who line frame → P (line_address frame line))
+        → AreChecks layout view who thread line origin mode banks checks → HoldSuch P banks → AreSuch P (lines_of checks)
+    checks-such thread line origin mode banks [] own are each = λ i t there. absurd (none-some t there)
+    checks-such thread line origin mode banks (c ∷ cs) own (is, rest) each =
+        each-append (IsSuch P) c.lines (lines_of cs)
+        (acted-such (Some thread) _ (with_own origin c.frame line banks) c.lines is.acted_on (log-such (bank_of origin) (own_event origin c.frame line) banks each (own c.frame is.bad)))
+        (checks-such thread line origin mode empty_banks cs own rest (empty-such bank_count))
+
+    left-such : (banks : Banks) (checks : List Check) → HoldSuch P banks → HoldSuch P (left_by banks checks)
+    left-such banks [] each = each
+    left-such banks (c ∷ cs) each = empty-such bank_count
+
+    access-such : (thread : Thread) (line : ℕ) (origin : Origin) (mode : Mode) (before : Banks) (told : List EventOutcome) (after : Banks) → ((frame : Frame) → SawBad layout view who line frame → P (line_address frame line))
+        → IsAccessTold layout view who thread line origin mode before told after → HoldSuch P before → AreSuch P told × HoldSuch P after
+    access-such thread line origin mode before told after own is each =
+        (subst (AreSuch P) (sym is.told_is) (checks-such thread line origin mode before is.checks own is.are each), subst (HoldSuch P) (sym is.after_is) (left-such before is.checks each))
+
+    untold-such : (before : Banks) (told : List EventOutcome) (after : Banks) → IsUntold told before after → HoldSuch P before → AreSuch P told × HoldSuch P after
+    untold-such before told after (none, same) each = (subst (AreSuch P) (sym none) (λ i t there. absurd (none-some t there)), subst (HoldSuch P) (sym same) each)
+
+    raise-such : (thread : Option Thread) (how : Arrival) (answer : Answer) (before : Banks) (told : List EventOutcome) (after : Banks) → IsRaiseTold layout view who thread how answer before told after → HoldSuch P before → AreSuch P told × HoldSuch P after
+    raise-such thread how answer before told after is each = which (is_raised answer told) is
+      where
+        which : (b : Bool) → MatchBool b (IsActedOn layout view who thread how before told × (after ≡ empty_banks)) (IsUntold told before after) → AreSuch P told × HoldSuch P after
+        which true (acted, left) = (acted-such thread how before told acted each, subst (HoldSuch P) (sym left) (empty-such bank_count))
+        which false none = untold-such before told after none each
+
+    raw-such : (answer : Answer) (e : Event) (before : Banks) → P e.addr → HoldSuch P before → HoldSuch P (logged_if_done (Some answer) e before)
+    raw-such answers.Done e before new each = log-such raw_bank e before each new
+    raw-such answer e before new each = each
+
+    -- ---- of a scrub
+
+    module _ (own : (line mask : ℕ) (frame : Frame) → bit_at mask line ≡ 1 → Saw view who (places.Bad frame) mask → P (line_address frame line)) where
+      bad-such : (frame : Frame) (banks : Banks) (line : Option ℕ) (lines : List EventOutcome) → SawLowest view who (places.Bad frame) line → IsBadMet layout view who frame banks line lines → HoldSuch P banks → AreSuch P lines × HoldSuch P (left_by_bad line banks)
+      bad-such frame banks None lines saw none each = untold-such banks lines banks (none, refl) each
+      bad-such frame banks (Some line) lines saw acted each = (
+        acted-such None scrubbing (with_bad frame line banks) lines acted (log-such scrub_bank (own_event origins.BadLine frame line) banks each (own line saw.word frame saw.lowest.is_set saw.saw)),
+        empty-such bank_count,
+      )
+
+      weak-such : (frame : Frame) (banks : Banks) (line : Option ℕ) (lines : List EventOutcome) → AreBanks banks → IsWeakMet layout view who frame banks line lines → HoldSuch P banks → AreSuch P lines × HoldSuch P (left_by_weak line banks)
+      weak-such frame banks None lines are none each = untold-such banks lines banks (none, refl) each
+      weak-such frame banks (Some line) lines are kept each =
+          let one = kept-so banks are frame line layout view who lines kept in (
+            subst (AreSuch P) (sym one.lines_are) (each-cons (IsSuch P) one.told [] (λ found some. absurd (none-some found (sym one.none ∙ some))) (λ i t there. absurd (none-some t there))),
+            each-set (λ (o : Option Event). (x : Event) → o ≡ Some x → P x.addr) banks scrub_bank None (λ x is. absurd (none-some x is)) each,
+          )
+
+      visits-such : (frame : ℕ) (banks : Banks) (visits : List Visit) → AreBanks banks → AreVisits layout view who frame banks visits → HoldSuch P banks → AreSuch P (scrubs.lines_of visits) × HoldSuch P (scrubs.left_by banks visits)
+      visits-such frame banks [] are visited each = ((λ i t there. absurd (none-some t there)), each)
+      visits-such frame banks (v ∷ vs) are (is, rest) each =
+          let f : Frame = record { 0 = frame } in
+          let bad = bad-such f banks v.bad.line v.bad.lines is.bad.saw is.bad.met each in
+          let weak = weak-such f (left_by_bad v.bad.line banks) v.weak.line v.weak.lines (bad-leaves v.bad.line banks are) is.weak.met bad.1 in
+          let later = visits-such (frame + 1) (left_by_visit v banks) vs (left-banks banks (v ∷ []) are) rest weak.1 in (
+            each-append (IsSuch P) (lines_of_visit v) (scrubs.lines_of vs) (each-append (IsSuch P) v.bad.lines v.weak.lines bad.0 weak.0) later.0,
+            later.1,
+          )
+
+      cut-such : (first last : Frame) (before : Banks) (told : List EventOutcome) (after : Banks) → AreBanks before → IsUntold told before after ⊎ IsCutShort layout view who first last before told after → HoldSuch P before → AreSuch P told × HoldSuch P after
+      cut-such first last before told after are (inl none) each = untold-such before told after none each
+      cut-such first last before told after are (inr cut) each =
+          let visits = visits-such first.0 before cut.visits are cut.visited each in
+          let bad = bad-such (record { 0 = first.0 + length cut.visits }) (scrubs.left_by before cut.visits) cut.bad.line cut.bad.lines cut.found.saw cut.found.met visits.1 in
+          (subst (AreSuch P) (sym cut.told_is) (each-append (IsSuch P) (scrubs.lines_of cut.visits) cut.bad.lines visits.0 bad.0), subst (HoldSuch P) (sym cut.after_is) bad.1)
+
+      scrub-such : (first last : Frame) (answer : Answer) (before : Banks) (told : List EventOutcome) (after : Banks) → AreBanks before → IsScrubTold layout view who first last answer before told after → HoldSuch P before → AreSuch P told × HoldSuch P after
+      scrub-such first last (answers.Scrubbed n) before told after are is each =
+          let visits = visits-such first.0 before is.visits are is.visited each in
+          (subst (AreSuch P) (sym is.told_is) visits.0, subst (HoldSuch P) (sym is.after_is) visits.1)
+      scrub-such first last answer before told after are is each = cut-such first last before told after are is each
+
+    row-such : (command : Command) (answer : Answer) (before : Banks) (told : List EventOutcome) (after : Banks) → ((line mask : ℕ) (frame : Frame) → bit_at mask line ≡ 1 → Saw view who (places.Bad frame) mask → P (line_address frame line))
+        → ((status addr misc : ℕ) → command ≡ commands.Log status addr misc → P addr) → AreBanks before → AreToldBy layout view who command answer before told after → HoldSuch P before → AreSuch P told × HoldSuch P after
+    row-such (commands.Load thread slot line) answer before told after own raw are is each = access-such thread line origins.Access modes.User before told after (λ frame saw. own line saw.mask frame (set-at saw.mask line saw.bad) saw.saw) is each
+    row-such (commands.Fetch thread slot line) answer before told after own raw are is each = access-such thread line origins.Fetch modes.User before told after (λ frame saw. own line saw.mask frame (set-at saw.mask line saw.bad) saw.saw) is each
+    row-such (commands.KLoad thread slot line) answer before told after own raw are is each = access-such thread line origins.Access modes.Kernel before told after (λ frame saw. own line saw.mask frame (set-at saw.mask line saw.bad) saw.saw) is each
+    row-such (commands.Store thread slot line word) answer before told after own raw are is each = access-such thread line origins.Access modes.User before told after (λ frame saw. own line saw.mask frame (set-at saw.mask line saw.bad) saw.saw) is each
+    row-such (commands.RaiseUser thread ripv eipv) answer before told after own raw are is each = raise-such (Some thread) (arrival_of (commands.RaiseUser thread ripv eipv)) answer before told after is each
+    row-such (commands.RaiseKernel ripv eipv) answer before told after own raw are is each = raise-such None (arrival_of (commands.RaiseKernel ripv eipv)) answer before told after is each
+    row-such (commands.Scrub first last) answer before told after own raw are is each = scrub-such own first last answer before told after are is each
+    row-such (commands.Log status addr misc) answer before told after own raw are (none, left) each =
+        (subst (AreSuch P) (sym none) (λ i t there. absurd (none-some t there)), subst (HoldSuch P) (sym left) (raw-such answer (raw_event status addr misc) before (raw status addr misc refl) each))
+    row-such command answer before told after own raw are is each = untold-such before told after is each
+
+  -- of all commands of a processor
+  rows-such : (layout : Layout) (list : List Command) (view : View) (cpu : Cpu) (n : ℕ) (before : Banks) (cs : List Command) (rows : List Row) (after : Banks) → ((who : Who) (line mask : ℕ) (frame : Frame) → bit_at mask line ≡ 1 → Saw view who (places.Bad frame) mask → P (line_address frame line))
+      → ((k status addr misc : ℕ) → slice_get cs k ≡ Some (commands.Log status addr misc) → P addr) → AreBanks before → AreRowsServed layout list view cpu n before cs rows after → HoldSuch P before → EachMember (λ (row : Row). AreSuch P row.told) rows
+  rows-such layout list view cpu n before cs [] after own raw free are each = λ i row there. absurd (none-some row there)
+  rows-such layout list view cpu n before [] (row ∷ rows) after own raw free are each = absurd are
+  rows-such layout list view cpu n before (c ∷ cs) (row ∷ rows) after own raw free (between, served, rest) each =
+      let such = row-such layout view (record { cpu = cpu; seq = n }) c row.answer before row.told between (own (record { cpu = cpu; seq = n })) (λ status addr misc is. raw 0 status addr misc (ap (λ (x : Command). Some x) is)) free served.told each in
+      each-cons (λ (r : Row). AreSuch P r.told) row rows such.0 (rows-such layout list view cpu (n + 1) between cs rows after own (λ k status addr misc there. raw (suc k) status addr misc there) (row-free layout view (record { cpu = cpu; seq = n }) c row.answer before row.told between served.told free) rest such.1)
+
+-- ---- at the end
+
+module _ (script : Script) (seat : Cpu → ℕ) (last : State) (report : Report) (end : IsEnd script seat last report) where
+  -- the script names the frame of the address
+  abbrev pub IsNamed : ℕ → Type 0
+  IsNamed addr = list_any (λ n. n == frame_at addr) (named_frames script) ≡ true
+
+  bad-named : (cpu : Cpu) → cpu.0 < script.layout.cpus → (who : Who) (line mask : ℕ) (frame : Frame) → bit_at mask line ≡ 1 → Saw (view_of last (seat cpu)) who (places.Bad frame) mask → IsNamed (line_address frame line)
+  bad-named cpu inside who line mask frame one saw =
+      let is = spoiled-at-end script seat last report end cpu inside who frame damages.Bad line mask one saw in
+      let was = (spoiled-so script seat last report end frame damages.Bad line is.word is.there).0 is.set in
+      let few : line < 64 = is.few in
+      let at : (frame.0 * 4096 + line * 64) / 4096 ≡ frame.0 = omega (arith, few) in
+      subst (λ (f : ℕ). list_any (λ n. n == f) (named_frames script) ≡ true) (sym at) (named-at script was.who (commands.Bad frame line) frame.0 was.made refl)
+
+  -- each failure that a row tells is of a named frame
+  pub events-named : (cpu : Cpu) (list : List Command) (own : List Row) → cpu.0 < script.layout.cpus → slice_get script.lists cpu.0 ≡ Some list → slice_get end.rows cpu.0 ≡ Some own → EachMember (λ (row : Row). AreSuch IsNamed row.told) own
+  events-named cpu list own inside list_is own_is =
+      let served = (served-of script seat last report end cpu list own list_is own_is).0 in
+      rows-such IsNamed script.layout list (view_of last (seat cpu)) cpu 0 empty_banks list own served.banks (bad-named cpu inside) (λ k status addr misc there. named-of (frame_at addr) script.lists cpu.0 k list (commands.Log status addr misc) list_is there refl) empty-free served.rows_are (empty-such IsNamed bank_count)

@@ -1,0 +1,4 @@
+pub mod LossesOwed
+pub mod LossesReported
+pub mod LossesTold
+pub mod LossesAgree

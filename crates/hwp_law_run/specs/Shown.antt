@@ -1,0 +1,130 @@
+-- The words and lengths that answers rest on: each stands at a step of its own command.
+use Rattle.std.specs.Prelude.{◌≡◌, ◌≢◌, ◌⊎◌, ℕ, ◌+◌, ◌<◌, Bool, true, false, List, Some, IsSomeAnd, length}
+use Rattle.hwp_law.specs.hwp_geom.declared.Frame.{Frame}
+use Rattle.hwp_law.specs.hwp_geom.declared.Layout.{Layout}
+use Rattle.hwp_law.specs.hwp_geom.declared.Page.{Page}
+use Rattle.hwp_law.specs.hwp_geom.declared.Proc.{Proc}
+use Rattle.hwp_law.specs.hwp_geom.declared.VSlot.{VSlot}
+use Rattle.hwp_law.specs.hwp_geom.declared.Who.{Who}
+use Rattle.hwp_law.specs.hwp_banks.Addresses.{frame_at}
+use Rattle.hwp_law.specs.hwp_page.declared.At.{At}
+use Rattle.hwp_law.specs.hwp_page.Step.{IsOf}
+use Rattle.hwp_plain_order.specs.hwp_words.Counters.{hardware_of}
+use Rattle.hwp_plain_order.specs.hwp_words.Frames.{count_of, is_handled, is_kernel, is_poisoned, lock_of, owner_of}
+use Rattle.hwp_plain_order.specs.hwp_words.Stops.{stopper_of}
+use Rattle.hwp_plain_order.specs.hwp_core_rule.declared.Log.{Log}
+use Rattle.hwp_plain_order.specs.hwp_core_rule.declared.SharedWord.TheVariants as places
+use Rattle.hwp_plain_order.specs.hwp_core_rule.declared.Rec.{Rec}
+use Rattle.hwp_plain_order.specs.hwp_core_rule.declared.Step.TheVariants as steps
+use Rattle.hwp_plain_order.specs.hwp_core_rule.declared.View.{View}
+use Rattle.hwp_plain_order.specs.hwp_core_rule.Lists.{EachMember}
+use Rattle.hwp_plain_order.specs.hwp_core_rule.Logs.{state_of}
+use Rattle.hwp_plain_order.specs.hwp_core_rule.parts.Places.{IsBare}
+use Rattle.hwp_plain_order.specs.hwp_core_task.Boards.{Played}
+use Rattle.hwp_law.specs.hwp_script_read.declared.Command.{Command}
+use Rattle.hwp_law.specs.hwp_script_read.declared.Command.TheVariants as commands
+use Rattle.hwp_law.specs.hwp_script_read.declared.Script.{Script}
+use Rattle.hwp_law.specs.hwp_report_text.declared.Acted.TheVariants as acts
+use Rattle.hwp_law.specs.hwp_report_text.declared.Answer.{Answer}
+use Rattle.hwp_law.specs.hwp_report_text.declared.Answer.TheVariants as answers
+use Rattle.hwp_law.specs.hwp_report_text.declared.Report.{Report}
+use Rattle.hwp_law.specs.Commands.{process_at}
+use Rattle.hwp_law.specs.Lines.{EventLine, answer_of, events_of}
+use Rattle.hwp_law.specs.Places.{command_at}
+use Rattle.hwp_law.specs.Runs.{slot_of}
+use Rattle.hwp_law_run.specs.Turns.{Finds, FindsBad, SawPage, TurnBy}
+
+-- the machine had stopped, or the command stopped it by a step of its own
+abbrev pub StopShown : Layout → List Played → Who → Type 0
+StopShown layout turns who =
+    Finds layout turns who places.Stop (λ (word : ℕ). stopper_of word ≢ 0)
+    ⊎ TurnBy layout turns who (λ (made : Rec) (view : View). (made.step ≡ steps.Stop who.cpu) × (made.found ≡ 0))
+
+-- the process has this word
+abbrev pub ProcessShown : Layout → List Played → Who → Proc → ℕ → Type 0
+ProcessShown layout turns who process word = Finds layout turns who (places.Process process) (λ (found : ℕ). found ≡ word)
+
+-- the process of the command's thread had ended, by a signal in this page's history
+abbrev pub GoneShown : Script → List Played → Who → Page → Type 0
+GoneShown script turns who page = IsSomeAnd (process_at script who) (λ (process : Proc). ProcessShown script.layout turns who process (page.0 + 1))
+
+-- the frame's poison, or that it has none
+abbrev pub PoisonShown : Layout → List Played → Who → Frame → Bool → Type 0
+PoisonShown layout turns who frame poisoned = Finds layout turns who (places.Frame frame) (λ (word : ℕ). is_poisoned word ≡ poisoned)
+
+-- these bad lines of the frame
+abbrev pub BadShown : Layout → List Played → Who → Frame → ℕ → Type 0
+BadShown layout turns who frame mask = Finds layout turns who (places.Bad frame) (λ (word : ℕ). word ≡ mask)
+
+-- a frame word that can be unpoisoned: handled, unlocked, without owner, and counted for that alone
+pub record IsRevivable (word : ℕ) : Type 0 where
+  pub handled : is_handled word ≡ true
+  pub unlocked : lock_of word ≡ 0
+  pub unowned : owner_of word ≡ 0
+  pub alone : count_of word ≡ 1
+
+-- the frame was in use, with this count
+abbrev pub UseShown : Layout → List Played → Who → Frame → ℕ → Type 0
+UseShown layout turns who frame count = Finds layout turns who (places.Frame frame) (λ (word : ℕ). (¬ IsRevivable word) × (count_of word ≡ count))
+
+-- a frame word without owner, lock, reference and handled bit: nobody used the frame
+pub record IsFree (word : ℕ) : Type 0 where
+  pub bare : IsBare word
+  pub uncounted : count_of word ≡ 0
+
+-- so many entries of the page, whose lock and body the seat had
+abbrev pub LengthShown : Layout → List Played → Who → At → Type 0
+LengthShown layout turns who at = SawPage layout turns who at.page (λ (log : Log). length log.entries ≡ at.entry)
+
+-- no frame was available, and an access found its page in none, when its seat had the page's lock and body
+pub record NoFrameShown (script : Script) (turns : List Played) (who : Who) (command : Command) : Type 0 where
+  pub available : Finds script.layout turns who places.Available (λ (word : ℕ). word ≡ 0)
+  pub out : (slot : VSlot) (page : Page) → slot_of command ≡ Some slot → IsOf script.layout page slot → SawPage script.layout turns who page (λ (log : Log). (state_of script.layout log).cached ≡ false)
+
+-- what an answer about a frame rests on
+abbrev pub FrameAnswerShown : Layout → List Played → Who → Frame → Answer → Type 0
+FrameAnswerShown layout turns who frame answers.Already = PoisonShown layout turns who frame true
+FrameAnswerShown layout turns who frame answers.NotPoisoned = PoisonShown layout turns who frame false
+FrameAnswerShown layout turns who frame answers.HardwareSeen = Finds layout turns who places.Counter (λ (word : ℕ). 0 < hardware_of word)
+FrameAnswerShown layout turns who frame (answers.HasBad mask) = BadShown layout turns who frame mask.0
+FrameAnswerShown layout turns who frame (answers.InUse count) = UseShown layout turns who frame count
+FrameAnswerShown layout turns who frame answers.Kernel = Finds layout turns who (places.Frame frame) (λ (word : ℕ). is_kernel word ≡ true)
+FrameAnswerShown layout turns who frame (answers.Moved other at) = Finds layout turns who (places.Frame other) IsFree
+FrameAnswerShown layout turns who frame _ = Unit {0}
+
+-- what an answer of a command with this one rests on
+abbrev pub CommandAnswerShown : Layout → List Played → Who → Command → Answer → Type 0
+CommandAnswerShown layout turns who (commands.Inject frame) answer = FrameAnswerShown layout turns who frame answer
+CommandAnswerShown layout turns who (commands.Soft frame) answer = FrameAnswerShown layout turns who frame answer
+CommandAnswerShown layout turns who (commands.Unpoison frame) answer = FrameAnswerShown layout turns who frame answer
+CommandAnswerShown layout turns who (commands.Fsync file) (answers.Eio lost) = Finds layout turns who (places.Loss file) (λ (word : ℕ). word ≡ lost)
+CommandAnswerShown layout turns who (commands.Fsync file) answers.Done = Finds layout turns who (places.Loss file) (λ (word : ℕ). word ≡ 0)
+CommandAnswerShown layout turns who command answer = Unit {0}
+
+-- the words and lengths that an answer rests on were shown to its command
+abbrev pub AnswerShown : Script → List Played → Who → Command → Answer → Type 0
+AnswerShown script turns who command answers.Stopped = StopShown script.layout turns who
+AnswerShown script turns who command (answers.Gone page) = GoneShown script turns who page
+AnswerShown script turns who command answers.NoFrame = NoFrameShown script turns who command
+AnswerShown script turns who command (answers.NotResident at) = LengthShown script.layout turns who at
+AnswerShown script turns who command (answers.NotMapped at) = LengthShown script.layout turns who at
+AnswerShown script turns who command (answers.Dirty at) = LengthShown script.layout turns who at
+AnswerShown script turns who command (answers.Mapped at) = LengthShown script.layout turns who at
+AnswerShown script turns who command (answers.BadLines mask at) = LengthShown script.layout turns who at × ((frame : Frame) × FindsBad script.layout turns who at.page frame mask.0)
+AnswerShown script turns who command answer = CommandAnswerShown script.layout turns who command answer
+
+-- every other answer of a thread's command than `gone` and `stopped` found its process going on
+abbrev pub GoesOn : Layout → List Played → Who → Proc → Answer → Type 0
+GoesOn layout turns who process answers.Stopped = Unit {0}
+GoesOn layout turns who process (answers.Gone page) = Unit {0}
+GoesOn layout turns who process answer = ProcessShown layout turns who process 0
+
+-- an event's frame that was poisoned already was seen so
+abbrev pub AlreadyShown : Layout → List Played → Who → EventLine → Type 0
+AlreadyShown layout turns who line = line.acted ≡ acts.Already → PoisonShown layout turns who (record { 0 = frame_at line.addr }) true
+
+-- each answer, and each event line, rests on what its command was shown
+pub record IsShown (script : Script) (report : Report) (turns : List Played) : Type 0 where
+  pub answers : (who : Who) (command : Command) (answer : Answer) → command_at script who ≡ Some command → answer_of report who ≡ Some answer → AnswerShown script turns who command answer
+  pub going : (who : Who) (process : Proc) (answer : Answer) → process_at script who ≡ Some process → answer_of report who ≡ Some answer → GoesOn script.layout turns who process answer
+  pub events : (who : Who) → EachMember (AlreadyShown script.layout turns who) (events_of report who)

@@ -1,9 +1,0 @@
-pub mod Counting
-pub mod Remapping
-pub mod SoftEntry
-pub mod RelocateSteps
-pub mod Relocated
-pub mod RelocateCosts
-pub mod Seizing
-pub mod SeizeCosts
-pub mod Discarding

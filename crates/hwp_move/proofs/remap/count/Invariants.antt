@@ -1,9 +1,0 @@
-use Rattle.std.proofs.Common.{◌-◌}
-use Rattle.hwp_move.proofs.Counting.{Counted}
-use Rattle.hwp_move.proofs.remap.count.Given as goal
-
-abbrev pub invariant-loop-slot : goal.invariant-loop-slot
-invariant-loop-slot l = Counted l.slots l.count l.at.0
-
-abbrev pub decreases-loop-slot : goal.decreases-loop-slot
-decreases-loop-slot l = 513 - l.at.0

@@ -1,5 +1,0 @@
-use Rattle.hwp_move.proofs.SeizeCosts.{seize-ranked}
-use Rattle.hwp_move.proofs.seize.SeizeRanked.ranked.Goals as goal
-
-pub returns : goal.returns
-returns c = seize-ranked

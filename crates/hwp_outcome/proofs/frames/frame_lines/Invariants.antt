@@ -1,6 +1,0 @@
-use Rattle.hwp_rule.specs.Words.{words_of}
-use Rattle.hwp_outcome.specs.Closing.{AreLinesBy}
-use Rattle.hwp_outcome.proofs.frames.frame_lines.Given as goal
-
-abbrev pub invariant-loop-frame : goal.invariant-loop-frame
-invariant-loop-frame l = AreLinesBy (words_of l.fn.layout l.fn.words) l.fn.notes l.frame l.lines.items

@@ -1,8 +1,0 @@
-use Rattle.std.proofs.Common.{◌≡◌, ◌≤◌, take}
-use Rattle.std.specs.List.{sum_by}
-use Rattle.hwp_words.specs.Frames.{poison_of}
-use Rattle.hwp_rule.specs.Words.{words_of}
-use Rattle.hwp_outcome.proofs.frames.poisoned_frames.Given as goal
-
-abbrev pub invariant-loop-frame : goal.invariant-loop-frame
-invariant-loop-frame l = (l.count ≡ sum_by poison_of (take l.frame (words_of l.fn.layout l.fn.words).frames)) × (l.count ≤ l.frame)

@@ -1,6 +1,0 @@
-use Rattle.std.proofs.Common.{◌≡◌, None, find, take}
-use Rattle.hwp_law.specs.Checks.{is_panic}
-use Rattle.hwp_outcome.proofs.stopping.panic_cause.Given as goal
-
-abbrev pub invariant-loop-event : goal.invariant-loop-event
-invariant-loop-event l = find (λ t. is_panic t.acted) (take l.event-index l.fn.told) ≡ None

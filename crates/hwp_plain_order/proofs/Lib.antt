@@ -1,0 +1,11 @@
+pub mod Gaps
+pub mod Chosen
+pub mod Seats
+pub mod RankFalls
+pub mod LowestLevel
+pub mod ScheduleTells
+pub mod Turns
+pub mod CrewOpens
+pub use Rattle.hwp_core_task.proofs.of_hwp_core_rule as of_hwp_core_rule
+pub use Rattle.hwp_core_task.proofs as of_hwp_core_task
+pub use Rattle.hwp_core_task.proofs.of_hwp_words as of_hwp_words

@@ -1,0 +1,146 @@
+-- What one turn of the scheduler makes.
+use Rattle.std.proofs.Common.{◌≡◌, ◌≢◌, ℕ, ◌<◌, ◌≤◌, inr, List, length, take, get_or, set, false, Option, Some, None, refl, sym, ap, ◌∙◌, subst, arith}
+use Rattle.std.proofs.lemmas.List.{get_or-take, get_or_default, length-set, map-set}
+use Rattle.std.proofs.Math.Seq.{take-set-lt}
+use Rattle.hwp_geom.specs.declared.Cpu.{Cpu}
+use Rattle.hwp_geom.specs.declared.Kind.{Kind}
+use Rattle.hwp_geom.specs.declared.Layout.{Layout}
+use Rattle.hwp_core_task.specs.hwp_core_rule.declared.State.{State}
+use Rattle.hwp_core_task.specs.hwp_core_rule.declared.Step.{Step}
+use Rattle.hwp_core_task.specs.hwp_core_rule.Rule.{Holds}
+use Rattle.hwp_script_read.specs.declared.Until.{Until}
+use Rattle.hwp_script_read.specs.declared.Until.TheVariants as untils
+use Rattle.hwp_core_task.specs.declared.Turn.{Turn}
+use Rattle.hwp_core_task.specs.declared.Turn.TheVariants as turns
+use Rattle.hwp_core_task.specs.Boards.{Played, TakesTurn, view_of, AreSeated}
+use Rattle.hwp_core_task.specs.Calls.{logs, rec_of}
+use Rattle.hwp_core_task.specs.Ranks.{Member, is_waits}
+use Rattle.hwp_plain_order.specs.Order.{Running, running, IsAt, IsNoMemory, IsOver, IsRefused, EndsCommand, EndsWord, told_of, level_by, level, levels, IsChosen, cpu_of, seat_of}
+use Rattle.hwp_plain_order.specs.Rank.{words_in, rank, need_at}
+use Rattle.hwp_plain_order.specs.Ready.{InPlay, IsNext, Ready, TurnTold}
+use Rattle.hwp_plain_order.proofs.Seats.{few-tasks}
+use Rattle.hwp_plain_order.proofs.Chosen.{value-at, IsAt-set, IsAt-same, task-over}
+use Rattle.hwp_plain_order.proofs.RankFalls.{ready-after, turn-lowers, need-falls}
+
+-- the array has the task's level
+array-level : {S : Type 0} (m : Member S) (ls : List ℕ) (a : Running S) (p : ℕ) (s : S) → InPlay m ls a → IsAt a.tasks p s → get_or ls p 5 ≡ level m s
+array-level m ls a p s play at = sym (get_or-take (length a.tasks) ls p 5 at.within) ∙ (ap (λ (l : List ℕ). get_or l p 5) play.are ∙ value-at (level m) a.tasks p s 5 at)
+
+going-plan : {S : Type 0} (m : Member S) (s : S) → level m s < 5 → m.plan s ≢ None
+going-plan m s going over = omega (arith, ap (λ o. level_by o (m.class s)) over, going)
+
+-- a read is read again
+pub read-again : {S : Type 0} (tasks : List S) (p : ℕ) (d : S) → d ≡ get_or tasks p d → get_or tasks p d ≡ get_or tasks p (get_or tasks p d)
+read-again tasks p d is = ap (get_or tasks p) is
+
+module _ {S : Type 0} (m : Member S) (ls : List ℕ) (layout layout2 : Layout) (seat seat2 : Cpu → ℕ) (tasks : List S) (a b : State) (was now : List Played) (p : ℕ) (s t : S) (result : Turn × Option Kind)
+    (play : InPlay m ls (running layout seat tasks a)) (h : p < length tasks) (going : get_or ls p 5 < 5) (is : s ≡ get_or tasks p s)
+    (taken : TakesTurn layout (seat (cpu_of p)) (m.who s) (m.plan s) (m.put s) (m.next layout (m.bare s)) a b was now s t result) where
+  at : IsAt tasks p s
+  at = record { within = h; is = sym is }
+
+  going-on : m.plan s ≢ None
+  going-on = going-plan m s (subst (λ (k : ℕ). k < 5) (array-level m ls (running layout seat tasks a) p s play at) going)
+
+  -- a turn of a task that isn't over, and that wasn't refused memory, makes a step
+  pub turn-told : (layout2 ≡ layout) × (seat2 ≡ seat) → Holds layout2 b → (IsNoMemory result.0 → ⊥) → TurnTold m (running layout seat tasks a) p was now result (running layout2 seat2 (set tasks p t) b)
+  turn-told same rule went = by (m.plan s) refl taken
+    where
+      by : (o : Option Step) → m.plan s ≡ o → TakesTurn layout (seat (cpu_of p)) (m.who s) o (m.put s) (m.next layout (m.bare s)) a b was now s t result
+          → TurnTold m (running layout seat tasks a) p was now result (running layout2 seat2 (set tasks p t) b)
+      by None over made = absurd (going-on over)
+      by (Some step) planned made = record {
+        played = record { seat = seat (cpu_of p); made = rec_of layout (m.who s) step (logs (m.put s)) made.found made.got; turn = result.0 };
+        logged = made.logged;
+        told_is = ap (λ (k : Option Kind). (result.0, k)) made.kind;
+        turn = record {
+          before = s;
+          after = t;
+          at = at;
+          next = λ i. record { layout = same.0 i; seat = same.1 i; tasks = set tasks p t; state = b };
+          listed = refl;
+          goes_on = went;
+          made = record {
+            step = step;
+            found = made.found;
+            got = made.got;
+            rule = play.ready.rule;
+            kept = subst (λ (l : Layout). Holds l b) same.0 rule;
+            fits = play.ready.crew.fits p s at;
+            planned = planned;
+            move = made.move;
+            brings = made.brings;
+            follows = made.follows;
+          };
+        };
+      }
+
+  -- one that was refused memory is the newest of the log
+  pub turn-refused : IsNoMemory result.0 → IsRefused now
+  turn-refused refused = by (m.plan s) refl taken
+    where
+      by : (o : Option Step) → m.plan s ≡ o → TakesTurn layout (seat (cpu_of p)) (m.who s) o (m.put s) (m.next layout (m.bare s)) a b was now s t result → IsRefused now
+      by None over made = absurd (going-on over)
+      by (Some step) planned made = subst IsRefused (sym made.logged) refused
+
+-- and the scheduler goes on
+pub play-after : {S : Type 0} (m : Member S) (ls : List ℕ) (a b : Running S) (p y : ℕ) (t u : S) (was now : List Played) (told : Turn × Option Kind)
+    → InPlay m ls a → p < length a.tasks → TurnTold m a p was now told b → AreSeated b.layout b.state b.seat → (m.who t).cpu ≡ cpu_of p
+    → m.fits b.layout (view_of b.state (seat_of b p)) t → ((s : ℕ) → s ≢ seat_of a p → view_of b.state s ≡ view_of a.state s)
+    → b.tasks ≡ set a.tasks p t → u ≡ get_or (set a.tasks p t) p u → y ≡ level m u → InPlay m (set ls p y) b
+play-after {S} m ls a b p y t u was now told play h made seats own fits others changed there value = record {
+  ready = ready-after m a b p made.played play.ready made.turn seats mine others;
+  eight = length-set ls p y ∙ play.eight;
+  are = ap (λ (ts : List S). take (length ts) (set ls p y)) changed ∙ ap (λ (n : ℕ). take n (set ls p y)) (length-set a.tasks p t)
+      ∙ (take-set-lt (length a.tasks) ls p y h ∙ (ap (λ (l : List ℕ). set l p y) play.are ∙ (ap (λ (k : ℕ). set (levels m a.tasks) p k) y-is
+      ∙ (sym (map-set (level m) a.tasks p t) ∙ ap (levels m) (sym changed)))));
+}
+  where
+    after : IsAt (set a.tasks p t) p t
+    after = IsAt-set a.tasks p t h
+
+    y-is : y ≡ level m t
+    y-is = value ∙ ap (level m) (IsAt-same (set a.tasks p t) p u t (record { within = after.within; is = sym there }) after)
+
+    mine : (x : S) → IsAt b.tasks p x → ((m.who x).cpu ≡ cpu_of p) × m.fits b.layout (view_of b.state (seat_of b p)) x
+    mine x at = subst (λ (z : S). ((m.who z).cpu ≡ cpu_of p) × m.fits b.layout (view_of b.state (seat_of b p)) z)
+        (IsAt-same (set a.tasks p t) p t x after (subst (λ (ts : List S). IsAt ts p x) changed at)) (own, fits)
+
+-- who comes next, by the array
+pub next-of : {S : Type 0} (m : Member S) (ls : List ℕ) (a : Running S) (q : Option ℕ) → InPlay m ls a → IsNext (take (length a.tasks) ls) q → IsNext (levels m a.tasks) q
+next-of m ls a q play next = subst (λ (l : List ℕ). IsNext l q) play.are next
+
+-- a processor is over, by the array
+pub array-over : {S : Type 0} (m : Member S) (ls : List ℕ) (a : Running S) (p : ℕ) → InPlay m ls a → p < length a.tasks → 5 ≤ get_or ls p 0 → IsOver m a.tasks p
+array-over m ls a p play h over = task-over m a.tasks p (play.ready.law (omega (arith, h)))
+    (omega (arith, over, get_or_default ls p 0 5 (omega (arith, h, play.eight, few-tasks a.layout (length a.tasks) play.ready.rule.sound play.ready.crew.count)), get_or-take (length a.tasks) ls p 5 h, ap (λ (l : List ℕ). get_or l p 5) play.are))
+
+-- the chosen one's turn lowers the rank
+pub told-lowers : {S : Type 0} (m : Member S) (a b : Running S) (p : ℕ) (was now : List Played) (told : Turn × Option Kind) (q : Option ℕ)
+    → Ready m a → Ready m b → IsChosen (levels m a.tasks) p → TurnTold m a p was now told b → IsNext (levels m b.tasks) q → rank m b q < rank m a (Some p)
+told-lowers m a b p was now told q ready ready-b chosen made next = turn-lowers m a b p made.played q ready ready-b chosen made.turn next
+
+not-ends : (turn : Turn) → (EndsCommand turn → ⊥) → is_waits turn ≡ false
+not-ends turns.Moved h = refl
+not-ends (turns.Waits word) h = absurd (h tt)
+not-ends (turns.Changed word) h = refl
+not-ends turns.Answered h = refl
+not-ends turns.Finished h = refl
+not-ends turns.NoMemory h = refl
+
+not-waits : (until : Until) (told : Turn × Option Kind) → (EndsWord until told → ⊥) → is_waits told.0 ≡ false
+not-waits untils.One told h = absurd (h tt)
+not-waits untils.Command told h = not-ends told.0 h
+not-waits (untils.After k) told h = not-ends told.0 (λ e. h (inr e))
+
+-- whether a word ends is told
+pub ends-told : {S : Type 0} (m : Member S) (a b : Running S) (p : ℕ) (was now : List Played) (told : Turn × Option Kind) (until : Until) → (made : TurnTold m a p was now told b) → EndsWord until told → EndsWord until (told_of made.played)
+ends-told m a b p was now told until made ends = subst (EndsWord until) made.told_is ends
+
+pub goes-told : {S : Type 0} (m : Member S) (a b : Running S) (p : ℕ) (was now : List Played) (told : Turn × Option Kind) (until : Until) → (made : TurnTold m a p was now told b) → (EndsWord until told → ⊥) → EndsWord until (told_of made.played) → ⊥
+goes-told m a b p was now told until made on ends = on (subst (EndsWord until) (sym made.told_is) ends)
+
+-- a turn that doesn't end a word lowers what its processor may need
+pub told-cheaper : {S : Type 0} (m : Member S) (a b : Running S) (p : ℕ) (was now : List Played) (told : Turn × Option Kind) (until : Until)
+    → Ready m a → TurnTold m a p was now told b → (EndsWord until told → ⊥) → need_at m b.tasks (words_in b) p < need_at m a.tasks (words_in a) p
+told-cheaper m a b p was now told until ready made on = need-falls m a b p made.played ready made.turn (not-waits until (told_of made.played) (goes-told m a b p was now told until made on))

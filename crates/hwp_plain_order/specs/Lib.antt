@@ -1,0 +1,6 @@
+pub mod Order
+pub mod Rank
+pub mod Ready
+pub use Rattle.hwp_core_task.specs.hwp_core_rule as hwp_core_rule
+pub use Rattle.hwp_core_task.specs as hwp_core_task
+pub use Rattle.hwp_core_task.specs.hwp_words as hwp_words

@@ -1,0 +1,52 @@
+-- The rank of running tasks: what each turn of the finishing order lowers.
+use Rattle.std.specs.Prelude.{ℕ, ◌+◌, ◌-◌, ◌*◌, ◌==◌, Bool, true, false, cond, List, [], ◌∷◌, map, get_or, set, Option, Some, None}
+use Rattle.hwp_core_task.specs.hwp_core_rule.Words.{Words}
+use Rattle.hwp_core_task.specs.Ranks.{Member, failure_weight, failures_left, words_at}
+use Rattle.hwp_plain_order.specs.Order.{Running, levels}
+
+abbrev pub words_in : {S : Type 0} → Running S → Words
+words_in a = words_at a.layout a.state
+
+-- how far a processor is from the end of its class, with eight processors at most
+abbrev pub gap : ℕ → ℕ → ℕ
+gap cpu level = 40 - (8 * level + cpu)
+
+-- the sum of the gaps, the first being of this processor
+abbrev pub gaps : ℕ → List ℕ → ℕ
+gaps cpu [] = 0
+gaps cpu (l ∷ ls) = gap cpu l + gaps (cpu + 1) ls
+
+-- the gaps of all but the chosen one
+abbrev pub phi : List ℕ → ℕ → ℕ
+phi ls cpu = gaps 0 (set ls cpu 5)
+
+-- one of the levels is 1
+abbrev pub has_one : List ℕ → Bool
+has_one [] = false
+has_one (l ∷ ls) = cond (l == 1) true (has_one ls)
+
+-- 0 where the chosen one is about to leave its class to another of class 1
+abbrev pub yields : Bool → List ℕ → ℕ → ℕ
+yields aborts ls cpu = cond aborts (cond (has_one (set ls cpu 5)) 0 1) 1
+
+abbrev pub aborts_at : {S : Type 0} → Member S → List S → ℕ → Bool
+aborts_at m tasks cpu = get_or (map m.aborts tasks) cpu false
+
+abbrev pub cost_at : {S : Type 0} → Member S → List S → Words → ℕ → ℕ
+cost_at m tasks words cpu = get_or (map (λ s. m.cost s words) tasks) cpu 0
+
+-- what a processor may need: its cost, and what the failures that are left may add to it
+abbrev pub need_at : {S : Type 0} → Member S → List S → Words → ℕ → ℕ
+need_at m tasks words cpu = cost_at m tasks words cpu + failure_weight * failures_left words
+
+-- more than all needs
+abbrev pub ceiling : ℕ
+ceiling = 4294967296
+
+abbrev pub number_of : ℕ → ℕ → ℕ → ℕ
+number_of phi yield need = (2 * phi + yield) * ceiling + need
+
+-- first what the others have left, then whether the chosen one yields, then what it may need; 0 where none is left
+abbrev pub rank : {S : Type 0} → Member S → Running S → Option ℕ → ℕ
+rank m a None = 0
+rank m a (Some cpu) = number_of (phi (levels m a.tasks) cpu) (yields (aborts_at m a.tasks cpu) (levels m a.tasks) cpu) (need_at m a.tasks (words_in a) cpu)

@@ -1,0 +1,51 @@
+-- What a scheduler asks of tasks and board, and what it keeps between turns.
+use Rattle.std.specs.Prelude.{◌≡◌, ℕ, ◌<◌, ◌≤◌, List, ◌∷◌, length, take, get_or, Option, Some, None}
+use Rattle.hwp_geom.specs.declared.Frame.{Frame}
+use Rattle.hwp_geom.specs.declared.Kind.{Kind}
+use Rattle.hwp_core_task.specs.hwp_core_rule.Rule.{Holds}
+use Rattle.hwp_core_task.specs.declared.Turn.{Turn}
+use Rattle.hwp_core_task.specs.Boards.{Played, view_of, AreSeated}
+use Rattle.hwp_core_task.specs.Ranks.{Member, Pending}
+use Rattle.hwp_core_task.specs.Classes.{IsScheduled}
+use Rattle.hwp_plain_order.specs.Order.{Running, IsAt, IsChosen, TurnOf, cpu_of, levels, seat_of, told_of}
+use Rattle.hwp_plain_order.specs.Rank.{words_in}
+
+-- a failure is the claim of a task
+pub record Claimed {S : Type 0} (m : Member S) (tasks : List S) (frame : Frame) (cycle : ℕ) : Type 0 where
+  pub cpu : ℕ
+  pub task : S
+  pub at : IsAt tasks cpu task
+  pub claims : m.claims task ≡ Some (frame, cycle)
+
+-- There is one task a processor, in their order. Each fits what its processor knows, and each failure that isn't ended is the
+-- claim of one.
+pub record IsCrew {S : Type 0} (m : Member S) (a : Running S) : Type 0 where
+  pub count : length a.tasks ≡ a.layout.cpus
+  pub own : (cpu : ℕ) (s : S) → IsAt a.tasks cpu s → (m.who s).cpu ≡ cpu_of cpu
+  pub fits : (cpu : ℕ) (s : S) → IsAt a.tasks cpu s → m.fits a.layout (view_of a.state (seat_of a cpu)) s
+  pub claimed : (frame : Frame) (cycle : ℕ) → Pending (words_in a) frame cycle → Claimed m a.tasks frame cycle
+
+-- tasks that keep the law, on a board that keeps the rule
+pub record Ready {S : Type 0} (m : Member S) (a : Running S) : Type 0 where
+  pub law : 0 < length a.tasks → IsScheduled m
+  pub rule : Holds a.layout a.state
+  pub seats : AreSeated a.layout a.state a.seat
+  pub crew : IsCrew m a
+
+-- what the scheduler keeps between turns, with its array of levels
+pub record InPlay {S : Type 0} (m : Member S) (ls : List ℕ) (a : Running S) : Type 0 where
+  pub ready : Ready m a
+  pub eight : length ls ≡ 8
+  pub are : take (length a.tasks) ls ≡ levels m a.tasks
+
+-- a turn as the board logs it and as it tells it
+pub record TurnTold {S : Type 0} (m : Member S) (a : Running S) (cpu : ℕ) (was now : List Played) (told : Turn × Option Kind) (b : Running S) : Type 0 where
+  pub played : Played
+  pub turn : TurnOf m a cpu played b
+  pub logged : now ≡ played ∷ was
+  pub told_is : told ≡ told_of played
+
+-- who comes next, by the levels: none where all are over
+abbrev pub IsNext : List ℕ → Option ℕ → Type 0
+IsNext ls None = (i : ℕ) → i < length ls → 5 ≤ get_or ls i 5
+IsNext ls (Some cpu) = IsChosen ls cpu

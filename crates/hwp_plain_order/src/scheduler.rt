@@ -1,0 +1,176 @@
+ghost use Rattle.std.specs.Prelude.{◌≡◌, ℕ, ◌<◌, ◌≤◌, ◌↔◌, List, length, take, get_or, All, IfOk, OnOk, OnErr, IsTrue};
+ghost use Rattle.hwp_script_read.specs.declared.Go.{Go as GoOf};
+ghost use Rattle.hwp_core_task.specs.Ranks.{member};
+ghost use Rattle.hwp_core_task.specs.Classes.{IsScheduled};
+ghost use Rattle.hwp_plain_order.specs.Order.{running, level, levels, IsNoMemory, EndsWord, Word, Finishing, InOrder, Grows, IsRefused, AreOver};
+ghost use Rattle.hwp_plain_order.specs.Ready.{IsCrew, InPlay, TurnTold, IsNext};
+
+use hwp_core_task::{Board, Scheduled, Turn};
+use hwp_geom::{Cpu, Kind, MAX_CPUS, OutOfMemory};
+use hwp_script_read::{Go, Until};
+use std::alloc::AllocError;
+
+/// The level of a task that is over, above all classes.
+const OVER: u8 = 5;
+
+/// A place for each processor of the largest machine.
+const PLACES: usize = MAX_CPUS as usize;
+
+/// The class of a task, or `OVER`.
+fn level_of<T: Scheduled>(task: &T) -> u8
+    ensures { result ≡ level (member T.who T.plan T.put T.bare T.next T.fits T.class_of T.cost T.aborts T.claims) task.now }
+{
+    if task.is_over() { OVER } else { task.class() }
+}
+
+/// The levels of the tasks, and `OVER` in the places that are left.
+fn levels_of<T: Scheduled>(tasks: &[T]) -> [u8; PLACES]
+    requires few { length tasks.now ≤ 8 }
+    ensures { (length result ≡ 8) × (take (length tasks.now) result ≡ levels (member T.who T.plan T.put T.bare T.next T.fits T.class_of T.cost T.aborts T.claims) tasks.now) }
+{
+    let mut levels = [OVER; PLACES];
+    for (i, task) in tasks.iter().enumerate() {
+        levels[i] = level_of(task);
+    }
+    levels
+}
+
+/// The law of the tasks, where there is one. Proof only: a call tells its clauses.
+fn keep_law<T: Scheduled>(tasks: &[T])
+    ensures { 0 < length tasks.now → IsScheduled (member T.who T.plan T.put T.bare T.next T.fits T.class_of T.cost T.aborts T.claims) }
+{
+    let Some(task) = tasks.first() else {
+        return;
+    };
+    task.ranked();
+    task.tells();
+}
+
+/// The lowest-numbered of the lowest level, where one isn't over.
+fn choose(levels: &[u8]) -> Option<usize>
+    ensures { IsNext levels.now result }
+{
+    let mut least = OVER;
+    let mut chosen = None;
+    for (i, level) in levels.iter().enumerate() {
+        if *level < least {
+            least = *level;
+            chosen = Some(i);
+        }
+    }
+    chosen
+}
+
+/// Whether a word of the schedule ends with this turn.
+fn is_end(until: Until, turn: Turn, kind: Option<Kind>) -> bool
+    ensures { IsTrue result ↔ EndsWord until (turn, kind) }
+{
+    let ends = matches!(turn, Turn::Answered | Turn::Waits(_));
+    match until {
+        Until::One => true,
+        Until::Command => ends,
+        Until::After(wanted) => ends || kind == Some(wanted),
+    }
+}
+
+/// Whether the task gave up because memory ran out.
+fn is_refused(turn: Turn) -> bool
+    ensures { IsTrue result ↔ IsNoMemory turn }
+{
+    matches!(turn, Turn::NoMemory)
+}
+
+/// A turn of a processor that isn't over.
+fn make_turn<B: Board, T: Scheduled>(
+    board: &mut B,
+    tasks: &mut [T],
+    levels: &mut [u8; PLACES],
+    cpu: usize,
+) -> Result<(Turn, Option<Kind>), OutOfMemory>
+    requires play { InPlay (member T.who T.plan T.put T.bare T.next T.fits T.class_of T.cost T.aborts T.claims) levels.old (running (B.machine board.old) (B.seat board.old) tasks.old (B.state board.old)) }
+    requires cpu { cpu < length tasks.old }
+    requires going { get_or levels.old cpu 5 < 5 }
+    ensures play { OnOk result (InPlay (member T.who T.plan T.put T.bare T.next T.fits T.class_of T.cost T.aborts T.claims) levels.new (running (B.machine board.new) (B.seat board.new) tasks.new (B.state board.new))) }
+    ensures count { length tasks.new ≡ length tasks.old }
+    ensures turn { IfOk result (λ told. TurnTold (member T.who T.plan T.put T.bare T.next T.fits T.class_of T.cost T.aborts T.claims) (running (B.machine board.old) (B.seat board.old) tasks.old (B.state board.old)) cpu (B.log board.old) (B.log board.new) told (running (B.machine board.new) (B.seat board.new) tasks.new (B.state board.new))) }
+    ensures refused { OnErr result (IsRefused (B.log board.new)) }
+{
+    let (turn, kind) = board.advance(Cpu(cpu as u8), &mut tasks[cpu]);
+    board.keeps();
+    if is_refused(turn) {
+        return Err(AllocError);
+    }
+    levels[cpu] = level_of(&tasks[cpu]);
+    Ok((turn, kind))
+}
+
+/// The turns of a word of the schedule.
+fn play_word<B: Board, T: Scheduled>(
+    board: &mut B,
+    tasks: &mut [T],
+    levels: &mut [u8; PLACES],
+    go: &Go,
+) -> Result<(), OutOfMemory>
+    requires play { InPlay (member T.who T.plan T.put T.bare T.next T.fits T.class_of T.cost T.aborts T.claims) levels.old (running (B.machine board.old) (B.seat board.old) tasks.old (B.state board.old)) }
+    requires cpu { go.now.cpu.0 < length tasks.old }
+    ensures play { OnOk result (InPlay (member T.who T.plan T.put T.bare T.next T.fits T.class_of T.cost T.aborts T.claims) levels.new (running (B.machine board.new) (B.seat board.new) tasks.new (B.state board.new))) }
+    ensures count { length tasks.new ≡ length tasks.old }
+    ensures word { OnOk result (Grows (B.log board.old) (B.log board.new) (λ ps. Word (member T.who T.plan T.put T.bare T.next T.fits T.class_of T.cost T.aborts T.claims) go.now (running (B.machine board.old) (B.seat board.old) tasks.old (B.state board.old)) ps (running (B.machine board.new) (B.seat board.new) tasks.new (B.state board.new)))) }
+    ensures refused { OnErr result (IsRefused (B.log board.new)) }
+{
+    let cpu = usize::from(go.cpu.0);
+    while levels[cpu] < OVER {
+        let (turn, kind) = make_turn(board, tasks, levels, cpu)?;
+        if is_end(go.until, turn, kind) {
+            return Ok(());
+        }
+    }
+    Ok(())
+}
+
+/// The turns of the finishing order: each goes to the lowest-numbered processor of the lowest class.
+fn finish<B: Board, T: Scheduled>(
+    board: &mut B,
+    tasks: &mut [T],
+    levels: &mut [u8; PLACES],
+) -> Result<(), OutOfMemory>
+    requires play { InPlay (member T.who T.plan T.put T.bare T.next T.fits T.class_of T.cost T.aborts T.claims) levels.old (running (B.machine board.old) (B.seat board.old) tasks.old (B.state board.old)) }
+    ensures play { OnOk result (InPlay (member T.who T.plan T.put T.bare T.next T.fits T.class_of T.cost T.aborts T.claims) levels.new (running (B.machine board.new) (B.seat board.new) tasks.new (B.state board.new))) }
+    ensures over { OnOk result (AreOver (member T.who T.plan T.put T.bare T.next T.fits T.class_of T.cost T.aborts T.claims) tasks.new) }
+    ensures order { OnOk result (Grows (B.log board.old) (B.log board.new) (λ ps. Finishing (member T.who T.plan T.put T.bare T.next T.fits T.class_of T.cost T.aborts T.claims) (running (B.machine board.old) (B.seat board.old) tasks.old (B.state board.old)) ps (running (B.machine board.new) (B.seat board.new) tasks.new (B.state board.new)))) }
+    ensures refused { OnErr result (IsRefused (B.log board.new)) }
+{
+    let mut next = choose(&levels[..tasks.len()]);
+    while let Some(cpu) = next {
+        make_turn(board, tasks, levels, cpu)?;
+        next = choose(&levels[..tasks.len()]);
+    }
+    Ok(())
+}
+
+/// All turns of the tasks: those of the schedule, word by word, and then those of the finishing order, until all tasks are
+/// over. The log of the board lists them.
+///
+/// # Errors
+/// `OutOfMemory` at the first turn in which a task gives up because memory ran out.
+pub fn step_all<B: Board, T: Scheduled>(
+    board: &mut B,
+    tasks: &mut [T],
+    go: &[Go],
+) -> Result<(), OutOfMemory>
+    requires crew { IsCrew (member T.who T.plan T.put T.bare T.next T.fits T.class_of T.cost T.aborts T.claims) (running (B.machine board.old) (B.seat board.old) tasks.old (B.state board.old)) }
+    requires words { All (λ (g : GoOf). g.cpu.0 < length tasks.old) go.now }
+    ensures crew { OnOk result (IsCrew (member T.who T.plan T.put T.bare T.next T.fits T.class_of T.cost T.aborts T.claims) (running (B.machine board.new) (B.seat board.new) tasks.new (B.state board.new))) }
+    ensures over { OnOk result (AreOver (member T.who T.plan T.put T.bare T.next T.fits T.class_of T.cost T.aborts T.claims) tasks.new) }
+    ensures order { OnOk result (Grows (B.log board.old) (B.log board.new) (λ ps. InOrder (member T.who T.plan T.put T.bare T.next T.fits T.class_of T.cost T.aborts T.claims) go.now (running (B.machine board.old) (B.seat board.old) tasks.old (B.state board.old)) ps (running (B.machine board.new) (B.seat board.new) tasks.new (B.state board.new)))) }
+    ensures refused { OnErr result (IsRefused (B.log board.new)) }
+{
+    board.keeps();
+    keep_law(tasks);
+    let mut levels = levels_of(tasks);
+    for word in go {
+        play_word(board, tasks, &mut levels, word)?;
+    }
+    finish(board, tasks, &mut levels)?;
+    Ok(())
+}

@@ -1,0 +1,16 @@
+use Rattle.std.proofs.Common.{◌+◌, List, map, sym, subst}
+use Rattle.hwp_page.specs.declared.Entry.{Entry}
+use Rattle.hwp_plain_words.specs.Openings.{home_with}
+use Rattle.hwp_plain_words.proofs.TakenHistories.{Taken, next-body, next-taken}
+use Rattle.hwp_plain_words.proofs.closing.histories.Goals as goal
+
+pub take_history-requires : goal.take_history-requires
+take_history-requires c = record {
+  full = next-body c.args.frames c.args.caches.now (map home_with c.args.bodies.items) (map home_with c.loop-page.bodies.items) c.loop-page.page c.loop-page.pages.items c.requires.led c.loop-page.invariant c.loop-page-test.true c.slot_by-slot.result c.slot_by-slot.ensures;
+}
+
+pub loop-page-preserved : goal.loop-page-preserved
+loop-page-preserved c =
+    subst (λ (l : List (List Entry)). Taken c.args.frames c.args.caches.now (map home_with c.args.bodies.items) (map home_with c.take_history.new.bodies.items) (c.loop-page.page + 1) l) (sym c.in_ok-push.ensures.items)
+    (next-taken c.args.frames c.args.caches.now (map home_with c.args.bodies.items) (map home_with c.loop-page.bodies.items) c.loop-page.page c.loop-page.pages.items c.requires.led c.loop-page.invariant c.loop-page-test.true c.slot_by-slot.result c.slot_by-slot.ensures
+    (map home_with c.take_history.new.bodies.items) c.take_history.result c.take_history.ensures.homes c.take_history.ensures.history)

@@ -1,0 +1,6 @@
+use Rattle.std.proofs.Common.{◌≡◌, ◌++◌, map, take}
+use Rattle.hwp_core_task.specs.hwp_core_rule.Opening.{opening_frame}
+use Rattle.hwp_plain_words.proofs.words.add_frames.Given as goal
+
+abbrev pub invariant-loop-is_kernel : goal.invariant-loop-is_kernel
+invariant-loop-is_kernel l = l.words.items ≡ l.fn.words.items ++ map opening_frame (take l.is_kernel-index l.fn.kernel)

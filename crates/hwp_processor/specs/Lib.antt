@@ -1,2 +1,0 @@
-pub mod Processors
-pub mod Serving

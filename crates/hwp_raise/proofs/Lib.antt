@@ -1,4 +1,0 @@
-pub mod Logging
-pub mod Raising
-pub mod RaiseRank
-pub mod Adding

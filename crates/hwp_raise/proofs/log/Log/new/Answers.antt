@@ -1,4 +1,0 @@
-use Rattle.hwp_raise.proofs.log.Log.new.Goals as goal
-
-pub returns : goal.returns
-returns c = λ i. record { read = c.new.ensures i; event = c.args.event; before = record { marker = record {}; value = c.of.ensures i }; banks = c.args.banks }

@@ -1,6 +1,0 @@
-mod NearLaws
-mod RunLaws
-mod WindowLaws
-mod PastLaws
-mod ResultLaws
-mod MarkedLaws

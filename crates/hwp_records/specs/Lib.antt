@@ -1,3 +1,0 @@
-pub mod Nears
-pub mod Windows
-pub mod Results

@@ -1,8 +1,0 @@
-use Rattle.std.proofs.Common.{◌≡◌, ◌++◌, string_bytes, take}
-use Rattle.std.specs.List.{flat_map}
-use Rattle.hwp_geom.specs.Words.{line}
-use Rattle.hwp_report.specs.Text.{numbered, file_lines}
-use Rattle.hwp_report.proofs.printing.put_files.Given as goal
-
-abbrev pub invariant-loop-number : goal.invariant-loop-number
-invariant-loop-number l = string_bytes l.out ≡ string_bytes l.fn.out ++ flat_map line (numbered file_lines 0 (take l.number l.files))

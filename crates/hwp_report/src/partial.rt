@@ -1,0 +1,485 @@
+ghost use Rattle.std.specs.Prelude.{◌≡◌, [], IfOk};
+ghost use Rattle.hwp_report.specs.Follows.{add_entry, add_line, after_entry, after_files, after_frame, after_head, after_line, after_nothing, after_seen, after_signal, after_stop, entry_of, follow, open_cpu, open_frame, open_page, report_of, seen_so_far, signals_so_far};
+
+use hwp_geom::{List, OutOfMemory};
+use hwp_kill::{MAX_SIGNALS, Seen, Signal};
+use hwp_page::{Entry, What};
+use hwp_report_lines::ReportLine;
+use hwp_report_page_lines::Failure;
+use hwp_report_text::{CpuLine, FrameLine, Report, Stop};
+use std::alloc::Global;
+
+/// The most items for which a list has room before any was read.
+const MOST_ROOM: u64 = 65_536;
+
+/// What stands before the frames.
+#[derive(Drop)]
+pub(crate) struct Front {
+    /// What stopped the machine, if it was stopped.
+    pub stop: Option<Stop>,
+    /// The number of poisoned frames.
+    pub count: u64,
+    /// The losses of each file that no `fsync` has told yet.
+    pub files: List<u64>,
+}
+
+/// What stands before the pages.
+#[derive(Drop)]
+pub(crate) struct Framed {
+    /// What stands before the frames.
+    pub front: Front,
+    /// The frames, without the one in hand.
+    pub frames: List<FrameLine>,
+}
+
+/// What stands before the processors.
+#[derive(Drop)]
+pub(crate) struct Paged {
+    /// What stands before the pages.
+    pub framed: Framed,
+    /// The history of each page, without the one in hand.
+    pub pages: List<List<Entry>>,
+}
+
+/// What stands before the end.
+#[derive(Drop)]
+pub(crate) struct Ran {
+    /// What stands before the processors.
+    pub paged: Paged,
+    /// The lines of each processor, without the one in hand.
+    pub cpus: List<List<CpuLine>>,
+}
+
+/// A page in hand.
+#[derive(Drop)]
+pub(crate) struct OpenPage {
+    /// The pages above it, and what stands before them.
+    pub paged: Paged,
+    /// The number of its entries, as its heading says it.
+    pub count: u64,
+    /// Its entries so far, without a memory failure in hand.
+    pub entries: List<Entry>,
+}
+
+/// A memory failure in hand.
+#[derive(Drop)]
+pub(crate) struct OpenFailure {
+    /// Its line.
+    pub line: Failure,
+    /// Its policies so far.
+    pub seen: List<Seen>,
+}
+
+/// A processor in hand.
+#[derive(Drop)]
+pub(crate) struct OpenCpu {
+    /// The processors above it, and what stands before them.
+    pub ran: Ran,
+    /// The number of its lines, as its heading says it.
+    pub count: u64,
+    /// Its lines so far.
+    pub lines: List<CpuLine>,
+}
+
+/// What was read of a report so far.
+#[derive(Drop)]
+pub(crate) enum Partial {
+    /// Nothing.
+    Nothing,
+    /// The head.
+    Headed,
+    /// The stop line too.
+    Stopped(Option<Stop>),
+    /// The count too, and some files.
+    Files(Front),
+    /// Some frames, and the last one's marks so far.
+    Frames(Framed, FrameLine),
+    /// Some pages, of which the last one is in hand.
+    Pages(OpenPage),
+    /// In the last page's history a memory failure is in hand, and not all of its policies were read.
+    Seeing(OpenPage, OpenFailure),
+    /// All policies of the memory failure in hand were read, and not all of its signals.
+    Signalling(OpenPage, OpenFailure, List<Signal>),
+    /// Some processors, of which the last one is in hand.
+    Cpus(OpenCpu),
+    /// All.
+    Whole(Report),
+}
+
+impl Ran {
+    /// The report of these parts.
+    fn into_report(self) -> Report
+        ensures { result ≡ report_of self }
+    {
+        let Paged { framed, pages } = self.paged;
+        let Framed { front, frames } = framed;
+        Report {
+            stop: front.stop,
+            count: front.count,
+            files: front.files,
+            frames,
+            pages,
+            cpus: self.cpus,
+        }
+    }
+}
+
+impl OpenFailure {
+    /// The entry of this failure.
+    fn into_entry(self, signals: List<Signal>) -> Entry
+        ensures { result ≡ entry_of self signals }
+    {
+        let OpenFailure { line, seen } = self;
+        Entry {
+            who: line.who,
+            what: What::Fail {
+                situation: line.situation,
+                required: line.required,
+                seen,
+                signals,
+            },
+        }
+    }
+}
+
+impl Partial {
+    /// What was read with one line more, where the line may follow.
+    pub(crate) fn with(
+        self,
+        alloc: Global,
+        line: ReportLine,
+    ) -> Result<Option<Partial>, OutOfMemory>
+        ensures { IfOk result (λ next. next ≡ follow self line) }
+    {
+        match self {
+            Partial::Nothing => Ok(begun(line)),
+            Partial::Headed => Ok(stopped(line)),
+            Partial::Stopped(stop) => Ok(counted(alloc, stop, line)),
+            Partial::Files(front) => with_file(alloc, front, line),
+            Partial::Frames(framed, frame) => with_mark(alloc, framed, frame, line),
+            Partial::Pages(page) => with_entry(alloc, page, line),
+            Partial::Seeing(page, failure) => with_seen(alloc, page, failure, line),
+            Partial::Signalling(page, failure, signals) => {
+                with_signal(page, failure, signals, line)
+            }
+            Partial::Cpus(cpu) => with_cpu_line(alloc, cpu, line),
+            Partial::Whole(_) => Ok(None),
+        }
+    }
+}
+
+/// The empty list, with room for as many items as a heading says, up to a bound.
+fn with_room<T>(alloc: Global, count: u64) -> Result<List<T>, OutOfMemory>
+    ensures { IfOk result (λ list. list ≡ []) }
+{
+    let room = count.min(MOST_ROOM) as usize;
+    Ok(List::from_vec(Vec::with_capacity(alloc, room)?))
+}
+
+/// The head of a report.
+fn begun(line: ReportLine) -> Option<Partial>
+    ensures { result ≡ after_nothing line }
+{
+    match line {
+        ReportLine::Header => Some(Partial::Headed),
+        _ => None,
+    }
+}
+
+/// Behind the head stands what stopped the machine.
+fn stopped(line: ReportLine) -> Option<Partial>
+    ensures { result ≡ after_head line }
+{
+    match line {
+        ReportLine::Stop(stop) => Some(Partial::Stopped(stop)),
+        _ => None,
+    }
+}
+
+/// Behind the stop stands the count.
+fn counted(alloc: Global, stop: Option<Stop>, line: ReportLine) -> Option<Partial>
+    ensures { result ≡ after_stop stop line }
+{
+    match line {
+        ReportLine::Count(count) => Some(Partial::Files(Front {
+            stop,
+            count,
+            files: List::new(alloc),
+        })),
+        _ => None,
+    }
+}
+
+/// One file more, or what stands behind the files.
+fn with_file(alloc: Global, front: Front, line: ReportLine) -> Result<Option<Partial>, OutOfMemory>
+    ensures { IfOk result (λ next. next ≡ after_files front line) }
+{
+    match line {
+        ReportLine::File { number, lost } => {
+            if number != front.files.len() as u64 {
+                return Ok(None);
+            }
+            let mut front = front;
+            front.files.push(lost)?;
+            Ok(Some(Partial::Files(front)))
+        }
+        line => {
+            let frames = List::new(alloc);
+            frame_begun(alloc, Framed { front, frames }, line)
+        }
+    }
+}
+
+/// One mark more of the frame in hand, or what stands behind its marks.
+fn with_mark(
+    alloc: Global,
+    framed: Framed,
+    frame: FrameLine,
+    line: ReportLine,
+) -> Result<Option<Partial>, OutOfMemory>
+    ensures { IfOk result (λ next. next ≡ after_frame framed frame line) }
+{
+    match line {
+        ReportLine::Mark(mark) => {
+            let mut frame = frame;
+            frame.marks.push(mark)?;
+            Ok(Some(Partial::Frames(framed, frame)))
+        }
+        line => {
+            let mut framed = framed;
+            framed.frames.push(frame)?;
+            frame_begun(alloc, framed, line)
+        }
+    }
+}
+
+/// The next frame, or what stands behind the frames.
+fn frame_begun(
+    alloc: Global,
+    framed: Framed,
+    line: ReportLine,
+) -> Result<Option<Partial>, OutOfMemory>
+    ensures { IfOk result (λ next. next ≡ open_frame framed line) }
+{
+    match line {
+        ReportLine::Frame {
+            number,
+            place,
+            bad,
+            weak,
+        } => {
+            if number != framed.frames.len() as u64 {
+                return Ok(None);
+            }
+            let marks = List::new(alloc);
+            let frame = FrameLine {
+                place,
+                bad,
+                weak,
+                marks,
+            };
+            Ok(Some(Partial::Frames(framed, frame)))
+        }
+        line => {
+            let pages = List::new(alloc);
+            page_begun(alloc, Paged { framed, pages }, line)
+        }
+    }
+}
+
+/// The next page, or what stands behind the pages.
+fn page_begun(alloc: Global, paged: Paged, line: ReportLine) -> Result<Option<Partial>, OutOfMemory>
+    ensures { IfOk result (λ next. next ≡ open_page paged line) }
+{
+    match line {
+        ReportLine::Page {
+            number,
+            entries: count,
+        } => {
+            if number != paged.pages.len() as u64 {
+                return Ok(None);
+            }
+            match with_room(alloc, count) {
+                Ok(entries) => Ok(Some(Partial::Pages(OpenPage {
+                    paged,
+                    count,
+                    entries,
+                }))),
+                Err(refused) => {
+                    drop(paged);
+                    Err(refused)
+                }
+            }
+        }
+        line => {
+            let cpus = List::new(alloc);
+            cpu_begun(alloc, Ran { paged, cpus }, line)
+        }
+    }
+}
+
+/// The next processor, or the end.
+fn cpu_begun(alloc: Global, ran: Ran, line: ReportLine) -> Result<Option<Partial>, OutOfMemory>
+    ensures { IfOk result (λ next. next ≡ open_cpu ran line) }
+{
+    match line {
+        ReportLine::Cpu {
+            number,
+            lines: count,
+        } => {
+            if number != ran.cpus.len() as u64 {
+                return Ok(None);
+            }
+            match with_room(alloc, count) {
+                Ok(lines) => Ok(Some(Partial::Cpus(OpenCpu { ran, count, lines }))),
+                Err(refused) => {
+                    drop(ran);
+                    Err(refused)
+                }
+            }
+        }
+        ReportLine::End => Ok(Some(Partial::Whole(ran.into_report()))),
+        _ => Ok(None),
+    }
+}
+
+/// One entry more of the page in hand, or what stands behind the page.
+fn with_entry(
+    alloc: Global,
+    page: OpenPage,
+    line: ReportLine,
+) -> Result<Option<Partial>, OutOfMemory>
+    ensures { IfOk result (λ next. next ≡ after_entry page line) }
+{
+    if page.entries.len() as u64 == page.count {
+        let OpenPage { paged, entries, .. } = page;
+        let mut paged = paged;
+        paged.pages.push(entries)?;
+        page_begun(alloc, paged, line)
+    } else {
+        entry_added(alloc, page, line)
+    }
+}
+
+/// The page in hand with this entry, or with a memory failure in hand.
+fn entry_added(
+    alloc: Global,
+    page: OpenPage,
+    line: ReportLine,
+) -> Result<Option<Partial>, OutOfMemory>
+    ensures { IfOk result (λ next. next ≡ add_entry page line) }
+{
+    match line {
+        ReportLine::Entry(entry) => {
+            let mut page = page;
+            page.entries.push(entry)?;
+            Ok(Some(Partial::Pages(page)))
+        }
+        ReportLine::Fail(line) => {
+            let seen = List::new(alloc);
+            Ok(Some(failed(alloc, page, OpenFailure { line, seen })?))
+        }
+        _ => Ok(None),
+    }
+}
+
+/// One policy more of the memory failure in hand.
+fn with_seen(
+    alloc: Global,
+    page: OpenPage,
+    failure: OpenFailure,
+    line: ReportLine,
+) -> Result<Option<Partial>, OutOfMemory>
+    ensures { IfOk result (λ next. next ≡ after_seen page failure line) }
+{
+    match line {
+        ReportLine::Seen(seen) => {
+            let mut failure = failure;
+            failure.seen.push(seen)?;
+            Ok(Some(failed(alloc, page, failure)?))
+        }
+        _ => Ok(None),
+    }
+}
+
+/// One signal more of the memory failure in hand.
+fn with_signal(
+    page: OpenPage,
+    failure: OpenFailure,
+    signals: List<Signal>,
+    line: ReportLine,
+) -> Result<Option<Partial>, OutOfMemory>
+    ensures { IfOk result (λ next. next ≡ after_signal page failure signals line) }
+{
+    match line {
+        ReportLine::Signal(signal) => {
+            if signals.as_slice().len() == MAX_SIGNALS {
+                return Ok(None);
+            }
+            let mut signals = signals;
+            signals.push(signal)?;
+            Ok(Some(signalled(page, failure, signals)?))
+        }
+        _ => Ok(None),
+    }
+}
+
+/// With the last of its policies, a memory failure in hand comes to its signals.
+fn failed(alloc: Global, page: OpenPage, failure: OpenFailure) -> Result<Partial, OutOfMemory>
+    ensures { IfOk result (λ next. next ≡ seen_so_far page failure) }
+{
+    if failure.seen.len() as u64 == failure.line.seen {
+        signalled(page, failure, List::new(alloc))
+    } else {
+        Ok(Partial::Seeing(page, failure))
+    }
+}
+
+/// With the last of its signals, a memory failure in hand is an entry of the page.
+fn signalled(
+    page: OpenPage,
+    failure: OpenFailure,
+    signals: List<Signal>,
+) -> Result<Partial, OutOfMemory>
+    ensures { IfOk result (λ next. next ≡ signals_so_far page failure signals) }
+{
+    if signals.as_slice().len() as u64 == failure.line.signals {
+        let mut page = page;
+        page.entries.push(failure.into_entry(signals))?;
+        Ok(Partial::Pages(page))
+    } else {
+        Ok(Partial::Signalling(page, failure, signals))
+    }
+}
+
+/// One line more of the processor in hand, or what stands behind the processor.
+fn with_cpu_line(
+    alloc: Global,
+    cpu: OpenCpu,
+    line: ReportLine,
+) -> Result<Option<Partial>, OutOfMemory>
+    ensures { IfOk result (λ next. next ≡ after_line cpu line) }
+{
+    if cpu.lines.len() as u64 == cpu.count {
+        let OpenCpu { ran, lines, .. } = cpu;
+        let mut ran = ran;
+        ran.cpus.push(lines)?;
+        cpu_begun(alloc, ran, line)
+    } else {
+        line_added(cpu, line)
+    }
+}
+
+/// The processor in hand with this line.
+fn line_added(cpu: OpenCpu, line: ReportLine) -> Result<Option<Partial>, OutOfMemory>
+    ensures { IfOk result (λ next. next ≡ add_line cpu line) }
+{
+    match line {
+        ReportLine::CpuLine(item) => {
+            let mut cpu = cpu;
+            cpu.lines.push(item)?;
+            Ok(Some(Partial::Cpus(cpu)))
+        }
+        _ => Ok(None),
+    }
+}

@@ -1,0 +1,4 @@
+pub mod WordsPut
+pub mod SameWords
+mod NoLines
+mod AnswerWords

@@ -1,0 +1,113 @@
+-- Words that are no line of a processor, by what is missing.
+use Rattle.std.proofs.Common.{◌≡◌, ℕ, List, [], ◌∷◌, length, get_or, drop, codes, decimal, ap, arith}
+use Rattle.hwp_geom.specs.declared.Mode.{Mode}
+use Rattle.hwp_page.specs.declared.At.{At}
+use Rattle.hwp_report_text.specs.declared.Acted.{Acted}
+use Rattle.hwp_report_text.specs.declared.Answer.{Answer}
+use Rattle.hwp_report_text.specs.declared.Answer.TheVariants as answers
+use Rattle.hwp_report_text.specs.declared.CpuLine.{CpuLine}
+use Rattle.hwp_report_text.specs.declared.CpuLine.TheVariants as lines
+use Rattle.hwp_report_text.specs.declared.StopCause.{StopCause}
+use Rattle.hwp_report_text.specs.declared.StopCause.TheVariants as causes
+use Rattle.hwp_report_text.specs.Text.{answer_words, cause_words, cpu_line_words}
+use Rattle.hwp_severity.specs.declared.McgBits.{McgBits}
+use Rattle.hwp_report_words.specs.Words.{AtFits, at_words}
+use Rattle.hwp_report_words.proofs.SameWords.{tag, tag_at, word_at}
+use Rattle.hwp_report_cpu_lines.specs.declared.replies.Counted.{Counted}
+use Rattle.hwp_report_cpu_lines.specs.declared.replies.Counted.TheVariants as counted
+use Rattle.hwp_report_cpu_lines.specs.declared.replies.Placed.{Placed}
+use Rattle.hwp_report_cpu_lines.specs.declared.replies.Placed.TheVariants as placed
+use Rattle.hwp_report_cpu_lines.specs.declared.replies.Short.{Short}
+use Rattle.hwp_report_cpu_lines.specs.declared.replies.Short.TheVariants as short
+use Rattle.hwp_report_cpu_lines.specs.declared.replies.Valued.{Valued}
+use Rattle.hwp_report_cpu_lines.specs.declared.replies.Valued.TheVariants as valued
+use Rattle.hwp_report_cpu_lines.specs.Answers.{counted_text, placed_text, short_text, valued_text}
+use Rattle.hwp_report_cpu_lines.specs.Fits.{AnswerFits, CauseFits, CpuLineFits}
+use Rattle.hwp_report_cpu_lines.specs.Words.{EndFits, bits_words, end_words}
+
+-- the line of an event
+no_event_answer : (answer : Answer) → codes "event" ≡ get_or (answer_words answer) 0 [] → ⊥
+no_event_answer answers.NoFrame e = omega (arith, ap tag e)
+no_event_answer answer e = omega (arith, ap tag e)
+
+pub no_event : (seq : ℕ) (ws : List (List ℕ)) → ((end : ℕ × ℕ × Acted) → EndFits end → drop 3 ws ≡ end_words end → ⊥)
+    → (line : CpuLine) → CpuLineFits line → decimal seq ∷ codes "event" ∷ ws ≡ cpu_line_words line → ⊥
+no_event seq ws none (lines.Event seq2 bank status addr misc row acted) fits e = none (misc, row, acted) (fits.1.3, fits.1.4) (ap (drop 5) e)
+no_event seq ws none (lines.Answer seq2 answer) fits e = no_event_answer answer (word_at 1 e)
+
+-- an answer
+pub no_answer : (seq : ℕ) (ws : List (List ℕ)) → (get_or ws 0 [] ≡ codes "event" → ⊥)
+    → ((answer : Answer) → AnswerFits answer → ws ≡ answer_words answer → ⊥) → (line : CpuLine) → CpuLineFits line → decimal seq ∷ ws ≡ cpu_line_words line → ⊥
+no_answer seq ws other none (lines.Event seq2 bank status addr misc row acted) fits e = other (word_at 1 e)
+no_answer seq ws other none (lines.Answer seq2 answer) fits e = none answer fits.1 (ap (drop 1) e)
+
+-- what the severity table graded
+pub no_graded : (ws : List (List ℕ)) → ((bits : McgBits × Mode) → drop 3 ws ≡ bits_words bits → ⊥)
+    → (cause : StopCause) → CauseFits cause → codes "severity" ∷ ws ≡ cause_words cause → ⊥
+no_graded ws none (causes.Severity row bank status mcg mode) fits e = none (mcg, mode) (ap (drop 4) e)
+no_graded ws none causes.Shutdown fits e = absurd (omega (arith, ap (tag_at 0) e))
+no_graded ws none (causes.Panic frame) fits e = absurd (omega (arith, ap (tag_at 0) e))
+
+-- an answer of one word
+pub no_short : (word : List ℕ) → ((kind : Short) → word ≡ short_text kind → ⊥) → (answer : Answer) → word ∷ [] ≡ answer_words answer → ⊥
+no_short word none answers.NoFrame e = none short.NoFrame (word_at 0 e)
+no_short word none answers.Stopped e = none short.Stopped (word_at 0 e)
+no_short word none answers.Done e = none short.Done (word_at 0 e)
+no_short word none answers.Einval e = none short.Einval (word_at 0 e)
+no_short word none answers.Recovered e = none short.Recovered (word_at 0 e)
+no_short word none answers.Delayed e = none short.Delayed (word_at 0 e)
+no_short word none answers.Ignored e = none short.Ignored (word_at 0 e)
+no_short word none answers.Already e = none short.Already (word_at 0 e)
+no_short word none answers.TakenFree e = none short.TakenFree (word_at 0 e)
+no_short word none answers.Kernel e = none short.Kernel (word_at 0 e)
+no_short word none answers.NotPoisoned e = none short.NotPoisoned (word_at 0 e)
+no_short word none answers.HardwareSeen e = none short.HardwareSeen (word_at 0 e)
+no_short word none answer e = absurd (omega (arith, ap length e))
+
+-- an answer with a place
+pub no_placed : (word page entry : List ℕ) → ((kind : Placed) → word ≡ placed_text kind → ⊥) → (answer : Answer) → word ∷ page ∷ entry ∷ [] ≡ answer_words answer → ⊥
+no_placed word page entry none (answers.Stored at) e = none placed.Stored (word_at 0 e)
+no_placed word page entry none (answers.Sigbus at) e = none placed.Sigbus (word_at 0 e)
+no_placed word page entry none (answers.DoneAt at) e = none placed.Done (word_at 0 e)
+no_placed word page entry none (answers.NotResident at) e = none placed.NotResident (word_at 0 e)
+no_placed word page entry none (answers.NotMapped at) e = none placed.NotMapped (word_at 0 e)
+no_placed word page entry none (answers.Dirty at) e = none placed.Dirty (word_at 0 e)
+no_placed word page entry none (answers.Mapped at) e = none placed.Mapped (word_at 0 e)
+no_placed word page entry none answer e = absurd (omega (arith, ap length e))
+
+pub no_place : (word page entry : List ℕ) → ((at : At) → AtFits at → page ∷ entry ∷ [] ≡ at_words at → ⊥) → (answer : Answer) → AnswerFits answer
+    → word ∷ page ∷ entry ∷ [] ≡ answer_words answer → ⊥
+no_place word page entry none (answers.Stored at) fits e = none at fits (ap (drop 1) e)
+no_place word page entry none (answers.Sigbus at) fits e = none at fits (ap (drop 1) e)
+no_place word page entry none (answers.DoneAt at) fits e = none at fits (ap (drop 1) e)
+no_place word page entry none (answers.NotResident at) fits e = none at fits (ap (drop 1) e)
+no_place word page entry none (answers.NotMapped at) fits e = none at fits (ap (drop 1) e)
+no_place word page entry none (answers.Dirty at) fits e = none at fits (ap (drop 1) e)
+no_place word page entry none (answers.Mapped at) fits e = none at fits (ap (drop 1) e)
+no_place word page entry none answer fits e = absurd (omega (arith, ap length e))
+
+-- an answer with a number
+pub no_counted : (word value : List ℕ) → ((kind : Counted) → word ≡ counted_text kind → ⊥) → (answer : Answer) → word ∷ value ∷ [] ≡ answer_words answer → ⊥
+no_counted word value none (answers.Gone page) e = none counted.Gone (word_at 0 e)
+no_counted word value none (answers.Eio n) e = none counted.Eio (word_at 0 e)
+no_counted word value none (answers.Is n) e = none counted.Is (word_at 0 e)
+no_counted word value none (answers.HasBad mask) e = none counted.HasBad (word_at 0 e)
+no_counted word value none (answers.InUse n) e = none counted.InUse (word_at 0 e)
+no_counted word value none (answers.Scrubbed n) e = none counted.Scrubbed (word_at 0 e)
+no_counted word value none (answers.Raised n) e = none counted.Raised (word_at 0 e)
+no_counted word value none answer e = absurd (omega (arith, ap length e))
+
+-- an answer with a value and a place
+pub no_valued : (word value page entry : List ℕ) → ((kind : Valued) → word ≡ valued_text kind → ⊥) → (answer : Answer)
+    → word ∷ value ∷ page ∷ entry ∷ [] ≡ answer_words answer → ⊥
+no_valued word value page entry none (answers.Value n at) e = none valued.Value (word_at 0 e)
+no_valued word value page entry none (answers.BadLines mask at) e = none valued.BadLines (word_at 0 e)
+no_valued word value page entry none (answers.Moved frame at) e = none valued.Moved (word_at 0 e)
+no_valued word value page entry none answer e = absurd (omega (arith, ap length e))
+
+pub no_value_place : (word value page entry : List ℕ) → ((at : At) → AtFits at → page ∷ entry ∷ [] ≡ at_words at → ⊥) → (answer : Answer) → AnswerFits answer
+    → word ∷ value ∷ page ∷ entry ∷ [] ≡ answer_words answer → ⊥
+no_value_place word value page entry none (answers.Value n at) fits e = none at fits.1 (ap (drop 2) e)
+no_value_place word value page entry none (answers.BadLines mask at) fits e = none at fits.1 (ap (drop 2) e)
+no_value_place word value page entry none (answers.Moved frame at) fits e = none at fits.1 (ap (drop 2) e)
+no_value_place word value page entry none answer fits e = absurd (omega (arith, ap length e))

@@ -1,0 +1,84 @@
+-- Words that are no line of a kind below frames and pages, by what is missing.
+use Rattle.std.proofs.Common.{◌≡◌, ℕ, ◌<◌, ◌^◌, List, [], ◌∷◌, ◌++◌, get_or, drop, Option, Some, None, codes, decimal, ap, arith}
+use Rattle.hwp_geom.specs.declared.Mask.{Mask}
+use Rattle.hwp_geom.specs.declared.Thread.{Thread}
+use Rattle.hwp_geom.specs.declared.VSlot.{VSlot}
+use Rattle.hwp_geom.specs.declared.Who.{Who}
+use Rattle.hwp_page.specs.declared.Met.{Met}
+use Rattle.hwp_page.specs.declared.Met.TheVariants as mets
+use Rattle.hwp_page.specs.declared.What.{What}
+use Rattle.hwp_page.specs.declared.What.TheVariants as whats
+use Rattle.hwp_report_text.specs.declared.Whereabouts.{Whereabouts}
+use Rattle.hwp_report_text.specs.declared.Whereabouts.TheVariants as places
+use Rattle.hwp_report_text.specs.Text.{entry_words, met_words, place_words, required_words, verb_words}
+use Rattle.hwp_report_words.proofs.SameWords.{tag_at, word_at}
+use Rattle.hwp_report_page_lines.specs.declared.verbs.Verb.TheVariants as verbs
+use Rattle.hwp_report_page_lines.specs.Fits.{AccessFits, MetFits, PlainFits}
+use Rattle.hwp_report_page_lines.specs.Verbs.{verb_of}
+use Rattle.hwp_report_page_lines.specs.Words.{IsPageless, MasksFit, MceFits, StandingFits, access_words, masks_words, mce_words, standing_words}
+use Rattle.hwp_report_page_lines.proofs.SameWords.{hex_low}
+
+pub no_load : (ws : List (List ℕ)) → ((x : VSlot × ℕ × Met) → AccessFits x.0.0 x.1 x.2 → ws ≡ access_words x → ⊥)
+    → (what : What) → verb_of what ≡ verbs.Load → PlainFits what → (who : Who) → verb_words (codes "load") who ws ≡ entry_words who what → ⊥
+no_load ws none (whats.Load slot line met) h fits who e = none (slot, line, met) fits (ap (drop 3) e)
+no_load ws none what h fits who e = absurd (cc)
+
+pub no_store : (ws : List (List ℕ)) → ((x : VSlot × ℕ × Met) → AccessFits x.0.0 x.1 x.2 → ws ≡ access_words x → ⊥)
+    → (what : What) → verb_of what ≡ verbs.Store → PlainFits what → (who : Who) → verb_words (codes "store") who ws ≡ entry_words who what → ⊥
+no_store ws none (whats.Store slot line met) h fits who e = none (slot, line, met) fits (ap (drop 3) e)
+no_store ws none what h fits who e = absurd (cc)
+
+pub no_mce : (ws : List (List ℕ)) → ((x : VSlot × ℕ × Mask) → MceFits x → ws ≡ mce_words x → ⊥)
+    → (what : What) → verb_of what ≡ verbs.Mce → PlainFits what → (who : Who) → verb_words (codes "mce") who ws ≡ entry_words who what → ⊥
+no_mce ws none (whats.Mce slot line mask) h fits who e = none (slot, line, mask) fits (ap (drop 3) e)
+no_mce ws none what h fits who e = absurd (cc)
+
+pub no_sigbus : (first second : List ℕ) → first ≡ codes "sigbus" → ((x : ℕ) → x < 2 ^ 8 → second ≡ decimal x → ⊥)
+    → (m : Met) → MetFits m → first ∷ second ∷ [] ≡ met_words m → ⊥
+no_sigbus first second word none (mets.Sigbus thread) fits e = none thread.0 fits (word_at 1 e)
+no_sigbus first second word none (mets.Word mask value) fits e =
+    omega (arith, hex_low mask.0 fits.0, ap (λ w. get_or w 0 0) word, ap (λ w. get_or w 0 0) (word_at 0 e))
+
+-- a frame that holds a page
+pub no_holding : (ws : List (List ℕ)) → ((masks : Mask × Mask) → MasksFit masks → drop 1 ws ≡ masks_words masks → ⊥)
+    → (s : Whereabouts × Mask × Mask) → StandingFits s → codes "page" ∷ ws ≡ standing_words s → ⊥
+no_holding ws none s fits e = by s.0 (s.1, s.2) (fits.1, fits.2) e
+  where
+    by : (place : Whereabouts) (masks : Mask × Mask) → MasksFit masks → codes "page" ∷ ws ≡ place_words place ++ masks_words masks → ⊥
+    by (places.Of page) masks b e = none masks b (ap (drop 2) e)
+    by places.Free masks b e = absurd (omega (arith, ap (tag_at 0) e))
+    by places.Kernel masks b e = absurd (omega (arith, ap (tag_at 0) e))
+    by places.Handled masks b e = absurd (omega (arith, ap (tag_at 0) e))
+
+-- a frame that holds none
+pub no_state : (first : List ℕ) (ws : List (List ℕ)) → (first ≡ codes "page" → ⊥) → ((place : Whereabouts) → IsPageless place → first ≡ get_or (place_words place) 0 [] → ⊥)
+    → (s : Whereabouts × Mask × Mask) → StandingFits s → first ∷ ws ≡ standing_words s → ⊥
+no_state first ws other none s fits e = by s.0 (s.1, s.2) e
+  where
+    by : (place : Whereabouts) (masks : Mask × Mask) → first ∷ ws ≡ place_words place ++ masks_words masks → ⊥
+    by (places.Of page) masks e = other (word_at 0 e)
+    by places.Free masks e = none places.Free tt (word_at 0 e)
+    by places.Kernel masks e = none places.Kernel tt (word_at 0 e)
+    by places.Handled masks e = none places.Handled tt (word_at 0 e)
+
+pub no_masks : (first : List ℕ) (ws : List (List ℕ)) → (first ≡ codes "page" → ⊥) → ((masks : Mask × Mask) → MasksFit masks → ws ≡ masks_words masks → ⊥)
+    → (s : Whereabouts × Mask × Mask) → StandingFits s → first ∷ ws ≡ standing_words s → ⊥
+no_masks first ws other none s fits e = by s.0 (s.1, s.2) (fits.1, fits.2) e
+  where
+    by : (place : Whereabouts) (masks : Mask × Mask) → MasksFit masks → first ∷ ws ≡ place_words place ++ masks_words masks → ⊥
+    by (places.Of page) masks b e = other (word_at 0 e)
+    by places.Free masks b e = none masks b (ap (drop 1) e)
+    by places.Kernel masks b e = none masks b (ap (drop 1) e)
+    by places.Handled masks b e = none masks b (ap (drop 1) e)
+
+pub stands : (first : List ℕ) (ws : List (List ℕ)) (place : Whereabouts) (masks : Mask × Mask) → IsPageless place → first ≡ get_or (place_words place) 0 []
+    → MasksFit masks → ws ≡ masks_words masks → StandingFits (place, masks.0, masks.1) × (first ∷ ws ≡ standing_words (place, masks.0, masks.1))
+stands first ws (places.Of page) masks p e m f = absurd p
+stands first ws places.Free masks p e m f = ((tt, m.0, m.1), λ i. e i ∷ f i)
+stands first ws places.Kernel masks p e m f = ((tt, m.0, m.1), λ i. e i ∷ f i)
+stands first ws places.Handled masks p e m f = ((tt, m.0, m.1), λ i. e i ∷ f i)
+
+-- what follows the words of a requirement
+pub need_rest : (ws : List (List ℕ)) (thread : Option Thread) (vs : List (List ℕ)) → ws ≡ required_words thread ++ vs → drop 2 ws ≡ vs
+need_rest ws None vs e = ap (drop 2) e
+need_rest ws (Some thread) vs e = ap (drop 2) e

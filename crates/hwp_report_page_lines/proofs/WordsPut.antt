@@ -1,0 +1,61 @@
+-- The words of the lines below frames and pages are words: none is empty, and none has a space or a line feed in it.
+use Rattle.std.proofs.Common.{ℕ, ◌<◌, ◌^◌, ◌++◌, List, Option, Some, None, decimal, refl, arith}
+use Rattle.std.specs.Prelude.{IfSome}
+use Rattle.hwp_geom.specs.declared.Thread.{Thread}
+use Rattle.hwp_geom.specs.declared.Who.{Who}
+use Rattle.hwp_geom.proofs.WordsPut.{IsPut, ArePut, fixed, then, nothing}
+use Rattle.hwp_page.specs.declared.Met.{Met}
+use Rattle.hwp_page.specs.declared.Met.TheVariants as mets
+use Rattle.hwp_page.specs.declared.What.{What}
+use Rattle.hwp_page.specs.declared.What.TheVariants as whats
+use Rattle.hwp_report_text.specs.declared.How.{How}
+use Rattle.hwp_report_text.specs.declared.How.TheVariants as hows
+use Rattle.hwp_report_text.specs.declared.MarkLine.{MarkLine}
+use Rattle.hwp_report_text.specs.declared.MarkLine.TheVariants as marks
+use Rattle.hwp_report_text.specs.declared.Whereabouts.{Whereabouts}
+use Rattle.hwp_report_text.specs.declared.Whereabouts.TheVariants as places
+use Rattle.hwp_report_text.specs.Text.{place_words, how_words, mark_words, met_words, required_words, entry_words}
+use Rattle.hwp_report_words.proofs.WordsPut.{put_small, put_situation, put_outcome, put_origin, put_u8, put_u16, put_u32, put_u64, put_mask}
+use Rattle.hwp_report_page_lines.specs.Fits.{PlaceFits, MarkFits, MetFits, ThreadFits, PlainFits}
+
+pub put_state : (place : Whereabouts) → PlaceFits place → {ws : List (List ℕ)} → ArePut ws → ArePut (place_words place ++ ws)
+put_state places.Free h k = then (fixed _ _ refl) k
+put_state places.Kernel h k = then (fixed _ _ refl) k
+put_state places.Handled h k = then (fixed _ _ refl) k
+put_state (places.Of page) h k = then (fixed _ _ refl) (then (put_u16 h) k)
+
+put_how : (how : How) → ArePut (how_words how)
+put_how (hows.Failure hardware situation outcome) = then (put_origin hardware) (then (put_situation situation) (then (put_outcome outcome) nothing))
+put_how hows.Moved = then (fixed _ _ refl) (then (fixed _ _ refl) (then (fixed _ _ refl) nothing))
+put_how hows.TakenFree = then (fixed _ _ refl) (then (fixed _ _ refl) (then (fixed _ _ refl) nothing))
+
+pub put_mark : (mark : MarkLine) → MarkFits mark → ArePut (mark_words mark)
+put_mark (marks.Poisoned cycle who how) h = then (fixed _ _ refl) (then (put_u32 h.0) (then (put_u8 h.1.0) (then (put_u32 h.1.1) (put_how how))))
+put_mark (marks.Unpoisoned cycle who) h = then (fixed _ _ refl) (then (put_u32 h.0) (then (put_u8 h.1.0) (then (put_u32 h.1.1) nothing)))
+
+put_met : (met : Met) → MetFits met → ArePut (met_words met)
+put_met (mets.Word mask word) h = then (put_mask h.0) (then (put_u64 h.1) nothing)
+put_met (mets.Sigbus thread) h = then (fixed _ _ refl) (then (put_u8 h) nothing)
+
+pub put_required : (required : Option Thread) → IfSome required ThreadFits → {ws : List (List ℕ)} → ArePut ws → ArePut (required_words required ++ ws)
+put_required None h k = then (fixed _ _ refl) (then (fixed _ _ refl) k)
+put_required (Some thread) h k = then (fixed _ _ refl) (then (put_u8 h) k)
+
+put_line_number : {n : ℕ} → n < 64 → IsPut (decimal n)
+put_line_number {n} h = put_small n 64 (omega arith) h
+
+pub put_entry : (who : Who) (what : What) → (who.cpu.0 < 2 ^ 8) × (who.seq < 2 ^ 32) → PlainFits what → ArePut (entry_words who what)
+put_entry who (whats.Load slot at met) w h =
+    then (fixed _ _ refl) (then (put_u8 w.0) (then (put_u32 w.1) (then (put_u16 h.0) (then (put_line_number h.1) (put_met met h.2)))))
+put_entry who (whats.Store slot at met) w h =
+    then (fixed _ _ refl) (then (put_u8 w.0) (then (put_u32 w.1) (then (put_u16 h.0) (then (put_line_number h.1) (put_met met h.2)))))
+put_entry who whats.FaultIn w h = then (fixed _ _ refl) (then (put_u8 w.0) (then (put_u32 w.1) nothing))
+put_entry who (whats.Map slot) w h = then (fixed _ _ refl) (then (put_u8 w.0) (then (put_u32 w.1) (then (put_u16 h) nothing)))
+put_entry who (whats.Free slot) w h = then (fixed _ _ refl) (then (put_u8 w.0) (then (put_u32 w.1) (then (put_u16 h) nothing)))
+put_entry who whats.Drop w h = then (fixed _ _ refl) (then (put_u8 w.0) (then (put_u32 w.1) nothing))
+put_entry who whats.Sync w h = then (fixed _ _ refl) (then (put_u8 w.0) (then (put_u32 w.1) nothing))
+put_entry who whats.Out w h = then (fixed _ _ refl) (then (put_u8 w.0) (then (put_u32 w.1) nothing))
+put_entry who (whats.Mce slot at mask) w h =
+    then (fixed _ _ refl) (then (put_u8 w.0) (then (put_u32 w.1) (then (put_u16 h.0) (then (put_line_number h.1) (then (put_mask h.2) nothing)))))
+put_entry who (whats.Fail situation required seen signals) w h = absurd h
+put_entry who whats.Soft w h = then (fixed _ _ refl) (then (put_u8 w.0) (then (put_u32 w.1) nothing))

@@ -1,4 +1,0 @@
-pub mod Cutting
-pub mod Fits
-pub mod Texts
-pub mod Follows

@@ -1,0 +1,247 @@
+ghost use Rattle.std.specs.Prelude.{◌≡◌, [], ◌∷◌, ◌++◌, OnOk, IfOk, string_bytes, codes, decimal, map};
+ghost use Rattle.std.specs.List.{flat_map};
+ghost use Rattle.hwp_geom.specs.Words.{hex, line};
+ghost use Rattle.hwp_report_text.specs.Text.{cause_words, cpu_lines, file_lines, frame_lines, frame_words, graded_words, head_lines, how_words, mark_words, numbered, page_lines, report_text, stop_words};
+
+use crate::frames::{FrameLine, How, MarkLine, Whereabouts};
+use crate::lines::CpuLine;
+use crate::report::{Report, Stop, StopCause};
+use crate::terms::{flag_number, mode_word, origin_word, outcome_word, situation_word};
+use answers::put_cpu_lines;
+use entries::put_entries;
+use hwp_geom::{List, Mask, Mode, OutOfMemory, Page, Text, Who};
+use hwp_page::Entry;
+use hwp_severity::McgBits;
+use std::alloc::Global;
+
+mod answers;
+mod entries;
+
+/// The one text of a report.
+pub fn print(alloc: Global, report: &Report) -> Result<Text, OutOfMemory>
+    ensures { IfOk result (λ text. text ≡ report_text report.now) }
+{
+    let mut out = String::new(alloc);
+    put_front(&mut out, report)?;
+    put_frames(&mut out, report.frames.as_slice())?;
+    put_pages(&mut out, report.pages.as_slice())?;
+    put_cpus(&mut out, report.cpus.as_slice())?;
+    writeln!(out, "end")?;
+    Ok(Text::from_string(out))
+}
+
+fn put_front(out: &mut String, report: &Report) -> Result<(), OutOfMemory>
+    ensures { OnOk result (string_bytes out.new ≡ string_bytes out.old
+        ++ flat_map line (head_lines report.now.stop report.now.count ++ numbered file_lines 0 report.now.files)) }
+{
+    put_head(out, report.stop, report.count)?;
+    put_files(out, report.files.as_slice())
+}
+
+fn put_head(out: &mut String, stop: Option<Stop>, count: u64) -> Result<(), OutOfMemory>
+    ensures { OnOk result (string_bytes out.new ≡ string_bytes out.old ++ flat_map line (head_lines stop count)) }
+{
+    writeln!(out, "hwp-report 1")?;
+    put_stop(out, stop)?;
+    writeln!(out, "count {count}")
+}
+
+fn put_stop(out: &mut String, stop: Option<Stop>) -> Result<(), OutOfMemory>
+    ensures { OnOk result (string_bytes out.new ≡ string_bytes out.old ++ line (stop_words stop)) }
+{
+    match stop {
+        None => writeln!(out, "stop none"),
+        Some(stop) => put_cause(out, stop.who, stop.cause),
+    }
+}
+
+fn put_cause(out: &mut String, who: Who, cause: StopCause) -> Result<(), OutOfMemory>
+    ensures { OnOk result (string_bytes out.new ≡ string_bytes out.old
+        ++ line (codes "stop" ∷ decimal who.cpu.0 ∷ decimal who.seq ∷ cause_words cause)) }
+{
+    match cause {
+        StopCause::Severity {
+            row,
+            bank,
+            status,
+            mcg,
+            mode,
+        } => {
+            write!(out, "stop {} {} severity S{row} ", who.cpu.0, who.seq)?;
+            put_graded(out, bank, status, mcg, mode)
+        }
+        StopCause::Shutdown => writeln!(out, "stop {} {} shutdown", who.cpu.0, who.seq),
+        StopCause::Panic(frame) => {
+            writeln!(out, "stop {} {} panic {}", who.cpu.0, who.seq, frame.0)
+        }
+    }
+}
+
+fn put_graded(
+    out: &mut String,
+    bank: u8,
+    status: u64,
+    mcg: McgBits,
+    mode: Mode,
+) -> Result<(), OutOfMemory>
+    ensures { OnOk result (string_bytes out.new ≡ string_bytes out.old ++ line (graded_words bank status mcg mode)) }
+{
+    let ripv = flag_number(mcg.ripv);
+    let eipv = flag_number(mcg.eipv);
+    let mode = mode_word(mode);
+    writeln!(out, "{bank} {status:x} {ripv} {eipv} {mode}")
+}
+
+fn put_files(out: &mut String, files: &[u64]) -> Result<(), OutOfMemory>
+    ensures { OnOk result (string_bytes out.new ≡ string_bytes out.old ++ flat_map line (numbered file_lines 0 files.now)) }
+{
+    for (number, lost) in files.iter().enumerate() {
+        put_file(out, number, *lost)?;
+    }
+    Ok(())
+}
+
+fn put_file(out: &mut String, number: usize, lost: u64) -> Result<(), OutOfMemory>
+    ensures { OnOk result (string_bytes out.new ≡ string_bytes out.old ++ flat_map line (file_lines number lost)) }
+{
+    writeln!(out, "file {number} lost {lost}")
+}
+
+fn put_frames(out: &mut String, frames: &[FrameLine]) -> Result<(), OutOfMemory>
+    ensures { OnOk result (string_bytes out.new ≡ string_bytes out.old ++ flat_map line (numbered frame_lines 0 frames.now)) }
+{
+    for (number, frame) in frames.iter().enumerate() {
+        put_frame(out, number, frame)?;
+    }
+    Ok(())
+}
+
+fn put_frame(out: &mut String, number: usize, frame: &FrameLine) -> Result<(), OutOfMemory>
+    ensures { OnOk result (string_bytes out.new ≡ string_bytes out.old ++ flat_map line (frame_lines number frame.now)) }
+{
+    put_frame_head(out, number, frame)?;
+    put_marks(out, frame.marks.as_slice())
+}
+
+fn put_frame_head(out: &mut String, number: usize, frame: &FrameLine) -> Result<(), OutOfMemory>
+    ensures { OnOk result (string_bytes out.new ≡ string_bytes out.old ++ line (frame_words number frame.now)) }
+{
+    let bad = frame.bad;
+    let weak = frame.weak;
+    match frame.place {
+        Whereabouts::Free => put_pageless(out, number, "free", bad, weak),
+        Whereabouts::Kernel => put_pageless(out, number, "kernel", bad, weak),
+        Whereabouts::Handled => put_pageless(out, number, "handled", bad, weak),
+        Whereabouts::Of(page) => put_holding(out, number, page, bad, weak),
+    }
+}
+
+fn put_pageless(
+    out: &mut String,
+    number: usize,
+    state: &str,
+    bad: Mask,
+    weak: Mask,
+) -> Result<(), OutOfMemory>
+    ensures { OnOk result (string_bytes out.new ≡ string_bytes out.old
+        ++ line (codes "frame" ∷ decimal number ∷ state.now ∷ codes "bad" ∷ hex bad.0 ∷ codes "weak" ∷ hex weak.0 ∷ [])) }
+{
+    writeln!(
+        out,
+        "frame {number} {state} bad {:x} weak {:x}",
+        bad.0, weak.0
+    )
+}
+
+fn put_holding(
+    out: &mut String,
+    number: usize,
+    page: Page,
+    bad: Mask,
+    weak: Mask,
+) -> Result<(), OutOfMemory>
+    ensures { OnOk result (string_bytes out.new ≡ string_bytes out.old
+        ++ line (codes "frame" ∷ decimal number ∷ codes "page" ∷ decimal page.0 ∷ codes "bad" ∷ hex bad.0 ∷ codes "weak" ∷ hex weak.0 ∷ [])) }
+{
+    writeln!(
+        out,
+        "frame {number} page {} bad {:x} weak {:x}",
+        page.0, bad.0, weak.0
+    )
+}
+
+fn put_marks(out: &mut String, marks: &[MarkLine]) -> Result<(), OutOfMemory>
+    ensures { OnOk result (string_bytes out.new ≡ string_bytes out.old ++ flat_map line (map mark_words marks.now)) }
+{
+    for mark in marks {
+        put_mark(out, *mark)?;
+    }
+    Ok(())
+}
+
+fn put_mark(out: &mut String, mark: MarkLine) -> Result<(), OutOfMemory>
+    ensures { OnOk result (string_bytes out.new ≡ string_bytes out.old ++ line (mark_words mark)) }
+{
+    match mark {
+        MarkLine::Poisoned { cycle, who, how } => put_poisoned(out, cycle, who, how),
+        MarkLine::Unpoisoned { cycle, who } => {
+            writeln!(out, "unpoisoned {cycle} {} {}", who.cpu.0, who.seq)
+        }
+    }
+}
+
+fn put_poisoned(out: &mut String, cycle: u32, who: Who, how: How) -> Result<(), OutOfMemory>
+    ensures { OnOk result (string_bytes out.new ≡ string_bytes out.old
+        ++ line (codes "poisoned" ∷ decimal cycle ∷ decimal who.cpu.0 ∷ decimal who.seq ∷ how_words how)) }
+{
+    let (origin, situation, outcome) = match how {
+        How::Failure {
+            hardware,
+            situation,
+            outcome,
+        } => (
+            origin_word(hardware),
+            situation_word(situation),
+            outcome_word(outcome),
+        ),
+        How::Moved => ("soft", "moved", "recovered"),
+        How::TakenFree => ("soft", "free", "recovered"),
+    };
+    writeln!(
+        out,
+        "poisoned {cycle} {} {} {origin} {situation} {outcome}",
+        who.cpu.0, who.seq
+    )
+}
+
+fn put_pages(out: &mut String, pages: &[List<Entry>]) -> Result<(), OutOfMemory>
+    ensures { OnOk result (string_bytes out.new ≡ string_bytes out.old ++ flat_map line (numbered page_lines 0 pages.now)) }
+{
+    for (number, page) in pages.iter().enumerate() {
+        put_page(out, number, page.as_slice())?;
+    }
+    Ok(())
+}
+
+fn put_page(out: &mut String, number: usize, entries: &[Entry]) -> Result<(), OutOfMemory>
+    ensures { OnOk result (string_bytes out.new ≡ string_bytes out.old ++ flat_map line (page_lines number entries.now)) }
+{
+    writeln!(out, "page {number} {}", entries.len())?;
+    put_entries(out, entries)
+}
+
+fn put_cpus(out: &mut String, cpus: &[List<CpuLine>]) -> Result<(), OutOfMemory>
+    ensures { OnOk result (string_bytes out.new ≡ string_bytes out.old ++ flat_map line (numbered cpu_lines 0 cpus.now)) }
+{
+    for (number, lines) in cpus.iter().enumerate() {
+        put_cpu(out, number, lines.as_slice())?;
+    }
+    Ok(())
+}
+
+fn put_cpu(out: &mut String, number: usize, lines: &[CpuLine]) -> Result<(), OutOfMemory>
+    ensures { OnOk result (string_bytes out.new ≡ string_bytes out.old ++ flat_map line (cpu_lines number lines.now)) }
+{
+    writeln!(out, "cpu {number} {}", lines.len())?;
+    put_cpu_lines(out, lines)
+}

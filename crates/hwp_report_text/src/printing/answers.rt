@@ -1,0 +1,121 @@
+ghost use Rattle.std.specs.Prelude.{◌≡◌, ◌∷◌, [], ◌++◌, OnOk, string_bytes, codes, decimal, map};
+ghost use Rattle.std.specs.List.{flat_map};
+ghost use Rattle.hwp_geom.specs.Words.{line, hex};
+ghost use Rattle.hwp_report_text.specs.Text.{answer_words, cpu_line_words, placed};
+
+use crate::lines::{Answer, CpuLine};
+use crate::terms::acted_word;
+use hwp_geom::{Frame, Mask, OutOfMemory};
+use hwp_page::At;
+
+/// The lines below a processor.
+pub(crate) fn put_cpu_lines(out: &mut String, lines: &[CpuLine]) -> Result<(), OutOfMemory>
+    ensures { OnOk result (string_bytes out.new ≡ string_bytes out.old ++ flat_map line (map cpu_line_words lines.now)) }
+{
+    for item in lines {
+        put_cpu_line(out, *item)?;
+    }
+    Ok(())
+}
+
+fn put_cpu_line(out: &mut String, item: CpuLine) -> Result<(), OutOfMemory>
+    ensures { OnOk result (string_bytes out.new ≡ string_bytes out.old ++ line (cpu_line_words item)) }
+{
+    match item {
+        CpuLine::Event {
+            seq,
+            bank,
+            status,
+            addr,
+            misc,
+            row,
+            acted,
+        } => {
+            let acted = acted_word(acted);
+            writeln!(
+                out,
+                "{seq} event {bank} {status:x} {addr:x} {misc:x} S{row} {acted}"
+            )
+        }
+        CpuLine::Answer { seq, answer } => put_answer(out, seq, answer),
+    }
+}
+
+fn put_answer(out: &mut String, seq: u32, answer: Answer) -> Result<(), OutOfMemory>
+    ensures { OnOk result (string_bytes out.new ≡ string_bytes out.old ++ line (decimal seq ∷ answer_words answer)) }
+{
+    match answer {
+        Answer::Value { word, at } => put_value(out, seq, word, at),
+        Answer::Stored(at) => put_place(out, seq, "stored", at),
+        Answer::Sigbus(at) => put_place(out, seq, "sigbus", at),
+        Answer::Gone(page) => put_number(out, seq, "gone", u64::from(page.0)),
+        Answer::NoFrame => put_word(out, seq, "noframe"),
+        Answer::Stopped => put_word(out, seq, "stopped"),
+        Answer::Done => put_word(out, seq, "done"),
+        Answer::DoneAt(at) => put_place(out, seq, "done", at),
+        Answer::NotResident(at) => put_place(out, seq, "notresident", at),
+        Answer::NotMapped(at) => put_place(out, seq, "notmapped", at),
+        Answer::Dirty(at) => put_place(out, seq, "dirty", at),
+        Answer::Mapped(at) => put_place(out, seq, "mapped", at),
+        Answer::BadLines(mask, at) => put_bad_lines(out, seq, mask, at),
+        Answer::Eio(lost) => put_number(out, seq, "eio", lost),
+        Answer::Is(policy) => put_number(out, seq, "is", policy),
+        Answer::Einval => put_word(out, seq, "einval"),
+        Answer::Recovered => put_word(out, seq, "recovered"),
+        Answer::Delayed => put_word(out, seq, "delayed"),
+        Answer::Ignored => put_word(out, seq, "ignored"),
+        Answer::Already => put_word(out, seq, "already"),
+        Answer::Moved(frame, at) => put_moved(out, seq, frame, at),
+        Answer::TakenFree => put_word(out, seq, "takenfree"),
+        Answer::Kernel => put_word(out, seq, "kernel"),
+        Answer::HasBad(mask) => writeln!(out, "{seq} hasbad {:x}", mask.0),
+        Answer::NotPoisoned => put_word(out, seq, "notpoisoned"),
+        Answer::HardwareSeen => put_word(out, seq, "hardwareseen"),
+        Answer::InUse(count) => put_number(out, seq, "inuse", count),
+        Answer::Scrubbed(events) => put_number(out, seq, "scrubbed", events),
+        Answer::Raised(events) => put_number(out, seq, "raised", events),
+    }
+}
+
+fn put_word(out: &mut String, seq: u32, word: &str) -> Result<(), OutOfMemory>
+    ensures { OnOk result (string_bytes out.new ≡ string_bytes out.old ++ line (decimal seq ∷ word.now ∷ [])) }
+{
+    writeln!(out, "{seq} {word}")
+}
+
+fn put_number(out: &mut String, seq: u32, word: &str, number: u64) -> Result<(), OutOfMemory>
+    ensures { OnOk result (string_bytes out.new ≡ string_bytes out.old ++ line (decimal seq ∷ word.now ∷ decimal number ∷ [])) }
+{
+    writeln!(out, "{seq} {word} {number}")
+}
+
+fn put_place(out: &mut String, seq: u32, word: &str, at: At) -> Result<(), OutOfMemory>
+    ensures { OnOk result (string_bytes out.new ≡ string_bytes out.old ++ line (decimal seq ∷ placed word.now at)) }
+{
+    writeln!(out, "{seq} {word} {} {}", at.page.0, at.entry)
+}
+
+fn put_value(out: &mut String, seq: u32, word: u64, at: At) -> Result<(), OutOfMemory>
+    ensures { OnOk result (string_bytes out.new ≡ string_bytes out.old
+        ++ line (decimal seq ∷ codes "value" ∷ decimal word ∷ decimal at.page.0 ∷ decimal at.entry ∷ [])) }
+{
+    writeln!(out, "{seq} value {word} {} {}", at.page.0, at.entry)
+}
+
+fn put_bad_lines(out: &mut String, seq: u32, mask: Mask, at: At) -> Result<(), OutOfMemory>
+    ensures { OnOk result (string_bytes out.new ≡ string_bytes out.old
+        ++ line (decimal seq ∷ codes "badlines" ∷ hex mask.0 ∷ decimal at.page.0 ∷ decimal at.entry ∷ [])) }
+{
+    writeln!(
+        out,
+        "{seq} badlines {:x} {} {}",
+        mask.0, at.page.0, at.entry
+    )
+}
+
+fn put_moved(out: &mut String, seq: u32, frame: Frame, at: At) -> Result<(), OutOfMemory>
+    ensures { OnOk result (string_bytes out.new ≡ string_bytes out.old
+        ++ line (decimal seq ∷ codes "moved" ∷ decimal frame.0 ∷ decimal at.page.0 ∷ decimal at.entry ∷ [])) }
+{
+    writeln!(out, "{seq} moved {} {} {}", frame.0, at.page.0, at.entry)
+}

@@ -1,5 +1,0 @@
-pub mod Turns
-pub mod Ends
-pub mod Shown
-pub mod Scrubs
-pub mod Run

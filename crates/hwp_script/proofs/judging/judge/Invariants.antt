@@ -1,5 +1,0 @@
-use Rattle.hwp_script.proofs.JudgeLaws.{AreSoFar}
-use Rattle.hwp_script.proofs.judging.judge.Given as goal
-
-abbrev pub invariant-loop-line : goal.invariant-loop-line
-invariant-loop-line l = AreSoFar l.fn.lines.items l.yielded l.forms.items l.summary

@@ -1,0 +1,95 @@
+ghost use Rattle.std.specs.Prelude.{◌≡◌, ◌<◌, IfOk};
+ghost use Rattle.hwp_script.specs.Machine.{first, is_kernel, machine, page_kind, thread_decl, trans_decl};
+
+use hwp_geom::{
+    Cpu, FileNo, Layout, List, OutOfMemory, Page, PageKind, Proc, ThreadDecl, TransDecl,
+};
+use std::alloc::Global;
+
+/// The machine of all generated scripts.
+pub(crate) fn machine(alloc: Global) -> Result<Layout, OutOfMemory>
+    ensures { IfOk result (λ layout. layout ≡ machine) }
+{
+    Ok(Layout {
+        cpus: 4,
+        frames: 256,
+        kernel: kernel(alloc)?,
+        recovery: true,
+        early: false,
+        files: 2,
+        procs: 4,
+        threads: threads(alloc)?,
+        pages: pages(alloc)?,
+        trans: translations(alloc)?,
+    })
+}
+
+/// Frame 0 alone is the kernel's.
+fn kernel(alloc: Global) -> Result<List<bool>, OutOfMemory>
+    ensures { IfOk result (λ kernel. kernel ≡ first is_kernel 256) }
+{
+    let mut kernel = List::new(alloc);
+    for frame in 0..256u16 {
+        kernel.push(frame == 0)?;
+    }
+    Ok(kernel)
+}
+
+fn threads(alloc: Global) -> Result<List<ThreadDecl>, OutOfMemory>
+    ensures { IfOk result (λ threads. threads ≡ first thread_decl 8) }
+{
+    let mut threads = List::new(alloc);
+    for thread in 0..8u8 {
+        threads.push(ThreadDecl {
+            process: Proc(thread % 4),
+            cpu: Cpu(thread % 4),
+            handler: true,
+        })?;
+    }
+    Ok(threads)
+}
+
+fn pages(alloc: Global) -> Result<List<PageKind>, OutOfMemory>
+    ensures { IfOk result (λ pages. pages ≡ first page_kind 40) }
+{
+    let mut pages = List::new(alloc);
+    for page in 0..40u8 {
+        pages.push(kind_of(page))?;
+    }
+    Ok(pages)
+}
+
+/// What stands behind a page.
+fn kind_of(page: u8) -> PageKind
+    ensures { result ≡ page_kind page }
+{
+    if page % 2 == 0 {
+        PageKind::Anon
+    } else {
+        PageKind::File {
+            file: FileNo(page / 2 % 2),
+            fill: u64::from(page),
+        }
+    }
+}
+
+fn translations(alloc: Global) -> Result<List<TransDecl>, OutOfMemory>
+    ensures { IfOk result (λ trans. trans ≡ first trans_decl 80) }
+{
+    let mut trans = List::new(alloc);
+    for slot in 0..80u8 {
+        trans.push(translation_of(slot))?;
+    }
+    Ok(trans)
+}
+
+/// A translation: its process, and the page that it leads to.
+fn translation_of(slot: u8) -> TransDecl
+    requires inside { slot < 80 }
+    ensures { result ≡ trans_decl slot }
+{
+    TransDecl {
+        process: Proc((slot + slot / 40) % 4),
+        page: Page(u16::from(slot % 40)),
+    }
+}

@@ -1,0 +1,12 @@
+pub mod PairsLaws
+pub mod Searches
+pub mod Listed
+pub mod HexLaws
+pub mod CommandLaws
+pub mod NumberLaws
+pub mod KeywordLaws
+pub mod TurnLaws
+pub mod SentenceLaws
+pub mod LineUnique
+pub mod Shapes
+pub mod LineLaws

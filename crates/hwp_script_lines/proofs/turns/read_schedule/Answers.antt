@@ -1,0 +1,30 @@
+use Rattle.std.proofs.Common.{arith}
+use Rattle.std.proofs.lemmas.Grind.{common_steps}
+use Rattle.std.proofs.lemmas.List.{length-map}
+use Rattle.hwp_script_lines.proofs.TurnLaws.{turns-good, turns-bad, turns-over, turns-unknown, turns-shaped, turns-high}
+use Rattle.hwp_script_lines.proofs.turns.read_schedule.Goals as goal
+use Rattle.hwp_script_lines.proofs.turns.read_schedule.Goals.{in-Ok+in_ok-push-in-Ok, in-Err-OverLimit, in-Err-BadNumber}
+
+pub loop-word-preserved : goal.loop-word-preserved
+loop-word-preserved c = elim c.match-branch-2.branch [
+  | in-Ok+in_ok-push-in-Ok w ↦ rw (w.turns-is, w.is_bad-is, w.is_over-is, w.in_ok-push-in-Ok.ensures.items)
+      (turns-good c.args.words.now c.loop-word.word-index _ c.loop-word.turns.items c.loop-word.is_bad c.loop-word.is_over _ c.loop-word.invariant (omega arith) (rw w.in-Ok.is at c.in_ok-turn.ensures))
+  | in-Err-OverLimit w ↦ let over = rw (w.in-Err-OverLimit.is, w.in-Err-OverLimit.field-0-is) at c.in_ok-turn.ensures in rw (w.turns-is, w.is_bad-is, w.is_over-is)
+      (turns-over c.args.words.now c.loop-word.word-index _ c.loop-word.turns.items c.loop-word.is_bad c.loop-word.is_over c.loop-word.invariant (omega arith) over)
+  | in-Err-BadNumber w ↦ let bad = rw (w.in-Err-BadNumber.is, w.in-Err-BadNumber.field-0-is) at c.in_ok-turn.ensures in rw (w.turns-is, w.is_bad-is, w.is_over-is)
+      (turns-bad c.args.words.now c.loop-word.word-index _ c.loop-word.turns.items c.loop-word.is_bad c.loop-word.is_over c.loop-word.invariant (omega arith) bad.0 bad.1)
+]
+
+pub returns-in-Err-Unknown : goal.returns-in-Err-Unknown
+returns-in-Err-Unknown c = λ h.
+    turns-unknown c.args.words.now c.loop-word.word-index _ (omega arith) (rw (c.in-Err-Unknown.is, c.in-Err-Unknown.field-0-is) at c.in_ok-turn.ensures) h.1
+
+pub returns-then-is_bad : goal.returns-then-is_bad
+returns-then-is_bad c = (
+  (rw length-map (grind (arith, common_steps)), turns-shaped c.args.words.now c.loop-word.word-index c.loop-word.turns.items c.loop-word.is_bad c.loop-word.is_over c.loop-word.invariant (omega arith)),
+  c.loop-word.invariant.ill c.if-is_bad.true,
+)
+
+pub returns-then-is_over : goal.returns-then-is_over
+returns-then-is_over c =
+    turns-high c.args.words.now c.loop-word.word-index c.loop-word.turns.items c.loop-word.is_bad c.loop-word.is_over c.loop-word.invariant c.if-is_bad.false c.if-is_over.true (omega arith) (grind (arith, common_steps))

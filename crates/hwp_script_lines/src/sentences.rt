@@ -1,0 +1,190 @@
+ghost use Rattle.std.specs.Prelude.{◌≡◌, ◌≢◌, ℕ, map, true, Bool, IfOk, MatchOption, MatchResult};
+ghost use Rattle.hwp_script_lines.specs.Grammar.{IsSentence, thread_keyword, page_keyword, schedule_keyword, header_keyword, trans_keyword, command_keyword, end_keyword, handler_text};
+ghost use Rattle.hwp_script_lines.specs.Numbers.{IsNumber};
+ghost use Rattle.hwp_script_lines.specs.Misfits.{IsSentenceMisfit, form_with, has_one_number};
+
+use crate::commands::read_command;
+use crate::keywords::{CommandWord, Keyword};
+use crate::numbers::{Misfit, one_number, read_number, read_numbers};
+use crate::script_line::{Backing, ScriptLine};
+use crate::turns::read_schedule;
+use crate::words::is_text;
+use hwp_geom::OutOfMemory;
+use std::alloc::Global;
+
+/// Whether a thread has a handler, by its last word.
+fn read_handler(word: &[u8]) -> Option<bool>
+    ensures { MatchOption result ((handler : Bool) → word.now ≡ handler_text handler → ⊥) (λ handler. word.now ≡ handler_text handler) }
+{
+    if is_text(word, "handler") {
+        Some(true)
+    } else if is_text(word, "nohandler") {
+        Some(false)
+    } else {
+        None
+    }
+}
+
+/// The numbers that three words are.
+fn three_of(first: &[u8], second: &[u8], third: &[u8]) -> Option<(u64, u64, u64)>
+    ensures { MatchOption result ((m n p : ℕ) → IsNumber first.now m → IsNumber second.now n → IsNumber third.now p → ⊥) (λ n. IsNumber first.now n.0 × IsNumber second.now n.1 × IsNumber third.now n.2) }
+{
+    Some((
+        read_number(first)?,
+        read_number(second)?,
+        read_number(third)?,
+    ))
+}
+
+/// The thread that these words behind `thread` declare.
+fn read_thread(words: &[&[u8]]) -> Result<ScriptLine, Misfit>
+    ensures { MatchResult result (IsSentence thread_keyword (map (λ w. w.now) words.now)) (IsSentenceMisfit thread_keyword (map (λ w. w.now) words.now)) }
+{
+    let [thread, process, cpu, word] = words else {
+        return Err(Misfit::Unknown);
+    };
+    let Some(handler) = read_handler(word) else {
+        return Err(Misfit::Unknown);
+    };
+    let Some((thread, process, cpu)) = three_of(thread, process, cpu) else {
+        return Err(Misfit::BadNumber);
+    };
+    Ok(ScriptLine::Thread {
+        thread,
+        process,
+        cpu,
+        handler,
+    })
+}
+
+/// The page that these words behind `page` declare.
+fn read_page(words: &[&[u8]]) -> Result<ScriptLine, Misfit>
+    ensures { MatchResult result (IsSentence page_keyword (map (λ w. w.now) words.now)) (IsSentenceMisfit page_keyword (map (λ w. w.now) words.now)) }
+{
+    match words {
+        [page, kind] if is_text(kind, "anon") => match read_number(page) {
+            Some(page) => Ok(ScriptLine::Page {
+                page,
+                backing: Backing::Anon,
+            }),
+            None => Err(Misfit::BadNumber),
+        },
+        [page, kind, file, of, fill] if is_text(kind, "file") && is_text(of, "fill") => {
+            match three_of(page, file, fill) {
+                Some((page, file, fill)) => Ok(ScriptLine::Page {
+                    page,
+                    backing: Backing::File { file, fill },
+                }),
+                None => Err(Misfit::BadNumber),
+            }
+        }
+        _ => Err(Misfit::Unknown),
+    }
+}
+
+/// The head, if these words behind `hwp` are the version of the format.
+fn read_header(words: &[&[u8]]) -> Result<ScriptLine, Misfit>
+    ensures { MatchResult result (IsSentence header_keyword (map (λ w. w.now) words.now)) (IsSentenceMisfit header_keyword (map (λ w. w.now) words.now)) }
+{
+    match words {
+        [version] if is_text(version, "1") => Ok(ScriptLine::Header),
+        _ => Err(Misfit::Unknown),
+    }
+}
+
+/// The end, if no words stand behind `end`.
+fn read_end(words: &[&[u8]]) -> Result<ScriptLine, Misfit>
+    ensures { MatchResult result (IsSentence end_keyword (map (λ w. w.now) words.now)) (IsSentenceMisfit end_keyword (map (λ w. w.now) words.now)) }
+{
+    match words {
+        [] => Ok(ScriptLine::End),
+        _ => Err(Misfit::Unknown),
+    }
+}
+
+/// The line of this first word behind which this number stands.
+fn numbered_form(keyword: Keyword, number: u64) -> ScriptLine
+    requires { has_one_number keyword ≡ true }
+    ensures { result ≡ form_with keyword number }
+{
+    match keyword {
+        Keyword::Cpus => ScriptLine::Cpus(number),
+        Keyword::Frames => ScriptLine::Frames(number),
+        Keyword::Kernel => ScriptLine::Kernel(number),
+        Keyword::Recovery => ScriptLine::Recovery(number),
+        Keyword::Early => ScriptLine::Early(number),
+        Keyword::File => ScriptLine::File(number),
+        Keyword::Proc => ScriptLine::Proc(number),
+        Keyword::Cpu => ScriptLine::Cpu(number),
+        _ => unreachable!(),
+    }
+}
+
+/// The line of this first word, which has just one number, that these words behind it say.
+fn read_numbered(keyword: Keyword, words: &[&[u8]]) -> Result<ScriptLine, Misfit>
+    requires { has_one_number keyword ≡ true }
+    ensures { MatchResult result (IsSentence keyword (map (λ w. w.now) words.now)) (IsSentenceMisfit keyword (map (λ w. w.now) words.now)) }
+{
+    match one_number(words) {
+        Ok(number) => Ok(numbered_form(keyword, number)),
+        Err(misfit) => Err(misfit),
+    }
+}
+
+/// The translation that these words behind `trans` declare.
+fn read_trans(words: &[&[u8]]) -> Result<ScriptLine, Misfit>
+    ensures { MatchResult result (IsSentence trans_keyword (map (λ w. w.now) words.now)) (IsSentenceMisfit trans_keyword (map (λ w. w.now) words.now)) }
+{
+    match read_numbers(words, 3) {
+        Ok(numbers) => Ok(ScriptLine::Trans {
+            slot: numbers[0],
+            process: numbers[1],
+            page: numbers[2],
+        }),
+        Err(misfit) => Err(misfit),
+    }
+}
+
+/// The line of a command with this first word that these words behind it say.
+fn read_command_line(word: CommandWord, words: &[&[u8]]) -> Result<ScriptLine, Misfit>
+    ensures { MatchResult result (IsSentence (command_keyword word) (map (λ w. w.now) words.now)) (IsSentenceMisfit (command_keyword word) (map (λ w. w.now) words.now)) }
+{
+    match read_command(word, words) {
+        Ok(command) => Ok(ScriptLine::Command(command)),
+        Err(misfit) => Err(misfit),
+    }
+}
+
+/// The line of this first word, other than a schedule, that these words behind it say.
+fn read_plain_sentence(keyword: Keyword, words: &[&[u8]]) -> Result<ScriptLine, Misfit>
+    requires { keyword ≢ schedule_keyword }
+    ensures { MatchResult result (IsSentence keyword (map (λ w. w.now) words.now)) (IsSentenceMisfit keyword (map (λ w. w.now) words.now)) }
+{
+    match keyword {
+        Keyword::Hwp => read_header(words),
+        Keyword::Thread => read_thread(words),
+        Keyword::Page => read_page(words),
+        Keyword::Trans => read_trans(words),
+        Keyword::Command(word) => read_command_line(word, words),
+        Keyword::End => read_end(words),
+        Keyword::Schedule => unreachable!(),
+        _ => read_numbered(keyword, words),
+    }
+}
+
+/// The line of this first word that these words behind it say.
+pub(crate) fn read_sentence(
+    alloc: Global,
+    keyword: Keyword,
+    words: &[&[u8]],
+) -> Result<Result<ScriptLine, Misfit>, OutOfMemory>
+    ensures { IfOk result (λ read. MatchResult read (IsSentence keyword (map (λ w. w.now) words.now)) (IsSentenceMisfit keyword (map (λ w. w.now) words.now))) }
+{
+    match keyword {
+        Keyword::Schedule => match read_schedule(alloc, words)? {
+            Ok(turns) => Ok(Ok(ScriptLine::Schedule(turns))),
+            Err(misfit) => Ok(Err(misfit)),
+        },
+        _ => Ok(read_plain_sentence(keyword, words)),
+    }
+}

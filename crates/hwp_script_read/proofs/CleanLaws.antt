@@ -1,0 +1,229 @@
+-- What it says of a line that no reason applies to it, kind by kind.
+use Rattle.std.proofs.Common.{ℕ, Bool, ◌≡◌, ◌<◌, ◌≤◌, List, [], ◌∷◌, length, inl, inr, refl, arith, rules, Option, None, Some, ◌+◌}
+use Rattle.std.specs.Prelude.{slice_get, option_and_then, IsSome}
+use Rattle.hwp_script_read.specs.Limits.{schedule_limit}
+use Rattle.hwp_geom.specs.Limits.{command_limit}
+use Rattle.hwp_script_read.specs.Context.{cpus_in, frames_in, recovery_in, early_in, files_in, procs_in, threads_in, pages_in, trans_in, commands_in, go_in, place_in, highest}
+use Rattle.hwp_script_read.specs.Reasons.{IsMisplaced, IsElsewhere, IsBackingOver, IsBackingUndeclared, IsUndeclared, actor, top_cpu, IsClean}
+use Rattle.hwp_script_lines.specs.declared.Backing.{Backing}
+use Rattle.hwp_script_lines.specs.declared.Go.{Go}
+use Rattle.hwp_script_lines.specs.declared.Command.{Command}
+use Rattle.hwp_script_lines.specs.declared.ScriptLine.{ScriptLine}
+use Rattle.hwp_script_lines.specs.declared.ScriptLine.TheVariants as forms
+use Rattle.hwp_script_read.specs.declared.why.Why.TheVariants as whys
+
+-- a line of the group may stand here
+pub record IsPlaced (above : List ScriptLine) (g : ℕ) : Type 0 where
+  pub late : highest above ≤ g
+  pub some_cpu : 0 < cpus_in above
+  pub some_frame : 0 < frames_in above
+
+placed : (above : List ScriptLine) (g : ℕ) → (IsMisplaced above g → ⊥) → IsPlaced above g
+placed above g h =
+    let late : g < highest above → ⊥ = λ e. h (inl e) in
+    let cpu : cpus_in above ≡ 0 → ⊥ = λ e. h (inr (inl e)) in
+    let frame : frames_in above ≡ 0 → ⊥ = λ e. h (inr (inr e)) in
+    record { late = omega arith; some_cpu = omega arith; some_frame = omega arith }
+
+-- the header is the first line
+pub clean_header : (above : List ScriptLine) → IsClean above forms.Header → highest above ≡ 0
+clean_header [] h = refl
+clean_header (f ∷ above) h = absurd (h.none whys.UnknownWord (omega arith))
+
+pub record IsCpusClean (above : List ScriptLine) (n : ℕ) : Type 0 where
+  pub some : 0 < n
+  pub few : n ≤ 8
+  pub first : cpus_in above ≡ 0
+  pub late : highest above ≤ 1
+
+pub clean_cpus : {above : List ScriptLine} {n : ℕ} → IsClean above (forms.Cpus n) → IsCpusClean above n
+clean_cpus {above} {n} h =
+    let twice = h.none whys.Twice in
+    let place = h.none whys.WrongPlace in
+    let zero : n ≡ 0 → ⊥ = λ e. h.none whys.OverLimit (inl e) in
+    let big : 8 < n → ⊥ = λ e. h.none whys.OverLimit (inr e) in
+    record { some = omega arith; few = omega arith; first = omega arith; late = omega arith }
+
+pub record IsFramesClean (above : List ScriptLine) (n : ℕ) : Type 0 where
+  pub some : 0 < n
+  pub few : n ≤ 256
+  pub first : frames_in above ≡ 0
+  pub late : highest above ≤ 2
+
+pub clean_frames : {above : List ScriptLine} {n : ℕ} → IsClean above (forms.Frames n) → IsFramesClean above n
+clean_frames {above} {n} h =
+    let twice = h.none whys.Twice in
+    let zero : n ≡ 0 → ⊥ = λ e. h.none whys.OverLimit (inl e) in
+    let big : 256 < n → ⊥ = λ e. h.none whys.OverLimit (inr e) in
+    let place : 2 < highest above → ⊥ = λ e. h.none whys.WrongPlace (inl e) in
+    record { some = omega arith; few = omega arith; first = omega arith; late = omega arith }
+
+pub record IsKernelClean (above : List ScriptLine) (f : ℕ) : Type 0 where
+  pub placed : IsPlaced above 3
+  pub declared : f < frames_in above
+  pub low : f < 256
+
+pub clean_kernel : {above : List ScriptLine} {f : ℕ} → IsClean above (forms.Kernel f) → IsKernelClean above f
+clean_kernel {above} {f} h =
+    let over = h.none whys.OverLimit in
+    let none = h.none whys.Undeclared in
+    record { placed = placed above 3 (h.none whys.WrongPlace); declared = omega arith; low = omega arith }
+
+no_some : {A : Type 0} (o : Option A) → (IsSome o → ⊥) → o ≡ None
+no_some None h = refl
+no_some (Some x) h = absurd (h (search rules))
+
+pub record IsRecoveryClean (above : List ScriptLine) : Type 0 where
+  pub placed : IsPlaced above 4
+  pub first : recovery_in above ≡ None
+
+pub clean_recovery : {above : List ScriptLine} {b : ℕ} → IsClean above (forms.Recovery b) → IsRecoveryClean above
+clean_recovery {above} {b} h = record { placed = placed above 4 (h.none whys.WrongPlace); first = no_some (recovery_in above) (h.none whys.Twice) }
+
+pub record IsEarlyClean (above : List ScriptLine) : Type 0 where
+  pub placed : IsPlaced above 5
+  pub first : early_in above ≡ None
+
+pub clean_early : {above : List ScriptLine} {b : ℕ} → IsClean above (forms.Early b) → IsEarlyClean above
+clean_early {above} {b} h = record { placed = placed above 5 (h.none whys.WrongPlace); first = no_some (early_in above) (h.none whys.Twice) }
+
+pub record IsFileClean (above : List ScriptLine) (n : ℕ) : Type 0 where
+  pub placed : IsPlaced above 6
+  pub few : n < 16
+  pub next : n ≡ files_in above
+
+pub clean_file : {above : List ScriptLine} {n : ℕ} → IsClean above (forms.File n) → IsFileClean above n
+clean_file {above} {n} h =
+    let over = h.none whys.OverLimit in
+    let twice = h.none whys.Twice in
+    let gap : files_in above < n → ⊥ = λ e. h.none whys.WrongPlace (inr e) in
+    record { placed = placed above 6 (λ e. h.none whys.WrongPlace (inl e)); few = omega arith; next = omega arith }
+
+pub record IsProcClean (above : List ScriptLine) (p : ℕ) : Type 0 where
+  pub placed : IsPlaced above 7
+  pub few : p < 16
+  pub next : p ≡ procs_in above
+
+pub clean_proc : {above : List ScriptLine} {p : ℕ} → IsClean above (forms.Proc p) → IsProcClean above p
+clean_proc {above} {p} h =
+    let over = h.none whys.OverLimit in
+    let twice = h.none whys.Twice in
+    let gap : procs_in above < p → ⊥ = λ e. h.none whys.WrongPlace (inr e) in
+    record { placed = placed above 7 (λ e. h.none whys.WrongPlace (inl e)); few = omega arith; next = omega arith }
+
+pub record IsThreadClean (above : List ScriptLine) (t p c : ℕ) : Type 0 where
+  pub placed : IsPlaced above 8
+  pub few : t < 32
+  pub next : t ≡ length (threads_in above)
+  pub process : p < procs_in above
+  pub low_process : p < 16
+  pub cpu : c < cpus_in above
+  pub low_cpu : c < 8
+
+pub clean_thread : {above : List ScriptLine} {t p c : ℕ} {b : Bool} → IsClean above (forms.Thread t p c b) → IsThreadClean above t p c
+clean_thread {above} {t} {p} {c} {b} h =
+    let over_thread : 32 ≤ t → ⊥ = λ e. h.none whys.OverLimit (inl e) in
+    let over_process : 16 ≤ p → ⊥ = λ e. h.none whys.OverLimit (inr (inl e)) in
+    let over_cpu : 8 ≤ c → ⊥ = λ e. h.none whys.OverLimit (inr (inr e)) in
+    let no_process : procs_in above ≤ p → ⊥ = λ e. h.none whys.Undeclared (inl e) in
+    let no_cpu : cpus_in above ≤ c → ⊥ = λ e. h.none whys.Undeclared (inr e) in
+    let twice = h.none whys.Twice in
+    let gap : length (threads_in above) < t → ⊥ = λ e. h.none whys.WrongPlace (inr e) in
+    record {
+      placed = placed above 8 (λ e. h.none whys.WrongPlace (inl e));
+      few = omega arith;
+      next = omega arith;
+      process = omega arith;
+      low_process = omega arith;
+      cpu = omega arith;
+      low_cpu = omega arith;
+    }
+
+pub record IsPageClean (above : List ScriptLine) (q : ℕ) (b : Backing) : Type 0 where
+  pub placed : IsPlaced above 9
+  pub few : q < 256
+  pub next : q ≡ length (pages_in above)
+  pub low : IsBackingOver b → ⊥
+  pub backed : IsBackingUndeclared above b → ⊥
+
+pub clean_page : {above : List ScriptLine} {q : ℕ} {b : Backing} → IsClean above (forms.Page q b) → IsPageClean above q b
+clean_page {above} {q} {b} h =
+    let over : 256 ≤ q → ⊥ = λ e. h.none whys.OverLimit (inl e) in
+    let twice = h.none whys.Twice in
+    let gap : length (pages_in above) < q → ⊥ = λ e. h.none whys.WrongPlace (inr e) in
+    record {
+      placed = placed above 9 (λ e. h.none whys.WrongPlace (inl e));
+      few = omega arith;
+      next = omega arith;
+      low = λ e. h.none whys.OverLimit (inr e);
+      backed = h.none whys.Undeclared;
+    }
+
+pub record IsTransClean (above : List ScriptLine) (v p q : ℕ) : Type 0 where
+  pub placed : IsPlaced above 10
+  pub few : v < 512
+  pub next : v ≡ length (trans_in above)
+  pub process : p < procs_in above
+  pub low_process : p < 16
+  pub page : q < length (pages_in above)
+  pub low_page : q < 256
+
+pub clean_trans : {above : List ScriptLine} {v p q : ℕ} → IsClean above (forms.Trans v p q) → IsTransClean above v p q
+clean_trans {above} {v} {p} {q} h =
+    let over_slot : 512 ≤ v → ⊥ = λ e. h.none whys.OverLimit (inl e) in
+    let over_process : 16 ≤ p → ⊥ = λ e. h.none whys.OverLimit (inr (inl e)) in
+    let over_page : 256 ≤ q → ⊥ = λ e. h.none whys.OverLimit (inr (inr e)) in
+    let no_process : procs_in above ≤ p → ⊥ = λ e. h.none whys.Undeclared (inl e) in
+    let no_page : length (pages_in above) ≤ q → ⊥ = λ e. h.none whys.Undeclared (inr e) in
+    let twice = h.none whys.Twice in
+    let gap : length (trans_in above) < v → ⊥ = λ e. h.none whys.WrongPlace (inr e) in
+    record {
+      placed = placed above 10 (λ e. h.none whys.WrongPlace (inl e));
+      few = omega arith;
+      next = omega arith;
+      process = omega arith;
+      low_process = omega arith;
+      page = omega arith;
+      low_page = omega arith;
+    }
+
+pub record IsCpuClean (above : List ScriptLine) (c : ℕ) : Type 0 where
+  pub placed : IsPlaced above 11
+  pub cpu : c < cpus_in above
+  pub low : c < 8
+
+pub clean_cpu : {above : List ScriptLine} {c : ℕ} → IsClean above (forms.Cpu c) → IsCpuClean above c
+clean_cpu {above} {c} h =
+    let over = h.none whys.OverLimit in
+    let none = h.none whys.Undeclared in
+    record { placed = placed above 11 (h.none whys.WrongPlace); cpu = omega arith; low = omega arith }
+
+pub record IsCommandClean (above : List ScriptLine) (c : Command) : Type 0 where
+  pub placed : IsPlaced above 11
+  pub few : commands_in above < command_limit
+  pub named : IsUndeclared above c → ⊥
+  pub here : IsElsewhere (place_in above) (option_and_then (λ t. slice_get (threads_in above) t) (actor c)) → ⊥
+
+pub clean_command : {above : List ScriptLine} {c : Command} → IsClean above (forms.Command c) → IsCommandClean above c
+clean_command {above} {c} h =
+    let many : command_limit ≤ commands_in above → ⊥ = h.none whys.OverLimit in
+    record {
+      placed = placed above 11 (λ e. h.none whys.WrongPlace (inl e));
+      few = omega arith;
+      named = h.none whys.Undeclared;
+      here = λ e. h.none whys.WrongPlace (inr e);
+    }
+
+pub record IsScheduleClean (above : List ScriptLine) (ws : List Go) : Type 0 where
+  pub placed : IsPlaced above 12
+  pub few : length (go_in above) + length ws ≤ schedule_limit
+  pub cpus : top_cpu ws < cpus_in above
+
+pub clean_schedule : {above : List ScriptLine} {ws : List Go} → IsClean above (forms.Schedule ws) → IsScheduleClean above ws
+clean_schedule {above} {ws} h =
+    let many : schedule_limit < length (go_in above) + length ws → ⊥ = h.none whys.OverLimit in
+    let none = h.none whys.Undeclared in
+    record { placed = placed above 12 (h.none whys.WrongPlace); few = omega arith; cpus = omega arith }
+
+pub clean_end : {above : List ScriptLine} → IsClean above forms.End → IsPlaced above 12
+clean_end {above} h = placed above 12 (h.none whys.WrongPlace)

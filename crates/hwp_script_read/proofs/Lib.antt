@@ -1,0 +1,14 @@
+pub mod WordLaws
+pub mod ContextLaws
+pub mod CleanLaws
+pub mod CleanLists
+pub mod SumLaws
+pub mod CollectLaws
+pub mod JudgeLaws
+pub mod NameLaws
+pub mod FitLaws
+pub mod ValidLaws
+pub mod ReadLaws
+pub mod OneScript
+pub use Rattle.hwp_geom.proofs as of_hwp_geom
+pub use Rattle.hwp_script_lines.proofs as of_hwp_script_lines

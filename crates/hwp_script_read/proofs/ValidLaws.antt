@@ -1,0 +1,347 @@
+-- Why the script of clean lines is valid.
+use Rattle.std.proofs.Common.{ℕ, ◌≡◌, ◌≢◌, ◌<◌, ◌≤◌, ◌+◌, ◌-◌, ◌++◌, ◌==◌, Bool, true, false, if◌then◌else◌, List, [], ◌∷◌, length, get_or, map, take, Option, Some, None, zero, suc, ap, subst, ◌∙◌, sym, refl, arith, add-one, ⊎_elim}
+use Rattle.std.specs.Prelude.{All, sum_by, filter_map, slice_get, option_to_list}
+use Rattle.std.specs.List.{range_with_len, cons_option}
+use Rattle.std.proofs.lemmas.List.{take_more, take_all, length-append, length_push, append-nil}
+use Rattle.std.proofs.lemmas.List.Elements.{All-nil, All-cons, All-append, All-push, All-weaker, All-get_or}
+use Rattle.std.proofs.lemmas.List.Sums.{sum_by-cons}
+use Rattle.std.proofs.lemmas.List.FromFn.{length-map-range_with_len}
+use Rattle.std.proofs.lemmas.Option.{slice_get-get_or, slice_get_within, get_or_from_slice_get}
+use Rattle.std.proofs.lemmas.Bool.{cases_eq}
+use Rattle.std.proofs.lemmas.Bool.Decides.{nat_tests}
+use Rattle.hwp_script_read.specs.Limits.{schedule_limit}
+use Rattle.hwp_geom.specs.Limits.{command_limit}
+use Rattle.hwp_geom.specs.Layout.{IsBacked}
+use Rattle.hwp_geom.specs.declared.Layout.{Layout}
+use Rattle.hwp_geom.specs.declared.ThreadDecl.{ThreadDecl}
+use Rattle.hwp_geom.specs.declared.TransDecl.{TransDecl}
+use Rattle.hwp_script_lines.specs.Grammar.{Fits}
+use Rattle.hwp_script_lines.specs.declared.ScriptLine.{ScriptLine}
+use Rattle.hwp_script_lines.specs.declared.ScriptLine.TheVariants as forms
+use Rattle.hwp_script_lines.specs.declared.Go.{Go}
+use Rattle.hwp_script_read.specs.Context.{cpus_of, frames_of, file_of, proc_of, thread_of, page_of, trans_of, command_of, words_of, cpus_in, frames_in, files_in, procs_in, threads_in, pages_in, trans_in, commands_in, go_in, place_in, place_after}
+use Rattle.hwp_script_read.specs.Reasons.{IsClean, AreClean, top_cpu}
+use Rattle.hwp_script_read.specs.Collects.{command_at, commands_from, commands_of, IsEnded, Collects}
+use Rattle.hwp_script_read.specs.Valid.{IsCommandOf, AreLists, IsValid}
+use Rattle.hwp_script_read.specs.Reads.{Reads}
+use Rattle.hwp_script_read.specs.declared.script.Script.{Script}
+use Rattle.hwp_script_lines.specs.declared.Command.{Command}
+use Rattle.hwp_script_read.proofs.ContextLaws.{onto, plus, more, pushed}
+use Rattle.hwp_script_read.proofs.CleanLaws.{clean_cpus, clean_frames, clean_file, clean_proc, clean_thread, clean_page, clean_trans, clean_command, clean_schedule, clean_end}
+use Rattle.hwp_script_read.proofs.CollectLaws.{commands_of-push}
+use Rattle.hwp_script_read.proofs.FitLaws.{lines_fit, all_fills, all_words}
+use Rattle.hwp_script_read.proofs.NameLaws.{names_in, Grows, grows_line, command_kept, backed_kept, backed, command_valid, plus_le, more_le, onto_le}
+
+-- the numbers stay within their limits
+cpus_step : (above : List ScriptLine) (f : ScriptLine) → cpus_in above ≤ 8 → IsClean above f → plus (cpus_of f) (cpus_in above) ≤ 8
+cpus_step above (forms.Cpus n) h k = omega (arith, (clean_cpus k).few, (clean_cpus k).first)
+cpus_step above f h k = h
+
+frames_step : (above : List ScriptLine) (f : ScriptLine) → frames_in above ≤ 256 → IsClean above f → plus (frames_of f) (frames_in above) ≤ 256
+frames_step above (forms.Frames n) h k = omega (arith, (clean_frames k).few, (clean_frames k).first)
+frames_step above f h k = h
+
+procs_step : (above : List ScriptLine) (f : ScriptLine) → procs_in above ≤ 16 → IsClean above f → more (proc_of f) (procs_in above) ≤ 16
+procs_step above (forms.Proc p) h k = omega (arith, (clean_proc k).few, (clean_proc k).next)
+procs_step above f h k = h
+
+threads_step : (above : List ScriptLine) (f : ScriptLine) → length (threads_in above) ≤ 32 → IsClean above f → length (onto (thread_of f) (threads_in above)) ≤ 32
+threads_step above (forms.Thread t p c b) h k = rw length_push (omega (arith, (clean_thread k).few, (clean_thread k).next))
+threads_step above f h k = h
+
+pages_step : (above : List ScriptLine) (f : ScriptLine) → length (pages_in above) ≤ 256 → IsClean above f → length (onto (page_of f) (pages_in above)) ≤ 256
+pages_step above (forms.Page q b) h k = rw length_push (omega (arith, (clean_page k).few, (clean_page k).next))
+pages_step above f h k = h
+
+trans_step : (above : List ScriptLine) (f : ScriptLine) → length (trans_in above) ≤ 512 → IsClean above f → length (onto (trans_of f) (trans_in above)) ≤ 512
+trans_step above (forms.Trans v p q) h k = rw length_push (omega (arith, (clean_trans k).few, (clean_trans k).next))
+trans_step above f h k = h
+
+files_step : (above : List ScriptLine) (f : ScriptLine) → files_in above ≤ 16 → IsClean above f → more (file_of f) (files_in above) ≤ 16
+files_step above (forms.File n) h k = omega (arith, (clean_file k).few, (clean_file k).next)
+files_step above f h k = h
+
+commands_step : (above : List ScriptLine) (f : ScriptLine) → commands_in above ≤ command_limit → IsClean above f → more (command_of f) (commands_in above) ≤ command_limit
+commands_step above (forms.Command x) h k = omega (arith, (clean_command k).few)
+commands_step above f h k = h
+
+go_count_step : (above : List ScriptLine) (f : ScriptLine) → length (go_in above) ≤ schedule_limit → IsClean above f → length (go_in above ++ words_of f) ≤ schedule_limit
+go_count_step above (forms.Schedule ws) h k = simp length-append (clean_schedule k).few
+go_count_step above f h k = rw append-nil h
+
+-- the names in declarations are declared
+abbrev pub IsNamedThread : ℕ → ℕ → ThreadDecl → Type 0
+IsNamedThread procs cpus t = (t.process.0 < procs) × (t.cpu.0 < cpus)
+
+abbrev pub IsNamedTrans : ℕ → ℕ → TransDecl → Type 0
+IsNamedTrans procs pages v = (v.process.0 < procs) × (v.page.0 < pages)
+
+thread_names_step : (above : List ScriptLine) (f : ScriptLine) (procs cpus : ℕ) → procs_in above ≤ procs → cpus_in above ≤ cpus
+    → All (IsNamedThread procs cpus) (threads_in above) → IsClean above f → All (IsNamedThread procs cpus) (onto (thread_of f) (threads_in above))
+thread_names_step above (forms.Thread t p c x) procs cpus a b h k =
+    All-push (IsNamedThread procs cpus) (threads_in above) _ h (omega (arith, (clean_thread k).process), omega (arith, (clean_thread k).cpu))
+thread_names_step above f procs cpus a b h k = h
+
+trans_names_step : (above : List ScriptLine) (f : ScriptLine) (procs pages : ℕ) → procs_in above ≤ procs → length (pages_in above) ≤ pages
+    → All (IsNamedTrans procs pages) (trans_in above) → IsClean above f → All (IsNamedTrans procs pages) (onto (trans_of f) (trans_in above))
+trans_names_step above (forms.Trans v p q) procs pages a b h k =
+    All-push (IsNamedTrans procs pages) (trans_in above) _ h (omega (arith, (clean_trans k).process), omega (arith, (clean_trans k).page))
+trans_names_step above f procs pages a b h k = h
+
+page_names_step : (above : List ScriptLine) (f : ScriptLine) → All (IsBacked (names_in above)) (pages_in above) → IsClean above f
+    → All (IsBacked (names_in above)) (onto (page_of f) (pages_in above))
+page_names_step above (forms.Page q b) h k = All-push (IsBacked (names_in above)) (pages_in above) _ h (backed above b (clean_page k).backed)
+page_names_step above f h k = h
+
+-- a word of the schedule names a declared processor
+abbrev pub IsNamedGo : ℕ → Go → Type 0
+IsNamedGo cpus g = g.cpu.0 < cpus
+
+go_words : (n : ℕ) (ws : List Go) → top_cpu ws < n → All (IsNamedGo n) ws
+go_words n [] l = All-nil (IsNamedGo n)
+go_words n (w ∷ ws) l = All-cons (IsNamedGo n) _ _ (omega arith) (go_words n ws (omega arith))
+
+go_step : (above : List ScriptLine) (f : ScriptLine) → All (IsNamedGo (cpus_in above)) (go_in above) → IsClean above f
+    → All (IsNamedGo (cpus_in above)) (go_in above ++ words_of f)
+go_step above (forms.Schedule ws) h k = All-append (IsNamedGo (cpus_in above)) _ _ h (go_words (cpus_in above) ws (clean_schedule k).cpus)
+go_step above f h k = rw append-nil h
+
+-- a command that a clean line adds to the list of processor c
+added : (P : Command → Type 0) (test : Bool) (command : Command) → (test ≡ true → P command) → All P (option_to_list (if test then Some command else None))
+added P true command h = All-cons P command [] (h refl) (All-nil P)
+added P false command h = All-nil P
+
+none_added : (P : Command → Type 0) (test : Bool) → All P (option_to_list (if test then None else None))
+none_added P true = All-nil P
+none_added P false = All-nil P
+
+same_place : (place c : ℕ) → (place == c) ≡ true → place ≡ c
+same_place place c e = grind (arith, nat_tests)
+
+added_command : (above : List ScriptLine) (f : ScriptLine) (c : ℕ) (place : Option ℕ) → place_in above ≡ place → IsClean above f → Fits f
+    → All (IsCommandOf (names_in above) c) (option_to_list (command_at place c f))
+added_command above f c None e k fits = All-nil (IsCommandOf (names_in above) c)
+added_command above (forms.Command x) c (Some place) e k fits =
+    let is = clean_command k in
+    added (IsCommandOf (names_in above) c) (place == c) _ (λ t. command_valid above x c place (same_place place c t) fits is.named (rw e at is.here))
+added_command above f c (Some place) e k fits = none_added (IsCommandOf (names_in above) c) (place == c)
+
+-- what clean lines declare
+pub record IsDeclared (fs : List ScriptLine) : Type 0 where
+  pub cpus : cpus_in fs ≤ 8
+  pub frames : frames_in fs ≤ 256
+  pub files : files_in fs ≤ 16
+  pub procs : procs_in fs ≤ 16
+  pub threads : length (threads_in fs) ≤ 32
+  pub pages : length (pages_in fs) ≤ 256
+  pub trans : length (trans_in fs) ≤ 512
+  pub commands : commands_in fs ≤ command_limit
+  pub thread_names : All (IsNamedThread (procs_in fs) (cpus_in fs)) (threads_in fs)
+  pub trans_names : All (IsNamedTrans (procs_in fs) (length (pages_in fs))) (trans_in fs)
+  pub page_names : All (IsBacked (names_in fs)) (pages_in fs)
+  pub own : (c : ℕ) → All (IsCommandOf (names_in fs) c) (commands_of fs c)
+  pub go : All (IsNamedGo (cpus_in fs)) (go_in fs)
+  pub few_go : length (go_in fs) ≤ schedule_limit
+
+declared_none : IsDeclared []
+declared_none = record {
+  cpus = omega arith;
+  frames = omega arith;
+  files = omega arith;
+  procs = omega arith;
+  threads = omega arith;
+  pages = omega arith;
+  trans = omega arith;
+  commands = omega arith;
+  thread_names = All-nil (IsNamedThread 0 0);
+  trans_names = All-nil (IsNamedTrans 0 0);
+  page_names = All-nil (IsBacked (names_in []));
+  own = λ c. All-nil (IsCommandOf (names_in []) c);
+  go = All-nil (IsNamedGo 0);
+  few_go = omega arith;
+}
+
+declared_step : (above : List ScriptLine) (f : ScriptLine) → IsDeclared above → IsClean above f → Fits f → IsDeclared (above ++ f ∷ [])
+declared_step above f h k fits =
+    let p = pushed above f in
+    let grows = grows_line above f in
+    let procs : procs_in above ≤ more (proc_of f) (procs_in above) = more_le (proc_of f) (procs_in above) in
+    let cpus : cpus_in above ≤ plus (cpus_of f) (cpus_in above) = plus_le (cpus_of f) (cpus_in above) in
+    let pages : length (pages_in above) ≤ length (onto (page_of f) (pages_in above)) = onto_le (page_of f) (pages_in above) in
+    record {
+      cpus = rw p.cpus (cpus_step above f h.cpus k);
+      frames = rw p.frames (frames_step above f h.frames k);
+      files = rw p.files (files_step above f h.files k);
+      procs = rw p.procs (procs_step above f h.procs k);
+      threads = rw p.threads (threads_step above f h.threads k);
+      pages = rw p.pages (pages_step above f h.pages k);
+      trans = rw p.trans (trans_step above f h.trans k);
+      commands = rw p.commands (commands_step above f h.commands k);
+      thread_names = rw (p.procs, p.cpus, p.threads) (thread_names_step above f _ _ procs cpus
+          (All-weaker (IsNamedThread (procs_in above) (cpus_in above)) (IsNamedThread (more (proc_of f) (procs_in above)) (plus (cpus_of f) (cpus_in above)))
+          (λ t n. (omega (arith, n.0), omega (arith, n.1))) (threads_in above) h.thread_names) k);
+      trans_names = rw (p.procs, p.pages, p.trans) (trans_names_step above f _ _ procs pages
+          (All-weaker (IsNamedTrans (procs_in above) (length (pages_in above))) (IsNamedTrans (more (proc_of f) (procs_in above)) (length (onto (page_of f) (pages_in above))))
+          (λ v n. (omega (arith, n.0), omega (arith, n.1))) (trans_in above) h.trans_names) k);
+      page_names = rw p.pages (All-weaker (IsBacked (names_in above)) (IsBacked (names_in (above ++ f ∷ []))) (backed_kept (names_in above) (names_in (above ++ f ∷ [])) grows.files)
+          (onto (page_of f) (pages_in above)) (page_names_step above f h.page_names k));
+      own = λ c. rw (commands_of-push above f c)
+          (All-weaker (IsCommandOf (names_in above) c) (IsCommandOf (names_in (above ++ f ∷ [])) c)
+          (command_kept (names_in above) (names_in (above ++ f ∷ [])) c grows) (commands_of above c ++ option_to_list (command_at (place_in above) c f))
+          (All-append (IsCommandOf (names_in above) c) (commands_of above c) (option_to_list (command_at (place_in above) c f))
+          (h.own c) (added_command above f c (place_in above) refl k fits)));
+      go = rw (p.cpus, p.go) (All-weaker (IsNamedGo (cpus_in above)) (IsNamedGo (plus (cpus_of f) (cpus_in above))) (λ g l. omega (arith, cpus)) _ (go_step above f h.go k));
+      few_go = rw p.go (go_count_step above f h.few_go k);
+    }
+
+declared_upto : (fs : List ScriptLine) → AreClean fs → All Fits fs → (n : ℕ) → n ≤ length fs → IsDeclared (take n fs)
+declared_upto fs h fit zero l = declared_none
+declared_upto fs h fit (suc n) l =
+    let within : n < length fs = omega arith in
+    let e : take (n + 1) fs ≡ take n fs ++ get_or fs n forms.End ∷ [] = take_more fs n forms.End within in
+    let step = declared_step (take n fs) (get_or fs n forms.End) (declared_upto fs h fit n (omega arith)) (h.each n _ (slice_get-get_or fs n forms.End within)) (All-get_or Fits fs n forms.End within fit) in
+    rw (← add-one n, e) step
+
+pub declared : (fs : List ScriptLine) → AreClean fs → All Fits fs → IsDeclared fs
+declared fs h fit =
+    let whole : take (length fs) fs ≡ fs = take_all (length fs) fs (omega arith) in rw whole at (declared_upto fs h fit (length fs) (omega arith))
+
+-- the commands of all lists
+total : List (List Command) → ℕ
+total [] = 0
+total (list ∷ lists) = length list + total lists
+
+total-sum : (lists : List (List Command)) → sum_by length lists ≡ total lists
+unfolding total
+total-sum [] = refl
+total-sum (list ∷ lists) = sum_by-cons length list lists ∙ ap (λ n. length list + n) (total-sum lists)
+
+total-append : (g h : ℕ → List Command) (cs : List ℕ) → total (map (λ c. g c ++ h c) cs) ≡ total (map g cs) + total (map h cs)
+unfolding total
+total-append g h [] = refl
+total-append g h (c ∷ cs) = omega (arith, length-append (g c) (h c), total-append g h cs)
+
+length-kept : (test : Bool) (o : Option Command) → test ≡ true → length (option_to_list (if test then o else None)) ≡ length (option_to_list o)
+length-kept true o e = refl
+length-kept false o e = cc
+
+length-left : (test : Bool) (o : Option Command) → test ≡ false → length (option_to_list (if test then o else None)) ≡ 0
+length-left true o e = cc
+length-left false o e = refl
+
+test_same : (place c : ℕ) → place ≡ c → (place == c) ≡ true
+test_same place c e = grind (arith, nat_tests)
+
+test_other : (place c : ℕ) → place ≢ c → (place == c) ≡ false
+test_other place c n = grind (arith, nat_tests)
+
+-- a command stands in one list at most
+kept_at : ℕ → Option Command → ℕ → List Command
+kept_at place o c = option_to_list (if place == c then o else None)
+
+kept_past : (place : ℕ) (o : Option Command) (a n : ℕ) → place < a → total (map (kept_at place o) (range_with_len a n)) ≡ 0
+unfolding total kept_at
+kept_past place o a zero l = refl
+kept_past place o a (suc n) l =
+    omega (arith, length-left (place == a) o (test_other place a (omega arith)), kept_past place o (a + 1) n (omega arith))
+
+kept_once : (place : ℕ) (o : Option Command) (a n : ℕ) → total (map (kept_at place o) (range_with_len a n)) ≤ length (option_to_list o)
+unfolding total kept_at
+kept_once place o a zero = omega arith
+kept_once place o a (suc n) = ⊎_elim
+    (λ (e : place ≡ a). omega (arith, length-kept (place == a) o (test_same place a e), kept_past place o (a + 1) n (omega arith)))
+    (λ (ne : place ≢ a). omega (arith, length-left (place == a) o (test_other place a ne), kept_once place o (a + 1) n))
+    (cases_eq place a)
+
+none_total : (a n : ℕ) → total (map (λ (c : ℕ). []) (range_with_len a n)) ≡ 0
+unfolding total
+none_total a zero = refl
+none_total a (suc n) = omega (arith, none_total (a + 1) n)
+
+line_total : (place : Option ℕ) (f : ScriptLine) (a n : ℕ) → total (map (λ c. option_to_list (command_at place c f)) (range_with_len a n)) ≤ length (option_to_list (command_of f))
+unfolding kept_at
+line_total None f a n = rw none_total (omega arith)
+line_total (Some place) f a n = kept_once place (command_of f) a n
+
+count-cons : (o : Option Command) (xs : List Command) → length (cons_option o xs) ≡ length (option_to_list o) + length xs
+count-cons None xs = omega arith
+count-cons (Some x) xs = omega arith
+
+lists_total : (fs : List ScriptLine) (place : Option ℕ) (a n : ℕ) → total (map (λ c. commands_from place c fs) (range_with_len a n)) ≤ commands_in fs
+lists_total [] place a n = rw none_total (omega arith)
+lists_total (f ∷ fs) place a n =
+    let split = total-append (λ c. option_to_list (command_at place c f)) (λ c. commands_from (place_after place f) c fs) (range_with_len a n) in
+    let here = line_total place f a n in
+    let rest = lists_total fs (place_after place f) a n in
+    let count = count-cons (command_of f) (filter_map command_of fs) in omega (arith, split, here, rest, count)
+
+lists_valid : (layout : Layout) (g : ℕ → List Command) (a n : ℕ) → ((c : ℕ) → All (IsCommandOf layout c) (g c)) → AreLists layout a (map g (range_with_len a n))
+lists_valid layout g a zero h = tt
+lists_valid layout g a (suc n) h = (h a, lists_valid layout g (a + 1) n h)
+
+-- the last line stands behind the others
+last_behind : (fs : List ScriptLine) (f : ScriptLine) → slice_get fs (length fs - 1) ≡ Some f → fs ≡ take (length fs - 1) fs ++ f ∷ []
+last_behind fs f e =
+    let within : length fs - 1 < length fs = slice_get_within fs (length fs - 1) f e in
+    let more = take_more fs (length fs - 1) f within in
+    let whole : take (length fs - 1 + 1) fs ≡ fs = take_all (length fs - 1 + 1) fs (omega arith) in
+    let same : get_or fs (length fs - 1) f ≡ f = get_or_from_slice_get fs (length fs - 1) f f e in
+    sym whole ∙ more ∙ ap (λ g. take (length fs - 1) fs ++ g ∷ []) same
+
+-- clean lines with an end have processors and frames
+pub record HasSize (fs : List ScriptLine) : Type 0 where
+  pub some_cpu : 0 < cpus_in fs
+  pub some_frame : 0 < frames_in fs
+
+has_size : (fs : List ScriptLine) → AreClean fs → IsEnded fs → HasSize fs
+has_size fs h e =
+    let last = clean_end (h.each (length fs - 1) forms.End e) in
+    let p = pushed (take (length fs - 1) fs) forms.End in
+    let behind = last_behind fs forms.End e in
+    let size : HasSize (take (length fs - 1) fs ++ forms.End ∷ []) = record { some_cpu = rw p.cpus last.some_cpu; some_frame = rw p.frames last.some_frame } in
+    subst HasSize (sym behind) size
+
+-- the script of clean lines is valid
+valid : (fs : List ScriptLine) (s : Script) → AreClean fs → IsEnded fs → Collects fs s → All Fits fs → IsValid s
+valid fs s clean ended h fit =
+    let d = declared fs clean fit in
+    let size = has_size fs clean ended in
+    let grows : Grows (names_in fs) s.layout = record {
+      frames = omega (arith, h.frames);
+      files = omega (arith, h.files);
+      threads = λ i t e. rw h.threads e;
+      pages = λ i q e. rw h.pages e;
+      trans = λ i v e. rw h.trans e;
+      page_count = rw h.pages (omega arith);
+      trans_count = rw h.trans (omega arith);
+    } in
+    record {
+      sound = record {
+        some_cpu = omega (arith, h.cpus);
+        cpus = omega (arith, h.cpus);
+        some_frame = omega (arith, h.frames);
+        frames = omega (arith, h.frames);
+        kernel = h.marks ∙ sym h.frames;
+        files = omega (arith, h.files, d.files);
+        procs = omega (arith, h.procs);
+        threads = rw h.threads d.threads;
+        pages = rw h.pages d.pages;
+        trans = rw h.trans d.trans;
+        thread_names = rw (h.threads, h.procs, h.cpus) d.thread_names;
+        page_names = rw h.pages (All-weaker (IsBacked (names_in fs)) (IsBacked s.layout) (backed_kept (names_in fs) s.layout grows.files) (pages_in fs) d.page_names);
+        trans_names = rw (h.trans, h.procs, h.pages) d.trans_names;
+      };
+      one_each = ap length h.lists ∙ length-map-range_with_len (commands_of fs) 0 (cpus_in fs) ∙ sym h.cpus;
+      lists = rw h.lists (lists_valid s.layout (commands_of fs) 0 (cpus_in fs) (λ c.
+          All-weaker (IsCommandOf (names_in fs) c) (IsCommandOf s.layout c) (command_kept (names_in fs) s.layout c grows) (commands_of fs c) (d.own c)));
+      few = rw (h.lists, total-sum) (omega (arith, lists_total fs None 0 (cpus_in fs), d.commands));
+      go = rw (h.go, h.cpus) d.go;
+      few_go = rw h.go d.few_go;
+      fills = rw h.pages (all_fills fs fit);
+      words = rw h.lists (all_words fs 0 (cpus_in fs) fit);
+    }
+
+-- a script that some text gives is valid
+pub valid_read : {bytes : List ℕ} {s : Script} → Reads bytes s → IsValid s
+valid_read {bytes} {s} h =
+    valid h.script.forms s h.script.clean h.script.ended h.script.collects (lines_fit h.numbered h.script.each)

@@ -1,0 +1,12 @@
+use Rattle.std.proofs.Common.{refl, sym}
+use Rattle.std.proofs.lemmas.List.{append-nil}
+use Rattle.hwp_script_lines.specs.declared.ScriptLine.TheVariants as forms
+use Rattle.hwp_script_read.proofs.CleanLaws.{clean_early}
+use Rattle.hwp_script_read.proofs.SumLaws.{next_sums, same_marks}
+use Rattle.hwp_script_read.proofs.context.Summary.add_early.Goals as goal
+
+pub returns : goal.returns
+returns c =
+    let k = clean_early c.requires.clean in
+    next_sums _ (forms.Early c.args.value) _ _ c.requires.sums (k.placed.late)
+    refl refl refl refl (same_marks c.requires.sums) refl (rw (c.requires.sums.early, k.first) refl) refl refl refl refl refl refl refl refl (sym (append-nil _)) c.requires.sums.within refl

@@ -1,0 +1,12 @@
+use Rattle.std.proofs.Common.{refl, sym}
+use Rattle.std.proofs.lemmas.List.{append-nil}
+use Rattle.hwp_script_lines.specs.declared.ScriptLine.TheVariants as forms
+use Rattle.hwp_script_read.proofs.CleanLaws.{clean_file}
+use Rattle.hwp_script_read.proofs.SumLaws.{next_sums, same_marks}
+use Rattle.hwp_script_read.proofs.context.Summary.add_file.Goals as goal
+
+pub returns : goal.returns
+returns c =
+    let k = clean_file c.requires.clean in
+    next_sums _ (forms.File c.args.file) _ _ c.requires.sums (k.placed.late)
+    refl refl refl refl (same_marks c.requires.sums) refl refl refl refl refl refl refl refl refl refl (sym (append-nil _)) c.requires.sums.within refl

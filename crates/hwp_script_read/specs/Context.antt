@@ -1,0 +1,168 @@
+-- What the lines above a line declare.
+use Rattle.std.specs.Prelude.{ℕ, ◌==◌, Bool, max, length, sum, fold, filter_map, flat_map, slice_get, Option, Some, None, List, [], ◌∷◌}
+use Rattle.hwp_geom.specs.declared.ThreadDecl.{ThreadDecl}
+use Rattle.hwp_geom.specs.declared.TransDecl.{TransDecl}
+use Rattle.hwp_geom.specs.declared.PageKind.{PageKind}
+use Rattle.hwp_geom.specs.declared.PageKind.TheVariants as kinds
+use Rattle.hwp_script_lines.specs.declared.ScriptLine.{ScriptLine}
+use Rattle.hwp_script_lines.specs.declared.ScriptLine.TheVariants as forms
+use Rattle.hwp_script_lines.specs.declared.Backing.{Backing}
+use Rattle.hwp_script_lines.specs.declared.Backing.TheVariants as backings
+use Rattle.hwp_script_lines.specs.declared.Go.{Go}
+use Rattle.hwp_script_lines.specs.declared.Command.{Command}
+
+-- the number of processors that a line declares
+abbrev pub cpus_of : ScriptLine → Option ℕ
+cpus_of (forms.Cpus n) = Some n
+cpus_of f = None
+
+-- the number of frames that a line declares
+abbrev pub frames_of : ScriptLine → Option ℕ
+frames_of (forms.Frames n) = Some n
+frames_of f = None
+
+-- the frame that a line gives to the kernel
+abbrev pub kernel_of : ScriptLine → Option ℕ
+kernel_of (forms.Kernel f) = Some f
+kernel_of f = None
+
+-- the setting `vm.memory_failure_recovery` that a line gives
+abbrev pub recovery_of : ScriptLine → Option Bool
+recovery_of (forms.Recovery b) = Some (b == 1)
+recovery_of f = None
+
+-- the setting `vm.memory_failure_early_kill` that a line gives
+abbrev pub early_of : ScriptLine → Option Bool
+early_of (forms.Early b) = Some (b == 1)
+early_of f = None
+
+-- the file that a line declares
+abbrev pub file_of : ScriptLine → Option ℕ
+file_of (forms.File n) = Some n
+file_of f = None
+
+-- the process that a line declares
+abbrev pub proc_of : ScriptLine → Option ℕ
+proc_of (forms.Proc p) = Some p
+proc_of f = None
+
+-- the thread that a line declares
+abbrev pub thread_of : ScriptLine → Option ThreadDecl
+thread_of (forms.Thread t p c h) = Some (record { process = record { 0 = p }; cpu = record { 0 = c }; handler = h })
+thread_of f = None
+
+-- what stands behind a page
+abbrev pub kind_of : Backing → PageKind
+kind_of backings.Anon = kinds.Anon
+kind_of (backings.File n x) = kinds.File (record { 0 = n }) x
+
+-- the page that a line declares
+abbrev pub page_of : ScriptLine → Option PageKind
+page_of (forms.Page q b) = Some (kind_of b)
+page_of f = None
+
+-- the translation that a line declares
+abbrev pub trans_of : ScriptLine → Option TransDecl
+trans_of (forms.Trans v p q) = Some (record { process = record { 0 = p }; page = record { 0 = q } })
+trans_of f = None
+
+-- the processor whose list a line begins
+abbrev pub cpu_of : ScriptLine → Option ℕ
+cpu_of (forms.Cpu c) = Some c
+cpu_of f = None
+
+-- the command that a line is
+abbrev pub command_of : ScriptLine → Option Command
+command_of (forms.Command c) = Some c
+command_of f = None
+
+-- the words of the schedule that a line has
+abbrev pub words_of : ScriptLine → List Go
+words_of (forms.Schedule ws) = ws
+words_of f = []
+
+-- the number of processors: 0 before its line, which stands once
+abbrev pub cpus_in : List ScriptLine → ℕ
+cpus_in above = sum (filter_map cpus_of above)
+
+-- the number of frames: 0 before its line, which stands once
+abbrev pub frames_in : List ScriptLine → ℕ
+frames_in above = sum (filter_map frames_of above)
+
+-- the frames of the kernel
+abbrev pub kernel_in : List ScriptLine → List ℕ
+kernel_in above = filter_map kernel_of above
+
+-- the setting `vm.memory_failure_recovery`, if its line is there, which stands at most once
+abbrev pub recovery_in : List ScriptLine → Option Bool
+recovery_in above = slice_get (filter_map recovery_of above) 0
+
+-- the setting `vm.memory_failure_early_kill`, if its line is there, which stands at most once
+abbrev pub early_in : List ScriptLine → Option Bool
+early_in above = slice_get (filter_map early_of above) 0
+
+-- the number of files
+abbrev pub files_in : List ScriptLine → ℕ
+files_in above = length (filter_map file_of above)
+
+-- the number of processes
+abbrev pub procs_in : List ScriptLine → ℕ
+procs_in above = length (filter_map proc_of above)
+
+-- the threads, by their numbers
+abbrev pub threads_in : List ScriptLine → List ThreadDecl
+threads_in above = filter_map thread_of above
+
+-- the pages, by their numbers
+abbrev pub pages_in : List ScriptLine → List PageKind
+pages_in above = filter_map page_of above
+
+-- the translations, by their numbers
+abbrev pub trans_in : List ScriptLine → List TransDecl
+trans_in above = filter_map trans_of above
+
+-- the processors whose lists have begun
+abbrev pub lists_in : List ScriptLine → List ℕ
+lists_in above = filter_map cpu_of above
+
+-- the number of commands
+abbrev pub commands_in : List ScriptLine → ℕ
+commands_in above = length (filter_map command_of above)
+
+-- the words of the schedule
+abbrev pub go_in : List ScriptLine → List Go
+go_in above = flat_map words_of above
+
+-- the processor in whose list the lines after a line stand, from that before it
+abbrev pub place_after : Option ℕ → ScriptLine → Option ℕ
+place_after at (forms.Cpu c) = Some c
+place_after at (forms.Schedule ws) = None
+place_after at forms.End = None
+place_after at f = at
+
+-- the processor in whose list the next line stands
+abbrev pub place_in : List ScriptLine → Option ℕ
+place_in above = fold place_after None above
+
+-- the group of a kind of line: groups stand in rising order
+abbrev pub group : ScriptLine → ℕ
+group forms.Header = 0
+group (forms.Cpus n) = 1
+group (forms.Frames n) = 2
+group (forms.Kernel f) = 3
+group (forms.Recovery b) = 4
+group (forms.Early b) = 5
+group (forms.File n) = 6
+group (forms.Proc p) = 7
+group (forms.Thread t p c h) = 8
+group (forms.Page q b) = 9
+group (forms.Trans v p q) = 10
+group (forms.Cpu c) = 11
+group (forms.Command c) = 11
+group (forms.Schedule ws) = 12
+group forms.End = 13
+
+-- the highest group
+abbrev pub highest : List ScriptLine → ℕ
+highest [] = 0
+highest (f ∷ fs) = max (group f) (highest fs)

@@ -1,0 +1,10 @@
+pub mod Limits
+pub mod Context
+pub mod Reasons
+pub mod Collects
+pub mod Sums
+pub mod Refusals
+pub mod Valid
+pub mod Reads
+pub use Rattle.hwp_geom.specs as hwp_geom
+pub use Rattle.hwp_script_lines.specs as hwp_script_lines

@@ -1,0 +1,168 @@
+-- The reasons to refuse a line, after the lines above it.
+use Rattle.std.specs.Prelude.{◌≡◌, ◌≢◌, ℕ, ◌+◌, ◌<◌, ◌≤◌, ◌⊎◌, max, length, Contains, IsSome, slice_get, option_and_then, Option, Some, None, List, [], ◌∷◌, take}
+use Rattle.hwp_geom.specs.declared.ThreadDecl.{ThreadDecl}
+use Rattle.hwp_geom.specs.declared.TransDecl.{TransDecl}
+use Rattle.hwp_geom.specs.declared.PageKind.{PageKind}
+use Rattle.hwp_geom.specs.declared.PageKind.TheVariants as kinds
+use Rattle.hwp_geom.specs.Limits.{cpu_limit, frame_limit, file_limit, process_limit, thread_limit, page_limit, translation_limit, command_limit}
+use Rattle.hwp_script_lines.specs.declared.ScriptLine.{ScriptLine}
+use Rattle.hwp_script_lines.specs.declared.ScriptLine.TheVariants as forms
+use Rattle.hwp_script_lines.specs.declared.Backing.{Backing}
+use Rattle.hwp_script_lines.specs.declared.Backing.TheVariants as backings
+use Rattle.hwp_script_lines.specs.declared.Go.{Go}
+use Rattle.hwp_script_lines.specs.declared.Command.{Command}
+use Rattle.hwp_script_lines.specs.declared.Command.TheVariants as commands
+use Rattle.hwp_script_read.specs.Limits.{schedule_limit}
+use Rattle.hwp_script_read.specs.Context.{cpus_in, frames_in, kernel_in, recovery_in, early_in, files_in, procs_in, threads_in, pages_in, trans_in, lists_in, commands_in, go_in, place_in, highest}
+use Rattle.hwp_script_read.specs.declared.why.Why.{Why}
+use Rattle.hwp_script_read.specs.declared.why.Why.TheVariants as whys
+
+-- a line of this group follows one of a higher group, or stands before the numbers of processors and frames
+abbrev pub IsMisplaced : List ScriptLine → ℕ → Type 0
+IsMisplaced above n = (n < highest above) ⊎ (cpus_in above ≡ 0) ⊎ (frames_in above ≡ 0)
+
+-- a thread and a translation are not both declared, or are of two processes
+abbrev pub IsForeign : Option ThreadDecl → Option TransDecl → Type 0
+IsForeign (Some t) (Some v) = t.process.0 ≢ v.process.0
+IsForeign t v = Unit {0}
+
+-- not a page with a file behind it
+abbrev pub IsNoFilePage : Option PageKind → Type 0
+IsNoFilePage (Some (kinds.File n x)) = ⊥
+IsNoFilePage q = Unit {0}
+
+-- not a page with nothing behind it
+abbrev pub IsNoAnonPage : Option PageKind → Type 0
+IsNoAnonPage (Some kinds.Anon) = ⊥
+IsNoAnonPage q = Unit {0}
+
+-- a command names what is not declared above, or what is not of its kind
+abbrev pub IsUndeclared : List ScriptLine → Command → Type 0
+IsUndeclared above (commands.Load t v l) = IsForeign (slice_get (threads_in above) t.0) (slice_get (trans_in above) v.0)
+IsUndeclared above (commands.Fetch t v l) = IsForeign (slice_get (threads_in above) t.0) (slice_get (trans_in above) v.0)
+IsUndeclared above (commands.KLoad t v l) = IsForeign (slice_get (threads_in above) t.0) (slice_get (trans_in above) v.0)
+IsUndeclared above (commands.Store t v l x) = IsForeign (slice_get (threads_in above) t.0) (slice_get (trans_in above) v.0)
+IsUndeclared above (commands.Free v) = length (trans_in above) ≤ v.0
+IsUndeclared above (commands.Drop q) = length (pages_in above) ≤ q.0
+IsUndeclared above (commands.Sync q) = IsNoFilePage (slice_get (pages_in above) q.0)
+IsUndeclared above (commands.Out q) = IsNoAnonPage (slice_get (pages_in above) q.0)
+IsUndeclared above (commands.Fsync n) = files_in above ≤ n.0
+IsUndeclared above (commands.Prctl t args) = length (threads_in above) ≤ t.0
+IsUndeclared above (commands.Bad f l) = frames_in above ≤ f.0
+IsUndeclared above (commands.Weak f l) = frames_in above ≤ f.0
+IsUndeclared above (commands.Scrub a b) = (frames_in above ≤ a.0) ⊎ (frames_in above ≤ b.0)
+IsUndeclared above (commands.Log s a m) = ⊥
+IsUndeclared above (commands.RaiseUser t r e) = length (threads_in above) ≤ t.0
+IsUndeclared above (commands.RaiseKernel r e) = ⊥
+IsUndeclared above commands.RaiseNested = ⊥
+IsUndeclared above (commands.Inject f) = frames_in above ≤ f.0
+IsUndeclared above (commands.Soft f) = frames_in above ≤ f.0
+IsUndeclared above (commands.Unpoison f) = frames_in above ≤ f.0
+
+-- the thread that a command is of
+abbrev pub actor : Command → Option ℕ
+actor (commands.Load t v l) = Some t.0
+actor (commands.Fetch t v l) = Some t.0
+actor (commands.KLoad t v l) = Some t.0
+actor (commands.Store t v l x) = Some t.0
+actor (commands.Prctl t args) = Some t.0
+actor (commands.RaiseUser t r e) = Some t.0
+actor c = None
+
+-- a command stands in no list, or in that of another processor than its thread's
+abbrev pub IsElsewhere : Option ℕ → Option ThreadDecl → Type 0
+IsElsewhere None t = Unit {0}
+IsElsewhere (Some c) (Some t) = t.cpu.0 ≢ c
+IsElsewhere (Some c) None = ⊥
+
+-- the number of the file behind a page is too high
+abbrev pub IsBackingOver : Backing → Type 0
+IsBackingOver backings.Anon = ⊥
+IsBackingOver (backings.File n x) = file_limit ≤ n
+
+-- the file behind a page is not declared above
+abbrev pub IsBackingUndeclared : List ScriptLine → Backing → Type 0
+IsBackingUndeclared above backings.Anon = ⊥
+IsBackingUndeclared above (backings.File n x) = files_in above ≤ n
+
+-- the highest processor that words of a schedule name
+abbrev pub top_cpu : List Go → ℕ
+top_cpu [] = 0
+top_cpu (w ∷ ws) = max w.cpu.0 (top_cpu ws)
+
+-- the reason applies to the line, after those above it (a line below `end`, also a second `end`, is in the wrong place)
+abbrev pub Applies : List ScriptLine → ScriptLine → Why → Type 0
+Applies above forms.Header whys.UnknownWord = 0 < length above
+Applies above forms.Header w = ⊥
+Applies above f whys.BadHeader = length above ≡ 0
+Applies above (forms.Cpus n) whys.OverLimit = (n ≡ 0) ⊎ (cpu_limit < n)
+Applies above (forms.Cpus n) whys.Twice = 0 < cpus_in above
+Applies above (forms.Cpus n) whys.WrongPlace = 1 < highest above
+Applies above (forms.Frames n) whys.OverLimit = (n ≡ 0) ⊎ (frame_limit < n)
+Applies above (forms.Frames n) whys.Twice = 0 < frames_in above
+Applies above (forms.Frames n) whys.WrongPlace = (2 < highest above) ⊎ (cpus_in above ≡ 0)
+Applies above (forms.Kernel f) whys.OverLimit = frame_limit ≤ f
+Applies above (forms.Kernel f) whys.Undeclared = frames_in above ≤ f
+Applies above (forms.Kernel f) whys.Twice = Contains (kernel_in above) f
+Applies above (forms.Kernel f) whys.WrongPlace = IsMisplaced above 3
+Applies above (forms.Recovery b) whys.OverLimit = 1 < b
+Applies above (forms.Recovery b) whys.Twice = IsSome (recovery_in above)
+Applies above (forms.Recovery b) whys.WrongPlace = IsMisplaced above 4
+Applies above (forms.Early b) whys.OverLimit = 1 < b
+Applies above (forms.Early b) whys.Twice = IsSome (early_in above)
+Applies above (forms.Early b) whys.WrongPlace = IsMisplaced above 5
+Applies above (forms.File n) whys.OverLimit = file_limit ≤ n
+Applies above (forms.File n) whys.Twice = n < files_in above
+Applies above (forms.File n) whys.WrongPlace = IsMisplaced above 6 ⊎ (files_in above < n)
+Applies above (forms.Proc p) whys.OverLimit = process_limit ≤ p
+Applies above (forms.Proc p) whys.Twice = p < procs_in above
+Applies above (forms.Proc p) whys.WrongPlace = IsMisplaced above 7 ⊎ (procs_in above < p)
+Applies above (forms.Thread t p c h) whys.OverLimit = (thread_limit ≤ t) ⊎ (process_limit ≤ p) ⊎ (cpu_limit ≤ c)
+Applies above (forms.Thread t p c h) whys.Undeclared = (procs_in above ≤ p) ⊎ (cpus_in above ≤ c)
+Applies above (forms.Thread t p c h) whys.Twice = t < length (threads_in above)
+Applies above (forms.Thread t p c h) whys.WrongPlace = IsMisplaced above 8 ⊎ (length (threads_in above) < t)
+Applies above (forms.Page q b) whys.OverLimit = (page_limit ≤ q) ⊎ IsBackingOver b
+Applies above (forms.Page q b) whys.Undeclared = IsBackingUndeclared above b
+Applies above (forms.Page q b) whys.Twice = q < length (pages_in above)
+Applies above (forms.Page q b) whys.WrongPlace = IsMisplaced above 9 ⊎ (length (pages_in above) < q)
+Applies above (forms.Trans v p q) whys.OverLimit = (translation_limit ≤ v) ⊎ (process_limit ≤ p) ⊎ (page_limit ≤ q)
+Applies above (forms.Trans v p q) whys.Undeclared = (procs_in above ≤ p) ⊎ (length (pages_in above) ≤ q)
+Applies above (forms.Trans v p q) whys.Twice = v < length (trans_in above)
+Applies above (forms.Trans v p q) whys.WrongPlace = IsMisplaced above 10 ⊎ (length (trans_in above) < v)
+Applies above (forms.Cpu c) whys.OverLimit = cpu_limit ≤ c
+Applies above (forms.Cpu c) whys.Undeclared = cpus_in above ≤ c
+Applies above (forms.Cpu c) whys.Twice = Contains (lists_in above) c
+Applies above (forms.Cpu c) whys.WrongPlace = IsMisplaced above 11
+Applies above (forms.Command c) whys.OverLimit = command_limit ≤ commands_in above
+Applies above (forms.Command c) whys.Undeclared = IsUndeclared above c
+Applies above (forms.Command c) whys.WrongPlace = IsMisplaced above 11 ⊎ IsElsewhere (place_in above) (option_and_then (λ t. slice_get (threads_in above) t) (actor c))
+Applies above (forms.Schedule ws) whys.OverLimit = schedule_limit < length (go_in above) + length ws
+Applies above (forms.Schedule ws) whys.Undeclared = cpus_in above ≤ top_cpu ws
+Applies above (forms.Schedule ws) whys.WrongPlace = IsMisplaced above 12
+Applies above forms.End whys.WrongPlace = IsMisplaced above 12
+Applies above f w = ⊥
+
+-- no reason applies to the line
+pub record IsClean (above : List ScriptLine) (f : ScriptLine) : Type 0 where
+  pub none : (w : Why) → Applies above f w → ⊥
+
+-- the number of a reason: the lowest that applies to a line is named
+abbrev pub number : Why → ℕ
+number whys.BadHeader = 1
+number whys.UnknownWord = 2
+number whys.BadNumber = 3
+number whys.OverLimit = 4
+number whys.Undeclared = 5
+number whys.Twice = 6
+number whys.WrongPlace = 7
+number whys.NoEnd = 8
+number whys.TooLong = 9
+
+-- the reason applies to the line, and no lower one does
+pub record IsLowest (above : List ScriptLine) (f : ScriptLine) (w : Why) : Type 0 where
+  pub applies : Applies above f w
+  pub lowest : (v : Why) → Applies above f v → number w ≤ number v
+
+-- each line is clean after those above it
+pub record AreClean (fs : List ScriptLine) : Type 0 where
+  pub each : (n : ℕ) (f : ScriptLine) → slice_get fs n ≡ Some f → IsClean (take n fs) f

@@ -1,0 +1,28 @@
+-- What is kept of the lines above while a script is read.
+use Rattle.std.specs.Prelude.{◌≡◌, ℕ, ◌<◌, ◌↔◌, true, length, map, slice_get, Some, IfSome, Contains, List}
+use Rattle.std.specs.List.{range_with_len}
+use Rattle.hwp_script_lines.specs.declared.ScriptLine.{ScriptLine}
+use Rattle.hwp_script_read.specs.declared.context.Summary.{Summary}
+use Rattle.hwp_script_read.specs.Context.{cpus_in, frames_in, kernel_in, recovery_in, early_in, files_in, procs_in, threads_in, pages_in, trans_in, lists_in, commands_in, go_in, place_in, highest}
+use Rattle.hwp_script_read.specs.Collects.{commands_of}
+
+-- the summary is that of these lines
+pub record Sums (above : List ScriptLine) (s : Summary) : Type 0 where
+  pub group : s.group ≡ highest above
+  pub cpus : s.cpus ≡ cpus_in above
+  pub frames : s.frames ≡ frames_in above
+  pub marks : length s.kernel.items ≡ frames_in above
+  pub kernel : (frame : ℕ) → (slice_get s.kernel.items frame ≡ Some true) ↔ Contains (kernel_in above) frame
+  pub recovery : s.recovery ≡ recovery_in above
+  pub early : s.early ≡ early_in above
+  pub files : s.files ≡ files_in above
+  pub procs : s.procs ≡ procs_in above
+  pub threads : s.threads ≡ threads_in above
+  pub pages : s.pages ≡ pages_in above
+  pub trans : s.trans ≡ trans_in above
+  pub begun : s.begun ≡ lists_in above
+  pub place : s.place ≡ place_in above
+  pub within : IfSome s.place (λ (p : ℕ). p < s.cpus)
+  pub commands : s.commands ≡ commands_in above
+  pub lists : s.lists.items ≡ map (commands_of above) (range_with_len 0 (cpus_in above))
+  pub go : s.go ≡ go_in above

@@ -1,0 +1,88 @@
+-- What every script has that some text gives.
+use Rattle.std.specs.Prelude.{◌≡◌, ℕ, ◌<◌, ◌≤◌, ◌+◌, ◌^◌, length, sum_by, All, IsSomeAnd, slice_get, List, [], ◌∷◌}
+use Rattle.hwp_geom.specs.Layout.{IsSound}
+use Rattle.hwp_geom.specs.Limits.{line_limit, command_limit}
+use Rattle.hwp_geom.specs.declared.Layout.{Layout}
+use Rattle.hwp_geom.specs.declared.Thread.{Thread}
+use Rattle.hwp_geom.specs.declared.VSlot.{VSlot}
+use Rattle.hwp_geom.specs.declared.ThreadDecl.{ThreadDecl}
+use Rattle.hwp_geom.specs.declared.TransDecl.{TransDecl}
+use Rattle.hwp_geom.specs.declared.PageKind.{PageKind}
+use Rattle.hwp_geom.specs.declared.PageKind.TheVariants as kinds
+use Rattle.hwp_script_read.specs.declared.script.Script.{Script}
+use Rattle.hwp_script_lines.specs.declared.Go.{Go}
+use Rattle.hwp_script_lines.specs.declared.Command.{Command}
+use Rattle.hwp_script_lines.specs.declared.Command.TheVariants as commands
+use Rattle.hwp_script_read.specs.Limits.{schedule_limit}
+
+-- a thread of the processor
+abbrev pub IsThreadOf : Layout → ℕ → Thread → Type 0
+IsThreadOf layout cpu thread = IsSomeAnd (slice_get layout.threads thread.0) (λ (t : ThreadDecl). t.cpu.0 ≡ cpu)
+
+-- a thread of the processor accesses memory through a translation of the thread's own process
+abbrev pub IsAccess : Layout → ℕ → Thread → VSlot → Type 0
+IsAccess layout cpu thread slot =
+    IsSomeAnd (slice_get layout.threads thread.0) (λ (t : ThreadDecl). (t.cpu.0 ≡ cpu)
+    × IsSomeAnd (slice_get layout.trans slot.0) (λ (v : TransDecl). v.process ≡ t.process))
+
+-- something stands behind a page: a file
+abbrev pub IsFile : PageKind → Type 0
+IsFile kinds.Anon = ⊥
+IsFile (kinds.File file fill) = Unit {0}
+
+-- nothing stands behind a page
+abbrev pub IsAnon : PageKind → Type 0
+IsAnon kinds.Anon = Unit {0}
+IsAnon (kinds.File file fill) = ⊥
+
+-- the names of a command of the processor are declared, and fit one another
+abbrev pub IsCommandOf : Layout → ℕ → Command → Type 0
+IsCommandOf layout cpu (commands.Load thread slot line) = IsAccess layout cpu thread slot × (line < line_limit)
+IsCommandOf layout cpu (commands.Fetch thread slot line) = IsAccess layout cpu thread slot × (line < line_limit)
+IsCommandOf layout cpu (commands.KLoad thread slot line) = IsAccess layout cpu thread slot × (line < line_limit)
+IsCommandOf layout cpu (commands.Store thread slot line word) = IsAccess layout cpu thread slot × (line < line_limit)
+IsCommandOf layout cpu (commands.Free slot) = slot.0 < length layout.trans
+IsCommandOf layout cpu (commands.Drop page) = page.0 < length layout.pages
+IsCommandOf layout cpu (commands.Sync page) = IsSomeAnd (slice_get layout.pages page.0) IsFile
+IsCommandOf layout cpu (commands.Out page) = IsSomeAnd (slice_get layout.pages page.0) IsAnon
+IsCommandOf layout cpu (commands.Fsync file) = file.0 < layout.files
+IsCommandOf layout cpu (commands.Prctl thread args) = IsThreadOf layout cpu thread
+IsCommandOf layout cpu (commands.Bad frame line) = (frame.0 < layout.frames) × (line < line_limit)
+IsCommandOf layout cpu (commands.Weak frame line) = (frame.0 < layout.frames) × (line < line_limit)
+IsCommandOf layout cpu (commands.Scrub first last) = (first.0 ≤ last.0) × (last.0 < layout.frames)
+IsCommandOf layout cpu (commands.Log status addr misc) = Unit {0}
+IsCommandOf layout cpu (commands.RaiseUser thread ripv eipv) = IsThreadOf layout cpu thread
+IsCommandOf layout cpu (commands.RaiseKernel ripv eipv) = Unit {0}
+IsCommandOf layout cpu commands.RaiseNested = Unit {0}
+IsCommandOf layout cpu (commands.Inject frame) = frame.0 < layout.frames
+IsCommandOf layout cpu (commands.Soft frame) = frame.0 < layout.frames
+IsCommandOf layout cpu (commands.Unpoison frame) = frame.0 < layout.frames
+
+-- the lists from processor number `cpu` on have commands of their processors
+abbrev pub AreLists : Layout → ℕ → List (List Command) → Type 0
+AreLists layout cpu [] = Unit {0}
+AreLists layout cpu (list ∷ lists) = All (IsCommandOf layout cpu) list × AreLists layout (cpu + 1) lists
+
+-- the words of a command that no declaration bounds are of 64 bits
+abbrev pub HasWords : Command → Type 0
+HasWords (commands.Store thread slot line word) = word < 2 ^ 64
+HasWords (commands.Prctl thread args) = (args.operation < 2 ^ 64) × (args.arg2 < 2 ^ 64) × (args.arg3 < 2 ^ 64) × (args.arg4 < 2 ^ 64) × (args.arg5 < 2 ^ 64)
+HasWords (commands.Log status addr misc) = (status < 2 ^ 64) × (addr < 2 ^ 64) × (misc < 2 ^ 64)
+HasWords command = Unit {0}
+
+-- the words of a file's page are of 64 bits
+abbrev pub HasFill : PageKind → Type 0
+HasFill kinds.Anon = Unit {0}
+HasFill (kinds.File file fill) = fill < 2 ^ 64
+
+-- a script that some text gives: its layout is sound, it has a list of each processor's commands, and a schedule of
+-- its processors
+pub record IsValid (script : Script) : Type 0 where
+  pub sound : IsSound script.layout
+  pub one_each : length script.lists ≡ script.layout.cpus
+  pub lists : AreLists script.layout 0 script.lists
+  pub few : sum_by length script.lists ≤ command_limit
+  pub go : All (λ (g : Go). g.cpu.0 < script.layout.cpus) script.go
+  pub few_go : length script.go ≤ schedule_limit
+  pub fills : All HasFill script.layout.pages
+  pub words : All (All HasWords) script.lists

@@ -1,0 +1,121 @@
+ghost use Rattle.std.specs.Prelude.{◌≡◌, ℕ, ◌<◌, ◌≤◌, ◌↔◌, length, slice_get, option_and_then, IsTrue, MatchOption};
+ghost use Rattle.hwp_script_read.specs.Reasons.{IsClean, IsLowest, IsForeign, IsNoFilePage, IsNoAnonPage, IsUndeclared, IsElsewhere, actor};
+ghost use Rattle.hwp_script_read.specs.Sums.{Sums};
+
+use crate::context::Summary;
+use crate::faults::is_misplaced;
+use crate::why::Why;
+use hwp_geom::{MAX_COMMANDS, Page, PageKind, Thread, VSlot};
+use hwp_script_lines::{Command, ScriptLine};
+
+/// Whether a thread and a translation are not both declared, or are of two processes.
+fn is_foreign(summary: &Summary, thread: Thread, slot: VSlot) -> bool
+    ensures { IsTrue result ↔ IsForeign (slice_get summary.now.threads thread.0) (slice_get summary.now.trans slot.0) }
+{
+    let thread = summary.threads.as_slice().get(usize::from(thread.0));
+    let slot = summary.trans.as_slice().get(usize::from(slot.0));
+    match (thread, slot) {
+        (Some(thread), Some(slot)) => thread.process.0 != slot.process.0,
+        _ => true,
+    }
+}
+
+/// Whether a page is not declared with a file behind it.
+fn is_no_file_page(summary: &Summary, page: Page) -> bool
+    ensures { IsTrue result ↔ IsNoFilePage (slice_get summary.now.pages page.0) }
+{
+    !matches!(
+        summary.pages.as_slice().get(usize::from(page.0)),
+        Some(PageKind::File { .. })
+    )
+}
+
+/// Whether a page is not declared with nothing behind it.
+fn is_no_anon_page(summary: &Summary, page: Page) -> bool
+    ensures { IsTrue result ↔ IsNoAnonPage (slice_get summary.now.pages page.0) }
+{
+    !matches!(
+        summary.pages.as_slice().get(usize::from(page.0)),
+        Some(PageKind::Anon)
+    )
+}
+
+/// Whether a command names what is not declared, or what is not of its kind.
+fn is_undeclared(summary: &Summary, above: &[ScriptLine], command: &Command) -> bool
+    requires { Sums above.now summary.now }
+    ensures { IsTrue result ↔ IsUndeclared above.now command.now }
+{
+    let frames = summary.frames;
+    match *command {
+        Command::Load { thread, slot, .. }
+        | Command::Fetch { thread, slot, .. }
+        | Command::KLoad { thread, slot, .. }
+        | Command::Store { thread, slot, .. } => is_foreign(summary, thread, slot),
+        Command::Free { slot } => usize::from(slot.0) >= summary.trans.len(),
+        Command::Drop { page } => usize::from(page.0) >= summary.pages.len(),
+        Command::Sync { page } => is_no_file_page(summary, page),
+        Command::Out { page } => is_no_anon_page(summary, page),
+        Command::Fsync { file } => file.0 >= summary.files,
+        Command::Prctl { thread, .. } | Command::RaiseUser { thread, .. } => {
+            usize::from(thread.0) >= summary.threads.len()
+        }
+        Command::Bad { frame, .. } | Command::Weak { frame, .. } => frame.0 >= frames,
+        Command::Scrub { first, last } => first.0 >= frames || last.0 >= frames,
+        Command::Log { .. } | Command::RaiseKernel { .. } | Command::RaiseNested => false,
+        Command::Inject { frame } | Command::Soft { frame } | Command::Unpoison { frame } => {
+            frame.0 >= frames
+        }
+    }
+}
+
+/// The thread that a command is of.
+fn actor_of(command: &Command) -> Option<usize>
+    ensures { result ≡ actor command.now }
+{
+    match *command {
+        Command::Load { thread, .. }
+        | Command::Fetch { thread, .. }
+        | Command::KLoad { thread, .. }
+        | Command::Store { thread, .. }
+        | Command::Prctl { thread, .. }
+        | Command::RaiseUser { thread, .. } => Some(usize::from(thread.0)),
+        _ => None,
+    }
+}
+
+/// Whether a command of a thread, if it is one's, would stand in no list, or in another processor's.
+fn is_elsewhere(summary: &Summary, thread: Option<usize>) -> bool
+    ensures { IsTrue result ↔ IsElsewhere summary.now.place (option_and_then (λ t. slice_get summary.now.threads t) thread) }
+{
+    let Some(place) = summary.place else {
+        return true;
+    };
+    let Some(thread) = thread else {
+        return false;
+    };
+    match summary.threads.as_slice().get(thread) {
+        Some(thread) => u64::from(thread.cpu.0) != place,
+        None => false,
+    }
+}
+
+/// The lowest reason that applies to a command below these lines, if any does.
+pub(crate) fn command_fault(
+    summary: &Summary,
+    above: &[ScriptLine],
+    command: &Command,
+) -> Option<Why>
+    requires sums { Sums above.now summary.now }
+    requires some { 0 < length above.now }
+    ensures { MatchOption result (IsClean above.now (ScriptLine.Command command.now)) (λ why. IsLowest above.now (ScriptLine.Command command.now) why) }
+{
+    if summary.commands >= MAX_COMMANDS {
+        Some(Why::OverLimit)
+    } else if is_undeclared(summary, above, command) {
+        Some(Why::Undeclared)
+    } else if is_misplaced(summary, above, 11) || is_elsewhere(summary, actor_of(command)) {
+        Some(Why::WrongPlace)
+    } else {
+        None
+    }
+}

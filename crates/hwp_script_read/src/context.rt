@@ -1,0 +1,96 @@
+ghost use Rattle.std.specs.Prelude.{◌↔◌, IsTrue, [], Contains};
+ghost use Rattle.hwp_script_read.specs.Collects.{Collects};
+ghost use Rattle.hwp_script_read.specs.Sums.{Sums};
+
+use crate::script::Script;
+use hwp_geom::{Layout, List, PageKind, ThreadDecl, TransDecl};
+use hwp_script_lines::{Command, Go, ScriptLine};
+use std::alloc::Global;
+
+/// What the lines above a line declare.
+#[derive(Drop)]
+pub(crate) struct Summary {
+    /// The highest group.
+    pub group: u8,
+    /// The number of processors, 0 before its line.
+    pub cpus: u8,
+    /// The number of frames, 0 before its line.
+    pub frames: u16,
+    /// For each frame, whether it is the kernel's.
+    pub kernel: Vec<bool>,
+    /// The setting `vm.memory_failure_recovery`, if its line is above.
+    pub recovery: Option<bool>,
+    /// The setting `vm.memory_failure_early_kill`, if its line is above.
+    pub early: Option<bool>,
+    pub files: u8,
+    pub procs: u8,
+    pub threads: List<ThreadDecl>,
+    pub pages: List<PageKind>,
+    pub trans: List<TransDecl>,
+    /// The processors whose lists have begun.
+    pub begun: List<u64>,
+    /// The processor in whose list the next line stands.
+    pub place: Option<u64>,
+    /// The number of commands.
+    pub commands: u32,
+    /// The commands of each processor.
+    pub lists: Vec<List<Command>>,
+    /// The words of the schedule.
+    pub go: List<Go>,
+}
+
+impl Summary {
+    /// The summary of no lines.
+    pub(crate) fn new(alloc: Global) -> Summary
+        ensures { Sums [] result }
+    {
+        Summary {
+            group: 0,
+            cpus: 0,
+            frames: 0,
+            kernel: Vec::new(alloc),
+            recovery: None,
+            early: None,
+            files: 0,
+            procs: 0,
+            threads: List::new(alloc),
+            pages: List::new(alloc),
+            trans: List::new(alloc),
+            begun: List::new(alloc),
+            place: None,
+            commands: 0,
+            lists: Vec::new(alloc),
+            go: List::new(alloc),
+        }
+    }
+
+    /// Whether a processor's list has begun.
+    pub(crate) fn has_list(&self, cpu: u64) -> bool
+        ensures { IsTrue result ↔ Contains self.now.begun cpu }
+    {
+        self.begun.as_slice().contains(&cpu)
+    }
+
+    /// The script that these lines give.
+    pub(crate) fn into_script(self, lines: &[ScriptLine]) -> Script
+        requires { Sums lines.now self }
+        ensures { Collects lines.now result }
+    {
+        Script {
+            layout: Layout {
+                cpus: self.cpus,
+                frames: self.frames,
+                kernel: List::from_vec(self.kernel),
+                recovery: self.recovery.unwrap_or(true),
+                early: self.early.unwrap_or(false),
+                files: self.files,
+                procs: self.procs,
+                threads: self.threads,
+                pages: self.pages,
+                trans: self.trans,
+            },
+            lists: List::from_vec(self.lists),
+            go: self.go,
+        }
+    }
+}

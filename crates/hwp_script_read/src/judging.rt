@@ -1,0 +1,109 @@
+ghost use Rattle.std.specs.Prelude.{◌≡◌, ◌↔◌, Bool, IsTrue, true, IfOk, IfErr};
+ghost use Rattle.hwp_script_read.specs.Reasons.{IsClean};
+ghost use Rattle.hwp_script_read.specs.Sums.{Sums};
+ghost use Rattle.hwp_script_read.specs.Refusals.{AreScript, AreRefused, IsLowestFault};
+
+use crate::context::Summary;
+use crate::faults::fault;
+use crate::script::Script;
+use crate::why::{Refused, Why};
+use hwp_geom::OutOfMemory;
+use hwp_script_lines::{LineRead, Numbered, ScriptLine};
+use std::alloc::Global;
+
+/// Whether a line is `end`.
+fn is_end(form: &ScriptLine) -> bool
+    ensures { IsTrue result ↔ (form.now ≡ ScriptLine.End) }
+{
+    matches!(form, ScriptLine::End)
+}
+
+/// The fault of a line of no known form.
+fn unknown_fault(above: &[ScriptLine]) -> Why
+    ensures { (last : Bool) → IsLowestFault last above.now LineRead.Unknown result }
+{
+    if above.is_empty() {
+        Why::BadHeader
+    } else {
+        Why::UnknownWord
+    }
+}
+
+/// The fault of a line with a word in a number's place that is none.
+fn number_fault(above: &[ScriptLine]) -> Why
+    ensures { (last : Bool) → IsLowestFault last above.now LineRead.BadNumber result }
+{
+    if above.is_empty() {
+        Why::BadHeader
+    } else {
+        Why::BadNumber
+    }
+}
+
+/// The fault of a line with a number outside its range.
+fn range_fault(above: &[ScriptLine]) -> Why
+    ensures { (last : Bool) → IsLowestFault last above.now LineRead.OverLimit result }
+{
+    if above.is_empty() {
+        Why::BadHeader
+    } else {
+        Why::OverLimit
+    }
+}
+
+/// The form of a line, or the lowest reason that applies to it. `last` says that no line follows.
+fn judge_line(
+    last: bool,
+    summary: &Summary,
+    above: &[ScriptLine],
+    read: LineRead,
+) -> Result<ScriptLine, Why>
+    requires { Sums above.now summary.now }
+    ensures ok { IfOk result (λ form. read ≡ LineRead.ScriptLine form) }
+    ensures clean { IfOk result (λ form. IsClean above.now form) }
+    ensures ended { IfOk result (λ form. last ≡ true → form ≡ ScriptLine.End) }
+    ensures err { IfErr result (λ why. IsLowestFault last above.now read why) }
+{
+    let form = match read {
+        LineRead::ScriptLine(form) => form,
+        LineRead::Unknown => return Err(unknown_fault(above)),
+        LineRead::BadNumber => return Err(number_fault(above)),
+        LineRead::OverLimit => return Err(range_fault(above)),
+    };
+    if let Some(why) = fault(summary, above, &form) {
+        return Err(why);
+    }
+    if last && !is_end(&form) {
+        return Err(Why::NoEnd);
+    }
+    Ok(form)
+}
+
+/// The script that lines give, or their first line at fault, in one walk.
+pub(crate) fn judge(
+    alloc: Global,
+    lines: Vec<Numbered>,
+) -> Result<Result<Script, Refused>, OutOfMemory>
+    ensures script { IfOk result (λ read. IfOk read (AreScript lines.items)) }
+    ensures refused { IfOk result (λ read. IfErr read (AreRefused lines.items)) }
+{
+    let count = lines.len();
+    let mut forms = Vec::new(alloc);
+    let mut summary = Summary::new(alloc);
+    for Numbered { line, read } in lines {
+        let last = forms.len() + 1 == count;
+        let form = match judge_line(last, &summary, forms.as_slice(), read) {
+            Ok(form) => form,
+            Err(why) => return Ok(Err(Refused { line, why })),
+        };
+        summary.add(alloc, forms.as_slice(), &form)?;
+        forms.push(form)?;
+    }
+    if forms.is_empty() {
+        return Ok(Err(Refused {
+            line: 1,
+            why: Why::BadHeader,
+        }));
+    }
+    Ok(Ok(summary.into_script(forms.as_slice())))
+}

@@ -1,8 +1,0 @@
-use Rattle.hwp_plain.proofs.Turning.{takes-turn}
-use Rattle.hwp_seats.proofs.ops.SeatBoardBoard.advance.Goals as goal
-
-pub returns-clause-turn : goal.returns-clause-turn
-returns-clause-turn g c =
-    takes-turn c.args.self.now c.begin.new.self c.advance-turn.new.o c.end.new.self c.args.cpu (g.M.Machine.who c.args.task.now) (g.M.Machine.plan c.args.task.now) (g.M.Machine.put c.args.task.now)
-    (λ layout. g.M.Machine.next layout (g.M.Machine.bare c.args.task.now)) c.args.task.now c.advance-turn.new.m c.advance-turn.result c.made.result
-    c.begin.ensures c.end.ensures c.made.ensures c.advance-turn.ensures.turn

@@ -1,4 +1,0 @@
-pub mod Owing
-pub mod Reporting
-pub mod LossesTold
-pub mod LossesAgree

@@ -1,0 +1,165 @@
+-- What is held and known while a page is put into another frame.
+use Rattle.std.specs.FinSet as set
+use Rattle.std.specs.Ordering.{nat_cmp}
+use Rattle.std.specs.Prelude.{◌≡◌, ◌≢◌, ℕ, ◌+◌, ◌-◌, ◌<◌, ◌≤◌, true, false, List, [], ◌∷◌, ◌++◌, Option, Some, is_none, length, drop, slice_get}
+use Rattle.hwp_geom.specs.declared.Frame.{Frame}
+use Rattle.hwp_geom.specs.declared.Layout.{Layout}
+use Rattle.hwp_geom.specs.declared.Page.{Page}
+use Rattle.hwp_geom.specs.declared.TransDecl.{TransDecl}
+use Rattle.hwp_geom.specs.declared.Who.{Who}
+use Rattle.hwp_geom.specs.Layout.{IsSound}
+use Rattle.hwp_page.specs.declared.At.{At}
+use Rattle.hwp_page.specs.declared.What.TheVariants as entries
+use Rattle.hwp_page.specs.History.{BodyValue, IsReplay}
+use Rattle.hwp_core_rule.specs.declared.InHand.{InHand}
+use Rattle.hwp_core_rule.specs.declared.Log.{Log}
+use Rattle.hwp_core_rule.specs.declared.View.{View}
+use Rattle.hwp_core_rule.specs.Asks.{OwesCount}
+use Rattle.hwp_core_rule.specs.Logs.{log_of, state_of, fitting_word}
+use Rattle.hwp_core_rule.specs.Views.{unpoisoned}
+use Rattle.hwp_core_rule.specs.parts.Entries.{HasSeen}
+use Rattle.hwp_core_task.specs.Calls.{IsOnTurn}
+use Rattle.hwp_core_task.specs.Hands.{Hand, body_in, empty, hand_of}
+use Rattle.hwp_core_task.specs.Known.{HasMade, HasMadeNone}
+use Rattle.hwp_core.specs.declared.refer.Refer.{Refer}
+use Rattle.hwp_core.specs.declared.refer.ReferAt.{ReferAt}
+use Rattle.hwp_core.specs.declared.refer.ReferAt.TheVariants as refer_at
+use Rattle.hwp_core.specs.declared.release.Release.{Release}
+use Rattle.hwp_core.specs.declared.release.ReleaseAt.{ReleaseAt}
+use Rattle.hwp_core.specs.declared.release.ReleaseAt.TheVariants as release_at
+use Rattle.hwp_core.specs.Holds.{named, refs_to}
+use Rattle.hwp_core.specs.Refers as refers
+use Rattle.hwp_core.specs.Releases as releases
+use Rattle.hwp_evict.specs.Vacates.{page_held}
+use Rattle.hwp_soft_move.specs.declared.relocate.Relocate.{Relocate}
+use Rattle.hwp_soft_move.specs.declared.relocate.RelocateAt.{RelocateAt}
+use Rattle.hwp_soft_move.specs.declared.relocate.RelocateAt.TheVariants as at
+use Rattle.hwp_soft_move.specs.declared.relocate.Transfer.{Transfer}
+use Rattle.hwp_soft_move.specs.declared.remap.Remap.{Remap}
+use Rattle.hwp_soft_move.specs.Remaps as remaps
+use Rattle.hwp_soft_move.specs.Remaps.{IsCount, old_lock, with_both}
+
+-- the body is one of this history with the entry of the soft offline; the page was in a frame
+pub record HasEntry (layout : Layout) (who : Who) (page : Page) (log : Log) (done : At) (body : BodyValue) : Type 0 where
+  pub page_is : log.page ≡ page
+  pub log_is : log_of body ≡ record { page = log.page; entries = log.entries ++ (record { who = who; what = entries.Soft }) ∷ [] }
+  pub layout_is : body.layout ≡ layout
+  pub cached : (state_of layout log).cached ≡ true
+  pub replay : IsReplay layout page log.entries (state_of layout log)
+  pub done_is : done ≡ record { page = page; entry = length log.entries }
+
+-- the body in hand, as it was taken out of the old frame, gets home with the entry, which rests on a frame without bad lines
+pub record Carries (layout : Layout) (view : View) (t : Transfer) (maps : set.FinSet nat_cmp) (done : At) (given : Option BodyValue) (taken : InHand) : Type 0 where
+  pub log : Log
+  pub seen : ℕ
+  pub body : BodyValue
+  pub given_is : given ≡ Some body
+  pub taken_is : taken ≡ body_in (Some t.from) log seen
+  pub entry : HasEntry layout t.who t.page log done body
+  pub maps_are : maps ≡ (state_of layout log).maps
+  pub few : seen ≤ length view.sights
+  pub saw : HasSeen (drop seen view.sights) t.who (Some t.from) entries.Soft
+  pub made_none : HasMadeNone view t.who
+
+-- the references to the new frame, while more are taken
+abbrev pub referred : ℕ → ReferAt → ℕ
+referred count refer_at.Over = count
+referred count _ = 1
+
+-- what is held until the body goes home
+abbrev pub hand_at : Transfer → RelocateAt → List ℕ → InHand → Hand
+hand_at t at.Count trans taken = with_both t.from (t.page.0 + 1) 1 t.to 0 1 (page_held t.page (Some t.from) trans taken)
+hand_at t at.SetOwner trans taken = with_both t.from (t.page.0 + 1) 1 t.to 0 1 (page_held t.page (Some t.from) trans taken)
+hand_at t (at.Refer r) trans taken = with_both t.from (t.page.0 + 1) 1 t.to (t.page.0 + 1) (referred t.count r.at) (page_held t.page (Some t.from) trans taken)
+hand_at t at.SetCache trans taken = with_both t.from (t.page.0 + 1) (t.count - 1) t.to (t.page.0 + 1) 2 (page_held t.page (Some t.from) trans taken)
+hand_at t at.ClearOwner trans taken = with_both t.from (t.page.0 + 1) t.count t.to (t.page.0 + 1) 1 (page_held t.page (Some t.to) trans taken)
+hand_at t at.UnlockFrame trans taken = with_both t.from 0 t.count t.to (t.page.0 + 1) 1 (page_held t.page (Some t.to) trans taken)
+hand_at t _ trans taken = empty
+
+-- the page is held with both frames; its translation words are those of a page in this frame
+pub record IsAhead (layout : Layout) (view : View) (t : Transfer) (maps : set.FinSet nat_cmp) (done : At) (given : Option BodyValue) (x : RelocateAt) (frame : Frame) : Type 0 where
+  pub trans : List ℕ
+  pub taken : InHand
+  pub hand_is : hand_of view ≡ hand_at t x trans taken
+  pub carries : Carries layout view t maps done given taken
+  pub words : (slot : ℕ) (d : TransDecl) → slice_get layout.trans slot ≡ Some d → d.page ≡ t.page → slice_get trans slot ≡ Some (fitting_word (state_of layout carries.log) (frame.0 + 1) slot)
+
+-- and references to the new frame are being taken
+pub record IsReferring (layout : Layout) (view : View) (t : Transfer) (maps : set.FinSet nat_cmp) (done : At) (given : Option BodyValue) (f : Refer) : Type 0 where
+  pub ahead : IsAhead layout view t maps done given (at.Refer f) t.from
+  pub refer : refers.Fits layout view f
+  pub own : f.who ≡ t.who
+  pub frame_is : f.frame ≡ t.to
+  pub count_is : f.count ≡ t.count - 1
+  pub under_way : is_none (refers.plan f) ≡ false
+
+-- or the translations are being written
+pub record IsWriting (layout : Layout) (view : View) (t : Transfer) (maps : set.FinSet nat_cmp) (done : At) (given : Option BodyValue) (m : Remap) : Type 0 where
+  pub remap : remaps.Fits layout view m
+  pub own : m.who ≡ t.who
+  pub page_is : m.page ≡ t.page
+  pub from_is : m.from ≡ t.from
+  pub to_is : m.to ≡ t.to
+  pub count_is : m.count ≡ t.count
+  pub taken : InHand
+  pub bodies_are : view.bodies ≡ taken ∷ []
+  pub carries : Carries layout view t maps done given taken
+  pub under_way : is_none m.next ≡ false
+
+-- the page alone is locked, with its old frame, to which there are so many references
+abbrev pub leaving : Transfer → ℕ → Hand
+leaving t count = record (named t.page t.to (refs_to t.from count)) { locks = old_lock t.from 0 ∷ [] }
+
+-- and the new frame is being released
+abbrev pub releasing : Transfer → ReleaseAt → Hand
+releasing t release_at.Put = record (leaving t t.count) { refs = record { frame = t.from; count = t.count } ∷ record { frame = t.to; count = 1 } ∷ [] }
+releasing t (release_at.Give word) = record (leaving t t.count) { hands = unpoisoned t.to ∷ [] }
+releasing t (release_at.Unreserve word) = record (leaving t t.count) { reserved = 1 }
+releasing t (release_at.Adopt word) = record (leaving t t.count) { hands = record { frame = t.to; poisoned = true } ∷ [] }
+releasing t (release_at.Retire word) = record (leaving t t.count) {
+  refs = record { frame = t.from; count = t.count } ∷ record { frame = t.to; count = 1 } ∷ [];
+  locks = old_lock t.from 0 ∷ releases.poisoned_lock t.to ∷ [];
+}
+releasing t (release_at.Back word) = leaving t t.count
+
+-- the command made the one entry
+abbrev pub HasMoved : View → Who → At → Type 0
+HasMoved view who done = HasMade (λ m. ⊥) view who done.page done.entry entries.Soft
+
+pub record IsReleasing (layout : Layout) (view : View) (t : Transfer) (done : At) (l : Release) : Type 0 where
+  pub hand_is : hand_of view ≡ releasing t l.at
+  pub release : releases.Fits layout view l
+  pub own : l.who ≡ t.who
+  pub frame_is : l.frame ≡ t.to
+  pub count_is : l.count ≡ 1
+  pub under_way : is_none (releases.plan l) ≡ false
+  pub moved : HasMoved view t.who done
+
+abbrev pub FitsAt : Layout → View → Transfer → set.FinSet nat_cmp → At → Option BodyValue → RelocateAt → Type 0
+FitsAt layout view t maps done given at.Count = IsAhead layout view t maps done given at.Count t.from × OwesCount view false
+FitsAt layout view t maps done given at.SetOwner = IsAhead layout view t maps done given at.SetOwner t.from
+FitsAt layout view t maps done given (at.Refer f) = IsReferring layout view t maps done given f
+FitsAt layout view t maps done given (at.Remap m) = IsWriting layout view t maps done given m
+FitsAt layout view t maps done given at.SetCache = IsAhead layout view t maps done given at.SetCache t.to
+FitsAt layout view t maps done given at.ClearOwner = IsAhead layout view t maps done given at.ClearOwner t.to
+FitsAt layout view t maps done given at.UnlockFrame = IsAhead layout view t maps done given at.UnlockFrame t.to
+FitsAt layout view t maps done given (at.Release l) = IsReleasing layout view t done l
+FitsAt layout view t maps done given at.PutRef = (hand_of view ≡ leaving t t.count) × HasMoved view t.who done
+FitsAt layout view t maps done given at.Retire = (hand_of view ≡ leaving t 1) × HasMoved view t.who done
+FitsAt layout view t maps done given at.UnlockPage = (hand_of view ≡ named t.page t.to []) × HasMoved view t.who done
+FitsAt layout view t maps done given at.Over = (hand_of view ≡ empty) × HasMoved view t.who done
+
+-- the processor holds the page with both frames, and in the end nothing; then the command made its entry
+pub record Fits (layout : Layout) (view : View) (r : Relocate) : Type 0 where
+  pub on_turn : IsOnTurn view r.transfer.who
+  pub sound : IsSound layout
+  pub page : r.transfer.page.0 < length layout.pages
+  pub from : r.transfer.from.0 < layout.frames
+  pub to : r.transfer.to.0 < layout.frames
+  pub apart : r.transfer.from.0 ≢ r.transfer.to.0
+  pub place : r.done.page ≡ r.transfer.page
+  pub number : ℕ
+  pub counted : IsCount r.maps number
+  pub count_is : r.transfer.count ≡ number + 2
+  pub room : r.transfer.count ≤ length layout.trans + 2
+  pub at : FitsAt layout view r.transfer r.maps r.done r.body r.at

@@ -1,0 +1,293 @@
+ghost use Rattle.std.specs.Prelude.{◌≡◌};
+ghost use Rattle.hwp_soft_unpoison.specs.Unpoisons.{after_bad, after_count, after_frame, after_revive, after_stop, answer, begin, is_revivable, next_at, turn_at};
+
+use hwp_core_rule::{SharedWord, Step};
+use hwp_core_task::{Ranked, Scheduled, Task, Turn};
+use hwp_geom::{Frame, Layout, Mask, Who};
+use hwp_page::Body;
+use hwp_words::{CounterWord, FrameWord, is_stopped};
+
+/// What an `Unpoison` came to (this project's rule).
+#[derive(Clone, Copy)]
+pub enum UnpoisonAnswer {
+    /// The frame's poison of this cycle is taken back, and the frame is free.
+    Done { cycle: u32 },
+    /// A processor had stopped the machine.
+    Stopped,
+    /// The frame wasn't poisoned.
+    NotPoisoned,
+    /// The hardware had reported a failure.
+    HardwareSeen,
+    /// The frame has these bad lines.
+    HasBad(Mask),
+    /// The frame was in use, with so many references.
+    InUse { count: u32 },
+}
+
+/// Takes a frame's poison back: a frame that failed comes into use again (Linux unpoison_memory).
+#[derive(Clone, Copy)]
+pub struct Unpoison {
+    who: Who,
+    frame: Frame,
+    at: UnpoisonAt,
+}
+
+#[derive(Clone, Copy)]
+enum UnpoisonAt {
+    LoadStop,
+    LoadFrame,
+    LoadCount { seen: u64 },
+    LoadBad { seen: u64 },
+    Revive { seen: u64 },
+    Uncount { cycle: u32 },
+    GiveBit { cycle: u32 },
+    Unreserve { cycle: u32 },
+    Over { answer: UnpoisonAnswer },
+}
+
+impl Unpoison {
+    /// The command takes this frame's poison back.
+    pub fn new(who: Who, frame: Frame) -> Unpoison
+        ensures { result ≡ begin who frame }
+    {
+        Unpoison {
+            who,
+            frame,
+            at: UnpoisonAt::LoadStop,
+        }
+    }
+
+    /// The frame whose poison is taken back.
+    pub fn frame(&self) -> Frame
+        ensures { result ≡ self.now.frame }
+    {
+        self.frame
+    }
+
+    /// What the task came to; `None` until it is over.
+    pub fn answer(&self) -> Option<UnpoisonAnswer>
+        ensures { result ≡ answer self.now }
+    {
+        match self.at {
+            UnpoisonAt::Over { answer } => Some(answer),
+            UnpoisonAt::LoadStop
+            | UnpoisonAt::LoadFrame
+            | UnpoisonAt::LoadCount { .. }
+            | UnpoisonAt::LoadBad { .. }
+            | UnpoisonAt::Revive { .. }
+            | UnpoisonAt::Uncount { .. }
+            | UnpoisonAt::GiveBit { .. }
+            | UnpoisonAt::Unreserve { .. } => None,
+        }
+    }
+}
+
+/// The frame's failure has been handled, and nobody has the frame.
+fn is_revivable(seen: u64) -> bool
+    ensures { result ≡ is_revivable seen }
+{
+    let word = FrameWord::unpack(seen);
+    word.handled && !word.locked && word.owner.is_none() && word.count == 1
+}
+
+fn after_stop(word: u64) -> UnpoisonAt
+    ensures { result ≡ after_stop word }
+{
+    if is_stopped(word) {
+        UnpoisonAt::Over {
+            answer: UnpoisonAnswer::Stopped,
+        }
+    } else {
+        UnpoisonAt::LoadFrame
+    }
+}
+
+fn after_frame(seen: u64) -> UnpoisonAt
+    ensures { result ≡ after_frame seen }
+{
+    if FrameWord::unpack(seen).poisoned {
+        UnpoisonAt::LoadCount { seen }
+    } else {
+        UnpoisonAt::Over {
+            answer: UnpoisonAnswer::NotPoisoned,
+        }
+    }
+}
+
+fn after_count(seen: u64, word: u64) -> UnpoisonAt
+    ensures { result ≡ after_count seen word }
+{
+    if CounterWord::unpack(word).hardware == 0 {
+        UnpoisonAt::LoadBad { seen }
+    } else {
+        UnpoisonAt::Over {
+            answer: UnpoisonAnswer::HardwareSeen,
+        }
+    }
+}
+
+fn after_bad(seen: u64, word: u64) -> UnpoisonAt
+    ensures { result ≡ after_bad seen word }
+{
+    if word != 0 {
+        UnpoisonAt::Over {
+            answer: UnpoisonAnswer::HasBad(Mask(word)),
+        }
+    } else if is_revivable(seen) {
+        UnpoisonAt::Revive { seen }
+    } else {
+        UnpoisonAt::Over {
+            answer: UnpoisonAnswer::InUse {
+                count: FrameWord::unpack(seen).count,
+            },
+        }
+    }
+}
+
+/// A word that has changed meanwhile is looked at again.
+fn after_revive(seen: u64, word: u64) -> UnpoisonAt
+    ensures { result ≡ after_revive seen word }
+{
+    if word == seen {
+        UnpoisonAt::Uncount {
+            cycle: FrameWord::unpack(word).cycle,
+        }
+    } else {
+        UnpoisonAt::LoadFrame
+    }
+}
+
+fn next_at(at: UnpoisonAt, found: u64) -> UnpoisonAt
+    ensures { result ≡ next_at at found }
+{
+    match at {
+        UnpoisonAt::LoadStop => after_stop(found),
+        UnpoisonAt::LoadFrame => after_frame(found),
+        UnpoisonAt::LoadCount { seen } => after_count(seen, found),
+        UnpoisonAt::LoadBad { seen } => after_bad(seen, found),
+        UnpoisonAt::Revive { seen } => after_revive(seen, found),
+        UnpoisonAt::Uncount { cycle } => UnpoisonAt::GiveBit { cycle },
+        UnpoisonAt::GiveBit { cycle } => UnpoisonAt::Unreserve { cycle },
+        UnpoisonAt::Unreserve { cycle } => UnpoisonAt::Over {
+            answer: UnpoisonAnswer::Done { cycle },
+        },
+        UnpoisonAt::Over { answer } => UnpoisonAt::Over { answer },
+    }
+}
+
+fn turn_at(at: UnpoisonAt, found: u64) -> Turn
+    ensures { result ≡ turn_at at found }
+{
+    match at {
+        UnpoisonAt::Revive { seen } => {
+            if found == seen {
+                Turn::Moved
+            } else {
+                Turn::Changed(found)
+            }
+        }
+        UnpoisonAt::LoadStop
+        | UnpoisonAt::LoadFrame
+        | UnpoisonAt::LoadCount { .. }
+        | UnpoisonAt::LoadBad { .. }
+        | UnpoisonAt::Uncount { .. }
+        | UnpoisonAt::GiveBit { .. }
+        | UnpoisonAt::Unreserve { .. }
+        | UnpoisonAt::Over { .. } => Turn::Moved,
+    }
+}
+
+impl Task for Unpoison {
+    ghost use Rattle.std.specs.Prelude.{◌≡◌, None};
+    ghost use Rattle.hwp_soft_unpoison.specs.Unpoisons.{plan, next, turn, Fits};
+
+    ghost who = { λ u. u.who };
+
+    ghost plan = { λ u. plan u };
+
+    ghost put = { λ u. None };
+
+    ghost bare = { λ u. u };
+
+    ghost shows = { λ u found got. Unit {0} };
+
+    ghost next = { λ layout u found got after result. (after ≡ next u found) × (result ≡ turn u found) };
+
+    ghost fits = { λ layout view u. Fits layout view u };
+
+    fn who(&self) -> Who {
+        self.who
+    }
+
+    fn plan(&self) -> Option<Step> {
+        match self.at {
+            UnpoisonAt::LoadStop => Some(Step::Load {
+                place: SharedWord::Stop,
+            }),
+            UnpoisonAt::LoadFrame => Some(Step::Load {
+                place: SharedWord::Frame(self.frame),
+            }),
+            UnpoisonAt::LoadCount { .. } => Some(Step::Load {
+                place: SharedWord::Counter,
+            }),
+            UnpoisonAt::LoadBad { .. } => Some(Step::Load {
+                place: SharedWord::Bad(self.frame),
+            }),
+            UnpoisonAt::Revive { seen } => Some(Step::Revive {
+                frame: self.frame,
+                seen,
+            }),
+            UnpoisonAt::Uncount { .. } => Some(Step::Uncount),
+            UnpoisonAt::GiveBit { .. } => Some(Step::GiveBit { frame: self.frame }),
+            UnpoisonAt::Unreserve { .. } => Some(Step::Unreserve),
+            UnpoisonAt::Over { .. } => None,
+        }
+    }
+
+    fn give(&mut self) -> Option<Body> {
+        None
+    }
+
+    fn settle(&mut self, _layout: &Layout, found: u64, _body: Option<Body>) -> Turn {
+        let at = self.at;
+        self.at = next_at(at, found);
+        turn_at(at, found)
+    }
+}
+
+impl Ranked for Unpoison {
+    ghost use Rattle.std.specs.Prelude.{false, None};
+    ghost use Rattle.hwp_soft_unpoison.specs.Unpoisons.{class, cost};
+
+    ghost class_of = { λ u. class u };
+
+    ghost cost = { λ u words. cost u words };
+
+    ghost aborts = { λ u. false };
+
+    ghost claims = { λ u. None };
+
+    fn class(&self) -> u8 {
+        match self.at {
+            UnpoisonAt::Uncount { .. }
+            | UnpoisonAt::GiveBit { .. }
+            | UnpoisonAt::Unreserve { .. } => 1,
+            UnpoisonAt::LoadStop
+            | UnpoisonAt::LoadFrame
+            | UnpoisonAt::LoadCount { .. }
+            | UnpoisonAt::LoadBad { .. }
+            | UnpoisonAt::Revive { .. }
+            | UnpoisonAt::Over { .. } => 4,
+        }
+    }
+
+    fn ranked(&self) {}
+}
+
+impl Scheduled for Unpoison {
+    fn is_over(&self) -> bool {
+        matches!(self.at, UnpoisonAt::Over { .. })
+    }
+
+    fn tells(&self) {}
+}

@@ -1,5 +1,0 @@
-use Rattle.hwp_table.proofs.Dealing.{deals-named}
-use Rattle.hwp_table.proofs.baton.deal.Goals as goal
-
-pub split_seat-requires : goal.split_seat-requires
-split_seat-requires g c = (c.requires.fits.0, c.requires.fits.1, deals-named c.args.sheet.now.key _ _ _ c.args.cpu.0 c.requires.named)

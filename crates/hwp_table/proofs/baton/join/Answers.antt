@@ -1,5 +1,0 @@
-use Rattle.hwp_table.proofs.Dealing.{joins}
-use Rattle.hwp_table.proofs.baton.join.Goals as goal
-
-pub join_seat-requires : goal.join_seat-requires
-join_seat-requires c = (c.requires.fits.0, c.requires.fits.1, c.requires.empty, c.requires.fits.2, joins c.args.sheet.now.key _ _ _ _)

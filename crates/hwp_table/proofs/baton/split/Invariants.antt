@@ -1,4 +1,0 @@
-use Rattle.hwp_table.proofs.baton.split.Given as goal
-
-abbrev pub ghosts-deal : goal.ghosts-deal
-ghosts-deal a = record { cpu = a.cpu.0 }

@@ -1,0 +1,19 @@
+mod Times
+mod WordOrder
+mod ListReads
+mod SeatMoves
+mod SeatKnows
+mod TableKeeps
+mod OperationAsks
+mod SeatDeals
+mod LockSlots
+mod Carried
+mod FrontSlot
+mod Made
+mod SeatKeeps
+mod Taken
+pub mod Opened
+mod Closed
+pub use Rattle.hwp_core_rule.proofs as of_hwp_core_rule
+pub use Rattle.hwp_core_task.proofs as of_hwp_core_task
+pub use Rattle.hwp_page.proofs as of_hwp_page

@@ -1,0 +1,117 @@
+-- The table at opening: its one seat has all there is.
+use Rattle.std.proofs.Common.{◌≡◌, ℕ, zero, suc, ◌+◌, ◌<◌, ◌≤◌, ◌==◌, List, [], ◌∷◌, inl, inr, map, length, slice_get, refl, sym, ap, ◌∙◌, subst, arith}
+use Rattle.std.specs.Prelude.{Some}
+use mathlib.Core.Option.{some, some-injective}
+use Rattle.std.proofs.lemmas.List.{length-map}
+use Rattle.std.proofs.lemmas.List.Sums.{sum_by-cons}
+use Rattle.std.proofs.lemmas.Option.{none-some, same_Some}
+use Rattle.std.specs.List.{sum_by}
+use Rattle.std.specs.Int.{from_bool}
+use Rattle.atomic_table.specs.Table as table
+use Rattle.hwp_geom.specs.declared.Layout.{Layout}
+use Rattle.hwp_geom.specs.Layout.{IsSound}
+use Rattle.hwp_core_rule.specs.declared.State.{State}
+use Rattle.hwp_core_rule.specs.declared.View.{View}
+use Rattle.hwp_core_rule.specs.Lists.{EachMember}
+use Rattle.hwp_core_rule.specs.Opening.{below, opening, opening_homes, opening_view, opening_words}
+use Rattle.hwp_core_rule.specs.Words.{size}
+use Rattle.hwp_core_rule.proofs.Lists.{same-or, map-was, at_map, at_push, sum-map, from_bool-same, from_bool-other}
+use Rattle.hwp_core_rule.proofs.BoardOpens.{opening-holds, homes-length}
+use Rattle.hwp_core_rule.proofs.WordsOpen.{below-at}
+use Rattle.hwp_core_task.specs.Calls.{FitsLayout}
+use Rattle.hwp_plain_words.specs.Openings.{home_with}
+use Rattle.hwp_table_words.specs.Known.{Known, Whole, first_known, times, views_for}
+use Rattle.hwp_table_words.specs.Order.{in_rule}
+use Rattle.hwp_table_words.specs.Rules.{IsOwn, IsWhole, Reached, Ruled}
+use Rattle.hwp_table_words.specs.Stands.{Content, Table, home_of, stand, AreOfLayout}
+use Rattle.hwp_table_words.proofs.SeatMoves.{first-own}
+use Rattle.hwp_table_words.proofs.ListReads.{as-slice}
+use Rattle.hwp_table_words.proofs.WordOrder.{length-in_rule}
+use Rattle.hwp_table_words.proofs.SeatKnows.{Of, each-one}
+use Rattle.hwp_table_words.proofs.Times.{times-append, times-cons}
+
+-- the numbers below n, each once
+below-less : (n i c : ℕ) → slice_get (below n) i ≡ Some c → c < n
+below-less zero i c e = absurd (none-some c e)
+below-less (suc n) i c e = elim (at_push (below n) n c i e) [
+  | inl was ↦ let less = below-less n i c was in omega (arith, less)
+  | inr last ↦ omega (arith, last)
+]
+
+one-last : (n c : ℕ) → times c (below (suc n)) ≡ times c (below n) + from_bool (n == c)
+one-last n c = let all = times-append c (below n) (n ∷ []) in let one = times-cons c n [] in omega (arith, all, one)
+
+times-out : (n c : ℕ) → n ≤ c → times c (below n) ≡ 0
+times-out zero c less = refl
+times-out (suc n) c less =
+    let all = one-last n c in
+    let none = from_bool-other n c (λ e. omega (arith, e, less)) in
+    let rest = times-out n c (omega (arith, less)) in
+    omega (arith, all, none, rest)
+
+times-once : (n c : ℕ) → times c (below n) ≤ 1
+times-once zero c = omega arith
+times-once (suc n) c = let all = one-last n c in elim (same-or n c) [
+  | inl same ↦ let one = from_bool-same n c same in let rest = times-out n c (omega (arith, same)) in omega (arith, all, one, rest)
+  | inr other ↦ let none = from_bool-other n c other in let rest = times-once n c in omega (arith, all, none, rest)
+]
+
+pub times-in : (n c : ℕ) → c < n → 0 < times c (below n)
+times-in zero c less = absurd (omega (arith, less))
+times-in (suc n) c less = let all = one-last n c in elim (same-or n c) [
+  | inl same ↦ let one = from_bool-same n c same in omega (arith, all, one)
+  | inr other ↦ let rest = times-in n c (omega (arith, less, other)) in omega (arith, all, rest)
+]
+
+own-view : (n i : ℕ) (y : ℕ × View) → slice_get (map (λ (c : ℕ). (c, opening_view c)) (below n)) i ≡ Some y → slice_get (map opening_view (below n)) y.0 ≡ Some y.1
+own-view n i y e =
+    let was = map-was (λ (c : ℕ). (c, opening_view c)) (below n) i y e in
+    subst (λ (x : ℕ × View). slice_get (map opening_view (below n)) x.0 ≡ Some x.1) was.2 (at_map opening_view (below n) was.0 was.0 (below-at n was.0 (below-less n i was.0 was.1)))
+
+homes-some : (slots : List Content) → map home_of (map some slots) ≡ map home_with slots
+homes-some [] = refl
+homes-some (x ∷ xs) = λ i. Some (Rattle.hwp_core_task.specs.Calls.logs x) ∷ homes-some xs i
+
+module _ (layout : Layout) (words : List ℕ) (slots : List Content) (sound : IsSound layout) (words-are : in_rule words ≡ opening_words layout) (homes-are : map home_with slots ≡ opening_homes layout) where
+  abbrev pub opened : Table
+  opened = table.opening words slots (first_known layout)
+
+  state-open : stand (map opening_view (below layout.cpus)) opened ≡ opening layout
+  state-open = λ i. record { words = words-are i; homes = (homes-some slots ∙ homes-are) i; views = map opening_view (below layout.cpus) }
+
+  single : (f : Known → ℕ) → f (first_known layout) ≤ 1 → sum_by f (first_known layout ∷ []) ≤ 1
+  single f less = let all = sum_by-cons f (first_known layout) [] in omega (arith, all, less)
+
+  first-whole : (w : Whole) → (first_known layout).whole ≡ Some w → IsWhole layout (opening layout) [] (below layout.cpus) w
+  first-whole w e = subst (IsWhole layout (opening layout) [] (below layout.cpus)) (same_Some _ w e) (record { words = refl; homes = refl; moves = refl; all = times-in layout.cpus })
+
+  first-ruled : Ruled layout (opening layout) [] (first_known layout ∷ [])
+  first-ruled = record {
+    mines = each-one (λ (v : Known). EachMember (Of (opening layout)) v.mines) (first_known layout) (own-view layout.cpus);
+    own = each-one (IsOwn []) (first_known layout) (first-own (first_known layout) refl);
+    one_view = λ c. single (λ (v : Known). views_for c v.mines)
+        (subst (λ (n : ℕ). n ≤ 1) (sym (sum-map (λ (x : ℕ × View). from_bool (x.0 == c)) (λ (d : ℕ). (d, opening_view d)) (below layout.cpus))) (times-once layout.cpus c));
+    one_right = λ c. single (λ (v : Known). times c v.rights) (times-once layout.cpus c);
+    whole = each-one (λ (v : Known). (w : Whole) → v.whole ≡ Some w → IsWhole layout (opening layout) [] v.rights w) (first_known layout) first-whole;
+  }
+
+  all-fit : EachMember (FitsLayout layout) slots → AreOfLayout layout opened.homes
+  all-fit each slot content e =
+      let was = map-was some slots slot (some content) (as-slice (map some slots) slot (some content) e) in
+      subst (FitsLayout layout) (some-injective was.0 content was.2) (each slot was.0 was.1)
+
+  pub opens : EachMember (FitsLayout layout) slots → Reached layout opened
+  opens each = record {
+    sound = sound;
+    log = [];
+    views = map opening_view (below layout.cpus);
+    run = state-open;
+    ruled = subst (λ (s : State). Ruled layout s [] (first_known layout ∷ [])) (sym state-open) first-ruled;
+    bodies = all-fit each;
+  }
+
+  pub counted-words : length words ≡ size layout
+  counted-words = sym (length-in_rule words) ∙ ap length words-are ∙ (opening-holds layout sound).words
+
+  pub counted-slots : length slots ≡ layout.frames + length layout.pages
+  counted-slots = sym (length-map slots home_with) ∙ ap length homes-are ∙ homes-length layout

@@ -1,0 +1,73 @@
+use Rattle.std.proofs.Common.{◌∙◌, ap, refl}
+use Rattle.hwp_core_rule.specs.declared.SharedWord.{SharedWord}
+use Rattle.hwp_core_rule.specs.Words.{index, size}
+use Rattle.hwp_core_task.specs.Calls.{logs}
+use Rattle.hwp_table_words.specs.Order.{in_table}
+use Rattle.hwp_table_words.proofs.Made as made
+use Rattle.hwp_table_words.proofs.seat.SeatOps.make.Goals as goal
+
+pub lay-requires-clause-there : goal.lay-requires-clause-there
+lay-requires-clause-there c =
+    made.there c.self.inside.layout.now c.self.inside.sheet.now.key c.self.inside.sheet.now.table_id c.self.inside.seat.table_id c.self.inside.seat.me c.self.inside.order.items c.self.invariant c.args.who c.args.step.now c.args.body
+    (made.rights-on c.self.view_is c.requires.right) (made.can-on c.self.view_is c.requires.can) c.slot_move-home.result c.slot_move-home.ensures
+
+pub step_as-found-requires-clause-named : goal.step_as-found-requires-clause-named
+step_as-found-requires-clause-named c = (refl, refl)
+
+pub step_as-found-requires-clause-can : goal.step_as-found-requires-clause-can
+step_as-found-requires-clause-can c =
+    made.can-named c.self.inside.layout.now c.self.inside.sheet.now.key c.self.inside.sheet.now.table_id c.self.inside.seat.table_id c.self.inside.seat.me c.self.inside.order.items c.self.invariant c.args.who c.args.step.now c.args.body
+    (made.rights-on c.self.view_is c.requires.right) (made.can-on c.self.view_is c.requires.can)
+    c.slot_move-home.result c.slot_move-home.ensures c.lay.new.seat.me c.lay.new.seat.table_id c.lay.new.order.items c.lay.ensures.same.1 c.lay.ensures.same.0 c.lay.ensures.laid c.lay.ensures.first c.lay.ensures.times c.lay.ensures.count
+    c.word_of-word.result (c.word_of-word.ensures.value ∙ ap (λ (p : SharedWord). in_table (size c.self.inside.layout.now) (index c.self.inside.layout.now p)) c.place.ensures) c.word_of-word.ensures.within
+
+pub settle-body-requires-clause-brought : goal.settle-body-requires-clause-brought
+settle-body-requires-clause-brought c =
+    made.brought-to c.self.inside.layout.now c.self.inside.sheet.now.key c.self.inside.sheet.now.table_id c.self.inside.seat.table_id c.self.inside.seat.me c.self.inside.order.items c.self.invariant c.args.who c.args.step.now c.args.body
+    (made.rights-on c.self.view_is c.requires.right) (made.can-on c.self.view_is c.requires.can)
+    c.slot_move-home.result c.slot_move-home.ensures c.lay.new.seat.me c.lay.new.seat.table_id c.lay.new.order.items c.lay.ensures.same.1 c.lay.ensures.same.0 c.lay.ensures.laid c.lay.ensures.first c.lay.ensures.times c.lay.ensures.count
+    c.word_of-word.result (c.word_of-word.ensures.value ∙ ap (λ (p : SharedWord). in_table (size c.self.inside.layout.now) (index c.self.inside.layout.now p)) c.place.ensures) c.word_of-word.ensures.within
+    c.step_as-found.result c.step_as-found.new.seat.me c.step_as-found.new.seat.table_id c.step_as-found.ensures.same c.step_as-found.ensures.made c.slot_move-to.result c.slot_move-to.ensures
+
+pub settle-body-requires-clause-first : goal.settle-body-requires-clause-first
+settle-body-requires-clause-first c =
+    made.first-to c.self.inside.layout.now c.self.inside.sheet.now.key c.self.inside.sheet.now.table_id c.self.inside.seat.table_id c.self.inside.seat.me c.self.inside.order.items c.self.invariant c.args.who c.args.step.now c.args.body
+    (made.rights-on c.self.view_is c.requires.right) (made.can-on c.self.view_is c.requires.can)
+    c.slot_move-home.result c.slot_move-home.ensures c.lay.new.seat.me c.lay.new.seat.table_id c.lay.new.order.items c.lay.ensures.same.1 c.lay.ensures.same.0 c.lay.ensures.laid c.lay.ensures.first c.lay.ensures.times c.lay.ensures.count
+    c.word_of-word.result (c.word_of-word.ensures.value ∙ ap (λ (p : SharedWord). in_table (size c.self.inside.layout.now) (index c.self.inside.layout.now p)) c.place.ensures) c.word_of-word.ensures.within
+    c.step_as-found.result c.step_as-found.new.seat.me c.step_as-found.new.seat.table_id c.step_as-found.ensures.same c.step_as-found.ensures.made c.slot_move-to.result c.slot_move-to.ensures
+
+pub settle-body-requires-clause-room : goal.settle-body-requires-clause-room
+settle-body-requires-clause-room c =
+    made.room-to c.self.inside.layout.now c.self.inside.sheet.now.key c.self.inside.sheet.now.table_id c.self.inside.seat.table_id c.self.inside.seat.me c.self.inside.order.items c.self.invariant c.args.who c.args.step.now c.args.body
+    (made.rights-on c.self.view_is c.requires.right) (made.can-on c.self.view_is c.requires.can)
+    c.slot_move-home.result c.slot_move-home.ensures c.lay.new.seat.me c.lay.new.seat.table_id c.lay.new.order.items c.lay.ensures.same.1 c.lay.ensures.same.0 c.lay.ensures.laid c.lay.ensures.first c.lay.ensures.times c.lay.ensures.count
+    c.word_of-word.result (c.word_of-word.ensures.value ∙ ap (λ (p : SharedWord). in_table (size c.self.inside.layout.now) (index c.self.inside.layout.now p)) c.place.ensures) c.word_of-word.ensures.within
+    c.step_as-found.result c.step_as-found.new.seat.me c.step_as-found.new.seat.table_id c.step_as-found.ensures.same c.step_as-found.ensures.made c.slot_move-to.result c.slot_move-to.ensures
+
+pub invariant_of-self : goal.invariant_of-self
+invariant_of-self c =
+    made.seat-now c.self.inside.layout.now c.self.inside.sheet.now.key c.self.inside.sheet.now.table_id c.self.inside.seat.table_id c.self.inside.seat.me c.self.inside.order.items c.self.invariant c.args.who c.args.step.now c.args.body
+    (made.rights-on c.self.view_is c.requires.right) (made.can-on c.self.view_is c.requires.can)
+    c.slot_move-home.result c.slot_move-home.ensures c.lay.new.seat.me c.lay.new.seat.table_id c.lay.new.order.items c.lay.ensures.same.1 c.lay.ensures.same.0 c.lay.ensures.laid c.lay.ensures.first c.lay.ensures.times c.lay.ensures.count
+    c.word_of-word.result (c.word_of-word.ensures.value ∙ ap (λ (p : SharedWord). in_table (size c.self.inside.layout.now) (index c.self.inside.layout.now p)) c.place.ensures) c.word_of-word.ensures.within
+    c.step_as-found.result c.step_as-found.new.seat.me c.step_as-found.new.seat.table_id c.step_as-found.ensures.same c.step_as-found.ensures.made c.slot_move-to.result c.slot_move-to.ensures
+    c.settle-body.new.seat.me c.settle-body.new.seat.table_id c.settle-body.new.order.items c.settle-body.result c.settle-body.ensures.same.1 c.settle-body.ensures.same.0 c.settle-body.ensures.empty c.settle-body.ensures.order c.settle-body.ensures.body c.settle-body.ensures.none c.settle-body.ensures.kept
+
+pub returns-clause-told : goal.returns-clause-told
+returns-clause-told c =
+    made.told-on c.self.view_is (made.steps-now c.self.inside.layout.now c.self.inside.sheet.now.key c.self.inside.sheet.now.table_id c.self.inside.seat.table_id c.self.inside.seat.me c.self.inside.order.items c.self.invariant c.args.who c.args.step.now c.args.body
+    (made.rights-on c.self.view_is c.requires.right) (made.can-on c.self.view_is c.requires.can)
+    c.slot_move-home.result c.slot_move-home.ensures c.lay.new.seat.me c.lay.new.seat.table_id c.lay.new.order.items c.lay.ensures.same.1 c.lay.ensures.same.0 c.lay.ensures.laid c.lay.ensures.first c.lay.ensures.times c.lay.ensures.count
+    c.word_of-word.result (c.word_of-word.ensures.value ∙ ap (λ (p : SharedWord). in_table (size c.self.inside.layout.now) (index c.self.inside.layout.now p)) c.place.ensures) c.word_of-word.ensures.within
+    c.step_as-found.result c.step_as-found.new.seat.me c.step_as-found.new.seat.table_id c.step_as-found.ensures.same c.step_as-found.ensures.made c.slot_move-to.result c.slot_move-to.ensures
+    c.settle-body.new.seat.me c.settle-body.new.seat.table_id c.settle-body.new.order.items c.settle-body.result c.settle-body.ensures.same.1 c.settle-body.ensures.same.0 c.settle-body.ensures.empty c.settle-body.ensures.order c.settle-body.ensures.body c.settle-body.ensures.none c.settle-body.ensures.kept)
+
+pub returns-clause-moved : goal.returns-clause-moved
+returns-clause-moved c =
+    made.moved-on (logs c.args.body) c.settle-body.result c.self.view_is (made.moves-now c.self.inside.layout.now c.self.inside.sheet.now.key c.self.inside.sheet.now.table_id c.self.inside.seat.table_id c.self.inside.seat.me c.self.inside.order.items c.self.invariant c.args.who c.args.step.now c.args.body
+    (made.rights-on c.self.view_is c.requires.right) (made.can-on c.self.view_is c.requires.can)
+    c.slot_move-home.result c.slot_move-home.ensures c.lay.new.seat.me c.lay.new.seat.table_id c.lay.new.order.items c.lay.ensures.same.1 c.lay.ensures.same.0 c.lay.ensures.laid c.lay.ensures.first c.lay.ensures.times c.lay.ensures.count
+    c.word_of-word.result (c.word_of-word.ensures.value ∙ ap (λ (p : SharedWord). in_table (size c.self.inside.layout.now) (index c.self.inside.layout.now p)) c.place.ensures) c.word_of-word.ensures.within
+    c.step_as-found.result c.step_as-found.new.seat.me c.step_as-found.new.seat.table_id c.step_as-found.ensures.same c.step_as-found.ensures.made c.slot_move-to.result c.slot_move-to.ensures
+    c.settle-body.new.seat.me c.settle-body.new.seat.table_id c.settle-body.new.order.items c.settle-body.result c.settle-body.ensures.same.1 c.settle-body.ensures.same.0 c.settle-body.ensures.empty c.settle-body.ensures.order c.settle-body.ensures.body c.settle-body.ensures.none c.settle-body.ensures.kept)

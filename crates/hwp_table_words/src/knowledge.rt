@@ -1,0 +1,16 @@
+use std::marker::Model;
+
+/// What a seat knows. No value of it is made.
+pub struct Knowledge;
+
+impl Model for Knowledge {
+    ghost use Rattle.hwp_table_words.specs.Known.{Known, idle};
+    ghost use Rattle.hwp_page.specs.hwp_kill.contracts.Slots as sets;
+    ghost use Rattle.std.specs.Coded.{codes};
+
+    ghost Value = { Known };
+
+    ghost coded = { Prim.hlevel (codes, sets.the_row.coded) };
+
+    ghost view = { λ _. idle };
+}

@@ -1,0 +1,22 @@
+//! The machine's words and page bodies in one table of atomic words, for many threads. The frame rule is the rule of the
+//! table, so that it holds between any two steps of any threads. A processor has a seat, which makes its steps.
+#![tactic(auto)]
+
+mod baton;
+mod carrying;
+mod closing;
+mod knowledge;
+mod opening;
+mod operation;
+mod ops;
+mod plays;
+mod seat;
+mod steps;
+mod words;
+
+pub use baton::{join, let_go, split};
+pub use closing::{Ended, close};
+pub use knowledge::Knowledge;
+pub use opening::begin;
+pub use plays::{Pass, Rule, Sheet, Slot, WordTable};
+pub use seat::SeatOps;

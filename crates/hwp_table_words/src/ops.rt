@@ -1,0 +1,25 @@
+use crate::seat::SeatOps;
+use hwp_core_rule::Step;
+use hwp_core_task::{Met, Ops};
+use hwp_geom::{Layout, Who};
+use hwp_page::Body;
+
+impl<'a> Ops for SeatOps<'a> {
+    ghost use Rattle.hwp_table_words.specs.Seats.{HasRight, Moves, mine};
+
+    ghost machine = { λ s. s.layout };
+
+    ghost view = { λ s. mine s };
+
+    ghost ready = { λ s. HasRight s.known };
+
+    ghost moves = { λ a r b. Moves a r b };
+
+    fn layout(&self) -> &Layout {
+        self.machine()
+    }
+
+    fn step(&mut self, who: Who, step: &Step, body: Option<Body>) -> Met {
+        self.make(who, step, body)
+    }
+}

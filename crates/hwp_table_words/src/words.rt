@@ -1,0 +1,22 @@
+ghost use Rattle.std.specs.Prelude.{◌≡◌, ◌<◌};
+ghost use Rattle.hwp_geom.specs.Layout.{IsSound};
+ghost use Rattle.hwp_core_rule.specs.Words.{IsPlace, index, size};
+ghost use Rattle.hwp_table_words.specs.Order.{in_table};
+
+use hwp_core_rule::{SharedWord, index};
+use hwp_geom::Layout;
+
+/// Where the table has the word of a place: the stop word first, and then the others in their order.
+pub fn word_of(layout: &Layout, place: SharedWord) -> usize
+    requires sound { IsSound layout.now }
+    requires inside { IsPlace layout.now place }
+    ensures value { result ≡ in_table (size layout.now) (index layout.now place) }
+    ensures within { result < size layout.now }
+{
+    let at = index(layout, place);
+    if at == index(layout, SharedWord::Stop) {
+        0
+    } else {
+        at + 1
+    }
+}

@@ -1,0 +1,92 @@
+//! A call of `top` over memory, and what it left.
+
+ghost use Rattle.std.specs.Prelude.{◌<◌};
+
+use hwp_io::{MemSink, MemSource};
+use hwp_top_step::top;
+use std::alloc::Global;
+use std::process::Abort;
+use std::str;
+
+/// What a call left: whether it gave a report, its status, and both sinks.
+#[derive(Drop)]
+pub struct Left {
+    pub reported: bool,
+    pub status: u8,
+    pub out: MemSink,
+    pub err: MemSink,
+}
+
+fn words_of(rt: &impl Abort, alloc: Global, words: &[&str]) -> Vec<String> {
+    let mut list = Vec::new(alloc);
+    for word in words {
+        let word = String::from_str(alloc, word).expect(rt, "memory");
+        list.push(word).expect(rt, "memory");
+    }
+    list
+}
+
+/// A call of `top` over memory: the source fails at the read, the sink, which takes so many bytes a write, at the write, and the
+/// error sink at the last of these.
+pub fn call_untold(
+    rt: &impl Abort,
+    alloc: Global,
+    words: &[&str],
+    script: &[u8],
+    read: &[u64],
+    sink: (usize, &[u64]),
+    untold: &[u64],
+) -> Left
+    requires { 0 < sink.0 }
+{
+    let list = words_of(rt, alloc, words);
+    let (take, write) = sink;
+    let script = script.to_vec(alloc).expect(rt, "memory");
+    let mut src = MemSource::new(script, read.to_vec(alloc).expect(rt, "memory"));
+    let mut out = MemSink::new(alloc, take, write.to_vec(alloc).expect(rt, "memory"));
+    let mut err = MemSink::new(alloc, 4096, untold.to_vec(alloc).expect(rt, "memory"));
+    let done = top(alloc, list.as_slice(), &mut src, &mut out, &mut err);
+    Left {
+        reported: done.report.is_some(),
+        status: done.status,
+        out,
+        err,
+    }
+}
+
+/// The same with an error sink that doesn't fail.
+pub fn call(
+    rt: &impl Abort,
+    alloc: Global,
+    words: &[&str],
+    script: &[u8],
+    read: &[u64],
+    sink: (usize, &[u64]),
+) -> Left
+    requires { 0 < sink.0 }
+{
+    call_untold(rt, alloc, words, script, read, sink, &[])
+}
+
+/// The call gave a report or not, ended with the status, and left these texts on `out` and on `err`.
+pub fn leaves(rt: &impl Abort, left: &Left, reported: bool, status: u8, out: &str, err: &str) {
+    let texts = (
+        str::from_utf8(left.out.bytes()).ok(),
+        str::from_utf8(left.err.bytes()).ok(),
+    );
+    assert!(rt; texts == (Some(out), Some(err)));
+    assert!(rt; (left.reported, left.status) == (reported, status));
+}
+
+/// `step` on a script, with nothing that fails.
+pub fn step(rt: &impl Abort, alloc: Global, script: &[u8]) -> Left {
+    call(rt, alloc, &["step"], script, &[], (4096, &[]))
+}
+
+/// `step` refuses each script, and tells what stands beside it.
+pub fn refuses(rt: &impl Abort, alloc: Global, rows: &[(&str, &str)]) {
+    for (script, told) in rows {
+        let left = step(rt, alloc, script.as_bytes());
+        leaves(rt, &left, false, 3, "", told);
+    }
+}

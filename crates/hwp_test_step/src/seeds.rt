@@ -1,0 +1,96 @@
+//! `gen` and `sum`: the script that a seed gives, its report, and the summary of that.
+
+use crate::helpers::{Left, call, leaves, step};
+use hwp_script::generate;
+use hwp_script_print::print;
+use hwp_script_read::{Script, read};
+use std::alloc::Global;
+use std::process::Abort;
+
+/// A call from a source whose first read fails.
+fn unread(rt: &impl Abort, alloc: Global, words: &[&str]) -> Left {
+    call(rt, alloc, words, b"step", &[1], (4096, &[]))
+}
+
+/// The bytes are the text of the script.
+fn has_text(rt: &impl Abort, alloc: Global, bytes: &[u8], script: &Script) {
+    let text = print(alloc, script).expect(rt, "memory");
+    assert!(rt; bytes == text.as_slice());
+}
+
+/// `gen` writes the script of the seed, which is read back, and reads nothing itself.
+fn writes_script(rt: &impl Abort, alloc: Global, word: &str, seed: u64) {
+    let left = unread(rt, alloc, &["gen", word]);
+    assert!(rt; (left.reported, left.status) == (false, 0));
+    let script = generate(alloc, seed).expect(rt, "memory");
+    has_text(rt, alloc, left.out.bytes(), &script);
+    let again = read(alloc, left.out.bytes()).expect(rt, "a script");
+    has_text(rt, alloc, left.out.bytes(), &again);
+}
+
+#[test]
+fn gen_writes_the_script_of_its_seed(rt: HostRuntime) {
+    writes_script(&rt, rt.alloc(), "5", 5);
+    writes_script(&rt, rt.alloc(), "0", 0);
+    writes_script(&rt, rt.alloc(), "18446744073709551615", u64::MAX);
+}
+
+#[test]
+fn two_runs_of_gen_write_equal_bytes(rt: HostRuntime) {
+    let first = unread(&rt, rt.alloc(), &["gen", "5"]);
+    let second = unread(&rt, rt.alloc(), &["gen", "5"]);
+    let other = unread(&rt, rt.alloc(), &["gen", "6"]);
+    assert!(&rt; first.out.bytes() == second.out.bytes());
+    assert!(&rt; first.out.bytes() != other.out.bytes());
+}
+
+/// The third write of 16 bytes fails.
+#[test]
+fn gen_tells_a_fault_of_the_sink(rt: HostRuntime) {
+    let left = call(&rt, rt.alloc(), &["gen", "5"], b"", &[], (16, &[3]));
+    leaves(
+        &rt,
+        &left,
+        false,
+        5,
+        "hwp 1\ncpus 4\nframes 256\nkernel 0",
+        "write fault\n",
+    );
+}
+
+/// `sum` runs the script of the seed, reads nothing, and begins its summary with these lines.
+fn sums(rt: &impl Abort, alloc: Global, word: &str, front: &str) -> Left {
+    let left = unread(rt, alloc, &["sum", word]);
+    assert!(rt; (left.reported, left.status) == (true, 0));
+    assert!(rt; left.out.bytes().starts_with(front.as_bytes()));
+    left
+}
+
+#[test]
+fn sum_tells_of_the_run_of_its_seed(rt: HostRuntime) {
+    let front = "hwp-sum 1\nseed 7\ncommands 4000\nnoframe 0\nstop none\n";
+    let first = sums(&rt, rt.alloc(), "7", front);
+    let second = sums(&rt, rt.alloc(), "7", front);
+    assert!(&rt; first.out.bytes() == second.out.bytes());
+}
+
+/// The script of the seed is run to its end, and its report is legal.
+fn runs(rt: &impl Abort, alloc: Global, word: &str) {
+    let script = unread(rt, alloc, &["gen", word]);
+    let report = step(rt, alloc, script.out.bytes());
+    assert!(rt; (script.status, report.status) == (0, 0));
+    let mut input = script.out.bytes().to_vec(alloc).expect(rt, "memory");
+    input
+        .extend_from_slice(report.out.bytes())
+        .expect(rt, "memory");
+    let verdict = call(rt, alloc, &["check"], input.as_slice(), &[], (4096, &[]));
+    leaves(rt, &verdict, false, 0, "legal\n", "");
+}
+
+#[test]
+fn the_report_of_a_seed_is_legal(rt: HostRuntime) {
+    runs(&rt, rt.alloc(), "0");
+    runs(&rt, rt.alloc(), "1");
+    runs(&rt, rt.alloc(), "2");
+    runs(&rt, rt.alloc(), "3");
+}

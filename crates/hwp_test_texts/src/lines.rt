@@ -1,0 +1,174 @@
+//! The lines of scripts: each kind as it is read and printed, and what is no line.
+
+use hwp_script_lines::{LineRead, read_lines};
+use hwp_script_print::put_form;
+use std::alloc::Global;
+use std::process::Abort;
+
+/// The lines that are not skipped, one a line: the number, and the line as it is printed, or what is wrong with it.
+fn told(rt: &impl Abort, alloc: Global, text: &[u8]) -> String {
+    assert!(rt; text.len() < 1000);
+    let lines = read_lines(alloc, text).expect(rt, "memory");
+    let mut out = String::new(alloc);
+    for numbered in lines.as_slice() {
+        write!(out, "{} ", numbered.line).expect(rt, "memory");
+        let put = match &numbered.read {
+            LineRead::ScriptLine(form) => put_form(&mut out, form),
+            LineRead::Unknown => writeln!(out, "unknown"),
+            LineRead::BadNumber => writeln!(out, "bad number"),
+            LineRead::OverLimit => writeln!(out, "over the limit"),
+        };
+        put.expect(rt, "memory");
+    }
+    out
+}
+
+/// Each text is read as what stands beside it.
+fn are_told(rt: &impl Abort, alloc: Global, rows: &[(&[u8], &str)]) {
+    for (text, want) in rows {
+        let read = told(rt, alloc, text);
+        assert!(rt; read.as_str() == *want);
+    }
+}
+
+/// Each text is read as this.
+fn are_all(rt: &impl Abort, alloc: Global, texts: &[&[u8]], want: &str) {
+    for text in texts {
+        let read = told(rt, alloc, text);
+        assert!(rt; read.as_str() == want);
+    }
+}
+
+/// Every kind of line, as it is read and as it is printed.
+const KINDS: &[(&[u8], &str)] = &[
+    (
+        b"hwp 1\ncpus 8\nframes 256\nkernel 3\nrecovery 0\nearly 1\nfile 0\nproc 1\n",
+        "1 hwp 1\n2 cpus 8\n3 frames 256\n4 kernel 3\n5 recovery 0\n6 early 1\n7 file 0\n8 proc 1\n",
+    ),
+    (
+        b"thread 0 1 2 handler\nthread 3 4 5 nohandler\npage 6 anon\npage 7 file 8 fill 9\ntrans 1 2 3\n",
+        "1 thread 0 1 2 handler\n2 thread 3 4 5 nohandler\n3 page 6 anon\n4 page 7 file 8 fill 9\n5 trans 1 2 3\n",
+    ),
+    (
+        b"cpu 4\nload 1 2 3\nfetch 4 5 6\nkload 7 8 9\nstore 1 2 3 18446744073709551615\nfree 0\n",
+        "1 cpu 4\n2 load 1 2 3\n3 fetch 4 5 6\n4 kload 7 8 9\n5 store 1 2 3 18446744073709551615\n6 free 0\n",
+    ),
+    (
+        b"drop 1\nsync 2\nout 3\nfsync 4\nprctl 1 33 1 0 0 0\nbad 5 6\nweak 7 8\nscrub 9 10\n",
+        "1 drop 1\n2 sync 2\n3 out 3\n4 fsync 4\n5 prctl 1 33 1 0 0 0\n6 bad 5 6\n7 weak 7 8\n8 scrub 9 10\n",
+    ),
+    (
+        b"log 0x0 0xbd000000000000c0 0x86\nraise user 1 0 1\nraise kernel 1 0\nraise nested\ninject 1\n",
+        "1 log 0x0 0xbd000000000000c0 0x86\n2 raise user 1 0 1\n3 raise kernel 1 0\n4 raise nested\n5 inject 1\n",
+    ),
+    (
+        b"soft 2\nunpoison 3\nschedule 0 1. 2@poison 3@report_lost 7\nend\n",
+        "1 soft 2\n2 unpoison 3\n3 schedule 0 1. 2@poison 3@report_lost 7\n4 end\n",
+    ),
+];
+
+#[test]
+fn every_kind_of_line_is_read_as_it_is_printed(rt: HostRuntime) {
+    are_told(&rt, rt.alloc(), KINDS);
+}
+
+const SKIPPED: &[(&[u8], &str)] = &[
+    (b"", ""),
+    (b"\n\n\n", ""),
+    (b"# cpus 1\n\n   \ncpus 1\n#\nend", "4 cpus 1\n6 end\n"),
+    (b"#\xff\x00\t\nend\n", "2 end\n"),
+    (b"  cpu   3  \n", "1 cpu 3\n"),
+    (b"end\n\n# no more\n", "1 end\n"),
+    (b" # end\n", "1 unknown\n"),
+    (
+        b"log 0 0x00Ab 0xFFFFFFFFFFFFFFFF",
+        "1 log 0x0 0xab 0xffffffffffffffff\n",
+    ),
+];
+
+#[test]
+fn lines_are_counted_whether_they_are_skipped_or_not(rt: HostRuntime) {
+    are_told(&rt, rt.alloc(), SKIPPED);
+}
+
+const UNKNOWN: &[&[u8]] = &[
+    b"sotre 0 0 5 77",
+    b"cpus",
+    b"cpus 1 2",
+    b"hwp 2",
+    b"hwp 01",
+    b"HWP 1",
+    b"thread 0 0 0 maybe",
+    b"thread 0 0 0",
+    b"page 0 file 0 full 1",
+    b"page 0 anon 1",
+    b"raise user 0 1",
+    b"raise nested 1",
+    b"raise other 1 1",
+    b"schedule",
+    b"schedule 0 x@foo",
+    b"schedule x 0@poison@poison",
+    b"\tend",
+    b"end\r",
+    b"end \x00",
+    b"cpus \xff",
+];
+
+#[test]
+fn a_line_of_no_form_is_unknown(rt: HostRuntime) {
+    are_all(&rt, rt.alloc(), UNKNOWN, "1 unknown\n");
+}
+
+const NO_NUMBERS: &[&[u8]] = &[
+    b"cpus x",
+    b"cpus 01",
+    b"cpus +1",
+    b"cpus -1",
+    b"cpus 18446744073709551616",
+    b"cpus 0x1",
+    b"page x file 0 fill 1",
+    b"page 0 file 0 fill 1.5",
+    b"prctl 0 33 1 0 0 x",
+    b"log 1 0 0",
+    b"log 0x 0 0",
+    b"log 0x11112222333344445 0 0",
+    b"log 0 0 0x+1",
+    b"log 0X1 0 0",
+    b"schedule x",
+    b"schedule .",
+    b"schedule @poison",
+    b"schedule 0.5",
+    b"schedule 0..",
+    b"schedule 8 00",
+];
+
+#[test]
+fn a_word_in_a_numbers_place_is_a_number(rt: HostRuntime) {
+    are_all(&rt, rt.alloc(), NO_NUMBERS, "1 bad number\n");
+}
+
+const TOO_LARGE: &[&[u8]] = &[
+    b"load 32 0 0",
+    b"fetch 0 512 0",
+    b"kload 0 0 64",
+    b"store 32 0 0 1",
+    b"free 512",
+    b"drop 256",
+    b"sync 256",
+    b"fsync 16",
+    b"prctl 32 33 0 0 0 0",
+    b"bad 256 0",
+    b"weak 0 64",
+    b"scrub 1 0",
+    b"scrub 0 256",
+    b"raise user 0 2 0",
+    b"raise kernel 0 2",
+    b"inject 256",
+    b"schedule 8",
+    b"schedule 0 8@poison",
+];
+
+#[test]
+fn a_number_of_a_command_is_in_its_range(rt: HostRuntime) {
+    are_all(&rt, rt.alloc(), TOO_LARGE, "1 over the limit\n");
+}

@@ -1,0 +1,82 @@
+//! Scripts in the one spelling in which they are printed.
+
+use hwp_script_print::print;
+use hwp_script_read::{Script, read};
+use std::alloc::Global;
+use std::process::Abort;
+use std::str;
+
+/// A script with every form of line and every command, as it is printed.
+const ALL: &str =
+    "hwp 1\ncpus 2\nframes 4\nkernel 1\nkernel 3\nrecovery 0\nearly 1\nfile 0\nproc 0\nproc 1\nthread 0 0 0 handler\nthread 1 1 1 nohandler\npage 0 anon\npage 1 file 0 fill 9\ntrans 0 0 0\ntrans 1 1 1\ncpu 0\nout 0\nbad 0 3\nweak 1 63\nscrub 0 3\nlog 0xbd000000000000c0 0x1000 0x0\nraise user 0 1 0\nraise kernel 0 1\nraise nested\ninject 1\nsoft 2\nunpoison 3\ncpu 1\nload 1 1 7\nfetch 1 1 8\nkload 1 1 9\nstore 1 1 10 18446744073709551615\nfree 1\ndrop 1\nsync 1\nfsync 0\nprctl 1 33 1 2 0 7\nschedule 0 1. 0@poison 1\nend\n";
+
+/// The same script, in other spellings that a user may choose.
+const SPELLED: &str =
+    "# all forms\n\n  hwp   1 \ncpus 2\nframes 4\nkernel 3\nkernel 1\nrecovery 0\nearly 1\nfile 0\nproc 0\nproc 1\nthread 0 0 0 handler\nthread 1 1 1 nohandler\npage 0 anon\npage 1 file 0 fill 9\ntrans 0 0 0\ntrans 1 1 1\ncpu 1\nload 1 1 7\nfetch 1 1 8\nkload 1 1 9\nstore 1 1 10 18446744073709551615\nfree 1\ndrop 1\nsync 1\nfsync 0\nprctl 1 33 1 2 0 7\ncpu 0\nout 0\nbad 0 3\nweak 1 63\nscrub 0 3\nlog 0xBD000000000000c0 0x01000 0\nraise user 0 1 0\nraise kernel 0 1\nraise nested\ninject 1\nsoft 2\nunpoison 3\nschedule 0 1.\n# done\nschedule 0@poison\nschedule 1\nend\n\n# after the end";
+
+/// The script that a text is read as is printed as another.
+fn is_spelled(rt: &impl Abort, alloc: Global, text: &str, want: &str) {
+    let script = read(alloc, text.as_bytes()).ok().expect(rt, "a script");
+    is_printed(rt, alloc, &script, want);
+}
+
+/// The printed text of a script.
+fn is_printed(rt: &impl Abort, alloc: Global, script: &Script, want: &str) {
+    let text = print(alloc, script).expect(rt, "memory");
+    assert!(rt; str::from_utf8(text.as_slice()).ok() == Some(want));
+}
+
+#[test]
+fn a_printed_script_is_printed_as_itself(rt: HostRuntime) {
+    is_spelled(&rt, rt.alloc(), SPELLED, ALL);
+    is_spelled(&rt, rt.alloc(), ALL, ALL);
+}
+
+#[test]
+fn what_is_not_declared_is_printed_as_it_is_by_default(rt: HostRuntime) {
+    is_spelled(
+        &rt,
+        rt.alloc(),
+        "hwp 1\ncpus 1\nframes 1\nend",
+        "hwp 1\ncpus 1\nframes 1\nrecovery 1\nearly 0\ncpu 0\nend\n",
+    );
+    is_spelled(
+        &rt,
+        rt.alloc(),
+        "hwp 1\n\ncpus 2\nframes 3\nkernel 2\nkernel 0\nearly 0\ncpu 1\nlog 0 0x00Ab 0xF\nend\n#",
+        "hwp 1\ncpus 2\nframes 3\nkernel 0\nkernel 2\nrecovery 1\nearly 0\ncpu 0\ncpu 1\nlog 0x0 0xab 0xf\nend\n",
+    );
+}
+
+/// The parts one after another, each so often.
+fn repeated(rt: &impl Abort, alloc: Global, parts: &[(&str, u32)]) -> String {
+    let mut text = String::new(alloc);
+    for (part, count) in parts {
+        for _ in 0..*count {
+            text.push_str(part).expect(rt, "memory");
+        }
+    }
+    text
+}
+
+const ONE_BY_ONE: &[(&str, u32)] = &[
+    ("hwp 1\ncpus 1\nframes 1\n", 1),
+    ("schedule 0\n", 101),
+    ("end\n", 1),
+];
+
+const BY_FIFTY: &[(&str, u32)] = &[
+    ("hwp 1\ncpus 1\nframes 1\nrecovery 1\nearly 0\ncpu 0\n", 1),
+    ("schedule", 1),
+    (" 0", 50),
+    ("\nschedule", 1),
+    (" 0", 50),
+    ("\nschedule 0\nend\n", 1),
+];
+
+#[test]
+fn fifty_words_of_the_schedule_stand_on_a_line(rt: HostRuntime) {
+    let text = repeated(&rt, rt.alloc(), ONE_BY_ONE);
+    let want = repeated(&rt, rt.alloc(), BY_FIFTY);
+    is_spelled(&rt, rt.alloc(), text.as_str(), want.as_str());
+}

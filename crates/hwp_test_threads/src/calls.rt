@@ -1,0 +1,122 @@
+//! The top call for runs on threads over memory: other words, refused scripts, and faults of the source and the sink.
+
+use crate::helpers::{call, leaves};
+use hwp_top::Open;
+
+const STORE_AND_LOAD: &str = "\
+hwp 1
+cpus 1
+frames 2
+proc 0
+thread 0 0 0 handler
+page 0 anon
+trans 0 0 0
+cpu 0
+store 0 0 5 77
+load 0 0 5
+end
+";
+
+const STORED_AND_LOADED: &str = "\
+hwp-report 1
+stop none
+count 0
+frame 0 page 0 bad 0 weak 0
+frame 1 free bad 0 weak 0
+page 0 4
+in 0 0
+map 0 0 0
+store 0 0 0 5 0 77
+load 0 1 0 5 0 77
+cpu 0 2
+0 stored 0 2
+1 value 77 0 3
+end
+";
+
+/// A machine check inside another one stops the machine.
+const NESTED: &str = "\
+hwp 1\ncpus 1\nframes 2\nproc 0\nthread 0 0 0 handler\npage 0 anon\ntrans 0 0 0\ncpu 0\nraise nested\nend\n";
+
+const STOPPED: &str = "\
+hwp-report 1\nstop 0 0 shutdown\ncount 0\nframe 0 free bad 0 weak 0\nframe 1 free bad 0 weak 0\npage 0 0\ncpu 0 1\n\
+0 stopped\nend\n";
+
+const USAGE: &str = "usage: hwp step|run|check|gen N|sum N\n";
+
+#[test]
+fn a_script_is_run(rt: HostRuntime) {
+    let left = call(
+        &rt,
+        rt.alloc(),
+        "run",
+        STORE_AND_LOAD,
+        &[],
+        (4096, &[]),
+        &Open,
+    );
+    leaves(&rt, &left, true, 0, STORED_AND_LOADED, "");
+    let left = call(&rt, rt.alloc(), "run", NESTED, &[], (4096, &[]), &Open);
+    leaves(&rt, &left, true, 8, STOPPED, "");
+}
+
+#[test]
+fn the_word_run_alone_is_served(rt: HostRuntime) {
+    for word in ["step", "check", "runs", "Run", ""] {
+        let left = call(
+            &rt,
+            rt.alloc(),
+            word,
+            STORE_AND_LOAD,
+            &[],
+            (4096, &[]),
+            &Open,
+        );
+        leaves(&rt, &left, false, 2, "", USAGE);
+    }
+}
+
+#[test]
+fn a_refused_script_and_a_source_that_fails_leave_nothing(rt: HostRuntime) {
+    let left = call(
+        &rt,
+        rt.alloc(),
+        "run",
+        "hwp 1\ncpus 9\n",
+        &[],
+        (4096, &[]),
+        &Open,
+    );
+    leaves(&rt, &left, false, 3, "", "script line 2: OverLimit\n");
+    let left = call(
+        &rt,
+        rt.alloc(),
+        "run",
+        STORE_AND_LOAD,
+        &[2],
+        (4096, &[]),
+        &Open,
+    );
+    leaves(&rt, &left, false, 4, "", "read fault\n");
+}
+
+#[test]
+fn a_sink_that_fails_has_the_front_of_the_report(rt: HostRuntime) {
+    let left = call(
+        &rt,
+        rt.alloc(),
+        "run",
+        STORE_AND_LOAD,
+        &[],
+        (16, &[3]),
+        &Open,
+    );
+    leaves(
+        &rt,
+        &left,
+        true,
+        5,
+        "hwp-report 1\nstop none\ncount 0\nf",
+        "write fault\n",
+    );
+}

@@ -1,0 +1,67 @@
+//! A call of `top_run` over memory, and what it left.
+
+ghost use Rattle.std.specs.Prelude.{◌<◌};
+
+use hwp_io::{MemSink, MemSource};
+use hwp_top::{Gate, top_run};
+use std::alloc::Global;
+use std::process::Abort;
+use std::str;
+use std::sync::Wait;
+use std::thread::Threads;
+
+/// What a call left: whether it gave a report, its status, and both sinks.
+#[derive(Drop)]
+pub struct Left {
+    pub reported: bool,
+    pub status: u8,
+    pub out: MemSink,
+    pub err: MemSink,
+}
+
+/// A call of these words over memory: the source fails at the read, and the sink, which takes so many bytes a write, at the write.
+pub fn call<R: Abort + Threads + Wait + Sync>(
+    rt: &R,
+    alloc: Global,
+    word: &str,
+    script: &str,
+    read: &[u64],
+    sink: (usize, &[u64]),
+    gate: &(impl Gate + Sync),
+) -> Left
+    requires { 0 < sink.0 }
+{
+    let mut words = Vec::new(alloc);
+    let word = String::from_str(alloc, word).expect(rt, "memory");
+    words.push(word).expect(rt, "memory");
+    let (take, write) = sink;
+    let script = script.as_bytes().to_vec(alloc).expect(rt, "memory");
+    let mut src = MemSource::new(script, read.to_vec(alloc).expect(rt, "memory"));
+    let mut out = MemSink::new(alloc, take, write.to_vec(alloc).expect(rt, "memory"));
+    let mut err = MemSink::new(alloc, 4096, Vec::new(alloc));
+    let done = top_run(
+        rt,
+        alloc,
+        words.as_slice(),
+        &mut src,
+        &mut out,
+        &mut err,
+        gate,
+    );
+    Left {
+        reported: done.report.is_some() && done.ended.is_some(),
+        status: done.status,
+        out,
+        err,
+    }
+}
+
+/// The call gave a report or not, ended with the status, and left these texts on `out` and on `err`.
+pub fn leaves(rt: &impl Abort, left: &Left, reported: bool, status: u8, out: &str, err: &str) {
+    let texts = (
+        str::from_utf8(left.out.bytes()).ok(),
+        str::from_utf8(left.err.bytes()).ok(),
+    );
+    assert!(rt; texts == (Some(out), Some(err)));
+    assert!(rt; (left.reported, left.status) == (reported, status));
+}

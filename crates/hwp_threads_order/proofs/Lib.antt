@@ -1,0 +1,2 @@
+pub mod OwnKeeps
+pub mod FailureClaims

@@ -1,0 +1,4 @@
+pub mod SeatDeals
+pub mod SeatMoves
+pub mod Pieces
+pub mod SeatJoins

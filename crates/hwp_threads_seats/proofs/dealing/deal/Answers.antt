@@ -1,0 +1,23 @@
+use Rattle.std.proofs.Common.{◌≡◌, ◌+◌, ◌<◌, [], length, sym, ap, ◌∙◌, subst, arith}
+use Rattle.hwp_table_words.specs.Stands.{Me}
+use Rattle.hwp_threads_seats.specs.Dealing.{CanDeal, seat_at, seat_known}
+use Rattle.hwp_threads_seats.proofs.Pieces.{deal-more, taken-first}
+use Rattle.hwp_threads_seats.proofs.SeatDeals.{deals-on}
+use Rattle.hwp_threads_seats.proofs.dealing.deal.Goals as goal
+
+pub loop-cpu-preserved : goal.loop-cpu-preserved
+loop-cpu-preserved g c =
+    let i = c.loop-cpu.invariant in
+    let less : c.loop-cpu.cpu < c.args.layout.now.cpus = omega (arith, c.loop-cpu-test.true) in
+    let some : 0 < length c.loop-cpu.tasks.items = omega (arith, i.count, less) in
+    let first = taken-first c.loop-cpu.tasks.items c.remove-task.result c.remove-task.new.self.items some c.remove-task.ensures.value c.remove-task.ensures.items in
+    let own : c.split-own.result.me ≡ (seat_known c.loop-cpu.cpu, []) = c.split-own.ensures.new ∙ (λ j. (i.can.each c.loop-cpu.cpu (omega arith) less j, [])) in
+    let seat : c.new-seat.result ≡ seat_at c.args.sheet.now.table_id c.args.layout.now c.loop-cpu.cpu = c.new-seat.ensures ∙ (λ j. record { table = c.args.sheet.now.table_id; layout = c.args.layout.now; known = (own j).0 }) in
+    record {
+      same = c.split-own.ensures.same.0 ∙ i.same;
+      slots = ap (λ (m : Me). m.1) c.split-own.ensures.seat ∙ i.slots;
+      can = subst (λ (m : Me). CanDeal (c.loop-cpu.cpu + 1) c.args.layout.now.cpus m.0) (sym c.split-own.ensures.seat) (deals-on c.loop-cpu.cpu c.args.layout.now.cpus c.loop-cpu.pass.me.0 i.can);
+      count = omega (arith, i.count, ap length first);
+      so_far = deal-more c.args.sheet.now.table_id c.args.layout.now c.loop-cpu.workers.items c.push.new.self.items c.new-in-loop-cpu.result c.new.result c.new-seat.result c.loop-cpu.cpu c.remove-task.result c.loop-cpu.tasks.items c.remove-task.new.self.items _
+          first seat c.new.ensures c.new-in-loop-cpu.ensures c.in_ok-push.ensures.items i.so_far;
+    }

@@ -1,0 +1,74 @@
+ghost use Rattle.std.specs.Prelude.{◌≡◌, ◌++◌, map, IfOk, OnOk};
+ghost use Rattle.hwp_cpu.specs.hwp_law_holds.Rows.{event_line, lines_from, row_lines};
+ghost use Rattle.hwp_top_report.specs.Closing.{AreTellable, IsTellable, lines_of_all};
+
+use hwp_cpu_check::EventOutcome;
+use hwp_cpu_row::Row;
+use hwp_geom::{List, OutOfMemory};
+use hwp_report_text::CpuLine;
+use std::alloc::Global;
+
+/// The lines of all processors.
+pub(crate) fn all_lines(
+    alloc: Global,
+    rows: &[List<Row>],
+) -> Result<List<List<CpuLine>>, OutOfMemory>
+    requires tellable { AreTellable rows.now }
+    ensures { IfOk result (λ cpus. cpus ≡ lines_of_all rows.now) }
+{
+    let mut cpus = Vec::with_capacity(alloc, rows.len())?;
+    for cpu in 0..rows.len() {
+        cpus.push(lines_of(alloc, rows[cpu].as_slice())?)?;
+    }
+    Ok(List::from_vec(cpus))
+}
+
+/// The lines of a processor: for each command its events, and then its answer.
+fn lines_of(alloc: Global, rows: &[Row]) -> Result<List<CpuLine>, OutOfMemory>
+    requires tellable { IsTellable rows.now }
+    ensures { IfOk result (λ lines. lines ≡ lines_from 0 rows.now) }
+{
+    let mut lines = Vec::new(alloc);
+    for number in 0..rows.len() {
+        add_row(&mut lines, number as u32, &rows[number])?;
+    }
+    Ok(List::from_vec(lines))
+}
+
+/// Adds the lines of a command with this number.
+fn add_row(lines: &mut Vec<CpuLine>, seq: u32, row: &Row) -> Result<(), OutOfMemory>
+    ensures { OnOk result (lines.new.items ≡ lines.old.items ++ row_lines seq row.now) }
+{
+    let answer = CpuLine::Answer {
+        seq,
+        answer: row.answer,
+    };
+    add_events(lines, seq, row.told.as_slice())?;
+    lines.push(answer)?;
+    Ok(())
+}
+
+/// Adds a line for each event.
+fn add_events(lines: &mut Vec<CpuLine>, seq: u32, told: &[EventOutcome]) -> Result<(), OutOfMemory>
+    ensures { OnOk result (lines.new.items ≡ lines.old.items ++ map (event_line seq) told.now) }
+{
+    for event in told {
+        lines.push(event_line(seq, event))?;
+    }
+    Ok(())
+}
+
+/// The line of an event: what its bank held, the row that graded it, and what was done.
+fn event_line(seq: u32, told: &EventOutcome) -> CpuLine
+    ensures { result ≡ event_line seq told.now }
+{
+    CpuLine::Event {
+        seq,
+        bank: told.held.bank,
+        status: told.held.event.status.0,
+        addr: told.held.event.addr,
+        misc: told.held.event.misc,
+        row: told.held.grade.row,
+        acted: told.acted,
+    }
+}

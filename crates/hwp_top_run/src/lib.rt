@@ -1,9 +1,0 @@
-//! The top call for runs on threads: the word `run` and its script to the report and the status.
-#![tactic(auto)]
-
-mod calls;
-mod running;
-
-pub use calls::top_run;
-pub use hwp_threads::{Gate, Open, Point};
-pub use hwp_top::{Done, top};

@@ -1,0 +1,54 @@
+-- The report level of an output follows from the output.
+use Rattle.std.specs.Prelude.{◌≡◌, ℕ, List, Option, Some, None, IsSomeAnd}
+use Rattle.std.proofs.Common.{subst, sym}
+use Rattle.std.specs.Io.KnownBytes.{Appends}
+use Rattle.hwp_report_text.specs.declared.Report.{Report}
+use Rattle.hwp_table_words.specs.Ends.{EndValue}
+use Rattle.hwp_top_step.specs.declared.served.Call.{Call}
+use Rattle.hwp_top_step.specs.declared.served.Call.TheVariants as calls
+use Rattle.hwp_top_step.specs.Calls.{IsCall}
+use Rattle.hwp_top_step.specs.Outputs.{IsOutputOf, IsReported, IsReportedOf, IsStepReport}
+use Rattle.hwp_top_step.specs.Top.{IsDone}
+
+reported-of : (call : Call) (left left' : Option (List ℕ)) (status : ℕ) (text : List ℕ) (report : Option Report) (ended : Option EndValue) → IsOutputOf call left left' status text report ended → IsReportedOf call left left' status text report
+reported-of calls.Step left left' status text (Some report) (Some ended) o =
+    let of = o.reports in
+    record {
+      script = of.script;
+      takes = of.takes;
+      report_of = record { run = of.report_of.run; lawful = of.report_of.lawful };
+      status_is = o.status_is;
+      text_is = o.text_is;
+    }
+reported-of calls.Step left left' status text (Some report) None o = elim o [ ]
+reported-of calls.Step left left' status text None ended o = elim o [ ]
+reported-of calls.Check left left' status text report ended o = (o.0, o.1)
+reported-of (calls.Gen seed) left left' status text report ended o = (o.0, o.1, o.2)
+reported-of (calls.Sum seed) left left' status text (Some report) (Some ended) o =
+    record {
+      report_of = record { run = o.report_of.run; lawful = o.report_of.lawful };
+      status_is = o.status_is;
+      text_is = o.text_is;
+    }
+reported-of (calls.Sum seed) left left' status text (Some report) None o = elim o [ ]
+reported-of (calls.Sum seed) left left' status text None ended o = elim o [ ]
+
+-- an output that was written whole is one of the report level
+pub delivered : (words : List (List ℕ)) (call : Call) (left left' taken taken' : Option (List ℕ)) (status end : ℕ) (text : List ℕ) (report given : Option Report) (ended : Option EndValue)
+    → IsCall words call → IsOutputOf call left left' status text report ended → given ≡ report
+    → (IsDone end → (end ≡ status) × Appends taken taken' text)
+    → IsDone end → (text : List ℕ) × IsReported words left left' end text given × Appends taken taken' text
+delivered words call left left' taken taken' status end text report given ended asked output same done is =
+    let so = done is in
+    let at-end : IsReportedOf call left left' end text report = subst (λ (n : ℕ). IsReportedOf call left left' n text report) (sym so.0) (reported-of call left left' status text report ended output) in
+    (text, record { call = call; asked = asked; output = subst (λ (r : Option Report). IsReportedOf call left left' end text r) (sym same) at-end }, so.1)
+
+-- the report of `step`, or of `run`, that was written whole
+pub delivered-report : (left left' taken taken' : Option (List ℕ)) (status end : ℕ) (text : List ℕ) (report given : Option Report)
+    → IsSomeAnd report (IsStepReport left left' status text) → given ≡ report
+    → (IsDone end → (end ≡ status) × Appends taken taken' text)
+    → IsDone end → (text : List ℕ) × IsSomeAnd given (IsStepReport left left' end text) × Appends taken taken' text
+delivered-report left left' taken taken' status end text report given output same done is =
+    let so = done is in
+    let at-end : IsSomeAnd report (IsStepReport left left' end text) = subst (λ (n : ℕ). IsSomeAnd report (IsStepReport left left' n text)) (sym so.0) output in
+    (text, subst (λ (r : Option Report). IsSomeAnd r (IsStepReport left left' end text)) (sym same) at-end, so.1)

@@ -1,0 +1,92 @@
+-- What each call writes, and why it writes nothing.
+use Rattle.std.specs.Prelude.{◌≡◌, ◌≤◌, ℕ, List, Option, None, IsSomeAnd, length}
+use Rattle.hwp_script_read.specs.Limits.{script_limit}
+use Rattle.hwp_script_read.specs.declared.Refused.{Refused}
+use Rattle.hwp_script_read.specs.declared.Script.{Script}
+use Rattle.hwp_script_print.specs.Round.{IsTextOf}
+use Rattle.hwp_script_print.specs.Text.{script_text}
+use Rattle.hwp_script.specs.Generated.{generated}
+use Rattle.hwp_report_text.specs.declared.Report.{Report}
+use Rattle.hwp_report_text.specs.Text.{report_text}
+use Rattle.hwp_report_summary.specs.Counts.{summary_of}
+use Rattle.hwp_report_summary.specs.Text.{summary_text}
+use Rattle.hwp_table_words.specs.Ends.{EndValue}
+use Rattle.hwp_top_step.specs.declared.served.Call.{Call}
+use Rattle.hwp_top_step.specs.declared.served.Call.TheVariants as calls
+use Rattle.hwp_top_step.specs.Calls.{IsCall}
+use Rattle.hwp_top_step.specs.Checked.{IsChecked, RefusesChecked}
+use Rattle.hwp_top_step.specs.Top.{IsReportOf, IsReportOfRun, Refuses, Reports, Takes, done_status}
+
+-- the text is that of the seed's script; where it is no longer than a script may be, it is read as this script, and as no other
+pub record IsGenerated (seed : ℕ) (text : List ℕ) : Type 0 where
+  pub text_is : text ≡ script_text (generated seed)
+  pub read : length text ≤ script_limit → IsTextOf text (generated seed)
+
+-- the report of a script that a source gave, its text, and its status
+pub record IsStepped (left left' : Option (List ℕ)) (status : ℕ) (text : List ℕ) (report : Report) (ended : EndValue) : Type 0 where
+  pub reports : Reports left left' report ended
+  pub status_is : status ≡ done_status report
+  pub text_is : text ≡ report_text report
+
+-- a report of the seed's script, as `step` gives it, and the text of its summary
+pub record IsSummed (seed status : ℕ) (text : List ℕ) (report : Report) (ended : EndValue) : Type 0 where
+  pub report_of : IsReportOfRun (generated seed) report ended
+  pub status_is : status ≡ 0
+  pub text_is : text ≡ summary_text seed (summary_of report)
+
+-- the report level: a lawful report of the script that a source gave, its text, and its status
+pub record IsStepReport (left left' : Option (List ℕ)) (status : ℕ) (text : List ℕ) (report : Report) : Type 0 where
+  pub script : Script
+  pub takes : Takes left left' script
+  pub report_of : IsReportOf script report
+  pub status_is : status ≡ done_status report
+  pub text_is : text ≡ report_text report
+
+-- the report level: a lawful report of the seed's script, and the text of its summary
+pub record IsSumReport (seed status : ℕ) (text : List ℕ) (report : Report) : Type 0 where
+  pub report_of : IsReportOf (generated seed) report
+  pub status_is : status ≡ 0
+  pub text_is : text ≡ summary_text seed (summary_of report)
+
+-- the report level: what a call gives, whatever run made its report
+abbrev pub IsReportedOf : Call → Option (List ℕ) → Option (List ℕ) → ℕ → List ℕ → Option Report → Type 0
+IsReportedOf calls.Step left left' status text report = IsSomeAnd report (IsStepReport left left' status text)
+IsReportedOf calls.Check left left' status text report = IsChecked left left' status text × (report ≡ None)
+IsReportedOf (calls.Gen seed) left left' status text report = IsGenerated seed text × (status ≡ 0) × (report ≡ None)
+IsReportedOf (calls.Sum seed) left left' status text report = IsSomeAnd report (IsSumReport seed status text)
+
+-- the words ask for a call, and this is what it gives, whatever run made its report
+pub record IsReported (words : List (List ℕ)) (left left' : Option (List ℕ)) (status : ℕ) (text : List ℕ) (report : Option Report) : Type 0 where
+  pub call : Call
+  pub asked : IsCall words call
+  pub output : IsReportedOf call left left' status text report
+
+-- the report is there, and what its run's table was closed with
+abbrev pub HasRun : Option Report → Option EndValue → (Report → EndValue → Type 0) → Type 0
+HasRun report ended Such = IsSomeAnd report (λ (r : Report). IsSomeAnd ended (Such r))
+
+-- the output of a call: its status, its text, and, where a run was made, its report and what its table was closed with
+abbrev pub IsOutputOf : Call → Option (List ℕ) → Option (List ℕ) → ℕ → List ℕ → Option Report → Option EndValue → Type 0
+IsOutputOf calls.Step left left' status text report ended = HasRun report ended (IsStepped left left' status text)
+IsOutputOf calls.Check left left' status text report ended = IsChecked left left' status text × (report ≡ None) × (ended ≡ None)
+IsOutputOf (calls.Gen seed) left left' status text report ended = IsGenerated seed text × (status ≡ 0) × (report ≡ None) × (ended ≡ None)
+IsOutputOf (calls.Sum seed) left left' status text report ended = HasRun report ended (IsSummed seed status text)
+
+-- a call is refused: what the source gave is
+abbrev pub IsRefusedFor : Call → Option (List ℕ) → Option (List ℕ) → Refused → Type 0
+IsRefusedFor calls.Step left left' refused = Refuses left left' refused
+IsRefusedFor calls.Check left left' refused = RefusesChecked left left' refused
+IsRefusedFor (calls.Gen seed) left left' refused = ⊥
+IsRefusedFor (calls.Sum seed) left left' refused = ⊥
+
+-- the words ask for a call, and this is its output
+pub record IsOutput (words : List (List ℕ)) (left left' : Option (List ℕ)) (status : ℕ) (text : List ℕ) (report : Option Report) (ended : Option EndValue) : Type 0 where
+  pub call : Call
+  pub asked : IsCall words call
+  pub output : IsOutputOf call left left' status text report ended
+
+-- the words ask for a call, and it is refused
+pub record IsRefusedCall (words : List (List ℕ)) (left left' : Option (List ℕ)) (refused : Refused) : Type 0 where
+  pub call : Call
+  pub asked : IsCall words call
+  pub refuses : IsRefusedFor call left left' refused

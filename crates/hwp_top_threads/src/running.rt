@@ -1,0 +1,82 @@
+ghost use Rattle.std.specs.Prelude.{◌≡◌, [], IfOk};
+ghost use Rattle.hwp_cpu.specs.hwp_law.Law.{IsLawful};
+ghost use Rattle.hwp_cpu.specs.hwp_law.Runs.{IsOfRun};
+ghost use Rattle.hwp_script_read.specs.Valid.{IsValid};
+ghost use Rattle.hwp_table_words.specs.Known.{first_known};
+ghost use Rattle.hwp_table_words.specs.Seats.{IsTableOf};
+ghost use Rattle.hwp_top_threads.specs.Runs.{HaveRun, IsThreadPlayed, IsThreadRun};
+
+use hwp_cpu::Processor;
+use hwp_geom::OutOfMemory;
+use hwp_script_read::Script;
+use hwp_table_words::{Ended, Pass, Sheet, Slot, begin, close};
+use hwp_threads::{Gate, run_all};
+use hwp_threads_seats::{deal, gather};
+use hwp_top_turns::{Finished, Rows, crew_of, finish_run, rows_of};
+use std::alloc::{AllocError, Global};
+use std::sync::{Arc, Wait};
+use std::thread::Threads;
+
+/// All turns of a script's processors, each on a thread of its own: the one seat that has all views again, and the tasks.
+fn run_crew<R: Threads + Wait + Sync, G: Gate + Sync>(
+    rt: &R,
+    alloc: Global,
+    sheet: &Sheet,
+    script: &Script,
+    pass: Pass,
+    gate: &G,
+) -> Result<(Pass, Vec<Processor>), OutOfMemory>
+    requires valid { IsValid script.now }
+    requires table { IsTableOf script.now.layout sheet.now.table_id × (sheet.now.key ≡ script.now.layout) }
+    requires seat { (pass.table_id ≡ sheet.now.table_id) × (pass.me ≡ (first_known script.now.layout, [])) }
+    ensures same { IfOk result (λ r. r.0.table_id ≡ sheet.now.table_id) }
+    ensures ran { IfOk result (λ r. HaveRun script.now r.0.me.0 r.1.items) }
+{
+    let crew = crew_of(alloc, script)?;
+    let (pass, mut workers) = deal(alloc, sheet, &script.layout, pass, crew)?;
+    run_all(rt, &mut workers, gate);
+    gather(alloc, sheet, pass, workers)
+}
+
+/// The turns of a script's processors at a table of their own: what the table was closed with, the bodies that were in its
+/// slots, and the rows of each processor.
+fn play_on_threads<R: Threads + Wait + Sync, G: Gate + Sync>(
+    rt: &R,
+    alloc: Global,
+    script: &Script,
+    gate: &G,
+) -> Result<(Ended, Vec<Slot>, Rows), OutOfMemory>
+    requires valid { IsValid script.now }
+    ensures played { IfOk result (λ end. IsThreadPlayed script.now end.0 end.2) }
+    ensures bodies { IfOk result (λ end. end.0.slots ≡ end.1.items) }
+{
+    let layout = Arc::new(alloc, script.layout.copy(alloc)?)?;
+    let (table, pass) = begin(alloc, &layout)?;
+    let (pass, tasks) = run_crew(rt, alloc, &table.shared, script, pass, gate)?;
+    let rows = rows_of(alloc, tasks)?;
+    let Ok((ended, slots)) = close(alloc, table, pass) else {
+        return Err(AllocError);
+    };
+    ended.reached();
+    Ok((ended, slots, rows))
+}
+
+/// The run of a script on threads: its processors make their turns, each on a thread of its own, in whatever order, until each of
+/// their commands is answered. The schedule isn't used. The report is of what the table is closed with.
+///
+/// # Errors
+/// `OutOfMemory` where memory was refused, also to a turn of a processor.
+pub fn run_on_threads<R: Threads + Wait + Sync, G: Gate + Sync>(
+    rt: &R,
+    alloc: Global,
+    script: &Script,
+    gate: &G,
+) -> Result<Finished, OutOfMemory>
+    requires valid { IsValid script.now }
+    ensures of_run { IfOk result (λ run. IsOfRun script.now run.report) }
+    ensures lawful { IfOk result (λ run. IsLawful script.now run.report) }
+    ensures ended { IfOk result (λ run. IsThreadRun script.now run.report run.ended) }
+{
+    let (ended, bodies, rows) = play_on_threads(rt, alloc, script, gate)?;
+    finish_run(alloc, script, ended, bodies, &rows)
+}

@@ -1,0 +1,17 @@
+-- A table was closed with what the processors' turns led to.
+use Rattle.std.proofs.Common.{◌≡◌, ℕ, ◌+◌, ◌-◌, List, length, map, take, drop, subst}
+use Rattle.hwp_geom.specs.declared.Layout.{Layout}
+use Rattle.hwp_core_rule.specs.Rule.{Holds}
+use Rattle.hwp_core_rule.specs.Words.{caches_from}
+use Rattle.hwp_plain_words.specs.Openings.{home_with}
+use Rattle.hwp_plain_words.specs.Ends.{AreLed}
+use Rattle.hwp_plain_words.proofs.AllHome.{led-here}
+use Rattle.hwp_table_words.specs.Ends.{EndValue, IsEnd, board_of}
+use Rattle.hwp_table_words.specs.Stands.{Content}
+
+-- the cache words lead to the bodies
+pub led-bodies : (layout : Layout) (ended : EndValue) (bodies : List Content) → ended.layout ≡ layout → ended.slots ≡ bodies → IsEnd ended.layout ended.known ended.words ended.slots → (from len frames : ℕ) (words : List ℕ)
+    → words ≡ ended.words → from ≡ caches_from layout + 0 → len ≡ length layout.pages → frames ≡ layout.frames → AreLed frames (take (from + len - from) (drop from words)) (map home_with bodies)
+led-bodies layout ended bodies layout_is bodies_are end from len frames words is at many wide =
+    subst (λ (xs : List Content). AreLed frames (take (from + len - from) (drop from words)) (map home_with xs)) bodies_are
+    (led-here layout (board_of ended.words ended.slots end.views) (subst (λ (l : Layout). Holds l (board_of ended.words ended.slots end.views)) layout_is end.holds) end.nothing from len frames words is at many wide)

@@ -1,0 +1,136 @@
+-- The run of a script: the processors' tasks as they begin, how they end, and the law of the report.
+use Rattle.std.specs.Prelude.{◌≡◌, ℕ, List, [], Some, None, length, map, slice_get}
+use Rattle.hwp_geom.specs.Pairs.{Pairs}
+use Rattle.hwp_geom.specs.declared.Cpu.{Cpu}
+use Rattle.hwp_geom.specs.declared.Frame.{Frame}
+use Rattle.hwp_geom.specs.declared.Layout.{Layout}
+use Rattle.hwp_core_rule.specs.declared.State.{State}
+use Rattle.hwp_core_rule.specs.Opening.{opening}
+use Rattle.hwp_core_rule.specs.Rule.{Holds}
+use Rattle.hwp_core_task.specs.Boards.{AreSeated, Played}
+use Rattle.hwp_core_task.specs.Ranks.{Member, Pending, member, words_at}
+use Rattle.hwp_plain_words.specs.Openings.{home_with}
+use Rattle.hwp_table_words.specs.Ends.{EndValue, HasAll}
+use Rattle.hwp_table_words.specs.Known.{Known}
+use Rattle.hwp_table.specs.Boards.{whole_then}
+use Rattle.hwp_script_read.specs.declared.Command.{Command}
+use Rattle.hwp_script_read.specs.declared.Script.{Script}
+use Rattle.hwp_plain_order.specs.Order.{InOrder, Running, logged, running}
+use Rattle.hwp_report_text.specs.declared.Report.{Report}
+use Rattle.hwp_cpu_row.specs.hwp_law.Law.{IsLawful}
+use Rattle.hwp_cpu_row.specs.hwp_law.Runs.{IsOfRun}
+use Rattle.hwp_cpu.specs.hwp_law_run.Run.{CoreRun}
+use Rattle.hwp_cpu.specs.hwp_law_run.Turns.{Leads}
+use Rattle.hwp_cpu_row.specs.declared.Row.{Row}
+use Rattle.hwp_cpu.specs.hwp_law_holds.Runs.{AreServed}
+use Rattle.hwp_cpu.specs.declared.Processor.{Processor}
+use Rattle.hwp_cpu.specs.Processors.{AtBeginning, Next, aborts, bare, claims, class, cost, plan, put, who}
+use Rattle.hwp_cpu.specs.Serving.{Fits}
+use Rattle.hwp_top_report.specs.Closing.{IsClosing, lines_of_all}
+
+-- a processor as a task
+abbrev pub processors : Member Processor
+processors = member (λ p. who p) (λ p. plan p) (λ p. put p) (λ p. bare p) (λ layout p found got after turn. Next layout p found got after turn) (λ layout view p. Fits layout view p) (λ p. class p) (λ p words. cost p words) (λ p. aborts p) (λ p. claims p)
+
+-- a processor's seat has its number
+abbrev pub own_seat : Cpu → ℕ
+own_seat cpu = cpu.0
+
+-- each task is at the beginning of its processor's list
+pub record AreAtBeginning (script : Script) (tasks : List Processor) : Type 0 where
+  pub one_each : length tasks ≡ length script.lists
+  pub each : (cpu : Cpu) (list : List Command) (p : Processor) → slice_get script.lists cpu.0 ≡ Some list → slice_get tasks cpu.0 ≡ Some p → AtBeginning script.layout cpu list p
+
+-- the processors have answered all their commands, and these are their rows
+abbrev pub AreFinished : List Processor → List (List Row) → Type 0
+AreFinished tasks rows = Pairs (λ (p : Processor) (own : List Row). (own ≡ p.rows.items) × (p.job ≡ None)) tasks rows
+
+-- The turns lead from the opening to this board, on which all commands are served by these rows, and each failure of a frame is
+-- ended. It says nothing of the order of the turns.
+pub record HasEnded (script : Script) (turns : List Played) (state : State) (rows : List (List Row)) : Type 0 where
+  pub rule : Holds script.layout (opening script.layout)
+  pub moves : Leads script.layout (opening script.layout) turns state
+  pub seated : AreSeated script.layout state own_seat
+  pub settled : (frame : Frame) (cycle : ℕ) → Pending (words_at script.layout state) frame cycle → ⊥
+  pub served : AreServed script own_seat state rows (lines_of_all rows)
+  pub count : length rows ≡ script.layout.cpus
+
+-- a board of the script at opening, on which no turn was made
+pub record IsOpened (script : Script) (layout : Layout) (seat : Cpu → ℕ) (state : State) (log : List Played) : Type 0 where
+  pub layout_is : layout ≡ script.layout
+  pub seat_is : seat ≡ own_seat
+  pub state_is : state ≡ opening script.layout
+  pub log_is : log ≡ []
+
+-- the tasks made the turns of this log in the script's order, from their beginning to this board, on which the run has ended
+pub record IsPlayed (script : Script) (log : List Played) (state : State) (rows : List (List Row)) : Type 0 where
+  pub tasks : List Processor
+  pub begin : AreAtBeginning script tasks
+  pub seated : AreSeated script.layout (opening script.layout) own_seat
+  pub turns : List Played
+  pub log_is : log ≡ logged turns []
+  pub last : Running Processor
+  pub order : InOrder processors script.go (running script.layout own_seat tasks (opening script.layout)) turns last
+  pub state_is : last.state ≡ state
+  pub ended : HasEnded script turns state rows
+
+-- The report is of a run that the tasks of the script's processors make from their beginning, and on its last board each processor
+-- has served its commands by its rows, of which the report's lines are.
+pub record IsCoreRun (script : Script) (report : Report) : Type 0 where
+  pub tasks : List Processor
+  pub begin : AreAtBeginning script tasks
+  pub run : CoreRun processors tasks own_seat script report
+  pub rows : List (List Row)
+  pub served : AreServed script own_seat run.last.state rows report.cpus
+
+-- the report is of the run whose turns are those of this log, and lawful
+pub record IsReportOf (script : Script) (log : List Played) (report : Report) : Type 0 where
+  pub run : IsOfRun script report
+  pub lawful : IsLawful script report
+  pub core : IsCoreRun script report
+  pub log_is : log ≡ logged core.run.turns []
+
+-- ---- at a table
+
+-- The table was closed with the words and the bodies of a board on which a run has ended. It says nothing of the order of its turns.
+pub record HasEndedAt (script : Script) (ended : EndValue) (rows : List (List Row)) : Type 0 where
+  pub turns : List Played
+  pub state : State
+  pub run : HasEnded script turns state rows
+  pub layout_is : ended.layout ≡ script.layout
+  pub words_are : ended.words ≡ state.words
+  pub bodies_are : map home_with ended.slots ≡ state.homes
+
+-- the report is that of each such board with which the table was closed, and what it was closed with is handed on
+pub record IsFinished (script : Script) (closed : EndValue) (rows : List (List Row)) (report : Report) (ended : EndValue) : Type 0 where
+  pub closing : (at : HasEndedAt script closed rows) → IsClosing script.layout at.state script.lists rows report
+  pub same : ended ≡ closed
+
+-- One seat has the views of all processors, none of which holds anything, and knows the board to which the processors' turns
+-- led, and their moves.
+pub record KnowsRun (script : Script) (v : Known) (rows : List (List Row)) : Type 0 where
+  pub log : List Played
+  pub state : State
+  pub played : IsPlayed script log state rows
+  pub all : HasAll script.layout v
+  pub whole : v.whole ≡ Some (whole_then state log)
+
+-- the table was closed with the words and the bodies of this board, by a seat that knew that these turns led to it
+pub record HasClosed (script : Script) (log : List Played) (state : State) (ended : EndValue) : Type 0 where
+  pub layout_is : ended.layout ≡ script.layout
+  pub words_are : ended.words ≡ state.words
+  pub bodies_are : map home_with ended.slots ≡ state.homes
+  pub moves_are : ended.known.whole ≡ Some (whole_then state log)
+
+-- the processors made their turns at a table, which was closed with what they led to
+pub record IsTablePlayed (script : Script) (ended : EndValue) (rows : List (List Row)) : Type 0 where
+  pub log : List Played
+  pub state : State
+  pub played : IsPlayed script log state rows
+  pub closed : HasClosed script log state ended
+
+-- The run of the report was made at a table: the table was closed with the words and the bodies of the run's last board, by a
+-- seat that knew the run's moves.
+pub record IsTableRun (script : Script) (report : Report) (ended : EndValue) : Type 0 where
+  pub of_run : IsCoreRun script report
+  pub closed : HasClosed script (logged of_run.run.turns []) of_run.run.last.state ended

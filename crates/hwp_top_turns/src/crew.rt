@@ -1,0 +1,42 @@
+ghost use Rattle.std.specs.Prelude.{IfOk};
+ghost use Rattle.hwp_script_read.specs.Valid.{IsValid};
+ghost use Rattle.hwp_top_turns.specs.Runs.{AreAtBeginning, AreFinished};
+
+use hwp_cpu::Processor;
+use hwp_cpu_row::Row;
+use hwp_geom::{Cpu, List, OutOfMemory};
+use hwp_script_read::Script;
+use std::alloc::Global;
+use std::sync::Arc;
+
+/// The rows of each processor.
+pub type Rows = List<List<Row>>;
+
+/// A processor for each list of the script, at the beginning of its first command.
+pub fn crew_of(alloc: Global, script: &Script) -> Result<Vec<Processor>, OutOfMemory>
+    requires valid { IsValid script.now }
+    ensures { IfOk result (λ crew. AreAtBeginning script.now crew.items) }
+{
+    let layout = Arc::new(alloc, script.layout.copy(alloc)?)?;
+    let lists = script.lists.as_slice();
+    let mut crew = Vec::with_capacity(alloc, lists.len())?;
+    for cpu in 0..lists.len() {
+        let commands = lists[cpu].as_slice();
+        crew.push(Processor::new(alloc, &layout, Cpu(cpu as u8), commands)?)?;
+    }
+    Ok(crew)
+}
+
+/// The rows of each processor.
+///
+/// # Errors
+/// `OutOfMemory` where a command was not answered, because memory ran out.
+pub fn rows_of(alloc: Global, crew: Vec<Processor>) -> Result<Rows, OutOfMemory>
+    ensures { IfOk result (λ rows. AreFinished crew.items rows) }
+{
+    let mut rows = Vec::with_capacity(alloc, crew.len())?;
+    for processor in crew {
+        rows.push(processor.finish()?)?;
+    }
+    Ok(List::from_vec(rows))
+}

@@ -1,2 +1,0 @@
-mod Spacing
-mod Numbering

@@ -1,0 +1,5 @@
+mod SpacedWords
+mod NumberedLists
+mod StepKinds
+mod LineTells
+mod ToldTurns

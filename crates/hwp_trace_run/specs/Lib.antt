@@ -1,0 +1,4 @@
+pub mod Text
+pub mod Notes
+pub mod Traced
+pub mod Traces

@@ -1,3 +1,0 @@
-mod StepKinds
-mod Telling
-mod ToldTurns

@@ -1,3 +1,0 @@
-pub mod Notes
-pub mod Traced
-pub mod Traces

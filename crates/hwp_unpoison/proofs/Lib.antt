@@ -1,3 +1,0 @@
-pub mod Reviving
-pub mod Costs
-pub mod Adding

@@ -1,2 +1,0 @@
-pub mod Unpoisons
-pub mod Done

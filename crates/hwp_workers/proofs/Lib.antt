@@ -1,4 +1,0 @@
-pub mod Splitting
-pub mod Moving
-pub mod Pieces
-pub mod TakingIn
