@@ -18,7 +18,7 @@ KNOWN = (
     ("hwp_severity", "Graded", "graded"),
     ("hwp_script_lines", "Grammar", "form_words"),
     ("hwp_script_read", "Reads", "Reads"),
-    ("hwp_report_text", "Text", "report_text"),
+    ("hwp_report_text", "ReportText", "report_text"),
     ("hwp_top_turns", "Runs", "IsCoreRun"),
     ("hwp_top_turns", "Runs", "IsTableRun"),
     ("hwp_core_rule", "Rule", "FrameRule"),
@@ -71,6 +71,10 @@ class Statement(unittest.TestCase):
         # `answer` is a variable in each clause of `answer_at`, and a definition beside it
         named = self.tree.reach([("hwp_soft_unpoison", "Unpoisons", "answer_at")])
         self.assertEqual({name for _, _, name in named}, {"answer_at"})
+
+    def test_a_field_hides_no_definition(self) -> None:
+        # in the record `task`, `cost` is a field and the definition that it is
+        self.assertIn(("hwp_core", "Pins", "cost_at"), self.tree.reach([("hwp_core", "Pins", "task")]))
 
     def test_a_variant_is_its_type(self) -> None:
         self.assertEqual(self.tree.modules["hwp_banks", "Logged"].owner["Corrected"], "Class")

@@ -3,10 +3,10 @@ use Rattle.std.proofs.Common.{◌≡◌, ℕ, ◌+◌, ◌≤◌, List, [], ◌�
 use Rattle.std.specs.List.{flat_map}
 use Rattle.std.proofs.lemmas.List.{length-append, take_all}
 use Rattle.std.proofs.lemmas.List.Concat.{flat_map-cons}
-use Rattle.hwp_geom.specs.Words.{line}
-use Rattle.hwp_report_text.specs.declared.CpuLine.{CpuLine}
-use Rattle.hwp_report_text.specs.declared.Report.{Report}
-use Rattle.hwp_report_text.specs.Text.{cpu_lines, file_lines, frame_lines, head_lines, numbered, page_lines, report_lines, report_text}
+use Rattle.hwp_report.specs.hwp_geom.Words.{line}
+use Rattle.hwp_report.specs.hwp_report_text.declared.CpuLine.{CpuLine}
+use Rattle.hwp_report.specs.hwp_report_text.declared.Report.{Report}
+use Rattle.hwp_report.specs.hwp_report_text.ReportText.{cpu_lines, file_lines, frame_lines, head_lines, numbered, page_lines, report_lines, report_text}
 use Rattle.hwp_report.specs.Texts.{IsTextOf}
 use Rattle.hwp_check_rules.specs.Standing.{last_line}
 use Rattle.hwp_check_rules.proofs.InText.{cpu-in-text}

@@ -1,6 +1,6 @@
 -- The text of a verdict.
 use Rattle.std.specs.Prelude.{ℕ, List, [], ◌∷◌, codes, decimal}
-use Rattle.hwp_geom.specs.Words.{line}
+use Rattle.hwp_report.specs.hwp_geom.Words.{line}
 use Rattle.hwp_check_rules.specs.declared.verdicts.Verdict.{Verdict}
 use Rattle.hwp_check_rules.specs.declared.verdicts.Verdict.TheVariants as verdicts
 use Rattle.hwp_check_rules.specs.Verdicts.{number}

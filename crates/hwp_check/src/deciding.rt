@@ -1,15 +1,13 @@
 ghost use Rattle.std.specs.Prelude.{◌<◌, ◌^◌, IfOk};
-ghost use Rattle.hwp_script_read.specs.Valid.{IsValid};
+ghost use Rattle.hwp_check_rules.specs.hwp_script_read.Valid.{IsValid};
 ghost use Rattle.hwp_check_rules.specs.Standing.{last_line};
 ghost use Rattle.hwp_check_rules.specs.Verdicts.{IsVerdict};
 
 use crate::early::early_verdict;
 use crate::late::late_verdict;
 use hwp_check_answers::answers_fault;
-use hwp_check_rules::{Rule, Verdict};
-use hwp_geom::OutOfMemory;
-use hwp_report_text::Report;
-use hwp_script_read::Script;
+use hwp_check_rules::{OutOfMemory, Rule, Script, Verdict};
+use hwp_report::Report;
 use std::alloc::Global;
 
 /// Whether a run of the script can have the report; if not, the lowest rule that is broken, and the first line that breaks it.

@@ -1,12 +1,11 @@
 ghost use Rattle.std.specs.Prelude.{◌<◌, ◌^◌, MatchOption};
-ghost use Rattle.hwp_script_read.specs.Valid.{IsValid};
+ghost use Rattle.hwp_check_rules.specs.hwp_script_read.Valid.{IsValid};
 ghost use Rattle.hwp_check_rules.specs.Standing.{last_line};
 ghost use Rattle.hwp_check_rules.specs.Verdicts.{HoldBelow, IsVerdict};
 
-use hwp_check_rules::{Rule, Verdict};
+use hwp_check_rules::{Rule, Script, Verdict};
 use hwp_check_state::{histories_fault, shape_fault};
-use hwp_report_text::Report;
-use hwp_script_read::Script;
+use hwp_report::Report;
 
 /// The verdict, where one of the rules before that of answers is broken.
 pub(crate) fn early_verdict(script: &Script, report: &Report) -> Option<Verdict>

@@ -1,14 +1,12 @@
 ghost use Rattle.std.specs.Prelude.{◌<◌, ◌^◌, IfOk, MatchOption};
-ghost use Rattle.hwp_script_read.specs.Valid.{IsValid};
+ghost use Rattle.hwp_check_rules.specs.hwp_script_read.Valid.{IsValid};
 ghost use Rattle.hwp_check_rules.specs.Standing.{last_line};
 ghost use Rattle.hwp_check_rules.specs.Verdicts.{HoldBelow, IsVerdict};
 
 use hwp_check_marks::marks_fault;
-use hwp_check_rules::{Rule, Verdict};
+use hwp_check_rules::{OutOfMemory, Rule, Script, Verdict};
 use hwp_check_state::{count_fault, frames_fault, losses_fault, seen_fault, stop_fault};
-use hwp_geom::OutOfMemory;
-use hwp_report_text::Report;
-use hwp_script_read::Script;
+use hwp_report::Report;
 use std::alloc::Global;
 
 /// The verdict, where the rule of policies seen or that of marks is broken.

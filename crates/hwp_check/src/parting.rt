@@ -1,9 +1,8 @@
 ghost use Rattle.std.specs.Prelude.{◌≡◌, ◌↔◌, ◌∷◌, [], codes, IsTrue, IfOk, map};
 ghost use Rattle.hwp_check.specs.Parting.{IsEnd, IsParted};
 
-use hwp_geom::OutOfMemory;
+use hwp_check_rules::{OutOfMemory, is_text, words_in};
 use hwp_report::first_line;
-use hwp_script_lines::{is_text, words_in};
 use std::alloc::Global;
 
 /// Whether `end` is the one word.

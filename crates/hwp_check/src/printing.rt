@@ -1,8 +1,7 @@
 ghost use Rattle.std.specs.Prelude.{◌≡◌, IfOk};
 ghost use Rattle.hwp_check.specs.Text.{verdict_text};
 
-use hwp_check_rules::Verdict;
-use hwp_geom::{OutOfMemory, Text};
+use hwp_check_rules::{OutOfMemory, Text, Verdict};
 use std::alloc::Global;
 
 /// The one text of a verdict: `legal`, or `not PLACE RULE`, and a line feed.

@@ -1,12 +1,12 @@
 -- What is known of commands by their numbers is what is known of each.
 use Rattle.std.proofs.Common.{◌≡◌, ◌<◌, false, List, Some, None, get_or, length, map, option_map, replicate, slice_get, Option, ap, ◌∙◌, arith}
 use Rattle.std.proofs.lemmas.Option.{get_or_from_slice_get, slice_get-get_or, slice_get-map}
-use Rattle.hwp_geom.specs.declared.Cpu.{Cpu}
-use Rattle.hwp_page.specs.declared.At.{At}
-use Rattle.hwp_script_read.specs.declared.Command.{Command}
-use Rattle.hwp_report_text.specs.declared.Answer.{Answer}
-use Rattle.hwp_report_text.specs.declared.CpuLine.{CpuLine}
-use Rattle.hwp_report_text.specs.declared.Report.{Report}
+use Rattle.hwp_check_evidence.specs.hwp_geom.declared.Cpu.{Cpu}
+use Rattle.hwp_check_evidence.specs.hwp_page.declared.At.{At}
+use Rattle.hwp_check_evidence.specs.hwp_script_read.declared.Command.{Command}
+use Rattle.hwp_check_evidence.specs.hwp_report_text.declared.Answer.{Answer}
+use Rattle.hwp_check_evidence.specs.hwp_report_text.declared.CpuLine.{CpuLine}
+use Rattle.hwp_check_evidence.specs.hwp_report_text.declared.Report.{Report}
 use Rattle.hwp_check_evidence.specs.Firsts.{AreAnswersOf, entry_of}
 use Rattle.hwp_check_evidence.specs.Named.{flagged_pages}
 use Rattle.hwp_check_answers.specs.declared.judging.Naming.{Naming}

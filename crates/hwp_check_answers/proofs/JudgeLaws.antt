@@ -1,18 +1,18 @@
 -- An answer is wrong by its window, or by the end of its process, exactly where what is known says so.
 use Rattle.std.proofs.Common.{◌≡◌, ◌⊎◌, ◌↔◌, ◌<◌, inl, inr, Bool, true, false, not, List, Option, Some, None, IsTrue, length, refl, sym, ap, ◌∙◌, subst, true≢false}
 use Rattle.std.proofs.lemmas.Option.{none-some, same_Some, slice_get_within}
-use Rattle.hwp_geom.specs.declared.Proc.{Proc}
-use Rattle.hwp_geom.specs.declared.Who.{Who}
-use Rattle.hwp_geom.specs.declared.Mask.{Mask}
-use Rattle.hwp_page.specs.declared.At.{At}
-use Rattle.hwp_page.specs.declared.PageState.{PageState}
-use Rattle.hwp_script_read.specs.declared.Command.{Command}
-use Rattle.hwp_script_read.specs.declared.Command.TheVariants as commands
-use Rattle.hwp_script_read.specs.declared.Script.{Script}
-use Rattle.hwp_report_text.specs.declared.Answer.{Answer}
-use Rattle.hwp_report_text.specs.declared.Answer.TheVariants as answers
-use Rattle.hwp_report_text.specs.declared.CpuLine.{CpuLine}
-use Rattle.hwp_report_text.specs.declared.Report.{Report}
+use Rattle.hwp_check_evidence.specs.hwp_geom.declared.Proc.{Proc}
+use Rattle.hwp_check_evidence.specs.hwp_geom.declared.Who.{Who}
+use Rattle.hwp_check_evidence.specs.hwp_geom.declared.Mask.{Mask}
+use Rattle.hwp_check_evidence.specs.hwp_page.declared.At.{At}
+use Rattle.hwp_check_evidence.specs.hwp_page.declared.PageState.{PageState}
+use Rattle.hwp_check_evidence.specs.hwp_script_read.declared.Command.{Command}
+use Rattle.hwp_check_evidence.specs.hwp_script_read.declared.Command.TheVariants as commands
+use Rattle.hwp_check_evidence.specs.hwp_script_read.declared.Script.{Script}
+use Rattle.hwp_check_evidence.specs.hwp_report_text.declared.Answer.{Answer}
+use Rattle.hwp_check_evidence.specs.hwp_report_text.declared.Answer.TheVariants as answers
+use Rattle.hwp_check_evidence.specs.hwp_report_text.declared.CpuLine.{CpuLine}
+use Rattle.hwp_check_evidence.specs.hwp_report_text.declared.Report.{Report}
 use Rattle.hwp_check_evidence.specs.hwp_law.Commands.{process_at}
 use Rattle.hwp_check_evidence.specs.hwp_law.Endings.{IsOver}
 use Rattle.hwp_check_evidence.specs.hwp_law.Causes.{IsCaused}

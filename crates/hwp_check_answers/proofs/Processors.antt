@@ -2,17 +2,17 @@
 use Rattle.std.proofs.Common.{◌≡◌, inl, inr, ℕ, ◌+◌, ◌<◌, ◌≤◌, Bool, true, false, List, [], Option, Some, None, MatchBool, MatchOption, length, slice_get, unwrap_or, refl, sym, ap, ◌∙◌, subst, arith}
 use Rattle.std.specs.Option.{option_and_then}
 use Rattle.std.proofs.lemmas.Option.{none-some, same_Some, slice_get_within}
-use Rattle.hwp_geom.specs.declared.Cpu.{Cpu}
-use Rattle.hwp_script_read.specs.declared.Command.{Command}
-use Rattle.hwp_script_read.specs.declared.Script.{Script}
-use Rattle.hwp_report_text.specs.declared.CpuLine.{CpuLine}
-use Rattle.hwp_report_text.specs.declared.Report.{Report}
-use Rattle.hwp_check_evidence.specs.hwp_law.Checks.{empty_banks}
+use Rattle.hwp_check_evidence.specs.hwp_geom.declared.Cpu.{Cpu}
+use Rattle.hwp_check_evidence.specs.hwp_script_read.declared.Command.{Command}
+use Rattle.hwp_check_evidence.specs.hwp_script_read.declared.Script.{Script}
+use Rattle.hwp_check_evidence.specs.hwp_report_text.declared.CpuLine.{CpuLine}
+use Rattle.hwp_check_evidence.specs.hwp_report_text.declared.Report.{Report}
+use Rattle.hwp_check_evidence.specs.hwp_banks.Banks.{empty_banks}
 use Rattle.hwp_check_evidence.specs.hwp_law.Events.{AreEventsFrom}
 use Rattle.hwp_check_evidence.specs.hwp_law.Lines.{events_of}
-use Rattle.hwp_check_events.specs.Misfits.{AreTold, IsWrong, Lacks, found_by}
-use Rattle.hwp_check_events.specs.Walked.{AllRight, IsFirstRow, IsProcessorJudged, IsWalked, IsWrongRow, LacksSome, is_clean}
-use Rattle.hwp_check_events.specs.declared.Misfits.{Misfits}
+use Rattle.hwp_check_rules.specs.hwp_check_events.Misfits.{AreTold, IsWrong, Lacks, found_by}
+use Rattle.hwp_check_rules.specs.hwp_check_events.Walked.{AllRight, IsFirstRow, IsProcessorJudged, IsWalked, IsWrongRow, LacksSome, is_clean}
+use Rattle.hwp_check_rules.specs.hwp_check_events.declared.Misfits.{Misfits}
 use Rattle.hwp_check_rules.specs.AnswerFaults.{IsEventWrong, LacksEvents, events_before}
 use Rattle.hwp_check_rules.specs.Answered.{is_answer, seq_of}
 use Rattle.hwp_check_rules.specs.Standing.{cpu_line}

@@ -5,20 +5,20 @@ use Rattle.std.specs.Option.{option_and_then}
 use Rattle.std.proofs.lemmas.Bool.{cases_lt}
 use Rattle.std.proofs.lemmas.List.Sums.{sum_by-cons, sum_by-le-sum_by}
 use Rattle.std.proofs.lemmas.Option.{none-some, same_Some, slice_get_within}
-use Rattle.hwp_geom.specs.declared.Cpu.{Cpu}
-use Rattle.hwp_page.specs.declared.Entry.{Entry}
-use Rattle.hwp_page.specs.declared.What.{What}
-use Rattle.hwp_page.specs.declared.What.TheVariants as entries
-use Rattle.hwp_script_read.specs.Valid.{IsValid}
-use Rattle.hwp_script_read.specs.declared.Command.{Command}
-use Rattle.hwp_script_read.specs.declared.Script.{Script}
-use Rattle.hwp_report_text.specs.declared.CpuLine.{CpuLine}
-use Rattle.hwp_report_text.specs.declared.FrameLine.{FrameLine}
-use Rattle.hwp_report_text.specs.declared.Report.{Report}
-use Rattle.hwp_check_evidence.specs.hwp_law.Checks.{empty_banks}
+use Rattle.hwp_check_evidence.specs.hwp_geom.declared.Cpu.{Cpu}
+use Rattle.hwp_check_evidence.specs.hwp_page.declared.Entry.{Entry}
+use Rattle.hwp_check_evidence.specs.hwp_page.declared.What.{What}
+use Rattle.hwp_check_evidence.specs.hwp_page.declared.What.TheVariants as entries
+use Rattle.hwp_check_evidence.specs.hwp_script_read.Valid.{IsValid}
+use Rattle.hwp_check_evidence.specs.hwp_script_read.declared.Command.{Command}
+use Rattle.hwp_check_evidence.specs.hwp_script_read.declared.Script.{Script}
+use Rattle.hwp_check_evidence.specs.hwp_report_text.declared.CpuLine.{CpuLine}
+use Rattle.hwp_check_evidence.specs.hwp_report_text.declared.FrameLine.{FrameLine}
+use Rattle.hwp_check_evidence.specs.hwp_report_text.declared.Report.{Report}
+use Rattle.hwp_check_evidence.specs.hwp_banks.Banks.{empty_banks}
 use Rattle.hwp_check_evidence.specs.hwp_law.Events.{AreEvents, AreEventsFrom}
-use Rattle.hwp_check_events.specs.Misfits.{AreTold}
-use Rattle.hwp_check_events.proofs.Verdicts.{both}
+use Rattle.hwp_check_rules.specs.hwp_check_events.Misfits.{AreTold}
+use Rattle.hwp_check_rules.proofs.of_hwp_check_events.Verdicts.{both}
 use Rattle.hwp_check_rules.specs.AnswerFaults.{LacksEvents}
 use Rattle.hwp_check_rules.specs.Firsts.{IsLeast}
 use Rattle.hwp_check_rules.specs.Rules.{ShapeFits}

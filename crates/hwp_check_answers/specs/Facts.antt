@@ -1,13 +1,13 @@
 -- What is known of the commands of one processor by their numbers.
 use Rattle.std.specs.Prelude.{◌≡◌, ◌<◌, ℕ, false, List, Some, None, length, replicate, slice_get, slice_index_or, take}
-use Rattle.hwp_geom.specs.declared.Cpu.{Cpu}
-use Rattle.hwp_geom.specs.declared.Who.{Who}
-use Rattle.hwp_script_read.specs.declared.Command.{Command}
-use Rattle.hwp_script_read.specs.declared.Script.{Script}
-use Rattle.hwp_report_text.specs.declared.Answer.{Answer}
-use Rattle.hwp_report_text.specs.declared.CpuLine.{CpuLine}
-use Rattle.hwp_report_text.specs.declared.CpuLine.TheVariants as lines
-use Rattle.hwp_report_text.specs.declared.Report.{Report}
+use Rattle.hwp_check_evidence.specs.hwp_geom.declared.Cpu.{Cpu}
+use Rattle.hwp_check_evidence.specs.hwp_geom.declared.Who.{Who}
+use Rattle.hwp_check_evidence.specs.hwp_script_read.declared.Command.{Command}
+use Rattle.hwp_check_evidence.specs.hwp_script_read.declared.Script.{Script}
+use Rattle.hwp_check_evidence.specs.hwp_report_text.declared.Answer.{Answer}
+use Rattle.hwp_check_evidence.specs.hwp_report_text.declared.CpuLine.{CpuLine}
+use Rattle.hwp_check_evidence.specs.hwp_report_text.declared.CpuLine.TheVariants as lines
+use Rattle.hwp_check_evidence.specs.hwp_report_text.declared.Report.{Report}
 use Rattle.hwp_check_evidence.specs.hwp_law.Lines.{answer_among}
 use Rattle.hwp_check_evidence.specs.Counts.{AreCounts, AreFlags}
 use Rattle.hwp_check_evidence.specs.Firsts.{entry_of}

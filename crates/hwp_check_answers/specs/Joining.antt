@@ -1,10 +1,10 @@
 -- The lines that break the rule of answers: those of answers and those of events.
 use Rattle.std.specs.Prelude.{◌≡◌, ◌⊎◌, ℕ, false, List, Some, slice_get}
-use Rattle.hwp_geom.specs.declared.Cpu.{Cpu}
-use Rattle.hwp_script_read.specs.declared.Command.{Command}
-use Rattle.hwp_script_read.specs.declared.Script.{Script}
-use Rattle.hwp_report_text.specs.declared.CpuLine.{CpuLine}
-use Rattle.hwp_report_text.specs.declared.Report.{Report}
+use Rattle.hwp_check_evidence.specs.hwp_geom.declared.Cpu.{Cpu}
+use Rattle.hwp_check_evidence.specs.hwp_script_read.declared.Command.{Command}
+use Rattle.hwp_check_evidence.specs.hwp_script_read.declared.Script.{Script}
+use Rattle.hwp_check_evidence.specs.hwp_report_text.declared.CpuLine.{CpuLine}
+use Rattle.hwp_check_evidence.specs.hwp_report_text.declared.Report.{Report}
 use Rattle.hwp_check_evidence.specs.hwp_law.Events.{AreEvents}
 use Rattle.hwp_check_rules.specs.AnswerFaults.{IsEventWrong, LacksEvents}
 use Rattle.hwp_check_rules.specs.Answered.{is_answer, seq_of}

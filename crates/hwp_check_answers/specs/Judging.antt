@@ -1,16 +1,16 @@
 -- What is wrong about an answer, and what is not, where the lines before it are known.
 use Rattle.std.specs.Prelude.{◌≡◌, ◌↔◌, ◌+◌, ◌<◌, ℕ, Bool, true, false, List, Option, Some, None, length, replicate, slice_index_or, slice_set}
-use Rattle.hwp_geom.specs.declared.Cpu.{Cpu}
-use Rattle.hwp_geom.specs.declared.Proc.{Proc}
-use Rattle.hwp_geom.specs.declared.Who.{Who}
-use Rattle.hwp_page.specs.Orders.{IsEarlier}
-use Rattle.hwp_script_read.specs.declared.Command.{Command}
-use Rattle.hwp_script_read.specs.declared.Script.{Script}
-use Rattle.hwp_report_text.specs.declared.Answer.{Answer}
-use Rattle.hwp_report_text.specs.declared.Answer.TheVariants as answers
-use Rattle.hwp_report_text.specs.declared.CpuLine.{CpuLine}
-use Rattle.hwp_report_text.specs.declared.CpuLine.TheVariants as lines
-use Rattle.hwp_report_text.specs.declared.Report.{Report}
+use Rattle.hwp_check_evidence.specs.hwp_geom.declared.Cpu.{Cpu}
+use Rattle.hwp_check_evidence.specs.hwp_geom.declared.Proc.{Proc}
+use Rattle.hwp_check_evidence.specs.hwp_geom.declared.Who.{Who}
+use Rattle.hwp_check_evidence.specs.hwp_page.Orders.{IsEarlier}
+use Rattle.hwp_check_evidence.specs.hwp_script_read.declared.Command.{Command}
+use Rattle.hwp_check_evidence.specs.hwp_script_read.declared.Script.{Script}
+use Rattle.hwp_check_evidence.specs.hwp_report_text.declared.Answer.{Answer}
+use Rattle.hwp_check_evidence.specs.hwp_report_text.declared.Answer.TheVariants as answers
+use Rattle.hwp_check_evidence.specs.hwp_report_text.declared.CpuLine.{CpuLine}
+use Rattle.hwp_check_evidence.specs.hwp_report_text.declared.CpuLine.TheVariants as lines
+use Rattle.hwp_check_evidence.specs.hwp_report_text.declared.Report.{Report}
 use Rattle.hwp_check_evidence.specs.hwp_law.Commands.{process_at}
 use Rattle.hwp_check_evidence.specs.hwp_law.Endings.{WasGone}
 use Rattle.hwp_check_evidence.specs.hwp_law.Lines.{answer_among}
@@ -68,3 +68,8 @@ pub record IsNaming (report : Report) (who : Who) (answer : Answer) (naming : Na
   pub inside : who.seq < length naming.others.items
   pub named : slice_index_or naming.named.items who.seq None ≡ entry_named answer
   pub others : naming.others.items ≡ flagged_pages naming.named.items who.cpu (replicate (length naming.others.items) false) 0 report.pages
+
+-- what is known of an answer, and of the lines before it, is right
+pub record IsKnownAnswer (script : Script) (report : Report) (before : List CpuLine) (who : Who) (answer : Answer) (course : Course) (naming : Naming) : Type 0 where
+  pub on_course : IsCourse script report before who course
+  pub are_named : IsNaming report who answer naming

@@ -5,3 +5,5 @@ pub mod Facts
 pub mod Sifting
 pub mod Joining
 pub mod Firsts
+pub mod Values
+pub mod Walk

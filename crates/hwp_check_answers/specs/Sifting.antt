@@ -1,12 +1,12 @@
 -- The first wrong answer of a report, as far as its lines are in place.
 use Rattle.std.specs.Prelude.{◌≡◌, ◌⊎◌, ℕ, ◌+◌, ◌≤◌, List, Some, length, slice_get, take}
-use Rattle.hwp_geom.specs.declared.Cpu.{Cpu}
-use Rattle.hwp_script_read.specs.declared.Command.{Command}
-use Rattle.hwp_script_read.specs.declared.Script.{Script}
-use Rattle.hwp_report_text.specs.declared.Answer.{Answer}
-use Rattle.hwp_report_text.specs.declared.CpuLine.{CpuLine}
-use Rattle.hwp_report_text.specs.declared.CpuLine.TheVariants as lines
-use Rattle.hwp_report_text.specs.declared.Report.{Report}
+use Rattle.hwp_check_evidence.specs.hwp_geom.declared.Cpu.{Cpu}
+use Rattle.hwp_check_evidence.specs.hwp_script_read.declared.Command.{Command}
+use Rattle.hwp_check_evidence.specs.hwp_script_read.declared.Script.{Script}
+use Rattle.hwp_check_evidence.specs.hwp_report_text.declared.Answer.{Answer}
+use Rattle.hwp_check_evidence.specs.hwp_report_text.declared.CpuLine.{CpuLine}
+use Rattle.hwp_check_evidence.specs.hwp_report_text.declared.CpuLine.TheVariants as lines
+use Rattle.hwp_check_evidence.specs.hwp_report_text.declared.Report.{Report}
 use Rattle.hwp_check_rules.specs.AnswerFaults.{IsAnswerWrong}
 use Rattle.hwp_check_rules.specs.Standing.{row_line}
 use Rattle.hwp_check_answers.specs.Disorders.{AreAllOrderly, IsDisorder}

@@ -1,5 +1,5 @@
 ghost use Rattle.std.specs.Prelude.{◌<◌, ◌^◌, IfOk, MatchOption};
-ghost use Rattle.hwp_script_read.specs.Valid.{IsValid};
+ghost use Rattle.hwp_check_evidence.specs.hwp_script_read.Valid.{IsValid};
 ghost use Rattle.hwp_check_rules.specs.Firsts.{IsLeast};
 ghost use Rattle.hwp_check_rules.specs.Standing.{last_line};
 ghost use Rattle.hwp_check_rules.specs.declared.Rule.TheVariants.{Answers};
@@ -10,10 +10,7 @@ ghost use Rattle.hwp_check_answers.specs.Sifting.{AreAllRight, IsAnswerLine};
 
 use crate::disorders::disorders;
 use crate::sifting::unsound_answers;
-use hwp_check_rules::soonest;
-use hwp_geom::OutOfMemory;
-use hwp_report_text::Report;
-use hwp_script_read::Script;
+use hwp_check_rules::{OutOfMemory, Report, Script, soonest};
 use std::alloc::Global;
 
 /// The first line of a report that is out of place, where a command has no answer, or where an answer is wrong; its event lines

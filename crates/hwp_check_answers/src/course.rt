@@ -1,14 +1,14 @@
-ghost use Rattle.std.specs.Prelude.{◌≡◌, IfOk, [], false, length, replicate};
+ghost use Rattle.std.specs.Prelude.{◌≡◌, IfOk, false, length, replicate};
 ghost use Rattle.hwp_check_evidence.specs.Ends.{process_numbers};
 ghost use Rattle.hwp_check_evidence.specs.Windows.{raised};
-ghost use Rattle.hwp_check_answers.specs.Judging.{IsCourse, gone_after, gone_by};
+ghost use Rattle.hwp_check_answers.specs.Judging.{gone_after, gone_by};
+ghost use Rattle.hwp_check_answers.specs.Walk.{IsCourseAt};
 
 use crate::judging::Course;
+use crate::processor::Processor;
 use hwp_check_causes::process_at;
 use hwp_check_evidence::{no_floors, raise};
-use hwp_geom::{Cpu, OutOfMemory, Proc, Who};
-use hwp_report_text::{Answer, CpuLine, Report};
-use hwp_script_read::Script;
+use hwp_check_rules::{Answer, Cpu, CpuLine, OutOfMemory, Proc, Script, Who};
 use std::alloc::Global;
 
 /// The numbers that a process can have.
@@ -41,13 +41,13 @@ fn flag_by(script: &Script, cpu: Cpu, gone: &mut Vec<bool>, row: &CpuLine)
 }
 
 /// Notes a line more.
-pub(crate) fn note(script: &Script, cpu: Cpu, course: &mut Course, row: &CpuLine)
+pub(crate) fn note(processor: &Processor<'_>, course: &mut Course, row: &CpuLine)
     requires { length course.old.gone.items ≡ process_numbers }
     ensures floors { course.new.floors.items ≡ raised course.old.floors.items row.now }
-    ensures gone { course.new.gone.items ≡ gone_by script.now cpu course.old.gone.items row.now }
+    ensures gone { course.new.gone.items ≡ gone_by processor.now.script processor.now.cpu course.old.gone.items row.now }
 {
     raise(&mut course.floors, row);
-    flag_by(script, cpu, &mut course.gone, row);
+    flag_by(processor.script, processor.cpu, &mut course.gone, row);
 }
 
 /// Flags of so many processes, none set.
@@ -59,17 +59,10 @@ fn no_flags(alloc: Global, processes: usize) -> Result<Vec<bool>, OutOfMemory>
 
 /// What is known before any line.
 #[tactic(auto, using(crate::proofs::CourseLaws::begins))]
-pub(crate) fn begin(
-    alloc: Global,
-    script: &Script,
-    report: &Report,
-    cpu: Cpu,
-) -> Result<Course, OutOfMemory>
-    ensures { IfOk result (λ course. IsCourse script.now report.now [] (record { cpu = cpu; seq = 0 }) course) }
+pub(crate) fn begin(alloc: Global, processor: &Processor<'_>) -> Result<Course, OutOfMemory>
+    ensures { IfOk result (λ course. IsCourseAt processor.now 0 0 course) }
 {
-    let _script = script;
-    let _cpu = cpu;
-    let floors = no_floors(alloc, report.pages.len())?;
+    let floors = no_floors(alloc, processor.report.pages.len())?;
     let gone = no_flags(alloc, PROCESS_NUMBERS)?;
     Ok(Course { floors, gone })
 }

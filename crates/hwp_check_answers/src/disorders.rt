@@ -4,10 +4,7 @@ ghost use Rattle.hwp_check_rules.specs.Firsts.{IsLeast};
 ghost use Rattle.hwp_check_rules.specs.Standing.{last_line};
 
 use crate::placing::{first_out, unanswered};
-use hwp_check_rules::cpu_at;
-use hwp_geom::OutOfMemory;
-use hwp_report_text::{CpuLine, Report};
-use hwp_script_read::{Command, Script};
+use hwp_check_rules::{Command, CpuLine, OutOfMemory, Report, Script, cpu_at};
 use std::alloc::Global;
 
 /// The first line of a processor, whose heading stands at `heading`, that is not in its place: the heading where a command

@@ -1,5 +1,5 @@
 ghost use Rattle.std.specs.Prelude.{◌≡◌, ◌≤◌, ◌<◌, ◌+◌, ◌^◌, IfOk, IfSome, MatchOption};
-ghost use Rattle.hwp_script_read.specs.Valid.{IsValid};
+ghost use Rattle.hwp_check_evidence.specs.hwp_script_read.Valid.{IsValid};
 ghost use Rattle.hwp_check_evidence.specs.hwp_law.Events.{AreEvents};
 ghost use Rattle.hwp_check_rules.specs.Firsts.{IsLeast};
 ghost use Rattle.hwp_check_rules.specs.Rules.{ShapeFits};
@@ -7,11 +7,9 @@ ghost use Rattle.hwp_check_rules.specs.Standing.{last_line};
 ghost use Rattle.hwp_check_answers.specs.Joining.{BreakEvents, IsEventLine};
 ghost use Rattle.hwp_check_answers.specs.Firsts.{line_of};
 
-use hwp_check_events::{Misfits, checkers_of, processor_faults, small_masks};
-use hwp_check_rules::cpu_at;
-use hwp_geom::{Cpu, OutOfMemory};
-use hwp_report_text::Report;
-use hwp_script_read::Script;
+use hwp_check_rules::{
+    Cpu, Misfits, OutOfMemory, Report, Script, checkers_of, cpu_at, processor_faults, small_masks,
+};
 use std::alloc::Global;
 
 /// The first line of a processor, whose heading stands at `heading`, where its event lines are wrong.

@@ -1,15 +1,12 @@
 ghost use Rattle.std.specs.Prelude.{◌≡◌, ◌≤◌, IfOk, false, length, slice_index_or};
-ghost use Rattle.hwp_kill.specs.declared.Policy.TheVariants.{Default};
+ghost use Rattle.hwp_check_evidence.specs.hwp_kill.declared.Policy.TheVariants.{Default};
 ghost use Rattle.hwp_check_answers.specs.Facts.{AreFacts, AreNamings};
 ghost use Rattle.hwp_check_causes.specs.Knowing.{IsOwn};
 
 use crate::judging::Naming;
 use hwp_check_causes::{CommandFacts, ProcessorFacts, own_of, policies_before};
 use hwp_check_evidence::{entries_named, event_counts, event_ends, first_answers};
-use hwp_geom::{Cpu, OutOfMemory};
-use hwp_kill::Policy;
-use hwp_report_text::{CpuLine, Report};
-use hwp_script_read::{Command, Script};
+use hwp_check_rules::{Command, Cpu, CpuLine, OutOfMemory, Policy, Report, Script};
 use std::alloc::Global;
 
 /// What is known of the commands of one processor by their numbers.

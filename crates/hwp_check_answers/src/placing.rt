@@ -2,10 +2,7 @@ ghost use Rattle.std.specs.Prelude.{◌≡◌, ◌↔◌, IsTrue, IfOk, MatchOpt
 ghost use Rattle.hwp_check_rules.specs.Answered.{seq_of};
 ghost use Rattle.hwp_check_answers.specs.Placing.{AreInPlace, AreSet, HasNone, HaveAnswers, IsFirstOut, IsOfNext, TellAnswers, marked};
 
-use hwp_check_rules::is_answer;
-use hwp_geom::OutOfMemory;
-use hwp_report_text::CpuLine;
-use hwp_script_read::Command;
+use hwp_check_rules::{Command, CpuLine, OutOfMemory, is_answer};
 use std::alloc::Global;
 
 /// The number of the command that a line is of.

@@ -1,14 +1,12 @@
 ghost use Rattle.std.specs.Prelude.{◌<◌, ◌^◌, IfOk, MatchOption};
-ghost use Rattle.hwp_script_read.specs.Valid.{IsValid};
+ghost use Rattle.hwp_check_evidence.specs.hwp_script_read.Valid.{IsValid};
 ghost use Rattle.hwp_check_rules.specs.Standing.{last_line};
 ghost use Rattle.hwp_check_rules.specs.declared.Rule.TheVariants.{Answers};
 ghost use Rattle.hwp_check_rules.specs.Verdicts.{HoldBelow, Holds, IsBroken};
 
 use crate::events::{event_lines, lines_break};
 use crate::{answer_lines, first_of_both};
-use hwp_geom::OutOfMemory;
-use hwp_report_text::Report;
-use hwp_script_read::Script;
+use hwp_check_rules::{OutOfMemory, Report, Script};
 use std::alloc::Global;
 
 /// Whether each answer and each event line of a report is right; else the first line that breaks this.

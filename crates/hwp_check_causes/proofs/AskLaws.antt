@@ -1,16 +1,16 @@
 -- An answer that says what state a page was in has its cause exactly where the command can have it, and the page was in such a state.
 use Rattle.std.proofs.Common.{◌≡◌, true, Some, refl, sym, ap, ◌∙◌, subst, true≢false}
 use Rattle.std.proofs.lemmas.Option.{same_Some}
-use Rattle.hwp_geom.specs.declared.Who.{Who}
-use Rattle.hwp_kill.specs.declared.Reply.{Reply}
-use Rattle.hwp_kill.specs.declared.Reply.TheVariants as replies
-use Rattle.hwp_page.specs.declared.At.{At}
-use Rattle.hwp_script_read.specs.declared.Command.{Command}
-use Rattle.hwp_script_read.specs.declared.Command.TheVariants as commands
-use Rattle.hwp_script_read.specs.declared.Script.{Script}
-use Rattle.hwp_report_text.specs.declared.Answer.{Answer}
-use Rattle.hwp_report_text.specs.declared.Answer.TheVariants as answers
-use Rattle.hwp_report_text.specs.declared.Report.{Report}
+use Rattle.hwp_check_evidence.specs.hwp_geom.declared.Who.{Who}
+use Rattle.hwp_check_evidence.specs.hwp_kill.declared.Reply.{Reply}
+use Rattle.hwp_check_evidence.specs.hwp_kill.declared.Reply.TheVariants as replies
+use Rattle.hwp_check_evidence.specs.hwp_page.declared.At.{At}
+use Rattle.hwp_check_evidence.specs.hwp_script_read.declared.Command.{Command}
+use Rattle.hwp_check_evidence.specs.hwp_script_read.declared.Command.TheVariants as commands
+use Rattle.hwp_check_evidence.specs.hwp_script_read.declared.Script.{Script}
+use Rattle.hwp_check_evidence.specs.hwp_report_text.declared.Answer.{Answer}
+use Rattle.hwp_check_evidence.specs.hwp_report_text.declared.Answer.TheVariants as answers
+use Rattle.hwp_check_evidence.specs.hwp_report_text.declared.Report.{Report}
 use Rattle.hwp_check_evidence.specs.hwp_law.Answers.{reply_answer}
 use Rattle.hwp_check_evidence.specs.hwp_law.Causes.{IsCaused}
 use Rattle.hwp_check_evidence.specs.hwp_law.States.{state_named}

@@ -4,13 +4,13 @@ use Rattle.std.specs.List.{cons_option}
 use Rattle.std.proofs.lemmas.Bool.{cases_eq, eq-eqb, eqb-true, false_from_ne_true}
 use Rattle.std.proofs.lemmas.List.{get_or-set_same, get_or-set_other, get_or-replicate, length-replicate, length-set}
 use Rattle.std.proofs.lemmas.Option.{none-some, same_Some}
-use Rattle.hwp_geom.specs.declared.Thread.{Thread}
-use Rattle.hwp_kill.specs.declared.Policy.{Policy}
-use Rattle.hwp_kill.specs.declared.Policy.TheVariants.{Default}
-use Rattle.hwp_kill.specs.Prctl.{policy_set}
-use Rattle.hwp_script_read.specs.declared.Command.{Command}
-use Rattle.hwp_script_read.specs.declared.Command.TheVariants as commands
-use Rattle.hwp_script_read.specs.declared.PrctlArgs.{PrctlArgs}
+use Rattle.hwp_check_evidence.specs.hwp_geom.declared.Thread.{Thread}
+use Rattle.hwp_check_evidence.specs.hwp_kill.declared.Policy.{Policy}
+use Rattle.hwp_check_evidence.specs.hwp_kill.declared.Policy.TheVariants.{Default}
+use Rattle.hwp_check_evidence.specs.hwp_kill.Prctl.{policy_set}
+use Rattle.hwp_check_evidence.specs.hwp_script_read.declared.Command.{Command}
+use Rattle.hwp_check_evidence.specs.hwp_script_read.declared.Command.TheVariants as commands
+use Rattle.hwp_check_evidence.specs.hwp_script_read.declared.PrctlArgs.{PrctlArgs}
 use Rattle.hwp_check_evidence.specs.hwp_law.Policies.{arguments, setting_of, settings}
 use Rattle.hwp_check_causes.specs.Befores.{AreBefore, policies_before, policy_of, set_by, set_to, thread_numbers}
 

@@ -2,19 +2,19 @@
 use Rattle.std.proofs.Common.{◌≡◌, ◌<◌, ◌≤◌, List, [], ◌∷◌, Option, Some, None, All, IsSomeAnd, length, slice_get, refl, sym, arith}
 use Rattle.std.proofs.lemmas.List.Elements.{All-cons, All-nil}
 use Rattle.std.proofs.lemmas.Option.{slice_get_within}
-use Rattle.hwp_geom.specs.declared.Layout.{Layout}
-use Rattle.hwp_geom.specs.declared.Page.{Page}
-use Rattle.hwp_geom.specs.declared.TransDecl.{TransDecl}
-use Rattle.hwp_geom.specs.Layout.{IsSound}
-use Rattle.hwp_page.specs.History.{Leads}
-use Rattle.hwp_page.specs.Step.{Allowed, MapsWithin, after, opening_of}
-use Rattle.hwp_page.specs.declared.Entry.{Entry}
-use Rattle.hwp_page.specs.declared.PageState.{PageState}
-use Rattle.hwp_page.specs.declared.What.{What}
-use Rattle.hwp_page.specs.declared.What.TheVariants as entries
-use Rattle.hwp_script_read.specs.Valid.{IsValid}
-use Rattle.hwp_script_read.specs.declared.Script.{Script}
-use Rattle.hwp_report_text.specs.declared.Report.{Report}
+use Rattle.hwp_check_evidence.specs.hwp_geom.declared.Layout.{Layout}
+use Rattle.hwp_check_evidence.specs.hwp_geom.declared.Page.{Page}
+use Rattle.hwp_check_evidence.specs.hwp_geom.declared.TransDecl.{TransDecl}
+use Rattle.hwp_check_evidence.specs.hwp_geom.Layout.{IsSound}
+use Rattle.hwp_check_evidence.specs.hwp_page.History.{Leads}
+use Rattle.hwp_check_evidence.specs.hwp_page.Step.{Allowed, MapsWithin, after, opening_of}
+use Rattle.hwp_check_evidence.specs.hwp_page.declared.Entry.{Entry}
+use Rattle.hwp_check_evidence.specs.hwp_page.declared.PageState.{PageState}
+use Rattle.hwp_check_evidence.specs.hwp_page.declared.What.{What}
+use Rattle.hwp_check_evidence.specs.hwp_page.declared.What.TheVariants as entries
+use Rattle.hwp_check_evidence.specs.hwp_script_read.Valid.{IsValid}
+use Rattle.hwp_check_evidence.specs.hwp_script_read.declared.Script.{Script}
+use Rattle.hwp_check_evidence.specs.hwp_report_text.declared.Report.{Report}
 use Rattle.hwp_check_evidence.specs.Glances.{AreLegalSteps}
 use Rattle.hwp_check_rules.specs.Rules.{HistoriesFit, ShapeFits}
 use Rattle.hwp_check_rules.specs.declared.Rule.TheVariants.{Histories, Shape}

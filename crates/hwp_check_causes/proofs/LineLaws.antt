@@ -2,11 +2,11 @@
 use Rattle.std.proofs.Common.{◌≡◌, ℕ, Option, Some, None, Any, true, slice_get, option_map, unwrap_or, refl, sym, ap, ◌∙◌, subst}
 use Rattle.std.specs.Int.Bits.{and_zero_r}
 use Rattle.std.proofs.lemmas.Option.{get_or_from_slice_get, slice_get-get_or, slice_get_within}
-use Rattle.hwp_geom.specs.declared.Mask.{Mask}
-use Rattle.hwp_page.specs.declared.At.{At}
-use Rattle.hwp_report_text.specs.declared.FrameLine.{FrameLine}
-use Rattle.hwp_report_text.specs.declared.Report.{Report}
-use Rattle.hwp_script_read.specs.declared.Script.{Script}
+use Rattle.hwp_check_evidence.specs.hwp_geom.declared.Mask.{Mask}
+use Rattle.hwp_check_evidence.specs.hwp_page.declared.At.{At}
+use Rattle.hwp_check_evidence.specs.hwp_report_text.declared.FrameLine.{FrameLine}
+use Rattle.hwp_check_evidence.specs.hwp_report_text.declared.Report.{Report}
+use Rattle.hwp_check_evidence.specs.hwp_script_read.declared.Script.{Script}
 use Rattle.hwp_check_evidence.specs.hwp_law.Causes.{AreBadLines, HadBadLines}
 use Rattle.hwp_check_evidence.specs.hwp_law.Lines.{bad_lines_of}
 use Rattle.hwp_check_evidence.specs.hwp_law.States.{HadState}

@@ -1,22 +1,22 @@
 -- An answer that names an entry has its cause exactly where the entry is one that it may name.
 use Rattle.std.proofs.Common.{◌≡◌, ℕ, true, Some, refl, sym, ap, ◌∙◌, subst, true≢false}
 use Rattle.std.proofs.lemmas.Option.{same_Some}
-use Rattle.hwp_geom.specs.declared.VSlot.{VSlot}
-use Rattle.hwp_geom.specs.declared.Mask.{Mask}
-use Rattle.hwp_geom.specs.declared.Who.{Who}
-use Rattle.hwp_kill.specs.declared.Reply.{Reply}
-use Rattle.hwp_kill.specs.declared.Reply.TheVariants as replies
-use Rattle.hwp_page.specs.declared.At.{At}
-use Rattle.hwp_page.specs.declared.Entry.{Entry}
-use Rattle.hwp_page.specs.declared.Met.TheVariants.{Sigbus, Word}
-use Rattle.hwp_page.specs.declared.What.{What}
-use Rattle.hwp_page.specs.declared.What.TheVariants as entries
-use Rattle.hwp_script_read.specs.declared.Command.{Command}
-use Rattle.hwp_script_read.specs.declared.Command.TheVariants as commands
-use Rattle.hwp_script_read.specs.declared.Script.{Script}
-use Rattle.hwp_report_text.specs.declared.Answer.{Answer}
-use Rattle.hwp_report_text.specs.declared.Answer.TheVariants as answers
-use Rattle.hwp_report_text.specs.declared.Report.{Report}
+use Rattle.hwp_check_evidence.specs.hwp_geom.declared.VSlot.{VSlot}
+use Rattle.hwp_check_evidence.specs.hwp_geom.declared.Mask.{Mask}
+use Rattle.hwp_check_evidence.specs.hwp_geom.declared.Who.{Who}
+use Rattle.hwp_check_evidence.specs.hwp_kill.declared.Reply.{Reply}
+use Rattle.hwp_check_evidence.specs.hwp_kill.declared.Reply.TheVariants as replies
+use Rattle.hwp_check_evidence.specs.hwp_page.declared.At.{At}
+use Rattle.hwp_check_evidence.specs.hwp_page.declared.Entry.{Entry}
+use Rattle.hwp_check_evidence.specs.hwp_page.declared.Met.TheVariants.{Sigbus, Word}
+use Rattle.hwp_check_evidence.specs.hwp_page.declared.What.{What}
+use Rattle.hwp_check_evidence.specs.hwp_page.declared.What.TheVariants as entries
+use Rattle.hwp_check_evidence.specs.hwp_script_read.declared.Command.{Command}
+use Rattle.hwp_check_evidence.specs.hwp_script_read.declared.Command.TheVariants as commands
+use Rattle.hwp_check_evidence.specs.hwp_script_read.declared.Script.{Script}
+use Rattle.hwp_check_evidence.specs.hwp_report_text.declared.Answer.{Answer}
+use Rattle.hwp_check_evidence.specs.hwp_report_text.declared.Answer.TheVariants as answers
+use Rattle.hwp_check_evidence.specs.hwp_report_text.declared.Report.{Report}
 use Rattle.hwp_check_evidence.specs.hwp_law.Answers.{StandsAt, reply_answer}
 use Rattle.hwp_check_evidence.specs.hwp_law.Causes.{IsCaused}
 use Rattle.hwp_check_evidence.specs.hwp_law.Places.{entry_at}

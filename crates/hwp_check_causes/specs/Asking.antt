@@ -1,17 +1,17 @@
 -- Answers that say what state a page was in, but for its bad lines: of which page, and in which state.
 use Rattle.std.specs.Prelude.{◌≡◌, Bool, true, false}
-use Rattle.hwp_geom.specs.declared.Layout.{Layout}
-use Rattle.hwp_geom.specs.declared.Page.{Page}
-use Rattle.hwp_page.specs.Refusals.{IsAway, IsDirty, IsMapped, IsUnused}
-use Rattle.hwp_page.specs.Step.{IsOf}
-use Rattle.hwp_page.specs.declared.At.{At}
-use Rattle.hwp_page.specs.declared.PageState.{PageState}
-use Rattle.hwp_script_read.specs.declared.Command.{Command}
-use Rattle.hwp_script_read.specs.declared.Command.TheVariants as commands
-use Rattle.hwp_script_read.specs.declared.Script.{Script}
-use Rattle.hwp_report_text.specs.declared.Answer.{Answer}
-use Rattle.hwp_report_text.specs.declared.Answer.TheVariants as answers
-use Rattle.hwp_report_text.specs.declared.Report.{Report}
+use Rattle.hwp_check_evidence.specs.hwp_geom.declared.Layout.{Layout}
+use Rattle.hwp_check_evidence.specs.hwp_geom.declared.Page.{Page}
+use Rattle.hwp_check_evidence.specs.hwp_page.Refusals.{IsAway, IsDirty, IsMapped, IsUnused}
+use Rattle.hwp_check_evidence.specs.hwp_page.Step.{IsOf}
+use Rattle.hwp_check_evidence.specs.hwp_page.declared.At.{At}
+use Rattle.hwp_check_evidence.specs.hwp_page.declared.PageState.{PageState}
+use Rattle.hwp_check_evidence.specs.hwp_script_read.declared.Command.{Command}
+use Rattle.hwp_check_evidence.specs.hwp_script_read.declared.Command.TheVariants as commands
+use Rattle.hwp_check_evidence.specs.hwp_script_read.declared.Script.{Script}
+use Rattle.hwp_check_evidence.specs.hwp_report_text.declared.Answer.{Answer}
+use Rattle.hwp_check_evidence.specs.hwp_report_text.declared.Answer.TheVariants as answers
+use Rattle.hwp_check_evidence.specs.hwp_report_text.declared.Report.{Report}
 use Rattle.hwp_check_evidence.specs.hwp_law.States.{HadState}
 
 -- the answer is of this kind

@@ -1,11 +1,11 @@
 -- The policies of threads before the commands that ask for them or set them.
 use Rattle.std.specs.Prelude.{◌≡◌, ℕ, ◌<◌, List, [], ◌∷◌, Option, Some, None, slice_get, slice_index_or, slice_set, take}
-use Rattle.hwp_geom.specs.declared.Thread.{Thread}
-use Rattle.hwp_kill.specs.declared.Policy.{Policy}
-use Rattle.hwp_kill.specs.declared.Policy.TheVariants.{Default}
-use Rattle.hwp_script_read.specs.declared.Command.{Command}
-use Rattle.hwp_script_read.specs.declared.Command.TheVariants as commands
-use Rattle.hwp_script_read.specs.declared.PrctlArgs.{PrctlArgs}
+use Rattle.hwp_check_evidence.specs.hwp_geom.declared.Thread.{Thread}
+use Rattle.hwp_check_evidence.specs.hwp_kill.declared.Policy.{Policy}
+use Rattle.hwp_check_evidence.specs.hwp_kill.declared.Policy.TheVariants.{Default}
+use Rattle.hwp_check_evidence.specs.hwp_script_read.declared.Command.{Command}
+use Rattle.hwp_check_evidence.specs.hwp_script_read.declared.Command.TheVariants as commands
+use Rattle.hwp_check_evidence.specs.hwp_script_read.declared.PrctlArgs.{PrctlArgs}
 use Rattle.hwp_check_evidence.specs.hwp_law.Policies.{last_policy, setting_of, settings}
 
 -- the numbers that a thread can have

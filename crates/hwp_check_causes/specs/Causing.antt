@@ -1,15 +1,15 @@
 -- Answers by what decides whether they have their cause, where that is neither an entry, nor a state, nor the command alone.
 use Rattle.std.specs.Prelude.{◌≡◌, ◌||◌, ℕ, not, Bool, true, false}
-use Rattle.hwp_geom.specs.declared.Mask.{Mask}
-use Rattle.hwp_geom.specs.declared.Who.{Who}
-use Rattle.hwp_kill.specs.Prctl.{reply}
-use Rattle.hwp_page.specs.declared.At.{At}
-use Rattle.hwp_script_read.specs.declared.Command.{Command}
-use Rattle.hwp_script_read.specs.declared.Command.TheVariants as commands
-use Rattle.hwp_script_read.specs.declared.Script.{Script}
-use Rattle.hwp_report_text.specs.declared.Answer.{Answer}
-use Rattle.hwp_report_text.specs.declared.Answer.TheVariants as answers
-use Rattle.hwp_report_text.specs.declared.Report.{Report}
+use Rattle.hwp_check_evidence.specs.hwp_geom.declared.Mask.{Mask}
+use Rattle.hwp_check_evidence.specs.hwp_geom.declared.Who.{Who}
+use Rattle.hwp_check_evidence.specs.hwp_kill.Prctl.{reply}
+use Rattle.hwp_check_evidence.specs.hwp_page.declared.At.{At}
+use Rattle.hwp_check_evidence.specs.hwp_script_read.declared.Command.{Command}
+use Rattle.hwp_check_evidence.specs.hwp_script_read.declared.Command.TheVariants as commands
+use Rattle.hwp_check_evidence.specs.hwp_script_read.declared.Script.{Script}
+use Rattle.hwp_check_evidence.specs.hwp_report_text.declared.Answer.{Answer}
+use Rattle.hwp_check_evidence.specs.hwp_report_text.declared.Answer.TheVariants as answers
+use Rattle.hwp_check_evidence.specs.hwp_report_text.declared.Report.{Report}
 use Rattle.hwp_check_evidence.specs.hwp_law.Answers.{reply_answer}
 use Rattle.hwp_check_evidence.specs.hwp_law.Causes.{AreBadLines, HadBadLines, IsFailureAnswer, IsOfflineAnswer, IsUnpoisonAnswer}
 use Rattle.hwp_check_evidence.specs.hwp_law.Commands.{is_kernels}

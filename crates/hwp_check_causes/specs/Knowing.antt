@@ -1,12 +1,12 @@
 -- What is known of a script and its report.
 use Rattle.std.specs.Prelude.{◌≡◌, ◌<◌, length}
 use Rattle.std.specs.List.{list_any}
-use Rattle.hwp_geom.specs.declared.Cpu.{Cpu}
-use Rattle.hwp_geom.specs.declared.Thread.{Thread}
-use Rattle.hwp_geom.specs.declared.Who.{Who}
-use Rattle.hwp_script_read.specs.declared.Command.{Command}
-use Rattle.hwp_script_read.specs.declared.Command.TheVariants as commands
-use Rattle.hwp_script_read.specs.declared.PrctlArgs.{PrctlArgs}
+use Rattle.hwp_check_evidence.specs.hwp_geom.declared.Cpu.{Cpu}
+use Rattle.hwp_check_evidence.specs.hwp_geom.declared.Thread.{Thread}
+use Rattle.hwp_check_evidence.specs.hwp_geom.declared.Who.{Who}
+use Rattle.hwp_check_evidence.specs.hwp_script_read.declared.Command.{Command}
+use Rattle.hwp_check_evidence.specs.hwp_script_read.declared.Command.TheVariants as commands
+use Rattle.hwp_check_evidence.specs.hwp_script_read.declared.PrctlArgs.{PrctlArgs}
 use Rattle.hwp_check_evidence.specs.hwp_law.Causes.{ends_machine}
 use Rattle.hwp_check_evidence.specs.hwp_law.Lines.{events_of}
 use Rattle.hwp_check_evidence.specs.hwp_law.Policies.{policy_before}
@@ -15,14 +15,14 @@ use Rattle.hwp_check_evidence.specs.Marked.{reported}
 use Rattle.hwp_check_evidence.specs.Windows.{AreSpans}
 use Rattle.hwp_check_poison.specs.Nears.{IsPast}
 use Rattle.hwp_check_poison.specs.Results.{AreResults}
-use Rattle.hwp_check_causes.specs.declared.right.ProcessorFacts.{ProcessorFacts}
-use Rattle.hwp_check_causes.specs.declared.right.CommandFacts.{CommandFacts}
-use Rattle.hwp_script_read.specs.declared.Script.{Script}
-use Rattle.hwp_report_text.specs.declared.Report.{Report}
+use Rattle.hwp_check_causes.specs.declared.facts.ProcessorFacts.{ProcessorFacts}
+use Rattle.hwp_check_causes.specs.declared.facts.CommandFacts.{CommandFacts}
+use Rattle.hwp_check_evidence.specs.hwp_script_read.declared.Script.{Script}
+use Rattle.hwp_check_evidence.specs.hwp_report_text.declared.Report.{Report}
 use Rattle.hwp_check_evidence.specs.hwp_law.Answers.{is_ample}
 use Rattle.hwp_check_evidence.specs.Glances.{AreGlances}
 use Rattle.hwp_check_causes.specs.Befores.{thread_numbers}
-use Rattle.hwp_check_causes.specs.declared.known.ReportFacts.{ReportFacts}
+use Rattle.hwp_check_causes.specs.declared.facts.ReportFacts.{ReportFacts}
 
 -- it is right
 pub record IsKnown (script : Script) (report : Report) (known : ReportFacts) : Type 0 where

@@ -4,3 +4,4 @@ pub mod Asking
 pub mod Causing
 pub mod Befores
 pub mod Knowing
+pub mod Cases

@@ -1,21 +1,21 @@
 -- Answers that name an entry, as `moved` does not alone: what the entry must be.
 use Rattle.std.specs.Prelude.{◌≡◌, ℕ, Bool, true, false, List, Some, Any}
-use Rattle.hwp_geom.specs.declared.Page.{Page}
-use Rattle.hwp_geom.specs.declared.Thread.{Thread}
-use Rattle.hwp_geom.specs.declared.VSlot.{VSlot}
-use Rattle.hwp_geom.specs.declared.Who.{Who}
-use Rattle.hwp_kill.specs.declared.Code.TheVariants.{Ar}
-use Rattle.hwp_kill.specs.declared.Signal.{Signal}
-use Rattle.hwp_page.specs.declared.At.{At}
-use Rattle.hwp_page.specs.declared.Entry.{Entry}
-use Rattle.hwp_page.specs.declared.Met.{Met}
-use Rattle.hwp_page.specs.declared.Met.TheVariants.{Sigbus, Word}
-use Rattle.hwp_page.specs.declared.What.{What}
-use Rattle.hwp_page.specs.declared.What.TheVariants as entries
-use Rattle.hwp_script_read.specs.declared.Command.{Command}
-use Rattle.hwp_script_read.specs.declared.Command.TheVariants as commands
-use Rattle.hwp_report_text.specs.declared.Answer.{Answer}
-use Rattle.hwp_report_text.specs.declared.Answer.TheVariants as answers
+use Rattle.hwp_check_evidence.specs.hwp_geom.declared.Page.{Page}
+use Rattle.hwp_check_evidence.specs.hwp_geom.declared.Thread.{Thread}
+use Rattle.hwp_check_evidence.specs.hwp_geom.declared.VSlot.{VSlot}
+use Rattle.hwp_check_evidence.specs.hwp_geom.declared.Who.{Who}
+use Rattle.hwp_check_evidence.specs.hwp_kill.declared.Code.TheVariants.{Ar}
+use Rattle.hwp_check_evidence.specs.hwp_kill.declared.Signal.{Signal}
+use Rattle.hwp_check_evidence.specs.hwp_page.declared.At.{At}
+use Rattle.hwp_check_evidence.specs.hwp_page.declared.Entry.{Entry}
+use Rattle.hwp_check_evidence.specs.hwp_page.declared.Met.{Met}
+use Rattle.hwp_check_evidence.specs.hwp_page.declared.Met.TheVariants.{Sigbus, Word}
+use Rattle.hwp_check_evidence.specs.hwp_page.declared.What.{What}
+use Rattle.hwp_check_evidence.specs.hwp_page.declared.What.TheVariants as entries
+use Rattle.hwp_check_evidence.specs.hwp_script_read.declared.Command.{Command}
+use Rattle.hwp_check_evidence.specs.hwp_script_read.declared.Command.TheVariants as commands
+use Rattle.hwp_check_evidence.specs.hwp_report_text.declared.Answer.{Answer}
+use Rattle.hwp_check_evidence.specs.hwp_report_text.declared.Answer.TheVariants as answers
 use Rattle.hwp_check_evidence.specs.hwp_law.Causes.{SendsSigbus}
 use Rattle.hwp_check_evidence.specs.hwp_law.Places.{entry_at}
 

@@ -2,11 +2,7 @@ ghost use Rattle.std.specs.Prelude.{◌≡◌, ◌↔◌, IsTrue};
 ghost use Rattle.hwp_check_evidence.specs.hwp_law.States.{state_named};
 ghost use Rattle.hwp_check_causes.specs.Asking.{IsAskable, IsAtPage, IsDropOf, IsFreeOf};
 
-use hwp_check_rules::leads_to;
-use hwp_geom::{Layout, Page};
-use hwp_page::At;
-use hwp_report_text::Answer;
-use hwp_script_read::Command;
+use hwp_check_rules::{Answer, At, Command, Layout, Page, leads_to};
 
 /// Whether the command is one of this page.
 fn is_at_page(command: &Command, page: Page) -> bool

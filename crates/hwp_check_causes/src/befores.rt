@@ -1,11 +1,8 @@
 ghost use Rattle.std.specs.Prelude.{◌≡◌, IfOk, length, replicate};
 ghost use Rattle.hwp_check_causes.specs.Befores.{AreBefore, policies_before as policies_before_of, policy_of, set_by, thread_numbers};
-ghost use Rattle.hwp_kill.specs.declared.Policy.TheVariants.{Default};
+ghost use Rattle.hwp_check_evidence.specs.hwp_kill.declared.Policy.TheVariants.{Default};
 
-use hwp_check_rules::setting_of;
-use hwp_geom::OutOfMemory;
-use hwp_kill::Policy;
-use hwp_script_read::Command;
+use hwp_check_rules::{Command, OutOfMemory, Policy, setting_of};
 use std::alloc::Global;
 
 /// The numbers that a thread can have.

@@ -3,16 +3,12 @@ ghost use Rattle.hwp_check_evidence.specs.Glances.{AreLegalSteps};
 ghost use Rattle.hwp_check_evidence.specs.Named.{flagged_pages};
 ghost use Rattle.hwp_check_causes.specs.Knowing.{IsKnown, IsOwn};
 ghost use Rattle.hwp_check_rules.specs.Verdicts.{HoldBelow};
-ghost use Rattle.hwp_script_read.specs.Valid.{IsValid};
+ghost use Rattle.hwp_check_evidence.specs.hwp_script_read.Valid.{IsValid};
 
-use crate::known::ReportFacts;
-use crate::right::ProcessorFacts;
+use crate::facts::{ProcessorFacts, ReportFacts};
 use hwp_check_evidence::{Findings, findings_of, glances_of, is_ample, reported};
 use hwp_check_poison::{past_of, results_of};
-use hwp_geom::{Cpu, OutOfMemory};
-use hwp_page::At;
-use hwp_report_text::Report;
-use hwp_script_read::Script;
+use hwp_check_rules::{At, Cpu, OutOfMemory, Report, Script};
 use std::alloc::Global;
 
 /// What is known of a report whose histories are legal.

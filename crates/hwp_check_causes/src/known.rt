@@ -3,92 +3,61 @@ ghost use Rattle.hwp_check_evidence.specs.hwp_law.Causes.{AreBadLines, HadBadLin
 ghost use Rattle.hwp_check_evidence.specs.hwp_law.Commands.{process_at, process_of_thread, thread_of};
 ghost use Rattle.hwp_check_evidence.specs.hwp_law.Endings.{IsGone};
 ghost use Rattle.hwp_check_evidence.specs.hwp_law.States.{HadState};
-ghost use Rattle.hwp_report_text.specs.declared.Answer.TheVariants as answers;
-ghost use Rattle.hwp_check_evidence.specs.Ends.{ArePageEnds};
+ghost use Rattle.hwp_check_evidence.specs.hwp_report_text.declared.Answer.TheVariants as answers;
 ghost use Rattle.hwp_check_causes.specs.Asking.{IsSo, IsUnusedBy, is_by_state as is_by_state_of};
 ghost use Rattle.hwp_check_causes.specs.Causing.{IsBadSomewhere, MetBadLines, is_by_thread as is_by_thread_of};
-ghost use Rattle.hwp_check_causes.specs.Knowing.{IsKnown};
 
 use crate::asking::{is_askable, named_state};
+use crate::case::Case;
 use crate::plain::are_bad_lines;
-use hwp_check_evidence::{
-    Glance, Repeats, has_ending, was_away, was_cached, was_dirty, was_mapped, was_unused,
+use hwp_check_evidence::{has_ending, was_away, was_cached, was_dirty, was_mapped, was_unused};
+use hwp_check_rules::{
+    Answer, At, Command, FrameLine, Layout, Mask, Page, Proc, Report, Script, Thread, Who,
+    command_of,
 };
-use hwp_check_rules::command_of;
-use hwp_geom::{Layout, List, Mask, Page, Proc, Thread, Who};
-use hwp_page::At;
-use hwp_report_text::{Answer, FrameLine, Report};
-use hwp_script_read::{Command, Script};
-
-/// What is known of a script and its report for the answers of all processors.
-#[derive(Drop)]
-pub struct ReportFacts {
-    /// Whether there are frames enough at any time.
-    pub ample: bool,
-    /// The states of pages at all places of their histories.
-    pub glances: Vec<Repeats<Glance>>,
-}
 
 /// Whether the translation that the command frees wasn't in use at the place.
-fn was_unused_by(
-    script: &Script,
-    report: &Report,
-    known: &ReportFacts,
-    command: &Command,
-    at: At,
-) -> bool
-    requires { IsKnown script.now report.now known.now }
-    ensures { IsTrue result ↔ HadState script.now.layout report.now.pages at (IsUnusedBy command.now) }
+fn was_unused_by(case: &Case<'_>, at: At) -> bool
+    ensures { IsTrue result ↔ HadState case.now.script.layout case.now.report.pages at (IsUnusedBy case.now.command) }
 {
-    match *command {
+    match *case.command {
         Command::Free { slot } => {
-            let pages = report.pages.as_slice();
-            was_unused(&script.layout, pages, known.glances.as_slice(), at, slot)
+            let pages = case.report.pages.as_slice();
+            was_unused(
+                &case.script.layout,
+                pages,
+                case.known.glances.as_slice(),
+                at,
+                slot,
+            )
         }
         _ => false,
     }
 }
 
 /// Whether the state at the place was as the command's answer says.
-fn was_so(
-    script: &Script,
-    report: &Report,
-    known: &ReportFacts,
-    command: &Command,
-    answer: &Answer,
-    at: At,
-) -> bool
-    requires { IsKnown script.now report.now known.now }
-    ensures { IsTrue result ↔ HadState script.now.layout report.now.pages at (IsSo command.now answer.now) }
+fn was_so(case: &Case<'_>, answer: &Answer, at: At) -> bool
+    ensures { IsTrue result ↔ HadState case.now.script.layout case.now.report.pages at (IsSo case.now.command answer.now) }
 {
-    let layout = &script.layout;
-    let pages = report.pages.as_slice();
+    let layout = &case.script.layout;
+    let pages = case.report.pages.as_slice();
     match *answer {
-        Answer::NotResident(_) => was_away(layout, pages, known.glances.as_slice(), at),
-        Answer::NotMapped(_) => was_unused_by(script, report, known, command, at),
-        Answer::Dirty(_) => was_dirty(layout, pages, known.glances.as_slice(), at),
-        Answer::Mapped(_) => was_mapped(layout, pages, known.glances.as_slice(), at),
+        Answer::NotResident(_) => was_away(layout, pages, case.known.glances.as_slice(), at),
+        Answer::NotMapped(_) => was_unused_by(case, at),
+        Answer::Dirty(_) => was_dirty(layout, pages, case.known.glances.as_slice(), at),
+        Answer::Mapped(_) => was_mapped(layout, pages, case.known.glances.as_slice(), at),
         _ => false,
     }
 }
 
 /// Whether an answer that says what state a page was in, but for its bad lines, has its cause.
-pub(crate) fn is_by_state(
-    script: &Script,
-    report: &Report,
-    known: &ReportFacts,
-    who: Who,
-    command: &Command,
-    answer: &Answer,
-) -> bool
-    requires known { IsKnown script.now report.now known.now }
-    requires state { is_by_state_of answer.now ≡ true }
-    ensures { IsTrue result ↔ IsCaused script.now report.now who command.now answer.now }
+pub(crate) fn is_by_state(case: &Case<'_>, answer: &Answer) -> bool
+    requires { is_by_state_of answer.now ≡ true }
+    ensures { IsTrue result ↔ IsCaused case.now.script case.now.report case.now.who case.now.command answer.now }
 {
     match named_state(answer) {
         Some(at) => {
-            is_askable(&script.layout, command, answer)
-                && was_so(script, report, known, command, answer, at)
+            is_askable(&case.script.layout, case.command, answer) && was_so(case, answer, at)
         }
         None => false,
     }
@@ -111,30 +80,22 @@ fn are_bad_somewhere(report: &Report, mask: Mask) -> bool
 
 /// Whether the page was cached at the place, and the lines are bad in some frame.
 #[tactic(auto, using(crate::proofs::LineLaws::lines_had, crate::proofs::LineLaws::had_lines))]
-fn had_bad_lines(script: &Script, report: &Report, known: &ReportFacts, mask: Mask, at: At) -> bool
-    requires { IsKnown script.now report.now known.now }
-    ensures { IsTrue result ↔ HadBadLines script.now report.now mask at }
+fn had_bad_lines(case: &Case<'_>, mask: Mask, at: At) -> bool
+    ensures { IsTrue result ↔ HadBadLines case.now.script case.now.report mask at }
 {
-    let layout = &script.layout;
-    let pages = report.pages.as_slice();
-    was_cached(layout, pages, known.glances.as_slice(), at) && are_bad_somewhere(report, mask)
+    let layout = &case.script.layout;
+    let pages = case.report.pages.as_slice();
+    was_cached(layout, pages, case.known.glances.as_slice(), at)
+        && are_bad_somewhere(case.report, mask)
 }
 
 /// Whether the command copies a page's content, and met its bad lines.
-fn met_bad_lines(
-    script: &Script,
-    report: &Report,
-    known: &ReportFacts,
-    command: &Command,
-    mask: Mask,
-    at: At,
-) -> bool
-    requires { IsKnown script.now report.now known.now }
-    ensures { IsTrue result ↔ MetBadLines script.now report.now command.now mask at }
+fn met_bad_lines(case: &Case<'_>, mask: Mask, at: At) -> bool
+    ensures { IsTrue result ↔ MetBadLines case.now.script case.now.report case.now.command mask at }
 {
-    match *command {
+    match *case.command {
         Command::Sync { page } | Command::Out { page } => {
-            at.page == page && had_bad_lines(script, report, known, mask, at)
+            at.page == page && had_bad_lines(case, mask, at)
         }
         _ => false,
     }
@@ -142,20 +103,10 @@ fn met_bad_lines(
 
 /// Whether an answer that tells of bad lines has its cause.
 #[tactic(auto, using(crate::proofs::CauseLaws::caused_lines, crate::proofs::CauseLaws::lines_caused))]
-pub(crate) fn is_by_lines(
-    script: &Script,
-    report: &Report,
-    known: &ReportFacts,
-    who: Who,
-    command: &Command,
-    mask: Mask,
-    at: At,
-) -> bool
-    requires { IsKnown script.now report.now known.now }
-    ensures { IsTrue result ↔ IsCaused script.now report.now who command.now (answers.BadLines mask at) }
+pub(crate) fn is_by_lines(case: &Case<'_>, mask: Mask, at: At) -> bool
+    ensures { IsTrue result ↔ IsCaused case.now.script case.now.report case.now.who case.now.command (answers.BadLines mask at) }
 {
-    let _who = who;
-    met_bad_lines(script, report, known, command, mask, at)
+    met_bad_lines(case, mask, at)
 }
 
 /// Whether a thread makes the command.
@@ -212,27 +163,19 @@ pub fn process_at(script: &Script, who: Who) -> Option<Proc>
 }
 
 /// Whether the process of the command's thread had ended in the page.
-fn is_gone(script: &Script, report: &Report, ends: &[List<u64>], who: Who, page: Page) -> bool
-    requires { ArePageEnds script.now.layout who.cpu report.now.pages ends.now }
-    ensures { IsTrue result ↔ IsGone script.now report.now who page }
+fn is_gone(case: &Case<'_>, page: Page) -> bool
+    ensures { IsTrue result ↔ IsGone case.now.script case.now.report case.now.who page }
 {
-    match process_at(script, who) {
-        Some(process) => has_ending(script, report, ends, who, process, page),
+    let ends = case.own.ends.as_slice();
+    match process_at(case.script, case.who) {
+        Some(process) => has_ending(case.script, case.report, ends, case.who, process, page),
         None => false,
     }
 }
 
 /// Whether an answer that the process had ended in the page has its cause.
-pub(crate) fn is_by_end(
-    script: &Script,
-    report: &Report,
-    ends: &[List<u64>],
-    who: Who,
-    command: &Command,
-    page: Page,
-) -> bool
-    requires { ArePageEnds script.now.layout who.cpu report.now.pages ends.now }
-    ensures { IsTrue result ↔ IsCaused script.now report.now who command.now (answers.Gone page) }
+pub(crate) fn is_by_end(case: &Case<'_>, page: Page) -> bool
+    ensures { IsTrue result ↔ IsCaused case.now.script case.now.report case.now.who case.now.command (answers.Gone page) }
 {
-    is_by_thread(command) && is_gone(script, report, ends, who, page)
+    is_by_thread(case.command) && is_gone(case, page)
 }

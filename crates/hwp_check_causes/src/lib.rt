@@ -3,7 +3,9 @@
 
 mod asking;
 mod befores;
+mod case;
 mod causes;
+mod facts;
 mod gathering;
 mod known;
 mod plain;
@@ -12,6 +14,8 @@ mod telling;
 
 pub use asking::named_state;
 pub use befores::policies_before;
+pub use case::Case;
+pub use facts::{CommandFacts, ProcessorFacts, ReportFacts};
 pub use gathering::{known_of, own_of};
-pub use known::{ReportFacts, process_at};
-pub use right::{CommandFacts, ProcessorFacts, is_right};
+pub use known::process_at;
+pub use right::is_right;

@@ -1,13 +1,11 @@
-ghost use Rattle.std.specs.Prelude.{◌≡◌, ◌↔◌, IsTrue, length, true};
-ghost use Rattle.hwp_check_evidence.specs.hwp_law.Answers.{is_ample};
+ghost use Rattle.std.specs.Prelude.{◌≡◌, ◌↔◌, IsTrue, true};
 ghost use Rattle.hwp_check_evidence.specs.hwp_law.Causes.{AreBadLines, IsCaused};
 ghost use Rattle.hwp_check_evidence.specs.hwp_law.Commands.{is_kernels};
-ghost use Rattle.hwp_check_evidence.specs.hwp_law.Lines.{bad_lines_of, events_of};
+ghost use Rattle.hwp_check_evidence.specs.hwp_law.Lines.{bad_lines_of};
 ghost use Rattle.hwp_check_causes.specs.Plain.{AreRaised, AreScrubbed, HasTheseBad, IsDone, IsLossTold, IsOfKernel, IsPlain, IsShort, IsUsed, is_plain};
 
-use hwp_geom::{Frame, Layout, Mask, Who};
-use hwp_report_text::{Answer, Report};
-use hwp_script_read::{Command, Script};
+use crate::case::Case;
+use hwp_check_rules::{Answer, Command, Frame, Layout, Mask, Report};
 
 /// Whether the frame is the kernel's own.
 pub(crate) fn is_kernels(layout: &Layout, frame: Frame) -> bool
@@ -36,17 +34,16 @@ pub(crate) fn are_bad_lines(bad: u64, mask: Mask) -> bool
     mask.0 != 0 && mask.0 & bad == mask.0
 }
 
-/// Whether the command can have found no free frame, where `ample` says whether there are enough at any time.
-fn is_short(script: &Script, ample: bool, command: &Command) -> bool
-    requires { ample ≡ is_ample script.now }
-    ensures { IsTrue result ↔ IsShort script.now command.now }
+/// Whether the command can have found no free frame.
+fn is_short(case: &Case<'_>) -> bool
+    ensures { IsTrue result ↔ IsShort case.now.script case.now.command }
 {
-    match *command {
+    match *case.command {
         Command::Load { .. }
         | Command::Fetch { .. }
         | Command::KLoad { .. }
-        | Command::Store { .. } => !ample,
-        Command::Soft { frame } => !is_kernels(&script.layout, frame) && !ample,
+        | Command::Store { .. } => !case.known.ample,
+        Command::Soft { frame } => !is_kernels(&case.script.layout, frame) && !case.known.ample,
         _ => false,
     }
 }
@@ -72,24 +69,25 @@ fn is_loss_told(command: &Command, lost: u64) -> bool
 }
 
 /// Whether the command takes a frame of the kernel out of use.
-fn is_of_kernel(script: &Script, command: &Command) -> bool
-    ensures { IsTrue result ↔ IsOfKernel script.now command.now }
+fn is_of_kernel(case: &Case<'_>) -> bool
+    ensures { IsTrue result ↔ IsOfKernel case.now.script case.now.command }
 {
-    match *command {
-        Command::Soft { frame } => is_kernels(&script.layout, frame),
+    match *case.command {
+        Command::Soft { frame } => is_kernels(&case.script.layout, frame),
         _ => false,
     }
 }
 
 /// Whether the command's frame has these bad lines.
-fn has_these_bad(script: &Script, report: &Report, command: &Command, mask: Mask) -> bool
-    ensures { IsTrue result ↔ HasTheseBad script.now report.now command.now mask.0 }
+fn has_these_bad(case: &Case<'_>, mask: Mask) -> bool
+    ensures { IsTrue result ↔ HasTheseBad case.now.script case.now.report case.now.command mask.0 }
 {
-    match *command {
+    match *case.command {
         Command::Soft { frame } => {
-            !is_kernels(&script.layout, frame) && are_bad_lines(bad_lines_of(report, frame), mask)
+            !is_kernels(&case.script.layout, frame)
+                && are_bad_lines(bad_lines_of(case.report, frame), mask)
         }
-        Command::Unpoison { frame } => are_bad_lines(bad_lines_of(report, frame), mask),
+        Command::Unpoison { frame } => are_bad_lines(bad_lines_of(case.report, frame), mask),
         _ => false,
     }
 }
@@ -101,70 +99,48 @@ fn is_used(command: &Command) -> bool
     matches!(command, Command::Unpoison { .. })
 }
 
-/// Whether the command is a scrub, and this the number of its event lines, which are so many.
-fn are_scrubbed(report: &Report, who: Who, events: u64, command: &Command, n: u64) -> bool
-    requires { events ≡ length (events_of report.now who) }
-    ensures { IsTrue result ↔ AreScrubbed report.now who command.now n }
+/// Whether the command is a scrub, and this the number of its event lines.
+fn are_scrubbed(case: &Case<'_>, n: u64) -> bool
+    ensures { IsTrue result ↔ AreScrubbed case.now.report case.now.who case.now.command n }
 {
-    match command {
-        Command::Scrub { .. } => n == events,
+    match case.command {
+        Command::Scrub { .. } => n == case.told.events,
         _ => false,
     }
 }
 
 /// The same of a machine check.
-fn are_raised(report: &Report, who: Who, events: u64, command: &Command, n: u64) -> bool
-    requires { events ≡ length (events_of report.now who) }
-    ensures { IsTrue result ↔ AreRaised report.now who command.now n }
+fn are_raised(case: &Case<'_>, n: u64) -> bool
+    ensures { IsTrue result ↔ AreRaised case.now.report case.now.who case.now.command n }
 {
-    match command {
-        Command::RaiseUser { .. } => n == events,
-        Command::RaiseKernel { .. } => n == events,
+    match case.command {
+        Command::RaiseUser { .. } => n == case.told.events,
+        Command::RaiseKernel { .. } => n == case.told.events,
         _ => false,
     }
 }
 
 /// Whether an answer is right by itself.
-fn is_plain_right(
-    script: &Script,
-    report: &Report,
-    ample: bool,
-    events: u64,
-    who: Who,
-    command: &Command,
-    answer: &Answer,
-) -> bool
-    requires ample { ample ≡ is_ample script.now }
-    requires events { events ≡ length (events_of report.now who) }
-    ensures { IsTrue result ↔ IsPlain script.now report.now who command.now answer.now }
+fn is_plain_right(case: &Case<'_>, answer: &Answer) -> bool
+    ensures { IsTrue result ↔ IsPlain case.now.script case.now.report case.now.who case.now.command answer.now }
 {
     match *answer {
-        Answer::NoFrame => is_short(script, ample, command),
-        Answer::Done => is_done(command),
-        Answer::Eio(lost) => is_loss_told(command, lost),
-        Answer::Kernel => is_of_kernel(script, command),
-        Answer::HasBad(mask) => has_these_bad(script, report, command, mask),
-        Answer::InUse(_) => is_used(command),
-        Answer::Scrubbed(n) => are_scrubbed(report, who, events, command, n),
-        Answer::Raised(n) => are_raised(report, who, events, command, n),
+        Answer::NoFrame => is_short(case),
+        Answer::Done => is_done(case.command),
+        Answer::Eio(lost) => is_loss_told(case.command, lost),
+        Answer::Kernel => is_of_kernel(case),
+        Answer::HasBad(mask) => has_these_bad(case, mask),
+        Answer::InUse(_) => is_used(case.command),
+        Answer::Scrubbed(n) => are_scrubbed(case, n),
+        Answer::Raised(n) => are_raised(case, n),
         _ => false,
     }
 }
 
 /// Whether an answer of a plain kind has its cause.
-pub(crate) fn is_plain(
-    script: &Script,
-    report: &Report,
-    ample: bool,
-    events: u64,
-    who: Who,
-    command: &Command,
-    answer: &Answer,
-) -> bool
-    requires plain { is_plain command.now answer.now ≡ true }
-    requires ample { ample ≡ is_ample script.now }
-    requires events { events ≡ length (events_of report.now who) }
-    ensures { IsTrue result ↔ IsCaused script.now report.now who command.now answer.now }
+pub(crate) fn is_plain(case: &Case<'_>, answer: &Answer) -> bool
+    requires { is_plain case.now.command answer.now ≡ true }
+    ensures { IsTrue result ↔ IsCaused case.now.script case.now.report case.now.who case.now.command answer.now }
 {
-    is_plain_right(script, report, ample, events, who, command, answer)
+    is_plain_right(case, answer)
 }

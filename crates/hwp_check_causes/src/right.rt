@@ -1,54 +1,19 @@
 ghost use Rattle.std.specs.Prelude.{◌≡◌, ◌≢◌, ◌↔◌, ◌<◌, IsTrue, true};
-ghost use Rattle.hwp_report_text.specs.declared.Answer.TheVariants as answers;
-ghost use Rattle.std.specs.List.{list_any};
-ghost use Rattle.hwp_check_evidence.specs.hwp_law.Causes.{IsCaused, IsHeeded, ends_machine};
-ghost use Rattle.hwp_check_evidence.specs.hwp_law.Lines.{events_of};
+ghost use Rattle.hwp_check_evidence.specs.hwp_report_text.declared.Answer.TheVariants as answers;
+ghost use Rattle.hwp_check_evidence.specs.hwp_law.Causes.{IsCaused, IsHeeded};
 ghost use Rattle.hwp_check_rules.specs.Answered.{IsRight};
 ghost use Rattle.hwp_check_causes.specs.Asking.{is_by_state as is_by_state_of};
 ghost use Rattle.hwp_check_causes.specs.Befores.{thread_numbers};
 ghost use Rattle.hwp_check_causes.specs.Causing.{IsLast, is_last as is_last_of};
-ghost use Rattle.hwp_check_causes.specs.Knowing.{IsKnown, IsOwn, IsTold};
 ghost use Rattle.hwp_check_causes.specs.Plain.{is_plain as is_plain_of};
 ghost use Rattle.hwp_check_causes.specs.Telling.{is_by_entry as is_by_entry_of};
 
+use crate::case::Case;
 use crate::causes::{is_failure, is_offline, is_reply, is_unpoison};
-use crate::known::{ReportFacts, is_by_end, is_by_lines, is_by_state};
+use crate::known::{is_by_end, is_by_lines, is_by_state};
 use crate::plain::{is_kernels, is_plain};
 use crate::telling::is_by_entry;
-use hwp_check_evidence::Span;
-use hwp_check_poison::{MarkIndex, Results};
-use hwp_geom::{List, Thread, Who};
-use hwp_kill::Policy;
-use hwp_report_text::{Answer, Report};
-use hwp_script_read::{Command, Script};
-
-/// What is known of a report for the answers of one processor.
-#[derive(Drop)]
-pub struct ProcessorFacts {
-    /// The commands by which processes had ended in each page.
-    pub ends: Vec<List<u64>>,
-    /// The commands of the processor by which processes had ended.
-    pub ended: Vec<u64>,
-    /// Where its commands stand in the histories of pages.
-    pub spans: Vec<Span>,
-    /// The command at whose end a bank's event had poisoned some frame.
-    pub reported: u64,
-    /// What is kept of the records of frames for its commands.
-    pub past: MarkIndex,
-    /// What the marks of frames say of its commands.
-    pub results: Results,
-}
-
-/// What is known of one command.
-#[derive(Clone, Copy)]
-pub struct CommandFacts {
-    /// The policy of the command's thread before it.
-    pub old: Policy,
-    /// How many event lines it has.
-    pub events: u64,
-    /// Whether one of them stopped the machine, or was a panic.
-    pub ends: bool,
-}
+use hwp_check_rules::{Answer, Command, Thread};
 
 /// Whether an answer that names an entry is of that kind.
 fn names_entry(answer: &Answer) -> bool
@@ -95,102 +60,51 @@ fn small(thread: Thread)
 }
 
 /// Whether the answer is what a thread's policy, or a frame's record, says.
-fn is_last_right(
-    script: &Script,
-    report: &Report,
-    known: &ReportFacts,
-    own: &ProcessorFacts,
-    told: CommandFacts,
-    who: Who,
-    command: &Command,
-    answer: &Answer,
-) -> bool
-    requires known { IsKnown script.now report.now known.now }
-    requires own { IsOwn script.now report.now who.cpu own.now }
-    requires told { IsTold script.now report.now who command.now told }
-    ensures { IsTrue result ↔ IsLast script.now report.now who command.now answer.now }
+fn is_last_right(case: &Case<'_>, answer: &Answer) -> bool
+    ensures { IsTrue result ↔ IsLast case.now.script case.now.report case.now.who case.now.command answer.now }
 {
-    let ample = known.ample;
-    let past = &own.past;
-    let results = &own.results;
-    match *command {
+    match *case.command {
         Command::Prctl { thread, args } => {
             small(thread);
-            is_reply(told.old, &args, answer)
+            is_reply(case.told.old, &args, answer)
         }
         Command::Inject { frame } => {
-            script.layout.recovery && is_failure(report, past, results, who, frame, answer)
+            case.script.layout.recovery && is_failure(case, frame, answer)
         }
         Command::Soft { frame } => {
-            !is_kernels(&script.layout, frame)
-                && is_offline(script, report, ample, past, results, who, frame, answer)
+            !is_kernels(&case.script.layout, frame) && is_offline(case, frame, answer)
         }
-        Command::Unpoison { frame } => {
-            is_unpoison(report, own.reported, past, results, who, frame, answer)
-        }
+        Command::Unpoison { frame } => is_unpoison(case, frame, answer),
         _ => false,
     }
 }
 
 /// Whether an answer of a last kind has its cause.
-#[tactic(auto, using(crate::proofs::CauseLaws::caused_last, crate::proofs::CauseLaws::last_caused))]
-fn is_last(
-    script: &Script,
-    report: &Report,
-    known: &ReportFacts,
-    own: &ProcessorFacts,
-    told: CommandFacts,
-    who: Who,
-    command: &Command,
-    answer: &Answer,
-) -> bool
-    requires known { IsKnown script.now report.now known.now }
-    requires own { IsOwn script.now report.now who.cpu own.now }
-    requires told { IsTold script.now report.now who command.now told }
-    requires last { is_last_of command.now answer.now ≡ true }
-    ensures { IsTrue result ↔ IsCaused script.now report.now who command.now answer.now }
+fn is_last(case: &Case<'_>, answer: &Answer) -> bool
+    requires { is_last_of case.now.command answer.now ≡ true }
+    ensures { IsTrue result ↔ IsCaused case.now.script case.now.report case.now.who case.now.command answer.now }
 {
-    is_last_right(script, report, known, own, told, who, command, answer)
+    is_last_right(case, answer)
 }
 
 /// Whether an answer other than `stopped` has its cause.
-fn is_caused(
-    script: &Script,
-    report: &Report,
-    known: &ReportFacts,
-    own: &ProcessorFacts,
-    told: CommandFacts,
-    who: Who,
-    command: &Command,
-    answer: &Answer,
-) -> bool
-    requires known { IsKnown script.now report.now known.now }
-    requires own { IsOwn script.now report.now who.cpu own.now }
-    requires told { IsTold script.now report.now who command.now told }
-    requires goes_on { answer.now ≢ answers.Stopped }
-    ensures { IsTrue result ↔ IsCaused script.now report.now who command.now answer.now }
+fn is_caused(case: &Case<'_>, answer: &Answer) -> bool
+    requires { answer.now ≢ answers.Stopped }
+    ensures { IsTrue result ↔ IsCaused case.now.script case.now.report case.now.who case.now.command answer.now }
 {
     if names_entry(answer) {
-        return is_by_entry(script, report, who, command, answer);
+        return is_by_entry(case, answer);
     }
     if names_state(answer) {
-        return is_by_state(script, report, known, who, command, answer);
+        return is_by_state(case, answer);
     }
-    if speaks_plainly(command, answer) {
-        return is_plain(
-            script,
-            report,
-            known.ample,
-            told.events,
-            who,
-            command,
-            answer,
-        );
+    if speaks_plainly(case.command, answer) {
+        return is_plain(case, answer);
     }
     match *answer {
-        Answer::BadLines(mask, at) => is_by_lines(script, report, known, who, command, mask, at),
-        Answer::Gone(page) => is_by_end(script, report, own.ends.as_slice(), who, command, page),
-        _ => is_last(script, report, known, own, told, who, command, answer),
+        Answer::BadLines(mask, at) => is_by_lines(case, mask, at),
+        Answer::Gone(page) => is_by_end(case, page),
+        _ => is_last(case, answer),
     }
 }
 
@@ -202,36 +116,22 @@ fn is_stopped(answer: &Answer) -> bool
 }
 
 /// Whether the answer is `stopped` where one of the command's events stopped the machine, or was a panic.
-fn is_heeded(report: &Report, told: CommandFacts, who: Who, answer: &Answer) -> bool
-    requires { told.ends ≡ list_any ends_machine (events_of report.now who) }
-    ensures { IsTrue result ↔ IsHeeded report.now who answer.now }
+fn is_heeded(case: &Case<'_>, answer: &Answer) -> bool
+    ensures { IsTrue result ↔ IsHeeded case.now.report case.now.who answer.now }
 {
-    let _from = (report.count, who);
-    !told.ends || is_stopped(answer)
+    !case.told.ends || is_stopped(answer)
 }
 
 /// Whether the answer is right: `stopped` where one of the command's events stopped the machine, or was a panic, and with a cause
 /// that the report shows; that of `stopped` is the matter of the stop line.
-pub fn is_right(
-    script: &Script,
-    report: &Report,
-    known: &ReportFacts,
-    own: &ProcessorFacts,
-    told: CommandFacts,
-    who: Who,
-    command: &Command,
-    answer: &Answer,
-) -> bool
-    requires known { IsKnown script.now report.now known.now }
-    requires own { IsOwn script.now report.now who.cpu own.now }
-    requires told { IsTold script.now report.now who command.now told }
-    ensures { IsTrue result ↔ IsRight script.now report.now who command.now answer.now }
+pub fn is_right(case: &Case<'_>, answer: &Answer) -> bool
+    ensures { IsTrue result ↔ IsRight case.now.script case.now.report case.now.who case.now.command answer.now }
 {
-    if !is_heeded(report, told, who, answer) {
+    if !is_heeded(case, answer) {
         return false;
     }
     if is_stopped(answer) {
         return true;
     }
-    is_caused(script, report, known, own, told, who, command, answer)
+    is_caused(case, answer)
 }

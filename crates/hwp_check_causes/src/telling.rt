@@ -5,11 +5,10 @@ ghost use Rattle.hwp_check_evidence.specs.hwp_law.Places.{entry_at};
 ghost use Rattle.hwp_check_evidence.specs.hwp_law.States.{entry_named};
 ghost use Rattle.hwp_check_causes.specs.Telling.{HasOwnSigbus, IsDoneTo, IsLoadOf, IsSent, IsSigbusTo, IsStoreOf, IsStored, IsToldAt, IsValue, Tells, is_by_entry};
 
-use hwp_geom::{Line, List, Page, Thread, VSlot, Who};
-use hwp_kill::{Code, Signal};
-use hwp_page::{At, Entry, Met, What};
-use hwp_report_text::{Answer, Report};
-use hwp_script_read::{Command, Script};
+use crate::case::Case;
+use hwp_check_rules::{
+    Answer, At, Code, Command, Entry, Line, List, Met, Page, Signal, Thread, VSlot, What,
+};
 
 /// The entry at a place.
 pub(crate) fn entry_at(pages: &[List<Entry>], at: At) -> Option<&Entry>
@@ -172,11 +171,11 @@ fn tells(command: &Command, answer: &Answer, what: &What) -> bool
 }
 
 /// Whether such an entry of the command stands at the place.
-fn is_told_at(pages: &[List<Entry>], who: Who, command: &Command, answer: &Answer, at: At) -> bool
-    ensures { IsTrue result ↔ IsToldAt pages.now who command.now answer.now at }
+fn is_told_at(case: &Case<'_>, answer: &Answer, at: At) -> bool
+    ensures { IsTrue result ↔ IsToldAt case.now.report.pages case.now.who case.now.command answer.now at }
 {
-    match entry_at(pages, at) {
-        Some(entry) => entry.who == who && tells(command, answer, &entry.what),
+    match entry_at(case.report.pages.as_slice(), at) {
+        Some(entry) => entry.who == case.who && tells(case.command, answer, &entry.what),
         None => false,
     }
 }
@@ -196,18 +195,12 @@ pub(crate) fn named_entry(answer: &Answer) -> Option<At>
 }
 
 /// Whether an answer that names an entry, and doesn't tell of a frame that moved, has its cause.
-pub(crate) fn is_by_entry(
-    script: &Script,
-    report: &Report,
-    who: Who,
-    command: &Command,
-    answer: &Answer,
-) -> bool
+pub(crate) fn is_by_entry(case: &Case<'_>, answer: &Answer) -> bool
     requires { is_by_entry answer.now ≡ true }
-    ensures { IsTrue result ↔ IsCaused script.now report.now who command.now answer.now }
+    ensures { IsTrue result ↔ IsCaused case.now.script case.now.report case.now.who case.now.command answer.now }
 {
     match named_entry(answer) {
-        Some(at) => is_told_at(report.pages.as_slice(), who, command, answer, at),
+        Some(at) => is_told_at(case, answer, at),
         None => false,
     }
 }

@@ -4,7 +4,7 @@ use Rattle.std.specs.Int.{IsBitSet, bit_at}
 use Rattle.std.proofs.lemmas.Bool.{eq-eqb, eqb-true}
 use Rattle.std.proofs.lemmas.Nat.{bit_set_by_shift}
 use Rattle.std.proofs.lemmas.Nat.Bits.{bit_at-zero, shr_and_one}
-use Rattle.hwp_geom.specs.declared.Frame.{Frame}
+use Rattle.hwp_banks.specs.hwp_geom.declared.Frame.{Frame}
 use Rattle.hwp_banks.specs.Addresses.{frame_at, line_address}
 use Rattle.hwp_check_event_line.specs.Lines.{has_line}
 

@@ -1,6 +1,6 @@
 -- The first of the event lines of a command that isn't right at its place.
 use Rattle.std.specs.Prelude.{◌≡◌, ℕ, ◌<◌, Bool, true, false, List, Option, Some, None, MatchOption, slice_get}
-use Rattle.hwp_check_poison.specs.hwp_law.Lines.{EventLine}
+use Rattle.hwp_law.specs.Lines.{EventLine}
 
 -- each is right
 abbrev pub AreRight : (ℕ → EventLine → Type 0) → List EventLine → Type 0

@@ -1,19 +1,21 @@
 -- What the machine checks of a processor find in its banks. Between them bank 1 may hold raw events, and the others are empty.
 use Rattle.std.specs.Prelude.{◌≡◌, ℕ, ◌||◌, Bool, true, false, [], ◌∷◌, Option, Some, None, IsBitSet, MatchOption}
-use Rattle.hwp_geom.specs.declared.Frame.{Frame}
-use Rattle.hwp_geom.specs.declared.Who.{Who}
+use Rattle.hwp_banks.specs.hwp_geom.declared.Frame.{Frame}
+use Rattle.hwp_banks.specs.hwp_geom.declared.Who.{Who}
 use Rattle.hwp_banks.specs.Addresses.{frame_at}
 use Rattle.hwp_banks.specs.Logged.{stored}
 use Rattle.hwp_banks.specs.Events.{own_event}
 use Rattle.hwp_banks.specs.declared.Event.{Event}
 use Rattle.hwp_banks.specs.declared.Origin.{Origin}
 use Rattle.hwp_banks.specs.declared.Origin.TheVariants as origins
-use Rattle.hwp_script_read.specs.declared.Script.{Script}
-use Rattle.hwp_report_text.specs.declared.Report.{Report}
-use Rattle.hwp_check_poison.specs.hwp_law.Checks.{Banks, IsLineOf, is_stop, severity_of}
-use Rattle.hwp_check_poison.specs.hwp_law.Commands.{Arrival}
-use Rattle.hwp_check_poison.specs.hwp_law.Events.{raw_bank}
-use Rattle.hwp_check_poison.specs.hwp_law.Lines.{EventLine, bad_lines_of}
+use Rattle.hwp_law.specs.hwp_script_read.declared.Script.{Script}
+use Rattle.hwp_law.specs.hwp_report_text.declared.Report.{Report}
+use Rattle.hwp_law.specs.Checks.{IsLineOf}
+use Rattle.hwp_banks.specs.Banks.{Banks}
+use Rattle.hwp_law.specs.hwp_severity.Handling.{is_stop, severity_of}
+use Rattle.hwp_law.specs.hwp_severity.declared.Arrival.{Arrival}
+use Rattle.hwp_banks.specs.Banks.{raw_bank}
+use Rattle.hwp_law.specs.Lines.{EventLine, bad_lines_of}
 
 -- the banks of a processor between its machine checks
 abbrev pub resting : Option Event → Banks

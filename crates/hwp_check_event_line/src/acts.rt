@@ -1,16 +1,13 @@
 ghost use Rattle.std.specs.Prelude.{◌≡◌, ◌↔◌, ◌||◌, IsTrue};
-ghost use Rattle.hwp_check_poison.specs.hwp_law.Checks.{IsAct, IsFailureAct, IsLineOf, IsResult, is_panic};
-ghost use Rattle.hwp_check_poison.specs.hwp_law.Lines.{marks_of};
+ghost use Rattle.hwp_law.specs.Checks.{IsAct, IsFailureAct, IsLineOf, IsResult};
+ghost use Rattle.hwp_law.specs.Lines.{marks_of};
 ghost use Rattle.hwp_check_event_line.specs.Found.{IsRawLine, may_stop, stops};
-ghost use Rattle.hwp_check_event_line.specs.Told.{coming, told};
+ghost use Rattle.hwp_check_event_line.specs.Told.{told};
 
-use crate::shown::{Arrival, Shown};
+use crate::shown::Shown;
 use crate::traced::Traced;
 use hwp_banks::Event;
-use hwp_geom::Who;
-use hwp_report_text::Acted;
-use hwp_script_read::Script;
-use hwp_severity::{Severity, grade};
+use hwp_law::{Acted, Arrival, Script, Severity, Who, grade};
 
 /// Whether a failure of the frame came to this result by the command.
 #[tactic(auto, using(crate::proofs::ActLaws::result_is))]
@@ -68,16 +65,9 @@ fn is_act(
     }
 }
 
-/// Whether what was done about an event was a panic.
-pub fn is_panic(acted: Acted) -> bool
-    ensures { result ≡ is_panic acted }
-{
-    matches!(acted, Acted::Panic)
-}
-
 /// Whether an event would stop the machine in a machine check that arrives so.
 fn stops(how: Arrival, event: Event) -> bool
-    ensures { result ≡ stops (coming how) event }
+    ensures { result ≡ stops how event }
 {
     matches!(
         grade(event.status, how.mcg, how.mode).severity,
@@ -96,7 +86,7 @@ pub fn is_line_of(
     event: Event,
     line: &Shown,
 ) -> bool
-    ensures { IsTrue result ↔ IsLineOf script.now report.now who (coming how) held bank event (told line.now) }
+    ensures { IsTrue result ↔ IsLineOf script.now report.now who how held bank event (told line.now) }
 {
     let grade = grade(event.status, how.mcg, how.mode);
     line.bank == bank
@@ -117,7 +107,7 @@ pub fn is_line_of(
 
 /// Whether an event that there may be would stop the machine.
 pub fn may_stop(how: Arrival, event: Option<Event>) -> bool
-    ensures { result ≡ may_stop (coming how) event }
+    ensures { result ≡ may_stop how event }
 {
     match event {
         Some(event) => stops(how, event),
@@ -127,7 +117,7 @@ pub fn may_stop(how: Arrival, event: Option<Event>) -> bool
 
 /// Whether the own event or what is found beside it would stop the machine.
 pub fn has_stopper(how: Arrival, own: Event, beside: Option<Event>) -> bool
-    ensures { result ≡ (stops (coming how) own || may_stop (coming how) beside) }
+    ensures { result ≡ (stops how own || may_stop how beside) }
 {
     stops(how, own) || may_stop(how, beside)
 }
@@ -142,7 +132,7 @@ pub fn is_raw_line(
     raw: Option<Event>,
     line: &Shown,
 ) -> bool
-    ensures { IsTrue result ↔ IsRawLine script.now report.now who (coming how) held raw (told line.now) }
+    ensures { IsTrue result ↔ IsRawLine script.now report.now who how held raw (told line.now) }
 {
     match raw {
         Some(event) => is_line_of(script, report, who, how, held, 1, event, line),

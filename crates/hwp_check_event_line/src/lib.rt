@@ -9,8 +9,8 @@ mod records;
 mod shown;
 mod traced;
 
-pub use acts::{has_stopper, is_line_of, is_panic, is_raw_line, may_stop};
+pub use acts::{has_stopper, is_line_of, is_raw_line, may_stop};
 pub use faults::Faults;
 pub use lines::{bad_lines_of, has_line, is_bad_at};
-pub use shown::{Arrival, Shown};
+pub use shown::Shown;
 pub use traced::Traced;

@@ -2,18 +2,20 @@
 use Rattle.std.proofs.Common.{◌≡◌, ℕ, zero, suc, ◌+◌, ◌-◌, ◌<◌, ◌==◌, ◌&&◌, ◌||◌, Bool, true, false, cond, List, [], ◌∷◌, ◌++◌, Option, Some, None, MatchBool, is_some, length, slice_get, refl, sym, ap, ◌∙◌, subst, arith}
 use Rattle.std.proofs.lemmas.Bool.{MatchBool-at_false, MatchBool-at_true, and_from, and_left, and_right, cond-false, cond-true, eq-eqb, ne_eqb}
 use Rattle.std.proofs.lemmas.Option.{none-some, same_Some, slice_get_within}
-use Rattle.hwp_geom.specs.declared.Frame.{Frame}
-use Rattle.hwp_geom.specs.declared.Who.{Who}
+use Rattle.hwp_banks.specs.hwp_geom.declared.Frame.{Frame}
+use Rattle.hwp_banks.specs.hwp_geom.declared.Who.{Who}
 use Rattle.hwp_banks.specs.Events.{bank_of}
 use Rattle.hwp_banks.specs.declared.Event.{Event}
 use Rattle.hwp_banks.specs.declared.Origin.{Origin}
 use Rattle.hwp_banks.specs.declared.Origin.TheVariants as origins
-use Rattle.hwp_script_read.specs.declared.Script.{Script}
-use Rattle.hwp_report_text.specs.declared.Report.{Report}
-use Rattle.hwp_check_poison.specs.hwp_law.Checks.{AreLinesOf, Banks, IsCheck, IsLineOf, held_from, is_panic}
-use Rattle.hwp_check_poison.specs.hwp_law.Commands.{Arrival}
-use Rattle.hwp_check_poison.specs.hwp_law.Events.{AreAccessChecks, IsDamaged}
-use Rattle.hwp_check_poison.specs.hwp_law.Lines.{EventLine}
+use Rattle.hwp_law.specs.hwp_script_read.declared.Script.{Script}
+use Rattle.hwp_law.specs.hwp_report_text.declared.Report.{Report}
+use Rattle.hwp_law.specs.Checks.{AreLinesOf, IsCheck, IsLineOf}
+use Rattle.hwp_law.specs.hwp_report_text.Acts.{is_panic}
+use Rattle.hwp_banks.specs.Banks.{Banks, held_from}
+use Rattle.hwp_law.specs.hwp_severity.declared.Arrival.{Arrival}
+use Rattle.hwp_law.specs.Events.{AreAccessChecks, IsDamaged}
+use Rattle.hwp_law.specs.Lines.{EventLine}
 use Rattle.hwp_check_events.specs.Accesses.{Access, IsAccessLine, IsOwnLine, asked_by_access, asked_first, begins_in_panic}
 use Rattle.hwp_check_event_line.specs.Found.{IsRawLine, beside, has_stopper, of_access, own_found, resting}
 use Rattle.hwp_check_event_line.specs.Firsts.{AreRight}

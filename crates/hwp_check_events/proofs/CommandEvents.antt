@@ -3,22 +3,25 @@ use Rattle.std.proofs.Common.{◌≡◌, inl, inr, ℕ, zero, suc, ◌+◌, ◌-
 use Rattle.std.specs.Int.{from_bool}
 use Rattle.std.proofs.lemmas.Bool.{cases_lt}
 use Rattle.std.proofs.lemmas.Option.{none-some, same_Some, slice_get-get_or}
-use Rattle.hwp_geom.specs.declared.Frame.{Frame}
-use Rattle.hwp_geom.specs.declared.Who.{Who}
+use Rattle.hwp_banks.specs.hwp_geom.declared.Frame.{Frame}
+use Rattle.hwp_banks.specs.hwp_geom.declared.Who.{Who}
 use Rattle.hwp_banks.specs.declared.Event.{Event}
 use Rattle.hwp_banks.specs.declared.Origin.{Origin}
 use Rattle.hwp_banks.specs.declared.Origin.TheVariants as origins
-use Rattle.hwp_script_read.specs.declared.Command.{Command}
-use Rattle.hwp_script_read.specs.declared.Command.TheVariants as commands
-use Rattle.hwp_script_read.specs.declared.Script.{Script}
-use Rattle.hwp_report_text.specs.declared.Answer.{Answer}
-use Rattle.hwp_report_text.specs.declared.Answer.TheVariants as answers
-use Rattle.hwp_report_text.specs.declared.Report.{Report}
-use Rattle.hwp_check_poison.specs.hwp_law.Checks.{Banks, IsCheck, empty_banks}
-use Rattle.hwp_check_poison.specs.hwp_law.Commands.{Arrival, arrival_of}
-use Rattle.hwp_check_poison.specs.hwp_law.Events.{AreEventsOf, AreScrubbed, IsAccessChecked, IsDamaged, IsRaise, is_check, is_raised, logged_if_done, raw_event}
-use Rattle.hwp_check_poison.specs.hwp_law.Lines.{EventLine, answer_of}
-use Rattle.hwp_check_poison.specs.hwp_law.Pairings.{entries_of}
+use Rattle.hwp_law.specs.hwp_script_read.declared.Command.{Command}
+use Rattle.hwp_law.specs.hwp_script_read.declared.Command.TheVariants as commands
+use Rattle.hwp_law.specs.hwp_script_read.declared.Script.{Script}
+use Rattle.hwp_law.specs.hwp_report_text.declared.Answer.{Answer}
+use Rattle.hwp_law.specs.hwp_report_text.declared.Answer.TheVariants as answers
+use Rattle.hwp_law.specs.hwp_report_text.declared.Report.{Report}
+use Rattle.hwp_law.specs.Checks.{IsCheck}
+use Rattle.hwp_banks.specs.Banks.{Banks, empty_banks}
+use Rattle.hwp_law.specs.Commands.{arrival_of}
+use Rattle.hwp_law.specs.hwp_severity.declared.Arrival.{Arrival}
+use Rattle.hwp_law.specs.Events.{AreEventsOf, AreScrubbed, IsAccessChecked, IsDamaged, IsRaise, is_check, is_raised, logged_if_done}
+use Rattle.hwp_banks.specs.Banks.{raw_event}
+use Rattle.hwp_law.specs.Lines.{EventLine, answer_of}
+use Rattle.hwp_law.specs.Pairings.{entries_of}
 use Rattle.hwp_check_events.specs.Accesses.{IsAccessLine, IsRaisedLine, asked_by_access}
 use Rattle.hwp_check_event_line.specs.Firsts.{AreRight}
 use Rattle.hwp_check_event_line.specs.Found.{of_access, resting}

@@ -3,9 +3,9 @@ use Rattle.std.proofs.Common.{◌≡◌, ◌⊎◌, inl, inr, ℕ, zero, suc, �
 use Rattle.std.proofs.lemmas.Bool.{cases_eq, eq-eqb, ne_eqb}
 use Rattle.std.proofs.lemmas.List.{append_assoc, get_or-set_other, get_or-set_same, length-replicate, length-set, length-take-le, take_all, take_more}
 use Rattle.std.proofs.lemmas.Option.{get_or_from_slice_get, none-some, same_Some, slice_get-get_or, slice_get_within}
-use Rattle.hwp_report_text.specs.declared.CpuLine.{CpuLine}
-use Rattle.hwp_report_text.specs.declared.CpuLine.TheVariants as lines
-use Rattle.hwp_check_poison.specs.hwp_law.Lines.{EventLine, events_among}
+use Rattle.hwp_law.specs.hwp_report_text.declared.CpuLine.{CpuLine}
+use Rattle.hwp_law.specs.hwp_report_text.declared.CpuLine.TheVariants as lines
+use Rattle.hwp_law.specs.Lines.{EventLine, events_among}
 use Rattle.hwp_check_events.specs.Indexed.{AreShown, own_shown, shown_at, shown_from, with_shown}
 use Rattle.hwp_check_event_line.specs.Told.{told}
 use Rattle.hwp_check_event_line.specs.declared.Shown.{Shown}

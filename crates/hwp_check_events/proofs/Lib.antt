@@ -13,5 +13,3 @@ mod TableLaws
 mod WalkLaws
 mod WalkSteps
 pub mod Verdicts
-pub use Rattle.hwp_check_event_line.proofs as of_hwp_check_event_line
-pub use Rattle.hwp_check_poison.proofs.of_hwp_law as of_hwp_law

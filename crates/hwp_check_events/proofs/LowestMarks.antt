@@ -3,23 +3,23 @@ use Rattle.std.proofs.Common.{◌≡◌, ◌⊎◌, inl, inr, ℕ, zero, suc, �
 use Rattle.std.specs.Option.{option_and_then}
 use Rattle.std.proofs.lemmas.Bool.{cases_lt, eq-eqb, eqb-true, true≢false}
 use Rattle.std.proofs.lemmas.Option.{none-some, same_Some}
-use Rattle.hwp_geom.specs.Limits.{line_limit}
-use Rattle.hwp_geom.specs.declared.Cpu.{Cpu}
-use Rattle.hwp_geom.specs.declared.Frame.{Frame}
-use Rattle.hwp_geom.specs.declared.Who.{Who}
+use Rattle.hwp_banks.specs.hwp_geom.Limits.{line_limit}
+use Rattle.hwp_banks.specs.hwp_geom.declared.Cpu.{Cpu}
+use Rattle.hwp_banks.specs.hwp_geom.declared.Frame.{Frame}
+use Rattle.hwp_banks.specs.hwp_geom.declared.Who.{Who}
 use Rattle.hwp_banks.specs.declared.Origin.{Origin}
 use Rattle.hwp_banks.specs.declared.Origin.TheVariants as origins
-use Rattle.hwp_page.specs.Orders.{IsEarlier}
-use Rattle.hwp_script_read.specs.declared.Command.{Command}
-use Rattle.hwp_script_read.specs.declared.Command.TheVariants as commands
-use Rattle.hwp_script_read.specs.declared.Script.{Script}
-use Rattle.hwp_report_text.specs.declared.Answer.{Answer}
-use Rattle.hwp_report_text.specs.declared.Answer.TheVariants as answers
-use Rattle.hwp_report_text.specs.declared.Report.{Report}
-use Rattle.hwp_check_poison.specs.hwp_law.Events.{MeetsMarked, marking}
-use Rattle.hwp_check_poison.specs.hwp_law.Lines.{answer_of}
-use Rattle.hwp_check_poison.specs.hwp_law.Places.{command_at}
-use Rattle.hwp_check_poison.specs.hwp_law.Policies.{commands_before}
+use Rattle.hwp_law.specs.hwp_page.Orders.{IsEarlier}
+use Rattle.hwp_law.specs.hwp_script_read.declared.Command.{Command}
+use Rattle.hwp_law.specs.hwp_script_read.declared.Command.TheVariants as commands
+use Rattle.hwp_law.specs.hwp_script_read.declared.Script.{Script}
+use Rattle.hwp_law.specs.hwp_report_text.declared.Answer.{Answer}
+use Rattle.hwp_law.specs.hwp_report_text.declared.Answer.TheVariants as answers
+use Rattle.hwp_law.specs.hwp_report_text.declared.Report.{Report}
+use Rattle.hwp_law.specs.Events.{MeetsMarked, marking}
+use Rattle.hwp_law.specs.Lines.{answer_of}
+use Rattle.hwp_law.specs.Places.{command_at}
+use Rattle.hwp_law.specs.Policies.{commands_before}
 use Rattle.hwp_check_events.specs.Misfits.{is_scrubbed, low_of}
 use Rattle.hwp_check_scrub.specs.Scrubs.{lowest, marked_at, place_of}
 use Rattle.hwp_check_scrub.proofs.ScrubForth.{MeetsLow}

@@ -1,20 +1,20 @@
 -- The line of an own event of a machine check of an access: the frame that its address says decides, or any that is bad there.
 use Rattle.std.proofs.Common.{◌≡◌, ◌⊎◌, ◌↔◌, inl, inr, ℕ, ◌<◌, ◌||◌, Bool, true, Option, Some, None, true≢false, refl, sym, ap, ◌∙◌, subst}
 use Rattle.std.specs.Int.{IsBitSet}
-use Rattle.hwp_geom.specs.declared.Frame.{Frame}
-use Rattle.hwp_geom.specs.declared.Who.{Who}
+use Rattle.hwp_banks.specs.hwp_geom.declared.Frame.{Frame}
+use Rattle.hwp_banks.specs.hwp_geom.declared.Who.{Who}
 use Rattle.hwp_banks.specs.Addresses.{frame_at, line_address}
 use Rattle.hwp_banks.specs.Events.{bank_of, own_event}
 use Rattle.hwp_banks.specs.Logged.{Class, Corrected, Uncorrected, Fatal, class_of, overwritten}
 use Rattle.hwp_banks.specs.declared.Event.{Event}
 use Rattle.hwp_banks.specs.declared.Origin.{Origin}
 use Rattle.hwp_banks.specs.declared.Origin.TheVariants as origins
-use Rattle.hwp_script_read.specs.declared.Script.{Script}
-use Rattle.hwp_report_text.specs.declared.Report.{Report}
-use Rattle.hwp_check_poison.specs.hwp_law.Checks.{IsLineOf}
-use Rattle.hwp_check_poison.specs.hwp_law.Commands.{Arrival}
-use Rattle.hwp_check_poison.specs.hwp_law.Events.{IsDamaged}
-use Rattle.hwp_check_poison.specs.hwp_law.Lines.{EventLine, bad_lines_of}
+use Rattle.hwp_law.specs.hwp_script_read.declared.Script.{Script}
+use Rattle.hwp_law.specs.hwp_report_text.declared.Report.{Report}
+use Rattle.hwp_law.specs.Checks.{IsLineOf}
+use Rattle.hwp_law.specs.hwp_severity.declared.Arrival.{Arrival}
+use Rattle.hwp_law.specs.Events.{IsDamaged}
+use Rattle.hwp_law.specs.Lines.{EventLine, bad_lines_of}
 use Rattle.hwp_check_events.specs.Accesses.{IsOwnLine}
 use Rattle.hwp_check_event_line.specs.Found.{IsCandidate, beside, has_stopper, may_stop, of_access, own_found, stops}
 use Rattle.hwp_check_event_line.proofs.FoundLaws.{same-stop}

@@ -1,15 +1,15 @@
 -- The event lines of a processor are those that the law asks exactly where those of each command are right and none lacks.
 use Rattle.std.proofs.Common.{◌≡◌, ◌↔◌, ℕ, zero, suc, ◌+◌, List, [], ◌∷◌, Option, Some, None, slice_get, take, unwrap_or, refl, sym, ap, subst, arith}
 use Rattle.std.proofs.lemmas.Option.{none-some, same_Some}
-use Rattle.hwp_geom.specs.declared.Cpu.{Cpu}
-use Rattle.hwp_geom.specs.declared.Who.{Who}
+use Rattle.hwp_banks.specs.hwp_geom.declared.Cpu.{Cpu}
+use Rattle.hwp_banks.specs.hwp_geom.declared.Who.{Who}
 use Rattle.hwp_banks.specs.declared.Event.{Event}
-use Rattle.hwp_script_read.specs.declared.Command.{Command}
-use Rattle.hwp_script_read.specs.declared.Script.{Script}
-use Rattle.hwp_report_text.specs.declared.Report.{Report}
-use Rattle.hwp_check_poison.specs.hwp_law.Checks.{empty_banks}
-use Rattle.hwp_check_poison.specs.hwp_law.Events.{AreEventsFrom}
-use Rattle.hwp_check_poison.specs.hwp_law.Lines.{events_of}
+use Rattle.hwp_law.specs.hwp_script_read.declared.Command.{Command}
+use Rattle.hwp_law.specs.hwp_script_read.declared.Script.{Script}
+use Rattle.hwp_law.specs.hwp_report_text.declared.Report.{Report}
+use Rattle.hwp_banks.specs.Banks.{empty_banks}
+use Rattle.hwp_law.specs.Events.{AreEventsFrom}
+use Rattle.hwp_law.specs.Lines.{events_of}
 use Rattle.hwp_check_event_line.specs.Found.{resting}
 use Rattle.hwp_check_events.specs.Misfits.{AreTold, IsFit, IsTold, found_by, leaves, left_by}
 use Rattle.hwp_check_events.proofs.LowestMarks.{HasLines}

@@ -1,16 +1,17 @@
 -- The event lines that the machine checks of an access ask, and the one line of a machine check that is raised.
 use Rattle.std.specs.Prelude.{◌≡◌, ℕ, ◌+◌, ◌-◌, ◌<◌, ◌==◌, ◌&&◌, ◌||◌, Bool, false, cond, List, [], ◌∷◌, Option, None, MatchBool, is_some}
-use Rattle.hwp_geom.specs.declared.Frame.{Frame}
-use Rattle.hwp_geom.specs.declared.Who.{Who}
+use Rattle.hwp_banks.specs.hwp_geom.declared.Frame.{Frame}
+use Rattle.hwp_banks.specs.hwp_geom.declared.Who.{Who}
 use Rattle.hwp_banks.specs.Events.{bank_of}
 use Rattle.hwp_banks.specs.declared.Event.{Event}
 use Rattle.hwp_banks.specs.declared.Origin.{Origin}
-use Rattle.hwp_script_read.specs.declared.Script.{Script}
-use Rattle.hwp_report_text.specs.declared.Report.{Report}
-use Rattle.hwp_check_poison.specs.hwp_law.Checks.{IsLineOf, is_panic}
-use Rattle.hwp_check_poison.specs.hwp_law.Commands.{Arrival}
-use Rattle.hwp_check_poison.specs.hwp_law.Events.{IsDamaged}
-use Rattle.hwp_check_poison.specs.hwp_law.Lines.{EventLine}
+use Rattle.hwp_law.specs.hwp_script_read.declared.Script.{Script}
+use Rattle.hwp_law.specs.hwp_report_text.declared.Report.{Report}
+use Rattle.hwp_law.specs.Checks.{IsLineOf}
+use Rattle.hwp_law.specs.hwp_report_text.Acts.{is_panic}
+use Rattle.hwp_law.specs.hwp_severity.declared.Arrival.{Arrival}
+use Rattle.hwp_law.specs.Events.{IsDamaged}
+use Rattle.hwp_law.specs.Lines.{EventLine}
 use Rattle.hwp_check_event_line.specs.Found.{IsRawLine, beside, has_stopper, may_stop, own_found}
 use Rattle.hwp_check_events.specs.declared.known.Checks.{Checks}
 

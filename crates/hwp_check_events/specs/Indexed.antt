@@ -1,13 +1,13 @@
 -- The event lines of each command of a processor, and its first answer, by the processor's lines.
 use Rattle.std.specs.Prelude.{◌≡◌, ℕ, ◌+◌, ◌^◌, ◌<◌, ◌==◌, ◌&&◌, cond, List, [], ◌∷◌, ◌++◌, Option, Some, None, count_by, length, slice_get, slice_index_or, slice_set, sum_by}
-use Rattle.hwp_geom.specs.declared.Cpu.{Cpu}
-use Rattle.hwp_geom.specs.declared.Who.{Who}
-use Rattle.hwp_page.specs.declared.Entry.{Entry}
-use Rattle.hwp_report_text.specs.declared.Answer.{Answer}
-use Rattle.hwp_report_text.specs.declared.CpuLine.{CpuLine}
-use Rattle.hwp_report_text.specs.declared.CpuLine.TheVariants as lines
-use Rattle.hwp_check_poison.specs.hwp_law.Events.{is_check}
-use Rattle.hwp_check_poison.specs.hwp_law.Lines.{answer_among, is_same_command}
+use Rattle.hwp_banks.specs.hwp_geom.declared.Cpu.{Cpu}
+use Rattle.hwp_banks.specs.hwp_geom.declared.Who.{Who}
+use Rattle.hwp_law.specs.hwp_page.declared.Entry.{Entry}
+use Rattle.hwp_law.specs.hwp_report_text.declared.Answer.{Answer}
+use Rattle.hwp_law.specs.hwp_report_text.declared.CpuLine.{CpuLine}
+use Rattle.hwp_law.specs.hwp_report_text.declared.CpuLine.TheVariants as lines
+use Rattle.hwp_law.specs.Events.{is_check}
+use Rattle.hwp_law.specs.Lines.{answer_among, is_same_command}
 use Rattle.hwp_check_event_line.specs.declared.Shown.{Shown}
 
 -- the event that a line shows, which stands at this place

@@ -1,18 +1,18 @@
 -- What is said of the event lines of a command.
 use Rattle.std.specs.Prelude.{◌≡◌, ℕ, ◌<◌, ◌==◌, cond, List, Option, None, MatchBool, length, slice_index_or}
-use Rattle.hwp_geom.specs.Limits.{line_limit}
-use Rattle.hwp_geom.specs.declared.Frame.{Frame}
-use Rattle.hwp_geom.specs.declared.Who.{Who}
+use Rattle.hwp_banks.specs.hwp_geom.Limits.{line_limit}
+use Rattle.hwp_banks.specs.hwp_geom.declared.Frame.{Frame}
+use Rattle.hwp_banks.specs.hwp_geom.declared.Who.{Who}
 use Rattle.hwp_banks.specs.declared.Event.{Event}
 use Rattle.hwp_banks.specs.declared.Origin.{Origin}
-use Rattle.hwp_script_read.specs.declared.Command.{Command}
-use Rattle.hwp_script_read.specs.declared.Script.{Script}
-use Rattle.hwp_report_text.specs.declared.Report.{Report}
-use Rattle.hwp_check_poison.specs.hwp_law.Commands.{Arrival}
-use Rattle.hwp_check_poison.specs.hwp_law.Events.{is_check}
-use Rattle.hwp_check_poison.specs.hwp_law.Lines.{EventLine}
-use Rattle.hwp_check_poison.specs.hwp_law.Pairings.{entries_of}
-use Rattle.hwp_check_poison.specs.hwp_law.Policies.{commands_before}
+use Rattle.hwp_law.specs.hwp_script_read.declared.Command.{Command}
+use Rattle.hwp_law.specs.hwp_script_read.declared.Script.{Script}
+use Rattle.hwp_law.specs.hwp_report_text.declared.Report.{Report}
+use Rattle.hwp_law.specs.hwp_severity.declared.Arrival.{Arrival}
+use Rattle.hwp_law.specs.Events.{is_check}
+use Rattle.hwp_law.specs.Lines.{EventLine}
+use Rattle.hwp_law.specs.Pairings.{entries_of}
+use Rattle.hwp_law.specs.Policies.{commands_before}
 use Rattle.hwp_check_events.specs.Accesses.{IsAccessLine, asked_by_access}
 use Rattle.hwp_check_event_line.specs.Firsts.{IsScanned}
 use Rattle.hwp_check_events.specs.Misfits.{IsRightLine, Lacks, access_of, course_of, leaves}

@@ -4,4 +4,3 @@ pub mod Judged
 pub mod Indexed
 pub mod Walked
 pub use Rattle.hwp_check_event_line.specs as hwp_check_event_line
-pub use Rattle.hwp_check_poison.specs.hwp_law as hwp_law

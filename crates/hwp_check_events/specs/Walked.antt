@@ -1,15 +1,15 @@
 -- What is wrong about the event lines of a processor, over its first commands.
 use Rattle.std.specs.Prelude.{◌≡◌, ℕ, ◌+◌, ◌*◌, ◌<◌, ◌≤◌, min, ◌||◌, ◌&&◌, Bool, not, List, [], Option, Some, None, is_none, MatchBool, MatchOption, length, option_map, slice_get, slice_index_or, slice_set, unwrap_or}
-use Rattle.hwp_geom.specs.Limits.{line_limit}
-use Rattle.hwp_geom.specs.declared.Cpu.{Cpu}
-use Rattle.hwp_script_read.specs.declared.Command.{Command}
-use Rattle.hwp_script_read.specs.declared.Command.TheVariants as commands
-use Rattle.hwp_script_read.specs.declared.Script.{Script}
-use Rattle.hwp_report_text.specs.declared.CpuLine.{CpuLine}
-use Rattle.hwp_report_text.specs.declared.Report.{Report}
-use Rattle.hwp_check_poison.specs.hwp_law.Checks.{empty_banks}
-use Rattle.hwp_check_poison.specs.hwp_law.Events.{AreEventsFrom}
-use Rattle.hwp_check_poison.specs.hwp_law.Lines.{events_of}
+use Rattle.hwp_banks.specs.hwp_geom.Limits.{line_limit}
+use Rattle.hwp_banks.specs.hwp_geom.declared.Cpu.{Cpu}
+use Rattle.hwp_law.specs.hwp_script_read.declared.Command.{Command}
+use Rattle.hwp_law.specs.hwp_script_read.declared.Command.TheVariants as commands
+use Rattle.hwp_law.specs.hwp_script_read.declared.Script.{Script}
+use Rattle.hwp_law.specs.hwp_report_text.declared.CpuLine.{CpuLine}
+use Rattle.hwp_law.specs.hwp_report_text.declared.Report.{Report}
+use Rattle.hwp_banks.specs.Banks.{empty_banks}
+use Rattle.hwp_law.specs.Events.{AreEventsFrom}
+use Rattle.hwp_law.specs.Lines.{events_of}
 use Rattle.hwp_check_event_line.specs.Firsts.{AreRight}
 use Rattle.hwp_check_events.specs.Indexed.{shown_from}
 use Rattle.hwp_check_events.specs.Misfits.{IsRightLine, IsWrong, Lacks, found_by}

@@ -1,18 +1,14 @@
 ghost use Rattle.std.specs.Prelude.{◌≡◌, ◌↔◌, ◌<◌, ◌≤◌, ◌+◌, ◌^◌, ◌||◌, ℕ, true, None, IsTrue, IsBitSet, MatchOption, length, map};
-ghost use Rattle.hwp_check_poison.specs.hwp_law.Checks.{is_panic};
-ghost use Rattle.hwp_check_poison.specs.hwp_law.Lines.{bad_lines_of};
+ghost use Rattle.hwp_law.specs.Lines.{bad_lines_of};
 ghost use Rattle.hwp_check_event_line.specs.Firsts.{IsScanned};
 ghost use Rattle.hwp_check_event_line.specs.Found.{IsCandidate, beside, may_stop, of_access, own_found, stops};
-ghost use Rattle.hwp_check_event_line.specs.Told.{coming, told};
+ghost use Rattle.hwp_check_event_line.specs.Told.{told};
 ghost use Rattle.hwp_check_events.specs.Accesses.{IsAccessLine, IsOwnLine, access_by, asked_by_access, begins_in_panic};
 
 use crate::known::Checks;
 use hwp_banks::{Bank, Event, Origin};
-use hwp_check_event_line::{
-    Arrival, Shown, Traced, has_stopper, is_bad_at, is_line_of, is_panic, is_raw_line,
-};
-use hwp_geom::{Frame, Line, Who};
-use hwp_script_read::Script;
+use hwp_check_event_line::{Shown, Traced, has_stopper, is_bad_at, is_line_of, is_raw_line};
+use hwp_law::{Arrival, Frame, Line, Script, Who};
 
 /// The lowest frame that is bad at a line.
 fn first_bad(report: &Traced<'_>, at: Line) -> Option<Frame>
@@ -70,7 +66,7 @@ fn beside(origin: Origin, raw: Option<Event>) -> Option<Event>
 
 /// Whether failures are held back in the second line of an access's first machine check.
 fn is_held(how: Arrival, checks: &Checks, beside: Option<Event>, lines: &[Shown]) -> bool
-    ensures { result ≡ ((stops (coming how) (own_found checks.now.origin None (record { 0 = 0 }) checks.now.at) || may_stop (coming how) beside) || begins_in_panic (map told lines.now)) }
+    ensures { result ≡ ((stops how (own_found checks.now.origin None (record { 0 = 0 }) checks.now.at) || may_stop how beside) || begins_in_panic (map told lines.now)) }
 {
     let own = own_found(checks.origin, &mut Bank::new(), Frame(0), checks.at);
     has_stopper(how, own, beside) || begins_in_panic(lines)
@@ -89,7 +85,7 @@ fn is_own_line(
 ) -> bool
     requires access { of_access checks.now.origin ≡ true }
     requires frames { length report.now.frames ≤ 65536 }
-    ensures { IsTrue result ↔ IsOwnLine script.now report.now who (coming how) checks.now.origin checks.now.at raw.old (told line.now) }
+    ensures { IsTrue result ↔ IsOwnLine script.now report.now who how checks.now.origin checks.now.at raw.old (told line.now) }
 {
     match candidate(report, checks.at, line.addr) {
         Some(frame) => {
@@ -108,7 +104,7 @@ fn begins_in_panic(lines: &[Shown]) -> bool
     ensures { result ≡ begins_in_panic (map told lines.now) }
 {
     match lines.first() {
-        Some(line) => is_panic(line.acted),
+        Some(line) => line.acted.is_panic(),
         None => false,
     }
 }
@@ -142,7 +138,7 @@ fn is_first_line(
     requires access { of_access checks.now.origin ≡ true }
     requires frames { length report.now.frames ≤ 65536 }
     requires few { checks.now.count + 1 < 2 ^ 64 }
-    ensures first { IsTrue result ↔ ((0 < asked_by_access (access_by checks.now raw.old)) × IsOwnLine script.now report.now who (coming how) checks.now.origin checks.now.at raw.old (told line.now)) }
+    ensures first { IsTrue result ↔ ((0 < asked_by_access (access_by checks.now raw.old)) × IsOwnLine script.now report.now who how checks.now.origin checks.now.at raw.old (told line.now)) }
     ensures kept { checks.now.count ≡ 0 → raw.new ≡ raw.old }
 {
     asked_by_access(checks, raw.get()) > 0
@@ -165,7 +161,7 @@ fn is_later_line(
     requires frames { length report.now.frames ≤ 65536 }
     requires few { checks.now.count + 1 < 2 ^ 64 }
     requires later { 0 < number }
-    ensures { IsTrue result ↔ IsAccessLine script.now report.now who (coming how) (access_by checks.now raw) (map told lines.now) number (told line.now) }
+    ensures { IsTrue result ↔ IsAccessLine script.now report.now who how (access_by checks.now raw) (map told lines.now) number (told line.now) }
 {
     if number as u64 >= asked_by_access(checks, raw) {
         return false;
@@ -191,7 +187,7 @@ pub(crate) fn access_wrong(
     requires access { of_access checks.now.origin ≡ true }
     requires frames { length report.now.frames ≤ 65536 }
     requires few { checks.now.count + 1 < 2 ^ 64 }
-    ensures scanned { IsScanned (IsAccessLine script.now report.now who (coming how) (access_by checks.now raw.old) (map told lines.now)) (map told lines.now) result }
+    ensures scanned { IsScanned (IsAccessLine script.now report.now who how (access_by checks.now raw.old) (map told lines.now)) (map told lines.now) result }
     ensures kept { checks.now.count ≡ 0 → raw.new ≡ raw.old }
 {
     let held = raw.get();

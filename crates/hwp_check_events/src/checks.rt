@@ -1,10 +1,8 @@
 ghost use Rattle.std.specs.Prelude.{◌≡◌, ◌<◌, ◌^◌, ◌++◌, ◌∷◌, [], cond, length, sum_by, IfOk, OnOk};
-ghost use Rattle.hwp_check_poison.specs.hwp_law.Events.{is_check};
+ghost use Rattle.hwp_law.specs.Events.{is_check};
 ghost use Rattle.hwp_check_events.specs.Indexed.{AreAdded, AreChecks, AreFew, all_checkers, checker, checks_by, page_checkers, with_check};
 
-use hwp_geom::{Cpu, List, OutOfMemory, Who};
-use hwp_page::{Entry, What};
-use hwp_report_text::Report;
+use hwp_law::{Cpu, Entry, List, OutOfMemory, Report, What, Who};
 use std::alloc::Global;
 
 /// Whether the entry is a machine check of an access.

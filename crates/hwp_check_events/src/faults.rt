@@ -1,18 +1,16 @@
 ghost use Rattle.std.specs.Prelude.{◌≡◌, ◌≤◌, ◌+◌, ◌<◌, ◌==◌, ◌^◌, true, None, cond, nat_lt, is_some, length, map, MatchBool};
 ghost use Rattle.std.specs.Int.{from_bool};
-ghost use Rattle.hwp_check_poison.specs.hwp_law.Events.{is_raised};
+ghost use Rattle.hwp_law.specs.Events.{is_raised};
 ghost use Rattle.hwp_check_event_line.specs.Firsts.{IsScanned};
 ghost use Rattle.hwp_check_event_line.specs.Found.{of_access};
-ghost use Rattle.hwp_check_event_line.specs.Told.{coming, told};
+ghost use Rattle.hwp_check_event_line.specs.Told.{told};
 ghost use Rattle.hwp_check_events.specs.Accesses.{IsAccessLine, IsRaisedLine, access_by, asked_by_access};
 
 use crate::accesses::{access_wrong, asked_by_access};
 use crate::known::Checks;
 use hwp_banks::{Bank, Event};
-use hwp_check_event_line::{Arrival, Faults, Shown, Traced, is_raw_line, may_stop};
-use hwp_geom::Who;
-use hwp_report_text::Answer;
-use hwp_script_read::Script;
+use hwp_check_event_line::{Faults, Shown, Traced, is_raw_line, may_stop};
+use hwp_law::{Answer, Arrival, Script, Who};
 
 /// The first line where none is asked.
 pub(crate) fn any(lines: &[Shown]) -> Option<usize>
@@ -34,7 +32,7 @@ pub(crate) fn access_faults(
     requires access { of_access checks.now.origin ≡ true }
     requires frames { length report.now.frames ≤ 65536 }
     requires few { checks.now.count + 1 < 2 ^ 64 }
-    ensures scanned { IsScanned (IsAccessLine script.now report.now who (coming how) (access_by checks.now raw.old) (map told lines.now)) (map told lines.now) result.wrong }
+    ensures scanned { IsScanned (IsAccessLine script.now report.now who how (access_by checks.now raw.old) (map told lines.now)) (map told lines.now) result.wrong }
     ensures lacks { result.lacks ≡ nat_lt (length lines.now) (asked_by_access (access_by checks.now raw.old)) }
     ensures left { raw.new ≡ cond (checks.now.count == 0) raw.old None }
 {
@@ -69,7 +67,7 @@ fn raise_wrong(
     raw: Option<Event>,
     lines: &[Shown],
 ) -> Option<usize>
-    ensures { IsScanned (IsRaisedLine script.now report.now who (coming how) raw) (map told lines.now) result }
+    ensures { IsScanned (IsRaisedLine script.now report.now who how raw) (map told lines.now) result }
 {
     if lines.is_empty() {
         return None;
@@ -91,7 +89,7 @@ pub(crate) fn raise_faults(
     raw: &mut Bank,
     lines: &[Shown],
 ) -> Faults
-    ensures scanned { IsScanned (λ number line. MatchBool (is_raised answer (map told lines.now)) (IsRaisedLine script.now report.now who (coming how) raw.old number line) ⊥) (map told lines.now) result.wrong }
+    ensures scanned { IsScanned (λ number line. MatchBool (is_raised answer (map told lines.now)) (IsRaisedLine script.now report.now who how raw.old number line) ⊥) (map told lines.now) result.wrong }
     ensures lacks { result.lacks ≡ nat_lt (length lines.now) (cond (is_raised answer (map told lines.now)) (from_bool (is_some raw.old)) 0) }
     ensures left { raw.new ≡ cond (is_raised answer (map told lines.now)) None raw.old }
 {

@@ -2,8 +2,7 @@ ghost use Rattle.std.specs.Prelude.{◌≡◌, [], replicate, IfOk, OnOk};
 ghost use Rattle.hwp_check_events.specs.Indexed.{AreFirst, AreShown, first_answer, shown_at, with_answer, with_shown};
 
 use hwp_check_event_line::Shown;
-use hwp_geom::{List, OutOfMemory};
-use hwp_report_text::{Answer, CpuLine};
+use hwp_law::{Answer, CpuLine, List, OutOfMemory};
 use std::alloc::Global;
 
 /// The event that a line shows, which stands at this place.

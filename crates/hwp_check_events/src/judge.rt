@@ -1,27 +1,24 @@
 ghost use Rattle.std.specs.Prelude.{◌≡◌, ◌≤◌, ◌+◌, ◌<◌, ◌^◌, true, false, length, map};
-ghost use Rattle.hwp_check_poison.specs.hwp_law.Commands.{arrival_of};
-ghost use Rattle.hwp_check_poison.specs.hwp_law.Events.{is_check};
-ghost use Rattle.hwp_check_poison.specs.hwp_law.Lines.{answer_of};
-ghost use Rattle.hwp_check_poison.specs.hwp_law.Pairings.{entries_of};
+ghost use Rattle.hwp_law.specs.Commands.{arrival_of};
+ghost use Rattle.hwp_law.specs.Events.{is_check};
+ghost use Rattle.hwp_law.specs.Lines.{answer_of};
+ghost use Rattle.hwp_law.specs.Pairings.{entries_of};
 ghost use Rattle.hwp_check_event_line.specs.Firsts.{IsScanned};
 ghost use Rattle.hwp_check_event_line.specs.Found.{of_access};
-ghost use Rattle.hwp_check_event_line.specs.Told.{coming, told};
+ghost use Rattle.hwp_check_event_line.specs.Told.{told};
 ghost use Rattle.hwp_check_events.specs.Judged.{IsAccessJudged, IsJudged, IsScrubJudged, IsTable};
 ghost use Rattle.hwp_check_events.specs.Misfits.{IsFit, is_scrubbed, logged_if};
 
 use crate::faults::{access_faults, any, raise_faults};
 use crate::known::{Checks, Known};
 use hwp_banks::{Bank, Event, Origin, Status};
-use hwp_check_event_line::{Arrival, Faults, Shown, Traced};
+use hwp_check_event_line::{Faults, Shown, Traced};
 use hwp_check_scrub::scrub_faults;
-use hwp_geom::{Frame, Line, Mode, Who};
-use hwp_report_text::Answer;
-use hwp_script_read::{Command, Script};
-use hwp_severity::McgBits;
+use hwp_law::{Answer, Arrival, Command, Frame, Line, McgBits, Mode, Script, Who};
 
 /// How the machine checks of a command arrive.
 fn arrival_of(command: &Command) -> Arrival
-    ensures { coming result ≡ arrival_of command.now }
+    ensures { result ≡ arrival_of command.now }
 {
     let (ripv, eipv, mode) = match command {
         Command::KLoad { .. } | Command::Scrub { .. } => (true, true, Mode::Kernel),
@@ -89,7 +86,7 @@ fn judge_access(
     requires frames { length report.now.frames ≤ 65536 }
     requires few { known.now.checks + 1 < 2 ^ 64 }
     requires checks { known.now.checks ≡ entries_of report.now who is_check }
-    ensures { IsAccessJudged script.now report.now who (coming how) origin at raw.old raw.new (map told lines.now) result }
+    ensures { IsAccessJudged script.now report.now who how origin at raw.old raw.new (map told lines.now) result }
 {
     let checks = checks_of(origin, at, known);
     access_faults(script, report, who, how, &checks, raw, lines)
@@ -111,7 +108,7 @@ fn judge_scrub(
     requires answer { known.now.answer ≡ answer_of report.now who }
     requires table { IsTable script.now who table.now }
     requires fit { first.0 ≤ last.0 }
-    ensures { IsScrubJudged script.now report.now who (coming how) first last raw.old raw.new (map told lines.now) result }
+    ensures { IsScrubJudged script.now report.now who how first last raw.old raw.new (map told lines.now) result }
 {
     let whole = is_scrubbed(known.answer);
     scrub_faults(

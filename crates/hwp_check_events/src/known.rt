@@ -1,6 +1,5 @@
 use hwp_banks::Origin;
-use hwp_geom::Line;
-use hwp_report_text::Answer;
+use hwp_law::{Answer, Line};
 
 /// What the report says of a command: how many machine checks of an access its entries show, and its answer.
 #[derive(Clone, Copy)]

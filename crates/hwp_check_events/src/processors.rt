@@ -1,6 +1,6 @@
 ghost use Rattle.std.specs.Prelude.{◌≡◌, ◌≤◌, ◌<◌, ◌+◌, ◌*◌, ◌^◌, [], Some, length, slice_get, sum_by, unwrap_or, All, IfOk};
-ghost use Rattle.hwp_report_text.specs.declared.FrameLine.{FrameLine};
-ghost use Rattle.hwp_script_read.specs.Valid.{IsValid};
+ghost use Rattle.hwp_law.specs.hwp_report_text.declared.FrameLine.{FrameLine};
+ghost use Rattle.hwp_law.specs.hwp_script_read.Valid.{IsValid};
 ghost use Rattle.hwp_check_events.specs.Indexed.{all_checkers};
 ghost use Rattle.hwp_check_events.specs.Walked.{IsProcessorJudged};
 
@@ -10,9 +10,7 @@ use crate::misfits::Misfits;
 use crate::walk::walk;
 use hwp_check_event_line::Traced;
 use hwp_check_poison::{past_of, results_of};
-use hwp_geom::{Cpu, OutOfMemory, Who};
-use hwp_report_text::{CpuLine, Report};
-use hwp_script_read::{Command, Script};
+use hwp_law::{Command, Cpu, CpuLine, OutOfMemory, Report, Script, Who};
 use std::alloc::Global;
 
 /// A mask has 64 bits.

@@ -1,8 +1,7 @@
 ghost use Rattle.std.specs.Prelude.{◌≡◌, ◌*◌, ◌<◌, ◌^◌};
 ghost use Rattle.hwp_check_events.specs.Walked.{noted, with_mark};
 
-use hwp_geom::Frame;
-use hwp_script_read::Command;
+use hwp_law::{Command, Frame};
 
 /// Notes a line at a place, where it is lower than that before.
 fn note(table: &mut Vec<u8>, place: usize, line: u8)

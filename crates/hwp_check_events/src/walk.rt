@@ -1,5 +1,5 @@
 ghost use Rattle.std.specs.Prelude.{◌≡◌, ◌≤◌, ◌<◌, ◌+◌, ◌*◌, ◌^◌, [], Some, length, slice_get, sum_by, unwrap_or};
-ghost use Rattle.hwp_script_read.specs.Valid.{IsValid};
+ghost use Rattle.hwp_law.specs.hwp_script_read.Valid.{IsValid};
 ghost use Rattle.hwp_check_events.specs.Indexed.{AreChecks, AreFirst, AreShown};
 ghost use Rattle.hwp_check_events.specs.Walked.{IsTableOf, IsWalked, joined, place_at, sooner};
 
@@ -9,9 +9,7 @@ use crate::misfits::Misfits;
 use crate::tables::mark;
 use hwp_banks::Bank;
 use hwp_check_event_line::{Faults, Shown, Traced};
-use hwp_geom::{Cpu, List, Who};
-use hwp_report_text::{Answer, CpuLine};
-use hwp_script_read::{Command, Script};
+use hwp_law::{Answer, Command, Cpu, CpuLine, List, Script, Who};
 
 /// The lower of a row that was found so far, if one was, and one more.
 fn sooner(found: Option<usize>, place: usize) -> Option<usize>

@@ -3,10 +3,10 @@ use Rattle.std.proofs.Common.{◌≡◌, inl, inr, ℕ, suc, ◌+◌, ◌<◌, �
 use Rattle.std.specs.List.{list_any}
 use Rattle.std.proofs.lemmas.Bool.{cases_eq, cases_lt, eq-eqb, eqb-true, false_from_ne_true}
 use Rattle.std.proofs.lemmas.List.{get_or-set_same, get_or-set_other, get_or-replicate, get_or_past, length-replicate, length-set}
-use Rattle.hwp_report_text.specs.declared.CpuLine.{CpuLine}
-use Rattle.hwp_report_text.specs.declared.CpuLine.TheVariants as lines
+use Rattle.hwp_law.specs.hwp_report_text.declared.CpuLine.{CpuLine}
+use Rattle.hwp_law.specs.hwp_report_text.declared.CpuLine.TheVariants as lines
 use Rattle.hwp_law.specs.Causes.{ends_machine}
-use Rattle.hwp_law.specs.Checks.{is_panic, is_stopping}
+use Rattle.hwp_law.specs.hwp_report_text.Acts.{is_panic, is_stopping}
 use Rattle.hwp_law.specs.Lines.{EventLine, events_among}
 use Rattle.hwp_check_evidence.specs.Counts.{AreCounts, AreFew, AreFlags, counted, flagged_by}
 

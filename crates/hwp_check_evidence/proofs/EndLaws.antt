@@ -4,20 +4,20 @@ use Rattle.std.specs.List.{list_any}
 use Rattle.std.proofs.lemmas.Bool.{cases_eq, cases_lt, eq-eqb, eqb-true}
 use Rattle.std.proofs.lemmas.List.{get_or-set_same, get_or-set_other, get_or-replicate, length-replicate, length-set}
 use Rattle.std.proofs.lemmas.Option.{none-some, same_Some, slice_get_within}
-use Rattle.hwp_geom.specs.declared.Cpu.{Cpu}
-use Rattle.hwp_geom.specs.declared.Layout.{Layout}
-use Rattle.hwp_geom.specs.declared.Page.{Page}
-use Rattle.hwp_geom.specs.declared.Proc.{Proc}
-use Rattle.hwp_geom.specs.declared.ThreadDecl.{ThreadDecl}
-use Rattle.hwp_geom.specs.declared.Who.{Who}
-use Rattle.hwp_kill.specs.declared.Signal.{Signal}
-use Rattle.hwp_page.specs.Endings.{ends, is_ended_by, is_ending}
-use Rattle.hwp_page.specs.declared.Entry.{Entry}
-use Rattle.hwp_page.specs.declared.Met.TheVariants.{Sigbus}
-use Rattle.hwp_page.specs.declared.What.{What}
-use Rattle.hwp_page.specs.declared.What.TheVariants as entries
-use Rattle.hwp_report_text.specs.declared.Report.{Report}
-use Rattle.hwp_script_read.specs.declared.Script.{Script}
+use Rattle.hwp_law.specs.hwp_geom.declared.Cpu.{Cpu}
+use Rattle.hwp_law.specs.hwp_geom.declared.Layout.{Layout}
+use Rattle.hwp_law.specs.hwp_geom.declared.Page.{Page}
+use Rattle.hwp_law.specs.hwp_geom.declared.Proc.{Proc}
+use Rattle.hwp_law.specs.hwp_geom.declared.ThreadDecl.{ThreadDecl}
+use Rattle.hwp_law.specs.hwp_geom.declared.Who.{Who}
+use Rattle.hwp_law.specs.hwp_kill.declared.Signal.{Signal}
+use Rattle.hwp_law.specs.hwp_page.Endings.{ends, is_ended_by, is_ending}
+use Rattle.hwp_law.specs.hwp_page.declared.Entry.{Entry}
+use Rattle.hwp_law.specs.hwp_page.declared.Met.TheVariants.{Sigbus}
+use Rattle.hwp_law.specs.hwp_page.declared.What.{What}
+use Rattle.hwp_law.specs.hwp_page.declared.What.TheVariants as entries
+use Rattle.hwp_law.specs.hwp_report_text.declared.Report.{Report}
+use Rattle.hwp_law.specs.hwp_script_read.declared.Script.{Script}
 use Rattle.hwp_law.specs.Endings.{HasEnding}
 use Rattle.hwp_check_evidence.specs.Ends.{ArePageEnds, HadEnded, any_ended, ended_by, ended_in, never, none_ended, own_ended, own_ends, own_page_ends, page_ends, process_numbers, signalled}
 use Rattle.hwp_check_evidence.proofs.ListItems.{item_at}

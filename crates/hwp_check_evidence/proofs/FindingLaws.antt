@@ -2,10 +2,10 @@
 use Rattle.std.proofs.Common.{◌≡◌, ℕ, ◌+◌, ◌<◌, ◌≤◌, Bool, false, List, [], ◌∷◌, ◌++◌, Option, Some, append_assoc, drop, fold, get_or, length, map, option_map, replicate, slice_get, refl, sym, ap, ◌∙◌, subst, arith}
 use Rattle.std.proofs.lemmas.List.{append-nil, at_drop_all, at_drop_more, length-map, length-replicate, length_push}
 use Rattle.std.proofs.lemmas.Option.{none-some, same_Some, slice_get-map, slice_get_read}
-use Rattle.hwp_geom.specs.declared.Cpu.{Cpu}
-use Rattle.hwp_geom.specs.declared.Layout.{Layout}
-use Rattle.hwp_page.specs.declared.At.{At}
-use Rattle.hwp_page.specs.declared.Entry.{Entry}
+use Rattle.hwp_law.specs.hwp_geom.declared.Cpu.{Cpu}
+use Rattle.hwp_law.specs.hwp_geom.declared.Layout.{Layout}
+use Rattle.hwp_law.specs.hwp_page.declared.At.{At}
+use Rattle.hwp_law.specs.hwp_page.declared.Entry.{Entry}
 use Rattle.hwp_check_evidence.specs.Ends.{never, own_ends, own_page_ends, page_ends, process_numbers}
 use Rattle.hwp_check_evidence.specs.Findings.{AreFound, IsAdded}
 use Rattle.hwp_check_evidence.specs.Named.{flagged_page, flagged_pages}

@@ -9,16 +9,16 @@ use Rattle.std.specs.FinSet.{nat_cmp-IsAntisymmetric}
 use Rattle.std.specs.Ordering.{nat_cmp}
 use Rattle.std.specs.Prelude.{is_some}
 use Rattle.std.specs.Option.{is_none}
-use Rattle.hwp_geom.specs.declared.Layout.{Layout}
-use Rattle.hwp_geom.specs.declared.PageKind.{PageKind}
-use Rattle.hwp_geom.specs.declared.VSlot.{VSlot}
-use Rattle.hwp_kill.specs.Lowest.{HasNoneFrom, IsLowestFrom}
-use Rattle.hwp_page.specs.History.{state_after}
-use Rattle.hwp_page.specs.Refusals.{IsAway, IsDirty, IsMapped, IsUnsaved, IsUnused}
-use Rattle.hwp_page.specs.Step.{after, opening_of}
-use Rattle.hwp_page.specs.declared.At.{At}
-use Rattle.hwp_page.specs.declared.Entry.{Entry}
-use Rattle.hwp_page.specs.declared.PageState.{PageState}
+use Rattle.hwp_law.specs.hwp_geom.declared.Layout.{Layout}
+use Rattle.hwp_law.specs.hwp_geom.declared.PageKind.{PageKind}
+use Rattle.hwp_law.specs.hwp_geom.declared.VSlot.{VSlot}
+use Rattle.hwp_law.specs.hwp_kill.Lowest.{HasNoneFrom, IsLowestFrom}
+use Rattle.hwp_law.specs.hwp_page.History.{state_after}
+use Rattle.hwp_law.specs.hwp_page.Refusals.{IsAway, IsDirty, IsMapped, IsUnsaved, IsUnused}
+use Rattle.hwp_law.specs.hwp_page.Step.{after, opening_of}
+use Rattle.hwp_law.specs.hwp_page.declared.At.{At}
+use Rattle.hwp_law.specs.hwp_page.declared.Entry.{Entry}
+use Rattle.hwp_law.specs.hwp_page.declared.PageState.{PageState}
 use Rattle.hwp_law.specs.States.{HadState}
 use Rattle.hwp_check_evidence.specs.declared.glances.Glance.{Glance}
 use Rattle.hwp_check_evidence.specs.Glances.{AreGlances, glance_at, glance_of, glances_from}

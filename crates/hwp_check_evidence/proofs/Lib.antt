@@ -11,4 +11,3 @@ pub mod NamedLaws
 mod CountLaws
 mod FirstLaws
 mod FindingLaws
-pub use Rattle.hwp_law.proofs as of_hwp_law

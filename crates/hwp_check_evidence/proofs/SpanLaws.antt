@@ -2,8 +2,8 @@
 use Rattle.std.proofs.Common.{◌≡◌, inl, inr, ℕ, zero, suc, ◌+◌, ◌-◌, ◌<◌, ◌≤◌, ◌==◌, max, min, cond, Bool, true, false, List, [], ◌∷◌, ◌++◌, Some, fold, length, drop, take, slice_get, refl, sym, ap, ◌∙◌, subst, arith}
 use Rattle.std.proofs.lemmas.Bool.{cases_eq, eq-eqb, false_from_ne_true, eqb-true}
 use Rattle.std.proofs.lemmas.Option.{none-some, same_Some}
-use Rattle.hwp_geom.specs.declared.Cpu.{Cpu}
-use Rattle.hwp_page.specs.declared.Entry.{Entry}
+use Rattle.hwp_law.specs.hwp_geom.declared.Cpu.{Cpu}
+use Rattle.hwp_law.specs.hwp_page.declared.Entry.{Entry}
 use Rattle.hwp_check_evidence.specs.Windows.{AreStarts, came_to, ends_from, none_number, start_of, starts_with}
 use Rattle.hwp_check_evidence.proofs.ListItems.{item_of_push}
 

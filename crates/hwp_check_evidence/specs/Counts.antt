@@ -1,10 +1,10 @@
 -- How many event lines each command has, and whether one of them ended the machine's run.
 use Rattle.std.specs.Prelude.{◌≡◌, ℕ, ◌+◌, ◌<◌, ◌≤◌, ◌||◌, Bool, true, false, cond, List, length, slice_index_or, slice_set}
 use Rattle.std.specs.List.{list_any}
-use Rattle.hwp_report_text.specs.declared.CpuLine.{CpuLine}
-use Rattle.hwp_report_text.specs.declared.CpuLine.TheVariants as lines
+use Rattle.hwp_law.specs.hwp_report_text.declared.CpuLine.{CpuLine}
+use Rattle.hwp_law.specs.hwp_report_text.declared.CpuLine.TheVariants as lines
 use Rattle.hwp_law.specs.Causes.{ends_machine}
-use Rattle.hwp_law.specs.Checks.{is_panic, is_stopping}
+use Rattle.hwp_law.specs.hwp_report_text.Acts.{is_panic, is_stopping}
 use Rattle.hwp_law.specs.Lines.{events_among}
 
 -- the counts with a line more

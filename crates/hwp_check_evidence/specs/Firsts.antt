@@ -1,10 +1,10 @@
 -- The first answer of each command of a processor, and the entry that it names.
 use Rattle.std.specs.Prelude.{◌≡◌, ℕ, ◌<◌, List, Option, Some, None, length, option_and_then, slice_index_or, slice_set}
 use Rattle.std.specs.Option.{option_or}
-use Rattle.hwp_page.specs.declared.At.{At}
-use Rattle.hwp_report_text.specs.declared.Answer.{Answer}
-use Rattle.hwp_report_text.specs.declared.CpuLine.{CpuLine}
-use Rattle.hwp_report_text.specs.declared.CpuLine.TheVariants as lines
+use Rattle.hwp_law.specs.hwp_page.declared.At.{At}
+use Rattle.hwp_law.specs.hwp_report_text.declared.Answer.{Answer}
+use Rattle.hwp_law.specs.hwp_report_text.declared.CpuLine.{CpuLine}
+use Rattle.hwp_law.specs.hwp_report_text.declared.CpuLine.TheVariants as lines
 use Rattle.hwp_law.specs.Lines.{answer_among}
 use Rattle.hwp_law.specs.States.{entry_named}
 

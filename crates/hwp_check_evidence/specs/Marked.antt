@@ -1,8 +1,8 @@
 -- What the records of frames say of a command.
 use Rattle.std.specs.Prelude.{ℕ, ◌^◌, ◌==◌, min, cond, List, fold}
-use Rattle.hwp_geom.specs.declared.Cpu.{Cpu}
-use Rattle.hwp_report_text.specs.declared.FrameLine.{FrameLine}
-use Rattle.hwp_report_text.specs.declared.MarkLine.{MarkLine}
+use Rattle.hwp_law.specs.hwp_geom.declared.Cpu.{Cpu}
+use Rattle.hwp_law.specs.hwp_report_text.declared.FrameLine.{FrameLine}
+use Rattle.hwp_law.specs.hwp_report_text.declared.MarkLine.{MarkLine}
 use Rattle.hwp_law.specs.Records.{is_by_hardware, who_in}
 
 -- what stands for no command

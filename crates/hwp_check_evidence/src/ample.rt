@@ -2,8 +2,7 @@ ghost use Rattle.std.specs.Prelude.{◌≡◌, ◌+◌, ◌*◌, nat_lt, false, 
 ghost use Rattle.hwp_law.specs.Answers.{frame_named, is_ample};
 ghost use Rattle.hwp_check_evidence.specs.Ample.{flags_of, noted, noted_in, noted_list, usable_by};
 
-use hwp_geom::{List, OutOfMemory};
-use hwp_script_read::{Command, Script};
+use hwp_law::{Command, List, OutOfMemory, Script};
 use std::alloc::Global;
 
 /// The bytes of a frame.

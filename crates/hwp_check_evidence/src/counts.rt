@@ -1,9 +1,7 @@
 ghost use Rattle.std.specs.Prelude.{◌≡◌, ◌+◌, ◌<◌, ◌^◌, ℕ, IfOk, length, slice_index_or};
-ghost use Rattle.hwp_law.specs.Checks.{is_panic, is_stopping};
 ghost use Rattle.hwp_check_evidence.specs.Counts.{AreCounts, AreFlags, counted, flagged_by};
 
-use hwp_geom::OutOfMemory;
-use hwp_report_text::{Acted, CpuLine};
+use hwp_law::{CpuLine, OutOfMemory};
 use std::alloc::Global;
 
 /// Counts the line, if it is an event's.
@@ -39,20 +37,6 @@ pub fn event_counts(
     Ok(counts)
 }
 
-/// Whether an event stopped the machine.
-fn is_stopping(acted: Acted) -> bool
-    ensures { result ≡ is_stopping acted }
-{
-    matches!(acted, Acted::Stop)
-}
-
-/// Whether an event was a panic.
-fn is_panic(acted: Acted) -> bool
-    ensures { result ≡ is_panic acted }
-{
-    matches!(acted, Acted::Panic)
-}
-
 /// Flags the command of the line, if it is of an event that stopped the machine, or was a panic.
 fn flag(flags: &mut Vec<bool>, row: &CpuLine)
     ensures { flags.new.items ≡ flagged_by flags.old.items row.now }
@@ -60,7 +44,7 @@ fn flag(flags: &mut Vec<bool>, row: &CpuLine)
     match *row {
         CpuLine::Event { seq, acted, .. } => {
             let at = seq as usize;
-            if (is_stopping(acted) || is_panic(acted)) && at < flags.len() {
+            if (acted.is_stopping() || acted.is_panic()) && at < flags.len() {
                 flags[at] = true;
             }
         }

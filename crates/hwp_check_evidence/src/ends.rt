@@ -3,11 +3,10 @@ ghost use Rattle.std.specs.Option.{option_copied};
 ghost use Rattle.hwp_law.specs.Endings.{HasEnding};
 ghost use Rattle.hwp_check_evidence.specs.Ends.{ArePageEnds, HadEnded, any_ended, ended_by, ended_in, never, own_ended, own_ends as own_ends_of, process_numbers, signalled};
 
-use hwp_geom::{Cpu, Layout, List, OutOfMemory, Page, Proc, Thread, ThreadDecl, Who};
-use hwp_kill::Signal;
-use hwp_page::{Entry, Met, What};
-use hwp_report_text::Report;
-use hwp_script_read::Script;
+use hwp_law::{
+    Cpu, Entry, Layout, List, Met, OutOfMemory, Page, Proc, Report, Script, Signal, Thread,
+    ThreadDecl, What, Who,
+};
 use std::alloc::Global;
 
 /// What stands for no command.

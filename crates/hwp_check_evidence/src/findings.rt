@@ -6,8 +6,7 @@ ghost use Rattle.hwp_check_evidence.specs.Named.{flagged_page};
 use crate::ends::{PROCESS_NUMBERS, end_any, end_own, no_ends};
 use crate::named::flag;
 use crate::windows::{Span, page_span};
-use hwp_geom::{Cpu, Layout, List, OutOfMemory, Page};
-use hwp_page::{At, Entry};
+use hwp_law::{At, Cpu, Entry, Layout, List, OutOfMemory, Page};
 use std::alloc::Global;
 
 /// What the histories tell of the commands of one processor.

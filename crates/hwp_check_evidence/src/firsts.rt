@@ -2,9 +2,7 @@ ghost use Rattle.std.specs.Prelude.{◌≡◌, IfOk, length, map};
 ghost use Rattle.hwp_law.specs.States.{entry_named};
 ghost use Rattle.hwp_check_evidence.specs.Firsts.{AreAnswersOf, answered_by, entry_of};
 
-use hwp_geom::OutOfMemory;
-use hwp_page::At;
-use hwp_report_text::{Answer, CpuLine};
+use hwp_law::{Answer, At, CpuLine, OutOfMemory};
 use std::alloc::Global;
 
 /// Notes the answer of the line, unless its command has one.

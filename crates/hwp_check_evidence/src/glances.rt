@@ -2,16 +2,14 @@ ghost use Rattle.std.specs.Prelude.{◌≡◌, ◌≢◌, ◌↔◌, ◌&&◌, �
 ghost use Rattle.std.specs.List.{All};
 ghost use Rattle.std.specs.FinSet as set;
 ghost use Rattle.std.specs.Option.{option_copied};
-ghost use Rattle.hwp_page.specs.Refusals.{IsAway, IsDirty, IsMapped, IsUnused};
-ghost use Rattle.hwp_page.specs.Step.{MapsWithin, after, opening_of};
-ghost use Rattle.hwp_page.specs.declared.PageState.{PageState as State};
+ghost use Rattle.hwp_law.specs.hwp_page.Refusals.{IsAway, IsDirty, IsMapped, IsUnused};
+ghost use Rattle.hwp_law.specs.hwp_page.Step.{MapsWithin, after, opening_of};
+ghost use Rattle.hwp_law.specs.hwp_page.declared.PageState.{PageState as State};
 ghost use Rattle.hwp_law.specs.States.{HadState};
 ghost use Rattle.hwp_check_evidence.specs.Glances.{AreGlances, AreLegalSteps, glance_at, glance_of, glances_from};
 
 use crate::repeats::Repeats;
-use hwp_geom::{Layout, List, OutOfMemory, PageKind, VSlot};
-use hwp_kill::Slots;
-use hwp_page::{At, Entry, PageState, What};
+use hwp_law::{At, Entry, Layout, List, OutOfMemory, PageKind, PageState, Slots, VSlot, What};
 use std::alloc::Global;
 
 /// What answers tell of a page's state.

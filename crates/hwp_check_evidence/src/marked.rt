@@ -3,8 +3,7 @@ ghost use Rattle.hwp_law.specs.Causes.{WasHardwareSeen};
 ghost use Rattle.hwp_law.specs.Records.{is_by_hardware, who_in};
 ghost use Rattle.hwp_check_evidence.specs.Marked.{no_command, reported, reported_at, reported_by, reported_in};
 
-use hwp_geom::{Cpu, Who};
-use hwp_report_text::{FrameLine, How, MarkLine, Report};
+use hwp_law::{Cpu, FrameLine, How, MarkLine, Report, Who};
 
 /// What stands for no command.
 const NO_COMMAND: u64 = 4_294_967_296;

@@ -2,8 +2,7 @@ ghost use Rattle.std.specs.Prelude.{◌≡◌, ◌↔◌, ◌<◌, false, None, 
 ghost use Rattle.hwp_law.specs.Answers.{is_answering};
 ghost use Rattle.hwp_check_evidence.specs.Named.{HasOther, flagged, flagged_pages, is_at, is_other};
 
-use hwp_geom::{Cpu, List, Who};
-use hwp_page::{At, Entry, What};
+use hwp_law::{At, Cpu, Entry, List, What, Who};
 
 /// Whether the command's answer has to name the entry.
 fn is_answering(what: &What) -> bool

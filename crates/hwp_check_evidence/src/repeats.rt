@@ -1,7 +1,7 @@
 ghost use Rattle.std.specs.Prelude.{◌≡◌, [], ◌∷◌, ◌++◌, Some, IfOk, OnOk, ◌-◌, length, slice_get, option_and_then};
 ghost use Rattle.std.specs.Option.{option_copied};
 
-use hwp_geom::OutOfMemory;
+use hwp_law::OutOfMemory;
 use std::alloc::Global;
 use std::marker::Model;
 

@@ -3,9 +3,7 @@ ghost use Rattle.std.specs.Option.{option_copied};
 ghost use Rattle.hwp_law.specs.States.{place_named};
 ghost use Rattle.hwp_check_evidence.specs.Windows.{AreOfEarlier, AreSpans, AreStarts, IsBeforeLater, IsNotBelow, IsPastEarlier, IsSpan, came_to, end_before, ends_from, floors_of, named_in, none_number, raised, start_from, starts_with};
 
-use hwp_geom::{Cpu, List, OutOfMemory, Page, Who};
-use hwp_page::{At, Entry};
-use hwp_report_text::{Answer, CpuLine};
+use hwp_law::{Answer, At, Cpu, CpuLine, Entry, List, OutOfMemory, Page, Who};
 use std::alloc::Global;
 
 /// What stands for no command.

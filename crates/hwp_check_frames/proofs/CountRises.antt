@@ -1,7 +1,7 @@
 -- How much a count rises, and that equality of numbers and of commands can be turned round.
 use Rattle.std.proofs.Common.{◌≡◌, inl, inr, ℕ, ◌≤◌, ◌==◌, ◌&&◌, Bool, true, false, cond, sym, ap, ◌∙◌, arith}
 use Rattle.std.proofs.lemmas.Bool.{cases_Bool, eq-eqb, eqb-false, eqb-true, ne_eqb}
-use Rattle.hwp_geom.specs.declared.Who.{Who}
+use Rattle.hwp_check_rules.specs.hwp_geom.declared.Who.{Who}
 use Rattle.hwp_check_rules.specs.hwp_law.Lines.{is_same_command}
 use Rattle.hwp_check_frames.specs.Counts.{raise}
 

@@ -4,18 +4,18 @@ use Rattle.std.proofs.Math.Nat.{zero-add}
 use Rattle.std.proofs.lemmas.Bool.{cases_lt}
 use Rattle.std.proofs.lemmas.List.Sums.{sum_by-take-le}
 use Rattle.std.proofs.lemmas.Option.{none-some, same_Some, slice_get-get_or, slice_get_read, slice_get_within}
-use Rattle.hwp_geom.specs.declared.Frame.{Frame}
-use Rattle.hwp_geom.specs.declared.Who.{Who}
-use Rattle.hwp_script_read.specs.Valid.{IsValid}
-use Rattle.hwp_script_read.specs.declared.Script.{Script}
-use Rattle.hwp_report_text.specs.declared.Acted.{Acted}
-use Rattle.hwp_report_text.specs.declared.CpuLine.{CpuLine}
-use Rattle.hwp_report_text.specs.declared.FrameLine.{FrameLine}
-use Rattle.hwp_report_text.specs.declared.How.{How}
-use Rattle.hwp_report_text.specs.declared.How.TheVariants as hows
-use Rattle.hwp_report_text.specs.declared.MarkLine.{MarkLine}
-use Rattle.hwp_report_text.specs.declared.MarkLine.TheVariants as marks
-use Rattle.hwp_report_text.specs.declared.Report.{Report}
+use Rattle.hwp_check_rules.specs.hwp_geom.declared.Frame.{Frame}
+use Rattle.hwp_check_rules.specs.hwp_geom.declared.Who.{Who}
+use Rattle.hwp_check_rules.specs.hwp_script_read.Valid.{IsValid}
+use Rattle.hwp_check_rules.specs.hwp_script_read.declared.Script.{Script}
+use Rattle.hwp_check_rules.specs.hwp_report_text.declared.Acted.{Acted}
+use Rattle.hwp_check_rules.specs.hwp_report_text.declared.CpuLine.{CpuLine}
+use Rattle.hwp_check_rules.specs.hwp_report_text.declared.FrameLine.{FrameLine}
+use Rattle.hwp_check_rules.specs.hwp_report_text.declared.How.{How}
+use Rattle.hwp_check_rules.specs.hwp_report_text.declared.How.TheVariants as hows
+use Rattle.hwp_check_rules.specs.hwp_report_text.declared.MarkLine.{MarkLine}
+use Rattle.hwp_check_rules.specs.hwp_report_text.declared.MarkLine.TheVariants as marks
+use Rattle.hwp_check_rules.specs.hwp_report_text.declared.Report.{Report}
 use Rattle.hwp_check_rules.specs.hwp_law.Lines.{is_same_command, marks_of, rows_of}
 use Rattle.hwp_check_rules.specs.hwp_law.Records.{IsAnswered, IsFound, IsFrameRecord, IsMarkAt, hardware_act, hardware_marks, how_in, is_by_hardware, line_results, outcome_act, result_lines, who_in}
 use Rattle.hwp_check_rules.specs.MarkFaults.{HasNoEvent, IsEventBeyond, IsMisfound}

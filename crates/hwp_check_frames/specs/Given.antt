@@ -2,11 +2,11 @@
 use Rattle.std.specs.Prelude.{◌≡◌, ℕ, nat_lt, cond, List, [], Option, Some, None, fold, slice_get, unwrap_or}
 use Rattle.std.specs.HashMap.{HashMap}
 use Rattle.std.specs.HashMap as hash
-use Rattle.hwp_geom.specs.declared.Who.{Who}
-use Rattle.hwp_report_text.specs.declared.Answer.{Answer}
-use Rattle.hwp_report_text.specs.declared.CpuLine.{CpuLine}
-use Rattle.hwp_report_text.specs.declared.CpuLine.TheVariants as lines
-use Rattle.hwp_report_text.specs.declared.Report.{Report}
+use Rattle.hwp_check_rules.specs.hwp_geom.declared.Who.{Who}
+use Rattle.hwp_check_rules.specs.hwp_report_text.declared.Answer.{Answer}
+use Rattle.hwp_check_rules.specs.hwp_report_text.declared.CpuLine.{CpuLine}
+use Rattle.hwp_check_rules.specs.hwp_report_text.declared.CpuLine.TheVariants as lines
+use Rattle.hwp_check_rules.specs.hwp_report_text.declared.Report.{Report}
 use Rattle.hwp_check_rules.specs.hwp_law.Lines.{answer_of}
 use Rattle.hwp_check_frames.specs.Counts.{is_pair}
 

@@ -1,7 +1,7 @@
 -- What is looked up of a report while its records are judged.
 use Rattle.std.specs.Prelude.{◌≡◌, ℕ, ◌<◌, Bool, true, false, Option, Some, None, length, slice_index_or}
-use Rattle.hwp_report_text.specs.declared.Acted.{Acted}
-use Rattle.hwp_report_text.specs.declared.Report.{Report}
+use Rattle.hwp_check_rules.specs.hwp_report_text.declared.Acted.{Acted}
+use Rattle.hwp_check_rules.specs.hwp_report_text.declared.Report.{Report}
 use Rattle.hwp_check_rules.specs.hwp_law.Lines.{marks_of}
 use Rattle.hwp_check_frames.specs.Given.{AreGiven}
 use Rattle.hwp_check_frames.specs.MarkScans.{NoneBeyond, SomeBeyond}

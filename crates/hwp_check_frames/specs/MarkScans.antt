@@ -1,21 +1,21 @@
 -- How the records of frames are judged, mark by mark, and the lines of processors beside them.
 use Rattle.std.specs.Prelude.{◌≡◌, ◌⊎◌, ℕ, ◌+◌, ◌<◌, ◌≤◌, ◌==◌, ◌&&◌, ◌||◌, nat_lt, Bool, true, false, cond, List, [], ◌∷◌, Option, Some, None, filter_map, is_some, length, slice_get, take}
-use Rattle.hwp_geom.specs.declared.Frame.{Frame}
-use Rattle.hwp_geom.specs.declared.Who.{Who}
-use Rattle.hwp_report_text.specs.hwp_banks.Addresses.{frame_at}
-use Rattle.hwp_page.specs.declared.Outcome.{Outcome}
-use Rattle.hwp_script_read.specs.declared.Command.{Command}
-use Rattle.hwp_script_read.specs.declared.Command.TheVariants as commands
-use Rattle.hwp_script_read.specs.declared.Script.{Script}
-use Rattle.hwp_report_text.specs.declared.Acted.{Acted}
-use Rattle.hwp_report_text.specs.declared.Answer.TheVariants as answers
-use Rattle.hwp_report_text.specs.declared.CpuLine.{CpuLine}
-use Rattle.hwp_report_text.specs.declared.CpuLine.TheVariants as lines
-use Rattle.hwp_report_text.specs.declared.FrameLine.{FrameLine}
-use Rattle.hwp_report_text.specs.declared.How.TheVariants as hows
-use Rattle.hwp_report_text.specs.declared.MarkLine.{MarkLine}
-use Rattle.hwp_report_text.specs.declared.MarkLine.TheVariants as marks
-use Rattle.hwp_report_text.specs.declared.Report.{Report}
+use Rattle.hwp_check_rules.specs.hwp_geom.declared.Frame.{Frame}
+use Rattle.hwp_check_rules.specs.hwp_geom.declared.Who.{Who}
+use Rattle.hwp_check_rules.specs.hwp_banks.Addresses.{frame_at}
+use Rattle.hwp_check_rules.specs.hwp_page.declared.Outcome.{Outcome}
+use Rattle.hwp_check_rules.specs.hwp_script_read.declared.Command.{Command}
+use Rattle.hwp_check_rules.specs.hwp_script_read.declared.Command.TheVariants as commands
+use Rattle.hwp_check_rules.specs.hwp_script_read.declared.Script.{Script}
+use Rattle.hwp_check_rules.specs.hwp_report_text.declared.Acted.{Acted}
+use Rattle.hwp_check_rules.specs.hwp_report_text.declared.Answer.TheVariants as answers
+use Rattle.hwp_check_rules.specs.hwp_report_text.declared.CpuLine.{CpuLine}
+use Rattle.hwp_check_rules.specs.hwp_report_text.declared.CpuLine.TheVariants as lines
+use Rattle.hwp_check_rules.specs.hwp_report_text.declared.FrameLine.{FrameLine}
+use Rattle.hwp_check_rules.specs.hwp_report_text.declared.How.TheVariants as hows
+use Rattle.hwp_check_rules.specs.hwp_report_text.declared.MarkLine.{MarkLine}
+use Rattle.hwp_check_rules.specs.hwp_report_text.declared.MarkLine.TheVariants as marks
+use Rattle.hwp_check_rules.specs.hwp_report_text.declared.Report.{Report}
 use Rattle.hwp_check_rules.specs.hwp_law.Lines.{answer_of, marks_of, rows_of}
 use Rattle.hwp_check_rules.specs.hwp_law.Places.{command_at}
 use Rattle.hwp_check_rules.specs.hwp_law.Records.{IsAnswered, IsFound, IsFrameRecord, IsMarkAt, hardware_marks, is_moved, outcome_act, outcome_answer, result_of}

@@ -2,10 +2,10 @@
 use Rattle.std.specs.Prelude.{◌≡◌, ℕ, ◌==◌, ◌&&◌, nat_lt, Bool, cond, List, [], ◌∷◌, ◌++◌, Option, is_some, length, slice_get, unwrap_or}
 use Rattle.std.specs.HashMap.{HashMap}
 use Rattle.std.specs.HashMap as hash
-use Rattle.hwp_report_text.specs.hwp_banks.Addresses.{frame_at}
-use Rattle.hwp_report_text.specs.declared.CpuLine.{CpuLine}
-use Rattle.hwp_report_text.specs.declared.CpuLine.TheVariants as lines
-use Rattle.hwp_report_text.specs.declared.Report.{Report}
+use Rattle.hwp_check_rules.specs.hwp_banks.Addresses.{frame_at}
+use Rattle.hwp_check_rules.specs.hwp_report_text.declared.CpuLine.{CpuLine}
+use Rattle.hwp_check_rules.specs.hwp_report_text.declared.CpuLine.TheVariants as lines
+use Rattle.hwp_check_rules.specs.hwp_report_text.declared.Report.{Report}
 use Rattle.hwp_check_rules.specs.hwp_law.Records.{result_of}
 use Rattle.hwp_check_frames.specs.Counts.{at_key, is_key}
 use Rattle.hwp_check_frames.specs.declared.noted.Noted.{Noted}

@@ -1,7 +1,7 @@
 ghost use Rattle.std.specs.Prelude.{◌≡◌, ◌+◌, ◌<◌, ◌^◌, ℕ, OnOk, cond};
 ghost use Rattle.hwp_check_frames.specs.Counts.{at_key, raise};
 
-use hwp_geom::OutOfMemory;
+use hwp_check_rules::OutOfMemory;
 use std::collections::HashMap;
 
 /// A processor, the number of one of its commands, and a number that says what of it is counted.

@@ -4,9 +4,7 @@ ghost use Rattle.hwp_check_frames.specs.Flags.{AreFlags, row_flag, rows_flag};
 
 use crate::counts::{Counts, count};
 use crate::noted::is_result;
-use hwp_check_rules::rows_on;
-use hwp_geom::{Cpu, OutOfMemory};
-use hwp_report_text::{Acted, CpuLine, Report};
+use hwp_check_rules::{Acted, Cpu, CpuLine, OutOfMemory, Report, rows_on};
 use std::alloc::Global;
 
 /// Whether a line with this result, whose command has more such lines than marks or hasn't, flags its frame.

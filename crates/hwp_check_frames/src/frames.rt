@@ -1,5 +1,5 @@
 ghost use Rattle.std.specs.Prelude.{◌≡◌, ◌<◌, ◌+◌, ◌^◌, length, IfOk, MatchBool, MatchOption};
-ghost use Rattle.hwp_script_read.specs.Valid.{IsValid};
+ghost use Rattle.hwp_check_rules.specs.hwp_script_read.Valid.{IsValid};
 ghost use Rattle.hwp_check_rules.specs.hwp_law.Lines.{marks_of};
 ghost use Rattle.hwp_check_frames.specs.Index.{IsIndex};
 ghost use Rattle.hwp_check_frames.specs.MarkScans.{AreRightMarks, FrameFits, IsClear, IsFirstFault, IsFirstWrongMark, IsFrameFaultAt, IsRecordFault, NoneBeyond, RecordsFit, SomeBeyond};
@@ -9,9 +9,7 @@ ghost use Rattle.hwp_check_rules.specs.Verdicts.{HoldBelow};
 use crate::index::{Index, index_of};
 use crate::own::add_own;
 use crate::records::is_right;
-use hwp_geom::{Frame, OutOfMemory};
-use hwp_report_text::{MarkLine, Report};
-use hwp_script_read::Script;
+use hwp_check_rules::{Frame, MarkLine, OutOfMemory, Report, Script};
 use std::alloc::Global;
 use std::collections::HashMap;
 

@@ -3,9 +3,7 @@ ghost use Rattle.hwp_check_rules.specs.hwp_law.Lines.{answer_of};
 ghost use Rattle.hwp_check_frames.specs.Given.{AreGiven, first_of, given_at, row_given, rows_given};
 ghost use Rattle.hwp_check_frames.specs.Counts.{is_pair};
 
-use hwp_check_rules::rows_on;
-use hwp_geom::{Cpu, OutOfMemory, Who};
-use hwp_report_text::{Answer, CpuLine, Report};
+use hwp_check_rules::{Answer, Cpu, CpuLine, OutOfMemory, Report, Who, rows_on};
 use std::alloc::Global;
 use std::collections::HashMap;
 

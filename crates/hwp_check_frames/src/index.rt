@@ -6,9 +6,7 @@ use crate::flags::flags_of;
 use crate::given::{Given, given_of};
 use crate::own::own_counts;
 use crate::said::{Said, said_of};
-use hwp_geom::OutOfMemory;
-use hwp_report_text::Report;
-use hwp_script_read::Script;
+use hwp_check_rules::{OutOfMemory, Report, Script};
 use std::alloc::Global;
 
 /// What is looked up of a report: the answers of commands, their event lines with a result, and which frames have such lines

@@ -1,7 +1,7 @@
 ghost use Rattle.std.specs.Prelude.{◌≡◌, is_some};
 ghost use Rattle.hwp_check_rules.specs.hwp_law.Records.{result_of};
 
-use hwp_report_text::Acted;
+use hwp_check_rules::Acted;
 
 /// What an event line with a result says: its row of the severity table, and the result.
 #[derive(Clone, Copy)]

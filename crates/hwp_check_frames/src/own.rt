@@ -6,8 +6,7 @@ ghost use Rattle.hwp_check_frames.specs.Own.{how_own, own_raise};
 ghost use Rattle.hwp_check_frames.specs.Own.{frames_own, marks_own};
 
 use crate::counts::{Counts, add_if};
-use hwp_geom::{OutOfMemory, Who};
-use hwp_report_text::{FrameLine, How, MarkLine};
+use hwp_check_rules::{FrameLine, How, MarkLine, OutOfMemory, Who};
 use std::alloc::Global;
 use std::collections::HashMap;
 

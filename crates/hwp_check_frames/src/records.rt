@@ -11,11 +11,10 @@ use crate::given::{Given, answer_in};
 use crate::index::Index;
 use crate::noted::Noted;
 use crate::said::row_of;
-use hwp_check_rules::command_of;
-use hwp_geom::{Frame, Who};
-use hwp_page::{Outcome, Situation};
-use hwp_report_text::{Acted, Answer, How, MarkLine, Report};
-use hwp_script_read::{Command, Script};
+use hwp_check_rules::{
+    Acted, Answer, Command, Frame, How, MarkLine, Outcome, Report, Script, Situation, Who,
+    command_of,
+};
 
 /// Whether the mark is the one at its place: poisoned and unpoisoned in cycle 0, then in cycle 1, and so on.
 fn is_mark_at(place: usize, mark: &MarkLine) -> bool

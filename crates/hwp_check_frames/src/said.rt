@@ -6,9 +6,7 @@ ghost use Rattle.hwp_check_frames.specs.Said.{AreNoted, is_place, row_at, row_sa
 
 use crate::counts::{Counts, Key, add, count};
 use crate::noted::{Noted, is_result};
-use hwp_check_rules::rows_on;
-use hwp_geom::{Cpu, OutOfMemory};
-use hwp_report_text::{CpuLine, Report};
+use hwp_check_rules::{Cpu, CpuLine, OutOfMemory, Report, rows_on};
 use std::alloc::Global;
 use std::collections::HashMap;
 

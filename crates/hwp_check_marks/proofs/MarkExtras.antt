@@ -3,12 +3,12 @@ use Rattle.std.proofs.Common.{◌≡◌, ℕ, ◌+◌, ◌<◌, ◌≤◌, ◌&&
 use Rattle.std.specs.HashMap.{HashMap}
 use Rattle.std.proofs.lemmas.List.Sums.{sum_by_more, sum_by_more_le}
 use Rattle.std.proofs.lemmas.Option.{slice_get-get_or, slice_get_within}
-use Rattle.hwp_geom.specs.declared.Who.{Who}
-use Rattle.hwp_report_text.specs.declared.FrameLine.{FrameLine}
-use Rattle.hwp_report_text.specs.declared.How.TheVariants as hows
-use Rattle.hwp_report_text.specs.declared.MarkLine.{MarkLine}
-use Rattle.hwp_report_text.specs.declared.MarkLine.TheVariants as marks
-use Rattle.hwp_report_text.specs.declared.Report.{Report}
+use Rattle.hwp_check_rules.specs.hwp_geom.declared.Who.{Who}
+use Rattle.hwp_check_rules.specs.hwp_report_text.declared.FrameLine.{FrameLine}
+use Rattle.hwp_check_rules.specs.hwp_report_text.declared.How.TheVariants as hows
+use Rattle.hwp_check_rules.specs.hwp_report_text.declared.MarkLine.{MarkLine}
+use Rattle.hwp_check_rules.specs.hwp_report_text.declared.MarkLine.TheVariants as marks
+use Rattle.hwp_check_rules.specs.hwp_report_text.declared.Report.{Report}
 use Rattle.hwp_check_rules.specs.hwp_law.Pairings.{has_page}
 use Rattle.hwp_check_rules.specs.Standing.{frame_height, frame_line, last_line}
 use Rattle.hwp_check_frames.specs.Counts.{at_key}

@@ -2,17 +2,17 @@
 use Rattle.std.proofs.Common.{◌≡◌, inl, inr, ℕ, zero, suc, ◌+◌, ◌<◌, ◌≤◌, ◌==◌, ◌&&◌, not, Bool, true, false, cond, List, [], ◌∷◌, count_by, get_or, length, sum_by, take, refl, ap, ◌∙◌, arith}
 use Rattle.std.proofs.lemmas.Bool.{cases_Bool, eqb-true, ne_eqb}
 use Rattle.std.proofs.lemmas.List.Sums.{sum_by-cons, sum_by-take-le, sum_by_more_le}
-use Rattle.hwp_geom.specs.declared.Who.{Who}
-use Rattle.hwp_page.specs.declared.Entry.{Entry}
-use Rattle.hwp_page.specs.declared.Situation.{Situation}
-use Rattle.hwp_page.specs.declared.Situation.TheVariants as situations
-use Rattle.hwp_page.specs.declared.What.{What}
-use Rattle.hwp_page.specs.declared.What.TheVariants as entries
-use Rattle.hwp_report_text.specs.declared.FrameLine.{FrameLine}
-use Rattle.hwp_report_text.specs.declared.How.{How}
-use Rattle.hwp_report_text.specs.declared.How.TheVariants as hows
-use Rattle.hwp_report_text.specs.declared.MarkLine.{MarkLine}
-use Rattle.hwp_report_text.specs.declared.MarkLine.TheVariants as marks
+use Rattle.hwp_check_rules.specs.hwp_geom.declared.Who.{Who}
+use Rattle.hwp_check_rules.specs.hwp_page.declared.Entry.{Entry}
+use Rattle.hwp_check_rules.specs.hwp_page.declared.Situation.{Situation}
+use Rattle.hwp_check_rules.specs.hwp_page.declared.Situation.TheVariants as situations
+use Rattle.hwp_check_rules.specs.hwp_page.declared.What.{What}
+use Rattle.hwp_check_rules.specs.hwp_page.declared.What.TheVariants as entries
+use Rattle.hwp_check_rules.specs.hwp_report_text.declared.FrameLine.{FrameLine}
+use Rattle.hwp_check_rules.specs.hwp_report_text.declared.How.{How}
+use Rattle.hwp_check_rules.specs.hwp_report_text.declared.How.TheVariants as hows
+use Rattle.hwp_check_rules.specs.hwp_report_text.declared.MarkLine.{MarkLine}
+use Rattle.hwp_check_rules.specs.hwp_report_text.declared.MarkLine.TheVariants as marks
 use Rattle.hwp_check_rules.specs.hwp_law.Lines.{is_same_command}
 use Rattle.hwp_check_rules.specs.hwp_law.Pairings.{situation_number}
 use Rattle.hwp_check_rules.specs.Standing.{entry_height, frame_height, page_height, what_height}

@@ -1,12 +1,12 @@
 -- Which entries have not the marks that they ask for.
 use Rattle.std.specs.Prelude.{◌≡◌, ℕ, nat_lt, Bool, false, cond, List, [], ◌∷◌, Option, Some, None}
 use Rattle.std.specs.HashMap.{HashMap}
-use Rattle.hwp_geom.specs.declared.Who.{Who}
-use Rattle.hwp_page.specs.declared.Entry.{Entry}
-use Rattle.hwp_page.specs.declared.What.{What}
-use Rattle.hwp_page.specs.declared.What.TheVariants as entries
-use Rattle.hwp_script_read.specs.declared.Script.{Script}
-use Rattle.hwp_report_text.specs.declared.Report.{Report}
+use Rattle.hwp_check_rules.specs.hwp_geom.declared.Who.{Who}
+use Rattle.hwp_check_rules.specs.hwp_page.declared.Entry.{Entry}
+use Rattle.hwp_check_rules.specs.hwp_page.declared.What.{What}
+use Rattle.hwp_check_rules.specs.hwp_page.declared.What.TheVariants as entries
+use Rattle.hwp_check_rules.specs.hwp_script_read.declared.Script.{Script}
+use Rattle.hwp_check_rules.specs.hwp_report_text.declared.Report.{Report}
 use Rattle.hwp_check_rules.specs.hwp_law.Pairings.{has_page}
 use Rattle.hwp_check_rules.specs.Firsts.{sooner_if}
 use Rattle.hwp_check_rules.specs.MarkFaults.{LacksMarks, home_of}

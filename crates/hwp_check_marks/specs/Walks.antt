@@ -1,6 +1,6 @@
 -- The lowest line that the entries of a report ask for, as they are gone through.
 use Rattle.std.specs.Prelude.{◌≡◌, ℕ, ◌+◌, Bool, true, List, [], ◌∷◌, Option, Some, MatchOption, slice_get, sum_by, take}
-use Rattle.hwp_page.specs.declared.Entry.{Entry}
+use Rattle.hwp_check_rules.specs.hwp_page.declared.Entry.{Entry}
 use Rattle.hwp_check_rules.specs.Firsts.{IsLeast, sooner_if}
 use Rattle.hwp_check_rules.specs.Standing.{entry_height, page_height}
 

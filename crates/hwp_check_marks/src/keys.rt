@@ -4,8 +4,7 @@ ghost use Rattle.hwp_check_marks.specs.Tallies.{key_of, kind_number};
 
 use crate::kinds::Kind;
 use hwp_check_frames::Key;
-use hwp_geom::Who;
-use hwp_page::Situation;
+use hwp_check_rules::{Situation, Who};
 
 /// The number of a situation.
 fn situation_number(situation: Situation) -> u8

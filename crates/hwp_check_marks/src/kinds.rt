@@ -1,4 +1,4 @@
-use hwp_page::Situation;
+use hwp_check_rules::Situation;
 
 /// What of a command's marks is counted: its failures in a situation, its moves, and those that no event caused.
 #[derive(Clone, Copy)]

@@ -10,11 +10,9 @@ use crate::kinds::Kind;
 use crate::lows::{Lows, low_of, lows_of};
 use crate::tallies::{entry_counts, mark_counts};
 use hwp_check_frames::{Counts, count};
-use hwp_check_rules::{command_of, frame_at, sooner_if};
-use hwp_geom::{List, OutOfMemory, Who};
-use hwp_page::{Entry, What};
-use hwp_report_text::Report;
-use hwp_script_read::{Command, Script};
+use hwp_check_rules::{
+    Command, Entry, List, OutOfMemory, Report, Script, What, Who, command_of, frame_at, sooner_if,
+};
 use std::alloc::Global;
 
 /// The kind of marks that an entry asks for.

@@ -4,9 +4,7 @@ ghost use Rattle.hwp_check_frames.specs.Counts.{is_pair};
 ghost use Rattle.hwp_check_marks.specs.Lows.{AreLows, low_at, row_low, rows_low};
 
 use hwp_check_frames::is_result;
-use hwp_check_rules::rows_on;
-use hwp_geom::{Cpu, OutOfMemory};
-use hwp_report_text::{CpuLine, Report};
+use hwp_check_rules::{Cpu, CpuLine, OutOfMemory, Report, rows_on};
 use std::alloc::Global;
 use std::collections::HashMap;
 

@@ -1,5 +1,5 @@
 ghost use Rattle.std.specs.Prelude.{◌<◌, ◌^◌, IfOk, MatchOption};
-ghost use Rattle.hwp_script_read.specs.Valid.{IsValid};
+ghost use Rattle.hwp_check_rules.specs.hwp_script_read.Valid.{IsValid};
 ghost use Rattle.hwp_check_rules.specs.Standing.{last_line};
 ghost use Rattle.hwp_check_rules.specs.declared.Rule.TheVariants.{Marks};
 ghost use Rattle.hwp_check_rules.specs.Verdicts.{HoldBelow, Holds, IsBroken};
@@ -8,10 +8,7 @@ use crate::lacking::lacking;
 use crate::misrequired::misrequired;
 use crate::unpaired::unpaired;
 use hwp_check_frames::kept;
-use hwp_check_rules::soonest;
-use hwp_geom::OutOfMemory;
-use hwp_report_text::Report;
-use hwp_script_read::Script;
+use hwp_check_rules::{OutOfMemory, Report, Script, soonest};
 use std::alloc::Global;
 
 /// Whether the records of frames fit the entries, the answers and the events; else the first line that doesn't.

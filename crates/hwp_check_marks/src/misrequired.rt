@@ -10,11 +10,10 @@ use crate::kinds::Kind;
 use crate::needed::needed_counts;
 use crate::urgent::urgent_counts;
 use hwp_check_frames::{Counts, count, said_of};
-use hwp_check_rules::{entries_height, entry_height, first_page_line, sooner_if};
-use hwp_geom::{List, OutOfMemory, Who};
-use hwp_page::{Entry, Situation, What};
-use hwp_report_text::Report;
-use hwp_script_read::Script;
+use hwp_check_rules::{
+    Entry, List, OutOfMemory, Report, Script, Situation, What, Who, entries_height, entry_height,
+    first_page_line, sooner_if,
+};
 use std::alloc::Global;
 
 /// Whether not as many failures of the command needed the page as event lines ask.

@@ -7,8 +7,7 @@ ghost use Rattle.hwp_check_marks.specs.Needed.{entry_needed, page_needed, pages_
 use crate::keys::key_of;
 use crate::kinds::Kind;
 use hwp_check_frames::{Counts, add_if};
-use hwp_geom::{List, OutOfMemory};
-use hwp_page::{Entry, What};
+use hwp_check_rules::{Entry, List, OutOfMemory, What};
 use std::alloc::Global;
 use std::collections::HashMap;
 

@@ -7,9 +7,7 @@ ghost use Rattle.hwp_check_rules.specs.Standing.{entry_height, frame_height, pag
 use crate::keys::key_of;
 use crate::kinds::Kind;
 use hwp_check_frames::{Counts, add, add_if};
-use hwp_geom::{List, OutOfMemory, Who};
-use hwp_page::{Entry, What};
-use hwp_report_text::{FrameLine, How, MarkLine};
+use hwp_check_rules::{Entry, FrameLine, How, List, MarkLine, OutOfMemory, What, Who};
 use std::alloc::Global;
 use std::collections::HashMap;
 

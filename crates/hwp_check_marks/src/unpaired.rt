@@ -9,8 +9,7 @@ use crate::keys::{has_page, key_of};
 use crate::kinds::Kind;
 use crate::tallies::{add_mark, entry_counts};
 use hwp_check_frames::{Counts, count};
-use hwp_geom::{OutOfMemory, Who};
-use hwp_report_text::{FrameLine, How, MarkLine, Report};
+use hwp_check_rules::{FrameLine, How, MarkLine, OutOfMemory, Report, Who};
 use std::alloc::Global;
 use std::collections::HashMap;
 

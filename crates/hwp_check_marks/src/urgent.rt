@@ -7,8 +7,7 @@ ghost use Rattle.hwp_check_marks.specs.Needed.{frames_urgent, how_urgent, is_nin
 use crate::keys::key_of;
 use crate::kinds::Kind;
 use hwp_check_frames::{Counts, Noted, Rows, add_if, add_own, count, row_of};
-use hwp_geom::{OutOfMemory, Who};
-use hwp_report_text::{FrameLine, How, MarkLine};
+use hwp_check_rules::{FrameLine, How, MarkLine, OutOfMemory, Who};
 use std::alloc::Global;
 use std::collections::HashMap;
 

@@ -2,7 +2,7 @@
 use Rattle.std.proofs.Common.{◌≡◌, ℕ, zero, suc, ◌+◌, ◌-◌, ◌<◌, ◌≤◌, cond, Bool, true, false, not, List, [], ◌∷◌, Some, fold, length, slice_get, slice_index_or, take, drop, true≢false, refl, sym, ap, ◌∙◌, subst, arith}
 use Rattle.std.proofs.lemmas.Bool.{not-true}
 use Rattle.std.proofs.lemmas.Option.{none-some, same_Some, slice_get-get_or, slice_get_within}
-use Rattle.hwp_report_text.specs.declared.MarkLine.{MarkLine}
+use Rattle.hwp_law.specs.hwp_report_text.declared.MarkLine.{MarkLine}
 use Rattle.hwp_law.specs.Records.{is_poisoning}
 use Rattle.hwp_check_poison.specs.Nears.{run, runs, says}
 

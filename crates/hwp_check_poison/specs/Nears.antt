@@ -1,8 +1,8 @@
 -- What is kept of a frame's record for the commands of one processor, mark by mark.
 use Rattle.std.specs.Prelude.{◌≡◌, ℕ, ◌+◌, ◌==◌, max, min, cond, not, Bool, true, false, List, [], ◌∷◌, Some, length, slice_get}
-use Rattle.hwp_geom.specs.declared.Cpu.{Cpu}
-use Rattle.hwp_report_text.specs.declared.FrameLine.{FrameLine}
-use Rattle.hwp_report_text.specs.declared.MarkLine.{MarkLine}
+use Rattle.hwp_law.specs.hwp_geom.declared.Cpu.{Cpu}
+use Rattle.hwp_law.specs.hwp_report_text.declared.FrameLine.{FrameLine}
+use Rattle.hwp_law.specs.hwp_report_text.declared.MarkLine.{MarkLine}
 use Rattle.hwp_law.specs.Records.{is_poisoning, who_in}
 use Rattle.hwp_check_poison.specs.declared.nears.Nears.{Nears}
 use Rattle.hwp_check_poison.specs.declared.nears.MarkIndex.{MarkIndex}

@@ -3,17 +3,17 @@ use Rattle.std.specs.Prelude.{◌≡◌, ℕ, ◌+◌, ◌==◌, nat_lt, ◌&&�
 use Rattle.std.specs.HashSet.{HashSet}
 use Rattle.std.specs.HashSet as bag
 use Rattle.std.specs.List.{list_any}
-use Rattle.hwp_geom.specs.declared.Cpu.{Cpu}
-use Rattle.hwp_geom.specs.declared.Who.{Who}
-use Rattle.hwp_page.specs.declared.Outcome.{Outcome}
-use Rattle.hwp_page.specs.declared.Outcome.TheVariants as outcomes
-use Rattle.hwp_report_text.specs.declared.Acted.{Acted}
-use Rattle.hwp_report_text.specs.declared.Acted.TheVariants as acts
-use Rattle.hwp_report_text.specs.declared.FrameLine.{FrameLine}
-use Rattle.hwp_report_text.specs.declared.How.{How}
-use Rattle.hwp_report_text.specs.declared.How.TheVariants as hows
-use Rattle.hwp_report_text.specs.declared.MarkLine.{MarkLine}
-use Rattle.hwp_report_text.specs.declared.MarkLine.TheVariants as marks
+use Rattle.hwp_law.specs.hwp_geom.declared.Cpu.{Cpu}
+use Rattle.hwp_law.specs.hwp_geom.declared.Who.{Who}
+use Rattle.hwp_law.specs.hwp_page.declared.Outcome.{Outcome}
+use Rattle.hwp_law.specs.hwp_page.declared.Outcome.TheVariants as outcomes
+use Rattle.hwp_law.specs.hwp_report_text.declared.Acted.{Acted}
+use Rattle.hwp_law.specs.hwp_report_text.declared.Acted.TheVariants as acts
+use Rattle.hwp_law.specs.hwp_report_text.declared.FrameLine.{FrameLine}
+use Rattle.hwp_law.specs.hwp_report_text.declared.How.{How}
+use Rattle.hwp_law.specs.hwp_report_text.declared.How.TheVariants as hows
+use Rattle.hwp_law.specs.hwp_report_text.declared.MarkLine.{MarkLine}
+use Rattle.hwp_law.specs.hwp_report_text.declared.MarkLine.TheVariants as marks
 use Rattle.hwp_law.specs.Lines.{is_same_command}
 use Rattle.hwp_law.specs.Records.{who_in}
 use Rattle.hwp_check_poison.specs.declared.results.Results.{Results}

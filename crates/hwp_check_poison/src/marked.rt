@@ -1,5 +1,5 @@
 ghost use Rattle.std.specs.Prelude.{◌≡◌, ◌↔◌, Some, IsTrue};
-ghost use Rattle.hwp_report_text.specs.declared.How.TheVariants as hows;
+ghost use Rattle.hwp_law.specs.hwp_report_text.declared.How.TheVariants as hows;
 ghost use Rattle.hwp_law.specs.Causes.{ComesTo, HasMark, TakesBack};
 ghost use Rattle.hwp_law.specs.Lines.{marks_of};
 ghost use Rattle.hwp_law.specs.Records.{how_in as how_told};
@@ -8,9 +8,7 @@ ghost use Rattle.hwp_check_poison.specs.Results.{AreResults, has_come};
 use crate::results::{
     COMMANDED, MOVED, Results, TAKEN_BACK, TAKEN_FREE, has_number, outcome_number,
 };
-use hwp_geom::{Frame, Who};
-use hwp_page::Outcome;
-use hwp_report_text::Report;
+use hwp_law::{Frame, Outcome, Report, Who};
 
 /// Whether the frame has a mark of the command of which this came, whatever the mark is.
 fn has_come(report: &Report, results: &Results, who: Who, frame: u64, outcome: Outcome) -> bool

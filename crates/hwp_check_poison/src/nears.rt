@@ -2,8 +2,7 @@ ghost use Rattle.std.specs.Prelude.{◌≡◌, IfOk};
 ghost use Rattle.hwp_law.specs.Records.{is_poisoning, who_in};
 ghost use Rattle.hwp_check_poison.specs.Nears.{AreNears, IsPast, highs, lows, runs, says, seq_by};
 
-use hwp_geom::{Cpu, OutOfMemory, Who};
-use hwp_report_text::{FrameLine, MarkLine};
+use hwp_law::{Cpu, FrameLine, MarkLine, OutOfMemory, Who};
 use std::alloc::Global;
 
 /// The highest number that a command can have.

@@ -3,9 +3,7 @@ ghost use Rattle.hwp_law.specs.Lines.{marks_of};
 ghost use Rattle.hwp_check_poison.specs.Results.{AreResults, acted_number, failure_number, has_key, has_number, has_result, how_number, is_key, mark_kept, mark_number, marks_at, marks_kept, outcome_number};
 
 use crate::nears::who_in;
-use hwp_geom::{Cpu, OutOfMemory, Who};
-use hwp_page::Outcome;
-use hwp_report_text::{Acted, FrameLine, How, MarkLine, Report};
+use hwp_law::{Acted, Cpu, FrameLine, How, MarkLine, OutOfMemory, Outcome, Report, Who};
 use std::alloc::Global;
 use std::collections::HashSet;
 

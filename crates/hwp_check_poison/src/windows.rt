@@ -6,8 +6,7 @@ ghost use Rattle.hwp_check_poison.specs.Nears.{AreNears, IsPast, run, runs};
 ghost use Rattle.hwp_check_poison.specs.Windows.{IsEdge, may_end, same};
 
 use crate::nears::{MarkIndex, Nears, is_poisoning, says};
-use hwp_geom::Who;
-use hwp_report_text::{MarkLine, Report};
+use hwp_law::{MarkLine, Report, Who};
 
 /// The first place of a rising list whose number isn't below the bound.
 fn edge(list: &[u32], bound: u64) -> usize

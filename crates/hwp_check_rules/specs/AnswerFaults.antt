@@ -1,23 +1,23 @@
 -- Which lines of a report break the rule of answers and events.
 use Rattle.std.specs.Prelude.{◌≡◌, ◌≢◌, ◌⊎◌, ℕ, ◌<◌, ◌==◌, ◌&&◌, true, not, List, Some, count_by, length, slice_get, take}
-use Rattle.hwp_geom.specs.declared.Cpu.{Cpu}
-use Rattle.hwp_geom.specs.declared.Proc.{Proc}
-use Rattle.hwp_geom.specs.declared.Who.{Who}
-use Rattle.hwp_page.specs.Orders.{IsEarlier}
-use Rattle.hwp_page.specs.declared.At.{At}
-use Rattle.hwp_page.specs.declared.Entry.{Entry}
-use Rattle.hwp_script_read.specs.declared.Command.{Command}
-use Rattle.hwp_script_read.specs.declared.Script.{Script}
-use Rattle.hwp_report_text.specs.declared.Answer.{Answer}
-use Rattle.hwp_report_text.specs.declared.CpuLine.{CpuLine}
-use Rattle.hwp_report_text.specs.declared.CpuLine.TheVariants as lines
-use Rattle.hwp_report_text.specs.declared.Report.{Report}
-use Rattle.hwp_check_events.specs.hwp_law.Answers.{is_answering}
-use Rattle.hwp_check_events.specs.hwp_law.Commands.{process_at}
-use Rattle.hwp_check_events.specs.hwp_law.Endings.{HasEnded, IsOver, WasGone}
-use Rattle.hwp_check_events.specs.hwp_law.Lines.{events_of}
-use Rattle.hwp_check_events.specs.hwp_law.Places.{command_at, entry_at}
-use Rattle.hwp_check_events.specs.hwp_law.States.{IsInWindow, entry_named, state_named}
+use Rattle.hwp_law.specs.hwp_geom.declared.Cpu.{Cpu}
+use Rattle.hwp_law.specs.hwp_geom.declared.Proc.{Proc}
+use Rattle.hwp_law.specs.hwp_geom.declared.Who.{Who}
+use Rattle.hwp_law.specs.hwp_page.Orders.{IsEarlier}
+use Rattle.hwp_law.specs.hwp_page.declared.At.{At}
+use Rattle.hwp_law.specs.hwp_page.declared.Entry.{Entry}
+use Rattle.hwp_law.specs.hwp_script_read.declared.Command.{Command}
+use Rattle.hwp_law.specs.hwp_script_read.declared.Script.{Script}
+use Rattle.hwp_law.specs.hwp_report_text.declared.Answer.{Answer}
+use Rattle.hwp_law.specs.hwp_report_text.declared.CpuLine.{CpuLine}
+use Rattle.hwp_law.specs.hwp_report_text.declared.CpuLine.TheVariants as lines
+use Rattle.hwp_law.specs.hwp_report_text.declared.Report.{Report}
+use Rattle.hwp_law.specs.Answers.{is_answering}
+use Rattle.hwp_law.specs.Commands.{process_at}
+use Rattle.hwp_law.specs.Endings.{HasEnded, IsOver, WasGone}
+use Rattle.hwp_law.specs.Lines.{events_of}
+use Rattle.hwp_law.specs.Places.{command_at, entry_at}
+use Rattle.hwp_law.specs.States.{IsInWindow, entry_named, state_named}
 use Rattle.hwp_check_events.specs.Misfits.{IsWrong, Lacks, found_by}
 use Rattle.hwp_check_rules.specs.Answered.{HasAnswer, IsInPlace, IsRight, is_answer, seq_of}
 use Rattle.hwp_check_rules.specs.Standing.{cpu_line, row_line}

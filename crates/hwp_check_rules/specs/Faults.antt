@@ -1,26 +1,26 @@
 -- Which lines of a report break its rules: the shape, the histories, the policies seen, the count, the losses, the stop and the
 -- frames.
 use Rattle.std.specs.Prelude.{◌≡◌, ◌≢◌, ◌⊎◌, ℕ, ◌+◌, ◌<◌, ◌≤◌, min, Bool, true, false, cond, List, [], ◌∷◌, Some, Contains, count_by, length, slice_get, take}
-use Rattle.hwp_geom.specs.declared.FileNo.{FileNo}
-use Rattle.hwp_geom.specs.declared.Frame.{Frame}
-use Rattle.hwp_geom.specs.declared.Page.{Page}
-use Rattle.hwp_geom.specs.declared.PageKind.{PageKind}
-use Rattle.hwp_geom.specs.declared.Who.{Who}
-use Rattle.hwp_kill.specs.declared.Seen.{Seen}
-use Rattle.hwp_page.specs.History.{IsReplay, state_after}
-use Rattle.hwp_page.specs.Step.{Allowed, opening_of}
-use Rattle.hwp_page.specs.declared.At.{At}
-use Rattle.hwp_page.specs.declared.Entry.{Entry}
-use Rattle.hwp_page.specs.declared.PageState.{PageState}
-use Rattle.hwp_script_read.specs.declared.Script.{Script}
-use Rattle.hwp_report_text.specs.declared.FrameLine.{FrameLine}
-use Rattle.hwp_report_text.specs.declared.Whereabouts.{Whereabouts}
-use Rattle.hwp_report_text.specs.declared.Whereabouts.TheVariants as places
-use Rattle.hwp_report_text.specs.declared.Report.{Report}
-use Rattle.hwp_check_events.specs.hwp_law.Entries.{IsMadeBy}
-use Rattle.hwp_check_events.specs.hwp_law.Places.{entry_at}
-use Rattle.hwp_check_events.specs.hwp_law.Report.{is_of}
-use Rattle.hwp_check_events.specs.hwp_law.Seen.{IsOwnCount, IsPolicySeen, seen_in}
+use Rattle.hwp_law.specs.hwp_geom.declared.FileNo.{FileNo}
+use Rattle.hwp_law.specs.hwp_geom.declared.Frame.{Frame}
+use Rattle.hwp_law.specs.hwp_geom.declared.Page.{Page}
+use Rattle.hwp_law.specs.hwp_geom.declared.PageKind.{PageKind}
+use Rattle.hwp_law.specs.hwp_geom.declared.Who.{Who}
+use Rattle.hwp_law.specs.hwp_kill.declared.Seen.{Seen}
+use Rattle.hwp_law.specs.hwp_page.History.{IsReplay, state_after}
+use Rattle.hwp_law.specs.hwp_page.Step.{Allowed, opening_of}
+use Rattle.hwp_law.specs.hwp_page.declared.At.{At}
+use Rattle.hwp_law.specs.hwp_page.declared.Entry.{Entry}
+use Rattle.hwp_law.specs.hwp_page.declared.PageState.{PageState}
+use Rattle.hwp_law.specs.hwp_script_read.declared.Script.{Script}
+use Rattle.hwp_law.specs.hwp_report_text.declared.FrameLine.{FrameLine}
+use Rattle.hwp_law.specs.hwp_report_text.declared.Whereabouts.{Whereabouts}
+use Rattle.hwp_law.specs.hwp_report_text.declared.Whereabouts.TheVariants as places
+use Rattle.hwp_law.specs.hwp_report_text.declared.Report.{Report}
+use Rattle.hwp_law.specs.Entries.{IsMadeBy}
+use Rattle.hwp_law.specs.Places.{entry_at}
+use Rattle.hwp_law.specs.PageHistory.{is_of}
+use Rattle.hwp_law.specs.SeenPolicies.{IsOwnCount, IsPolicySeen, seen_in}
 use Rattle.hwp_check_rules.specs.Rules.{CountFits, IsBalanced, IsFrameShown, StopFits}
 use Rattle.hwp_check_rules.specs.Standing.{count_line, cpu_line, entry_line, file_line, frame_line, page_line, seen_line, stop_line}
 

@@ -7,4 +7,12 @@ pub mod MarkFaults
 pub mod AnswerFaults
 pub mod Verdicts
 pub mod Pasts
-pub use Rattle.hwp_check_events.specs.hwp_law as hwp_law
+pub use Rattle.hwp_law.specs.hwp_banks as hwp_banks
+pub use Rattle.hwp_check_events.specs.hwp_check_event_line as hwp_check_event_line
+pub use Rattle.hwp_check_events.specs as hwp_check_events
+pub use Rattle.hwp_law.specs.hwp_geom as hwp_geom
+pub use Rattle.hwp_law.specs.hwp_kill as hwp_kill
+pub use Rattle.hwp_law.specs as hwp_law
+pub use Rattle.hwp_law.specs.hwp_page as hwp_page
+pub use Rattle.hwp_law.specs.hwp_report_text as hwp_report_text
+pub use Rattle.hwp_law.specs.hwp_script_read as hwp_script_read

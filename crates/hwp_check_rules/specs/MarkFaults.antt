@@ -1,23 +1,23 @@
 -- Which lines of a report break the rule of the records of frames.
 use Rattle.std.specs.Prelude.{◌≡◌, ◌≢◌, ◌⊎◌, ℕ, ◌+◌, ◌<◌, ◌≤◌, Bool, true, List, [], ◌∷◌, if◌then◌else◌, min, Option, Some, None, count_by, is_some, length, option_and_then, slice_get, sum_by, take, unwrap_or}
 use Rattle.std.specs.Option.{option_or}
-use Rattle.hwp_geom.specs.declared.Frame.{Frame}
-use Rattle.hwp_geom.specs.declared.Who.{Who}
-use Rattle.hwp_report_text.specs.hwp_banks.Addresses.{frame_at}
-use Rattle.hwp_page.specs.declared.At.{At}
-use Rattle.hwp_page.specs.declared.Entry.{Entry}
-use Rattle.hwp_page.specs.declared.Situation.{Situation}
-use Rattle.hwp_script_read.specs.declared.Command.{Command}
-use Rattle.hwp_script_read.specs.declared.Command.TheVariants as commands
-use Rattle.hwp_script_read.specs.declared.Script.{Script}
-use Rattle.hwp_report_text.specs.declared.FrameLine.{FrameLine}
-use Rattle.hwp_report_text.specs.declared.How.{How}
-use Rattle.hwp_report_text.specs.declared.MarkLine.{MarkLine}
-use Rattle.hwp_report_text.specs.declared.Report.{Report}
-use Rattle.hwp_check_events.specs.hwp_law.Lines.{EventLine, events_of, marks_of}
-use Rattle.hwp_check_events.specs.hwp_law.Pairings.{entries_of, has_page, is_commands, is_failure, is_failure_mark, is_move_mark, is_required, is_soft, marks_in, urgent_from}
-use Rattle.hwp_check_events.specs.hwp_law.Places.{command_at, entry_at}
-use Rattle.hwp_check_events.specs.hwp_law.Records.{IsAnswered, IsFound, IsMarkAt, hardware_act, hardware_marks, how_in, is_by_hardware, line_results, result_lines, result_of, who_in}
+use Rattle.hwp_law.specs.hwp_geom.declared.Frame.{Frame}
+use Rattle.hwp_law.specs.hwp_geom.declared.Who.{Who}
+use Rattle.hwp_law.specs.hwp_banks.Addresses.{frame_at}
+use Rattle.hwp_law.specs.hwp_page.declared.At.{At}
+use Rattle.hwp_law.specs.hwp_page.declared.Entry.{Entry}
+use Rattle.hwp_law.specs.hwp_page.declared.Situation.{Situation}
+use Rattle.hwp_law.specs.hwp_script_read.declared.Command.{Command}
+use Rattle.hwp_law.specs.hwp_script_read.declared.Command.TheVariants as commands
+use Rattle.hwp_law.specs.hwp_script_read.declared.Script.{Script}
+use Rattle.hwp_law.specs.hwp_report_text.declared.FrameLine.{FrameLine}
+use Rattle.hwp_law.specs.hwp_report_text.declared.How.{How}
+use Rattle.hwp_law.specs.hwp_report_text.declared.MarkLine.{MarkLine}
+use Rattle.hwp_law.specs.hwp_report_text.declared.Report.{Report}
+use Rattle.hwp_law.specs.Lines.{EventLine, events_of, marks_of}
+use Rattle.hwp_law.specs.Pairings.{entries_of, has_page, is_commands, is_failure, is_failure_mark, is_move_mark, is_required, is_soft, marks_in, urgent_from}
+use Rattle.hwp_law.specs.Places.{command_at, entry_at}
+use Rattle.hwp_law.specs.Records.{IsAnswered, IsFound, IsMarkAt, hardware_act, hardware_marks, how_in, is_by_hardware, line_results, result_lines, result_of, who_in}
 use Rattle.hwp_check_rules.specs.Standing.{entry_line, frame_line, mark_line}
 
 -- how many such marks stand before a mark, in the order of the report

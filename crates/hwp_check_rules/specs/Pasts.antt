@@ -1,15 +1,15 @@
 -- What is known of a thread from the lines of its processor, to judge what a report says of its policies.
 use Rattle.std.specs.Prelude.{◌≡◌, ℕ, ◌+◌, ◌<◌, ◌&&◌, Bool, List, [], ◌∷◌, Some, is_some, length, slice_get, slice_index_or, slice_set, unwrap_or}
 use Rattle.std.specs.Int.{from_bool}
-use Rattle.hwp_geom.specs.declared.Thread.{Thread}
-use Rattle.hwp_script_read.specs.declared.Command.{Command}
-use Rattle.hwp_script_read.specs.declared.Script.{Script}
-use Rattle.hwp_report_text.specs.declared.CpuLine.{CpuLine}
-use Rattle.hwp_report_text.specs.declared.CpuLine.TheVariants as lines
-use Rattle.hwp_report_text.specs.declared.Report.{Report}
-use Rattle.hwp_check_events.specs.hwp_law.Lines.{answer_among}
-use Rattle.hwp_check_events.specs.hwp_law.Policies.{setting_of, settings}
-use Rattle.hwp_check_events.specs.hwp_law.Seen.{commands_around, cpu_of_thread, is_done}
+use Rattle.hwp_law.specs.hwp_geom.declared.Thread.{Thread}
+use Rattle.hwp_law.specs.hwp_script_read.declared.Command.{Command}
+use Rattle.hwp_law.specs.hwp_script_read.declared.Script.{Script}
+use Rattle.hwp_law.specs.hwp_report_text.declared.CpuLine.{CpuLine}
+use Rattle.hwp_law.specs.hwp_report_text.declared.CpuLine.TheVariants as lines
+use Rattle.hwp_law.specs.hwp_report_text.declared.Report.{Report}
+use Rattle.hwp_law.specs.Lines.{answer_among}
+use Rattle.hwp_law.specs.Policies.{setting_of, settings}
+use Rattle.hwp_law.specs.SeenPolicies.{commands_around, cpu_of_thread, is_done}
 use Rattle.hwp_check_rules.specs.declared.pasts.ThreadPolicies.{ThreadPolicies}
 
 -- which commands were answered `done`, a value for each command

@@ -1,36 +1,36 @@
 -- The nine rules of a report, in their order, each by itself.
 use Rattle.std.specs.Prelude.{◌≡◌, ◌↔◌, ◌+◌, ℕ, Bool, cond, List, Some, IsBitSet, IsSome, count_by, length, slice_get, sum_by}
 use Rattle.std.specs.List.{zip}
-use Rattle.hwp_geom.specs.declared.Cpu.{Cpu}
-use Rattle.hwp_geom.specs.declared.FileNo.{FileNo}
-use Rattle.hwp_geom.specs.declared.Frame.{Frame}
-use Rattle.hwp_geom.specs.declared.Page.{Page}
-use Rattle.hwp_geom.specs.declared.Who.{Who}
-use Rattle.hwp_page.specs.History.{IsReplay}
-use Rattle.hwp_page.specs.declared.Entry.{Entry}
-use Rattle.hwp_page.specs.declared.PageState.{PageState}
-use Rattle.hwp_script_read.specs.declared.Command.{Command}
-use Rattle.hwp_script_read.specs.declared.Command.TheVariants as commands
-use Rattle.hwp_script_read.specs.declared.Script.{Script}
-use Rattle.hwp_report_text.specs.declared.Answer.TheVariants as answers
-use Rattle.hwp_report_text.specs.declared.CpuLine.{CpuLine}
-use Rattle.hwp_report_text.specs.declared.CpuLine.TheVariants as lines
-use Rattle.hwp_report_text.specs.declared.FrameLine.{FrameLine}
-use Rattle.hwp_report_text.specs.declared.Report.{Report}
-use Rattle.hwp_report_text.specs.declared.Stop.{Stop}
-use Rattle.hwp_check_events.specs.hwp_law.Answers.{AreInWindows, AreNamed}
-use Rattle.hwp_check_events.specs.hwp_law.Endings.{EndingsStay}
-use Rattle.hwp_check_events.specs.hwp_law.Entries.{AreMadeBy}
-use Rattle.hwp_check_events.specs.hwp_law.Events.{AreEvents}
-use Rattle.hwp_check_events.specs.hwp_law.Frames.{IsPlaced, WasDone, poisoned_count}
-use Rattle.hwp_check_events.specs.hwp_law.Halts.{IsStopOf}
-use Rattle.hwp_check_events.specs.hwp_law.History.{AreOrdered}
-use Rattle.hwp_check_events.specs.hwp_law.Losses.{answered, lost_in, told}
-use Rattle.hwp_check_events.specs.hwp_law.Pairings.{AreRecorded}
-use Rattle.hwp_check_events.specs.hwp_law.Records.{IsFrameRecord, ends_poisoned}
-use Rattle.hwp_check_events.specs.hwp_law.Report.{is_of}
-use Rattle.hwp_check_events.specs.hwp_law.Seen.{AreSeen, SeenNeverFalls}
-use Rattle.hwp_check_events.specs.hwp_law.Stops.{StaysStopped}
+use Rattle.hwp_law.specs.hwp_geom.declared.Cpu.{Cpu}
+use Rattle.hwp_law.specs.hwp_geom.declared.FileNo.{FileNo}
+use Rattle.hwp_law.specs.hwp_geom.declared.Frame.{Frame}
+use Rattle.hwp_law.specs.hwp_geom.declared.Page.{Page}
+use Rattle.hwp_law.specs.hwp_geom.declared.Who.{Who}
+use Rattle.hwp_law.specs.hwp_page.History.{IsReplay}
+use Rattle.hwp_law.specs.hwp_page.declared.Entry.{Entry}
+use Rattle.hwp_law.specs.hwp_page.declared.PageState.{PageState}
+use Rattle.hwp_law.specs.hwp_script_read.declared.Command.{Command}
+use Rattle.hwp_law.specs.hwp_script_read.declared.Command.TheVariants as commands
+use Rattle.hwp_law.specs.hwp_script_read.declared.Script.{Script}
+use Rattle.hwp_law.specs.hwp_report_text.declared.Answer.TheVariants as answers
+use Rattle.hwp_law.specs.hwp_report_text.declared.CpuLine.{CpuLine}
+use Rattle.hwp_law.specs.hwp_report_text.declared.CpuLine.TheVariants as lines
+use Rattle.hwp_law.specs.hwp_report_text.declared.FrameLine.{FrameLine}
+use Rattle.hwp_law.specs.hwp_report_text.declared.Report.{Report}
+use Rattle.hwp_law.specs.hwp_report_text.declared.Stop.{Stop}
+use Rattle.hwp_law.specs.Answers.{AreInWindows, AreNamed}
+use Rattle.hwp_law.specs.Endings.{EndingsStay}
+use Rattle.hwp_law.specs.Entries.{AreMadeBy}
+use Rattle.hwp_law.specs.Events.{AreEvents}
+use Rattle.hwp_law.specs.Frames.{IsPlaced, WasDone, poisoned_count}
+use Rattle.hwp_law.specs.Halts.{IsStopOf}
+use Rattle.hwp_law.specs.History.{AreOrdered}
+use Rattle.hwp_law.specs.Losses.{answered, lost_in, told}
+use Rattle.hwp_law.specs.Pairings.{AreRecorded}
+use Rattle.hwp_law.specs.Records.{IsFrameRecord, ends_poisoned}
+use Rattle.hwp_law.specs.PageHistory.{is_of}
+use Rattle.hwp_law.specs.SeenPolicies.{AreSeen, SeenNeverFalls}
+use Rattle.hwp_law.specs.Stops.{StaysStopped}
 use Rattle.hwp_check_rules.specs.Answered.{AreAnswered}
 
 -- 1: the report has as many files, frames, pages and processors as the script

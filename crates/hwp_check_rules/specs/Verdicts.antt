@@ -1,8 +1,8 @@
 -- The verdict on a report: legal, or the lowest rule that is broken with the first line that breaks it.
 use Rattle.std.specs.Prelude.{ℕ, ◌<◌, ◌≤◌}
-use Rattle.hwp_script_read.specs.declared.Script.{Script}
-use Rattle.hwp_report_text.specs.declared.Report.{Report}
-use Rattle.hwp_check_events.specs.hwp_law.Law.{IsLawful}
+use Rattle.hwp_law.specs.hwp_script_read.declared.Script.{Script}
+use Rattle.hwp_law.specs.hwp_report_text.declared.Report.{Report}
+use Rattle.hwp_law.specs.Law.{IsLawful}
 use Rattle.hwp_check_rules.specs.declared.verdicts.Rule.{Rule}
 use Rattle.hwp_check_rules.specs.declared.verdicts.Rule.TheVariants.{Shape, Histories, Answers, Seen, Marks, Count, Losses, Stop, Frames}
 use Rattle.hwp_check_rules.specs.declared.verdicts.Verdict.{Verdict}

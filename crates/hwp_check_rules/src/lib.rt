@@ -10,6 +10,13 @@ mod standing;
 mod verdicts;
 
 pub use first::{sooner, sooner_if, soonest};
+pub use hwp_check_events::{Misfits, checkers_of, processor_faults, small_masks};
+pub use hwp_law::{
+    Acted, Answer, At, Code, Command, Cpu, CpuLine, Entry, FileNo, Frame, FrameLine, How, Layout,
+    Line, List, MarkLine, Mask, McgBits, Met, Mode, OutOfMemory, Outcome, Page, PageKind,
+    PageState, Policy, PrctlArgs, Proc, ReadScript, Reply, Report, Script, Seen, Signal, Situation,
+    Stop, StopCause, Text, Thread, VSlot, What, Whereabouts, Who, is_text, prctl, read, words_in,
+};
 pub use making::{command_of, is_made_by, leads_to};
 pub use pasts::{ThreadPolicies, done_of, pasts_of};
 pub use policies::setting_of;

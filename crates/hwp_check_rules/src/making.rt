@@ -1,13 +1,11 @@
 ghost use Rattle.std.specs.Prelude.{◌≡◌, ◌⊎◌, ◌↔◌, IsTrue, IsSomeAnd, None};
-ghost use Rattle.hwp_page.specs.Step.{IsOf};
-ghost use Rattle.hwp_check_events.specs.hwp_law.Commands.{access_of, can_fail, current_thread};
-ghost use Rattle.hwp_check_events.specs.hwp_law.Entries.{CanStandIn, IsAccessAt, IsMadeBy, IsRequiredBy, Makes};
-ghost use Rattle.hwp_check_events.specs.hwp_law.History.{Fits, FitsAccess, FitsLoad, FitsStore, IsMetBy, IsStoredBy, Names};
-ghost use Rattle.hwp_check_events.specs.hwp_law.Places.{command_at};
+ghost use Rattle.hwp_law.specs.hwp_page.Step.{IsOf};
+ghost use Rattle.hwp_law.specs.Commands.{access_of, can_fail, current_thread};
+ghost use Rattle.hwp_law.specs.Entries.{CanStandIn, IsAccessAt, IsMadeBy, IsRequiredBy, Makes};
+ghost use Rattle.hwp_law.specs.History.{Fits, FitsAccess, FitsLoad, FitsStore, IsMetBy, IsStoredBy, Names};
+ghost use Rattle.hwp_law.specs.Places.{command_at};
 
-use hwp_geom::{Layout, Line, Page, Thread, VSlot, Who};
-use hwp_page::{Entry, Met, What};
-use hwp_script_read::{Command, Script};
+use hwp_law::{Command, Entry, Layout, Line, Met, Page, Script, Thread, VSlot, What, Who};
 
 /// The command of a processor with a number.
 pub fn command_of(script: &Script, who: Who) -> Option<Command>

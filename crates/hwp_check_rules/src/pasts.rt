@@ -1,17 +1,13 @@
 ghost use Rattle.std.specs.Prelude.{◌≡◌, ◌≤◌, ◌++◌, ◌&&◌, Some, is_some, length, IfOk, OnOk};
 ghost use Rattle.std.specs.Int.{from_bool};
 ghost use Rattle.std.specs.Option.{option_to_list};
-ghost use Rattle.hwp_check_events.specs.hwp_law.Policies.{setting_of, settings};
-ghost use Rattle.hwp_check_events.specs.hwp_law.Seen.{cpu_of_thread};
+ghost use Rattle.hwp_law.specs.Policies.{setting_of, settings};
+ghost use Rattle.hwp_law.specs.SeenPolicies.{cpu_of_thread};
 ghost use Rattle.hwp_check_rules.specs.Pasts.{AreDone, ArePasts, IsPast, counts, noted};
 
 use crate::policies::setting_of;
 use crate::rows::{commands_of, rows_on};
-use hwp_geom::{Cpu, List, OutOfMemory, Thread};
-use hwp_kill::Policy;
-use hwp_report_text::{Answer, CpuLine, Report};
-use hwp_script_lines::Command;
-use hwp_script_read::Script;
+use hwp_law::{Answer, Command, Cpu, CpuLine, List, OutOfMemory, Policy, Report, Script, Thread};
 use std::alloc::Global;
 
 /// What is known of a thread: its processor, the policies that the processor's commands set, and how many of them were set

@@ -1,10 +1,8 @@
 ghost use Rattle.std.specs.Prelude.{◌≡◌};
-ghost use Rattle.hwp_kill.specs.Prctl.{policy_set};
-ghost use Rattle.hwp_check_events.specs.hwp_law.Policies.{arguments, setting_of};
+ghost use Rattle.hwp_law.specs.hwp_kill.Prctl.{policy_set};
+ghost use Rattle.hwp_law.specs.Policies.{arguments, setting_of};
 
-use hwp_geom::Thread;
-use hwp_kill::Policy;
-use hwp_script_lines::{Command, PrctlArgs};
+use hwp_law::{Command, Policy, PrctlArgs, Thread};
 
 /// The policy that the arguments of prctl(2) set, if they set one.
 fn policy_set(args: &PrctlArgs) -> Option<Policy>

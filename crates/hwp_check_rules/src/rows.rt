@@ -1,11 +1,8 @@
 ghost use Rattle.std.specs.Prelude.{◌≡◌, [], slice_get, unwrap_or};
-ghost use Rattle.hwp_check_events.specs.hwp_law.Lines.{answer_among, answer_of, rows_of};
+ghost use Rattle.hwp_law.specs.Lines.{answer_among, answer_of, rows_of};
 ghost use Rattle.hwp_check_rules.specs.Answered.{is_answer};
 
-use hwp_geom::{Cpu, Who};
-use hwp_report_text::{Answer, CpuLine, Report};
-use hwp_script_lines::Command;
-use hwp_script_read::Script;
+use hwp_law::{Answer, Command, Cpu, CpuLine, Report, Script, Who};
 
 /// The commands of a processor.
 pub fn commands_of(script: &Script, cpu: Cpu) -> &[Command]

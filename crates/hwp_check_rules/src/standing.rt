@@ -2,9 +2,7 @@ ghost use Rattle.std.specs.Prelude.{◌≡◌, ◌<◌, ◌≤◌, ◌^◌, leng
 ghost use Rattle.std.specs.List.{sum_by};
 ghost use Rattle.hwp_check_rules.specs.Standing.{cpu_height, cpu_line, entry_height, file_line, frame_height, frame_line, last_line, page_height, page_line};
 
-use hwp_geom::List;
-use hwp_page::{Entry, What};
-use hwp_report_text::{CpuLine, FrameLine, Report};
+use hwp_law::{CpuLine, Entry, FrameLine, List, Report, What};
 
 /// The lines of an entry.
 pub fn entry_height(entry: &Entry) -> u64

@@ -3,20 +3,22 @@ use Rattle.std.proofs.Common.{◌≡◌, inl, inr, ℕ, zero, suc, ◌+◌, ◌-
 use Rattle.std.proofs.lemmas.Bool.{cases_eq, cases_lt, cond-true, or_left, or_right}
 use Rattle.std.proofs.lemmas.List.Sums.{fold-append}
 use Rattle.std.proofs.lemmas.Option.{none-some, same_Some}
-use Rattle.hwp_geom.specs.Limits.{line_limit}
-use Rattle.hwp_geom.specs.declared.Frame.{Frame}
-use Rattle.hwp_geom.specs.declared.Who.{Who}
+use Rattle.hwp_banks.specs.hwp_geom.Limits.{line_limit}
+use Rattle.hwp_banks.specs.hwp_geom.declared.Frame.{Frame}
+use Rattle.hwp_banks.specs.hwp_geom.declared.Who.{Who}
 use Rattle.hwp_banks.specs.Addresses.{frame_at}
 use Rattle.hwp_banks.specs.Events.{own_event}
 use Rattle.hwp_banks.specs.declared.Event.{Event}
 use Rattle.hwp_banks.specs.declared.Origin.{Origin}
 use Rattle.hwp_banks.specs.declared.Origin.TheVariants as origins
-use Rattle.hwp_script_read.specs.declared.Script.{Script}
-use Rattle.hwp_check_event_line.specs.hwp_report_text.declared.Report.{Report}
-use Rattle.hwp_check_event_line.specs.hwp_law.Checks.{Banks, IsLineOf, is_panic}
-use Rattle.hwp_check_event_line.specs.hwp_law.Commands.{Arrival}
-use Rattle.hwp_check_event_line.specs.hwp_law.Events.{AreScrubbed, IsDamaged, IsScrubbed, IsWeakFound, MeetsMarked}
-use Rattle.hwp_check_event_line.specs.hwp_law.Lines.{EventLine, bad_lines_of}
+use Rattle.hwp_law.specs.hwp_script_read.declared.Script.{Script}
+use Rattle.hwp_law.specs.hwp_report_text.declared.Report.{Report}
+use Rattle.hwp_law.specs.Checks.{IsLineOf}
+use Rattle.hwp_law.specs.hwp_report_text.Acts.{is_panic}
+use Rattle.hwp_banks.specs.Banks.{Banks}
+use Rattle.hwp_law.specs.hwp_severity.declared.Arrival.{Arrival}
+use Rattle.hwp_law.specs.Events.{AreScrubbed, IsDamaged, IsScrubbed, IsWeakFound, MeetsMarked}
+use Rattle.hwp_law.specs.Lines.{EventLine, bad_lines_of}
 use Rattle.hwp_check_event_line.specs.Found.{IsRawLine, has_stopper, resting}
 use Rattle.hwp_check_scrub.specs.Scrubs.{Course, IsScrubbedLine, after, bound_from, can_meet_bad, has_line_below, line_at, marked_from, own_at, passed_to, place_of, turn}
 use Rattle.hwp_check_event_line.specs.Lines.{has_line}

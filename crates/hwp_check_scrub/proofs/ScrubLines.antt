@@ -2,18 +2,19 @@
 use Rattle.std.proofs.Common.{◌≡◌, ℕ, ◌+◌, ◌*◌, ◌%◌, ◌<◌, ◌≤◌, ◌==◌, ◌&&◌, ◌||◌, Bool, true, false, cond, is_none, is_some, true≢false, refl, sym, ap, ◌∙◌, subst, arith}
 use Rattle.std.specs.Bool.{nat_le, nat_lt}
 use Rattle.std.proofs.lemmas.Bool.{and_from, and_right, cond-false, cond-true, eq-eqb, le-leb, leb-true, lt-ltb, ltb-true, and_parts, ne_eqb}
-use Rattle.hwp_geom.specs.declared.Frame.{Frame}
-use Rattle.hwp_geom.specs.declared.Who.{Who}
+use Rattle.hwp_banks.specs.hwp_geom.declared.Frame.{Frame}
+use Rattle.hwp_banks.specs.hwp_geom.declared.Who.{Who}
 use Rattle.hwp_banks.specs.Addresses.{frame_at}
 use Rattle.hwp_banks.specs.Events.{bank_of, line_misc, own_event, own_status}
 use Rattle.hwp_banks.specs.declared.Origin.{Origin}
 use Rattle.hwp_banks.specs.declared.Origin.TheVariants as origins
-use Rattle.hwp_script_read.specs.declared.Script.{Script}
-use Rattle.hwp_check_event_line.specs.hwp_report_text.declared.Report.{Report}
-use Rattle.hwp_check_event_line.specs.hwp_law.Checks.{IsLineOf}
-use Rattle.hwp_check_event_line.specs.hwp_law.Commands.{Arrival}
-use Rattle.hwp_check_event_line.specs.hwp_law.Events.{IsDamaged, raw_bank}
-use Rattle.hwp_check_event_line.specs.hwp_law.Lines.{EventLine}
+use Rattle.hwp_law.specs.hwp_script_read.declared.Script.{Script}
+use Rattle.hwp_law.specs.hwp_report_text.declared.Report.{Report}
+use Rattle.hwp_law.specs.Checks.{IsLineOf}
+use Rattle.hwp_law.specs.hwp_severity.declared.Arrival.{Arrival}
+use Rattle.hwp_law.specs.Events.{IsDamaged}
+use Rattle.hwp_banks.specs.Banks.{raw_bank}
+use Rattle.hwp_law.specs.Lines.{EventLine}
 use Rattle.hwp_check_scrub.specs.Scrubs.{Course, damaged_lines, line_at, may_meet, place_of, tells_own, turn}
 use Rattle.hwp_check_event_line.specs.Lines.{has_line}
 use Rattle.hwp_check_scrub.specs.declared.reach.Reach.{Reach}

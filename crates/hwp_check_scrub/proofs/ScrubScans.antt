@@ -2,11 +2,11 @@
 use Rattle.std.proofs.Common.{◌≡◌, ◌↔◌, ℕ, ◌+◌, ◌<◌, ◌++◌, List, [], ◌∷◌, fold, get_or, length, map, take, sym, ap, ◌∙◌, subst}
 use Rattle.std.proofs.lemmas.List.{get_or-map, length-map, take_more}
 use Rattle.std.proofs.lemmas.List.Sums.{fold-append}
-use Rattle.hwp_geom.specs.declared.Who.{Who}
-use Rattle.hwp_script_read.specs.declared.Script.{Script}
-use Rattle.hwp_check_event_line.specs.hwp_report_text.declared.Report.{Report}
-use Rattle.hwp_check_event_line.specs.hwp_law.Commands.{Arrival}
-use Rattle.hwp_check_event_line.specs.hwp_law.Lines.{EventLine}
+use Rattle.hwp_banks.specs.hwp_geom.declared.Who.{Who}
+use Rattle.hwp_law.specs.hwp_script_read.declared.Script.{Script}
+use Rattle.hwp_law.specs.hwp_report_text.declared.Report.{Report}
+use Rattle.hwp_law.specs.hwp_severity.declared.Arrival.{Arrival}
+use Rattle.hwp_law.specs.Lines.{EventLine}
 use Rattle.hwp_check_scrub.specs.Scrubbing.{IsRightIn, reach_at}
 use Rattle.hwp_check_scrub.specs.Scrubs.{Course, IsScrubbedLine, after, turn}
 use Rattle.hwp_check_event_line.specs.Told.{told}

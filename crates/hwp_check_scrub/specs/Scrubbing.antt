@@ -1,15 +1,15 @@
 -- A scrub by the table of the lowest lines that were marked.
 use Rattle.std.specs.Prelude.{ℕ, ◌+◌, ◌-◌, ◌*◌, ◌≤◌, Bool, cond, List, slice_index_or, take}
-use Rattle.hwp_geom.specs.Limits.{line_limit}
+use Rattle.hwp_banks.specs.hwp_geom.Limits.{line_limit}
 use Rattle.hwp_banks.specs.Addresses.{frame_at}
 use Rattle.hwp_banks.specs.declared.Origin.TheVariants as origins
 use Rattle.hwp_banks.specs.declared.Origin.{Origin}
-use Rattle.hwp_geom.specs.declared.Frame.{Frame}
-use Rattle.hwp_geom.specs.declared.Who.{Who}
-use Rattle.hwp_script_read.specs.declared.Script.{Script}
-use Rattle.hwp_check_event_line.specs.hwp_report_text.declared.Report.{Report}
-use Rattle.hwp_check_event_line.specs.hwp_law.Commands.{Arrival}
-use Rattle.hwp_check_event_line.specs.hwp_law.Lines.{EventLine}
+use Rattle.hwp_banks.specs.hwp_geom.declared.Frame.{Frame}
+use Rattle.hwp_banks.specs.hwp_geom.declared.Who.{Who}
+use Rattle.hwp_law.specs.hwp_script_read.declared.Script.{Script}
+use Rattle.hwp_law.specs.hwp_report_text.declared.Report.{Report}
+use Rattle.hwp_law.specs.hwp_severity.declared.Arrival.{Arrival}
+use Rattle.hwp_law.specs.Lines.{EventLine}
 use Rattle.hwp_check_scrub.specs.Scrubs.{Course, IsScrubbedLine, after_all, bound_from, place_of, turn}
 use Rattle.hwp_check_scrub.specs.declared.reach.Reach.{Reach}
 use Rattle.hwp_check_scrub.specs.declared.reach.Turn.{Turn}

@@ -2,22 +2,23 @@
 -- frame and its weak line have a place each, in the order in which the scrub comes to them.
 use Rattle.std.specs.Prelude.{ℕ, zero, suc, ◌+◌, ◌-◌, ◌*◌, ◌/◌, ◌%◌, ◌==◌, nat_le, nat_lt, min, Bool, false, ◌&&◌, ◌||◌, cond, List, Option, Some, None, fold, is_none, is_some, unwrap_or}
 use Rattle.std.specs.Int.{from_bool}
-use Rattle.hwp_geom.specs.Limits.{line_limit}
-use Rattle.hwp_geom.specs.declared.Frame.{Frame}
-use Rattle.hwp_geom.specs.declared.Who.{Who}
+use Rattle.hwp_banks.specs.hwp_geom.Limits.{line_limit}
+use Rattle.hwp_banks.specs.hwp_geom.declared.Frame.{Frame}
+use Rattle.hwp_banks.specs.hwp_geom.declared.Who.{Who}
 use Rattle.hwp_banks.specs.Addresses.{frame_at}
 use Rattle.hwp_banks.specs.Events.{bank_of, line_misc, own_event, own_status}
 use Rattle.hwp_banks.specs.declared.Event.{Event}
 use Rattle.hwp_banks.specs.declared.Origin.{Origin}
 use Rattle.hwp_banks.specs.declared.Origin.TheVariants as origins
-use Rattle.hwp_script_read.specs.declared.Command.{Command}
-use Rattle.hwp_script_read.specs.declared.Command.TheVariants as commands
-use Rattle.hwp_script_read.specs.declared.Script.{Script}
-use Rattle.hwp_check_event_line.specs.hwp_report_text.declared.Report.{Report}
-use Rattle.hwp_check_event_line.specs.hwp_law.Checks.{IsLineOf, is_panic}
-use Rattle.hwp_check_event_line.specs.hwp_law.Commands.{Arrival}
-use Rattle.hwp_check_event_line.specs.hwp_law.Events.{raw_bank}
-use Rattle.hwp_check_event_line.specs.hwp_law.Lines.{EventLine, bad_lines_of, weak_lines_of}
+use Rattle.hwp_law.specs.hwp_script_read.declared.Command.{Command}
+use Rattle.hwp_law.specs.hwp_script_read.declared.Command.TheVariants as commands
+use Rattle.hwp_law.specs.hwp_script_read.declared.Script.{Script}
+use Rattle.hwp_law.specs.hwp_report_text.declared.Report.{Report}
+use Rattle.hwp_law.specs.Checks.{IsLineOf}
+use Rattle.hwp_law.specs.hwp_report_text.Acts.{is_panic}
+use Rattle.hwp_law.specs.hwp_severity.declared.Arrival.{Arrival}
+use Rattle.hwp_banks.specs.Banks.{raw_bank}
+use Rattle.hwp_law.specs.Lines.{EventLine, bad_lines_of, weak_lines_of}
 use Rattle.hwp_check_event_line.specs.Found.{IsRawLine, has_stopper}
 use Rattle.hwp_check_event_line.specs.Lines.{has_line}
 use Rattle.hwp_check_scrub.specs.declared.reach.Reach.{Reach}

@@ -1,6 +1,6 @@
 ghost use Rattle.std.specs.Prelude.{◌≡◌, ◌≤◌, ◌<◌, ◌+◌, ◌-◌, ◌*◌, ◌^◌, ◌⊎◌, None, cond, nat_lt, map};
 ghost use Rattle.hwp_check_event_line.specs.Firsts.{IsScanned};
-ghost use Rattle.hwp_check_event_line.specs.Told.{coming, told};
+ghost use Rattle.hwp_check_event_line.specs.Told.{told};
 ghost use Rattle.hwp_check_scrub.specs.Scrubbing.{IsRightIn, course_by, low_of};
 ghost use Rattle.hwp_check_scrub.specs.Scrubs.{after_all, bound_from, can_meet_bad, lacking, reach_from};
 
@@ -8,9 +8,8 @@ use crate::lines::has_line_below;
 use crate::reach::{Range, Reach};
 use crate::scrubs::{LINES, lacking, low_at, place_of, scan};
 use hwp_banks::{Bank, Event, Origin};
-use hwp_check_event_line::{Arrival, Faults, Shown, Traced, bad_lines_of};
-use hwp_geom::{Frame, Who};
-use hwp_script_read::Script;
+use hwp_check_event_line::{Faults, Shown, Traced, bad_lines_of};
+use hwp_law::{Arrival, Frame, Script, Who};
 
 /// Whether the scrub may meet a bad line of the frame.
 fn can_meet_bad(report: &Traced<'_>, table: &[u8], whole: bool, frame: u64) -> bool
@@ -70,7 +69,7 @@ pub fn scrub_faults(
     lines: &[Shown],
 ) -> Faults
     requires { first.0 ≤ last.0 }
-    ensures scanned { IsScanned (IsRightIn script.now report.now who (coming how) (course_by report.now table.now whole first last) (reach_from first raw.old) (map told lines.now)) (map told lines.now) result.wrong }
+    ensures scanned { IsScanned (IsRightIn script.now report.now who how (course_by report.now table.now whole first last) (reach_from first raw.old) (map told lines.now)) (map told lines.now) result.wrong }
     ensures lacks { result.lacks ≡ nat_lt (after_all report.now (course_by report.now table.now whole first last) (reach_from first raw.old) (map told lines.now)).strays (lacking (course_by report.now table.now whole first last) (after_all report.now (course_by report.now table.now whole first last) (reach_from first raw.old) (map told lines.now))) }
     ensures left { raw.new ≡ (after_all report.now (course_by report.now table.now whole first last) (reach_from first raw.old) (map told lines.now)).raw }
 {

@@ -3,7 +3,7 @@ ghost use Rattle.hwp_banks.specs.Addresses.{frame_at};
 ghost use Rattle.hwp_banks.specs.Events.{own_status};
 ghost use Rattle.hwp_check_event_line.specs.Firsts.{IsScanned, first_of};
 ghost use Rattle.hwp_check_event_line.specs.Found.{has_stopper};
-ghost use Rattle.hwp_check_event_line.specs.Told.{coming, told};
+ghost use Rattle.hwp_check_event_line.specs.Told.{told};
 ghost use Rattle.hwp_check_scrub.specs.Scrubbing.{IsAhead, IsRightIn, IsSound, IsWithin, course_of, low_of};
 ghost use Rattle.hwp_check_scrub.specs.Scrubs.{IsScrubbedLine, after, after_all, lacking, marked_from, may_meet, own_at, passed_to, place_of, tells_own, turn};
 ghost use Rattle.hwp_banks.specs.declared.Origin.TheVariants as origins;
@@ -11,11 +11,8 @@ ghost use Rattle.hwp_banks.specs.declared.Origin.TheVariants as origins;
 use crate::lines::{damaged_lines, line_at};
 use crate::reach::{Range, Reach, Turn};
 use hwp_banks::{Event, Origin, Status};
-use hwp_check_event_line::{
-    Arrival, Shown, Traced, has_line, has_stopper, is_line_of, is_panic, is_raw_line,
-};
-use hwp_geom::{Frame, Line, Who};
-use hwp_script_read::Script;
+use hwp_check_event_line::{Shown, Traced, has_line, has_stopper, is_line_of, is_raw_line};
+use hwp_law::{Arrival, Frame, Line, Script, Who};
 
 /// The greatest line number, and one more.
 pub(crate) const LINES: u8 = 64;
@@ -169,7 +166,7 @@ fn after(table: &[u8], range: Range, reach: Reach, line: &Shown, turn: Turn, beh
     let _count = behind;
     match turn {
         Turn::Beside => Reach {
-            begun: Some(is_panic(line.acted)),
+            begun: Some(line.acted.is_panic()),
             ..reach
         },
         Turn::Bad => Reach {
@@ -187,7 +184,7 @@ fn after(table: &[u8], range: Range, reach: Reach, line: &Shown, turn: Turn, beh
 
 /// Whether failures are held back at a bad line: where bank 1 or the own event would stop the machine.
 fn is_held(how: Arrival, raw: Option<Event>) -> bool
-    ensures { result ≡ has_stopper (coming how) origins.BadLine raw }
+    ensures { result ≡ has_stopper how origins.BadLine raw }
 {
     has_stopper(how, own_at(Origin::BadLine, 0), raw)
 }
@@ -202,7 +199,7 @@ fn is_scrubbed_line(
     line: &Shown,
     turn: Turn,
 ) -> bool
-    ensures { IsTrue result ↔ IsScrubbedLine script.now report.now who (coming how) reach (told line.now) turn }
+    ensures { IsTrue result ↔ IsScrubbedLine script.now report.now who how reach (told line.now) turn }
 {
     let held = is_held(how, reach.raw);
     match turn {
@@ -265,7 +262,7 @@ pub(crate) fn scan(
     lines: &[Shown],
 ) -> Scanned
     requires { IsSound range start 0 }
-    ensures scanned { IsScanned (IsRightIn script.now report.now who (coming how) (course_of table.now range) start (map told lines.now)) (map told lines.now) result.wrong }
+    ensures scanned { IsScanned (IsRightIn script.now report.now who how (course_of table.now range) start (map told lines.now)) (map told lines.now) result.wrong }
     ensures end { result.end ≡ after_all report.now (course_of table.now range) start (map told lines.now) }
     ensures sound { IsSound range result.end (length lines.now) }
 {

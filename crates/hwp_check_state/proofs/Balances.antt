@@ -7,21 +7,21 @@ use Rattle.std.proofs.lemmas.List.Concat.{flat_map-append, flat_map-cons}
 use Rattle.std.specs.Int.{from_bool}
 use Rattle.std.proofs.lemmas.Bool.{cases_lt}
 use Rattle.std.proofs.lemmas.Option.{same_Some, none-some, slice_get_within}
-use Rattle.hwp_geom.specs.declared.FileNo.{FileNo}
-use Rattle.hwp_geom.specs.declared.PageKind.{PageKind}
-use Rattle.hwp_page.specs.declared.Entry.{Entry}
-use Rattle.hwp_script_read.specs.declared.Command.{Command}
-use Rattle.hwp_report_text.specs.declared.CpuLine.{CpuLine}
-use Rattle.hwp_report_text.specs.declared.CpuLine.TheVariants as lines
+use Rattle.hwp_check_rules.specs.hwp_geom.declared.FileNo.{FileNo}
+use Rattle.hwp_check_rules.specs.hwp_geom.declared.PageKind.{PageKind}
+use Rattle.hwp_check_rules.specs.hwp_page.declared.Entry.{Entry}
+use Rattle.hwp_check_rules.specs.hwp_script_read.declared.Command.{Command}
+use Rattle.hwp_check_rules.specs.hwp_report_text.declared.CpuLine.{CpuLine}
+use Rattle.hwp_check_rules.specs.hwp_report_text.declared.CpuLine.TheVariants as lines
 use Rattle.hwp_check_rules.specs.hwp_law.Lines.{AnswerLine, answer_in}
 use Rattle.hwp_check_rules.specs.hwp_law.Losses.{lost_in, told}
 use Rattle.hwp_check_rules.specs.Answered.{is_answer}
-use Rattle.hwp_page.specs.Losses.{file_behind, is_loss, is_same_file, losses_in}
-use Rattle.hwp_page.specs.declared.What.{What}
-use Rattle.hwp_page.specs.declared.What.TheVariants as entries
-use Rattle.hwp_page.specs.declared.Situation.TheVariants as situations
-use Rattle.hwp_script_read.specs.declared.Script.{Script}
-use Rattle.hwp_report_text.specs.declared.Report.{Report}
+use Rattle.hwp_check_rules.specs.hwp_page.Losses.{file_behind, is_loss, is_same_file, losses_in}
+use Rattle.hwp_check_rules.specs.hwp_page.declared.What.{What}
+use Rattle.hwp_check_rules.specs.hwp_page.declared.What.TheVariants as entries
+use Rattle.hwp_check_rules.specs.hwp_page.declared.Situation.TheVariants as situations
+use Rattle.hwp_check_rules.specs.hwp_script_read.declared.Script.{Script}
+use Rattle.hwp_check_rules.specs.hwp_report_text.declared.Report.{Report}
 use Rattle.hwp_check_rules.specs.hwp_law.Losses.{answered}
 use Rattle.hwp_check_rules.specs.Rules.{IsBalanced}
 use Rattle.hwp_check_rules.specs.Standing.{entry_height, file_line, last_line, page_height, what_height}

@@ -5,15 +5,15 @@ use Rattle.std.specs.Option.{option_and_then}
 use Rattle.std.proofs.lemmas.Bool.{cases_lt}
 use Rattle.std.proofs.lemmas.List.Elements.{Contains-append_cases, Contains-append_left, Contains-append_right}
 use Rattle.std.proofs.lemmas.Option.{none-some, same_Some, slice_get_within}
-use Rattle.hwp_script_read.specs.declared.Command.{Command}
-use Rattle.hwp_script_read.specs.declared.Script.{Script}
-use Rattle.hwp_report_text.specs.declared.Answer.{Answer}
-use Rattle.hwp_report_text.specs.declared.Answer.TheVariants as answers
-use Rattle.hwp_report_text.specs.declared.CpuLine.{CpuLine}
-use Rattle.hwp_report_text.specs.declared.Report.{Report}
+use Rattle.hwp_check_rules.specs.hwp_script_read.declared.Command.{Command}
+use Rattle.hwp_check_rules.specs.hwp_script_read.declared.Script.{Script}
+use Rattle.hwp_check_rules.specs.hwp_report_text.declared.Answer.{Answer}
+use Rattle.hwp_check_rules.specs.hwp_report_text.declared.Answer.TheVariants as answers
+use Rattle.hwp_check_rules.specs.hwp_report_text.declared.CpuLine.{CpuLine}
+use Rattle.hwp_check_rules.specs.hwp_report_text.declared.Report.{Report}
 use Rattle.hwp_check_rules.specs.hwp_law.Frames.{WasDone}
 use Rattle.hwp_check_rules.specs.hwp_law.Lines.{answer_among}
-use Rattle.hwp_check_rules.specs.hwp_law.Seen.{is_done}
+use Rattle.hwp_check_rules.specs.hwp_law.SeenPolicies.{is_done}
 use Rattle.hwp_check_state.specs.Frames.{AreDoneBelow, AreDoneOf, WasDoneBelow, flagged}
 use Rattle.hwp_check_rules.specs.Pasts.{AreDone}
 use Rattle.hwp_check_state.proofs.SightLaws.{cons-cases, cons-here, nothing}

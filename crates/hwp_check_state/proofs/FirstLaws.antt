@@ -6,9 +6,9 @@ use Rattle.std.proofs.lemmas.List.{take_more}
 use Rattle.std.proofs.lemmas.List.Elements.{All-contains, All-push, Contains-append_left, Contains-push, Contains-push_cases}
 use Rattle.hwp_check_state.specs.declared.sights.Sight.{Sight}
 use Rattle.hwp_check_rules.specs.Firsts.{IsLeast, sooner_if}
-use Rattle.hwp_kill.specs.declared.Policy.TheVariants.{Late}
-use Rattle.hwp_script_read.specs.declared.Script.{Script}
-use Rattle.hwp_report_text.specs.declared.Report.{Report}
+use Rattle.hwp_check_rules.specs.hwp_kill.declared.Policy.TheVariants.{Late}
+use Rattle.hwp_check_rules.specs.hwp_script_read.declared.Script.{Script}
+use Rattle.hwp_check_rules.specs.hwp_report_text.declared.Report.{Report}
 use Rattle.hwp_check_state.specs.Sights.{IsFirstOf, IsLineOf, IsRight, IsWrong}
 
 module _ (So Such : Sight → Type 0) (not-both : (s : Sight) → So s → Such s → ⊥) where

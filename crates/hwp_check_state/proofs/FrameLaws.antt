@@ -6,29 +6,29 @@ use Rattle.std.proofs.lemmas.Bool.{cases_eq, eq-eqb, eqb-true, ltb-false, ltb-tr
 use Rattle.std.proofs.lemmas.Nat.{bit_set_by_shift}
 use Rattle.std.proofs.lemmas.Nat.Bits.{bit_at-lt, bit_at-pow_other, bit_at-pow_same, bit_at-zero, bit_at_or, same_from_bits, shr_and_one}
 use Rattle.std.proofs.lemmas.Option.{get_or_from_slice_get, slice_get-map, slice_get_within}
-use Rattle.hwp_geom.specs.declared.Frame.{Frame}
-use Rattle.hwp_geom.specs.declared.Layout.{Layout}
-use Rattle.hwp_geom.specs.declared.Page.{Page}
-use Rattle.hwp_page.specs.History.{state_after}
-use Rattle.hwp_page.specs.Step.{after, opening_of}
-use Rattle.hwp_page.specs.declared.Entry.{Entry}
-use Rattle.hwp_page.specs.declared.Met.TheVariants.{Sigbus, Word}
-use Rattle.hwp_page.specs.declared.PageState.{PageState}
-use Rattle.hwp_page.specs.declared.Situation.{Situation}
-use Rattle.hwp_page.specs.declared.Situation.TheVariants as situations
-use Rattle.hwp_page.specs.declared.What.{What}
-use Rattle.hwp_page.specs.declared.What.TheVariants as entries
-use Rattle.hwp_page.specs.Actions.{acted}
-use Rattle.hwp_page.proofs.Histories.{Leads-state}
-use Rattle.hwp_script_read.specs.declared.Command.{Command}
-use Rattle.hwp_script_read.specs.declared.Command.TheVariants as commands
-use Rattle.hwp_script_read.specs.declared.Script.{Script}
-use Rattle.hwp_report_text.specs.declared.FrameLine.{FrameLine}
-use Rattle.hwp_report_text.specs.declared.Whereabouts.{Whereabouts}
-use Rattle.hwp_report_text.specs.declared.Whereabouts.TheVariants as places
-use Rattle.hwp_report_text.specs.declared.Report.{Report}
+use Rattle.hwp_check_rules.specs.hwp_geom.declared.Frame.{Frame}
+use Rattle.hwp_check_rules.specs.hwp_geom.declared.Layout.{Layout}
+use Rattle.hwp_check_rules.specs.hwp_geom.declared.Page.{Page}
+use Rattle.hwp_check_rules.specs.hwp_page.History.{state_after}
+use Rattle.hwp_check_rules.specs.hwp_page.Step.{after, opening_of}
+use Rattle.hwp_check_rules.specs.hwp_page.declared.Entry.{Entry}
+use Rattle.hwp_check_rules.specs.hwp_page.declared.Met.TheVariants.{Sigbus, Word}
+use Rattle.hwp_check_rules.specs.hwp_page.declared.PageState.{PageState}
+use Rattle.hwp_check_rules.specs.hwp_page.declared.Situation.{Situation}
+use Rattle.hwp_check_rules.specs.hwp_page.declared.Situation.TheVariants as situations
+use Rattle.hwp_check_rules.specs.hwp_page.declared.What.{What}
+use Rattle.hwp_check_rules.specs.hwp_page.declared.What.TheVariants as entries
+use Rattle.hwp_check_rules.specs.hwp_page.Actions.{acted}
+use Rattle.hwp_check_rules.proofs.of_hwp_page.Histories.{Leads-state}
+use Rattle.hwp_check_rules.specs.hwp_script_read.declared.Command.{Command}
+use Rattle.hwp_check_rules.specs.hwp_script_read.declared.Command.TheVariants as commands
+use Rattle.hwp_check_rules.specs.hwp_script_read.declared.Script.{Script}
+use Rattle.hwp_check_rules.specs.hwp_report_text.declared.FrameLine.{FrameLine}
+use Rattle.hwp_check_rules.specs.hwp_report_text.declared.Whereabouts.{Whereabouts}
+use Rattle.hwp_check_rules.specs.hwp_report_text.declared.Whereabouts.TheVariants as places
+use Rattle.hwp_check_rules.specs.hwp_report_text.declared.Report.{Report}
 use Rattle.hwp_check_rules.specs.hwp_law.Frames.{IsPlaced, WasDone}
-use Rattle.hwp_check_rules.specs.hwp_law.Report.{is_of}
+use Rattle.hwp_check_rules.specs.hwp_law.PageHistory.{is_of}
 use Rattle.hwp_check_rules.specs.Faults.{EndsIn, sayers}
 use Rattle.hwp_check_state.specs.Frames.{AreDoneOf, bad_bit, cached_after, cached_by, ends_of, is_beyond, is_placed, keeps, weak_bit, with_bits}
 use Rattle.hwp_check_state.proofs.SightLaws.{cons-cases, nothing}

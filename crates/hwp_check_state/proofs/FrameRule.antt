@@ -5,19 +5,19 @@ use Rattle.std.proofs.lemmas.Bool.{cases_lt, eqb-false, eqb-true, not-false, not
 use Rattle.std.proofs.lemmas.List.{length-map, take-take, take_all}
 use Rattle.std.proofs.lemmas.List.Sums.{count_by_more_no, count_by_more_yes, sum_by-take-le}
 use Rattle.std.proofs.lemmas.Option.{get_or_from_slice_get, none-some, slice_get-get_or, slice_get_within}
-use Rattle.hwp_geom.specs.declared.Page.{Page}
-use Rattle.hwp_page.specs.History.{IsReplay}
-use Rattle.hwp_page.specs.declared.Entry.{Entry}
-use Rattle.hwp_page.specs.declared.PageState.{PageState}
-use Rattle.hwp_script_read.specs.declared.Command.{Command}
-use Rattle.hwp_script_read.specs.declared.Command.TheVariants as commands
-use Rattle.hwp_script_read.specs.declared.Script.{Script}
-use Rattle.hwp_report_text.specs.declared.FrameLine.{FrameLine}
-use Rattle.hwp_report_text.specs.declared.Whereabouts.TheVariants as places
-use Rattle.hwp_report_text.specs.declared.Report.{Report}
+use Rattle.hwp_check_rules.specs.hwp_geom.declared.Page.{Page}
+use Rattle.hwp_check_rules.specs.hwp_page.History.{IsReplay}
+use Rattle.hwp_check_rules.specs.hwp_page.declared.Entry.{Entry}
+use Rattle.hwp_check_rules.specs.hwp_page.declared.PageState.{PageState}
+use Rattle.hwp_check_rules.specs.hwp_script_read.declared.Command.{Command}
+use Rattle.hwp_check_rules.specs.hwp_script_read.declared.Command.TheVariants as commands
+use Rattle.hwp_check_rules.specs.hwp_script_read.declared.Script.{Script}
+use Rattle.hwp_check_rules.specs.hwp_report_text.declared.FrameLine.{FrameLine}
+use Rattle.hwp_check_rules.specs.hwp_report_text.declared.Whereabouts.TheVariants as places
+use Rattle.hwp_check_rules.specs.hwp_report_text.declared.Report.{Report}
 use Rattle.hwp_check_rules.specs.hwp_law.Frames.{WasDone}
 use Rattle.hwp_check_rules.specs.hwp_law.Records.{ends_poisoned}
-use Rattle.hwp_check_rules.specs.hwp_law.Report.{is_of}
+use Rattle.hwp_check_rules.specs.hwp_law.PageHistory.{is_of}
 use Rattle.hwp_check_rules.specs.Faults.{EndsIn, IsFrameFault, IsFrameWrong, IsSaidTwice, IsUnsaid, first_free, holders, sayers}
 use Rattle.hwp_check_rules.specs.Firsts.{soonest}
 use Rattle.hwp_check_state.specs.Frames.{AreDoneOf, AreRight, bad_bit, cached_after, ends_of, is_beyond, is_placed, is_right_frame, is_right_line, is_unsaid_from, weak_bit, with_bits}

@@ -4,17 +4,17 @@ use Rattle.std.proofs.lemmas.Bool.{cases_lt}
 use Rattle.std.proofs.lemmas.List.{take-take, take_all}
 use Rattle.std.proofs.lemmas.List.Sums.{sum_by_more, sum_by-take-le}
 use Rattle.std.proofs.lemmas.Option.{get_or_from_slice_get, none-some, same_Some, slice_get_within}
-use Rattle.hwp_geom.specs.declared.Layout.{Layout}
-use Rattle.hwp_geom.specs.declared.Page.{Page}
-use Rattle.hwp_geom.specs.declared.PageKind.{PageKind}
-use Rattle.hwp_page.specs.Step.{Allowed, after, opening_of}
-use Rattle.hwp_page.specs.History.{IsReplay, Leads, state_after}
-use Rattle.hwp_page.specs.declared.At.{At}
-use Rattle.hwp_page.specs.declared.Entry.{Entry}
-use Rattle.hwp_page.specs.declared.PageState.{PageState}
-use Rattle.hwp_page.proofs.Histories.{Leads-state}
-use Rattle.hwp_script_read.specs.declared.Script.{Script}
-use Rattle.hwp_report_text.specs.declared.Report.{Report}
+use Rattle.hwp_check_rules.specs.hwp_geom.declared.Layout.{Layout}
+use Rattle.hwp_check_rules.specs.hwp_geom.declared.Page.{Page}
+use Rattle.hwp_check_rules.specs.hwp_geom.declared.PageKind.{PageKind}
+use Rattle.hwp_check_rules.specs.hwp_page.Step.{Allowed, after, opening_of}
+use Rattle.hwp_check_rules.specs.hwp_page.History.{IsReplay, Leads, state_after}
+use Rattle.hwp_check_rules.specs.hwp_page.declared.At.{At}
+use Rattle.hwp_check_rules.specs.hwp_page.declared.Entry.{Entry}
+use Rattle.hwp_check_rules.specs.hwp_page.declared.PageState.{PageState}
+use Rattle.hwp_check_rules.proofs.of_hwp_page.Histories.{Leads-state}
+use Rattle.hwp_check_rules.specs.hwp_script_read.declared.Script.{Script}
+use Rattle.hwp_check_rules.specs.hwp_report_text.declared.Report.{Report}
 use Rattle.hwp_check_rules.specs.hwp_law.Entries.{IsMadeBy}
 use Rattle.hwp_check_rules.specs.hwp_law.Places.{entry_at}
 use Rattle.hwp_check_rules.specs.Faults.{IsBarred, IsBehind, IsHistoryFault}

@@ -4,17 +4,17 @@ use Rattle.std.specs.Int.{from_bool}
 use Rattle.std.specs.Option.{option_and_then}
 use Rattle.std.proofs.lemmas.Bool.{eqb-false, eqb-true}
 use Rattle.std.proofs.lemmas.List.{take_min}
-use Rattle.hwp_geom.specs.declared.Cpu.{Cpu}
-use Rattle.hwp_geom.specs.declared.Thread.{Thread}
-use Rattle.hwp_geom.specs.declared.Who.{Who}
-use Rattle.hwp_kill.specs.declared.Seen.{Seen}
-use Rattle.hwp_script_read.specs.declared.Command.{Command}
-use Rattle.hwp_script_read.specs.declared.Script.{Script}
-use Rattle.hwp_report_text.specs.declared.CpuLine.{CpuLine}
-use Rattle.hwp_report_text.specs.declared.Report.{Report}
+use Rattle.hwp_check_rules.specs.hwp_geom.declared.Cpu.{Cpu}
+use Rattle.hwp_check_rules.specs.hwp_geom.declared.Thread.{Thread}
+use Rattle.hwp_check_rules.specs.hwp_geom.declared.Who.{Who}
+use Rattle.hwp_check_rules.specs.hwp_kill.declared.Seen.{Seen}
+use Rattle.hwp_check_rules.specs.hwp_script_read.declared.Command.{Command}
+use Rattle.hwp_check_rules.specs.hwp_script_read.declared.Script.{Script}
+use Rattle.hwp_check_rules.specs.hwp_report_text.declared.CpuLine.{CpuLine}
+use Rattle.hwp_check_rules.specs.hwp_report_text.declared.Report.{Report}
 use Rattle.hwp_check_rules.specs.hwp_law.Lines.{answer_among, rows_of}
 use Rattle.hwp_check_rules.specs.hwp_law.Policies.{commands_before, setting_of}
-use Rattle.hwp_check_rules.specs.hwp_law.Seen.{IsOwnCount, commands_around, is_done, settings_done}
+use Rattle.hwp_check_rules.specs.hwp_law.SeenPolicies.{IsOwnCount, commands_around, is_done, settings_done}
 use Rattle.hwp_check_rules.specs.declared.ThreadPolicies.{ThreadPolicies}
 use Rattle.hwp_check_rules.specs.Pasts.{IsPast, counts}
 

@@ -5,13 +5,13 @@ use Rattle.std.specs.Option.{option_and_then}
 use Rattle.std.proofs.lemmas.List.Elements.{Contains-append_cases, Contains-append_left, Contains-append_right}
 use Rattle.std.proofs.lemmas.List.Sums.{sum_by-cons}
 use Rattle.std.proofs.lemmas.Option.{get_or_from_slice_get, none-some, same_Some, slice_get-get_or, slice_get_within}
-use Rattle.hwp_geom.specs.declared.Who.{Who}
-use Rattle.hwp_kill.specs.declared.Seen.{Seen}
-use Rattle.hwp_page.specs.declared.At.{At}
-use Rattle.hwp_page.specs.declared.Entry.{Entry}
-use Rattle.hwp_report_text.specs.declared.Report.{Report}
+use Rattle.hwp_check_rules.specs.hwp_geom.declared.Who.{Who}
+use Rattle.hwp_check_rules.specs.hwp_kill.declared.Seen.{Seen}
+use Rattle.hwp_check_rules.specs.hwp_page.declared.At.{At}
+use Rattle.hwp_check_rules.specs.hwp_page.declared.Entry.{Entry}
+use Rattle.hwp_check_rules.specs.hwp_report_text.declared.Report.{Report}
 use Rattle.hwp_check_rules.specs.hwp_law.Places.{entry_at}
-use Rattle.hwp_check_rules.specs.hwp_law.Seen.{seen_in}
+use Rattle.hwp_check_rules.specs.hwp_law.SeenPolicies.{seen_in}
 use Rattle.hwp_check_state.specs.declared.sights.Sight.{Sight}
 use Rattle.hwp_check_state.specs.Sights.{entry_sights, listed_sights, page_sights, pages_sights, sights}
 use Rattle.hwp_check_rules.specs.Standing.{entry_height, page_height, page_line, seen_line}

@@ -3,12 +3,12 @@ use Rattle.std.proofs.Common.{◌≡◌, ◌≢◌, ◌⊎◌, inl, inr, ℕ, ze
 use Rattle.std.specs.List.{list_any}
 use Rattle.std.proofs.lemmas.Bool.{eqb-true, eq-eqb}
 use Rattle.std.proofs.lemmas.Option.{same_Some, none-some}
-use Rattle.hwp_geom.specs.declared.Frame.{Frame}
-use Rattle.hwp_report_text.specs.declared.Answer.{Answer}
-use Rattle.hwp_report_text.specs.declared.Answer.TheVariants as answers
-use Rattle.hwp_report_text.specs.declared.CpuLine.{CpuLine}
-use Rattle.hwp_report_text.specs.declared.CpuLine.TheVariants as lines
-use Rattle.hwp_check_rules.specs.hwp_law.Checks.{is_stopping}
+use Rattle.hwp_check_rules.specs.hwp_geom.declared.Frame.{Frame}
+use Rattle.hwp_check_rules.specs.hwp_report_text.declared.Answer.{Answer}
+use Rattle.hwp_check_rules.specs.hwp_report_text.declared.Answer.TheVariants as answers
+use Rattle.hwp_check_rules.specs.hwp_report_text.declared.CpuLine.{CpuLine}
+use Rattle.hwp_check_rules.specs.hwp_report_text.declared.CpuLine.TheVariants as lines
+use Rattle.hwp_check_rules.specs.hwp_report_text.Acts.{is_stopping}
 use Rattle.hwp_check_rules.specs.hwp_law.Halts.{IsStoppedBy, is_panic_of}
 use Rattle.hwp_check_rules.specs.hwp_law.Lines.{EventLine, events_among}
 use Rattle.hwp_check_rules.specs.hwp_law.Stops.{StaysStopped}

@@ -4,19 +4,19 @@ use Rattle.std.proofs.lemmas.Bool.{cases_eq, cases_lt}
 use Rattle.std.proofs.lemmas.List.{take_more, get_or-set_same, get_or-set_other, get_or_past, get_or-replicate, length-replicate, length-set, take_all}
 use Rattle.std.proofs.lemmas.List.Sums.{sum_by_more, sum_by_more_le}
 use Rattle.std.proofs.lemmas.Option.{get_or_from_slice_get, same_Some, slice_get_within}
-use Rattle.hwp_geom.specs.declared.Cpu.{Cpu}
-use Rattle.hwp_geom.specs.declared.Layout.{Layout}
-use Rattle.hwp_geom.specs.declared.Page.{Page}
-use Rattle.hwp_geom.specs.declared.PageKind.{PageKind}
-use Rattle.hwp_geom.specs.declared.TransDecl.{TransDecl}
-use Rattle.hwp_geom.specs.Layout.{IsSound}
-use Rattle.hwp_page.specs.Step.{Allowed, MapsWithin, after, opening_of}
-use Rattle.hwp_page.specs.declared.Entry.{Entry}
-use Rattle.hwp_page.specs.declared.PageState.{PageState}
-use Rattle.hwp_page.specs.declared.What.{What}
-use Rattle.hwp_page.specs.declared.What.TheVariants as entries
-use Rattle.hwp_page.proofs.Histories.{IsReplay-more}
-use Rattle.hwp_script_read.specs.declared.Script.{Script}
+use Rattle.hwp_check_rules.specs.hwp_geom.declared.Cpu.{Cpu}
+use Rattle.hwp_check_rules.specs.hwp_geom.declared.Layout.{Layout}
+use Rattle.hwp_check_rules.specs.hwp_geom.declared.Page.{Page}
+use Rattle.hwp_check_rules.specs.hwp_geom.declared.PageKind.{PageKind}
+use Rattle.hwp_check_rules.specs.hwp_geom.declared.TransDecl.{TransDecl}
+use Rattle.hwp_check_rules.specs.hwp_geom.Layout.{IsSound}
+use Rattle.hwp_check_rules.specs.hwp_page.Step.{Allowed, MapsWithin, after, opening_of}
+use Rattle.hwp_check_rules.specs.hwp_page.declared.Entry.{Entry}
+use Rattle.hwp_check_rules.specs.hwp_page.declared.PageState.{PageState}
+use Rattle.hwp_check_rules.specs.hwp_page.declared.What.{What}
+use Rattle.hwp_check_rules.specs.hwp_page.declared.What.TheVariants as entries
+use Rattle.hwp_check_rules.proofs.of_hwp_page.Histories.{IsReplay-more}
+use Rattle.hwp_check_rules.specs.hwp_script_read.declared.Script.{Script}
 use Rattle.hwp_check_state.specs.Histories.{FirstFit, IsBehindIn, IsRightEntry, IsWrongAt, IsWrongEntry, PageFits}
 use Rattle.hwp_check_rules.specs.Standing.{entry_height}
 

@@ -1,11 +1,11 @@
 -- What one line of a processor tells of a file's losses, and numbers that are cut off at the greatest that a word can say.
 use Rattle.std.specs.Prelude.{ℕ, ◌-◌, ◌^◌, min, List, Option, Some, None, filter_map, flat_map, slice_get}
 use Rattle.std.specs.List.{zip}
-use Rattle.hwp_geom.specs.declared.FileNo.{FileNo}
-use Rattle.hwp_script_read.specs.declared.Command.{Command}
-use Rattle.hwp_report_text.specs.declared.Answer.{Answer}
-use Rattle.hwp_report_text.specs.declared.CpuLine.{CpuLine}
-use Rattle.hwp_report_text.specs.declared.CpuLine.TheVariants as lines
+use Rattle.hwp_check_rules.specs.hwp_geom.declared.FileNo.{FileNo}
+use Rattle.hwp_check_rules.specs.hwp_script_read.declared.Command.{Command}
+use Rattle.hwp_check_rules.specs.hwp_report_text.declared.Answer.{Answer}
+use Rattle.hwp_check_rules.specs.hwp_report_text.declared.CpuLine.{CpuLine}
+use Rattle.hwp_check_rules.specs.hwp_report_text.declared.CpuLine.TheVariants as lines
 use Rattle.hwp_check_rules.specs.hwp_law.Lines.{AnswerLine, answer_in}
 use Rattle.hwp_check_rules.specs.hwp_law.Losses.{told_by}
 

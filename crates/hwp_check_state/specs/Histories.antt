@@ -1,11 +1,11 @@
 -- The history of one page, judged entry by entry.
 use Rattle.std.specs.Prelude.{◌≡◌, ℕ, ◌+◌, ◌<◌, ◌≤◌, ◌⊎◌, List, Some, length, slice_get, sum_by, take}
-use Rattle.hwp_geom.specs.declared.Page.{Page}
-use Rattle.hwp_page.specs.History.{IsReplay}
-use Rattle.hwp_page.specs.Step.{Allowed}
-use Rattle.hwp_page.specs.declared.Entry.{Entry}
-use Rattle.hwp_page.specs.declared.PageState.{PageState}
-use Rattle.hwp_script_read.specs.declared.Script.{Script}
+use Rattle.hwp_check_rules.specs.hwp_geom.declared.Page.{Page}
+use Rattle.hwp_check_rules.specs.hwp_page.History.{IsReplay}
+use Rattle.hwp_check_rules.specs.hwp_page.Step.{Allowed}
+use Rattle.hwp_check_rules.specs.hwp_page.declared.Entry.{Entry}
+use Rattle.hwp_check_rules.specs.hwp_page.declared.PageState.{PageState}
+use Rattle.hwp_check_rules.specs.hwp_script_read.declared.Script.{Script}
 use Rattle.hwp_check_rules.specs.hwp_law.Entries.{IsMadeBy}
 use Rattle.hwp_check_rules.specs.Standing.{entry_height}
 

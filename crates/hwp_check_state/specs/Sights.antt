@@ -1,11 +1,11 @@
 -- The policies that the failures of a report list as seen, each with its line.
 use Rattle.std.specs.Prelude.{◌≡◌, ◌⊎◌, ℕ, ◌+◌, ◌*◌, ◌^◌, ◌<◌, ◌≤◌, ◌==◌, cond, List, [], ◌∷◌, ◌++◌, Option, MatchOption, All, Contains}
-use Rattle.hwp_geom.specs.declared.Who.{Who}
-use Rattle.hwp_kill.specs.declared.Seen.{Seen}
-use Rattle.hwp_page.specs.declared.Entry.{Entry}
-use Rattle.hwp_script_read.specs.declared.Script.{Script}
-use Rattle.hwp_report_text.specs.declared.Report.{Report}
-use Rattle.hwp_check_rules.specs.hwp_law.Seen.{IsOwnCount, IsPolicySeen, seen_in}
+use Rattle.hwp_check_rules.specs.hwp_geom.declared.Who.{Who}
+use Rattle.hwp_check_rules.specs.hwp_kill.declared.Seen.{Seen}
+use Rattle.hwp_check_rules.specs.hwp_page.declared.Entry.{Entry}
+use Rattle.hwp_check_rules.specs.hwp_script_read.declared.Script.{Script}
+use Rattle.hwp_check_rules.specs.hwp_report_text.declared.Report.{Report}
+use Rattle.hwp_check_rules.specs.hwp_law.SeenPolicies.{IsOwnCount, IsPolicySeen, seen_in}
 use Rattle.hwp_check_state.specs.declared.sights.Sight.{Sight}
 use Rattle.hwp_check_rules.specs.Firsts.{IsLeast}
 use Rattle.hwp_check_rules.specs.Standing.{entry_height, page_height, page_line}

@@ -4,8 +4,7 @@ ghost use Rattle.hwp_check_rules.specs.hwp_law.Records.{ends_poisoned, is_poison
 ghost use Rattle.hwp_check_rules.specs.declared.Rule.TheVariants.{Count};
 ghost use Rattle.hwp_check_rules.specs.Verdicts.{Holds, IsBroken};
 
-use hwp_report_text::{FrameLine, MarkLine, Report};
-use hwp_script_read::Script;
+use hwp_check_rules::{FrameLine, MarkLine, Report, Script};
 
 /// Whether the mark is of a poisoning.
 pub(crate) fn is_poisoning(mark: &MarkLine) -> bool

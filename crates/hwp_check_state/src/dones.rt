@@ -1,11 +1,7 @@
 ghost use Rattle.std.specs.Prelude.{◌≡◌, ◌≤◌, ◌++◌, ◌∷◌, [], cond, length, IfOk, OnOk};
 ghost use Rattle.hwp_check_state.specs.Frames.{AreDoneOf, flagged};
 
-use hwp_check_rules::{commands_of, done_of, rows_on};
-use hwp_geom::{Cpu, OutOfMemory};
-use hwp_report_text::Report;
-use hwp_script_lines::Command;
-use hwp_script_read::Script;
+use hwp_check_rules::{Command, Cpu, OutOfMemory, Report, Script, commands_of, done_of, rows_on};
 use std::alloc::Global;
 
 /// Adds a command that is flagged.

@@ -1,6 +1,6 @@
 ghost use Rattle.std.specs.Prelude.{◌≡◌, ◌≤◌, ◌<◌, ◌^◌, false, Some, None, cond, length, map, option_map, IfOk, IfSome, MatchOption};
-ghost use Rattle.hwp_script_read.specs.Valid.{IsValid};
-ghost use Rattle.hwp_check_rules.specs.hwp_law.Report.{is_of};
+ghost use Rattle.hwp_check_rules.specs.hwp_script_read.Valid.{IsValid};
+ghost use Rattle.hwp_check_rules.specs.hwp_law.PageHistory.{is_of};
 ghost use Rattle.hwp_check_rules.specs.Faults.{first_free, is_free, sayers};
 ghost use Rattle.hwp_check_state.specs.Frames.{AreRight, bad_bit, cached_after, cached_by, is_beyond, is_placed, is_right_frame, is_right_line, is_unsaid_from, keeps, weak_bit, with_bits};
 ghost use Rattle.hwp_check_rules.specs.Standing.{frame_line, last_line};
@@ -9,12 +9,10 @@ ghost use Rattle.hwp_check_rules.specs.Verdicts.{HoldBelow, Holds, IsBroken};
 
 use crate::count::ends_poisoned;
 use crate::dones::done_commands;
-use hwp_check_rules::{frame_at, soonest};
-use hwp_geom::{Line, List, OutOfMemory, Page};
-use hwp_page::{Entry, Situation, What};
-use hwp_report_text::{FrameLine, Report, Whereabouts};
-use hwp_script_lines::Command;
-use hwp_script_read::Script;
+use hwp_check_rules::{
+    Command, Entry, FrameLine, Line, List, OutOfMemory, Page, Report, Script, Situation, What,
+    Whereabouts, frame_at, soonest,
+};
 use std::alloc::Global;
 
 /// Whether a failure in this situation leaves the page cached.

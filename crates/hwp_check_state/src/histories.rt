@@ -1,16 +1,14 @@
 ghost use Rattle.std.specs.Prelude.{◌≡◌, ℕ, ◌+◌, ◌<◌, ◌^◌, length, sum_by, Some, slice_get, MatchBool, MatchOption, MatchResult};
-ghost use Rattle.hwp_geom.specs.Layout.{IsSound};
-ghost use Rattle.hwp_script_read.specs.Valid.{IsValid};
+ghost use Rattle.hwp_check_rules.specs.hwp_geom.Layout.{IsSound};
+ghost use Rattle.hwp_check_rules.specs.hwp_script_read.Valid.{IsValid};
 ghost use Rattle.hwp_check_state.specs.Histories.{IsRightEntry, IsWrongAt, IsWrongEntry, PageFits};
 ghost use Rattle.hwp_check_rules.specs.Standing.{entry_height as height_of, last_line};
 ghost use Rattle.hwp_check_rules.specs.declared.Rule.TheVariants.{Histories};
 ghost use Rattle.hwp_check_rules.specs.Verdicts.{HoldBelow, Holds, IsBroken};
 
-use hwp_check_rules::{entry_height, first_page_line, is_made_by};
-use hwp_geom::{Page, PageKind};
-use hwp_page::{Entry, PageState};
-use hwp_report_text::Report;
-use hwp_script_read::Script;
+use hwp_check_rules::{
+    Entry, Page, PageKind, PageState, Report, Script, entry_height, first_page_line, is_made_by,
+};
 
 /// The numbers that a processor can have in an entry.
 const CPU_NUMBERS: usize = 256;

@@ -1,6 +1,6 @@
 ghost use Rattle.std.specs.Prelude.{◌≡◌, ◌<◌, ◌^◌, ◌↔◌, IsTrue, MatchOption, length, filter_map, flat_map};
 ghost use Rattle.std.specs.List.{sum_by, zip};
-ghost use Rattle.hwp_page.specs.Losses.{file_behind, is_loss, is_same_file, losses_in};
+ghost use Rattle.hwp_check_rules.specs.hwp_page.Losses.{file_behind, is_loss, is_same_file, losses_in};
 ghost use Rattle.hwp_check_rules.specs.hwp_law.Lines.{answer_in};
 ghost use Rattle.hwp_check_rules.specs.hwp_law.Losses.{lost_in, told, told_by};
 ghost use Rattle.hwp_check_state.specs.Balances.{capped, told_at, told_lines};
@@ -10,11 +10,10 @@ ghost use Rattle.hwp_check_rules.specs.Standing.{last_line};
 ghost use Rattle.hwp_check_rules.specs.declared.Rule.TheVariants.{Losses};
 ghost use Rattle.hwp_check_rules.specs.Verdicts.{Holds, IsBroken};
 
-use hwp_check_rules::is_answer;
-use hwp_geom::{FileNo, List, PageKind};
-use hwp_page::{Entry, Situation, What};
-use hwp_report_text::{Answer, CpuLine, Report};
-use hwp_script_read::{Command, Script};
+use hwp_check_rules::{
+    Answer, Command, CpuLine, Entry, FileNo, List, PageKind, Report, Script, Situation, What,
+    is_answer,
+};
 
 /// What the answer of a command tells of a file's losses.
 fn told_by(file: FileNo, command: &Command, answer: &Answer) -> u64

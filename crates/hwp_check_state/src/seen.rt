@@ -2,8 +2,8 @@ ghost use Rattle.std.specs.Prelude.{◌≡◌, ◌+◌, ◌-◌, ◌*◌, ◌<�
 ghost use Rattle.std.specs.List.{All};
 ghost use Rattle.std.specs.List.Sorted.{IsNonDecreasingBy};
 ghost use Rattle.hwp_check_rules.specs.hwp_law.Policies.{last_policy};
-ghost use Rattle.hwp_check_rules.specs.hwp_law.Seen.{IsOwnCount, IsPolicySeen};
-ghost use Rattle.hwp_script_read.specs.Valid.{IsValid};
+ghost use Rattle.hwp_check_rules.specs.hwp_law.SeenPolicies.{IsOwnCount, IsPolicySeen};
+ghost use Rattle.hwp_check_rules.specs.hwp_script_read.Valid.{IsValid};
 ghost use Rattle.hwp_check_rules.specs.Pasts.{ArePasts, IsPast};
 ghost use Rattle.hwp_check_state.specs.Sights.{IsBelow, IsFirstOf, IsNotBelow, IsRight, IsSmall, IsWrong, group_of, key_of, top_of};
 ghost use Rattle.hwp_check_rules.specs.Standing.{last_line};
@@ -11,11 +11,10 @@ ghost use Rattle.hwp_check_rules.specs.declared.Rule.TheVariants.{Seen as SeenRu
 ghost use Rattle.hwp_check_rules.specs.Verdicts.{Holds, IsBroken};
 
 use crate::sights::{Sight, add_pages};
-use hwp_check_rules::{ThreadPolicies, page_at, pasts_of, sooner_if, soonest};
-use hwp_geom::OutOfMemory;
-use hwp_kill::{Policy, Seen};
-use hwp_report_text::Report;
-use hwp_script_read::Script;
+use hwp_check_rules::{
+    OutOfMemory, Policy, Report, Script, Seen, ThreadPolicies, page_at, pasts_of, sooner_if,
+    soonest,
+};
 use std::alloc::Global;
 
 /// The policy after so many settings.

@@ -3,9 +3,7 @@ ghost use Rattle.hwp_check_rules.specs.Standing.{last_line};
 ghost use Rattle.hwp_check_rules.specs.declared.Rule.TheVariants.{Shape};
 ghost use Rattle.hwp_check_rules.specs.Verdicts.{Holds, IsBroken};
 
-use hwp_check_rules::{cpu_at, file_at, frame_at, page_at};
-use hwp_report_text::Report;
-use hwp_script_read::Script;
+use hwp_check_rules::{Report, Script, cpu_at, file_at, frame_at, page_at};
 
 /// Whether the report has the script's numbers of files, frames, pages and processors; else the first line that doesn't fit.
 #[tactic(auto, using(crate::proofs::Shapes::shape_fits, crate::proofs::Shapes::files_first, crate::proofs::Shapes::frames_first, crate::proofs::Shapes::pages_first, crate::proofs::Shapes::cpus_first))]

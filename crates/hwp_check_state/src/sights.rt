@@ -3,10 +3,7 @@ ghost use Rattle.std.specs.List.{sum_by};
 ghost use Rattle.hwp_check_state.specs.Sights.{entry_sights, listed_sights, page_sights, pages_sights};
 ghost use Rattle.hwp_check_rules.specs.Standing.{entry_height, page_height};
 
-use hwp_check_rules::entry_height;
-use hwp_geom::{List, OutOfMemory, Who};
-use hwp_kill::Seen;
-use hwp_page::{Entry, What};
+use hwp_check_rules::{Entry, List, OutOfMemory, Seen, What, Who, entry_height};
 
 /// A policy that a failure's entry lists as seen: the command of the entry, what was seen, and the line of the report.
 #[derive(Clone, Copy)]

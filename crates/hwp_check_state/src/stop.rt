@@ -5,8 +5,7 @@ ghost use Rattle.hwp_check_rules.specs.declared.Rule.TheVariants.{Stop};
 ghost use Rattle.hwp_check_rules.specs.Verdicts.{Holds, IsBroken};
 
 use crate::stopping::{all_stay, is_caused, some_stopped};
-use hwp_report_text::Report;
-use hwp_script_read::Script;
+use hwp_check_rules::{Report, Script};
 
 /// Whether there is a stop where some answer is `stopped`.
 fn is_told(report: &Report) -> bool

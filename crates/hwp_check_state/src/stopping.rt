@@ -1,16 +1,14 @@
 ghost use Rattle.std.specs.Prelude.{◌≡◌, ◌↔◌, false, Some, IsTrue};
-ghost use Rattle.hwp_report_text.specs.declared.Answer.TheVariants as answers;
-ghost use Rattle.hwp_check_rules.specs.hwp_law.Checks.{is_panic, is_stopping};
+ghost use Rattle.hwp_check_rules.specs.hwp_report_text.declared.Answer.TheVariants as answers;
 ghost use Rattle.hwp_check_rules.specs.hwp_law.Commands.{arrival_of};
 ghost use Rattle.hwp_check_rules.specs.hwp_law.Halts.{CanStop, IsStopOf, IsStoppedBy, Panics, is_panic_of};
 ghost use Rattle.hwp_check_rules.specs.hwp_law.Lines.{answer_of, events_of};
 ghost use Rattle.hwp_check_state.specs.Stopping.{IsCausedStop, all_stay, goes_on, has_stopped, is_lower, is_of_event, is_stopped, is_stopper, rows_panic, rows_stopped_by, some_stopped, stays};
 
-use hwp_check_rules::{answer_among, command_of, rows_of};
-use hwp_geom::{Frame, List, Mode, Who};
-use hwp_report_text::{Acted, Answer, CpuLine, Report, Stop, StopCause};
-use hwp_script_read::{Command, Script};
-use hwp_severity::McgBits;
+use hwp_check_rules::{
+    Answer, Command, CpuLine, Frame, List, McgBits, Mode, Report, Script, Stop, StopCause, Who,
+    answer_among, command_of, rows_of,
+};
 
 /// Whether the line is an answer `stopped`.
 fn is_stopped(row: &CpuLine) -> bool
@@ -58,20 +56,6 @@ fn stays_stopped(rows: &[CpuLine]) -> bool
     true
 }
 
-/// Whether an event stopped the machine.
-fn is_stopping(acted: Acted) -> bool
-    ensures { result ≡ is_stopping acted }
-{
-    matches!(acted, Acted::Stop)
-}
-
-/// Whether an event was a panic.
-fn is_panic(acted: Acted) -> bool
-    ensures { result ≡ is_panic acted }
-{
-    matches!(acted, Acted::Panic)
-}
-
 /// The record of an event that stopped the machine.
 #[derive(Clone, Copy)]
 struct Graded {
@@ -94,7 +78,7 @@ fn is_stopper(line: &CpuLine, number: u32, by: Graded) -> bool
             ..
         } => {
             number == *seq
-                && is_stopping(*acted)
+                && acted.is_stopping()
                 && *bank == by.bank
                 && *status == by.status
                 && *row == by.row
@@ -113,7 +97,7 @@ fn is_lower(line: &CpuLine, number: u32, by: Graded) -> bool
             bank,
             acted,
             ..
-        } => { number == *seq && is_stopping(*acted) && *bank < by.bank }
+        } => { number == *seq && acted.is_stopping() && *bank < by.bank }
         CpuLine::Answer { .. } => false,
     }
 }
@@ -143,7 +127,7 @@ fn is_panic_of(line: &CpuLine, number: u32, frame: Frame) -> bool
             addr,
             acted,
             ..
-        } => { number == *seq && is_panic(*acted) && *addr / 4096 == u64::from(frame.0) }
+        } => { number == *seq && acted.is_panic() && *addr / 4096 == u64::from(frame.0) }
         CpuLine::Answer { .. } => false,
     }
 }

@@ -1,12 +1,12 @@
 -- What a failure goes on with once its frame is claimed, and once its page is acted on: no more turns, and the same claim.
 use Rattle.std.proofs.Common.{◌≡◌, inl, inr, ℕ, ◌<◌, ◌≤◌, Bool, true, false, cond, List, Option, Some, None, is_none, refl, sym, ap, ◌∙◌, subst, arith}
-use Rattle.hwp_geom.specs.declared.Frame.{Frame}
-use Rattle.hwp_geom.specs.declared.Page.{Page}
-use Rattle.hwp_geom.specs.declared.Thread.{Thread}
-use Rattle.hwp_geom.specs.declared.Who.{Who}
-use Rattle.hwp_page.specs.hwp_kill.declared.Seen.{Seen}
-use Rattle.hwp_page.specs.History.{BodyValue}
-use Rattle.hwp_core_rule.specs.Words.{Words}
+use Rattle.hwp_claim_frame.specs.hwp_geom.declared.Frame.{Frame}
+use Rattle.hwp_claim_frame.specs.hwp_geom.declared.Page.{Page}
+use Rattle.hwp_claim_frame.specs.hwp_geom.declared.Thread.{Thread}
+use Rattle.hwp_claim_frame.specs.hwp_geom.declared.Who.{Who}
+use Rattle.hwp_claim_frame.specs.hwp_kill.declared.Seen.{Seen}
+use Rattle.hwp_claim_frame.specs.hwp_page.History.{BodyValue}
+use Rattle.hwp_claim_frame.specs.hwp_core_rule.Words.{Words}
 use Rattle.hwp_claim_act.specs.hwp_evict.declared.clear.Clear.{Clear}
 use Rattle.hwp_claim_act.specs.declared.act.Act.{Act}
 use Rattle.hwp_claim_act.specs.declared.act.ActAt.{ActAt}
@@ -23,7 +23,7 @@ use Rattle.hwp_claim.specs.declared.fail.FailAt.{FailAt}
 use Rattle.hwp_claim.specs.declared.fail.FailAt.TheVariants as at
 use Rattle.hwp_claim.specs.declared.fail.FailAnswer.{FailAnswer}
 use Rattle.hwp_claim.specs.declared.fail.FailAnswer.TheVariants as answers
-use Rattle.hwp_page.specs.declared.Situation.TheVariants as situations
+use Rattle.hwp_claim_frame.specs.hwp_page.declared.Situation.TheVariants as situations
 use Rattle.hwp_claim.specs.Fails.{Acts, AfterClaim, aborts_at, after_act, claims_at, class_at, cost_at, has_retired_at, pageless}
 
 -- ---- a frame that isn't retired yet

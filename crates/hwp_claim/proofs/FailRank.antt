@@ -2,25 +2,25 @@
 use Rattle.std.proofs.Common.{◌≡◌, ◌≢◌, ◌⊎◌, inl, inr, ℕ, ◌+◌, ◌<◌, ◌≤◌, min, Bool, true, false, cond, List, Option, Some, None, is_none, slice_get, refl, sym, ap, ◌∙◌, subst, arith}
 use Rattle.std.proofs.lemmas.Bool.{both_ways}
 use Rattle.std.proofs.lemmas.Option.{none-some}
-use Rattle.hwp_geom.specs.declared.FileNo.{FileNo}
-use Rattle.hwp_geom.specs.declared.Frame.{Frame}
-use Rattle.hwp_geom.specs.declared.Layout.{Layout}
-use Rattle.hwp_geom.specs.declared.Who.{Who}
-use Rattle.hwp_page.specs.hwp_kill.declared.Signal.{Signal}
-use Rattle.hwp_page.specs.History.{BodyValue}
-use Rattle.hwp_core_rule.specs.declared.State.{State}
-use Rattle.hwp_core_rule.specs.declared.Step.{Step}
-use Rattle.hwp_core_rule.specs.declared.Step.TheVariants as steps
-use Rattle.hwp_core_rule.specs.Moves.{Move}
-use Rattle.hwp_core_rule.specs.Lasting.{LeavesPoison}
-use Rattle.hwp_core_rule.specs.Words.{Words}
-use Rattle.hwp_core_task.specs.declared.Turn.{Turn}
-use Rattle.hwp_core_task.specs.Boards.{view_of}
-use Rattle.hwp_core_task.specs.Calls.{logs, rec_of}
-use Rattle.hwp_core_task.specs.Hands.{Hand}
-use Rattle.hwp_core_task.specs.Ranks.{IsRanked, Made, Member, OtherHand, Pending, Quiet, failures_left, is_refused, is_waits, member, words_at}
-use Rattle.hwp_core_task.proofs.Failures.{mild-leaves}
-use Rattle.hwp_core_task.proofs.StepRanks.{failed, pending-kept, steps-on}
+use Rattle.hwp_claim_frame.specs.hwp_geom.declared.FileNo.{FileNo}
+use Rattle.hwp_claim_frame.specs.hwp_geom.declared.Frame.{Frame}
+use Rattle.hwp_claim_frame.specs.hwp_geom.declared.Layout.{Layout}
+use Rattle.hwp_claim_frame.specs.hwp_geom.declared.Who.{Who}
+use Rattle.hwp_claim_frame.specs.hwp_kill.declared.Signal.{Signal}
+use Rattle.hwp_claim_frame.specs.hwp_page.History.{BodyValue}
+use Rattle.hwp_claim_frame.specs.hwp_core_rule.declared.State.{State}
+use Rattle.hwp_claim_frame.specs.hwp_core_rule.declared.Step.{Step}
+use Rattle.hwp_claim_frame.specs.hwp_core_rule.declared.Step.TheVariants as steps
+use Rattle.hwp_claim_frame.specs.hwp_core_rule.Moves.{Move}
+use Rattle.hwp_claim_frame.specs.hwp_core_rule.Lasting.{LeavesPoison}
+use Rattle.hwp_claim_frame.specs.hwp_core_rule.Words.{Words}
+use Rattle.hwp_claim_frame.specs.hwp_core_task.declared.Turn.{Turn}
+use Rattle.hwp_claim_frame.specs.hwp_core_task.Boards.{view_of}
+use Rattle.hwp_claim_frame.specs.hwp_core_task.Calls.{logs, rec_of}
+use Rattle.hwp_claim_frame.specs.hwp_core_task.Hands.{Hand}
+use Rattle.hwp_claim_frame.specs.hwp_core_task.Ranks.{IsRanked, Made, OtherHand, Pending, Quiet, failures_left, is_refused, is_waits, words_at}
+use Rattle.hwp_claim_frame.proofs.of_hwp_core_task.Failures.{mild-leaves}
+use Rattle.hwp_claim_frame.proofs.of_hwp_core_task.StepRanks.{failed, pending-kept, steps-on}
 use Rattle.hwp_claim_frame.specs.hwp_core.declared.give_up.GiveUp.{GiveUp}
 use Rattle.hwp_claim_frame.specs.hwp_core.declared.give_up.GiveUpAt.{GiveUpAt}
 use Rattle.hwp_claim_frame.specs.hwp_core.declared.give_up.GiveUpAt.TheVariants as give_up_at
@@ -43,18 +43,15 @@ use Rattle.hwp_claim_act.specs.Acts as acts
 use Rattle.hwp_claim_act.proofs.ActCosts.{act-falls, act-goes, act-mild, act-ranked, act-small}
 use Rattle.hwp_claim_frame.specs.declared.claim.Claim.{Claim}
 use Rattle.hwp_claim_frame.specs.Claims as claims
-use Rattle.hwp_claim_frame.proofs.ClaimCosts.{claim-class, claim-falls, claim-lasting, claim-leaves, claim-member, claim-small, claim-waits}
+use Rattle.hwp_claim_frame.proofs.ClaimCosts.{claim-class, claim-falls, claim-lasting, claim-leaves, claim-small, claim-waits}
 use Rattle.hwp_claim_frame.proofs.ClaimOwns.{claim-ranked}
 use Rattle.hwp_claim_frame.proofs.ClaimKeeps.{Keeps, drops-now, owned-by, retired}
 use Rattle.hwp_claim.specs.declared.fail.Fail.{Fail}
 use Rattle.hwp_claim.specs.declared.fail.FailAt.{FailAt}
 use Rattle.hwp_claim.specs.declared.fail.FailAt.TheVariants as at
-use Rattle.hwp_claim.specs.Fails.{ActsOn, Fits, FitsAt, Follows, FollowsAt, IsActing, IsClaiming, ShowsAt, aborts, aborts_at, after_act, bare, bare_at, claims_at, claims_of, class, class_at, cost, cost_at, has_retired_at, is_retired_at, plan, plan_at, put, put_at}
+use Rattle.hwp_claim.specs.Fails.{ActsOn, FitsAt, FollowsAt, IsActing, IsClaiming, ShowsAt, aborts, aborts_at, after_act, bare, bare_at, claims_at, claims_of, class, class_at, cost, cost_at, has_retired_at, is_retired_at, plan, plan_at, put, put_at, task as fail-task}
 use Rattle.hwp_claim.proofs.FailLeaves.{IsLeft, act-claim, act-cost, claim-on, cleared-on, left, read-on}
 use Rattle.hwp_claim.proofs.FailLaws.{both}
-
-abbrev pub fail-member : Member Fail
-fail-member = member (λ f. f.who) plan put bare (λ layout f found got after result. Follows f found got after result) Fits class cost aborts claims_of
 
 -- ---- the page leaves its frame
 
@@ -105,7 +102,7 @@ gives-on g {step} found e going = which g.at e going
 
 -- ---- each turn
 
-module _ {layout : Layout} {seat : ℕ} {a b : State} {s t : Fail} {turned : Turn} (made : Made fail-member layout seat a b s t turned) where
+module _ {layout : Layout} {seat : ℕ} {a b : State} {s t : Fail} {turned : Turn} (made : Made fail-task layout seat a b s t turned) where
   abbrev w : Words
   w = words_at layout a
 
@@ -119,7 +116,7 @@ module _ {layout : Layout} {seat : ℕ} {a b : State} {s t : Fail} {turned : Tur
   abbrev next-claim : Claim → Claim
   next-claim c = claims.next (claims.bare c) made.found made.got
 
-  claim-made : (c : Claim) → IsClaiming layout (view_of a seat) s.who s.frame s.hardware c → claims.plan c ≡ Some made.step → Moves (claims.put c) → Made claim-member layout seat a b c (next-claim c) (claims.turn (claims.bare c) made.found)
+  claim-made : (c : Claim) → IsClaiming layout (view_of a seat) s.who s.frame s.hardware c → claims.plan c ≡ Some made.step → Moves (claims.put c) → Made claims.task layout seat a b c (next-claim c) (claims.turn (claims.bare c) made.found)
   claim-made c has e move = record {
     step = made.step;
     found = made.found;
@@ -264,7 +261,7 @@ fail-small f w = which f.at
     which (at.Act cycle c) = let few : acts.cost c w ≤ 570 = act-small w c in omega (arith, few)
     which (at.Over answer) = omega arith
 
-pub fail-ranked : IsRanked fail-member
+pub fail-ranked : IsRanked fail-task
 fail-ranked = record {
   classes = fail-class;
   small = λ layout a seat s rule fits. let few : cost s (words_at layout a) ≤ 8871 = fail-small s (words_at layout a) in omega (arith, few);

@@ -2,14 +2,14 @@
 use Rattle.std.proofs.Common.{◌≡◌, ◌≢◌, ℕ, ◌≤◌, Bool, true, false, Option, Some, None, is_none, refl, sym, ap, ◌∙◌, arith}
 use Rattle.std.proofs.lemmas.Bool.{both_ways}
 use Rattle.std.proofs.lemmas.Option.{none-some}
-use Rattle.hwp_geom.specs.declared.Frame.{Frame}
-use Rattle.hwp_geom.specs.declared.Layout.{Layout}
-use Rattle.hwp_geom.specs.declared.Thread.{Thread}
-use Rattle.hwp_geom.specs.declared.VSlot.{VSlot}
-use Rattle.hwp_core_rule.specs.declared.Step.{Step}
-use Rattle.hwp_core_rule.specs.declared.View.{View}
-use Rattle.hwp_core_task.specs.Classes.{TellsClass}
-use Rattle.hwp_core_task.specs.Hands.{empty, hand_of}
+use Rattle.hwp_claim_frame.specs.hwp_geom.declared.Frame.{Frame}
+use Rattle.hwp_claim_frame.specs.hwp_geom.declared.Layout.{Layout}
+use Rattle.hwp_claim_frame.specs.hwp_geom.declared.Thread.{Thread}
+use Rattle.hwp_claim_frame.specs.hwp_geom.declared.VSlot.{VSlot}
+use Rattle.hwp_claim_frame.specs.hwp_core_rule.declared.Step.{Step}
+use Rattle.hwp_claim_frame.specs.hwp_core_rule.declared.View.{View}
+use Rattle.hwp_claim_frame.specs.hwp_core_task.Classes.{TellsClass}
+use Rattle.hwp_claim_frame.specs.hwp_core_task.Hands.{empty, hand_of}
 use Rattle.hwp_claim_frame.proofs.of_hwp_core.TaskTells.{no-frame, no-page}
 use Rattle.hwp_claim_act.specs.declared.act.Act.{Act}
 use Rattle.hwp_claim_act.specs.declared.act.ActAt.{ActAt}
@@ -25,9 +25,8 @@ use Rattle.hwp_claim_frame.specs.Claims as claims
 use Rattle.hwp_claim.specs.declared.fail.Fail.{Fail}
 use Rattle.hwp_claim.specs.declared.fail.FailAt.{FailAt}
 use Rattle.hwp_claim.specs.declared.fail.FailAt.TheVariants as at
-use Rattle.hwp_claim.specs.Fails.{Fits, FitsAt, claims_at, claims_of, class, class_at, has_retired_at, plan, plan_at}
+use Rattle.hwp_claim.specs.Fails.{Fits, FitsAt, claims_at, claims_of, class, class_at, has_retired_at, plan, plan_at, task as fail-task}
 use Rattle.hwp_claim.proofs.FailLeaves.{claim-on}
-use Rattle.hwp_claim.proofs.FailRank.{fail-member}
 use Rattle.hwp_claim.proofs.FailLaws.{fail-tells}
 
 -- no step comes of what is under way
@@ -116,7 +115,7 @@ goes layout view f frame cycle fits is = which f.at fits.at is
     which (at.Act own a) has is = (omega arith, λ none. none-some (frame, cycle) (sym (ap (claim-on f.frame own) (act-idle layout view a has.act has.unanswered none).1) ∙ is))
     which (at.Over answer) has is = absurd (none-some (frame, cycle) is)
 
-pub fail-tells-class : TellsClass fail-member
+pub fail-tells-class : TellsClass fail-task
 fail-tells-class = record {
   frame = λ layout view s fits some. ((fail-tells layout view s fits).0 some, λ none. no-frame view (idle layout view s fits none) refl refl refl some);
   page = λ layout view s fits some. ((fail-tells layout view s fits).1 some, λ none. no-page view (idle layout view s fits none) refl some);

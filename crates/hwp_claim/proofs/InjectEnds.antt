@@ -1,16 +1,16 @@
 -- What a command by which a frame fails has done, once it is answered.
 use Rattle.std.proofs.Common.{◌≡◌, ◌+◌, Bool, false, List, [], ◌∷◌, ◌++◌, Option, Some, None, length, map, slice_get, refl, sym, ap, ◌∙◌, subst, arith}
+use Rattle.std.specs.List.{cons_option}
 use Rattle.std.proofs.lemmas.List.{length-append, length-map, nil_from_length}
 use Rattle.std.proofs.lemmas.Option.{none-some, same_Some}
-use Rattle.hwp_geom.specs.declared.Frame.{Frame}
-use Rattle.hwp_geom.specs.declared.Layout.{Layout}
-use Rattle.hwp_geom.specs.declared.Thread.{Thread}
-use Rattle.hwp_geom.specs.declared.Who.{Who}
-use Rattle.hwp_page.specs.declared.At.{At}
-use Rattle.hwp_page.specs.declared.Situation.{Situation}
-use Rattle.hwp_core_rule.specs.declared.Made.{Made}
-use Rattle.hwp_core_rule.specs.declared.View.{View}
-use Rattle.hwp_core_task.specs.Known.{deeds}
+use Rattle.hwp_claim_frame.specs.hwp_geom.declared.Frame.{Frame}
+use Rattle.hwp_claim_frame.specs.hwp_geom.declared.Layout.{Layout}
+use Rattle.hwp_claim_frame.specs.hwp_geom.declared.Thread.{Thread}
+use Rattle.hwp_claim_frame.specs.hwp_geom.declared.Who.{Who}
+use Rattle.hwp_claim_frame.specs.hwp_page.declared.At.{At}
+use Rattle.hwp_claim_frame.specs.hwp_core_rule.declared.Made.{Made}
+use Rattle.hwp_claim_frame.specs.hwp_core_rule.declared.View.{View}
+use Rattle.hwp_claim_frame.specs.hwp_core_task.Known.{deeds}
 use Rattle.hwp_claim_act.specs.declared.abandon.Failed.{Failed}
 use Rattle.hwp_claim_act.specs.Abandoned.{failed_in}
 use Rattle.hwp_claim_frame.specs.Claims.{marks_by}
@@ -20,10 +20,11 @@ use Rattle.hwp_claim.specs.declared.fail.FailAt.{FailAt}
 use Rattle.hwp_claim.specs.declared.fail.FailAt.TheVariants as fail_at
 use Rattle.hwp_claim.specs.declared.fail.FailAnswer.{FailAnswer}
 use Rattle.hwp_claim.specs.declared.fail.FailAnswer.TheVariants as answers
+use Rattle.hwp_claim.specs.declared.fail.Found.{Found}
 use Rattle.hwp_claim.specs.declared.inject.Inject.{Inject}
 use Rattle.hwp_claim.specs.declared.inject.InjectAt.{InjectAt}
 use Rattle.hwp_claim.specs.declared.inject.InjectAt.TheVariants as at
-use Rattle.hwp_claim.specs.Done.{failed_at, failed_over, marked_at, marked_over}
+use Rattle.hwp_claim.specs.Done.{entered_by, failed_at, failed_over, marked_at, marked_over}
 use Rattle.hwp_claim.specs.Fails as fails
 use Rattle.hwp_claim.specs.Injects.{Fits, FitsAt, HasDone, HasEnded, IsFailing, answer, answer_at}
 
@@ -41,9 +42,9 @@ alone : {A : Type 0} (l before : List A) (x : A) → l ≡ before ++ x ∷ [] �
 alone l before x is none = is ∙ ap (λ (m : List _). m ++ x ∷ []) none
 
 module _ (layout : Layout) (view : View) (who : Who) (frame : Frame) (marks : List Marking) (failures : List Failed) (marked : map marking_of (marks_by who view) ≡ marks) (entered : map failed_in (deeds who view) ≡ map (λ (x : Failed). Some x) failures) where
-  has-done : (situation : Situation) (place : Option At) (signalled : Bool) → failures ≡ failed_over None (answers.Done situation 0 place signalled) → fails.HasDone layout view who frame None situation place signalled → HasDone layout view who frame situation place signalled
-  has-done situation None signalled none has = (none-of failed_in (deeds who view) (entered ∙ ap (map (λ (x : Failed). Some x)) none), has.0, has.1)
-  has-done situation (Some place) signalled one has = (
+  has-done : (found : Found) (at : Option At) → failures ≡ cons_option (entered_by None found at) [] → fails.HasDone layout view who frame None found at → HasDone layout view who frame found at
+  has-done found None none has = (none-of failed_in (deeds who view) (entered ∙ ap (map (λ (x : Failed). Some x)) none), has.0, has.1)
+  has-done found (Some place) one has = (
     record {
       seen = has.0.seen;
       signals = has.0.signals;
@@ -51,7 +52,7 @@ module _ (layout : Layout) (view : View) (who : Who) (frame : Frame) (marks : Li
         before = has.0.made.before;
         last = has.0.made.last;
         all = has.0.made.all;
-        such = λ i m there. none-some m (sym (ap (λ (l : List Made). slice_get l i) (none-before failed_in (deeds who view) has.0.made.before has.0.made.last (Some (record { situation = situation; required = None; at = place; signalled = signalled })) has.0.made.all (entered ∙ ap (map (λ (x : Failed). Some x)) one))) ∙ there);
+        such = λ i m there. none-some m (sym (ap (λ (l : List Made). slice_get l i) (none-before failed_in (deeds who view) has.0.made.before has.0.made.last (Some (record { situation = found.situation; required = None; at = place; signalled = found.signalled })) has.0.made.all (entered ∙ ap (map (λ (x : Failed). Some x)) one))) ∙ there);
         at = has.0.made.at;
       };
       signalled_is = has.0.signalled;
@@ -63,20 +64,16 @@ module _ (layout : Layout) (view : View) (who : Who) (frame : Frame) (marks : Li
   has-ended : (x : FailAnswer) → marks ≡ marked_over frame false x → failures ≡ failed_over None x → fails.FitsOver layout view who frame None false x → HasEnded layout view who frame x
   has-ended answers.Stopped none unentered has = (none-of failed_in (deeds who view) (entered ∙ ap (map (λ (x : Failed). Some x)) unentered), none-of marking_of (marks_by who view) (marked ∙ none), has)
   has-ended answers.Already none unentered has = (none-of failed_in (deeds who view) (entered ∙ ap (map (λ (x : Failed). Some x)) unentered), none-of marking_of (marks_by who view) (marked ∙ none), has)
-  has-ended (answers.Done situation cycle place signalled) one done has = (
+  has-ended (answers.Done found) one done has = (
     record {
       mark = has.0.mark;
-      marks = alone (marks_by who view) has.0.before has.0.mark has.0.marks (none-before marking_of (marks_by who view) has.0.before has.0.mark (poisoning frame false cycle) has.0.marks (marked ∙ one));
+      marks = alone (marks_by who view) has.0.before has.0.mark has.0.marks (none-before marking_of (marks_by who view) has.0.before has.0.mark (poisoning frame false found.cycle) has.0.marks (marked ∙ one));
       frame_is = has.0.frame_is;
       cycle_is = has.0.cycle_is;
       kind_is = has.0.kind_is;
     },
-    has-done situation place signalled (done ∙ same place) has.1,
+    has-done found found.at done has.1,
   )
-    where
-      same : (o : Option At) → failed_over None (answers.Done situation cycle o signalled) ≡ failed_over None (answers.Done situation 0 o signalled)
-      same None = refl
-      same (Some at) = refl
 
 pub inject-ended : (layout : Layout) (view : View) (i : Inject) (x : FailAnswer) → Fits layout view i → answer i ≡ Some x → HasEnded layout view i.who i.frame x
 inject-ended layout view i x fits is = which i.at fits.at is

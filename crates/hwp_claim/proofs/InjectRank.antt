@@ -3,37 +3,34 @@ use Rattle.std.proofs.Common.{◌≡◌, ◌≢◌, ◌⊎◌, inl, inr, ℕ, �
 use Rattle.std.proofs.lemmas.Bool.{both_ways}
 use Rattle.std.proofs.lemmas.Option.{none-some, same_Some}
 use Rattle.std.specs.declared.alloc.Global.{Global}
-use Rattle.hwp_geom.specs.declared.Frame.{Frame}
-use Rattle.hwp_geom.specs.declared.Layout.{Layout}
-use Rattle.hwp_geom.specs.declared.Who.{Who}
-use Rattle.hwp_words.specs.Stops.{is_stopped}
-use Rattle.hwp_core_rule.specs.declared.SharedWord.TheVariants as places
-use Rattle.hwp_core_rule.specs.declared.State.{State}
-use Rattle.hwp_core_rule.specs.declared.Step.{Step}
-use Rattle.hwp_core_rule.specs.declared.Step.TheVariants as steps
-use Rattle.hwp_core_rule.specs.declared.View.{View}
-use Rattle.hwp_core_rule.specs.Moves.{Move}
-use Rattle.hwp_core_rule.specs.Lasting.{IsMild, LeavesPoison}
-use Rattle.hwp_core_rule.specs.Words.{Words}
-use Rattle.hwp_core_task.specs.declared.Turn.{Turn}
-use Rattle.hwp_core_task.specs.declared.Turn.TheVariants.{Moved}
-use Rattle.hwp_core_task.specs.Boards.{view_of}
-use Rattle.hwp_core_task.specs.Calls.{logs, rec_of}
-use Rattle.hwp_core_task.specs.Classes.{TellsClass}
-use Rattle.hwp_core_task.specs.Ranks.{CostFalls, HasFailed, HasFrame, HasPage, IsRanked, Made, Member, OtherHand, Pending, Quiet, failure_weight, failures_left, is_refused, is_waits, member, words_at}
-use Rattle.hwp_core_task.proofs.StepRanks.{part-made, pending-kept}
+use Rattle.hwp_claim_frame.specs.hwp_geom.declared.Frame.{Frame}
+use Rattle.hwp_claim_frame.specs.hwp_geom.declared.Layout.{Layout}
+use Rattle.hwp_claim_frame.specs.hwp_geom.declared.Who.{Who}
+use Rattle.hwp_claim_frame.specs.hwp_words.Stops.{is_stopped}
+use Rattle.hwp_claim_frame.specs.hwp_core_rule.declared.SharedWord.TheVariants as places
+use Rattle.hwp_claim_frame.specs.hwp_core_rule.declared.State.{State}
+use Rattle.hwp_claim_frame.specs.hwp_core_rule.declared.Step.{Step}
+use Rattle.hwp_claim_frame.specs.hwp_core_rule.declared.Step.TheVariants as steps
+use Rattle.hwp_claim_frame.specs.hwp_core_rule.declared.View.{View}
+use Rattle.hwp_claim_frame.specs.hwp_core_rule.Moves.{Move}
+use Rattle.hwp_claim_frame.specs.hwp_core_rule.Lasting.{IsMild, LeavesPoison}
+use Rattle.hwp_claim_frame.specs.hwp_core_rule.Words.{Words}
+use Rattle.hwp_claim_frame.specs.hwp_core_task.declared.Turn.{Turn}
+use Rattle.hwp_claim_frame.specs.hwp_core_task.declared.Turn.TheVariants.{Moved}
+use Rattle.hwp_claim_frame.specs.hwp_core_task.Boards.{view_of}
+use Rattle.hwp_claim_frame.specs.hwp_core_task.Calls.{logs, rec_of}
+use Rattle.hwp_claim_frame.specs.hwp_core_task.Classes.{TellsClass}
+use Rattle.hwp_claim_frame.specs.hwp_core_task.Ranks.{CostFalls, HasFailed, HasFrame, HasPage, IsRanked, Made, OtherHand, Pending, Quiet, failure_weight, failures_left, is_refused, is_waits, words_at}
+use Rattle.hwp_claim_frame.proofs.of_hwp_core_task.StepRanks.{part-made, pending-kept}
 use Rattle.hwp_claim_frame.proofs.of_hwp_core.TaskTells.{no-frame, no-page}
 use Rattle.hwp_claim.specs.declared.fail.Fail.{Fail}
 use Rattle.hwp_claim.specs.declared.inject.Inject.{Inject}
 use Rattle.hwp_claim.specs.declared.inject.InjectAt.{InjectAt}
 use Rattle.hwp_claim.specs.declared.inject.InjectAt.TheVariants as at
 use Rattle.hwp_claim.specs.Fails as fails
-use Rattle.hwp_claim.specs.Injects.{Fits, FitsAt, Follows, FollowsAt, IsFailing, aborts, aborts_at, bare, bare_at, claims, claims_at, class, class_at, cost, cost_at, loaded, plan, plan_at, put, put_at}
-use Rattle.hwp_claim.proofs.FailRank.{fail-lasting, fail-member, fail-ranked, fail-small}
+use Rattle.hwp_claim.specs.Injects.{FitsAt, Follows, FollowsAt, IsFailing, aborts_at, bare, bare_at, claims_at, class, class_at, cost, cost_at, loaded, plan, plan_at, put, put_at, task as inject-task}
+use Rattle.hwp_claim.proofs.FailRank.{fail-lasting, fail-ranked, fail-small}
 use Rattle.hwp_claim.proofs.FailTells.{fail-tells-class}
-
-abbrev pub inject-member : Member Inject
-inject-member = member (λ i. i.who) plan put bare (λ layout i found got after result. Follows layout i found got after result) Fits class cost aborts claims
 
 inject-class : (i : Inject) → (1 ≤ class i) × (class i ≤ 4)
 inject-class i = which i.at
@@ -61,7 +58,7 @@ after-stop recovery alloc who frame found w = which (is_stopped found) recovery
     which false true = omega arith
     which false false = omega arith
 
-module _ {layout : Layout} {seat : ℕ} {a b : State} {s t : Inject} {turn : Turn} (made : Made inject-member layout seat a b s t turn) where
+module _ {layout : Layout} {seat : ℕ} {a b : State} {s t : Inject} {turn : Turn} (made : Made inject-task layout seat a b s t turn) where
   abbrev w : Words
   w = words_at layout a
 
@@ -70,8 +67,8 @@ module _ {layout : Layout} {seat : ℕ} {a b : State} {s t : Inject} {turn : Tur
 
   -- a step of the failure
   fail-made : (f g : Fail) → IsFailing layout (view_of a seat) s.who s.frame f → fails.plan f ≡ Some made.step → Move layout seat (rec_of layout s.who made.step (logs (fails.put f)) made.found made.got) a b
-      → fails.Follows (fails.bare f) made.found made.got g turn → Made fail-member layout seat a b f g turn
-  fail-made f g has e move follows = part-made made fail-member f g has.own has.fail e move follows
+      → fails.Follows (fails.bare f) made.found made.got g turn → Made fails.task layout seat a b f g turn
+  fail-made f g has e move follows = part-made made fails.task f g has.own has.fail e move follows
 
   unmoved : is_waits turn ≡ true → turn ≡ Moved → ⊥
   unmoved waits is = both_ways (is_waits turn) (ap is_waits is) waits
@@ -88,7 +85,7 @@ module _ {layout : Layout} {seat : ℕ} {a b : State} {s t : Inject} {turn : Tur
   ]
   goes-at at.Stopped y e has move next goes = absurd (none-some made.step e)
 
-  falls : is_waits turn ≡ false → CostFalls inject-member layout a b s t ⊎ HasFailed inject-member layout a b s t
+  falls : is_waits turn ≡ false → CostFalls inject-task layout a b s t ⊎ HasFailed inject-task layout a b s t
   falls goes = elim (goes-at s.at t.at made.planned made.fits.at made.move made.follows.1 goes) [
     | inl less ↦ inl less
     | inr failed ↦ inr (record { fewer = failed.0; bounded = failed.1 })
@@ -122,7 +119,7 @@ module _ {layout : Layout} {seat : ℕ} {a b : State} {s t : Inject} {turn : Tur
   ]
   owns-at at.Stopped y frame cycle e has move next going pending = absurd (none-some made.step e)
 
-pub inject-ranked : IsRanked inject-member
+pub inject-ranked : IsRanked inject-task
 inject-ranked = record {
   classes = inject-class;
   small = λ layout a seat s rule fits. let few : cost s (words_at layout a) ≤ 8871 = inject-below s (words_at layout a) in omega (arith, few);
@@ -158,7 +155,7 @@ claim-told layout view who frame at.LoadStop of cycle has claimed = absurd (none
 claim-told layout view who frame (at.Fail f) of cycle has claimed = fail-tells-class.claim layout view f of cycle has.fail claimed
 claim-told layout view who frame at.Stopped of cycle has claimed = absurd (none-some (of, cycle) claimed)
 
-pub inject-tells : TellsClass inject-member
+pub inject-tells : TellsClass inject-task
 inject-tells = record {
   frame = λ layout view i fits some. frame-told layout view i.who i.frame i.at fits.at some;
   page = λ layout view i fits some. page-told layout view i.who i.frame i.at fits.at some;

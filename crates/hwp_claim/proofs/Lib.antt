@@ -8,6 +8,3 @@ pub mod InjectLaws
 pub mod InjectEnds
 pub mod InjectRank
 pub use Rattle.hwp_claim_act.proofs as of_hwp_claim_act
-pub use Rattle.hwp_claim_frame.proofs as of_hwp_claim_frame
-pub use Rattle.hwp_claim_frame.proofs.of_hwp_core as of_hwp_core
-pub use Rattle.hwp_claim_act.proofs.of_hwp_evict as of_hwp_evict

@@ -1,25 +1,25 @@
 -- Steps that set no policy, take no losses, neither mark nor count a frame, damage no line and don't stop the machine leave what a
 -- view lists of these; and once its frame is claimed a failure makes only such.
 use Rattle.std.proofs.Common.{◌≡◌, ℕ, ◌==◌, Bool, true, false, cond, Option, Some, None, refl, ap, ◌∙◌, subst}
-use Rattle.hwp_geom.specs.declared.Frame.{Frame}
-use Rattle.hwp_geom.specs.declared.Layout.{Layout}
-use Rattle.hwp_geom.specs.declared.Page.{Page}
-use Rattle.hwp_geom.specs.declared.Thread.{Thread}
-use Rattle.hwp_geom.specs.declared.VSlot.{VSlot}
-use Rattle.hwp_geom.specs.declared.Who.{Who}
-use Rattle.hwp_page.specs.History.{BodyValue}
-use Rattle.hwp_core_rule.specs.declared.InHand.{InHand}
-use Rattle.hwp_core_rule.specs.declared.Log.{Log}
-use Rattle.hwp_core_rule.specs.declared.SharedWord.{SharedWord}
-use Rattle.hwp_core_rule.specs.declared.SharedWord.TheVariants as places
-use Rattle.hwp_core_rule.specs.declared.Step.{Step}
-use Rattle.hwp_core_rule.specs.declared.Step.TheVariants as steps
-use Rattle.hwp_core_rule.specs.declared.View.{View}
-use Rattle.hwp_core_rule.specs.Logs.{log_of}
-use Rattle.hwp_core_rule.specs.Steps.{goes}
-use Rattle.hwp_core_rule.specs.Views.{body_of, listed_of, loaded, noted, put_home, taken, view_by}
-use Rattle.hwp_core_task.specs.Calls.{Steps}
-use Rattle.hwp_core_task.proofs.StepLeaves.{content_of}
+use Rattle.hwp_claim_frame.specs.hwp_geom.declared.Frame.{Frame}
+use Rattle.hwp_claim_frame.specs.hwp_geom.declared.Layout.{Layout}
+use Rattle.hwp_claim_frame.specs.hwp_geom.declared.Page.{Page}
+use Rattle.hwp_claim_frame.specs.hwp_geom.declared.Thread.{Thread}
+use Rattle.hwp_claim_frame.specs.hwp_geom.declared.VSlot.{VSlot}
+use Rattle.hwp_claim_frame.specs.hwp_geom.declared.Who.{Who}
+use Rattle.hwp_claim_frame.specs.hwp_page.History.{BodyValue}
+use Rattle.hwp_claim_frame.specs.hwp_core_rule.declared.InHand.{InHand}
+use Rattle.hwp_claim_frame.specs.hwp_core_rule.declared.Log.{Log}
+use Rattle.hwp_claim_frame.specs.hwp_core_rule.declared.SharedWord.{SharedWord}
+use Rattle.hwp_claim_frame.specs.hwp_core_rule.declared.SharedWord.TheVariants as places
+use Rattle.hwp_claim_frame.specs.hwp_core_rule.declared.Step.{Step}
+use Rattle.hwp_claim_frame.specs.hwp_core_rule.declared.Step.TheVariants as steps
+use Rattle.hwp_claim_frame.specs.hwp_core_rule.declared.View.{View}
+use Rattle.hwp_claim_frame.specs.hwp_core_rule.Logs.{log_of}
+use Rattle.hwp_claim_frame.specs.hwp_core_rule.Steps.{goes}
+use Rattle.hwp_claim_frame.specs.hwp_core_rule.Views.{body_of, listed_of, loaded, noted, put_home, taken, view_by}
+use Rattle.hwp_claim_frame.specs.hwp_core_task.Calls.{Steps}
+use Rattle.hwp_claim_frame.proofs.of_hwp_core_task.StepLeaves.{content_of}
 use Rattle.hwp_claim_frame.specs.hwp_core.declared.give_up.GiveUpAt.{GiveUpAt}
 use Rattle.hwp_claim_frame.specs.hwp_core.declared.give_up.GiveUpAt.TheVariants as give_up_at
 use Rattle.hwp_claim_frame.specs.hwp_core.declared.release.ReleaseAt.{ReleaseAt}

@@ -1,11 +1,13 @@
 -- What a command has done so far in a failure: the poisoning that it made, the count that it owes of that, and the failure that its
 -- entry tells.
-use Rattle.std.specs.Prelude.{◌≡◌, ℕ, ◌+◌, Bool, List, [], ◌∷◌, Option, Some}
-use Rattle.hwp_geom.specs.declared.Frame.{Frame}
-use Rattle.hwp_geom.specs.declared.Thread.{Thread}
-use Rattle.hwp_geom.specs.declared.Who.{Who}
-use Rattle.hwp_core_rule.specs.declared.Mark.{Mark}
-use Rattle.hwp_core_rule.specs.declared.View.{View}
+use Rattle.std.specs.Prelude.{◌≡◌, ℕ, ◌+◌, Bool, List, [], ◌∷◌, Option, Some, None}
+use Rattle.std.specs.List.{cons_option}
+use Rattle.hwp_claim_frame.specs.hwp_geom.declared.Frame.{Frame}
+use Rattle.hwp_claim_frame.specs.hwp_geom.declared.Thread.{Thread}
+use Rattle.hwp_claim_frame.specs.hwp_geom.declared.Who.{Who}
+use Rattle.hwp_claim_frame.specs.hwp_page.declared.At.{At}
+use Rattle.hwp_claim_frame.specs.hwp_core_rule.declared.Mark.{Mark}
+use Rattle.hwp_claim_frame.specs.hwp_core_rule.declared.View.{View}
 use Rattle.hwp_claim_act.specs.declared.abandon.Failed.{Failed}
 use Rattle.hwp_claim_act.specs.Abandoned.{AddsFailure}
 use Rattle.hwp_claim_act.specs.Acts as acts
@@ -14,12 +16,13 @@ use Rattle.hwp_claim.specs.declared.fail.FailAt.{FailAt}
 use Rattle.hwp_claim.specs.declared.fail.FailAt.TheVariants as at
 use Rattle.hwp_claim.specs.declared.fail.FailAnswer.{FailAnswer}
 use Rattle.hwp_claim.specs.declared.fail.FailAnswer.TheVariants as answers
+use Rattle.hwp_claim.specs.declared.fail.Found.{Found}
 
 -- the poisoning that it made
 abbrev pub marked_over : Frame → Bool → FailAnswer → List Marking
 marked_over frame hardware answers.Stopped = []
 marked_over frame hardware answers.Already = []
-marked_over frame hardware (answers.Done situation cycle place signalled) = poisoning frame hardware cycle ∷ []
+marked_over frame hardware (answers.Done found) = poisoning frame hardware found.cycle ∷ []
 
 abbrev pub marked_at : Frame → Bool → FailAt → List Marking
 marked_at frame hardware (at.Claim c) = marked_in frame hardware c.at
@@ -32,8 +35,12 @@ owed_at (at.Claim c) = owed_in c.at
 owed_at _ = 0
 
 -- the failure that its entry tells, once that is listed
+abbrev pub entered_by : Option Thread → Found → Option At → Option Failed
+entered_by required found None = None
+entered_by required found (Some place) = Some (record { situation = found.situation; required = required; at = place; signalled = found.signalled })
+
 abbrev pub failed_over : Option Thread → FailAnswer → List Failed
-failed_over required (answers.Done situation cycle (Some place) signalled) = record { situation = situation; required = required; at = place; signalled = signalled } ∷ []
+failed_over required (answers.Done found) = cons_option (entered_by required found found.at) []
 failed_over required _ = []
 
 abbrev pub failed_at : Option Thread → FailAt → List Failed

@@ -1,23 +1,24 @@
 -- A memory failure of a frame: the task's states, its steps and what they come to.
 use Rattle.std.specs.Prelude.{◌≡◌, ℕ, ◌<◌, Bool, true, false, cond, [], Option, Some, None, slice_get}
 use Rattle.std.specs.declared.alloc.Global.{Global}
-use Rattle.hwp_geom.specs.declared.Frame.{Frame}
-use Rattle.hwp_geom.specs.declared.Layout.{Layout}
-use Rattle.hwp_geom.specs.declared.Page.{Page}
-use Rattle.hwp_geom.specs.declared.Thread.{Thread}
-use Rattle.hwp_geom.specs.declared.Who.{Who}
-use Rattle.hwp_geom.specs.Layout.{IsSound}
-use Rattle.hwp_page.specs.declared.At.{At}
-use Rattle.hwp_page.specs.declared.Situation.{Situation}
-use Rattle.hwp_page.specs.declared.Situation.TheVariants as situations
-use Rattle.hwp_page.specs.History.{BodyValue}
-use Rattle.hwp_core_rule.specs.declared.Step.{Step}
-use Rattle.hwp_core_rule.specs.declared.View.{View}
-use Rattle.hwp_core_rule.specs.Words.{Words}
-use Rattle.hwp_core_task.specs.declared.Turn.{Turn}
-use Rattle.hwp_core_task.specs.declared.Turn.TheVariants.{Moved}
-use Rattle.hwp_core_task.specs.Calls.{IsOnTurn}
-use Rattle.hwp_core_task.specs.Hands.{hand_of, empty}
+use Rattle.hwp_claim_frame.specs.hwp_geom.declared.Frame.{Frame}
+use Rattle.hwp_claim_frame.specs.hwp_geom.declared.Layout.{Layout}
+use Rattle.hwp_claim_frame.specs.hwp_geom.declared.Page.{Page}
+use Rattle.hwp_claim_frame.specs.hwp_geom.declared.Thread.{Thread}
+use Rattle.hwp_claim_frame.specs.hwp_geom.declared.Who.{Who}
+use Rattle.hwp_claim_frame.specs.hwp_geom.Layout.{IsSound}
+use Rattle.hwp_claim_frame.specs.hwp_page.declared.At.{At}
+use Rattle.hwp_claim_frame.specs.hwp_page.declared.Situation.{Situation}
+use Rattle.hwp_claim_frame.specs.hwp_page.declared.Situation.TheVariants as situations
+use Rattle.hwp_claim_frame.specs.hwp_page.History.{BodyValue}
+use Rattle.hwp_claim_frame.specs.hwp_core_rule.declared.Step.{Step}
+use Rattle.hwp_claim_frame.specs.hwp_core_rule.declared.View.{View}
+use Rattle.hwp_claim_frame.specs.hwp_core_rule.Words.{Words}
+use Rattle.hwp_claim_frame.specs.hwp_core_task.declared.Turn.{Turn}
+use Rattle.hwp_claim_frame.specs.hwp_core_task.declared.Turn.TheVariants.{Moved}
+use Rattle.hwp_claim_frame.specs.hwp_core_task.Calls.{IsOnTurn}
+use Rattle.hwp_claim_frame.specs.hwp_core_task.Hands.{hand_of, empty}
+use Rattle.hwp_claim_frame.specs.hwp_core_task.Turns.{Member}
 use Rattle.hwp_claim_act.specs.declared.abandon.Failed.{Failed}
 use Rattle.hwp_claim_act.specs.declared.abandon.AbandonAt.{AbandonAt}
 use Rattle.hwp_claim_act.specs.declared.abandon.AbandonAt.TheVariants as abandon_at
@@ -37,6 +38,7 @@ use Rattle.hwp_claim.specs.declared.fail.FailAt.{FailAt}
 use Rattle.hwp_claim.specs.declared.fail.FailAt.TheVariants as at
 use Rattle.hwp_claim.specs.declared.fail.FailAnswer.{FailAnswer}
 use Rattle.hwp_claim.specs.declared.fail.FailAnswer.TheVariants as answers
+use Rattle.hwp_claim.specs.declared.fail.Found.{Found}
 
 abbrev pub start : Who → Frame → Bool → Bool → FailAt
 start who frame hardware recovery = at.Claim (claims.begin who frame hardware recovery)
@@ -77,15 +79,11 @@ answer f = answer_at f.at
 
 -- no page was in the frame
 abbrev pub pageless : Situation → ℕ → FailAnswer
-pageless situation cycle = answers.Done situation cycle None false
-
--- a page was
-abbrev pub acted_on : ℕ → Failed → FailAnswer
-acted_on cycle failed = answers.Done failed.situation cycle (Some failed.at) failed.signalled
+pageless situation cycle = answers.Done (record { situation = situation; cycle = cycle; at = None; signalled = false })
 
 abbrev pub after_act_by : ℕ → Act → Option Failed → FailAt
 after_act_by cycle a None = at.Act cycle a
-after_act_by cycle a (Some failed) = at.Over (acted_on cycle failed)
+after_act_by cycle a (Some failed) = at.Over (answers.Done (record { situation = failed.situation; cycle = cycle; at = Some failed.at; signalled = failed.signalled }))
 
 abbrev pub after_act : ℕ → Act → FailAt
 after_act cycle a = after_act_by cycle a (acts.answer a)
@@ -163,14 +161,14 @@ IsPageless layout frame situations.Kernel = slice_get layout.kernel frame.0 ≡ 
 IsPageless layout frame _ = ⊥
 
 -- it made no entry, or the last one of the command
-abbrev pub HasDone : Layout → View → Who → Frame → Option Thread → Situation → Option At → Bool → Type 0
-HasDone layout view who frame required situation None signalled = IsPageless layout frame situation × (signalled ≡ false)
-HasDone layout view who frame required situation (Some place) signalled = HasFailed view who (record { situation = situation; required = required; at = place; signalled = signalled }) × (slice_get layout.kernel frame.0 ≡ Some false)
+abbrev pub HasDone : Layout → View → Who → Frame → Option Thread → Found → Option At → Type 0
+HasDone layout view who frame required found None = IsPageless layout frame found.situation × (found.signalled ≡ false)
+HasDone layout view who frame required found (Some place) = HasFailed view who (record { situation = found.situation; required = required; at = place; signalled = found.signalled }) × (slice_get layout.kernel frame.0 ≡ Some false)
 
 abbrev pub FitsOver : Layout → View → Who → Frame → Option Thread → Bool → FailAnswer → Type 0
 FitsOver layout view who frame required hardware answers.Stopped = IsStopped view who
 FitsOver layout view who frame required hardware answers.Already = SawPoison view who frame
-FitsOver layout view who frame required hardware (answers.Done situation cycle place signalled) = HasMarked view who frame hardware cycle × HasDone layout view who frame required situation place signalled
+FitsOver layout view who frame required hardware (answers.Done found) = HasMarked view who frame hardware found.cycle × HasDone layout view who frame required found found.at
 
 abbrev pub FitsAt : Layout → View → Who → Frame → Option Thread → Bool → FailAt → Type 0
 FitsAt layout view who frame required hardware (at.Claim c) = IsClaiming layout view who frame hardware c
@@ -229,3 +227,19 @@ cost_at (at.Over answer) words = 0
 
 abbrev pub cost : Fail → Words → ℕ
 cost f words = cost_at f.at words
+
+-- the task, as the laws of tasks read it
+abbrev pub task : Member Fail
+task = record {
+  who = λ f. f.who;
+  plan = plan;
+  put = put;
+  bare = bare;
+  shows = Shows;
+  next = λ layout f found got after result. Follows f found got after result;
+  fits = Fits;
+  class = class;
+  cost = cost;
+  aborts = aborts;
+  claims = claims_of;
+}

@@ -1,30 +1,30 @@
 -- A memory failure that a command brings about: the task's states, its steps and what they come to.
 use Rattle.std.specs.Prelude.{◌≡◌, ℕ, ◌<◌, Bool, true, false, cond, List, [], ◌∷◌, Option, Some, None, map, slice_get}
 use Rattle.std.specs.declared.alloc.Global.{Global}
-use Rattle.hwp_geom.specs.declared.Frame.{Frame}
-use Rattle.hwp_geom.specs.declared.Layout.{Layout}
-use Rattle.hwp_geom.specs.declared.Who.{Who}
-use Rattle.hwp_geom.specs.Layout.{IsSound}
-use Rattle.hwp_page.specs.hwp_kill.declared.Seen.{Seen}
-use Rattle.hwp_page.specs.hwp_kill.declared.Signal.{Signal}
-use Rattle.hwp_page.specs.declared.At.{At}
-use Rattle.hwp_page.specs.declared.Situation.{Situation}
-use Rattle.hwp_page.specs.declared.What.TheVariants as entries
-use Rattle.hwp_page.specs.History.{BodyValue}
-use Rattle.hwp_words.specs.Stops.{is_stopped}
-use Rattle.hwp_core_rule.specs.declared.Made.{Made}
-use Rattle.hwp_core_rule.specs.declared.Mark.{Mark}
-use Rattle.hwp_core_rule.specs.declared.MarkKind.TheVariants as mark_kinds
-use Rattle.hwp_core_rule.specs.declared.SharedWord.TheVariants as places
-use Rattle.hwp_core_rule.specs.declared.Step.{Step}
-use Rattle.hwp_core_rule.specs.declared.Step.TheVariants as steps
-use Rattle.hwp_core_rule.specs.declared.View.{View}
-use Rattle.hwp_core_rule.specs.Words.{Words}
-use Rattle.hwp_core_task.specs.declared.Turn.{Turn}
-use Rattle.hwp_core_task.specs.declared.Turn.TheVariants.{Moved}
-use Rattle.hwp_core_task.specs.Calls.{IsOnTurn}
-use Rattle.hwp_core_task.specs.Hands.{hand_of, empty}
-use Rattle.hwp_core_task.specs.Known.{HasMade, HasMadeNone, deeds}
+use Rattle.hwp_claim_frame.specs.hwp_geom.declared.Frame.{Frame}
+use Rattle.hwp_claim_frame.specs.hwp_geom.declared.Layout.{Layout}
+use Rattle.hwp_claim_frame.specs.hwp_geom.declared.Who.{Who}
+use Rattle.hwp_claim_frame.specs.hwp_geom.Layout.{IsSound}
+use Rattle.hwp_claim_frame.specs.hwp_kill.declared.Seen.{Seen}
+use Rattle.hwp_claim_frame.specs.hwp_kill.declared.Signal.{Signal}
+use Rattle.hwp_claim_frame.specs.hwp_page.declared.At.{At}
+use Rattle.hwp_claim_frame.specs.hwp_page.declared.What.TheVariants as entries
+use Rattle.hwp_claim_frame.specs.hwp_page.History.{BodyValue}
+use Rattle.hwp_claim_frame.specs.hwp_words.Stops.{is_stopped}
+use Rattle.hwp_claim_frame.specs.hwp_core_rule.declared.Made.{Made}
+use Rattle.hwp_claim_frame.specs.hwp_core_rule.declared.Mark.{Mark}
+use Rattle.hwp_claim_frame.specs.hwp_core_rule.declared.MarkKind.TheVariants as mark_kinds
+use Rattle.hwp_claim_frame.specs.hwp_core_rule.declared.SharedWord.TheVariants as places
+use Rattle.hwp_claim_frame.specs.hwp_core_rule.declared.Step.{Step}
+use Rattle.hwp_claim_frame.specs.hwp_core_rule.declared.Step.TheVariants as steps
+use Rattle.hwp_claim_frame.specs.hwp_core_rule.declared.View.{View}
+use Rattle.hwp_claim_frame.specs.hwp_core_rule.Words.{Words}
+use Rattle.hwp_claim_frame.specs.hwp_core_task.declared.Turn.{Turn}
+use Rattle.hwp_claim_frame.specs.hwp_core_task.declared.Turn.TheVariants.{Moved}
+use Rattle.hwp_claim_frame.specs.hwp_core_task.Calls.{IsOnTurn}
+use Rattle.hwp_claim_frame.specs.hwp_core_task.Hands.{hand_of, empty}
+use Rattle.hwp_claim_frame.specs.hwp_core_task.Known.{HasMade, HasMadeNone, deeds}
+use Rattle.hwp_claim_frame.specs.hwp_core_task.Turns.{Member}
 use Rattle.hwp_claim_act.specs.declared.abandon.Failed.{Failed}
 use Rattle.hwp_claim_act.specs.Abandoned.{IsOfPage, failed_in}
 use Rattle.hwp_claim_act.specs.Abandons.{signals_now}
@@ -37,6 +37,7 @@ use Rattle.hwp_claim.specs.declared.fail.FailAt.{FailAt}
 use Rattle.hwp_claim.specs.declared.fail.FailAt.TheVariants as fail_at
 use Rattle.hwp_claim.specs.declared.fail.FailAnswer.{FailAnswer}
 use Rattle.hwp_claim.specs.declared.fail.FailAnswer.TheVariants as answers
+use Rattle.hwp_claim.specs.declared.fail.Found.{Found}
 use Rattle.hwp_claim.specs.declared.inject.Inject.{Inject}
 use Rattle.hwp_claim.specs.declared.inject.InjectAt.{InjectAt}
 use Rattle.hwp_claim.specs.declared.inject.InjectAt.TheVariants as at
@@ -157,21 +158,21 @@ pub record HasMarkedOne (view : View) (who : Who) (frame : Frame) (cycle : ℕ) 
   pub kind_is : mark.kind ≡ mark_kinds.Poisoned false
 
 -- it made this entry alone, of a page that was in the frame
-pub record HasMadeOne (view : View) (who : Who) (situation : Situation) (place : At) (signalled : Bool) : Type 0 where
+pub record HasMadeOne (view : View) (who : Who) (found : Found) (place : At) : Type 0 where
   pub seen : List Seen
   pub signals : List Signal
-  pub made : HasMade (λ (m : Made). ⊥) view who place.page place.entry (entries.Fail situation None seen signals)
-  pub signalled_is : signalled ≡ signals_now signals
-  pub paged : IsOfPage situation
+  pub made : HasMade (λ (m : Made). ⊥) view who place.page place.entry (entries.Fail found.situation None seen signals)
+  pub signalled_is : found.signalled ≡ signals_now signals
+  pub paged : IsOfPage found.situation
 
-abbrev pub HasDone : Layout → View → Who → Frame → Situation → Option At → Bool → Type 0
-HasDone layout view who frame situation None signalled = HasMadeNone view who × fails.IsPageless layout frame situation × (signalled ≡ false)
-HasDone layout view who frame situation (Some place) signalled = HasMadeOne view who situation place signalled × (slice_get layout.kernel frame.0 ≡ Some false)
+abbrev pub HasDone : Layout → View → Who → Frame → Found → Option At → Type 0
+HasDone layout view who frame found None = HasMadeNone view who × fails.IsPageless layout frame found.situation × (found.signalled ≡ false)
+HasDone layout view who frame found (Some place) = HasMadeOne view who found place × (slice_get layout.kernel frame.0 ≡ Some false)
 
 abbrev pub HasEnded : Layout → View → Who → Frame → FailAnswer → Type 0
 HasEnded layout view who frame answers.Stopped = HasMadeNone view who × HasMarkedNone view who × IsStopped view who
 HasEnded layout view who frame answers.Already = HasMadeNone view who × HasMarkedNone view who × SawPoison view who frame
-HasEnded layout view who frame (answers.Done situation cycle place signalled) = HasMarkedOne view who frame cycle × HasDone layout view who frame situation place signalled
+HasEnded layout view who frame (answers.Done found) = HasMarkedOne view who frame found.cycle × HasDone layout view who frame found found.at
 
 -- ---- the rank
 
@@ -204,3 +205,19 @@ cost_at at.Stopped words = 0
 
 abbrev pub cost : Inject → Words → ℕ
 cost i words = cost_at i.at words
+
+-- the task, as the laws of tasks read it
+abbrev pub task : Member Inject
+task = record {
+  who = λ i. i.who;
+  plan = plan;
+  put = put;
+  bare = bare;
+  shows = Shows;
+  next = Follows;
+  fits = Fits;
+  class = class;
+  cost = cost;
+  aborts = aborts;
+  claims = claims;
+}

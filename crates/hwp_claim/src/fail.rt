@@ -5,7 +5,6 @@ ghost use Rattle.hwp_claim.specs.declared.fail.FailAt.TheVariants as states;
 ghost use Rattle.hwp_claim.specs.Fails.{
   begin,
   answer,
-  acted_on,
   after_act,
   ActsOn,
   AfterClaim,
@@ -15,12 +14,11 @@ ghost use Rattle.hwp_claim.specs.Fails.{
   ShowsAt,
 };
 
-use hwp_claim_act::{Act, Failed};
-use hwp_claim_frame::{Claim, ClaimAnswer};
-use hwp_core_rule::Step;
-use hwp_core_task::{Ranked, Scheduled, Task, Turn};
-use hwp_geom::{Frame, Layout, Thread, Who};
-use hwp_page::{At, Body, Situation};
+use hwp_claim_act::Act;
+use hwp_claim_frame::{
+    At, Body, Claim, ClaimAnswer, Frame, Layout, Ranked, Scheduled, Situation, Step, Task, Thread,
+    Turn, Who,
+};
 use std::alloc::Global;
 use std::mem;
 
@@ -43,6 +41,18 @@ enum FailAt {
     Over { answer: FailAnswer },
 }
 
+/// What a memory failure that came to its result found.
+#[derive(Clone, Copy)]
+pub struct Found {
+    pub situation: Situation,
+    /// The cycle of the frame.
+    pub cycle: u32,
+    /// Its entry, where a page was in the frame.
+    pub at: Option<At>,
+    /// Whether it signalled the thread that needs the page now.
+    pub signalled: bool,
+}
+
 /// What a `Fail` came to (this project's rule).
 #[derive(Clone, Copy)]
 pub enum FailAnswer {
@@ -50,15 +60,8 @@ pub enum FailAnswer {
     Stopped,
     /// The frame was poisoned already.
     Already,
-    /// In this cycle of the frame the failure found this situation.
-    Done {
-        situation: Situation,
-        cycle: u32,
-        /// Its entry, where a page was in the frame.
-        at: Option<At>,
-        /// Whether it signalled the thread that needs the page now.
-        signalled: bool,
-    },
+    /// The failure came to its result, and found this.
+    Done(Found),
 }
 
 impl Fail {
@@ -108,23 +111,12 @@ impl Fail {
 fn pageless(situation: Situation, cycle: u32) -> FailAnswer
     ensures { result ≡ pageless situation cycle }
 {
-    FailAnswer::Done {
+    FailAnswer::Done(Found {
         situation,
         cycle,
         at: None,
         signalled: false,
-    }
-}
-
-fn acted_on(cycle: u32, failed: Failed) -> FailAnswer
-    ensures { result ≡ acted_on cycle failed }
-{
-    FailAnswer::Done {
-        situation: failed.situation,
-        cycle,
-        at: Some(failed.at),
-        signalled: failed.signalled,
-    }
+    })
 }
 
 /// Once the page is let go, the failure is over.
@@ -136,7 +128,12 @@ fn after_act(cycle: u32, act: Act) -> FailAt
         Some(failed) => {
             drop(act);
             FailAt::Over {
-                answer: acted_on(cycle, failed),
+                answer: FailAnswer::Done(Found {
+                    situation: failed.situation,
+                    cycle,
+                    at: Some(failed.at),
+                    signalled: failed.signalled,
+                }),
             }
         }
     }
@@ -231,21 +228,9 @@ fn settled(
 }
 
 impl Task for Fail {
-    ghost use Rattle.hwp_claim.specs.Fails.{plan, put, bare, Shows, Follows, Fits};
+    ghost use Rattle.hwp_claim.specs.Fails as fails;
 
-    ghost who = { λ f. f.who };
-
-    ghost plan = { λ f. plan f };
-
-    ghost put = { λ f. put f };
-
-    ghost bare = { λ f. bare f };
-
-    ghost shows = { λ f found got. Shows f found got };
-
-    ghost next = { λ layout f found got after result. Follows f found got after result };
-
-    ghost fits = { λ layout view f. Fits layout view f };
+    ghost task = { fails.task };
 
     fn who(&self) -> Who {
         self.who
@@ -288,16 +273,6 @@ impl Task for Fail {
 }
 
 impl Ranked for Fail {
-    ghost use Rattle.hwp_claim.specs.Fails.{class, cost, aborts, claims_of};
-
-    ghost class_of = { λ f. class f };
-
-    ghost cost = { λ f words. cost f words };
-
-    ghost aborts = { λ f. aborts f };
-
-    ghost claims = { λ f. claims_of f };
-
     fn class(&self) -> u8 {
         match &self.at {
             FailAt::Claim { claim } => claim.class(),

@@ -2,11 +2,9 @@ ghost use Rattle.std.specs.Prelude.{◌≡◌};
 ghost use Rattle.hwp_claim.specs.Injects.{answer, begin, loaded};
 
 use crate::fail::{Fail, FailAnswer};
-use hwp_core_rule::{SharedWord, Step};
-use hwp_core_task::{Ranked, Scheduled, Task, Turn};
-use hwp_geom::{Frame, Layout, Who};
-use hwp_page::Body;
-use hwp_words::is_stopped;
+use hwp_claim_frame::{
+    Body, Frame, Layout, Ranked, Scheduled, SharedWord, Step, Task, Turn, Who, is_stopped,
+};
 use std::alloc::Global;
 use std::mem;
 
@@ -71,21 +69,9 @@ fn loaded(alloc: Global, layout: &Layout, who: Who, frame: Frame, found: u64) ->
 }
 
 impl Task for Inject {
-    ghost use Rattle.hwp_claim.specs.Injects.{plan, put, bare, Shows, Follows, Fits};
+    ghost use Rattle.hwp_claim.specs.Injects as injects;
 
-    ghost who = { λ i. i.who };
-
-    ghost plan = { λ i. plan i };
-
-    ghost put = { λ i. put i };
-
-    ghost bare = { λ i. bare i };
-
-    ghost shows = { λ i found got. Shows i found got };
-
-    ghost next = { λ layout i found got after result. Follows layout i found got after result };
-
-    ghost fits = { λ layout view i. Fits layout view i };
+    ghost task = { injects.task };
 
     fn who(&self) -> Who {
         self.who
@@ -126,16 +112,6 @@ impl Task for Inject {
 }
 
 impl Ranked for Inject {
-    ghost use Rattle.hwp_claim.specs.Injects.{aborts, claims, class, cost};
-
-    ghost class_of = { λ i. class i };
-
-    ghost cost = { λ i words. cost i words };
-
-    ghost aborts = { λ i. aborts i };
-
-    ghost claims = { λ i. claims i };
-
     fn class(&self) -> u8 {
         match &self.at {
             InjectAt::Fail { fail } => fail.class(),

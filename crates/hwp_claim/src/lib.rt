@@ -4,5 +4,5 @@
 mod fail;
 mod inject;
 
-pub use fail::{Fail, FailAnswer};
+pub use fail::{Fail, FailAnswer, Found};
 pub use inject::Inject;

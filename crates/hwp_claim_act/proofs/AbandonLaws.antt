@@ -2,28 +2,28 @@
 use Rattle.std.proofs.Common.{◌≡◌, ℕ, ◌+◌, ◌-◌, ◌<◌, ◌≤◌, true, false, List, Option, Some, None, option_map, slice_get, refl, sym, ap, ◌∙◌, subst, arith}
 use Rattle.std.proofs.lemmas.Bool.{both_ways}
 use Rattle.std.proofs.lemmas.Option.{none-some, same_Some, slice_get_within}
-use Rattle.hwp_geom.specs.declared.FileNo.{FileNo}
-use Rattle.hwp_geom.specs.declared.Layout.{Layout}
-use Rattle.hwp_kill.specs.declared.Signal.{Signal}
-use Rattle.hwp_kill.specs.Limits.{signal_limit}
-use Rattle.hwp_page.specs.History.{BodyValue}
-use Rattle.hwp_core_rule.specs.declared.InHand.{InHand}
-use Rattle.hwp_core_rule.specs.declared.Step.{Step}
-use Rattle.hwp_core_rule.specs.declared.Step.TheVariants as steps
-use Rattle.hwp_core_rule.specs.declared.View.{View}
-use Rattle.hwp_core_rule.specs.Lasting.{IsMild}
-use Rattle.hwp_core_task.specs.declared.Turn.{Turn}
-use Rattle.hwp_core_task.specs.declared.Turn.TheVariants.{Moved}
-use Rattle.hwp_core_task.specs.Boards.{view_of}
-use Rattle.hwp_core_task.specs.Calls.{Steps, logs}
-use Rattle.hwp_core_task.specs.Ranks.{Member, member, IsRanked, is_waits}
-use Rattle.hwp_core_task.proofs.StepRanks.{rank-of}
-use Rattle.hwp_core_task.proofs.StepLeaves.{on-turn-after, steps-planned}
+use Rattle.hwp_evict.specs.hwp_geom.declared.FileNo.{FileNo}
+use Rattle.hwp_evict.specs.hwp_geom.declared.Layout.{Layout}
+use Rattle.hwp_evict.specs.hwp_kill.declared.Signal.{Signal}
+use Rattle.hwp_evict.specs.hwp_kill.Limits.{signal_limit}
+use Rattle.hwp_evict.specs.hwp_page.History.{BodyValue}
+use Rattle.hwp_evict.specs.hwp_core_rule.declared.InHand.{InHand}
+use Rattle.hwp_evict.specs.hwp_core_rule.declared.Step.{Step}
+use Rattle.hwp_evict.specs.hwp_core_rule.declared.Step.TheVariants as steps
+use Rattle.hwp_evict.specs.hwp_core_rule.declared.View.{View}
+use Rattle.hwp_evict.specs.hwp_core_rule.Lasting.{IsMild}
+use Rattle.hwp_evict.specs.hwp_core_task.declared.Turn.{Turn}
+use Rattle.hwp_evict.specs.hwp_core_task.declared.Turn.TheVariants.{Moved}
+use Rattle.hwp_evict.specs.hwp_core_task.Boards.{view_of}
+use Rattle.hwp_evict.specs.hwp_core_task.Calls.{Steps, logs}
+use Rattle.hwp_evict.specs.hwp_core_task.Ranks.{IsRanked, is_waits}
+use Rattle.hwp_evict.proofs.of_hwp_core_task.StepRanks.{rank-of}
+use Rattle.hwp_evict.proofs.of_hwp_core_task.StepLeaves.{on-turn-after, steps-planned}
 use Rattle.hwp_claim_act.specs.declared.abandon.Abandon.{Abandon}
 use Rattle.hwp_claim_act.specs.declared.abandon.AbandonAt.{AbandonAt}
 use Rattle.hwp_claim_act.specs.declared.abandon.AbandonAt.TheVariants as at
 use Rattle.hwp_claim_act.specs.Abandons.{ShowsAt, Shows, after_owner, bare, class, class_at, cost, cost_at, kill_at, kill_from, left_at, next, next_at, owner_gone, plan, plan_at, put, put_at, snapshot}
-use Rattle.hwp_claim_act.specs.Abandoned.{Carries, Fits, FitsAt, IsAhead, IsPast}
+use Rattle.hwp_claim_act.specs.Abandoned.{Carries, Fits, FitsAt, IsAhead, IsPast, task as abandon-task}
 use Rattle.hwp_claim_act.proofs.AbandonSteps.{after-owner-fits, cache-cleared, loss-counted, owner-cleared, page-gone, past-on, process-ended, refs-put, retired}
 
 -- what fits says nothing of the state beside the one that it is said of
@@ -156,11 +156,8 @@ abandon-mild a step is = which a.at is
     which at.UnlockPage e = subst IsMild (same_Some (steps.UnlockPage a.page) step e) tt
     which at.Over e = absurd (none-some step e)
 
-abbrev abandon-member : Member Abandon
-abandon-member = member (λ a. a.who) plan put bare (λ layout a found got after result. (after ≡ next a) × (result ≡ Moved)) Fits class (λ a words. cost a) (λ a. false) (λ a. None)
-
-pub abandon-ranked : IsRanked abandon-member
-abandon-ranked = rank-of abandon-member (λ s. refl) abandon-classes (λ layout a seat s rule fits. let few : _ = abandon-small s in omega (arith, few))
+pub abandon-ranked : IsRanked abandon-task
+abandon-ranked = rank-of abandon-task (λ s. refl) abandon-classes (λ layout a seat s rule fits. let few : _ = abandon-small s in omega (arith, few))
     (λ layout seat a b s t turn made goes. subst (λ (x : Abandon). cost x < cost s) (sym made.follows.0) (abandon-falls layout (view_of a seat) s made.fits made.planned))
     (λ layout seat a b s t turn made is quiet. absurd (both_ways true (sym is ∙ ap is_waits made.follows.1) refl))
     (λ s. refl) abandon-mild

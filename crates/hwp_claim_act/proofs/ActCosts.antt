@@ -2,23 +2,23 @@
 use Rattle.std.proofs.Common.{◌≡◌, ℕ, ◌+◌, ◌<◌, ◌≤◌, Bool, true, false, cond, Option, Some, None, is_none, refl, sym, ap, ◌∙◌, subst, arith}
 use Rattle.std.proofs.lemmas.Bool.{both_ways}
 use Rattle.std.proofs.lemmas.Option.{none-some}
-use Rattle.hwp_geom.specs.declared.Frame.{Frame}
-use Rattle.hwp_geom.specs.declared.Layout.{Layout}
-use Rattle.hwp_geom.specs.declared.Page.{Page}
-use Rattle.hwp_geom.specs.declared.Thread.{Thread}
-use Rattle.hwp_geom.specs.declared.Who.{Who}
-use Rattle.hwp_page.specs.History.{BodyValue}
-use Rattle.hwp_core_rule.specs.declared.Step.{Step}
-use Rattle.hwp_core_rule.specs.declared.View.{View}
-use Rattle.hwp_core_rule.specs.Lasting.{IsMild}
-use Rattle.hwp_core_rule.specs.Words.{Words}
-use Rattle.hwp_core_task.specs.declared.Turn.{Turn}
-use Rattle.hwp_core_task.specs.Boards.{view_of}
-use Rattle.hwp_core_task.specs.Ranks.{Member, member, IsRanked, is_waits, words_at}
-use Rattle.hwp_core_task.proofs.StepRanks.{rank-of, steps-on}
-use Rattle.hwp_core.specs.declared.give_up.GiveUp.{GiveUp}
-use Rattle.hwp_core.specs.GiveUps as give_ups
-use Rattle.hwp_core.proofs.GiveUpCosts.{give-up-falls, give-up-goes, give-up-mild, give-up-ranked, give-up-small}
+use Rattle.hwp_evict.specs.hwp_geom.declared.Frame.{Frame}
+use Rattle.hwp_evict.specs.hwp_geom.declared.Layout.{Layout}
+use Rattle.hwp_evict.specs.hwp_geom.declared.Page.{Page}
+use Rattle.hwp_evict.specs.hwp_geom.declared.Thread.{Thread}
+use Rattle.hwp_evict.specs.hwp_geom.declared.Who.{Who}
+use Rattle.hwp_evict.specs.hwp_page.History.{BodyValue}
+use Rattle.hwp_evict.specs.hwp_core_rule.declared.Step.{Step}
+use Rattle.hwp_evict.specs.hwp_core_rule.declared.View.{View}
+use Rattle.hwp_evict.specs.hwp_core_rule.Lasting.{IsMild}
+use Rattle.hwp_evict.specs.hwp_core_rule.Words.{Words}
+use Rattle.hwp_evict.specs.hwp_core_task.declared.Turn.{Turn}
+use Rattle.hwp_evict.specs.hwp_core_task.Boards.{view_of}
+use Rattle.hwp_evict.specs.hwp_core_task.Ranks.{IsRanked, is_waits, words_at}
+use Rattle.hwp_evict.proofs.of_hwp_core_task.StepRanks.{rank-of, steps-on}
+use Rattle.hwp_evict.specs.hwp_core.declared.give_up.GiveUp.{GiveUp}
+use Rattle.hwp_evict.specs.hwp_core.GiveUps as give_ups
+use Rattle.hwp_evict.proofs.of_hwp_core.GiveUpCosts.{give-up-falls, give-up-goes, give-up-mild, give-up-ranked, give-up-small}
 use Rattle.hwp_evict.specs.declared.clear.Clear.{Clear}
 use Rattle.hwp_evict.specs.Clears as clears
 use Rattle.hwp_evict.proofs.ClearLaws.{clear-mild, clear-small, clears-fall}
@@ -31,8 +31,8 @@ use Rattle.hwp_claim_act.specs.declared.act.ActAt.TheVariants as at
 use Rattle.hwp_claim_act.specs.declared.failing.Entered.{Entered}
 use Rattle.hwp_claim_act.specs.declared.read_policies.ReadPolicies.{ReadPolicies}
 use Rattle.hwp_claim_act.specs.Abandons as abandons
-use Rattle.hwp_claim_act.specs.Acting.{Fits, FitsAt}
-use Rattle.hwp_claim_act.specs.Acts.{AfterRead, AfterReadAt, Enters, Follows, FollowsAt, Shows, ShowsAt, abandoned_at, after_abandon, after_clear, after_give_up, bare, bare_at, class, class_at, cost, cost_at, plan, plan_at, put}
+use Rattle.hwp_claim_act.specs.Acting.{Fits, FitsAt, task as act-task}
+use Rattle.hwp_claim_act.specs.Acts.{AfterRead, AfterReadAt, Enters, Follows, FollowsAt, Shows, ShowsAt, abandoned_at, after_abandon, after_clear, after_give_up, bare, bare_at, class, class_at, cost, cost_at, plan, plan_at}
 use Rattle.hwp_claim_act.specs.Reads as reads
 use Rattle.hwp_claim_act.proofs.AbandonLaws.{abandon-classes, abandon-falls, abandon-mild, abandon-small}
 use Rattle.hwp_claim_act.proofs.ActLaws.{both}
@@ -135,11 +135,8 @@ act-mild a step is = which a.at is
     which (at.GiveUp g) e = give-up-mild g step e
     which (at.Over failed) e = absurd (none-some step e)
 
-abbrev act-member : Member Act
-act-member = member (λ a. a.who) plan put bare (λ layout a found got after result. Follows a found after result) Fits class cost (λ a. false) (λ a. None)
-
-pub act-ranked : IsRanked act-member
-act-ranked = rank-of act-member (λ s. refl) act-classes (λ layout a seat s rule fits. let few : _ = act-small (words_at layout a) s in omega (arith, few))
+pub act-ranked : IsRanked act-task
+act-ranked = rank-of act-task (λ s. refl) act-classes (λ layout a seat s rule fits. let few : _ = act-small (words_at layout a) s in omega (arith, few))
     (λ layout seat a b s t turn made goes. act-falls layout (view_of a seat) (words_at layout a) (words_at layout b) s made.step made.found t turn made.fits made.planned
     (both layout (view_of a seat) _ s made.step made.found made.got made.fits made.planned (steps-on made)).0 made.follows)
     (λ layout seat a b s t turn made is quiet. absurd (both_ways true (sym is ∙ act-goes s made.found t turn made.follows) refl))

@@ -7,35 +7,35 @@ use Rattle.std.specs.Prelude.{option_and_then}
 use Rattle.std.specs.FinSet as set
 use Rattle.std.specs.Ordering.{nat_cmp}
 use Rattle.std.specs.Cmp.{nat_cmp_total}
-use Rattle.hwp_geom.specs.declared.Frame.{Frame}
-use Rattle.hwp_geom.specs.declared.Layout.{Layout}
-use Rattle.hwp_geom.specs.declared.Page.{Page}
-use Rattle.hwp_geom.specs.declared.PageKind.{PageKind}
-use Rattle.hwp_geom.specs.declared.PageKind.TheVariants.{Anon, File}
-use Rattle.hwp_geom.specs.declared.Thread.{Thread}
-use Rattle.hwp_geom.specs.declared.Who.{Who}
-use Rattle.hwp_kill.specs.declared.Seen.{Seen}
-use Rattle.hwp_kill.specs.declared.Signal.{Signal}
-use Rattle.hwp_kill.specs.Limits.{signal_limit}
-use Rattle.hwp_page.specs.declared.Entry.{Entry}
-use Rattle.hwp_page.specs.declared.PageState.{PageState}
-use Rattle.hwp_page.specs.Actions.{acted, situation_by, situation_of}
-use Rattle.hwp_page.specs.History.{BodyValue, IsReplay, Leads}
-use Rattle.hwp_page.specs.Losses.{file_behind}
-use Rattle.hwp_page.specs.Step.{IsFailure, after}
-use Rattle.hwp_words.specs.Translations.{pte_word}
-use Rattle.hwp_words.specs.declared.Pte.TheVariants as ptes
-use Rattle.hwp_core_rule.specs.declared.InHand.{InHand}
-use Rattle.hwp_core_rule.specs.declared.Log.{Log}
-use Rattle.hwp_core_rule.specs.declared.Sight.{Sight}
-use Rattle.hwp_core_rule.specs.Asks.{Extends}
-use Rattle.hwp_core_rule.specs.Lists.{EachMember}
-use Rattle.hwp_core_rule.specs.Logs.{file_of, fitting_word, log_of, opening_at, state_of}
-use Rattle.hwp_core_rule.specs.Views.{more_of}
-use Rattle.hwp_core_rule.specs.parts.Entries.{HasSeen}
-use Rattle.hwp_core_rule.proofs.OwedLosses.{state-kind}
-use Rattle.hwp_core_task.specs.Hands.{body_in}
-use Rattle.hwp_core.specs.Holds.{IsBodyOf}
+use Rattle.hwp_evict.specs.hwp_geom.declared.Frame.{Frame}
+use Rattle.hwp_evict.specs.hwp_geom.declared.Layout.{Layout}
+use Rattle.hwp_evict.specs.hwp_geom.declared.Page.{Page}
+use Rattle.hwp_evict.specs.hwp_geom.declared.PageKind.{PageKind}
+use Rattle.hwp_evict.specs.hwp_geom.declared.PageKind.TheVariants.{Anon, File}
+use Rattle.hwp_evict.specs.hwp_geom.declared.Thread.{Thread}
+use Rattle.hwp_evict.specs.hwp_geom.declared.Who.{Who}
+use Rattle.hwp_evict.specs.hwp_kill.declared.Seen.{Seen}
+use Rattle.hwp_evict.specs.hwp_kill.declared.Signal.{Signal}
+use Rattle.hwp_evict.specs.hwp_kill.Limits.{signal_limit}
+use Rattle.hwp_evict.specs.hwp_page.declared.Entry.{Entry}
+use Rattle.hwp_evict.specs.hwp_page.declared.PageState.{PageState}
+use Rattle.hwp_evict.specs.hwp_page.Actions.{acted, situation_by, situation_of}
+use Rattle.hwp_evict.specs.hwp_page.History.{BodyValue, IsReplay, Leads}
+use Rattle.hwp_evict.specs.hwp_page.Losses.{file_behind}
+use Rattle.hwp_evict.specs.hwp_page.Step.{IsFailure, after}
+use Rattle.hwp_evict.specs.hwp_words.Translations.{pte_word}
+use Rattle.hwp_evict.specs.hwp_words.declared.Pte.TheVariants as ptes
+use Rattle.hwp_evict.specs.hwp_core_rule.declared.InHand.{InHand}
+use Rattle.hwp_evict.specs.hwp_core_rule.declared.Log.{Log}
+use Rattle.hwp_evict.specs.hwp_core_rule.declared.Sight.{Sight}
+use Rattle.hwp_evict.specs.hwp_core_rule.Asks.{Extends}
+use Rattle.hwp_evict.specs.hwp_core_rule.Lists.{EachMember}
+use Rattle.hwp_evict.specs.hwp_core_rule.Logs.{file_of, fitting_word, log_of, opening_at, state_of}
+use Rattle.hwp_evict.specs.hwp_core_rule.Views.{more_of}
+use Rattle.hwp_evict.specs.hwp_core_rule.parts.Entries.{HasSeen}
+use Rattle.hwp_evict.proofs.of_hwp_core_rule.OwedLosses.{state-kind}
+use Rattle.hwp_evict.specs.hwp_core_task.Hands.{body_in}
+use Rattle.hwp_evict.specs.hwp_core.Holds.{IsBodyOf}
 use Rattle.hwp_evict.specs.Clears.{word_now}
 use Rattle.hwp_evict.proofs.PageStates.{replay-apart, state-is}
 use Rattle.hwp_claim_act.specs.declared.abandon.Failed.{Failed}

@@ -3,30 +3,30 @@ use Rattle.std.proofs.Common.{◌≡◌, ◌⊎◌, inl, inr, ℕ, ◌+◌, ◌-
 use Rattle.std.proofs.lemmas.Bool.{both_ways, cases_lt, le-ltb}
 use Rattle.std.proofs.lemmas.Option.{none-some, same_Some}
 use Rattle.std.specs.FinSet as set
-use Rattle.hwp_geom.specs.declared.Frame.{Frame}
-use Rattle.hwp_geom.specs.declared.Layout.{Layout}
-use Rattle.hwp_geom.specs.declared.Page.{Page}
-use Rattle.hwp_geom.specs.declared.Thread.{Thread}
-use Rattle.hwp_geom.specs.declared.TransDecl.{TransDecl}
-use Rattle.hwp_geom.specs.declared.VSlot.{VSlot}
-use Rattle.hwp_geom.specs.declared.Who.{Who}
-use Rattle.hwp_geom.specs.Layout.{IsSound}
-use Rattle.hwp_kill.specs.declared.Seen.{Seen}
-use Rattle.hwp_page.specs.declared.PageState.{PageState}
-use Rattle.hwp_page.specs.Actions.{situation_of}
-use Rattle.hwp_page.specs.History.{BodyValue}
-use Rattle.hwp_words.specs.Translations.{pte_word}
-use Rattle.hwp_words.specs.declared.Pte.TheVariants as ptes
-use Rattle.hwp_core_rule.specs.declared.FrameLock.{FrameLock}
-use Rattle.hwp_core_rule.specs.declared.InHand.{InHand}
-use Rattle.hwp_core_rule.specs.declared.View.{View}
-use Rattle.hwp_core_rule.specs.Lists.{EachMember}
-use Rattle.hwp_core_rule.specs.Logs.{fitting, fitting_word, log_of, state_of}
-use Rattle.hwp_core_rule.specs.parts.Entries.{HasPolicy}
-use Rattle.hwp_core_rule.specs.parts.Fits.{FitsWords}
-use Rattle.hwp_core_rule.proofs.PageWords.{fitting-at}
-use Rattle.hwp_core_task.specs.Calls.{IsOnTurn}
-use Rattle.hwp_core_task.specs.Hands.{Hand, body_in, hand_of}
+use Rattle.hwp_evict.specs.hwp_geom.declared.Frame.{Frame}
+use Rattle.hwp_evict.specs.hwp_geom.declared.Layout.{Layout}
+use Rattle.hwp_evict.specs.hwp_geom.declared.Page.{Page}
+use Rattle.hwp_evict.specs.hwp_geom.declared.Thread.{Thread}
+use Rattle.hwp_evict.specs.hwp_geom.declared.TransDecl.{TransDecl}
+use Rattle.hwp_evict.specs.hwp_geom.declared.VSlot.{VSlot}
+use Rattle.hwp_evict.specs.hwp_geom.declared.Who.{Who}
+use Rattle.hwp_evict.specs.hwp_geom.Layout.{IsSound}
+use Rattle.hwp_evict.specs.hwp_kill.declared.Seen.{Seen}
+use Rattle.hwp_evict.specs.hwp_page.declared.PageState.{PageState}
+use Rattle.hwp_evict.specs.hwp_page.Actions.{situation_of}
+use Rattle.hwp_evict.specs.hwp_page.History.{BodyValue}
+use Rattle.hwp_evict.specs.hwp_words.Translations.{pte_word}
+use Rattle.hwp_evict.specs.hwp_words.declared.Pte.TheVariants as ptes
+use Rattle.hwp_evict.specs.hwp_core_rule.declared.FrameLock.{FrameLock}
+use Rattle.hwp_evict.specs.hwp_core_rule.declared.InHand.{InHand}
+use Rattle.hwp_evict.specs.hwp_core_rule.declared.View.{View}
+use Rattle.hwp_evict.specs.hwp_core_rule.Lists.{EachMember}
+use Rattle.hwp_evict.specs.hwp_core_rule.Logs.{fitting, fitting_word, log_of, state_of}
+use Rattle.hwp_evict.specs.hwp_core_rule.parts.Entries.{HasPolicy}
+use Rattle.hwp_evict.specs.hwp_core_rule.parts.Fits.{FitsWords}
+use Rattle.hwp_evict.proofs.of_hwp_core_rule.PageWords.{fitting-at}
+use Rattle.hwp_evict.specs.hwp_core_task.Calls.{IsOnTurn}
+use Rattle.hwp_evict.specs.hwp_core_task.Hands.{Hand, body_in, hand_of}
 use Rattle.hwp_evict.specs.declared.clear.Clear.{Clear}
 use Rattle.hwp_evict.specs.Clears as clears
 use Rattle.hwp_evict.specs.Clears.{IsNextFrom, is_done, pte_of, word_now}

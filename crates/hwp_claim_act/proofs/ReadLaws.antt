@@ -1,44 +1,44 @@
 -- The laws of `ReadPolicies`.
-use Rattle.std.proofs.Common.{◌≡◌, ℕ, ◌+◌, ◌-◌, ◌^◌, ◌<◌, ◌≤◌, true, false, List, [], ◌∷◌, ◌++◌, Option, Some, None, length, drop, slice_get, option_map, inl, refl, sym, ap, ◌∙◌, subst, arith}
+use Rattle.std.proofs.Common.{◌≡◌, ℕ, ◌+◌, ◌-◌, ◌^◌, ◌<◌, ◌≤◌, true, List, [], ◌∷◌, ◌++◌, Option, Some, None, length, drop, slice_get, option_map, inl, refl, sym, ap, ◌∙◌, subst, arith}
 use Rattle.std.proofs.lemmas.Bool.{both_ways}
 use Rattle.std.proofs.lemmas.List.{drop-append-le, length-append, length_push}
 use Rattle.std.proofs.lemmas.Option.{none-some, same_Some}
-use Rattle.hwp_geom.specs.declared.Layout.{Layout}
-use Rattle.hwp_geom.specs.declared.Thread.{Thread}
-use Rattle.hwp_geom.specs.declared.Who.{Who}
-use Rattle.hwp_geom.specs.Limits.{thread_limit}
-use Rattle.hwp_kill.specs.declared.Seen.{Seen}
-use Rattle.hwp_kill.specs.Next.{IsNextToRead, IsReadSoFar}
-use Rattle.hwp_kill.proofs.PolicyOwners.{within_threads}
-use Rattle.hwp_kill.proofs.PolicyReads.{next-few, read-more}
-use Rattle.hwp_page.specs.declared.Situation.TheVariants as situations
-use Rattle.hwp_page.specs.declared.What.TheVariants as entries
-use Rattle.hwp_page.specs.History.{BodyValue}
-use Rattle.hwp_core_rule.specs.declared.FrameLock.{FrameLock}
-use Rattle.hwp_core_rule.specs.declared.SharedWord.TheVariants as places
-use Rattle.hwp_core_rule.specs.declared.Sight.{Sight}
-use Rattle.hwp_core_rule.specs.declared.Step.{Step}
-use Rattle.hwp_core_rule.specs.declared.Step.TheVariants as steps
-use Rattle.hwp_core_rule.specs.declared.View.{View}
-use Rattle.hwp_core_rule.specs.Lists.{EachMember, SomeMember}
-use Rattle.hwp_core_rule.specs.Lasting.{IsMild}
-use Rattle.hwp_core_rule.specs.Steps.{policy_at}
-use Rattle.hwp_core_rule.specs.Views.{noted, stamp_of}
-use Rattle.hwp_core_rule.specs.parts.Entries.{HasPolicy, Shows as ShowsWord}
-use Rattle.hwp_core_rule.proofs.Lists.{each-push, some-last}
-use Rattle.hwp_core_rule.proofs.Sights.{seen-more}
-use Rattle.hwp_core_task.specs.declared.Turn.{Turn}
-use Rattle.hwp_core_task.specs.declared.Turn.TheVariants.{Moved}
-use Rattle.hwp_core_task.specs.Boards.{view_of}
-use Rattle.hwp_core_task.specs.Calls.{CanMake, Steps}
-use Rattle.hwp_core_task.specs.Hands.{Hand}
-use Rattle.hwp_core_task.specs.Ranks.{Member, member, IsRanked, is_waits}
-use Rattle.hwp_core_task.proofs.StepRanks.{rank-of}
-use Rattle.hwp_core_task.proofs.StepLeaves.{can-make, hand-planned, on-turn-after, steps-planned}
-use Rattle.hwp_core_task.proofs.MadeEntries.{ListsNone}
-use Rattle.hwp_core.specs.Holds.{HoldsPage}
+use Rattle.hwp_evict.specs.hwp_geom.declared.Layout.{Layout}
+use Rattle.hwp_evict.specs.hwp_geom.declared.Thread.{Thread}
+use Rattle.hwp_evict.specs.hwp_geom.declared.Who.{Who}
+use Rattle.hwp_evict.specs.hwp_geom.Limits.{thread_limit}
+use Rattle.hwp_evict.specs.hwp_kill.declared.Seen.{Seen}
+use Rattle.hwp_evict.specs.hwp_kill.Next.{IsNextToRead, IsReadSoFar}
+use Rattle.hwp_evict.proofs.of_hwp_kill.PolicyOwners.{within_threads}
+use Rattle.hwp_evict.proofs.of_hwp_kill.PolicyReads.{next-few, read-more}
+use Rattle.hwp_evict.specs.hwp_page.declared.Situation.TheVariants as situations
+use Rattle.hwp_evict.specs.hwp_page.declared.What.TheVariants as entries
+use Rattle.hwp_evict.specs.hwp_page.History.{BodyValue}
+use Rattle.hwp_evict.specs.hwp_core_rule.declared.FrameLock.{FrameLock}
+use Rattle.hwp_evict.specs.hwp_core_rule.declared.SharedWord.TheVariants as places
+use Rattle.hwp_evict.specs.hwp_core_rule.declared.Sight.{Sight}
+use Rattle.hwp_evict.specs.hwp_core_rule.declared.Step.{Step}
+use Rattle.hwp_evict.specs.hwp_core_rule.declared.Step.TheVariants as steps
+use Rattle.hwp_evict.specs.hwp_core_rule.declared.View.{View}
+use Rattle.hwp_evict.specs.hwp_core_rule.Lists.{EachMember, SomeMember}
+use Rattle.hwp_evict.specs.hwp_core_rule.Lasting.{IsMild}
+use Rattle.hwp_evict.specs.hwp_core_rule.Steps.{policy_at}
+use Rattle.hwp_evict.specs.hwp_core_rule.Views.{noted, stamp_of}
+use Rattle.hwp_evict.specs.hwp_core_rule.parts.Entries.{HasPolicy, Shows as ShowsWord}
+use Rattle.hwp_evict.proofs.of_hwp_core_rule.Lists.{each-push, some-last}
+use Rattle.hwp_evict.proofs.of_hwp_core_rule.Sights.{seen-more}
+use Rattle.hwp_evict.specs.hwp_core_task.declared.Turn.{Turn}
+use Rattle.hwp_evict.specs.hwp_core_task.declared.Turn.TheVariants.{Moved}
+use Rattle.hwp_evict.specs.hwp_core_task.Boards.{view_of}
+use Rattle.hwp_evict.specs.hwp_core_task.Calls.{CanMake, Steps}
+use Rattle.hwp_evict.specs.hwp_core_task.Hands.{Hand}
+use Rattle.hwp_evict.specs.hwp_core_task.Ranks.{IsRanked, is_waits}
+use Rattle.hwp_evict.proofs.of_hwp_core_task.StepRanks.{rank-of}
+use Rattle.hwp_evict.proofs.of_hwp_core_task.StepLeaves.{can-make, hand-planned, on-turn-after, steps-planned}
+use Rattle.hwp_evict.proofs.of_hwp_core_task.MadeEntries.{ListsNone}
+use Rattle.hwp_evict.specs.hwp_core.Holds.{HoldsPage}
 use Rattle.hwp_claim_act.specs.declared.read_policies.ReadPolicies.{ReadPolicies}
-use Rattle.hwp_claim_act.specs.Reads.{CanReadMore, Fits, Follows, FollowsAt, HoldsFailed, IsNextOf, ReadsMore, Shows, ShowsAt, cost, cost_at, plan, plan_at, seen_in}
+use Rattle.hwp_claim_act.specs.Reads.{CanReadMore, Fits, Follows, FollowsAt, HoldsFailed, IsNextOf, ReadsMore, Shows, ShowsAt, cost, cost_at, plan, plan_at, seen_in, task as read-policies-task}
 use Rattle.hwp_claim_act.proofs.PolicyWords.{IsPolicyWord, policy-word, reads-back, small-word}
 
 -- the body is of the machine's layout
@@ -191,11 +191,8 @@ reads-list-none r step is = which r.next is
     which (Some thread) e = subst ListsNone (same_Some (steps.Load (places.Policy thread)) step e) tt
     which None e = absurd (none-some step e)
 
-abbrev reads-member : Member ReadPolicies
-reads-member = member (λ r. r.who) plan (λ r. None) (λ r. r) (λ layout r found got after result. Follows r found after × (result ≡ Moved)) Fits (λ r. 1) (λ r words. cost r) (λ r. false) (λ r. None)
-
-pub reads-ranked : IsRanked reads-member
-reads-ranked = rank-of reads-member (λ s. refl) (λ s. (omega arith, omega arith)) (λ layout a seat s rule fits. let few : _ = reads-small s in omega (arith, few))
+pub reads-ranked : IsRanked read-policies-task
+reads-ranked = rank-of read-policies-task (λ s. refl) (λ s. (omega arith, omega arith)) (λ layout a seat s rule fits. let few : _ = reads-small s in omega (arith, few))
     (λ layout seat a b s t turn made goes. reads-fall layout (view_of a seat) s t made.found made.fits made.planned made.follows.0)
     (λ layout seat a b s t turn made is quiet. absurd (both_ways true (sym is ∙ ap is_waits made.follows.1) refl))
     (λ s. refl) reads-mild

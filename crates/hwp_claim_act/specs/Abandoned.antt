@@ -3,46 +3,48 @@ use Rattle.std.specs.Prelude.{◌≡◌, ◌⊎◌, ℕ, ◌+◌, ◌-◌, ◌<�
 use Rattle.std.specs.FinSet as set
 use Rattle.std.specs.List.{sum_by}
 use Rattle.std.specs.Int.{from_bool}
-use Rattle.hwp_geom.specs.declared.FileNo.{FileNo}
-use Rattle.hwp_geom.specs.declared.Frame.{Frame}
-use Rattle.hwp_geom.specs.declared.Layout.{Layout}
-use Rattle.hwp_geom.specs.declared.Page.{Page}
-use Rattle.hwp_geom.specs.declared.Proc.{Proc}
-use Rattle.hwp_geom.specs.declared.Thread.{Thread}
-use Rattle.hwp_geom.specs.declared.Who.{Who}
-use Rattle.hwp_geom.specs.Layout.{IsSound}
-use Rattle.hwp_kill.specs.declared.Seen.{Seen}
-use Rattle.hwp_kill.specs.declared.Signal.{Signal}
-use Rattle.hwp_kill.specs.Limits.{signal_limit}
-use Rattle.hwp_page.specs.declared.Entry.{Entry}
-use Rattle.hwp_page.specs.declared.Situation.{Situation}
-use Rattle.hwp_page.specs.declared.Situation.TheVariants as situations
-use Rattle.hwp_page.specs.declared.What.{What}
-use Rattle.hwp_page.specs.declared.What.TheVariants as entries
-use Rattle.hwp_page.specs.History.{BodyValue}
-use Rattle.hwp_page.specs.Losses.{is_loss}
-use Rattle.hwp_page.specs.Step.{IsFailure}
-use Rattle.hwp_core_rule.specs.declared.InHand.{InHand}
-use Rattle.hwp_core_rule.specs.declared.Log.{Log}
-use Rattle.hwp_core_rule.specs.declared.Made.{Made}
-use Rattle.hwp_core_rule.specs.declared.Mark.{Mark}
-use Rattle.hwp_core_rule.specs.declared.View.{View}
-use Rattle.hwp_core_rule.specs.Asks.{Extends}
-use Rattle.hwp_core_rule.specs.Lists.{SomeMember}
-use Rattle.hwp_core_rule.specs.Logs.{file_of, log_of, state_of}
-use Rattle.hwp_core_rule.specs.Views.{more_of}
-use Rattle.hwp_core_rule.specs.parts.Counter.{is_poisoning}
-use Rattle.hwp_core_rule.specs.parts.Fits.{FitsWords}
-use Rattle.hwp_core_task.specs.Calls.{IsOnTurn}
-use Rattle.hwp_core_task.specs.Hands.{Hand, hand_of, empty}
-use Rattle.hwp_core_task.specs.Known.{HasMade, deeds}
+use Rattle.hwp_evict.specs.hwp_geom.declared.FileNo.{FileNo}
+use Rattle.hwp_evict.specs.hwp_geom.declared.Frame.{Frame}
+use Rattle.hwp_evict.specs.hwp_geom.declared.Layout.{Layout}
+use Rattle.hwp_evict.specs.hwp_geom.declared.Page.{Page}
+use Rattle.hwp_evict.specs.hwp_geom.declared.Proc.{Proc}
+use Rattle.hwp_evict.specs.hwp_geom.declared.Thread.{Thread}
+use Rattle.hwp_evict.specs.hwp_geom.declared.Who.{Who}
+use Rattle.hwp_evict.specs.hwp_geom.Layout.{IsSound}
+use Rattle.hwp_evict.specs.hwp_kill.declared.Seen.{Seen}
+use Rattle.hwp_evict.specs.hwp_kill.declared.Signal.{Signal}
+use Rattle.hwp_evict.specs.hwp_kill.Limits.{signal_limit}
+use Rattle.hwp_evict.specs.hwp_page.declared.Entry.{Entry}
+use Rattle.hwp_evict.specs.hwp_page.declared.Situation.{Situation}
+use Rattle.hwp_evict.specs.hwp_page.declared.Situation.TheVariants as situations
+use Rattle.hwp_evict.specs.hwp_page.declared.What.{What}
+use Rattle.hwp_evict.specs.hwp_page.declared.What.TheVariants as entries
+use Rattle.hwp_evict.specs.hwp_page.History.{BodyValue}
+use Rattle.hwp_evict.specs.hwp_page.Losses.{is_loss}
+use Rattle.hwp_evict.specs.hwp_page.Step.{IsFailure}
+use Rattle.hwp_evict.specs.hwp_core_rule.declared.InHand.{InHand}
+use Rattle.hwp_evict.specs.hwp_core_rule.declared.Log.{Log}
+use Rattle.hwp_evict.specs.hwp_core_rule.declared.Made.{Made}
+use Rattle.hwp_evict.specs.hwp_core_rule.declared.Mark.{Mark}
+use Rattle.hwp_evict.specs.hwp_core_rule.declared.View.{View}
+use Rattle.hwp_evict.specs.hwp_core_rule.Asks.{Extends}
+use Rattle.hwp_evict.specs.hwp_core_rule.Lists.{SomeMember}
+use Rattle.hwp_evict.specs.hwp_core_rule.Logs.{file_of, log_of, state_of}
+use Rattle.hwp_evict.specs.hwp_core_rule.Views.{more_of}
+use Rattle.hwp_evict.specs.hwp_core_rule.parts.Counter.{is_poisoning}
+use Rattle.hwp_evict.specs.hwp_core_rule.parts.Fits.{FitsWords}
+use Rattle.hwp_evict.specs.hwp_core_task.Calls.{IsOnTurn}
+use Rattle.hwp_evict.specs.hwp_core_task.Hands.{Hand, hand_of, empty}
+use Rattle.hwp_evict.specs.hwp_core_task.Known.{HasMade, deeds}
+use Rattle.hwp_evict.specs.hwp_core_task.Turns.{Member}
+use Rattle.hwp_evict.specs.hwp_core_task.declared.Turn.TheVariants.{Moved}
 use Rattle.hwp_evict.specs.Vacates.{page_held, with_frame}
 use Rattle.hwp_claim_act.specs.declared.abandon.Abandon.{Abandon}
 use Rattle.hwp_claim_act.specs.declared.abandon.AbandonAt.{AbandonAt}
 use Rattle.hwp_claim_act.specs.declared.abandon.AbandonAt.TheVariants as at
 use Rattle.hwp_claim_act.specs.declared.abandon.Failed.{Failed}
 use Rattle.hwp_claim_act.specs.declared.abandon.Losses.{Losses}
-use Rattle.hwp_claim_act.specs.Abandons.{endings_of, has_told, signals_now}
+use Rattle.hwp_claim_act.specs.Abandons.{Shows, bare, class, cost, endings_of, has_told, next, plan, put, signals_now}
 
 -- the entry of a failure
 pub record Failure : Type 0 where
@@ -196,3 +198,19 @@ pub record Fits (layout : Layout) (view : View) (a : Abandon) : Type 0 where
   pub some : 2 ≤ a.count
   pub room : a.count ≤ length layout.trans + 2
   pub at : FitsAt layout view a a.at
+
+-- the task, as the laws of tasks read it
+abbrev pub task : Member Abandon
+task = record {
+  who = λ a. a.who;
+  plan = plan;
+  put = put;
+  bare = bare;
+  shows = λ a found got. Shows a;
+  next = λ layout a found got after result. (after ≡ next a) × (result ≡ Moved);
+  fits = Fits;
+  class = class;
+  cost = λ a words. cost a;
+  aborts = λ a. false;
+  claims = λ a. None;
+}

@@ -1,21 +1,22 @@
 -- What is held and known while a memory failure acts on the page in its frame.
 use Rattle.std.specs.Prelude.{◌≡◌, ℕ, ◌+◌, ◌<◌, ◌≤◌, true, false, [], ◌∷◌, Option, Some, None, is_none, length, drop}
-use Rattle.hwp_geom.specs.declared.Frame.{Frame}
-use Rattle.hwp_geom.specs.declared.Layout.{Layout}
-use Rattle.hwp_geom.specs.declared.Page.{Page}
-use Rattle.hwp_geom.specs.declared.Thread.{Thread}
-use Rattle.hwp_geom.specs.declared.Who.{Who}
-use Rattle.hwp_page.specs.History.{BodyValue, IsReplay}
-use Rattle.hwp_core_rule.specs.declared.InHand.{InHand}
-use Rattle.hwp_core_rule.specs.declared.Log.{Log}
-use Rattle.hwp_core_rule.specs.declared.View.{View}
-use Rattle.hwp_core_rule.specs.Logs.{log_of, state_of}
-use Rattle.hwp_core_rule.specs.Views.{body_of, more_of}
-use Rattle.hwp_core_rule.specs.parts.Entries.{HasSeen}
-use Rattle.hwp_core_task.specs.Calls.{IsOnTurn}
-use Rattle.hwp_core_task.specs.Hands.{hand_of, empty, body_in}
-use Rattle.hwp_core.specs.declared.give_up.GiveUp.{GiveUp}
-use Rattle.hwp_core.specs.GiveUps as give_ups
+use Rattle.hwp_evict.specs.hwp_geom.declared.Frame.{Frame}
+use Rattle.hwp_evict.specs.hwp_geom.declared.Layout.{Layout}
+use Rattle.hwp_evict.specs.hwp_geom.declared.Page.{Page}
+use Rattle.hwp_evict.specs.hwp_geom.declared.Thread.{Thread}
+use Rattle.hwp_evict.specs.hwp_geom.declared.Who.{Who}
+use Rattle.hwp_evict.specs.hwp_page.History.{BodyValue, IsReplay}
+use Rattle.hwp_evict.specs.hwp_core_rule.declared.InHand.{InHand}
+use Rattle.hwp_evict.specs.hwp_core_rule.declared.Log.{Log}
+use Rattle.hwp_evict.specs.hwp_core_rule.declared.View.{View}
+use Rattle.hwp_evict.specs.hwp_core_rule.Logs.{log_of, state_of}
+use Rattle.hwp_evict.specs.hwp_core_rule.Views.{body_of, more_of}
+use Rattle.hwp_evict.specs.hwp_core_rule.parts.Entries.{HasSeen}
+use Rattle.hwp_evict.specs.hwp_core_task.Calls.{IsOnTurn}
+use Rattle.hwp_evict.specs.hwp_core_task.Hands.{hand_of, empty, body_in}
+use Rattle.hwp_evict.specs.hwp_core_task.Turns.{Member}
+use Rattle.hwp_evict.specs.hwp_core.declared.give_up.GiveUp.{GiveUp}
+use Rattle.hwp_evict.specs.hwp_core.GiveUps as give_ups
 use Rattle.hwp_evict.specs.declared.clear.Clear.{Clear}
 use Rattle.hwp_evict.specs.Clears as clears
 use Rattle.hwp_claim_act.specs.declared.abandon.Abandon.{Abandon}
@@ -28,7 +29,7 @@ use Rattle.hwp_claim_act.specs.declared.read_policies.ReadPolicies.{ReadPolicies
 use Rattle.hwp_claim_act.specs.Abandoned as abandoned
 use Rattle.hwp_claim_act.specs.Abandoned.{CanLoseOne, Failure, HasFailed, HasFailure, what_of}
 use Rattle.hwp_claim_act.specs.Abandons as abandons
-use Rattle.hwp_claim_act.specs.Acts.{IsReady}
+use Rattle.hwp_claim_act.specs.Acts.{Follows, IsReady, Shows, bare, class, cost, plan, put}
 use Rattle.hwp_claim_act.specs.Failing.{bars_of}
 use Rattle.hwp_claim_act.specs.Reads as reads
 
@@ -108,3 +109,19 @@ IsFor required (at.Abandon a) = a.failed.required ≡ required
 IsFor required (at.GiveUp g) = Unit {0}
 IsFor required (at.Over None) = Unit {0}
 IsFor required (at.Over (Some failed)) = failed.required ≡ required
+
+-- the task, as the laws of tasks read it
+abbrev pub task : Member Act
+task = record {
+  who = λ a. a.who;
+  plan = plan;
+  put = put;
+  bare = bare;
+  shows = λ a found got. Shows a found;
+  next = λ layout a found got after result. Follows a found after result;
+  fits = Fits;
+  class = class;
+  cost = cost;
+  aborts = λ a. false;
+  claims = λ a. None;
+}

@@ -1,11 +1,10 @@
 ghost use Rattle.std.specs.Prelude.{◌≡◌, is_none};
-ghost use Rattle.hwp_claim_act.specs.Abandons.{begin, plan, answer, kill_at, after_owner};
+ghost use Rattle.hwp_claim_act.specs.Abandons.{begin, answer, kill_at, after_owner};
 
-use hwp_core_rule::Step;
-use hwp_core_task::{Ranked, Task, Turn};
-use hwp_geom::{FileNo, Frame, Layout, Page, Proc, Thread, Who};
-use hwp_kill::SignalList;
-use hwp_page::{At, Body, Situation};
+use hwp_evict::{
+    At, Body, FileNo, Frame, Layout, Page, Proc, Ranked, SignalList, Situation, Step, Task, Thread,
+    Turn, Who,
+};
 use std::mem;
 use std::snapshot::Snapshot;
 
@@ -125,24 +124,9 @@ fn after_owner(losses: &Losses) -> AbandonAt
 }
 
 impl Task for Abandon {
-    ghost use Rattle.std.specs.Prelude.{◌≡◌};
-    ghost use Rattle.hwp_core_task.specs.declared.Turn.TheVariants.{Moved};
-    ghost use Rattle.hwp_claim_act.specs.Abandons.{plan, put, bare, next, Shows};
-    ghost use Rattle.hwp_claim_act.specs.Abandoned.{Fits};
+    ghost use Rattle.hwp_claim_act.specs.Abandoned as abandoned;
 
-    ghost who = { λ a. a.who };
-
-    ghost plan = { λ a. plan a };
-
-    ghost put = { λ a. put a };
-
-    ghost bare = { λ a. bare a };
-
-    ghost shows = { λ a found got. Shows a };
-
-    ghost next = { λ layout a found got after result. (after ≡ next a) × (result ≡ Moved) };
-
-    ghost fits = { λ layout view a. Fits layout view a };
+    ghost task = { abandoned.task };
 
     fn who(&self) -> Who {
         self.who
@@ -212,17 +196,6 @@ impl Task for Abandon {
 }
 
 impl Ranked for Abandon {
-    ghost use Rattle.std.specs.Prelude.{false, None};
-    ghost use Rattle.hwp_claim_act.specs.Abandons.{class, cost};
-
-    ghost class_of = { λ a. class a };
-
-    ghost cost = { λ a words. cost a };
-
-    ghost aborts = { λ a. false };
-
-    ghost claims = { λ a. None };
-
     fn class(&self) -> u8 {
         match self.at {
             AbandonAt::UnlockPage => 2,

@@ -1,6 +1,6 @@
 ghost use Rattle.std.specs.Prelude.{◌≡◌, ◌<◌, true};
 ghost use Rattle.hwp_evict.specs.Clears as clears;
-ghost use Rattle.hwp_core.specs.GiveUps as give_ups;
+ghost use Rattle.hwp_evict.specs.hwp_core.GiveUps as give_ups;
 ghost use Rattle.hwp_claim_act.specs.Abandons as abandons;
 ghost use Rattle.hwp_claim_act.specs.Reads as reads;
 ghost use Rattle.hwp_claim_act.specs.Failing.{CanEnter};
@@ -9,13 +9,10 @@ ghost use Rattle.hwp_claim_act.specs.Acts.{AfterRead, Begins, CanReadOn, Enters,
 use crate::abandon::{Abandon, Failed, Losses};
 use crate::failing::{Entered, bars, enter};
 use crate::read_policies::ReadPolicies;
-use hwp_core::GiveUp;
-use hwp_core_rule::Step;
-use hwp_core_task::{Ranked, Task, Turn};
-use hwp_evict::Clear;
-use hwp_geom::{Frame, Layout, List, Page, Thread, Who};
-use hwp_kill::{Seen, SignalRoom};
-use hwp_page::Body;
+use hwp_evict::{
+    Body, Clear, Frame, GiveUp, Layout, List, Page, Ranked, Seen, SignalRoom, Step, Task, Thread,
+    Turn, Who,
+};
 use std::alloc::Global;
 use std::mem;
 
@@ -317,22 +314,9 @@ fn after_give_up(give_up: GiveUp) -> ActAt
 }
 
 impl Task for Act {
-    ghost use Rattle.hwp_claim_act.specs.Acts.{plan, put, bare, Shows, Follows};
-    ghost use Rattle.hwp_claim_act.specs.Acting.{Fits};
+    ghost use Rattle.hwp_claim_act.specs.Acting as acting;
 
-    ghost who = { λ a. a.who };
-
-    ghost plan = { λ a. plan a };
-
-    ghost put = { λ a. put a };
-
-    ghost bare = { λ a. bare a };
-
-    ghost shows = { λ a found got. Shows a found };
-
-    ghost next = { λ layout a found got after result. Follows a found after result };
-
-    ghost fits = { λ layout view a. Fits layout view a };
+    ghost task = { acting.task };
 
     fn who(&self) -> Who {
         self.who
@@ -365,17 +349,6 @@ impl Task for Act {
 }
 
 impl Ranked for Act {
-    ghost use Rattle.std.specs.Prelude.{false, None};
-    ghost use Rattle.hwp_claim_act.specs.Acts.{class, cost};
-
-    ghost class_of = { λ a. class a };
-
-    ghost cost = { λ a words. cost a words };
-
-    ghost aborts = { λ a. false };
-
-    ghost claims = { λ a. None };
-
     fn class(&self) -> u8 {
         match &self.at {
             ActAt::Read { read } => read.class(),

@@ -1,15 +1,16 @@
 ghost use Rattle.std.specs.Prelude.{◌≡◌, ◌≤◌, length};
-ghost use Rattle.hwp_kill.specs.Kill.{Killed};
-ghost use Rattle.hwp_kill.specs.Limits.{signal_limit};
-ghost use Rattle.hwp_page.specs.Actions.{situation_of};
-ghost use Rattle.hwp_page.specs.Situations.{is_signalling};
+ghost use Rattle.hwp_evict.specs.hwp_kill.Kill.{Killed};
+ghost use Rattle.hwp_evict.specs.hwp_kill.Limits.{signal_limit};
+ghost use Rattle.hwp_evict.specs.hwp_page.Actions.{situation_of};
+ghost use Rattle.hwp_evict.specs.hwp_page.Situations.{is_signalling};
 ghost use Rattle.hwp_claim_act.specs.Abandons.{endings_of, is_unhandled, signals_now};
 ghost use Rattle.hwp_claim_act.specs.Failing.{CanEnter, HasMadeEntry, bars_of, lost_of};
 
 use crate::abandon::{Failed, Losses};
-use hwp_geom::{FileNo, Layout, List, PageKind, Thread, Who};
-use hwp_kill::{Code, Seen, Signal, SignalList, SignalRoom, signals};
-use hwp_page::{At, Body, Entry, PageState, Situation, What};
+use hwp_evict::{
+    At, Body, Code, Entry, FileNo, Layout, List, PageKind, PageState, Seen, Signal, SignalList,
+    SignalRoom, Situation, Thread, What, Who, signals,
+};
 
 /// A body with the entry of its failure, and what the failure costs.
 #[derive(Drop)]

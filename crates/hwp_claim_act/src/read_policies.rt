@@ -1,12 +1,10 @@
 ghost use Rattle.std.specs.Prelude.{◌≡◌, [], is_none, vec_capacity};
-ghost use Rattle.hwp_claim_act.specs.Reads.{IsBegun, plan};
+ghost use Rattle.hwp_claim_act.specs.Reads.{IsBegun};
 
-use hwp_core_rule::{SharedWord, Step};
-use hwp_core_task::{Ranked, Task, Turn};
-use hwp_geom::{Frame, Layout, List, Thread, Who};
-use hwp_kill::{Seen, SignalRoom, next_to_read};
-use hwp_page::Body;
-use hwp_words::PolicyWord;
+use hwp_evict::{
+    Body, Frame, Layout, List, PolicyWord, Ranked, Seen, SharedWord, SignalRoom, Step, Task,
+    Thread, Turn, Who, next_to_read,
+};
 
 /// Reads the policies of the threads that a memory failure may signal (prctl(2), PR_MCE_KILL), one thread after another
 /// (Linux collect_procs; the order is this project's rule). The page is held, with its frame.
@@ -80,23 +78,9 @@ impl ReadPolicies {
 }
 
 impl Task for ReadPolicies {
-    ghost use Rattle.std.specs.Prelude.{◌≡◌, None};
-    ghost use Rattle.hwp_core_task.specs.declared.Turn.TheVariants.{Moved};
-    ghost use Rattle.hwp_claim_act.specs.Reads.{plan, Shows, Follows, Fits};
+    ghost use Rattle.hwp_claim_act.specs.Reads as reads;
 
-    ghost who = { λ r. r.who };
-
-    ghost plan = { λ r. plan r };
-
-    ghost put = { λ r. None };
-
-    ghost bare = { λ r. r };
-
-    ghost shows = { λ r found got. Shows r found };
-
-    ghost next = { λ layout r found got after result. Follows r found after × (result ≡ Moved) };
-
-    ghost fits = { λ layout view r. Fits layout view r };
+    ghost task = { reads.task };
 
     fn who(&self) -> Who {
         self.who
@@ -132,17 +116,6 @@ impl Task for ReadPolicies {
 }
 
 impl Ranked for ReadPolicies {
-    ghost use Rattle.std.specs.Prelude.{false, None};
-    ghost use Rattle.hwp_claim_act.specs.Reads.{cost};
-
-    ghost class_of = { λ r. 1 };
-
-    ghost cost = { λ r words. cost r };
-
-    ghost aborts = { λ r. false };
-
-    ghost claims = { λ r. None };
-
     fn class(&self) -> u8 {
         1
     }

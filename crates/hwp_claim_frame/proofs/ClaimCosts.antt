@@ -2,33 +2,33 @@
 use Rattle.std.proofs.Common.{◌≡◌, ◌⊎◌, inl, inr, ℕ, ◌+◌, ◌/◌, ◌%◌, ◌<◌, ◌≤◌, ◌==◌, min, Bool, true, false, cond, Option, Some, None, is_none, slice_index, refl, sym, ap, ◌∙◌, subst, arith}
 use Rattle.std.proofs.lemmas.Bool.{both_ways, eqb-false}
 use Rattle.std.proofs.lemmas.Option.{none-some, same_Some}
-use Rattle.hwp_geom.specs.declared.Frame.{Frame}
-use Rattle.hwp_geom.specs.declared.Layout.{Layout}
-use Rattle.hwp_geom.specs.declared.Who.{Who}
-use Rattle.hwp_page.specs.History.{BodyValue}
-use Rattle.hwp_words.specs.Frames.{count_of, cycle_of, is_kernel, is_poisoned}
-use Rattle.hwp_words.specs.Stops.{is_stopped}
-use Rattle.hwp_core_rule.specs.declared.SharedWord.TheVariants as places
-use Rattle.hwp_core_rule.specs.declared.State.{State}
-use Rattle.hwp_core_rule.specs.declared.Step.{Step}
-use Rattle.hwp_core_rule.specs.declared.Step.TheVariants as steps
-use Rattle.hwp_core_rule.specs.Moves.{Move}
-use Rattle.hwp_core_rule.specs.Lasting.{LeavesPoison}
-use Rattle.hwp_core_rule.specs.Steps.{place_of, word_after}
-use Rattle.hwp_core_rule.specs.Words.{Words, read}
-use Rattle.hwp_core_task.specs.declared.Turn.{Turn}
-use Rattle.hwp_core_task.specs.declared.Turn.TheVariants.{Moved, Changed, NoMemory}
-use Rattle.hwp_core_task.specs.Boards.{view_of}
-use Rattle.hwp_core_task.specs.Calls.{logs, rec_of}
-use Rattle.hwp_core_task.specs.Ranks.{Member, member, Made, Quiet, OtherHand, failures_left, is_waits, stale, words_at}
-use Rattle.hwp_core_task.proofs.Failures.{mild-leaves}
-use Rattle.hwp_core_task.proofs.StepRanks.{met, poison-fails, words-kept}
+use Rattle.hwp_core.specs.hwp_geom.declared.Frame.{Frame}
+use Rattle.hwp_core.specs.hwp_geom.declared.Layout.{Layout}
+use Rattle.hwp_core.specs.hwp_geom.declared.Who.{Who}
+use Rattle.hwp_core.specs.hwp_page.History.{BodyValue}
+use Rattle.hwp_core.specs.hwp_words.Frames.{count_of, cycle_of, is_kernel, is_poisoned}
+use Rattle.hwp_core.specs.hwp_words.Stops.{is_stopped}
+use Rattle.hwp_core.specs.hwp_core_rule.declared.SharedWord.TheVariants as places
+use Rattle.hwp_core.specs.hwp_core_rule.declared.State.{State}
+use Rattle.hwp_core.specs.hwp_core_rule.declared.Step.{Step}
+use Rattle.hwp_core.specs.hwp_core_rule.declared.Step.TheVariants as steps
+use Rattle.hwp_core.specs.hwp_core_rule.Moves.{Move}
+use Rattle.hwp_core.specs.hwp_core_rule.Lasting.{LeavesPoison}
+use Rattle.hwp_core.specs.hwp_core_rule.Steps.{place_of, word_after}
+use Rattle.hwp_core.specs.hwp_core_rule.Words.{Words, read}
+use Rattle.hwp_core.specs.hwp_core_task.declared.Turn.{Turn}
+use Rattle.hwp_core.specs.hwp_core_task.declared.Turn.TheVariants.{Moved, Changed, NoMemory}
+use Rattle.hwp_core.specs.hwp_core_task.Boards.{view_of}
+use Rattle.hwp_core.specs.hwp_core_task.Calls.{logs, rec_of}
+use Rattle.hwp_core.specs.hwp_core_task.Ranks.{Made, Quiet, OtherHand, failures_left, is_waits, stale, words_at}
+use Rattle.hwp_core.proofs.of_hwp_core_task.Failures.{mild-leaves}
+use Rattle.hwp_core.proofs.of_hwp_core_task.StepRanks.{met, poison-fails, words-kept}
 use Rattle.hwp_core.specs.declared.unlock.Unlock.{Unlock}
 use Rattle.hwp_core.specs.Unlocks as unlocks
 use Rattle.hwp_core.proofs.TaskCosts.{met-own}
 use Rattle.hwp_core.proofs.UnlockLaws as unlocking
 use Rattle.hwp_core.proofs.UnlockLaws.{unlock-class, unlock-falls, unlock-small}
-use Rattle.hwp_core_rule.proofs.Lists.{same-number}
+use Rattle.hwp_core.proofs.of_hwp_core_rule.Lists.{same-number}
 use Rattle.hwp_claim_frame.specs.declared.claim.Claim.{Claim}
 use Rattle.hwp_claim_frame.specs.declared.claim.ClaimAt.{ClaimAt}
 use Rattle.hwp_claim_frame.specs.declared.claim.ClaimAt.TheVariants as at
@@ -42,13 +42,10 @@ use Rattle.hwp_core.specs.declared.release.ReleaseAt.{ReleaseAt}
 use Rattle.hwp_core.specs.declared.release.ReleaseAt.TheVariants as release_at
 use Rattle.hwp_claim_frame.specs.Grabs as grabs
 use Rattle.hwp_claim_frame.specs.Meets as meets
-use Rattle.hwp_claim_frame.specs.Claims.{plan, plan_at, put, put_at, bare, bare_at, stopped, poisoned, is_done, looked, after_grab, after_grab_by, after_meet, after_unlock, next, next_at, stop_turn, turn, turn_at, Fits, FitsAt, class, class_at, claims, aborts, aborts_at, cost, cost_with}
+use Rattle.hwp_claim_frame.specs.Claims.{plan, plan_at, put_at, bare, bare_at, stopped, poisoned, is_done, looked, after_grab, after_grab_by, after_meet, after_unlock, next, next_at, stop_turn, turn_at, FitsAt, class, class_at, aborts, aborts_at, cost, cost_with, task as claim-task}
 use Rattle.hwp_claim_frame.proofs.GrabCosts as grabbing
 use Rattle.hwp_claim_frame.proofs.GrabCosts.{grab-falls, grab-made, grab-leaves, grab-small, grab-waits, class-within}
 use Rattle.hwp_claim_frame.proofs.MeetCosts.{meet-class, meet-falls, meet-made, meet-mild, meet-small, never-waits}
-
-abbrev pub claim-member : Member Claim
-claim-member = member (λ c. c.who) plan put bare (λ layout c found got after result. (after ≡ next c found got) × (result ≡ turn c found)) Fits class cost aborts claims
 
 -- ---- what is left once a part is over
 
@@ -112,7 +109,7 @@ stop-goes found = by (found == 0) (is_stopped found)
     by false true = refl
     by false false = refl
 
-module _ {layout : Layout} {seat : ℕ} {a b : State} {s t : Claim} {turned : Turn} (made : Made claim-member layout seat a b s t turned) where
+module _ {layout : Layout} {seat : ℕ} {a b : State} {s t : Claim} {turned : Turn} (made : Made claim-task layout seat a b s t turned) where
   abbrev Moves : Option BodyValue → Type 0
   Moves given = Move layout seat (rec_of layout s.who made.step (logs given) made.found made.got) a b
 

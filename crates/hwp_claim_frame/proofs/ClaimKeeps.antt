@@ -2,22 +2,23 @@
 use Rattle.std.proofs.Common.{◌≡◌, ◌≢◌, ◌⊎◌, inl, inr, ℕ, ◌<◌, true, false, Option, Some, None, slice_get, slice_index, sym, ap, ◌∙◌, subst, arith, bit_xor}
 use Rattle.std.proofs.lemmas.Bool.{both_ways, eqb-false}
 use Rattle.std.proofs.lemmas.Option.{none-some, same_Some}
-use Rattle.hwp_geom.specs.declared.Frame.{Frame}
-use Rattle.hwp_geom.specs.declared.Layout.{Layout}
-use Rattle.hwp_words.specs.Frames.{handled_bit, handled_of, is_handled}
-use Rattle.hwp_words.proofs.FieldLaws.{field-xor}
-use Rattle.hwp_core_rule.specs.declared.FrameLock.{FrameLock}
-use Rattle.hwp_core_rule.specs.declared.State.{State}
-use Rattle.hwp_core_rule.specs.declared.Step.TheVariants as steps
-use Rattle.hwp_core_rule.specs.declared.View.{View}
-use Rattle.hwp_core_rule.specs.Words.{Words}
-use Rattle.hwp_core_rule.specs.parts.Locks.{IsLocked}
-use Rattle.hwp_core_rule.proofs.Lists.{at_map, same-number, same-or}
-use Rattle.hwp_core_rule.proofs.MetWords.{frame-word}
-use Rattle.hwp_core_task.specs.declared.Turn.{Turn}
-use Rattle.hwp_core_task.specs.Boards.{view_of}
-use Rattle.hwp_core_task.specs.Ranks.{Member, Made, Pending, words_at}
-use Rattle.hwp_core_task.proofs.StepRanks.{me}
+use Rattle.hwp_core.specs.hwp_geom.declared.Frame.{Frame}
+use Rattle.hwp_core.specs.hwp_geom.declared.Layout.{Layout}
+use Rattle.hwp_core.specs.hwp_words.Frames.{handled_bit, handled_of, is_handled}
+use Rattle.hwp_core.proofs.of_hwp_words.FieldLaws.{field-xor}
+use Rattle.hwp_core.specs.hwp_core_rule.declared.FrameLock.{FrameLock}
+use Rattle.hwp_core.specs.hwp_core_rule.declared.State.{State}
+use Rattle.hwp_core.specs.hwp_core_rule.declared.Step.TheVariants as steps
+use Rattle.hwp_core.specs.hwp_core_rule.declared.View.{View}
+use Rattle.hwp_core.specs.hwp_core_rule.Words.{Words}
+use Rattle.hwp_core.specs.hwp_core_rule.parts.Locks.{IsLocked}
+use Rattle.hwp_core.proofs.of_hwp_core_rule.Lists.{at_map, same-number, same-or}
+use Rattle.hwp_core.proofs.of_hwp_core_rule.MetWords.{frame-word}
+use Rattle.hwp_core.specs.hwp_core_task.declared.Turn.{Turn}
+use Rattle.hwp_core.specs.hwp_core_task.Boards.{view_of}
+use Rattle.hwp_core.specs.hwp_core_task.Ranks.{Made, Pending, words_at}
+use Rattle.hwp_core.specs.hwp_core_task.Turns.{Member}
+use Rattle.hwp_core.proofs.of_hwp_core_task.StepRanks.{me}
 use Rattle.hwp_claim_frame.specs.Meets.{word_in}
 use Rattle.hwp_claim_frame.proofs.MeetCosts.{after-is, met-at, set-word}
 

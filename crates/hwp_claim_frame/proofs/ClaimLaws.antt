@@ -6,37 +6,37 @@ use Rattle.std.proofs.lemmas.Bool.{both_ways, eqb-false, eqb-true, ne_eqb}
 use Rattle.std.proofs.lemmas.List.Elements.{filter-append}
 use Rattle.std.proofs.lemmas.List.Sums.{sum_by-append}
 use Rattle.std.proofs.lemmas.Option.{none-some, slice_get-get_or}
-use Rattle.hwp_geom.specs.declared.Frame.{Frame}
-use Rattle.hwp_geom.specs.declared.Layout.{Layout}
-use Rattle.hwp_geom.specs.declared.Page.{Page}
-use Rattle.hwp_geom.specs.declared.Who.{Who}
-use Rattle.hwp_page.specs.History.{BodyValue}
-use Rattle.hwp_page.specs.Losses.{is_loss}
-use Rattle.hwp_words.specs.Frames.{count_of, cycle_of, is_handled, is_kernel, is_poisoned}
-use Rattle.hwp_words.specs.Stops.{is_stopped}
-use Rattle.hwp_core_rule.specs.declared.Log.{Log}
-use Rattle.hwp_core_rule.specs.declared.Made.{Made}
-use Rattle.hwp_core_rule.specs.declared.Mark.{Mark}
-use Rattle.hwp_core_rule.specs.declared.MarkKind.TheVariants as mark_kinds
-use Rattle.hwp_core_rule.specs.declared.SharedWord.TheVariants as places
-use Rattle.hwp_core_rule.specs.declared.State.{State}
-use Rattle.hwp_core_rule.specs.declared.Step.{Step}
-use Rattle.hwp_core_rule.specs.declared.Step.TheVariants as steps
-use Rattle.hwp_core_rule.specs.declared.View.{View}
-use Rattle.hwp_core_rule.specs.Asks.{CanRetire, OwesCount}
-use Rattle.hwp_core_rule.specs.Lists.{SomeMember}
-use Rattle.hwp_core_rule.specs.Rule.{Holds, losing_of}
-use Rattle.hwp_core_rule.specs.Views.{is_lock_of, less_refs, marked, noted, owing_count, paying_count, poison_listed, sighted, stamp_of, without}
-use Rattle.hwp_core_rule.specs.Words.{index}
-use Rattle.hwp_core_rule.specs.parts.Counter.{is_poisoning}
-use Rattle.hwp_core_rule.proofs.Lists.{at_map, same-number, some-last}
-use Rattle.hwp_core_rule.proofs.MetWords.{frame-word}
-use Rattle.hwp_core_task.specs.declared.Turn.{Turn}
-use Rattle.hwp_core_task.specs.Calls.{CanMake, IsOnTurn, Steps, logs}
-use Rattle.hwp_core_task.specs.Hands.{hand_of, empty}
-use Rattle.hwp_core_task.proofs.StepLeaves.{on-turn-after, hand-planned, steps-planned, can-make}
-use Rattle.hwp_core_task.specs.Known.{IsShown}
-use Rattle.hwp_core_task.proofs.SightKeeps.{saw-stopped, stop-listed}
+use Rattle.hwp_core.specs.hwp_geom.declared.Frame.{Frame}
+use Rattle.hwp_core.specs.hwp_geom.declared.Layout.{Layout}
+use Rattle.hwp_core.specs.hwp_geom.declared.Page.{Page}
+use Rattle.hwp_core.specs.hwp_geom.declared.Who.{Who}
+use Rattle.hwp_core.specs.hwp_page.History.{BodyValue}
+use Rattle.hwp_core.specs.hwp_page.Losses.{is_loss}
+use Rattle.hwp_core.specs.hwp_words.Frames.{count_of, cycle_of, is_handled, is_kernel, is_poisoned}
+use Rattle.hwp_core.specs.hwp_words.Stops.{is_stopped}
+use Rattle.hwp_core.specs.hwp_core_rule.declared.Log.{Log}
+use Rattle.hwp_core.specs.hwp_core_rule.declared.Made.{Made}
+use Rattle.hwp_core.specs.hwp_core_rule.declared.Mark.{Mark}
+use Rattle.hwp_core.specs.hwp_core_rule.declared.MarkKind.TheVariants as mark_kinds
+use Rattle.hwp_core.specs.hwp_core_rule.declared.SharedWord.TheVariants as places
+use Rattle.hwp_core.specs.hwp_core_rule.declared.State.{State}
+use Rattle.hwp_core.specs.hwp_core_rule.declared.Step.{Step}
+use Rattle.hwp_core.specs.hwp_core_rule.declared.Step.TheVariants as steps
+use Rattle.hwp_core.specs.hwp_core_rule.declared.View.{View}
+use Rattle.hwp_core.specs.hwp_core_rule.Asks.{CanRetire, OwesCount}
+use Rattle.hwp_core.specs.hwp_core_rule.Lists.{SomeMember}
+use Rattle.hwp_core.specs.hwp_core_rule.Rule.{Holds, losing_of}
+use Rattle.hwp_core.specs.hwp_core_rule.Views.{is_lock_of, less_refs, marked, noted, owing_count, paying_count, poison_listed, sighted, stamp_of, without}
+use Rattle.hwp_core.specs.hwp_core_rule.Words.{index}
+use Rattle.hwp_core.specs.hwp_core_rule.parts.Counter.{is_poisoning}
+use Rattle.hwp_core.proofs.of_hwp_core_rule.Lists.{at_map, same-number, some-last}
+use Rattle.hwp_core.proofs.of_hwp_core_rule.MetWords.{frame-word}
+use Rattle.hwp_core.specs.hwp_core_task.declared.Turn.{Turn}
+use Rattle.hwp_core.specs.hwp_core_task.Calls.{CanMake, IsOnTurn, Steps, logs}
+use Rattle.hwp_core.specs.hwp_core_task.Hands.{hand_of, empty}
+use Rattle.hwp_core.proofs.of_hwp_core_task.StepLeaves.{on-turn-after, hand-planned, steps-planned, can-make}
+use Rattle.hwp_core.specs.hwp_core_task.Known.{IsShown}
+use Rattle.hwp_core.proofs.of_hwp_core_task.SightKeeps.{saw-stopped, stop-listed}
 use Rattle.hwp_core.specs.declared.unlock.Unlock.{Unlock}
 use Rattle.hwp_core.specs.declared.unlock.UnlockAt.{UnlockAt}
 use Rattle.hwp_core.specs.declared.unlock.UnlockAt.TheVariants as unlock_at

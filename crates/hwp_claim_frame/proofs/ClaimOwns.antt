@@ -2,25 +2,25 @@
 use Rattle.std.proofs.Common.{◌≡◌, ◌≢◌, ◌⊎◌, inl, inr, ℕ, ◌+◌, ◌<◌, ◌≤◌, ◌==◌, ◌&&◌, ◌||◌, Bool, true, false, not, cond, Option, Some, None, slice_get, slice_index, refl, sym, ap, ◌∙◌, subst, arith}
 use Rattle.std.proofs.lemmas.Bool.{both_ways}
 use Rattle.std.proofs.lemmas.Option.{none-some, same_Some}
-use Rattle.hwp_geom.specs.declared.Frame.{Frame}
-use Rattle.hwp_geom.specs.declared.Layout.{Layout}
-use Rattle.hwp_geom.specs.declared.Page.{Page}
-use Rattle.hwp_page.specs.History.{BodyValue}
-use Rattle.hwp_words.specs.Frames.{count_of, cycle_of, is_handled, is_kernel, is_poisoned}
-use Rattle.hwp_core_rule.specs.declared.FrameLock.{FrameLock}
-use Rattle.hwp_core_rule.specs.declared.SharedWord.TheVariants as places
-use Rattle.hwp_core_rule.specs.declared.State.{State}
-use Rattle.hwp_core_rule.specs.declared.Step.{Step}
-use Rattle.hwp_core_rule.specs.declared.Step.TheVariants as steps
-use Rattle.hwp_core_rule.specs.Lasting.{IsMild}
-use Rattle.hwp_core_rule.specs.Steps.{place_of}
-use Rattle.hwp_core_rule.specs.Words.{Words, read}
-use Rattle.hwp_core_rule.proofs.Lists.{same-number}
-use Rattle.hwp_core_task.specs.declared.Turn.{Turn}
-use Rattle.hwp_core_task.specs.Boards.{view_of}
-use Rattle.hwp_core_task.specs.Hands.{Hand}
-use Rattle.hwp_core_task.specs.Ranks.{Made, IsRanked, Pending, words_at}
-use Rattle.hwp_core_task.proofs.StepRanks.{failed, pending-kept}
+use Rattle.hwp_core.specs.hwp_geom.declared.Frame.{Frame}
+use Rattle.hwp_core.specs.hwp_geom.declared.Layout.{Layout}
+use Rattle.hwp_core.specs.hwp_geom.declared.Page.{Page}
+use Rattle.hwp_core.specs.hwp_page.History.{BodyValue}
+use Rattle.hwp_core.specs.hwp_words.Frames.{count_of, cycle_of, is_handled, is_kernel, is_poisoned}
+use Rattle.hwp_core.specs.hwp_core_rule.declared.FrameLock.{FrameLock}
+use Rattle.hwp_core.specs.hwp_core_rule.declared.SharedWord.TheVariants as places
+use Rattle.hwp_core.specs.hwp_core_rule.declared.State.{State}
+use Rattle.hwp_core.specs.hwp_core_rule.declared.Step.{Step}
+use Rattle.hwp_core.specs.hwp_core_rule.declared.Step.TheVariants as steps
+use Rattle.hwp_core.specs.hwp_core_rule.Lasting.{IsMild}
+use Rattle.hwp_core.specs.hwp_core_rule.Steps.{place_of}
+use Rattle.hwp_core.specs.hwp_core_rule.Words.{Words, read}
+use Rattle.hwp_core.proofs.of_hwp_core_rule.Lists.{same-number}
+use Rattle.hwp_core.specs.hwp_core_task.declared.Turn.{Turn}
+use Rattle.hwp_core.specs.hwp_core_task.Boards.{view_of}
+use Rattle.hwp_core.specs.hwp_core_task.Hands.{Hand}
+use Rattle.hwp_core.specs.hwp_core_task.Ranks.{Made, IsRanked, Pending, words_at}
+use Rattle.hwp_core.proofs.of_hwp_core_task.StepRanks.{failed, pending-kept}
 use Rattle.hwp_core.specs.declared.release.ReleaseAt.{ReleaseAt}
 use Rattle.hwp_core.specs.declared.release.ReleaseAt.TheVariants as release_at
 use Rattle.hwp_core.specs.Holds.{is_free}
@@ -39,12 +39,12 @@ use Rattle.hwp_claim_frame.specs.declared.meet.MeetAt.TheVariants as meet_at
 use Rattle.hwp_claim_frame.specs.Grabs as grabs
 use Rattle.hwp_claim_frame.specs.Meets as meets
 use Rattle.hwp_claim_frame.specs.Meets.{has_ended, is_ended, owner_in}
-use Rattle.hwp_claim_frame.specs.Claims.{plan_at, bare_at, is_done, looked, after_grab, after_meet, next_at, FitsAt, class, claims, claims_at, cost}
+use Rattle.hwp_claim_frame.specs.Claims.{plan_at, bare_at, is_done, looked, after_grab, after_meet, next_at, FitsAt, class, claims, claims_at, cost, task as claim-task}
 use Rattle.hwp_claim_frame.proofs.GrabCosts as grab_costs
 use Rattle.hwp_claim_frame.proofs.MeetCosts.{meet-mild}
 use Rattle.hwp_claim_frame.proofs.PoisonLaws.{poison-owns}
 use Rattle.hwp_claim_frame.proofs.ClaimKeeps.{Keeps, drops, drops-now, owned-by, retired}
-use Rattle.hwp_claim_frame.proofs.ClaimCosts.{claim-class, claim-falls, claim-leaves, claim-member, claim-small, claim-waits, seen-word}
+use Rattle.hwp_claim_frame.proofs.ClaimCosts.{claim-class, claim-falls, claim-leaves, claim-small, claim-waits, seen-word}
 
 -- ---- a word that shows that a failure isn't pending
 
@@ -61,7 +61,7 @@ module _ (w : Words) (frame : Frame) (cycle word : ℕ) (there : slice_index w.f
   not-kernel : is_kernel word ≡ true → ⊥
   not-kernel is = both_ways (is_kernel word) (sym (ap is_kernel there) ∙ pending.kernel) is
 
-module _ {layout : Layout} {seat : ℕ} {a b : State} {s t : Claim} {turned : Turn} (made : Made claim-member layout seat a b s t turned) where
+module _ {layout : Layout} {seat : ℕ} {a b : State} {s t : Claim} {turned : Turn} (made : Made claim-task layout seat a b s t turned) where
   abbrev w : Words
   w = words_at layout a
 
@@ -213,7 +213,7 @@ module _ {layout : Layout} {seat : ℕ} {a b : State} {s t : Claim} {turned : Tu
       which (at.Kernel own) has e = absurd (none-some made.step e)
       which (at.Owned own page body) has e = absurd (none-some made.step e)
 
-pub claim-ranked : IsRanked claim-member
+pub claim-ranked : IsRanked claim-task
 claim-ranked = record {
   classes = claim-class;
   small = λ layout a seat s rule fits. let few : cost s (words_at layout a) ≤ 0 + 8300 = claim-small 0 s.at (words_at layout a) in omega (arith, few);

@@ -4,28 +4,28 @@ use Rattle.std.proofs.Common.{◌≡◌, ◌≢◌, ℕ, ◌+◌, ◌-◌, ◌%�
 use Rattle.std.specs.List.{sum_by}
 use Rattle.std.proofs.lemmas.Bool.{both_ways, eqb-true, eqb-false, ne_eqb}
 use Rattle.std.proofs.lemmas.Option.{none-some, same_Some, slice_get_within}
-use Rattle.hwp_geom.specs.declared.Frame.{Frame}
-use Rattle.hwp_geom.specs.declared.Layout.{Layout}
-use Rattle.hwp_geom.specs.declared.Page.{Page}
-use Rattle.hwp_words.specs.Frames.{lock_of, owner_of, handled_of, is_handled}
-use Rattle.hwp_words.specs.Names.{page_named}
-use Rattle.hwp_core_rule.specs.declared.FrameLock.{FrameLock}
-use Rattle.hwp_core_rule.specs.declared.Log.{Log}
-use Rattle.hwp_core_rule.specs.declared.SharedWord.TheVariants as places
-use Rattle.hwp_core_rule.specs.declared.Ref.{Ref}
-use Rattle.hwp_core_rule.specs.declared.State.{State}
-use Rattle.hwp_core_rule.specs.declared.View.{View}
-use Rattle.hwp_core_rule.specs.Logs.{state_of}
-use Rattle.hwp_core_rule.specs.Rule.{Holds}
-use Rattle.hwp_core_rule.specs.Slots.{IsIn, frame_slot}
-use Rattle.hwp_core_rule.specs.Views.{locks_on}
-use Rattle.hwp_core_rule.specs.Words.{words_of, index}
-use Rattle.hwp_core_rule.specs.parts.Bodies.{IsAtHome, content_name}
-use Rattle.hwp_core_rule.specs.parts.Owners.{HoldsBoth}
-use Rattle.hwp_core_rule.proofs.PageWords.{same-page}
-use Rattle.hwp_core_rule.proofs.Lists.{at_map, map-was, term-le, same-number}
-use Rattle.hwp_core_rule.proofs.MetWords.{frame-word}
-use Rattle.hwp_core_rule.proofs.MoveKeeps.{shaped}
+use Rattle.hwp_core.specs.hwp_geom.declared.Frame.{Frame}
+use Rattle.hwp_core.specs.hwp_geom.declared.Layout.{Layout}
+use Rattle.hwp_core.specs.hwp_geom.declared.Page.{Page}
+use Rattle.hwp_core.specs.hwp_words.Frames.{lock_of, owner_of, handled_of, is_handled}
+use Rattle.hwp_core.specs.hwp_words.Names.{page_named}
+use Rattle.hwp_core.specs.hwp_core_rule.declared.FrameLock.{FrameLock}
+use Rattle.hwp_core.specs.hwp_core_rule.declared.Log.{Log}
+use Rattle.hwp_core.specs.hwp_core_rule.declared.SharedWord.TheVariants as places
+use Rattle.hwp_core.specs.hwp_core_rule.declared.Ref.{Ref}
+use Rattle.hwp_core.specs.hwp_core_rule.declared.State.{State}
+use Rattle.hwp_core.specs.hwp_core_rule.declared.View.{View}
+use Rattle.hwp_core.specs.hwp_core_rule.Logs.{state_of}
+use Rattle.hwp_core.specs.hwp_core_rule.Rule.{Holds}
+use Rattle.hwp_core.specs.hwp_core_rule.SlotMoves.{IsIn, frame_slot}
+use Rattle.hwp_core.specs.hwp_core_rule.Views.{locks_on}
+use Rattle.hwp_core.specs.hwp_core_rule.Words.{words_of, index}
+use Rattle.hwp_core.specs.hwp_core_rule.parts.Bodies.{IsAtHome, content_name}
+use Rattle.hwp_core.specs.hwp_core_rule.parts.Owners.{HoldsBoth}
+use Rattle.hwp_core.proofs.of_hwp_core_rule.PageWords.{same-page}
+use Rattle.hwp_core.proofs.of_hwp_core_rule.Lists.{at_map, map-was, term-le, same-number}
+use Rattle.hwp_core.proofs.of_hwp_core_rule.MetWords.{frame-word}
+use Rattle.hwp_core.proofs.of_hwp_core_rule.MoveKeeps.{shaped}
 use Rattle.hwp_claim_frame.specs.Meets.{owner_in, is_page, is_owner}
 
 -- a number above 0 names the page before it

@@ -3,27 +3,27 @@ use Rattle.std.proofs.Common.{◌≡◌, ℕ, ◌+◌, ◌<◌, ◌==◌, Bool, 
 use Rattle.std.specs.List.{find}
 use Rattle.std.proofs.lemmas.Bool.{both_ways, ne_eqb}
 use Rattle.std.proofs.lemmas.Option.{none-some, same_Some}
-use Rattle.hwp_geom.specs.declared.Frame.{Frame}
-use Rattle.hwp_geom.specs.declared.Layout.{Layout}
-use Rattle.hwp_geom.specs.declared.Page.{Page}
-use Rattle.hwp_geom.specs.declared.Who.{Who}
-use Rattle.hwp_page.specs.Endings.{has_ending}
-use Rattle.hwp_page.specs.History.{BodyValue}
-use Rattle.hwp_words.specs.Frames.{is_handled, is_poisoned, owner_of}
-use Rattle.hwp_core_rule.specs.declared.FrameLock.{FrameLock}
-use Rattle.hwp_core_rule.specs.declared.InHand.{InHand}
-use Rattle.hwp_core_rule.specs.declared.Log.{Log}
-use Rattle.hwp_core_rule.specs.declared.PageLock.{PageLock}
-use Rattle.hwp_core_rule.specs.declared.Step.TheVariants as steps
-use Rattle.hwp_core_rule.specs.declared.View.{View}
-use Rattle.hwp_core_rule.specs.Asks.{CanGoHome, CanPut, CanUnlockFrame}
-use Rattle.hwp_core_rule.specs.Logs.{log_of}
-use Rattle.hwp_core_rule.specs.Views.{body_of, is_body_of, is_lock_of, knowing, lock_found, more_of, without}
-use Rattle.hwp_core_rule.specs.parts.Bodies.{content_name}
-use Rattle.hwp_core_rule.proofs.Lists.{same-number}
-use Rattle.hwp_core_task.specs.Calls.{CanMake, FitsLayout, IsOnTurn, logs}
-use Rattle.hwp_core_task.specs.Hands.{Hand, hand_of, hand_after, body_in, putting, taking}
-use Rattle.hwp_core_task.proofs.StepLeaves.{can-put}
+use Rattle.hwp_core.specs.hwp_geom.declared.Frame.{Frame}
+use Rattle.hwp_core.specs.hwp_geom.declared.Layout.{Layout}
+use Rattle.hwp_core.specs.hwp_geom.declared.Page.{Page}
+use Rattle.hwp_core.specs.hwp_geom.declared.Who.{Who}
+use Rattle.hwp_core.specs.hwp_page.Endings.{has_ending}
+use Rattle.hwp_core.specs.hwp_page.History.{BodyValue}
+use Rattle.hwp_core.specs.hwp_words.Frames.{is_handled, is_poisoned, owner_of}
+use Rattle.hwp_core.specs.hwp_core_rule.declared.FrameLock.{FrameLock}
+use Rattle.hwp_core.specs.hwp_core_rule.declared.InHand.{InHand}
+use Rattle.hwp_core.specs.hwp_core_rule.declared.Log.{Log}
+use Rattle.hwp_core.specs.hwp_core_rule.declared.PageLock.{PageLock}
+use Rattle.hwp_core.specs.hwp_core_rule.declared.Step.TheVariants as steps
+use Rattle.hwp_core.specs.hwp_core_rule.declared.View.{View}
+use Rattle.hwp_core.specs.hwp_core_rule.Asks.{CanGoHome, CanPut, CanUnlockFrame}
+use Rattle.hwp_core.specs.hwp_core_rule.Logs.{log_of}
+use Rattle.hwp_core.specs.hwp_core_rule.Views.{body_of, is_body_of, is_lock_of, knowing, lock_found, more_of, without}
+use Rattle.hwp_core.specs.hwp_core_rule.parts.Bodies.{content_name}
+use Rattle.hwp_core.proofs.of_hwp_core_rule.Lists.{same-number}
+use Rattle.hwp_core.specs.hwp_core_task.Calls.{CanMake, FitsLayout, IsOnTurn, logs}
+use Rattle.hwp_core.specs.hwp_core_task.Hands.{Hand, hand_of, hand_after, body_in, putting, taking}
+use Rattle.hwp_core.proofs.of_hwp_core_task.StepLeaves.{can-put}
 use Rattle.hwp_core.specs.Unlocks.{FitsFrame, holding}
 use Rattle.hwp_core.proofs.HoldEnds.{as-taken, none-more}
 use Rattle.hwp_claim_frame.specs.Meets.{AsTaken, paged, reference}

@@ -4,40 +4,41 @@ use Rattle.std.proofs.lemmas.Bool.{both_ways, eqb-true, ne_eqb}
 use Rattle.std.proofs.lemmas.Option.{get_or_from_slice_get, none-some, same_Some, slice_get-get_or}
 use Rattle.std.specs.Int.{from_bool}
 use Rattle.std.specs.List.{sum_by}
-use Rattle.hwp_geom.specs.declared.Frame.{Frame}
-use Rattle.hwp_geom.specs.declared.Layout.{Layout}
-use Rattle.hwp_geom.specs.declared.Who.{Who}
-use Rattle.hwp_words.specs.Frames.{count_of}
-use Rattle.hwp_core_rule.specs.declared.FrameInHand.{FrameInHand}
-use Rattle.hwp_core_rule.specs.declared.SharedWord.TheVariants as places
-use Rattle.hwp_core_rule.specs.declared.State.{State}
-use Rattle.hwp_core_rule.specs.declared.Step.{Step}
-use Rattle.hwp_core_rule.specs.declared.Step.TheVariants as steps
-use Rattle.hwp_core_rule.specs.declared.View.{View}
-use Rattle.hwp_core_rule.specs.Lists.{SomeMember}
-use Rattle.hwp_core_rule.specs.Moves.{Move}
-use Rattle.hwp_core_rule.specs.Opening.{opening_view}
-use Rattle.hwp_core_rule.specs.Rule.{Holds}
-use Rattle.hwp_core_rule.specs.Lasting.{IsMild}
-use Rattle.hwp_core_rule.specs.Steps.{place_of, word_after}
-use Rattle.hwp_core_rule.specs.Words.{Words, free_bit, index, put, read, sum_below}
-use Rattle.hwp_core_rule.specs.parts.Places.{in_hand}
-use Rattle.hwp_core_rule.proofs.CountsBelow.{below-term, some-term}
-use Rattle.hwp_core_rule.proofs.Lists.{map-was, same-number, same-or}
-use Rattle.hwp_core_rule.proofs.MoveKeeps.{shaped}
-use Rattle.hwp_core_task.specs.declared.Turn.{Turn}
-use Rattle.hwp_core_task.specs.declared.Turn.TheVariants.{Moved, Changed, Waits}
-use Rattle.hwp_core_task.specs.Boards.{view_of}
-use Rattle.hwp_core_task.specs.Calls.{rec_of}
-use Rattle.hwp_core_task.specs.Hands.{Hand, hand_of}
-use Rattle.hwp_core_task.specs.Ranks.{HasFrame, IsRanked, Made, Member, OtherHand, is_waits, member, stale, words_at}
-use Rattle.hwp_core_task.proofs.StepRanks.{met, pending-kept, words-after}
+use Rattle.hwp_core.specs.hwp_geom.declared.Frame.{Frame}
+use Rattle.hwp_core.specs.hwp_geom.declared.Layout.{Layout}
+use Rattle.hwp_core.specs.hwp_geom.declared.Who.{Who}
+use Rattle.hwp_core.specs.hwp_words.Frames.{count_of}
+use Rattle.hwp_core.specs.hwp_core_rule.declared.FrameInHand.{FrameInHand}
+use Rattle.hwp_core.specs.hwp_core_rule.declared.SharedWord.TheVariants as places
+use Rattle.hwp_core.specs.hwp_core_rule.declared.State.{State}
+use Rattle.hwp_core.specs.hwp_core_rule.declared.Step.{Step}
+use Rattle.hwp_core.specs.hwp_core_rule.declared.Step.TheVariants as steps
+use Rattle.hwp_core.specs.hwp_core_rule.declared.View.{View}
+use Rattle.hwp_core.specs.hwp_core_rule.Lists.{SomeMember}
+use Rattle.hwp_core.specs.hwp_core_rule.Moves.{Move}
+use Rattle.hwp_core.specs.hwp_core_rule.Opening.{opening_view}
+use Rattle.hwp_core.specs.hwp_core_rule.Rule.{Holds}
+use Rattle.hwp_core.specs.hwp_core_rule.Lasting.{IsMild}
+use Rattle.hwp_core.specs.hwp_core_rule.Steps.{place_of, word_after}
+use Rattle.hwp_core.specs.hwp_core_rule.Words.{Words, free_bit, index, put, read, sum_below}
+use Rattle.hwp_core.specs.hwp_core_rule.parts.Places.{in_hand}
+use Rattle.hwp_core.proofs.of_hwp_core_rule.CountsBelow.{below-term, some-term}
+use Rattle.hwp_core.proofs.of_hwp_core_rule.Lists.{map-was, same-number, same-or}
+use Rattle.hwp_core.proofs.of_hwp_core_rule.MoveKeeps.{shaped}
+use Rattle.hwp_core.specs.hwp_core_task.declared.Turn.{Turn}
+use Rattle.hwp_core.specs.hwp_core_task.declared.Turn.TheVariants.{Moved, Changed, Waits}
+use Rattle.hwp_core.specs.hwp_core_task.Boards.{view_of}
+use Rattle.hwp_core.specs.hwp_core_task.Calls.{rec_of}
+use Rattle.hwp_core.specs.hwp_core_task.Hands.{Hand, hand_of}
+use Rattle.hwp_core.specs.hwp_core_task.Ranks.{HasFrame, IsRanked, Made, OtherHand, is_waits, stale, words_at}
+use Rattle.hwp_core.specs.hwp_core_task.Turns.{Member}
+use Rattle.hwp_core.proofs.of_hwp_core_task.StepRanks.{met, pending-kept, words-after}
 use Rattle.hwp_core.proofs.FreeWords.{none-cleared}
 use Rattle.hwp_core.proofs.TaskCosts.{met-own, stale-most}
 use Rattle.hwp_claim_frame.specs.declared.grab.Grab.{Grab}
 use Rattle.hwp_claim_frame.specs.declared.grab.GrabAt.{GrabAt}
 use Rattle.hwp_claim_frame.specs.declared.grab.GrabAt.TheVariants as at
-use Rattle.hwp_claim_frame.specs.Grabs.{at_available, has_bit, plan, plan_at, next, next_at, turn, turn_at, Fits, held_at, class, class_at, aborts, aborts_at, is_idle, cost, cost_with}
+use Rattle.hwp_claim_frame.specs.Grabs.{at_available, has_bit, plan, plan_at, next, next_at, turn, turn_at, Fits, held_at, class, class_at, aborts, aborts_at, is_idle, cost, cost_with, task as grab-task}
 
 -- ---- where a frame is
 
@@ -157,13 +158,10 @@ falls-on w now g step found rest back few is met after goes = which g.at is goes
     which at.LookAgain e goes = absurd (none-some step e)
     which (at.Grabbed word) e goes = absurd (none-some step e)
 
-abbrev pub grab-member : Member Grab
-grab-member = member (λ g. g.who) plan (λ g. None) (λ g. g) (λ layout g found got after result. (after ≡ next g found) × (result ≡ turn g found)) Fits class cost aborts (λ g. None)
-
 -- a step of a grab that is a part of a task is one of the grab itself
 module _ {S : Type 0} {m : Member S} {layout : Layout} {seat : ℕ} {a b : State} {s t : S} {turned : Turn} (made : Made m layout seat a b s t turned) where
   pub grab-made : (g : Grab) (who : Who) → Fits layout (view_of a seat) g → g.who ≡ who → plan g ≡ Some made.step → Move layout seat (rec_of layout who made.step None made.found made.got) a b
-      → Made grab-member layout seat a b g (next g made.found) (turn g made.found)
+      → Made grab-task layout seat a b g (next g made.found) (turn g made.found)
   grab-made g who fits own e move = record {
     step = made.step;
     found = made.found;
@@ -180,7 +178,7 @@ module _ {S : Type 0} {m : Member S} {layout : Layout} {seat : ℕ} {a b : State
 -- ---- what a parent cites: whatever is left once the frame is grabbed, and whatever is left where its word is looked at again, as long
 -- as that is less than a test that fails counts
 
-module _ {layout : Layout} {seat : ℕ} {a b : State} {s t : Grab} {turned : Turn} (made : Made grab-member layout seat a b s t turned) (rest back : ℕ) (few : back < 4096) where
+module _ {layout : Layout} {seat : ℕ} {a b : State} {s t : Grab} {turned : Turn} (made : Made grab-task layout seat a b s t turned) (rest back : ℕ) (few : back < 4096) where
   abbrev before : ℕ
   before = cost_with rest back s.frame s.at (words_at layout a)
 
@@ -301,7 +299,7 @@ mild s step is = which s.at is
     which at.LookAgain e = absurd (none-some step e)
     which (at.Grabbed word) e = absurd (none-some step e)
 
-pub ranked : IsRanked grab-member
+pub ranked : IsRanked grab-task
 ranked = record {
   classes = class-within;
   small = λ layout a seat s rule fits. let few : cost s (words_at layout a) ≤ 8196 = grab-small 0 0 s (words_at layout a) in omega (arith, few);

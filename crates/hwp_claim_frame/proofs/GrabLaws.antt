@@ -2,28 +2,28 @@
 use Rattle.std.proofs.Common.{◌≡◌, ℕ, ◌+◌, ◌<◌, ◌≤◌, ◌==◌, Bool, true, false, cond, [], ◌∷◌, ◌++◌, Option, Some, None, map, length, slice_get, refl, sym, ap, ◌∙◌, subst, arith}
 use Rattle.std.proofs.lemmas.Bool.{eqb-false}
 use Rattle.std.proofs.lemmas.Option.{none-some}
-use Rattle.hwp_geom.specs.declared.Frame.{Frame}
-use Rattle.hwp_geom.specs.declared.Layout.{Layout}
-use Rattle.hwp_page.specs.History.{BodyValue}
-use Rattle.hwp_words.specs.Frames.{count_of, is_handled, is_kernel, is_poisoned}
-use Rattle.hwp_core_rule.specs.declared.FrameInHand.{FrameInHand}
-use Rattle.hwp_core_rule.specs.declared.FrameLock.{FrameLock}
-use Rattle.hwp_core_rule.specs.declared.Step.{Step}
-use Rattle.hwp_core_rule.specs.declared.Step.TheVariants as steps
-use Rattle.hwp_core_rule.specs.declared.View.{View}
-use Rattle.hwp_core_rule.specs.Asks.{CanRetire, HasInHand}
-use Rattle.hwp_core_rule.specs.Lists.{SomeMember}
-use Rattle.hwp_core_rule.specs.Views.{is_hand_of, lock_found, unpoisoned, with_refs, without}
-use Rattle.hwp_core_rule.specs.Words.{words_of}
-use Rattle.hwp_core_rule.specs.parts.Places.{IsBare, in_hand}
-use Rattle.hwp_core_rule.proofs.FramesInHand.{in_hand-mine}
-use Rattle.hwp_core_rule.proofs.Lists.{at_map, same-number}
-use Rattle.hwp_core_rule.proofs.MetWords.{frame-word, hand-bare}
-use Rattle.hwp_core_task.specs.declared.Turn.{Turn}
-use Rattle.hwp_core_task.specs.Calls.{CanMake, Steps}
-use Rattle.hwp_core_task.specs.Hands.{Hand, hand_of, empty}
-use Rattle.hwp_core_task.proofs.StepLeaves.{on-turn-after, hand-planned, steps-planned, can-make}
-use Rattle.hwp_core_task.proofs.SightKeeps.{saw-adopt}
+use Rattle.hwp_core.specs.hwp_geom.declared.Frame.{Frame}
+use Rattle.hwp_core.specs.hwp_geom.declared.Layout.{Layout}
+use Rattle.hwp_core.specs.hwp_page.History.{BodyValue}
+use Rattle.hwp_core.specs.hwp_words.Frames.{count_of, is_handled, is_kernel, is_poisoned}
+use Rattle.hwp_core.specs.hwp_core_rule.declared.FrameInHand.{FrameInHand}
+use Rattle.hwp_core.specs.hwp_core_rule.declared.FrameLock.{FrameLock}
+use Rattle.hwp_core.specs.hwp_core_rule.declared.Step.{Step}
+use Rattle.hwp_core.specs.hwp_core_rule.declared.Step.TheVariants as steps
+use Rattle.hwp_core.specs.hwp_core_rule.declared.View.{View}
+use Rattle.hwp_core.specs.hwp_core_rule.Asks.{CanRetire, HasInHand}
+use Rattle.hwp_core.specs.hwp_core_rule.Lists.{SomeMember}
+use Rattle.hwp_core.specs.hwp_core_rule.Views.{is_hand_of, lock_found, unpoisoned, with_refs, without}
+use Rattle.hwp_core.specs.hwp_core_rule.Words.{words_of}
+use Rattle.hwp_core.specs.hwp_core_rule.parts.Places.{IsBare, in_hand}
+use Rattle.hwp_core.proofs.of_hwp_core_rule.FramesInHand.{in_hand-mine}
+use Rattle.hwp_core.proofs.of_hwp_core_rule.Lists.{at_map, same-number}
+use Rattle.hwp_core.proofs.of_hwp_core_rule.MetWords.{frame-word, hand-bare}
+use Rattle.hwp_core.specs.hwp_core_task.declared.Turn.{Turn}
+use Rattle.hwp_core.specs.hwp_core_task.Calls.{CanMake, Steps}
+use Rattle.hwp_core.specs.hwp_core_task.Hands.{Hand, hand_of, empty}
+use Rattle.hwp_core.proofs.of_hwp_core_task.StepLeaves.{on-turn-after, hand-planned, steps-planned, can-make}
+use Rattle.hwp_core.proofs.of_hwp_core_task.SightKeeps.{saw-adopt}
 use Rattle.hwp_core.specs.Releases.{adopted_lock}
 use Rattle.hwp_core.proofs.TaskTells.{Tells, empty-tells, frame-tells}
 use Rattle.hwp_claim_frame.specs.declared.grab.Grab.{Grab}

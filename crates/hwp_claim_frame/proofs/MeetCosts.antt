@@ -2,34 +2,35 @@
 use Rattle.std.proofs.Common.{◌≡◌, ℕ, ◌+◌, ◌*◌, ◌%◌, ◌^◌, ◌<◌, ◌≤◌, ◌==◌, ◌||◌, min, Bool, true, false, not, cond, Option, Some, None, is_some, slice_get, slice_index, refl, sym, ap, ◌∙◌, subst, arith}
 use Rattle.std.proofs.lemmas.Bool.{both_ways, eqb-true}
 use Rattle.std.proofs.lemmas.Option.{get_or_from_slice_get, none-some, same_Some}
-use Rattle.hwp_geom.specs.declared.Frame.{Frame}
-use Rattle.hwp_geom.specs.declared.Layout.{Layout}
-use Rattle.hwp_geom.specs.declared.Page.{Page}
-use Rattle.hwp_geom.specs.declared.Who.{Who}
-use Rattle.hwp_page.specs.History.{BodyValue}
-use Rattle.hwp_words.specs.Frames.{count_of, cycle_of, handled_of, is_handled, kernel_of, lock_of, owner_of, poison_of}
-use Rattle.hwp_words.specs.Names.{page_named}
-use Rattle.hwp_words.proofs.FrameSteps.{FieldsAre, fields-get_ref}
-use Rattle.hwp_core_rule.specs.declared.SharedWord.TheVariants as places
-use Rattle.hwp_core_rule.specs.declared.State.{State}
-use Rattle.hwp_core_rule.specs.declared.Step.{Step}
-use Rattle.hwp_core_rule.specs.declared.Step.TheVariants as steps
-use Rattle.hwp_core_rule.specs.Moves.{Move}
-use Rattle.hwp_core_rule.specs.Rule.{Holds}
-use Rattle.hwp_core_rule.specs.Steps.{place_of, word_after}
-use Rattle.hwp_core_rule.specs.Words.{Words, index, put, words_of}
-use Rattle.hwp_core_rule.proofs.Lists.{same-number, set_here}
-use Rattle.hwp_core_rule.specs.Lasting.{IsMild}
-use Rattle.hwp_core_rule.proofs.MetWords.{frame-free, frame-word, held-word, page-free}
-use Rattle.hwp_core_rule.proofs.MoveKeeps.{shaped}
-use Rattle.hwp_core_rule.proofs.bounds.RefBounds.{count-fits}
-use Rattle.hwp_core_task.specs.declared.Turn.{Turn}
-use Rattle.hwp_core_task.specs.declared.Turn.TheVariants.{Moved, Changed, Waits}
-use Rattle.hwp_core_task.specs.Boards.{view_of}
-use Rattle.hwp_core_task.specs.Calls.{logs, rec_of}
-use Rattle.hwp_core_task.specs.Hands.{Hand}
-use Rattle.hwp_core_task.specs.Ranks.{Member, member, Made, IsRanked, Quiet, is_waits, stale, words_at}
-use Rattle.hwp_core_task.proofs.StepRanks.{met, no-lock, no-page, rank-of, steps-on, words-after}
+use Rattle.hwp_core.specs.hwp_geom.declared.Frame.{Frame}
+use Rattle.hwp_core.specs.hwp_geom.declared.Layout.{Layout}
+use Rattle.hwp_core.specs.hwp_geom.declared.Page.{Page}
+use Rattle.hwp_core.specs.hwp_geom.declared.Who.{Who}
+use Rattle.hwp_core.specs.hwp_page.History.{BodyValue}
+use Rattle.hwp_core.specs.hwp_words.Frames.{count_of, cycle_of, handled_of, is_handled, kernel_of, lock_of, owner_of, poison_of}
+use Rattle.hwp_core.specs.hwp_words.Names.{page_named}
+use Rattle.hwp_core.proofs.of_hwp_words.FrameSteps.{FieldsAre, fields-get_ref}
+use Rattle.hwp_core.specs.hwp_core_rule.declared.SharedWord.TheVariants as places
+use Rattle.hwp_core.specs.hwp_core_rule.declared.State.{State}
+use Rattle.hwp_core.specs.hwp_core_rule.declared.Step.{Step}
+use Rattle.hwp_core.specs.hwp_core_rule.declared.Step.TheVariants as steps
+use Rattle.hwp_core.specs.hwp_core_rule.Moves.{Move}
+use Rattle.hwp_core.specs.hwp_core_rule.Rule.{Holds}
+use Rattle.hwp_core.specs.hwp_core_rule.Steps.{place_of, word_after}
+use Rattle.hwp_core.specs.hwp_core_rule.Words.{Words, index, put, words_of}
+use Rattle.hwp_core.proofs.of_hwp_core_rule.Lists.{same-number, set_here}
+use Rattle.hwp_core.specs.hwp_core_rule.Lasting.{IsMild}
+use Rattle.hwp_core.proofs.of_hwp_core_rule.MetWords.{frame-free, frame-word, held-word, page-free}
+use Rattle.hwp_core.proofs.of_hwp_core_rule.MoveKeeps.{shaped}
+use Rattle.hwp_core.proofs.of_hwp_core_rule.bounds.RefBounds.{count-fits}
+use Rattle.hwp_core.specs.hwp_core_task.declared.Turn.{Turn}
+use Rattle.hwp_core.specs.hwp_core_task.declared.Turn.TheVariants.{Moved, Changed, Waits}
+use Rattle.hwp_core.specs.hwp_core_task.Boards.{view_of}
+use Rattle.hwp_core.specs.hwp_core_task.Calls.{logs, rec_of}
+use Rattle.hwp_core.specs.hwp_core_task.Hands.{Hand}
+use Rattle.hwp_core.specs.hwp_core_task.Ranks.{Made, IsRanked, Quiet, is_waits, stale, words_at}
+use Rattle.hwp_core.specs.hwp_core_task.Turns.{Member}
+use Rattle.hwp_core.proofs.of_hwp_core_task.StepRanks.{met, no-lock, no-page, rank-of, steps-on, words-after}
 use Rattle.hwp_core.specs.declared.release.Release.{Release}
 use Rattle.hwp_core.specs.declared.release.ReleaseAt.{ReleaseAt}
 use Rattle.hwp_core.specs.declared.release.ReleaseAt.TheVariants as release_at
@@ -39,11 +40,8 @@ use Rattle.hwp_core.proofs.TaskCosts.{met-own, release-class, release-falls, rel
 use Rattle.hwp_claim_frame.specs.declared.meet.Meet.{Meet}
 use Rattle.hwp_claim_frame.specs.declared.meet.MeetAt.{MeetAt}
 use Rattle.hwp_claim_frame.specs.declared.meet.MeetAt.TheVariants as at
-use Rattle.hwp_claim_frame.specs.Meets.{has_ended, is_owner, is_page, is_taken, owner_in, plan, plan_at, put as given, bare, bare_at, referenced, free_at, owned_at, released, next, next_at, ShowsAt, turn, turn_at, Fits, FitsAt, class, class_at, cost, cost_with, end_cost, word_in}
+use Rattle.hwp_claim_frame.specs.Meets.{has_ended, is_owner, is_page, is_taken, owner_in, plan, plan_at, put as given, bare, bare_at, referenced, free_at, owned_at, released, next, next_at, ShowsAt, turn, turn_at, Fits, FitsAt, class, class_at, cost, cost_with, end_cost, word_in, task as meet-task}
 use Rattle.hwp_claim_frame.proofs.MeetLaws.{both, paged-locks}
-
-abbrev pub meet-member : Member Meet
-meet-member = member (λ m. m.who) plan given bare (λ layout m found got after result. (after ≡ next m found got) × (result ≡ turn m found)) Fits class cost (λ m. false) (λ m. None)
 
 released-cost : (rest again : ℕ) (frame : Frame) (ended : Bool) (r : Release) (w : Words) → cost_with rest again frame (released r ended) w ≡ end_cost rest again ended + releases.cost r w
 released-cost rest again frame ended r w = which r.at
@@ -84,7 +82,7 @@ module _ {S : Type 0} {m : Member S} {layout : Layout} {seat : ℕ} {a b : State
 -- a step of a meeting that is a part of a task is one of the meeting itself
 module _ {S : Type 0} {m : Member S} {layout : Layout} {seat : ℕ} {a b : State} {s t : S} {turned : Turn} (made : Made m layout seat a b s t turned) where
   pub meet-made : (x : Meet) (who : Who) → Fits layout (view_of a seat) x → x.who ≡ who → plan x ≡ Some made.step → Move layout seat (rec_of layout who made.step (logs (given x)) made.found made.got) a b
-      → Made meet-member layout seat a b x (next (bare x) made.found made.got) (turn (bare x) made.found)
+      → Made meet-task layout seat a b x (next (bare x) made.found made.got) (turn (bare x) made.found)
   meet-made x who fits own e move = record {
     step = made.step;
     found = made.found;
@@ -98,7 +96,7 @@ module _ {S : Type 0} {m : Member S} {layout : Layout} {seat : ℕ} {a b : State
     follows = (refl, refl);
   }
 
-module _ {layout : Layout} {seat : ℕ} {a b : State} {s t : Meet} {turn : Turn} (made : Made meet-member layout seat a b s t turn) where
+module _ {layout : Layout} {seat : ℕ} {a b : State} {s t : Meet} {turn : Turn} (made : Made meet-task layout seat a b s t turn) where
   module _ (rest again : ℕ) (few : again ≤ rest + 4096) where
     -- the reference was got: the word is as it was, but for its count
     with-reference : (seen : ℕ) → Some (steps.GetRef s.frame seen 1) ≡ Some made.step → made.found ≡ seen → is_handled seen ≡ false → (o : Option Page) → owner_in seen ≡ o
@@ -271,8 +269,8 @@ meet-mild s step is = which s.at is
     which at.Free e = absurd (none-some step e)
     which (at.Owned page body) e = absurd (none-some step e)
 
-pub meet-ranked : IsRanked meet-member
-meet-ranked = rank-of meet-member (λ s. refl) meet-class (λ layout a seat s rule fits. let small : cost s (words_at layout a) ≤ 0 + 4104 = meet-small 0 0 0 (omega arith) (omega arith) s.frame s.at (words_at layout a) in omega arith)
+pub meet-ranked : IsRanked meet-task
+meet-ranked = rank-of meet-task (λ s. refl) meet-class (λ layout a seat s rule fits. let small : cost s (words_at layout a) ≤ 0 + 4104 = meet-small 0 0 0 (omega arith) (omega arith) s.frame s.at (words_at layout a) in omega arith)
     (λ layout seat a b s t turn made goes. meet-falls made 0 0 (omega arith) goes)
     (λ layout seat a b s t turn made waits quiet. absurd (never-waits made waits (class s) (omega arith) quiet))
     (λ s. refl) meet-mild

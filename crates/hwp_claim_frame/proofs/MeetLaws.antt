@@ -3,33 +3,33 @@ use Rattle.std.proofs.Common.{◌≡◌, ◌≢◌, ℕ, ◌+◌, ◌<◌, ◌�
 use Rattle.std.specs.List.{find}
 use Rattle.std.proofs.lemmas.Bool.{both_ways, eqb-true, ne_eqb}
 use Rattle.std.proofs.lemmas.Option.{none-some, same_Some}
-use Rattle.hwp_geom.specs.declared.Frame.{Frame}
-use Rattle.hwp_geom.specs.declared.Layout.{Layout}
-use Rattle.hwp_geom.specs.declared.Page.{Page}
-use Rattle.hwp_geom.specs.declared.Who.{Who}
-use Rattle.hwp_page.specs.History.{BodyValue, IsReplay}
-use Rattle.hwp_words.specs.Frames.{cycle_of, is_handled, is_poisoned, owner_of}
-use Rattle.hwp_core_rule.specs.declared.FrameLock.{FrameLock}
-use Rattle.hwp_core_rule.specs.declared.Log.{Log}
-use Rattle.hwp_core_rule.specs.declared.PageLock.{PageLock}
-use Rattle.hwp_core_rule.specs.declared.Ref.{Ref}
-use Rattle.hwp_core_rule.specs.declared.Step.{Step}
-use Rattle.hwp_core_rule.specs.declared.Step.TheVariants as steps
-use Rattle.hwp_core_rule.specs.declared.View.{View}
-use Rattle.hwp_core_rule.specs.Asks.{CanGoHome, CanLockFrame, CanUnlockPage, HasRefRoom}
-use Rattle.hwp_core_rule.specs.Lists.{EachMember}
-use Rattle.hwp_core_rule.specs.Logs.{log_of, state_of}
-use Rattle.hwp_core_rule.specs.Slots.{IsIn, frame_slot, shelf_slot, is_out, moved_out}
-use Rattle.hwp_core_rule.specs.Steps.{goes}
-use Rattle.hwp_core_rule.specs.Views.{is_body_of, is_lock_of, is_page_lock_of, knowing, lock_found, locks_on, noted, refs_on, taken, without}
-use Rattle.hwp_core_rule.specs.parts.Bodies.{content_name}
-use Rattle.hwp_core_rule.proofs.Lists.{same-number}
-use Rattle.hwp_core_rule.proofs.MetWords.{free-word, lock-knows, named-body, on-shelf}
-use Rattle.hwp_core_task.specs.declared.Turn.{Turn}
-use Rattle.hwp_core_task.specs.Calls.{CanMake, FitsLayout, IsOnTurn, Steps, logs}
-use Rattle.hwp_core_task.specs.Hands.{Hand, empty, hand_of, putting, taking}
-use Rattle.hwp_core_task.proofs.StepLeaves.{on-turn-after, content_of, brought, was-home, hand-planned, steps-planned, can-make, can-put}
-use Rattle.hwp_core_task.proofs.SightKeeps.{saw-log-frame}
+use Rattle.hwp_core.specs.hwp_geom.declared.Frame.{Frame}
+use Rattle.hwp_core.specs.hwp_geom.declared.Layout.{Layout}
+use Rattle.hwp_core.specs.hwp_geom.declared.Page.{Page}
+use Rattle.hwp_core.specs.hwp_geom.declared.Who.{Who}
+use Rattle.hwp_core.specs.hwp_page.History.{BodyValue, IsReplay}
+use Rattle.hwp_core.specs.hwp_words.Frames.{cycle_of, is_handled, is_poisoned, owner_of}
+use Rattle.hwp_core.specs.hwp_core_rule.declared.FrameLock.{FrameLock}
+use Rattle.hwp_core.specs.hwp_core_rule.declared.Log.{Log}
+use Rattle.hwp_core.specs.hwp_core_rule.declared.PageLock.{PageLock}
+use Rattle.hwp_core.specs.hwp_core_rule.declared.Ref.{Ref}
+use Rattle.hwp_core.specs.hwp_core_rule.declared.Step.{Step}
+use Rattle.hwp_core.specs.hwp_core_rule.declared.Step.TheVariants as steps
+use Rattle.hwp_core.specs.hwp_core_rule.declared.View.{View}
+use Rattle.hwp_core.specs.hwp_core_rule.Asks.{CanGoHome, CanLockFrame, CanUnlockPage, HasRefRoom}
+use Rattle.hwp_core.specs.hwp_core_rule.Lists.{EachMember}
+use Rattle.hwp_core.specs.hwp_core_rule.Logs.{log_of, state_of}
+use Rattle.hwp_core.specs.hwp_core_rule.SlotMoves.{IsIn, frame_slot, shelf_slot, is_out, moved_out}
+use Rattle.hwp_core.specs.hwp_core_rule.Steps.{goes}
+use Rattle.hwp_core.specs.hwp_core_rule.Views.{is_body_of, is_lock_of, is_page_lock_of, knowing, lock_found, locks_on, noted, refs_on, taken, without}
+use Rattle.hwp_core.specs.hwp_core_rule.parts.Bodies.{content_name}
+use Rattle.hwp_core.proofs.of_hwp_core_rule.Lists.{same-number}
+use Rattle.hwp_core.proofs.of_hwp_core_rule.MetWords.{free-word, lock-knows, named-body, on-shelf}
+use Rattle.hwp_core.specs.hwp_core_task.declared.Turn.{Turn}
+use Rattle.hwp_core.specs.hwp_core_task.Calls.{CanMake, FitsLayout, IsOnTurn, Steps, logs}
+use Rattle.hwp_core.specs.hwp_core_task.Hands.{Hand, empty, hand_of, putting, taking}
+use Rattle.hwp_core.proofs.of_hwp_core_task.StepLeaves.{on-turn-after, content_of, brought, was-home, hand-planned, steps-planned, can-make, can-put}
+use Rattle.hwp_core.proofs.of_hwp_core_task.SightKeeps.{saw-log-frame}
 use Rattle.hwp_core.specs.declared.release.Release.{Release}
 use Rattle.hwp_core.specs.declared.release.ReleaseAt.{ReleaseAt}
 use Rattle.hwp_core.specs.declared.release.ReleaseAt.TheVariants as release_at

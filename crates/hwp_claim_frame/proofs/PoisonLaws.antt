@@ -1,17 +1,18 @@
 -- A failure that is pending once a frame is poisoned was so before, or is that of this poison.
 use Rattle.std.proofs.Common.{◌≡◌, ◌≢◌, ◌⊎◌, inl, inr, ℕ, ◌<◌, ◌==◌, Bool, true, false, List, Some, set, slice_index, sym, ap, ◌∙◌, refl, bit_or}
 use Rattle.std.proofs.lemmas.List.{get_or-set_other}
-use Rattle.hwp_geom.specs.declared.Frame.{Frame}
-use Rattle.hwp_geom.specs.declared.Layout.{Layout}
-use Rattle.hwp_words.specs.Frames.{cycle_of, is_handled, is_kernel, is_poisoned}
-use Rattle.hwp_words.proofs.FrameSteps.{fields-poison}
-use Rattle.hwp_core_rule.specs.declared.State.{State}
-use Rattle.hwp_core_rule.specs.declared.Step.TheVariants as steps
-use Rattle.hwp_core_rule.specs.Words.{Words}
-use Rattle.hwp_core_rule.proofs.Lists.{same-or}
-use Rattle.hwp_core_task.specs.declared.Turn.{Turn}
-use Rattle.hwp_core_task.specs.Ranks.{Member, Made, Pending, words_at}
-use Rattle.hwp_core_task.proofs.StepRanks.{met}
+use Rattle.hwp_core.specs.hwp_geom.declared.Frame.{Frame}
+use Rattle.hwp_core.specs.hwp_geom.declared.Layout.{Layout}
+use Rattle.hwp_core.specs.hwp_words.Frames.{cycle_of, is_handled, is_kernel, is_poisoned}
+use Rattle.hwp_core.proofs.of_hwp_words.FrameSteps.{fields-poison}
+use Rattle.hwp_core.specs.hwp_core_rule.declared.State.{State}
+use Rattle.hwp_core.specs.hwp_core_rule.declared.Step.TheVariants as steps
+use Rattle.hwp_core.specs.hwp_core_rule.Words.{Words}
+use Rattle.hwp_core.proofs.of_hwp_core_rule.Lists.{same-or}
+use Rattle.hwp_core.specs.hwp_core_task.declared.Turn.{Turn}
+use Rattle.hwp_core.specs.hwp_core_task.Ranks.{Made, Pending, words_at}
+use Rattle.hwp_core.specs.hwp_core_task.Turns.{Member}
+use Rattle.hwp_core.proofs.of_hwp_core_task.StepRanks.{met}
 use Rattle.hwp_core.proofs.TaskCosts.{met-own}
 use Rattle.hwp_claim_frame.specs.Meets.{word_in}
 use Rattle.hwp_claim_frame.proofs.MeetCosts.{after-is, met-at, set-word}

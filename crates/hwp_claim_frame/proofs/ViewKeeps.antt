@@ -1,26 +1,26 @@
 -- What a processor's steps leave: the entries that it made, its marks, and what it owes.
 use Rattle.std.proofs.Common.{◌≡◌, ℕ, ◌==◌, Bool, true, false, cond, List, [], ◌++◌, Option, Some, None, length, append-nil, refl, ap, ◌∙◌, subst}
 use Rattle.std.proofs.lemmas.Option.{none-some, same_Some}
-use Rattle.hwp_geom.specs.declared.Frame.{Frame}
-use Rattle.hwp_geom.specs.declared.Layout.{Layout}
-use Rattle.hwp_geom.specs.declared.Who.{Who}
-use Rattle.hwp_page.specs.declared.Entry.{Entry}
-use Rattle.hwp_page.specs.History.{BodyValue}
-use Rattle.hwp_core_rule.specs.declared.Debts.{Debts}
-use Rattle.hwp_core_rule.specs.declared.InHand.{InHand}
-use Rattle.hwp_core_rule.specs.declared.Log.{Log}
-use Rattle.hwp_core_rule.specs.declared.Made.{Made}
-use Rattle.hwp_core_rule.specs.declared.Mark.{Mark}
-use Rattle.hwp_core_rule.specs.declared.SharedWord.{SharedWord}
-use Rattle.hwp_core_rule.specs.declared.SharedWord.TheVariants as places
-use Rattle.hwp_core_rule.specs.declared.Step.{Step}
-use Rattle.hwp_core_rule.specs.declared.Step.TheVariants as steps
-use Rattle.hwp_core_rule.specs.declared.View.{View}
-use Rattle.hwp_core_rule.specs.Logs.{log_of}
-use Rattle.hwp_core_rule.specs.Steps.{goes}
-use Rattle.hwp_core_rule.specs.Views.{listed_of, loaded, losses_made, made_from, noted, put_home, stamp_of, taken, view_by}
-use Rattle.hwp_core_task.specs.Calls.{Steps, logs}
-use Rattle.hwp_core_task.proofs.StepLeaves.{content_of}
+use Rattle.hwp_core.specs.hwp_geom.declared.Frame.{Frame}
+use Rattle.hwp_core.specs.hwp_geom.declared.Layout.{Layout}
+use Rattle.hwp_core.specs.hwp_geom.declared.Who.{Who}
+use Rattle.hwp_core.specs.hwp_page.declared.Entry.{Entry}
+use Rattle.hwp_core.specs.hwp_page.History.{BodyValue}
+use Rattle.hwp_core.specs.hwp_core_rule.declared.Debts.{Debts}
+use Rattle.hwp_core.specs.hwp_core_rule.declared.InHand.{InHand}
+use Rattle.hwp_core.specs.hwp_core_rule.declared.Log.{Log}
+use Rattle.hwp_core.specs.hwp_core_rule.declared.Made.{Made}
+use Rattle.hwp_core.specs.hwp_core_rule.declared.Mark.{Mark}
+use Rattle.hwp_core.specs.hwp_core_rule.declared.SharedWord.{SharedWord}
+use Rattle.hwp_core.specs.hwp_core_rule.declared.SharedWord.TheVariants as places
+use Rattle.hwp_core.specs.hwp_core_rule.declared.Step.{Step}
+use Rattle.hwp_core.specs.hwp_core_rule.declared.Step.TheVariants as steps
+use Rattle.hwp_core.specs.hwp_core_rule.declared.View.{View}
+use Rattle.hwp_core.specs.hwp_core_rule.Logs.{log_of}
+use Rattle.hwp_core.specs.hwp_core_rule.Steps.{goes}
+use Rattle.hwp_core.specs.hwp_core_rule.Views.{listed_of, loaded, losses_made, made_from, noted, put_home, stamp_of, taken, view_by}
+use Rattle.hwp_core.specs.hwp_core_task.Calls.{Steps, logs}
+use Rattle.hwp_core.proofs.of_hwp_core_task.StepLeaves.{content_of}
 use Rattle.hwp_core.specs.declared.release.Release.{Release}
 use Rattle.hwp_core.specs.declared.release.ReleaseAt.{ReleaseAt}
 use Rattle.hwp_core.specs.declared.release.ReleaseAt.TheVariants as release_at

@@ -2,30 +2,31 @@
 use Rattle.std.specs.Prelude.{◌≡◌, ◌⊎◌, ℕ, ◌+◌, ◌<◌, ◌==◌, ◌&&◌, ◌||◌, Bool, true, false, cond, min, List, [], ◌∷◌, ◌++◌, Option, Some, None, is_none, filter, slice_get}
 use Rattle.std.specs.List.{sum_by}
 use Rattle.std.specs.Int.{from_bool}
-use Rattle.hwp_geom.specs.declared.Frame.{Frame}
-use Rattle.hwp_geom.specs.declared.Layout.{Layout}
-use Rattle.hwp_geom.specs.declared.Page.{Page}
-use Rattle.hwp_geom.specs.declared.Who.{Who}
-use Rattle.hwp_page.specs.History.{BodyValue}
-use Rattle.hwp_page.specs.Losses.{is_loss}
-use Rattle.hwp_words.specs.Frames.{count_of, cycle_of, is_handled, is_kernel, is_poisoned}
-use Rattle.hwp_words.specs.Stops.{is_stopped}
-use Rattle.hwp_core_rule.specs.declared.Made.{Made}
-use Rattle.hwp_core_rule.specs.declared.Mark.{Mark}
-use Rattle.hwp_core_rule.specs.declared.MarkKind.TheVariants as mark_kinds
-use Rattle.hwp_core_rule.specs.declared.SharedWord.TheVariants as places
-use Rattle.hwp_core_rule.specs.declared.Step.{Step}
-use Rattle.hwp_core_rule.specs.declared.Step.TheVariants as steps
-use Rattle.hwp_core_rule.specs.declared.View.{View}
-use Rattle.hwp_core_rule.specs.Asks.{OwesCount}
-use Rattle.hwp_core_rule.specs.Lists.{SomeMember}
-use Rattle.hwp_core_rule.specs.Words.{Words}
-use Rattle.hwp_core_rule.specs.parts.Counter.{is_poisoning}
-use Rattle.hwp_core_task.specs.declared.Turn.{Turn}
-use Rattle.hwp_core_task.specs.declared.Turn.TheVariants.{Moved, Changed, NoMemory}
-use Rattle.hwp_core_task.specs.Calls.{IsOnTurn}
-use Rattle.hwp_core_task.specs.Hands.{hand_of, empty}
-use Rattle.hwp_core_task.specs.Known.{Saw, SawStop}
+use Rattle.hwp_core.specs.hwp_geom.declared.Frame.{Frame}
+use Rattle.hwp_core.specs.hwp_geom.declared.Layout.{Layout}
+use Rattle.hwp_core.specs.hwp_geom.declared.Page.{Page}
+use Rattle.hwp_core.specs.hwp_geom.declared.Who.{Who}
+use Rattle.hwp_core.specs.hwp_page.History.{BodyValue}
+use Rattle.hwp_core.specs.hwp_page.Losses.{is_loss}
+use Rattle.hwp_core.specs.hwp_words.Frames.{count_of, cycle_of, is_handled, is_kernel, is_poisoned}
+use Rattle.hwp_core.specs.hwp_words.Stops.{is_stopped}
+use Rattle.hwp_core.specs.hwp_core_rule.declared.Made.{Made}
+use Rattle.hwp_core.specs.hwp_core_rule.declared.Mark.{Mark}
+use Rattle.hwp_core.specs.hwp_core_rule.declared.MarkKind.TheVariants as mark_kinds
+use Rattle.hwp_core.specs.hwp_core_rule.declared.SharedWord.TheVariants as places
+use Rattle.hwp_core.specs.hwp_core_rule.declared.Step.{Step}
+use Rattle.hwp_core.specs.hwp_core_rule.declared.Step.TheVariants as steps
+use Rattle.hwp_core.specs.hwp_core_rule.declared.View.{View}
+use Rattle.hwp_core.specs.hwp_core_rule.Asks.{OwesCount}
+use Rattle.hwp_core.specs.hwp_core_rule.Lists.{SomeMember}
+use Rattle.hwp_core.specs.hwp_core_rule.Words.{Words}
+use Rattle.hwp_core.specs.hwp_core_rule.parts.Counter.{is_poisoning}
+use Rattle.hwp_core.specs.hwp_core_task.declared.Turn.{Turn}
+use Rattle.hwp_core.specs.hwp_core_task.declared.Turn.TheVariants.{Moved, Changed, NoMemory}
+use Rattle.hwp_core.specs.hwp_core_task.Calls.{IsOnTurn}
+use Rattle.hwp_core.specs.hwp_core_task.Hands.{hand_of, empty}
+use Rattle.hwp_core.specs.hwp_core_task.Known.{Saw, SawStop}
+use Rattle.hwp_core.specs.hwp_core_task.Turns.{Member}
 use Rattle.hwp_core.specs.declared.unlock.Unlock.{Unlock}
 use Rattle.hwp_core.specs.Unlocks as unlocks
 use Rattle.hwp_core.specs.Unlocks.{empty_frame}
@@ -362,3 +363,19 @@ cost_with rest _ words = 0
 
 abbrev pub cost : Claim → Words → ℕ
 cost c words = cost_with 0 c.at words
+
+-- the task, as the laws of tasks read it
+abbrev pub task : Member Claim
+task = record {
+  who = λ c. c.who;
+  plan = plan;
+  put = put;
+  bare = bare;
+  shows = Shows;
+  next = λ layout c found got after result. (after ≡ next c found got) × (result ≡ turn c found);
+  fits = Fits;
+  class = class;
+  cost = cost;
+  aborts = aborts;
+  claims = claims;
+}

@@ -1,23 +1,24 @@
 -- A frame taken out of the free ones: the task's states, its steps and what they come to.
 use Rattle.std.specs.Prelude.{◌≡◌, ℕ, ◌+◌, ◌-◌, ◌<◌, ◌==◌, Bool, true, false, cond, [], ◌∷◌, ◌++◌, Option, Some, None, slice_get, slice_index}
-use Rattle.hwp_geom.specs.declared.Frame.{Frame}
-use Rattle.hwp_geom.specs.declared.Layout.{Layout}
-use Rattle.hwp_geom.specs.declared.Who.{Who}
-use Rattle.hwp_words.specs.Frames.{count_of, is_poisoned}
-use Rattle.hwp_core_rule.specs.declared.SharedWord.TheVariants as places
-use Rattle.hwp_core_rule.specs.declared.Step.{Step}
-use Rattle.hwp_core_rule.specs.declared.Step.TheVariants as steps
-use Rattle.hwp_core_rule.specs.declared.View.{View}
-use Rattle.hwp_core_rule.specs.Steps.{goes}
-use Rattle.hwp_core_rule.specs.Views.{with_refs, without, is_hand_of, unpoisoned}
-use Rattle.hwp_core_rule.specs.Words.{Words}
-use Rattle.hwp_core_rule.specs.parts.Places.{IsBare}
-use Rattle.hwp_core_task.specs.declared.Turn.{Turn}
-use Rattle.hwp_core_task.specs.declared.Turn.TheVariants.{Moved, Changed, Waits}
-use Rattle.hwp_core_task.specs.Calls.{IsOnTurn}
-use Rattle.hwp_core_task.specs.Hands.{Hand, hand_of, empty}
-use Rattle.hwp_core_task.specs.Ranks.{stale}
-use Rattle.hwp_core_task.specs.Known.{Saw}
+use Rattle.hwp_core.specs.hwp_geom.declared.Frame.{Frame}
+use Rattle.hwp_core.specs.hwp_geom.declared.Layout.{Layout}
+use Rattle.hwp_core.specs.hwp_geom.declared.Who.{Who}
+use Rattle.hwp_core.specs.hwp_words.Frames.{count_of, is_poisoned}
+use Rattle.hwp_core.specs.hwp_core_rule.declared.SharedWord.TheVariants as places
+use Rattle.hwp_core.specs.hwp_core_rule.declared.Step.{Step}
+use Rattle.hwp_core.specs.hwp_core_rule.declared.Step.TheVariants as steps
+use Rattle.hwp_core.specs.hwp_core_rule.declared.View.{View}
+use Rattle.hwp_core.specs.hwp_core_rule.Steps.{goes}
+use Rattle.hwp_core.specs.hwp_core_rule.Views.{with_refs, without, is_hand_of, unpoisoned}
+use Rattle.hwp_core.specs.hwp_core_rule.Words.{Words}
+use Rattle.hwp_core.specs.hwp_core_rule.parts.Places.{IsBare}
+use Rattle.hwp_core.specs.hwp_core_task.declared.Turn.{Turn}
+use Rattle.hwp_core.specs.hwp_core_task.declared.Turn.TheVariants.{Moved, Changed, Waits}
+use Rattle.hwp_core.specs.hwp_core_task.Calls.{IsOnTurn}
+use Rattle.hwp_core.specs.hwp_core_task.Hands.{Hand, hand_of, empty}
+use Rattle.hwp_core.specs.hwp_core_task.Ranks.{stale}
+use Rattle.hwp_core.specs.hwp_core_task.Known.{Saw}
+use Rattle.hwp_core.specs.hwp_core_task.Turns.{Member}
 use Rattle.hwp_core.specs.Releases.{adopted_lock}
 use Rattle.hwp_claim_frame.specs.declared.grab.Grab.{Grab}
 use Rattle.hwp_claim_frame.specs.declared.grab.GrabAt.{GrabAt}
@@ -162,3 +163,19 @@ cost_with rest back frame (at.Grabbed word) words = rest
 
 abbrev pub cost : Grab → Words → ℕ
 cost g words = cost_with 0 0 g.frame g.at words
+
+-- the task, as the laws of tasks read it
+abbrev pub task : Member Grab
+task = record {
+  who = λ g. g.who;
+  plan = plan;
+  put = λ g. None;
+  bare = λ g. g;
+  shows = λ g found got. Unit {0};
+  next = λ layout g found got after result. (after ≡ next g found) × (result ≡ turn g found);
+  fits = Fits;
+  class = class;
+  cost = cost;
+  aborts = aborts;
+  claims = λ g. None;
+}

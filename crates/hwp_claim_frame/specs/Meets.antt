@@ -1,26 +1,27 @@
 -- A frame in use, met under its locks: the task's states, its steps and what they come to.
 use Rattle.std.specs.Prelude.{◌≡◌, ℕ, ◌+◌, ◌<◌, ◌≤◌, ◌==◌, ◌&&◌, ◌||◌, Bool, true, false, not, cond, [], ◌∷◌, Option, Some, None, is_some, length, slice_index}
-use Rattle.hwp_geom.specs.declared.Frame.{Frame}
-use Rattle.hwp_geom.specs.declared.Layout.{Layout}
-use Rattle.hwp_geom.specs.declared.Page.{Page}
-use Rattle.hwp_geom.specs.declared.Who.{Who}
-use Rattle.hwp_page.specs.History.{BodyValue}
-use Rattle.hwp_words.specs.Frames.{count_of, cycle_of, owner_of, is_handled, is_poisoned}
-use Rattle.hwp_words.specs.Names.{page_named}
-use Rattle.hwp_core_rule.specs.declared.InHand.{InHand}
-use Rattle.hwp_core_rule.specs.declared.Log.{Log}
-use Rattle.hwp_core_rule.specs.declared.Step.{Step}
-use Rattle.hwp_core_rule.specs.declared.Step.TheVariants as steps
-use Rattle.hwp_core_rule.specs.declared.View.{View}
-use Rattle.hwp_core_rule.specs.Logs.{log_of}
-use Rattle.hwp_core_rule.specs.Views.{body_of, more_of}
-use Rattle.hwp_core_rule.specs.Words.{Words}
-use Rattle.hwp_core_task.specs.declared.Turn.{Turn}
-use Rattle.hwp_core_task.specs.declared.Turn.TheVariants.{Moved, Changed, Waits}
-use Rattle.hwp_core_task.specs.Calls.{CanMake, IsOnTurn, logs}
-use Rattle.hwp_core_task.specs.Hands.{Hand, hand_of, hand_after, empty}
-use Rattle.hwp_core_task.specs.Ranks.{stale}
-use Rattle.hwp_core_task.specs.Known.{SawLog}
+use Rattle.hwp_core.specs.hwp_geom.declared.Frame.{Frame}
+use Rattle.hwp_core.specs.hwp_geom.declared.Layout.{Layout}
+use Rattle.hwp_core.specs.hwp_geom.declared.Page.{Page}
+use Rattle.hwp_core.specs.hwp_geom.declared.Who.{Who}
+use Rattle.hwp_core.specs.hwp_page.History.{BodyValue}
+use Rattle.hwp_core.specs.hwp_words.Frames.{count_of, cycle_of, owner_of, is_handled, is_poisoned}
+use Rattle.hwp_core.specs.hwp_words.Names.{page_named}
+use Rattle.hwp_core.specs.hwp_core_rule.declared.InHand.{InHand}
+use Rattle.hwp_core.specs.hwp_core_rule.declared.Log.{Log}
+use Rattle.hwp_core.specs.hwp_core_rule.declared.Step.{Step}
+use Rattle.hwp_core.specs.hwp_core_rule.declared.Step.TheVariants as steps
+use Rattle.hwp_core.specs.hwp_core_rule.declared.View.{View}
+use Rattle.hwp_core.specs.hwp_core_rule.Logs.{log_of}
+use Rattle.hwp_core.specs.hwp_core_rule.Views.{body_of, more_of}
+use Rattle.hwp_core.specs.hwp_core_rule.Words.{Words}
+use Rattle.hwp_core.specs.hwp_core_task.declared.Turn.{Turn}
+use Rattle.hwp_core.specs.hwp_core_task.declared.Turn.TheVariants.{Moved, Changed, Waits}
+use Rattle.hwp_core.specs.hwp_core_task.Calls.{CanMake, IsOnTurn, logs}
+use Rattle.hwp_core.specs.hwp_core_task.Hands.{Hand, hand_of, hand_after, empty}
+use Rattle.hwp_core.specs.hwp_core_task.Ranks.{stale}
+use Rattle.hwp_core.specs.hwp_core_task.Known.{SawLog}
+use Rattle.hwp_core.specs.hwp_core_task.Turns.{Member}
 use Rattle.hwp_core.specs.declared.release.Release.{Release}
 use Rattle.hwp_core.specs.declared.release.ReleaseAt.{ReleaseAt}
 use Rattle.hwp_core.specs.declared.release.ReleaseAt.TheVariants as release_at
@@ -319,3 +320,19 @@ cost_with rest again frame (at.Owned page body) words = rest
 
 abbrev pub cost : Meet → Words → ℕ
 cost m words = cost_with 0 0 m.frame m.at words
+
+-- the task, as the laws of tasks read it
+abbrev pub task : Member Meet
+task = record {
+  who = λ m. m.who;
+  plan = plan;
+  put = put;
+  bare = bare;
+  shows = Shows;
+  next = λ layout m found got after result. (after ≡ next m found got) × (result ≡ turn m found);
+  fits = Fits;
+  class = class;
+  cost = cost;
+  aborts = λ m. false;
+  claims = λ m. None;
+}

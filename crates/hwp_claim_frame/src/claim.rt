@@ -2,35 +2,14 @@ ghost use Rattle.std.specs.Prelude.{◌≡◌, ◌==◌, Option, true, false, co
 ghost use Rattle.hwp_core.specs.Unlocks as unlocks;
 ghost use Rattle.hwp_claim_frame.specs.Grabs as grabs;
 ghost use Rattle.hwp_claim_frame.specs.Meets as meets;
-ghost use Rattle.hwp_claim_frame.specs.Claims.{
-  start,
-  begin,
-  plan,
-  answer,
-  is_owned,
-  IsBody,
-  stopped,
-  stop_turn,
-  poisoned,
-  is_done,
-  looked,
-  grabbed,
-  after_grab,
-  after_meet,
-  after_unlock,
-  next_at,
-  turn_at,
-  ShowsAt,
-};
+ghost use Rattle.hwp_claim_frame.specs.Claims.{start, begin, answer, is_owned, IsBody, stopped, stop_turn, poisoned, is_done, looked, grabbed, after_grab, after_meet, after_unlock, next_at, turn_at, ShowsAt};
 
 use crate::grab::{Grab, GrabAnswer};
 use crate::meet::{Meet, MeetAnswer, is_ended, moved};
-use hwp_core::Unlock;
-use hwp_core_rule::{SharedWord, Step};
-use hwp_core_task::{Ranked, Task, Turn};
-use hwp_geom::{Frame, Layout, Page, Who};
-use hwp_page::Body;
-use hwp_words::{FrameWord, is_stopped};
+use hwp_core::{
+    Body, Frame, FrameWord, Layout, Page, Ranked, SharedWord, Step, Task, Turn, Unlock, Who,
+    is_stopped,
+};
 use std::mem;
 
 /// Poisons a frame, and takes it from those that use it, or could: out of the free ones, or under its locks (Linux
@@ -344,22 +323,9 @@ fn settled(
 }
 
 impl Task for Claim {
-    ghost use Rattle.std.specs.Prelude.{◌≡◌};
-    ghost use Rattle.hwp_claim_frame.specs.Claims.{plan, put, bare, next, turn, Shows, Fits};
+    ghost use Rattle.hwp_claim_frame.specs.Claims as claims;
 
-    ghost who = { λ c. c.who };
-
-    ghost plan = { λ c. plan c };
-
-    ghost put = { λ c. put c };
-
-    ghost bare = { λ c. bare c };
-
-    ghost shows = { λ c found got. Shows c found got };
-
-    ghost next = { λ layout c found got after result. (after ≡ next c found got) × (result ≡ turn c found) };
-
-    ghost fits = { λ layout view c. Fits layout view c };
+    ghost task = { claims.task };
 
     fn who(&self) -> Who {
         self.who
@@ -419,16 +385,6 @@ impl Task for Claim {
 }
 
 impl Ranked for Claim {
-    ghost use Rattle.hwp_claim_frame.specs.Claims.{class, cost, aborts, claims};
-
-    ghost class_of = { λ c. class c };
-
-    ghost cost = { λ c words. cost c words };
-
-    ghost aborts = { λ c. aborts c };
-
-    ghost claims = { λ c. claims c };
-
     fn class(&self) -> u8 {
         match &self.at {
             ClaimAt::Count { .. } | ClaimAt::Look { .. } => 3,

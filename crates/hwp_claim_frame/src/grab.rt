@@ -1,9 +1,6 @@
 ghost use Rattle.std.specs.Prelude.{◌≡◌, is_some, is_none};
 
-use hwp_core_rule::{SharedWord, Step};
-use hwp_core_task::{Ranked, Task, Turn};
-use hwp_geom::{Frame, Layout, Who};
-use hwp_page::Body;
+use hwp_core::{Body, Frame, Layout, Ranked, SharedWord, Step, Task, Turn, Who};
 
 /// Takes a poisoned frame out of the free ones, so that nothing is ever put into it: the frame then has one reference, and
 /// the processor has its lock (Linux take_page_off_buddy, within memory_failure).
@@ -76,22 +73,9 @@ impl Grab {
 }
 
 impl Task for Grab {
-    ghost use Rattle.std.specs.Prelude.{◌≡◌, None};
-    ghost use Rattle.hwp_claim_frame.specs.Grabs.{plan, next, turn, Fits};
+    ghost use Rattle.hwp_claim_frame.specs.Grabs as grabs;
 
-    ghost who = { λ g. g.who };
-
-    ghost plan = { λ g. plan g };
-
-    ghost put = { λ g. None };
-
-    ghost bare = { λ g. g };
-
-    ghost shows = { λ g found got. Unit {0} };
-
-    ghost next = { λ layout g found got after result. (after ≡ next g found) × (result ≡ turn g found) };
-
-    ghost fits = { λ layout view g. Fits layout view g };
+    ghost task = { grabs.task };
 
     fn who(&self) -> Who {
         self.who
@@ -156,17 +140,6 @@ impl Task for Grab {
 }
 
 impl Ranked for Grab {
-    ghost use Rattle.std.specs.Prelude.{None};
-    ghost use Rattle.hwp_claim_frame.specs.Grabs.{class, cost, aborts};
-
-    ghost class_of = { λ g. class g };
-
-    ghost cost = { λ g words. cost g words };
-
-    ghost aborts = { λ g. aborts g };
-
-    ghost claims = { λ g. None };
-
     fn class(&self) -> u8 {
         match self.at {
             GrabAt::LoadAvailable | GrabAt::Reserve { .. } | GrabAt::LookAgain => 4,

@@ -1,11 +1,6 @@
 ghost use Rattle.std.specs.Prelude.{◌≡◌, Option, is_some, is_none, true, cond};
 
-use hwp_core::Release;
-use hwp_core_rule::Step;
-use hwp_core_task::{Ranked, Task, Turn};
-use hwp_geom::{Frame, Layout, Page, Who};
-use hwp_page::Body;
-use hwp_words::FrameWord;
+use hwp_core::{Body, Frame, FrameWord, Layout, Page, Ranked, Release, Step, Task, Turn, Who};
 use std::mem;
 
 /// Meets a frame that is in use: takes a reference to it and its lock, and before that the lock of the page that is in it, if
@@ -280,7 +275,7 @@ fn released(release: Release, ended: bool) -> MeetAt
 }
 
 ghost use Rattle.std.specs.Prelude.{◌==◌, false};
-ghost use Rattle.hwp_core_task.specs.declared.Turn.TheVariants.{Changed, Moved, Waits};
+ghost use Rattle.hwp_core.specs.hwp_core_task.declared.Turn.TheVariants.{Changed, Moved, Waits};
 ghost use Rattle.hwp_claim_frame.specs.declared.meet.MeetAt.TheVariants.{
   Back,
   LockFree,
@@ -405,22 +400,9 @@ fn give_back(who: Who, frame: Frame, _body: Option<Body>, ended: bool) -> MeetAt
 }
 
 impl Task for Meet {
-    ghost use Rattle.std.specs.Prelude.{◌≡◌};
-    ghost use Rattle.hwp_claim_frame.specs.Meets.{plan, put, bare, next, turn, Shows, Fits};
+    ghost use Rattle.hwp_claim_frame.specs.Meets as meets;
 
-    ghost who = { λ m. m.who };
-
-    ghost plan = { λ m. plan m };
-
-    ghost put = { λ m. put m };
-
-    ghost bare = { λ m. bare m };
-
-    ghost shows = { λ m found got. Shows m found got };
-
-    ghost next = { λ layout m found got after result. (after ≡ next m found got) × (result ≡ turn m found) };
-
-    ghost fits = { λ layout view m. Fits layout view m };
+    ghost task = { meets.task };
 
     fn who(&self) -> Who {
         self.who
@@ -471,17 +453,6 @@ impl Task for Meet {
 }
 
 impl Ranked for Meet {
-    ghost use Rattle.std.specs.Prelude.{false, None};
-    ghost use Rattle.hwp_claim_frame.specs.Meets.{class, cost};
-
-    ghost class_of = { λ m. class m };
-
-    ghost cost = { λ m words. cost m words };
-
-    ghost aborts = { λ m. false };
-
-    ghost claims = { λ m. None };
-
     fn class(&self) -> u8 {
         match &self.at {
             MeetAt::GetRef { .. }

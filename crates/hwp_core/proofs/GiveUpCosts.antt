@@ -1,12 +1,12 @@
 -- The cost of a command given up falls.
-use Rattle.std.proofs.Common.{◌≡◌, ℕ, ◌+◌, ◌<◌, ◌≤◌, Bool, true, false, cond, Some, None, is_none, refl, sym, ap, ◌∙◌, subst, arith}
+use Rattle.std.proofs.Common.{◌≡◌, ℕ, ◌+◌, ◌<◌, ◌≤◌, Bool, true, false, cond, Some, is_none, refl, sym, ap, ◌∙◌, subst, arith}
 use Rattle.std.proofs.lemmas.Bool.{both_ways}
 use Rattle.std.proofs.lemmas.Option.{none-some, same_Some}
-use Rattle.hwp_core_rule.specs.declared.Step.{Step}
-use Rattle.hwp_core_rule.specs.declared.Step.TheVariants as steps
-use Rattle.hwp_core_rule.specs.Lasting.{IsMild}
-use Rattle.hwp_core_rule.specs.Words.{Words}
-use Rattle.hwp_core_task.specs.Ranks.{Member, member, IsRanked, is_waits, words_at}
+use Rattle.hwp_core_task.specs.hwp_core_rule.declared.Step.{Step}
+use Rattle.hwp_core_task.specs.hwp_core_rule.declared.Step.TheVariants as steps
+use Rattle.hwp_core_task.specs.hwp_core_rule.Lasting.{IsMild}
+use Rattle.hwp_core_task.specs.hwp_core_rule.Words.{Words}
+use Rattle.hwp_core_task.specs.Ranks.{IsRanked, is_waits, words_at}
 use Rattle.hwp_core_task.proofs.StepRanks.{rank-of}
 use Rattle.hwp_core.specs.declared.give_up.GiveUp.{GiveUp}
 use Rattle.hwp_core.specs.declared.give_up.GiveUpAt.{GiveUpAt}
@@ -86,11 +86,8 @@ give-up-mild s step is = which s.at is
     which give_up_at.GiveUp e = subst IsMild (same_Some (steps.GiveUp) step e) tt
     which give_up_at.Over e = absurd (none-some step e)
 
-abbrev give-up-member : Member GiveUp
-give-up-member = member (λ g. g.who) give_ups.plan give_ups.put give_ups.bare (λ layout g found got after result. (after ≡ give_ups.next g found) × (result ≡ give_ups.turn g)) give_ups.Fits give_ups.class give_ups.cost (λ g. false) (λ g. None)
-
-pub give-up-ranked : IsRanked give-up-member
-give-up-ranked = rank-of give-up-member (λ s. refl) give-up-class (λ layout a seat s rule fits. let few : give_ups.cost s (words_at layout a) ≤ 6 = give-up-small (words_at layout a) s in omega arith)
+pub give-up-ranked : IsRanked give_ups.task
+give-up-ranked = rank-of give_ups.task (λ s. refl) give-up-class (λ layout a seat s rule fits. let few : give_ups.cost s (words_at layout a) ≤ 6 = give-up-small (words_at layout a) s in omega arith)
     (λ layout seat a b s t turn made goes. subst (λ (x : GiveUp). give_ups.cost x (words_at layout b) < give_ups.cost s (words_at layout a)) (sym made.follows.0)
     (give-up-falls (words_at layout a) (words_at layout b) s made.step made.found made.planned))
     (λ layout seat a b s t turn made is quiet. absurd (both_ways true (sym is ∙ ap is_waits made.follows.1 ∙ give-up-goes (give_ups.bare s)) refl))

@@ -12,3 +12,7 @@ pub mod GiveUpLaws
 pub mod ReferCosts
 pub mod GiveUpCosts
 pub mod TaskTells
+pub use Rattle.hwp_core_task.proofs.of_hwp_core_rule as of_hwp_core_rule
+pub use Rattle.hwp_core_task.proofs as of_hwp_core_task
+pub use Rattle.hwp_core_task.proofs.of_hwp_kill as of_hwp_kill
+pub use Rattle.hwp_core_task.proofs.of_hwp_words as of_hwp_words

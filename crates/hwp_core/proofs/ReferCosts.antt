@@ -1,17 +1,17 @@
 -- The cost of more references falls.
-use Rattle.std.proofs.Common.{◌≡◌, ℕ, ◌+◌, ◌*◌, ◌%◌, ◌^◌, ◌<◌, ◌≤◌, ◌==◌, Bool, true, false, cond, Some, None, slice_index, refl, sym, ap, ◌∙◌, subst, arith}
+use Rattle.std.proofs.Common.{◌≡◌, ℕ, ◌+◌, ◌*◌, ◌%◌, ◌^◌, ◌<◌, ◌≤◌, ◌==◌, Bool, true, false, cond, Some, slice_index, refl, sym, ap, ◌∙◌, subst, arith}
 use Rattle.std.proofs.lemmas.Bool.{both_ways}
 use Rattle.std.proofs.lemmas.Option.{none-some, same_Some}
-use Rattle.hwp_geom.specs.declared.Frame.{Frame}
-use Rattle.hwp_core_rule.specs.declared.SharedWord.TheVariants as places
-use Rattle.hwp_core_rule.specs.declared.Step.{Step}
-use Rattle.hwp_core_rule.specs.declared.Step.TheVariants as steps
-use Rattle.hwp_core_rule.specs.Lasting.{IsMild}
-use Rattle.hwp_core_rule.specs.Steps.{place_of, word_after}
-use Rattle.hwp_core_rule.specs.Words.{Words, read}
-use Rattle.hwp_core_rule.proofs.Lists.{same-number}
+use Rattle.hwp_core_task.specs.hwp_geom.declared.Frame.{Frame}
+use Rattle.hwp_core_task.specs.hwp_core_rule.declared.SharedWord.TheVariants as places
+use Rattle.hwp_core_task.specs.hwp_core_rule.declared.Step.{Step}
+use Rattle.hwp_core_task.specs.hwp_core_rule.declared.Step.TheVariants as steps
+use Rattle.hwp_core_task.specs.hwp_core_rule.Lasting.{IsMild}
+use Rattle.hwp_core_task.specs.hwp_core_rule.Steps.{place_of, word_after}
+use Rattle.hwp_core_task.specs.hwp_core_rule.Words.{Words, read}
+use Rattle.hwp_core_task.proofs.of_hwp_core_rule.Lists.{same-number}
 use Rattle.hwp_core_task.specs.declared.Turn.TheVariants.{Moved, Changed}
-use Rattle.hwp_core_task.specs.Ranks.{Member, member, IsRanked, is_waits, stale, words_at}
+use Rattle.hwp_core_task.specs.Ranks.{IsRanked, is_waits, stale, words_at}
 use Rattle.hwp_core_task.proofs.StepRanks.{met, words-kept, rank-of}
 use Rattle.hwp_core.specs.declared.refer.Refer.{Refer}
 use Rattle.hwp_core.specs.declared.refer.ReferAt.{ReferAt}
@@ -71,11 +71,8 @@ refer-mild s step is = which s.at is
     which (refer_at.Get seen) e = subst IsMild (same_Some (steps.GetRef s.frame seen s.count) step e) tt
     which refer_at.Over e = absurd (none-some step e)
 
-abbrev refer-member : Member Refer
-refer-member = member (λ r. r.who) refers.plan (λ r. None) (λ r. r) (λ layout r found got after result. (after ≡ refers.next r found) × (result ≡ refers.turn r found)) refers.Fits (λ r. 4) refers.cost (λ r. false) (λ r. None)
-
-pub refer-ranked : IsRanked refer-member
-refer-ranked = rank-of refer-member (λ s. refl) (λ s. (omega arith, omega arith)) (λ layout a seat s rule fits. let few : refers.cost s (words_at layout a) ≤ 4097 = refer-small (words_at layout a) s in omega arith)
+pub refer-ranked : IsRanked refers.task
+refer-ranked = rank-of refers.task (λ s. refl) (λ s. (omega arith, omega arith)) (λ layout a seat s rule fits. let few : refers.cost s (words_at layout a) ≤ 4097 = refer-small (words_at layout a) s in omega arith)
     (λ layout seat a b s t turn made goes. subst (λ (x : Refer). refers.cost x (words_at layout b) < refers.cost s (words_at layout a)) (sym made.follows.0)
     (refer-falls (words_at layout a) (words_at layout b) s made.step made.found made.planned (met made) (words-kept made)))
     (λ layout seat a b s t turn made is quiet. absurd (both_ways true (sym is ∙ ap is_waits made.follows.1 ∙ refer-goes s made.found) refl))

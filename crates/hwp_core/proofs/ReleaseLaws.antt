@@ -1,18 +1,18 @@
 -- The laws of `Release`.
 use Rattle.std.proofs.Common.{◌≡◌, ℕ, ◌+◌, ◌<◌, Bool, true, false, cond, List, [], ◌∷◌, ◌++◌, Option, Some, None, length, refl, sym, ap, ◌∙◌, subst, arith}
 use Rattle.std.proofs.lemmas.Option.{none-some}
-use Rattle.hwp_geom.specs.declared.Layout.{Layout}
-use Rattle.hwp_page.specs.History.{BodyValue}
-use Rattle.hwp_words.specs.Frames.{is_poisoned}
-use Rattle.hwp_core_rule.specs.declared.FrameInHand.{FrameInHand}
-use Rattle.hwp_core_rule.specs.declared.FrameLock.{FrameLock}
-use Rattle.hwp_core_rule.specs.declared.Step.{Step}
-use Rattle.hwp_core_rule.specs.declared.View.{View}
-use Rattle.hwp_core_rule.specs.Lists.{SomeMember}
-use Rattle.hwp_core_rule.specs.Steps.{is_last}
-use Rattle.hwp_core_rule.specs.Views.{with_refs, without, is_hand_of, hand_found}
-use Rattle.hwp_core_rule.proofs.AdoptedFrames.{lock-poisoned, adopted-retires}
-use Rattle.hwp_core_rule.proofs.Lists.{some-last}
+use Rattle.hwp_core_task.specs.hwp_geom.declared.Layout.{Layout}
+use Rattle.hwp_core_task.specs.hwp_page.History.{BodyValue}
+use Rattle.hwp_core_task.specs.hwp_words.Frames.{is_poisoned}
+use Rattle.hwp_core_task.specs.hwp_core_rule.declared.FrameInHand.{FrameInHand}
+use Rattle.hwp_core_task.specs.hwp_core_rule.declared.FrameLock.{FrameLock}
+use Rattle.hwp_core_task.specs.hwp_core_rule.declared.Step.{Step}
+use Rattle.hwp_core_task.specs.hwp_core_rule.declared.View.{View}
+use Rattle.hwp_core_task.specs.hwp_core_rule.Lists.{SomeMember}
+use Rattle.hwp_core_task.specs.hwp_core_rule.Steps.{is_last}
+use Rattle.hwp_core_task.specs.hwp_core_rule.Views.{with_refs, without, is_hand_of, hand_found}
+use Rattle.hwp_core_task.proofs.of_hwp_core_rule.AdoptedFrames.{lock-poisoned, adopted-retires}
+use Rattle.hwp_core_task.proofs.of_hwp_core_rule.Lists.{some-last}
 use Rattle.hwp_core_task.specs.declared.Turn.{Turn}
 use Rattle.hwp_core_task.specs.declared.Turn.TheVariants.{Moved}
 use Rattle.hwp_core.specs.declared.release.Release.{Release}

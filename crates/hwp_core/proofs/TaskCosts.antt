@@ -2,27 +2,27 @@
 use Rattle.std.proofs.Common.{◌≡◌, ℕ, ◌+◌, ◌*◌, ◌%◌, ◌^◌, ◌<◌, ◌≤◌, ◌==◌, Bool, true, false, cond, Option, Some, None, is_some, slice_index, refl, sym, ap, ◌∙◌, subst, arith}
 use Rattle.std.proofs.lemmas.Bool.{both_ways}
 use Rattle.std.proofs.lemmas.Option.{none-some, same_Some}
-use Rattle.hwp_geom.specs.declared.Frame.{Frame}
-use Rattle.hwp_geom.specs.declared.Layout.{Layout}
-use Rattle.hwp_geom.specs.declared.Who.{Who}
-use Rattle.hwp_page.specs.History.{BodyValue}
-use Rattle.hwp_words.specs.Frames.{lock_of, is_poisoned}
-use Rattle.hwp_core_rule.specs.declared.SharedWord.TheVariants as places
-use Rattle.hwp_core_rule.specs.declared.State.{State}
-use Rattle.hwp_core_rule.specs.declared.Step.{Step}
-use Rattle.hwp_core_rule.specs.declared.Step.TheVariants as steps
-use Rattle.hwp_core_rule.specs.Lasting.{IsMild}
-use Rattle.hwp_core_rule.specs.Steps.{place_of, word_after, is_last}
-use Rattle.hwp_core_rule.specs.Views.{frame_in}
-use Rattle.hwp_core_rule.specs.Words.{Words, read, index}
-use Rattle.hwp_core_rule.proofs.Lists.{same-number}
-use Rattle.hwp_core_rule.proofs.MetWords.{held-word, page-free, frame-free}
+use Rattle.hwp_core_task.specs.hwp_geom.declared.Frame.{Frame}
+use Rattle.hwp_core_task.specs.hwp_geom.declared.Layout.{Layout}
+use Rattle.hwp_core_task.specs.hwp_geom.declared.Who.{Who}
+use Rattle.hwp_core_task.specs.hwp_page.History.{BodyValue}
+use Rattle.hwp_core_task.specs.hwp_words.Frames.{lock_of, is_poisoned}
+use Rattle.hwp_core_task.specs.hwp_core_rule.declared.SharedWord.TheVariants as places
+use Rattle.hwp_core_task.specs.hwp_core_rule.declared.State.{State}
+use Rattle.hwp_core_task.specs.hwp_core_rule.declared.Step.{Step}
+use Rattle.hwp_core_task.specs.hwp_core_rule.declared.Step.TheVariants as steps
+use Rattle.hwp_core_task.specs.hwp_core_rule.Lasting.{IsMild}
+use Rattle.hwp_core_task.specs.hwp_core_rule.Steps.{place_of, word_after, is_last}
+use Rattle.hwp_core_task.specs.hwp_core_rule.Views.{frame_in}
+use Rattle.hwp_core_task.specs.hwp_core_rule.Words.{Words, read, index}
+use Rattle.hwp_core_task.proofs.of_hwp_core_rule.Lists.{same-number}
+use Rattle.hwp_core_task.proofs.of_hwp_core_rule.MetWords.{held-word, page-free, frame-free}
 use Rattle.hwp_core_task.proofs.MadeEntries.{ListsNone}
 use Rattle.hwp_core_task.specs.declared.Turn.{Turn}
 use Rattle.hwp_core_task.specs.declared.Turn.TheVariants.{Moved, Changed, Waits}
 use Rattle.hwp_core_task.specs.Boards.{view_of}
 use Rattle.hwp_core_task.specs.Hands.{Hand}
-use Rattle.hwp_core_task.specs.Ranks.{Member, member, Made, CostFalls, IsRanked, Quiet, is_waits, stale, words_at}
+use Rattle.hwp_core_task.specs.Ranks.{Made, CostFalls, IsRanked, Quiet, is_waits, stale, words_at}
 use Rattle.hwp_core_task.proofs.StepRanks.{met, words-kept, steps-on, no-page, no-lock, rank-of}
 use Rattle.hwp_core.specs.declared.hold.Hold.{Hold}
 use Rattle.hwp_core.specs.declared.hold.HoldAt.{HoldAt}
@@ -125,11 +125,8 @@ pin-lists s step is = which s.at is
     which (pin_at.Held word) e = absurd (none-some step e)
     which (pin_at.Gone word) e = absurd (none-some step e)
 
-abbrev pin-member : Member Pin
-pin-member = member (λ p. p.who) pins.plan (λ p. None) (λ p. p) (λ layout p found got after result. (after ≡ pins.next p found) × (result ≡ pins.turn p found)) pins.Fits (λ p. 4) pins.cost (λ p. false) (λ p. None)
-
-pub pin-ranked : IsRanked pin-member
-pin-ranked = rank-of pin-member (λ s. refl) (λ s. (omega arith, omega arith)) (λ layout a seat s rule fits. let few : pins.cost s (words_at layout a) ≤ 4097 = pin-small (words_at layout a) s in omega arith)
+pub pin-ranked : IsRanked pins.task
+pin-ranked = rank-of pins.task (λ s. refl) (λ s. (omega arith, omega arith)) (λ layout a seat s rule fits. let few : pins.cost s (words_at layout a) ≤ 4097 = pin-small (words_at layout a) s in omega arith)
     (λ layout seat a b s t turn made goes. subst (λ (x : Pin). pins.cost x (words_at layout b) < pins.cost s (words_at layout a)) (sym made.follows.0)
     (pin-falls (words_at layout a) (words_at layout b) s made.step made.found made.planned (met made) (words-kept made)))
     (λ layout seat a b s t turn made is quiet. absurd (both_ways true (sym is ∙ ap is_waits made.follows.1 ∙ pin-goes s made.found) refl))
@@ -199,11 +196,8 @@ release-lists s step is = which s.at is
     which (release_at.Retire word) e = subst ListsNone (same_Some (steps.Retire s.frame) step e) tt
     which (release_at.Back word) e = absurd (none-some step e)
 
-abbrev release-member : Member Release
-release-member = member (λ r. r.who) releases.plan (λ r. None) (λ r. r) (λ layout r found got after result. (after ≡ releases.next r found) × (result ≡ Moved)) releases.Fits releases.class releases.cost (λ r. false) (λ r. None)
-
-pub release-ranked : IsRanked release-member
-release-ranked = rank-of release-member (λ s. refl) release-class (λ layout a seat s rule fits. let few : releases.cost s (words_at layout a) ≤ 3 = release-small (words_at layout a) s in omega arith)
+pub release-ranked : IsRanked releases.task
+release-ranked = rank-of releases.task (λ s. refl) release-class (λ layout a seat s rule fits. let few : releases.cost s (words_at layout a) ≤ 3 = release-small (words_at layout a) s in omega arith)
     (λ layout seat a b s t turn made goes. subst (λ (x : Release). releases.cost x (words_at layout b) < releases.cost s (words_at layout a)) (sym made.follows.0)
     (release-falls (words_at layout a) (words_at layout b) s made.step made.found made.planned))
     (λ layout seat a b s t turn made is quiet. absurd (both_ways true (sym is ∙ ap is_waits made.follows.1) refl))
@@ -295,11 +289,8 @@ hold-lists s step is = which s.at is
     which (hold_at.LockFrame frame) e = subst ListsNone (same_Some (steps.LockFrame frame) step e) tt
     which (hold_at.Held frame body) e = absurd (none-some step e)
 
-abbrev hold-member : Member Hold
-hold-member = member (λ h. h.who) holds.plan (λ h. None) (λ h. h) (λ layout h found got after result. (after ≡ holds.next h found got) × (result ≡ holds.turn h found)) holds.Fits holds.class holds.cost (λ h. false) (λ h. None)
-
-module _ {layout : Layout} {seat : ℕ} {a b : State} {s t : Hold} {turn : Turn} (made : Made hold-member layout seat a b s t turn) where
-  held-cost-falls : is_waits turn ≡ false → CostFalls hold-member layout a b s t
+module _ {layout : Layout} {seat : ℕ} {a b : State} {s t : Hold} {turn : Turn} (made : Made holds.task layout seat a b s t turn) where
+  held-cost-falls : is_waits turn ≡ false → CostFalls holds.task layout a b s t
   held-cost-falls goes = subst (λ (x : Hold). holds.cost x (words_at layout b) < holds.cost s (words_at layout a)) (sym made.follows.0)
       (hold-falls (words_at layout a) (words_at layout b) s made.step made.found made.got made.planned (holding.both layout (view_of a seat) _ s made.step made.found made.got made.fits made.planned (steps-on made)).0 (met made) (words-kept made)
       (sym (ap is_waits made.follows.1) ∙ goes))
@@ -330,8 +321,8 @@ module _ {layout : Layout} {seat : ℕ} {a b : State} {s t : Hold} {turn : Turn}
           met-at e = made.move.met ∙ ap (λ (x : Step). slice_index a.words (index layout (place_of x))) (sym (same_Some (steps.LockFrame frame) made.step e))
       which (hold_at.Held frame body) e fits waits quiet = none-some made.step e
 
-pub hold-ranked : IsRanked hold-member
-hold-ranked = rank-of hold-member (λ s. refl) hold-class (λ layout a seat s rule fits. let few : holds.cost s (words_at layout a) ≤ 4098 = hold-small (words_at layout a) s in omega arith)
+pub hold-ranked : IsRanked holds.task
+hold-ranked = rank-of holds.task (λ s. refl) hold-class (λ layout a seat s rule fits. let few : holds.cost s (words_at layout a) ≤ 4098 = hold-small (words_at layout a) s in omega arith)
     (λ layout seat a b s t turn made goes. held-cost-falls made goes) (λ layout seat a b s t turn made waits quiet. absurd (never-waits made waits quiet))
     (λ s. refl) hold-mild
 
@@ -388,11 +379,8 @@ unhold-mild s step is = which s.at is
     which (unhold_at.UnlockPage body) e = subst IsMild (same_Some (steps.UnlockPage s.page) step e) tt
     which unhold_at.Over e = absurd (none-some step e)
 
-abbrev unhold-member : Member Unhold
-unhold-member = member (λ u. u.who) unholds.plan unholds.put unholds.bare (λ layout u found got after result. (after ≡ unholds.next u found) × (result ≡ Moved)) unholds.Fits unholds.class unholds.cost (λ u. false) (λ u. None)
-
-pub unhold-ranked : IsRanked unhold-member
-unhold-ranked = rank-of unhold-member (λ s. refl) unhold-class (λ layout a seat s rule fits. let few : unholds.cost s (words_at layout a) ≤ 5 = unhold-small (words_at layout a) s in omega arith)
+pub unhold-ranked : IsRanked unholds.task
+unhold-ranked = rank-of unholds.task (λ s. refl) unhold-class (λ layout a seat s rule fits. let few : unholds.cost s (words_at layout a) ≤ 5 = unhold-small (words_at layout a) s in omega arith)
     (λ layout seat a b s t turn made goes. subst (λ (x : Unhold). unholds.cost x (words_at layout b) < unholds.cost s (words_at layout a)) (sym made.follows.0)
     (unhold-falls (words_at layout a) (words_at layout b) s made.step made.found made.planned))
     (λ layout seat a b s t turn made is quiet. absurd (both_ways true (sym is ∙ ap is_waits made.follows.1) refl))

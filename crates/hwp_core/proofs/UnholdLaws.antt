@@ -2,30 +2,30 @@
 use Rattle.std.proofs.Common.{◌≡◌, ◌≢◌, length, ℕ, ◌+◌, ◌-◌, ◌<◌, ◌≤◌, ◌==◌, nat_le, Bool, true, false, cond, List, [], ◌∷◌, ◌++◌, Option, Some, None, is_none, slice_get, refl, sym, ap, ◌∙◌, subst, arith}
 use Rattle.std.proofs.lemmas.Bool.{both_ways, le-leb}
 use Rattle.std.proofs.lemmas.Option.{none-some, same_Some}
-use Rattle.hwp_geom.specs.declared.Frame.{Frame}
-use Rattle.hwp_geom.specs.declared.Layout.{Layout}
-use Rattle.hwp_geom.specs.declared.Page.{Page}
-use Rattle.hwp_geom.specs.declared.Who.{Who}
-use Rattle.hwp_page.specs.History.{BodyValue}
-use Rattle.hwp_words.specs.Frames.{is_poisoned}
-use Rattle.hwp_core_rule.specs.declared.FrameLock.{FrameLock}
-use Rattle.hwp_core_rule.specs.declared.InHand.{InHand}
-use Rattle.hwp_core_rule.specs.declared.Log.{Log}
-use Rattle.hwp_core_rule.specs.declared.PageLock.{PageLock}
-use Rattle.hwp_core_rule.specs.declared.Ref.{Ref}
-use Rattle.hwp_core_rule.specs.declared.Step.{Step}
-use Rattle.hwp_core_rule.specs.declared.Step.TheVariants as steps
-use Rattle.hwp_core_rule.specs.declared.View.{View}
-use Rattle.hwp_core_rule.specs.Lists.{EachMember}
-use Rattle.hwp_core_rule.specs.Asks.{CanUnlockFrame, CanUnlockPage}
-use Rattle.hwp_core_rule.specs.Steps.{is_last}
-use Rattle.hwp_core_rule.specs.Views.{without, is_lock_of, is_page_lock_of, is_body_of, hand_found, less_refs, refs_on, locks_on}
+use Rattle.hwp_core_task.specs.hwp_geom.declared.Frame.{Frame}
+use Rattle.hwp_core_task.specs.hwp_geom.declared.Layout.{Layout}
+use Rattle.hwp_core_task.specs.hwp_geom.declared.Page.{Page}
+use Rattle.hwp_core_task.specs.hwp_geom.declared.Who.{Who}
+use Rattle.hwp_core_task.specs.hwp_page.History.{BodyValue}
+use Rattle.hwp_core_task.specs.hwp_words.Frames.{is_poisoned}
+use Rattle.hwp_core_task.specs.hwp_core_rule.declared.FrameLock.{FrameLock}
+use Rattle.hwp_core_task.specs.hwp_core_rule.declared.InHand.{InHand}
+use Rattle.hwp_core_task.specs.hwp_core_rule.declared.Log.{Log}
+use Rattle.hwp_core_task.specs.hwp_core_rule.declared.PageLock.{PageLock}
+use Rattle.hwp_core_task.specs.hwp_core_rule.declared.Ref.{Ref}
+use Rattle.hwp_core_task.specs.hwp_core_rule.declared.Step.{Step}
+use Rattle.hwp_core_task.specs.hwp_core_rule.declared.Step.TheVariants as steps
+use Rattle.hwp_core_task.specs.hwp_core_rule.declared.View.{View}
+use Rattle.hwp_core_task.specs.hwp_core_rule.Lists.{EachMember}
+use Rattle.hwp_core_task.specs.hwp_core_rule.Asks.{CanUnlockFrame, CanUnlockPage}
+use Rattle.hwp_core_task.specs.hwp_core_rule.Steps.{is_last}
+use Rattle.hwp_core_task.specs.hwp_core_rule.Views.{without, is_lock_of, is_page_lock_of, is_body_of, hand_found, less_refs, refs_on, locks_on}
 use Rattle.std.specs.List.{find}
-use Rattle.hwp_core_rule.proofs.Lists.{same-number}
-use Rattle.hwp_core_rule.proofs.Refs.{refs-cons}
+use Rattle.hwp_core_task.proofs.of_hwp_core_rule.Lists.{same-number}
+use Rattle.hwp_core_task.proofs.of_hwp_core_rule.Refs.{refs-cons}
 use Rattle.hwp_core_task.specs.declared.Turn.{Turn}
 use Rattle.hwp_core_task.specs.declared.Turn.TheVariants.{Moved}
-use Rattle.hwp_core_rule.specs.Logs.{log_of}
+use Rattle.hwp_core_task.specs.hwp_core_rule.Logs.{log_of}
 use Rattle.hwp_core.specs.declared.release.Release.{Release}
 use Rattle.hwp_core.specs.declared.release.ReleaseAt.{ReleaseAt}
 use Rattle.hwp_core.specs.declared.release.ReleaseAt.TheVariants as release_at

@@ -2,29 +2,29 @@
 use Rattle.std.proofs.Common.{◌≡◌, ℕ, ◌+◌, ◌<◌, ◌≤◌, Bool, true, false, cond, [], ◌∷◌, ◌++◌, Option, Some, None, is_none, length, slice_get, refl, sym, ap, ◌∙◌, subst, arith}
 use Rattle.std.proofs.lemmas.Bool.{both_ways}
 use Rattle.std.proofs.lemmas.Option.{none-some, same_Some}
-use Rattle.hwp_geom.specs.declared.Frame.{Frame}
-use Rattle.hwp_geom.specs.declared.Layout.{Layout}
-use Rattle.hwp_geom.specs.declared.Page.{Page}
-use Rattle.hwp_geom.specs.declared.Who.{Who}
-use Rattle.hwp_page.specs.History.{BodyValue}
-use Rattle.hwp_words.specs.Frames.{is_poisoned}
-use Rattle.hwp_core_rule.specs.declared.FrameLock.{FrameLock}
-use Rattle.hwp_core_rule.specs.declared.InHand.{InHand}
-use Rattle.hwp_core_rule.specs.declared.Log.{Log}
-use Rattle.hwp_core_rule.specs.declared.Step.{Step}
-use Rattle.hwp_core_rule.specs.declared.Step.TheVariants as steps
-use Rattle.hwp_core_rule.specs.declared.View.{View}
-use Rattle.hwp_core_rule.specs.Asks.{CanUnlockFrame}
-use Rattle.hwp_core_rule.specs.Lasting.{IsMild}
-use Rattle.hwp_core_rule.specs.Steps.{is_last}
-use Rattle.hwp_core_rule.specs.Views.{without, is_lock_of, less_refs, refs_on, locks_on}
-use Rattle.hwp_core_rule.specs.Words.{Words}
-use Rattle.hwp_core_rule.proofs.Lists.{same-number}
+use Rattle.hwp_core_task.specs.hwp_geom.declared.Frame.{Frame}
+use Rattle.hwp_core_task.specs.hwp_geom.declared.Layout.{Layout}
+use Rattle.hwp_core_task.specs.hwp_geom.declared.Page.{Page}
+use Rattle.hwp_core_task.specs.hwp_geom.declared.Who.{Who}
+use Rattle.hwp_core_task.specs.hwp_page.History.{BodyValue}
+use Rattle.hwp_core_task.specs.hwp_words.Frames.{is_poisoned}
+use Rattle.hwp_core_task.specs.hwp_core_rule.declared.FrameLock.{FrameLock}
+use Rattle.hwp_core_task.specs.hwp_core_rule.declared.InHand.{InHand}
+use Rattle.hwp_core_task.specs.hwp_core_rule.declared.Log.{Log}
+use Rattle.hwp_core_task.specs.hwp_core_rule.declared.Step.{Step}
+use Rattle.hwp_core_task.specs.hwp_core_rule.declared.Step.TheVariants as steps
+use Rattle.hwp_core_task.specs.hwp_core_rule.declared.View.{View}
+use Rattle.hwp_core_task.specs.hwp_core_rule.Asks.{CanUnlockFrame}
+use Rattle.hwp_core_task.specs.hwp_core_rule.Lasting.{IsMild}
+use Rattle.hwp_core_task.specs.hwp_core_rule.Steps.{is_last}
+use Rattle.hwp_core_task.specs.hwp_core_rule.Views.{without, is_lock_of, less_refs, refs_on, locks_on}
+use Rattle.hwp_core_task.specs.hwp_core_rule.Words.{Words}
+use Rattle.hwp_core_task.proofs.of_hwp_core_rule.Lists.{same-number}
 use Rattle.hwp_core_task.specs.declared.Turn.{Turn}
 use Rattle.hwp_core_task.specs.declared.Turn.TheVariants.{Moved}
 use Rattle.hwp_core_task.specs.Calls.{CanMake, FitsLayout, Steps, IsOnTurn, logs}
 use Rattle.hwp_core_task.specs.Hands.{Hand, hand_of, empty, putting}
-use Rattle.hwp_core_task.specs.Ranks.{Member, member, IsRanked, is_waits, words_at}
+use Rattle.hwp_core_task.specs.Ranks.{IsRanked, is_waits, words_at}
 use Rattle.hwp_core_task.proofs.StepRanks.{rank-of}
 use Rattle.hwp_core_task.proofs.StepLeaves.{on-turn-after, hand-planned, steps-planned, can-put}
 use Rattle.hwp_core.specs.declared.release.Release.{Release}
@@ -35,7 +35,7 @@ use Rattle.hwp_core.specs.declared.unlock.UnlockAt.{UnlockAt}
 use Rattle.hwp_core.specs.declared.unlock.UnlockAt.TheVariants as at
 use Rattle.hwp_core.specs.Holds.{one_ref}
 use Rattle.hwp_core.specs.Releases as releases
-use Rattle.hwp_core.specs.Unlocks.{holding, HoldsFrame, releasing, IsReleasing, plan, plan_at, put, put_at, bare, bare_at, after_release, next, next_at, empty_frame, HoldsEmptyFrame, FitsFrame, Fits, FitsAt, class, class_at, cost, cost_at}
+use Rattle.hwp_core.specs.Unlocks.{holding, HoldsFrame, releasing, IsReleasing, plan, plan_at, put, put_at, bare, bare_at, after_release, next, next_at, empty_frame, HoldsEmptyFrame, FitsFrame, Fits, FitsAt, class, class_at, cost, cost_at, task as unlock-task}
 use Rattle.hwp_core.proofs.TaskCosts.{release-falls, release-small, release-class, release-mild}
 use Rattle.hwp_core.proofs.ReleaseLaws as releasing_laws
 
@@ -213,11 +213,8 @@ mild s step is = which s.at is
     which (at.Release r) e = release-mild r step e
     which at.Over e = absurd (none-some step e)
 
-abbrev unlock-member : Member Unlock
-unlock-member = member (λ u. u.who) plan put bare (λ layout u found got after result. (after ≡ next u found) × (result ≡ Moved)) Fits class cost (λ u. false) (λ u. None)
-
-pub unlock-ranked : IsRanked unlock-member
-unlock-ranked = rank-of unlock-member (λ s. refl) unlock-class (λ layout a seat s rule fits. let few : cost s (words_at layout a) ≤ 4 = unlock-small (words_at layout a) s in omega arith)
+pub unlock-ranked : IsRanked unlock-task
+unlock-ranked = rank-of unlock-task (λ s. refl) unlock-class (λ layout a seat s rule fits. let few : cost s (words_at layout a) ≤ 4 = unlock-small (words_at layout a) s in omega arith)
     (λ layout seat a b s t turn made goes. subst (λ (x : Unlock). cost x (words_at layout b) < cost s (words_at layout a)) (sym made.follows.0)
     (unlock-falls (words_at layout a) (words_at layout b) s made.step made.found made.planned))
     (λ layout seat a b s t turn made is quiet. absurd (both_ways true (sym is ∙ ap is_waits made.follows.1) refl))

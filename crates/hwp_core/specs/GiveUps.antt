@@ -1,18 +1,19 @@
 -- A command given up because memory ran out: the task's states, its steps and what they come to.
 use Rattle.std.specs.Prelude.{◌≡◌, ℕ, ◌+◌, false, cond, Option, Some, None, is_none}
-use Rattle.hwp_geom.specs.declared.Frame.{Frame}
-use Rattle.hwp_geom.specs.declared.Layout.{Layout}
-use Rattle.hwp_geom.specs.declared.Page.{Page}
-use Rattle.hwp_geom.specs.declared.Who.{Who}
-use Rattle.hwp_page.specs.History.{BodyValue}
-use Rattle.hwp_core_rule.specs.declared.Step.{Step}
-use Rattle.hwp_core_rule.specs.declared.Step.TheVariants as steps
-use Rattle.hwp_core_rule.specs.declared.View.{View}
-use Rattle.hwp_core_rule.specs.Words.{Words}
+use Rattle.hwp_core_task.specs.hwp_geom.declared.Frame.{Frame}
+use Rattle.hwp_core_task.specs.hwp_geom.declared.Layout.{Layout}
+use Rattle.hwp_core_task.specs.hwp_geom.declared.Page.{Page}
+use Rattle.hwp_core_task.specs.hwp_geom.declared.Who.{Who}
+use Rattle.hwp_core_task.specs.hwp_page.History.{BodyValue}
+use Rattle.hwp_core_task.specs.hwp_core_rule.declared.Step.{Step}
+use Rattle.hwp_core_task.specs.hwp_core_rule.declared.Step.TheVariants as steps
+use Rattle.hwp_core_task.specs.hwp_core_rule.declared.View.{View}
+use Rattle.hwp_core_task.specs.hwp_core_rule.Words.{Words}
 use Rattle.hwp_core_task.specs.declared.Turn.{Turn}
 use Rattle.hwp_core_task.specs.declared.Turn.TheVariants.{Moved, NoMemory}
 use Rattle.hwp_core_task.specs.Calls.{IsOnTurn}
 use Rattle.hwp_core_task.specs.Hands.{hand_of, empty}
+use Rattle.hwp_core_task.specs.Turns.{Member}
 use Rattle.hwp_core.specs.declared.give_up.GiveUp.{GiveUp}
 use Rattle.hwp_core.specs.declared.give_up.GiveUpAt.{GiveUpAt}
 use Rattle.hwp_core.specs.declared.give_up.GiveUpAt.TheVariants as at
@@ -118,3 +119,19 @@ cost_at at.Over words = 0
 
 abbrev pub cost : GiveUp → Words → ℕ
 cost g words = cost_at g.at words
+
+-- the task, as the laws of tasks read it
+abbrev pub task : Member GiveUp
+task = record {
+  who = λ g. g.who;
+  plan = plan;
+  put = put;
+  bare = bare;
+  shows = λ g found got. Unit {0};
+  next = λ layout g found got after result. (after ≡ next g found) × (result ≡ turn g);
+  fits = Fits;
+  class = class;
+  cost = cost;
+  aborts = λ g. false;
+  claims = λ g. None;
+}

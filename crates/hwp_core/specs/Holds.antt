@@ -1,22 +1,22 @@
 -- A page held: the task's states, its steps and what they come to.
 use Rattle.std.specs.Prelude.{◌≡◌, ℕ, ◌+◌, ◌<◌, ◌==◌, Bool, true, false, not, cond, List, [], ◌∷◌, Option, Some, None, is_some, is_none, length}
-use Rattle.hwp_geom.specs.declared.Frame.{Frame}
-use Rattle.hwp_geom.specs.declared.Layout.{Layout}
-use Rattle.hwp_geom.specs.declared.Page.{Page}
-use Rattle.hwp_geom.specs.declared.Who.{Who}
-use Rattle.hwp_page.specs.History.{BodyValue, IsReplay}
-use Rattle.hwp_words.specs.Names.{frame_name}
-use Rattle.hwp_words.specs.Frames.{is_locked}
-use Rattle.hwp_core_rule.specs.declared.Log.{Log}
-use Rattle.hwp_core_rule.specs.declared.PageLock.{PageLock}
-use Rattle.hwp_core_rule.specs.declared.SharedWord.TheVariants as places
-use Rattle.hwp_core_rule.specs.declared.Ref.{Ref}
-use Rattle.hwp_core_rule.specs.declared.Step.{Step}
-use Rattle.hwp_core_rule.specs.declared.Step.TheVariants as steps
-use Rattle.hwp_core_rule.specs.declared.View.{View}
-use Rattle.hwp_core_rule.specs.Logs.{log_of, state_of, fitting}
-use Rattle.hwp_core_rule.specs.Views.{frame_in}
-use Rattle.hwp_core_rule.specs.Words.{Words}
+use Rattle.hwp_core_task.specs.hwp_geom.declared.Frame.{Frame}
+use Rattle.hwp_core_task.specs.hwp_geom.declared.Layout.{Layout}
+use Rattle.hwp_core_task.specs.hwp_geom.declared.Page.{Page}
+use Rattle.hwp_core_task.specs.hwp_geom.declared.Who.{Who}
+use Rattle.hwp_core_task.specs.hwp_page.History.{BodyValue, IsReplay}
+use Rattle.hwp_core_task.specs.hwp_words.Names.{frame_name}
+use Rattle.hwp_core_task.specs.hwp_words.Frames.{is_locked}
+use Rattle.hwp_core_task.specs.hwp_core_rule.declared.Log.{Log}
+use Rattle.hwp_core_task.specs.hwp_core_rule.declared.PageLock.{PageLock}
+use Rattle.hwp_core_task.specs.hwp_core_rule.declared.SharedWord.TheVariants as places
+use Rattle.hwp_core_task.specs.hwp_core_rule.declared.Ref.{Ref}
+use Rattle.hwp_core_task.specs.hwp_core_rule.declared.Step.{Step}
+use Rattle.hwp_core_task.specs.hwp_core_rule.declared.Step.TheVariants as steps
+use Rattle.hwp_core_task.specs.hwp_core_rule.declared.View.{View}
+use Rattle.hwp_core_task.specs.hwp_core_rule.Logs.{log_of, state_of, fitting}
+use Rattle.hwp_core_task.specs.hwp_core_rule.Views.{frame_in}
+use Rattle.hwp_core_task.specs.hwp_core_rule.Words.{Words}
 use Rattle.hwp_core_task.specs.declared.Turn.{Turn}
 use Rattle.hwp_core_task.specs.declared.Turn.TheVariants.{Moved, Waits}
 use Rattle.hwp_core_task.specs.Known.{SawLog}
@@ -28,6 +28,7 @@ use Rattle.hwp_core.specs.declared.pin.PinAt.{PinAt}
 use Rattle.hwp_core.specs.declared.pin.PinAt.TheVariants as pin_at
 use Rattle.hwp_core_task.specs.Calls.{IsOnTurn, logs}
 use Rattle.hwp_core_task.specs.Hands.{Hand, hand_of, empty, body_in}
+use Rattle.hwp_core_task.specs.Turns.{Member}
 use Rattle.hwp_core.specs.Pins as pins
 
 -- the lock's word says that it was free
@@ -208,3 +209,19 @@ cost_at (at.Held frame body) words = 0
 
 abbrev pub cost : Hold → Words → ℕ
 cost h words = cost_at h.at words
+
+-- the task, as the laws of tasks read it
+abbrev pub task : Member Hold
+task = record {
+  who = λ h. h.who;
+  plan = plan;
+  put = λ h. None;
+  bare = λ h. h;
+  shows = Shows;
+  next = λ layout h found got after result. (after ≡ next h found got) × (result ≡ turn h found);
+  fits = Fits;
+  class = class;
+  cost = cost;
+  aborts = λ h. false;
+  claims = λ h. None;
+}

@@ -1,16 +1,16 @@
 -- A reference to a frame: the task's states, its steps and what they come to.
 use Rattle.std.specs.Prelude.{◌≡◌, ℕ, ◌+◌, ◌<◌, ◌==◌, ◌||◌, Bool, true, false, cond, Option, Some, None, slice_index}
-use Rattle.hwp_geom.specs.declared.Frame.{Frame}
-use Rattle.hwp_geom.specs.declared.Layout.{Layout}
-use Rattle.hwp_geom.specs.declared.Who.{Who}
-use Rattle.hwp_words.specs.Frames.{count_of, is_handled}
-use Rattle.hwp_core_rule.specs.declared.SharedWord.TheVariants as places
-use Rattle.hwp_core_rule.specs.declared.Step.{Step}
-use Rattle.hwp_core_rule.specs.declared.Step.TheVariants as steps
-use Rattle.hwp_core_rule.specs.declared.View.{View}
-use Rattle.hwp_core_rule.specs.Asks.{HasRefRoom}
-use Rattle.hwp_core_rule.specs.Views.{with_refs}
-use Rattle.hwp_core_rule.specs.Words.{Words}
+use Rattle.hwp_core_task.specs.hwp_geom.declared.Frame.{Frame}
+use Rattle.hwp_core_task.specs.hwp_geom.declared.Layout.{Layout}
+use Rattle.hwp_core_task.specs.hwp_geom.declared.Who.{Who}
+use Rattle.hwp_core_task.specs.hwp_words.Frames.{count_of, is_handled}
+use Rattle.hwp_core_task.specs.hwp_core_rule.declared.SharedWord.TheVariants as places
+use Rattle.hwp_core_task.specs.hwp_core_rule.declared.Step.{Step}
+use Rattle.hwp_core_task.specs.hwp_core_rule.declared.Step.TheVariants as steps
+use Rattle.hwp_core_task.specs.hwp_core_rule.declared.View.{View}
+use Rattle.hwp_core_task.specs.hwp_core_rule.Asks.{HasRefRoom}
+use Rattle.hwp_core_task.specs.hwp_core_rule.Views.{with_refs}
+use Rattle.hwp_core_task.specs.hwp_core_rule.Words.{Words}
 use Rattle.hwp_core_task.specs.declared.Turn.{Turn}
 use Rattle.hwp_core_task.specs.declared.Turn.TheVariants.{Moved, Changed}
 use Rattle.hwp_core.specs.declared.pin.Pin.{Pin}
@@ -21,6 +21,7 @@ use Rattle.hwp_core.specs.declared.pin.PinAnswer.TheVariants as answers
 use Rattle.hwp_core_task.specs.Calls.{IsOnTurn}
 use Rattle.hwp_core_task.specs.Hands.{Hand}
 use Rattle.hwp_core_task.specs.Ranks.{stale}
+use Rattle.hwp_core_task.specs.Turns.{Member}
 
 -- a frame of this word can't be referenced: it is free or in a hand, or out of use
 abbrev pub is_gone : ℕ → Bool
@@ -96,3 +97,19 @@ cost_at frame (at.Gone word) words = 0
 
 abbrev pub cost : Pin → Words → ℕ
 cost p words = cost_at p.frame p.at words
+
+-- the task, as the laws of tasks read it
+abbrev pub task : Member Pin
+task = record {
+  who = λ p. p.who;
+  plan = plan;
+  put = λ p. None;
+  bare = λ p. p;
+  shows = λ p found got. Unit {0};
+  next = λ layout p found got after result. (after ≡ next p found) × (result ≡ turn p found);
+  fits = Fits;
+  class = λ p. 4;
+  cost = cost;
+  aborts = λ p. false;
+  claims = λ p. None;
+}

@@ -1,19 +1,20 @@
 -- References given back: the task's states, its steps and what they come to.
 use Rattle.std.specs.Prelude.{Bool, ◌≡◌, ℕ, ◌+◌, ◌-◌, ◌<◌, ◌≤◌, ◌&&◌, true, false, cond, [], ◌∷◌, ◌++◌, Option, Some, None, length}
-use Rattle.hwp_geom.specs.declared.Frame.{Frame}
-use Rattle.hwp_geom.specs.declared.Layout.{Layout}
-use Rattle.hwp_geom.specs.declared.Who.{Who}
-use Rattle.hwp_words.specs.Frames.{is_poisoned}
-use Rattle.hwp_core_rule.specs.declared.FrameInHand.{FrameInHand}
-use Rattle.hwp_core_rule.specs.declared.FrameLock.{FrameLock}
-use Rattle.hwp_core_rule.specs.declared.Step.{Step}
-use Rattle.hwp_core_rule.specs.declared.Step.TheVariants as steps
-use Rattle.hwp_core_rule.specs.declared.View.{View}
-use Rattle.hwp_core_rule.specs.Asks.{HasInHand, CanRetire}
-use Rattle.hwp_core_rule.specs.Lists.{SomeMember}
-use Rattle.hwp_core_rule.specs.Steps.{is_last}
-use Rattle.hwp_core_rule.specs.Views.{refs_on, locks_on, with_refs, less_refs, without, is_hand_of, is_lock_of, hand_found}
-use Rattle.hwp_core_rule.specs.Words.{Words}
+use Rattle.hwp_core_task.specs.hwp_geom.declared.Frame.{Frame}
+use Rattle.hwp_core_task.specs.hwp_geom.declared.Layout.{Layout}
+use Rattle.hwp_core_task.specs.hwp_geom.declared.Who.{Who}
+use Rattle.hwp_core_task.specs.hwp_words.Frames.{is_poisoned}
+use Rattle.hwp_core_task.specs.hwp_core_rule.declared.FrameInHand.{FrameInHand}
+use Rattle.hwp_core_task.specs.hwp_core_rule.declared.FrameLock.{FrameLock}
+use Rattle.hwp_core_task.specs.hwp_core_rule.declared.Step.{Step}
+use Rattle.hwp_core_task.specs.hwp_core_rule.declared.Step.TheVariants as steps
+use Rattle.hwp_core_task.specs.hwp_core_rule.declared.View.{View}
+use Rattle.hwp_core_task.specs.declared.Turn.TheVariants.{Moved}
+use Rattle.hwp_core_task.specs.hwp_core_rule.Asks.{HasInHand, CanRetire}
+use Rattle.hwp_core_task.specs.hwp_core_rule.Lists.{SomeMember}
+use Rattle.hwp_core_task.specs.hwp_core_rule.Steps.{is_last}
+use Rattle.hwp_core_task.specs.hwp_core_rule.Views.{refs_on, locks_on, with_refs, less_refs, without, is_hand_of, is_lock_of, hand_found}
+use Rattle.hwp_core_task.specs.hwp_core_rule.Words.{Words}
 use Rattle.hwp_core.specs.declared.release.Release.{Release}
 use Rattle.hwp_core.specs.declared.release.ReleaseAt.{ReleaseAt}
 use Rattle.hwp_core.specs.declared.release.ReleaseAt.TheVariants as at
@@ -21,6 +22,7 @@ use Rattle.hwp_core.specs.declared.release.ReleaseAnswer.{ReleaseAnswer}
 use Rattle.hwp_core.specs.declared.release.ReleaseAnswer.TheVariants as answers
 use Rattle.hwp_core_task.specs.Calls.{IsOnTurn}
 use Rattle.hwp_core_task.specs.Hands.{Hand}
+use Rattle.hwp_core_task.specs.Turns.{Member}
 
 abbrev pub begin : Who → Frame → ℕ → Release
 begin who frame count = record { who = who; frame = frame; count = count; at = at.Put }
@@ -123,3 +125,19 @@ cost_at (at.Back word) = 0
 
 abbrev pub cost : Release → Words → ℕ
 cost r words = cost_at r.at
+
+-- the task, as the laws of tasks read it
+abbrev pub task : Member Release
+task = record {
+  who = λ r. r.who;
+  plan = plan;
+  put = λ r. None;
+  bare = λ r. r;
+  shows = λ r found got. Unit {0};
+  next = λ layout r found got after result. (after ≡ next r found) × (result ≡ Moved);
+  fits = Fits;
+  class = class;
+  cost = cost;
+  aborts = λ r. false;
+  claims = λ r. None;
+}

@@ -2,10 +2,7 @@ ghost use Rattle.std.specs.Prelude.{◌≡◌, Option, is_none};
 
 use crate::unhold::Unhold;
 use crate::unlock::Unlock;
-use hwp_core_rule::Step;
-use hwp_core_task::{Ranked, Task, Turn};
-use hwp_geom::{Frame, Layout, Page, Who};
-use hwp_page::Body;
+use hwp_core_task::{Body, Frame, Layout, Page, Ranked, Step, Task, Turn, Who};
 use std::mem;
 
 /// Ends a command for which memory was refused: its body goes home, what it holds is let go, and the stop word tells the
@@ -86,22 +83,9 @@ impl GiveUp {
 }
 
 impl Task for GiveUp {
-    ghost use Rattle.std.specs.Prelude.{◌≡◌};
-    ghost use Rattle.hwp_core.specs.GiveUps.{plan, put, bare, next, turn, Fits};
+    ghost use Rattle.hwp_core.specs.GiveUps as give_ups;
 
-    ghost who = { λ g. g.who };
-
-    ghost plan = { λ g. plan g };
-
-    ghost put = { λ g. put g };
-
-    ghost bare = { λ g. bare g };
-
-    ghost shows = { λ g found got. Unit {0} };
-
-    ghost next = { λ layout g found got after result. (after ≡ next g found) × (result ≡ turn g) };
-
-    ghost fits = { λ layout view g. Fits layout view g };
+    ghost task = { give_ups.task };
 
     fn who(&self) -> Who {
         self.who
@@ -155,17 +139,6 @@ impl Task for GiveUp {
 }
 
 impl Ranked for GiveUp {
-    ghost use Rattle.std.specs.Prelude.{false, None};
-    ghost use Rattle.hwp_core.specs.GiveUps.{class, cost};
-
-    ghost class_of = { λ g. class g };
-
-    ghost cost = { λ g words. cost g words };
-
-    ghost aborts = { λ g. false };
-
-    ghost claims = { λ g. None };
-
     fn class(&self) -> u8 {
         match &self.at {
             GiveUpAt::Unhold { unhold } => unhold.class(),

@@ -2,10 +2,9 @@ ghost use Rattle.std.specs.Prelude.{◌≡◌, is_some, true};
 
 use crate::pin::{Pin, PinAnswer};
 use crate::unhold::Unhold;
-use hwp_core_rule::{SharedWord, Step, frame_in};
-use hwp_core_task::{Ranked, Task, Turn};
-use hwp_geom::{Frame, Layout, Page, Who};
-use hwp_page::Body;
+use hwp_core_task::{
+    Body, Frame, Layout, Page, Ranked, SharedWord, Step, Task, Turn, Who, frame_in,
+};
 use std::mem;
 
 /// Locks a page and, where the page is in a frame, takes a reference to that frame and locks it too; and takes the page's
@@ -28,7 +27,7 @@ enum HoldAt {
 
 impl Hold {
     ghost use Rattle.std.specs.Prelude.{None};
-    ghost use Rattle.hwp_core_rule.specs.Views.{frame_in};
+    ghost use Rattle.hwp_core_task.specs.hwp_core_rule.Views.{frame_in};
     ghost use Rattle.hwp_core.specs.Holds.{begin, answer, named_at, pinned, locked_at, IsBody};
     ghost use Rattle.hwp_core.specs.Unholds.{LetsGo};
 
@@ -133,22 +132,9 @@ fn is_free(word: u64) -> bool
 }
 
 impl Task for Hold {
-    ghost use Rattle.std.specs.Prelude.{◌≡◌, None};
-    ghost use Rattle.hwp_core.specs.Holds.{plan, next, turn, Shows, Fits};
+    ghost use Rattle.hwp_core.specs.Holds as holds;
 
-    ghost who = { λ h. h.who };
-
-    ghost plan = { λ h. plan h };
-
-    ghost put = { λ h. None };
-
-    ghost bare = { λ h. h };
-
-    ghost shows = { λ h found got. Shows h found got };
-
-    ghost next = { λ layout h found got after result. (after ≡ next h found got) × (result ≡ turn h found) };
-
-    ghost fits = { λ layout view h. Fits layout view h };
+    ghost task = { holds.task };
 
     fn who(&self) -> Who {
         self.who
@@ -207,17 +193,6 @@ impl Task for Hold {
 }
 
 impl Ranked for Hold {
-    ghost use Rattle.std.specs.Prelude.{false, None};
-    ghost use Rattle.hwp_core.specs.Holds.{class, cost};
-
-    ghost class_of = { λ h. class h };
-
-    ghost cost = { λ h words. cost h words };
-
-    ghost aborts = { λ h. false };
-
-    ghost claims = { λ h. None };
-
     fn class(&self) -> u8 {
         match self.at {
             HoldAt::LockPage => 4,

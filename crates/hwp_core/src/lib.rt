@@ -11,8 +11,14 @@ mod unlock;
 
 pub use give_up::GiveUp;
 pub use hold::Hold;
-pub use hwp_core_rule::{SharedWord, Step, View};
-pub use hwp_core_task::{Board, Met, Ops, Ranked, Scheduled, Task, Turn, advance};
+pub use hwp_core_task::{
+    At, Board, Body, CacheWord, Code, CounterWord, Cpu, Damage, Entry, FileNo, Frame, FrameWord,
+    FreeWord, Kind, Layout, Line, List, Mask, Met, Mode, Ops, OutOfMemory, Outcome, POISON, Page,
+    PageKind, PageState, PageWord, PolicyWord, Proc, ProcessWord, Pte, REFERENCE, Ranked, Reply,
+    Scheduled, Seen, SharedWord, Signal, SignalList, SignalRoom, Situation, Slots, Step, StopWord,
+    Task, Text, Thread, Turn, VSlot, View, What, Who, advance, frame_in, index, is_stopped,
+    lowest_bit, next_to_read, signals,
+};
 pub use pin::{Pin, PinAnswer};
 pub use refer::Refer;
 pub use release::{Release, ReleaseAnswer};

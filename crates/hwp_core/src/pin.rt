@@ -1,10 +1,6 @@
 ghost use Rattle.std.specs.Prelude.{◌≡◌, is_some, is_none};
 
-use hwp_core_rule::{SharedWord, Step};
-use hwp_core_task::{Ranked, Task, Turn};
-use hwp_geom::{Frame, Layout, Who};
-use hwp_page::Body;
-use hwp_words::FrameWord;
+use hwp_core_task::{Body, Frame, FrameWord, Layout, Ranked, SharedWord, Step, Task, Turn, Who};
 
 /// Takes one reference to a frame, where it is in use (Linux get_page_unless_zero).
 #[derive(Clone, Copy)]
@@ -77,22 +73,9 @@ impl Pin {
 }
 
 impl Task for Pin {
-    ghost use Rattle.std.specs.Prelude.{◌≡◌, None};
-    ghost use Rattle.hwp_core.specs.Pins.{plan, next, turn, Fits};
+    ghost use Rattle.hwp_core.specs.Pins as pins;
 
-    ghost who = { λ p. p.who };
-
-    ghost plan = { λ p. plan p };
-
-    ghost put = { λ p. None };
-
-    ghost bare = { λ p. p };
-
-    ghost shows = { λ p found got. Unit {0} };
-
-    ghost next = { λ layout p found got after result. (after ≡ next p found) × (result ≡ turn p found) };
-
-    ghost fits = { λ layout view p. Fits layout view p };
+    ghost task = { pins.task };
 
     fn who(&self) -> Who {
         self.who
@@ -137,17 +120,6 @@ impl Task for Pin {
 }
 
 impl Ranked for Pin {
-    ghost use Rattle.std.specs.Prelude.{false, None};
-    ghost use Rattle.hwp_core.specs.Pins.{cost};
-
-    ghost class_of = { λ p. 4 };
-
-    ghost cost = { λ p words. cost p words };
-
-    ghost aborts = { λ p. false };
-
-    ghost claims = { λ p. None };
-
     fn class(&self) -> u8 {
         4
     }

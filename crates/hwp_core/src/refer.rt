@@ -1,9 +1,6 @@
 ghost use Rattle.std.specs.Prelude.{◌≡◌, is_none};
 
-use hwp_core_rule::{SharedWord, Step};
-use hwp_core_task::{Ranked, Task, Turn};
-use hwp_geom::{Frame, Layout, Who};
-use hwp_page::Body;
+use hwp_core_task::{Body, Frame, Layout, Ranked, SharedWord, Step, Task, Turn, Who};
 
 /// Takes more references to a frame that the processor has references to already (Linux get_page).
 #[derive(Clone, Copy)]
@@ -52,22 +49,9 @@ impl Refer {
 }
 
 impl Task for Refer {
-    ghost use Rattle.std.specs.Prelude.{◌≡◌, None};
-    ghost use Rattle.hwp_core.specs.Refers.{plan, next, turn, Fits};
+    ghost use Rattle.hwp_core.specs.Refers as refers;
 
-    ghost who = { λ r. r.who };
-
-    ghost plan = { λ r. plan r };
-
-    ghost put = { λ r. None };
-
-    ghost bare = { λ r. r };
-
-    ghost shows = { λ r found got. Unit {0} };
-
-    ghost next = { λ layout r found got after result. (after ≡ next r found) × (result ≡ turn r found) };
-
-    ghost fits = { λ layout view r. Fits layout view r };
+    ghost task = { refers.task };
 
     fn who(&self) -> Who {
         self.who
@@ -112,17 +96,6 @@ impl Task for Refer {
 }
 
 impl Ranked for Refer {
-    ghost use Rattle.std.specs.Prelude.{false, None};
-    ghost use Rattle.hwp_core.specs.Refers.{cost};
-
-    ghost class_of = { λ r. 4 };
-
-    ghost cost = { λ r words. cost r words };
-
-    ghost aborts = { λ r. false };
-
-    ghost claims = { λ r. None };
-
     fn class(&self) -> u8 {
         4
     }

@@ -1,10 +1,6 @@
 ghost use Rattle.std.specs.Prelude.{◌≡◌, is_some, is_none};
 
-use hwp_core_rule::Step;
-use hwp_core_task::{Ranked, Task, Turn};
-use hwp_geom::{Frame, Layout, Who};
-use hwp_page::Body;
-use hwp_words::FrameWord;
+use hwp_core_task::{Body, Frame, FrameWord, Layout, Ranked, Step, Task, Turn, Who};
 
 /// Gives references to a frame back. Where they were its last ones the frame becomes free, or, where it is poisoned, is
 /// retired (Linux put_page).
@@ -103,23 +99,9 @@ impl Release {
 }
 
 impl Task for Release {
-    ghost use Rattle.std.specs.Prelude.{◌≡◌, None};
-    ghost use Rattle.hwp_core_task.specs.declared.Turn.TheVariants.{Moved};
-    ghost use Rattle.hwp_core.specs.Releases.{plan, next, Fits};
+    ghost use Rattle.hwp_core.specs.Releases as releases;
 
-    ghost who = { λ r. r.who };
-
-    ghost plan = { λ r. plan r };
-
-    ghost put = { λ r. None };
-
-    ghost bare = { λ r. r };
-
-    ghost shows = { λ r found got. Unit {0} };
-
-    ghost next = { λ layout r found got after result. (after ≡ next r found) × (result ≡ Moved) };
-
-    ghost fits = { λ layout view r. Fits layout view r };
+    ghost task = { releases.task };
 
     fn who(&self) -> Who {
         self.who
@@ -156,17 +138,6 @@ impl Task for Release {
 }
 
 impl Ranked for Release {
-    ghost use Rattle.std.specs.Prelude.{false, None};
-    ghost use Rattle.hwp_core.specs.Releases.{class, cost};
-
-    ghost class_of = { λ r. class r };
-
-    ghost cost = { λ r words. cost r words };
-
-    ghost aborts = { λ r. false };
-
-    ghost claims = { λ r. None };
-
     fn class(&self) -> u8 {
         match self.at {
             ReleaseAt::Put | ReleaseAt::Back { .. } => 4,

@@ -1,10 +1,7 @@
 ghost use Rattle.std.specs.Prelude.{◌≡◌, is_some, is_none};
 
 use crate::release::Release;
-use hwp_core_rule::Step;
-use hwp_core_task::{Ranked, Task, Turn};
-use hwp_geom::{Frame, Layout, Page, Who};
-use hwp_page::Body;
+use hwp_core_task::{Body, Frame, Layout, Page, Ranked, Step, Task, Turn, Who};
 use std::cmp::min;
 use std::mem;
 
@@ -97,23 +94,9 @@ impl Unhold {
 }
 
 impl Task for Unhold {
-    ghost use Rattle.std.specs.Prelude.{◌≡◌};
-    ghost use Rattle.hwp_core_task.specs.declared.Turn.TheVariants.{Moved};
-    ghost use Rattle.hwp_core.specs.Unholds.{plan, put, bare, next, Fits};
+    ghost use Rattle.hwp_core.specs.Unholds as unholds;
 
-    ghost who = { λ u. u.who };
-
-    ghost plan = { λ u. plan u };
-
-    ghost put = { λ u. put u };
-
-    ghost bare = { λ u. bare u };
-
-    ghost shows = { λ u found got. Unit {0} };
-
-    ghost next = { λ layout u found got after result. (after ≡ next u found) × (result ≡ Moved) };
-
-    ghost fits = { λ layout view u. Fits layout view u };
+    ghost task = { unholds.task };
 
     fn who(&self) -> Who {
         self.who
@@ -172,17 +155,6 @@ impl Task for Unhold {
 }
 
 impl Ranked for Unhold {
-    ghost use Rattle.std.specs.Prelude.{false, None};
-    ghost use Rattle.hwp_core.specs.Unholds.{class, cost};
-
-    ghost class_of = { λ u. class u };
-
-    ghost cost = { λ u words. cost u words };
-
-    ghost aborts = { λ u. false };
-
-    ghost claims = { λ u. None };
-
     fn class(&self) -> u8 {
         match self.at {
             UnholdAt::UnlockFrame { .. } => 1,

@@ -1,10 +1,7 @@
 ghost use Rattle.std.specs.Prelude.{◌≡◌, Option, is_none};
 
 use crate::release::Release;
-use hwp_core_rule::Step;
-use hwp_core_task::{Ranked, Task, Turn};
-use hwp_geom::{Frame, Layout, Who};
-use hwp_page::Body;
+use hwp_core_task::{Body, Frame, Layout, Ranked, Step, Task, Turn, Who};
 use std::mem;
 
 /// Lets a frame go that is held without its page: its body, if it has one, goes home, the frame is unlocked, and its
@@ -58,23 +55,9 @@ impl Unlock {
 }
 
 impl Task for Unlock {
-    ghost use Rattle.std.specs.Prelude.{◌≡◌};
-    ghost use Rattle.hwp_core_task.specs.declared.Turn.TheVariants.{Moved};
-    ghost use Rattle.hwp_core.specs.Unlocks.{plan, put, bare, next, Fits};
+    ghost use Rattle.hwp_core.specs.Unlocks as unlocks;
 
-    ghost who = { λ u. u.who };
-
-    ghost plan = { λ u. plan u };
-
-    ghost put = { λ u. put u };
-
-    ghost bare = { λ u. bare u };
-
-    ghost shows = { λ u found got. Unit {0} };
-
-    ghost next = { λ layout u found got after result. (after ≡ next u found) × (result ≡ Moved) };
-
-    ghost fits = { λ layout view u. Fits layout view u };
+    ghost task = { unlocks.task };
 
     fn who(&self) -> Who {
         self.who
@@ -121,17 +104,6 @@ impl Task for Unlock {
 }
 
 impl Ranked for Unlock {
-    ghost use Rattle.std.specs.Prelude.{false, None};
-    ghost use Rattle.hwp_core.specs.Unlocks.{class, cost};
-
-    ghost class_of = { λ u. class u };
-
-    ghost cost = { λ u words. cost u words };
-
-    ghost aborts = { λ u. false };
-
-    ghost claims = { λ u. None };
-
     fn class(&self) -> u8 {
         match &self.at {
             UnlockAt::UnlockFrame { .. } => 1,

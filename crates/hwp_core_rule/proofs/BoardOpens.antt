@@ -7,10 +7,10 @@ use Rattle.std.proofs.lemmas.Bool.{le-ltb}
 use Rattle.std.proofs.lemmas.List.{length-append, length-map, length-replicate}
 use Rattle.std.proofs.lemmas.List.Sums.{sum_by-cons, sum_by_push, sum_by-append}
 use Rattle.std.proofs.lemmas.Option.{none-some, same_Some, slice_get_within}
-use Rattle.hwp_geom.specs.declared.Layout.{Layout}
-use Rattle.hwp_geom.specs.declared.PageKind.{PageKind}
-use Rattle.hwp_geom.specs.Limits.{command_limit}
-use Rattle.hwp_geom.specs.Layout.{IsSound}
+use Rattle.hwp_page.specs.hwp_geom.declared.Layout.{Layout}
+use Rattle.hwp_page.specs.hwp_geom.declared.PageKind.{PageKind}
+use Rattle.hwp_page.specs.hwp_geom.Limits.{command_limit}
+use Rattle.hwp_page.specs.hwp_geom.Layout.{IsSound}
 use Rattle.std.specs.Ordering.{nat_cmp}
 use Rattle.hwp_words.specs.Translations.{pte_word}
 use Rattle.hwp_words.specs.Frames.{poison_of, count_of, owner_of, lock_of, handled_of}
@@ -52,10 +52,10 @@ use Rattle.hwp_core_rule.specs.declared.view.Spoiled.{Spoiled}
 use Rattle.hwp_core_rule.specs.declared.view.Setting.{Setting}
 use Rattle.hwp_core_rule.specs.declared.view.Reported.{Reported}
 use Rattle.hwp_core_rule.specs.declared.view.Part.{Part}
-use Rattle.hwp_geom.specs.declared.Cpu.{Cpu}
-use Rattle.hwp_geom.specs.declared.FileNo.{FileNo}
-use Rattle.hwp_geom.specs.declared.Proc.{Proc}
-use Rattle.hwp_geom.specs.declared.Who.{Who}
+use Rattle.hwp_page.specs.hwp_geom.declared.Cpu.{Cpu}
+use Rattle.hwp_page.specs.hwp_geom.declared.FileNo.{FileNo}
+use Rattle.hwp_page.specs.hwp_geom.declared.Proc.{Proc}
+use Rattle.hwp_page.specs.hwp_geom.declared.Who.{Who}
 use Rattle.hwp_page.specs.Endings.{has_ending}
 use Rattle.hwp_page.specs.Losses.{is_same_file}
 use Rattle.std.specs.FinSet as set

@@ -4,8 +4,8 @@ use Rattle.std.proofs.lemmas.List.{length-set}
 use Rattle.std.proofs.lemmas.Option.{same_Some}
 use Rattle.std.specs.Int.{from_bool}
 use Rattle.std.specs.List.{sum_by}
-use Rattle.hwp_geom.specs.declared.Layout.{Layout}
-use Rattle.hwp_geom.specs.declared.TransDecl.{TransDecl}
+use Rattle.hwp_page.specs.hwp_geom.declared.Layout.{Layout}
+use Rattle.hwp_page.specs.hwp_geom.declared.TransDecl.{TransDecl}
 use Rattle.hwp_words.specs.Frames.{lock_of, poison_of, kernel_of, count_of, owner_of, cycle_of, is_kernel}
 use Rattle.hwp_words.specs.Counters.{biased_poisoned_of}
 use Rattle.hwp_core_rule.specs.declared.view.FrameLock.{FrameLock}

@@ -4,7 +4,7 @@ use Rattle.std.specs.List.{sum_by}
 use Rattle.std.specs.Int.{from_bool}
 use Rattle.std.proofs.lemmas.Bool.{eqb-true}
 use Rattle.std.proofs.lemmas.List.Sums.{sum_by_push}
-use Rattle.hwp_geom.specs.declared.Frame.{Frame}
+use Rattle.hwp_page.specs.hwp_geom.declared.Frame.{Frame}
 use Rattle.hwp_core_rule.specs.declared.view.FrameInHand.{FrameInHand}
 use Rattle.hwp_core_rule.specs.Views.{without, is_hand_of}
 use Rattle.hwp_core_rule.specs.parts.Places.{in_hand}

@@ -1,15 +1,15 @@
 -- What is to be proved of each kind of step: the frame rule stays.
 use Rattle.std.proofs.Common.{◌≡◌, ℕ, ◌+◌, ◌^◌, ◌<◌, List, Option, Some, length, set, slice_get}
-use Rattle.hwp_geom.specs.declared.Layout.{Layout}
-use Rattle.hwp_geom.specs.declared.Who.{Who}
-use Rattle.hwp_geom.specs.Layout.{IsSound}
+use Rattle.hwp_page.specs.hwp_geom.declared.Layout.{Layout}
+use Rattle.hwp_page.specs.hwp_geom.declared.Who.{Who}
+use Rattle.hwp_page.specs.hwp_geom.Layout.{IsSound}
 use Rattle.hwp_core_rule.specs.declared.log.Log.{Log}
 use Rattle.hwp_core_rule.specs.declared.step.Step.{Step}
 use Rattle.hwp_core_rule.specs.declared.view.View.{View}
 use Rattle.hwp_core_rule.specs.Asks.{AsksOf, IsTurnOf}
 use Rattle.hwp_core_rule.specs.Lists.{Homes}
 use Rattle.hwp_core_rule.specs.Rule.{FrameRule}
-use Rattle.hwp_core_rule.specs.Slots.{homes_after, Meets}
+use Rattle.hwp_core_rule.specs.SlotMoves.{homes_after, Meets}
 use Rattle.hwp_core_rule.specs.Steps.{place_of, word_after}
 use Rattle.hwp_core_rule.specs.Views.{view_by}
 use Rattle.hwp_core_rule.specs.Words.{Words, read, put, IsPlace, free_words}

@@ -1,8 +1,8 @@
 -- What a view knows by a frame's lock that it has, or a page that it holds.
 use Rattle.std.proofs.Common.{◌≡◌, ℕ, ◌+◌, ◌<◌, ◌≤◌, ◌==◌, List, slice_get, refl, sym, ap, ◌∙◌, subst, arith}
 use Rattle.std.specs.Int.{from_bool}
-use Rattle.hwp_geom.specs.declared.Frame.{Frame}
-use Rattle.hwp_geom.specs.declared.Page.{Page}
+use Rattle.hwp_page.specs.hwp_geom.declared.Frame.{Frame}
+use Rattle.hwp_page.specs.hwp_geom.declared.Page.{Page}
 use Rattle.hwp_core_rule.specs.declared.view.FrameLock.{FrameLock}
 use Rattle.hwp_core_rule.specs.declared.view.PageLock.{PageLock}
 use Rattle.hwp_core_rule.specs.declared.view.View.{View}

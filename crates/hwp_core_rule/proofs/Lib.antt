@@ -18,7 +18,7 @@ pub mod Sights
 pub mod ShownWords
 pub mod FreeAndHand
 pub mod FrameFields
-pub mod FrameWord
+pub mod FrameWordLaws
 pub mod BodySlots
 pub mod MoreEntries
 pub mod OwedLosses
@@ -34,4 +34,7 @@ pub mod BoardOpens
 pub mod MetWords
 pub mod StepKeeps
 pub mod bounds
+pub use Rattle.hwp_page.proofs.of_hwp_geom as of_hwp_geom
+pub use Rattle.hwp_page.proofs.of_hwp_kill as of_hwp_kill
+pub use Rattle.hwp_page.proofs as of_hwp_page
 pub use Rattle.hwp_words.proofs as of_hwp_words

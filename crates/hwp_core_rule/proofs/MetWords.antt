@@ -6,10 +6,10 @@ use Rattle.std.proofs.lemmas.Bool.{cases_lt, eqb-true, eqb-false, ne_eqb, falseâ
 use Rattle.std.proofs.lemmas.List.{length-take}
 use Rattle.std.proofs.lemmas.Nat.Bits.{bit_at-trailing_zeros}
 use Rattle.std.proofs.lemmas.Option.{slice_get-get_or, same_Some, slice_get_within}
-use Rattle.hwp_geom.specs.declared.Who.{Who}
-use Rattle.hwp_geom.specs.declared.Frame.{Frame}
-use Rattle.hwp_geom.specs.declared.Layout.{Layout}
-use Rattle.hwp_geom.specs.declared.Page.{Page}
+use Rattle.hwp_page.specs.hwp_geom.declared.Who.{Who}
+use Rattle.hwp_page.specs.hwp_geom.declared.Frame.{Frame}
+use Rattle.hwp_page.specs.hwp_geom.declared.Layout.{Layout}
+use Rattle.hwp_page.specs.hwp_geom.declared.Page.{Page}
 use Rattle.hwp_words.specs.Frames.{lock_of, count_of, owner_of, handled_of, is_locked, is_handled}
 use Rattle.hwp_core_rule.specs.declared.log.Log.{Log}
 use Rattle.hwp_core_rule.specs.declared.shared_word.SharedWord.TheVariants as places
@@ -21,7 +21,7 @@ use Rattle.hwp_core_rule.specs.declared.view.View.{View}
 use Rattle.hwp_core_rule.specs.Asks.{HasInHand, Asks, AsksOf}
 use Rattle.hwp_core_rule.specs.Lists.{EachMember}
 use Rattle.hwp_core_rule.specs.Logs.{state_of}
-use Rattle.hwp_core_rule.specs.Slots.{IsIn, frame_slot, shelf_slot, IsWithin, LeavesHome, slot_move, moved_out, takes}
+use Rattle.hwp_core_rule.specs.SlotMoves.{IsIn, frame_slot, shelf_slot, IsWithin, LeavesHome, slot_move, moved_out, takes}
 use Rattle.hwp_core_rule.specs.Rule.{Holds}
 use Rattle.hwp_core_rule.specs.Views.{frame_in, locks_on, page_locks_on}
 use Rattle.hwp_core_rule.specs.Words.{words_of, segment, index, size, free_words, IsPlace}

@@ -1,7 +1,7 @@
 -- A move keeps the frame rule, where its kind of step does.
 use Rattle.std.proofs.Common.{◌≡◌, ℕ, ◌+◌, ◌-◌, min, ◌^◌, ◌<◌, ◌≤◌, List, Option, Some, None, set, length, drop, refl, sym, ◌∙◌, subst, arith, ap, [], slice_get}
 use Rattle.std.proofs.lemmas.List.{length-set, length-take, length-drop}
-use Rattle.hwp_geom.specs.declared.Layout.{Layout}
+use Rattle.hwp_page.specs.hwp_geom.declared.Layout.{Layout}
 use Rattle.hwp_core_rule.specs.declared.log.Log.{Log}
 use Rattle.hwp_core_rule.specs.declared.record.Rec.{Rec}
 use Rattle.hwp_core_rule.specs.declared.record.State.{State}
@@ -11,7 +11,7 @@ use Rattle.hwp_core_rule.specs.declared.view.View.{View}
 use Rattle.hwp_core_rule.specs.Lists.{Homes, SomeMember}
 use Rattle.hwp_core_rule.specs.Moves.{Move, moved}
 use Rattle.hwp_core_rule.specs.Rule.{FrameRule, Holds}
-use Rattle.hwp_core_rule.specs.Slots.{slot_move, homes_moved, homes_after, Meets}
+use Rattle.hwp_core_rule.specs.SlotMoves.{slot_move, homes_moved, homes_after, Meets}
 use Rattle.hwp_core_rule.specs.Steps.{place_of, word_after}
 use Rattle.hwp_core_rule.specs.Views.{noted, view_by, view_after}
 use Rattle.hwp_core_rule.specs.Words.{Words, words_of, read, put, index, size, segment, free_words, trans_from, caches_from, pages_from, frees_from, bads_from, weaks_from, processes_from, policies_from, losses_from}

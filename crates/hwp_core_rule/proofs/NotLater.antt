@@ -3,10 +3,10 @@ use Rattle.std.proofs.Common.{◌≡◌, ℕ, suc, zero, ◌+◌, ◌<◌, ◌�
 use Rattle.std.specs.Int.{from_bool}
 use Rattle.std.specs.List.{sum_by}
 use Rattle.std.proofs.lemmas.Option.{none-some, same_Some}
-use Rattle.hwp_geom.specs.declared.Cpu.{Cpu}
-use Rattle.hwp_geom.specs.declared.Layout.{Layout}
-use Rattle.hwp_geom.specs.declared.Page.{Page}
-use Rattle.hwp_geom.specs.declared.Who.{Who}
+use Rattle.hwp_page.specs.hwp_geom.declared.Cpu.{Cpu}
+use Rattle.hwp_page.specs.hwp_geom.declared.Layout.{Layout}
+use Rattle.hwp_page.specs.hwp_geom.declared.Page.{Page}
+use Rattle.hwp_page.specs.hwp_geom.declared.Who.{Who}
 use Rattle.hwp_page.specs.declared.Entry.{Entry}
 use Rattle.hwp_page.specs.Orders.{IsNotLater}
 use Rattle.hwp_core_rule.specs.declared.log.Log.{Log}

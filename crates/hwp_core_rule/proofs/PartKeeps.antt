@@ -1,6 +1,6 @@
 -- Each part of the frame rule, and each group of parts, stays where the step changes nothing that it reads of the seat's view.
 use Rattle.std.proofs.Common.{◌≡◌, ℕ, Bool, List, Some, map, set, slice_get, sym, subst}
-use Rattle.hwp_geom.specs.declared.Who.{Who}
+use Rattle.hwp_page.specs.hwp_geom.declared.Who.{Who}
 use Rattle.hwp_core_rule.specs.declared.view.FrameLock.{FrameLock}
 use Rattle.hwp_core_rule.specs.declared.view.InHand.{InHand}
 use Rattle.hwp_core_rule.specs.declared.view.Length.{Length}
@@ -10,8 +10,8 @@ use Rattle.hwp_core_rule.specs.declared.view.Mark.{Mark}
 use Rattle.hwp_core_rule.specs.declared.view.Part.{Part}
 use Rattle.hwp_core_rule.specs.declared.view.Setting.{Setting}
 use Rattle.hwp_core_rule.specs.declared.view.Sight.{Sight}
-use Rattle.hwp_geom.specs.declared.Layout.{Layout}
-use Rattle.hwp_geom.specs.declared.ThreadDecl.{ThreadDecl}
+use Rattle.hwp_page.specs.hwp_geom.declared.Layout.{Layout}
+use Rattle.hwp_page.specs.hwp_geom.declared.ThreadDecl.{ThreadDecl}
 use Rattle.hwp_core_rule.specs.declared.view.View.{View}
 use Rattle.hwp_core_rule.specs.Lists.{Homes, EachMember}
 use Rattle.hwp_core_rule.specs.parts.Counts.{CountsBalance}

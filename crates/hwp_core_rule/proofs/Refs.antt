@@ -3,7 +3,7 @@ use Rattle.std.proofs.Common.{◌≡◌, ◌≢◌, ℕ, ◌+◌, ◌-◌, ◌*�
 use Rattle.std.proofs.lemmas.Bool.{eqb-true, ne_eqb, leb-true, leb-false}
 use Rattle.std.proofs.lemmas.List.Sums.{sum_by-cons}
 use Rattle.std.specs.Int.{from_bool}
-use Rattle.hwp_geom.specs.declared.Frame.{Frame}
+use Rattle.hwp_page.specs.hwp_geom.declared.Frame.{Frame}
 use Rattle.hwp_core_rule.specs.declared.view.Ref.{Ref}
 use Rattle.hwp_core_rule.specs.Views.{refs_on, with_refs, less_refs, with_named, less_named}
 use Rattle.hwp_core_rule.proofs.Lists.{same-or, same-number}

@@ -7,8 +7,8 @@ use Rattle.std.proofs.Math.Nat.{pow-succ', zero-div, div-div-eq-div-mul}
 use Rattle.std.proofs.lemmas.List.Sums.{sum_by_more}
 use Rattle.hwp_words.specs.Frames.{count_of, owner_of, lock_of, handled_of, poison_of, cycle_of, is_kernel}
 use Rattle.std.proofs.lemmas.Option.{none-some, same_Some, get_or_from_slice_get, slice_get_past}
-use Rattle.hwp_geom.specs.declared.Layout.{Layout}
-use Rattle.hwp_geom.specs.Layout.{IsSound}
+use Rattle.hwp_page.specs.hwp_geom.declared.Layout.{Layout}
+use Rattle.hwp_page.specs.hwp_geom.Layout.{IsSound}
 use Rattle.hwp_core_rule.specs.declared.view.View.{View}
 use Rattle.hwp_core_rule.specs.Lists.{EachMember}
 use Rattle.hwp_core_rule.specs.Opening.{below, opening_frame, free_bits, opening_free, opening_available, opening_policy, opening_words, opening_view}

@@ -1,12 +1,12 @@
 -- What a body's history says: the page's state, the losses of its file, the translation words that fit it.
 use Rattle.std.specs.Prelude.{ℕ, ◌==◌, cond, List, [], ◌∷◌, Option, Some, None, suc, slice_get, option_and_then}
 use Rattle.std.specs.FinSet as set
-use Rattle.hwp_geom.specs.declared.FileNo.{FileNo}
-use Rattle.hwp_geom.specs.declared.Layout.{Layout}
-use Rattle.hwp_geom.specs.declared.Page.{Page}
-use Rattle.hwp_geom.specs.declared.PageKind.{PageKind}
-use Rattle.hwp_geom.specs.declared.PageKind.TheVariants.{Anon}
-use Rattle.hwp_geom.specs.declared.TransDecl.{TransDecl}
+use Rattle.hwp_page.specs.hwp_geom.declared.FileNo.{FileNo}
+use Rattle.hwp_page.specs.hwp_geom.declared.Layout.{Layout}
+use Rattle.hwp_page.specs.hwp_geom.declared.Page.{Page}
+use Rattle.hwp_page.specs.hwp_geom.declared.PageKind.{PageKind}
+use Rattle.hwp_page.specs.hwp_geom.declared.PageKind.TheVariants.{Anon}
+use Rattle.hwp_page.specs.hwp_geom.declared.TransDecl.{TransDecl}
 use Rattle.hwp_page.specs.declared.PageState.{PageState}
 use Rattle.hwp_page.specs.History.{BodyValue, state_after}
 use Rattle.hwp_page.specs.Losses.{file_behind, is_same_file, losses_in}

@@ -1,13 +1,13 @@
 -- A move: what one step does to a board; and a run of moves.
 use Rattle.std.specs.Prelude.{◌≡◌, ℕ, ◌^◌, ◌<◌, List, [], ◌∷◌, Some, slice_get, slice_set, slice_index}
-use Rattle.hwp_geom.specs.declared.Layout.{Layout}
+use Rattle.hwp_page.specs.hwp_geom.declared.Layout.{Layout}
 use Rattle.hwp_core_rule.specs.declared.record.Rec.{Rec}
 use Rattle.hwp_core_rule.specs.declared.record.State.{State}
 use Rattle.hwp_core_rule.specs.declared.view.View.{View}
 use Rattle.hwp_core_rule.specs.Asks.{Asks}
 use Rattle.hwp_core_rule.specs.Rule.{Holds}
 use Rattle.hwp_core_rule.specs.Steps.{place_of, word_after}
-use Rattle.hwp_core_rule.specs.Slots.{homes_after, Meets}
+use Rattle.hwp_core_rule.specs.SlotMoves.{homes_after, Meets}
 use Rattle.hwp_core_rule.specs.Views.{view_after}
 use Rattle.hwp_core_rule.specs.Words.{index}
 

@@ -2,7 +2,7 @@
 use Rattle.std.specs.Prelude.{ℕ, zero, suc, ◌+◌, ◌*◌, Bool, not, cond, List, [], ◌∷◌, ◌++◌, Some, None, map, length, replicate, take, drop}
 use Rattle.std.specs.List.{sum_by, concat}
 use Rattle.std.specs.Int.{from_bool}
-use Rattle.hwp_geom.specs.declared.Layout.{Layout}
+use Rattle.hwp_page.specs.hwp_geom.declared.Layout.{Layout}
 use Rattle.hwp_core_rule.specs.declared.log.Log.{Log}
 use Rattle.hwp_core_rule.specs.declared.record.State.{State}
 use Rattle.hwp_core_rule.specs.declared.view.View.{View}

@@ -2,12 +2,12 @@
 use Rattle.std.specs.Prelude.{ℕ, ◌+◌, ◌-◌, ◌*◌, ◌/◌, ◌%◌, ◌^◌, ◌==◌, Bool, true, not, Option, Some, None, bit_and, bit_or, bit_xor}
 use Rattle.std.specs.Int.{bit_not, w64, from_bool}
 use prog.Atomic.{either}
-use Rattle.hwp_geom.specs.declared.Damage.{Damage}
-use Rattle.hwp_geom.specs.declared.Damage.TheVariants as damages
-use Rattle.hwp_geom.specs.declared.Frame.{Frame}
-use Rattle.hwp_geom.specs.declared.Kind.{Kind}
-use Rattle.hwp_geom.specs.declared.Kind.TheVariants as kinds
-use Rattle.hwp_kill.specs.declared.Policy.{Policy}
+use Rattle.hwp_page.specs.hwp_geom.declared.Damage.{Damage}
+use Rattle.hwp_page.specs.hwp_geom.declared.Damage.TheVariants as damages
+use Rattle.hwp_page.specs.hwp_geom.declared.Frame.{Frame}
+use Rattle.hwp_page.specs.hwp_geom.declared.Kind.{Kind}
+use Rattle.hwp_page.specs.hwp_geom.declared.Kind.TheVariants as kinds
+use Rattle.hwp_page.specs.hwp_kill.declared.Policy.{Policy}
 use Rattle.hwp_words.specs.Frames.{is_locked, count_of}
 use Rattle.hwp_words.specs.Names.{frame_name}
 use Rattle.hwp_words.specs.Policies.{policy_code}

@@ -1,6 +1,6 @@
 -- The shared words of a board: one list, and the same words by their kinds.
 use Rattle.std.specs.Prelude.{ℕ, zero, suc, ◌+◌, ◌/◌, ◌%◌, ◌^◌, ◌<◌, List, length, take, drop, slice_index, slice_set}
-use Rattle.hwp_geom.specs.declared.Layout.{Layout}
+use Rattle.hwp_page.specs.hwp_geom.declared.Layout.{Layout}
 use Rattle.hwp_core_rule.specs.declared.shared_word.SharedWord.{SharedWord}
 use Rattle.hwp_core_rule.specs.declared.shared_word.SharedWord.TheVariants as places
 

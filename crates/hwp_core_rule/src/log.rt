@@ -1,5 +1,4 @@
-use hwp_geom::{List, Page};
-use hwp_page::Entry;
+use hwp_page::{Entry, List, Page};
 
 /// A page body, as the rule sees it: whose body it is, and its history. The page's state is the replay of the history.
 #[derive(Drop)]

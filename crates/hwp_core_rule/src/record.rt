@@ -1,7 +1,7 @@
 use crate::log::Log;
 use crate::step::Step;
 use crate::view::View;
-use hwp_geom::{List, Who};
+use hwp_page::{List, Who};
 
 /// A step that was made: by which command, which step, the word that it found, and the content of the slot that it took,
 /// or what it put there.

@@ -1,4 +1,4 @@
-use hwp_geom::{FileNo, Frame, Page, Proc, Thread, VSlot};
+use hwp_page::{FileNo, Frame, Page, Proc, Thread, VSlot};
 
 /// A shared word of the machine (this project's rule).
 #[derive(Clone, Copy)]

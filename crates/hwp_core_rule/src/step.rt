@@ -1,7 +1,5 @@
 use crate::shared_word::SharedWord;
-use hwp_geom::{Cpu, Damage, FileNo, Frame, Line, Page, Proc, Thread, VSlot};
-use hwp_kill::Policy;
-use hwp_page::Body;
+use hwp_page::{Body, Cpu, Damage, FileNo, Frame, Line, Page, Policy, Proc, Thread, VSlot};
 use hwp_words::Pte;
 use std::snapshot::Snapshot;
 

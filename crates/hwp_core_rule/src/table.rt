@@ -1,12 +1,11 @@
 ghost use Rattle.std.specs.Prelude.{◌≡◌, ◌+◌, ◌*◌, ◌%◌, ◌^◌, bit_or};
-ghost use Rattle.hwp_core_rule.specs.Slots.{frame_slot, shelf_slot, slot_move, moved_out};
+ghost use Rattle.hwp_core_rule.specs.SlotMoves.{frame_slot, shelf_slot, slot_move, moved_out};
 ghost use Rattle.hwp_core_rule.specs.Steps as tables;
 
 use crate::shared_word::SharedWord;
 use crate::slot_move::SlotMove;
 use crate::step::Step;
-use hwp_geom::{Damage, Frame, Kind, Layout, Page};
-use hwp_kill::Policy;
+use hwp_page::{Damage, Frame, Kind, Layout, Page, Policy};
 use hwp_words::{
     CacheWord, FrameWord, HANDLED, LOCK, POISON, PageWord, PolicyWord, REFERENCE, StopWord,
 };

@@ -1,8 +1,6 @@
 use crate::log::Log;
 use crate::shared_word::SharedWord;
-use hwp_geom::{Cpu, Damage, FileNo, Frame, Line, List, Page, Proc, Thread, Who};
-use hwp_kill::Policy;
-use hwp_page::Entry;
+use hwp_page::{Cpu, Damage, Entry, FileNo, Frame, Line, List, Page, Policy, Proc, Thread, Who};
 
 /// A processor of a view, and the latest of its commands that made a step.
 #[derive(Clone, Copy)]

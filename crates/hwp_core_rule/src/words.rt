@@ -1,10 +1,10 @@
 ghost use Rattle.std.specs.Prelude.{◌≡◌, ◌<◌};
-ghost use Rattle.hwp_geom.specs.Layout.{IsSound};
+ghost use Rattle.hwp_page.specs.hwp_geom.Layout.{IsSound};
 ghost use Rattle.hwp_core_rule.specs.Views.{frame_in};
 ghost use Rattle.hwp_core_rule.specs.Words.{IsPlace, index, size};
 
 use crate::shared_word::SharedWord;
-use hwp_geom::{Frame, Layout};
+use hwp_page::{Frame, Layout};
 use hwp_words::CacheWord;
 
 /// The place of a word in the list of all words.

@@ -6,10 +6,10 @@ use Rattle.std.proofs.lemmas.Bool.{both_ways, cases_lt, lt-ltb, le-ltb, eqb-true
 use Rattle.std.proofs.lemmas.List.{get_or-set_same, get_or-set_other, get_or_past, length-set}
 use Rattle.std.proofs.lemmas.List.Sums.{sum_by-cons}
 use Rattle.std.proofs.lemmas.Option.{same_Some, slice_get-get_or}
-use Rattle.hwp_geom.specs.declared.Damage.TheVariants as damages
-use Rattle.hwp_geom.specs.declared.Frame.{Frame}
-use Rattle.hwp_geom.specs.declared.Layout.{Layout}
-use Rattle.hwp_geom.specs.declared.Who.{Who}
+use Rattle.hwp_core_rule.specs.hwp_geom.declared.Damage.TheVariants as damages
+use Rattle.hwp_core_rule.specs.hwp_geom.declared.Frame.{Frame}
+use Rattle.hwp_core_rule.specs.hwp_geom.declared.Layout.{Layout}
+use Rattle.hwp_core_rule.specs.hwp_geom.declared.Who.{Who}
 use Rattle.hwp_core_rule.specs.hwp_words.Frames.{lock_of, poison_of, handled_of, cycle_of, is_poisoned, is_kernel, handled_bit}
 use Rattle.hwp_core_rule.proofs.of_hwp_words.FieldLaws.{field-xor, field-xor_other}
 use Rattle.hwp_core_rule.proofs.of_hwp_words.FrameSteps.{fields-lock, fields-unlock, fields-poison}

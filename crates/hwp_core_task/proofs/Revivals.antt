@@ -5,8 +5,8 @@ use prog.Atomic.{either}
 use Rattle.std.proofs.lemmas.Bool.{both_ways, eqb-true}
 use Rattle.std.proofs.lemmas.List.{get_or-set_same, get_or-set_other}
 use Rattle.std.proofs.lemmas.Option.{same_Some, slice_get-get_or}
-use Rattle.hwp_geom.specs.declared.Frame.{Frame}
-use Rattle.hwp_geom.specs.declared.Layout.{Layout}
+use Rattle.hwp_core_rule.specs.hwp_geom.declared.Frame.{Frame}
+use Rattle.hwp_core_rule.specs.hwp_geom.declared.Layout.{Layout}
 use Rattle.hwp_core_rule.specs.hwp_words.Frames.{poison_of, cycle_of, is_poisoned, is_handled, is_kernel}
 use Rattle.hwp_core_rule.proofs.of_hwp_words.FrameSteps.{fields-revived}
 use Rattle.hwp_core_rule.specs.declared.State.{State}
@@ -20,7 +20,8 @@ use Rattle.hwp_core_rule.proofs.Lists.{same-or, sum-set}
 use Rattle.hwp_core_rule.proofs.MoveKeeps.{shaped}
 use Rattle.hwp_core_task.specs.declared.turn.Turn.{Turn}
 use Rattle.hwp_core_task.specs.Calls.{logs, rec_of}
-use Rattle.hwp_core_task.specs.Ranks.{Member, Made, PaysRevival, Pending, PlansLasting, PlansMild, failures_left, words_at}
+use Rattle.hwp_core_task.specs.Turns.{Member}
+use Rattle.hwp_core_task.specs.Ranks.{Made, PaysRevival, Pending, PlansLasting, PlansMild, failures_left, words_at}
 use Rattle.hwp_core_task.proofs.Failures.{left_of, mild-leaves}
 use Rattle.hwp_core_task.proofs.StepRanks.{failures-kept, met, words-after, words-kept}
 

@@ -2,13 +2,13 @@
 use Rattle.std.proofs.Common.{◌≡◌, ℕ, ◌+◌, ◌<◌, ◌≤◌, ◌==◌, min, not, Bool, true, false, cond, [], ◌∷◌, ◌++◌, Option, Some, None, bit_and, length, option_map, slice_get, refl, sym, ap, ◌∙◌, subst, arith}
 use Rattle.std.specs.Int.{bit_at}
 use Rattle.std.proofs.lemmas.Nat.Bits.{bit_at_and, same_from_bits}
-use Rattle.hwp_geom.specs.declared.FileNo.{FileNo}
-use Rattle.hwp_geom.specs.declared.Frame.{Frame}
-use Rattle.hwp_geom.specs.declared.Layout.{Layout}
-use Rattle.hwp_geom.specs.declared.Page.{Page}
-use Rattle.hwp_geom.specs.declared.Who.{Who}
-use Rattle.hwp_page.specs.declared.PageState.{PageState}
-use Rattle.hwp_page.specs.History.{BodyValue}
+use Rattle.hwp_core_rule.specs.hwp_geom.declared.FileNo.{FileNo}
+use Rattle.hwp_core_rule.specs.hwp_geom.declared.Frame.{Frame}
+use Rattle.hwp_core_rule.specs.hwp_geom.declared.Layout.{Layout}
+use Rattle.hwp_core_rule.specs.hwp_geom.declared.Page.{Page}
+use Rattle.hwp_core_rule.specs.hwp_geom.declared.Who.{Who}
+use Rattle.hwp_core_rule.specs.hwp_page.declared.PageState.{PageState}
+use Rattle.hwp_core_rule.specs.hwp_page.History.{BodyValue}
 use Rattle.hwp_core_rule.specs.hwp_words.Frames.{is_locked}
 use Rattle.hwp_core_rule.specs.hwp_words.Stops.{is_stopped}
 use Rattle.hwp_core_rule.specs.declared.FrameLock.{FrameLock}
@@ -26,7 +26,7 @@ use Rattle.hwp_core_rule.specs.declared.View.{View}
 use Rattle.hwp_core_rule.specs.Lists.{SomeMember}
 use Rattle.hwp_core_rule.specs.Logs.{log_of}
 use Rattle.hwp_core_rule.specs.Rule.{Holds}
-use Rattle.hwp_core_rule.specs.Slots.{IsIn, frame_slot, shelf_slot, is_out, moved_out}
+use Rattle.hwp_core_rule.specs.SlotMoves.{IsIn, frame_slot, shelf_slot, is_out, moved_out}
 use Rattle.hwp_core_rule.specs.Steps.{goes}
 use Rattle.hwp_core_rule.specs.Views.{body_of, listed_of, lock_found, lock_of_page, loaded, noted, put_home, sighted, stamp_of, taken, view_by}
 use Rattle.hwp_core_rule.specs.Words.{words_of}

@@ -3,9 +3,9 @@ use Rattle.std.proofs.Common.{◌≡◌, ℕ, ◌==◌, Bool, true, false, cond,
 use Rattle.std.proofs.lemmas.Bool.{both_ways}
 use Rattle.std.proofs.lemmas.Option.{none-some, same_Some}
 use Rattle.std.specs.List.{find}
-use Rattle.hwp_geom.specs.declared.Layout.{Layout}
-use Rattle.hwp_geom.specs.declared.Who.{Who}
-use Rattle.hwp_page.specs.History.{BodyValue}
+use Rattle.hwp_core_rule.specs.hwp_geom.declared.Layout.{Layout}
+use Rattle.hwp_core_rule.specs.hwp_geom.declared.Who.{Who}
+use Rattle.hwp_core_rule.specs.hwp_page.History.{BodyValue}
 use Rattle.hwp_core_rule.specs.declared.FrameLock.{FrameLock}
 use Rattle.hwp_core_rule.specs.declared.InHand.{InHand}
 use Rattle.hwp_core_rule.specs.declared.Log.{Log}
@@ -19,7 +19,7 @@ use Rattle.hwp_core_rule.specs.declared.View.{View}
 use Rattle.hwp_core_rule.specs.Asks.{AsksOf, BeginsBare, IsTurnOf}
 use Rattle.hwp_core_rule.specs.Logs.{log_of}
 use Rattle.hwp_core_rule.specs.Lists.{Homes}
-use Rattle.hwp_core_rule.specs.Slots.{takes, moved_out, MeetsSlot, IsIn}
+use Rattle.hwp_core_rule.specs.SlotMoves.{takes, moved_out, MeetsSlot, IsIn}
 use Rattle.hwp_core_rule.specs.Steps.{goes, place_of}
 use Rattle.hwp_core_rule.specs.Views.{without, changed, is_lock_of, is_page_lock_of, lock_found, lock_of_page, noted, view_by, is_body_of, loaded, taken, listed_of, listed, put_home}
 use Rattle.hwp_core_rule.specs.Words.{IsPlace}

@@ -2,10 +2,10 @@
 use Rattle.std.proofs.Common.{◌≡◌, ◌≢◌, ℕ, ◌<◌, ◌≤◌, ◌⊎◌, inl, inr, Bool, true, false, List, [], ◌∷◌, Some, None, slice_get, refl, sym, ap, ◌∙◌, subst, arith}
 use Rattle.std.proofs.lemmas.Bool.{both_ways}
 use Rattle.std.proofs.lemmas.Option.{get_or_from_slice_get, none-some, same_Some}
-use Rattle.hwp_geom.specs.declared.Frame.{Frame}
-use Rattle.hwp_geom.specs.declared.Layout.{Layout}
-use Rattle.hwp_geom.specs.declared.Who.{Who}
-use Rattle.hwp_geom.proofs.WordLaws.{not_nil}
+use Rattle.hwp_core_rule.specs.hwp_geom.declared.Frame.{Frame}
+use Rattle.hwp_core_rule.specs.hwp_geom.declared.Layout.{Layout}
+use Rattle.hwp_core_rule.specs.hwp_geom.declared.Who.{Who}
+use Rattle.hwp_core_rule.proofs.of_hwp_geom.WordLaws.{not_nil}
 use Rattle.hwp_core_rule.specs.hwp_words.Frames.{poison_of}
 use Rattle.hwp_core_rule.specs.declared.State.{State}
 use Rattle.hwp_core_rule.specs.declared.Step.TheVariants as steps
@@ -23,7 +23,8 @@ use Rattle.hwp_core_rule.proofs.WordsByKind.{same-put}
 use Rattle.hwp_core_task.specs.declared.turn.Turn.{Turn}
 use Rattle.hwp_core_task.specs.Boards.{view_of}
 use Rattle.hwp_core_task.specs.Calls.{Steps, logs, rec_of}
-use Rattle.hwp_core_task.specs.Ranks.{Member, Made, CostFalls, HasFailed, IsRanked, Pending, PlansMild, Quiet, failure_weight, failures_left, is_waits, top, words_at}
+use Rattle.hwp_core_task.specs.Turns.{Member}
+use Rattle.hwp_core_task.specs.Ranks.{Made, CostFalls, HasFailed, IsRanked, Pending, PlansMild, Quiet, failure_weight, failures_left, is_waits, top, words_at}
 use Rattle.hwp_core_task.proofs.Failures.{read-moved, words-moved, pending-moved, failures-moved, poison-lowers, retire-lowers}
 
 module _ {S : Type 0} {m : Member S} {layout : Layout} {seat : ℕ} {a b : State} {s t : S} {turn : Turn} (made : Made m layout seat a b s t turn) where

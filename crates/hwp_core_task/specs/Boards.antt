@@ -1,10 +1,9 @@
 -- What a board keeps, and what a turn of a task on it comes to.
 use Rattle.std.specs.Prelude.{◌≡◌, ℕ, ◌<◌, List, ◌∷◌, Option, Some, None, slice_get, slice_index_or}
-use Rattle.hwp_geom.specs.declared.Cpu.{Cpu}
-use Rattle.hwp_geom.specs.declared.Kind.{Kind}
-use Rattle.hwp_geom.specs.declared.Layout.{Layout}
-use Rattle.hwp_geom.specs.declared.Who.{Who}
-use Rattle.hwp_page.specs.History.{BodyValue}
+use Rattle.hwp_core_rule.specs.hwp_geom.declared.Cpu.{Cpu}
+use Rattle.hwp_core_rule.specs.hwp_geom.declared.Kind.{Kind}
+use Rattle.hwp_core_rule.specs.hwp_geom.declared.Layout.{Layout}
+use Rattle.hwp_core_rule.specs.hwp_page.History.{BodyValue}
 use Rattle.hwp_core_rule.specs.declared.Part.{Part}
 use Rattle.hwp_core_rule.specs.declared.Rec.{Rec}
 use Rattle.hwp_core_rule.specs.declared.State.{State}
@@ -17,6 +16,7 @@ use Rattle.hwp_core_rule.specs.Steps.{kind_of}
 use Rattle.hwp_core_task.specs.declared.turn.Turn.{Turn}
 use Rattle.hwp_core_task.specs.declared.turn.Turn.TheVariants as turns
 use Rattle.hwp_core_task.specs.Calls.{Brings, logs, rec_of}
+use Rattle.hwp_core_task.specs.Turns.{Member}
 
 -- a move that was made, and the turn that it was
 pub record Played : Type 0 where
@@ -35,13 +35,13 @@ pub record AreSeated (layout : Layout) (s : State) (seat : Cpu → ℕ) : Type 0
   pub apart : (c d : Cpu) → c.0 < layout.cpus → d.0 < layout.cpus → seat c ≡ seat d → c ≡ d
 
 -- the turn was one move of the seat, which the log tells with it; its kind is told, and the task is one that follows
-pub record TurnMade {S : Type 0} (layout : Layout) (seat : ℕ) (who : Who) (step : Step) (put : Option BodyValue) (next : ℕ → Option BodyValue → S → Turn → Type 0) (a b : State) (was now : List Played) (after : S) (result : Turn × Option Kind) : Type 0 where
+pub record TurnMade {S : Type 0} (m : Member S) (layout : Layout) (seat : ℕ) (step : Step) (a b : State) (was now : List Played) (before after : S) (result : Turn × Option Kind) : Type 0 where
   pub found : ℕ
   pub got : Option BodyValue
-  pub move : Move layout seat (rec_of layout who step (logs put) found got) a b
+  pub move : Move layout seat (rec_of layout (m.who before) step (logs (m.put before)) found got) a b
   pub brings : Brings layout step found got
-  pub logged : now ≡ record { seat = seat; made = rec_of layout who step (logs put) found got; turn = result.0 } ∷ was
-  pub follows : next found got after result.0
+  pub logged : now ≡ record { seat = seat; made = rec_of layout (m.who before) step (logs (m.put before)) found got; turn = result.0 } ∷ was
+  pub follows : m.next layout (m.bare before) found got after result.0
   pub kind : result.1 ≡ kind_of step
 
 -- the task is over: nothing changed
@@ -51,7 +51,10 @@ pub record NoTurn {S : Type 0} (a b : State) (was now : List Played) (before aft
   pub task : after ≡ before
   pub finished : result ≡ (turns.Finished, None)
 
--- a turn makes the step that comes, or none where none does
-abbrev pub TakesTurn : {S : Type 0} → Layout → ℕ → Who → Option Step → Option BodyValue → (ℕ → Option BodyValue → S → Turn → Type 0) → State → State → List Played → List Played → S → S → Turn × Option Kind → Type 0
-TakesTurn layout seat who None put next a b was now before after result = NoTurn a b was now before after result
-TakesTurn layout seat who (Some step) put next a b was now before after result = TurnMade layout seat who step put next a b was now after result
+-- a turn makes the step that was planned, or none where none was
+abbrev pub TakesTurnBy : {S : Type 0} → Member S → Layout → ℕ → Option Step → State → State → List Played → List Played → S → S → Turn × Option Kind → Type 0
+TakesTurnBy m layout seat None a b was now before after result = NoTurn a b was now before after result
+TakesTurnBy m layout seat (Some step) a b was now before after result = TurnMade m layout seat step a b was now before after result
+
+abbrev pub TakesTurn : {S : Type 0} → Member S → Layout → ℕ → State → State → List Played → List Played → S → S → Turn × Option Kind → Type 0
+TakesTurn m layout seat a b was now before after result = TakesTurnBy m layout seat (m.plan before) a b was now before after result

@@ -1,10 +1,10 @@
 -- What a processor holds, as one value, and what each step makes of it.
 use Rattle.std.specs.Prelude.{ℕ, ◌+◌, ◌-◌, ◌==◌, true, cond, List, [], ◌∷◌, ◌++◌, Option, Some, None, is_some, map, length, option_map, slice_set}
 use Rattle.std.specs.List.{find}
-use Rattle.hwp_geom.specs.declared.Frame.{Frame}
-use Rattle.hwp_geom.specs.declared.Layout.{Layout}
-use Rattle.hwp_geom.specs.declared.Page.{Page}
-use Rattle.hwp_geom.specs.declared.Proc.{Proc}
+use Rattle.hwp_core_rule.specs.hwp_geom.declared.Frame.{Frame}
+use Rattle.hwp_core_rule.specs.hwp_geom.declared.Layout.{Layout}
+use Rattle.hwp_core_rule.specs.hwp_geom.declared.Page.{Page}
+use Rattle.hwp_core_rule.specs.hwp_geom.declared.Proc.{Proc}
 use Rattle.hwp_core_rule.specs.hwp_words.Names.{frame_name}
 use Rattle.hwp_core_rule.specs.hwp_words.Translations.{pte_word}
 use Rattle.hwp_core_rule.specs.declared.FrameInHand.{FrameInHand}

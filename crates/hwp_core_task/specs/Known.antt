@@ -1,12 +1,12 @@
 -- What a processor knows of one of its commands: the words that its steps showed, the histories that it saw, and the entries
 -- that it made.
 use Rattle.std.specs.Prelude.{◌≡◌, ◌⊎◌, ℕ, ◌+◌, ◌==◌, ◌&&◌, Bool, true, false, List, [], ◌∷◌, ◌++◌, Some, filter}
-use Rattle.hwp_geom.specs.declared.Frame.{Frame}
-use Rattle.hwp_geom.specs.declared.Page.{Page}
-use Rattle.hwp_geom.specs.declared.VSlot.{VSlot}
-use Rattle.hwp_geom.specs.declared.Who.{Who}
-use Rattle.hwp_page.specs.declared.What.{What}
-use Rattle.hwp_page.specs.declared.What.TheVariants as entries
+use Rattle.hwp_core_rule.specs.hwp_geom.declared.Frame.{Frame}
+use Rattle.hwp_core_rule.specs.hwp_geom.declared.Page.{Page}
+use Rattle.hwp_core_rule.specs.hwp_geom.declared.VSlot.{VSlot}
+use Rattle.hwp_core_rule.specs.hwp_geom.declared.Who.{Who}
+use Rattle.hwp_core_rule.specs.hwp_page.declared.What.{What}
+use Rattle.hwp_core_rule.specs.hwp_page.declared.What.TheVariants as entries
 use Rattle.hwp_core_rule.specs.hwp_words.Stops.{is_stopped}
 use Rattle.hwp_core_rule.specs.declared.Length.{Length}
 use Rattle.hwp_core_rule.specs.declared.Log.{Log}

@@ -1,9 +1,9 @@
 -- What a command that is refused has seen of a page.
 use Rattle.std.specs.Prelude.{◌≡◌, ℕ, length}
-use Rattle.hwp_geom.specs.declared.Layout.{Layout}
-use Rattle.hwp_geom.specs.declared.Page.{Page}
-use Rattle.hwp_geom.specs.declared.Who.{Who}
-use Rattle.hwp_page.specs.declared.PageState.{PageState}
+use Rattle.hwp_core_rule.specs.hwp_geom.declared.Layout.{Layout}
+use Rattle.hwp_core_rule.specs.hwp_geom.declared.Page.{Page}
+use Rattle.hwp_core_rule.specs.hwp_geom.declared.Who.{Who}
+use Rattle.hwp_core_rule.specs.hwp_page.declared.PageState.{PageState}
 use Rattle.hwp_core_rule.specs.declared.Log.{Log}
 use Rattle.hwp_core_rule.specs.declared.View.{View}
 use Rattle.hwp_core_rule.specs.Logs.{state_of}

@@ -1,10 +1,9 @@
 -- The law by which tasks come to an end: each turn lowers a task's cost, or waits for what another processor holds.
 use Rattle.std.specs.Prelude.{◌≡◌, ◌≢◌, ℕ, ◌+◌, ◌-◌, ◌*◌, ◌<◌, ◌≤◌, ◌⊎◌, Bool, true, false, cond, [], Option, Some, None, slice_index}
 use Rattle.std.specs.List.{sum_by}
-use Rattle.hwp_geom.specs.declared.Frame.{Frame}
-use Rattle.hwp_geom.specs.declared.Layout.{Layout}
-use Rattle.hwp_geom.specs.declared.Who.{Who}
-use Rattle.hwp_page.specs.History.{BodyValue}
+use Rattle.hwp_core_rule.specs.hwp_geom.declared.Frame.{Frame}
+use Rattle.hwp_core_rule.specs.hwp_geom.declared.Layout.{Layout}
+use Rattle.hwp_core_rule.specs.hwp_page.History.{BodyValue}
 use Rattle.hwp_core_rule.specs.hwp_words.Frames.{is_poisoned, is_handled, is_kernel, poison_of, handled_of, cycle_of}
 use Rattle.hwp_core_rule.specs.declared.State.{State}
 use Rattle.hwp_core_rule.specs.declared.Step.{Step}
@@ -17,6 +16,7 @@ use Rattle.hwp_core_task.specs.declared.turn.Turn.{Turn}
 use Rattle.hwp_core_task.specs.declared.turn.Turn.TheVariants as turns
 use Rattle.hwp_core_task.specs.Boards.{view_of}
 use Rattle.hwp_core_task.specs.Calls.{Brings, logs, rec_of}
+use Rattle.hwp_core_task.specs.Turns.{Member}
 
 -- the turn waits for what another processor holds
 abbrev pub is_waits : Turn → Bool
@@ -67,34 +67,6 @@ pub record OtherHand (a : State) (seat : ℕ) : Type 0 where
   pub other : ℕ
   pub differs : other ≢ seat
   pub has : HasHand (view_of a other)
-
--- the ghost members of a task, as the law reads them
-pub record Member (S : Type 0) : Type 1 where
-  pub who : S → Who
-  pub plan : S → Option Step
-  pub put : S → Option BodyValue
-  pub bare : S → S
-  pub next : Layout → S → ℕ → Option BodyValue → S → Turn → Type 0
-  pub fits : Layout → View → S → Type 0
-  pub class : S → ℕ
-  pub cost : S → Words → ℕ
-  pub aborts : S → Bool
-  pub claims : S → Option (Frame × ℕ)
-
-abbrev pub member : {S : Type 0} → (S → Who) → (S → Option Step) → (S → Option BodyValue) → (S → S) → (Layout → S → ℕ → Option BodyValue → S → Turn → Type 0) → (Layout → View → S → Type 0)
-    → (S → ℕ) → (S → Words → ℕ) → (S → Bool) → (S → Option (Frame × ℕ)) → Member S
-member who plan put bare next fits class cost aborts claims = record {
-  who = who;
-  plan = plan;
-  put = put;
-  bare = bare;
-  next = next;
-  fits = fits;
-  class = class;
-  cost = cost;
-  aborts = aborts;
-  claims = claims;
-}
 
 -- a step of a task was made on a board that keeps the rule before and after, by a seat whose view the task fits
 pub record Made {S : Type 0} (m : Member S) (layout : Layout) (seat : ℕ) (a b : State) (before after : S) (turn : Turn) : Type 0 where

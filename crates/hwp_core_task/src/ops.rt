@@ -1,12 +1,10 @@
 ghost use Rattle.std.specs.Prelude.{◌≡◌};
-ghost use Rattle.hwp_geom.specs.declared.Layout.{Layout as LayoutOf};
+ghost use Rattle.hwp_core_rule.specs.hwp_geom.declared.Layout.{Layout as LayoutOf};
 ghost use Rattle.hwp_core_rule.specs.declared.Rec.{Rec};
 ghost use Rattle.hwp_core_rule.specs.declared.View.{View};
 ghost use Rattle.hwp_core_task.specs.Calls.{CanMake, Steps, logs, rec_of};
 
-use hwp_core_rule::Step;
-use hwp_geom::{Layout, Who};
-use hwp_page::Body;
+use hwp_core_rule::{Body, Layout, Step, Who};
 
 /// What a step met: the word that it found, and the body of the slot whose lock it took.
 #[derive(Drop)]
@@ -21,7 +19,7 @@ pub struct Met {
 /// that is to be there.
 pub trait Ops {
     /// The layout of the machine.
-    ghost machine: { Self → LayoutOf };
+    ghost layout: { Self → LayoutOf };
 
     /// What the processor knows.
     ghost view: { Self → View };
@@ -34,13 +32,13 @@ pub trait Ops {
 
     /// The layout of the machine.
     fn layout(&self) -> &Layout
-        ensures { result.now ≡ machine self.now };
+        ensures { result.now ≡ layout self.now };
 
     /// One atomic step on one word, of this command.
     fn step(&mut self, who: Who, step: &Step, body: Option<Body>) -> Met
         requires ready { ready self.old }
-        requires can { CanMake (machine self.old) who step.now body (view self.old) }
-        ensures same { machine self.new ≡ machine self.old }
-        ensures told { Steps (machine self.old) who step.now (logs body) (view self.old) (view self.new) result.found result.body }
-        ensures moved { moves self.old (rec_of (machine self.old) who step.now (logs body) result.found result.body) self.new };
+        requires can { CanMake (layout self.old) who step.now body (view self.old) }
+        ensures same { layout self.new ≡ layout self.old }
+        ensures told { Steps (layout self.old) who step.now (logs body) (view self.old) (view self.new) result.found result.body }
+        ensures moved { moves self.old (rec_of (layout self.old) who step.now (logs body) result.found result.body) self.new };
 }

@@ -1,5 +1,5 @@
 ghost use Rattle.std.specs.Prelude.{◌≡◌, ◌↔◌, IsTrue, Option, Some, None};
-ghost use Rattle.hwp_core_task.specs.Ranks.{PaysRevival, member};
+ghost use Rattle.hwp_core_task.specs.Ranks.{PaysRevival};
 ghost use Rattle.hwp_core_task.specs.Classes.{TellsClass};
 
 use crate::ranked::Ranked;
@@ -8,11 +8,11 @@ use crate::ranked::Ranked;
 pub trait Scheduled: Ranked {
     /// Whether no step is left.
     fn is_over(&self) -> bool
-        ensures { IsTrue result ↔ (Self.plan self.now ≡ None) };
+        ensures { IsTrue result ↔ (Self.task.plan self.now ≡ None) };
 
     /// Its clauses are of all tasks of this type: the class tells what a task holds, and each turn pays for the frames that
     /// may fail again after it. Proof only: a call tells its clauses.
     fn tells(&self)
-        ensures class { TellsClass (member Self.who Self.plan Self.put Self.bare Self.next Self.fits Self.class_of Self.cost Self.aborts Self.claims) }
-        ensures pays { PaysRevival (member Self.who Self.plan Self.put Self.bare Self.next Self.fits Self.class_of Self.cost Self.aborts Self.claims) };
+        ensures class { TellsClass Self.task }
+        ensures pays { PaysRevival Self.task };
 }

@@ -2,29 +2,29 @@
 use Rattle.std.proofs.Common.{◌≡◌, ℕ, ◌+◌, ◌<◌, ◌≤◌, ◌⊎◌, inl, inr, List, [], ◌∷◌, ◌++◌, Option, Some, None, length, slice_get, refl, sym, ap, ◌∙◌, subst, arith}
 use Rattle.std.proofs.lemmas.List.{length-append}
 use Rattle.std.proofs.lemmas.Option.{same_Some, slice_get_within}
-use Rattle.hwp_geom.specs.declared.Cpu.{Cpu}
-use Rattle.hwp_geom.specs.declared.Layout.{Layout}
-use Rattle.hwp_geom.specs.declared.Who.{Who}
-use Rattle.hwp_geom.specs.Limits.{command_limit}
-use Rattle.hwp_geom.specs.Pairs.{Pairs}
-use Rattle.hwp_script_lines.specs.declared.Command.{Command}
-use Rattle.hwp_report_text.specs.declared.Answer.{Answer}
-use Rattle.hwp_report_text.specs.declared.Answer.TheVariants as answers
-use Rattle.hwp_core_rule.specs.declared.Debts.{Debts}
-use Rattle.hwp_core_rule.specs.declared.Mark.{Mark}
-use Rattle.hwp_core_rule.specs.declared.Part.{Part}
-use Rattle.hwp_core_rule.specs.declared.Reported.{Reported}
-use Rattle.hwp_core_rule.specs.declared.Setting.{Setting}
-use Rattle.hwp_core_rule.specs.declared.View.{View}
-use Rattle.hwp_core_rule.specs.Lists.{EachMember, SomeMember}
-use Rattle.hwp_core_rule.specs.Views.{no_debts}
-use Rattle.hwp_core_rule.proofs.Lists.{at_last}
-use Rattle.hwp_core_task.specs.Calls.{IsLater, IsOnTurn}
-use Rattle.hwp_core_task.specs.Hands.{Hand, hand_of, empty}
-use Rattle.hwp_core_task.specs.Known.{HasMadeNone}
-use Rattle.hwp_core_task.proofs.MadeEntries.{made-none}
+use Rattle.hwp_cpu_row.specs.hwp_geom.declared.Cpu.{Cpu}
+use Rattle.hwp_cpu_row.specs.hwp_geom.declared.Layout.{Layout}
+use Rattle.hwp_cpu_row.specs.hwp_geom.declared.Who.{Who}
+use Rattle.hwp_cpu_row.specs.hwp_geom.Limits.{command_limit}
+use Rattle.hwp_cpu_row.specs.hwp_geom.Pairs.{Pairs}
+use Rattle.hwp_cpu_row.specs.hwp_script_lines.declared.Command.{Command}
+use Rattle.hwp_cpu_row.specs.hwp_report_text.declared.Answer.{Answer}
+use Rattle.hwp_cpu_row.specs.hwp_report_text.declared.Answer.TheVariants as answers
+use Rattle.hwp_cpu_row.specs.hwp_core_rule.declared.Debts.{Debts}
+use Rattle.hwp_cpu_row.specs.hwp_core_rule.declared.Mark.{Mark}
+use Rattle.hwp_cpu_row.specs.hwp_core_rule.declared.Part.{Part}
+use Rattle.hwp_cpu_row.specs.hwp_core_rule.declared.Reported.{Reported}
+use Rattle.hwp_cpu_row.specs.hwp_core_rule.declared.Setting.{Setting}
+use Rattle.hwp_cpu_row.specs.hwp_core_rule.declared.View.{View}
+use Rattle.hwp_cpu_row.specs.hwp_core_rule.Lists.{EachMember, SomeMember}
+use Rattle.hwp_cpu_row.specs.hwp_core_rule.Views.{no_debts}
+use Rattle.hwp_cpu_row.proofs.of_hwp_core_rule.Lists.{at_last}
+use Rattle.hwp_cpu_row.specs.hwp_core_task.Calls.{IsLater, IsOnTurn}
+use Rattle.hwp_cpu_row.specs.hwp_core_task.Hands.{Hand, hand_of, empty}
+use Rattle.hwp_cpu_row.specs.hwp_core_task.Known.{HasMadeNone}
+use Rattle.hwp_cpu_row.proofs.of_hwp_core_task.MadeEntries.{made-none}
 use Rattle.hwp_cpu_row.specs.declared.Row.{Row}
-use Rattle.hwp_cpu_check.specs.hwp_law.Checks.{Banks, empty_banks}
+use Rattle.hwp_cpu_row.specs.hwp_banks.Banks.{Banks, empty_banks}
 use Rattle.hwp_cpu_command.specs.declared.job.Job.{Job}
 use Rattle.hwp_cpu_command.specs.Begins.{Begins}
 use Rattle.hwp_cpu_command.specs.Jobs as jobs

@@ -1,18 +1,18 @@
 -- What is so of each kind of command.
 use Rattle.std.proofs.Common.{◌≡◌, ℕ, true, sym, ap, ◌∙◌, subst}
-use Rattle.hwp_geom.specs.declared.Damage.{Damage}
-use Rattle.hwp_geom.specs.declared.Damage.TheVariants as damages
-use Rattle.hwp_geom.specs.declared.Frame.{Frame}
-use Rattle.hwp_geom.specs.declared.Layout.{Layout}
-use Rattle.hwp_geom.specs.declared.Who.{Who}
-use Rattle.hwp_script_lines.specs.declared.Command.{Command}
-use Rattle.hwp_script_lines.specs.declared.Command.TheVariants as commands
-use Rattle.hwp_core_rule.specs.declared.Spoiled.{Spoiled}
-use Rattle.hwp_core_rule.specs.declared.View.{View}
-use Rattle.hwp_core_task.specs.Calls.{IsOnTurn}
+use Rattle.hwp_cpu_row.specs.hwp_geom.declared.Damage.{Damage}
+use Rattle.hwp_cpu_row.specs.hwp_geom.declared.Damage.TheVariants as damages
+use Rattle.hwp_cpu_row.specs.hwp_geom.declared.Frame.{Frame}
+use Rattle.hwp_cpu_row.specs.hwp_geom.declared.Layout.{Layout}
+use Rattle.hwp_cpu_row.specs.hwp_geom.declared.Who.{Who}
+use Rattle.hwp_cpu_row.specs.hwp_script_lines.declared.Command.{Command}
+use Rattle.hwp_cpu_row.specs.hwp_script_lines.declared.Command.TheVariants as commands
+use Rattle.hwp_cpu_row.specs.hwp_core_rule.declared.Spoiled.{Spoiled}
+use Rattle.hwp_cpu_row.specs.hwp_core_rule.declared.View.{View}
+use Rattle.hwp_cpu_row.specs.hwp_core_task.Calls.{IsOnTurn}
 use Rattle.hwp_cpu_command.specs.hwp_cpu_control.declared.Spoil.{Spoil}
 use Rattle.hwp_cpu_command.specs.hwp_cpu_control.Spoils as spoils
-use Rattle.hwp_cpu_check.specs.Told.{halts}
+use Rattle.hwp_cpu_row.specs.hwp_cpu_check.Told.{halts}
 use Rattle.hwp_cpu_command.specs.hwp_cpu_access.declared.Instruction.{Instruction}
 use Rattle.hwp_cpu_command.specs.hwp_cpu_raise.declared.Raise.{Raise}
 use Rattle.hwp_cpu_command.specs.hwp_scrub.declared.Scrub.{Scrub}

@@ -3,22 +3,22 @@ use Rattle.std.proofs.Common.{◌≡◌, ℕ, ◌<◌, ◌≤◌, ◌⊎◌, inl
 use Rattle.std.proofs.lemmas.Bool.{cases_lt}
 use Rattle.std.proofs.lemmas.List.{get_or_past, length-map}
 use Rattle.std.proofs.lemmas.Option.{get_or_from_slice_get}
-use Rattle.hwp_geom.specs.declared.Cpu.{Cpu}
-use Rattle.hwp_geom.specs.declared.Layout.{Layout}
-use Rattle.hwp_geom.specs.Limits.{command_limit}
-use Rattle.hwp_page.specs.History.{BodyValue}
-use Rattle.hwp_script_lines.specs.declared.Command.{Command}
-use Rattle.hwp_report_text.specs.declared.Answer.{Answer}
+use Rattle.hwp_cpu_row.specs.hwp_geom.declared.Cpu.{Cpu}
+use Rattle.hwp_cpu_row.specs.hwp_geom.declared.Layout.{Layout}
+use Rattle.hwp_cpu_row.specs.hwp_geom.Limits.{command_limit}
+use Rattle.hwp_cpu_row.specs.hwp_page.History.{BodyValue}
+use Rattle.hwp_cpu_row.specs.hwp_script_lines.declared.Command.{Command}
+use Rattle.hwp_cpu_row.specs.hwp_report_text.declared.Answer.{Answer}
 use Rattle.hwp_cpu_row.specs.declared.Row.{Row}
-use Rattle.hwp_cpu_check.specs.hwp_law.Checks.{Banks}
-use Rattle.hwp_core_rule.specs.declared.State.{State}
-use Rattle.hwp_core_rule.specs.declared.View.{View}
-use Rattle.hwp_core_rule.specs.Opening.{below, opening, opening_view}
-use Rattle.hwp_core_rule.specs.Rule.{Holds}
-use Rattle.hwp_core_rule.proofs.Lists.{at_map}
-use Rattle.hwp_core_rule.proofs.WordsOpen.{below-at, length-below}
-use Rattle.hwp_core_task.specs.declared.Turn.{Turn}
-use Rattle.hwp_core_task.specs.Boards.{AreSeated, view_of}
+use Rattle.hwp_cpu_row.specs.hwp_banks.Banks.{Banks}
+use Rattle.hwp_cpu_row.specs.hwp_core_rule.declared.State.{State}
+use Rattle.hwp_cpu_row.specs.hwp_core_rule.declared.View.{View}
+use Rattle.hwp_cpu_row.specs.hwp_core_rule.Opening.{below, opening, opening_view}
+use Rattle.hwp_cpu_row.specs.hwp_core_rule.Rule.{Holds}
+use Rattle.hwp_cpu_row.proofs.of_hwp_core_rule.Lists.{at_map}
+use Rattle.hwp_cpu_row.proofs.of_hwp_core_rule.WordsOpen.{below-at, length-below}
+use Rattle.hwp_cpu_row.specs.hwp_core_task.declared.Turn.{Turn}
+use Rattle.hwp_cpu_row.specs.hwp_core_task.Boards.{AreSeated, view_of}
 use Rattle.hwp_cpu_command.specs.declared.job.Job.{Job}
 use Rattle.hwp_cpu_command.specs.Jobs as jobs
 use Rattle.hwp_cpu_causes.specs.hwp_law_holds.Served.{IsServed}

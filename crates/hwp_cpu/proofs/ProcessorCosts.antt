@@ -3,21 +3,21 @@ use Rattle.std.proofs.Common.{◌≡◌, ◌≢◌, ℕ, ◌+◌, ◌-◌, ◌*�
 use Rattle.std.proofs.lemmas.Bool.{both_ways}
 use Rattle.std.proofs.lemmas.List.{length-append}
 use Rattle.std.proofs.lemmas.Option.{none-some, slice_get_within}
-use Rattle.hwp_geom.specs.declared.Frame.{Frame}
-use Rattle.hwp_geom.specs.declared.Layout.{Layout}
-use Rattle.hwp_geom.specs.declared.Who.{Who}
-use Rattle.hwp_geom.specs.Limits.{command_limit}
-use Rattle.hwp_script_lines.specs.declared.Command.{Command}
-use Rattle.hwp_report_text.specs.declared.Answer.{Answer}
-use Rattle.hwp_core_rule.specs.declared.State.{State}
-use Rattle.hwp_core_rule.specs.Moves.{Move}
-use Rattle.hwp_core_rule.specs.Rule.{Holds}
-use Rattle.hwp_core_task.specs.declared.Turn.{Turn}
-use Rattle.hwp_core_task.specs.Boards.{view_of}
-use Rattle.hwp_core_task.specs.Calls.{logs, rec_of}
-use Rattle.hwp_core_task.specs.Ranks.{Member, member, Made, CostFalls, HasFailed, IsRanked, OtherHand, PaysRevival, Pending, Quiet, failure_weight, failures_left, is_refused, is_waits, top, words_at}
+use Rattle.hwp_cpu_row.specs.hwp_geom.declared.Frame.{Frame}
+use Rattle.hwp_cpu_row.specs.hwp_geom.declared.Layout.{Layout}
+use Rattle.hwp_cpu_row.specs.hwp_geom.declared.Who.{Who}
+use Rattle.hwp_cpu_row.specs.hwp_geom.Limits.{command_limit}
+use Rattle.hwp_cpu_row.specs.hwp_script_lines.declared.Command.{Command}
+use Rattle.hwp_cpu_row.specs.hwp_report_text.declared.Answer.{Answer}
+use Rattle.hwp_cpu_row.specs.hwp_core_rule.declared.State.{State}
+use Rattle.hwp_cpu_row.specs.hwp_core_rule.Moves.{Move}
+use Rattle.hwp_cpu_row.specs.hwp_core_rule.Rule.{Holds}
+use Rattle.hwp_cpu_row.specs.hwp_core_task.declared.Turn.{Turn}
+use Rattle.hwp_cpu_row.specs.hwp_core_task.Boards.{view_of}
+use Rattle.hwp_cpu_row.specs.hwp_core_task.Calls.{logs, rec_of}
+use Rattle.hwp_cpu_row.specs.hwp_core_task.Ranks.{Made, CostFalls, HasFailed, IsRanked, OtherHand, PaysRevival, Pending, Quiet, failure_weight, failures_left, is_refused, is_waits, top, words_at}
 use Rattle.hwp_cpu_row.specs.declared.Row.{Row}
-use Rattle.hwp_cpu_check.specs.hwp_law.Checks.{Banks}
+use Rattle.hwp_cpu_row.specs.hwp_banks.Banks.{Banks}
 use Rattle.hwp_cpu_command.specs.declared.job.Job.{Job}
 use Rattle.hwp_cpu_command.specs.Jobs as jobs
 use Rattle.hwp_cpu_command.specs.Jobs.{banks_after}
@@ -26,10 +26,7 @@ use Rattle.hwp_cpu_command_laws.proofs.Below.{begins-below, job-below}
 use Rattle.hwp_cpu_command_laws.proofs.CommandRuns.{has-begun}
 use Rattle.hwp_cpu.specs.declared.processor.Processor.{Processor}
 use Rattle.hwp_cpu.specs.Processors.{BeginsAt, Follows, IsAnswered, Next, NextOf, aborts, aborts_of, at_number, bare, claims, claims_of, class, class_of, cost, cost_of, plan, plan_of, put, put_of, who, who_of}
-use Rattle.hwp_cpu.specs.Serving.{Fits, FitsAt, IsRunning}
-
-abbrev pub the-member : Member Processor
-the-member = member who plan put bare Next Fits class cost aborts claims
+use Rattle.hwp_cpu.specs.Serving.{Fits, FitsAt, IsRunning, task}
 
 -- ---- one command
 
@@ -42,7 +39,7 @@ begun-idle layout a rule by None banks (Some j) begins = absurd begins
 
 -- ---- a turn
 
-module _ {layout : Layout} {seat : ℕ} {a b : State} {p q : Processor} {turn : Turn} (made : Made the-member layout seat a b p q turn) where
+module _ {layout : Layout} {seat : ℕ} {a b : State} {p q : Processor} {turn : Turn} (made : Made task layout seat a b p q turn) where
   abbrev rows : List Row
   rows = p.rows.items
 
@@ -71,7 +68,7 @@ module _ {layout : Layout} {seat : ℕ} {a b : State} {p q : Processor} {turn : 
   module _ (j : Job) (at : IsRunning layout (view_of a seat) p.cpu p.commands rows p.banks j) (planned : jobs.plan j ≡ Some made.step)
       (move : Move layout seat (rec_of layout (jobs.who j) made.step (logs (jobs.put j)) made.found made.got) a b) where
     -- the turn of the command that runs
-    of-job : (k : Job) (t : Turn) → jobs.Next layout (jobs.bare j) made.found made.got k t → Made jobbing.job-member layout seat a b j k t
+    of-job : (k : Job) (t : Turn) → jobs.Next layout (jobs.bare j) made.found made.got k t → Made jobs.task layout seat a b j k t
     of-job k t next = record { step = made.step; found = made.found; got = made.got; rule = made.rule; kept = made.kept; fits = at.fits; planned = planned; move = move; brings = made.brings; follows = next }
 
     falls-on : (k : Job) (t : Turn) → jobs.Next layout (jobs.bare j) made.found made.got k t → (o : Option Answer) → Follows (bare p) k o t q turn → is_waits turn ≡ false
@@ -116,7 +113,7 @@ module _ {layout : Layout} {seat : ℕ} {a b : State} {p q : Processor} {turn : 
     ]
     owns-on k t next (Some answer) said (answered, turn_is) going frame cycle pending = inr (jobbing.owns-answered layout seat a b j k t frame cycle (of-job k t next) said pending)
 
-falls : (layout : Layout) (seat : ℕ) (a b : State) (p q : Processor) (turn : Turn) → Made the-member layout seat a b p q turn → is_waits turn ≡ false → CostFalls the-member layout a b p q ⊎ HasFailed the-member layout a b p q
+falls : (layout : Layout) (seat : ℕ) (a b : State) (p q : Processor) (turn : Turn) → Made task layout seat a b p q turn → is_waits turn ≡ false → CostFalls task layout a b p q ⊎ HasFailed task layout a b p q
 falls layout seat a b p q turn made goes = elim (which p.job made.fits.at made.planned made.move made.follows) [
   | inl less ↦ inl less
   | inr fails ↦ inr (record { fewer = fails.0; bounded = fails.1 })
@@ -128,7 +125,7 @@ falls layout seat a b p q turn made goes = elim (which p.job made.fits.at made.p
     which (Some j) at planned move next = falls-on made j at planned move next.0 next.1 next.2 (jobs.answer next.0) next.3 goes
     which None at planned move next = absurd (none-some made.step planned)
 
-waits : (layout : Layout) (seat : ℕ) (a b : State) (p q : Processor) (turn : Turn) → Made the-member layout seat a b p q turn → is_waits turn ≡ true → Quiet (class p) layout a seat → CostFalls the-member layout a b p q ⊎ ((aborts q ≡ true) × OtherHand a seat)
+waits : (layout : Layout) (seat : ℕ) (a b : State) (p q : Processor) (turn : Turn) → Made task layout seat a b p q turn → is_waits turn ≡ true → Quiet (class p) layout a seat → CostFalls task layout a b p q ⊎ ((aborts q ≡ true) × OtherHand a seat)
 waits layout seat a b p q turn made is quiet = which p.job made.fits.at made.planned made.move made.follows quiet
   where
     which : (x : Option Job) → FitsAt layout (view_of a seat) p.cpu p.commands p.rows.items p.banks x → plan_of x ≡ Some made.step
@@ -138,7 +135,7 @@ waits layout seat a b p q turn made is quiet = which p.job made.fits.at made.pla
     which None at planned move next others = absurd (none-some made.step planned)
 
 -- a turn pays for what its command takes back
-pub pays : PaysRevival the-member
+pub pays : PaysRevival task
 pays layout seat a b p q turn made = which p.job made.fits.at made.planned made.move made.follows
   where
     which : (x : Option Job) → FitsAt layout (view_of a seat) p.cpu p.commands p.rows.items p.banks x → plan_of x ≡ Some made.step
@@ -164,7 +161,7 @@ small layout a seat p rule fits =
     which (Some j) at = job-below layout a (view_of a seat) j rule at.fits
     which None at = omega arith
 
-leaves : (layout : Layout) (seat : ℕ) (a b : State) (p q : Processor) (turn : Turn) → Made the-member layout seat a b p q turn → aborts p ≡ true → (plan q ≡ None) ⊎ (1 < class q)
+leaves : (layout : Layout) (seat : ℕ) (a b : State) (p q : Processor) (turn : Turn) → Made task layout seat a b p q turn → aborts p ≡ true → (plan q ≡ None) ⊎ (1 < class q)
 leaves layout seat a b p q turn made gives = which p.job made.fits.at made.planned made.move made.follows gives
   where
     which : (x : Option Job) → FitsAt layout (view_of a seat) p.cpu p.commands p.rows.items p.banks x → plan_of x ≡ Some made.step
@@ -173,7 +170,7 @@ leaves layout seat a b p q turn made gives = which p.job made.fits.at made.plann
     which (Some j) at planned move next gives_up = leaves-on made j at planned move next.0 next.1 next.2 (jobs.answer next.0) next.3 gives_up
     which None at planned move next gives_up = absurd (none-some made.step planned)
 
-owns : (layout : Layout) (seat : ℕ) (a b : State) (p q : Processor) (turn : Turn) (frame : Frame) (cycle : ℕ) → Made the-member layout seat a b p q turn → is_refused turn ≡ false → Pending (words_at layout b) frame cycle
+owns : (layout : Layout) (seat : ℕ) (a b : State) (p q : Processor) (turn : Turn) (frame : Frame) (cycle : ℕ) → Made task layout seat a b p q turn → is_refused turn ≡ false → Pending (words_at layout b) frame cycle
     → (claims q ≡ Some (frame, cycle)) ⊎ (Pending (words_at layout a) frame cycle × (claims p ≢ Some (frame, cycle)))
 owns layout seat a b p q turn frame cycle made going pending = which p.job made.fits.at made.planned made.move made.follows
   where
@@ -183,5 +180,5 @@ owns layout seat a b p q turn frame cycle made going pending = which p.job made.
     which (Some j) at planned move next = owns-on made j at planned move next.0 next.1 next.2 (jobs.answer next.0) refl next.3 going frame cycle pending
     which None at planned move next = absurd (none-some made.step planned)
 
-pub ranked : IsRanked the-member
+pub ranked : IsRanked task
 ranked = record { classes = classes; small = small; falls = falls; waits = waits; leaves = leaves; owns = owns }

@@ -7,45 +7,45 @@ use Rattle.std.specs.Prelude.{option_map}
 use Rattle.std.proofs.lemmas.Bool.{false_from_ne_true}
 use Rattle.std.proofs.lemmas.List.{length-map, map-append, nil_from_length}
 use Rattle.std.proofs.lemmas.Option.{none-some, same_Some}
-use Rattle.hwp_geom.specs.declared.Cpu.{Cpu}
-use Rattle.hwp_geom.specs.declared.Frame.{Frame}
-use Rattle.hwp_geom.specs.declared.Layout.{Layout}
-use Rattle.hwp_geom.specs.declared.Page.{Page}
-use Rattle.hwp_geom.specs.declared.Who.{Who}
-use Rattle.hwp_geom.specs.Pairs.{Pairs}
-use Rattle.hwp_page.specs.declared.What.{What}
-use Rattle.hwp_page.specs.declared.What.TheVariants as entries
-use Rattle.hwp_page.specs.Losses.{is_loss}
-use Rattle.hwp_page.specs.Situations.{outcome_of}
-use Rattle.hwp_core_rule.specs.declared.Made.{Made}
-use Rattle.hwp_core_rule.specs.declared.Mark.{Mark}
-use Rattle.hwp_core_rule.specs.declared.MarkKind.TheVariants as mark_kinds
-use Rattle.hwp_core_rule.specs.declared.Reported.{Reported}
-use Rattle.hwp_core_rule.specs.declared.Setting.{Setting}
-use Rattle.hwp_core_rule.specs.declared.Spoiled.{Spoiled}
-use Rattle.hwp_core_rule.specs.declared.View.{View}
-use Rattle.hwp_core_rule.specs.Lists.{EachMember}
-use Rattle.hwp_core_rule.specs.Views.{no_debts}
-use Rattle.hwp_core_rule.proofs.Lists.{at_last, at_push, each-push, sum-zero}
-use Rattle.hwp_core_task.specs.Calls.{CanMake}
-use Rattle.hwp_core_task.specs.Known.{HasMadeNone, deeds}
-use Rattle.hwp_cpu_check.specs.hwp_claim_act.declared.Failed.{Failed}
-use Rattle.hwp_cpu_check.specs.hwp_claim_act.Abandoned as abandoned
-use Rattle.hwp_cpu_check.specs.hwp_claim_frame.Claims.{HasMarkedNone, is_own}
-use Rattle.hwp_cpu_check.specs.hwp_claim_frame.Done.{Grows, Marking, counts_owed, marking_of, poisoning}
-use Rattle.hwp_script_lines.specs.declared.Command.{Command}
-use Rattle.hwp_report_text.specs.declared.Answer.{Answer}
-use Rattle.hwp_report_text.specs.declared.Answer.TheVariants as answers
-use Rattle.hwp_report_text.specs.declared.How.{How}
-use Rattle.hwp_report_text.specs.declared.How.TheVariants as hows
-use Rattle.hwp_report_text.specs.declared.MarkLine.TheVariants as lines
-use Rattle.hwp_cpu_check.specs.declared.Found.{Found}
+use Rattle.hwp_cpu_row.specs.hwp_geom.declared.Cpu.{Cpu}
+use Rattle.hwp_cpu_row.specs.hwp_geom.declared.Frame.{Frame}
+use Rattle.hwp_cpu_row.specs.hwp_geom.declared.Layout.{Layout}
+use Rattle.hwp_cpu_row.specs.hwp_geom.declared.Page.{Page}
+use Rattle.hwp_cpu_row.specs.hwp_geom.declared.Who.{Who}
+use Rattle.hwp_cpu_row.specs.hwp_geom.Pairs.{Pairs}
+use Rattle.hwp_cpu_row.specs.hwp_page.declared.What.{What}
+use Rattle.hwp_cpu_row.specs.hwp_page.declared.What.TheVariants as entries
+use Rattle.hwp_cpu_row.specs.hwp_page.Losses.{is_loss}
+use Rattle.hwp_cpu_row.specs.hwp_page.Situations.{outcome_of}
+use Rattle.hwp_cpu_row.specs.hwp_core_rule.declared.Made.{Made}
+use Rattle.hwp_cpu_row.specs.hwp_core_rule.declared.Mark.{Mark}
+use Rattle.hwp_cpu_row.specs.hwp_core_rule.declared.MarkKind.TheVariants as mark_kinds
+use Rattle.hwp_cpu_row.specs.hwp_core_rule.declared.Reported.{Reported}
+use Rattle.hwp_cpu_row.specs.hwp_core_rule.declared.Setting.{Setting}
+use Rattle.hwp_cpu_row.specs.hwp_core_rule.declared.Spoiled.{Spoiled}
+use Rattle.hwp_cpu_row.specs.hwp_core_rule.declared.View.{View}
+use Rattle.hwp_cpu_row.specs.hwp_core_rule.Lists.{EachMember}
+use Rattle.hwp_cpu_row.specs.hwp_core_rule.Views.{no_debts}
+use Rattle.hwp_cpu_row.proofs.of_hwp_core_rule.Lists.{at_last, at_push, each-push, sum-zero}
+use Rattle.hwp_cpu_row.specs.hwp_core_task.Calls.{CanMake}
+use Rattle.hwp_cpu_row.specs.hwp_core_task.Known.{HasMadeNone, deeds}
+use Rattle.hwp_cpu_row.specs.hwp_claim_act.declared.Failed.{Failed}
+use Rattle.hwp_cpu_row.specs.hwp_claim_act.Abandoned as abandoned
+use Rattle.hwp_cpu_row.specs.hwp_claim_frame.Claims.{HasMarkedNone, is_own}
+use Rattle.hwp_cpu_row.specs.hwp_claim_frame.Done.{Grows, Marking, counts_owed, marking_of, poisoning}
+use Rattle.hwp_cpu_row.specs.hwp_script_lines.declared.Command.{Command}
+use Rattle.hwp_cpu_row.specs.hwp_report_text.declared.Answer.{Answer}
+use Rattle.hwp_cpu_row.specs.hwp_report_text.declared.Answer.TheVariants as answers
+use Rattle.hwp_cpu_row.specs.hwp_report_text.declared.How.{How}
+use Rattle.hwp_cpu_row.specs.hwp_report_text.declared.How.TheVariants as hows
+use Rattle.hwp_cpu_row.specs.hwp_report_text.declared.MarkLine.TheVariants as lines
+use Rattle.hwp_cpu_row.specs.hwp_claim.declared.Found.{Found}
 use Rattle.hwp_cpu_row.specs.declared.FrameChange.{FrameChange}
 use Rattle.hwp_cpu_row.specs.declared.FrameChange.TheVariants as owns
 use Rattle.hwp_cpu_row.specs.declared.Row.{Row}
-use Rattle.hwp_cpu_check.specs.declared.EventOutcome.{EventOutcome}
-use Rattle.hwp_cpu_check.specs.Done.{marked_in}
-use Rattle.hwp_cpu_check.specs.Told.{frame_of}
+use Rattle.hwp_cpu_row.specs.hwp_cpu_check.declared.EventOutcome.{EventOutcome}
+use Rattle.hwp_cpu_row.specs.hwp_cpu_check.Done.{marked_in}
+use Rattle.hwp_cpu_row.specs.hwp_cpu_check.Told.{frame_of}
 use Rattle.hwp_cpu_command.specs.hwp_cpu_access.Done.{FailuresGrow}
 use Rattle.hwp_cpu_command.specs.declared.Job.{Job}
 use Rattle.hwp_cpu_command.specs.Done.{HasDone, failed_now, marked_now, policies_now, taken_now}

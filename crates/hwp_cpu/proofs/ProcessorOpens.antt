@@ -1,14 +1,14 @@
 -- At opening a processor fits: it has made no step, and its first command begins.
 use Rattle.std.proofs.Common.{◌≡◌, ℕ, zero, suc, ◌<◌, ◌≤◌, inl, List, [], ◌∷◌, Option, Some, None, length, slice_get, refl, sym, subst, arith}
 use Rattle.std.proofs.lemmas.Option.{none-some, same_Some, slice_get_within}
-use Rattle.hwp_geom.specs.declared.Cpu.{Cpu}
-use Rattle.hwp_geom.specs.declared.Layout.{Layout}
-use Rattle.hwp_geom.specs.Limits.{command_limit}
-use Rattle.hwp_script_lines.specs.declared.Command.{Command}
-use Rattle.hwp_core_rule.specs.declared.Part.{Part}
-use Rattle.hwp_core_rule.specs.declared.View.{View}
-use Rattle.hwp_core_rule.specs.Opening.{opening_view}
-use Rattle.hwp_core_task.specs.Calls.{IsOnTurn}
+use Rattle.hwp_cpu_row.specs.hwp_geom.declared.Cpu.{Cpu}
+use Rattle.hwp_cpu_row.specs.hwp_geom.declared.Layout.{Layout}
+use Rattle.hwp_cpu_row.specs.hwp_geom.Limits.{command_limit}
+use Rattle.hwp_cpu_row.specs.hwp_script_lines.declared.Command.{Command}
+use Rattle.hwp_cpu_row.specs.hwp_core_rule.declared.Part.{Part}
+use Rattle.hwp_cpu_row.specs.hwp_core_rule.declared.View.{View}
+use Rattle.hwp_cpu_row.specs.hwp_core_rule.Opening.{opening_view}
+use Rattle.hwp_cpu_row.specs.hwp_core_task.Calls.{IsOnTurn}
 use Rattle.hwp_cpu_command.specs.declared.job.Job.{Job}
 use Rattle.hwp_cpu_command.specs.Begins.{Begins}
 use Rattle.hwp_cpu_command.specs.Jobs.{banks_before, left_in}
@@ -16,8 +16,8 @@ use Rattle.hwp_cpu_command.specs.Stays.{IsAtStop, KnowsPolicies}
 use Rattle.hwp_cpu_command_laws.proofs.CommandRuns.{before-begins, begins-fits, begins-runs}
 use Rattle.hwp_cpu_command_laws.proofs.PolicyKeeps.{left, policies-first}
 use Rattle.hwp_cpu_command_laws.proofs.CommandStops.{begins-stop}
-use Rattle.hwp_cpu_check.specs.hwp_law.Checks.{Banks, empty_banks}
-use Rattle.hwp_cpu_check.specs.hwp_law.Policies.{settings}
+use Rattle.hwp_cpu_row.specs.hwp_banks.Banks.{Banks, empty_banks}
+use Rattle.hwp_cpu_row.specs.hwp_law.Policies.{settings}
 use Rattle.hwp_cpu_causes.specs.hwp_law_holds.Served.{AreRowsServed}
 use Rattle.hwp_cpu_causes.proofs.of_hwp_law_holds.lines.ScrubBank.{empty-free}
 use Rattle.hwp_cpu.specs.Processors.{BeginsAt, at_number, left_of}

@@ -2,22 +2,22 @@
 use Rattle.std.proofs.Common.{◌≡◌, ℕ, ◌<◌, ◌≤◌, ◌⊎◌, inl, inr, List, Some, length, map, slice_get, sym, ap, ◌∙◌, subst}
 use Rattle.std.proofs.lemmas.Bool.{cases_lt}
 use Rattle.std.proofs.lemmas.Option.{none-some}
-use Rattle.hwp_geom.specs.declared.Cpu.{Cpu}
-use Rattle.hwp_geom.specs.declared.Layout.{Layout}
-use Rattle.hwp_script_lines.specs.declared.Command.{Command}
+use Rattle.hwp_cpu_row.specs.hwp_geom.declared.Cpu.{Cpu}
+use Rattle.hwp_cpu_row.specs.hwp_geom.declared.Layout.{Layout}
+use Rattle.hwp_cpu_row.specs.hwp_script_lines.declared.Command.{Command}
 use Rattle.hwp_cpu_row.specs.declared.Row.{Row}
-use Rattle.hwp_cpu_check.specs.hwp_law.Checks.{Banks}
-use Rattle.hwp_core_rule.specs.declared.Made.{Made}
-use Rattle.hwp_core_rule.specs.declared.Part.{Part}
-use Rattle.hwp_core_rule.specs.declared.State.{State}
-use Rattle.hwp_core_rule.specs.declared.View.{View}
-use Rattle.hwp_core_rule.specs.Lists.{EachMember}
-use Rattle.hwp_core_rule.specs.Rule.{Holds}
-use Rattle.hwp_core_rule.proofs.Lists.{at_map}
-use Rattle.hwp_core_rule.proofs.NotLater.{one-view}
-use Rattle.hwp_core_task.specs.Boards.{AreSeated, view_of}
-use Rattle.hwp_core_task.specs.Hands.{Hand}
-use Rattle.hwp_core_task.specs.Known.{HasMadeNone}
+use Rattle.hwp_cpu_row.specs.hwp_banks.Banks.{Banks}
+use Rattle.hwp_cpu_row.specs.hwp_core_rule.declared.Made.{Made}
+use Rattle.hwp_cpu_row.specs.hwp_core_rule.declared.Part.{Part}
+use Rattle.hwp_cpu_row.specs.hwp_core_rule.declared.State.{State}
+use Rattle.hwp_cpu_row.specs.hwp_core_rule.declared.View.{View}
+use Rattle.hwp_cpu_row.specs.hwp_core_rule.Lists.{EachMember}
+use Rattle.hwp_cpu_row.specs.hwp_core_rule.Rule.{Holds}
+use Rattle.hwp_cpu_row.proofs.of_hwp_core_rule.Lists.{at_map}
+use Rattle.hwp_cpu_row.proofs.of_hwp_core_rule.NotLater.{one-view}
+use Rattle.hwp_cpu_row.specs.hwp_core_task.Boards.{AreSeated, view_of}
+use Rattle.hwp_cpu_row.specs.hwp_core_task.Hands.{Hand}
+use Rattle.hwp_cpu_row.specs.hwp_core_task.Known.{HasMadeNone}
 use Rattle.hwp_cpu_causes.specs.hwp_law_holds.Served.{IsBegun, IsServed}
 use Rattle.hwp_cpu_causes.proofs.of_hwp_law_holds.RunEnds.{of-deeds}
 use Rattle.hwp_cpu.specs.Processors.{at_number}

@@ -1,22 +1,12 @@
 pub mod Processors
 pub mod Serving
-pub use Rattle.hwp_cpu_check.specs.hwp_claim as hwp_claim
-pub use Rattle.hwp_cpu_check.specs.hwp_claim_act as hwp_claim_act
-pub use Rattle.hwp_cpu_check.specs.hwp_claim_frame as hwp_claim_frame
-pub use Rattle.hwp_cpu_check.specs.hwp_core as hwp_core
 pub use Rattle.hwp_cpu_command.specs.hwp_cpu_access as hwp_cpu_access
-pub use Rattle.hwp_cpu_check.specs as hwp_cpu_check
 pub use Rattle.hwp_cpu_command.specs as hwp_cpu_command
 pub use Rattle.hwp_cpu_command.specs.hwp_cpu_control as hwp_cpu_control
 pub use Rattle.hwp_cpu_command.specs.hwp_cpu_raise as hwp_cpu_raise
-pub use Rattle.hwp_cpu_row.specs as hwp_cpu_row
-pub use Rattle.hwp_cpu_check.specs.hwp_evict as hwp_evict
 pub use Rattle.hwp_cpu_command.specs.hwp_fault as hwp_fault
-pub use Rattle.hwp_cpu_check.specs.hwp_law as hwp_law
 pub use Rattle.hwp_cpu_causes.specs.hwp_law_holds as hwp_law_holds
 pub use Rattle.hwp_cpu_causes.specs.hwp_law_run as hwp_law_run
-pub use Rattle.hwp_cpu_causes.specs.hwp_plain_order as hwp_plain_order
-pub use Rattle.hwp_report_text.specs as hwp_report_text
 pub use Rattle.hwp_cpu_command.specs.hwp_scrub as hwp_scrub
 pub use Rattle.hwp_cpu_command.specs.hwp_soft as hwp_soft
 pub use Rattle.hwp_cpu_command.specs.hwp_soft_move as hwp_soft_move

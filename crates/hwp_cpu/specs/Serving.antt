@@ -1,26 +1,27 @@
 -- What a processor keeps while it runs its commands.
 use Rattle.std.specs.Prelude.{◌≡◌, ℕ, ◌+◌, ◌≤◌, ◌⊎◌, true, List, ◌++◌, Option, Some, None, length, map, slice_get}
 use Rattle.std.specs.Arc.{arc_value}
-use Rattle.hwp_geom.specs.declared.Cpu.{Cpu}
-use Rattle.hwp_geom.specs.declared.Layout.{Layout}
-use Rattle.hwp_geom.specs.declared.Thread.{Thread}
-use Rattle.hwp_geom.specs.declared.Who.{Who}
-use Rattle.hwp_geom.specs.Pairs.{Pairs}
-use Rattle.hwp_script_lines.specs.declared.Command.{Command}
-use Rattle.hwp_report_text.specs.declared.Answer.TheVariants as answers
-use Rattle.hwp_core_rule.specs.declared.Mark.{Mark}
-use Rattle.hwp_core_rule.specs.declared.Reported.{Reported}
-use Rattle.hwp_core_rule.specs.declared.Setting.{Setting}
-use Rattle.hwp_core_rule.specs.declared.Spoiled.{Spoiled}
-use Rattle.hwp_core_rule.specs.declared.View.{View}
-use Rattle.hwp_core_rule.specs.Lists.{EachMember, StartsWith}
-use Rattle.hwp_core_rule.specs.Views.{no_debts}
-use Rattle.hwp_core_task.specs.Hands.{hand_of, empty}
-use Rattle.hwp_core_task.specs.Known.{HasMadeNone}
-use Rattle.hwp_cpu_check.specs.hwp_claim_frame.Done.{marking_of}
+use Rattle.hwp_cpu_row.specs.hwp_geom.declared.Cpu.{Cpu}
+use Rattle.hwp_cpu_row.specs.hwp_geom.declared.Layout.{Layout}
+use Rattle.hwp_cpu_row.specs.hwp_geom.declared.Thread.{Thread}
+use Rattle.hwp_cpu_row.specs.hwp_geom.declared.Who.{Who}
+use Rattle.hwp_cpu_row.specs.hwp_geom.Pairs.{Pairs}
+use Rattle.hwp_cpu_row.specs.hwp_script_lines.declared.Command.{Command}
+use Rattle.hwp_cpu_row.specs.hwp_report_text.declared.Answer.TheVariants as answers
+use Rattle.hwp_cpu_row.specs.hwp_core_rule.declared.Mark.{Mark}
+use Rattle.hwp_cpu_row.specs.hwp_core_rule.declared.Reported.{Reported}
+use Rattle.hwp_cpu_row.specs.hwp_core_rule.declared.Setting.{Setting}
+use Rattle.hwp_cpu_row.specs.hwp_core_rule.declared.Spoiled.{Spoiled}
+use Rattle.hwp_cpu_row.specs.hwp_core_rule.declared.View.{View}
+use Rattle.hwp_cpu_row.specs.hwp_core_rule.Lists.{EachMember, StartsWith}
+use Rattle.hwp_cpu_row.specs.hwp_core_rule.Views.{no_debts}
+use Rattle.hwp_cpu_row.specs.hwp_core_task.Hands.{hand_of, empty}
+use Rattle.hwp_cpu_row.specs.hwp_core_task.Known.{HasMadeNone}
+use Rattle.hwp_cpu_row.specs.hwp_core_task.Turns.{Member}
+use Rattle.hwp_cpu_row.specs.hwp_claim_frame.Done.{marking_of}
 use Rattle.hwp_cpu_row.specs.declared.Row.{Row}
-use Rattle.hwp_cpu_check.specs.hwp_law.Checks.{Banks, empty_banks}
-use Rattle.hwp_cpu_check.specs.hwp_law.Policies.{settings}
+use Rattle.hwp_cpu_row.specs.hwp_banks.Banks.{Banks, empty_banks}
+use Rattle.hwp_cpu_row.specs.hwp_law.Policies.{settings}
 use Rattle.hwp_cpu_command.specs.declared.job.Job.{Job}
 use Rattle.hwp_cpu_command.specs.Done.{HasCounted, can_fail, failed_now, marked_now, policies_now, taken_now}
 use Rattle.hwp_cpu_command.specs.Jobs as jobs
@@ -34,7 +35,7 @@ use Rattle.hwp_cpu_causes.specs.hwp_law_holds.Owed.{OwesOwn}
 use Rattle.hwp_cpu_causes.specs.hwp_law_holds.Rows.{notes_from}
 use Rattle.hwp_cpu_causes.specs.hwp_law_holds.Served.{AreRowsServed, IsOneOf, IsOwnSpoil, IsOwnStop, StaysStopped}
 use Rattle.hwp_cpu.specs.declared.processor.Processor.{Processor}
-use Rattle.hwp_cpu.specs.Processors.{IsReady, at_number}
+use Rattle.hwp_cpu.specs.Processors.{IsReady, Next, Shows, aborts, at_number, bare, claims, class, cost, plan, put, who}
 
 -- some command was answered `stopped`
 abbrev pub HasStopped : List Row → Type 0
@@ -115,3 +116,19 @@ pub record Fits (layout : Layout) (view : View) (p : Processor) : Type 0 where
   pub ready : IsReady p
   pub layout_is : arc_value p.layout ≡ layout
   pub at : FitsAt layout view p.cpu p.commands p.rows.items p.banks p.job
+
+-- the task, as the laws of tasks read it
+abbrev pub task : Member Processor
+task = record {
+  who = who;
+  plan = plan;
+  put = put;
+  bare = bare;
+  shows = Shows;
+  next = Next;
+  fits = Fits;
+  class = class;
+  cost = cost;
+  aborts = aborts;
+  claims = claims;
+}

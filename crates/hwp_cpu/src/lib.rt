@@ -3,5 +3,5 @@
 
 mod processor;
 
-pub use hwp_severity::{Decision, handle};
+pub use hwp_cpu_row::{Decision, handle};
 pub use processor::Processor;

@@ -1,18 +1,13 @@
 ghost use Rattle.std.specs.Prelude.{◌≡◌, ◌+◌, ◌<◌, ◌≤◌, length, slice_get, None, IsSome, IfOk, OnErr, IsSomeAnd};
 ghost use Rattle.std.specs.Arc.{arc_value};
-ghost use Rattle.hwp_geom.specs.Layout.{IsSound};
+ghost use Rattle.hwp_cpu_row.specs.hwp_geom.Layout.{IsSound};
 ghost use Rattle.hwp_cpu.specs.Processors.{AreCommands, AtBeginning, BeginsAt, IsAnswered, IsReady, at_number, left_of};
 
-use hwp_banks::{BANKS, Bank};
-use hwp_core_rule::Step;
-use hwp_core_task::{Ranked, Scheduled, Task, Turn};
-use hwp_cpu_check::no_events;
 use hwp_cpu_command::Job;
-use hwp_cpu_row::Row;
-use hwp_geom::{Cpu, Layout, List, OutOfMemory, Who};
-use hwp_page::Body;
-use hwp_report_text::Answer;
-use hwp_script_lines::Command;
+use hwp_cpu_row::{
+    Answer, BANKS, Bank, Body, Command, Cpu, Layout, List, OutOfMemory, Ranked, Row, Scheduled,
+    Step, Task, Turn, Who, no_events,
+};
 use std::alloc::{AllocError, Global};
 use std::mem;
 use std::sync::Arc;
@@ -138,22 +133,9 @@ fn begin(
 }
 
 impl Task for Processor {
-    ghost use Rattle.hwp_cpu.specs.Processors.{Next, Shows, bare, plan, put, who};
-    ghost use Rattle.hwp_cpu.specs.Serving.{Fits};
+    ghost use Rattle.hwp_cpu.specs.Serving as serving;
 
-    ghost who = { λ p. who p };
-
-    ghost plan = { λ p. plan p };
-
-    ghost put = { λ p. put p };
-
-    ghost bare = { λ p. bare p };
-
-    ghost shows = { λ p found got. Shows p found got };
-
-    ghost next = { λ layout p found got after result. Next layout p found got after result };
-
-    ghost fits = { λ layout view p. Fits layout view p };
+    ghost task = { serving.task };
 
     fn who(&self) -> Who {
         match &self.job {
@@ -193,16 +175,6 @@ impl Task for Processor {
 }
 
 impl Ranked for Processor {
-    ghost use Rattle.hwp_cpu.specs.Processors.{aborts, claims, class, cost};
-
-    ghost class_of = { λ p. class p };
-
-    ghost cost = { λ p words. cost p words };
-
-    ghost aborts = { λ p. aborts p };
-
-    ghost claims = { λ p. claims p };
-
     fn class(&self) -> u8 {
         match &self.job {
             Some(job) => job.class(),

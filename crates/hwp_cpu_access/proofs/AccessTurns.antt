@@ -1,27 +1,27 @@
 -- What a turn of an access comes to that an instruction makes: its cost falls, with what its machine check may cost, or a failure
 -- fewer is left.
-use Rattle.std.proofs.Common.{◌≡◌, ◌⊎◌, inl, inr, ℕ, ◌+◌, ◌<◌, ◌≤◌, Bool, true, false, cond, Option, Some, None, is_none, length, slice_get, refl, sym, ap, ◌∙◌, subst, arith}
+use Rattle.std.proofs.Common.{◌≡◌, ◌⊎◌, inl, inr, ℕ, ◌+◌, ◌<◌, ◌≤◌, Bool, true, false, cond, Option, Some, None, is_none, slice_get, refl, sym, ap, ◌∙◌, subst, arith}
 use Rattle.std.proofs.lemmas.Bool.{both_ways, eqb-true}
 use Rattle.std.proofs.lemmas.Option.{none-some, slice_get-get_or}
-use Rattle.hwp_geom.specs.declared.Frame.{Frame}
-use Rattle.hwp_geom.specs.declared.Layout.{Layout}
-use Rattle.hwp_geom.specs.declared.Page.{Page}
-use Rattle.hwp_page.specs.History.{BodyValue}
-use Rattle.hwp_words.specs.Frames.{is_locked}
-use Rattle.hwp_words.specs.Names.{page_named}
-use Rattle.hwp_words.specs.Stops.{is_stopped}
-use Rattle.hwp_core_rule.specs.declared.SharedWord.{SharedWord}
-use Rattle.hwp_core_rule.specs.declared.SharedWord.TheVariants as places
-use Rattle.hwp_core_rule.specs.declared.State.{State}
-use Rattle.hwp_core_rule.specs.declared.Step.TheVariants as steps
-use Rattle.hwp_core_rule.specs.Views.{frame_in}
-use Rattle.hwp_core_rule.specs.Words.{Words}
-use Rattle.hwp_core_rule.proofs.MetWords.{same-frame}
-use Rattle.hwp_core_rule.proofs.MoveKeeps.{shaped}
-use Rattle.hwp_core_task.specs.declared.Turn.{Turn}
-use Rattle.hwp_core_task.specs.Boards.{view_of}
-use Rattle.hwp_core_task.specs.Ranks.{CostFalls, HasFailed, Made, is_waits, words_at}
-use Rattle.hwp_core_task.proofs.StepRanks.{met, words-kept}
+use Rattle.hwp_fault.specs.hwp_geom.declared.Frame.{Frame}
+use Rattle.hwp_fault.specs.hwp_geom.declared.Layout.{Layout}
+use Rattle.hwp_fault.specs.hwp_geom.declared.Page.{Page}
+use Rattle.hwp_fault.specs.hwp_page.History.{BodyValue}
+use Rattle.hwp_fault.specs.hwp_words.Frames.{is_locked}
+use Rattle.hwp_fault.specs.hwp_words.Names.{page_named}
+use Rattle.hwp_fault.specs.hwp_words.Stops.{is_stopped}
+use Rattle.hwp_fault.specs.hwp_core_rule.declared.SharedWord.{SharedWord}
+use Rattle.hwp_fault.specs.hwp_core_rule.declared.SharedWord.TheVariants as places
+use Rattle.hwp_fault.specs.hwp_core_rule.declared.State.{State}
+use Rattle.hwp_fault.specs.hwp_core_rule.declared.Step.TheVariants as steps
+use Rattle.hwp_fault.specs.hwp_core_rule.Views.{frame_in}
+use Rattle.hwp_fault.specs.hwp_core_rule.Words.{Words}
+use Rattle.hwp_fault.proofs.of_hwp_core_rule.MetWords.{same-frame}
+use Rattle.hwp_fault.proofs.of_hwp_core_rule.MoveKeeps.{shaped}
+use Rattle.hwp_fault.specs.hwp_core_task.declared.Turn.{Turn}
+use Rattle.hwp_fault.specs.hwp_core_task.Boards.{view_of}
+use Rattle.hwp_fault.specs.hwp_core_task.Ranks.{CostFalls, HasFailed, Made, is_waits, words_at}
+use Rattle.hwp_fault.proofs.of_hwp_core_task.StepRanks.{met, words-kept}
 use Rattle.hwp_fault.specs.hwp_core.declared.Pin.{Pin}
 use Rattle.hwp_fault.specs.hwp_core.declared.pin.PinAt.{PinAt}
 use Rattle.hwp_fault.specs.hwp_core.declared.pin.PinAt.TheVariants as pin_at
@@ -40,10 +40,9 @@ use Rattle.hwp_fault.specs.declared.FaultAnswer.TheVariants as fault_answers
 use Rattle.hwp_fault.specs.declared.Request.{Request}
 use Rattle.hwp_fault.specs.declared.access.AccessAt.{AccessAt}
 use Rattle.hwp_fault.specs.declared.access.AccessAt.TheVariants as at
-use Rattle.hwp_fault.specs.Accesses.{FitsAt, LooksOf, NextAt, Prepares, after_fault_at, after_process, at_start, bare_at, cost, cost_at, ended, is_bad, is_frame, leading, leads_to, pinned_at, plan_at, reached, reply_by, reply_where, unlocked, word_in}
+use Rattle.hwp_fault.specs.Accesses.{FitsAt, LooksOf, NextAt, Prepares, after_fault_at, after_process, at_start, bare_at, cost, cost_at, ended, is_bad, is_frame, leading, leads_to, pinned_at, place_in, plan_at, reached, reply_by, reply_where, unlocked, word_in}
 use Rattle.hwp_fault.specs.Accesses as accesses
 use Rattle.hwp_fault.specs.Faults as faults
-use Rattle.hwp_fault.proofs.AccessCosts.{access-member}
 use Rattle.hwp_fault.proofs.AccessLaws.{slot-within}
 use Rattle.hwp_fault.proofs.FaultCosts.{Lowered}
 use Rattle.hwp_cpu_access.specs.Costs.{check_cost, past_cost, word_of}
@@ -79,11 +78,11 @@ lock-plain : (b : Bool) (frame : Frame) (got : Option BodyValue) (w : Words) →
 lock-plain true frame got w = refl
 lock-plain false frame got w = refl
 
-fault-plain : (page : Page) (f : Fault) (x : Option FaultAnswer) (w : Words) → IsPlain (after_fault_at page f x) w
-fault-plain page f None w = refl
-fault-plain page f (Some fault_answers.Again) w = refl
-fault-plain page f (Some (fault_answers.NoFrame place)) w = refl
-fault-plain page f (Some (fault_answers.Sigbus place)) w = refl
+fault-plain : (f : Fault) (x : Option FaultAnswer) (w : Words) → IsPlain (after_fault_at f x) w
+fault-plain f None w = refl
+fault-plain f (Some fault_answers.Again) w = refl
+fault-plain f (Some (fault_answers.NoFrame place)) w = refl
+fault-plain f (Some (fault_answers.Sigbus place)) w = refl
 
 -- a frame that is named by a number
 named-now : (frame : Frame) (word : ℕ) → leads_to frame word ≡ true → frame_in word ≡ Some frame
@@ -93,7 +92,7 @@ named-now frame word is = which (frame_in word) is
     which None is = absurd (both_ways true (sym is) refl)
     which (Some named) is = ap Some (same-frame named frame (eqb-true named.0 frame.0 is))
 
-module _ {layout : Layout} {seat : ℕ} {a b : State} {s t : Access} {turn : Turn} (made : Made access-member layout seat a b s t turn) where
+module _ {layout : Layout} {seat : ℕ} {a b : State} {s t : Access} {turn : Turn} (made : Made accesses.task layout seat a b s t turn) where
   abbrev w : Words
   w = words_at layout a
 
@@ -108,7 +107,7 @@ module _ {layout : Layout} {seat : ℕ} {a b : State} {s t : Access} {turn : Tur
 
   -- the access's own cost falls
   abbrev OwnFalls : Type 0
-  OwnFalls = CostFalls access-member layout a b s t ⊎ ((is_waits turn ≡ false) × HasFailed access-member layout a b s t)
+  OwnFalls = CostFalls accesses.task layout a b s t ⊎ ((is_waits turn ≡ false) × HasFailed accesses.task layout a b s t)
 
   abbrev Next_to : AccessAt → Type 0
   Next_to x = NextAt layout r (bare_at x) made.found made.got t.at turn
@@ -164,13 +163,13 @@ module _ {layout : Layout} {seat : ℕ} {a b : State} {s t : Access} {turn : Tur
       same : past_cost (word_of frame now) ≡ past_cost (word_of frame w)
       same = ap (λ (n : Words). past_cost (word_of frame n)) (load-kept e)
 
-      by-kind : (kind : AccessKind) (u : Unlock) → check_cost (at.Unlock u (Some (reply_by kind (word_in r body) r.page (length body.log)))) now ≡ 0
+      by-kind : (kind : AccessKind) (u : Unlock) → check_cost (at.Unlock u (Some (reply_by kind (word_in r body) (place_in r body)))) now ≡ 0
       by-kind kinds.Load u = refl
       by-kind (kinds.Store word) u = refl
 
       most : (bad : Bool) → check_cost (at.Unlock (unlocks.begin r.who frame (Some (reached r made.found body))) (Some (reply_where bad r frame body))) now ≤ 5 + past_cost (word_of frame now)
       most true = omega arith
-      most false = let none : check_cost (at.Unlock (unlocks.begin r.who frame (Some (reached r made.found body))) (Some (reply_by r.kind (word_in r body) r.page (length body.log)))) now ≡ 0 = by-kind r.kind (unlocks.begin r.who frame (Some (reached r made.found body))) in omega (arith, none)
+      most false = let none : check_cost (at.Unlock (unlocks.begin r.who frame (Some (reached r made.found body))) (Some (reply_by r.kind (word_in r body) (place_in r body)))) now ≡ 0 = by-kind r.kind (unlocks.begin r.who frame (Some (reached r made.found body))) in omega (arith, none)
 
   -- the frame let go
   unlock-lowers : (u : Unlock) (then : Option AccessAnswer) → s.at ≡ at.Unlock u then → FitsAt layout (view_of a seat) r (at.Unlock u then) → unlocks.plan u ≡ Some made.step → Next_to (at.Unlock u then) → OwnFalls → Lowers
@@ -192,18 +191,18 @@ module _ {layout : Layout} {seat : ℕ} {a b : State} {s t : Access} {turn : Tur
 
       which : (o : Option AccessAnswer) → s.at ≡ at.Unlock u o → t.at ≡ unlocked after o → Lowers
       which None at_is is = plainly goes (ap (λ (y : AccessAt). check_cost y now) is ∙ none-plain (is_none (unlocks.plan after)))
-      which (Some (answers.Value word page place)) at_is is = other-plain (answers.Value word page place) (λ v. refl) refl is
-      which (Some (answers.Stored page place)) at_is is = other-plain (answers.Stored page place) (λ v. refl) refl is
-      which (Some (answers.Sigbus page place)) at_is is = other-plain (answers.Sigbus page place) (λ v. refl) refl is
+      which (Some (answers.Value word place)) at_is is = other-plain (answers.Value word place) (λ v. refl) refl is
+      which (Some (answers.Stored place)) at_is is = other-plain (answers.Stored place) (λ v. refl) refl is
+      which (Some (answers.Sigbus place)) at_is is = other-plain (answers.Sigbus place) (λ v. refl) refl is
       which (Some answers.NoFrame) at_is is = other-plain answers.NoFrame (λ v. refl) refl is
       which (Some (answers.Gone page)) at_is is = other-plain (answers.Gone page) (λ v. refl) refl is
       which (Some answers.Stopped) at_is is = other-plain answers.Stopped (λ v. refl) refl is
-      which (Some (answers.Checked frame page place)) at_is is = elim (unlock-past made frame u has.unlock e) [
+      which (Some (answers.Checked frame place)) at_is is = elim (unlock-past made frame u has.unlock e) [
         | inl same ↦ by-own goes (omega (arith, now-is, was, same))
         | inr fewer ↦ inr (ap is_waits next.1, fewer)
       ]
         where
-          by : (b : Bool) → check_cost (cond b (at.Over (answers.Checked frame page place)) (at.Unlock after (Some (answers.Checked frame page place)))) now ≡ 5 + past_cost (word_of frame now)
+          by : (b : Bool) → check_cost (cond b (at.Over (answers.Checked frame place)) (at.Unlock after (Some (answers.Checked frame place)))) now ≡ 5 + past_cost (word_of frame now)
           by true = refl
           by false = refl
 
@@ -228,6 +227,6 @@ module _ {layout : Layout} {seat : ℕ} {a b : State} {s t : Access} {turn : Tur
       which (at.LoadAgain frame body) own has e next = plainly goes (look-plain frame body e next.0)
       which (at.LoadBad frame body) own has e next = bad-lowers frame body own e next
       which (at.Unlock u then) own has e next = unlock-lowers u then own has e next goes
-      which (at.Fault f) own has e next = by-next (after_fault_at r.page next.after (faults.answer next.after)) next.next_is (fault-plain r.page next.after (faults.answer next.after) now)
+      which (at.Fault f) own has e next = by-next (after_fault_at next.after (faults.answer next.after)) next.next_is (fault-plain next.after (faults.answer next.after) now)
       which (at.GiveUp g) own has e next = plainly goes (ap (λ (x : AccessAt). check_cost x now) next.0)
       which (at.Over answer) own has e next = absurd (none-some made.step e)

@@ -2,17 +2,17 @@
 use Rattle.std.proofs.Common.{◌≡◌, inl, inr, ℕ, ◌+◌, ◌≤◌, ◌==◌, ◌&&◌, ◌||◌, Bool, true, false, cond, List, [], ◌∷◌, ◌++◌, Option, Some, length, slice_index, refl, sym, ap, ◌∙◌, subst, arith}
 use Rattle.std.proofs.lemmas.Bool.{and_parts, both_ways, eq-eqb, eqb-false, eqb-true}
 use Rattle.std.proofs.lemmas.Option.{none-some}
-use Rattle.hwp_geom.specs.declared.Frame.{Frame}
-use Rattle.hwp_geom.specs.declared.Layout.{Layout}
-use Rattle.hwp_banks.specs.Addresses.{frame_at}
-use Rattle.hwp_words.specs.Frames.{cycle_of, is_poisoned, poison_of}
-use Rattle.hwp_core_rule.specs.declared.State.{State}
-use Rattle.hwp_core_rule.specs.declared.Step.TheVariants as steps
-use Rattle.hwp_core_rule.specs.Words.{Words}
-use Rattle.hwp_core_task.specs.declared.Turn.{Turn}
-use Rattle.hwp_core_task.specs.Boards.{view_of}
-use Rattle.hwp_core_task.specs.Ranks.{Made, is_waits, words_at}
-use Rattle.hwp_core_task.proofs.StepRanks.{met, poison-fails}
+use Rattle.hwp_fault.specs.hwp_geom.declared.Frame.{Frame}
+use Rattle.hwp_fault.specs.hwp_geom.declared.Layout.{Layout}
+use Rattle.hwp_cpu_check.specs.hwp_banks.Addresses.{frame_at}
+use Rattle.hwp_fault.specs.hwp_words.Frames.{cycle_of, is_poisoned, poison_of}
+use Rattle.hwp_fault.specs.hwp_core_rule.declared.State.{State}
+use Rattle.hwp_fault.specs.hwp_core_rule.declared.Step.TheVariants as steps
+use Rattle.hwp_fault.specs.hwp_core_rule.Words.{Words}
+use Rattle.hwp_fault.specs.hwp_core_task.declared.Turn.{Turn}
+use Rattle.hwp_fault.specs.hwp_core_task.Boards.{view_of}
+use Rattle.hwp_fault.specs.hwp_core_task.Ranks.{Made, is_waits, words_at}
+use Rattle.hwp_fault.proofs.of_hwp_core_task.StepRanks.{met, poison-fails}
 use Rattle.hwp_fault.proofs.of_hwp_core.TaskCosts.{met-own}
 use Rattle.hwp_fault.proofs.FaultCosts.{Lowered}
 use Rattle.hwp_cpu_check.specs.hwp_claim_frame.declared.claim.Claim.{Claim}
@@ -38,7 +38,6 @@ use Rattle.hwp_cpu_check.specs.Fits as handler_fits
 use Rattle.hwp_cpu_check.specs.Handlers as handlers
 use Rattle.hwp_cpu_check.specs.Queue.{Queue}
 use Rattle.hwp_cpu_check.specs.Told.{told_by}
-use Rattle.hwp_cpu_check.proofs.HandlerRank.{handler-member}
 use Rattle.hwp_cpu_access.specs.Costs.{cost, cost_at, ended_cost, is_alone, past_cost, word_of}
 use Rattle.hwp_cpu_access.specs.Instructions.{after_handler, restarted}
 use Rattle.hwp_cpu_access.specs.declared.instruction.Instruction.{Instruction}
@@ -70,7 +69,7 @@ already-cost layout i h frame held [] (t ∷ ts) w none some own = absurd (omega
 
 -- ---- its failure's turn
 
-module _ {layout : Layout} {seat : ℕ} {a b : State} {h g : Handler} {turn : Turn} (made : Made handler-member layout seat a b h g turn) where
+module _ {layout : Layout} {seat : ℕ} {a b : State} {h g : Handler} {turn : Turn} (made : Made handler_fits.task layout seat a b h g turn) where
   abbrev w : Words
   w = words_at layout a
 

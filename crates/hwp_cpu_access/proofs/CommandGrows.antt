@@ -6,32 +6,32 @@ use Rattle.std.proofs.lemmas.Bool.{both_ways}
 use Rattle.std.proofs.lemmas.List.{length-append}
 use Rattle.std.proofs.lemmas.List.Elements.{filter-append, filter_map-append}
 use Rattle.std.proofs.lemmas.Option.{none-some}
-use Rattle.hwp_geom.specs.declared.Frame.{Frame}
-use Rattle.hwp_geom.specs.declared.Layout.{Layout}
-use Rattle.hwp_geom.specs.declared.Mode.{Mode}
-use Rattle.hwp_geom.specs.declared.Page.{Page}
-use Rattle.hwp_geom.specs.declared.Who.{Who}
-use Rattle.hwp_banks.specs.declared.Origin.{Origin}
-use Rattle.hwp_page.specs.declared.What.{What}
-use Rattle.hwp_page.specs.declared.What.TheVariants as entries
-use Rattle.hwp_page.specs.History.{BodyValue}
-use Rattle.hwp_core_rule.specs.declared.InHand.{InHand}
-use Rattle.hwp_core_rule.specs.declared.Log.{Log}
-use Rattle.hwp_core_rule.specs.declared.Made.{Made}
-use Rattle.hwp_core_rule.specs.declared.Mark.{Mark}
-use Rattle.hwp_core_rule.specs.declared.SharedWord.{SharedWord}
-use Rattle.hwp_core_rule.specs.declared.Step.{Step}
-use Rattle.hwp_core_rule.specs.declared.Step.TheVariants as steps
-use Rattle.hwp_core_rule.specs.declared.View.{View}
-use Rattle.hwp_core_rule.specs.Lists.{EachMember, SomeMember}
-use Rattle.hwp_core_rule.specs.Logs.{log_of}
-use Rattle.hwp_core_rule.specs.Views.{body_of, killed_by, listed, listed_of, noted, put_home, sighted}
-use Rattle.hwp_core_rule.specs.declared.SharedWord.TheVariants as places
-use Rattle.hwp_core_rule.proofs.Lists.{at_longer, each-push}
-use Rattle.hwp_core_task.specs.Calls.{Steps, logs}
-use Rattle.hwp_core_task.specs.Known.{HasMade, HasOnly, IsOnTheWay, Precedes, Saw, deeds, is_by, is_failure}
-use Rattle.hwp_core_task.proofs.MadeEntries.{made-kept}
-use Rattle.hwp_core_task.proofs.SightKeeps.{saw-stays}
+use Rattle.hwp_fault.specs.hwp_geom.declared.Frame.{Frame}
+use Rattle.hwp_fault.specs.hwp_geom.declared.Layout.{Layout}
+use Rattle.hwp_fault.specs.hwp_geom.declared.Mode.{Mode}
+use Rattle.hwp_fault.specs.hwp_geom.declared.Page.{Page}
+use Rattle.hwp_fault.specs.hwp_geom.declared.Who.{Who}
+use Rattle.hwp_cpu_check.specs.hwp_banks.declared.Origin.{Origin}
+use Rattle.hwp_fault.specs.hwp_page.declared.What.{What}
+use Rattle.hwp_fault.specs.hwp_page.declared.What.TheVariants as entries
+use Rattle.hwp_fault.specs.hwp_page.History.{BodyValue}
+use Rattle.hwp_fault.specs.hwp_core_rule.declared.InHand.{InHand}
+use Rattle.hwp_fault.specs.hwp_core_rule.declared.Log.{Log}
+use Rattle.hwp_fault.specs.hwp_core_rule.declared.Made.{Made}
+use Rattle.hwp_fault.specs.hwp_core_rule.declared.Mark.{Mark}
+use Rattle.hwp_fault.specs.hwp_core_rule.declared.SharedWord.{SharedWord}
+use Rattle.hwp_fault.specs.hwp_core_rule.declared.Step.{Step}
+use Rattle.hwp_fault.specs.hwp_core_rule.declared.Step.TheVariants as steps
+use Rattle.hwp_fault.specs.hwp_core_rule.declared.View.{View}
+use Rattle.hwp_fault.specs.hwp_core_rule.Lists.{EachMember, SomeMember}
+use Rattle.hwp_fault.specs.hwp_core_rule.Logs.{log_of}
+use Rattle.hwp_fault.specs.hwp_core_rule.Views.{body_of, killed_by, listed, listed_of, noted, put_home, sighted}
+use Rattle.hwp_fault.specs.hwp_core_rule.declared.SharedWord.TheVariants as places
+use Rattle.hwp_fault.proofs.of_hwp_core_rule.Lists.{at_longer, each-push}
+use Rattle.hwp_fault.specs.hwp_core_task.Calls.{Steps, logs}
+use Rattle.hwp_fault.specs.hwp_core_task.Known.{HasMade, HasOnly, IsOnTheWay, Precedes, Saw, deeds, is_by, is_failure}
+use Rattle.hwp_fault.proofs.of_hwp_core_task.MadeEntries.{made-kept}
+use Rattle.hwp_fault.proofs.of_hwp_core_task.SightKeeps.{saw-stays}
 use Rattle.hwp_cpu_check.specs.hwp_claim_act.declared.Failed.{Failed}
 use Rattle.hwp_cpu_check.specs.hwp_claim_act.Abandoned.{AddsFailure, failed_in, failed_of}
 use Rattle.hwp_cpu_check.specs.hwp_claim_frame.Claims.{is_own}
@@ -42,7 +42,8 @@ use Rattle.hwp_fault.specs.Accesses.{check_of}
 use Rattle.hwp_fault.specs.Adds as adds
 use Rattle.hwp_fault.specs.Adds.{Skips}
 use Rattle.hwp_cpu_check.proofs.of_hwp_claim.Quiet.{Alike, PlansQuiet, leaves}
-use Rattle.hwp_cpu_check.specs.hwp_law.Checks.{Banks, empty_banks, has_stop}
+use Rattle.hwp_cpu_check.specs.hwp_banks.Banks.{Banks, empty_banks}
+use Rattle.hwp_cpu_check.specs.hwp_severity.Handling.{has_stop}
 use Rattle.hwp_cpu_check.specs.hwp_law.Events.{is_check}
 use Rattle.hwp_cpu_check.proofs.FailureKeeps.{Stay, told-stays}
 use Rattle.hwp_cpu_check.specs.Checks.{Check, restarting, with_own}

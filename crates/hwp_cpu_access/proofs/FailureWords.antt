@@ -3,29 +3,30 @@ use Rattle.std.proofs.Common.{◌≡◌, ◌≢◌, ◌⊎◌, inl, inr, ℕ, �
 use Rattle.std.proofs.lemmas.Bool.{both_ways, eqb-true}
 use Rattle.std.proofs.lemmas.List.{get_or-set_other, get_or-set_same}
 use Rattle.std.proofs.lemmas.Option.{none-some, same_Some, slice_get-get_or}
-use Rattle.hwp_geom.specs.declared.Frame.{Frame}
-use Rattle.hwp_geom.specs.declared.Layout.{Layout}
-use Rattle.hwp_geom.specs.declared.TransDecl.{TransDecl}
-use Rattle.hwp_geom.specs.declared.VSlot.{VSlot}
-use Rattle.hwp_words.specs.Frames.{handled_of, is_handled, is_kernel, is_poisoned, kernel_of, lock_of, owner_of, poison_of}
-use Rattle.hwp_words.proofs.FrameSteps.{fields-poison, fields-unlock}
-use Rattle.hwp_core_rule.specs.declared.SharedWord.{SharedWord}
-use Rattle.hwp_core_rule.specs.declared.SharedWord.TheVariants as places
-use Rattle.hwp_core_rule.specs.declared.State.{State}
-use Rattle.hwp_core_rule.specs.declared.Step.{Step}
-use Rattle.hwp_core_rule.specs.declared.Step.TheVariants as steps
-use Rattle.hwp_core_rule.specs.Asks.{HasInHand}
-use Rattle.hwp_core_rule.specs.Rule.{Holds}
-use Rattle.hwp_core_rule.specs.Steps.{place_of, word_after}
-use Rattle.hwp_core_rule.specs.Views.{frame_in}
-use Rattle.hwp_core_rule.specs.Words.{IsPlace, Words, index, put as put_word, read, words_of}
-use Rattle.hwp_core_rule.proofs.Lists.{same-or}
-use Rattle.hwp_core_rule.proofs.MetWords.{hand-bare}
-use Rattle.hwp_core_rule.proofs.MoveKeeps.{shaped}
-use Rattle.hwp_core_task.specs.declared.Turn.{Turn}
-use Rattle.hwp_core_task.specs.Boards.{view_of}
-use Rattle.hwp_core_task.specs.Ranks.{Made, Member, Pending, failures_left, words_at}
-use Rattle.hwp_core_task.proofs.StepRanks.{me, met, retire-fails, words-after}
+use Rattle.hwp_fault.specs.hwp_geom.declared.Frame.{Frame}
+use Rattle.hwp_fault.specs.hwp_geom.declared.Layout.{Layout}
+use Rattle.hwp_fault.specs.hwp_geom.declared.TransDecl.{TransDecl}
+use Rattle.hwp_fault.specs.hwp_geom.declared.VSlot.{VSlot}
+use Rattle.hwp_fault.specs.hwp_words.Frames.{handled_of, is_handled, is_kernel, is_poisoned, kernel_of, lock_of, owner_of, poison_of}
+use Rattle.hwp_fault.proofs.of_hwp_words.FrameSteps.{fields-poison, fields-unlock}
+use Rattle.hwp_fault.specs.hwp_core_rule.declared.SharedWord.{SharedWord}
+use Rattle.hwp_fault.specs.hwp_core_rule.declared.SharedWord.TheVariants as places
+use Rattle.hwp_fault.specs.hwp_core_rule.declared.State.{State}
+use Rattle.hwp_fault.specs.hwp_core_rule.declared.Step.{Step}
+use Rattle.hwp_fault.specs.hwp_core_rule.declared.Step.TheVariants as steps
+use Rattle.hwp_fault.specs.hwp_core_rule.Asks.{HasInHand}
+use Rattle.hwp_fault.specs.hwp_core_rule.Rule.{Holds}
+use Rattle.hwp_fault.specs.hwp_core_rule.Steps.{place_of, word_after}
+use Rattle.hwp_fault.specs.hwp_core_rule.Views.{frame_in}
+use Rattle.hwp_fault.specs.hwp_core_rule.Words.{IsPlace, Words, index, put as put_word, read, words_of}
+use Rattle.hwp_fault.proofs.of_hwp_core_rule.Lists.{same-or}
+use Rattle.hwp_fault.proofs.of_hwp_core_rule.MetWords.{hand-bare}
+use Rattle.hwp_fault.proofs.of_hwp_core_rule.MoveKeeps.{shaped}
+use Rattle.hwp_fault.specs.hwp_core_task.declared.Turn.{Turn}
+use Rattle.hwp_fault.specs.hwp_core_task.Boards.{view_of}
+use Rattle.hwp_fault.specs.hwp_core_task.Ranks.{Made, Pending, failures_left, words_at}
+use Rattle.hwp_fault.specs.hwp_core_task.Turns.{Member}
+use Rattle.hwp_fault.proofs.of_hwp_core_task.StepRanks.{me, met, retire-fails, words-after}
 use Rattle.hwp_fault.specs.hwp_core.declared.Release.{Release}
 use Rattle.hwp_fault.specs.hwp_core.declared.release.ReleaseAt.{ReleaseAt}
 use Rattle.hwp_fault.specs.hwp_core.declared.release.ReleaseAt.TheVariants as release_at

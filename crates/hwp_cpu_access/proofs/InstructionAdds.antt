@@ -3,22 +3,22 @@
 use Rattle.std.proofs.Common.{◌≡◌, inl, inr, ℕ, ◌+◌, Bool, true, false, cond, List, [], ◌∷◌, ◌++◌, Option, Some, None, filter_map, option_map, unwrap_or, append-nil, append_assoc, refl, sym, ap, ◌∙◌, subst}
 use Rattle.std.proofs.lemmas.List.Elements.{filter_map-append}
 use Rattle.std.proofs.lemmas.Option.{none-some}
-use Rattle.hwp_geom.specs.declared.Frame.{Frame}
-use Rattle.hwp_geom.specs.declared.Layout.{Layout}
-use Rattle.hwp_geom.specs.declared.Thread.{Thread}
-use Rattle.hwp_geom.specs.declared.Who.{Who}
-use Rattle.hwp_page.specs.declared.At.{At}
-use Rattle.hwp_page.specs.History.{BodyValue}
-use Rattle.hwp_words.specs.Stops.{has_no_memory}
-use Rattle.hwp_core_rule.specs.declared.Mark.{Mark}
-use Rattle.hwp_core_rule.specs.declared.SharedWord.TheVariants as places
-use Rattle.hwp_core_rule.specs.declared.Step.{Step}
-use Rattle.hwp_core_rule.specs.declared.Step.TheVariants as steps
-use Rattle.hwp_core_rule.specs.declared.View.{View}
-use Rattle.hwp_core_task.specs.declared.Turn.{Turn}
-use Rattle.hwp_core_task.specs.Calls.{Steps, logs}
-use Rattle.hwp_core_task.proofs.StepLeaves.{steps-planned}
-use Rattle.hwp_core_task.proofs.MadeEntries.{deeds-same}
+use Rattle.hwp_fault.specs.hwp_geom.declared.Frame.{Frame}
+use Rattle.hwp_fault.specs.hwp_geom.declared.Layout.{Layout}
+use Rattle.hwp_fault.specs.hwp_geom.declared.Thread.{Thread}
+use Rattle.hwp_fault.specs.hwp_geom.declared.Who.{Who}
+use Rattle.hwp_fault.specs.hwp_page.declared.At.{At}
+use Rattle.hwp_fault.specs.hwp_page.History.{BodyValue}
+use Rattle.hwp_fault.specs.hwp_words.Stops.{has_no_memory}
+use Rattle.hwp_fault.specs.hwp_core_rule.declared.Mark.{Mark}
+use Rattle.hwp_fault.specs.hwp_core_rule.declared.SharedWord.TheVariants as places
+use Rattle.hwp_fault.specs.hwp_core_rule.declared.Step.{Step}
+use Rattle.hwp_fault.specs.hwp_core_rule.declared.Step.TheVariants as steps
+use Rattle.hwp_fault.specs.hwp_core_rule.declared.View.{View}
+use Rattle.hwp_fault.specs.hwp_core_task.declared.Turn.{Turn}
+use Rattle.hwp_fault.specs.hwp_core_task.Calls.{Steps, logs}
+use Rattle.hwp_fault.proofs.of_hwp_core_task.StepLeaves.{steps-planned}
+use Rattle.hwp_fault.proofs.of_hwp_core_task.MadeEntries.{deeds-same}
 use Rattle.hwp_cpu_check.specs.hwp_claim_act.declared.Failed.{Failed}
 use Rattle.hwp_cpu_check.specs.hwp_claim_act.Abandoned.{failed_in as failed_of_entry}
 use Rattle.hwp_cpu_check.specs.hwp_claim_frame.Done.{Grows, Marking, counts_owed, marking_of}
@@ -40,7 +40,7 @@ use Rattle.hwp_cpu_check.specs.Handlers as handlers
 use Rattle.hwp_cpu_check.specs.Told.{first_signal, was_poisoned}
 use Rattle.hwp_cpu_check.proofs.HandlerAdds.{grows-behind, handler-adds}
 use Rattle.hwp_cpu_check.proofs.EventTells.{kept, tell-done, tell-idle}
-use Rattle.hwp_cpu_check.specs.hwp_law.Checks.{has_stop}
+use Rattle.hwp_cpu_check.specs.hwp_severity.Handling.{has_stop}
 use Rattle.hwp_cpu_check.specs.Checks.{restarting, with_own}
 use Rattle.hwp_cpu_access.specs.Done.{Adds, FailuresGrow, failed_at, failed_by, failed_now, failures_by, marked_at, marked_by, marked_now, owed_at, owed_now}
 use Rattle.hwp_cpu_access.specs.Fits.{Fits, FitsAt, IsAccessing, IsHandling}
@@ -117,15 +117,15 @@ access-done layout i a after = which (accesses.answer a)
 
     which : (o : Option AccessAnswer) → AfterAccessBy layout i a o after → IsDone i [] [] 0 after
     which None next = plain (at.Access a) (refl, refl, refl) next
-    which (Some (access_answers.Checked frame page place)) (inl refused) = plain at.GiveUp (refl, refl, refl) refused
-    which (Some (access_answers.Checked frame page place)) (inr (spare, room, is)) = let none = begun-done layout i frame in let done = handler-done (emptied i spare) frame (handler_of layout i frame) refl in record {
+    which (Some (access_answers.Checked frame place)) (inl refused) = plain at.GiveUp (refl, refl, refl) refused
+    which (Some (access_answers.Checked frame place)) (inr (spare, room, is)) = let none = begun-done layout i frame in let done = handler-done (emptied i spare) frame (handler_of layout i frame) refl in record {
       marked_is = ap marked_now is ∙ done.marked_is ∙ ap (λ (l : List Marking). marked_by i.lines.told ++ l) none.0;
       failed_is = ap failed_now is ∙ done.failed_is ∙ ap (λ (l : List Failed). failed_by (Some i.request.thread) i.lines.told ++ l) none.1;
       owed_is = ap owed_now is ∙ done.owed_is ∙ none.2;
     }
-    which (Some (access_answers.Value word page place)) next = plain (at.Over (Some (answers.Value word (record { page = page; entry = place })))) (refl, refl, refl) next
-    which (Some (access_answers.Stored page place)) next = plain (at.Over (Some (answers.Stored (record { page = page; entry = place })))) (refl, refl, refl) next
-    which (Some (access_answers.Sigbus page place)) next = plain (at.Over (Some (answers.Sigbus (record { page = page; entry = place })))) (refl, refl, refl) next
+    which (Some (access_answers.Value word place)) next = plain (at.Over (Some (answers.Value word place))) (refl, refl, refl) next
+    which (Some (access_answers.Stored place)) next = plain (at.Over (Some (answers.Stored place))) (refl, refl, refl) next
+    which (Some (access_answers.Sigbus place)) next = plain (at.Over (Some (answers.Sigbus place))) (refl, refl, refl) next
     which (Some access_answers.NoFrame) next = plain (at.Over (Some answers.NoFrame)) (refl, refl, refl) next
     which (Some (access_answers.Gone page)) next = plain (at.Over (Some (answers.Gone page))) (refl, refl, refl) next
     which (Some access_answers.Stopped) next = plain (at.Over (Some answers.Stopped)) (refl, refl, refl) next

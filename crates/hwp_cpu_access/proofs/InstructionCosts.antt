@@ -2,17 +2,17 @@
 use Rattle.std.proofs.Common.{◌≡◌, ◌+◌, ◌<◌, ◌≤◌, Bool, true, false, cond, Option, Some, None, is_some, length, map, option_map, unwrap_or, refl, sym, ap, ◌∙◌, arith}
 use Rattle.std.specs.List.{list_any}
 use Rattle.std.proofs.lemmas.List.{length-append}
-use Rattle.hwp_geom.specs.declared.Frame.{Frame}
-use Rattle.hwp_geom.specs.declared.Layout.{Layout}
-use Rattle.hwp_banks.specs.declared.Event.{Event}
-use Rattle.hwp_banks.specs.Events.{bank_count}
-use Rattle.hwp_page.specs.declared.At.{At}
-use Rattle.hwp_core_rule.specs.declared.State.{State}
-use Rattle.hwp_core_rule.specs.declared.View.{View}
-use Rattle.hwp_core_rule.specs.Rule.{Holds}
-use Rattle.hwp_core_rule.specs.Words.{Words, free_words}
-use Rattle.hwp_core_rule.proofs.MoveKeeps.{shaped}
-use Rattle.hwp_core_task.specs.Ranks.{Member, member, words_at}
+use Rattle.hwp_fault.specs.hwp_geom.declared.Frame.{Frame}
+use Rattle.hwp_fault.specs.hwp_geom.declared.Layout.{Layout}
+use Rattle.hwp_cpu_check.specs.hwp_banks.declared.Event.{Event}
+use Rattle.hwp_cpu_check.specs.hwp_banks.Events.{bank_count}
+use Rattle.hwp_fault.specs.hwp_page.declared.At.{At}
+use Rattle.hwp_fault.specs.hwp_core_rule.declared.State.{State}
+use Rattle.hwp_fault.specs.hwp_core_rule.declared.View.{View}
+use Rattle.hwp_fault.specs.hwp_core_rule.Rule.{Holds}
+use Rattle.hwp_fault.specs.hwp_core_rule.Words.{Words, free_words}
+use Rattle.hwp_fault.proofs.of_hwp_core_rule.MoveKeeps.{shaped}
+use Rattle.hwp_fault.specs.hwp_core_task.Ranks.{words_at}
 use Rattle.hwp_fault.specs.declared.AccessAnswer.TheVariants as access_answers
 use Rattle.hwp_fault.specs.declared.access.AccessAt.{AccessAt}
 use Rattle.hwp_fault.specs.declared.access.AccessAt.TheVariants as access_at
@@ -21,7 +21,7 @@ use Rattle.hwp_fault.specs.Faults as faults
 use Rattle.hwp_fault.proofs.AccessCosts.{access-small, again-few}
 use Rattle.hwp_cpu_check.specs.hwp_claim.Fails as fails
 use Rattle.hwp_cpu_check.proofs.of_hwp_claim.FailRank.{fail-small}
-use Rattle.hwp_cpu_check.specs.hwp_law.Checks.{Banks, empty_banks}
+use Rattle.hwp_cpu_check.specs.hwp_banks.Banks.{Banks, empty_banks}
 use Rattle.hwp_cpu_check.specs.declared.Handler.{Handler}
 use Rattle.hwp_cpu_check.specs.declared.EventOutcome.{EventOutcome}
 use Rattle.hwp_cpu_check.specs.declared.handler.HandlerAt.{HandlerAt}
@@ -30,17 +30,14 @@ use Rattle.hwp_cpu_check.specs.Fits.{events_of}
 use Rattle.hwp_cpu_check.specs.Handlers as handlers
 use Rattle.hwp_cpu_check.specs.Queue.{Queue}
 use Rattle.hwp_cpu_check.specs.Told.{first_signal, was_poisoned}
-use Rattle.hwp_cpu_access.specs.Costs.{aborts, aborts_at, anew, anew_after_wait, check_cost, claims, claims_at, class, cost, cost_at, ended_cost, held_cost, is_alone, past_cost, rest_at, word_of}
+use Rattle.hwp_cpu_access.specs.Costs.{aborts, aborts_at, anew, anew_after_wait, check_cost, claims, claims_at, cost, cost_at, ended_cost, held_cost, is_alone, past_cost, rest_at, word_of}
 use Rattle.hwp_cpu_access.specs.Fits.{Fits, FitsAt}
-use Rattle.hwp_cpu_access.specs.Instructions.{Follows, after_check, after_handler, after_handler_by, bare, plan, put, restarted}
+use Rattle.hwp_cpu_access.specs.Instructions.{after_check, after_handler, after_handler_by, restarted}
 use Rattle.hwp_cpu_access.specs.declared.instruction.Instruction.{Instruction}
 use Rattle.hwp_cpu_access.specs.declared.instruction.InstructionAnswer.TheVariants as answers
 use Rattle.hwp_cpu_access.specs.declared.instruction.InstructionAt.{InstructionAt}
 use Rattle.hwp_cpu_access.specs.declared.instruction.InstructionAt.TheVariants as at
 use Rattle.hwp_cpu_access.proofs.FailureWords.{ended-most, past-most}
-
-abbrev pub instruction-member : Member Instruction
-instruction-member = member (λ i. i.request.who) plan put bare (λ layout i found got after result. Follows layout i found got after result) Fits class cost aborts claims
 
 -- the words of free frames of a board
 pub few-frees : (layout : Layout) (s : State) → Holds layout s → length (words_at layout s).frees ≤ 4
@@ -66,20 +63,20 @@ check-most (access_at.Pin p) w = omega arith
 check-most (access_at.LockFrame frame) w = omega arith
 check-most (access_at.LoadAgain frame body) w = omega arith
 check-most (access_at.LoadBad frame body) w = let most : past_cost (word_of frame w) ≤ anew = past-most (word_of frame w) in omega (arith, most)
-check-most (access_at.Unlock u (Some (access_answers.Checked frame page place))) w = let most : past_cost (word_of frame w) ≤ anew = past-most (word_of frame w) in omega (arith, most)
-check-most (access_at.Unlock u (Some (access_answers.Value word page place))) w = omega arith
-check-most (access_at.Unlock u (Some (access_answers.Stored page place))) w = omega arith
-check-most (access_at.Unlock u (Some (access_answers.Sigbus page place))) w = omega arith
+check-most (access_at.Unlock u (Some (access_answers.Checked frame place))) w = let most : past_cost (word_of frame w) ≤ anew = past-most (word_of frame w) in omega (arith, most)
+check-most (access_at.Unlock u (Some (access_answers.Value word place))) w = omega arith
+check-most (access_at.Unlock u (Some (access_answers.Stored place))) w = omega arith
+check-most (access_at.Unlock u (Some (access_answers.Sigbus place))) w = omega arith
 check-most (access_at.Unlock u (Some access_answers.NoFrame)) w = omega arith
 check-most (access_at.Unlock u (Some (access_answers.Gone page))) w = omega arith
 check-most (access_at.Unlock u (Some access_answers.Stopped)) w = omega arith
 check-most (access_at.Unlock u None) w = omega arith
 check-most (access_at.Fault f) w = omega arith
 check-most (access_at.GiveUp g) w = omega arith
-check-most (access_at.Over (access_answers.Checked frame page place)) w = let most : past_cost (word_of frame w) ≤ anew = past-most (word_of frame w) in omega (arith, most)
-check-most (access_at.Over (access_answers.Value word page place)) w = omega arith
-check-most (access_at.Over (access_answers.Stored page place)) w = omega arith
-check-most (access_at.Over (access_answers.Sigbus page place)) w = omega arith
+check-most (access_at.Over (access_answers.Checked frame place)) w = let most : past_cost (word_of frame w) ≤ anew = past-most (word_of frame w) in omega (arith, most)
+check-most (access_at.Over (access_answers.Value word place)) w = omega arith
+check-most (access_at.Over (access_answers.Stored place)) w = omega arith
+check-most (access_at.Over (access_answers.Sigbus place)) w = omega arith
 check-most (access_at.Over access_answers.NoFrame) w = omega arith
 check-most (access_at.Over (access_answers.Gone page)) w = omega arith
 check-most (access_at.Over access_answers.Stopped) w = omega arith

@@ -4,29 +4,29 @@ use Rattle.std.specs.Int.{from_bool}
 use Rattle.std.specs.List.{list_any}
 use Rattle.std.proofs.lemmas.List.{length-set}
 use Rattle.std.proofs.lemmas.Option.{none-some, same_Some}
-use Rattle.hwp_geom.specs.declared.Frame.{Frame}
-use Rattle.hwp_geom.specs.declared.Layout.{Layout}
-use Rattle.hwp_geom.specs.declared.Thread.{Thread}
-use Rattle.hwp_geom.specs.declared.Who.{Who}
-use Rattle.hwp_geom.specs.Layout.{IsSound}
-use Rattle.hwp_banks.specs.Events.{bank_count, bank_of}
-use Rattle.hwp_page.specs.declared.At.{At}
-use Rattle.hwp_page.specs.History.{BodyValue}
-use Rattle.hwp_words.specs.Stops.{has_no_memory}
-use Rattle.hwp_core_rule.specs.declared.SharedWord.TheVariants as places
-use Rattle.hwp_core_rule.specs.declared.Step.{Step}
-use Rattle.hwp_core_rule.specs.declared.Step.TheVariants as steps
-use Rattle.hwp_core_rule.specs.declared.View.{View}
-use Rattle.hwp_core_task.specs.declared.Turn.{Turn}
-use Rattle.hwp_core_task.specs.Calls.{CanMake, IsOnTurn, Steps, logs}
-use Rattle.hwp_core_task.specs.Hands.{hand_of, empty}
-use Rattle.hwp_core_task.proofs.StepLeaves.{can-make, hand-planned, on-turn-after, steps-planned}
+use Rattle.hwp_fault.specs.hwp_geom.declared.Frame.{Frame}
+use Rattle.hwp_fault.specs.hwp_geom.declared.Layout.{Layout}
+use Rattle.hwp_fault.specs.hwp_geom.declared.Thread.{Thread}
+use Rattle.hwp_fault.specs.hwp_geom.declared.Who.{Who}
+use Rattle.hwp_fault.specs.hwp_geom.Layout.{IsSound}
+use Rattle.hwp_cpu_check.specs.hwp_banks.Events.{bank_count, bank_of}
+use Rattle.hwp_fault.specs.hwp_page.declared.At.{At}
+use Rattle.hwp_fault.specs.hwp_page.History.{BodyValue}
+use Rattle.hwp_fault.specs.hwp_words.Stops.{has_no_memory}
+use Rattle.hwp_fault.specs.hwp_core_rule.declared.SharedWord.TheVariants as places
+use Rattle.hwp_fault.specs.hwp_core_rule.declared.Step.{Step}
+use Rattle.hwp_fault.specs.hwp_core_rule.declared.Step.TheVariants as steps
+use Rattle.hwp_fault.specs.hwp_core_rule.declared.View.{View}
+use Rattle.hwp_fault.specs.hwp_core_task.declared.Turn.{Turn}
+use Rattle.hwp_fault.specs.hwp_core_task.Calls.{CanMake, IsOnTurn, Steps, logs}
+use Rattle.hwp_fault.specs.hwp_core_task.Hands.{hand_of, empty}
+use Rattle.hwp_fault.proofs.of_hwp_core_task.StepLeaves.{can-make, hand-planned, on-turn-after, steps-planned}
 use Rattle.hwp_cpu_check.specs.hwp_claim_act.Abandoned.{AddsFailure}
-use Rattle.hwp_core_rule.specs.declared.Made.{Made}
-use Rattle.hwp_core_rule.specs.Lists.{EachMember}
-use Rattle.hwp_core_task.specs.Known.{HasMadeNone, Precedes, deeds}
-use Rattle.hwp_core_task.proofs.MadeEntries.{deeds-same}
-use Rattle.hwp_core_task.proofs.SightKeeps.{saw-stays}
+use Rattle.hwp_fault.specs.hwp_core_rule.declared.Made.{Made}
+use Rattle.hwp_fault.specs.hwp_core_rule.Lists.{EachMember}
+use Rattle.hwp_fault.specs.hwp_core_task.Known.{HasMadeNone, Precedes, deeds}
+use Rattle.hwp_fault.proofs.of_hwp_core_task.MadeEntries.{deeds-same}
+use Rattle.hwp_fault.proofs.of_hwp_core_task.SightKeeps.{saw-stays}
 use Rattle.hwp_fault.specs.declared.Access.{Access}
 use Rattle.hwp_fault.specs.declared.AccessAnswer.{AccessAnswer}
 use Rattle.hwp_fault.specs.declared.AccessAnswer.TheVariants as access_answers
@@ -37,7 +37,8 @@ use Rattle.hwp_fault.specs.Accesses as accesses
 use Rattle.hwp_fault.specs.Adds.{has_checked, is_checked}
 use Rattle.hwp_fault.proofs.AccessLaws.{answered as access-answered, begins as access-begins, begins-again, can as access-can, stays as access-stays}
 use Rattle.hwp_fault.proofs.FaultAdds.{access-adds, access-owes}
-use Rattle.hwp_cpu_check.specs.hwp_law.Checks.{Banks, empty_banks, has_stop}
+use Rattle.hwp_cpu_check.specs.hwp_banks.Banks.{Banks, empty_banks}
+use Rattle.hwp_cpu_check.specs.hwp_severity.Handling.{has_stop}
 use Rattle.hwp_cpu_check.specs.hwp_law.Events.{is_check}
 use Rattle.hwp_cpu_check.specs.declared.Handler.{Handler}
 use Rattle.hwp_cpu_check.specs.declared.Held.{Held}
@@ -333,13 +334,13 @@ module _ {layout : Layout} {view : View} {i : Instruction} {checks : List Check}
         where
           which : (o : Option AccessAnswer) → accesses.answer a ≡ o → AfterAccessBy layout i a o after → Fits layout view after
           which None is next = subst (Fits layout view) (sym next) (plain-fits (at.Access a) refl (record { access = fits; own = own; unanswered = is; paid = paid; lets = lets; made = made }))
-          which (Some (access_answers.Checked frame page place)) is next =
-              let end = ended (access_answers.Checked frame page place) is in let has = end.answered.1 in
-              check-fits frame has.alive (record { mask = has.mask; bad = has.bad; saw = has.saw; within = has.within }) end.hand_is (only-checked i.request view place has.mask has.made)
-              (made ∙ ap (λ (b : Bool). length checks + from_bool b) (checked-is (access_answers.Checked frame page place) is)) after next
-          which (Some (access_answers.Value word page place)) is next = subst (Fits layout view) (sym next) (answer-fits (access_answers.Value word page place) is (answers.Value word (record { page = page; entry = place })) refl (own-end (access_answers.Value word page place) is))
-          which (Some (access_answers.Stored page place)) is next = subst (Fits layout view) (sym next) (answer-fits (access_answers.Stored page place) is (answers.Stored (record { page = page; entry = place })) refl (own-end (access_answers.Stored page place) is))
-          which (Some (access_answers.Sigbus page place)) is next = subst (Fits layout view) (sym next) (answer-fits (access_answers.Sigbus page place) is (answers.Sigbus (record { page = page; entry = place })) refl (inl (own-end (access_answers.Sigbus page place) is)))
+          which (Some (access_answers.Checked frame place)) is next =
+              let end = ended (access_answers.Checked frame place) is in let has = end.answered.1 in
+              check-fits frame has.alive (record { mask = has.mask; bad = has.bad; saw = has.saw; within = has.within }) end.hand_is (only-checked i.request view place.entry has.mask has.made)
+              (made ∙ ap (λ (b : Bool). length checks + from_bool b) (checked-is (access_answers.Checked frame place) is)) after next
+          which (Some (access_answers.Value word place)) is next = subst (Fits layout view) (sym next) (answer-fits (access_answers.Value word place) is (answers.Value word place) refl (own-end (access_answers.Value word place) is))
+          which (Some (access_answers.Stored place)) is next = subst (Fits layout view) (sym next) (answer-fits (access_answers.Stored place) is (answers.Stored place) refl (own-end (access_answers.Stored place) is))
+          which (Some (access_answers.Sigbus place)) is next = subst (Fits layout view) (sym next) (answer-fits (access_answers.Sigbus place) is (answers.Sigbus place) refl (inl (own-end (access_answers.Sigbus place) is)))
           which (Some access_answers.NoFrame) is next = subst (Fits layout view) (sym next) (answer-fits access_answers.NoFrame is answers.NoFrame refl (own-end access_answers.NoFrame is))
           which (Some (access_answers.Gone page)) is next = subst (Fits layout view) (sym next) (answer-fits (access_answers.Gone page) is (answers.Gone page) refl (own-end (access_answers.Gone page) is))
           which (Some access_answers.Stopped) is next = subst (Fits layout view) (sym next) (answer-fits access_answers.Stopped is answers.Stopped refl (inl (own-end access_answers.Stopped is)))
@@ -514,11 +515,11 @@ own-handler i frame h = which h.at
 
 own-access : (layout : Layout) (i : Instruction) (a : Access) (o : Option AccessAnswer) (after : Instruction) → AfterAccessBy layout i a o after → after.request ≡ i.request
 own-access layout i a None after next = ap (λ (x : Instruction). x.request) next
-own-access layout i a (Some (access_answers.Checked frame page place)) after (inl refused) = ap (λ (x : Instruction). x.request) refused
-own-access layout i a (Some (access_answers.Checked frame page place)) after (inr (spare, room, is)) = ap (λ (x : Instruction). x.request) is ∙ own-handler (emptied i spare) frame (handler_of layout i frame)
-own-access layout i a (Some (access_answers.Value word page place)) after next = ap (λ (x : Instruction). x.request) next
-own-access layout i a (Some (access_answers.Stored page place)) after next = ap (λ (x : Instruction). x.request) next
-own-access layout i a (Some (access_answers.Sigbus page place)) after next = ap (λ (x : Instruction). x.request) next
+own-access layout i a (Some (access_answers.Checked frame place)) after (inl refused) = ap (λ (x : Instruction). x.request) refused
+own-access layout i a (Some (access_answers.Checked frame place)) after (inr (spare, room, is)) = ap (λ (x : Instruction). x.request) is ∙ own-handler (emptied i spare) frame (handler_of layout i frame)
+own-access layout i a (Some (access_answers.Value word place)) after next = ap (λ (x : Instruction). x.request) next
+own-access layout i a (Some (access_answers.Stored place)) after next = ap (λ (x : Instruction). x.request) next
+own-access layout i a (Some (access_answers.Sigbus place)) after next = ap (λ (x : Instruction). x.request) next
 own-access layout i a (Some access_answers.NoFrame) after next = ap (λ (x : Instruction). x.request) next
 own-access layout i a (Some (access_answers.Gone page)) after next = ap (λ (x : Instruction). x.request) next
 own-access layout i a (Some access_answers.Stopped) after next = ap (λ (x : Instruction). x.request) next

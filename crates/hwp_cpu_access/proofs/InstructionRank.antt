@@ -3,33 +3,33 @@ use Rattle.std.proofs.Common.{◌≡◌, ◌≢◌, ◌⊎◌, inl, inr, ℕ, �
 use Rattle.std.specs.List.{list_any}
 use Rattle.std.proofs.lemmas.Bool.{both_ways}
 use Rattle.std.proofs.lemmas.Option.{none-some, same_Some}
-use Rattle.hwp_geom.specs.Limits.{line_limit}
-use Rattle.hwp_geom.specs.declared.Frame.{Frame}
-use Rattle.hwp_geom.specs.declared.Layout.{Layout}
-use Rattle.hwp_geom.specs.declared.Who.{Who}
-use Rattle.hwp_banks.specs.declared.Event.{Event}
-use Rattle.hwp_banks.specs.Events.{bank_count}
-use Rattle.hwp_page.specs.declared.At.{At}
-use Rattle.hwp_page.specs.History.{BodyValue}
-use Rattle.hwp_words.specs.Stops.{has_no_memory, is_stopped}
-use Rattle.hwp_core_rule.specs.declared.SharedWord.{SharedWord}
-use Rattle.hwp_core_rule.specs.declared.SharedWord.TheVariants as places
-use Rattle.hwp_core_rule.specs.declared.State.{State}
-use Rattle.hwp_core_rule.specs.declared.Step.{Step}
-use Rattle.hwp_core_rule.specs.declared.Step.TheVariants as steps
-use Rattle.hwp_core_rule.specs.declared.View.{View}
-use Rattle.hwp_core_rule.specs.Moves.{Move}
-use Rattle.hwp_core_rule.specs.Lasting.{IsMild, LeavesPoison}
-use Rattle.hwp_core_rule.specs.Views.{view_after}
-use Rattle.hwp_core_rule.specs.Words.{Words}
-use Rattle.hwp_core_task.specs.declared.Turn.{Turn}
-use Rattle.hwp_core_task.specs.declared.Turn.TheVariants.{Moved, Waits}
-use Rattle.hwp_core_task.specs.Boards.{view_of}
-use Rattle.hwp_core_task.specs.Calls.{logs, rec_of}
-use Rattle.hwp_core_task.specs.Classes.{TellsClass}
-use Rattle.hwp_core_task.specs.Ranks.{CostFalls, HasFailed, HasFrame, HasPage, IsRanked, Made, OtherHand, Pending, Quiet, is_refused, is_waits, words_at}
-use Rattle.hwp_core_task.proofs.Failures.{mild-leaves}
-use Rattle.hwp_core_task.proofs.StepRanks.{failed, met, pending-kept, steps-on, words-kept}
+use Rattle.hwp_fault.specs.hwp_geom.Limits.{line_limit}
+use Rattle.hwp_fault.specs.hwp_geom.declared.Frame.{Frame}
+use Rattle.hwp_fault.specs.hwp_geom.declared.Layout.{Layout}
+use Rattle.hwp_fault.specs.hwp_geom.declared.Who.{Who}
+use Rattle.hwp_cpu_check.specs.hwp_banks.declared.Event.{Event}
+use Rattle.hwp_cpu_check.specs.hwp_banks.Events.{bank_count}
+use Rattle.hwp_fault.specs.hwp_page.declared.At.{At}
+use Rattle.hwp_fault.specs.hwp_page.History.{BodyValue}
+use Rattle.hwp_fault.specs.hwp_words.Stops.{has_no_memory, is_stopped}
+use Rattle.hwp_fault.specs.hwp_core_rule.declared.SharedWord.{SharedWord}
+use Rattle.hwp_fault.specs.hwp_core_rule.declared.SharedWord.TheVariants as places
+use Rattle.hwp_fault.specs.hwp_core_rule.declared.State.{State}
+use Rattle.hwp_fault.specs.hwp_core_rule.declared.Step.{Step}
+use Rattle.hwp_fault.specs.hwp_core_rule.declared.Step.TheVariants as steps
+use Rattle.hwp_fault.specs.hwp_core_rule.declared.View.{View}
+use Rattle.hwp_fault.specs.hwp_core_rule.Moves.{Move}
+use Rattle.hwp_fault.specs.hwp_core_rule.Lasting.{IsMild, LeavesPoison}
+use Rattle.hwp_fault.specs.hwp_core_rule.Views.{view_after}
+use Rattle.hwp_fault.specs.hwp_core_rule.Words.{Words}
+use Rattle.hwp_fault.specs.hwp_core_task.declared.Turn.{Turn}
+use Rattle.hwp_fault.specs.hwp_core_task.declared.Turn.TheVariants.{Moved, Waits}
+use Rattle.hwp_fault.specs.hwp_core_task.Boards.{view_of}
+use Rattle.hwp_fault.specs.hwp_core_task.Calls.{logs, rec_of}
+use Rattle.hwp_fault.specs.hwp_core_task.Classes.{TellsClass}
+use Rattle.hwp_fault.specs.hwp_core_task.Ranks.{CostFalls, HasFailed, HasFrame, HasPage, IsRanked, Made, OtherHand, Pending, Quiet, is_refused, is_waits, words_at}
+use Rattle.hwp_fault.proofs.of_hwp_core_task.Failures.{mild-leaves}
+use Rattle.hwp_fault.proofs.of_hwp_core_task.StepRanks.{failed, met, pending-kept, steps-on, words-kept}
 use Rattle.hwp_fault.proofs.of_hwp_core.TaskCosts.{left-own, met-own}
 use Rattle.hwp_fault.proofs.of_hwp_core.TaskTells.{no-frame, no-page}
 use Rattle.hwp_fault.specs.declared.Access.{Access}
@@ -39,11 +39,12 @@ use Rattle.hwp_fault.specs.declared.Request.{Request}
 use Rattle.hwp_fault.specs.declared.access.AccessAt.{AccessAt}
 use Rattle.hwp_fault.specs.declared.access.AccessAt.TheVariants as access_at
 use Rattle.hwp_fault.specs.Accesses as accesses
-use Rattle.hwp_fault.proofs.AccessCosts.{access-member, access-mild, access-ranked, access-tells}
+use Rattle.hwp_fault.proofs.AccessCosts.{access-mild, access-ranked, access-tells}
 use Rattle.hwp_fault.proofs.FaultCosts.{Lowered}
 use Rattle.hwp_fault.proofs.AccessLaws.{answered as access-answered, stays as access-stays}
 use Rattle.hwp_cpu_check.specs.hwp_claim.declared.Fail.{Fail}
-use Rattle.hwp_cpu_check.specs.hwp_law.Checks.{Banks, empty_banks, has_stop}
+use Rattle.hwp_cpu_check.specs.hwp_banks.Banks.{Banks, empty_banks}
+use Rattle.hwp_cpu_check.specs.hwp_severity.Handling.{has_stop}
 use Rattle.hwp_cpu_check.specs.declared.Handler.{Handler}
 use Rattle.hwp_cpu_check.specs.declared.Held.{Held}
 use Rattle.hwp_cpu_check.specs.declared.handler.HandlerAt.{HandlerAt}
@@ -53,11 +54,11 @@ use Rattle.hwp_cpu_check.specs.Fits as handler_fits
 use Rattle.hwp_cpu_check.specs.Handlers as handlers
 use Rattle.hwp_cpu_check.specs.Told.{first_signal, was_poisoned}
 use Rattle.hwp_cpu_check.proofs.BankGrades.{found-in}
-use Rattle.hwp_cpu_check.proofs.HandlerRank.{handler-lasting, handler-member, handler-ranked, handler-tells}
+use Rattle.hwp_cpu_check.proofs.HandlerRank.{handler-lasting, handler-ranked, handler-tells}
 use Rattle.hwp_cpu_check.proofs.EventTells.{tell-cost}
 use Rattle.hwp_cpu_check.specs.Checks.{restarting, with_own}
 use Rattle.hwp_cpu_access.specs.Costs.{aborts, aborts_at, anew, anew_after_wait, check_cost, claims, claims_at, class, class_at, cost, cost_at, ended_cost, held_cost, is_alone, past_cost, rest_at, word_of}
-use Rattle.hwp_cpu_access.specs.Fits.{Fits, FitsAt, IsOfAccess, banks_at}
+use Rattle.hwp_cpu_access.specs.Fits.{Fits, FitsAt, IsOfAccess, banks_at, task as instruction-task}
 use Rattle.hwp_cpu_access.specs.Instructions.{AfterAccessBy, BeginsCheck, FollowsAt, after_handler, after_handler_by, after_load, after_stop, answered, bare, bare_at, emptied, handler_of, is_pending, plan, plan_at, put, put_at, restarted, turn_of_load}
 use Rattle.hwp_cpu_access.specs.declared.instruction.Instruction.{Instruction}
 use Rattle.hwp_cpu_access.specs.declared.instruction.InstructionAnswer.{InstructionAnswer}
@@ -67,7 +68,7 @@ use Rattle.hwp_cpu_access.specs.declared.instruction.InstructionAt.TheVariants a
 use Rattle.hwp_cpu_access.proofs.AccessTurns.{access-lowers}
 use Rattle.hwp_cpu_access.proofs.AloneTurns.{alone-goes}
 use Rattle.hwp_cpu_access.proofs.CheckLaws.{hold-nothing}
-use Rattle.hwp_cpu_access.proofs.InstructionCosts.{after-cost, after-same, again-cost, few-frees, instruction-below, instruction-member}
+use Rattle.hwp_cpu_access.proofs.InstructionCosts.{after-cost, after-same, again-cost, few-frees, instruction-below}
 use Rattle.hwp_cpu_access.proofs.FailureWords.{pending-now}
 use Rattle.hwp_cpu_access.proofs.InstructionLaws.{left-three, own-three, stays}
 use Rattle.hwp_cpu_access.proofs.OwnEvents.{IsBriefly, own-briefly}
@@ -140,7 +141,7 @@ left-after i frame g left = which g.at refl
 
 -- ---- the turns
 
-module _ {layout : Layout} {seat : ℕ} {a b : State} {s t : Instruction} {turn : Turn} (made : Made instruction-member layout seat a b s t turn) where
+module _ {layout : Layout} {seat : ℕ} {a b : State} {s t : Instruction} {turn : Turn} (made : Made instruction-task layout seat a b s t turn) where
   abbrev w : Words
   w = words_at layout a
 
@@ -152,7 +153,7 @@ module _ {layout : Layout} {seat : ℕ} {a b : State} {s t : Instruction} {turn 
 
   -- a step of the access
   access-made : (x y : Access) → accesses.Fits layout (view_of a seat) x → x.request ≡ s.request → accesses.plan x ≡ Some made.step → Moves (accesses.put x) → accesses.Next layout (accesses.bare x) made.found made.got y turn
-      → Made access-member layout seat a b x y turn
+      → Made accesses.task layout seat a b x y turn
   access-made x y fits own e move follows = record {
     step = made.step;
     found = made.found;
@@ -168,7 +169,7 @@ module _ {layout : Layout} {seat : ℕ} {a b : State} {s t : Instruction} {turn 
 
   -- a step of the machine check
   handler-made : (h g : Handler) → handler_fits.Fits layout (view_of a seat) h → h.who ≡ s.request.who → handlers.plan h ≡ Some made.step → Moves (handlers.put h) → handlers.Follows layout (handlers.bare h) made.found made.got g turn
-      → Made handler-member layout seat a b h g turn
+      → Made handler_fits.task layout seat a b h g turn
   handler-made h g fits own e move follows = record {
     step = made.step;
     found = made.found;
@@ -193,7 +194,7 @@ module _ {layout : Layout} {seat : ℕ} {a b : State} {s t : Instruction} {turn 
   Falls x = Lowered turn layout a b (cost t now) (cost_at s.banks x w)
 
   -- what follows an access
-  access-goes : (x y : Access) → s.at ≡ at.Access x → (stepped : Made access-member layout seat a b x y turn) → (CostFalls access-member layout a b x y ⊎ ((is_waits turn ≡ false) × HasFailed access-member layout a b x y)) → AfterAccessBy layout (bare s) y (accesses.answer y) t → Falls (at.Access x)
+  access-goes : (x y : Access) → s.at ≡ at.Access x → (stepped : Made accesses.task layout seat a b x y turn) → (CostFalls accesses.task layout a b x y ⊎ ((is_waits turn ≡ false) × HasFailed accesses.task layout a b x y)) → AfterAccessBy layout (bare s) y (accesses.answer y) t → Falls (at.Access x)
   access-goes x y own stepped falls next = elim (access-lowers stepped falls) [
     | inl less ↦ inl (which (accesses.answer y) refl next less)
     | inr fewer ↦ inr fewer
@@ -213,14 +214,14 @@ module _ {layout : Layout} {seat : ℕ} {a b : State} {s t : Instruction} {turn 
 
       which : (o : Option AccessAnswer) → accesses.answer y ≡ o → AfterAccessBy layout (bare s) y o t → Less → cost t now < cost_at s.banks (at.Access x) w
       which None is then less = let same : cost t now ≡ accesses.cost y now + held_cost s.banks + check_cost y.at now = ap (λ (z : Instruction). cost z now) then in omega (arith, same, less)
-      which (Some (access_answers.Checked frame page place)) is then less =
-          let checked : check_cost y.at now ≡ 5 + past_cost (word_of frame now) = ap (λ (z : AccessAt). check_cost z now) (over-at y.at (access_answers.Checked frame page place) is) in
-          let ended = access-answered layout (view_after layout (rec_of layout x.request.who stepped.step (logs (accesses.put x)) stepped.found stepped.got) (view_of a seat)) y (access_answers.Checked frame page place) after-fits is in
+      which (Some (access_answers.Checked frame place)) is then less =
+          let checked : check_cost y.at now ≡ 5 + past_cost (word_of frame now) = ap (λ (z : AccessAt). check_cost z now) (over-at y.at (access_answers.Checked frame place) is) in
+          let ended = access-answered layout (view_after layout (rec_of layout x.request.who stepped.step (logs (accesses.put x)) stepped.found stepped.got) (view_of a seat)) y (access_answers.Checked frame place) after-fits is in
           let begun : cost t now ≤ held_cost s.banks + (5 + past_cost (word_of frame now)) = begins-cost layout (bare s) t frame now made.fits.origin made.fits.names.line ended.answered.1.within three few then in
           omega (arith, checked, begun, less)
-      which (Some (access_answers.Value word page place)) is then less = over (answers.Value word (record { page = page; entry = place })) then less
-      which (Some (access_answers.Stored page place)) is then less = over (answers.Stored (record { page = page; entry = place })) then less
-      which (Some (access_answers.Sigbus page place)) is then less = over (answers.Sigbus (record { page = page; entry = place })) then less
+      which (Some (access_answers.Value word place)) is then less = over (answers.Value word place) then less
+      which (Some (access_answers.Stored place)) is then less = over (answers.Stored place) then less
+      which (Some (access_answers.Sigbus place)) is then less = over (answers.Sigbus place) then less
       which (Some access_answers.NoFrame) is then less = over answers.NoFrame then less
       which (Some (access_answers.Gone page)) is then less = over (answers.Gone page) then less
       which (Some access_answers.Stopped) is then less = over answers.Stopped then less
@@ -253,7 +254,7 @@ module _ {layout : Layout} {seat : ℕ} {a b : State} {s t : Instruction} {turn 
           omega (arith, same, kept)
 
   -- a machine check goes on, or is over
-  handler-goes : (frame : Frame) (h g : Handler) → s.banks ≡ empty_banks → (stepped : Made handler-member layout seat a b h g turn) → t ≡ after_handler (bare s) frame g → (CostFalls handler-member layout a b h g ⊎ ((is_waits turn ≡ false) × HasFailed handler-member layout a b h g)) → Falls (at.Handle frame h)
+  handler-goes : (frame : Frame) (h g : Handler) → s.banks ≡ empty_banks → (stepped : Made handler_fits.task layout seat a b h g turn) → t ≡ after_handler (bare s) frame g → (CostFalls handler_fits.task layout a b h g ⊎ ((is_waits turn ≡ false) × HasFailed handler_fits.task layout a b h g)) → Falls (at.Handle frame h)
   handler-goes frame h g none stepped next falls = elim falls [
     | inl less ↦ which h.at refl less
     | inr failed ↦ inr (failed.0, failed.1.fewer)
@@ -367,11 +368,11 @@ module _ {layout : Layout} {seat : ℕ} {a b : State} {s t : Instruction} {turn 
   after-fits : Fits layout (view_after layout (rec_of layout s.request.who made.step (logs (put s)) made.found made.got) (view_of a seat)) t
   after-fits = ((stays layout (view_of a seat) (view_after layout (rec_of layout s.request.who made.step (logs (put s)) made.found made.got) (view_of a seat)) s made.step made.found made.got made.fits made.planned (steps-on made)).1 t turn made.follows).0
 
-  fell : Falls s.at → CostFalls instruction-member layout a b s t ⊎ HasFailed instruction-member layout a b s t
+  fell : Falls s.at → CostFalls instruction-task layout a b s t ⊎ HasFailed instruction-task layout a b s t
   fell (inl less) = inl less
   fell (inr fails) = inr (failed fails.1 (instruction-below layout b (view_after layout (rec_of layout s.request.who made.step (logs (put s)) made.found made.got) (view_of a seat)) t made.kept after-fits))
 
-  falls : is_waits turn ≡ false → CostFalls instruction-member layout a b s t ⊎ HasFailed instruction-member layout a b s t
+  falls : is_waits turn ≡ false → CostFalls instruction-task layout a b s t ⊎ HasFailed instruction-task layout a b s t
   falls goes = fell (falls-at s.at refl made.planned made.fits.at made.move made.follows goes)
 
 instruction-class : (i : Instruction) → (1 ≤ class i) × (class i ≤ 4)
@@ -385,7 +386,7 @@ instruction-class i = which i.at
     which at.GiveUp = (omega arith, omega arith)
     which (at.Over answer) = (omega arith, omega arith)
 
-pub instruction-ranked : IsRanked instruction-member
+pub instruction-ranked : IsRanked instruction-task
 instruction-ranked = record {
   classes = instruction-class;
   small = λ layout a seat s rule fits. let below : cost s (words_at layout a) < 32768 = instruction-below layout a (view_of a seat) s rule fits in omega (arith, below);
@@ -427,7 +428,7 @@ module _ (layout : Layout) (view : View) (i : Instruction) (fits : Fits layout v
   claim-told at.GiveUp of cycle has claimed = absurd (none-some (of, cycle) claimed)
   claim-told (at.Over answer) of cycle has claimed = absurd (none-some (of, cycle) claimed)
 
-pub instruction-tells : TellsClass instruction-member
+pub instruction-tells : TellsClass instruction-task
 instruction-tells = record {
   frame = λ layout view i fits some. frame-told layout view i fits i.at fits.at some;
   page = λ layout view i fits some. page-told layout view i fits i.at fits.at some;

@@ -2,26 +2,27 @@
 use Rattle.std.proofs.Common.{◌≡◌, ℕ, ◌+◌, ◌<◌, ◌≤◌, ◌==◌, ◌&&◌, nat_le, Bool, true, false, cond, List, [], ◌∷◌, Option, Some, None, option_map, unwrap_or, refl, sym, ap, ◌∙◌, subst, arith}
 use Rattle.std.specs.declared.alloc.Global.{Global}
 use Rattle.std.proofs.lemmas.Bool.{both_ways, eq-eqb, lt-leb}
-use Rattle.hwp_geom.specs.declared.Frame.{Frame}
-use Rattle.hwp_geom.specs.declared.Layout.{Layout}
-use Rattle.hwp_geom.specs.declared.Mode.{Mode}
-use Rattle.hwp_geom.specs.declared.Mode.TheVariants as modes
-use Rattle.hwp_geom.specs.declared.Thread.{Thread}
-use Rattle.hwp_geom.specs.declared.Who.{Who}
-use Rattle.hwp_geom.specs.Limits.{line_limit}
-use Rattle.hwp_banks.specs.declared.Origin.{Origin}
-use Rattle.hwp_banks.specs.declared.Origin.TheVariants as origins
-use Rattle.hwp_banks.specs.Addresses.{frame_at}
-use Rattle.hwp_banks.specs.Events.{bank_of, own_event}
-use Rattle.hwp_banks.specs.Logged.{without_over}
-use Rattle.hwp_severity.specs.declared.Grade.{Grade}
-use Rattle.hwp_severity.specs.declared.Severity.{Severity}
-use Rattle.hwp_severity.specs.declared.Severity.TheVariants as severities
-use Rattle.hwp_core_rule.specs.Words.{Words}
+use Rattle.hwp_fault.specs.hwp_geom.declared.Frame.{Frame}
+use Rattle.hwp_fault.specs.hwp_geom.declared.Layout.{Layout}
+use Rattle.hwp_fault.specs.hwp_geom.declared.Mode.{Mode}
+use Rattle.hwp_fault.specs.hwp_geom.declared.Mode.TheVariants as modes
+use Rattle.hwp_fault.specs.hwp_geom.declared.Thread.{Thread}
+use Rattle.hwp_fault.specs.hwp_geom.declared.Who.{Who}
+use Rattle.hwp_fault.specs.hwp_geom.Limits.{line_limit}
+use Rattle.hwp_cpu_check.specs.hwp_banks.declared.Origin.{Origin}
+use Rattle.hwp_cpu_check.specs.hwp_banks.declared.Origin.TheVariants as origins
+use Rattle.hwp_cpu_check.specs.hwp_banks.Addresses.{frame_at}
+use Rattle.hwp_cpu_check.specs.hwp_banks.Events.{bank_of, own_event}
+use Rattle.hwp_cpu_check.specs.hwp_banks.Logged.{without_over}
+use Rattle.hwp_cpu_check.specs.hwp_severity.declared.Grade.{Grade}
+use Rattle.hwp_cpu_check.specs.hwp_severity.declared.Severity.{Severity}
+use Rattle.hwp_cpu_check.specs.hwp_severity.declared.Severity.TheVariants as severities
+use Rattle.hwp_fault.specs.hwp_core_rule.Words.{Words}
 use Rattle.hwp_cpu_check.specs.hwp_report_text.declared.Acted.{Acted}
 use Rattle.hwp_cpu_check.specs.hwp_report_text.declared.Acted.TheVariants as acts
 use Rattle.hwp_cpu_check.specs.hwp_claim.Fails as fails
-use Rattle.hwp_cpu_check.specs.hwp_law.Checks.{empty_banks, has_stop}
+use Rattle.hwp_cpu_check.specs.hwp_banks.Banks.{empty_banks}
+use Rattle.hwp_cpu_check.specs.hwp_severity.Handling.{has_stop}
 use Rattle.hwp_cpu_check.specs.declared.Handler.{Handler}
 use Rattle.hwp_cpu_check.specs.declared.Held.{Held}
 use Rattle.hwp_cpu_check.specs.declared.handler.HandlerAt.{HandlerAt}

@@ -1,8 +1,8 @@
 -- An access makes only steps that set no policy, take no losses, neither mark nor count a frame and don't stop the machine.
 use Rattle.std.proofs.Common.{ℕ}
-use Rattle.hwp_geom.specs.declared.Frame.{Frame}
-use Rattle.hwp_geom.specs.declared.Page.{Page}
-use Rattle.hwp_geom.specs.declared.VSlot.{VSlot}
+use Rattle.hwp_fault.specs.hwp_geom.declared.Frame.{Frame}
+use Rattle.hwp_fault.specs.hwp_geom.declared.Page.{Page}
+use Rattle.hwp_fault.specs.hwp_geom.declared.VSlot.{VSlot}
 use Rattle.hwp_fault.specs.hwp_fault_fill.declared.fill.FillAt.{FillAt}
 use Rattle.hwp_fault.specs.hwp_fault_fill.declared.fill.FillAt.TheVariants as fill_at
 use Rattle.hwp_fault.specs.hwp_core.declared.hold.HoldAt.{HoldAt}

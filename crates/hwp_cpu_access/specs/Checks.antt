@@ -1,12 +1,12 @@
 -- The machine checks of an access that is asked for.
 use Rattle.std.specs.Prelude.{List}
-use Rattle.hwp_geom.specs.declared.Frame.{Frame}
-use Rattle.hwp_geom.specs.declared.Layout.{Layout}
-use Rattle.hwp_geom.specs.declared.Mode.{Mode}
-use Rattle.hwp_banks.specs.declared.Origin.{Origin}
-use Rattle.hwp_core_rule.specs.declared.View.{View}
+use Rattle.hwp_fault.specs.hwp_geom.declared.Frame.{Frame}
+use Rattle.hwp_fault.specs.hwp_geom.declared.Layout.{Layout}
+use Rattle.hwp_fault.specs.hwp_geom.declared.Mode.{Mode}
+use Rattle.hwp_cpu_check.specs.hwp_banks.declared.Origin.{Origin}
+use Rattle.hwp_fault.specs.hwp_core_rule.declared.View.{View}
 use Rattle.hwp_fault.specs.declared.Request.{Request}
-use Rattle.hwp_cpu_check.specs.hwp_law.Checks.{Banks}
+use Rattle.hwp_cpu_check.specs.hwp_banks.Banks.{Banks}
 use Rattle.hwp_cpu_check.specs.Checks as checks
 use Rattle.hwp_cpu_check.specs.Checks.{Check}
 

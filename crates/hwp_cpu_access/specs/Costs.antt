@@ -2,17 +2,17 @@
 -- poisoned its frame, or another's failure of the frame has ended: each pays for the turns of an access that begins again.
 use Rattle.std.specs.Prelude.{ℕ, ◌+◌, ◌==◌, ◌&&◌, Bool, false, cond, Option, Some, None, is_some, length, slice_index}
 use Rattle.std.specs.List.{list_any}
-use Rattle.hwp_geom.specs.declared.Frame.{Frame}
-use Rattle.hwp_words.specs.Frames.{is_poisoned}
-use Rattle.hwp_core_rule.specs.Words.{Words}
-use Rattle.hwp_banks.specs.declared.Event.{Event}
+use Rattle.hwp_fault.specs.hwp_geom.declared.Frame.{Frame}
+use Rattle.hwp_fault.specs.hwp_words.Frames.{is_poisoned}
+use Rattle.hwp_fault.specs.hwp_core_rule.Words.{Words}
+use Rattle.hwp_cpu_check.specs.hwp_banks.declared.Event.{Event}
 use Rattle.hwp_fault.specs.declared.AccessAnswer.TheVariants as access_answers
 use Rattle.hwp_fault.specs.declared.access.AccessAt.{AccessAt}
 use Rattle.hwp_fault.specs.declared.access.AccessAt.TheVariants as access_at
 use Rattle.hwp_fault.specs.Accesses as accesses
 use Rattle.hwp_cpu_check.specs.hwp_claim.declared.Fail.{Fail}
 use Rattle.hwp_cpu_check.specs.hwp_claim.Done.{marked_at}
-use Rattle.hwp_cpu_check.specs.hwp_law.Checks.{Banks}
+use Rattle.hwp_cpu_check.specs.hwp_banks.Banks.{Banks}
 use Rattle.hwp_cpu_check.specs.declared.handler.HandlerAt.{HandlerAt}
 use Rattle.hwp_cpu_check.specs.declared.handler.HandlerAt.TheVariants as handler_at
 use Rattle.hwp_cpu_check.specs.Handlers as handlers
@@ -65,8 +65,8 @@ word_of frame words = slice_index words.frames frame.0
 -- an access that has met a bad line goes on to its machine check
 abbrev pub check_cost : AccessAt → Words → ℕ
 check_cost (access_at.LoadBad frame body) words = past_cost (word_of frame words)
-check_cost (access_at.Unlock u (Some (access_answers.Checked frame page place))) words = 5 + past_cost (word_of frame words)
-check_cost (access_at.Over (access_answers.Checked frame page place)) words = 5 + past_cost (word_of frame words)
+check_cost (access_at.Unlock u (Some (access_answers.Checked frame place))) words = 5 + past_cost (word_of frame words)
+check_cost (access_at.Over (access_answers.Checked frame place)) words = 5 + past_cost (word_of frame words)
 check_cost _ words = 0
 
 -- an event that the banks hold is gone after a machine check

@@ -1,19 +1,20 @@
 -- What is held and known while an instruction accesses a line, and acts on the machine checks that it meets.
 use Rattle.std.specs.Prelude.{◌≡◌, ◌⊎◌, ℕ, ◌+◌, ◌<◌, ◌≤◌, true, false, List, [], Some, None, length}
 use Rattle.std.specs.Int.{from_bool}
-use Rattle.hwp_geom.specs.declared.Frame.{Frame}
-use Rattle.hwp_geom.specs.declared.Layout.{Layout}
-use Rattle.hwp_geom.specs.declared.Who.{Who}
-use Rattle.hwp_geom.specs.Layout.{IsSound}
-use Rattle.hwp_banks.specs.declared.Origin.{Origin}
-use Rattle.hwp_banks.specs.declared.Origin.TheVariants as origins
-use Rattle.hwp_banks.specs.Events.{bank_count}
-use Rattle.hwp_page.specs.declared.At.{At}
-use Rattle.hwp_core_rule.specs.declared.SharedWord.TheVariants as places
-use Rattle.hwp_core_rule.specs.declared.View.{View}
-use Rattle.hwp_core_task.specs.Calls.{IsOnTurn}
-use Rattle.hwp_core_task.specs.Hands.{hand_of, empty}
-use Rattle.hwp_core_task.specs.Known.{HasOnly, Precedes, Saw, such_deeds}
+use Rattle.hwp_fault.specs.hwp_geom.declared.Frame.{Frame}
+use Rattle.hwp_fault.specs.hwp_geom.declared.Layout.{Layout}
+use Rattle.hwp_fault.specs.hwp_geom.declared.Who.{Who}
+use Rattle.hwp_fault.specs.hwp_geom.Layout.{IsSound}
+use Rattle.hwp_cpu_check.specs.hwp_banks.declared.Origin.{Origin}
+use Rattle.hwp_cpu_check.specs.hwp_banks.declared.Origin.TheVariants as origins
+use Rattle.hwp_cpu_check.specs.hwp_banks.Events.{bank_count}
+use Rattle.hwp_fault.specs.hwp_page.declared.At.{At}
+use Rattle.hwp_fault.specs.hwp_core_rule.declared.SharedWord.TheVariants as places
+use Rattle.hwp_fault.specs.hwp_core_rule.declared.View.{View}
+use Rattle.hwp_fault.specs.hwp_core_task.Calls.{IsOnTurn}
+use Rattle.hwp_fault.specs.hwp_core_task.Hands.{hand_of, empty}
+use Rattle.hwp_fault.specs.hwp_core_task.Known.{HasOnly, Precedes, Saw, such_deeds}
+use Rattle.hwp_fault.specs.hwp_core_task.Turns.{Member}
 use Rattle.hwp_fault.specs.declared.Access.{Access}
 use Rattle.hwp_fault.specs.declared.AccessAnswer.{AccessAnswer}
 use Rattle.hwp_fault.specs.declared.AccessAnswer.TheVariants as access_answers
@@ -21,7 +22,7 @@ use Rattle.hwp_fault.specs.declared.Request.{Request}
 use Rattle.hwp_fault.specs.Accesses as accesses
 use Rattle.hwp_fault.specs.Adds.{has_checked}
 use Rattle.hwp_cpu_check.specs.hwp_claim_frame.Claims.{IsStopped}
-use Rattle.hwp_cpu_check.specs.hwp_law.Checks.{Banks, empty_banks}
+use Rattle.hwp_cpu_check.specs.hwp_banks.Banks.{Banks, empty_banks}
 use Rattle.hwp_cpu_check.specs.hwp_law.Events.{is_check}
 use Rattle.hwp_cpu_check.specs.declared.Handler.{Handler}
 use Rattle.hwp_cpu_check.specs.declared.EventOutcome.{EventOutcome}
@@ -32,6 +33,8 @@ use Rattle.hwp_cpu_check.specs.Handlers as handlers
 use Rattle.hwp_cpu_check.specs.Told.{first_signal, halts}
 use Rattle.hwp_cpu_check.specs.Checks.{Check, left_by, lines_of, restarting, with_own}
 use Rattle.hwp_cpu_access.specs.Checks.{AreChecks, SawBad}
+use Rattle.hwp_cpu_access.specs.Instructions.{Follows, Shows, bare, plan, put}
+use Rattle.hwp_cpu_access.specs.Costs.{aborts, claims, class, cost}
 use Rattle.hwp_cpu_access.specs.declared.instruction.Instruction.{Instruction}
 use Rattle.hwp_cpu_access.specs.declared.instruction.InstructionAnswer.{InstructionAnswer}
 use Rattle.hwp_cpu_access.specs.declared.instruction.InstructionAnswer.TheVariants as answers
@@ -76,9 +79,9 @@ pub record IsHalted (view : View) (a : Request) (told : List EventOutcome) : Typ
   pub only : HasOnlyBefore view a
 
 abbrev pub IsEnd : Layout → View → Request → List EventOutcome → InstructionAnswer → Type 0
-IsEnd layout view a told (answers.Value word place) = IsOwnEnd layout view a told (access_answers.Value word place.page place.entry)
-IsEnd layout view a told (answers.Stored place) = IsOwnEnd layout view a told (access_answers.Stored place.page place.entry)
-IsEnd layout view a told (answers.Sigbus place) = IsOwnEnd layout view a told (access_answers.Sigbus place.page place.entry) ⊎ IsSignalled view a told place
+IsEnd layout view a told (answers.Value word place) = IsOwnEnd layout view a told (access_answers.Value word place)
+IsEnd layout view a told (answers.Stored place) = IsOwnEnd layout view a told (access_answers.Stored place)
+IsEnd layout view a told (answers.Sigbus place) = IsOwnEnd layout view a told (access_answers.Sigbus place) ⊎ IsSignalled view a told place
 IsEnd layout view a told answers.NoFrame = IsOwnEnd layout view a told access_answers.NoFrame
 IsEnd layout view a told (answers.Gone page) = IsOwnEnd layout view a told (access_answers.Gone page)
 IsEnd layout view a told answers.Stopped = IsOwnEnd layout view a told access_answers.Stopped ⊎ IsHalted view a told
@@ -160,3 +163,19 @@ pub record Fits (layout : Layout) (view : View) (i : Instruction) : Type 0 where
   pub told_is : i.lines.told ≡ lines_of checks
   pub banks_are : i.banks ≡ banks_at i.before.value checks i.at
   pub at : FitsAt layout view i checks i.at
+
+-- the task, as the laws of tasks read it
+abbrev pub task : Member Instruction
+task = record {
+  who = λ i. i.request.who;
+  plan = plan;
+  put = put;
+  bare = bare;
+  shows = Shows;
+  next = Follows;
+  fits = Fits;
+  class = class;
+  cost = cost;
+  aborts = aborts;
+  claims = claims;
+}

@@ -1,26 +1,26 @@
 -- An instruction that accesses a line, with the machine checks that it meets: the task's states, its steps and what they come to.
 use Rattle.std.specs.Prelude.{◌≡◌, ◌⊎◌, ℕ, ◌≤◌, ◌&&◌, ◌||◌, Bool, not, cond, Option, Some, None, option_map, unwrap_or}
 use Rattle.std.specs.declared.alloc.Global.{Global}
-use Rattle.hwp_geom.specs.declared.Frame.{Frame}
-use Rattle.hwp_geom.specs.declared.Layout.{Layout}
-use Rattle.hwp_geom.specs.declared.Mode.{Mode}
-use Rattle.hwp_banks.specs.declared.Origin.{Origin}
-use Rattle.hwp_banks.specs.Events.{bank_count}
-use Rattle.hwp_page.specs.declared.At.{At}
-use Rattle.hwp_page.specs.History.{BodyValue}
-use Rattle.hwp_words.specs.Frames.{is_handled, is_kernel, is_poisoned}
-use Rattle.hwp_words.specs.Stops.{has_no_memory}
-use Rattle.hwp_core_rule.specs.declared.SharedWord.TheVariants as places
-use Rattle.hwp_core_rule.specs.declared.Step.{Step}
-use Rattle.hwp_core_rule.specs.declared.Step.TheVariants as steps
-use Rattle.hwp_core_task.specs.declared.Turn.{Turn}
-use Rattle.hwp_core_task.specs.declared.Turn.TheVariants.{Moved, NoMemory, Waits}
+use Rattle.hwp_fault.specs.hwp_geom.declared.Frame.{Frame}
+use Rattle.hwp_fault.specs.hwp_geom.declared.Layout.{Layout}
+use Rattle.hwp_fault.specs.hwp_geom.declared.Mode.{Mode}
+use Rattle.hwp_cpu_check.specs.hwp_banks.declared.Origin.{Origin}
+use Rattle.hwp_cpu_check.specs.hwp_banks.Events.{bank_count}
+use Rattle.hwp_fault.specs.hwp_page.declared.At.{At}
+use Rattle.hwp_fault.specs.hwp_page.History.{BodyValue}
+use Rattle.hwp_fault.specs.hwp_words.Frames.{is_handled, is_kernel, is_poisoned}
+use Rattle.hwp_fault.specs.hwp_words.Stops.{has_no_memory}
+use Rattle.hwp_fault.specs.hwp_core_rule.declared.SharedWord.TheVariants as places
+use Rattle.hwp_fault.specs.hwp_core_rule.declared.Step.{Step}
+use Rattle.hwp_fault.specs.hwp_core_rule.declared.Step.TheVariants as steps
+use Rattle.hwp_fault.specs.hwp_core_task.declared.Turn.{Turn}
+use Rattle.hwp_fault.specs.hwp_core_task.declared.Turn.TheVariants.{Moved, NoMemory, Waits}
 use Rattle.hwp_fault.specs.declared.Access.{Access}
 use Rattle.hwp_fault.specs.declared.AccessAnswer.{AccessAnswer}
 use Rattle.hwp_fault.specs.declared.AccessAnswer.TheVariants as access_answers
 use Rattle.hwp_fault.specs.declared.Request.{Request}
 use Rattle.hwp_fault.specs.Accesses as accesses
-use Rattle.hwp_cpu_check.specs.hwp_law.Checks.{Banks, empty_banks}
+use Rattle.hwp_cpu_check.specs.hwp_banks.Banks.{Banks, empty_banks}
 use Rattle.hwp_cpu_check.specs.declared.Handler.{Handler}
 use Rattle.hwp_cpu_check.specs.Handlers as handlers
 use Rattle.hwp_cpu_check.specs.Lines.{no_lines, with_lines}
@@ -130,10 +130,10 @@ answered i answer = record i { at = over answer }
 
 abbrev pub AfterAccessBy : Layout → Instruction → Access → Option AccessAnswer → Instruction → Type 0
 AfterAccessBy layout i a None after = after ≡ record i { at = at.Access a }
-AfterAccessBy layout i a (Some (access_answers.Checked frame page place)) after = BeginsCheck layout i frame after
-AfterAccessBy layout i a (Some (access_answers.Value word page place)) after = after ≡ answered i (answers.Value word (record { page = page; entry = place }))
-AfterAccessBy layout i a (Some (access_answers.Stored page place)) after = after ≡ answered i (answers.Stored (record { page = page; entry = place }))
-AfterAccessBy layout i a (Some (access_answers.Sigbus page place)) after = after ≡ answered i (answers.Sigbus (record { page = page; entry = place }))
+AfterAccessBy layout i a (Some (access_answers.Checked frame place)) after = BeginsCheck layout i frame after
+AfterAccessBy layout i a (Some (access_answers.Value word place)) after = after ≡ answered i (answers.Value word place)
+AfterAccessBy layout i a (Some (access_answers.Stored place)) after = after ≡ answered i (answers.Stored place)
+AfterAccessBy layout i a (Some (access_answers.Sigbus place)) after = after ≡ answered i (answers.Sigbus place)
 AfterAccessBy layout i a (Some access_answers.NoFrame) after = after ≡ answered i answers.NoFrame
 AfterAccessBy layout i a (Some (access_answers.Gone page)) after = after ≡ answered i (answers.Gone page)
 AfterAccessBy layout i a (Some access_answers.Stopped) after = after ≡ answered i answers.Stopped

@@ -1,18 +1,15 @@
 ghost use Rattle.std.specs.Prelude.{◌≡◌, ◌≤◌, length};
-ghost use Rattle.hwp_cpu_check.specs.hwp_law.Checks.{empty_banks};
+ghost use Rattle.hwp_cpu_check.specs.hwp_banks.Banks.{empty_banks};
 ghost use Rattle.hwp_cpu_check.specs.Checks.{with_own};
-ghost use Rattle.hwp_banks.specs.Events.{bank_count};
+ghost use Rattle.hwp_cpu_check.specs.hwp_banks.Events.{bank_count};
 ghost use Rattle.hwp_cpu_access.specs.Instructions.{AfterAccess, BeginsCheck, after_handler, after_load, after_stop, answer, answered, begin, first, is_pending, over, over_at, restarted, turn_of_load, turn_of_stop};
 
-use hwp_banks::{BANKS, Bank, Origin};
-use hwp_core_rule::{SharedWord, Step};
-use hwp_core_task::{Ranked, Scheduled, Task, Turn};
-use hwp_cpu_check::{EventOutcome, Handler, ToldLines, no_events};
+use hwp_cpu_check::{
+    At, BANKS, Bank, Body, EventOutcome, Frame, FrameWord, Handler, Layout, List, McgBits, Mode,
+    Origin, Page, Ranked, Scheduled, SharedWord, Step, StopWord, Task, ToldLines, Turn, Who,
+    no_events,
+};
 use hwp_fault::{Access, AccessAnswer, Request};
-use hwp_geom::{Frame, Layout, List, Mode, Page, Who};
-use hwp_page::{At, Body};
-use hwp_severity::McgBits;
-use hwp_words::{FrameWord, StopWord};
 use std::alloc::Global;
 use std::mem;
 use std::snapshot::Snapshot;
@@ -135,16 +132,9 @@ impl Instruction {
         drop(access);
         match answer {
             AccessAnswer::Checked { frame, .. } => self.check(layout, frame),
-            AccessAnswer::Value { word, page, place } => self.end(InstructionAnswer::Value {
-                word,
-                at: At { page, entry: place },
-            }),
-            AccessAnswer::Stored { page, place } => self.end(InstructionAnswer::Stored {
-                at: At { page, entry: place },
-            }),
-            AccessAnswer::Sigbus { page, place } => self.end(InstructionAnswer::Sigbus {
-                at: At { page, entry: place },
-            }),
+            AccessAnswer::Value { word, at } => self.end(InstructionAnswer::Value { word, at }),
+            AccessAnswer::Stored { at } => self.end(InstructionAnswer::Stored { at }),
+            AccessAnswer::Sigbus { at } => self.end(InstructionAnswer::Sigbus { at }),
             AccessAnswer::NoFrame => self.end(InstructionAnswer::NoFrame),
             AccessAnswer::Gone { page } => self.end(InstructionAnswer::Gone { page }),
             AccessAnswer::Stopped => self.end(InstructionAnswer::Stopped),
@@ -297,22 +287,9 @@ fn is_pending(word: u64) -> bool
 }
 
 impl Task for Instruction {
-    ghost use Rattle.hwp_cpu_access.specs.Instructions.{Follows, Shows, bare, plan, put};
-    ghost use Rattle.hwp_cpu_access.specs.Fits.{Fits};
+    ghost use Rattle.hwp_cpu_access.specs.Fits as fits;
 
-    ghost who = { λ i. i.request.who };
-
-    ghost plan = { λ i. plan i };
-
-    ghost put = { λ i. put i };
-
-    ghost bare = { λ i. bare i };
-
-    ghost shows = { λ i found got. Shows i found got };
-
-    ghost next = { λ layout i found got after result. Follows layout i found got after result };
-
-    ghost fits = { λ layout view i. Fits layout view i };
+    ghost task = { fits.task };
 
     fn who(&self) -> Who {
         self.request.who
@@ -383,16 +360,6 @@ impl Task for Instruction {
 }
 
 impl Ranked for Instruction {
-    ghost use Rattle.hwp_cpu_access.specs.Costs.{aborts, claims, class, cost};
-
-    ghost class_of = { λ i. class i };
-
-    ghost cost = { λ i words. cost i words };
-
-    ghost aborts = { λ i. aborts i };
-
-    ghost claims = { λ i. claims i };
-
     fn class(&self) -> u8 {
         match &self.at {
             InstructionAt::Access { access } => access.class(),

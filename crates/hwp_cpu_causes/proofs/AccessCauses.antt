@@ -23,7 +23,7 @@ use Rattle.hwp_law_holds.specs.hwp_core_rule.declared.View.{View}
 use Rattle.hwp_law_holds.specs.hwp_script_lines.declared.Command.{Command}
 use Rattle.hwp_law_holds.specs.hwp_script_lines.declared.Command.TheVariants as commands
 use Rattle.hwp_law_holds.specs.hwp_report_text.declared.Answer.{Answer}
-use Rattle.hwp_law_holds.specs.hwp_law.Checks.{Banks}
+use Rattle.hwp_law_holds.specs.hwp_banks.Banks.{Banks}
 use Rattle.hwp_law_holds.specs.hwp_law.Commands.{Access, access, access_of, can_fail}
 use Rattle.hwp_law_holds.specs.hwp_core_task.Known.{HasMade, HasOnly, IsOnTheWay, Precedes, Saw}
 use Rattle.hwp_cpu_command.specs.hwp_fault.declared.AccessAnswer.TheVariants as access_answers
@@ -124,7 +124,7 @@ module _ (layout : Layout) (view : View) (r : Request) (names : IsDeclared layou
     made = subst (λ (p : Page). HasMade (Precedes p r.slot r.line) view r.who p place.entry what) (sym same) (subst (HasMade (Precedes r.page r.slot r.line) view r.who r.page place.entry) entry made);
   }
 
-  refused : (kind : AccessKind) → r.kind ≡ kind → (place : At) → Answered layout view r (access_answers.Sigbus place.page place.entry) → Reached layout view r.who r.thread r.slot r.line place (refusal_by kind r.slot r.line r.thread)
+  refused : (kind : AccessKind) → r.kind ≡ kind → (place : At) → Answered layout view r (access_answers.Sigbus place) → Reached layout view r.who r.thread r.slot r.line place (refusal_by kind r.slot r.line r.thread)
   refused kind is place has = reached place (refusal r.slot (touch_of r)) (refusal_by kind r.slot r.line r.thread) has.0 (ap (λ (k : AccessKind). refusal_by k r.slot r.line r.thread) is) has.1.alive has.1.made
 
   no-frame : Answered layout view r access_answers.NoFrame → FoundNoFrame layout view r.who r.thread r.slot r.line
@@ -151,7 +151,7 @@ module _ (layout : Layout) (view : View) (r : Request) (names : IsDeclared layou
 
 module _ (layout : Layout) (list : List Command) (view : View) (r : Request) (names : IsDeclared layout r) (told : List EventOutcome) (did : Option FrameChange) where
   module _ (is : r.kind ≡ kinds.Load) where
-    load-value : (word : ℕ) (place : At) → Answered layout view r (access_answers.Value word place.page place.entry) → IsAnswerCaused layout list view r.who (commands.Load r.thread r.slot r.line) told did (instruction_answer (answers.Value word place))
+    load-value : (word : ℕ) (place : At) → Answered layout view r (access_answers.Value word place) → IsAnswerCaused layout list view r.who (commands.Load r.thread r.slot r.line) told did (instruction_answer (answers.Value word place))
     load-value word place has = (
       record { 0 = has.2.mask },
       reached layout view r names place (what_of r has.2.mask word) (entries.Load r.slot r.line (Word (record { 0 = has.2.mask }) word)) has.1

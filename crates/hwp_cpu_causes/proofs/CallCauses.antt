@@ -27,8 +27,8 @@ use Rattle.hwp_law_holds.specs.hwp_script_lines.declared.Command.TheVariants as 
 use Rattle.hwp_law_holds.specs.hwp_script_lines.declared.PrctlArgs.{PrctlArgs}
 use Rattle.hwp_law_holds.specs.hwp_report_text.declared.Answer.{Answer}
 use Rattle.hwp_law_holds.specs.hwp_law.Answers.{reply_answer}
-use Rattle.hwp_law_holds.specs.hwp_law.Checks.{Banks}
-use Rattle.hwp_law_holds.specs.hwp_law.Events.{raw_event}
+use Rattle.hwp_law_holds.specs.hwp_banks.Banks.{Banks}
+use Rattle.hwp_law_holds.specs.hwp_banks.Banks.{raw_event}
 use Rattle.hwp_law_holds.specs.hwp_law.Policies.{arguments, settings}
 use Rattle.hwp_law_holds.specs.hwp_law.Policies as laws
 use Rattle.hwp_law_holds.specs.hwp_core_task.Known.{Saw}

@@ -8,8 +8,9 @@ use Rattle.hwp_law_holds.specs.hwp_script_lines.declared.Command.{Command}
 use Rattle.hwp_law_holds.specs.hwp_script_lines.declared.Command.TheVariants as commands
 use Rattle.hwp_law_holds.specs.hwp_report_text.declared.Answer.{Answer}
 use Rattle.hwp_law_holds.specs.hwp_report_text.declared.Answer.TheVariants as report_answers
-use Rattle.hwp_law_holds.specs.hwp_law.Checks.{Banks}
-use Rattle.hwp_law_holds.specs.hwp_law.Events.{logged_if_done, raw_event}
+use Rattle.hwp_law_holds.specs.hwp_banks.Banks.{Banks}
+use Rattle.hwp_law_holds.specs.hwp_law.Events.{logged_if_done}
+use Rattle.hwp_law_holds.specs.hwp_banks.Banks.{raw_event}
 use Rattle.hwp_law_holds.specs.hwp_cpu_check.Told.{halts}
 use Rattle.hwp_cpu_command.specs.hwp_cpu_control.declared.ReadStopAnswer.{ReadStopAnswer}
 use Rattle.hwp_cpu_command.specs.hwp_cpu_control.declared.ReadStopAnswer.TheVariants as read_answers

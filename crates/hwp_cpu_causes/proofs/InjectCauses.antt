@@ -8,7 +8,6 @@ use Rattle.hwp_law_holds.specs.hwp_geom.declared.Who.{Who}
 use Rattle.hwp_law_holds.specs.hwp_page.declared.At.{At}
 use Rattle.hwp_law_holds.specs.hwp_page.declared.Outcome.{Outcome}
 use Rattle.hwp_law_holds.specs.hwp_page.declared.Outcome.TheVariants as outcomes
-use Rattle.hwp_law_holds.specs.hwp_page.declared.Situation.{Situation}
 use Rattle.hwp_law_holds.specs.hwp_page.declared.What.{What}
 use Rattle.hwp_law_holds.specs.hwp_page.Situations.{outcome_of}
 use Rattle.hwp_law_holds.specs.hwp_core_rule.declared.Made.{Made}
@@ -24,8 +23,9 @@ use Rattle.hwp_law_holds.specs.hwp_claim.declared.FailAnswer.{FailAnswer}
 use Rattle.hwp_law_holds.specs.hwp_claim.declared.FailAnswer.TheVariants as answers
 use Rattle.hwp_law_holds.specs.hwp_claim.declared.Inject.{Inject}
 use Rattle.hwp_law_holds.specs.hwp_claim.Injects as injects
-use Rattle.hwp_law_holds.specs.hwp_cpu_check.declared.Found.{Found}
+use Rattle.hwp_law_holds.specs.hwp_claim.declared.Found.{Found}
 use Rattle.hwp_law_holds.specs.hwp_cpu_check.declared.EventOutcome.{EventOutcome}
+use Rattle.hwp_law_holds.specs.hwp_cpu_check.Fits.{IsEntered}
 use Rattle.hwp_law_holds.specs.hwp_cpu_row.declared.FrameChange.{FrameChange}
 use Rattle.hwp_cpu_command.specs.declared.Job.{Job}
 use Rattle.hwp_cpu_command.specs.declared.Job.TheVariants as jobs
@@ -69,9 +69,6 @@ knows-failure {layout} {view} {who} {frame} j {a} runs fits is = record {
 
 -- ---- what the failure found
 
-abbrev found : Situation → ℕ → Option At → Bool → Found
-found situation cycle place signalled = record { situation = situation; cycle = cycle; at = place; signalled = signalled }
-
 -- the one entry of a command that made no other is among its entries, and each of them is that one
 module _ {view : View} {who : Who} {page : Page} {place : ℕ} {what : What} (has : HasMade (λ (m : Made). ⊥) view who page place what) where
   among : SomeMember (IsAt page place what) (deeds who view)
@@ -92,12 +89,15 @@ module _ {view : View} {who : Who} {page : Page} {place : ℕ} {what : What} (ha
       which (suc n) is = absurd (none-some m is)
 
 module _ (layout : Layout) (view : View) (who : Who) (frame : Frame) where
-  came : (situation : Situation) (cycle : ℕ) (place : Option At) (signalled : Bool) → injects.HasDone layout view who frame situation place signalled → HasFailed layout view who frame (found situation cycle place signalled)
-  came situation cycle None signalled has = record { entered = (has.1, has.2); only = only-none _ view who has.0 }
-  came situation cycle (Some place) signalled has = record {
-    entered = (record { seen = has.0.seen; signals = has.0.signals; made = among has.0.made; signalled = has.0.signalled_is; paged = has.0.paged }, has.1);
-    only = each-is has.0.made (λ (m : Made). is_failure m.entry.what ≡ true) (ap is_failure has.0.made.at.2);
-  }
+  came : (found : Found) → injects.HasDone layout view who frame found found.at → HasFailed layout view who frame found
+  came found done = let all = which found.at done in record { entered = all.0; only = all.1 }
+    where
+      which : (at : Option At) → injects.HasDone layout view who frame found at → IsEntered layout view who frame None found at × HasOnly (λ (m : Made). is_failure m.entry.what ≡ true) view who
+      which None has = ((has.1, has.2), only-none _ view who has.0)
+      which (Some place) has = (
+        (record { seen = has.0.seen; signals = has.0.signals; made = among has.0.made; signalled = has.0.signalled_is; paged = has.0.paged }, has.1),
+        each-is has.0.made (λ (m : Made). is_failure m.entry.what ≡ true) (ap is_failure has.0.made.at.2),
+      )
 
   by-outcome : (own : Option FrameChange) (outcome : Outcome) → HasCome layout view who frame own outcome → IsInjectCaused layout view who frame own (outcome_answer outcome)
   by-outcome own outcomes.Recovered has = has
@@ -124,10 +124,10 @@ failed : (layout : Layout) (list : List Command) (view : View) (told : List Even
 failed layout list view told i answers.Stopped ended = found-stopped layout (commands.Inject i.frame) view i.who ended.over.2 ended.over.0
 failed layout list view told i answers.Already ended =
     (recovers answers.Already refl ended.recovery, (record { word = ended.over.2.word; poisoned = ended.over.2.poisoned; saw = ended.over.2.saw; made = ended.over.0 }, refl))
-failed layout list view told i (answers.Done situation cycle place signalled) ended =
-    caused-by layout view i.who i.frame list told (own_by i.frame (Some (answers.Done situation cycle place signalled))) (outcome_of situation) (recovers (answers.Done situation cycle place signalled) refl ended.recovery)
-    (by-outcome layout view i.who i.frame (own_by i.frame (Some (answers.Done situation cycle place signalled))) (outcome_of situation)
-    (record { found = found situation cycle place signalled; own_is = refl; outcome_is = refl; failed = came layout view i.who i.frame situation cycle place signalled ended.over.1 }))
+failed layout list view told i (answers.Done found) ended =
+    caused-by layout view i.who i.frame list told (own_by i.frame (Some (answers.Done found))) (outcome_of found.situation) (recovers (answers.Done found) refl ended.recovery)
+    (by-outcome layout view i.who i.frame (own_by i.frame (Some (answers.Done found))) (outcome_of found.situation)
+    (record { found = found; own_is = refl; outcome_is = refl; failed = came layout view i.who i.frame found ended.over.1 }))
 
 pub inject-caused : {layout : Layout} (list : List Command) {view : View} (told : List EventOutcome) {who : Who} {frame : Frame} (j : Job) {a : Answer} → KnowsFailure layout view who frame j a → IsAnswerCaused layout list view who (commands.Inject frame) told (own_of j) a
 inject-caused {layout} list {view} told {who} {frame} j {a} k =

@@ -13,4 +13,3 @@ mod CommandTells
 pub mod RowServed
 pub use Rattle.hwp_law_holds.proofs as of_hwp_law_holds
 pub use Rattle.hwp_law_holds.proofs.of_hwp_law_run as of_hwp_law_run
-pub use Rattle.hwp_law_holds.proofs.of_hwp_plain_order as of_hwp_plain_order

@@ -12,7 +12,7 @@ use Rattle.hwp_law_holds.specs.hwp_core_rule.declared.View.{View}
 use Rattle.hwp_law_holds.specs.hwp_script_lines.declared.Command.{Command}
 use Rattle.hwp_law_holds.specs.hwp_script_lines.declared.Command.TheVariants as commands
 use Rattle.hwp_law_holds.specs.hwp_report_text.declared.Answer.{Answer}
-use Rattle.hwp_law_holds.specs.hwp_law.Checks.{Banks}
+use Rattle.hwp_law_holds.specs.hwp_banks.Banks.{Banks}
 use Rattle.hwp_law_holds.specs.hwp_law.Commands.{can_fail, process_of_thread}
 use Rattle.hwp_law_holds.specs.hwp_cpu_check.declared.EventOutcome.{EventOutcome}
 use Rattle.hwp_law_holds.specs.hwp_cpu_check.Checks.{IsActedOn}

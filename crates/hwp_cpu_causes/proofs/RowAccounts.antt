@@ -141,18 +141,17 @@ module _ (frame : Frame) where
   marked-so : (x : FailAnswer) → marked_over frame false x ≡ cons_option (own_marking (own_by frame (Some x))) []
   marked-so answers.Stopped = refl
   marked-so answers.Already = refl
-  marked-so (answers.Done situation cycle place signalled) = refl
+  marked-so (answers.Done found) = refl
 
   failed-so : (x : FailAnswer) → failed_over None x ≡ cons_option (own_failure (own_by frame (Some x))) []
   failed-so answers.Stopped = refl
   failed-so answers.Already = refl
-  failed-so (answers.Done situation cycle None signalled) = refl
-  failed-so (answers.Done situation cycle (Some place) signalled) = refl
+  failed-so (answers.Done found) = refl
 
   own-so : (x : FailAnswer) → IsOwn (commands.Inject frame) (fail_answer x) (own_by frame (Some x))
   own-so answers.Stopped = tt
   own-so answers.Already = tt
-  own-so (answers.Done situation cycle place signalled) = (refl, refl)
+  own-so (answers.Done found) = (refl, refl)
 
 -- ---- the frame that is taken out of use
 

@@ -6,7 +6,7 @@ use Rattle.hwp_law_holds.specs.hwp_geom.declared.Who.{Who}
 use Rattle.hwp_law_holds.specs.hwp_core_rule.declared.View.{View}
 use Rattle.hwp_law_holds.specs.hwp_script_lines.declared.Command.{Command}
 use Rattle.hwp_law_holds.specs.hwp_report_text.declared.Answer.{Answer}
-use Rattle.hwp_law_holds.specs.hwp_law.Checks.{Banks}
+use Rattle.hwp_law_holds.specs.hwp_banks.Banks.{Banks}
 use Rattle.hwp_cpu_command.specs.declared.Job.{Job}
 use Rattle.hwp_cpu_command.specs.Done.{failed_now, marked_now, policies_now, taken_now}
 use Rattle.hwp_cpu_command.specs.Jobs.{Fits, answer, banks_after, banks_before, row_of}

@@ -1,3 +1,2 @@
 pub use Rattle.hwp_law_holds.specs as hwp_law_holds
 pub use Rattle.hwp_law_holds.specs.hwp_law_run as hwp_law_run
-pub use Rattle.hwp_law_holds.specs.hwp_plain_order as hwp_plain_order

@@ -2,16 +2,17 @@
 use Rattle.std.proofs.Common.{◌≡◌, ℕ, ◌+◌, ◌≤◌, Bool, true, false, cond, ◌||◌, nat_lt, List, [], ◌∷◌, Some, None, is_some, length, map, refl, ap, ◌∙◌, arith}
 use Rattle.std.specs.List.{list_any, position_or_len}
 use Rattle.std.proofs.lemmas.List.{length-map}
-use Rattle.hwp_geom.specs.declared.Mode.{Mode}
+use Rattle.hwp_banks.specs.hwp_geom.declared.Mode.{Mode}
 use Rattle.hwp_banks.specs.declared.Event.{Event}
 use Rattle.hwp_banks.specs.Events.{bank_count}
-use Rattle.hwp_severity.specs.declared.Grade.{Grade}
-use Rattle.hwp_severity.specs.declared.McgBits.{McgBits}
-use Rattle.hwp_severity.specs.declared.Severity.{Severity}
-use Rattle.hwp_severity.specs.declared.Severity.TheVariants as severities
-use Rattle.hwp_severity.specs.Handling.{grade_of, lowest_stop, stops}
-use Rattle.hwp_law.specs.Checks.{Banks, has_stop, held_from, is_stop, severity_of}
-use Rattle.hwp_law.specs.Commands.{Arrival}
+use Rattle.hwp_law.specs.hwp_severity.declared.Grade.{Grade}
+use Rattle.hwp_law.specs.hwp_severity.declared.McgBits.{McgBits}
+use Rattle.hwp_law.specs.hwp_severity.declared.Severity.{Severity}
+use Rattle.hwp_law.specs.hwp_severity.declared.Severity.TheVariants as severities
+use Rattle.hwp_law.specs.hwp_severity.Handling.{grade_of, lowest_stop}
+use Rattle.hwp_banks.specs.Banks.{Banks, held_from}
+use Rattle.hwp_law.specs.hwp_severity.Handling.{has_stop, is_stop, severity_of}
+use Rattle.hwp_law.specs.hwp_severity.declared.Arrival.{Arrival}
 use Rattle.hwp_cpu_check.specs.Events.{graded_in, held_in, held_with}
 use Rattle.hwp_cpu_check.specs.Fits.{AreFound}
 use Rattle.hwp_cpu_check.specs.Told.{stops_machine}
@@ -38,31 +39,21 @@ found-any p (x ∷ xs) = which (p x) refl (found-any p xs)
     which true is rest = grind (arith, is)
     which false is rest = grind (arith, is, rest)
 
-some-lowest : (grades : List Grade) → is_some (lowest_stop grades) ≡ list_any (λ (g : Grade). stops g.severity) grades
+some-lowest : (grades : List Grade) → is_some (lowest_stop grades) ≡ list_any (λ (g : Grade). is_stop g.severity) grades
 some-lowest grades = which (nat_lt (position_or_len test grades) (length grades)) ∙ found-any test grades
   where
     test : Grade → Bool
-    test g = stops g.severity
+    test g = is_stop g.severity
 
     which : (b : Bool) → is_some (cond b (Some (position_or_len test grades)) None) ≡ b
     which true = refl
     which false = refl
 
-same-stop : (s : Severity) → stops s ≡ is_stop s
-same-stop severities.None = refl
-same-stop severities.Keep = refl
-same-stop severities.Deferred = refl
-same-stop severities.Logged = refl
-same-stop severities.Optional = refl
-same-stop severities.Required = refl
-same-stop severities.Stop = refl
-
 -- some bank is graded Stop where an event of a bank is
-any-stop : (mcg : McgBits) (mode : Mode) (n : ℕ) (banks : Banks) → list_any (λ (g : Grade). stops g.severity) (map (grade_of mcg mode) banks) ≡ list_any (λ (b : ℕ × Event). is_stop (severity_of (how mcg mode) b.1)) (held_from n banks)
+any-stop : (mcg : McgBits) (mode : Mode) (n : ℕ) (banks : Banks) → list_any (λ (g : Grade). is_stop g.severity) (map (grade_of mcg mode) banks) ≡ list_any (λ (b : ℕ × Event). is_stop (severity_of (how mcg mode) b.1)) (held_from n banks)
 any-stop mcg mode n [] = refl
 any-stop mcg mode n (None ∷ banks) = any-stop mcg mode (n + 1) banks
-any-stop mcg mode n (Some event ∷ banks) = let same = same-stop (severity_of (how mcg mode) event) in
-    ap (λ (b : Bool). b || list_any (λ (g : Grade). stops g.severity) (map (grade_of mcg mode) banks)) same ∙ ap (λ (b : Bool). is_stop (severity_of (how mcg mode) event) || b) (any-stop mcg mode (n + 1) banks)
+any-stop mcg mode n (Some event ∷ banks) = ap (λ (b : Bool). is_stop (severity_of (how mcg mode) event) || b) (any-stop mcg mode (n + 1) banks)
 
 pub stops-is : (mcg : McgBits) (mode : Mode) (banks : Banks) → is_some (lowest_stop (map (grade_of mcg mode) banks)) ≡ has_stop (how mcg mode) banks
 stops-is mcg mode banks = some-lowest (map (grade_of mcg mode) banks) ∙ any-stop mcg mode 0 banks

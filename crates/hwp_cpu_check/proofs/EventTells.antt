@@ -5,16 +5,18 @@ use Rattle.std.specs.declared.alloc.Global.{Global}
 use Rattle.std.proofs.lemmas.List.{append_assoc, append-nil, map-append}
 use Rattle.std.proofs.lemmas.List.Elements.{filter_map-append}
 use Rattle.std.proofs.lemmas.Option.{none-some, same_Some}
-use Rattle.hwp_geom.specs.declared.Layout.{Layout}
-use Rattle.hwp_geom.specs.declared.Thread.{Thread}
-use Rattle.hwp_geom.specs.declared.Who.{Who}
-use Rattle.hwp_page.specs.History.{BodyValue}
-use Rattle.hwp_core_rule.specs.declared.View.{View}
-use Rattle.hwp_core_rule.specs.Words.{Words}
-use Rattle.hwp_core_task.specs.declared.Turn.{Turn}
-use Rattle.hwp_report_text.specs.declared.Acted.{Acted}
-use Rattle.hwp_law.specs.Checks.{Banks, has_stop, is_panic}
-use Rattle.hwp_law.specs.Commands.{Arrival}
+use Rattle.hwp_banks.specs.hwp_geom.declared.Layout.{Layout}
+use Rattle.hwp_banks.specs.hwp_geom.declared.Thread.{Thread}
+use Rattle.hwp_banks.specs.hwp_geom.declared.Who.{Who}
+use Rattle.hwp_claim_frame.specs.hwp_page.History.{BodyValue}
+use Rattle.hwp_claim_frame.specs.hwp_core_rule.declared.View.{View}
+use Rattle.hwp_claim_frame.specs.hwp_core_rule.Words.{Words}
+use Rattle.hwp_claim_frame.specs.hwp_core_task.declared.Turn.{Turn}
+use Rattle.hwp_law.specs.hwp_report_text.declared.Acted.{Acted}
+use Rattle.hwp_law.specs.hwp_report_text.Acts.{is_panic}
+use Rattle.hwp_banks.specs.Banks.{Banks}
+use Rattle.hwp_law.specs.hwp_severity.Handling.{has_stop}
+use Rattle.hwp_law.specs.hwp_severity.declared.Arrival.{Arrival}
 use Rattle.hwp_claim.specs.declared.FailAnswer.{FailAnswer}
 use Rattle.hwp_claim.specs.Fails as fails
 use Rattle.hwp_cpu_check.specs.Done.{failed_at, failed_in, marked_at, marked_in, owed_at}

@@ -2,37 +2,37 @@
 use Rattle.std.proofs.Common.{◌≡◌, inl, inr, ℕ, Bool, true, ◌||◌, List, [], ◌∷◌, ◌++◌, Option, Some, None, filter, refl, sym, ap, ◌∙◌, subst}
 use Rattle.std.proofs.lemmas.Bool.{both_ways}
 use Rattle.std.proofs.lemmas.List.Elements.{filter-append}
-use Rattle.hwp_geom.specs.declared.Frame.{Frame}
-use Rattle.hwp_geom.specs.declared.Layout.{Layout}
-use Rattle.hwp_geom.specs.declared.Thread.{Thread}
-use Rattle.hwp_geom.specs.declared.Who.{Who}
-use Rattle.hwp_page.specs.declared.At.{At}
-use Rattle.hwp_page.specs.declared.What.TheVariants as entries
-use Rattle.hwp_page.specs.History.{BodyValue}
-use Rattle.hwp_core_rule.specs.declared.Log.{Log}
-use Rattle.hwp_core_rule.specs.declared.Made.{Made}
-use Rattle.hwp_core_rule.specs.declared.Mark.{Mark}
-use Rattle.hwp_core_rule.specs.declared.Step.{Step}
-use Rattle.hwp_core_rule.specs.declared.View.{View}
-use Rattle.hwp_core_rule.specs.Lists.{SomeMember}
-use Rattle.hwp_core_rule.proofs.Lists.{at_longer, some-last, some-push}
-use Rattle.hwp_core_task.specs.Calls.{Steps}
-use Rattle.hwp_core_task.specs.Known.{IsAt, deeds}
-use Rattle.hwp_core_task.proofs.SightKeeps.{saw-stays}
+use Rattle.hwp_banks.specs.hwp_geom.declared.Frame.{Frame}
+use Rattle.hwp_banks.specs.hwp_geom.declared.Layout.{Layout}
+use Rattle.hwp_banks.specs.hwp_geom.declared.Thread.{Thread}
+use Rattle.hwp_banks.specs.hwp_geom.declared.Who.{Who}
+use Rattle.hwp_claim_frame.specs.hwp_page.declared.At.{At}
+use Rattle.hwp_claim_frame.specs.hwp_page.declared.What.TheVariants as entries
+use Rattle.hwp_claim_frame.specs.hwp_page.History.{BodyValue}
+use Rattle.hwp_claim_frame.specs.hwp_core_rule.declared.Log.{Log}
+use Rattle.hwp_claim_frame.specs.hwp_core_rule.declared.Made.{Made}
+use Rattle.hwp_claim_frame.specs.hwp_core_rule.declared.Mark.{Mark}
+use Rattle.hwp_claim_frame.specs.hwp_core_rule.declared.Step.{Step}
+use Rattle.hwp_claim_frame.specs.hwp_core_rule.declared.View.{View}
+use Rattle.hwp_claim_frame.specs.hwp_core_rule.Lists.{SomeMember}
+use Rattle.hwp_claim_frame.proofs.of_hwp_core_rule.Lists.{at_longer, some-last, some-push}
+use Rattle.hwp_claim_frame.specs.hwp_core_task.Calls.{Steps}
+use Rattle.hwp_claim_frame.specs.hwp_core_task.Known.{IsAt, deeds}
+use Rattle.hwp_claim_frame.proofs.of_hwp_core_task.SightKeeps.{saw-stays}
 use Rattle.hwp_claim.specs.hwp_claim_act.declared.Failed.{Failed}
 use Rattle.hwp_claim.specs.hwp_claim_act.Abandoned.{AddsFailure}
-use Rattle.hwp_claim.specs.hwp_claim_frame.Claims.{SawPoison, is_own, marks_by}
-use Rattle.hwp_claim.specs.hwp_claim_frame.Done.{Grows, Marking, marking_of}
-use Rattle.hwp_report_text.specs.declared.Acted.{Acted}
-use Rattle.hwp_law.specs.Checks.{is_panic}
+use Rattle.hwp_claim_frame.specs.Claims.{SawPoison, is_own, marks_by}
+use Rattle.hwp_claim_frame.specs.Done.{Grows, Marking, marking_of}
+use Rattle.hwp_law.specs.hwp_report_text.declared.Acted.{Acted}
+use Rattle.hwp_law.specs.hwp_report_text.Acts.{is_panic}
 use Rattle.hwp_claim.specs.declared.FailAnswer.{FailAnswer}
 use Rattle.hwp_claim.specs.declared.FailAnswer.TheVariants as answers
 use Rattle.hwp_claim.specs.Fails as fails
 use Rattle.hwp_claim.specs.Injects.{recovers_at}
 use Rattle.hwp_claim.specs.declared.fail.FailAt.TheVariants as fail_at
+use Rattle.hwp_claim.specs.declared.Found.{Found}
 use Rattle.hwp_cpu_check.specs.Fits.{AreTold, HasPoisoned, IsDone, IsEntered, IsFailed, IsMark}
 use Rattle.hwp_cpu_check.specs.Told.{act_of, at_once, found_by, frame_of, required_by}
-use Rattle.hwp_cpu_check.specs.declared.told.Found.{Found}
 use Rattle.hwp_cpu_check.specs.declared.told.EventOutcome.{EventOutcome}
 
 -- what the command has marked, entered and seen is so of the later view
@@ -105,22 +105,19 @@ pub failed-is : (layout : Layout) (view : View) (who : Who) (frame : Frame) (req
     → IsFailed layout view who frame required (act_of answer) (found_by answer)
 failed-is layout view who frame required answers.Stopped recovers is = absurd (both_ways true (sym recovers) refl)
 failed-is layout view who frame required answers.Already recovers is = (refl, is)
-failed-is layout view who frame required (answers.Done situation cycle place signalled) recovers is = (refl, marked, which place is.1)
+failed-is layout view who frame required (answers.Done found) recovers is = (refl, marked, which found.at is.1)
   where
-    found : Option At → Found
-    found at = record { situation = situation; cycle = cycle; at = at; signalled = signalled }
+    marked : HasPoisoned view who frame found.cycle
+    marked = subst (SomeMember (IsMark frame found.cycle)) (sym is.0.marks) (some-last (IsMark frame found.cycle) is.0.before is.0.mark (is.0.frame_is, is.0.cycle_is, is.0.kind_is))
 
-    marked : HasPoisoned view who frame cycle
-    marked = subst (SomeMember (IsMark frame cycle)) (sym is.0.marks) (some-last (IsMark frame cycle) is.0.before is.0.mark (is.0.frame_is, is.0.cycle_is, is.0.kind_is))
-
-    which : (at : Option At) → fails.HasDone layout view who frame required situation at signalled → IsEntered layout view who frame required (found at) at
+    which : (at : Option At) → fails.HasDone layout view who frame required found at → IsEntered layout view who frame required found at
     which None has = has
     which (Some at) has = (
       record {
         seen = has.0.seen;
         signals = has.0.signals;
-        made = subst (SomeMember (IsAt at.page at.entry (entries.Fail situation required has.0.seen has.0.signals))) (sym has.0.made.all)
-            (some-last (IsAt at.page at.entry (entries.Fail situation required has.0.seen has.0.signals)) has.0.made.before has.0.made.last has.0.made.at);
+        made = subst (SomeMember (IsAt at.page at.entry (entries.Fail found.situation required has.0.seen has.0.signals))) (sym has.0.made.all)
+            (some-last (IsAt at.page at.entry (entries.Fail found.situation required has.0.seen has.0.signals)) has.0.made.before has.0.made.last has.0.made.at);
         signalled = has.0.signalled;
         paged = has.0.paged;
       },

@@ -3,23 +3,23 @@ use Rattle.std.proofs.Common.{◌≡◌, inl, inr, ℕ, ◌+◌, ◌==◌, Bool,
 use Rattle.std.proofs.lemmas.List.{append_assoc, append-nil}
 use Rattle.std.proofs.lemmas.List.Elements.{filter_map-append}
 use Rattle.std.proofs.lemmas.Option.{none-some}
-use Rattle.hwp_geom.specs.declared.Frame.{Frame}
-use Rattle.hwp_geom.specs.declared.Layout.{Layout}
-use Rattle.hwp_geom.specs.declared.Thread.{Thread}
-use Rattle.hwp_geom.specs.declared.Who.{Who}
-use Rattle.hwp_page.specs.History.{BodyValue}
-use Rattle.hwp_words.specs.Stops.{is_stopped}
-use Rattle.hwp_core_rule.specs.declared.Mark.{Mark}
-use Rattle.hwp_core_rule.specs.declared.Step.{Step}
-use Rattle.hwp_core_rule.specs.declared.Step.TheVariants as steps
-use Rattle.hwp_core_rule.specs.declared.View.{View}
-use Rattle.hwp_core_task.specs.declared.Turn.{Turn}
-use Rattle.hwp_core_task.specs.Calls.{Steps, logs}
-use Rattle.hwp_core_task.proofs.StepLeaves.{steps-planned}
-use Rattle.hwp_core_task.proofs.MadeEntries.{deeds-same}
+use Rattle.hwp_banks.specs.hwp_geom.declared.Frame.{Frame}
+use Rattle.hwp_banks.specs.hwp_geom.declared.Layout.{Layout}
+use Rattle.hwp_banks.specs.hwp_geom.declared.Thread.{Thread}
+use Rattle.hwp_banks.specs.hwp_geom.declared.Who.{Who}
+use Rattle.hwp_claim_frame.specs.hwp_page.History.{BodyValue}
+use Rattle.hwp_claim_frame.specs.hwp_words.Stops.{is_stopped}
+use Rattle.hwp_claim_frame.specs.hwp_core_rule.declared.Mark.{Mark}
+use Rattle.hwp_claim_frame.specs.hwp_core_rule.declared.Step.{Step}
+use Rattle.hwp_claim_frame.specs.hwp_core_rule.declared.Step.TheVariants as steps
+use Rattle.hwp_claim_frame.specs.hwp_core_rule.declared.View.{View}
+use Rattle.hwp_claim_frame.specs.hwp_core_task.declared.Turn.{Turn}
+use Rattle.hwp_claim_frame.specs.hwp_core_task.Calls.{Steps, logs}
+use Rattle.hwp_claim_frame.proofs.of_hwp_core_task.StepLeaves.{steps-planned}
+use Rattle.hwp_claim_frame.proofs.of_hwp_core_task.MadeEntries.{deeds-same}
 use Rattle.hwp_claim.specs.hwp_claim_act.declared.Failed.{Failed}
 use Rattle.hwp_claim.specs.hwp_claim_act.Abandoned.{AddsFailure}
-use Rattle.hwp_claim.specs.hwp_claim_frame.Done.{Grows, Marking, counts_owed, marking_of}
+use Rattle.hwp_claim_frame.specs.Done.{Grows, Marking, counts_owed, marking_of}
 use Rattle.hwp_claim.specs.declared.fail.Fail.{Fail}
 use Rattle.hwp_claim.specs.declared.fail.FailAt.{FailAt}
 use Rattle.hwp_claim.specs.declared.fail.FailAt.TheVariants as fail_at
@@ -55,13 +55,12 @@ failure-behind who old new front {before} (inr grown) = inr (grown.0, grown.1, g
 marked-by : (held : Held) (answer : FailAnswer) → filter_map marked_in (told_by held answer ∷ []) ≡ fail_done.marked_over (frame_of held) true answer
 marked-by held answers.Stopped = refl
 marked-by held answers.Already = refl
-marked-by held (answers.Done situation cycle place signalled) = refl
+marked-by held (answers.Done found) = refl
 
 failed-by : (thread : Option Thread) (held : Held) (answer : FailAnswer) → filter_map (failed_in thread) (told_by held answer ∷ []) ≡ fail_done.failed_over (required_by thread held.grade.severity) answer
 failed-by thread held answers.Stopped = refl
 failed-by thread held answers.Already = refl
-failed-by thread held (answers.Done situation cycle None signalled) = refl
-failed-by thread held (answers.Done situation cycle (Some place) signalled) = refl
+failed-by thread held (answers.Done found) = refl
 
 -- what a machine check has done whose failure goes on or ended
 record IsDoneBy (h : Handler) (f : Fail) (after : Handler) : Type 0 where

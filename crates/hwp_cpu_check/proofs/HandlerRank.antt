@@ -3,35 +3,35 @@ use Rattle.std.proofs.Common.{◌≡◌, ◌≢◌, ◌⊎◌, inl, inr, ℕ, �
 use Rattle.std.proofs.lemmas.Bool.{both_ways}
 use Rattle.std.proofs.lemmas.List.{length-append}
 use Rattle.std.proofs.lemmas.Option.{none-some, same_Some}
-use Rattle.hwp_geom.specs.declared.Frame.{Frame}
-use Rattle.hwp_geom.specs.declared.Layout.{Layout}
-use Rattle.hwp_words.specs.Stops.{is_stopped}
-use Rattle.hwp_core_rule.specs.declared.State.{State}
-use Rattle.hwp_core_rule.specs.declared.Step.{Step}
-use Rattle.hwp_core_rule.specs.declared.Step.TheVariants as steps
-use Rattle.hwp_core_rule.specs.declared.View.{View}
-use Rattle.hwp_core_rule.specs.Moves.{Move}
-use Rattle.hwp_core_rule.specs.Rule.{Holds}
-use Rattle.hwp_core_rule.specs.Lasting.{IsMild, LeavesPoison}
-use Rattle.hwp_core_rule.specs.Words.{Words}
-use Rattle.hwp_core_task.specs.declared.Turn.{Turn}
-use Rattle.hwp_core_task.specs.declared.Turn.TheVariants.{Moved, Changed, NoMemory}
-use Rattle.hwp_core_task.specs.Boards.{view_of}
-use Rattle.hwp_core_task.specs.Calls.{logs, rec_of}
-use Rattle.hwp_core_task.specs.Classes.{TellsClass}
-use Rattle.hwp_core_task.specs.Ranks.{CostFalls, HasFailed, HasFrame, HasPage, IsRanked, Made, Member, OtherHand, Pending, Quiet, failure_weight, failures_left, is_refused, is_waits, member, top, words_at}
-use Rattle.hwp_core_task.proofs.StepRanks.{part-made, pending-kept}
-use Rattle.hwp_claim.proofs.of_hwp_core.TaskTells.{no-frame, no-page}
+use Rattle.hwp_banks.specs.hwp_geom.declared.Frame.{Frame}
+use Rattle.hwp_banks.specs.hwp_geom.declared.Layout.{Layout}
+use Rattle.hwp_claim_frame.specs.hwp_words.Stops.{is_stopped}
+use Rattle.hwp_claim_frame.specs.hwp_core_rule.declared.State.{State}
+use Rattle.hwp_claim_frame.specs.hwp_core_rule.declared.Step.{Step}
+use Rattle.hwp_claim_frame.specs.hwp_core_rule.declared.Step.TheVariants as steps
+use Rattle.hwp_claim_frame.specs.hwp_core_rule.declared.View.{View}
+use Rattle.hwp_claim_frame.specs.hwp_core_rule.Moves.{Move}
+use Rattle.hwp_claim_frame.specs.hwp_core_rule.Rule.{Holds}
+use Rattle.hwp_claim_frame.specs.hwp_core_rule.Lasting.{IsMild, LeavesPoison}
+use Rattle.hwp_claim_frame.specs.hwp_core_rule.Words.{Words}
+use Rattle.hwp_claim_frame.specs.hwp_core_task.declared.Turn.{Turn}
+use Rattle.hwp_claim_frame.specs.hwp_core_task.declared.Turn.TheVariants.{Moved, Changed, NoMemory}
+use Rattle.hwp_claim_frame.specs.hwp_core_task.Boards.{view_of}
+use Rattle.hwp_claim_frame.specs.hwp_core_task.Calls.{logs, rec_of}
+use Rattle.hwp_claim_frame.specs.hwp_core_task.Classes.{TellsClass}
+use Rattle.hwp_claim_frame.specs.hwp_core_task.Ranks.{CostFalls, HasFailed, HasFrame, HasPage, IsRanked, Made, OtherHand, Pending, Quiet, failure_weight, failures_left, is_refused, is_waits, top, words_at}
+use Rattle.hwp_claim_frame.proofs.of_hwp_core_task.StepRanks.{part-made, pending-kept}
+use Rattle.hwp_claim_frame.proofs.of_hwp_core.TaskTells.{no-frame, no-page}
 use Rattle.hwp_claim.specs.declared.fail.Fail.{Fail}
 use Rattle.hwp_claim.specs.declared.fail.FailAt.{FailAt}
 use Rattle.hwp_claim.specs.declared.fail.FailAt.TheVariants as fail_at
 use Rattle.hwp_claim.specs.declared.FailAnswer.{FailAnswer}
 use Rattle.hwp_claim.specs.Fails as fails
-use Rattle.hwp_claim.proofs.FailRank.{fail-lasting, fail-member, fail-ranked, fail-small}
+use Rattle.hwp_claim.proofs.FailRank.{fail-lasting, fail-ranked, fail-small}
 use Rattle.hwp_claim.proofs.FailTells.{fail-tells-class}
-use Rattle.hwp_claim.specs.hwp_claim_frame.Claims.{stop_turn}
-use Rattle.hwp_cpu_check.specs.Fits.{Fits, FitsAt, events_of}
-use Rattle.hwp_cpu_check.specs.Handlers.{Follows, FollowsAt, aborts, aborts_at, after_fail, after_fail_by, after_stop, bare, bare_at, claims, claims_at, class, class_at, cost, cost_with, ended_by, plan, plan_at, put, put_at}
+use Rattle.hwp_claim_frame.specs.Claims.{stop_turn}
+use Rattle.hwp_cpu_check.specs.Fits.{Fits, FitsAt, events_of, task as handler-task}
+use Rattle.hwp_cpu_check.specs.Handlers.{Follows, FollowsAt, aborts, aborts_at, after_fail, after_fail_by, after_stop, bare, bare_at, claims, claims_at, class, class_at, cost, cost_with, ended_by, plan, plan_at, put_at}
 use Rattle.hwp_cpu_check.specs.Told.{told_by}
 use Rattle.hwp_cpu_check.specs.declared.handler.Handler.{Handler}
 use Rattle.hwp_cpu_check.specs.declared.handler.HandlerAt.{HandlerAt}
@@ -39,9 +39,6 @@ use Rattle.hwp_cpu_check.specs.declared.handler.HandlerAt.TheVariants as at
 use Rattle.hwp_cpu_check.specs.declared.told.Held.{Held}
 use Rattle.hwp_cpu_check.specs.declared.told.EventOutcome.{EventOutcome}
 use Rattle.hwp_cpu_check.proofs.EventTells.{event_in, tell-cost, tell-idle}
-
-abbrev pub handler-member : Member Handler
-handler-member = member (λ h. h.who) plan put bare (λ layout h found got after result. Follows layout h found got after result) Fits class cost aborts claims
 
 handler-class : (h : Handler) → (1 ≤ class h) × (class h ≤ 4)
 handler-class h = which h.at
@@ -113,7 +110,7 @@ stop-goes found = which (found == 0) (is_stopped found)
 
 -- ---- each turn
 
-module _ {layout : Layout} {seat : ℕ} {a b : State} {s t : Handler} {turn : Turn} (made : Made handler-member layout seat a b s t turn) where
+module _ {layout : Layout} {seat : ℕ} {a b : State} {s t : Handler} {turn : Turn} (made : Made handler-task layout seat a b s t turn) where
   abbrev w : Words
   w = words_at layout a
 
@@ -133,8 +130,8 @@ module _ {layout : Layout} {seat : ℕ} {a b : State} {s t : Handler} {turn : Tu
   Next x = FollowsAt layout (bare s) (bare_at x) made.found made.got t turn
 
   -- a step of the failure
-  fail-made : (f g : Fail) → Has (at.Fail f) → fails.plan f ≡ Some made.step → Moves (at.Fail f) → fails.Follows (fails.bare f) made.found made.got g turn → Made fail-member layout seat a b f g turn
-  fail-made f g has e move follows = part-made made fail-member f g has.own has.fail e move follows
+  fail-made : (f g : Fail) → Has (at.Fail f) → fails.plan f ≡ Some made.step → Moves (at.Fail f) → fails.Follows (fails.bare f) made.found made.got g turn → Made fails.task layout seat a b f g turn
+  fail-made f g has e move follows = part-made made fails.task f g has.own has.fail e move follows
 
   -- what follows it
   left : (g : Fail) → t ≡ after_fail layout (bare s) g → IsLeft s g t
@@ -153,7 +150,7 @@ module _ {layout : Layout} {seat : ℕ} {a b : State} {s t : Handler} {turn : Tu
   goes-at at.GaveUp e has move next goes = absurd (none-some made.step e)
   goes-at (at.Over stopped) e has move next goes = absurd (none-some made.step e)
 
-  falls : is_waits turn ≡ false → CostFalls handler-member layout a b s t ⊎ HasFailed handler-member layout a b s t
+  falls : is_waits turn ≡ false → CostFalls handler-task layout a b s t ⊎ HasFailed handler-task layout a b s t
   falls goes = elim (goes-at s.at made.planned made.fits.at made.move made.follows goes) [
     | inl less ↦ inl less
     | inr failed ↦ inr (record { fewer = failed.0; bounded = failed.1 })
@@ -198,7 +195,7 @@ module _ {layout : Layout} {seat : ℕ} {a b : State} {s t : Handler} {turn : Tu
   owns-at at.GaveUp frame cycle e has move next going pending = absurd (none-some made.step e)
   owns-at (at.Over stopped) frame cycle e has move next going pending = absurd (none-some made.step e)
 
-pub handler-ranked : IsRanked handler-member
+pub handler-ranked : IsRanked handler-task
 handler-ranked = record {
   classes = handler-class;
   small = handler-small;
@@ -232,7 +229,7 @@ module _ (layout : Layout) (view : View) (h : Handler) where
   claim-told at.GaveUp of cycle has claimed = absurd (none-some (of, cycle) claimed)
   claim-told (at.Over stopped) of cycle has claimed = absurd (none-some (of, cycle) claimed)
 
-pub handler-tells : TellsClass handler-member
+pub handler-tells : TellsClass handler-task
 handler-tells = record {
   frame = λ layout view h fits some. frame-told layout view h h.at fits.at some;
   page = λ layout view h fits some. page-told layout view h h.at fits.at some;

@@ -1,17 +1,19 @@
 -- The machine checks of a command that are over, one after another, and what was done about their events.
 use Rattle.std.specs.Prelude.{◌≡◌, ℕ, ◌<◌, true, List, [], ◌∷◌, Option, Some, map, flat_map, IsBitSet}
-use Rattle.hwp_geom.specs.declared.Frame.{Frame}
-use Rattle.hwp_geom.specs.declared.Layout.{Layout}
-use Rattle.hwp_geom.specs.declared.Mode.{Mode}
-use Rattle.hwp_geom.specs.declared.Thread.{Thread}
-use Rattle.hwp_geom.specs.declared.Who.{Who}
+use Rattle.hwp_banks.specs.hwp_geom.declared.Frame.{Frame}
+use Rattle.hwp_banks.specs.hwp_geom.declared.Layout.{Layout}
+use Rattle.hwp_banks.specs.hwp_geom.declared.Mode.{Mode}
+use Rattle.hwp_banks.specs.hwp_geom.declared.Thread.{Thread}
+use Rattle.hwp_banks.specs.hwp_geom.declared.Who.{Who}
 use Rattle.hwp_banks.specs.declared.Origin.{Origin}
 use Rattle.hwp_banks.specs.Events.{bank_of, own_event}
-use Rattle.hwp_core_rule.specs.declared.SharedWord.TheVariants as places
-use Rattle.hwp_core_rule.specs.declared.View.{View}
-use Rattle.hwp_core_task.specs.Known.{Saw}
-use Rattle.hwp_law.specs.Checks.{Banks, empty_banks, has_stop, log_in}
-use Rattle.hwp_law.specs.Commands.{Arrival, arrival}
+use Rattle.hwp_claim_frame.specs.hwp_core_rule.declared.SharedWord.TheVariants as places
+use Rattle.hwp_claim_frame.specs.hwp_core_rule.declared.View.{View}
+use Rattle.hwp_claim_frame.specs.hwp_core_task.Known.{Saw}
+use Rattle.hwp_banks.specs.Banks.{Banks, empty_banks, log_in}
+use Rattle.hwp_law.specs.hwp_severity.Handling.{has_stop}
+use Rattle.hwp_law.specs.Commands.{arrival}
+use Rattle.hwp_law.specs.hwp_severity.declared.Arrival.{Arrival}
 use Rattle.hwp_cpu_check.specs.declared.told.EventOutcome.{EventOutcome}
 use Rattle.hwp_cpu_check.specs.Events.{held_in}
 use Rattle.hwp_cpu_check.specs.Fits.{AreTold}

@@ -1,19 +1,19 @@
 -- What a command has done so far in a machine check: the poisonings that it made, the failures that its entries tell, and the
 -- counts that it owes.
 use Rattle.std.specs.Prelude.{◌≡◌, ℕ, ◌+◌, true, List, [], ◌++◌, Option, Some, None, filter_map, option_map}
-use Rattle.hwp_geom.specs.declared.Thread.{Thread}
-use Rattle.hwp_page.specs.declared.At.{At}
-use Rattle.hwp_core_rule.specs.declared.Mark.{Mark}
-use Rattle.hwp_core_rule.specs.declared.View.{View}
+use Rattle.hwp_banks.specs.hwp_geom.declared.Thread.{Thread}
+use Rattle.hwp_claim_frame.specs.hwp_core_rule.declared.Mark.{Mark}
+use Rattle.hwp_claim_frame.specs.hwp_core_rule.declared.View.{View}
 use Rattle.hwp_claim.specs.hwp_claim_act.declared.Failed.{Failed}
 use Rattle.hwp_claim.specs.hwp_claim_act.Abandoned.{AddsFailure}
-use Rattle.hwp_claim.specs.hwp_claim_frame.Done.{Grows, Marking, counts_owed, marking_of, poisoning}
+use Rattle.hwp_claim_frame.specs.Done.{Grows, Marking, counts_owed, marking_of, poisoning}
+use Rattle.hwp_claim.specs.declared.Found.{Found}
 use Rattle.hwp_claim.specs.Done as fail_done
+use Rattle.hwp_claim.specs.Done.{entered_by}
 use Rattle.hwp_cpu_check.specs.Told.{frame_of, required_by}
 use Rattle.hwp_cpu_check.specs.declared.handler.Handler.{Handler}
 use Rattle.hwp_cpu_check.specs.declared.handler.HandlerAt.{HandlerAt}
 use Rattle.hwp_cpu_check.specs.declared.handler.HandlerAt.TheVariants as at
-use Rattle.hwp_cpu_check.specs.declared.told.Found.{Found}
 use Rattle.hwp_cpu_check.specs.declared.told.EventOutcome.{EventOutcome}
 
 -- the poisonings of the failures that came to a result, in order, and of the one that goes on
@@ -28,10 +28,6 @@ abbrev pub marked_now : Handler → List Marking
 marked_now h = filter_map marked_in h.events.told ++ marked_at h.at
 
 -- the failures that entries tell
-abbrev pub entered_by : Option Thread → Found → Option At → Option Failed
-entered_by required found None = None
-entered_by required found (Some place) = Some (record { situation = found.situation; required = required; at = place; signalled = found.signalled })
-
 abbrev pub failed_by : Option Thread → Option Found → Option Failed
 failed_by required None = None
 failed_by required (Some found) = entered_by required found found.at

@@ -1,41 +1,43 @@
 -- What is held and known during a machine check.
 use Rattle.std.specs.Prelude.{◌≡◌, ℕ, ◌≤◌, ◌||◌, Bool, true, false, List, [], ◌∷◌, ◌++◌, Option, Some, None, length, map, slice_get}
 use Rattle.std.specs.List.{list_any}
-use Rattle.hwp_geom.specs.declared.Frame.{Frame}
-use Rattle.hwp_geom.specs.declared.Layout.{Layout}
-use Rattle.hwp_geom.specs.declared.Thread.{Thread}
-use Rattle.hwp_geom.specs.declared.Who.{Who}
-use Rattle.hwp_geom.specs.Layout.{IsSound}
+use Rattle.hwp_banks.specs.hwp_geom.declared.Frame.{Frame}
+use Rattle.hwp_banks.specs.hwp_geom.declared.Layout.{Layout}
+use Rattle.hwp_banks.specs.hwp_geom.declared.Thread.{Thread}
+use Rattle.hwp_banks.specs.hwp_geom.declared.Who.{Who}
+use Rattle.hwp_banks.specs.hwp_geom.Layout.{IsSound}
 use Rattle.hwp_banks.specs.Events.{bank_count}
-use Rattle.hwp_page.specs.hwp_kill.declared.Seen.{Seen}
-use Rattle.hwp_page.specs.hwp_kill.declared.Signal.{Signal}
-use Rattle.hwp_page.specs.declared.At.{At}
-use Rattle.hwp_page.specs.declared.What.TheVariants as entries
-use Rattle.hwp_page.specs.Situations.{outcome_of}
-use Rattle.hwp_core_rule.specs.declared.Mark.{Mark}
-use Rattle.hwp_core_rule.specs.declared.MarkKind.TheVariants as mark_kinds
-use Rattle.hwp_core_rule.specs.declared.View.{View}
-use Rattle.hwp_core_rule.specs.Lists.{SomeMember}
-use Rattle.hwp_core_task.specs.Calls.{IsOnTurn}
-use Rattle.hwp_core_task.specs.Hands.{hand_of, empty}
-use Rattle.hwp_core_task.specs.Known.{IsAt, deeds}
+use Rattle.hwp_claim_frame.specs.hwp_kill.declared.Seen.{Seen}
+use Rattle.hwp_claim_frame.specs.hwp_kill.declared.Signal.{Signal}
+use Rattle.hwp_claim_frame.specs.hwp_page.declared.At.{At}
+use Rattle.hwp_claim_frame.specs.hwp_page.declared.What.TheVariants as entries
+use Rattle.hwp_claim_frame.specs.hwp_page.Situations.{outcome_of}
+use Rattle.hwp_claim_frame.specs.hwp_core_rule.declared.Mark.{Mark}
+use Rattle.hwp_claim_frame.specs.hwp_core_rule.declared.MarkKind.TheVariants as mark_kinds
+use Rattle.hwp_claim_frame.specs.hwp_core_rule.declared.View.{View}
+use Rattle.hwp_claim_frame.specs.hwp_core_rule.Lists.{SomeMember}
+use Rattle.hwp_claim_frame.specs.hwp_core_task.Calls.{IsOnTurn}
+use Rattle.hwp_claim_frame.specs.hwp_core_task.Hands.{hand_of, empty}
+use Rattle.hwp_claim_frame.specs.hwp_core_task.Known.{IsAt, deeds}
+use Rattle.hwp_claim_frame.specs.hwp_core_task.Turns.{Member}
 use Rattle.hwp_claim.specs.hwp_claim_act.Abandoned.{IsOfPage}
 use Rattle.hwp_claim.specs.hwp_claim_act.Abandons.{signals_now}
-use Rattle.hwp_claim.specs.hwp_claim_frame.Claims.{IsStopped, SawPoison, marks_by}
-use Rattle.hwp_report_text.specs.declared.Acted.{Acted}
-use Rattle.hwp_report_text.specs.declared.Acted.TheVariants as acts
-use Rattle.hwp_law.specs.Checks.{is_panic}
+use Rattle.hwp_claim_frame.specs.Claims.{IsStopped, SawPoison, marks_by}
+use Rattle.hwp_law.specs.hwp_report_text.declared.Acted.{Acted}
+use Rattle.hwp_law.specs.hwp_report_text.declared.Acted.TheVariants as acts
+use Rattle.hwp_law.specs.hwp_report_text.Acts.{is_panic}
 use Rattle.hwp_law.specs.Records.{outcome_act}
 use Rattle.hwp_claim.specs.declared.fail.Fail.{Fail}
+use Rattle.hwp_claim.specs.declared.Found.{Found}
 use Rattle.hwp_claim.specs.Fails as fails
 use Rattle.hwp_claim.specs.Fails.{IsPageless}
 use Rattle.hwp_claim.specs.Injects.{recovers_at}
 use Rattle.hwp_cpu_check.specs.Queue.{Queue}
 use Rattle.hwp_cpu_check.specs.Told.{are_held_back, at_once, frame_of, halts, required_by, stops_machine}
+use Rattle.hwp_cpu_check.specs.Handlers.{Follows, Shows, aborts, bare, claims, class, cost, plan, put}
 use Rattle.hwp_cpu_check.specs.declared.handler.Handler.{Handler}
 use Rattle.hwp_cpu_check.specs.declared.handler.HandlerAt.{HandlerAt}
 use Rattle.hwp_cpu_check.specs.declared.handler.HandlerAt.TheVariants as at
-use Rattle.hwp_cpu_check.specs.declared.told.Found.{Found}
 use Rattle.hwp_cpu_check.specs.declared.told.Held.{Held}
 use Rattle.hwp_cpu_check.specs.declared.told.EventOutcome.{EventOutcome}
 
@@ -130,3 +132,19 @@ pub record Fits (layout : Layout) (view : View) (h : Handler) : Type 0 where
   pub found : AreFound h.stops (events_of h.events)
   pub told : AreTold layout view h.who h.thread h.stops h.events.told
   pub at : FitsAt layout view h.who h.thread h.stops h.events h.at
+
+-- the task, as the laws of tasks read it
+abbrev pub task : Member Handler
+task = record {
+  who = λ h. h.who;
+  plan = plan;
+  put = put;
+  bare = bare;
+  shows = Shows;
+  next = Follows;
+  fits = Fits;
+  class = class;
+  cost = cost;
+  aborts = aborts;
+  claims = claims;
+}

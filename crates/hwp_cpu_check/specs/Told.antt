@@ -2,21 +2,22 @@
 use Rattle.std.specs.Prelude.{ℕ, ◌==◌, ◌&&◌, ◌||◌, nat_le, Bool, true, false, cond, List, [], ◌∷◌, Option, Some, None}
 use Rattle.std.specs.Option.{option_or}
 use Rattle.std.specs.List.{list_any}
-use Rattle.hwp_geom.specs.declared.Frame.{Frame}
-use Rattle.hwp_geom.specs.declared.Layout.{Layout}
-use Rattle.hwp_geom.specs.declared.Thread.{Thread}
+use Rattle.hwp_banks.specs.hwp_geom.declared.Frame.{Frame}
+use Rattle.hwp_banks.specs.hwp_geom.declared.Layout.{Layout}
+use Rattle.hwp_banks.specs.hwp_geom.declared.Thread.{Thread}
 use Rattle.hwp_banks.specs.Addresses.{frame_at}
-use Rattle.hwp_page.specs.declared.At.{At}
-use Rattle.hwp_page.specs.Situations.{outcome_of}
-use Rattle.hwp_severity.specs.declared.Severity.{Severity}
-use Rattle.hwp_severity.specs.declared.Severity.TheVariants as severities
-use Rattle.hwp_report_text.specs.declared.Acted.{Acted}
-use Rattle.hwp_report_text.specs.declared.Acted.TheVariants as acts
-use Rattle.hwp_law.specs.Checks.{is_panic, is_stop, is_stopping}
+use Rattle.hwp_claim_frame.specs.hwp_page.declared.At.{At}
+use Rattle.hwp_claim_frame.specs.hwp_page.Situations.{outcome_of}
+use Rattle.hwp_law.specs.hwp_severity.declared.Severity.{Severity}
+use Rattle.hwp_law.specs.hwp_severity.declared.Severity.TheVariants as severities
+use Rattle.hwp_law.specs.hwp_report_text.declared.Acted.{Acted}
+use Rattle.hwp_law.specs.hwp_report_text.declared.Acted.TheVariants as acts
+use Rattle.hwp_law.specs.hwp_report_text.Acts.{is_panic, is_stopping}
+use Rattle.hwp_law.specs.hwp_severity.Handling.{is_stop}
 use Rattle.hwp_law.specs.Records.{outcome_act}
 use Rattle.hwp_claim.specs.declared.FailAnswer.{FailAnswer}
 use Rattle.hwp_claim.specs.declared.FailAnswer.TheVariants as answers
-use Rattle.hwp_cpu_check.specs.declared.told.Found.{Found}
+use Rattle.hwp_claim.specs.declared.Found.{Found}
 use Rattle.hwp_cpu_check.specs.declared.told.Held.{Held}
 use Rattle.hwp_cpu_check.specs.declared.told.EventOutcome.{EventOutcome}
 
@@ -65,12 +66,12 @@ told_at_once held acted = record { held = held; acted = acted; found = None }
 abbrev pub act_of : FailAnswer → Acted
 act_of answers.Stopped = acts.Panic
 act_of answers.Already = acts.Already
-act_of (answers.Done situation cycle at signalled) = outcome_act (outcome_of situation)
+act_of (answers.Done found) = outcome_act (outcome_of found.situation)
 
 abbrev pub found_by : FailAnswer → Option Found
 found_by answers.Stopped = None
 found_by answers.Already = None
-found_by (answers.Done situation cycle at signalled) = Some (record { situation = situation; cycle = cycle; at = at; signalled = signalled })
+found_by (answers.Done found) = Some found
 
 abbrev pub told_by : Held → FailAnswer → EventOutcome
 told_by held answer = record { held = held; acted = act_of answer; found = found_by answer }

@@ -1,5 +1,5 @@
 ghost use Rattle.std.specs.Prelude.{◌≡◌};
-ghost use Rattle.hwp_law.specs.Checks.{empty_banks};
+ghost use Rattle.hwp_banks.specs.Banks.{empty_banks};
 
 use hwp_banks::{BANKS, Bank};
 

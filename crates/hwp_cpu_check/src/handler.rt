@@ -1,22 +1,21 @@
 ghost use Rattle.std.specs.Prelude.{◌≡◌, ◌<◌, ◌==◌, ◌&&◌};
 ghost use Rattle.hwp_banks.specs.Addresses.{frame_at};
-ghost use Rattle.hwp_claim.specs.hwp_claim_frame.Claims.{stop_turn};
-ghost use Rattle.hwp_law.specs.Checks.{has_stop, is_panic};
+ghost use Rattle.hwp_claim_frame.specs.Claims.{stop_turn};
+ghost use Rattle.hwp_law.specs.hwp_report_text.Acts.{is_panic};
+ghost use Rattle.hwp_law.specs.hwp_severity.Handling.{has_stop};
 ghost use Rattle.hwp_law.specs.Records.{outcome_act};
 ghost use Rattle.hwp_cpu_check.specs.Told.{are_held_back, at_once, failure_at_once, first_signal, frame_of, halts, has_panic, is_already, is_halting, required_by, signal_of, told_by, was_poisoned};
 ghost use Rattle.hwp_cpu_check.specs.Handlers.{after_stop, answer, at_end, begin, ended_by, failing, tell_on};
 
 use crate::events::EventQueue;
-use crate::told::{EventOutcome, Found, Held};
+use crate::told::{EventOutcome, Held};
 use hwp_banks::{BANKS, Bank};
-use hwp_claim::{Fail, FailAnswer};
-use hwp_core_rule::Step;
-use hwp_core_task::{Ranked, Scheduled, Task, Turn};
-use hwp_geom::{Frame, Layout, Mode, Thread, Who};
-use hwp_page::{At, Body, Outcome};
-use hwp_report_text::Acted;
-use hwp_severity::{McgBits, Severity, handle};
-use hwp_words::is_stopped;
+use hwp_claim::{Fail, FailAnswer, Found};
+use hwp_claim_frame::{
+    At, Body, Frame, Layout, Mode, Outcome, Ranked, Scheduled, Step, Task, Thread, Turn, Who,
+    is_stopped,
+};
+use hwp_law::{Acted, McgBits, Severity, handle};
 use std::alloc::Global;
 
 /// A machine check under way: what needs no step is told at once, memory failures run one after the other, and in the end the
@@ -297,20 +296,10 @@ fn told_by(held: Held, answer: FailAnswer) -> EventOutcome
             acted: Acted::Already,
             found: None,
         },
-        FailAnswer::Done {
-            situation,
-            cycle,
-            at,
-            signalled,
-        } => EventOutcome {
+        FailAnswer::Done(found) => EventOutcome {
             held,
-            acted: outcome_act(situation.outcome()),
-            found: Some(Found {
-                situation,
-                cycle,
-                at,
-                signalled,
-            }),
+            acted: outcome_act(found.situation.outcome()),
+            found: Some(found),
         },
     }
 }
@@ -347,22 +336,9 @@ fn after_stop(found: u64) -> (HandlerAt, Turn)
 }
 
 impl Task for Handler {
-    ghost use Rattle.hwp_cpu_check.specs.Handlers.{plan, put, bare, Shows, Follows};
-    ghost use Rattle.hwp_cpu_check.specs.Fits.{Fits};
+    ghost use Rattle.hwp_cpu_check.specs.Fits as fits;
 
-    ghost who = { λ h. h.who };
-
-    ghost plan = { λ h. plan h };
-
-    ghost put = { λ h. put h };
-
-    ghost bare = { λ h. bare h };
-
-    ghost shows = { λ h found got. Shows h found got };
-
-    ghost next = { λ layout h found got after result. Follows layout h found got after result };
-
-    ghost fits = { λ layout view h. Fits layout view h };
+    ghost task = { fits.task };
 
     fn who(&self) -> Who {
         self.who
@@ -404,16 +380,6 @@ impl Task for Handler {
 }
 
 impl Ranked for Handler {
-    ghost use Rattle.hwp_cpu_check.specs.Handlers.{class, cost, aborts, claims};
-
-    ghost class_of = { λ h. class h };
-
-    ghost cost = { λ h words. cost h words };
-
-    ghost aborts = { λ h. aborts h };
-
-    ghost claims = { λ h. claims h };
-
     fn class(&self) -> u8 {
         match &self.at {
             HandlerAt::Fail { fail } => fail.class(),

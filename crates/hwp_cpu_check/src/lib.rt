@@ -10,5 +10,18 @@ mod told;
 
 pub use empty::no_events;
 pub use handler::Handler;
+pub use hwp_banks::{BANKS, Bank, Event, Origin, Status};
+pub use hwp_claim::{FailAnswer, Found, Inject};
+pub use hwp_claim_frame::{
+    At, Board, Body, CacheWord, CounterWord, Cpu, Entry, FileNo, Frame, FrameWord, Kind, Layout,
+    Line, List, Mask, Mode, Ops, OutOfMemory, Page, PageWord, PolicyWord, Proc, ProcessWord, Pte,
+    Ranked, Scheduled, SharedWord, Step, StopWord, Task, Text, Thread, Turn, Who, index,
+    is_stopped, lowest_bit,
+};
+pub use hwp_law::{
+    Acted, Answer, Command, CpuLine, Decision, FrameLine, How, MAX_SCRIPT, MarkLine, McgBits,
+    PrctlArgs, Report, Script, Stop, StopCause, Whereabouts, grade, handle, is_text, kind_name,
+    policy_word, print, read_number,
+};
 pub use lines::ToldLines;
-pub use told::{EventOutcome, Found, Held};
+pub use told::{EventOutcome, Held};

@@ -2,10 +2,10 @@
 use Rattle.std.proofs.Common.{◌≡◌, ◌⊎◌, inl, inr, true, false, [], Option, Some, None, refl, sym, ap, ◌∙◌, subst}
 use Rattle.std.specs.Option.{option_map}
 use Rattle.std.proofs.lemmas.Option.{none-some, same_Some}
-use Rattle.hwp_geom.specs.declared.Layout.{Layout}
-use Rattle.hwp_report_text.specs.declared.Answer.{Answer}
-use Rattle.hwp_core_rule.specs.declared.View.{View}
-use Rattle.hwp_core_task.specs.Hands.{hand_of, empty}
+use Rattle.hwp_cpu_control.specs.hwp_geom.declared.Layout.{Layout}
+use Rattle.hwp_cpu_row.specs.hwp_report_text.declared.Answer.{Answer}
+use Rattle.hwp_cpu_control.specs.hwp_core_rule.declared.View.{View}
+use Rattle.hwp_cpu_control.specs.hwp_core_task.Hands.{hand_of, empty}
 use Rattle.hwp_cpu_control.specs.declared.nested.NestedAt.{NestedAt}
 use Rattle.hwp_cpu_control.specs.declared.nested.NestedAt.TheVariants as nested_at
 use Rattle.hwp_cpu_control.specs.declared.prctl.PrctlAt.{PrctlAt}
@@ -37,18 +37,18 @@ use Rattle.hwp_evict.specs.declared.FsyncAnswer.{FsyncAnswer}
 use Rattle.hwp_evict.specs.Evictions.{IsCaused}
 use Rattle.hwp_evict.specs.Evicts as evicts
 use Rattle.hwp_evict.specs.Fsyncs as fsyncs
-use Rattle.hwp_claim.specs.declared.fail.FailAt.{FailAt}
-use Rattle.hwp_claim.specs.declared.fail.FailAt.TheVariants as fail_at
-use Rattle.hwp_claim.specs.declared.FailAnswer.{FailAnswer}
-use Rattle.hwp_claim.specs.declared.FailAnswer.TheVariants as fail_answers
-use Rattle.hwp_claim.specs.declared.inject.Inject.{Inject}
-use Rattle.hwp_claim.specs.declared.inject.InjectAt.{InjectAt}
-use Rattle.hwp_claim.specs.declared.inject.InjectAt.TheVariants as inject_at
-use Rattle.hwp_claim.specs.Done as failures
-use Rattle.hwp_claim.specs.Fails as fails
-use Rattle.hwp_claim.specs.Injects as injects
-use Rattle.hwp_claim.proofs.InjectEnds as inject_ends
-use Rattle.hwp_cpu_check.specs.Fits.{IsAtRest}
+use Rattle.hwp_soft.specs.hwp_claim.declared.fail.FailAt.{FailAt}
+use Rattle.hwp_soft.specs.hwp_claim.declared.fail.FailAt.TheVariants as fail_at
+use Rattle.hwp_soft.specs.hwp_claim.declared.FailAnswer.{FailAnswer}
+use Rattle.hwp_soft.specs.hwp_claim.declared.FailAnswer.TheVariants as fail_answers
+use Rattle.hwp_soft.specs.hwp_claim.declared.inject.Inject.{Inject}
+use Rattle.hwp_soft.specs.hwp_claim.declared.inject.InjectAt.{InjectAt}
+use Rattle.hwp_soft.specs.hwp_claim.declared.inject.InjectAt.TheVariants as inject_at
+use Rattle.hwp_soft.specs.hwp_claim.Done as failures
+use Rattle.hwp_soft.specs.hwp_claim.Fails as fails
+use Rattle.hwp_soft.specs.hwp_claim.Injects as injects
+use Rattle.hwp_soft.proofs.of_hwp_claim.InjectEnds as inject_ends
+use Rattle.hwp_cpu_row.specs.hwp_cpu_check.Fits.{IsAtRest}
 use Rattle.hwp_cpu_access.specs.declared.Instruction.{Instruction}
 use Rattle.hwp_cpu_access.specs.declared.InstructionAnswer.{InstructionAnswer}
 use Rattle.hwp_cpu_access.specs.declared.instruction.InstructionAt.{InstructionAt}
@@ -75,12 +75,12 @@ use Rattle.hwp_soft.specs.declared.soft.SoftAt.{SoftAt}
 use Rattle.hwp_soft.specs.declared.soft.SoftAt.TheVariants as soft_at
 use Rattle.hwp_soft.specs.Offline as offline
 use Rattle.hwp_soft.specs.Softs as softs
-use Rattle.hwp_soft_unpoison.specs.declared.Unpoison.{Unpoison}
-use Rattle.hwp_soft_unpoison.specs.declared.UnpoisonAnswer.{UnpoisonAnswer}
-use Rattle.hwp_soft_unpoison.specs.declared.unpoison.UnpoisonAt.{UnpoisonAt}
-use Rattle.hwp_soft_unpoison.specs.declared.unpoison.UnpoisonAt.TheVariants as unpoison_at
-use Rattle.hwp_soft_unpoison.specs.Unpoisons as unpoisons
-use Rattle.hwp_soft_unpoison.proofs.UnpoisonLaws as reviving
+use Rattle.hwp_soft.specs.hwp_soft_unpoison.declared.Unpoison.{Unpoison}
+use Rattle.hwp_soft.specs.hwp_soft_unpoison.declared.UnpoisonAnswer.{UnpoisonAnswer}
+use Rattle.hwp_soft.specs.hwp_soft_unpoison.declared.unpoison.UnpoisonAt.{UnpoisonAt}
+use Rattle.hwp_soft.specs.hwp_soft_unpoison.declared.unpoison.UnpoisonAt.TheVariants as unpoison_at
+use Rattle.hwp_soft.specs.hwp_soft_unpoison.Unpoisons as unpoisons
+use Rattle.hwp_soft.proofs.of_hwp_soft_unpoison.UnpoisonLaws as reviving
 use Rattle.hwp_cpu_command.specs.declared.job.Job.{Job}
 use Rattle.hwp_cpu_command.specs.declared.job.Job.TheVariants as jobs
 use Rattle.hwp_cpu_command.specs.Answers.{fail_answer}
@@ -191,7 +191,7 @@ inject-ended {layout} {view} i {x} fits is = which i.at refl fits.at is
         recovers : (answer : FailAnswer) → layout.recovery ≡ injects.recovers_at (fail_at.Over answer) → (answer ≡ fail_answers.Stopped) ⊎ (layout.recovery ≡ true)
         recovers fail_answers.Stopped so = inl refl
         recovers fail_answers.Already so = inr so
-        recovers (fail_answers.Done situation cycle place signalled) so = inr so
+        recovers (fail_answers.Done found) so = inr so
 
         by : (y : FailAt) → f.at ≡ y → fails.FitsAt layout view f.who f.frame f.required f.hardware y → fails.answer_at y ≡ Some x → InjectEnded layout view i x
         by (fail_at.Over answer) over known said = subst (InjectEnded layout view i) (same_Some answer x said) (record {

@@ -2,25 +2,26 @@
 use Rattle.std.proofs.Common.{◌≡◌, ◌≢◌, ℕ, ◌+◌, ◌*◌, ◌<◌, ◌≤◌, ◌⊎◌, inl, inr, Bool, true, false, Option, Some, None, length, option_map, refl, sym, ap, ◌∙◌, subst, arith}
 use Rattle.std.proofs.lemmas.Bool.{both_ways, false_from_ne_true}
 use Rattle.std.proofs.lemmas.Option.{none-some, same_Some}
-use Rattle.hwp_geom.specs.declared.Frame.{Frame}
-use Rattle.hwp_geom.specs.declared.Layout.{Layout}
-use Rattle.hwp_page.specs.History.{BodyValue}
-use Rattle.hwp_report_text.specs.declared.Answer.{Answer}
-use Rattle.hwp_core_rule.specs.declared.SharedWord.TheVariants as places
-use Rattle.hwp_core_rule.specs.declared.State.{State}
-use Rattle.hwp_core_rule.specs.declared.Step.{Step}
-use Rattle.hwp_core_rule.specs.declared.Step.TheVariants as steps
-use Rattle.hwp_core_rule.specs.declared.View.{View}
-use Rattle.hwp_core_rule.specs.Rule.{Holds}
-use Rattle.hwp_core_rule.specs.Lasting.{IsMild}
-use Rattle.hwp_core_rule.specs.Words.{Words}
-use Rattle.hwp_core_task.specs.declared.Turn.{Turn}
-use Rattle.hwp_core_task.specs.Boards.{view_of}
-use Rattle.hwp_core_task.specs.Calls.{CanMake, Steps, logs}
-use Rattle.hwp_core_task.specs.Classes.{TellsClass}
-use Rattle.hwp_core_task.specs.Ranks.{Member, member, Made, CostFalls, HasFailed, HasFrame, HasPage, IsRanked, OtherHand, PaysRevival, Pending, Quiet, failure_weight, failures_left, is_refused, is_waits, top, words_at}
-use Rattle.hwp_core_task.proofs.Failures.{mild-leaves}
-use Rattle.hwp_core_task.proofs.StepRanks.{failures-kept, pending-kept}
+use Rattle.hwp_cpu_control.specs.hwp_geom.declared.Frame.{Frame}
+use Rattle.hwp_cpu_control.specs.hwp_geom.declared.Layout.{Layout}
+use Rattle.hwp_cpu_control.specs.hwp_page.History.{BodyValue}
+use Rattle.hwp_cpu_row.specs.hwp_report_text.declared.Answer.{Answer}
+use Rattle.hwp_cpu_control.specs.hwp_core_rule.declared.SharedWord.TheVariants as places
+use Rattle.hwp_cpu_control.specs.hwp_core_rule.declared.State.{State}
+use Rattle.hwp_cpu_control.specs.hwp_core_rule.declared.Step.{Step}
+use Rattle.hwp_cpu_control.specs.hwp_core_rule.declared.Step.TheVariants as steps
+use Rattle.hwp_cpu_control.specs.hwp_core_rule.declared.View.{View}
+use Rattle.hwp_cpu_control.specs.hwp_core_rule.Rule.{Holds}
+use Rattle.hwp_cpu_control.specs.hwp_core_rule.Lasting.{IsMild}
+use Rattle.hwp_cpu_control.specs.hwp_core_rule.Words.{Words}
+use Rattle.hwp_cpu_control.specs.hwp_core_task.declared.Turn.{Turn}
+use Rattle.hwp_cpu_control.specs.hwp_core_task.Boards.{view_of}
+use Rattle.hwp_cpu_control.specs.hwp_core_task.Calls.{CanMake, Steps, logs}
+use Rattle.hwp_cpu_control.specs.hwp_core_task.Classes.{TellsClass}
+use Rattle.hwp_cpu_control.specs.hwp_core_task.Ranks.{Made, CostFalls, HasFailed, HasFrame, HasPage, IsRanked, OtherHand, PaysRevival, Pending, Quiet, failure_weight, failures_left, is_refused, is_waits, top, words_at}
+use Rattle.hwp_cpu_control.specs.hwp_core_task.Turns.{Member}
+use Rattle.hwp_cpu_control.proofs.of_hwp_core_task.Failures.{mild-leaves}
+use Rattle.hwp_cpu_control.proofs.of_hwp_core_task.StepRanks.{failures-kept, pending-kept}
 use Rattle.hwp_cpu_control.specs.declared.Nested.{Nested}
 use Rattle.hwp_cpu_control.specs.declared.Prctl.{Prctl}
 use Rattle.hwp_cpu_control.specs.declared.Spoil.{Spoil}
@@ -33,29 +34,30 @@ use Rattle.hwp_cpu_control.proofs.SpoilLaws as spoiling
 use Rattle.hwp_evict.specs.declared.Evict.{Evict}
 use Rattle.hwp_evict.specs.declared.Fsync.{Fsync}
 use Rattle.hwp_evict.specs.Fsyncs as fsyncs
+use Rattle.hwp_evict.specs.Evicts.{task as evict-task}
 use Rattle.hwp_evict.proofs.EvictLaws as evicting
-use Rattle.hwp_evict.proofs.EvictCosts.{evict-member, evict-mild, evict-ranked, evict-tells}
+use Rattle.hwp_evict.proofs.EvictCosts.{evict-mild, evict-ranked, evict-tells}
 use Rattle.hwp_evict.proofs.FsyncLaws as fsyncing
-use Rattle.hwp_evict.proofs.FsyncLaws.{fsync-member, fsync-mild, fsync-ranked, fsync-tells}
+use Rattle.hwp_evict.proofs.FsyncLaws.{fsync-mild, fsync-ranked, fsync-tells}
 use Rattle.hwp_fault.proofs.AccessCosts.{access-mild}
-use Rattle.hwp_claim.specs.declared.fail.FailAt.{FailAt}
-use Rattle.hwp_claim.specs.declared.fail.FailAt.TheVariants as fail_at
-use Rattle.hwp_claim.specs.declared.FailAnswer.{FailAnswer}
-use Rattle.hwp_claim.specs.declared.inject.Inject.{Inject}
-use Rattle.hwp_claim.specs.declared.inject.InjectAt.{InjectAt}
-use Rattle.hwp_claim.specs.declared.inject.InjectAt.TheVariants as inject_at
-use Rattle.hwp_claim.specs.Fails as fails
-use Rattle.hwp_claim.specs.Injects as injects
-use Rattle.hwp_claim.proofs.InjectLaws as injecting
-use Rattle.hwp_claim.proofs.InjectRank.{inject-lasting, inject-member, inject-ranked, inject-tells}
-use Rattle.hwp_cpu_check.specs.declared.Handler.{Handler}
-use Rattle.hwp_cpu_check.specs.Handlers as handlers
+use Rattle.hwp_soft.specs.hwp_claim.declared.fail.FailAt.{FailAt}
+use Rattle.hwp_soft.specs.hwp_claim.declared.fail.FailAt.TheVariants as fail_at
+use Rattle.hwp_soft.specs.hwp_claim.declared.FailAnswer.{FailAnswer}
+use Rattle.hwp_soft.specs.hwp_claim.declared.inject.Inject.{Inject}
+use Rattle.hwp_soft.specs.hwp_claim.declared.inject.InjectAt.{InjectAt}
+use Rattle.hwp_soft.specs.hwp_claim.declared.inject.InjectAt.TheVariants as inject_at
+use Rattle.hwp_soft.specs.hwp_claim.Fails as fails
+use Rattle.hwp_soft.specs.hwp_claim.Injects as injects
+use Rattle.hwp_soft.proofs.of_hwp_claim.InjectLaws as injecting
+use Rattle.hwp_soft.proofs.of_hwp_claim.InjectRank.{inject-lasting, inject-ranked, inject-tells}
+use Rattle.hwp_cpu_row.specs.hwp_cpu_check.declared.Handler.{Handler}
+use Rattle.hwp_cpu_row.specs.hwp_cpu_check.Handlers as handlers
 use Rattle.hwp_cpu_access.specs.declared.Instruction.{Instruction}
 use Rattle.hwp_cpu_access.specs.declared.instruction.InstructionAt.{InstructionAt}
 use Rattle.hwp_cpu_access.specs.declared.instruction.InstructionAt.TheVariants as instruction_at
 use Rattle.hwp_cpu_access.specs.Costs as instruction_costs
 use Rattle.hwp_cpu_access.specs.Instructions as instructions
-use Rattle.hwp_cpu_access.proofs.InstructionCosts.{instruction-member}
+use Rattle.hwp_cpu_access.specs.Fits.{task as instruction-task}
 use Rattle.hwp_cpu_access.proofs.InstructionLaws as instructing
 use Rattle.hwp_cpu_access.proofs.InstructionRank.{instruction-lasting, instruction-ranked, instruction-tells}
 use Rattle.hwp_cpu_raise.specs.declared.Log.{Log}
@@ -65,15 +67,17 @@ use Rattle.hwp_cpu_raise.specs.declared.raise.RaiseAt.TheVariants as raise_at
 use Rattle.hwp_cpu_raise.specs.Costs as raise_costs
 use Rattle.hwp_cpu_raise.specs.Logs as logs
 use Rattle.hwp_cpu_raise.specs.Raises as raises
+use Rattle.hwp_cpu_raise.specs.Fits.{task as raise-task}
 use Rattle.hwp_cpu_raise.proofs.LogLaws as logging
 use Rattle.hwp_cpu_raise.proofs.RaiseLaws as raising
-use Rattle.hwp_cpu_raise.proofs.RaiseRank.{raise-lasting, raise-member, raise-ranked, raise-tells}
+use Rattle.hwp_cpu_raise.proofs.RaiseRank.{raise-lasting, raise-ranked, raise-tells}
 use Rattle.hwp_scrub.specs.declared.Scrub.{Scrub}
 use Rattle.hwp_scrub.specs.declared.scrub.ScrubAt.{ScrubAt}
 use Rattle.hwp_scrub.specs.declared.scrub.ScrubAt.TheVariants as scrub_at
 use Rattle.hwp_scrub.specs.Costs as scrub_costs
 use Rattle.hwp_scrub.specs.Scrubs as scrubs
-use Rattle.hwp_scrub.proofs.ScrubRank.{scrub-lasting, scrub-member, scrub-ranked, scrub-tells}
+use Rattle.hwp_scrub.specs.Fits.{task as scrub-task}
+use Rattle.hwp_scrub.proofs.ScrubRank.{scrub-lasting, scrub-ranked, scrub-tells}
 use Rattle.hwp_scrub.proofs.ScrubLaws as scrubbing
 use Rattle.hwp_soft.specs.declared.Soft.{Soft}
 use Rattle.hwp_soft.specs.declared.SoftAnswer.{SoftAnswer}
@@ -82,16 +86,17 @@ use Rattle.hwp_soft.specs.declared.soft.SoftAt.TheVariants as soft_at
 use Rattle.hwp_soft.specs.Softs as softs
 use Rattle.hwp_soft.proofs.SoftAsks as offlining
 use Rattle.hwp_soft.proofs.SoftFits as softening
-use Rattle.hwp_soft_unpoison.specs.declared.Unpoison.{Unpoison}
-use Rattle.hwp_soft_unpoison.specs.Unpoisons as unpoisons
-use Rattle.hwp_soft_unpoison.proofs.UnpoisonCosts as unpoisoning
-use Rattle.hwp_soft_unpoison.proofs.UnpoisonLaws as reviving
-use Rattle.hwp_soft.proofs.SoftRank.{soft-member, soft-ranked}
+use Rattle.hwp_soft.specs.hwp_soft_unpoison.declared.Unpoison.{Unpoison}
+use Rattle.hwp_soft.specs.hwp_soft_unpoison.Unpoisons as unpoisons
+use Rattle.hwp_soft.specs.Offline.{task as soft-task}
+use Rattle.hwp_soft.proofs.of_hwp_soft_unpoison.UnpoisonCosts as unpoisoning
+use Rattle.hwp_soft.proofs.of_hwp_soft_unpoison.UnpoisonLaws as reviving
+use Rattle.hwp_soft.proofs.SoftRank.{soft-ranked}
 use Rattle.hwp_soft.proofs.SoftTells.{soft-lasting, soft-tells-class}
 use Rattle.hwp_cpu_command.specs.declared.job.Job.{Job}
 use Rattle.hwp_cpu_command.specs.declared.job.Job.TheVariants as jobs
 use Rattle.hwp_cpu_command.specs.Answers.{fail_answer, instruction_answer, raise_answer, scrub_answer, soft_answer}
-use Rattle.hwp_cpu_command.specs.Jobs.{Fits, Next, Shows, aborts, answer, bare, claims, class, cost, plan, put, who}
+use Rattle.hwp_cpu_command.specs.Jobs.{Fits, Next, Shows, aborts, answer, bare, claims, class, cost, plan, put, task as job-task, who}
 use Rattle.hwp_cpu_command.proofs.JobRefusals.{handler-unanswered, refused-unanswered, soft-unanswered, unpoison-goes}
 
 -- ---- tasks
@@ -155,9 +160,6 @@ stays layout old new (jobs.Unpoison x) step found got fits is made =
 
 -- ---- the rank
 
-abbrev pub job-member : Member Job
-job-member = member who plan put bare Next Fits class cost aborts claims
-
 -- a turn of a command is one of the task of its kind
 pub record IsTurnOf {S : Type 0} (m : Member S) (of : S → Job) (layout : Layout) (seat : ℕ) (a b : State) (s : S) (t : Job) (turn : Turn) : Type 0 where
   pub after : S
@@ -165,84 +167,84 @@ pub record IsTurnOf {S : Type 0} (m : Member S) (of : S → Job) (layout : Layou
   pub made : Made m layout seat a b s after turn
 
 module _ {layout : Layout} {seat : ℕ} {a b : State} {t : Job} {turn : Turn} where
-  of-instruction : {x : Instruction} → Made job-member layout seat a b (jobs.Instruction x) t turn → IsTurnOf instruction-member jobs.Instruction layout seat a b x t turn
+  of-instruction : {x : Instruction} → Made job-task layout seat a b (jobs.Instruction x) t turn → IsTurnOf instruction-task jobs.Instruction layout seat a b x t turn
   of-instruction made = record {
     after = made.follows.0;
     after_is = made.follows.1;
     made = record { step = made.step; found = made.found; got = made.got; rule = made.rule; kept = made.kept; fits = made.fits; planned = made.planned; move = made.move; brings = made.brings; follows = made.follows.2 };
   }
 
-  of-evict : {x : Evict} → Made job-member layout seat a b (jobs.Evict x) t turn → IsTurnOf evict-member jobs.Evict layout seat a b x t turn
+  of-evict : {x : Evict} → Made job-task layout seat a b (jobs.Evict x) t turn → IsTurnOf evict-task jobs.Evict layout seat a b x t turn
   of-evict made = record {
     after = made.follows.0;
     after_is = made.follows.1;
     made = record { step = made.step; found = made.found; got = made.got; rule = made.rule; kept = made.kept; fits = made.fits; planned = made.planned; move = made.move; brings = made.brings; follows = made.follows.2 };
   }
 
-  of-fsync : {x : Fsync} → Made job-member layout seat a b (jobs.Fsync x) t turn → IsTurnOf fsync-member jobs.Fsync layout seat a b x t turn
+  of-fsync : {x : Fsync} → Made job-task layout seat a b (jobs.Fsync x) t turn → IsTurnOf fsyncs.task jobs.Fsync layout seat a b x t turn
   of-fsync {x} made = record {
     after = fsyncs.next x made.found;
     after_is = made.follows.0;
     made = record { step = made.step; found = made.found; got = made.got; rule = made.rule; kept = made.kept; fits = made.fits; planned = made.planned; move = made.move; brings = made.brings; follows = (refl, made.follows.1) };
   }
 
-  of-prctl : {x : Prctl} → Made job-member layout seat a b (jobs.Prctl x) t turn → IsTurnOf calling.the-member jobs.Prctl layout seat a b x t turn
+  of-prctl : {x : Prctl} → Made job-task layout seat a b (jobs.Prctl x) t turn → IsTurnOf prctls.task jobs.Prctl layout seat a b x t turn
   of-prctl {x} made = record {
     after = prctls.next x made.found;
     after_is = made.follows.0;
     made = record { step = made.step; found = made.found; got = made.got; rule = made.rule; kept = made.kept; fits = made.fits; planned = made.planned; move = made.move; brings = made.brings; follows = (refl, made.follows.1) };
   }
 
-  of-log : {x : Log} → Made job-member layout seat a b (jobs.Log x) t turn → IsTurnOf logging.the-member jobs.Log layout seat a b x t turn
+  of-log : {x : Log} → Made job-task layout seat a b (jobs.Log x) t turn → IsTurnOf logs.task jobs.Log layout seat a b x t turn
   of-log {x} made = record {
     after = logs.next x made.found;
     after_is = made.follows.0;
     made = record { step = made.step; found = made.found; got = made.got; rule = made.rule; kept = made.kept; fits = made.fits; planned = made.planned; move = made.move; brings = made.brings; follows = (refl, made.follows.1) };
   }
 
-  of-raise : {x : Raise} → Made job-member layout seat a b (jobs.Raise x) t turn → IsTurnOf raise-member jobs.Raise layout seat a b x t turn
+  of-raise : {x : Raise} → Made job-task layout seat a b (jobs.Raise x) t turn → IsTurnOf raise-task jobs.Raise layout seat a b x t turn
   of-raise made = record {
     after = made.follows.0;
     after_is = made.follows.1;
     made = record { step = made.step; found = made.found; got = made.got; rule = made.rule; kept = made.kept; fits = made.fits; planned = made.planned; move = made.move; brings = made.brings; follows = made.follows.2 };
   }
 
-  of-scrub : {x : Scrub} → Made job-member layout seat a b (jobs.Scrub x) t turn → IsTurnOf scrub-member jobs.Scrub layout seat a b x t turn
+  of-scrub : {x : Scrub} → Made job-task layout seat a b (jobs.Scrub x) t turn → IsTurnOf scrub-task jobs.Scrub layout seat a b x t turn
   of-scrub made = record {
     after = made.follows.0;
     after_is = made.follows.1;
     made = record { step = made.step; found = made.found; got = made.got; rule = made.rule; kept = made.kept; fits = made.fits; planned = made.planned; move = made.move; brings = made.brings; follows = made.follows.2 };
   }
 
-  of-spoil : {x : Spoil} → Made job-member layout seat a b (jobs.Spoil x) t turn → IsTurnOf spoiling.the-member jobs.Spoil layout seat a b x t turn
+  of-spoil : {x : Spoil} → Made job-task layout seat a b (jobs.Spoil x) t turn → IsTurnOf spoils.task jobs.Spoil layout seat a b x t turn
   of-spoil {x} made = record {
     after = spoils.next x made.found;
     after_is = made.follows.0;
     made = record { step = made.step; found = made.found; got = made.got; rule = made.rule; kept = made.kept; fits = made.fits; planned = made.planned; move = made.move; brings = made.brings; follows = (refl, made.follows.1) };
   }
 
-  of-nested : {x : Nested} → Made job-member layout seat a b (jobs.Nested x) t turn → IsTurnOf nesting.the-member jobs.Nested layout seat a b x t turn
+  of-nested : {x : Nested} → Made job-task layout seat a b (jobs.Nested x) t turn → IsTurnOf nesteds.task jobs.Nested layout seat a b x t turn
   of-nested {x} made = record {
     after = nesteds.next x made.found;
     after_is = made.follows.0;
     made = record { step = made.step; found = made.found; got = made.got; rule = made.rule; kept = made.kept; fits = made.fits; planned = made.planned; move = made.move; brings = made.brings; follows = (refl, made.follows.1) };
   }
 
-  of-inject : {x : Inject} → Made job-member layout seat a b (jobs.Inject x) t turn → IsTurnOf inject-member jobs.Inject layout seat a b x t turn
+  of-inject : {x : Inject} → Made job-task layout seat a b (jobs.Inject x) t turn → IsTurnOf injects.task jobs.Inject layout seat a b x t turn
   of-inject made = record {
     after = made.follows.0;
     after_is = made.follows.1;
     made = record { step = made.step; found = made.found; got = made.got; rule = made.rule; kept = made.kept; fits = made.fits; planned = made.planned; move = made.move; brings = made.brings; follows = made.follows.2 };
   }
 
-  of-soft : {x : Soft} → Made job-member layout seat a b (jobs.Soft x) t turn → IsTurnOf soft-member jobs.Soft layout seat a b x t turn
+  of-soft : {x : Soft} → Made job-task layout seat a b (jobs.Soft x) t turn → IsTurnOf soft-task jobs.Soft layout seat a b x t turn
   of-soft made = record {
     after = made.follows.0;
     after_is = made.follows.1;
     made = record { step = made.step; found = made.found; got = made.got; rule = made.rule; kept = made.kept; fits = made.fits; planned = made.planned; move = made.move; brings = made.brings; follows = made.follows.2 };
   }
 
-  of-unpoison : {x : Unpoison} → Made job-member layout seat a b (jobs.Unpoison x) t turn → IsTurnOf unpoisoning.the-member jobs.Unpoison layout seat a b x t turn
+  of-unpoison : {x : Unpoison} → Made job-task layout seat a b (jobs.Unpoison x) t turn → IsTurnOf unpoisons.task jobs.Unpoison layout seat a b x t turn
   of-unpoison {x} made = record {
     after = unpoisons.next x made.found;
     after_is = made.follows.0;
@@ -256,7 +258,7 @@ module _ {S : Type 0} (m : Member S) (of : S → Job) (same : (s : S) (w : Words
       subst (λ (u : Job). cost u (words_at layout b) < cost (of s) (words_at layout a)) (sym made.after_is)
       (subst (λ (n : ℕ). n < cost (of s) (words_at layout a)) (sym (same made.after (words_at layout b))) (subst (λ (n : ℕ). m.cost made.after (words_at layout b) < n) (sym (same s (words_at layout a))) less))
 
-  lowers-so : (made : IsTurnOf m of layout seat a b s t turn) → CostFalls m layout a b s made.after ⊎ HasFailed m layout a b s made.after → CostFalls job-member layout a b (of s) t ⊎ HasFailed job-member layout a b (of s) t
+  lowers-so : (made : IsTurnOf m of layout seat a b s t turn) → CostFalls m layout a b s made.after ⊎ HasFailed m layout a b s made.after → CostFalls job-task layout a b (of s) t ⊎ HasFailed job-task layout a b (of s) t
   lowers-so made (inl less) = inl (falls-so made less)
   lowers-so made (inr fails) = inr (record { fewer = fails.fewer; bounded = bounded })
     where
@@ -266,37 +268,37 @@ module _ {S : Type 0} (m : Member S) (of : S → Job) (same : (s : S) (w : Words
           let was : cost (of s) (words_at layout a) ≡ m.cost s (words_at layout a) = same s (words_at layout a) in
           omega (arith, fails.bounded, now, was))
 
-  waits-so : (made : IsTurnOf m of layout seat a b s t turn) → CostFalls m layout a b s made.after ⊎ ((m.aborts made.after ≡ true) × OtherHand a seat) → CostFalls job-member layout a b (of s) t ⊎ ((aborts t ≡ true) × OtherHand a seat)
+  waits-so : (made : IsTurnOf m of layout seat a b s t turn) → CostFalls m layout a b s made.after ⊎ ((m.aborts made.after ≡ true) × OtherHand a seat) → CostFalls job-task layout a b (of s) t ⊎ ((aborts t ≡ true) × OtherHand a seat)
   waits-so made (inl less) = inl (falls-so made less)
   waits-so made (inr gives) = inr (ap aborts made.after_is ∙ alike made.after ∙ gives.0, gives.1)
 
-falls : (layout : Layout) (seat : ℕ) (a b : State) (s t : Job) (turn : Turn) → Made job-member layout seat a b s t turn → is_waits turn ≡ false → CostFalls job-member layout a b s t ⊎ HasFailed job-member layout a b s t
-falls layout seat a b (jobs.Instruction x) t turn made goes = let m = of-instruction made in lowers-so instruction-member jobs.Instruction (λ s w. refl) (λ s. refl) m (instruction-ranked.falls layout seat a b x m.after turn m.made goes)
-falls layout seat a b (jobs.Evict x) t turn made goes = let m = of-evict made in lowers-so evict-member jobs.Evict (λ s w. refl) (λ s. refl) m (evict-ranked.falls layout seat a b x m.after turn m.made goes)
-falls layout seat a b (jobs.Fsync x) t turn made goes = let m = of-fsync made in lowers-so fsync-member jobs.Fsync (λ s w. refl) (λ s. refl) m (fsync-ranked.falls layout seat a b x m.after turn m.made goes)
-falls layout seat a b (jobs.Prctl x) t turn made goes = let m = of-prctl made in lowers-so calling.the-member jobs.Prctl (λ s w. refl) (λ s. refl) m (calling.ranked.falls layout seat a b x m.after turn m.made goes)
-falls layout seat a b (jobs.Log x) t turn made goes = let m = of-log made in lowers-so logging.the-member jobs.Log (λ s w. refl) (λ s. refl) m (logging.ranked.falls layout seat a b x m.after turn m.made goes)
-falls layout seat a b (jobs.Raise x) t turn made goes = let m = of-raise made in lowers-so raise-member jobs.Raise (λ s w. refl) (λ s. refl) m (raise-ranked.falls layout seat a b x m.after turn m.made goes)
-falls layout seat a b (jobs.Scrub x) t turn made goes = let m = of-scrub made in lowers-so scrub-member jobs.Scrub (λ s w. refl) (λ s. refl) m (scrub-ranked.falls layout seat a b x m.after turn m.made goes)
-falls layout seat a b (jobs.Spoil x) t turn made goes = let m = of-spoil made in lowers-so spoiling.the-member jobs.Spoil (λ s w. refl) (λ s. refl) m (spoiling.ranked.falls layout seat a b x m.after turn m.made goes)
-falls layout seat a b (jobs.Nested x) t turn made goes = let m = of-nested made in lowers-so nesting.the-member jobs.Nested (λ s w. refl) (λ s. refl) m (nesting.ranked.falls layout seat a b x m.after turn m.made goes)
-falls layout seat a b (jobs.Inject x) t turn made goes = let m = of-inject made in lowers-so inject-member jobs.Inject (λ s w. refl) (λ s. refl) m (inject-ranked.falls layout seat a b x m.after turn m.made goes)
-falls layout seat a b (jobs.Soft x) t turn made goes = let m = of-soft made in lowers-so soft-member jobs.Soft (λ s w. refl) (λ s. refl) m (soft-ranked.falls layout seat a b x m.after turn m.made goes)
-falls layout seat a b (jobs.Unpoison x) t turn made goes = let m = of-unpoison made in lowers-so unpoisoning.the-member jobs.Unpoison (λ s w. refl) (λ s. refl) m (unpoisoning.ranked.falls layout seat a b x m.after turn m.made goes)
+falls : (layout : Layout) (seat : ℕ) (a b : State) (s t : Job) (turn : Turn) → Made job-task layout seat a b s t turn → is_waits turn ≡ false → CostFalls job-task layout a b s t ⊎ HasFailed job-task layout a b s t
+falls layout seat a b (jobs.Instruction x) t turn made goes = let m = of-instruction made in lowers-so instruction-task jobs.Instruction (λ s w. refl) (λ s. refl) m (instruction-ranked.falls layout seat a b x m.after turn m.made goes)
+falls layout seat a b (jobs.Evict x) t turn made goes = let m = of-evict made in lowers-so evict-task jobs.Evict (λ s w. refl) (λ s. refl) m (evict-ranked.falls layout seat a b x m.after turn m.made goes)
+falls layout seat a b (jobs.Fsync x) t turn made goes = let m = of-fsync made in lowers-so fsyncs.task jobs.Fsync (λ s w. refl) (λ s. refl) m (fsync-ranked.falls layout seat a b x m.after turn m.made goes)
+falls layout seat a b (jobs.Prctl x) t turn made goes = let m = of-prctl made in lowers-so prctls.task jobs.Prctl (λ s w. refl) (λ s. refl) m (calling.ranked.falls layout seat a b x m.after turn m.made goes)
+falls layout seat a b (jobs.Log x) t turn made goes = let m = of-log made in lowers-so logs.task jobs.Log (λ s w. refl) (λ s. refl) m (logging.ranked.falls layout seat a b x m.after turn m.made goes)
+falls layout seat a b (jobs.Raise x) t turn made goes = let m = of-raise made in lowers-so raise-task jobs.Raise (λ s w. refl) (λ s. refl) m (raise-ranked.falls layout seat a b x m.after turn m.made goes)
+falls layout seat a b (jobs.Scrub x) t turn made goes = let m = of-scrub made in lowers-so scrub-task jobs.Scrub (λ s w. refl) (λ s. refl) m (scrub-ranked.falls layout seat a b x m.after turn m.made goes)
+falls layout seat a b (jobs.Spoil x) t turn made goes = let m = of-spoil made in lowers-so spoils.task jobs.Spoil (λ s w. refl) (λ s. refl) m (spoiling.ranked.falls layout seat a b x m.after turn m.made goes)
+falls layout seat a b (jobs.Nested x) t turn made goes = let m = of-nested made in lowers-so nesteds.task jobs.Nested (λ s w. refl) (λ s. refl) m (nesting.ranked.falls layout seat a b x m.after turn m.made goes)
+falls layout seat a b (jobs.Inject x) t turn made goes = let m = of-inject made in lowers-so injects.task jobs.Inject (λ s w. refl) (λ s. refl) m (inject-ranked.falls layout seat a b x m.after turn m.made goes)
+falls layout seat a b (jobs.Soft x) t turn made goes = let m = of-soft made in lowers-so soft-task jobs.Soft (λ s w. refl) (λ s. refl) m (soft-ranked.falls layout seat a b x m.after turn m.made goes)
+falls layout seat a b (jobs.Unpoison x) t turn made goes = let m = of-unpoison made in lowers-so unpoisons.task jobs.Unpoison (λ s w. refl) (λ s. refl) m (unpoisoning.ranked.falls layout seat a b x m.after turn m.made goes)
 
-waits : (layout : Layout) (seat : ℕ) (a b : State) (s t : Job) (turn : Turn) → Made job-member layout seat a b s t turn → is_waits turn ≡ true → Quiet (class s) layout a seat → CostFalls job-member layout a b s t ⊎ ((aborts t ≡ true) × OtherHand a seat)
-waits layout seat a b (jobs.Instruction x) t turn made is quiet = let m = of-instruction made in waits-so instruction-member jobs.Instruction (λ s w. refl) (λ s. refl) m (instruction-ranked.waits layout seat a b x m.after turn m.made is quiet)
-waits layout seat a b (jobs.Evict x) t turn made is quiet = let m = of-evict made in waits-so evict-member jobs.Evict (λ s w. refl) (λ s. refl) m (evict-ranked.waits layout seat a b x m.after turn m.made is quiet)
-waits layout seat a b (jobs.Fsync x) t turn made is quiet = let m = of-fsync made in waits-so fsync-member jobs.Fsync (λ s w. refl) (λ s. refl) m (fsync-ranked.waits layout seat a b x m.after turn m.made is quiet)
-waits layout seat a b (jobs.Prctl x) t turn made is quiet = let m = of-prctl made in waits-so calling.the-member jobs.Prctl (λ s w. refl) (λ s. refl) m (calling.ranked.waits layout seat a b x m.after turn m.made is quiet)
-waits layout seat a b (jobs.Log x) t turn made is quiet = let m = of-log made in waits-so logging.the-member jobs.Log (λ s w. refl) (λ s. refl) m (logging.ranked.waits layout seat a b x m.after turn m.made is quiet)
-waits layout seat a b (jobs.Raise x) t turn made is quiet = let m = of-raise made in waits-so raise-member jobs.Raise (λ s w. refl) (λ s. refl) m (raise-ranked.waits layout seat a b x m.after turn m.made is quiet)
-waits layout seat a b (jobs.Scrub x) t turn made is quiet = let m = of-scrub made in waits-so scrub-member jobs.Scrub (λ s w. refl) (λ s. refl) m (scrub-ranked.waits layout seat a b x m.after turn m.made is quiet)
-waits layout seat a b (jobs.Spoil x) t turn made is quiet = let m = of-spoil made in waits-so spoiling.the-member jobs.Spoil (λ s w. refl) (λ s. refl) m (spoiling.ranked.waits layout seat a b x m.after turn m.made is quiet)
-waits layout seat a b (jobs.Nested x) t turn made is quiet = let m = of-nested made in waits-so nesting.the-member jobs.Nested (λ s w. refl) (λ s. refl) m (nesting.ranked.waits layout seat a b x m.after turn m.made is quiet)
-waits layout seat a b (jobs.Inject x) t turn made is quiet = let m = of-inject made in waits-so inject-member jobs.Inject (λ s w. refl) (λ s. refl) m (inject-ranked.waits layout seat a b x m.after turn m.made is quiet)
-waits layout seat a b (jobs.Soft x) t turn made is quiet = let m = of-soft made in waits-so soft-member jobs.Soft (λ s w. refl) (λ s. refl) m (soft-ranked.waits layout seat a b x m.after turn m.made is quiet)
-waits layout seat a b (jobs.Unpoison x) t turn made is quiet = let m = of-unpoison made in waits-so unpoisoning.the-member jobs.Unpoison (λ s w. refl) (λ s. refl) m (unpoisoning.ranked.waits layout seat a b x m.after turn m.made is quiet)
+waits : (layout : Layout) (seat : ℕ) (a b : State) (s t : Job) (turn : Turn) → Made job-task layout seat a b s t turn → is_waits turn ≡ true → Quiet (class s) layout a seat → CostFalls job-task layout a b s t ⊎ ((aborts t ≡ true) × OtherHand a seat)
+waits layout seat a b (jobs.Instruction x) t turn made is quiet = let m = of-instruction made in waits-so instruction-task jobs.Instruction (λ s w. refl) (λ s. refl) m (instruction-ranked.waits layout seat a b x m.after turn m.made is quiet)
+waits layout seat a b (jobs.Evict x) t turn made is quiet = let m = of-evict made in waits-so evict-task jobs.Evict (λ s w. refl) (λ s. refl) m (evict-ranked.waits layout seat a b x m.after turn m.made is quiet)
+waits layout seat a b (jobs.Fsync x) t turn made is quiet = let m = of-fsync made in waits-so fsyncs.task jobs.Fsync (λ s w. refl) (λ s. refl) m (fsync-ranked.waits layout seat a b x m.after turn m.made is quiet)
+waits layout seat a b (jobs.Prctl x) t turn made is quiet = let m = of-prctl made in waits-so prctls.task jobs.Prctl (λ s w. refl) (λ s. refl) m (calling.ranked.waits layout seat a b x m.after turn m.made is quiet)
+waits layout seat a b (jobs.Log x) t turn made is quiet = let m = of-log made in waits-so logs.task jobs.Log (λ s w. refl) (λ s. refl) m (logging.ranked.waits layout seat a b x m.after turn m.made is quiet)
+waits layout seat a b (jobs.Raise x) t turn made is quiet = let m = of-raise made in waits-so raise-task jobs.Raise (λ s w. refl) (λ s. refl) m (raise-ranked.waits layout seat a b x m.after turn m.made is quiet)
+waits layout seat a b (jobs.Scrub x) t turn made is quiet = let m = of-scrub made in waits-so scrub-task jobs.Scrub (λ s w. refl) (λ s. refl) m (scrub-ranked.waits layout seat a b x m.after turn m.made is quiet)
+waits layout seat a b (jobs.Spoil x) t turn made is quiet = let m = of-spoil made in waits-so spoils.task jobs.Spoil (λ s w. refl) (λ s. refl) m (spoiling.ranked.waits layout seat a b x m.after turn m.made is quiet)
+waits layout seat a b (jobs.Nested x) t turn made is quiet = let m = of-nested made in waits-so nesteds.task jobs.Nested (λ s w. refl) (λ s. refl) m (nesting.ranked.waits layout seat a b x m.after turn m.made is quiet)
+waits layout seat a b (jobs.Inject x) t turn made is quiet = let m = of-inject made in waits-so injects.task jobs.Inject (λ s w. refl) (λ s. refl) m (inject-ranked.waits layout seat a b x m.after turn m.made is quiet)
+waits layout seat a b (jobs.Soft x) t turn made is quiet = let m = of-soft made in waits-so soft-task jobs.Soft (λ s w. refl) (λ s. refl) m (soft-ranked.waits layout seat a b x m.after turn m.made is quiet)
+waits layout seat a b (jobs.Unpoison x) t turn made is quiet = let m = of-unpoison made in waits-so unpoisons.task jobs.Unpoison (λ s w. refl) (λ s. refl) m (unpoisoning.ranked.waits layout seat a b x m.after turn m.made is quiet)
 
 classes : (j : Job) → (1 ≤ class j) × (class j ≤ 4)
 classes (jobs.Instruction x) = instruction-ranked.classes x
@@ -327,7 +329,7 @@ small layout a seat (jobs.Soft x) rule fits = soft-ranked.small layout a seat x 
 small layout a seat (jobs.Unpoison x) rule fits = unpoisoning.ranked.small layout a seat x rule fits
 
 -- a command that claims a frame alone can give up what it has begun, and then it looks at its frame again
-leaves : (layout : Layout) (seat : ℕ) (a b : State) (s t : Job) (turn : Turn) → Made job-member layout seat a b s t turn → aborts s ≡ true → (plan t ≡ None) ⊎ (1 < class t)
+leaves : (layout : Layout) (seat : ℕ) (a b : State) (s t : Job) (turn : Turn) → Made job-task layout seat a b s t turn → aborts s ≡ true → (plan t ≡ None) ⊎ (1 < class t)
 leaves layout seat a b (jobs.Instruction x) t turn made is = let m = of-instruction made in subst (λ (j : Job). (plan j ≡ None) ⊎ (1 < class j)) (sym m.after_is) (instruction-ranked.leaves layout seat a b x m.after turn m.made is)
 leaves layout seat a b (jobs.Raise x) t turn made is = let m = of-raise made in subst (λ (j : Job). (plan j ≡ None) ⊎ (1 < class j)) (sym m.after_is) (raise-ranked.leaves layout seat a b x m.after turn m.made is)
 leaves layout seat a b (jobs.Scrub x) t turn made is = let m = of-scrub made in subst (λ (j : Job). (plan j ≡ None) ⊎ (1 < class j)) (sym m.after_is) (scrub-ranked.leaves layout seat a b x m.after turn m.made is)
@@ -339,11 +341,11 @@ leaves layout seat a b _ t turn made is = absurd (both_ways true (sym is) refl)
 abbrev Owns : Layout → State → State → Job → Job → Frame → ℕ → Type 0
 Owns layout a b s t frame cycle = (claims t ≡ Some (frame, cycle)) ⊎ (Pending (words_at layout a) frame cycle × (claims s ≢ Some (frame, cycle)))
 
-owns-none : {layout : Layout} {seat : ℕ} {a b : State} {s t : Job} {turn : Turn} (frame : Frame) (cycle : ℕ) (made : Made job-member layout seat a b s t turn) → IsMild made.step → claims s ≡ None → Pending (words_at layout b) frame cycle
+owns-none : {layout : Layout} {seat : ℕ} {a b : State} {s t : Job} {turn : Turn} (frame : Frame) (cycle : ℕ) (made : Made job-task layout seat a b s t turn) → IsMild made.step → claims s ≡ None → Pending (words_at layout b) frame cycle
     → Pending (words_at layout a) frame cycle × (claims s ≢ Some (frame, cycle))
 owns-none frame cycle made mild none pending = (pending-kept made mild frame cycle pending, λ claimed. none-some (frame, cycle) (sym none ∙ claimed))
 
-owns : (layout : Layout) (seat : ℕ) (a b : State) (s t : Job) (turn : Turn) (frame : Frame) (cycle : ℕ) → Made job-member layout seat a b s t turn → is_refused turn ≡ false → Pending (words_at layout b) frame cycle → Owns layout a b s t frame cycle
+owns : (layout : Layout) (seat : ℕ) (a b : State) (s t : Job) (turn : Turn) (frame : Frame) (cycle : ℕ) → Made job-task layout seat a b s t turn → is_refused turn ≡ false → Pending (words_at layout b) frame cycle → Owns layout a b s t frame cycle
 owns layout seat a b (jobs.Instruction x) t turn frame cycle made going pending =
     let m = of-instruction made in subst (λ (j : Job). Owns layout a b (jobs.Instruction x) j frame cycle) (sym m.after_is) (instruction-ranked.owns layout seat a b x m.after turn frame cycle m.made going pending)
 owns layout seat a b (jobs.Raise x) t turn frame cycle made going pending =
@@ -406,7 +408,7 @@ abbrev OwnsNone : Layout → State → Job → Frame → ℕ → Type 0
 OwnsNone layout a s frame cycle = Pending (words_at layout a) frame cycle × (claims s ≢ Some (frame, cycle))
 
 -- as it was refused no memory, and claims nothing in the end
-settled : {layout : Layout} {seat : ℕ} {a b : State} {s t : Job} {turn : Turn} (frame : Frame) (cycle : ℕ) (made : Made job-member layout seat a b s t turn) {r : Answer} → answer t ≡ Some r → Pending (words_at layout b) frame cycle
+settled : {layout : Layout} {seat : ℕ} {a b : State} {s t : Job} {turn : Turn} (frame : Frame) (cycle : ℕ) (made : Made job-task layout seat a b s t turn) {r : Answer} → answer t ≡ Some r → Pending (words_at layout b) frame cycle
     → (is_refused turn ≡ true → answer t ≡ None) → claims t ≡ None → OwnsNone layout a s frame cycle
 settled {layout} {seat} {a} {b} {s} {t} {turn} frame cycle made {r} is pending refused none = which (owns layout seat a b s t turn frame cycle made (false_from_ne_true (is_refused turn) (λ not_. none-some r (sym (refused not_) ∙ is))) pending)
   where
@@ -415,10 +417,10 @@ settled {layout} {seat} {a} {b} {s} {t} {turn} frame cycle made {r} is pending r
     which (inr was) = was
 
 module _ {layout : Layout} {seat : ℕ} {a b : State} {t : Job} {turn : Turn} (frame : Frame) (cycle : ℕ) {r : Answer} (is : answer t ≡ Some r) (pending : Pending (words_at layout b) frame cycle) where
-  instruction-settled : (x : Instruction) → Made job-member layout seat a b (jobs.Instruction x) t turn → OwnsNone layout a (jobs.Instruction x) frame cycle
+  instruction-settled : (x : Instruction) → Made job-task layout seat a b (jobs.Instruction x) t turn → OwnsNone layout a (jobs.Instruction x) frame cycle
   instruction-settled x made = which x.at refl made.planned m.made.follows
     where
-      m : IsTurnOf instruction-member jobs.Instruction layout seat a b x t turn
+      m : IsTurnOf instruction-task jobs.Instruction layout seat a b x t turn
       m = of-instruction made
 
       refused : (f : Frame) (h : Handler) → instructions.FollowsAt layout (instructions.bare x) (instruction_at.Handle f (handlers.bare h)) m.made.found m.made.got m.after turn → is_refused turn ≡ true → answer t ≡ None
@@ -434,10 +436,10 @@ module _ {layout : Layout} {seat : ℕ} {a b : State} {t : Job} {turn : Turn} (f
       which instruction_at.GiveUp at e next = owns-none frame cycle made (subst IsMild (same_Some steps.GiveUp made.step e) tt) (ap instruction_costs.claims_at at) pending
       which (instruction_at.Over o) at e next = absurd (none-some made.step e)
 
-  raise-settled : (x : Raise) → Made job-member layout seat a b (jobs.Raise x) t turn → OwnsNone layout a (jobs.Raise x) frame cycle
+  raise-settled : (x : Raise) → Made job-task layout seat a b (jobs.Raise x) t turn → OwnsNone layout a (jobs.Raise x) frame cycle
   raise-settled x made = which x.at refl made.planned m.made.follows
     where
-      m : IsTurnOf raise-member jobs.Raise layout seat a b x t turn
+      m : IsTurnOf raise-task jobs.Raise layout seat a b x t turn
       m = of-raise made
 
       refused : (h : Handler) → raises.FollowsAt layout (raises.bare x) (raise_at.Handle (handlers.bare h)) m.made.found m.made.got m.after turn → is_refused turn ≡ true → answer t ≡ None
@@ -452,10 +454,10 @@ module _ {layout : Layout} {seat : ℕ} {a b : State} {t : Job} {turn : Turn} (f
       which raise_at.GiveUp at e next = owns-none frame cycle made (subst IsMild (same_Some steps.GiveUp made.step e) tt) (ap raise_costs.claims_at at) pending
       which (raise_at.Over o) at e next = absurd (none-some made.step e)
 
-  scrub-settled : (x : Scrub) → Made job-member layout seat a b (jobs.Scrub x) t turn → OwnsNone layout a (jobs.Scrub x) frame cycle
+  scrub-settled : (x : Scrub) → Made job-task layout seat a b (jobs.Scrub x) t turn → OwnsNone layout a (jobs.Scrub x) frame cycle
   scrub-settled x made = which x.at refl made.planned m.made.follows
     where
-      m : IsTurnOf scrub-member jobs.Scrub layout seat a b x t turn
+      m : IsTurnOf scrub-task jobs.Scrub layout seat a b x t turn
       m = of-scrub made
 
       refused : (f : Frame) (h : Handler) → scrubs.FollowsAt layout (scrubs.bare x) (scrub_at.Handle f (handlers.bare h)) m.made.found m.made.got m.after turn → is_refused turn ≡ true → answer t ≡ None
@@ -471,28 +473,28 @@ module _ {layout : Layout} {seat : ℕ} {a b : State} {t : Job} {turn : Turn} (f
       which scrub_at.GiveUp at e next = owns-none frame cycle made (subst IsMild (same_Some steps.GiveUp made.step e) tt) (ap scrub_costs.claims_at at) pending
       which (scrub_at.Over o) at e next = absurd (none-some made.step e)
 
-  inject-settled : (x : Inject) → Made job-member layout seat a b (jobs.Inject x) t turn → OwnsNone layout a (jobs.Inject x) frame cycle
+  inject-settled : (x : Inject) → Made job-task layout seat a b (jobs.Inject x) t turn → OwnsNone layout a (jobs.Inject x) frame cycle
   inject-settled x made = settled frame cycle made is pending refused (ap claims m.after_is ∙ unclaimed m.after.at (sym (ap answer m.after_is) ∙ is))
     where
-      m : IsTurnOf inject-member jobs.Inject layout seat a b x t turn
+      m : IsTurnOf injects.task jobs.Inject layout seat a b x t turn
       m = of-inject made
 
       refused : is_refused turn ≡ true → answer t ≡ None
       refused no_ = ap answer m.after_is ∙ ap (λ (o : Option FailAnswer). option_map fail_answer o) (refused-unanswered layout x m.after m.made.found m.made.got turn m.made.follows no_)
 
-  soft-settled : (x : Soft) → Made job-member layout seat a b (jobs.Soft x) t turn → OwnsNone layout a (jobs.Soft x) frame cycle
+  soft-settled : (x : Soft) → Made job-task layout seat a b (jobs.Soft x) t turn → OwnsNone layout a (jobs.Soft x) frame cycle
   soft-settled x made = settled frame cycle made is pending refused (ap claims m.after_is ∙ unclaimed-soft m.after (sym (ap answer m.after_is) ∙ is))
     where
-      m : IsTurnOf soft-member jobs.Soft layout seat a b x t turn
+      m : IsTurnOf soft-task jobs.Soft layout seat a b x t turn
       m = of-soft made
 
       refused : is_refused turn ≡ true → answer t ≡ None
       refused no_ = ap answer m.after_is ∙ ap (λ (o : Option SoftAnswer). option_map soft_answer o) (soft-unanswered layout x m.after m.made.found m.made.got turn m.made.follows no_)
 
-  unpoison-settled : (x : Unpoison) → Made job-member layout seat a b (jobs.Unpoison x) t turn → OwnsNone layout a (jobs.Unpoison x) frame cycle
+  unpoison-settled : (x : Unpoison) → Made job-task layout seat a b (jobs.Unpoison x) t turn → OwnsNone layout a (jobs.Unpoison x) frame cycle
   unpoison-settled x made = settled frame cycle made is pending (λ no_. absurd (unpoison-goes x made.found (ap is_refused (sym made.follows.1) ∙ no_))) (ap claims made.follows.0)
 
-pub owns-answered : (layout : Layout) (seat : ℕ) (a b : State) (s t : Job) (turn : Turn) (frame : Frame) (cycle : ℕ) {r : Answer} → Made job-member layout seat a b s t turn → answer t ≡ Some r → Pending (words_at layout b) frame cycle
+pub owns-answered : (layout : Layout) (seat : ℕ) (a b : State) (s t : Job) (turn : Turn) (frame : Frame) (cycle : ℕ) {r : Answer} → Made job-task layout seat a b s t turn → answer t ≡ Some r → Pending (words_at layout b) frame cycle
     → Pending (words_at layout a) frame cycle × (claims s ≢ Some (frame, cycle))
 owns-answered layout seat a b (jobs.Instruction x) t turn frame cycle made is pending = instruction-settled frame cycle is pending x made
 owns-answered layout seat a b (jobs.Raise x) t turn frame cycle made is pending = raise-settled frame cycle is pending x made
@@ -507,11 +509,11 @@ owns-answered layout seat a b (jobs.Log x) t turn frame cycle made is pending = 
 owns-answered layout seat a b (jobs.Spoil x) t turn frame cycle made is pending = owns-none frame cycle made (spoiling.mild x made.step made.planned) refl pending
 owns-answered layout seat a b (jobs.Nested x) t turn frame cycle made is pending = owns-none frame cycle made (nesting.mild x made.step made.planned) refl pending
 
-pub ranked : IsRanked job-member
+pub ranked : IsRanked job-task
 ranked = record { classes = classes; small = small; falls = falls; waits = waits; leaves = leaves; owns = owns }
 
 -- a turn pays for what it takes back
-pub pays : PaysRevival job-member
+pub pays : PaysRevival job-task
 pays layout seat a b (jobs.Instruction x) t turn made = inl (failures-kept made (instruction-lasting x made.step made.planned))
 pays layout seat a b (jobs.Evict x) t turn made = inl (failures-kept made (mild-leaves made.step (evict-mild x made.step made.planned)))
 pays layout seat a b (jobs.Fsync x) t turn made = inl (failures-kept made (mild-leaves made.step (fsync-mild x made.step made.planned)))
@@ -530,7 +532,7 @@ pays layout seat a b (jobs.Unpoison x) t turn made =
 
 -- ---- what the class tells
 
-pub tells : TellsClass job-member
+pub tells : TellsClass job-task
 tells = record { frame = frame; page = page; claim = claim }
   where
     frame : (layout : Layout) (view : View) (j : Job) → Fits layout view j → HasFrame view → (class j ≡ 1) × (plan j ≢ None)

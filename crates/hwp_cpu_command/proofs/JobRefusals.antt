@@ -1,44 +1,44 @@
 -- A turn by which a memory failure, a machine check or a command that takes a frame out of use is refused memory leaves no answer.
 use Rattle.std.proofs.Common.{◌≡◌, ℕ, ◌==◌, Bool, true, false, cond, Option, Some, None, is_none, refl, sym, ap, ◌∙◌, true≢false}
-use Rattle.hwp_geom.specs.declared.Frame.{Frame}
-use Rattle.hwp_geom.specs.declared.Layout.{Layout}
-use Rattle.hwp_geom.specs.declared.Who.{Who}
-use Rattle.hwp_page.specs.History.{BodyValue}
-use Rattle.hwp_core_rule.specs.hwp_words.Stops.{is_stopped}
-use Rattle.hwp_core_task.specs.declared.Turn.{Turn}
-use Rattle.hwp_core_task.specs.declared.Turn.TheVariants as turns
-use Rattle.hwp_core_task.specs.Ranks.{is_refused}
+use Rattle.hwp_cpu_control.specs.hwp_geom.declared.Frame.{Frame}
+use Rattle.hwp_cpu_control.specs.hwp_geom.declared.Layout.{Layout}
+use Rattle.hwp_cpu_control.specs.hwp_geom.declared.Who.{Who}
+use Rattle.hwp_cpu_control.specs.hwp_page.History.{BodyValue}
+use Rattle.hwp_cpu_control.specs.hwp_words.Stops.{is_stopped}
+use Rattle.hwp_cpu_control.specs.hwp_core_task.declared.Turn.{Turn}
+use Rattle.hwp_cpu_control.specs.hwp_core_task.declared.Turn.TheVariants as turns
+use Rattle.hwp_cpu_control.specs.hwp_core_task.Ranks.{is_refused}
 use Rattle.hwp_evict.specs.hwp_core.declared.give_up.GiveUp.{GiveUp}
 use Rattle.hwp_evict.specs.hwp_core.Holds.{is_free}
-use Rattle.hwp_claim.specs.hwp_claim_act.declared.abandon.Failed.{Failed}
-use Rattle.hwp_claim.specs.hwp_claim_act.declared.act.Act.{Act}
-use Rattle.hwp_claim.specs.hwp_claim_act.declared.act.ActAt.{ActAt}
-use Rattle.hwp_claim.specs.hwp_claim_act.declared.act.ActAt.TheVariants as act_at
-use Rattle.hwp_claim.specs.hwp_claim_act.Acts as acts
-use Rattle.hwp_soft_unpoison.specs.hwp_claim_frame.declared.claim.Claim.{Claim}
-use Rattle.hwp_soft_unpoison.specs.hwp_claim_frame.declared.claim.ClaimAt.{ClaimAt}
-use Rattle.hwp_soft_unpoison.specs.hwp_claim_frame.declared.claim.ClaimAt.TheVariants as claim_at
-use Rattle.hwp_soft_unpoison.specs.hwp_claim_frame.declared.ClaimAnswer.{ClaimAnswer}
-use Rattle.hwp_soft_unpoison.specs.hwp_claim_frame.declared.grab.GrabAt.{GrabAt}
-use Rattle.hwp_soft_unpoison.specs.hwp_claim_frame.declared.grab.GrabAt.TheVariants as grab_at
-use Rattle.hwp_soft_unpoison.specs.hwp_claim_frame.declared.meet.MeetAt.{MeetAt}
-use Rattle.hwp_soft_unpoison.specs.hwp_claim_frame.declared.meet.MeetAt.TheVariants as meet_at
-use Rattle.hwp_soft_unpoison.specs.hwp_claim_frame.Claims as claims
-use Rattle.hwp_soft_unpoison.specs.hwp_claim_frame.Grabs as grabs
-use Rattle.hwp_soft_unpoison.specs.hwp_claim_frame.Meets as meets
-use Rattle.hwp_claim.specs.declared.fail.Fail.{Fail}
-use Rattle.hwp_claim.specs.declared.fail.FailAt.{FailAt}
-use Rattle.hwp_claim.specs.declared.fail.FailAt.TheVariants as fail_at
-use Rattle.hwp_claim.specs.declared.FailAnswer.{FailAnswer}
-use Rattle.hwp_claim.specs.declared.inject.Inject.{Inject}
-use Rattle.hwp_claim.specs.declared.inject.InjectAt.{InjectAt}
-use Rattle.hwp_claim.specs.declared.inject.InjectAt.TheVariants as inject_at
-use Rattle.hwp_claim.specs.Fails as fails
-use Rattle.hwp_claim.specs.Injects as injects
-use Rattle.hwp_cpu_check.specs.declared.Handler.{Handler}
-use Rattle.hwp_cpu_check.specs.declared.handler.HandlerAt.{HandlerAt}
-use Rattle.hwp_cpu_check.specs.declared.handler.HandlerAt.TheVariants as handler_at
-use Rattle.hwp_cpu_check.specs.Handlers as handlers
+use Rattle.hwp_soft.specs.hwp_claim_act.declared.abandon.Failed.{Failed}
+use Rattle.hwp_soft.specs.hwp_claim_act.declared.act.Act.{Act}
+use Rattle.hwp_soft.specs.hwp_claim_act.declared.act.ActAt.{ActAt}
+use Rattle.hwp_soft.specs.hwp_claim_act.declared.act.ActAt.TheVariants as act_at
+use Rattle.hwp_soft.specs.hwp_claim_act.Acts as acts
+use Rattle.hwp_soft.specs.hwp_claim_frame.declared.claim.Claim.{Claim}
+use Rattle.hwp_soft.specs.hwp_claim_frame.declared.claim.ClaimAt.{ClaimAt}
+use Rattle.hwp_soft.specs.hwp_claim_frame.declared.claim.ClaimAt.TheVariants as claim_at
+use Rattle.hwp_soft.specs.hwp_claim_frame.declared.ClaimAnswer.{ClaimAnswer}
+use Rattle.hwp_soft.specs.hwp_claim_frame.declared.grab.GrabAt.{GrabAt}
+use Rattle.hwp_soft.specs.hwp_claim_frame.declared.grab.GrabAt.TheVariants as grab_at
+use Rattle.hwp_soft.specs.hwp_claim_frame.declared.meet.MeetAt.{MeetAt}
+use Rattle.hwp_soft.specs.hwp_claim_frame.declared.meet.MeetAt.TheVariants as meet_at
+use Rattle.hwp_soft.specs.hwp_claim_frame.Claims as claims
+use Rattle.hwp_soft.specs.hwp_claim_frame.Grabs as grabs
+use Rattle.hwp_soft.specs.hwp_claim_frame.Meets as meets
+use Rattle.hwp_soft.specs.hwp_claim.declared.fail.Fail.{Fail}
+use Rattle.hwp_soft.specs.hwp_claim.declared.fail.FailAt.{FailAt}
+use Rattle.hwp_soft.specs.hwp_claim.declared.fail.FailAt.TheVariants as fail_at
+use Rattle.hwp_soft.specs.hwp_claim.declared.FailAnswer.{FailAnswer}
+use Rattle.hwp_soft.specs.hwp_claim.declared.inject.Inject.{Inject}
+use Rattle.hwp_soft.specs.hwp_claim.declared.inject.InjectAt.{InjectAt}
+use Rattle.hwp_soft.specs.hwp_claim.declared.inject.InjectAt.TheVariants as inject_at
+use Rattle.hwp_soft.specs.hwp_claim.Fails as fails
+use Rattle.hwp_soft.specs.hwp_claim.Injects as injects
+use Rattle.hwp_cpu_row.specs.hwp_cpu_check.declared.Handler.{Handler}
+use Rattle.hwp_cpu_row.specs.hwp_cpu_check.declared.handler.HandlerAt.{HandlerAt}
+use Rattle.hwp_cpu_row.specs.hwp_cpu_check.declared.handler.HandlerAt.TheVariants as handler_at
+use Rattle.hwp_cpu_row.specs.hwp_cpu_check.Handlers as handlers
 use Rattle.hwp_fault.specs.hwp_fault_fill.declared.take.TakeAt.{TakeAt}
 use Rattle.hwp_fault.specs.hwp_fault_fill.declared.take.TakeAt.TheVariants as take_at
 use Rattle.hwp_fault.specs.hwp_fault_fill.Takes as takes
@@ -46,10 +46,10 @@ use Rattle.hwp_soft.specs.declared.Soft.{Soft}
 use Rattle.hwp_soft.specs.declared.soft.SoftAt.{SoftAt}
 use Rattle.hwp_soft.specs.declared.soft.SoftAt.TheVariants as soft_at
 use Rattle.hwp_soft.specs.Softs as softs
-use Rattle.hwp_soft_unpoison.specs.declared.Unpoison.{Unpoison}
-use Rattle.hwp_soft_unpoison.specs.declared.unpoison.UnpoisonAt.{UnpoisonAt}
-use Rattle.hwp_soft_unpoison.specs.declared.unpoison.UnpoisonAt.TheVariants as unpoison_at
-use Rattle.hwp_soft_unpoison.specs.Unpoisons as unpoisons
+use Rattle.hwp_soft.specs.hwp_soft_unpoison.declared.Unpoison.{Unpoison}
+use Rattle.hwp_soft.specs.hwp_soft_unpoison.declared.unpoison.UnpoisonAt.{UnpoisonAt}
+use Rattle.hwp_soft.specs.hwp_soft_unpoison.declared.unpoison.UnpoisonAt.TheVariants as unpoison_at
+use Rattle.hwp_soft.specs.hwp_soft_unpoison.Unpoisons as unpoisons
 
 -- such a turn is no other
 other : {A : Type 0} (turn : Turn) → is_refused turn ≡ false → is_refused turn ≡ true → A

@@ -6,25 +6,25 @@ use Rattle.hwp_cpu_control.specs.declared.Prctl.{Prctl}
 use Rattle.hwp_cpu_control.specs.declared.Spoil.{Spoil}
 use Rattle.hwp_evict.specs.declared.Evict.{Evict}
 use Rattle.hwp_evict.specs.declared.Fsync.{Fsync}
-use Rattle.hwp_claim.specs.declared.Inject.{Inject}
+use Rattle.hwp_soft.specs.hwp_claim.declared.Inject.{Inject}
 use Rattle.hwp_cpu_access.specs.declared.Instruction.{Instruction}
 use Rattle.hwp_cpu_raise.specs.declared.Log.{Log}
 use Rattle.hwp_cpu_raise.specs.declared.Raise.{Raise}
 use Rattle.hwp_scrub.specs.declared.Scrub.{Scrub}
 use Rattle.hwp_soft.specs.declared.Soft.{Soft}
-use Rattle.hwp_soft_unpoison.specs.declared.Unpoison.{Unpoison}
+use Rattle.hwp_soft.specs.hwp_soft_unpoison.declared.Unpoison.{Unpoison}
 use Rattle.hwp_cpu_control.specs.Nesteds as nesteds
 use Rattle.hwp_cpu_control.specs.Prctls as prctls
 use Rattle.hwp_cpu_control.specs.Spoils as spoils
 use Rattle.hwp_evict.specs.Evicts as evicts
 use Rattle.hwp_evict.specs.Fsyncs as fsyncs
-use Rattle.hwp_claim.specs.Injects as injects
+use Rattle.hwp_soft.specs.hwp_claim.Injects as injects
 use Rattle.hwp_cpu_access.specs.Instructions as instructions
 use Rattle.hwp_cpu_raise.specs.Logs as logs
 use Rattle.hwp_cpu_raise.specs.Raises as raises
 use Rattle.hwp_scrub.specs.Scrubs as scrubs
 use Rattle.hwp_soft.specs.Softs as softs
-use Rattle.hwp_soft_unpoison.specs.Unpoisons as unpoisons
+use Rattle.hwp_soft.specs.hwp_soft_unpoison.Unpoisons as unpoisons
 use Rattle.hwp_cpu_command.specs.declared.job.Job.{Job}
 use Rattle.hwp_cpu_command.specs.declared.job.Job.TheVariants as jobs
 use Rattle.hwp_cpu_command.specs.Runs.{anew}

@@ -1,11 +1,11 @@
 -- What the line of a report says of what a command came to.
 use Rattle.std.specs.Prelude.{ℕ}
-use Rattle.hwp_page.specs.declared.At.{At}
-use Rattle.hwp_report_text.specs.declared.Answer.{Answer}
-use Rattle.hwp_report_text.specs.declared.Answer.TheVariants as answers
-use Rattle.hwp_page.specs.Situations.{outcome_of}
-use Rattle.hwp_cpu_check.specs.hwp_law.Answers.{reply_answer}
-use Rattle.hwp_cpu_check.specs.hwp_law.Records.{outcome_answer}
+use Rattle.hwp_cpu_control.specs.hwp_page.declared.At.{At}
+use Rattle.hwp_cpu_row.specs.hwp_report_text.declared.Answer.{Answer}
+use Rattle.hwp_cpu_row.specs.hwp_report_text.declared.Answer.TheVariants as answers
+use Rattle.hwp_cpu_control.specs.hwp_page.Situations.{outcome_of}
+use Rattle.hwp_cpu_row.specs.hwp_law.Answers.{reply_answer}
+use Rattle.hwp_cpu_row.specs.hwp_law.Records.{outcome_answer}
 use Rattle.hwp_cpu_control.specs.declared.NestedAnswer.{NestedAnswer}
 use Rattle.hwp_cpu_control.specs.declared.NestedAnswer.TheVariants as nested
 use Rattle.hwp_cpu_control.specs.declared.PrctlAnswer.{PrctlAnswer}
@@ -20,8 +20,8 @@ use Rattle.hwp_evict.specs.declared.FsyncAnswer.{FsyncAnswer}
 use Rattle.hwp_evict.specs.declared.FsyncAnswer.TheVariants as fsync
 use Rattle.hwp_evict.specs.declared.Refusal.{Refusal}
 use Rattle.hwp_evict.specs.declared.Refusal.TheVariants as refusals
-use Rattle.hwp_claim.specs.declared.FailAnswer.{FailAnswer}
-use Rattle.hwp_claim.specs.declared.FailAnswer.TheVariants as fail
+use Rattle.hwp_soft.specs.hwp_claim.declared.FailAnswer.{FailAnswer}
+use Rattle.hwp_soft.specs.hwp_claim.declared.FailAnswer.TheVariants as fail
 use Rattle.hwp_cpu_access.specs.declared.InstructionAnswer.{InstructionAnswer}
 use Rattle.hwp_cpu_access.specs.declared.InstructionAnswer.TheVariants as instruction
 use Rattle.hwp_cpu_raise.specs.declared.RaiseAnswer.{RaiseAnswer}
@@ -30,8 +30,8 @@ use Rattle.hwp_scrub.specs.declared.ScrubAnswer.{ScrubAnswer}
 use Rattle.hwp_scrub.specs.declared.ScrubAnswer.TheVariants as scrub
 use Rattle.hwp_soft.specs.declared.SoftAnswer.{SoftAnswer}
 use Rattle.hwp_soft.specs.declared.SoftAnswer.TheVariants as soft
-use Rattle.hwp_soft_unpoison.specs.declared.UnpoisonAnswer.{UnpoisonAnswer}
-use Rattle.hwp_soft_unpoison.specs.declared.UnpoisonAnswer.TheVariants as unpoison
+use Rattle.hwp_soft.specs.hwp_soft_unpoison.declared.UnpoisonAnswer.{UnpoisonAnswer}
+use Rattle.hwp_soft.specs.hwp_soft_unpoison.declared.UnpoisonAnswer.TheVariants as unpoison
 
 abbrev pub instruction_answer : InstructionAnswer → Answer
 instruction_answer (instruction.Value word at) = answers.Value word at
@@ -89,7 +89,7 @@ nested_answer nested.Stopped = answers.Stopped
 abbrev pub fail_answer : FailAnswer → Answer
 fail_answer fail.Stopped = answers.Stopped
 fail_answer fail.Already = answers.Already
-fail_answer (fail.Done situation cycle at signalled) = outcome_answer (outcome_of situation)
+fail_answer (fail.Done found) = outcome_answer (outcome_of found.situation)
 
 abbrev pub soft_answer : SoftAnswer → Answer
 soft_answer soft.Stopped = answers.Stopped

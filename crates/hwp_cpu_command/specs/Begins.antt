@@ -1,32 +1,32 @@
 -- The task that a command begins as.
 use Rattle.std.specs.declared.alloc.Global.{Global}
 use Rattle.std.specs.Prelude.{◌≡◌, ℕ, ◌<◌, Some, None, length, slice_get}
-use Rattle.hwp_geom.specs.declared.Damage.{Damage}
-use Rattle.hwp_geom.specs.declared.Damage.TheVariants as damages
-use Rattle.hwp_geom.specs.declared.Frame.{Frame}
-use Rattle.hwp_geom.specs.declared.Layout.{Layout}
-use Rattle.hwp_geom.specs.declared.Mode.{Mode}
-use Rattle.hwp_geom.specs.declared.Mode.TheVariants as modes
-use Rattle.hwp_geom.specs.declared.Page.{Page}
-use Rattle.hwp_geom.specs.declared.Proc.{Proc}
-use Rattle.hwp_geom.specs.declared.Thread.{Thread}
-use Rattle.hwp_geom.specs.declared.ThreadDecl.{ThreadDecl}
-use Rattle.hwp_geom.specs.declared.VSlot.{VSlot}
-use Rattle.hwp_geom.specs.declared.Who.{Who}
-use Rattle.hwp_geom.specs.Layout.{IsSound}
-use Rattle.hwp_geom.specs.Limits.{line_limit}
-use Rattle.hwp_banks.specs.declared.Event.{Event}
-use Rattle.hwp_banks.specs.declared.Origin.{Origin}
-use Rattle.hwp_banks.specs.declared.Origin.TheVariants as origins
-use Rattle.hwp_banks.specs.Events.{bank_count}
-use Rattle.hwp_severity.specs.declared.McgBits.{McgBits}
-use Rattle.hwp_script_lines.specs.declared.Command.{Command}
-use Rattle.hwp_script_lines.specs.declared.Command.TheVariants as commands
-use Rattle.hwp_script_lines.specs.declared.PrctlArgs.{PrctlArgs}
-use Rattle.hwp_cpu_check.specs.hwp_law.Checks.{Banks}
-use Rattle.hwp_cpu_check.specs.hwp_law.Commands.{arrival_of}
-use Rattle.hwp_cpu_check.specs.hwp_law.Events.{raw_event}
-use Rattle.hwp_cpu_check.specs.hwp_law.Policies.{arguments}
+use Rattle.hwp_cpu_control.specs.hwp_geom.declared.Damage.{Damage}
+use Rattle.hwp_cpu_control.specs.hwp_geom.declared.Damage.TheVariants as damages
+use Rattle.hwp_cpu_control.specs.hwp_geom.declared.Frame.{Frame}
+use Rattle.hwp_cpu_control.specs.hwp_geom.declared.Layout.{Layout}
+use Rattle.hwp_cpu_control.specs.hwp_geom.declared.Mode.{Mode}
+use Rattle.hwp_cpu_control.specs.hwp_geom.declared.Mode.TheVariants as modes
+use Rattle.hwp_cpu_control.specs.hwp_geom.declared.Page.{Page}
+use Rattle.hwp_cpu_control.specs.hwp_geom.declared.Proc.{Proc}
+use Rattle.hwp_cpu_control.specs.hwp_geom.declared.Thread.{Thread}
+use Rattle.hwp_cpu_control.specs.hwp_geom.declared.ThreadDecl.{ThreadDecl}
+use Rattle.hwp_cpu_control.specs.hwp_geom.declared.VSlot.{VSlot}
+use Rattle.hwp_cpu_control.specs.hwp_geom.declared.Who.{Who}
+use Rattle.hwp_cpu_control.specs.hwp_geom.Layout.{IsSound}
+use Rattle.hwp_cpu_control.specs.hwp_geom.Limits.{line_limit}
+use Rattle.hwp_cpu_row.specs.hwp_banks.declared.Event.{Event}
+use Rattle.hwp_cpu_row.specs.hwp_banks.declared.Origin.{Origin}
+use Rattle.hwp_cpu_row.specs.hwp_banks.declared.Origin.TheVariants as origins
+use Rattle.hwp_cpu_row.specs.hwp_banks.Events.{bank_count}
+use Rattle.hwp_cpu_row.specs.hwp_severity.declared.McgBits.{McgBits}
+use Rattle.hwp_cpu_row.specs.hwp_script_lines.declared.Command.{Command}
+use Rattle.hwp_cpu_row.specs.hwp_script_lines.declared.Command.TheVariants as commands
+use Rattle.hwp_cpu_row.specs.hwp_script_lines.declared.PrctlArgs.{PrctlArgs}
+use Rattle.hwp_cpu_row.specs.hwp_banks.Banks.{Banks}
+use Rattle.hwp_cpu_row.specs.hwp_law.Commands.{arrival_of}
+use Rattle.hwp_cpu_row.specs.hwp_banks.Banks.{raw_event}
+use Rattle.hwp_cpu_row.specs.hwp_law.Policies.{arguments}
 use Rattle.hwp_cpu_control.specs.Nesteds as nesteds
 use Rattle.hwp_cpu_control.specs.Prctls as prctls
 use Rattle.hwp_cpu_control.specs.Spoils as spoils
@@ -39,14 +39,14 @@ use Rattle.hwp_fault.specs.declared.AccessKind.{AccessKind}
 use Rattle.hwp_fault.specs.declared.AccessKind.TheVariants as kinds
 use Rattle.hwp_fault.specs.declared.Request.{Request}
 use Rattle.hwp_fault.specs.Accesses as accesses
-use Rattle.hwp_claim.specs.Injects as injects
+use Rattle.hwp_soft.specs.hwp_claim.Injects as injects
 use Rattle.hwp_cpu_access.specs.Instructions as instructions
 use Rattle.hwp_cpu_raise.specs.Logs as logs
 use Rattle.hwp_cpu_raise.specs.Raises as raises
 use Rattle.hwp_scrub.specs.Fits.{AreFrames}
 use Rattle.hwp_scrub.specs.Scrubs as scrubs
 use Rattle.hwp_soft.specs.Softs as softs
-use Rattle.hwp_soft_unpoison.specs.Unpoisons as unpoisons
+use Rattle.hwp_soft.specs.hwp_soft_unpoison.Unpoisons as unpoisons
 use Rattle.hwp_cpu_command.specs.declared.job.Job.{Job}
 use Rattle.hwp_cpu_command.specs.declared.job.Job.TheVariants as jobs
 

@@ -1,29 +1,29 @@
 -- What a command has done so far beside what it answers: the frames that it marked, the failures that its entries tell, the losses
 -- that it took, and the policy that it set.
 use Rattle.std.specs.Prelude.{◌≡◌, ℕ, Bool, true, false, List, [], ◌∷◌, None, map}
-use Rattle.hwp_geom.specs.declared.FileNo.{FileNo}
-use Rattle.hwp_geom.specs.declared.Frame.{Frame}
-use Rattle.hwp_geom.specs.declared.Thread.{Thread}
-use Rattle.hwp_geom.specs.declared.Who.{Who}
-use Rattle.hwp_kill.specs.declared.Policy.{Policy}
-use Rattle.hwp_core_rule.specs.declared.Mark.{Mark}
-use Rattle.hwp_core_rule.specs.declared.Reported.{Reported}
-use Rattle.hwp_core_rule.specs.declared.Setting.{Setting}
-use Rattle.hwp_core_rule.specs.declared.View.{View}
-use Rattle.hwp_claim.specs.hwp_claim_act.declared.Failed.{Failed}
-use Rattle.hwp_soft_unpoison.specs.hwp_claim_frame.Done.{Grows, Marking, counts_owed, marking_of}
+use Rattle.hwp_cpu_control.specs.hwp_geom.declared.FileNo.{FileNo}
+use Rattle.hwp_cpu_control.specs.hwp_geom.declared.Frame.{Frame}
+use Rattle.hwp_cpu_control.specs.hwp_geom.declared.Thread.{Thread}
+use Rattle.hwp_cpu_control.specs.hwp_geom.declared.Who.{Who}
+use Rattle.hwp_cpu_control.specs.hwp_kill.declared.Policy.{Policy}
+use Rattle.hwp_cpu_control.specs.hwp_core_rule.declared.Mark.{Mark}
+use Rattle.hwp_cpu_control.specs.hwp_core_rule.declared.Reported.{Reported}
+use Rattle.hwp_cpu_control.specs.hwp_core_rule.declared.Setting.{Setting}
+use Rattle.hwp_cpu_control.specs.hwp_core_rule.declared.View.{View}
+use Rattle.hwp_soft.specs.hwp_claim_act.declared.Failed.{Failed}
+use Rattle.hwp_soft.specs.hwp_claim_frame.Done.{Grows, Marking, counts_owed, marking_of}
 use Rattle.hwp_evict.specs.declared.FsyncAnswer.TheVariants as fsync_answers
 use Rattle.hwp_evict.specs.declared.fsync.FsyncAt.{FsyncAt}
 use Rattle.hwp_evict.specs.declared.fsync.FsyncAt.TheVariants as fsync_at
-use Rattle.hwp_claim.specs.declared.inject.InjectAt.{InjectAt}
-use Rattle.hwp_claim.specs.declared.inject.InjectAt.TheVariants as inject_at
-use Rattle.hwp_claim.specs.Done as fail_done
+use Rattle.hwp_soft.specs.hwp_claim.declared.inject.InjectAt.{InjectAt}
+use Rattle.hwp_soft.specs.hwp_claim.declared.inject.InjectAt.TheVariants as inject_at
+use Rattle.hwp_soft.specs.hwp_claim.Done as fail_done
 use Rattle.hwp_cpu_access.specs.Done as instruction_done
 use Rattle.hwp_cpu_access.specs.Done.{FailuresGrow, failures_by}
 use Rattle.hwp_cpu_raise.specs.Done as raise_done
 use Rattle.hwp_scrub.specs.Done as scrub_done
 use Rattle.hwp_soft.specs.Done as soft_done
-use Rattle.hwp_soft_unpoison.specs.Done as unpoison_done
+use Rattle.hwp_soft.specs.hwp_soft_unpoison.Done as unpoison_done
 use Rattle.hwp_cpu_command.specs.declared.job.Job.{Job}
 use Rattle.hwp_cpu_command.specs.declared.job.Job.TheVariants as jobs
 use Rattle.hwp_cpu_command.specs.Settings.{set_at}

@@ -1,28 +1,28 @@
 -- A command as one task: it is the task of its kind, in all that it plans, shows, comes to and needs.
 use Rattle.std.specs.Prelude.{◌≡◌, ℕ, Bool, true, false, cond, List, [], Option, Some, None, is_some, length, option_and_then, option_map, unwrap_or}
-use Rattle.hwp_geom.specs.declared.Frame.{Frame}
-use Rattle.hwp_geom.specs.declared.Layout.{Layout}
-use Rattle.hwp_geom.specs.declared.Who.{Who}
-use Rattle.hwp_page.specs.History.{BodyValue}
-use Rattle.hwp_report_text.specs.declared.Answer.{Answer}
-use Rattle.hwp_core_rule.specs.declared.Step.{Step}
-use Rattle.hwp_core_rule.specs.declared.View.{View}
-use Rattle.hwp_core_rule.specs.Words.{Words}
-use Rattle.hwp_core_task.specs.declared.Turn.{Turn}
-use Rattle.hwp_core_task.specs.declared.Turn.TheVariants.{Moved}
+use Rattle.hwp_cpu_control.specs.hwp_geom.declared.Frame.{Frame}
+use Rattle.hwp_cpu_control.specs.hwp_geom.declared.Layout.{Layout}
+use Rattle.hwp_cpu_control.specs.hwp_geom.declared.Who.{Who}
+use Rattle.hwp_cpu_control.specs.hwp_page.History.{BodyValue}
+use Rattle.hwp_cpu_row.specs.hwp_report_text.declared.Answer.{Answer}
+use Rattle.hwp_cpu_control.specs.hwp_core_rule.declared.Step.{Step}
+use Rattle.hwp_cpu_control.specs.hwp_core_rule.declared.View.{View}
+use Rattle.hwp_cpu_control.specs.hwp_core_rule.Words.{Words}
+use Rattle.hwp_cpu_control.specs.hwp_core_task.declared.Turn.{Turn}
+use Rattle.hwp_cpu_control.specs.hwp_core_task.declared.Turn.TheVariants.{Moved}
+use Rattle.hwp_cpu_control.specs.hwp_core_task.Turns.{Member}
 use Rattle.hwp_cpu_control.specs.Nesteds as nesteds
 use Rattle.hwp_cpu_control.specs.Prctls as prctls
 use Rattle.hwp_cpu_control.specs.Spoils as spoils
 use Rattle.hwp_evict.specs.declared.Evict.{Evict}
 use Rattle.hwp_evict.specs.Evicts as evicts
 use Rattle.hwp_evict.specs.Fsyncs as fsyncs
-use Rattle.hwp_claim.specs.declared.FailAnswer.{FailAnswer}
-use Rattle.hwp_claim.specs.declared.Inject.{Inject}
-use Rattle.hwp_claim.specs.Injects as injects
-use Rattle.hwp_cpu_check.specs.hwp_law.Checks.{Banks, empty_banks}
-use Rattle.hwp_cpu_check.specs.declared.Found.{Found}
-use Rattle.hwp_cpu_check.specs.declared.EventOutcome.{EventOutcome}
-use Rattle.hwp_cpu_check.specs.Told.{found_by}
+use Rattle.hwp_soft.specs.hwp_claim.declared.FailAnswer.{FailAnswer}
+use Rattle.hwp_soft.specs.hwp_claim.declared.FailAnswer.TheVariants as fail_answers
+use Rattle.hwp_soft.specs.hwp_claim.declared.Inject.{Inject}
+use Rattle.hwp_soft.specs.hwp_claim.Injects as injects
+use Rattle.hwp_cpu_row.specs.hwp_banks.Banks.{Banks, empty_banks}
+use Rattle.hwp_cpu_row.specs.hwp_cpu_check.declared.EventOutcome.{EventOutcome}
 use Rattle.hwp_cpu_access.specs.declared.Instruction.{Instruction}
 use Rattle.hwp_cpu_access.specs.Costs as instruction_costs
 use Rattle.hwp_cpu_access.specs.Fits as instruction_fits
@@ -44,9 +44,9 @@ use Rattle.hwp_soft.specs.declared.SoftAnswer.{SoftAnswer}
 use Rattle.hwp_soft.specs.declared.SoftAnswer.TheVariants as soft_answers
 use Rattle.hwp_soft.specs.Offline as offline
 use Rattle.hwp_soft.specs.Softs as softs
-use Rattle.hwp_soft_unpoison.specs.declared.UnpoisonAnswer.{UnpoisonAnswer}
-use Rattle.hwp_soft_unpoison.specs.declared.UnpoisonAnswer.TheVariants as unpoison_answers
-use Rattle.hwp_soft_unpoison.specs.Unpoisons as unpoisons
+use Rattle.hwp_soft.specs.hwp_soft_unpoison.declared.UnpoisonAnswer.{UnpoisonAnswer}
+use Rattle.hwp_soft.specs.hwp_soft_unpoison.declared.UnpoisonAnswer.TheVariants as unpoison_answers
+use Rattle.hwp_soft.specs.hwp_soft_unpoison.Unpoisons as unpoisons
 use Rattle.hwp_cpu_command.specs.declared.job.Job.{Job}
 use Rattle.hwp_cpu_command.specs.declared.job.Job.TheVariants as jobs
 use Rattle.hwp_cpu_command.specs.Answers.{evict_answer, fail_answer, fsync_answer, instruction_answer, nested_answer, prctl_answer, raise_answer, read_stop_answer, scrub_answer, soft_answer, spoil_answer, unpoison_answer}
@@ -200,7 +200,8 @@ answer (jobs.Unpoison u) = option_map unpoison_answer (unpoisons.answer u)
 
 -- what a failure found where it poisoned its frame
 abbrev pub own_by : Frame → Option FailAnswer → Option FrameChange
-own_by frame answer = option_map (λ (found : Found). owns.Failed frame found) (option_and_then found_by answer)
+own_by frame (Some (fail_answers.Done found)) = Some (owns.Failed frame found)
+own_by frame _ = None
 
 -- a frame that was taken out of use, and whether a page left it
 abbrev pub offlined_by : Frame → SoftAnswer → Option FrameChange
@@ -250,3 +251,19 @@ banks_before (jobs.Log l) kept = l.before.value
 banks_before (jobs.Raise r) kept = r.before.value
 banks_before (jobs.Scrub s) kept = s.before.value
 banks_before _ kept = kept
+
+-- the task, as the laws of tasks read it
+abbrev pub task : Member Job
+task = record {
+  who = who;
+  plan = plan;
+  put = put;
+  bare = bare;
+  shows = Shows;
+  next = Next;
+  fits = Fits;
+  class = class;
+  cost = cost;
+  aborts = aborts;
+  claims = claims;
+}

@@ -1,28 +1,28 @@
 -- Which command a task is of, whatever state it is in, and what a processor has where a command begins.
 use Rattle.std.specs.Prelude.{◌≡◌, []}
-use Rattle.hwp_geom.specs.declared.Layout.{Layout}
-use Rattle.hwp_geom.specs.declared.Thread.{Thread}
-use Rattle.hwp_geom.specs.declared.Who.{Who}
-use Rattle.hwp_script_lines.specs.declared.Command.{Command}
-use Rattle.hwp_core_rule.specs.declared.View.{View}
-use Rattle.hwp_core_task.specs.Calls.{IsOnTurn}
-use Rattle.hwp_core_task.specs.Hands.{hand_of, empty}
-use Rattle.hwp_core_task.specs.Known.{HasMadeNone}
-use Rattle.hwp_soft_unpoison.specs.hwp_claim_frame.Claims.{HasMarkedNone}
+use Rattle.hwp_cpu_control.specs.hwp_geom.declared.Layout.{Layout}
+use Rattle.hwp_cpu_control.specs.hwp_geom.declared.Thread.{Thread}
+use Rattle.hwp_cpu_control.specs.hwp_geom.declared.Who.{Who}
+use Rattle.hwp_cpu_row.specs.hwp_script_lines.declared.Command.{Command}
+use Rattle.hwp_cpu_control.specs.hwp_core_rule.declared.View.{View}
+use Rattle.hwp_cpu_control.specs.hwp_core_task.Calls.{IsOnTurn}
+use Rattle.hwp_cpu_control.specs.hwp_core_task.Hands.{hand_of, empty}
+use Rattle.hwp_cpu_control.specs.hwp_core_task.Known.{HasMadeNone}
+use Rattle.hwp_soft.specs.hwp_claim_frame.Claims.{HasMarkedNone}
 use Rattle.hwp_cpu_control.specs.Nesteds as nesteds
 use Rattle.hwp_cpu_control.specs.Prctls as prctls
 use Rattle.hwp_cpu_control.specs.Prctls.{HasSettingLeft}
 use Rattle.hwp_cpu_control.specs.Spoils as spoils
 use Rattle.hwp_evict.specs.Evicts as evicts
 use Rattle.hwp_evict.specs.Fsyncs as fsyncs
-use Rattle.hwp_claim.specs.Injects as injects
+use Rattle.hwp_soft.specs.hwp_claim.Injects as injects
 use Rattle.hwp_cpu_access.specs.Instructions as instructions
 use Rattle.hwp_cpu_raise.specs.Logs as logs
 use Rattle.hwp_cpu_raise.specs.Raises as raises
 use Rattle.hwp_scrub.specs.Scrubs as scrubs
 use Rattle.hwp_soft.specs.Softs as softs
-use Rattle.hwp_soft_unpoison.specs.Unpoisons as unpoisons
-use Rattle.hwp_soft_unpoison.specs.Unpoisons.{HasRevivalLeft}
+use Rattle.hwp_soft.specs.hwp_soft_unpoison.Unpoisons as unpoisons
+use Rattle.hwp_soft.specs.hwp_soft_unpoison.Unpoisons.{HasRevivalLeft}
 use Rattle.hwp_cpu_command.specs.declared.job.Job.{Job}
 use Rattle.hwp_cpu_command.specs.declared.job.Job.TheVariants as jobs
 use Rattle.hwp_cpu_command.specs.Begins.{Begins}

@@ -1,19 +1,19 @@
 -- The policies that a processor's commands have set for a thread.
 use Rattle.std.specs.Prelude.{◌≡◌, ◌==◌, cond, List, [], ◌∷◌, ◌++◌, map, take, Some}
-use Rattle.hwp_geom.specs.declared.Thread.{Thread}
-use Rattle.hwp_geom.specs.declared.Who.{Who}
-use Rattle.hwp_kill.specs.declared.Policy.{Policy}
-use Rattle.hwp_kill.specs.declared.Reply.{Reply}
-use Rattle.hwp_kill.specs.declared.Reply.TheVariants as replies
-use Rattle.hwp_script_lines.specs.declared.Command.{Command}
-use Rattle.hwp_core_rule.specs.declared.Setting.{Setting}
-use Rattle.hwp_core_rule.specs.declared.View.{View}
-use Rattle.hwp_core_rule.specs.parts.Policies.{settings_of}
+use Rattle.hwp_cpu_control.specs.hwp_geom.declared.Thread.{Thread}
+use Rattle.hwp_cpu_control.specs.hwp_geom.declared.Who.{Who}
+use Rattle.hwp_cpu_control.specs.hwp_kill.declared.Policy.{Policy}
+use Rattle.hwp_cpu_control.specs.hwp_kill.declared.Reply.{Reply}
+use Rattle.hwp_cpu_control.specs.hwp_kill.declared.Reply.TheVariants as replies
+use Rattle.hwp_cpu_row.specs.hwp_script_lines.declared.Command.{Command}
+use Rattle.hwp_cpu_control.specs.hwp_core_rule.declared.Setting.{Setting}
+use Rattle.hwp_cpu_control.specs.hwp_core_rule.declared.View.{View}
+use Rattle.hwp_cpu_control.specs.hwp_core_rule.parts.Policies.{settings_of}
 use Rattle.hwp_cpu_control.specs.declared.PrctlAnswer.TheVariants as answers
 use Rattle.hwp_cpu_control.specs.declared.prctl.PrctlAt.{PrctlAt}
 use Rattle.hwp_cpu_control.specs.declared.prctl.PrctlAt.TheVariants as at
 use Rattle.hwp_cpu_control.specs.Prctls as prctls
-use Rattle.hwp_cpu_check.specs.hwp_law.Policies.{settings}
+use Rattle.hwp_cpu_row.specs.hwp_law.Policies.{settings}
 use Rattle.hwp_cpu_command.specs.declared.job.Job.{Job}
 use Rattle.hwp_cpu_command.specs.declared.job.Job.TheVariants as jobs
 

@@ -1,27 +1,27 @@
 -- What stays true from one command of a processor to the next: the stop of the machine, what bars a thread from setting its
 -- policy, and the policies that are set.
 use Rattle.std.specs.Prelude.{◌≡◌, ◌≢◌, ◌⊎◌, ℕ, ◌+◌, ◌≤◌, true, List, [], ◌∷◌, ◌++◌, Option, Some, length}
-use Rattle.hwp_geom.specs.declared.Frame.{Frame}
-use Rattle.hwp_geom.specs.declared.Layout.{Layout}
-use Rattle.hwp_geom.specs.declared.Proc.{Proc}
-use Rattle.hwp_geom.specs.declared.Thread.{Thread}
-use Rattle.hwp_geom.specs.declared.Who.{Who}
-use Rattle.hwp_kill.specs.declared.Policy.{Policy}
-use Rattle.hwp_page.specs.History.{BodyValue}
-use Rattle.hwp_core_rule.specs.hwp_words.Stops.{is_stopped}
-use Rattle.hwp_core_rule.specs.declared.SharedWord.TheVariants as places
-use Rattle.hwp_core_rule.specs.declared.Sight.{Sight}
-use Rattle.hwp_core_rule.specs.declared.Spoiled.{Spoiled}
-use Rattle.hwp_core_rule.specs.declared.Step.{Step}
-use Rattle.hwp_core_rule.specs.declared.View.{View}
-use Rattle.hwp_core_rule.specs.Lists.{SomeMember, StartsWith}
-use Rattle.hwp_core_rule.specs.parts.Policies.{settings_of}
-use Rattle.hwp_core_task.specs.declared.Turn.{Turn}
-use Rattle.hwp_core_task.specs.Calls.{Steps, logs}
-use Rattle.hwp_script_lines.specs.declared.Command.{Command}
-use Rattle.hwp_report_text.specs.declared.Answer.TheVariants as answers
-use Rattle.hwp_cpu_check.specs.hwp_law.Commands.{process_of_thread}
-use Rattle.hwp_cpu_check.specs.hwp_law.Policies.{settings}
+use Rattle.hwp_cpu_control.specs.hwp_geom.declared.Frame.{Frame}
+use Rattle.hwp_cpu_control.specs.hwp_geom.declared.Layout.{Layout}
+use Rattle.hwp_cpu_control.specs.hwp_geom.declared.Proc.{Proc}
+use Rattle.hwp_cpu_control.specs.hwp_geom.declared.Thread.{Thread}
+use Rattle.hwp_cpu_control.specs.hwp_geom.declared.Who.{Who}
+use Rattle.hwp_cpu_control.specs.hwp_kill.declared.Policy.{Policy}
+use Rattle.hwp_cpu_control.specs.hwp_page.History.{BodyValue}
+use Rattle.hwp_cpu_control.specs.hwp_words.Stops.{is_stopped}
+use Rattle.hwp_cpu_control.specs.hwp_core_rule.declared.SharedWord.TheVariants as places
+use Rattle.hwp_cpu_control.specs.hwp_core_rule.declared.Sight.{Sight}
+use Rattle.hwp_cpu_control.specs.hwp_core_rule.declared.Spoiled.{Spoiled}
+use Rattle.hwp_cpu_control.specs.hwp_core_rule.declared.Step.{Step}
+use Rattle.hwp_cpu_control.specs.hwp_core_rule.declared.View.{View}
+use Rattle.hwp_cpu_control.specs.hwp_core_rule.Lists.{SomeMember, StartsWith}
+use Rattle.hwp_cpu_control.specs.hwp_core_rule.parts.Policies.{settings_of}
+use Rattle.hwp_cpu_control.specs.hwp_core_task.declared.Turn.{Turn}
+use Rattle.hwp_cpu_control.specs.hwp_core_task.Calls.{Steps, logs}
+use Rattle.hwp_cpu_row.specs.hwp_script_lines.declared.Command.{Command}
+use Rattle.hwp_cpu_row.specs.hwp_report_text.declared.Answer.TheVariants as answers
+use Rattle.hwp_cpu_row.specs.hwp_law.Commands.{process_of_thread}
+use Rattle.hwp_cpu_row.specs.hwp_law.Policies.{settings}
 use Rattle.hwp_cpu_control.specs.declared.NestedAnswer.TheVariants as nested_answers
 use Rattle.hwp_cpu_control.specs.declared.PrctlAnswer.TheVariants as prctl_answers
 use Rattle.hwp_cpu_control.specs.declared.SpoilAnswer.TheVariants as spoil_answers
@@ -34,15 +34,15 @@ use Rattle.hwp_evict.specs.declared.evict.EvictAt.TheVariants as evict_at
 use Rattle.hwp_evict.specs.declared.fsync.FsyncAt.TheVariants as fsync_at
 use Rattle.hwp_fault.specs.declared.Access.{Access}
 use Rattle.hwp_fault.specs.declared.access.AccessAt.TheVariants as access_at
-use Rattle.hwp_soft_unpoison.specs.hwp_claim_frame.declared.claim.Claim.{Claim}
-use Rattle.hwp_soft_unpoison.specs.hwp_claim_frame.declared.claim.ClaimAt.TheVariants as claim_at
-use Rattle.hwp_claim.specs.declared.fail.Fail.{Fail}
-use Rattle.hwp_claim.specs.declared.fail.FailAt.TheVariants as fail_at
-use Rattle.hwp_claim.specs.declared.FailAnswer.TheVariants as fail_answers
-use Rattle.hwp_claim.specs.declared.inject.InjectAt.TheVariants as inject_at
-use Rattle.hwp_cpu_check.specs.declared.Handler.{Handler}
-use Rattle.hwp_cpu_check.specs.declared.handler.HandlerAt.TheVariants as handler_at
-use Rattle.hwp_cpu_check.specs.Told.{halts}
+use Rattle.hwp_soft.specs.hwp_claim_frame.declared.claim.Claim.{Claim}
+use Rattle.hwp_soft.specs.hwp_claim_frame.declared.claim.ClaimAt.TheVariants as claim_at
+use Rattle.hwp_soft.specs.hwp_claim.declared.fail.Fail.{Fail}
+use Rattle.hwp_soft.specs.hwp_claim.declared.fail.FailAt.TheVariants as fail_at
+use Rattle.hwp_soft.specs.hwp_claim.declared.FailAnswer.TheVariants as fail_answers
+use Rattle.hwp_soft.specs.hwp_claim.declared.inject.InjectAt.TheVariants as inject_at
+use Rattle.hwp_cpu_row.specs.hwp_cpu_check.declared.Handler.{Handler}
+use Rattle.hwp_cpu_row.specs.hwp_cpu_check.declared.handler.HandlerAt.TheVariants as handler_at
+use Rattle.hwp_cpu_row.specs.hwp_cpu_check.Told.{halts}
 use Rattle.hwp_cpu_access.specs.declared.InstructionAnswer.TheVariants as instruction_answers
 use Rattle.hwp_cpu_access.specs.declared.instruction.InstructionAt.TheVariants as instruction_at
 use Rattle.hwp_cpu_access.specs.Instructions as instructions
@@ -53,7 +53,7 @@ use Rattle.hwp_scrub.specs.declared.ScrubAnswer.TheVariants as scrub_answers
 use Rattle.hwp_scrub.specs.declared.scrub.ScrubAt.TheVariants as scrub_at
 use Rattle.hwp_scrub.specs.Scrubs as scrubs
 use Rattle.hwp_soft.specs.declared.soft.SoftAt.TheVariants as soft_at
-use Rattle.hwp_soft_unpoison.specs.declared.unpoison.UnpoisonAt.TheVariants as unpoison_at
+use Rattle.hwp_soft.specs.hwp_soft_unpoison.declared.unpoison.UnpoisonAt.TheVariants as unpoison_at
 use Rattle.hwp_cpu_command.specs.declared.job.Job.{Job}
 use Rattle.hwp_cpu_command.specs.declared.job.Job.TheVariants as jobs
 use Rattle.hwp_cpu_command.specs.Jobs.{Fits, Next, answer, bare, plan, put, who}

@@ -1,12 +1,12 @@
 ghost use Rattle.std.specs.Prelude.{◌≡◌, ◌<◌, None, length};
-ghost use Rattle.hwp_geom.specs.Layout.{IsSound};
-ghost use Rattle.hwp_geom.specs.Limits.{line_limit};
-ghost use Rattle.hwp_page.specs.Step.{IsOf};
+ghost use Rattle.hwp_cpu_control.specs.hwp_geom.Layout.{IsSound};
+ghost use Rattle.hwp_cpu_control.specs.hwp_geom.Limits.{line_limit};
+ghost use Rattle.hwp_cpu_control.specs.hwp_page.Step.{IsOf};
 ghost use Rattle.hwp_fault.specs.Accesses.{IsDeclared};
-ghost use Rattle.hwp_cpu_check.specs.hwp_script_read.Valid.{IsAccess, IsCommandOf, IsThreadOf};
-ghost use Rattle.hwp_cpu_check.specs.hwp_law.Checks.{empty_banks};
-ghost use Rattle.hwp_cpu_check.specs.hwp_law.Events.{raw_event};
-ghost use Rattle.hwp_cpu_check.specs.hwp_law.Policies.{arguments};
+ghost use Rattle.hwp_cpu_row.specs.hwp_script_read.Valid.{IsAccess, IsCommandOf, IsThreadOf};
+ghost use Rattle.hwp_cpu_row.specs.hwp_banks.Banks.{empty_banks};
+ghost use Rattle.hwp_cpu_row.specs.hwp_banks.Banks.{raw_event};
+ghost use Rattle.hwp_cpu_row.specs.hwp_law.Policies.{arguments};
 ghost use Rattle.hwp_cpu_control.specs.Spoils as spoils;
 ghost use Rattle.hwp_cpu_raise.specs.Logs as logs;
 ghost use Rattle.hwp_cpu_raise.specs.Raises as raises;
@@ -15,20 +15,16 @@ ghost use Rattle.hwp_cpu_command.specs.Jobs.{left_in};
 ghost use Rattle.hwp_cpu_command.specs.declared.job.Job.TheVariants as jobs;
 
 use crate::job::Job;
-use hwp_banks::{BANKS, Bank, Event, Origin, Status};
-use hwp_claim::Inject;
 use hwp_cpu_access::Instruction;
-use hwp_cpu_check::no_events;
 use hwp_cpu_control::{Nested, Prctl, Spoil};
 use hwp_cpu_raise::{Log, Raise, Raiser};
-use hwp_evict::{Evict, Fsync};
+use hwp_cpu_row::{
+    BANKS, Bank, Command, Event, Inject, McgBits, Origin, PrctlArgs, Status, no_events,
+};
+use hwp_evict::{Damage, Evict, Frame, Fsync, Layout, Line, Mode, Page, Thread, VSlot, Who};
 use hwp_fault::{AccessKind, Request};
-use hwp_geom::{Damage, Frame, Layout, Line, Mode, Page, Thread, VSlot, Who};
-use hwp_script_lines::{Command, PrctlArgs};
 use hwp_scrub::Scrub;
-use hwp_severity::McgBits;
-use hwp_soft::Soft;
-use hwp_soft_unpoison::Unpoison;
+use hwp_soft::{Soft, Unpoison};
 use std::alloc::Global;
 use std::mem;
 

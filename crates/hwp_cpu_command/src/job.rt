@@ -1,24 +1,17 @@
 ghost use Rattle.std.specs.Prelude.{◌≡◌, [], None, option_and_then};
 
-use hwp_banks::{BANKS, Bank};
-use hwp_claim::{FailAnswer, Inject};
-use hwp_core_rule::Step;
-use hwp_core_task::{Ranked, Scheduled, Task, Turn};
 use hwp_cpu_access::{Instruction, InstructionAnswer};
-use hwp_cpu_check::{EventOutcome, Found};
 use hwp_cpu_control::{
     Nested, NestedAnswer, Prctl, PrctlAnswer, ReadStopAnswer, Spoil, SpoilAnswer,
 };
 use hwp_cpu_raise::{Log, Raise, RaiseAnswer};
-use hwp_cpu_row::{FrameChange, Row};
-use hwp_evict::{Evict, EvictAnswer, Fsync, FsyncAnswer, Refusal};
-use hwp_geom::{Frame, Layout, List, Who};
-use hwp_kill::Reply;
-use hwp_page::{At, Body, Outcome};
-use hwp_report_text::Answer;
+use hwp_cpu_row::{Answer, BANKS, Bank, EventOutcome, FailAnswer, FrameChange, Inject, Row};
+use hwp_evict::{
+    At, Body, Evict, EvictAnswer, Frame, Fsync, FsyncAnswer, Layout, List, Outcome, Ranked,
+    Refusal, Reply, Scheduled, Step, Task, Turn, Who,
+};
 use hwp_scrub::{Scrub, ScrubAnswer};
-use hwp_soft::{Soft, SoftAnswer};
-use hwp_soft_unpoison::{Unpoison, UnpoisonAnswer};
+use hwp_soft::{Soft, SoftAnswer, Unpoison, UnpoisonAnswer};
 use std::alloc::Global;
 
 /// A command of a fault script that runs.
@@ -122,9 +115,8 @@ impl Job {
 
 ghost use Rattle.hwp_cpu_command.specs.Answers.{evict_answer, fail_answer, fsync_answer, instruction_answer, nested_answer, prctl_answer, raise_answer, read_stop_answer, refusal_answer, scrub_answer, soft_answer, spoil_answer, unpoison_answer};
 ghost use Rattle.hwp_cpu_command.specs.Jobs.{offlined_by, own_by, revived_by, row};
-ghost use Rattle.hwp_cpu_check.specs.Told.{found_by};
-ghost use Rattle.hwp_cpu_check.specs.hwp_law.Answers.{reply_answer};
-ghost use Rattle.hwp_cpu_check.specs.hwp_law.Records.{outcome_answer};
+ghost use Rattle.hwp_cpu_row.specs.hwp_law.Answers.{reply_answer};
+ghost use Rattle.hwp_cpu_row.specs.hwp_law.Records.{outcome_answer};
 
 fn row(told: List<EventOutcome>, own: Option<FrameChange>, answer: Answer) -> Row
     ensures { result ≡ row told own answer }
@@ -268,7 +260,7 @@ fn fail_answer(answer: FailAnswer) -> Answer
     match answer {
         FailAnswer::Stopped => Answer::Stopped,
         FailAnswer::Already => Answer::Already,
-        FailAnswer::Done { situation, .. } => outcome_answer(situation.outcome()),
+        FailAnswer::Done(found) => outcome_answer(found.situation.outcome()),
     }
 }
 
@@ -312,32 +304,14 @@ fn outcome_answer(outcome: Outcome) -> Answer
     }
 }
 
-/// What a failure found, where it poisoned its frame.
-fn found_by(answer: FailAnswer) -> Option<Found>
-    ensures { result ≡ found_by answer }
-{
-    match answer {
-        FailAnswer::Stopped | FailAnswer::Already => None,
-        FailAnswer::Done {
-            situation,
-            cycle,
-            at,
-            signalled,
-        } => Some(Found {
-            situation,
-            cycle,
-            at,
-            signalled,
-        }),
-    }
-}
-
 /// What a failure did to its frame.
 fn own_of(frame: Frame, answer: Option<FailAnswer>) -> Option<FrameChange>
     ensures { result ≡ own_by frame answer }
 {
-    let found = found_by(answer?)?;
-    Some(FrameChange::Failed { frame, found })
+    match answer? {
+        FailAnswer::Stopped | FailAnswer::Already => None,
+        FailAnswer::Done(found) => Some(FrameChange::Failed { frame, found }),
+    }
 }
 
 /// What a command that takes a frame out of use did to it.
@@ -410,22 +384,9 @@ macro_rules! of_kind {
 }
 
 impl Task for Job {
-    ghost use Rattle.std.specs.Prelude.{◌≡◌};
-    ghost use Rattle.hwp_cpu_command.specs.Jobs.{Fits, Next, Shows, bare, plan, put, who};
+    ghost use Rattle.hwp_cpu_command.specs.Jobs as jobs;
 
-    ghost who = { λ j. who j };
-
-    ghost plan = { λ j. plan j };
-
-    ghost put = { λ j. put j };
-
-    ghost bare = { λ j. bare j };
-
-    ghost shows = { λ j found got. Shows j found got };
-
-    ghost next = { λ layout j found got after result. Next layout j found got after result };
-
-    ghost fits = { λ layout view j. Fits layout view j };
+    ghost task = { jobs.task };
 
     fn who(&self) -> Who {
         of_kind!(self, task => task.who())
@@ -445,16 +406,6 @@ impl Task for Job {
 }
 
 impl Ranked for Job {
-    ghost use Rattle.hwp_cpu_command.specs.Jobs.{aborts, claims, class, cost};
-
-    ghost class_of = { λ j. class j };
-
-    ghost cost = { λ j words. cost j words };
-
-    ghost aborts = { λ j. aborts j };
-
-    ghost claims = { λ j. claims j };
-
     fn class(&self) -> u8 {
         of_kind!(self, task => task.class())
     }

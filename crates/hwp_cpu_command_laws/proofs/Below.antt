@@ -38,7 +38,7 @@ use Rattle.hwp_cpu_command.specs.hwp_cpu_access.declared.Instruction.{Instructio
 use Rattle.hwp_cpu_command.specs.hwp_cpu_access.Costs as instruction_costs
 use Rattle.hwp_cpu_command.specs.hwp_cpu_access.Instructions as instructions
 use Rattle.hwp_cpu_command.proofs.of_hwp_cpu_access.InstructionCosts.{again-cost, few-frees, held-most, instruction-below, left-few}
-use Rattle.hwp_cpu_command.specs.hwp_law.Checks.{Banks}
+use Rattle.hwp_cpu_command.specs.hwp_banks.Banks.{Banks}
 use Rattle.hwp_cpu_command.specs.hwp_cpu_raise.declared.Raise.{Raise}
 use Rattle.hwp_cpu_command.specs.hwp_cpu_raise.declared.raise.RaiseAt.{RaiseAt}
 use Rattle.hwp_cpu_command.specs.hwp_cpu_raise.declared.raise.RaiseAt.TheVariants as raise_at

@@ -20,7 +20,7 @@ use Rattle.hwp_cpu_command.specs.hwp_script_lines.declared.Command.TheVariants a
 use Rattle.hwp_cpu_command.specs.hwp_script_lines.declared.PrctlArgs.{PrctlArgs}
 use Rattle.hwp_cpu_command.specs.hwp_core_rule.declared.View.{View}
 use Rattle.hwp_cpu_command.specs.hwp_core_task.declared.Turn.{Turn}
-use Rattle.hwp_cpu_command.specs.hwp_law.Checks.{Banks}
+use Rattle.hwp_cpu_command.specs.hwp_banks.Banks.{Banks}
 use Rattle.hwp_cpu_command.specs.hwp_cpu_control.declared.ReadStopAnswer.{ReadStopAnswer}
 use Rattle.hwp_cpu_command.specs.hwp_evict.declared.Evict.{Evict}
 use Rattle.hwp_cpu_command.specs.hwp_evict.declared.Eviction.{Eviction}
@@ -79,13 +79,13 @@ instruction-kept : (layout : Layout) (i k : Instruction) (found : ℕ) (got : Op
 instruction-kept layout i k found got turn follows = which i.at follows
   where
     accessed : (a : _) (o : Option AccessAnswer) → instructions.AfterAccessBy layout (instructions.bare i) a o k → asked-access k ≡ asked-access i
-    accessed a (Some (access_answers.Checked frame page place)) (inl refused) = ap asked-access refused
-    accessed a (Some (access_answers.Checked frame page place)) (inr (spare, room, is)) =
+    accessed a (Some (access_answers.Checked frame place)) (inl refused) = ap asked-access refused
+    accessed a (Some (access_answers.Checked frame place)) (inr (spare, room, is)) =
         ap asked-access is ∙ access-handled (instructions.emptied (instructions.bare i) spare) frame (instructions.handler_of layout (instructions.bare i) frame)
     accessed a None is = ap asked-access is
-    accessed a (Some (access_answers.Value word page place)) is = ap asked-access is
-    accessed a (Some (access_answers.Stored page place)) is = ap asked-access is
-    accessed a (Some (access_answers.Sigbus page place)) is = ap asked-access is
+    accessed a (Some (access_answers.Value word place)) is = ap asked-access is
+    accessed a (Some (access_answers.Stored place)) is = ap asked-access is
+    accessed a (Some (access_answers.Sigbus place)) is = ap asked-access is
     accessed a (Some access_answers.NoFrame) is = ap asked-access is
     accessed a (Some (access_answers.Gone page)) is = ap asked-access is
     accessed a (Some access_answers.Stopped) is = ap asked-access is

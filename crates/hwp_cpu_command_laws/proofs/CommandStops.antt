@@ -30,7 +30,7 @@ use Rattle.hwp_cpu_command.specs.hwp_script_lines.declared.Command.{Command}
 use Rattle.hwp_cpu_command.specs.hwp_report_text.declared.Answer.{Answer}
 use Rattle.hwp_cpu_command.specs.hwp_report_text.declared.Answer.TheVariants as answers
 use Rattle.hwp_cpu_command.specs.hwp_law.Answers.{reply_answer}
-use Rattle.hwp_cpu_command.specs.hwp_law.Checks.{Banks}
+use Rattle.hwp_cpu_command.specs.hwp_banks.Banks.{Banks}
 use Rattle.hwp_cpu_command.specs.hwp_law.Records.{outcome_answer}
 use Rattle.hwp_cpu_command.specs.hwp_cpu_control.declared.Nested.{Nested}
 use Rattle.hwp_cpu_command.specs.hwp_cpu_control.declared.NestedAnswer.TheVariants as nested_answers
@@ -450,7 +450,7 @@ module _ (layout : Layout) (view : View) where
   inject-halts : (i : Inject) (x : FailAnswer) → InjectEnded layout view i x → fail_answer x ≡ answers.Stopped → IsHalted view
   inject-halts i fail_answers.Stopped ended is = stops ended.over.2
   inject-halts i fail_answers.Already ended is = absurd (other _ refl (ap (λ (a : Answer). Some a) is))
-  inject-halts i (fail_answers.Done situation cycle at signalled) ended is = absurd (other _ (came (outcome_of situation)) (ap (λ (a : Answer). Some a) is))
+  inject-halts i (fail_answers.Done found) ended is = absurd (other _ (came (outcome_of found.situation)) (ap (λ (a : Answer). Some a) is))
 
   soft-halts : (s : Soft) (x : SoftAnswer) → offline.IsCaused layout view s.who s.frame x → soft_answer x ≡ answers.Stopped → IsHalted view
   soft-halts s soft_answers.Stopped caused is = halts caused.1

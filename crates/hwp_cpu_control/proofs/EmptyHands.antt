@@ -1,13 +1,13 @@
 -- What a step leaves that holds nothing: the hand stays empty, and the command has made no entry.
 use Rattle.std.proofs.Common.{◌≡◌, ℕ, true, Option, ap, inl, inr}
-use Rattle.hwp_geom.specs.declared.Layout.{Layout}
-use Rattle.hwp_geom.specs.declared.Who.{Who}
-use Rattle.hwp_page.specs.History.{BodyValue}
-use Rattle.hwp_words.specs.Stops.{is_stopped}
-use Rattle.hwp_core_rule.specs.declared.Log.{Log}
-use Rattle.hwp_core_rule.specs.declared.SharedWord.TheVariants as places
-use Rattle.hwp_core_rule.specs.declared.Step.TheVariants as steps
-use Rattle.hwp_core_rule.specs.declared.View.{View}
+use Rattle.hwp_core_task.specs.hwp_geom.declared.Layout.{Layout}
+use Rattle.hwp_core_task.specs.hwp_geom.declared.Who.{Who}
+use Rattle.hwp_core_task.specs.hwp_page.History.{BodyValue}
+use Rattle.hwp_core_task.specs.hwp_words.Stops.{is_stopped}
+use Rattle.hwp_core_task.specs.hwp_core_rule.declared.Log.{Log}
+use Rattle.hwp_core_task.specs.hwp_core_rule.declared.SharedWord.TheVariants as places
+use Rattle.hwp_core_task.specs.hwp_core_rule.declared.Step.TheVariants as steps
+use Rattle.hwp_core_task.specs.hwp_core_rule.declared.View.{View}
 use Rattle.hwp_core_task.specs.Calls.{Steps}
 use Rattle.hwp_core_task.specs.Ranks.{HasFrame, HasPage}
 use Rattle.hwp_core_task.specs.Hands.{Hand, hand_of, empty}

@@ -2,18 +2,18 @@
 use Rattle.std.proofs.Common.{◌≡◌, ℕ, ◌<◌, ◌≤◌, ◌==◌, Bool, true, false, cond, Option, Some, None, refl, sym, ap, ◌∙◌, subst, arith}
 use Rattle.std.proofs.lemmas.Bool.{both_ways}
 use Rattle.std.proofs.lemmas.Option.{none-some, same_Some}
-use Rattle.hwp_geom.specs.declared.Layout.{Layout}
-use Rattle.hwp_page.specs.History.{BodyValue}
-use Rattle.hwp_words.specs.Stops.{is_stopped}
-use Rattle.hwp_core_rule.specs.declared.SharedWord.TheVariants as places
-use Rattle.hwp_core_rule.specs.declared.Step.{Step}
-use Rattle.hwp_core_rule.specs.declared.Step.TheVariants as steps
-use Rattle.hwp_core_rule.specs.declared.View.{View}
-use Rattle.hwp_core_rule.specs.Lasting.{IsMild}
+use Rattle.hwp_core_task.specs.hwp_geom.declared.Layout.{Layout}
+use Rattle.hwp_core_task.specs.hwp_page.History.{BodyValue}
+use Rattle.hwp_core_task.specs.hwp_words.Stops.{is_stopped}
+use Rattle.hwp_core_task.specs.hwp_core_rule.declared.SharedWord.TheVariants as places
+use Rattle.hwp_core_task.specs.hwp_core_rule.declared.Step.{Step}
+use Rattle.hwp_core_task.specs.hwp_core_rule.declared.Step.TheVariants as steps
+use Rattle.hwp_core_task.specs.hwp_core_rule.declared.View.{View}
+use Rattle.hwp_core_task.specs.hwp_core_rule.Lasting.{IsMild}
 use Rattle.hwp_core_task.specs.declared.Turn.{Turn}
 use Rattle.hwp_core_task.specs.declared.Turn.TheVariants.{Moved, Changed, NoMemory}
 use Rattle.hwp_core_task.specs.Calls.{CanMake, Steps}
-use Rattle.hwp_core_task.specs.Ranks.{Member, member, IsRanked, is_waits}
+use Rattle.hwp_core_task.specs.Ranks.{IsRanked, is_waits}
 use Rattle.hwp_core_task.proofs.StepRanks.{rank-of}
 use Rattle.hwp_core_task.proofs.StepLeaves.{can-make, hand-planned, on-turn-after, steps-planned}
 use Rattle.hwp_core_task.specs.Classes.{TellsClass}
@@ -23,7 +23,7 @@ use Rattle.hwp_cpu_control.specs.declared.nested.Nested.{Nested}
 use Rattle.hwp_cpu_control.specs.declared.nested.NestedAt.{NestedAt}
 use Rattle.hwp_cpu_control.specs.declared.nested.NestedAt.TheVariants as at
 use Rattle.hwp_cpu_control.specs.declared.nested.NestedAnswer.TheVariants as answers
-use Rattle.hwp_cpu_control.specs.Nesteds.{plan, plan_at, next, next_at, turn, turn_at, Fits, FitsAt, cost, cost_at}
+use Rattle.hwp_cpu_control.specs.Nesteds.{plan, plan_at, next, next_at, turn, turn_at, Fits, FitsAt, cost, cost_at, task}
 use Rattle.hwp_cpu_control.proofs.EmptyHands.{no-frame, no-page, saw-stop}
 
 pub can : (layout : Layout) (view : View) (n : Nested) (step : Step) → Fits layout view n → plan n ≡ Some step → CanMake layout n.who step None view
@@ -108,16 +108,13 @@ mild s step is = which s.at is
     which at.Stop e = subst IsMild (same_Some (steps.Stop s.who.cpu) step e) tt
     which (at.Over answer) e = absurd (none-some step e)
 
-abbrev pub the-member : Member Nested
-the-member = member (λ n. n.who) plan (λ n. None) (λ n. n) (λ layout n found got after result. (after ≡ next n found) × (result ≡ turn n found)) Fits (λ n. 4) (λ n words. cost n) (λ n. false) (λ n. None)
-
-pub ranked : IsRanked the-member
-ranked = rank-of the-member (λ s. refl) (λ s. (omega arith, omega arith)) (λ layout a seat s rule fits. let few : cost s ≤ 2 = small s in omega arith)
+pub ranked : IsRanked task
+ranked = rank-of task (λ s. refl) (λ s. (omega arith, omega arith)) (λ layout a seat s rule fits. let few : cost s ≤ 2 = small s in omega arith)
     (λ layout seat a b s t turn made goes. subst (λ (x : Nested). cost x < cost s) (sym made.follows.0) (falls s made.step made.found made.planned))
     (λ layout seat a b s t turn made is quiet. absurd (both_ways true (sym is ∙ ap is_waits made.follows.1 ∙ goes s made.found) refl))
     (λ s. refl) mild
 
-pub tells : TellsClass the-member
+pub tells : TellsClass task
 tells = record {
   frame = λ layout view s fits has. absurd (no-frame view fits.hand_is has);
   page = λ layout view s fits has. absurd (no-page view fits.hand_is has);

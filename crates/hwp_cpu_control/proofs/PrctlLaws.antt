@@ -3,42 +3,42 @@ use Rattle.std.proofs.Common.{◌≡◌, ◌≢◌, ℕ, ◌+◌, ◌-◌, ◌%�
 use Rattle.std.proofs.lemmas.Bool.{both_ways, eqb-true, eqb-false}
 use Rattle.std.proofs.lemmas.List.Elements.{filter-append}
 use Rattle.std.proofs.lemmas.Option.{none-some, same_Some, slice_get_within}
-use Rattle.hwp_geom.specs.declared.Layout.{Layout}
-use Rattle.hwp_geom.specs.declared.Page.{Page}
-use Rattle.hwp_geom.specs.declared.Proc.{Proc}
-use Rattle.hwp_geom.specs.declared.Thread.{Thread}
-use Rattle.hwp_geom.specs.declared.ThreadDecl.{ThreadDecl}
-use Rattle.hwp_geom.specs.declared.Who.{Who}
-use Rattle.hwp_geom.specs.Limits.{command_limit}
-use Rattle.hwp_kill.specs.declared.Policy.{Policy}
-use Rattle.hwp_kill.specs.declared.Policy.TheVariants as policy_names
-use Rattle.hwp_kill.specs.declared.Reply.{Reply}
-use Rattle.hwp_kill.specs.declared.Reply.TheVariants as replies
-use Rattle.hwp_kill.specs.Prctl.{reply}
-use Rattle.hwp_page.specs.History.{BodyValue}
-use Rattle.hwp_words.specs.Names.{page_named}
-use Rattle.hwp_words.specs.Policies as words
-use Rattle.hwp_words.specs.Stops.{is_stopped}
-use Rattle.hwp_core_rule.specs.declared.SharedWord.TheVariants as places
-use Rattle.hwp_core_rule.specs.declared.Setting.{Setting}
-use Rattle.hwp_core_rule.specs.declared.State.{State}
-use Rattle.hwp_core_rule.specs.declared.Step.{Step}
-use Rattle.hwp_core_rule.specs.declared.Step.TheVariants as steps
-use Rattle.hwp_core_rule.specs.declared.View.{View}
-use Rattle.hwp_core_rule.specs.Rule.{Holds}
-use Rattle.hwp_core_rule.specs.Lasting.{IsMild}
-use Rattle.hwp_core_rule.specs.Steps.{policy_at}
-use Rattle.hwp_core_rule.specs.Views.{noted, stamp_of}
-use Rattle.hwp_core_rule.specs.Words.{index, words_of}
-use Rattle.hwp_core_rule.specs.parts.Policies.{last_policy, settings_of, PolicyAgrees}
-use Rattle.hwp_core_rule.proofs.Lists.{at_map}
-use Rattle.hwp_core_rule.proofs.MoveKeeps.{shaped}
-use Rattle.hwp_core_rule.proofs.WordsByKind.{word-there, words-read}
+use Rattle.hwp_core_task.specs.hwp_geom.declared.Layout.{Layout}
+use Rattle.hwp_core_task.specs.hwp_geom.declared.Page.{Page}
+use Rattle.hwp_core_task.specs.hwp_geom.declared.Proc.{Proc}
+use Rattle.hwp_core_task.specs.hwp_geom.declared.Thread.{Thread}
+use Rattle.hwp_core_task.specs.hwp_geom.declared.ThreadDecl.{ThreadDecl}
+use Rattle.hwp_core_task.specs.hwp_geom.declared.Who.{Who}
+use Rattle.hwp_core_task.specs.hwp_geom.Limits.{command_limit}
+use Rattle.hwp_core_task.specs.hwp_kill.declared.Policy.{Policy}
+use Rattle.hwp_core_task.specs.hwp_kill.declared.Policy.TheVariants as policy_names
+use Rattle.hwp_core_task.specs.hwp_kill.declared.Reply.{Reply}
+use Rattle.hwp_core_task.specs.hwp_kill.declared.Reply.TheVariants as replies
+use Rattle.hwp_core_task.specs.hwp_kill.Prctl.{reply}
+use Rattle.hwp_core_task.specs.hwp_page.History.{BodyValue}
+use Rattle.hwp_core_task.specs.hwp_words.Names.{page_named}
+use Rattle.hwp_core_task.specs.hwp_words.Policies as words
+use Rattle.hwp_core_task.specs.hwp_words.Stops.{is_stopped}
+use Rattle.hwp_core_task.specs.hwp_core_rule.declared.SharedWord.TheVariants as places
+use Rattle.hwp_core_task.specs.hwp_core_rule.declared.Setting.{Setting}
+use Rattle.hwp_core_task.specs.hwp_core_rule.declared.State.{State}
+use Rattle.hwp_core_task.specs.hwp_core_rule.declared.Step.{Step}
+use Rattle.hwp_core_task.specs.hwp_core_rule.declared.Step.TheVariants as steps
+use Rattle.hwp_core_task.specs.hwp_core_rule.declared.View.{View}
+use Rattle.hwp_core_task.specs.hwp_core_rule.Rule.{Holds}
+use Rattle.hwp_core_task.specs.hwp_core_rule.Lasting.{IsMild}
+use Rattle.hwp_core_task.specs.hwp_core_rule.Steps.{policy_at}
+use Rattle.hwp_core_task.specs.hwp_core_rule.Views.{noted, stamp_of}
+use Rattle.hwp_core_task.specs.hwp_core_rule.Words.{index, words_of}
+use Rattle.hwp_core_task.specs.hwp_core_rule.parts.Policies.{last_policy, settings_of, PolicyAgrees}
+use Rattle.hwp_core_task.proofs.of_hwp_core_rule.Lists.{at_map}
+use Rattle.hwp_core_task.proofs.of_hwp_core_rule.MoveKeeps.{shaped}
+use Rattle.hwp_core_task.proofs.of_hwp_core_rule.WordsByKind.{word-there, words-read}
 use Rattle.hwp_core_task.specs.declared.Turn.{Turn}
 use Rattle.hwp_core_task.specs.declared.Turn.TheVariants.{Moved}
 use Rattle.hwp_core_task.specs.Calls.{CanMake, Steps, IsOnTurn}
 use Rattle.hwp_core_task.specs.Hands.{hand_of, empty}
-use Rattle.hwp_core_task.specs.Ranks.{Member, member, IsRanked, is_waits}
+use Rattle.hwp_core_task.specs.Ranks.{IsRanked, is_waits}
 use Rattle.hwp_core_task.specs.Classes.{TellsClass}
 use Rattle.hwp_core_task.proofs.StepRanks.{rank-of}
 use Rattle.hwp_core_task.proofs.StepLeaves.{can-make, hand-planned, on-turn-after, steps-planned}
@@ -49,7 +49,7 @@ use Rattle.hwp_cpu_control.specs.declared.prctl.Prctl.{Prctl}
 use Rattle.hwp_cpu_control.specs.declared.prctl.PrctlAt.{PrctlAt}
 use Rattle.hwp_cpu_control.specs.declared.prctl.PrctlAt.TheVariants as at
 use Rattle.hwp_cpu_control.specs.declared.prctl.PrctlAnswer.TheVariants as answers
-use Rattle.hwp_cpu_control.specs.Prctls.{plan, plan_at, next, next_at, Shows, ShowsAt, after_process, after_reply, policy_now, HasSettingLeft, IsToSet, HasSet, GoesOn, Fits, FitsAt, cost, cost_at}
+use Rattle.hwp_cpu_control.specs.Prctls.{plan, plan_at, next, next_at, Shows, ShowsAt, after_process, after_reply, policy_now, HasSettingLeft, IsToSet, HasSet, GoesOn, Fits, FitsAt, cost, cost_at, task}
 use Rattle.hwp_cpu_control.proofs.EmptyHands.{no-frame, no-page, saw-stop}
 
 -- ---- the words that a call reads
@@ -278,16 +278,13 @@ mild s step is = which s.at is
     which (at.SetPolicy policy settings) e = subst IsMild (same_Some (steps.SetPolicy s.thread policy settings) step e) tt
     which (at.Over answer) e = absurd (none-some step e)
 
-abbrev pub the-member : Member Prctl
-the-member = member (λ p. p.who) plan (λ p. None) (λ p. p) (λ layout p found got after result. (after ≡ next p found) × (result ≡ Moved)) Fits (λ p. 4) (λ p words. cost p) (λ p. false) (λ p. None)
-
-pub ranked : IsRanked the-member
-ranked = rank-of the-member (λ s. refl) (λ s. (omega arith, omega arith)) (λ layout a seat s rule fits. let few : cost s ≤ 4 = small s in omega arith)
+pub ranked : IsRanked task
+ranked = rank-of task (λ s. refl) (λ s. (omega arith, omega arith)) (λ layout a seat s rule fits. let few : cost s ≤ 4 = small s in omega arith)
     (λ layout seat a b s t turn made goes. subst (λ (x : Prctl). cost x < cost s) (sym made.follows.0) (falls s made.step made.found made.planned))
     (λ layout seat a b s t turn made is quiet. absurd (both_ways true (sym is ∙ ap is_waits made.follows.1) refl))
     (λ s. refl) mild
 
-pub tells : TellsClass the-member
+pub tells : TellsClass task
 tells = record {
   frame = λ layout view s fits has. absurd (no-frame view fits.hand_is has);
   page = λ layout view s fits has. absurd (no-page view fits.hand_is has);

@@ -2,11 +2,11 @@
 use Rattle.std.proofs.Common.{◌≡◌, ℕ, ◌==◌, ◌&&◌, Bool, true, false, cond, List, Option, Some, None, if◌then◌else◌, slice_index, refl, sym, ap, arith, true≢false}
 use Rattle.std.proofs.lemmas.Bool.{eqb-true, ne_eqb}
 use Rattle.std.proofs.lemmas.Option.{none-some}
-use Rattle.hwp_kill.specs.declared.Policy.{Policy}
-use Rattle.hwp_kill.specs.declared.Policy.TheVariants as policy_names
-use Rattle.hwp_kill.specs.declared.Reply.{Reply}
-use Rattle.hwp_kill.specs.declared.Reply.TheVariants as replies
-use Rattle.hwp_kill.specs.Prctl.{asks_policy, clear_mode, get_operation, policy_set, reply, set_mode, set_operation, setting}
+use Rattle.hwp_core_task.specs.hwp_kill.declared.Policy.{Policy}
+use Rattle.hwp_core_task.specs.hwp_kill.declared.Policy.TheVariants as policy_names
+use Rattle.hwp_core_task.specs.hwp_kill.declared.Reply.{Reply}
+use Rattle.hwp_core_task.specs.hwp_kill.declared.Reply.TheVariants as replies
+use Rattle.hwp_core_task.specs.hwp_kill.Prctl.{asks_policy, clear_mode, get_operation, policy_set, reply, set_mode, set_operation, setting}
 
 abbrev of_set : Reply → Option Policy
 of_set (replies.Set policy) = Some policy

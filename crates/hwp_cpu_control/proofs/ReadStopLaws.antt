@@ -2,18 +2,18 @@
 use Rattle.std.proofs.Common.{◌≡◌, ℕ, ◌<◌, ◌≤◌, Bool, true, false, cond, Option, Some, None, refl, sym, ap, ◌∙◌, subst, arith}
 use Rattle.std.proofs.lemmas.Bool.{both_ways}
 use Rattle.std.proofs.lemmas.Option.{none-some, same_Some}
-use Rattle.hwp_geom.specs.declared.Layout.{Layout}
-use Rattle.hwp_page.specs.History.{BodyValue}
-use Rattle.hwp_words.specs.Stops.{is_stopped}
-use Rattle.hwp_core_rule.specs.declared.SharedWord.TheVariants as places
-use Rattle.hwp_core_rule.specs.declared.Step.{Step}
-use Rattle.hwp_core_rule.specs.declared.Step.TheVariants as steps
-use Rattle.hwp_core_rule.specs.declared.View.{View}
-use Rattle.hwp_core_rule.specs.Lasting.{IsMild}
+use Rattle.hwp_core_task.specs.hwp_geom.declared.Layout.{Layout}
+use Rattle.hwp_core_task.specs.hwp_page.History.{BodyValue}
+use Rattle.hwp_core_task.specs.hwp_words.Stops.{is_stopped}
+use Rattle.hwp_core_task.specs.hwp_core_rule.declared.SharedWord.TheVariants as places
+use Rattle.hwp_core_task.specs.hwp_core_rule.declared.Step.{Step}
+use Rattle.hwp_core_task.specs.hwp_core_rule.declared.Step.TheVariants as steps
+use Rattle.hwp_core_task.specs.hwp_core_rule.declared.View.{View}
+use Rattle.hwp_core_task.specs.hwp_core_rule.Lasting.{IsMild}
 use Rattle.hwp_core_task.specs.declared.Turn.{Turn}
 use Rattle.hwp_core_task.specs.declared.Turn.TheVariants.{Moved}
 use Rattle.hwp_core_task.specs.Calls.{CanMake, Steps}
-use Rattle.hwp_core_task.specs.Ranks.{Member, member, IsRanked, is_waits}
+use Rattle.hwp_core_task.specs.Ranks.{IsRanked, is_waits}
 use Rattle.hwp_core_task.proofs.StepRanks.{rank-of}
 use Rattle.hwp_core_task.proofs.StepLeaves.{can-make, hand-planned, on-turn-after, steps-planned}
 use Rattle.hwp_core_task.specs.Classes.{TellsClass}
@@ -22,7 +22,7 @@ use Rattle.hwp_cpu_control.specs.declared.read_stop.ReadStop.{ReadStop}
 use Rattle.hwp_cpu_control.specs.declared.read_stop.ReadStopAt.{ReadStopAt}
 use Rattle.hwp_cpu_control.specs.declared.read_stop.ReadStopAt.TheVariants as at
 use Rattle.hwp_cpu_control.specs.declared.read_stop.ReadStopAnswer.TheVariants as answers
-use Rattle.hwp_cpu_control.specs.ReadStops.{plan, plan_at, next, next_at, Fits, FitsAt, cost, cost_at}
+use Rattle.hwp_cpu_control.specs.ReadStops.{plan, plan_at, next, next_at, Fits, FitsAt, cost, cost_at, task}
 use Rattle.hwp_cpu_control.proofs.EmptyHands.{no-frame, no-page, saw-stop}
 
 pub can : (layout : Layout) (view : View) (r : ReadStop) (step : Step) → Fits layout view r → plan r ≡ Some step → CanMake layout r.who step None view
@@ -75,16 +75,13 @@ mild s step is = which s.at is
     which at.LoadStop e = subst IsMild (same_Some (steps.Load places.Stop) step e) tt
     which (at.Over answer) e = absurd (none-some step e)
 
-abbrev pub the-member : Member ReadStop
-the-member = member (λ r. r.who) plan (λ r. None) (λ r. r) (λ layout r found got after result. (after ≡ next r found) × (result ≡ Moved)) Fits (λ r. 4) (λ r words. cost r) (λ r. false) (λ r. None)
-
-pub ranked : IsRanked the-member
-ranked = rank-of the-member (λ s. refl) (λ s. (omega arith, omega arith)) (λ layout a seat s rule fits. let few : cost s ≤ 1 = small s in omega arith)
+pub ranked : IsRanked task
+ranked = rank-of task (λ s. refl) (λ s. (omega arith, omega arith)) (λ layout a seat s rule fits. let few : cost s ≤ 1 = small s in omega arith)
     (λ layout seat a b s t turn made goes. subst (λ (x : ReadStop). cost x < cost s) (sym made.follows.0) (falls s made.step made.found made.planned))
     (λ layout seat a b s t turn made is quiet. absurd (both_ways true (sym is ∙ ap is_waits made.follows.1) refl))
     (λ s. refl) mild
 
-pub tells : TellsClass the-member
+pub tells : TellsClass task
 tells = record {
   frame = λ layout view s fits has. absurd (no-frame view fits.hand_is has);
   page = λ layout view s fits has. absurd (no-page view fits.hand_is has);

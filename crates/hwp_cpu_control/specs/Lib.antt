@@ -2,3 +2,9 @@ pub mod ReadStops
 pub mod Nesteds
 pub mod Prctls
 pub mod Spoils
+pub use Rattle.hwp_core_task.specs.hwp_core_rule as hwp_core_rule
+pub use Rattle.hwp_core_task.specs as hwp_core_task
+pub use Rattle.hwp_core_task.specs.hwp_geom as hwp_geom
+pub use Rattle.hwp_core_task.specs.hwp_kill as hwp_kill
+pub use Rattle.hwp_core_task.specs.hwp_page as hwp_page
+pub use Rattle.hwp_core_task.specs.hwp_words as hwp_words

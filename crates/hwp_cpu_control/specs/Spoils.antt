@@ -1,19 +1,21 @@
 -- A line of a frame that goes bad, or weak: the task's states, its steps and what they come to.
-use Rattle.std.specs.Prelude.{◌≡◌, ℕ, ◌<◌, cond, Option, Some, None}
-use Rattle.hwp_geom.specs.declared.Damage.{Damage}
-use Rattle.hwp_geom.specs.declared.Frame.{Frame}
-use Rattle.hwp_geom.specs.declared.Layout.{Layout}
-use Rattle.hwp_geom.specs.declared.Who.{Who}
-use Rattle.hwp_words.specs.Stops.{is_stopped}
-use Rattle.hwp_core_rule.specs.declared.SharedWord.TheVariants as places
-use Rattle.hwp_core_rule.specs.declared.Spoiled.{Spoiled}
-use Rattle.hwp_core_rule.specs.declared.Step.{Step}
-use Rattle.hwp_core_rule.specs.declared.Step.TheVariants as steps
-use Rattle.hwp_core_rule.specs.declared.View.{View}
-use Rattle.hwp_core_rule.specs.Lists.{SomeMember}
+use Rattle.std.specs.Prelude.{◌≡◌, ℕ, ◌<◌, false, cond, Option, Some, None}
+use Rattle.hwp_core_task.specs.hwp_geom.declared.Damage.{Damage}
+use Rattle.hwp_core_task.specs.hwp_geom.declared.Frame.{Frame}
+use Rattle.hwp_core_task.specs.hwp_geom.declared.Layout.{Layout}
+use Rattle.hwp_core_task.specs.hwp_geom.declared.Who.{Who}
+use Rattle.hwp_core_task.specs.hwp_words.Stops.{is_stopped}
+use Rattle.hwp_core_task.specs.hwp_core_rule.declared.SharedWord.TheVariants as places
+use Rattle.hwp_core_task.specs.hwp_core_rule.declared.Spoiled.{Spoiled}
+use Rattle.hwp_core_task.specs.hwp_core_rule.declared.Step.{Step}
+use Rattle.hwp_core_task.specs.hwp_core_rule.declared.Step.TheVariants as steps
+use Rattle.hwp_core_task.specs.hwp_core_rule.declared.View.{View}
+use Rattle.hwp_core_task.specs.declared.Turn.TheVariants.{Moved}
+use Rattle.hwp_core_task.specs.hwp_core_rule.Lists.{SomeMember}
 use Rattle.hwp_core_task.specs.Calls.{IsOnTurn}
 use Rattle.hwp_core_task.specs.Hands.{hand_of, empty}
 use Rattle.hwp_core_task.specs.Known.{HasMadeNone, SawStop}
+use Rattle.hwp_core_task.specs.Turns.{Member}
 use Rattle.hwp_cpu_control.specs.declared.spoil.Spoil.{Spoil}
 use Rattle.hwp_cpu_control.specs.declared.spoil.SpoilAt.{SpoilAt}
 use Rattle.hwp_cpu_control.specs.declared.spoil.SpoilAt.TheVariants as at
@@ -75,3 +77,19 @@ cost_at (at.Over answer) = 0
 
 abbrev pub cost : Spoil → ℕ
 cost s = cost_at s.at
+
+-- the task, as the laws of tasks read it
+abbrev pub task : Member Spoil
+task = record {
+  who = λ s. s.who;
+  plan = plan;
+  put = λ s. None;
+  bare = λ s. s;
+  shows = λ s found got. Unit {0};
+  next = λ layout s found got after result. (after ≡ next s found) × (result ≡ Moved);
+  fits = Fits;
+  class = λ s. 4;
+  cost = λ s words. cost s;
+  aborts = λ s. false;
+  claims = λ s. None;
+}

@@ -1,10 +1,8 @@
 ghost use Rattle.std.specs.Prelude.{◌≡◌};
 
-use hwp_core_rule::{SharedWord, Step};
-use hwp_core_task::{Ranked, Scheduled, Task, Turn};
-use hwp_geom::{Layout, Who};
-use hwp_page::Body;
-use hwp_words::is_stopped;
+use hwp_core_task::{
+    Body, Layout, Ranked, Scheduled, SharedWord, Step, Task, Turn, Who, is_stopped,
+};
 
 /// A machine check inside a machine check, which shuts the processor down and so stops the machine (Intel SDM vol. 3).
 #[derive(Clone, Copy)]
@@ -90,22 +88,9 @@ impl Nested {
 }
 
 impl Task for Nested {
-    ghost use Rattle.std.specs.Prelude.{◌≡◌, None};
-    ghost use Rattle.hwp_cpu_control.specs.Nesteds.{Fits, next, plan, turn};
+    ghost use Rattle.hwp_cpu_control.specs.Nesteds as nesteds;
 
-    ghost who = { λ n. n.who };
-
-    ghost plan = { λ n. plan n };
-
-    ghost put = { λ n. None };
-
-    ghost bare = { λ n. n };
-
-    ghost shows = { λ n found got. Unit {0} };
-
-    ghost next = { λ layout n found got after result. (after ≡ next n found) × (result ≡ turn n found) };
-
-    ghost fits = { λ layout view n. Fits layout view n };
+    ghost task = { nesteds.task };
 
     fn who(&self) -> Who {
         self.who
@@ -143,17 +128,6 @@ impl Task for Nested {
 }
 
 impl Ranked for Nested {
-    ghost use Rattle.std.specs.Prelude.{false, None};
-    ghost use Rattle.hwp_cpu_control.specs.Nesteds.{cost};
-
-    ghost class_of = { λ n. 4 };
-
-    ghost cost = { λ n words. cost n };
-
-    ghost aborts = { λ n. false };
-
-    ghost claims = { λ n. None };
-
     fn class(&self) -> u8 {
         4
     }

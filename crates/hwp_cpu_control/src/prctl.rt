@@ -1,11 +1,9 @@
 ghost use Rattle.std.specs.Prelude.{◌≡◌, ◌^◌, ◌<◌};
 
-use hwp_core_rule::{SharedWord, Step};
-use hwp_core_task::{Ranked, Scheduled, Task, Turn};
-use hwp_geom::{Layout, Page, Proc, Thread, Who};
-use hwp_kill::{Policy, Reply, prctl};
-use hwp_page::Body;
-use hwp_words::{PolicyWord, ProcessWord, is_stopped};
+use hwp_core_task::{
+    Body, Layout, Page, Policy, PolicyWord, Proc, ProcessWord, Ranked, Reply, Scheduled,
+    SharedWord, Step, Task, Thread, Turn, Who, is_stopped, prctl,
+};
 
 /// A thread calls prctl(2), with PR_MCE_KILL or PR_MCE_KILL_GET where the arguments say so.
 #[derive(Clone, Copy)]
@@ -107,23 +105,9 @@ impl Prctl {
 }
 
 impl Task for Prctl {
-    ghost use Rattle.std.specs.Prelude.{◌≡◌, None};
-    ghost use Rattle.hwp_core_task.specs.declared.Turn.TheVariants.{Moved};
-    ghost use Rattle.hwp_cpu_control.specs.Prctls.{Fits, Shows, next, plan};
+    ghost use Rattle.hwp_cpu_control.specs.Prctls as prctls;
 
-    ghost who = { λ p. p.who };
-
-    ghost plan = { λ p. plan p };
-
-    ghost put = { λ p. None };
-
-    ghost bare = { λ p. p };
-
-    ghost shows = { λ p found got. Shows p found };
-
-    ghost next = { λ layout p found got after result. (after ≡ next p found) × (result ≡ Moved) };
-
-    ghost fits = { λ layout view p. Fits layout view p };
+    ghost task = { prctls.task };
 
     fn who(&self) -> Who {
         self.who
@@ -170,17 +154,6 @@ impl Task for Prctl {
 }
 
 impl Ranked for Prctl {
-    ghost use Rattle.std.specs.Prelude.{false, None};
-    ghost use Rattle.hwp_cpu_control.specs.Prctls.{cost};
-
-    ghost class_of = { λ p. 4 };
-
-    ghost cost = { λ p words. cost p };
-
-    ghost aborts = { λ p. false };
-
-    ghost claims = { λ p. None };
-
     fn class(&self) -> u8 {
         4
     }

@@ -1,10 +1,8 @@
 ghost use Rattle.std.specs.Prelude.{◌≡◌};
 
-use hwp_core_rule::{SharedWord, Step};
-use hwp_core_task::{Ranked, Scheduled, Task, Turn};
-use hwp_geom::{Layout, Who};
-use hwp_page::Body;
-use hwp_words::is_stopped;
+use hwp_core_task::{
+    Body, Layout, Ranked, Scheduled, SharedWord, Step, Task, Turn, Who, is_stopped,
+};
 
 /// A command that only looks whether the machine has stopped: all that it does else is its processor's own (this project's
 /// rule).
@@ -64,23 +62,9 @@ impl ReadStop {
 }
 
 impl Task for ReadStop {
-    ghost use Rattle.std.specs.Prelude.{◌≡◌, None};
-    ghost use Rattle.hwp_core_task.specs.declared.Turn.TheVariants.{Moved};
-    ghost use Rattle.hwp_cpu_control.specs.ReadStops.{Fits, next, plan};
+    ghost use Rattle.hwp_cpu_control.specs.ReadStops as read_stops;
 
-    ghost who = { λ r. r.who };
-
-    ghost plan = { λ r. plan r };
-
-    ghost put = { λ r. None };
-
-    ghost bare = { λ r. r };
-
-    ghost shows = { λ r found got. Unit {0} };
-
-    ghost next = { λ layout r found got after result. (after ≡ next r found) × (result ≡ Moved) };
-
-    ghost fits = { λ layout view r. Fits layout view r };
+    ghost task = { read_stops.task };
 
     fn who(&self) -> Who {
         self.who
@@ -110,17 +94,6 @@ impl Task for ReadStop {
 }
 
 impl Ranked for ReadStop {
-    ghost use Rattle.std.specs.Prelude.{false, None};
-    ghost use Rattle.hwp_cpu_control.specs.ReadStops.{cost};
-
-    ghost class_of = { λ r. 4 };
-
-    ghost cost = { λ r words. cost r };
-
-    ghost aborts = { λ r. false };
-
-    ghost claims = { λ r. None };
-
     fn class(&self) -> u8 {
         4
     }

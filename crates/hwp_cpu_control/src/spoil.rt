@@ -1,10 +1,9 @@
 ghost use Rattle.std.specs.Prelude.{◌≡◌};
 
-use hwp_core_rule::{SharedWord, Step};
-use hwp_core_task::{Ranked, Scheduled, Task, Turn};
-use hwp_geom::{Damage, Frame, Layout, Line, Who};
-use hwp_page::Body;
-use hwp_words::is_stopped;
+use hwp_core_task::{
+    Body, Damage, Frame, Layout, Line, Ranked, Scheduled, SharedWord, Step, Task, Turn, Who,
+    is_stopped,
+};
 
 /// A command by which a line of a frame goes bad, or weak (this project's rule).
 #[derive(Clone, Copy)]
@@ -72,23 +71,9 @@ impl Spoil {
 }
 
 impl Task for Spoil {
-    ghost use Rattle.std.specs.Prelude.{◌≡◌, None};
-    ghost use Rattle.hwp_core_task.specs.declared.Turn.TheVariants.{Moved};
-    ghost use Rattle.hwp_cpu_control.specs.Spoils.{Fits, next, plan};
+    ghost use Rattle.hwp_cpu_control.specs.Spoils as spoils;
 
-    ghost who = { λ s. s.who };
-
-    ghost plan = { λ s. plan s };
-
-    ghost put = { λ s. None };
-
-    ghost bare = { λ s. s };
-
-    ghost shows = { λ s found got. Unit {0} };
-
-    ghost next = { λ layout s found got after result. (after ≡ next s found) × (result ≡ Moved) };
-
-    ghost fits = { λ layout view s. Fits layout view s };
+    ghost task = { spoils.task };
 
     fn who(&self) -> Who {
         self.who
@@ -127,17 +112,6 @@ impl Task for Spoil {
 }
 
 impl Ranked for Spoil {
-    ghost use Rattle.std.specs.Prelude.{false, None};
-    ghost use Rattle.hwp_cpu_control.specs.Spoils.{cost};
-
-    ghost class_of = { λ s. 4 };
-
-    ghost cost = { λ s words. cost s };
-
-    ghost aborts = { λ s. false };
-
-    ghost claims = { λ s. None };
-
     fn class(&self) -> u8 {
         4
     }

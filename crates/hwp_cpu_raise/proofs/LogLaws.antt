@@ -1,25 +1,25 @@
 -- The laws of `Log`.
-use Rattle.std.proofs.Common.{◌≡◌, ℕ, ◌<◌, ◌≤◌, true, false, Option, Some, None, refl, sym, ap, ◌∙◌, subst, arith}
+use Rattle.std.proofs.Common.{◌≡◌, ℕ, ◌<◌, ◌≤◌, true, Option, Some, None, refl, sym, ap, ◌∙◌, subst, arith}
 use Rattle.std.proofs.lemmas.Bool.{both_ways}
 use Rattle.std.proofs.lemmas.Option.{none-some}
-use Rattle.hwp_geom.specs.declared.Layout.{Layout}
-use Rattle.hwp_page.specs.History.{BodyValue}
-use Rattle.hwp_core_rule.specs.declared.Step.{Step}
-use Rattle.hwp_core_rule.specs.declared.View.{View}
-use Rattle.hwp_core_rule.specs.Lasting.{IsMild}
-use Rattle.hwp_core_task.specs.declared.Turn.{Turn}
-use Rattle.hwp_core_task.specs.declared.Turn.TheVariants.{Moved}
-use Rattle.hwp_core_task.specs.Calls.{CanMake, Steps}
-use Rattle.hwp_core_task.specs.Classes.{TellsClass}
-use Rattle.hwp_core_task.specs.Ranks.{Member, member, IsRanked, is_waits}
-use Rattle.hwp_core_task.proofs.StepRanks.{rank-of}
+use Rattle.hwp_cpu_control.specs.hwp_geom.declared.Layout.{Layout}
+use Rattle.hwp_cpu_control.specs.hwp_page.History.{BodyValue}
+use Rattle.hwp_cpu_control.specs.hwp_core_rule.declared.Step.{Step}
+use Rattle.hwp_cpu_control.specs.hwp_core_rule.declared.View.{View}
+use Rattle.hwp_cpu_control.specs.hwp_core_rule.Lasting.{IsMild}
+use Rattle.hwp_cpu_control.specs.hwp_core_task.declared.Turn.{Turn}
+use Rattle.hwp_cpu_control.specs.hwp_core_task.declared.Turn.TheVariants.{Moved}
+use Rattle.hwp_cpu_control.specs.hwp_core_task.Calls.{CanMake, Steps}
+use Rattle.hwp_cpu_control.specs.hwp_core_task.Classes.{TellsClass}
+use Rattle.hwp_cpu_control.specs.hwp_core_task.Ranks.{IsRanked, is_waits}
+use Rattle.hwp_cpu_control.proofs.of_hwp_core_task.StepRanks.{rank-of}
 use Rattle.hwp_cpu_control.specs.declared.ReadStopAnswer.{ReadStopAnswer}
 use Rattle.hwp_cpu_control.specs.declared.read_stop.ReadStopAt.{ReadStopAt}
 use Rattle.hwp_cpu_control.specs.declared.read_stop.ReadStopAt.TheVariants as read_at
 use Rattle.hwp_cpu_control.specs.ReadStops as reads
 use Rattle.hwp_cpu_control.proofs.ReadStopLaws as reading
 use Rattle.hwp_cpu_raise.specs.declared.log.Log.{Log}
-use Rattle.hwp_cpu_raise.specs.Logs.{Fits, answer, cost, logged_by, next, next_by, plan}
+use Rattle.hwp_cpu_raise.specs.Logs.{Fits, answer, cost, logged_by, next, next_by, plan, task}
 
 pub can : (layout : Layout) (view : View) (l : Log) (step : Step) → Fits layout view l → plan l ≡ Some step → CanMake layout l.read.who step None view
 can layout view l step fits is = reading.can layout view l.read step fits.read is
@@ -64,16 +64,13 @@ falls l step found is = subst (λ (x : Log). cost x < cost l) (sym (logs l step 
 pub mild : (l : Log) (step : Step) → plan l ≡ Some step → IsMild step
 mild l step is = reading.mild l.read step is
 
-abbrev pub the-member : Member Log
-the-member = member (λ l. l.read.who) plan (λ l. None) (λ l. l) (λ layout l found got after result. (after ≡ next l found) × (result ≡ Moved)) Fits (λ l. 4) (λ l words. cost l) (λ l. false) (λ l. None)
-
-pub ranked : IsRanked the-member
-ranked = rank-of the-member (λ l. refl) (λ l. (omega arith, omega arith)) (λ layout a seat l rule fits. let few : cost l ≤ 1 = reading.small l.read in omega arith)
+pub ranked : IsRanked task
+ranked = rank-of task (λ l. refl) (λ l. (omega arith, omega arith)) (λ layout a seat l rule fits. let few : cost l ≤ 1 = reading.small l.read in omega arith)
     (λ layout seat a b l t turn made goes. subst (λ (x : Log). cost x < cost l) (sym made.follows.0) (falls l made.step made.found made.planned))
     (λ layout seat a b l t turn made is quiet. absurd (both_ways true (sym is ∙ ap is_waits made.follows.1) refl))
     (λ l. refl) mild
 
-pub tells : TellsClass the-member
+pub tells : TellsClass task
 tells = record {
   frame = λ layout view l fits has. reading.tells.frame layout view l.read fits.read has;
   page = λ layout view l fits has. reading.tells.page layout view l.read fits.read has;

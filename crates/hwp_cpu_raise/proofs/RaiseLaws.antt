@@ -1,34 +1,34 @@
 -- The laws of `Raise`: its steps can be made, and what follows them fits.
 use Rattle.std.proofs.Common.{◌≡◌, inl, inr, ℕ, ◌≤◌, Bool, true, false, List, [], ◌++◌, ◌-◌, Option, Some, None, length, map, append-nil, refl, sym, ap, ◌∙◌, subst}
 use Rattle.std.proofs.lemmas.Option.{none-some}
-use Rattle.hwp_geom.specs.declared.Layout.{Layout}
-use Rattle.hwp_geom.specs.declared.Page.{Page}
-use Rattle.hwp_geom.specs.declared.Thread.{Thread}
-use Rattle.hwp_geom.specs.declared.Who.{Who}
-use Rattle.hwp_geom.specs.Layout.{IsSound}
-use Rattle.hwp_banks.specs.Events.{bank_count}
-use Rattle.hwp_page.specs.History.{BodyValue}
-use Rattle.hwp_words.specs.Names.{page_named}
-use Rattle.hwp_words.specs.Stops.{is_stopped}
-use Rattle.hwp_core_rule.specs.declared.Made.{Made}
-use Rattle.hwp_core_rule.specs.declared.SharedWord.TheVariants as places
-use Rattle.hwp_core_rule.specs.declared.Step.{Step}
-use Rattle.hwp_core_rule.specs.declared.Step.TheVariants as steps
-use Rattle.hwp_core_rule.specs.declared.View.{View}
-use Rattle.hwp_core_rule.specs.Lists.{EachMember}
-use Rattle.hwp_core_task.specs.declared.Turn.{Turn}
-use Rattle.hwp_core_task.specs.Calls.{CanMake, IsOnTurn, Steps, logs}
-use Rattle.hwp_core_task.specs.Hands.{hand_of, empty}
-use Rattle.hwp_core_task.proofs.StepLeaves.{can-make, hand-planned, on-turn-after, steps-planned}
-use Rattle.hwp_core_task.specs.Known.{HasMadeNone, Saw, is_failure}
-use Rattle.hwp_core_task.proofs.MadeEntries.{ListsNone, deeds-same}
-use Rattle.hwp_core_task.proofs.OwedLosses.{losses-same}
-use Rattle.hwp_core_task.proofs.SightKeeps.{saw-load, saw-stays}
+use Rattle.hwp_cpu_control.specs.hwp_geom.declared.Layout.{Layout}
+use Rattle.hwp_cpu_control.specs.hwp_geom.declared.Page.{Page}
+use Rattle.hwp_cpu_control.specs.hwp_geom.declared.Thread.{Thread}
+use Rattle.hwp_cpu_control.specs.hwp_geom.declared.Who.{Who}
+use Rattle.hwp_cpu_control.specs.hwp_geom.Layout.{IsSound}
+use Rattle.hwp_cpu_check.specs.hwp_banks.Events.{bank_count}
+use Rattle.hwp_cpu_control.specs.hwp_page.History.{BodyValue}
+use Rattle.hwp_cpu_control.specs.hwp_words.Names.{page_named}
+use Rattle.hwp_cpu_control.specs.hwp_words.Stops.{is_stopped}
+use Rattle.hwp_cpu_control.specs.hwp_core_rule.declared.Made.{Made}
+use Rattle.hwp_cpu_control.specs.hwp_core_rule.declared.SharedWord.TheVariants as places
+use Rattle.hwp_cpu_control.specs.hwp_core_rule.declared.Step.{Step}
+use Rattle.hwp_cpu_control.specs.hwp_core_rule.declared.Step.TheVariants as steps
+use Rattle.hwp_cpu_control.specs.hwp_core_rule.declared.View.{View}
+use Rattle.hwp_cpu_control.specs.hwp_core_rule.Lists.{EachMember}
+use Rattle.hwp_cpu_control.specs.hwp_core_task.declared.Turn.{Turn}
+use Rattle.hwp_cpu_control.specs.hwp_core_task.Calls.{CanMake, IsOnTurn, Steps, logs}
+use Rattle.hwp_cpu_control.specs.hwp_core_task.Hands.{hand_of, empty}
+use Rattle.hwp_cpu_control.proofs.of_hwp_core_task.StepLeaves.{can-make, hand-planned, on-turn-after, steps-planned}
+use Rattle.hwp_cpu_control.specs.hwp_core_task.Known.{HasMadeNone, Saw, is_failure}
+use Rattle.hwp_cpu_control.proofs.of_hwp_core_task.MadeEntries.{ListsNone, deeds-same}
+use Rattle.hwp_cpu_control.proofs.of_hwp_core_task.OwedLosses.{losses-same}
+use Rattle.hwp_cpu_control.proofs.of_hwp_core_task.SightKeeps.{saw-load, saw-stays}
 use Rattle.hwp_cpu_check.specs.hwp_claim_act.Abandoned.{AddsFailure}
 use Rattle.hwp_cpu_check.proofs.of_hwp_claim_act.ActAdds.{only-failed-stays}
 use Rattle.hwp_cpu_control.proofs.PrctlLaws.{ended-by, no-page-back, page-back}
 use Rattle.hwp_cpu_control.proofs.EmptyHands.{saw-stop}
-use Rattle.hwp_cpu_check.specs.hwp_law.Checks.{has_stop}
+use Rattle.hwp_cpu_check.specs.hwp_severity.Handling.{has_stop}
 use Rattle.hwp_cpu_check.specs.declared.Handler.{Handler}
 use Rattle.hwp_cpu_check.specs.declared.Held.{Held}
 use Rattle.hwp_cpu_check.specs.declared.EventOutcome.{EventOutcome}

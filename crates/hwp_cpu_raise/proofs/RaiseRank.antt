@@ -2,48 +2,46 @@
 use Rattle.std.proofs.Common.{◌≡◌, ◌≢◌, ◌⊎◌, inl, inr, ℕ, ◌+◌, ◌<◌, ◌≤◌, Bool, true, false, [], Option, Some, None, length, refl, sym, ap, ◌∙◌, subst, arith}
 use Rattle.std.proofs.lemmas.Bool.{both_ways}
 use Rattle.std.proofs.lemmas.Option.{none-some, same_Some}
-use Rattle.hwp_geom.specs.declared.Frame.{Frame}
-use Rattle.hwp_geom.specs.declared.Layout.{Layout}
-use Rattle.hwp_geom.specs.declared.Page.{Page}
-use Rattle.hwp_banks.specs.Events.{bank_count}
-use Rattle.hwp_words.specs.Names.{page_named}
-use Rattle.hwp_words.specs.Stops.{is_stopped}
-use Rattle.hwp_core_rule.specs.declared.SharedWord.TheVariants as places
-use Rattle.hwp_core_rule.specs.declared.State.{State}
-use Rattle.hwp_core_rule.specs.declared.Step.{Step}
-use Rattle.hwp_core_rule.specs.declared.Step.TheVariants as steps
-use Rattle.hwp_core_rule.specs.declared.View.{View}
-use Rattle.hwp_core_rule.specs.Moves.{Move}
-use Rattle.hwp_core_rule.specs.Rule.{Holds}
-use Rattle.hwp_core_rule.specs.Lasting.{IsMild, LeavesPoison}
-use Rattle.hwp_core_rule.specs.Words.{Words}
-use Rattle.hwp_core_task.specs.declared.Turn.{Turn}
-use Rattle.hwp_core_task.specs.Boards.{view_of}
-use Rattle.hwp_core_task.specs.Calls.{logs, rec_of}
-use Rattle.hwp_core_task.specs.Classes.{TellsClass}
-use Rattle.hwp_core_task.specs.Hands.{hand_of, empty}
-use Rattle.hwp_core_task.specs.Ranks.{CostFalls, HasFailed, HasFrame, HasPage, IsRanked, Made, Member, OtherHand, Pending, Quiet, failure_weight, failures_left, is_refused, is_waits, member, top, words_at}
-use Rattle.hwp_core_task.proofs.StepRanks.{part-made, pending-kept}
+use Rattle.hwp_cpu_control.specs.hwp_geom.declared.Frame.{Frame}
+use Rattle.hwp_cpu_control.specs.hwp_geom.declared.Layout.{Layout}
+use Rattle.hwp_cpu_control.specs.hwp_geom.declared.Page.{Page}
+use Rattle.hwp_cpu_check.specs.hwp_banks.Events.{bank_count}
+use Rattle.hwp_cpu_control.specs.hwp_words.Names.{page_named}
+use Rattle.hwp_cpu_control.specs.hwp_words.Stops.{is_stopped}
+use Rattle.hwp_cpu_control.specs.hwp_core_rule.declared.SharedWord.TheVariants as places
+use Rattle.hwp_cpu_control.specs.hwp_core_rule.declared.State.{State}
+use Rattle.hwp_cpu_control.specs.hwp_core_rule.declared.Step.{Step}
+use Rattle.hwp_cpu_control.specs.hwp_core_rule.declared.Step.TheVariants as steps
+use Rattle.hwp_cpu_control.specs.hwp_core_rule.declared.View.{View}
+use Rattle.hwp_cpu_control.specs.hwp_core_rule.Moves.{Move}
+use Rattle.hwp_cpu_control.specs.hwp_core_rule.Rule.{Holds}
+use Rattle.hwp_cpu_control.specs.hwp_core_rule.Lasting.{IsMild, LeavesPoison}
+use Rattle.hwp_cpu_control.specs.hwp_core_rule.Words.{Words}
+use Rattle.hwp_cpu_control.specs.hwp_core_task.declared.Turn.{Turn}
+use Rattle.hwp_cpu_control.specs.hwp_core_task.Boards.{view_of}
+use Rattle.hwp_cpu_control.specs.hwp_core_task.Calls.{logs, rec_of}
+use Rattle.hwp_cpu_control.specs.hwp_core_task.Classes.{TellsClass}
+use Rattle.hwp_cpu_control.specs.hwp_core_task.Hands.{hand_of, empty}
+use Rattle.hwp_cpu_control.specs.hwp_core_task.Ranks.{CostFalls, HasFailed, HasFrame, HasPage, IsRanked, Made, OtherHand, Pending, Quiet, failure_weight, failures_left, is_refused, is_waits, top, words_at}
+use Rattle.hwp_cpu_control.proofs.of_hwp_core_task.StepRanks.{part-made, pending-kept}
 use Rattle.hwp_cpu_control.proofs.EmptyHands.{no-frame, no-page}
-use Rattle.hwp_cpu_check.specs.hwp_law.Checks.{has_stop}
+use Rattle.hwp_cpu_check.specs.hwp_severity.Handling.{has_stop}
 use Rattle.hwp_cpu_check.specs.declared.Handler.{Handler}
 use Rattle.hwp_cpu_check.specs.declared.handler.HandlerAt.{HandlerAt}
 use Rattle.hwp_cpu_check.specs.declared.handler.HandlerAt.TheVariants as handler_at
 use Rattle.hwp_cpu_check.specs.Events.{held_in}
 use Rattle.hwp_cpu_check.specs.Handlers as handlers
+use Rattle.hwp_cpu_check.specs.Fits.{task as handler-task}
 use Rattle.hwp_cpu_check.proofs.BankGrades.{found-in}
-use Rattle.hwp_cpu_check.proofs.HandlerRank.{handler-lasting, handler-member, handler-ranked, handler-tells}
+use Rattle.hwp_cpu_check.proofs.HandlerRank.{handler-lasting, handler-ranked, handler-tells}
 use Rattle.hwp_cpu_check.proofs.EventTells.{tell-cost, tell-idle}
 use Rattle.hwp_cpu_raise.specs.Costs.{aborts, aborts_at, claims, claims_at, class, class_at, cost, cost_at}
-use Rattle.hwp_cpu_raise.specs.Fits.{Fits, FitsAt}
-use Rattle.hwp_cpu_raise.specs.Raises.{AfterProcessBy, AfterStopBy, BeginsCheck, Follows, FollowsAt, after_handler, after_handler_by, bare, bare_at, emptied, handler_of, how_of, plan, plan_at, put, put_at, thread_of}
+use Rattle.hwp_cpu_raise.specs.Fits.{Fits, FitsAt, task as raise-task}
+use Rattle.hwp_cpu_raise.specs.Raises.{AfterProcessBy, AfterStopBy, BeginsCheck, Follows, FollowsAt, after_handler, after_handler_by, bare, bare_at, emptied, handler_of, how_of, plan, plan_at, put_at, thread_of}
 use Rattle.hwp_cpu_raise.specs.declared.raise.Raise.{Raise}
 use Rattle.hwp_cpu_raise.specs.declared.raise.RaiseAt.{RaiseAt}
 use Rattle.hwp_cpu_raise.specs.declared.raise.RaiseAt.TheVariants as at
 use Rattle.hwp_cpu_raise.specs.declared.raise.Raiser.{Raiser}
-
-abbrev pub raise-member : Member Raise
-raise-member = member (λ r. r.who) plan put bare (λ layout r found got after result. Follows layout r found got after result) Fits class cost aborts claims
 
 raise-class : (r : Raise) → (1 ≤ class r) × (class r ≤ 4)
 raise-class r = which r.at
@@ -118,7 +116,7 @@ plain-process layout r after None three next = plain-begun layout r after three 
 
 -- ---- each turn
 
-module _ {layout : Layout} {seat : ℕ} {a b : State} {s t : Raise} {turn : Turn} (made : Made raise-member layout seat a b s t turn) where
+module _ {layout : Layout} {seat : ℕ} {a b : State} {s t : Raise} {turn : Turn} (made : Made raise-task layout seat a b s t turn) where
   abbrev w : Words
   w = words_at layout a
 
@@ -135,8 +133,8 @@ module _ {layout : Layout} {seat : ℕ} {a b : State} {s t : Raise} {turn : Turn
   Next x = FollowsAt layout (bare s) (bare_at x) made.found made.got t turn
 
   -- a step of the machine check
-  handler-made : (h g : Handler) → Has (at.Handle h) → handlers.plan h ≡ Some made.step → Moves (at.Handle h) → handlers.Follows layout (handlers.bare h) made.found made.got g turn → Made handler-member layout seat a b h g turn
-  handler-made h g has e move follows = part-made made handler-member h g has.0.own has.0.handler e move follows
+  handler-made : (h g : Handler) → Has (at.Handle h) → handlers.plan h ≡ Some made.step → Moves (at.Handle h) → handlers.Follows layout (handlers.bare h) made.found made.got g turn → Made handler-task layout seat a b h g turn
+  handler-made h g has e move follows = part-made made handler-task h g has.0.own has.0.handler e move follows
 
   like : (g : Handler) → t ≡ after_handler (bare s) g → IsAs g t
   like g is = subst (IsAs g) (sym is) (as-handler (bare s) g)
@@ -158,7 +156,7 @@ module _ {layout : Layout} {seat : ℕ} {a b : State} {s t : Raise} {turn : Turn
   goes-at at.GiveUp e has move next goes = inl (let none : cost t now ≡ 0 = ap (λ (x : Raise). cost x now) next.0 in omega (arith, none))
   goes-at (at.Over answer) e has move next goes = absurd (none-some made.step e)
 
-  falls : is_waits turn ≡ false → CostFalls raise-member layout a b s t ⊎ HasFailed raise-member layout a b s t
+  falls : is_waits turn ≡ false → CostFalls raise-task layout a b s t ⊎ HasFailed raise-task layout a b s t
   falls goes = elim (goes-at s.at made.planned made.fits.at made.move made.follows goes) [
     | inl less ↦ inl less
     | inr failed ↦ inr (record { fewer = failed.0; bounded = failed.1 })
@@ -206,7 +204,7 @@ module _ {layout : Layout} {seat : ℕ} {a b : State} {s t : Raise} {turn : Turn
   owns-at at.GiveUp frame cycle e has move next going pending = inr (stays-pending at.GiveUp steps.GiveUp frame cycle e tt refl pending)
   owns-at (at.Over answer) frame cycle e has move next going pending = absurd (none-some made.step e)
 
-pub raise-ranked : IsRanked raise-member
+pub raise-ranked : IsRanked raise-task
 raise-ranked = record {
   classes = raise-class;
   small = raise-small;
@@ -247,7 +245,7 @@ module _ (layout : Layout) (view : View) (r : Raise) where
   claim-told at.GiveUp of cycle has claimed = absurd (none-some (of, cycle) claimed)
   claim-told (at.Over answer) of cycle has claimed = absurd (none-some (of, cycle) claimed)
 
-pub raise-tells : TellsClass raise-member
+pub raise-tells : TellsClass raise-task
 raise-tells = record {
   frame = λ layout view r fits some. frame-told layout view r r.at fits.at some;
   page = λ layout view r fits some. page-told layout view r r.at fits.at some;

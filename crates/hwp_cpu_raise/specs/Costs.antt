@@ -1,7 +1,7 @@
 -- Why a machine check that is raised ends.
 use Rattle.std.specs.Prelude.{ℕ, Bool, false, Option, None}
-use Rattle.hwp_geom.specs.declared.Frame.{Frame}
-use Rattle.hwp_core_rule.specs.Words.{Words}
+use Rattle.hwp_cpu_control.specs.hwp_geom.declared.Frame.{Frame}
+use Rattle.hwp_cpu_control.specs.hwp_core_rule.Words.{Words}
 use Rattle.hwp_cpu_check.specs.Handlers as handlers
 use Rattle.hwp_cpu_raise.specs.declared.raise.Raise.{Raise}
 use Rattle.hwp_cpu_raise.specs.declared.raise.RaiseAt.{RaiseAt}

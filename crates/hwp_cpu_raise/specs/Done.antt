@@ -1,8 +1,8 @@
 -- What a command has done so far by the failures of the machine check that it raised: the poisonings that it made, the failures
 -- that its entries tell, and the counts that it owes.
 use Rattle.std.specs.Prelude.{◌≡◌, ℕ, ◌+◌, List, [], ◌++◌, filter_map}
-use Rattle.hwp_core_rule.specs.declared.Mark.{Mark}
-use Rattle.hwp_core_rule.specs.declared.View.{View}
+use Rattle.hwp_cpu_control.specs.hwp_core_rule.declared.Mark.{Mark}
+use Rattle.hwp_cpu_control.specs.hwp_core_rule.declared.View.{View}
 use Rattle.hwp_cpu_check.specs.hwp_claim_act.declared.Failed.{Failed}
 use Rattle.hwp_cpu_check.specs.hwp_claim_act.Abandoned.{AddsFailure}
 use Rattle.hwp_cpu_check.specs.hwp_claim_frame.Done.{Grows, Marking, counts_owed, marking_of}

@@ -1,18 +1,20 @@
 -- What is held and known while a machine check is raised.
 use Rattle.std.specs.Prelude.{◌≡◌, ◌⊎◌, ◌+◌, ◌<◌, ◌≤◌, Bool, true, false, [], Option, Some, None, length, slice_get}
-use Rattle.hwp_geom.specs.declared.Layout.{Layout}
-use Rattle.hwp_geom.specs.declared.Page.{Page}
-use Rattle.hwp_geom.specs.declared.ThreadDecl.{ThreadDecl}
-use Rattle.hwp_geom.specs.declared.Who.{Who}
-use Rattle.hwp_geom.specs.Layout.{IsSound}
-use Rattle.hwp_banks.specs.Events.{bank_count}
-use Rattle.hwp_core_rule.specs.declared.Made.{Made}
-use Rattle.hwp_core_rule.specs.declared.SharedWord.TheVariants as places
-use Rattle.hwp_core_rule.specs.declared.View.{View}
-use Rattle.hwp_core_task.specs.Calls.{IsOnTurn}
-use Rattle.hwp_core_task.specs.Hands.{hand_of, empty}
-use Rattle.hwp_core_task.specs.Known.{HasMadeNone, HasOnly, Saw, SawStop, is_failure}
-use Rattle.hwp_cpu_check.specs.hwp_law.Checks.{empty_banks, has_stop}
+use Rattle.hwp_cpu_control.specs.hwp_geom.declared.Layout.{Layout}
+use Rattle.hwp_cpu_control.specs.hwp_geom.declared.Page.{Page}
+use Rattle.hwp_cpu_control.specs.hwp_geom.declared.ThreadDecl.{ThreadDecl}
+use Rattle.hwp_cpu_control.specs.hwp_geom.declared.Who.{Who}
+use Rattle.hwp_cpu_control.specs.hwp_geom.Layout.{IsSound}
+use Rattle.hwp_cpu_check.specs.hwp_banks.Events.{bank_count}
+use Rattle.hwp_cpu_control.specs.hwp_core_rule.declared.Made.{Made}
+use Rattle.hwp_cpu_control.specs.hwp_core_rule.declared.SharedWord.TheVariants as places
+use Rattle.hwp_cpu_control.specs.hwp_core_rule.declared.View.{View}
+use Rattle.hwp_cpu_control.specs.hwp_core_task.Calls.{IsOnTurn}
+use Rattle.hwp_cpu_control.specs.hwp_core_task.Hands.{hand_of, empty}
+use Rattle.hwp_cpu_control.specs.hwp_core_task.Known.{HasMadeNone, HasOnly, Saw, SawStop, is_failure}
+use Rattle.hwp_cpu_control.specs.hwp_core_task.Turns.{Member}
+use Rattle.hwp_cpu_check.specs.hwp_banks.Banks.{empty_banks}
+use Rattle.hwp_cpu_check.specs.hwp_severity.Handling.{has_stop}
 use Rattle.hwp_cpu_check.specs.declared.Handler.{Handler}
 use Rattle.hwp_cpu_check.specs.Checks.{IsActedOn}
 use Rattle.hwp_cpu_check.specs.Events.{held_in}
@@ -20,7 +22,8 @@ use Rattle.hwp_cpu_check.specs.Fits as handler_fits
 use Rattle.hwp_cpu_check.specs.Fits.{IsAtRest, IsStoppedIf, events_of}
 use Rattle.hwp_cpu_check.specs.Handlers as handlers
 use Rattle.hwp_cpu_check.specs.Told.{halts}
-use Rattle.hwp_cpu_raise.specs.Raises.{how_of, thread_of}
+use Rattle.hwp_cpu_raise.specs.Raises.{Follows, Shows, bare, how_of, plan, put, thread_of}
+use Rattle.hwp_cpu_raise.specs.Costs.{aborts, claims, class, cost}
 use Rattle.hwp_cpu_raise.specs.declared.raise.Raise.{Raise}
 use Rattle.hwp_cpu_raise.specs.declared.raise.RaiseAnswer.{RaiseAnswer}
 use Rattle.hwp_cpu_raise.specs.declared.raise.RaiseAnswer.TheVariants as answers
@@ -108,3 +111,19 @@ pub record Fits (layout : Layout) (view : View) (r : Raise) : Type 0 where
   pub raiser : IsRaiser layout r.raiser
   pub three : length r.before.value ≡ bank_count
   pub at : FitsAt layout view r r.at
+
+-- the task, as the laws of tasks read it
+abbrev pub task : Member Raise
+task = record {
+  who = λ r. r.who;
+  plan = plan;
+  put = put;
+  bare = bare;
+  shows = Shows;
+  next = Follows;
+  fits = Fits;
+  class = class;
+  cost = cost;
+  aborts = aborts;
+  claims = claims;
+}

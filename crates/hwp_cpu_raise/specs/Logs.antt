@@ -1,17 +1,19 @@
 -- A raw event that a command logs: the task's states, its step and what it comes to.
-use Rattle.std.specs.Prelude.{◌≡◌, ℕ, Option, Some, None, length}
-use Rattle.hwp_geom.specs.declared.Layout.{Layout}
-use Rattle.hwp_geom.specs.declared.Who.{Who}
-use Rattle.hwp_banks.specs.declared.Event.{Event}
-use Rattle.hwp_banks.specs.Events.{bank_count}
-use Rattle.hwp_core_rule.specs.declared.Step.{Step}
-use Rattle.hwp_core_rule.specs.declared.View.{View}
+use Rattle.std.specs.Prelude.{◌≡◌, ℕ, false, Option, Some, None, length}
+use Rattle.hwp_cpu_control.specs.hwp_geom.declared.Layout.{Layout}
+use Rattle.hwp_cpu_control.specs.hwp_geom.declared.Who.{Who}
+use Rattle.hwp_cpu_check.specs.hwp_banks.declared.Event.{Event}
+use Rattle.hwp_cpu_check.specs.hwp_banks.Events.{bank_count}
+use Rattle.hwp_cpu_control.specs.hwp_core_rule.declared.Step.{Step}
+use Rattle.hwp_cpu_control.specs.hwp_core_rule.declared.View.{View}
 use Rattle.hwp_cpu_control.specs.declared.ReadStopAnswer.{ReadStopAnswer}
 use Rattle.hwp_cpu_control.specs.declared.ReadStopAnswer.TheVariants as answers
 use Rattle.hwp_cpu_control.specs.ReadStops as reads
-use Rattle.hwp_cpu_check.specs.hwp_law.Checks.{Banks, log_in}
-use Rattle.hwp_cpu_check.specs.hwp_law.Events.{raw_bank}
+use Rattle.hwp_cpu_check.specs.hwp_banks.Banks.{Banks, log_in}
+use Rattle.hwp_cpu_check.specs.hwp_banks.Banks.{raw_bank}
 use Rattle.hwp_cpu_raise.specs.declared.log.Log.{Log}
+use Rattle.hwp_cpu_control.specs.hwp_core_task.declared.Turn.TheVariants.{Moved}
+use Rattle.hwp_cpu_control.specs.hwp_core_task.Turns.{Member}
 
 abbrev pub begin : Who → Event → Banks → Log
 begin who event banks = record { read = reads.begin who; event = event; before = record { marker = record {}; value = banks }; banks = banks }
@@ -43,3 +45,19 @@ pub record Fits (layout : Layout) (view : View) (l : Log) : Type 0 where
 -- the turns that are left
 abbrev pub cost : Log → ℕ
 cost l = reads.cost l.read
+
+-- the task, as the laws of tasks read it
+abbrev pub task : Member Log
+task = record {
+  who = λ l. l.read.who;
+  plan = plan;
+  put = λ l. None;
+  bare = λ l. l;
+  shows = λ l found got. Unit {0};
+  next = λ layout l found got after result. (after ≡ next l found) × (result ≡ Moved);
+  fits = Fits;
+  class = λ l. 4;
+  cost = λ l words. cost l;
+  aborts = λ l. false;
+  claims = λ l. None;
+}

@@ -1,24 +1,24 @@
 -- A machine check that a command raises: the task's states, its steps and what they come to.
 use Rattle.std.specs.Prelude.{◌≡◌, ◌⊎◌, ℕ, ◌≤◌, Bool, true, false, cond, Option, Some, None, option_map}
 use Rattle.std.specs.declared.alloc.Global.{Global}
-use Rattle.hwp_geom.specs.declared.Layout.{Layout}
-use Rattle.hwp_geom.specs.declared.Mode.{Mode}
-use Rattle.hwp_geom.specs.declared.Mode.TheVariants as modes
-use Rattle.hwp_geom.specs.declared.Page.{Page}
-use Rattle.hwp_geom.specs.declared.Thread.{Thread}
-use Rattle.hwp_geom.specs.declared.Who.{Who}
-use Rattle.hwp_banks.specs.Events.{bank_count}
-use Rattle.hwp_page.specs.History.{BodyValue}
-use Rattle.hwp_words.specs.Names.{page_named}
-use Rattle.hwp_words.specs.Stops.{is_stopped}
-use Rattle.hwp_core_rule.specs.declared.SharedWord.TheVariants as places
-use Rattle.hwp_core_rule.specs.declared.Step.{Step}
-use Rattle.hwp_core_rule.specs.declared.Step.TheVariants as steps
-use Rattle.hwp_core_task.specs.declared.Turn.{Turn}
-use Rattle.hwp_core_task.specs.declared.Turn.TheVariants.{Moved, NoMemory}
-use Rattle.hwp_severity.specs.declared.McgBits.{McgBits}
-use Rattle.hwp_cpu_check.specs.hwp_law.Checks.{Banks, empty_banks}
-use Rattle.hwp_cpu_check.specs.hwp_law.Commands.{Arrival}
+use Rattle.hwp_cpu_control.specs.hwp_geom.declared.Layout.{Layout}
+use Rattle.hwp_cpu_control.specs.hwp_geom.declared.Mode.{Mode}
+use Rattle.hwp_cpu_control.specs.hwp_geom.declared.Mode.TheVariants as modes
+use Rattle.hwp_cpu_control.specs.hwp_geom.declared.Page.{Page}
+use Rattle.hwp_cpu_control.specs.hwp_geom.declared.Thread.{Thread}
+use Rattle.hwp_cpu_control.specs.hwp_geom.declared.Who.{Who}
+use Rattle.hwp_cpu_check.specs.hwp_banks.Events.{bank_count}
+use Rattle.hwp_cpu_control.specs.hwp_page.History.{BodyValue}
+use Rattle.hwp_cpu_control.specs.hwp_words.Names.{page_named}
+use Rattle.hwp_cpu_control.specs.hwp_words.Stops.{is_stopped}
+use Rattle.hwp_cpu_control.specs.hwp_core_rule.declared.SharedWord.TheVariants as places
+use Rattle.hwp_cpu_control.specs.hwp_core_rule.declared.Step.{Step}
+use Rattle.hwp_cpu_control.specs.hwp_core_rule.declared.Step.TheVariants as steps
+use Rattle.hwp_cpu_control.specs.hwp_core_task.declared.Turn.{Turn}
+use Rattle.hwp_cpu_control.specs.hwp_core_task.declared.Turn.TheVariants.{Moved, NoMemory}
+use Rattle.hwp_cpu_check.specs.hwp_severity.declared.McgBits.{McgBits}
+use Rattle.hwp_cpu_check.specs.hwp_banks.Banks.{Banks, empty_banks}
+use Rattle.hwp_cpu_check.specs.hwp_severity.declared.Arrival.{Arrival}
 use Rattle.hwp_cpu_check.specs.declared.Handler.{Handler}
 use Rattle.hwp_cpu_check.specs.Handlers as handlers
 use Rattle.hwp_cpu_check.specs.Lines.{no_lines, with_lines}

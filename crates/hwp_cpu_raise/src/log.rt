@@ -1,12 +1,8 @@
 ghost use Rattle.std.specs.Prelude.{◌≡◌};
 ghost use Rattle.hwp_cpu_raise.specs.Logs.{answer, begin};
 
-use hwp_banks::{BANKS, Bank, Event};
-use hwp_core_rule::Step;
-use hwp_core_task::{Ranked, Scheduled, Task, Turn};
+use hwp_cpu_check::{BANKS, Bank, Body, Event, Layout, Ranked, Scheduled, Step, Task, Turn, Who};
 use hwp_cpu_control::{ReadStop, ReadStopAnswer};
-use hwp_geom::{Layout, Who};
-use hwp_page::Body;
 use std::snapshot::Snapshot;
 
 /// The bank of a raw event (this project's rule).
@@ -52,23 +48,9 @@ impl Log {
 }
 
 impl Task for Log {
-    ghost use Rattle.std.specs.Prelude.{◌≡◌, None};
-    ghost use Rattle.hwp_core_task.specs.declared.Turn.TheVariants.{Moved};
-    ghost use Rattle.hwp_cpu_raise.specs.Logs.{Fits, next, plan};
+    ghost use Rattle.hwp_cpu_raise.specs.Logs as logs;
 
-    ghost who = { λ l. l.read.who };
-
-    ghost plan = { λ l. plan l };
-
-    ghost put = { λ l. None };
-
-    ghost bare = { λ l. l };
-
-    ghost shows = { λ l found got. Unit {0} };
-
-    ghost next = { λ layout l found got after result. (after ≡ next l found) × (result ≡ Moved) };
-
-    ghost fits = { λ layout view l. Fits layout view l };
+    ghost task = { logs.task };
 
     fn who(&self) -> Who {
         self.read.who()
@@ -95,17 +77,6 @@ impl Task for Log {
 }
 
 impl Ranked for Log {
-    ghost use Rattle.std.specs.Prelude.{false, None};
-    ghost use Rattle.hwp_cpu_raise.specs.Logs.{cost};
-
-    ghost class_of = { λ l. 4 };
-
-    ghost cost = { λ l words. cost l };
-
-    ghost aborts = { λ l. false };
-
-    ghost claims = { λ l. None };
-
     fn class(&self) -> u8 {
         4
     }

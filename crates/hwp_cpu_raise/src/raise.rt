@@ -1,14 +1,10 @@
 ghost use Rattle.std.specs.Prelude.{◌≡◌, ◌≤◌, length};
 ghost use Rattle.hwp_cpu_raise.specs.Raises.{AfterProcess, AfterStop, BeginsCheck, after_handler, answer, begin, ended, mode_of, thread_of};
 
-use hwp_banks::{BANKS, Bank};
-use hwp_core_rule::{SharedWord, Step};
-use hwp_core_task::{Ranked, Scheduled, Task, Turn};
-use hwp_cpu_check::{EventOutcome, Handler, ToldLines, no_events};
-use hwp_geom::{Layout, List, Mode, Page, Proc, Thread, Who};
-use hwp_page::Body;
-use hwp_severity::McgBits;
-use hwp_words::{ProcessWord, is_stopped};
+use hwp_cpu_check::{
+    BANKS, Bank, Body, EventOutcome, Handler, Layout, List, McgBits, Mode, Page, Proc, ProcessWord,
+    Ranked, Scheduled, SharedWord, Step, Task, Thread, ToldLines, Turn, Who, is_stopped, no_events,
+};
 use std::alloc::Global;
 use std::mem;
 use std::snapshot::Snapshot;
@@ -217,22 +213,9 @@ fn mode_of(raiser: Option<Raiser>) -> Mode
 }
 
 impl Task for Raise {
-    ghost use Rattle.hwp_cpu_raise.specs.Raises.{Follows, Shows, bare, plan, put};
-    ghost use Rattle.hwp_cpu_raise.specs.Fits.{Fits};
+    ghost use Rattle.hwp_cpu_raise.specs.Fits as fits;
 
-    ghost who = { λ r. r.who };
-
-    ghost plan = { λ r. plan r };
-
-    ghost put = { λ r. put r };
-
-    ghost bare = { λ r. bare r };
-
-    ghost shows = { λ r found got. Shows r found got };
-
-    ghost next = { λ layout r found got after result. Follows layout r found got after result };
-
-    ghost fits = { λ layout view r. Fits layout view r };
+    ghost task = { fits.task };
 
     fn who(&self) -> Who {
         self.who
@@ -298,16 +281,6 @@ impl Task for Raise {
 }
 
 impl Ranked for Raise {
-    ghost use Rattle.hwp_cpu_raise.specs.Costs.{aborts, claims, class, cost};
-
-    ghost class_of = { λ r. class r };
-
-    ghost cost = { λ r words. cost r words };
-
-    ghost aborts = { λ r. aborts r };
-
-    ghost claims = { λ r. claims r };
-
     fn class(&self) -> u8 {
         match &self.at {
             RaiseAt::Handle { handler } => handler.class(),

@@ -1,6 +1,4 @@
-use hwp_cpu_check::{EventOutcome, Found};
-use hwp_geom::{Frame, List};
-use hwp_report_text::Answer;
+use hwp_cpu_check::{Answer, EventOutcome, Found, Frame, List};
 
 /// What a command did to a frame itself, beside the failures that its machine checks told (this project's rule).
 #[derive(Clone, Copy)]

@@ -5,39 +5,39 @@ use Rattle.std.proofs.lemmas.Option.{none-some, same_Some, slice_get_within}
 use Rattle.std.specs.FinSet as set
 use Rattle.std.specs.List.{find}
 use Rattle.std.specs.Ordering.{nat_cmp}
-use Rattle.hwp_geom.specs.declared.Frame.{Frame}
-use Rattle.hwp_geom.specs.declared.Layout.{Layout}
-use Rattle.hwp_geom.specs.declared.Page.{Page}
-use Rattle.hwp_geom.specs.declared.TransDecl.{TransDecl}
-use Rattle.hwp_geom.specs.declared.VSlot.{VSlot}
-use Rattle.hwp_kill.specs.Limits.{slot_limit}
-use Rattle.hwp_page.specs.declared.PageState.{PageState}
-use Rattle.hwp_page.specs.History.{BodyValue}
-use Rattle.hwp_words.specs.Translations.{pte_word}
-use Rattle.hwp_words.specs.declared.Pte.TheVariants as ptes
-use Rattle.hwp_core_rule.specs.declared.Ref.{Ref}
-use Rattle.hwp_core_rule.specs.declared.Step.{Step}
-use Rattle.hwp_core_rule.specs.declared.Step.TheVariants as steps
-use Rattle.hwp_core_rule.specs.declared.View.{View}
-use Rattle.hwp_core_rule.specs.Asks.{CanFree, CanSetPte, frame_of}
-use Rattle.hwp_core_rule.specs.Logs.{state_of}
-use Rattle.hwp_core_rule.specs.Lasting.{IsMild}
-use Rattle.hwp_core_rule.specs.Views.{frame_in, is_body_of, less_named, refs_on, with_named}
-use Rattle.hwp_core_rule.specs.Words.{Words}
-use Rattle.hwp_core_rule.proofs.Lists.{same-number, same-or, set_here, set_else}
-use Rattle.hwp_core_rule.proofs.MetWords.{frame-named, lock-knows}
-use Rattle.hwp_core_task.specs.declared.Turn.{Turn}
-use Rattle.hwp_core_task.specs.declared.Turn.TheVariants.{Moved}
-use Rattle.hwp_core_task.specs.Calls.{CanMake, Steps}
-use Rattle.hwp_core_task.specs.Hands.{Hand, hand_of}
-use Rattle.hwp_core_task.specs.Ranks.{Member, member, IsRanked, is_waits, words_at}
-use Rattle.hwp_core_task.specs.Boards.{view_of}
-use Rattle.hwp_core_task.proofs.StepRanks.{rank-of, steps-on}
-use Rattle.hwp_core_task.proofs.StepLeaves.{on-turn-after, hand-planned, steps-planned, can-make}
-use Rattle.hwp_core_task.proofs.MadeEntries.{ListsNone}
+use Rattle.hwp_core.specs.hwp_geom.declared.Frame.{Frame}
+use Rattle.hwp_core.specs.hwp_geom.declared.Layout.{Layout}
+use Rattle.hwp_core.specs.hwp_geom.declared.Page.{Page}
+use Rattle.hwp_core.specs.hwp_geom.declared.TransDecl.{TransDecl}
+use Rattle.hwp_core.specs.hwp_geom.declared.VSlot.{VSlot}
+use Rattle.hwp_core.specs.hwp_kill.Limits.{slot_limit}
+use Rattle.hwp_core.specs.hwp_page.declared.PageState.{PageState}
+use Rattle.hwp_core.specs.hwp_page.History.{BodyValue}
+use Rattle.hwp_core.specs.hwp_words.Translations.{pte_word}
+use Rattle.hwp_core.specs.hwp_words.declared.Pte.TheVariants as ptes
+use Rattle.hwp_core.specs.hwp_core_rule.declared.Ref.{Ref}
+use Rattle.hwp_core.specs.hwp_core_rule.declared.Step.{Step}
+use Rattle.hwp_core.specs.hwp_core_rule.declared.Step.TheVariants as steps
+use Rattle.hwp_core.specs.hwp_core_rule.declared.View.{View}
+use Rattle.hwp_core.specs.hwp_core_rule.Asks.{CanFree, CanSetPte, frame_of}
+use Rattle.hwp_core.specs.hwp_core_rule.Logs.{state_of}
+use Rattle.hwp_core.specs.hwp_core_rule.Lasting.{IsMild}
+use Rattle.hwp_core.specs.hwp_core_rule.Views.{frame_in, is_body_of, less_named, refs_on, with_named}
+use Rattle.hwp_core.specs.hwp_core_rule.Words.{Words}
+use Rattle.hwp_core.proofs.of_hwp_core_rule.Lists.{same-number, same-or, set_here, set_else}
+use Rattle.hwp_core.proofs.of_hwp_core_rule.MetWords.{frame-named, lock-knows}
+use Rattle.hwp_core.specs.hwp_core_task.declared.Turn.{Turn}
+use Rattle.hwp_core.specs.hwp_core_task.declared.Turn.TheVariants.{Moved}
+use Rattle.hwp_core.specs.hwp_core_task.Calls.{CanMake, Steps}
+use Rattle.hwp_core.specs.hwp_core_task.Hands.{Hand, hand_of}
+use Rattle.hwp_core.specs.hwp_core_task.Ranks.{IsRanked, is_waits, words_at}
+use Rattle.hwp_core.specs.hwp_core_task.Boards.{view_of}
+use Rattle.hwp_core.proofs.of_hwp_core_task.StepRanks.{rank-of, steps-on}
+use Rattle.hwp_core.proofs.of_hwp_core_task.StepLeaves.{on-turn-after, hand-planned, steps-planned, can-make}
+use Rattle.hwp_core.proofs.of_hwp_core_task.MadeEntries.{ListsNone}
 use Rattle.hwp_core.specs.Holds.{page_lock}
 use Rattle.hwp_evict.specs.declared.clear.Clear.{Clear}
-use Rattle.hwp_evict.specs.Clears.{pte_of, IsNextFrom, plan, plan_at, Follows, FollowsAt, Shows, ShowsAt, is_done, word_now, IsCounted, IsClearing, Fits, cost, cost_at}
+use Rattle.hwp_evict.specs.Clears.{pte_of, IsNextFrom, plan, plan_at, Follows, FollowsAt, Shows, ShowsAt, is_done, word_now, IsCounted, IsClearing, Fits, cost, cost_at, task as clear-task}
 use Rattle.hwp_evict.specs.Vacates.{page_held, with_frame}
 use Rattle.hwp_evict.proofs.TranslationWrites.{trans-word}
 use Rattle.hwp_evict.proofs.VacateLaws.{lock-held, refs-are}
@@ -274,11 +274,8 @@ clear-lists c step is = which c.next is
     which (Some slot) e = subst ListsNone (same_Some (steps.SetPte slot (pte_of c.barred)) step e) tt
     which None e = absurd (none-some step e)
 
-abbrev clear-member : Member Clear
-clear-member = member (λ c. c.who) plan (λ c. None) (λ c. c) (λ layout c found got after result. Follows c after × (result ≡ Moved)) Fits (λ c. 1) cost (λ c. false) (λ c. None)
-
-pub clear-ranked : IsRanked clear-member
-clear-ranked = rank-of clear-member (λ s. refl) (λ s. (omega arith, omega arith)) (λ layout a seat s rule fits. let few : _ = clear-small (words_at layout a) s in omega (arith, few))
+pub clear-ranked : IsRanked clear-task
+clear-ranked = rank-of clear-task (λ s. refl) (λ s. (omega arith, omega arith)) (λ layout a seat s rule fits. let few : _ = clear-small (words_at layout a) s in omega (arith, few))
     (λ layout seat a b s t turn made goes. clears-fall s t (words_at layout a) (words_at layout b) made.planned made.follows.0 (both layout (view_of a seat) _ s made.step made.found made.got made.fits made.planned (steps-on made)).0)
     (λ layout seat a b s t turn made is quiet. absurd (both_ways true (sym is ∙ ap is_waits made.follows.1) refl))
     (λ s. refl) clear-mild

@@ -6,8 +6,8 @@ use Rattle.std.specs.Ordering.{nat_cmp}
 use Rattle.std.specs.Cmp.{nat_cmp_total}
 use Rattle.std.specs.FinSet as set
 use Rattle.std.specs.FinSet.{nat_cmp-IsAntisymmetric}
-use Rattle.hwp_geom.specs.declared.VSlot.{VSlot}
-use Rattle.hwp_kill.specs.Lowest.{HasNoneFrom, IsLowestFrom}
+use Rattle.hwp_core.specs.hwp_geom.declared.VSlot.{VSlot}
+use Rattle.hwp_core.specs.hwp_kill.Lowest.{HasNoneFrom, IsLowestFrom}
 
 pub tells-empty : (slots : set.FinSet nat_cmp) (found : Option VSlot) (r : Bool)
     → MatchOption found (HasNoneFrom slots 0) (λ (v : VSlot). IsLowestFrom slots 0 v.0) → is_some found ≡ not r → IsTrue r ↔ (slots ≡ set.empty)

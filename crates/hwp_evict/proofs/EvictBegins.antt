@@ -4,23 +4,23 @@ use Rattle.std.proofs.lemmas.List.{drop_all}
 use Rattle.std.proofs.lemmas.Option.{same_Some}
 use Rattle.std.specs.FinSet as set
 use Rattle.std.specs.List.{find}
-use Rattle.hwp_geom.specs.declared.Frame.{Frame}
-use Rattle.hwp_geom.specs.declared.Layout.{Layout}
-use Rattle.hwp_geom.specs.declared.Page.{Page}
-use Rattle.hwp_geom.specs.declared.Who.{Who}
-use Rattle.hwp_geom.specs.Layout.{IsSound}
-use Rattle.hwp_page.specs.History.{BodyValue}
-use Rattle.hwp_core_rule.specs.declared.InHand.{InHand}
-use Rattle.hwp_core_rule.specs.declared.Log.{Log}
-use Rattle.hwp_core_rule.specs.declared.View.{View}
-use Rattle.hwp_core_rule.specs.Logs.{log_of, state_of}
-use Rattle.hwp_core_rule.specs.Views.{is_body_of}
-use Rattle.hwp_core_rule.specs.parts.Entries.{HasSeen}
-use Rattle.hwp_core_rule.specs.parts.Fits.{FitsWords}
-use Rattle.hwp_core_rule.proofs.Lists.{same-number}
-use Rattle.hwp_core_task.specs.Calls.{IsOnTurn}
-use Rattle.hwp_core_task.specs.Hands.{Hand, body_in}
-use Rattle.hwp_core_task.specs.Known.{HasMadeNone, SawLog}
+use Rattle.hwp_core.specs.hwp_geom.declared.Frame.{Frame}
+use Rattle.hwp_core.specs.hwp_geom.declared.Layout.{Layout}
+use Rattle.hwp_core.specs.hwp_geom.declared.Page.{Page}
+use Rattle.hwp_core.specs.hwp_geom.declared.Who.{Who}
+use Rattle.hwp_core.specs.hwp_geom.Layout.{IsSound}
+use Rattle.hwp_core.specs.hwp_page.History.{BodyValue}
+use Rattle.hwp_core.specs.hwp_core_rule.declared.InHand.{InHand}
+use Rattle.hwp_core.specs.hwp_core_rule.declared.Log.{Log}
+use Rattle.hwp_core.specs.hwp_core_rule.declared.View.{View}
+use Rattle.hwp_core.specs.hwp_core_rule.Logs.{log_of, state_of}
+use Rattle.hwp_core.specs.hwp_core_rule.Views.{is_body_of}
+use Rattle.hwp_core.specs.hwp_core_rule.parts.Entries.{HasSeen}
+use Rattle.hwp_core.specs.hwp_core_rule.parts.Fits.{FitsWords}
+use Rattle.hwp_core.proofs.of_hwp_core_rule.Lists.{same-number}
+use Rattle.hwp_core.specs.hwp_core_task.Calls.{IsOnTurn}
+use Rattle.hwp_core.specs.hwp_core_task.Hands.{Hand, body_in}
+use Rattle.hwp_core.specs.hwp_core_task.Known.{HasMadeNone, SawLog}
 use Rattle.hwp_core.specs.Holds.{HoldsPage, held, page_lock}
 use Rattle.hwp_core.specs.Unholds as unholds
 use Rattle.hwp_core.proofs.GiveUpLaws.{page-given-up}

@@ -4,30 +4,30 @@ use Rattle.std.proofs.lemmas.Bool.{both_ways}
 use Rattle.std.proofs.lemmas.Option.{none-some, same_Some}
 use Rattle.std.specs.FinSet as set
 use Rattle.std.specs.Ordering.{nat_cmp}
-use Rattle.hwp_geom.specs.declared.Frame.{Frame}
-use Rattle.hwp_geom.specs.declared.Layout.{Layout}
-use Rattle.hwp_geom.specs.declared.Page.{Page}
-use Rattle.hwp_geom.specs.declared.Who.{Who}
-use Rattle.hwp_page.specs.declared.At.{At}
-use Rattle.hwp_page.specs.History.{BodyValue}
-use Rattle.hwp_words.specs.declared.Pte.TheVariants as ptes
-use Rattle.hwp_words.specs.Stops.{is_stopped}
-use Rattle.hwp_core_rule.specs.declared.SharedWord.TheVariants as places
-use Rattle.hwp_core_rule.specs.declared.State.{State}
-use Rattle.hwp_core_rule.specs.declared.Step.{Step}
-use Rattle.hwp_core_rule.specs.declared.Step.TheVariants as steps
-use Rattle.hwp_core_rule.specs.declared.View.{View}
-use Rattle.hwp_core_rule.specs.Lasting.{IsMild}
-use Rattle.hwp_core_rule.specs.Steps.{place_of, word_after}
-use Rattle.hwp_core_rule.specs.Words.{Words, read}
-use Rattle.hwp_core_task.specs.declared.Turn.{Turn}
-use Rattle.hwp_core_rule.specs.Moves.{Move}
-use Rattle.hwp_core_task.specs.Boards.{view_of}
-use Rattle.hwp_core_task.specs.Calls.{rec_of}
-use Rattle.hwp_core_task.specs.Hands.{hand_of, empty}
-use Rattle.hwp_core_task.specs.Classes.{TellsClass}
-use Rattle.hwp_core_task.specs.Ranks.{Member, member, Made, CostFalls, IsRanked, OtherHand, Quiet, HasFrame, HasPage, is_waits, words_at}
-use Rattle.hwp_core_task.proofs.StepRanks.{met, words-kept, steps-on, rank-of}
+use Rattle.hwp_core.specs.hwp_geom.declared.Frame.{Frame}
+use Rattle.hwp_core.specs.hwp_geom.declared.Layout.{Layout}
+use Rattle.hwp_core.specs.hwp_geom.declared.Page.{Page}
+use Rattle.hwp_core.specs.hwp_geom.declared.Who.{Who}
+use Rattle.hwp_core.specs.hwp_page.declared.At.{At}
+use Rattle.hwp_core.specs.hwp_page.History.{BodyValue}
+use Rattle.hwp_core.specs.hwp_words.declared.Pte.TheVariants as ptes
+use Rattle.hwp_core.specs.hwp_words.Stops.{is_stopped}
+use Rattle.hwp_core.specs.hwp_core_rule.declared.SharedWord.TheVariants as places
+use Rattle.hwp_core.specs.hwp_core_rule.declared.State.{State}
+use Rattle.hwp_core.specs.hwp_core_rule.declared.Step.{Step}
+use Rattle.hwp_core.specs.hwp_core_rule.declared.Step.TheVariants as steps
+use Rattle.hwp_core.specs.hwp_core_rule.declared.View.{View}
+use Rattle.hwp_core.specs.hwp_core_rule.Lasting.{IsMild}
+use Rattle.hwp_core.specs.hwp_core_rule.Steps.{place_of, word_after}
+use Rattle.hwp_core.specs.hwp_core_rule.Words.{Words, read}
+use Rattle.hwp_core.specs.hwp_core_task.declared.Turn.{Turn}
+use Rattle.hwp_core.specs.hwp_core_rule.Moves.{Move}
+use Rattle.hwp_core.specs.hwp_core_task.Boards.{view_of}
+use Rattle.hwp_core.specs.hwp_core_task.Calls.{rec_of}
+use Rattle.hwp_core.specs.hwp_core_task.Hands.{hand_of, empty}
+use Rattle.hwp_core.specs.hwp_core_task.Classes.{TellsClass}
+use Rattle.hwp_core.specs.hwp_core_task.Ranks.{Made, CostFalls, IsRanked, OtherHand, Quiet, HasFrame, HasPage, is_waits, words_at}
+use Rattle.hwp_core.proofs.of_hwp_core_task.StepRanks.{met, words-kept, steps-on, rank-of}
 use Rattle.hwp_core.specs.declared.give_up.GiveUp.{GiveUp}
 use Rattle.hwp_core.specs.declared.give_up.GiveUpAt.{GiveUpAt}
 use Rattle.hwp_core.specs.declared.give_up.GiveUpAt.TheVariants as give_up_at
@@ -54,7 +54,7 @@ use Rattle.hwp_evict.specs.declared.evict.Refusal.{Refusal}
 use Rattle.hwp_evict.specs.declared.evict.Refusal.TheVariants as refusals
 use Rattle.hwp_evict.specs.declared.vacate.Vacate.{Vacate}
 use Rattle.hwp_evict.specs.Evictions.{copies, absence}
-use Rattle.hwp_evict.specs.Evicts.{AfterBad, AfterHeld, AfterHold, AfterHoldAt, Enters, Fits, FitsAt, Follows, FollowsAt, Shows, ShowsAt, after_clear, after_stop, after_unhold, after_vacate, bare, bare_at, class, class_at, cost, cost_at, GoesOut, place, plan, plan_at, put, refused, turn_after}
+use Rattle.hwp_evict.specs.Evicts.{AfterBad, AfterHeld, AfterHold, AfterHoldAt, Enters, Fits, FitsAt, Follows, FollowsAt, Shows, ShowsAt, after_clear, after_stop, after_unhold, after_vacate, bare, bare_at, class, class_at, cost, cost_at, GoesOut, place, plan, plan_at, refused, turn_after, task as evict-task}
 use Rattle.hwp_evict.specs.Clears as clears
 use Rattle.hwp_evict.specs.Vacates as vacates
 use Rattle.hwp_evict.proofs.ClearLaws.{clear-mild, clear-small, clears-fall}
@@ -208,21 +208,18 @@ after-goes (at.Unhold u answer) = refl
 after-goes (at.GiveUp g) = refl
 after-goes (at.Over answer) = refl
 
-abbrev pub evict-member : Member Evict
-evict-member = member (λ e. e.who) plan put bare (λ layout e found got after result. Follows e found got after result) Fits class cost (λ e. false) (λ e. None)
-
-module _ {layout : Layout} {seat : ℕ} {a b : State} {s t : Evict} {turn : Turn} (made : Made evict-member layout seat a b s t turn) where
-  cost-falls : is_waits turn ≡ false → CostFalls evict-member layout a b s t
+module _ {layout : Layout} {seat : ℕ} {a b : State} {s t : Evict} {turn : Turn} (made : Made evict-task layout seat a b s t turn) where
+  cost-falls : is_waits turn ≡ false → CostFalls evict-task layout a b s t
   cost-falls goes = evict-falls (words_at layout a) (words_at layout b) s made.step made.found made.got t turn made.planned
       (both layout (view_of a seat) _ s made.step made.found made.got made.fits made.planned (steps-on made)).0 (met made) (words-kept made) made.follows goes
 
-  waits-falls : is_waits turn ≡ true → Quiet (class s) layout a seat → CostFalls evict-member layout a b s t
+  waits-falls : is_waits turn ≡ true → Quiet (class s) layout a seat → CostFalls evict-task layout a b s t
   waits-falls is quiet = which s.at made quiet
     where
       never : {x : Turn} {n m : ℕ} → turn ≡ x → is_waits x ≡ false → n < m
       never same goes = absurd (both_ways true (sym is ∙ ap is_waits same ∙ goes) refl)
 
-      which : (x : EvictAt) → Made evict-member layout seat a b (record s { at = x }) t turn → Quiet (class_at x) layout a seat → cost_at t.at (words_at layout b) < cost_at x (words_at layout a)
+      which : (x : EvictAt) → Made evict-task layout seat a b (record s { at = x }) t turn → Quiet (class_at x) layout a seat → cost_at t.at (words_at layout b) < cost_at x (words_at layout a)
       which at.LoadStop m quiet = never m.follows.1.1 (after-goes (after_stop s.who s.page m.found))
       which (at.Hold h) m quiet = by (hold-ranked.waits layout seat a b h (holds.next h m.found m.got) turn (record {
         step = m.step;
@@ -263,8 +260,8 @@ evict-mild s step is = which s.at is
     which (at.GiveUp g) e = give-up-mild g step e
     which (at.Over answer) e = absurd (none-some step e)
 
-pub evict-ranked : IsRanked evict-member
-evict-ranked = rank-of evict-member (λ s. refl) evict-class (λ layout a seat s rule fits. let few : _ = evict-below (words_at layout a) s in omega (arith, few))
+pub evict-ranked : IsRanked evict-task
+evict-ranked = rank-of evict-task (λ s. refl) evict-class (λ layout a seat s rule fits. let few : _ = evict-below (words_at layout a) s in omega (arith, few))
     (λ layout seat a b s t turn made goes. cost-falls made goes) (λ layout seat a b s t turn made is quiet. waits-falls made is quiet)
     (λ s. refl) evict-mild
 
@@ -310,7 +307,7 @@ tells-at layout view e fits = which e.at fits.at
         by false on = under-way view (at.GiveUp g) (give-up-tells layout view g has.give_up on) (goes (give_ups.plan g) on)
     which (at.Over answer) has = nothing-tells view (at.Over answer) has.0
 
-pub evict-tells : TellsClass evict-member
+pub evict-tells : TellsClass evict-task
 evict-tells = record {
   frame = λ layout view s fits some. (tells-at layout view s fits).0 some;
   page = λ layout view s fits some. (tells-at layout view s fits).1 some;

@@ -3,32 +3,32 @@ use Rattle.std.proofs.Common.{◌≡◌, inl, inr, ℕ, ◌+◌, ◌<◌, ◌≤
 use Rattle.std.proofs.lemmas.Bool.{both_ways, eqb-true, eqb-false}
 use Rattle.std.proofs.lemmas.List.{drop-append-le, length-append}
 use Rattle.std.proofs.lemmas.Option.{none-some, same_Some}
-use Rattle.hwp_geom.specs.declared.Frame.{Frame}
-use Rattle.hwp_geom.specs.declared.Layout.{Layout}
-use Rattle.hwp_geom.specs.declared.Page.{Page}
-use Rattle.hwp_geom.specs.declared.Who.{Who}
-use Rattle.hwp_geom.specs.Layout.{IsSound}
-use Rattle.hwp_page.specs.declared.PageState.{PageState}
-use Rattle.hwp_page.specs.History.{BodyValue}
-use Rattle.hwp_core_rule.specs.declared.FrameLock.{FrameLock}
-use Rattle.hwp_core_rule.specs.declared.InHand.{InHand}
-use Rattle.hwp_core_rule.specs.declared.Log.{Log}
-use Rattle.hwp_core_rule.specs.declared.SharedWord.TheVariants as places
-use Rattle.hwp_core_rule.specs.declared.Sight.{Sight}
-use Rattle.hwp_core_rule.specs.declared.Step.{Step}
-use Rattle.hwp_core_rule.specs.declared.Step.TheVariants as steps
-use Rattle.hwp_core_rule.specs.declared.View.{View}
-use Rattle.hwp_core_rule.specs.Lists.{SomeMember}
-use Rattle.hwp_core_rule.specs.Logs.{log_of, state_of}
-use Rattle.hwp_core_rule.specs.Views.{frame_in, lock_found, noted, stamp_of, taken}
-use Rattle.hwp_core_rule.specs.parts.Entries.{HasSeen, Shows}
-use Rattle.hwp_core_rule.proofs.Lists.{some-last}
-use Rattle.hwp_core_task.specs.Calls.{IsOnTurn, Steps}
-use Rattle.hwp_core_task.specs.Hands.{Hand, body_in, hand_of, taking}
-use Rattle.hwp_core_task.proofs.StepLeaves.{content_of, hand-planned, steps-planned}
-use Rattle.hwp_core_task.specs.Known.{HasMadeNone, SawLog}
-use Rattle.hwp_core_task.proofs.MadeEntries.{deeds-same}
-use Rattle.hwp_core_task.proofs.SightKeeps.{saw-bad-of-load, saw-log-stays}
+use Rattle.hwp_core.specs.hwp_geom.declared.Frame.{Frame}
+use Rattle.hwp_core.specs.hwp_geom.declared.Layout.{Layout}
+use Rattle.hwp_core.specs.hwp_geom.declared.Page.{Page}
+use Rattle.hwp_core.specs.hwp_geom.declared.Who.{Who}
+use Rattle.hwp_core.specs.hwp_geom.Layout.{IsSound}
+use Rattle.hwp_core.specs.hwp_page.declared.PageState.{PageState}
+use Rattle.hwp_core.specs.hwp_page.History.{BodyValue}
+use Rattle.hwp_core.specs.hwp_core_rule.declared.FrameLock.{FrameLock}
+use Rattle.hwp_core.specs.hwp_core_rule.declared.InHand.{InHand}
+use Rattle.hwp_core.specs.hwp_core_rule.declared.Log.{Log}
+use Rattle.hwp_core.specs.hwp_core_rule.declared.SharedWord.TheVariants as places
+use Rattle.hwp_core.specs.hwp_core_rule.declared.Sight.{Sight}
+use Rattle.hwp_core.specs.hwp_core_rule.declared.Step.{Step}
+use Rattle.hwp_core.specs.hwp_core_rule.declared.Step.TheVariants as steps
+use Rattle.hwp_core.specs.hwp_core_rule.declared.View.{View}
+use Rattle.hwp_core.specs.hwp_core_rule.Lists.{SomeMember}
+use Rattle.hwp_core.specs.hwp_core_rule.Logs.{log_of, state_of}
+use Rattle.hwp_core.specs.hwp_core_rule.Views.{frame_in, lock_found, noted, stamp_of, taken}
+use Rattle.hwp_core.specs.hwp_core_rule.parts.Entries.{HasSeen, Shows}
+use Rattle.hwp_core.proofs.of_hwp_core_rule.Lists.{some-last}
+use Rattle.hwp_core.specs.hwp_core_task.Calls.{IsOnTurn, Steps}
+use Rattle.hwp_core.specs.hwp_core_task.Hands.{Hand, body_in, hand_of, taking}
+use Rattle.hwp_core.proofs.of_hwp_core_task.StepLeaves.{content_of, hand-planned, steps-planned}
+use Rattle.hwp_core.specs.hwp_core_task.Known.{HasMadeNone, SawLog}
+use Rattle.hwp_core.proofs.of_hwp_core_task.MadeEntries.{deeds-same}
+use Rattle.hwp_core.proofs.of_hwp_core_task.SightKeeps.{saw-bad-of-load, saw-log-stays}
 use Rattle.hwp_core.specs.declared.hold.Hold.{Hold}
 use Rattle.hwp_core.specs.declared.hold.HoldAt.{HoldAt}
 use Rattle.hwp_core.specs.declared.hold.HoldAt.TheVariants as hold_at

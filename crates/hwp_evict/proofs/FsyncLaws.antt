@@ -2,32 +2,32 @@
 use Rattle.std.proofs.Common.{◌≡◌, ◌≢◌, ℕ, ◌<◌, ◌≤◌, ◌==◌, Bool, true, false, cond, Option, Some, None, refl, sym, ap, ◌∙◌, subst, arith}
 use Rattle.std.proofs.lemmas.Bool.{both_ways, eqb-true, eqb-false}
 use Rattle.std.proofs.lemmas.Option.{none-some, same_Some}
-use Rattle.hwp_geom.specs.declared.Layout.{Layout}
-use Rattle.hwp_page.specs.History.{BodyValue}
-use Rattle.hwp_words.specs.Stops.{is_stopped}
-use Rattle.hwp_core_rule.specs.declared.SharedWord.TheVariants as places
-use Rattle.hwp_core_rule.specs.declared.Step.{Step}
-use Rattle.hwp_core_rule.specs.declared.Step.TheVariants as steps
-use Rattle.hwp_core_rule.specs.declared.View.{View}
-use Rattle.hwp_core_rule.specs.Lasting.{IsMild}
-use Rattle.hwp_core_rule.specs.Words.{Words}
-use Rattle.hwp_core_task.specs.declared.Turn.{Turn}
-use Rattle.hwp_core_task.specs.declared.Turn.TheVariants.{Moved, Answered}
-use Rattle.hwp_core_task.specs.Calls.{CanMake, Steps}
-use Rattle.hwp_core_task.specs.Hands.{hand_of, empty}
-use Rattle.hwp_core_task.specs.Ranks.{Member, member, IsRanked, is_waits, words_at}
-use Rattle.hwp_core_task.specs.Classes.{TellsClass}
-use Rattle.hwp_core_task.proofs.StepRanks.{rank-of}
-use Rattle.hwp_core_task.proofs.StepLeaves.{on-turn-after, hand-planned, steps-planned, can-make}
-use Rattle.hwp_core_task.specs.Known.{Saw, HasMadeNone}
-use Rattle.hwp_core_task.proofs.SightKeeps.{saw-load, saw-report}
-use Rattle.hwp_core_task.proofs.MadeEntries.{deeds-same}
+use Rattle.hwp_core.specs.hwp_geom.declared.Layout.{Layout}
+use Rattle.hwp_core.specs.hwp_page.History.{BodyValue}
+use Rattle.hwp_core.specs.hwp_words.Stops.{is_stopped}
+use Rattle.hwp_core.specs.hwp_core_rule.declared.SharedWord.TheVariants as places
+use Rattle.hwp_core.specs.hwp_core_rule.declared.Step.{Step}
+use Rattle.hwp_core.specs.hwp_core_rule.declared.Step.TheVariants as steps
+use Rattle.hwp_core.specs.hwp_core_rule.declared.View.{View}
+use Rattle.hwp_core.specs.hwp_core_rule.Lasting.{IsMild}
+use Rattle.hwp_core.specs.hwp_core_rule.Words.{Words}
+use Rattle.hwp_core.specs.hwp_core_task.declared.Turn.{Turn}
+use Rattle.hwp_core.specs.hwp_core_task.declared.Turn.TheVariants.{Moved, Answered}
+use Rattle.hwp_core.specs.hwp_core_task.Calls.{CanMake, Steps}
+use Rattle.hwp_core.specs.hwp_core_task.Hands.{hand_of, empty}
+use Rattle.hwp_core.specs.hwp_core_task.Ranks.{IsRanked, is_waits, words_at}
+use Rattle.hwp_core.specs.hwp_core_task.Classes.{TellsClass}
+use Rattle.hwp_core.proofs.of_hwp_core_task.StepRanks.{rank-of}
+use Rattle.hwp_core.proofs.of_hwp_core_task.StepLeaves.{on-turn-after, hand-planned, steps-planned, can-make}
+use Rattle.hwp_core.specs.hwp_core_task.Known.{Saw, HasMadeNone}
+use Rattle.hwp_core.proofs.of_hwp_core_task.SightKeeps.{saw-load, saw-report}
+use Rattle.hwp_core.proofs.of_hwp_core_task.MadeEntries.{deeds-same}
 use Rattle.hwp_evict.specs.declared.fsync.Fsync.{Fsync}
 use Rattle.hwp_evict.specs.declared.fsync.FsyncAt.{FsyncAt}
 use Rattle.hwp_evict.specs.declared.fsync.FsyncAt.TheVariants as at
 use Rattle.hwp_evict.specs.declared.fsync.FsyncAnswer.TheVariants as answers
 use Rattle.hwp_core.proofs.TaskTells.{no-frame, no-page}
-use Rattle.hwp_evict.specs.Fsyncs.{plan, plan_at, next, next_at, turn, turn_at, Fits, FitsAt, cost, cost_at}
+use Rattle.hwp_evict.specs.Fsyncs.{plan, plan_at, next, next_at, turn, turn_at, Fits, FitsAt, cost, cost_at, task as fsync-task}
 
 -- ---- the law of tasks
 
@@ -72,9 +72,6 @@ stays layout old new f step found got fits is made = (tt, λ after result follow
 
 -- ---- the law of the rank
 
-abbrev pub fsync-member : Member Fsync
-fsync-member = member (λ f. f.who) plan (λ f. None) (λ f. f) (λ layout f found got after result. (after ≡ next f found) × (result ≡ turn f found)) Fits (λ f. 4) cost (λ f. false) (λ f. None)
-
 -- every cost is small
 pub fsync-below : (f : Fsync) (w : Words) → cost f w ≤ 5
 fsync-below f w = which f.at
@@ -117,8 +114,8 @@ fsync-mild s step is = which s.at is
     which at.Report e = subst IsMild (same_Some (steps.ReportLost s.file) step e) tt
     which (at.Over answer) e = absurd (none-some step e)
 
-pub fsync-ranked : IsRanked fsync-member
-fsync-ranked = rank-of fsync-member (λ s. refl) (λ s. (omega arith, omega arith)) (λ layout a seat s rule fits. let few : cost s (words_at layout a) ≤ 5 = fsync-below s (words_at layout a) in omega (arith, few))
+pub fsync-ranked : IsRanked fsync-task
+fsync-ranked = rank-of fsync-task (λ s. refl) (λ s. (omega arith, omega arith)) (λ layout a seat s rule fits. let few : cost s (words_at layout a) ≤ 5 = fsync-below s (words_at layout a) in omega (arith, few))
     (λ layout seat a b s t turn made goes. subst (λ (x : Fsync). cost x (words_at layout b) < cost s (words_at layout a)) (sym made.follows.0) (falls s made.step made.found (words_at layout a) (words_at layout b) made.planned))
     (λ layout seat a b s t turn made is quiet. absurd (both_ways true (sym is ∙ ap is_waits made.follows.1 ∙ goes-on s made.found) refl))
     (λ s. refl) fsync-mild
@@ -126,7 +123,7 @@ fsync-ranked = rank-of fsync-member (λ s. refl) (λ s. (omega arith, omega arit
 -- ---- the class
 
 -- nothing is held
-pub fsync-tells : TellsClass fsync-member
+pub fsync-tells : TellsClass fsync-task
 fsync-tells = record {
   frame = λ layout view s fits some. absurd (no-frame view fits.hand_is refl refl refl some);
   page = λ layout view s fits some. absurd (no-page view fits.hand_is refl some);

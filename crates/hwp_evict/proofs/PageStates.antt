@@ -4,24 +4,24 @@ use Rattle.std.proofs.lemmas.Bool.{both_ways, eqb-true, ne_eqb}
 use Rattle.std.specs.Cmp.{nat_cmp_total, unsigned_tied}
 use Rattle.std.specs.FinSet as set
 use Rattle.std.specs.Ordering.{nat_cmp}
-use Rattle.hwp_geom.specs.declared.Frame.{Frame}
-use Rattle.hwp_geom.specs.declared.Layout.{Layout}
-use Rattle.hwp_geom.specs.declared.Page.{Page}
-use Rattle.hwp_geom.specs.declared.PageKind.{PageKind}
-use Rattle.hwp_geom.specs.declared.TransDecl.{TransDecl}
-use Rattle.hwp_page.specs.declared.Entry.{Entry}
-use Rattle.hwp_page.specs.declared.Met.TheVariants.{Word, Sigbus}
-use Rattle.hwp_page.specs.declared.PageState.{PageState}
-use Rattle.hwp_page.specs.declared.Situation.{Situation}
-use Rattle.hwp_page.specs.declared.Situation.TheVariants as situations
-use Rattle.hwp_page.specs.declared.What.{What}
-use Rattle.hwp_page.specs.declared.What.TheVariants as entries
-use Rattle.hwp_page.specs.Actions.{acted}
-use Rattle.hwp_page.specs.History.{BodyValue, IsReplay, Leads}
-use Rattle.hwp_page.specs.Refusals.{IsUnsaved}
-use Rattle.hwp_page.specs.Step.{Allowed, after, opening_of, is_file}
-use Rattle.hwp_core_rule.specs.Logs.{log_of, state_of}
-use Rattle.hwp_core_rule.proofs.OwedLosses.{after-kind}
+use Rattle.hwp_core.specs.hwp_geom.declared.Frame.{Frame}
+use Rattle.hwp_core.specs.hwp_geom.declared.Layout.{Layout}
+use Rattle.hwp_core.specs.hwp_geom.declared.Page.{Page}
+use Rattle.hwp_core.specs.hwp_geom.declared.PageKind.{PageKind}
+use Rattle.hwp_core.specs.hwp_geom.declared.TransDecl.{TransDecl}
+use Rattle.hwp_core.specs.hwp_page.declared.Entry.{Entry}
+use Rattle.hwp_core.specs.hwp_page.declared.Met.TheVariants.{Word, Sigbus}
+use Rattle.hwp_core.specs.hwp_page.declared.PageState.{PageState}
+use Rattle.hwp_core.specs.hwp_page.declared.Situation.{Situation}
+use Rattle.hwp_core.specs.hwp_page.declared.Situation.TheVariants as situations
+use Rattle.hwp_core.specs.hwp_page.declared.What.{What}
+use Rattle.hwp_core.specs.hwp_page.declared.What.TheVariants as entries
+use Rattle.hwp_core.specs.hwp_page.Actions.{acted}
+use Rattle.hwp_core.specs.hwp_page.History.{BodyValue, IsReplay, Leads}
+use Rattle.hwp_core.specs.hwp_page.Refusals.{IsUnsaved}
+use Rattle.hwp_core.specs.hwp_page.Step.{Allowed, after, opening_of, is_file}
+use Rattle.hwp_core.specs.hwp_core_rule.Logs.{log_of, state_of}
+use Rattle.hwp_core.proofs.of_hwp_core_rule.OwedLosses.{after-kind}
 use Rattle.hwp_core.specs.Holds.{IsBodyOf}
 use Rattle.hwp_core.proofs.BodyStates.{replay-state, replay-unused}
 use Rattle.hwp_evict.specs.declared.evict.Eviction.{Eviction}

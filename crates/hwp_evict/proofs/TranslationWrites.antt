@@ -4,39 +4,39 @@ use Rattle.std.proofs.lemmas.Bool.{ne_eqb}
 use Rattle.std.proofs.lemmas.Option.{none-some, same_Some, slice_get-get_or}
 use Rattle.std.specs.FinSet as set
 use Rattle.std.specs.List.{find}
-use Rattle.hwp_geom.specs.declared.Frame.{Frame}
-use Rattle.hwp_geom.specs.declared.Layout.{Layout}
-use Rattle.hwp_geom.specs.declared.Page.{Page}
-use Rattle.hwp_geom.specs.declared.TransDecl.{TransDecl}
-use Rattle.hwp_geom.specs.declared.VSlot.{VSlot}
-use Rattle.hwp_geom.specs.declared.Who.{Who}
-use Rattle.hwp_page.specs.declared.At.{At}
-use Rattle.hwp_page.specs.declared.PageState.{PageState}
-use Rattle.hwp_page.specs.History.{BodyValue}
-use Rattle.hwp_page.specs.Step.{IsOf}
-use Rattle.hwp_words.specs.Translations.{pte_word}
-use Rattle.hwp_words.specs.declared.Pte.TheVariants as ptes
-use Rattle.hwp_core_rule.specs.declared.InHand.{InHand}
-use Rattle.hwp_core_rule.specs.declared.Log.{Log}
-use Rattle.hwp_core_rule.specs.declared.SharedWord.TheVariants as places
-use Rattle.hwp_core_rule.specs.declared.State.{State}
-use Rattle.hwp_core_rule.specs.declared.Step.TheVariants as steps
-use Rattle.hwp_core_rule.specs.declared.View.{View}
-use Rattle.hwp_core_rule.specs.Asks.{CanFree, CanSetPte}
-use Rattle.hwp_core_rule.specs.Logs.{log_of, state_of, fitting_word}
-use Rattle.hwp_core_rule.specs.Rule.{Holds}
-use Rattle.hwp_core_rule.specs.Views.{frame_in, is_body_of, refs_on, with_named}
-use Rattle.hwp_core_rule.specs.Words.{index, words_of}
-use Rattle.hwp_core_rule.specs.parts.Fits.{FitsWords}
-use Rattle.hwp_core_rule.proofs.PageWords.{fitting-at}
-use Rattle.hwp_core_rule.proofs.Lists.{same-number, same-or, set_here, set_else}
-use Rattle.hwp_core_rule.proofs.MetWords.{frame-named, lock-knows}
-use Rattle.hwp_core_rule.proofs.MoveKeeps.{shaped}
-use Rattle.hwp_core_rule.proofs.WordsByKind.{words-read}
-use Rattle.hwp_core_task.specs.Calls.{IsOnTurn, Steps}
-use Rattle.hwp_core_task.specs.Hands.{Hand, hand_of, body_in}
-use Rattle.hwp_core_task.proofs.StepLeaves.{hand-planned}
-use Rattle.hwp_core_task.proofs.MadeEntries.{deeds-same}
+use Rattle.hwp_core.specs.hwp_geom.declared.Frame.{Frame}
+use Rattle.hwp_core.specs.hwp_geom.declared.Layout.{Layout}
+use Rattle.hwp_core.specs.hwp_geom.declared.Page.{Page}
+use Rattle.hwp_core.specs.hwp_geom.declared.TransDecl.{TransDecl}
+use Rattle.hwp_core.specs.hwp_geom.declared.VSlot.{VSlot}
+use Rattle.hwp_core.specs.hwp_geom.declared.Who.{Who}
+use Rattle.hwp_core.specs.hwp_page.declared.At.{At}
+use Rattle.hwp_core.specs.hwp_page.declared.PageState.{PageState}
+use Rattle.hwp_core.specs.hwp_page.History.{BodyValue}
+use Rattle.hwp_core.specs.hwp_page.Step.{IsOf}
+use Rattle.hwp_core.specs.hwp_words.Translations.{pte_word}
+use Rattle.hwp_core.specs.hwp_words.declared.Pte.TheVariants as ptes
+use Rattle.hwp_core.specs.hwp_core_rule.declared.InHand.{InHand}
+use Rattle.hwp_core.specs.hwp_core_rule.declared.Log.{Log}
+use Rattle.hwp_core.specs.hwp_core_rule.declared.SharedWord.TheVariants as places
+use Rattle.hwp_core.specs.hwp_core_rule.declared.State.{State}
+use Rattle.hwp_core.specs.hwp_core_rule.declared.Step.TheVariants as steps
+use Rattle.hwp_core.specs.hwp_core_rule.declared.View.{View}
+use Rattle.hwp_core.specs.hwp_core_rule.Asks.{CanFree, CanSetPte}
+use Rattle.hwp_core.specs.hwp_core_rule.Logs.{log_of, state_of, fitting_word}
+use Rattle.hwp_core.specs.hwp_core_rule.Rule.{Holds}
+use Rattle.hwp_core.specs.hwp_core_rule.Views.{frame_in, is_body_of, refs_on, with_named}
+use Rattle.hwp_core.specs.hwp_core_rule.Words.{index, words_of}
+use Rattle.hwp_core.specs.hwp_core_rule.parts.Fits.{FitsWords}
+use Rattle.hwp_core.proofs.of_hwp_core_rule.PageWords.{fitting-at}
+use Rattle.hwp_core.proofs.of_hwp_core_rule.Lists.{same-number, same-or, set_here, set_else}
+use Rattle.hwp_core.proofs.of_hwp_core_rule.MetWords.{frame-named, lock-knows}
+use Rattle.hwp_core.proofs.of_hwp_core_rule.MoveKeeps.{shaped}
+use Rattle.hwp_core.proofs.of_hwp_core_rule.WordsByKind.{words-read}
+use Rattle.hwp_core.specs.hwp_core_task.Calls.{IsOnTurn, Steps}
+use Rattle.hwp_core.specs.hwp_core_task.Hands.{Hand, hand_of, body_in}
+use Rattle.hwp_core.proofs.of_hwp_core_task.StepLeaves.{hand-planned}
+use Rattle.hwp_core.proofs.of_hwp_core_task.MadeEntries.{deeds-same}
 use Rattle.hwp_core.specs.Holds.{page_lock, refs_to}
 use Rattle.hwp_core.specs.Unholds as unholds
 use Rattle.hwp_core.specs.Unholds.{holding}

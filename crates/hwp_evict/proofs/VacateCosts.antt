@@ -2,18 +2,17 @@
 use Rattle.std.proofs.Common.{◌≡◌, ℕ, ◌+◌, ◌<◌, ◌≤◌, min, true, false, List, Some, None, is_none, refl, sym, ap, ◌∙◌, subst, arith}
 use Rattle.std.proofs.lemmas.Bool.{both_ways}
 use Rattle.std.proofs.lemmas.Option.{none-some, same_Some}
-use Rattle.hwp_geom.specs.declared.Layout.{Layout}
-use Rattle.hwp_core_rule.specs.declared.Step.{Step}
-use Rattle.hwp_core_rule.specs.declared.Step.TheVariants as steps
-use Rattle.hwp_core_rule.specs.declared.View.{View}
-use Rattle.hwp_core_rule.specs.Lasting.{IsMild}
-use Rattle.hwp_core_rule.specs.Words.{Words}
-use Rattle.hwp_core_task.specs.declared.Turn.TheVariants.{Moved}
-use Rattle.hwp_core_rule.specs.declared.InHand.{InHand}
-use Rattle.hwp_core_task.specs.Hands.{hand_of}
-use Rattle.hwp_core_task.specs.Ranks.{Member, member, IsRanked, is_waits, words_at}
-use Rattle.hwp_core_task.proofs.StepRanks.{rank-of}
-use Rattle.hwp_core_task.proofs.MadeEntries.{ListsNone}
+use Rattle.hwp_core.specs.hwp_geom.declared.Layout.{Layout}
+use Rattle.hwp_core.specs.hwp_core_rule.declared.Step.{Step}
+use Rattle.hwp_core.specs.hwp_core_rule.declared.Step.TheVariants as steps
+use Rattle.hwp_core.specs.hwp_core_rule.declared.View.{View}
+use Rattle.hwp_core.specs.hwp_core_rule.Lasting.{IsMild}
+use Rattle.hwp_core.specs.hwp_core_rule.Words.{Words}
+use Rattle.hwp_core.specs.hwp_core_rule.declared.InHand.{InHand}
+use Rattle.hwp_core.specs.hwp_core_task.Hands.{hand_of}
+use Rattle.hwp_core.specs.hwp_core_task.Ranks.{IsRanked, is_waits, words_at}
+use Rattle.hwp_core.proofs.of_hwp_core_task.StepRanks.{rank-of}
+use Rattle.hwp_core.proofs.of_hwp_core_task.MadeEntries.{ListsNone}
 use Rattle.hwp_core.specs.declared.release.Release.{Release}
 use Rattle.hwp_core.specs.declared.release.ReleaseAt.{ReleaseAt}
 use Rattle.hwp_core.specs.declared.release.ReleaseAt.TheVariants as release_at
@@ -23,7 +22,7 @@ use Rattle.hwp_core.proofs.TaskTells.{Tells, frame-tells, page-tells}
 use Rattle.hwp_evict.specs.declared.vacate.Vacate.{Vacate}
 use Rattle.hwp_evict.specs.declared.vacate.VacateAt.{VacateAt}
 use Rattle.hwp_evict.specs.declared.vacate.VacateAt.TheVariants as at
-use Rattle.hwp_evict.specs.Vacates.{plan, plan_at, put, bare, after_release, next, next_at, page_held, releasing, Fits, FitsAt, class, class_at, cost, cost_at}
+use Rattle.hwp_evict.specs.Vacates.{plan, plan_at, bare, after_release, next, next_at, page_held, releasing, Fits, FitsAt, class, class_at, cost, cost_at, task as vacate-task}
 
 -- the state after a step of the release costs one more than the release
 release-cost : (r : Release) (w : Words) → cost_at (after_release r) w ≡ releases.cost r w + 1
@@ -105,11 +104,8 @@ vacate-lists s step is = which s.at is
     which at.UnlockPage e = subst ListsNone (same_Some (steps.UnlockPage s.page) step e) tt
     which at.Over e = absurd (none-some step e)
 
-abbrev vacate-member : Member Vacate
-vacate-member = member (λ v. v.who) plan put bare (λ layout v found got after result. (after ≡ next v found) × (result ≡ Moved)) Fits class cost (λ v. false) (λ v. None)
-
-pub vacate-ranked : IsRanked vacate-member
-vacate-ranked = rank-of vacate-member (λ s. refl) vacate-class (λ layout a seat s rule fits. let few : cost s (words_at layout a) ≤ 7 = vacate-small (words_at layout a) s in omega (arith, few))
+pub vacate-ranked : IsRanked vacate-task
+vacate-ranked = rank-of vacate-task (λ s. refl) vacate-class (λ layout a seat s rule fits. let few : cost s (words_at layout a) ≤ 7 = vacate-small (words_at layout a) s in omega (arith, few))
     (λ layout seat a b s t turn made goes. subst (λ (x : Vacate). cost x (words_at layout b) < cost s (words_at layout a)) (sym made.follows.0)
     (vacate-falls (words_at layout a) (words_at layout b) s made.step made.found made.planned))
     (λ layout seat a b s t turn made is quiet. absurd (both_ways true (sym is ∙ ap is_waits made.follows.1) refl))

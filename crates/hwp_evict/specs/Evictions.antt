@@ -1,20 +1,20 @@
 -- What the commands ask by which a page, or a part of it, leaves its frame: the entry that each makes, and why it is refused.
 use Rattle.std.specs.Prelude.{◌≡◌, ◌≢◌, ◌<◌, Bool, true, false, Option, slice_get, IsTrue, IsSomeAnd, MatchOption}
 use Rattle.std.specs.FinSet as set
-use Rattle.hwp_geom.specs.declared.Frame.{Frame}
-use Rattle.hwp_geom.specs.declared.Layout.{Layout}
-use Rattle.hwp_geom.specs.declared.Page.{Page}
-use Rattle.hwp_geom.specs.declared.PageKind.{PageKind}
-use Rattle.hwp_geom.specs.declared.Who.{Who}
-use Rattle.hwp_page.specs.declared.At.{At}
-use Rattle.hwp_page.specs.declared.PageState.{PageState}
-use Rattle.hwp_page.specs.declared.What.{What}
-use Rattle.hwp_page.specs.declared.What.TheVariants as entries
-use Rattle.hwp_page.specs.Refusals.{IsAway, IsDirty, IsMapped, IsUnsaved, IsUnused}
-use Rattle.hwp_page.specs.Step.{IsOf, is_file}
-use Rattle.hwp_core_rule.specs.declared.View.{View}
-use Rattle.hwp_core_task.specs.Known.{HasMade, HasMadeNone, SawBadOf, SawStop}
-use Rattle.hwp_core_task.specs.Pages.{SawState}
+use Rattle.hwp_core.specs.hwp_geom.declared.Frame.{Frame}
+use Rattle.hwp_core.specs.hwp_geom.declared.Layout.{Layout}
+use Rattle.hwp_core.specs.hwp_geom.declared.Page.{Page}
+use Rattle.hwp_core.specs.hwp_geom.declared.PageKind.{PageKind}
+use Rattle.hwp_core.specs.hwp_geom.declared.Who.{Who}
+use Rattle.hwp_core.specs.hwp_page.declared.At.{At}
+use Rattle.hwp_core.specs.hwp_page.declared.PageState.{PageState}
+use Rattle.hwp_core.specs.hwp_page.declared.What.{What}
+use Rattle.hwp_core.specs.hwp_page.declared.What.TheVariants as entries
+use Rattle.hwp_core.specs.hwp_page.Refusals.{IsAway, IsDirty, IsMapped, IsUnsaved, IsUnused}
+use Rattle.hwp_core.specs.hwp_page.Step.{IsOf, is_file}
+use Rattle.hwp_core.specs.hwp_core_rule.declared.View.{View}
+use Rattle.hwp_core.specs.hwp_core_task.Known.{HasMade, HasMadeNone, SawBadOf, SawStop}
+use Rattle.hwp_core.specs.hwp_core_task.Pages.{SawState}
 use Rattle.hwp_evict.specs.declared.evict.EvictAnswer.{EvictAnswer}
 use Rattle.hwp_evict.specs.declared.evict.EvictAnswer.TheVariants as answers
 use Rattle.hwp_evict.specs.declared.evict.Eviction.{Eviction}

@@ -2,32 +2,33 @@
 use Rattle.std.specs.Prelude.{◌≡◌, ◌⊎◌, ℕ, ◌+◌, ◌<◌, ◌≤◌, ◌==◌, Bool, true, false, cond, [], ◌∷◌, ◌++◌, Option, Some, None, is_none, length, drop, MatchBool}
 use Rattle.std.specs.FinSet as set
 use Rattle.std.specs.Ordering.{nat_cmp}
-use Rattle.hwp_geom.specs.declared.Frame.{Frame}
-use Rattle.hwp_geom.specs.declared.Layout.{Layout}
-use Rattle.hwp_geom.specs.declared.Page.{Page}
-use Rattle.hwp_geom.specs.declared.Who.{Who}
-use Rattle.hwp_geom.specs.Layout.{IsSound}
-use Rattle.hwp_page.specs.declared.At.{At}
-use Rattle.hwp_page.specs.declared.What.{What}
-use Rattle.hwp_page.specs.History.{BodyValue, IsReplay}
-use Rattle.hwp_page.specs.Step.{Allowed, after}
-use Rattle.hwp_words.specs.Stops.{is_stopped}
-use Rattle.hwp_words.specs.declared.Pte.TheVariants as ptes
-use Rattle.hwp_core_rule.specs.declared.InHand.{InHand}
-use Rattle.hwp_core_rule.specs.declared.Log.{Log}
-use Rattle.hwp_core_rule.specs.declared.SharedWord.TheVariants as places
-use Rattle.hwp_core_rule.specs.declared.Step.{Step}
-use Rattle.hwp_core_rule.specs.declared.Step.TheVariants as steps
-use Rattle.hwp_core_rule.specs.declared.View.{View}
-use Rattle.hwp_core_rule.specs.Logs.{log_of, state_of}
-use Rattle.hwp_core_rule.specs.Views.{body_of, more_of}
-use Rattle.hwp_core_rule.specs.Words.{Words}
-use Rattle.hwp_core_rule.specs.parts.Entries.{HasSeen}
-use Rattle.hwp_core_task.specs.declared.Turn.{Turn}
-use Rattle.hwp_core_task.specs.declared.Turn.TheVariants.{Moved, Answered}
-use Rattle.hwp_core_task.specs.Calls.{IsOnTurn}
-use Rattle.hwp_core_task.specs.Hands.{hand_of, empty, body_in}
-use Rattle.hwp_core_task.specs.Known.{HasMadeNone, SawLog}
+use Rattle.hwp_core.specs.hwp_geom.declared.Frame.{Frame}
+use Rattle.hwp_core.specs.hwp_geom.declared.Layout.{Layout}
+use Rattle.hwp_core.specs.hwp_geom.declared.Page.{Page}
+use Rattle.hwp_core.specs.hwp_geom.declared.Who.{Who}
+use Rattle.hwp_core.specs.hwp_geom.Layout.{IsSound}
+use Rattle.hwp_core.specs.hwp_page.declared.At.{At}
+use Rattle.hwp_core.specs.hwp_page.declared.What.{What}
+use Rattle.hwp_core.specs.hwp_page.History.{BodyValue, IsReplay}
+use Rattle.hwp_core.specs.hwp_page.Step.{Allowed, after}
+use Rattle.hwp_core.specs.hwp_words.Stops.{is_stopped}
+use Rattle.hwp_core.specs.hwp_words.declared.Pte.TheVariants as ptes
+use Rattle.hwp_core.specs.hwp_core_rule.declared.InHand.{InHand}
+use Rattle.hwp_core.specs.hwp_core_rule.declared.Log.{Log}
+use Rattle.hwp_core.specs.hwp_core_rule.declared.SharedWord.TheVariants as places
+use Rattle.hwp_core.specs.hwp_core_rule.declared.Step.{Step}
+use Rattle.hwp_core.specs.hwp_core_rule.declared.Step.TheVariants as steps
+use Rattle.hwp_core.specs.hwp_core_rule.declared.View.{View}
+use Rattle.hwp_core.specs.hwp_core_rule.Logs.{log_of, state_of}
+use Rattle.hwp_core.specs.hwp_core_rule.Views.{body_of, more_of}
+use Rattle.hwp_core.specs.hwp_core_rule.Words.{Words}
+use Rattle.hwp_core.specs.hwp_core_rule.parts.Entries.{HasSeen}
+use Rattle.hwp_core.specs.hwp_core_task.declared.Turn.{Turn}
+use Rattle.hwp_core.specs.hwp_core_task.declared.Turn.TheVariants.{Moved, Answered}
+use Rattle.hwp_core.specs.hwp_core_task.Calls.{IsOnTurn}
+use Rattle.hwp_core.specs.hwp_core_task.Hands.{hand_of, empty, body_in}
+use Rattle.hwp_core.specs.hwp_core_task.Known.{HasMadeNone, SawLog}
+use Rattle.hwp_core.specs.hwp_core_task.Turns.{Member}
 use Rattle.hwp_core.specs.declared.give_up.GiveUp.{GiveUp}
 use Rattle.hwp_core.specs.declared.hold.Hold.{Hold}
 use Rattle.hwp_core.specs.declared.hold.HoldAt.{HoldAt}
@@ -366,3 +367,19 @@ cost_at (at.Over answer) words = 0
 
 abbrev pub cost : Evict → Words → ℕ
 cost e words = cost_at e.at words
+
+-- the task, as the laws of tasks read it
+abbrev pub task : Member Evict
+task = record {
+  who = λ e. e.who;
+  plan = plan;
+  put = put;
+  bare = bare;
+  shows = Shows;
+  next = λ layout e found got after result. Follows e found got after result;
+  fits = Fits;
+  class = class;
+  cost = cost;
+  aborts = λ e. false;
+  claims = λ e. None;
+}

@@ -1,12 +1,7 @@
 ghost use Rattle.std.specs.Prelude.{◌≡◌, is_none};
-ghost use Rattle.hwp_evict.specs.Clears.{IsBegun, plan, pte_of};
+ghost use Rattle.hwp_evict.specs.Clears.{IsBegun, pte_of};
 
-use hwp_core_rule::Step;
-use hwp_core_task::{Ranked, Task, Turn};
-use hwp_geom::{Frame, Layout, Page, VSlot, Who};
-use hwp_kill::Slots;
-use hwp_page::Body;
-use hwp_words::Pte;
+use hwp_core::{Body, Frame, Layout, Page, Pte, Ranked, Slots, Step, Task, Turn, VSlot, Who};
 
 /// Writes the translations that lead to a page's frame, in rising order, so that they no longer do: empty, or with a poison
 /// entry (Linux try_to_unmap).
@@ -70,23 +65,9 @@ fn pte_of(barred: bool) -> Pte
 }
 
 impl Task for Clear {
-    ghost use Rattle.std.specs.Prelude.{◌≡◌, None};
-    ghost use Rattle.hwp_core_task.specs.declared.Turn.TheVariants.{Moved};
-    ghost use Rattle.hwp_evict.specs.Clears.{plan, Shows, Follows, Fits};
+    ghost use Rattle.hwp_evict.specs.Clears as clears;
 
-    ghost who = { λ c. c.who };
-
-    ghost plan = { λ c. plan c };
-
-    ghost put = { λ c. None };
-
-    ghost bare = { λ c. c };
-
-    ghost shows = { λ c found got. Shows c };
-
-    ghost next = { λ layout c found got after result. Follows c after × (result ≡ Moved) };
-
-    ghost fits = { λ layout view c. Fits layout view c };
+    ghost task = { clears.task };
 
     fn who(&self) -> Who {
         self.who
@@ -116,17 +97,6 @@ impl Task for Clear {
 }
 
 impl Ranked for Clear {
-    ghost use Rattle.std.specs.Prelude.{false, None};
-    ghost use Rattle.hwp_evict.specs.Clears.{cost};
-
-    ghost class_of = { λ c. 1 };
-
-    ghost cost = { λ c words. cost c words };
-
-    ghost aborts = { λ c. false };
-
-    ghost claims = { λ c. None };
-
     fn class(&self) -> u8 {
         1
     }

@@ -12,13 +12,10 @@ ghost use Rattle.hwp_evict.specs.Evicts.{begin, answer, CanEnter, CanEnterHeld, 
 
 use crate::clear::Clear;
 use crate::vacate::Vacate;
-use hwp_core::{GiveUp, Hold, Unhold};
-use hwp_core_rule::{SharedWord, Step};
-use hwp_core_task::{Ranked, Scheduled, Task, Turn};
-use hwp_geom::{Frame, Layout, Mask, Page, VSlot, Who};
-use hwp_kill::Slots;
-use hwp_page::{At, Body, Entry, PageState, What};
-use hwp_words::{Pte, is_stopped};
+use hwp_core::{
+    At, Body, Entry, Frame, GiveUp, Hold, Layout, Mask, Page, PageState, Pte, Ranked, Scheduled,
+    SharedWord, Slots, Step, Task, Turn, Unhold, VSlot, What, Who, is_stopped,
+};
 use std::mem;
 
 /// How much of a page leaves its frame (this project's rule).
@@ -555,21 +552,9 @@ fn settled(
 }
 
 impl Task for Evict {
-    ghost use Rattle.hwp_evict.specs.Evicts.{plan, put, bare, Shows, Follows, Fits};
+    ghost use Rattle.hwp_evict.specs.Evicts as evicts;
 
-    ghost who = { λ e. e.who };
-
-    ghost plan = { λ e. plan e };
-
-    ghost put = { λ e. put e };
-
-    ghost bare = { λ e. bare e };
-
-    ghost shows = { λ e found got. Shows e found got };
-
-    ghost next = { λ layout e found got after result. Follows e found got after result };
-
-    ghost fits = { λ layout view e. Fits layout view e };
+    ghost task = { evicts.task };
 
     fn who(&self) -> Who {
         self.who
@@ -619,17 +604,6 @@ impl Task for Evict {
 }
 
 impl Ranked for Evict {
-    ghost use Rattle.std.specs.Prelude.{false, None};
-    ghost use Rattle.hwp_evict.specs.Evicts.{class, cost};
-
-    ghost class_of = { λ e. class e };
-
-    ghost cost = { λ e words. cost e words };
-
-    ghost aborts = { λ e. false };
-
-    ghost claims = { λ e. None };
-
     fn class(&self) -> u8 {
         match &self.at {
             EvictAt::LoadStop | EvictAt::Over { .. } => 4,

@@ -1,11 +1,9 @@
 ghost use Rattle.std.specs.Prelude.{◌≡◌, is_some, is_none};
 ghost use Rattle.hwp_evict.specs.Fsyncs.{begin, plan, answer, after_stop, after_report};
 
-use hwp_core_rule::{SharedWord, Step};
-use hwp_core_task::{Ranked, Scheduled, Task, Turn};
-use hwp_geom::{FileNo, Layout, Who};
-use hwp_page::Body;
-use hwp_words::is_stopped;
+use hwp_core::{
+    Body, FileNo, Layout, Ranked, Scheduled, SharedWord, Step, Task, Turn, Who, is_stopped,
+};
 
 /// Takes the number of losses of a file since they were taken last (Linux errseq_t, of which this is a simple form).
 #[derive(Clone, Copy)]
@@ -82,22 +80,9 @@ impl Fsync {
 }
 
 impl Task for Fsync {
-    ghost use Rattle.std.specs.Prelude.{◌≡◌, None};
-    ghost use Rattle.hwp_evict.specs.Fsyncs.{plan, next, turn, Fits};
+    ghost use Rattle.hwp_evict.specs.Fsyncs as fsyncs;
 
-    ghost who = { λ f. f.who };
-
-    ghost plan = { λ f. plan f };
-
-    ghost put = { λ f. None };
-
-    ghost bare = { λ f. f };
-
-    ghost shows = { λ f found got. Unit {0} };
-
-    ghost next = { λ layout f found got after result. (after ≡ next f found) × (result ≡ turn f found) };
-
-    ghost fits = { λ layout view f. Fits layout view f };
+    ghost task = { fsyncs.task };
 
     fn who(&self) -> Who {
         self.who
@@ -137,17 +122,6 @@ impl Task for Fsync {
 }
 
 impl Ranked for Fsync {
-    ghost use Rattle.std.specs.Prelude.{false, None};
-    ghost use Rattle.hwp_evict.specs.Fsyncs.{cost};
-
-    ghost class_of = { λ f. 4 };
-
-    ghost cost = { λ f words. cost f words };
-
-    ghost aborts = { λ f. false };
-
-    ghost claims = { λ f. None };
-
     fn class(&self) -> u8 {
         4
     }

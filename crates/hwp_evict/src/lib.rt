@@ -10,4 +10,10 @@ mod vacate;
 pub use clear::Clear;
 pub use evict::{Evict, EvictAnswer, Eviction, Refusal};
 pub use fsync::{Fsync, FsyncAnswer};
+pub use hwp_core::{
+    At, Body, Code, Damage, Entry, FileNo, Frame, FrameWord, GiveUp, Layout, Line, List, Mask,
+    Mode, Outcome, Page, PageKind, PageState, PolicyWord, Proc, Ranked, Release, Reply, Scheduled,
+    Seen, SharedWord, Signal, SignalList, SignalRoom, Situation, Step, Task, Thread, Turn, Unhold,
+    VSlot, What, Who, is_stopped, next_to_read, signals,
+};
 pub use vacate::Vacate;

@@ -1,11 +1,7 @@
 ghost use Rattle.std.specs.Prelude.{◌≡◌, is_none};
 ghost use Rattle.hwp_evict.specs.Vacates.{begin, plan, after_release};
 
-use hwp_core::Release;
-use hwp_core_rule::Step;
-use hwp_core_task::{Ranked, Task, Turn};
-use hwp_geom::{Frame, Layout, Page, Who};
-use hwp_page::Body;
+use hwp_core::{Body, Frame, Layout, Page, Ranked, Release, Step, Task, Turn, Who};
 use std::cmp::min;
 use std::mem;
 
@@ -72,23 +68,9 @@ impl Vacate {
 }
 
 impl Task for Vacate {
-    ghost use Rattle.std.specs.Prelude.{◌≡◌};
-    ghost use Rattle.hwp_core_task.specs.declared.Turn.TheVariants.{Moved};
-    ghost use Rattle.hwp_evict.specs.Vacates.{plan, put, bare, next, Fits};
+    ghost use Rattle.hwp_evict.specs.Vacates as vacates;
 
-    ghost who = { λ v. v.who };
-
-    ghost plan = { λ v. plan v };
-
-    ghost put = { λ v. put v };
-
-    ghost bare = { λ v. bare v };
-
-    ghost shows = { λ v found got. Unit {0} };
-
-    ghost next = { λ layout v found got after result. (after ≡ next v found) × (result ≡ Moved) };
-
-    ghost fits = { λ layout view v. Fits layout view v };
+    ghost task = { vacates.task };
 
     fn who(&self) -> Who {
         self.who
@@ -153,17 +135,6 @@ impl Task for Vacate {
 }
 
 impl Ranked for Vacate {
-    ghost use Rattle.std.specs.Prelude.{false, None};
-    ghost use Rattle.hwp_evict.specs.Vacates.{class, cost};
-
-    ghost class_of = { λ v. class v };
-
-    ghost cost = { λ v words. cost v words };
-
-    ghost aborts = { λ v. false };
-
-    ghost claims = { λ v. None };
-
     fn class(&self) -> u8 {
         match self.at {
             VacateAt::SetCache | VacateAt::SetOwner | VacateAt::UnlockFrame => 1,

@@ -3,38 +3,38 @@ use Rattle.std.proofs.Common.{◌≡◌, ◌≢◌, ℕ, ◌+◌, ◌/◌, ◌<�
 use Rattle.std.proofs.lemmas.Bool.{both_ways, eqb-true, ne_eqb}
 use Rattle.std.proofs.lemmas.List.{length-set}
 use Rattle.std.proofs.lemmas.Option.{none-some, same_Some, slice_get-get_or}
-use Rattle.hwp_geom.specs.declared.Frame.{Frame}
-use Rattle.hwp_geom.specs.declared.Layout.{Layout}
-use Rattle.hwp_geom.specs.declared.Page.{Page}
-use Rattle.hwp_geom.specs.declared.VSlot.{VSlot}
-use Rattle.hwp_geom.specs.declared.Who.{Who}
+use Rattle.hwp_page.specs.hwp_geom.declared.Frame.{Frame}
+use Rattle.hwp_page.specs.hwp_geom.declared.Layout.{Layout}
+use Rattle.hwp_page.specs.hwp_geom.declared.Page.{Page}
+use Rattle.hwp_page.specs.hwp_geom.declared.VSlot.{VSlot}
+use Rattle.hwp_page.specs.hwp_geom.declared.Who.{Who}
 use Rattle.hwp_page.specs.History.{BodyValue}
-use Rattle.hwp_words.specs.Frames.{is_locked, lock_of, count_of, is_handled}
-use Rattle.hwp_words.specs.Names.{page_named}
-use Rattle.hwp_words.specs.Stops.{is_stopped}
-use Rattle.hwp_core_rule.specs.declared.SharedWord.{SharedWord}
-use Rattle.hwp_core_rule.specs.declared.SharedWord.TheVariants as places
-use Rattle.hwp_core_rule.specs.declared.State.{State}
-use Rattle.hwp_core_rule.specs.declared.Step.{Step}
-use Rattle.hwp_core_rule.specs.declared.Step.TheVariants as steps
-use Rattle.hwp_core_rule.specs.declared.View.{View}
-use Rattle.hwp_core_rule.specs.Moves.{Move}
-use Rattle.hwp_core_rule.specs.Rule.{Holds}
-use Rattle.hwp_core_rule.specs.Lasting.{IsMild}
-use Rattle.hwp_core_rule.specs.Steps.{place_of, word_after}
-use Rattle.hwp_core_rule.specs.Views.{frame_in}
-use Rattle.hwp_core_rule.specs.Words.{Words, read, put as put_word, index, free_words}
-use Rattle.hwp_core_rule.proofs.Lists.{same-number}
-use Rattle.hwp_core_rule.proofs.MetWords.{frame-free, same-frame}
-use Rattle.hwp_core_rule.proofs.MoveKeeps.{shaped}
-use Rattle.hwp_core_task.specs.declared.Turn.{Turn}
-use Rattle.hwp_core_task.specs.declared.Turn.TheVariants.{Moved, Waits}
-use Rattle.hwp_core_task.specs.Boards.{view_of}
-use Rattle.hwp_core_task.specs.Calls.{logs, rec_of}
-use Rattle.hwp_core_task.specs.Classes.{TellsClass}
-use Rattle.hwp_core_task.specs.Hands.{Hand, hand_of}
-use Rattle.hwp_core_task.specs.Ranks.{Member, member, Made, CostFalls, HasFailed, IsRanked, Quiet, OtherHand, HasFrame, HasPage, failures_left, is_waits, stale, words_at}
-use Rattle.hwp_core_task.proofs.StepRanks.{met, words-after, words-kept, no-lock, failed, rank-failing}
+use Rattle.hwp_core.specs.hwp_words.Frames.{is_locked, lock_of, count_of, is_handled}
+use Rattle.hwp_core.specs.hwp_words.Names.{page_named}
+use Rattle.hwp_core.specs.hwp_words.Stops.{is_stopped}
+use Rattle.hwp_core.specs.hwp_core_rule.declared.SharedWord.{SharedWord}
+use Rattle.hwp_core.specs.hwp_core_rule.declared.SharedWord.TheVariants as places
+use Rattle.hwp_core.specs.hwp_core_rule.declared.State.{State}
+use Rattle.hwp_core.specs.hwp_core_rule.declared.Step.{Step}
+use Rattle.hwp_core.specs.hwp_core_rule.declared.Step.TheVariants as steps
+use Rattle.hwp_core.specs.hwp_core_rule.declared.View.{View}
+use Rattle.hwp_core.specs.hwp_core_rule.Moves.{Move}
+use Rattle.hwp_core.specs.hwp_core_rule.Rule.{Holds}
+use Rattle.hwp_core.specs.hwp_core_rule.Lasting.{IsMild}
+use Rattle.hwp_core.specs.hwp_core_rule.Steps.{place_of, word_after}
+use Rattle.hwp_core.specs.hwp_core_rule.Views.{frame_in}
+use Rattle.hwp_core.specs.hwp_core_rule.Words.{Words, read, put as put_word, index, free_words}
+use Rattle.hwp_core.proofs.of_hwp_core_rule.Lists.{same-number}
+use Rattle.hwp_core.proofs.of_hwp_core_rule.MetWords.{frame-free, same-frame}
+use Rattle.hwp_core.proofs.of_hwp_core_rule.MoveKeeps.{shaped}
+use Rattle.hwp_core.specs.hwp_core_task.declared.Turn.{Turn}
+use Rattle.hwp_core.specs.hwp_core_task.declared.Turn.TheVariants.{Moved, Waits}
+use Rattle.hwp_core.specs.hwp_core_task.Boards.{view_of}
+use Rattle.hwp_core.specs.hwp_core_task.Calls.{logs, rec_of}
+use Rattle.hwp_core.specs.hwp_core_task.Classes.{TellsClass}
+use Rattle.hwp_core.specs.hwp_core_task.Hands.{Hand, hand_of}
+use Rattle.hwp_core.specs.hwp_core_task.Ranks.{Made, CostFalls, HasFailed, IsRanked, Quiet, OtherHand, HasFrame, HasPage, failures_left, is_waits, stale, words_at}
+use Rattle.hwp_core.proofs.of_hwp_core_task.StepRanks.{met, words-after, words-kept, no-lock, failed, rank-failing}
 use Rattle.hwp_core.specs.declared.GiveUp.{GiveUp}
 use Rattle.hwp_core.specs.declared.give_up.GiveUpAt.{GiveUpAt}
 use Rattle.hwp_core.specs.declared.give_up.GiveUpAt.TheVariants as give_up_at
@@ -66,7 +66,7 @@ use Rattle.hwp_fault.specs.declared.fault.Fault.{Fault}
 use Rattle.hwp_fault.specs.declared.fault.FaultAt.{FaultAt}
 use Rattle.hwp_fault.specs.declared.fault.FaultAt.TheVariants as fault_at
 use Rattle.hwp_fault.specs.declared.fault.FaultAnswer.TheVariants as fault_answers
-use Rattle.hwp_fault.specs.Accesses.{plan, plan_at, put, put_at, bare, bare_at, at_start, after_process, at_process, leading, at_translation, pinned, ended, unlocked, after_fault, is_frame, leads_to, Prepares, LooksOf, LooksAgain, Next, NextAt, FaultStepped, IsPinned, IsFaulting, IsOfFrame, Fits, FitsAt, class, class_at, moved_away, then_cost, cost, cost_at}
+use Rattle.hwp_fault.specs.Accesses.{plan, plan_at, put, put_at, bare, bare_at, at_start, after_process, at_process, leading, at_translation, pinned, ended, unlocked, after_fault, is_frame, leads_to, Prepares, LooksOf, LooksAgain, NextAt, FaultStepped, IsPinned, IsFaulting, IsOfFrame, Fits, FitsAt, class, class_at, moved_away, then_cost, cost, cost_at, task as access-task}
 use Rattle.hwp_fault.specs.Faults as faults
 use Rattle.hwp_fault.proofs.AccessLaws.{slot-within}
 use Rattle.hwp_fault.proofs.FaultCosts.{fault-mild, fault-ranked, fault-small, fault-class}
@@ -132,12 +132,6 @@ few-frees layout s h =
     let few : layout.frames ≤ 256 = h.sound.frames in
     omega arith
 
-abbrev fault-member : Member Fault
-fault-member = member (λ f. f.who) faults.plan faults.put faults.bare (λ layout f found got after result. faults.Follows layout f found got after result) faults.Fits faults.class faults.cost (λ f. false) (λ f. None)
-
-abbrev pub access-member : Member Access
-access-member = member (λ a. a.request.who) plan put bare (λ layout a found got after result. Next layout a found got after result) Fits class cost (λ a. false) (λ a. None)
-
 -- ---- words that a step leaves
 
 -- the places of a release's words: it leaves the translations, and the number of the words of free frames
@@ -176,10 +170,10 @@ unlocked-cost slot u then w = by (is_none (unlocks.plan u)) then
     by false then = omega arith
 
 -- a fault that is over costs what follows it
-fault-ended : (page : Page) (g : Fault) (w : Words) → cost_at g.slot (after_fault page g) w ≤ faults.cost g w
-fault-ended page g w = which g.at
+fault-ended : (g : Fault) (w : Words) → cost_at g.slot (after_fault g) w ≤ faults.cost g w
+fault-ended g w = which g.at
   where
-    which : (x : FaultAt) → cost_at g.slot (after_fault page (record g { at = x })) w ≤ faults.cost_at g.slot x w
+    which : (x : FaultAt) → cost_at g.slot (after_fault (record g { at = x })) w ≤ faults.cost_at g.slot x w
     which (fault_at.Over None) = omega arith
     which (fault_at.Over (Some fault_answers.Again)) = omega arith
     which (fault_at.Over (Some (fault_answers.NoFrame place))) = omega arith
@@ -204,7 +198,7 @@ named-now frame word is = which (frame_in word) is
 not-gone : (found : ℕ) → (1 ≤ count_of found) × (is_handled found ≡ false) → is_gone found ≡ false
 not-gone found has = let counted : (count_of found == 0) ≡ false = ne_eqb (count_of found) 0 (λ e. omega (arith, e, has.0)) in ap (λ (b : Bool). b || is_handled found) counted ∙ has.1
 
-module _ {layout : Layout} {seat : ℕ} {a b : State} {s t : Access} {turn : Turn} (made : Made access-member layout seat a b s t turn) where
+module _ {layout : Layout} {seat : ℕ} {a b : State} {s t : Access} {turn : Turn} (made : Made access-task layout seat a b s t turn) where
   abbrev w : Words
   w = words_at layout a
 
@@ -356,7 +350,7 @@ module _ {layout : Layout} {seat : ℕ} {a b : State} {s t : Access} {turn : Tur
 
   -- a step of the fault
   fault-made : (f g : Fault) → IsFaulting layout (view_of a seat) r f → faults.plan f ≡ Some made.step → Move layout seat (rec_of layout r.who made.step (logs (faults.put f)) made.found made.got) a b
-      → faults.Follows layout (faults.bare f) made.found made.got g turn → Made fault-member layout seat a b f g turn
+      → faults.Follows layout (faults.bare f) made.found made.got g turn → Made faults.task layout seat a b f g turn
   fault-made f g has e move follows = record {
     step = made.step;
     found = made.found;
@@ -370,11 +364,11 @@ module _ {layout : Layout} {seat : ℕ} {a b : State} {s t : Access} {turn : Tur
     follows = follows;
   }
 
-  after-step : (f : Fault) (y : AccessAt) → IsFaulting layout (view_of a seat) r f → (next : FaultStepped layout r.page (faults.bare f) made.found made.got y turn) → faults.cost next.after now < faults.cost f w → cost_at r.slot y now < faults.cost f w
+  after-step : (f : Fault) (y : AccessAt) → IsFaulting layout (view_of a seat) r f → (next : FaultStepped layout (faults.bare f) made.found made.got y turn) → faults.cost next.after now < faults.cost f w → cost_at r.slot y now < faults.cost f w
   after-step f y has next less =
       let most : cost_at r.slot y now ≤ faults.cost next.after now =
       subst (λ (x : AccessAt). cost_at r.slot x now ≤ faults.cost next.after now) (sym next.next_is)
-      (subst (λ (slot : VSlot). cost_at slot (after_fault r.page next.after) now ≤ faults.cost next.after now) (ap (λ (x : Fault). x.slot) next.follows.after_is ∙ has.slot_is) (fault-ended r.page next.after now)) in
+      (subst (λ (slot : VSlot). cost_at slot (after_fault next.after) now ≤ faults.cost next.after now) (ap (λ (x : Fault). x.slot) next.follows.after_is ∙ has.slot_is) (fault-ended next.after now)) in
       omega (arith, less, most)
 
   falls-at : (x y : AccessAt) → plan_at r x ≡ Some made.step → FitsAt layout (view_of a seat) r x → Move layout seat (rec_of layout r.who made.step (logs (put_at x)) made.found made.got) a b
@@ -398,7 +392,7 @@ module _ {layout : Layout} {seat : ℕ} {a b : State} {s t : Access} {turn : Tur
   request-is : t.request ≡ r
   request-is = ap (λ (x : Access). x.request) made.follows.rest
 
-  pub cost-falls : is_waits turn ≡ false → CostFalls access-member layout a b s t ⊎ HasFailed access-member layout a b s t
+  pub cost-falls : is_waits turn ≡ false → CostFalls access-task layout a b s t ⊎ HasFailed access-task layout a b s t
   cost-falls goes = elim (falls-at s.at t.at made.planned made.fits.at made.move made.follows.at goes) [
     | inl less ↦ inl (subst (λ (q : Request). cost_at q.slot t.at now < cost s w) (sym request-is) less)
     | inr fewer ↦ inr (failed fewer (access-below now t (few-frees layout b made.kept)))
@@ -432,13 +426,13 @@ module _ {layout : Layout} {seat : ℕ} {a b : State} {s t : Access} {turn : Tur
   waits-at (at.Unlock u then) y e has move next waits quiet = absurd (unmoved Moved refl next.1 waits)
   waits-at (at.Fault f) y e has move next waits quiet = after-step f y has next (only (fault-ranked.waits layout seat a b f next.after turn (fault-made f next.after has e move next.follows) waits quiet))
     where
-      only : CostFalls fault-member layout a b f next.after ⊎ ((false ≡ true) × OtherHand a seat) → faults.cost next.after now < faults.cost f w
+      only : CostFalls faults.task layout a b f next.after ⊎ ((false ≡ true) × OtherHand a seat) → faults.cost next.after now < faults.cost f w
       only (inl less) = less
       only (inr gives) = absurd (both_ways true (sym gives.0) refl)
   waits-at (at.GiveUp g) y e has move next waits quiet = absurd (unmoved (give_ups.turn (give_ups.bare g)) (give-up-goes (give_ups.bare g)) next.1 waits)
   waits-at (at.Over answer) y e has move next waits quiet = absurd (none-some made.step e)
 
-  pub cost-waits : is_waits turn ≡ true → Quiet (class s) layout a seat → CostFalls access-member layout a b s t
+  pub cost-waits : is_waits turn ≡ true → Quiet (class s) layout a seat → CostFalls access-task layout a b s t
   cost-waits waits quiet = subst (λ (q : Request). cost_at q.slot t.at now < cost s w) (sym request-is) (waits-at s.at t.at made.planned made.fits.at made.move made.follows.at waits quiet)
 
 -- none of its steps poisons a frame or takes its poison back
@@ -458,8 +452,8 @@ access-mild a step is = which a.at is
     which (at.GiveUp g) e = give-up-mild g step e
     which (at.Over answer) e = absurd (none-some step e)
 
-pub access-ranked : IsRanked access-member
-access-ranked = rank-failing access-member (λ s. refl) access-class (λ layout a seat s rule fits. let few : cost s (words_at layout a) < 32768 = access-below (words_at layout a) s (few-frees layout a rule) in omega arith)
+pub access-ranked : IsRanked access-task
+access-ranked = rank-failing access-task (λ s. refl) access-class (λ layout a seat s rule fits. let few : cost s (words_at layout a) < 32768 = access-below (words_at layout a) s (few-frees layout a rule) in omega arith)
     (λ layout seat a b s t turn made goes. cost-falls made goes)
     (λ layout seat a b s t turn made waits quiet. cost-waits made waits quiet)
     (λ s. refl) access-mild
@@ -530,7 +524,7 @@ tells-at layout view r (at.GiveUp g) has = which g.at has.give_up.at has.of_fram
     which give_up_at.Over has of = tells-none view _ _ _ has refl refl refl refl
 tells-at layout view r (at.Over answer) has = tells-none view _ _ _ has.hand_is refl refl refl refl
 
-pub access-tells : TellsClass access-member
+pub access-tells : TellsClass access-task
 access-tells = record {
   frame = λ layout view s fits has. (tells-at layout view s.request s.at fits.at).0 has;
   page = λ layout view s fits has. (tells-at layout view s.request s.at fits.at).1 has;

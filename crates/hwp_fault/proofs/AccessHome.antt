@@ -8,32 +8,32 @@ use Rattle.std.proofs.lemmas.Option.{none-some, same_Some}
 use Rattle.std.specs.FinSet as set
 use Rattle.std.specs.Int.{IsBitSet}
 use Rattle.std.specs.List.{find}
-use Rattle.hwp_geom.specs.declared.Frame.{Frame}
-use Rattle.hwp_geom.specs.declared.Layout.{Layout}
-use Rattle.hwp_geom.specs.declared.Proc.{Proc}
-use Rattle.hwp_geom.specs.declared.Who.{Who}
+use Rattle.hwp_page.specs.hwp_geom.declared.Frame.{Frame}
+use Rattle.hwp_page.specs.hwp_geom.declared.Layout.{Layout}
+use Rattle.hwp_page.specs.hwp_geom.declared.Proc.{Proc}
+use Rattle.hwp_page.specs.hwp_geom.declared.Who.{Who}
 use Rattle.hwp_page.specs.Endings.{has_ending}
 use Rattle.hwp_page.specs.declared.Entry.{Entry}
 use Rattle.hwp_page.specs.declared.PageState.{PageState}
 use Rattle.hwp_page.specs.declared.What.{What}
 use Rattle.hwp_page.specs.History.{BodyValue, Leads}
 use Rattle.hwp_page.specs.Step.{Allowed, after}
-use Rattle.hwp_core_rule.specs.declared.FrameLock.{FrameLock}
-use Rattle.hwp_core_rule.specs.declared.InHand.{InHand}
-use Rattle.hwp_core_rule.specs.declared.Log.{Log}
-use Rattle.hwp_core_rule.specs.declared.PageLock.{PageLock}
-use Rattle.hwp_core_rule.specs.declared.SharedWord.TheVariants as places
-use Rattle.hwp_core_rule.specs.declared.Sight.{Sight}
-use Rattle.hwp_core_rule.specs.declared.View.{View}
-use Rattle.hwp_core_rule.specs.Asks.{Extends, HasSameWords, CanGoHome}
-use Rattle.hwp_core_rule.specs.Lists.{EachMember, SomeMember}
-use Rattle.hwp_core_rule.specs.Logs.{log_of, opening_at, state_of}
-use Rattle.hwp_core_rule.specs.Views.{is_body_of, body_of, more_of, noted, stamp_of}
-use Rattle.hwp_core_rule.specs.parts.Entries.{HasSeen, Shows}
-use Rattle.hwp_core_rule.proofs.Lists.{same-number, some-last}
-use Rattle.hwp_core_task.specs.Calls.{Steps}
-use Rattle.hwp_core_task.specs.Hands.{Hand, hand_of, body_in}
-use Rattle.hwp_core_rule.specs.declared.Step.TheVariants as steps
+use Rattle.hwp_core.specs.hwp_core_rule.declared.FrameLock.{FrameLock}
+use Rattle.hwp_core.specs.hwp_core_rule.declared.InHand.{InHand}
+use Rattle.hwp_core.specs.hwp_core_rule.declared.Log.{Log}
+use Rattle.hwp_core.specs.hwp_core_rule.declared.PageLock.{PageLock}
+use Rattle.hwp_core.specs.hwp_core_rule.declared.SharedWord.TheVariants as places
+use Rattle.hwp_core.specs.hwp_core_rule.declared.Sight.{Sight}
+use Rattle.hwp_core.specs.hwp_core_rule.declared.View.{View}
+use Rattle.hwp_core.specs.hwp_core_rule.Asks.{Extends, HasSameWords, CanGoHome}
+use Rattle.hwp_core.specs.hwp_core_rule.Lists.{EachMember, SomeMember}
+use Rattle.hwp_core.specs.hwp_core_rule.Logs.{log_of, opening_at, state_of}
+use Rattle.hwp_core.specs.hwp_core_rule.Views.{is_body_of, body_of, more_of, noted, stamp_of}
+use Rattle.hwp_core.specs.hwp_core_rule.parts.Entries.{HasSeen, Shows}
+use Rattle.hwp_core.proofs.of_hwp_core_rule.Lists.{same-number, some-last}
+use Rattle.hwp_core.specs.hwp_core_task.Calls.{Steps}
+use Rattle.hwp_core.specs.hwp_core_task.Hands.{Hand, hand_of, body_in}
+use Rattle.hwp_core.specs.hwp_core_rule.declared.Step.TheVariants as steps
 use Rattle.hwp_core.specs.Unlocks.{HoldsFrame}
 use Rattle.hwp_core.proofs.BodyStates.{replay-state}
 use Rattle.hwp_core.proofs.HoldEnds.{as-taken, none-more}

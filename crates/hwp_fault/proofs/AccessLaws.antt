@@ -5,47 +5,47 @@ use Rattle.std.proofs.lemmas.List.{length-append}
 use Rattle.std.proofs.lemmas.Option.{none-some, same_Some, slice_get_within}
 use Rattle.std.specs.FinSet as set
 use Rattle.std.specs.Int.{IsBitSet}
-use Rattle.hwp_geom.specs.declared.Frame.{Frame}
-use Rattle.hwp_geom.specs.declared.Layout.{Layout}
-use Rattle.hwp_geom.specs.declared.Page.{Page}
-use Rattle.hwp_geom.specs.declared.TransDecl.{TransDecl}
-use Rattle.hwp_geom.specs.declared.VSlot.{VSlot}
-use Rattle.hwp_geom.specs.declared.Who.{Who}
+use Rattle.hwp_page.specs.hwp_geom.declared.Frame.{Frame}
+use Rattle.hwp_page.specs.hwp_geom.declared.Layout.{Layout}
+use Rattle.hwp_page.specs.hwp_geom.declared.Page.{Page}
+use Rattle.hwp_page.specs.hwp_geom.declared.TransDecl.{TransDecl}
+use Rattle.hwp_page.specs.hwp_geom.declared.VSlot.{VSlot}
+use Rattle.hwp_page.specs.hwp_geom.declared.Who.{Who}
 use Rattle.hwp_page.specs.declared.PageState.{PageState}
 use Rattle.hwp_page.specs.declared.What.{What}
 use Rattle.hwp_page.specs.History.{BodyValue, IsReplay}
 use Rattle.hwp_page.specs.Refusals.{IsAway}
 use Rattle.hwp_page.specs.Step.{IsOf}
-use Rattle.hwp_words.specs.Frames.{is_locked, is_handled, is_poisoned, owner_of}
-use Rattle.hwp_words.specs.Names.{page_named}
-use Rattle.hwp_words.specs.Stops.{is_stopped}
-use Rattle.hwp_core_rule.specs.declared.FrameLock.{FrameLock}
-use Rattle.hwp_core_rule.specs.declared.InHand.{InHand}
-use Rattle.hwp_core_rule.specs.declared.Log.{Log}
-use Rattle.hwp_core_rule.specs.declared.Made.{Made}
-use Rattle.hwp_core_rule.specs.declared.SharedWord.TheVariants as places
-use Rattle.hwp_core_rule.specs.declared.Sight.{Sight}
-use Rattle.hwp_core_rule.specs.declared.Step.{Step}
-use Rattle.hwp_core_rule.specs.declared.Step.TheVariants as steps
-use Rattle.hwp_core_rule.specs.declared.View.{View}
-use Rattle.hwp_core_rule.specs.Lists.{EachMember}
-use Rattle.hwp_core_rule.specs.Logs.{log_of}
-use Rattle.hwp_core_rule.specs.Slots.{frame_slot, is_out, moved_out}
-use Rattle.hwp_core_rule.specs.Steps.{goes}
-use Rattle.hwp_core_rule.specs.Views.{body_of, frame_in, more_of, refs_on, locks_on, lock_found, noted, taken}
-use Rattle.hwp_core_rule.specs.Words.{words_of}
-use Rattle.hwp_core_rule.specs.parts.Bodies.{content_name}
-use Rattle.hwp_core_rule.proofs.PageWords.{same-page}
-use Rattle.hwp_core_rule.proofs.Lists.{same-number}
-use Rattle.hwp_core_rule.proofs.MetWords.{free-word, same-frame}
-use Rattle.hwp_core_task.specs.declared.Turn.{Turn}
-use Rattle.hwp_core_task.specs.Calls.{CanMake, FitsLayout, Steps, IsOnTurn, logs}
-use Rattle.hwp_core_task.specs.Hands.{Hand, hand_of, empty, taking, body_in}
-use Rattle.hwp_core_task.proofs.StepLeaves.{on-turn-after, content_of, brought, was-home, hand-planned, steps-planned, can-make}
-use Rattle.hwp_core_task.specs.Known.{Saw, HasMadeNone, Precedes, HasOnly, HasMade, IsAt, deeds}
-use Rattle.hwp_core_task.proofs.MadeEntries.{ListsNone, deeds-same, frame-lists, deeds-none, deeds-one, has-made, has-made-stays, has-only-stays}
-use Rattle.hwp_core_task.specs.Pages.{SawState}
-use Rattle.hwp_core_task.proofs.SightKeeps.{saw-stays, saw-load, saw-state-stays}
+use Rattle.hwp_core.specs.hwp_words.Frames.{is_locked, is_handled, is_poisoned, owner_of}
+use Rattle.hwp_core.specs.hwp_words.Names.{page_named}
+use Rattle.hwp_core.specs.hwp_words.Stops.{is_stopped}
+use Rattle.hwp_core.specs.hwp_core_rule.declared.FrameLock.{FrameLock}
+use Rattle.hwp_core.specs.hwp_core_rule.declared.InHand.{InHand}
+use Rattle.hwp_core.specs.hwp_core_rule.declared.Log.{Log}
+use Rattle.hwp_core.specs.hwp_core_rule.declared.Made.{Made}
+use Rattle.hwp_core.specs.hwp_core_rule.declared.SharedWord.TheVariants as places
+use Rattle.hwp_core.specs.hwp_core_rule.declared.Sight.{Sight}
+use Rattle.hwp_core.specs.hwp_core_rule.declared.Step.{Step}
+use Rattle.hwp_core.specs.hwp_core_rule.declared.Step.TheVariants as steps
+use Rattle.hwp_core.specs.hwp_core_rule.declared.View.{View}
+use Rattle.hwp_core.specs.hwp_core_rule.Lists.{EachMember}
+use Rattle.hwp_core.specs.hwp_core_rule.Logs.{log_of}
+use Rattle.hwp_core.specs.hwp_core_rule.SlotMoves.{frame_slot, is_out, moved_out}
+use Rattle.hwp_core.specs.hwp_core_rule.Steps.{goes}
+use Rattle.hwp_core.specs.hwp_core_rule.Views.{body_of, frame_in, more_of, refs_on, locks_on, lock_found, noted, taken}
+use Rattle.hwp_core.specs.hwp_core_rule.Words.{words_of}
+use Rattle.hwp_core.specs.hwp_core_rule.parts.Bodies.{content_name}
+use Rattle.hwp_core.proofs.of_hwp_core_rule.PageWords.{same-page}
+use Rattle.hwp_core.proofs.of_hwp_core_rule.Lists.{same-number}
+use Rattle.hwp_core.proofs.of_hwp_core_rule.MetWords.{free-word, same-frame}
+use Rattle.hwp_core.specs.hwp_core_task.declared.Turn.{Turn}
+use Rattle.hwp_core.specs.hwp_core_task.Calls.{CanMake, FitsLayout, Steps, IsOnTurn, logs}
+use Rattle.hwp_core.specs.hwp_core_task.Hands.{Hand, hand_of, empty, taking, body_in}
+use Rattle.hwp_core.proofs.of_hwp_core_task.StepLeaves.{on-turn-after, content_of, brought, was-home, hand-planned, steps-planned, can-make}
+use Rattle.hwp_core.specs.hwp_core_task.Known.{Saw, HasMadeNone, Precedes, HasOnly, HasMade, IsAt, deeds}
+use Rattle.hwp_core.proofs.of_hwp_core_task.MadeEntries.{ListsNone, deeds-same, frame-lists, deeds-none, deeds-one, has-made, has-made-stays, has-only-stays}
+use Rattle.hwp_core.specs.hwp_core_task.Pages.{SawState}
+use Rattle.hwp_core.proofs.of_hwp_core_task.SightKeeps.{saw-stays, saw-load, saw-state-stays}
 use Rattle.hwp_core.specs.declared.GiveUp.{GiveUp}
 use Rattle.hwp_core.specs.declared.give_up.GiveUpAt.{GiveUpAt}
 use Rattle.hwp_core.specs.declared.give_up.GiveUpAt.TheVariants as give_up_at
@@ -163,10 +163,10 @@ module _ (a : Request) {layout : Layout} {old new : View} {step : Step} {found :
   checked-stays has = record { alive = saw-stays made has.alive; mask = has.mask; bad = has.bad; saw = saw-stays made has.saw; within = has.within; made = has-made-stays a.who old new (deeds-same a.who lists made) has.made }
 
   answer-stays : (answer : AccessAnswer) → Answered layout old a answer → Answered layout new a answer
-  answer-stays (answers.Value word page place) has = (has.0, has.1, reached-stays has.2)
-  answer-stays (answers.Stored page place) has = (has.0, has.1, has.2, reached-stays has.3)
-  answer-stays (answers.Checked frame page place) has = (has.0, checked-stays has.1)
-  answer-stays (answers.Sigbus page place) has = (has.0, record { alive = saw-stays made has.1.alive; made = has-made-stays a.who old new (deeds-same a.who lists made) has.1.made })
+  answer-stays (answers.Value word place) has = (has.0, has.1, reached-stays has.2)
+  answer-stays (answers.Stored place) has = (has.0, has.1, has.2, reached-stays has.3)
+  answer-stays (answers.Checked frame place) has = (has.0, checked-stays has.1)
+  answer-stays (answers.Sigbus place) has = (has.0, record { alive = saw-stays made has.1.alive; made = has-made-stays a.who old new (deeds-same a.who lists made) has.1.made })
   answer-stays answers.NoFrame has = (goes-on has.0, saw-stays made has.1, has.2, saw-state-stays made has.3)
   answer-stays (answers.Gone page) has = (saw-stays made has.0, only-stays has.1)
   answer-stays answers.Stopped has = (record { word = has.0.word; stopped = has.0.stopped; saw = saw-stays made has.0.saw }, none-stays has.1)
@@ -447,7 +447,7 @@ module _ {layout : Layout} {a : Request} {old new : View} {found : ℕ} {got : O
 
 module _ (layout : Layout) (a : Request) (new : View) where
   word-answered : (kind : AccessKind) → a.kind ≡ kind → (word place mask : ℕ) → Saw new a.who (places.Process a.process) 0 → ¬ IsBitSet mask a.line → HasMade (Precedes a.page a.slot a.line) new a.who a.page place (what_of a mask word)
-      → Answered layout new a (reply_by kind word a.page place)
+      → Answered layout new a (reply_by kind word (record { page = a.page; entry = place }))
   word-answered kinds.Load is word place mask alive good made = (is, refl, record { alive = alive; mask = mask; good = good; made = made })
   word-answered (kinds.Store stored) is word place mask alive good made = (
     stored,
@@ -565,7 +565,7 @@ module _ (layout : Layout) (a : Request) (old new : View) (found : ℕ) (got : O
   over-known g x fits is = subst (faults.FitsOver layout new g.who g.page) is (faulting.over-fits g (over-of g x is) fits)
 
   fault-moved : (f : Fault) (step : Step) → faults.plan f ≡ Some step → IsFaulting layout old a f → Steps layout a.who step (logs (faults.put f)) old new found got
-      → faults.Shows (faults.bare f) found got × ((y : AccessAt) (turn : Turn) → FaultStepped layout a.page (faults.bare f) found got y turn → FitsAt layout new a y)
+      → faults.Shows (faults.bare f) found got × ((y : AccessAt) (turn : Turn) → FaultStepped layout (faults.bare f) found got y turn → FitsAt layout new a y)
   fault-moved f step is has made = (child.0, λ y turn stepped. subst (FitsAt layout new a) (sym stepped.next_is) (then stepped.after turn stepped.follows))
     where
       child : faults.Shows (faults.bare f) found got × ((after : Fault) (turn : Turn) → faults.Follows layout (faults.bare f) found got after turn → faults.Fits layout new after × (after.who.cpu ≡ f.who.cpu))
@@ -574,7 +574,7 @@ module _ (layout : Layout) (a : Request) (old new : View) (found : ℕ) (got : O
       alive : Saw new a.who (places.Process a.process) 0
       alive = saw-stays made has.alive
 
-      then : (g : Fault) (turn : Turn) → faults.Follows layout (faults.bare f) found got g turn → FitsAt layout new a (after_fault a.page g)
+      then : (g : Fault) (turn : Turn) → faults.Follows layout (faults.bare f) found got g turn → FitsAt layout new a (after_fault g)
       then g turn follows = which (faults.answer g) refl
         where
           fits : faults.Fits layout new g
@@ -596,20 +596,20 @@ module _ (layout : Layout) (a : Request) (old new : View) (found : ℕ) (got : O
           made-by x is = subst (λ (w : Who). MadeBy new x w a.page a.slot (touch_of a)) own (subst (λ (p : Page). MadeBy new x g.who p a.slot (touch_of a)) page-is
               (subst (λ (s : VSlot). MadeBy new x g.who g.page s (touch_of a)) slot-is (subst (λ (t : Touch). MadeBy new x g.who g.page g.slot t) touch-is (faulting.over-made g x is fits))))
 
-          which : (answer : Option FaultAnswer) → faults.answer g ≡ answer → FitsAt layout new a (after_fault_at a.page g answer)
+          which : (answer : Option FaultAnswer) → faults.answer g ≡ answer → FitsAt layout new a (after_fault_at g answer)
           which None is = record { fault = fits; own = own; page_is = page-is; slot_is = slot-is; touch_is = touch-is; unanswered = is; alive = alive }
           which (Some fault_answers.Again) is = record { hand_is = (over-known g fault_answers.Again fits is).0; on = record { alive = alive; only = made-by fault_answers.Again is } }
-          which (Some (fault_answers.NoFrame place)) is = let over = over-known g (fault_answers.NoFrame place) fits is in let why : Saw new g.who places.Available 0 × SawState layout new g.who g.page place IsAway = over.1 in
+          which (Some (fault_answers.NoFrame place)) is = let over = over-known g (fault_answers.NoFrame place) fits is in let why : (place.page ≡ g.page) × Saw new g.who places.Available 0 × SawState layout new g.who g.page place.entry IsAway = over.1 in
               record {
                 hand_is = over.0;
                 answered = (
                   record { alive = alive; only = made-by (fault_answers.NoFrame place) is },
-                  subst (λ (w : Who). Saw new w places.Available 0) own why.0,
-                  place,
-                  subst (λ (w : Who). SawState layout new w a.page place IsAway) own (subst (λ (p : Page). SawState layout new g.who p place IsAway) page-is why.1),
+                  subst (λ (w : Who). Saw new w places.Available 0) own why.1,
+                  place.entry,
+                  subst (λ (w : Who). SawState layout new w a.page place.entry IsAway) own (subst (λ (p : Page). SawState layout new g.who p place.entry IsAway) page-is why.2),
                 );
               }
-          which (Some (fault_answers.Sigbus place)) is = record { hand_is = (over-known g (fault_answers.Sigbus place) fits is).0; answered = (refl, record { alive = alive; made = made-by (fault_answers.Sigbus place) is }) }
+          which (Some (fault_answers.Sigbus place)) is = let over = over-known g (fault_answers.Sigbus place) fits is in record { hand_is = over.0; answered = (over.1 ∙ page-is, record { alive = alive; made = made-by (fault_answers.Sigbus place) is }) }
 
 -- ---- the command given up
 

@@ -6,37 +6,37 @@ use Rattle.std.proofs.lemmas.List.{drop_all}
 use Rattle.std.proofs.lemmas.List.Folds.{list_any-append}
 use Rattle.std.proofs.lemmas.Option.{same_Some}
 use Rattle.std.specs.List.{find}
-use Rattle.hwp_geom.specs.declared.Frame.{Frame}
-use Rattle.hwp_geom.specs.declared.Layout.{Layout}
-use Rattle.hwp_geom.specs.declared.Page.{Page}
-use Rattle.hwp_geom.specs.declared.Proc.{Proc}
-use Rattle.hwp_geom.specs.declared.VSlot.{VSlot}
-use Rattle.hwp_geom.specs.declared.Who.{Who}
+use Rattle.hwp_page.specs.hwp_geom.declared.Frame.{Frame}
+use Rattle.hwp_page.specs.hwp_geom.declared.Layout.{Layout}
+use Rattle.hwp_page.specs.hwp_geom.declared.Page.{Page}
+use Rattle.hwp_page.specs.hwp_geom.declared.Proc.{Proc}
+use Rattle.hwp_page.specs.hwp_geom.declared.VSlot.{VSlot}
+use Rattle.hwp_page.specs.hwp_geom.declared.Who.{Who}
 use Rattle.hwp_page.specs.declared.Entry.{Entry}
 use Rattle.hwp_page.specs.declared.PageState.{PageState}
 use Rattle.hwp_page.specs.Endings.{ends, has_ending, is_ended_by, is_ending}
 use Rattle.hwp_page.specs.History.{BodyValue, Leads}
 use Rattle.hwp_page.specs.Step.{Allowed, IsRefused, after}
-use Rattle.hwp_words.specs.Names.{frame_name}
-use Rattle.hwp_core_rule.specs.declared.InHand.{InHand}
-use Rattle.hwp_core_rule.specs.declared.Log.{Log}
-use Rattle.hwp_core_rule.specs.declared.Made.{Made}
-use Rattle.hwp_core_rule.specs.declared.PageLock.{PageLock}
-use Rattle.hwp_core_rule.specs.declared.Sight.{Sight}
-use Rattle.hwp_core_rule.specs.declared.Step.TheVariants as steps
-use Rattle.hwp_core_rule.specs.declared.View.{View}
-use Rattle.hwp_core_rule.specs.Asks.{CanGoHome, CanKill, Extends, HasPage, HasSameWords, PutFits}
-use Rattle.hwp_core_rule.specs.Lists.{EachMember}
-use Rattle.hwp_core_rule.specs.Logs.{fitting, fitting_word, log_of, state_of}
-use Rattle.hwp_core_rule.specs.Views.{body_of, is_body_of, more_of}
-use Rattle.hwp_core_rule.specs.parts.Entries.{HasSeen}
-use Rattle.hwp_core_rule.specs.parts.Fits.{FitsWords}
-use Rattle.hwp_core_rule.proofs.Lists.{same-number}
-use Rattle.hwp_core_task.specs.Calls.{IsOnTurn, Steps}
-use Rattle.hwp_core_task.specs.Hands.{Hand, body_in, hand_of, killing, listing, listing_of}
-use Rattle.hwp_core_task.proofs.StepLeaves.{hand-made}
-use Rattle.hwp_core_task.specs.Known.{HasMade, HasOnly, IsAt, Precedes, deeds}
-use Rattle.hwp_core_task.proofs.MadeEntries.{deeds-one, has-made, kill-lists}
+use Rattle.hwp_core.specs.hwp_words.Names.{frame_name}
+use Rattle.hwp_core.specs.hwp_core_rule.declared.InHand.{InHand}
+use Rattle.hwp_core.specs.hwp_core_rule.declared.Log.{Log}
+use Rattle.hwp_core.specs.hwp_core_rule.declared.Made.{Made}
+use Rattle.hwp_core.specs.hwp_core_rule.declared.PageLock.{PageLock}
+use Rattle.hwp_core.specs.hwp_core_rule.declared.Sight.{Sight}
+use Rattle.hwp_core.specs.hwp_core_rule.declared.Step.TheVariants as steps
+use Rattle.hwp_core.specs.hwp_core_rule.declared.View.{View}
+use Rattle.hwp_core.specs.hwp_core_rule.Asks.{CanGoHome, CanKill, Extends, HasPage, HasSameWords, PutFits}
+use Rattle.hwp_core.specs.hwp_core_rule.Lists.{EachMember}
+use Rattle.hwp_core.specs.hwp_core_rule.Logs.{fitting, fitting_word, log_of, state_of}
+use Rattle.hwp_core.specs.hwp_core_rule.Views.{body_of, is_body_of, more_of}
+use Rattle.hwp_core.specs.hwp_core_rule.parts.Entries.{HasSeen}
+use Rattle.hwp_core.specs.hwp_core_rule.parts.Fits.{FitsWords}
+use Rattle.hwp_core.proofs.of_hwp_core_rule.Lists.{same-number}
+use Rattle.hwp_core.specs.hwp_core_task.Calls.{IsOnTurn, Steps}
+use Rattle.hwp_core.specs.hwp_core_task.Hands.{Hand, body_in, hand_of, killing, listing, listing_of}
+use Rattle.hwp_core.proofs.of_hwp_core_task.StepLeaves.{hand-made}
+use Rattle.hwp_core.specs.hwp_core_task.Known.{HasMade, HasOnly, IsAt, Precedes, deeds}
+use Rattle.hwp_core.proofs.of_hwp_core_task.MadeEntries.{deeds-one, has-made, kill-lists}
 use Rattle.hwp_core.specs.Holds.{HoldsPage, held, page_lock}
 use Rattle.hwp_core.specs.Unholds as unholds
 use Rattle.hwp_core.specs.Unholds.{HoldsAhead, holding}

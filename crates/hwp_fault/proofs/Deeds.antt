@@ -4,35 +4,36 @@ use Rattle.std.proofs.Math.Seq.{drop-append_seam}
 use Rattle.std.proofs.lemmas.Bool.{both_ways}
 use Rattle.std.proofs.lemmas.List.Elements.{filter-append}
 use Rattle.std.proofs.lemmas.Option.{none-some, same_Some}
-use Rattle.hwp_geom.specs.declared.Frame.{Frame}
-use Rattle.hwp_geom.specs.declared.Layout.{Layout}
-use Rattle.hwp_geom.specs.declared.Page.{Page}
-use Rattle.hwp_geom.specs.declared.VSlot.{VSlot}
-use Rattle.hwp_geom.specs.declared.Who.{Who}
+use Rattle.hwp_page.specs.hwp_geom.declared.Frame.{Frame}
+use Rattle.hwp_page.specs.hwp_geom.declared.Layout.{Layout}
+use Rattle.hwp_page.specs.hwp_geom.declared.Page.{Page}
+use Rattle.hwp_page.specs.hwp_geom.declared.VSlot.{VSlot}
+use Rattle.hwp_page.specs.hwp_geom.declared.Who.{Who}
+use Rattle.hwp_page.specs.declared.At.{At}
 use Rattle.hwp_page.specs.declared.What.{What}
 use Rattle.hwp_page.specs.declared.What.TheVariants as entries
 use Rattle.hwp_page.specs.Endings.{ends}
 use Rattle.hwp_page.specs.History.{BodyValue}
-use Rattle.hwp_words.specs.declared.Pte.{Pte}
-use Rattle.hwp_words.specs.declared.Pte.TheVariants as ptes
-use Rattle.hwp_words.specs.Translations.{pte_reading}
-use Rattle.hwp_core_rule.specs.declared.InHand.{InHand}
-use Rattle.hwp_core_rule.specs.declared.Made.{Made}
-use Rattle.hwp_core_rule.specs.declared.SharedWord.TheVariants as places
-use Rattle.hwp_core_rule.specs.declared.Stamp.{Stamp}
-use Rattle.hwp_core_rule.specs.declared.Step.{Step}
-use Rattle.hwp_core_rule.specs.declared.Step.TheVariants as steps
-use Rattle.hwp_core_rule.specs.declared.View.{View}
-use Rattle.hwp_core_rule.specs.Lists.{EachMember}
-use Rattle.hwp_core_rule.specs.Logs.{log_of}
-use Rattle.hwp_core_rule.specs.Views.{body_of, is_body_of, made_from, more_of}
-use Rattle.hwp_core_rule.proofs.MoreEntries.{each-append, made-each}
-use Rattle.hwp_core_rule.proofs.ListDrops.{find-is}
-use Rattle.hwp_core_task.specs.Calls.{CanMake, Steps, logs}
-use Rattle.hwp_core_task.specs.Hands.{body_in, hand_of}
-use Rattle.hwp_core_task.proofs.StepLeaves.{hand-planned, steps-planned}
-use Rattle.hwp_core_task.specs.Known.{HasMade, HasOnly, IsAt, IsOnTheWay, Precedes, deeds, is_by}
-use Rattle.hwp_core_task.proofs.MadeEntries.{Lists, ListsNone, deeds-none, deeds-one, deeds-same, each-filter, frame-lists, has-made, has-made-stays, has-only-stays, page-lists}
+use Rattle.hwp_core.specs.hwp_words.declared.Pte.{Pte}
+use Rattle.hwp_core.specs.hwp_words.declared.Pte.TheVariants as ptes
+use Rattle.hwp_core.specs.hwp_words.Translations.{pte_reading}
+use Rattle.hwp_core.specs.hwp_core_rule.declared.InHand.{InHand}
+use Rattle.hwp_core.specs.hwp_core_rule.declared.Made.{Made}
+use Rattle.hwp_core.specs.hwp_core_rule.declared.SharedWord.TheVariants as places
+use Rattle.hwp_core.specs.hwp_core_rule.declared.Stamp.{Stamp}
+use Rattle.hwp_core.specs.hwp_core_rule.declared.Step.{Step}
+use Rattle.hwp_core.specs.hwp_core_rule.declared.Step.TheVariants as steps
+use Rattle.hwp_core.specs.hwp_core_rule.declared.View.{View}
+use Rattle.hwp_core.specs.hwp_core_rule.Lists.{EachMember}
+use Rattle.hwp_core.specs.hwp_core_rule.Logs.{log_of}
+use Rattle.hwp_core.specs.hwp_core_rule.Views.{body_of, is_body_of, made_from, more_of}
+use Rattle.hwp_core.proofs.of_hwp_core_rule.MoreEntries.{each-append, made-each}
+use Rattle.hwp_core.proofs.of_hwp_core_rule.ListDrops.{find-is}
+use Rattle.hwp_core.specs.hwp_core_task.Calls.{CanMake, Steps, logs}
+use Rattle.hwp_core.specs.hwp_core_task.Hands.{body_in, hand_of}
+use Rattle.hwp_core.proofs.of_hwp_core_task.StepLeaves.{hand-planned, steps-planned}
+use Rattle.hwp_core.specs.hwp_core_task.Known.{HasMade, HasOnly, IsAt, IsOnTheWay, Precedes, deeds, is_by}
+use Rattle.hwp_core.proofs.of_hwp_core_task.MadeEntries.{Lists, ListsNone, deeds-none, deeds-one, deeds-same, each-filter, frame-lists, has-made, has-made-stays, has-only-stays, page-lists}
 use Rattle.hwp_fault_fill.specs.declared.Fill.{Fill}
 use Rattle.hwp_fault_fill.specs.declared.fill.FillAt.{FillAt}
 use Rattle.hwp_fault_fill.specs.declared.fill.FillAt.TheVariants as fill_at
@@ -323,7 +324,7 @@ module _ (layout : Layout) (who : Who) (page : Page) (slot : VSlot) (touch : Tou
     refuse-made None = only
     refuse-made (Some n) = by (ends layout touch.process touch.thread)
       where
-        by : (ended : Bool) → MadeNow (cond ended (at.Kill frame (refused who slot touch (record body { spare = n })) (length body.log)) (let_go who page frame (refused who slot touch (record body { spare = n })) (answers.Sigbus (length body.log))))
+        by : (ended : Bool) → MadeNow (cond ended (at.Kill frame (refused who slot touch (record body { spare = n })) (record { page = page; entry = length body.log })) (let_go who page frame (refused who slot touch (record body { spare = n })) (answers.Sigbus (record { page = page; entry = length body.log }))))
         by true = only
         by false = inl (record {
           only = only;
@@ -346,7 +347,7 @@ module _ (layout : Layout) (who : Who) (page : Page) (slot : VSlot) (touch : Tou
     pte-made ptes.Poison spare = refuse-made spare
 
 -- once the entry of a refusal is made, it stays so
-sigbus-made : (who : Who) (page : Page) (slot : VSlot) (touch : Touch) (new : View) (u : Unhold) (place : ℕ) → HasMade (Precedes page slot touch.line) new who page place (refusal slot touch) → unholds.put u ≡ None
+sigbus-made : (who : Who) (page : Page) (slot : VSlot) (touch : Touch) (new : View) (u : Unhold) (place : At) → HasMade (Precedes page slot touch.line) new who page place.entry (refusal slot touch) → unholds.put u ≡ None
     → MadeAt new who page slot touch (after_unhold u (answers.Sigbus place))
 sigbus-made who page slot touch new u place made none = by (is_none (unholds.plan u))
   where
@@ -360,10 +361,10 @@ page-still same has = record { seen = has.seen; handled = has.handled; poisoned 
 
 module _ (layout : Layout) (who : Who) (page : Page) (slot : VSlot) (touch : Touch) (old new : View) (step : Step) (found : ℕ) (got : Option BodyValue) where
   -- after the process was ended
-  kill-made : (frame : Option Frame) (body : BodyValue) (place : ℕ) → IsEnding layout old who page slot touch frame body place → HasOnly (Precedes page slot touch.line) old who
+  kill-made : (frame : Option Frame) (body : BodyValue) (place : At) → IsEnding layout old who page slot touch frame body place → HasOnly (Precedes page slot touch.line) old who
       → Steps layout who (steps.Kill touch.process page (as_snapshot body)) None old new found got → MadeAt new who page slot touch (let_go who page frame body (answers.Sigbus place))
   kill-made frame body place has only made = inr (record {
-    made = subst (λ (n : ℕ). HasMade (Precedes page slot touch.line) new who page n (refusal slot touch)) (sym has.place_is) (refusal-made who slot touch has.held has.allowed has.ending own only);
+    made = subst (λ (n : ℕ). HasMade (Precedes page slot touch.line) new who page n (refusal slot touch)) (sym (ap (λ (p : At). p.entry) has.place_is)) (refusal-made who slot touch has.held has.allowed has.ending own only);
     rest = λ b e. none-left who slot touch has.held has.allowed has.ending own b (same_Some b body (sym e ∙ put-begins who page frame body) ∙ has.body_is);
   })
     where

@@ -1,39 +1,40 @@
 -- What a step of a fault, and of an access, adds to the entries of its command, and that no loss more is owed after it.
-use Rattle.std.proofs.Common.{◌≡◌, ◌⊎◌, inl, inr, ℕ, ◌&&◌, Bool, true, false, cond, [], ◌∷◌, Option, Some, None, is_none, filter, length, refl, sym, ap, ◌∙◌, subst}
+use Rattle.std.proofs.Common.{◌≡◌, ◌⊎◌, inl, inr, ℕ, ◌&&◌, Bool, true, false, cond, [], ◌∷◌, Option, Some, None, is_none, filter, refl, sym, ap, ◌∙◌, subst}
 use Rattle.std.proofs.Math.Seq.{drop-append_seam}
 use Rattle.std.proofs.lemmas.Option.{none-some, same_Some}
-use Rattle.hwp_geom.specs.declared.Frame.{Frame}
-use Rattle.hwp_geom.specs.declared.Layout.{Layout}
-use Rattle.hwp_geom.specs.declared.Page.{Page}
-use Rattle.hwp_geom.specs.declared.Thread.{Thread}
-use Rattle.hwp_geom.specs.declared.VSlot.{VSlot}
-use Rattle.hwp_geom.specs.declared.Who.{Who}
+use Rattle.hwp_page.specs.hwp_geom.declared.Frame.{Frame}
+use Rattle.hwp_page.specs.hwp_geom.declared.Layout.{Layout}
+use Rattle.hwp_page.specs.hwp_geom.declared.Page.{Page}
+use Rattle.hwp_page.specs.hwp_geom.declared.Thread.{Thread}
+use Rattle.hwp_page.specs.hwp_geom.declared.VSlot.{VSlot}
+use Rattle.hwp_page.specs.hwp_geom.declared.Who.{Who}
+use Rattle.hwp_page.specs.declared.At.{At}
 use Rattle.hwp_page.specs.declared.Entry.{Entry}
 use Rattle.hwp_page.specs.declared.Met.TheVariants.{Word, Sigbus}
 use Rattle.hwp_page.specs.declared.What.{What}
 use Rattle.hwp_page.specs.declared.What.TheVariants as entries
 use Rattle.hwp_page.specs.History.{BodyValue}
 use Rattle.hwp_page.specs.Losses.{is_loss}
-use Rattle.hwp_words.specs.Frames.{is_locked}
-use Rattle.hwp_words.specs.Names.{page_named}
-use Rattle.hwp_words.specs.Stops.{is_stopped}
-use Rattle.hwp_core_rule.specs.declared.InHand.{InHand}
-use Rattle.hwp_core_rule.specs.declared.Made.{Made}
-use Rattle.hwp_core_rule.specs.declared.SharedWord.TheVariants as places
-use Rattle.hwp_core_rule.specs.declared.Step.{Step}
-use Rattle.hwp_core_rule.specs.declared.Step.TheVariants as steps
-use Rattle.hwp_core_rule.specs.declared.View.{View}
-use Rattle.hwp_core_rule.specs.Lists.{EachMember}
-use Rattle.hwp_core_rule.specs.Logs.{log_of}
-use Rattle.hwp_core_rule.specs.Views.{body_of, frame_in, is_body_of, more_of, stamp_of}
-use Rattle.hwp_core_rule.proofs.ListDrops.{find-is}
-use Rattle.hwp_core_task.specs.declared.Turn.{Turn}
-use Rattle.hwp_core_task.specs.Calls.{CanMake, Steps, logs}
-use Rattle.hwp_core_task.specs.Hands.{body_in}
-use Rattle.hwp_core_task.proofs.StepLeaves.{steps-planned}
-use Rattle.hwp_core_task.specs.Known.{such_deeds}
-use Rattle.hwp_core_task.proofs.MadeEntries.{Lists, ListsNone, deeds-one, deeds-same, frame-lists, kill-lists, page-lists, such-kept}
-use Rattle.hwp_core_task.proofs.OwedLosses.{frame-owes, kill-owes, losses-same, page-owes}
+use Rattle.hwp_core.specs.hwp_words.Frames.{is_locked}
+use Rattle.hwp_core.specs.hwp_words.Names.{page_named}
+use Rattle.hwp_core.specs.hwp_words.Stops.{is_stopped}
+use Rattle.hwp_core.specs.hwp_core_rule.declared.InHand.{InHand}
+use Rattle.hwp_core.specs.hwp_core_rule.declared.Made.{Made}
+use Rattle.hwp_core.specs.hwp_core_rule.declared.SharedWord.TheVariants as places
+use Rattle.hwp_core.specs.hwp_core_rule.declared.Step.{Step}
+use Rattle.hwp_core.specs.hwp_core_rule.declared.Step.TheVariants as steps
+use Rattle.hwp_core.specs.hwp_core_rule.declared.View.{View}
+use Rattle.hwp_core.specs.hwp_core_rule.Lists.{EachMember}
+use Rattle.hwp_core.specs.hwp_core_rule.Logs.{log_of}
+use Rattle.hwp_core.specs.hwp_core_rule.Views.{body_of, frame_in, is_body_of, more_of, stamp_of}
+use Rattle.hwp_core.proofs.of_hwp_core_rule.ListDrops.{find-is}
+use Rattle.hwp_core.specs.hwp_core_task.declared.Turn.{Turn}
+use Rattle.hwp_core.specs.hwp_core_task.Calls.{CanMake, Steps, logs}
+use Rattle.hwp_core.specs.hwp_core_task.Hands.{body_in}
+use Rattle.hwp_core.proofs.of_hwp_core_task.StepLeaves.{steps-planned}
+use Rattle.hwp_core.specs.hwp_core_task.Known.{such_deeds}
+use Rattle.hwp_core.proofs.of_hwp_core_task.MadeEntries.{Lists, ListsNone, deeds-one, deeds-same, frame-lists, kill-lists, page-lists, such-kept}
+use Rattle.hwp_core.proofs.of_hwp_core_task.OwedLosses.{frame-owes, kill-owes, losses-same, page-owes}
 use Rattle.hwp_core.specs.declared.give_up.GiveUpAt.{GiveUpAt}
 use Rattle.hwp_core.specs.declared.give_up.GiveUpAt.TheVariants as give_up_at
 use Rattle.hwp_core.specs.declared.Pin.{Pin}
@@ -69,7 +70,7 @@ use Rattle.hwp_fault.specs.declared.touch.AccessKind.{AccessKind}
 use Rattle.hwp_fault.specs.declared.touch.AccessKind.TheVariants as kinds
 use Rattle.hwp_fault.specs.declared.touch.Touch.{Touch}
 use Rattle.hwp_fault.specs.Accesses as accesses
-use Rattle.hwp_fault.specs.Accesses.{Fits, FitsAt, FitsThen, HasLocked, HasToList, LooksOf, Next, NextAt, Prepares, after_fault_at, after_process, at_start, bare, bare_at, check_of, ended, entry_of, is_bad, leading, leads_to, met_by, plan, plan_at, put, put_at, reached, reply_by, reply_where, unlocked, what_by, what_of, word_in}
+use Rattle.hwp_fault.specs.Accesses.{Fits, FitsAt, FitsThen, HasLocked, HasToList, LooksOf, Next, NextAt, Prepares, after_fault_at, after_process, at_start, bare, bare_at, check_of, ended, entry_of, is_bad, leading, leads_to, met_by, place_in, plan, plan_at, put, put_at, reached, reply_by, reply_where, unlocked, what_by, what_of, word_in}
 use Rattle.hwp_fault.specs.Adds.{Adds, AddsNone, Skips, has_checked, is_checked, is_home, is_listed}
 use Rattle.hwp_fault.specs.Faults as faults
 use Rattle.hwp_fault.specs.Faults.{AddsOnly, MadeAt}
@@ -180,7 +181,7 @@ module _ (test : What → Bool) where
 
 module _ (layout : Layout) (old new : View) (f : Fault) (step : Step) (found : ℕ) (got : Option BodyValue) (fits : faults.Fits layout old f) where
   -- the entry that the access was answered by SIGBUS, as the process is ended
-  kill-passes : (test : What → Bool) → Skips test → (frame : Option Frame) (body : BodyValue) (place : ℕ) → faults.IsEnding layout old f.who f.page f.slot f.touch frame body place
+  kill-passes : (test : What → Bool) → Skips test → (frame : Option Frame) (body : BodyValue) (place : At) → faults.IsEnding layout old f.who f.page f.slot f.touch frame body place
       → Steps layout f.who (steps.Kill f.touch.process f.page (as_snapshot body)) None old new found got → Passes test f.who old new
   kill-passes test skips frame body place has made = record {
     found = such-kept f.who test (kill-lists (loading.in-hand has.held) own) each;
@@ -261,15 +262,15 @@ looks-unchecked true a frame None y is = absurd is
 looks-unchecked true a frame (Some body) y is = prepared-unchecked a frame body y is
 looks-unchecked false a frame body y is = ap has_checked is
 
-fault-unchecked : (page : Page) (f : Fault) (x : Option FaultAnswer) → has_checked (after_fault_at page f x) ≡ false
-fault-unchecked page f None = refl
-fault-unchecked page f (Some fault_answers.Again) = refl
-fault-unchecked page f (Some (fault_answers.NoFrame place)) = refl
-fault-unchecked page f (Some (fault_answers.Sigbus place)) = refl
+fault-unchecked : (f : Fault) (x : Option FaultAnswer) → has_checked (after_fault_at f x) ≡ false
+fault-unchecked f None = refl
+fault-unchecked f (Some fault_answers.Again) = refl
+fault-unchecked f (Some (fault_answers.NoFrame place)) = refl
+fault-unchecked f (Some (fault_answers.Sigbus place)) = refl
 
-word-unchecked : (kind : AccessKind) (word : ℕ) (page : Page) (place : ℕ) → is_checked (reply_by kind word page place) ≡ false
-word-unchecked kinds.Load word page place = refl
-word-unchecked (kinds.Store stored) word page place = refl
+word-unchecked : (kind : AccessKind) (word : ℕ) (place : At) → is_checked (reply_by kind word place) ≡ false
+word-unchecked kinds.Load word place = refl
+word-unchecked (kinds.Store stored) word place = refl
 
 -- whether the answer is such
 abbrev is_told : Option AccessAnswer → Bool
@@ -330,7 +331,7 @@ module _ (a : Request) {layout : Layout} {old new : View} {found : ℕ} {got : O
       by false lists more = inl (
         λ test skips. such-kept a.who test lists (subst (EachMember (λ (e : Entry). test e.what ≡ false)) (sym more)
             (each-one (λ (e : Entry). test e.what ≡ false) (entry_of a (what_of a has.mask (word_in a has.before))) (word-passed test skips a.kind a.slot a.line has.mask (word_in a has.before)))),
-        word-unchecked a.kind (word_in a has.before) a.page (length has.before.log),
+        word-unchecked a.kind (word_in a has.before) (place_in a has.before),
       )
 
   -- the body goes home as it was taken
@@ -365,7 +366,7 @@ access-adds layout old new a step found got fits is made after turn next = which
     which (at.Unlock u then) e has can made y next = subst (Adds a.request old new (is_listed u.at then)) (sym (ap has_checked next.0 ∙ unlock-tells u found then)) (unlock-adds a.request u.at then e has.goal made)
     which (at.Fault f) e has can made y next = inl (
       subst (λ (w : Who). AddsNone w old new) has.own (λ test skips. (fault-passes layout old new f step found got has.fault e (subst (λ (w : Who). Steps layout w step (logs (faults.put f)) old new found got) (sym has.own) made) test skips).found),
-      ap has_checked next.next_is ∙ fault-unchecked a.request.page next.after (faults.answer next.after),
+      ap has_checked next.next_is ∙ fault-unchecked next.after (faults.answer next.after),
     )
     which (at.GiveUp g) e has can made y next = inl (λ test skips. (give-up-passes test a.request.who g.at e can made (still-passes test old (give_ups.put g) has.still)).found, ap has_checked next.0)
     which (at.Over answer) e has can made y next = absurd (none-some step e)

@@ -2,36 +2,37 @@
 use Rattle.std.proofs.Common.{◌≡◌, ◌⊎◌, inl, inr, ℕ, ◌+◌, ◌/◌, ◌^◌, ◌<◌, ◌≤◌, ◌==◌, Bool, true, false, not, cond, List, Option, Some, None, is_none, is_some, length, set, slice_get, slice_index, refl, sym, ap, ◌∙◌, subst, arith}
 use Rattle.std.proofs.lemmas.Bool.{both_ways}
 use Rattle.std.proofs.lemmas.Option.{none-some, same_Some, slice_get_within, slice_get-get_or, get_or_from_slice_get}
-use Rattle.hwp_geom.specs.declared.Frame.{Frame}
-use Rattle.hwp_geom.specs.declared.Layout.{Layout}
-use Rattle.hwp_geom.specs.declared.Page.{Page}
-use Rattle.hwp_geom.specs.declared.VSlot.{VSlot}
-use Rattle.hwp_geom.specs.declared.Who.{Who}
+use Rattle.hwp_page.specs.hwp_geom.declared.Frame.{Frame}
+use Rattle.hwp_page.specs.hwp_geom.declared.Layout.{Layout}
+use Rattle.hwp_page.specs.hwp_geom.declared.Page.{Page}
+use Rattle.hwp_page.specs.hwp_geom.declared.VSlot.{VSlot}
+use Rattle.hwp_page.specs.hwp_geom.declared.Who.{Who}
 use Rattle.hwp_page.specs.Endings.{ends}
 use Rattle.hwp_page.specs.History.{BodyValue}
 use Rattle.hwp_page.specs.Step.{IsOf}
-use Rattle.hwp_words.specs.declared.Pte.{Pte}
-use Rattle.hwp_words.specs.declared.Pte.TheVariants as ptes
-use Rattle.hwp_words.specs.Translations.{pte_reading, pte_word}
-use Rattle.hwp_core_rule.specs.declared.SharedWord.{SharedWord}
-use Rattle.hwp_core_rule.specs.declared.SharedWord.TheVariants as places
-use Rattle.hwp_core_rule.specs.declared.State.{State}
-use Rattle.hwp_core_rule.specs.declared.Step.{Step}
-use Rattle.hwp_core_rule.specs.declared.Step.TheVariants as steps
-use Rattle.hwp_core_rule.specs.Moves.{Move}
-use Rattle.hwp_core_rule.specs.Rule.{Holds}
-use Rattle.hwp_core_rule.specs.Lasting.{IsMild}
-use Rattle.hwp_core_rule.specs.Steps.{place_of, word_after}
-use Rattle.hwp_core_rule.specs.Views.{frame_in}
-use Rattle.hwp_core_rule.specs.Words.{Words, free_bit, free_words, index, put as put_word}
-use Rattle.hwp_core_rule.proofs.Lists.{set_here}
-use Rattle.hwp_core_rule.proofs.MetWords.{frame-named}
-use Rattle.hwp_core_rule.proofs.MoveKeeps.{shaped}
-use Rattle.hwp_core_task.specs.declared.Turn.{Turn}
-use Rattle.hwp_core_task.specs.Boards.{view_of}
-use Rattle.hwp_core_task.specs.Calls.{logs, rec_of}
-use Rattle.hwp_core_task.specs.Ranks.{Member, member, Made, CostFalls, HasFailed, IsRanked, Quiet, failures_left, is_waits, stale, words_at}
-use Rattle.hwp_core_task.proofs.StepRanks.{me, met, words-after, words-kept, failed, rank-failing}
+use Rattle.hwp_core.specs.hwp_words.declared.Pte.{Pte}
+use Rattle.hwp_core.specs.hwp_words.declared.Pte.TheVariants as ptes
+use Rattle.hwp_core.specs.hwp_words.Translations.{pte_reading, pte_word}
+use Rattle.hwp_core.specs.hwp_core_rule.declared.SharedWord.{SharedWord}
+use Rattle.hwp_core.specs.hwp_core_rule.declared.SharedWord.TheVariants as places
+use Rattle.hwp_core.specs.hwp_core_rule.declared.State.{State}
+use Rattle.hwp_core.specs.hwp_core_rule.declared.Step.{Step}
+use Rattle.hwp_core.specs.hwp_core_rule.declared.Step.TheVariants as steps
+use Rattle.hwp_core.specs.hwp_core_rule.Moves.{Move}
+use Rattle.hwp_core.specs.hwp_core_rule.Rule.{Holds}
+use Rattle.hwp_core.specs.hwp_core_rule.Lasting.{IsMild}
+use Rattle.hwp_core.specs.hwp_core_rule.Steps.{place_of, word_after}
+use Rattle.hwp_core.specs.hwp_core_rule.Views.{frame_in}
+use Rattle.hwp_core.specs.hwp_core_rule.Words.{Words, free_bit, free_words, index, put as put_word}
+use Rattle.hwp_core.proofs.of_hwp_core_rule.Lists.{set_here}
+use Rattle.hwp_core.proofs.of_hwp_core_rule.MetWords.{frame-named}
+use Rattle.hwp_core.proofs.of_hwp_core_rule.MoveKeeps.{shaped}
+use Rattle.hwp_core.specs.hwp_core_task.declared.Turn.{Turn}
+use Rattle.hwp_core.specs.hwp_core_task.Boards.{view_of}
+use Rattle.hwp_core.specs.hwp_core_task.Calls.{logs, rec_of}
+use Rattle.hwp_core.specs.hwp_core_task.Ranks.{Made, CostFalls, HasFailed, IsRanked, Quiet, failures_left, is_waits, stale, words_at}
+use Rattle.hwp_core.specs.hwp_core_task.Turns.{Member}
+use Rattle.hwp_core.proofs.of_hwp_core_task.StepRanks.{me, met, words-after, words-kept, failed, rank-failing}
 use Rattle.hwp_fault_fill.specs.declared.Fill.{Fill}
 use Rattle.hwp_fault_fill.specs.declared.fill.FillAt.{FillAt}
 use Rattle.hwp_fault_fill.specs.declared.fill.FillAt.TheVariants as fill_at
@@ -39,7 +40,6 @@ use Rattle.hwp_core.specs.declared.GiveUp.{GiveUp}
 use Rattle.hwp_core.specs.declared.Hold.{Hold}
 use Rattle.hwp_core.specs.declared.hold.HoldAt.{HoldAt}
 use Rattle.hwp_core.specs.declared.hold.HoldAt.TheVariants as hold_at
-use Rattle.hwp_core.specs.declared.Refer.{Refer}
 use Rattle.hwp_core.specs.declared.refer.ReferAt.{ReferAt}
 use Rattle.hwp_core.specs.declared.refer.ReferAt.TheVariants as refer_at
 use Rattle.hwp_core.specs.declared.Release.{Release}
@@ -72,7 +72,7 @@ use Rattle.hwp_fault.specs.declared.map_in.MapInAt.{MapInAt}
 use Rattle.hwp_fault.specs.declared.map_in.MapInAt.TheVariants as map_in_at
 use Rattle.hwp_fault.specs.declared.touch.Touch.{Touch}
 use Rattle.hwp_fault.specs.MapIns as map_ins
-use Rattle.hwp_fault.specs.Faults.{plan, plan_at, put, put_at, bare, bare_at, let_go, refuse, with_room, after_hold, after_pte, after_fill, after_map_in, after_unhold, after_give_up, next_at, turn_at, Follows, Fits, FitsAt, class, class_at, again, owed, rest, cost, cost_at}
+use Rattle.hwp_fault.specs.Faults.{plan, plan_at, put, put_at, bare, bare_at, let_go, refuse, with_room, after_hold, after_pte, after_fill, after_map_in, after_unhold, after_give_up, next_at, turn_at, FitsAt, class, class_at, again, owed, rest, cost, cost_at, task as fault-task}
 use Rattle.hwp_fault.specs.Touches.{as_snapshot, refused}
 use Rattle.hwp_fault.proofs.TranslationLoads.{pte-met, reads-frame, reads-poison}
 use Rattle.hwp_fault.proofs.MapInCosts.{map-in-mild, map-in-ranked, map-in-small}
@@ -182,7 +182,7 @@ refuse-cost : (layout : Layout) (who : Who) (page : Page) (slot : VSlot) (touch 
 refuse-cost layout who page slot touch frame body None w = let few : unholds.cost (unholds.begin who page frame 1 body) w ≤ 5 = unhold-begins who page frame body w in omega (arith, few)
 refuse-cost layout who page slot touch frame body (Some n) w = by (ends layout touch.process touch.thread)
   where
-    by : (ended : Bool) → cost_at slot (cond ended (at.Kill frame (refused who slot touch (record body { spare = n })) (length body.log)) (let_go who page frame (refused who slot touch (record body { spare = n })) (answers.Sigbus (length body.log)))) w ≤ 6
+    by : (ended : Bool) → cost_at slot (cond ended (at.Kill frame (refused who slot touch (record body { spare = n })) (record { page = page; entry = length body.log })) (let_go who page frame (refused who slot touch (record body { spare = n })) (answers.Sigbus (record { page = page; entry = length body.log })))) w ≤ 6
     by true = omega arith
     by false = let few : unholds.cost (unholds.begin who page frame 1 (refused who slot touch (record body { spare = n }))) w ≤ 5 = unhold-begins who page frame (refused who slot touch (record body { spare = n })) w in omega (arith, few)
 
@@ -228,12 +228,9 @@ give-up-cost slot g w = by (is_none (give_ups.plan g))
     by true = omega arith
     by false = omega arith
 
-abbrev pub fault-member : Member Fault
-fault-member = member (λ f. f.who) plan put bare (λ layout f found got after result. Follows layout f found got after result) Fits class cost (λ f. false) (λ f. None)
-
 -- ---- each turn
 
-module _ {layout : Layout} {seat : ℕ} {a b : State} {f t : Fault} {turned : Turn} (made : Made fault-member layout seat a b f t turned) where
+module _ {layout : Layout} {seat : ℕ} {a b : State} {f t : Fault} {turned : Turn} (made : Made fault-task layout seat a b f t turned) where
   abbrev w : Words
   w = words_at layout a
 
@@ -460,14 +457,14 @@ fault-class f = which f.at
     which (at.GiveUp g) = give-up-ranked.classes g
     which (at.Over answer) = (omega arith, omega arith)
 
-module _ {layout : Layout} {seat : ℕ} {a b : State} {f t : Fault} {turned : Turn} (made : Made fault-member layout seat a b f t turned) where
-  fault-goes : is_waits turned ≡ false → CostFalls fault-member layout a b f t ⊎ HasFailed fault-member layout a b f t
+module _ {layout : Layout} {seat : ℕ} {a b : State} {f t : Fault} {turned : Turn} (made : Made fault-task layout seat a b f t turned) where
+  fault-goes : is_waits turned ≡ false → CostFalls fault-task layout a b f t ⊎ HasFailed fault-task layout a b f t
   fault-goes goes = elim (fault-falls made (inl goes)) [
     | inl less ↦ inl less
     | inr fails ↦ inr (failed fails.1 (let some : cost t (words_at layout b) ≤ 12307 = fault-small (words_at layout b) t (few-words layout b made.kept).1 in omega (arith, some)))
   ]
 
-  fault-waits : is_waits turned ≡ true → Quiet (class f) layout a seat → CostFalls fault-member layout a b f t
+  fault-waits : is_waits turned ≡ true → Quiet (class f) layout a seat → CostFalls fault-task layout a b f t
   fault-waits is quiet = elim (fault-falls made (inr (is, quiet))) [
     | inl less ↦ less
     | inr fails ↦ absurd (both_ways true (sym is ∙ fails.0) refl)
@@ -487,7 +484,7 @@ fault-mild f step is = which f.at is
     which (at.GiveUp g) e = give-up-mild g step e
     which (at.Over answer) e = absurd (none-some step e)
 
-pub fault-ranked : IsRanked fault-member
-fault-ranked = rank-failing fault-member (λ s. refl) fault-class (λ layout a seat s rule fits. let some : cost s (words_at layout a) ≤ 12307 = fault-small (words_at layout a) s (few-words layout a rule).1 in omega (arith, some))
+pub fault-ranked : IsRanked fault-task
+fault-ranked = rank-failing fault-task (λ s. refl) fault-class (λ layout a seat s rule fits. let some : cost s (words_at layout a) ≤ 12307 = fault-small (words_at layout a) s (few-words layout a rule).1 in omega (arith, some))
     (λ layout seat a b s t turned made goes. fault-goes made goes) (λ layout seat a b s t turned made is quiet. fault-waits made is quiet)
     (λ s. refl) fault-mild

@@ -5,39 +5,40 @@ use Rattle.std.proofs.lemmas.Bool.{both_ways, ne_eqb}
 use Rattle.std.proofs.lemmas.List.{drop_all}
 use Rattle.std.proofs.lemmas.Option.{none-some, same_Some}
 use Rattle.std.specs.FinSet as set
-use Rattle.hwp_geom.specs.declared.Frame.{Frame}
-use Rattle.hwp_geom.specs.declared.Layout.{Layout}
-use Rattle.hwp_geom.specs.declared.Page.{Page}
-use Rattle.hwp_geom.specs.declared.ThreadDecl.{ThreadDecl}
-use Rattle.hwp_geom.specs.declared.TransDecl.{TransDecl}
-use Rattle.hwp_geom.specs.declared.VSlot.{VSlot}
-use Rattle.hwp_geom.specs.declared.Who.{Who}
+use Rattle.hwp_page.specs.hwp_geom.declared.Frame.{Frame}
+use Rattle.hwp_page.specs.hwp_geom.declared.Layout.{Layout}
+use Rattle.hwp_page.specs.hwp_geom.declared.Page.{Page}
+use Rattle.hwp_page.specs.hwp_geom.declared.ThreadDecl.{ThreadDecl}
+use Rattle.hwp_page.specs.hwp_geom.declared.TransDecl.{TransDecl}
+use Rattle.hwp_page.specs.hwp_geom.declared.VSlot.{VSlot}
+use Rattle.hwp_page.specs.hwp_geom.declared.Who.{Who}
+use Rattle.hwp_page.specs.declared.At.{At}
 use Rattle.hwp_page.specs.declared.PageState.{PageState}
 use Rattle.hwp_page.specs.declared.What.TheVariants as entries
 use Rattle.hwp_page.specs.Endings.{ends}
 use Rattle.hwp_page.specs.History.{BodyValue, IsReplay}
 use Rattle.hwp_page.specs.Step.{IsOf, IsRefused, IsThreadOf, after}
-use Rattle.hwp_words.specs.declared.Pte.{Pte}
-use Rattle.hwp_words.specs.declared.Pte.TheVariants as ptes
-use Rattle.hwp_words.specs.Names.{frame_name}
-use Rattle.hwp_words.specs.Translations.{pte_reading}
-use Rattle.hwp_core_rule.specs.declared.InHand.{InHand}
-use Rattle.hwp_core_rule.specs.declared.Log.{Log}
-use Rattle.hwp_core_rule.specs.declared.SharedWord.TheVariants as places
-use Rattle.hwp_core_rule.specs.declared.Step.{Step}
-use Rattle.hwp_core_rule.specs.declared.Step.TheVariants as steps
-use Rattle.hwp_core_rule.specs.declared.View.{View}
-use Rattle.hwp_core_rule.specs.Asks.{CanKill}
-use Rattle.hwp_core_rule.specs.Lists.{EachMember}
-use Rattle.hwp_core_rule.specs.Logs.{log_of}
-use Rattle.hwp_core_rule.specs.Views.{more_of}
-use Rattle.hwp_core_task.specs.declared.Turn.{Turn}
-use Rattle.hwp_core_task.specs.Calls.{CanMake, Steps, IsOnTurn, logs}
-use Rattle.hwp_core_task.specs.Hands.{Hand, hand_of, body_in, empty}
-use Rattle.hwp_core_task.proofs.StepLeaves.{on-turn-after, hand-planned, steps-planned, can-make}
-use Rattle.hwp_core_task.specs.Ranks.{HasFrame, HasPage}
-use Rattle.hwp_core_task.specs.Known.{SawLog, HasOnly, Precedes}
-use Rattle.hwp_core_task.proofs.SightKeeps.{saw-stays, saw-log-stays, saw-state-stays}
+use Rattle.hwp_core.specs.hwp_words.declared.Pte.{Pte}
+use Rattle.hwp_core.specs.hwp_words.declared.Pte.TheVariants as ptes
+use Rattle.hwp_core.specs.hwp_words.Names.{frame_name}
+use Rattle.hwp_core.specs.hwp_words.Translations.{pte_reading}
+use Rattle.hwp_core.specs.hwp_core_rule.declared.InHand.{InHand}
+use Rattle.hwp_core.specs.hwp_core_rule.declared.Log.{Log}
+use Rattle.hwp_core.specs.hwp_core_rule.declared.SharedWord.TheVariants as places
+use Rattle.hwp_core.specs.hwp_core_rule.declared.Step.{Step}
+use Rattle.hwp_core.specs.hwp_core_rule.declared.Step.TheVariants as steps
+use Rattle.hwp_core.specs.hwp_core_rule.declared.View.{View}
+use Rattle.hwp_core.specs.hwp_core_rule.Asks.{CanKill}
+use Rattle.hwp_core.specs.hwp_core_rule.Lists.{EachMember}
+use Rattle.hwp_core.specs.hwp_core_rule.Logs.{log_of}
+use Rattle.hwp_core.specs.hwp_core_rule.Views.{more_of}
+use Rattle.hwp_core.specs.hwp_core_task.declared.Turn.{Turn}
+use Rattle.hwp_core.specs.hwp_core_task.Calls.{CanMake, Steps, IsOnTurn, logs}
+use Rattle.hwp_core.specs.hwp_core_task.Hands.{Hand, hand_of, body_in, empty}
+use Rattle.hwp_core.proofs.of_hwp_core_task.StepLeaves.{on-turn-after, hand-planned, steps-planned, can-make}
+use Rattle.hwp_core.specs.hwp_core_task.Ranks.{HasFrame, HasPage}
+use Rattle.hwp_core.specs.hwp_core_task.Known.{SawLog, HasOnly, Precedes}
+use Rattle.hwp_core.proofs.of_hwp_core_task.SightKeeps.{saw-stays, saw-log-stays, saw-state-stays}
 use Rattle.hwp_fault_fill.specs.declared.Fill.{Fill}
 use Rattle.hwp_fault_fill.specs.declared.fill.FillAt.{FillAt}
 use Rattle.hwp_fault_fill.specs.declared.fill.FillAt.TheVariants as fill_at
@@ -168,9 +169,9 @@ module _ (touch : Touch) {layout : Layout} {new : View} {who : Who} {page : Page
   goes-on (Some frame) body then fits adds why = record { unhold = fits; own = refl; under_way = refl; adds = λ other b e. subst (AddsOnly new page slot) (same_Some body b e) adds; why = why }
 
   -- the access was refused, and the page is let go with the entry of it
-  refused-goes : (frame : Option Frame) (body : BodyValue) (place : ℕ) → unholds.Fits layout new (unholds.begin who page frame 1 body) → FitsAt layout new who page slot touch (let_go who page frame body (answers.Sigbus place))
-  refused-goes None body place fits = record { unhold = fits; own = refl; under_way = refl; adds = λ other b e. absurd (both_ways true other refl); why = tt }
-  refused-goes (Some frame) body place fits = record { unhold = fits; own = refl; under_way = refl; adds = λ other b e. absurd (both_ways true other refl); why = tt }
+  refused-goes : (frame : Option Frame) (body : BodyValue) (place : At) → place.page ≡ page → unholds.Fits layout new (unholds.begin who page frame 1 body) → FitsAt layout new who page slot touch (let_go who page frame body (answers.Sigbus place))
+  refused-goes None body place of fits = record { unhold = fits; own = refl; under_way = refl; adds = λ other b e. absurd (both_ways true other refl); why = of }
+  refused-goes (Some frame) body place of fits = record { unhold = fits; own = refl; under_way = refl; adds = λ other b e. absurd (both_ways true other refl); why = of }
 
 of-body : (slot : VSlot) {layout : Layout} {page : Page} {frame : Option Frame} {body : BodyValue} → IsOf layout page slot → IsBodyOf layout page frame body → IsOf body.layout body.page slot
 of-body slot {layout} {page} {frame} {body} of is = subst (λ (l : Layout). IsOf l body.page slot) (sym is.layout_is) (subst (λ (p : Page). IsOf layout p slot) (sym is.page_is) of)
@@ -228,9 +229,9 @@ module _ (slot : VSlot) (touch : Touch) {layout : Layout} {new : View} {who : Wh
       held = respared-page n has
 
       which : (ended : Bool) → ends layout touch.process touch.thread ≡ ended
-          → FitsAt layout new who page slot touch (cond ended (at.Kill frame (refused who slot touch (record body { spare = n })) (length body.log)) (let_go who page frame (refused who slot touch (record body { spare = n })) (answers.Sigbus (length body.log))))
+          → FitsAt layout new who page slot touch (cond ended (at.Kill frame (refused who slot touch (record body { spare = n })) (record { page = page; entry = length body.log })) (let_go who page frame (refused who slot touch (record body { spare = n })) (answers.Sigbus (record { page = page; entry = length body.log }))))
       which true is = record { before = record body { spare = n }; held = held; allowed = allowed; body_is = refl; place_is = refl; ending = is }
-      which false is = refused-goes touch frame (refused who slot touch (record body { spare = n })) (length body.log) (lets-go-at-once who slot touch held allowed names is on within)
+      which false is = refused-goes touch frame (refused who slot touch (record body { spare = n })) (record { page = page; entry = length body.log }) refl (lets-go-at-once who slot touch held allowed names is on within)
 
   -- a word that leads nowhere brings the page in, unless its content is lost
   nowhere-on : IsTouch layout slot touch → (frame : Option Frame) (body : BodyValue) → IsHeld layout new who page frame body → IsFree slot body.state → Leads layout new who page slot touch frame body ptes.Empty
@@ -334,9 +335,9 @@ module _ (slot : VSlot) (touch : Touch) {layout : Layout} {new : View} where
   fill-on f (fill_at.SetOwner frame) spare unfilled fits saw free = record { fill = fits; own = refl; of = refl; under_way = refl; saw = saw; free = free }
   fill-on f (fill_at.Refer r) spare unfilled fits saw free = record { fill = fits; own = refl; of = refl; under_way = fits.at.under_way; saw = saw; free = free }
   fill-on f (fill_at.SetCache frame) spare unfilled fits saw free = record { fill = fits; own = refl; of = refl; under_way = refl; saw = saw; free = free }
-  fill-on f (fill_at.Over None) spare unfilled fits saw free = goes-on touch None f.body (answers.NoFrame (length f.body.log)) (held-unholds layout new f.who f.page None f.body fits.on_turn fits.page fits.at.0)
+  fill-on f (fill_at.Over None) spare unfilled fits saw free = goes-on touch None f.body (answers.NoFrame (record { page = f.page; entry = length f.body.log })) (held-unholds layout new f.who f.page None f.body fits.on_turn fits.page fits.at.0)
       (held-adds fits.at.0)
-      (fits.at.1, record { log = log_of f.body; saw = saw; page_is = fits.at.0.body_is.page_is; place_is = refl; such = sym fits.at.0.body_is.cached })
+      (refl, fits.at.1, record { log = log_of f.body; saw = saw; page_is = fits.at.0.body_is.page_is; place_is = refl; such = sym fits.at.0.body_is.cached })
   fill-on f (fill_at.Over (Some frame)) spare unfilled fits saw free = absurd (both_ways true unfilled refl)
 
   unhold-on : (u : Unhold) (page : Page) (answer : FaultAnswer) → unholds.Fits layout new u → unholds.put u ≡ None → IsWhy layout new u.who page answer → FitsAt layout new u.who page slot touch (after_unhold u answer)
@@ -367,8 +368,8 @@ module _ (slot : VSlot) (touch : Touch) {layout : Layout} {old new : View} {step
 why-stays : (by : Who) {layout : Layout} {who : Who} {step : Step} {put : Option Log} {old new : View} {found : ℕ} {got : Option BodyValue} (page : Page) (answer : FaultAnswer) → Steps layout who step put old new found got
     → IsWhy layout old by page answer → IsWhy layout new by page answer
 why-stays by page answers.Again made why = tt
-why-stays by page (answers.NoFrame place) made why = (saw-stays made why.0, saw-state-stays made why.1)
-why-stays by page (answers.Sigbus place) made why = tt
+why-stays by page (answers.NoFrame place) made why = (why.0, saw-stays made why.1, saw-state-stays made why.2)
+why-stays by page (answers.Sigbus place) made why = why
 
 -- a step shows what is needed, and what follows fits again
 module _ (layout : Layout) (old new : View) (f : Fault) (step : Step) (found : ℕ) (got : Option BodyValue) (fits : Fits layout old f) (is : plan f ≡ Some step) (made : Steps layout f.who step (logs (put f)) old new found got) where
@@ -383,10 +384,10 @@ module _ (layout : Layout) (old new : View) (f : Fault) (step : Step) (found : �
   Given x = ShowsAt f.slot f.touch (bare_at x) found got × ((spare : Option ℕ) → IsRoom spare → After (next_at layout f.who f.page f.slot f.touch (bare_at x) found got spare))
 
   -- the process was ended
-  killed-on : (frame : Option Frame) (body : BodyValue) (place : ℕ) → IsEnding layout old f.who f.page f.slot f.touch frame body place → Steps layout f.who (steps.Kill f.touch.process f.page (as_snapshot body)) None old new found got
+  killed-on : (frame : Option Frame) (body : BodyValue) (place : At) → IsEnding layout old f.who f.page f.slot f.touch frame body place → Steps layout f.who (steps.Kill f.touch.process f.page (as_snapshot body)) None old new found got
       → After (let_go f.who f.page frame body (answers.Sigbus place))
   killed-on frame body place has made = subst (λ (b : BodyValue). After (let_go f.who f.page frame b (answers.Sigbus place))) (sym has.body_is)
-      (refused-goes f.touch frame (refused f.who f.slot f.touch has.before) place (lets-go-killed f.who f.slot f.touch has.held has.allowed has.ending
+      (refused-goes f.touch frame (refused f.who f.slot f.touch has.before) place (ap (λ (p : At). p.page) has.place_is) (lets-go-killed f.who f.slot f.touch has.held has.allowed has.ending
       (subst (λ (b : BodyValue). Steps layout f.who (steps.Kill f.touch.process f.page (as_snapshot b)) None old new found got) has.body_is made) fits.touch on fits.page))
 
   steps-by : (who : Who) → who ≡ f.who → {given : Option Log} → Steps layout f.who step given old new found got → Steps layout who step given old new found got

@@ -1,16 +1,17 @@
 -- What follows a step of a fault: the parts that go on with the room that was made for an entry, and the task in all.
 use Rattle.std.proofs.Common.{◌≡◌, ℕ, ◌≤◌, Option, Some, None, length, sym, ap, ◌∙◌, subst}
 use Rattle.std.specs.declared.snapshot.Snapshot.{Snapshot}
-use Rattle.hwp_geom.specs.declared.Frame.{Frame}
-use Rattle.hwp_geom.specs.declared.Layout.{Layout}
-use Rattle.hwp_geom.specs.declared.Page.{Page}
-use Rattle.hwp_geom.specs.declared.VSlot.{VSlot}
-use Rattle.hwp_geom.specs.declared.Who.{Who}
+use Rattle.hwp_page.specs.hwp_geom.declared.Frame.{Frame}
+use Rattle.hwp_page.specs.hwp_geom.declared.Layout.{Layout}
+use Rattle.hwp_page.specs.hwp_geom.declared.Page.{Page}
+use Rattle.hwp_page.specs.hwp_geom.declared.VSlot.{VSlot}
+use Rattle.hwp_page.specs.hwp_geom.declared.Who.{Who}
+use Rattle.hwp_page.specs.declared.At.{At}
 use Rattle.hwp_page.specs.History.{BodyValue}
-use Rattle.hwp_core_rule.specs.declared.Step.TheVariants as steps
+use Rattle.hwp_core.specs.hwp_core_rule.declared.Step.TheVariants as steps
 use Rattle.hwp_fault_fill.specs.declared.Fill.{Fill}
 use Rattle.hwp_fault_fill.specs.Fills as fills
-use Rattle.hwp_core_task.specs.declared.Turn.{Turn}
+use Rattle.hwp_core.specs.hwp_core_task.declared.Turn.{Turn}
 use Rattle.hwp_fault.specs.declared.fault.Fault.{Fault}
 use Rattle.hwp_fault.specs.declared.fault.FaultAt.{FaultAt}
 use Rattle.hwp_fault.specs.declared.fault.FaultAt.TheVariants as at
@@ -32,16 +33,16 @@ module _ (who : Who) (page : Page) (slot : VSlot) (frame : Option Frame) (body n
 
 -- the access was refused, with the room that was made for the entry of it
 pub refused-so : (layout : Layout) (who : Who) (page : Page) (slot : VSlot) (touch : Touch) (frame : Option Frame) (body now then : BodyValue) (place : ℕ) (result : FaultAt) → (now ≡ record body { spare = now.spare }) × (1 ≤ now.spare)
-    → place ≡ length now.log → then ≡ refused who slot touch now → result ≡ after_refusal layout who page touch frame then place → Roomed (refuse layout who page slot touch frame body) result
+    → place ≡ length now.log → then ≡ refused who slot touch now → result ≡ after_refusal layout who page touch frame then (record { page = page; entry = place }) → Roomed (refuse layout who page slot touch frame body) result
 refused-so layout who page slot touch frame body now then place result room at entered is = record {
   spare = Some now.spare;
   room = room.1;
-  is = is ∙ ap (λ (n : ℕ). after_refusal layout who page touch frame then n) at ∙ ap (λ (b : BodyValue). after_refusal layout who page touch frame b (length now.log)) entered
-      ∙ ap (λ (b : BodyValue). after_refusal layout who page touch frame (refused who slot touch b) (length b.log)) room.0;
+  is = is ∙ ap (λ (n : ℕ). after_refusal layout who page touch frame then (record { page = page; entry = n })) at ∙ ap (λ (b : BodyValue). after_refusal layout who page touch frame b (record { page = page; entry = length now.log })) entered
+      ∙ ap (λ (b : BodyValue). after_refusal layout who page touch frame (refused who slot touch b) (record { page = page; entry = length b.log })) room.0;
 }
 
 -- the step that ends a process
-pub kill-planned : (f : Fault) (frame : Option Frame) (body : BodyValue) (place : ℕ) (named : Snapshot BodyValue) → f.at ≡ at.Kill frame body place → named.value ≡ body → Some (steps.Kill f.touch.process f.page named) ≡ plan f
+pub kill-planned : (f : Fault) (frame : Option Frame) (body : BodyValue) (place : At) (named : Snapshot BodyValue) → f.at ≡ at.Kill frame body place → named.value ≡ body → Some (steps.Kill f.touch.process f.page named) ≡ plan f
 kill-planned f frame body place named is same =
     ap (λ (b : BodyValue). Some (steps.Kill f.touch.process f.page (as_snapshot b))) same ∙ sym (ap (λ (x : FaultAt). plan_at f.page f.slot f.touch x) is)
 

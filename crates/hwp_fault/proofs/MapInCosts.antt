@@ -1,15 +1,15 @@
 -- The cost of a translation's coming into use falls.
-use Rattle.std.proofs.Common.{◌≡◌, ℕ, ◌+◌, ◌<◌, ◌≤◌, true, false, Some, None, refl, sym, ap, ◌∙◌, subst, arith}
+use Rattle.std.proofs.Common.{◌≡◌, ℕ, ◌+◌, ◌<◌, ◌≤◌, true, false, Some, refl, sym, ap, ◌∙◌, subst, arith}
 use Rattle.std.proofs.lemmas.Bool.{both_ways}
 use Rattle.std.proofs.lemmas.Option.{none-some, same_Some}
-use Rattle.hwp_words.specs.declared.Pte.TheVariants as ptes
-use Rattle.hwp_core_rule.specs.declared.Step.{Step}
-use Rattle.hwp_core_rule.specs.declared.Step.TheVariants as steps
-use Rattle.hwp_core_rule.specs.Lasting.{IsMild}
-use Rattle.hwp_core_rule.specs.Steps.{place_of, word_after}
-use Rattle.hwp_core_rule.specs.Words.{Words, read}
-use Rattle.hwp_core_task.specs.Ranks.{Member, member, IsRanked, is_waits, words_at}
-use Rattle.hwp_core_task.proofs.StepRanks.{met, words-kept, rank-of}
+use Rattle.hwp_core.specs.hwp_words.declared.Pte.TheVariants as ptes
+use Rattle.hwp_core.specs.hwp_core_rule.declared.Step.{Step}
+use Rattle.hwp_core.specs.hwp_core_rule.declared.Step.TheVariants as steps
+use Rattle.hwp_core.specs.hwp_core_rule.Lasting.{IsMild}
+use Rattle.hwp_core.specs.hwp_core_rule.Steps.{place_of, word_after}
+use Rattle.hwp_core.specs.hwp_core_rule.Words.{Words, read}
+use Rattle.hwp_core.specs.hwp_core_task.Ranks.{IsRanked, is_waits, words_at}
+use Rattle.hwp_core.proofs.of_hwp_core_task.StepRanks.{met, words-kept, rank-of}
 use Rattle.hwp_core.specs.declared.Refer.{Refer}
 use Rattle.hwp_core.specs.declared.refer.ReferAt.{ReferAt}
 use Rattle.hwp_core.specs.declared.refer.ReferAt.TheVariants as refer_at
@@ -18,7 +18,7 @@ use Rattle.hwp_core.proofs.ReferCosts.{refer-falls, refer-goes, refer-mild, refe
 use Rattle.hwp_fault.specs.declared.map_in.MapIn.{MapIn}
 use Rattle.hwp_fault.specs.declared.map_in.MapInAt.{MapInAt}
 use Rattle.hwp_fault.specs.declared.map_in.MapInAt.TheVariants as at
-use Rattle.hwp_fault.specs.MapIns.{plan, plan_at, after_refer, next, next_at, turn, turn_at, Fits, cost, cost_at}
+use Rattle.hwp_fault.specs.MapIns.{plan, plan_at, after_refer, next, next_at, turn, turn_at, cost, cost_at, task as map-in-task}
 
 -- the state after the second reference costs one more than it
 refer-cost : (r : Refer) (w : Words) → cost_at (after_refer r) w ≡ refers.cost r w + 1
@@ -66,11 +66,8 @@ map-in-mild m step is = which m.at is
     which at.SetPte e = subst IsMild (same_Some (steps.SetPte m.slot (ptes.At m.frame)) step e) tt
     which at.Over e = absurd (none-some step e)
 
-abbrev pub map-in-member : Member MapIn
-map-in-member = member (λ m. m.who) plan (λ m. None) (λ m. m) (λ layout m found got after result. (after ≡ next m found) × (result ≡ turn m found)) Fits (λ m. 1) cost (λ m. false) (λ m. None)
-
-pub map-in-ranked : IsRanked map-in-member
-map-in-ranked = rank-of map-in-member (λ s. refl) (λ s. (omega arith, omega arith)) (λ layout a seat s rule fits. let few : cost s (words_at layout a) ≤ 4098 = map-in-small (words_at layout a) s in omega arith)
+pub map-in-ranked : IsRanked map-in-task
+map-in-ranked = rank-of map-in-task (λ s. refl) (λ s. (omega arith, omega arith)) (λ layout a seat s rule fits. let few : cost s (words_at layout a) ≤ 4098 = map-in-small (words_at layout a) s in omega arith)
     (λ layout seat a b s t turned made goes. subst (λ (x : MapIn). cost x (words_at layout b) < cost s (words_at layout a)) (sym made.follows.0)
     (map-in-falls (words_at layout a) (words_at layout b) s made.step made.found made.planned (met made) (words-kept made)))
     (λ layout seat a b s t turned made is quiet. absurd (both_ways true (sym is ∙ ap is_waits made.follows.1 ∙ map-in-goes s made.found) refl))

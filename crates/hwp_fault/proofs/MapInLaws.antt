@@ -5,40 +5,40 @@ use Rattle.std.proofs.lemmas.Option.{none-some, same_Some, slice_get_within, sli
 use Rattle.std.specs.FinSet as sets
 use Rattle.std.specs.List.{find}
 use Rattle.std.specs.Option.{IsSomeAnd}
-use Rattle.hwp_geom.specs.declared.Frame.{Frame}
-use Rattle.hwp_geom.specs.declared.Layout.{Layout}
-use Rattle.hwp_geom.specs.declared.Page.{Page}
-use Rattle.hwp_geom.specs.declared.TransDecl.{TransDecl}
-use Rattle.hwp_geom.specs.declared.VSlot.{VSlot}
-use Rattle.hwp_geom.specs.declared.Who.{Who}
+use Rattle.hwp_page.specs.hwp_geom.declared.Frame.{Frame}
+use Rattle.hwp_page.specs.hwp_geom.declared.Layout.{Layout}
+use Rattle.hwp_page.specs.hwp_geom.declared.Page.{Page}
+use Rattle.hwp_page.specs.hwp_geom.declared.TransDecl.{TransDecl}
+use Rattle.hwp_page.specs.hwp_geom.declared.VSlot.{VSlot}
+use Rattle.hwp_page.specs.hwp_geom.declared.Who.{Who}
 use Rattle.hwp_page.specs.declared.PageState.{PageState}
 use Rattle.hwp_page.specs.declared.What.TheVariants as entries
 use Rattle.hwp_page.specs.History.{BodyValue}
 use Rattle.hwp_page.specs.Step.{Allowed, IsOf}
-use Rattle.hwp_words.specs.declared.Pte.TheVariants as ptes
-use Rattle.hwp_words.specs.Names.{frame_name}
-use Rattle.hwp_words.specs.Translations.{pte_word}
-use Rattle.hwp_core_rule.specs.declared.InHand.{InHand}
-use Rattle.hwp_core_rule.specs.declared.SharedWord.TheVariants as places
-use Rattle.hwp_core_rule.specs.declared.Ref.{Ref}
-use Rattle.hwp_core_rule.specs.declared.State.{State}
-use Rattle.hwp_core_rule.specs.declared.Step.{Step}
-use Rattle.hwp_core_rule.specs.declared.Step.TheVariants as steps
-use Rattle.hwp_core_rule.specs.declared.View.{View}
-use Rattle.hwp_core_rule.specs.Asks.{HasLock, HasPage, CanName}
-use Rattle.hwp_core_rule.specs.Logs.{log_of, state_of, fitting_word}
-use Rattle.hwp_core_rule.specs.Rule.{Holds}
-use Rattle.hwp_core_rule.specs.Views.{refs_on, is_body_of, frame_in, with_named, less_named}
-use Rattle.hwp_core_rule.specs.Words.{index, words_of}
-use Rattle.hwp_core_rule.specs.parts.Fits.{KnowsWords}
-use Rattle.hwp_core_rule.proofs.Lists.{same-number}
-use Rattle.hwp_core_rule.proofs.MetWords.{frame-named, lock-knows}
-use Rattle.hwp_core_rule.proofs.MoveKeeps.{shaped}
-use Rattle.hwp_core_rule.proofs.WordsByKind.{words-read}
-use Rattle.hwp_core_task.specs.declared.Turn.{Turn}
-use Rattle.hwp_core_task.specs.Calls.{CanMake, Steps, IsOnTurn}
-use Rattle.hwp_core_task.specs.Hands.{Hand, hand_of, body_in}
-use Rattle.hwp_core_task.proofs.StepLeaves.{on-turn-after, hand-planned, steps-planned, can-make}
+use Rattle.hwp_core.specs.hwp_words.declared.Pte.TheVariants as ptes
+use Rattle.hwp_core.specs.hwp_words.Names.{frame_name}
+use Rattle.hwp_core.specs.hwp_words.Translations.{pte_word}
+use Rattle.hwp_core.specs.hwp_core_rule.declared.InHand.{InHand}
+use Rattle.hwp_core.specs.hwp_core_rule.declared.SharedWord.TheVariants as places
+use Rattle.hwp_core.specs.hwp_core_rule.declared.Ref.{Ref}
+use Rattle.hwp_core.specs.hwp_core_rule.declared.State.{State}
+use Rattle.hwp_core.specs.hwp_core_rule.declared.Step.{Step}
+use Rattle.hwp_core.specs.hwp_core_rule.declared.Step.TheVariants as steps
+use Rattle.hwp_core.specs.hwp_core_rule.declared.View.{View}
+use Rattle.hwp_core.specs.hwp_core_rule.Asks.{HasLock, HasPage, CanName}
+use Rattle.hwp_core.specs.hwp_core_rule.Logs.{log_of, state_of, fitting_word}
+use Rattle.hwp_core.specs.hwp_core_rule.Rule.{Holds}
+use Rattle.hwp_core.specs.hwp_core_rule.Views.{refs_on, is_body_of, frame_in, with_named, less_named}
+use Rattle.hwp_core.specs.hwp_core_rule.Words.{index, words_of}
+use Rattle.hwp_core.specs.hwp_core_rule.parts.Fits.{KnowsWords}
+use Rattle.hwp_core.proofs.of_hwp_core_rule.Lists.{same-number}
+use Rattle.hwp_core.proofs.of_hwp_core_rule.MetWords.{frame-named, lock-knows}
+use Rattle.hwp_core.proofs.of_hwp_core_rule.MoveKeeps.{shaped}
+use Rattle.hwp_core.proofs.of_hwp_core_rule.WordsByKind.{words-read}
+use Rattle.hwp_core.specs.hwp_core_task.declared.Turn.{Turn}
+use Rattle.hwp_core.specs.hwp_core_task.Calls.{CanMake, Steps, IsOnTurn}
+use Rattle.hwp_core.specs.hwp_core_task.Hands.{Hand, hand_of, body_in}
+use Rattle.hwp_core.proofs.of_hwp_core_task.StepLeaves.{on-turn-after, hand-planned, steps-planned, can-make}
 use Rattle.hwp_core.specs.declared.Refer.{Refer}
 use Rattle.hwp_core.specs.declared.refer.ReferAt.{ReferAt}
 use Rattle.hwp_core.specs.declared.refer.ReferAt.TheVariants as refer_at

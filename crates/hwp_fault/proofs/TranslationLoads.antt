@@ -5,32 +5,32 @@ use Rattle.std.proofs.lemmas.Option.{same_Some, slice_get_within, slice_get-get_
 use Rattle.std.specs.FinSet as sets
 use Rattle.std.specs.List.{find}
 use Rattle.std.specs.Ordering.{nat_cmp}
-use Rattle.hwp_geom.specs.declared.Frame.{Frame}
-use Rattle.hwp_geom.specs.declared.Layout.{Layout}
-use Rattle.hwp_geom.specs.declared.Page.{Page}
-use Rattle.hwp_geom.specs.declared.TransDecl.{TransDecl}
-use Rattle.hwp_geom.specs.declared.VSlot.{VSlot}
+use Rattle.hwp_page.specs.hwp_geom.declared.Frame.{Frame}
+use Rattle.hwp_page.specs.hwp_geom.declared.Layout.{Layout}
+use Rattle.hwp_page.specs.hwp_geom.declared.Page.{Page}
+use Rattle.hwp_page.specs.hwp_geom.declared.TransDecl.{TransDecl}
+use Rattle.hwp_page.specs.hwp_geom.declared.VSlot.{VSlot}
 use Rattle.hwp_page.specs.declared.PageState.{PageState}
 use Rattle.hwp_page.specs.History.{BodyValue, IsReplay}
 use Rattle.hwp_page.specs.Step.{IsOf}
-use Rattle.hwp_words.specs.declared.Pte.TheVariants as ptes
-use Rattle.hwp_words.specs.Fields.{field}
-use Rattle.hwp_words.specs.Names.{frame_name, frame_named}
-use Rattle.hwp_words.specs.Translations.{pte_word, pte_reading, pte_poison_bit, pte_frame_field, leading}
-use Rattle.hwp_core_rule.specs.declared.InHand.{InHand}
-use Rattle.hwp_core_rule.specs.declared.SharedWord.TheVariants as places
-use Rattle.hwp_core_rule.specs.declared.State.{State}
-use Rattle.hwp_core_rule.specs.declared.View.{View}
-use Rattle.hwp_core_rule.specs.Logs.{log_of, state_of, fitting, fitting_word}
-use Rattle.hwp_core_rule.specs.Rule.{Holds}
-use Rattle.hwp_core_rule.specs.Views.{body_of, is_body_of}
-use Rattle.hwp_core_rule.specs.Words.{index, words_of}
-use Rattle.hwp_core_rule.proofs.PageWords.{fitting-at}
-use Rattle.hwp_core_rule.proofs.Lists.{same-number}
-use Rattle.hwp_core_rule.proofs.MetWords.{frame-named, lock-knows}
-use Rattle.hwp_core_rule.proofs.MoveKeeps.{shaped}
-use Rattle.hwp_core_rule.proofs.WordsByKind.{words-read}
-use Rattle.hwp_core_task.specs.Hands.{Hand, body_in}
+use Rattle.hwp_core.specs.hwp_words.declared.Pte.TheVariants as ptes
+use Rattle.hwp_core.specs.hwp_words.Fields.{field}
+use Rattle.hwp_core.specs.hwp_words.Names.{frame_name, frame_named}
+use Rattle.hwp_core.specs.hwp_words.Translations.{pte_word, pte_reading, pte_poison_bit, pte_frame_field, leading}
+use Rattle.hwp_core.specs.hwp_core_rule.declared.InHand.{InHand}
+use Rattle.hwp_core.specs.hwp_core_rule.declared.SharedWord.TheVariants as places
+use Rattle.hwp_core.specs.hwp_core_rule.declared.State.{State}
+use Rattle.hwp_core.specs.hwp_core_rule.declared.View.{View}
+use Rattle.hwp_core.specs.hwp_core_rule.Logs.{log_of, state_of, fitting, fitting_word}
+use Rattle.hwp_core.specs.hwp_core_rule.Rule.{Holds}
+use Rattle.hwp_core.specs.hwp_core_rule.Views.{body_of, is_body_of}
+use Rattle.hwp_core.specs.hwp_core_rule.Words.{index, words_of}
+use Rattle.hwp_core.proofs.of_hwp_core_rule.PageWords.{fitting-at}
+use Rattle.hwp_core.proofs.of_hwp_core_rule.Lists.{same-number}
+use Rattle.hwp_core.proofs.of_hwp_core_rule.MetWords.{frame-named, lock-knows}
+use Rattle.hwp_core.proofs.of_hwp_core_rule.MoveKeeps.{shaped}
+use Rattle.hwp_core.proofs.of_hwp_core_rule.WordsByKind.{words-read}
+use Rattle.hwp_core.specs.hwp_core_task.Hands.{Hand, body_in}
 use Rattle.hwp_core.specs.Holds as holds
 use Rattle.hwp_core.specs.Holds.{HoldsPage, held, page_lock}
 use Rattle.hwp_core.proofs.BodyStates.{replay-state, replay-unused}

@@ -7,38 +7,38 @@ use Rattle.std.specs.List.{sum_by}
 use Rattle.std.proofs.lemmas.Bool.{both_ways, ne_eqb}
 use Rattle.std.proofs.lemmas.List.Elements.{All-get_or}
 use Rattle.std.proofs.lemmas.Option.{none-some, same_Some, slice_get_within, slice_get-get_or, get_or_from_slice_get}
-use Rattle.hwp_geom.specs.declared.Frame.{Frame}
-use Rattle.hwp_geom.specs.declared.Layout.{Layout}
-use Rattle.hwp_geom.specs.declared.Page.{Page}
-use Rattle.hwp_geom.specs.declared.Proc.{Proc}
-use Rattle.hwp_geom.specs.declared.TransDecl.{TransDecl}
-use Rattle.hwp_geom.specs.declared.VSlot.{VSlot}
-use Rattle.hwp_words.specs.declared.Pte.TheVariants as ptes
-use Rattle.hwp_words.specs.Frames.{count_of, owner_of, handled_of, is_handled, lock_of}
-use Rattle.hwp_words.specs.Names.{page_named}
-use Rattle.hwp_words.specs.Translations.{pte_word}
-use Rattle.hwp_core_rule.specs.declared.FrameLock.{FrameLock}
-use Rattle.hwp_core_rule.specs.declared.InHand.{InHand}
-use Rattle.hwp_core_rule.specs.declared.Log.{Log}
-use Rattle.hwp_core_rule.specs.declared.PageLock.{PageLock}
-use Rattle.hwp_core_rule.specs.declared.SharedWord.TheVariants as places
-use Rattle.hwp_core_rule.specs.declared.State.{State}
-use Rattle.hwp_core_rule.specs.declared.View.{View}
-use Rattle.hwp_core_rule.specs.Logs.{state_of, fitting_word}
-use Rattle.hwp_core_rule.specs.Rule.{Holds}
-use Rattle.hwp_core_rule.specs.Slots.{IsIn, frame_slot}
-use Rattle.hwp_core_rule.specs.Views.{frame_in}
-use Rattle.hwp_core_rule.specs.Words.{words_of, index}
-use Rattle.hwp_core_rule.specs.parts.Bodies.{IsAtHome, content_name}
-use Rattle.hwp_core_rule.specs.parts.Counts.{named}
-use Rattle.hwp_core_rule.specs.parts.Fits.{Fits}
-use Rattle.hwp_core_rule.specs.parts.Locks.{IsLocked}
-use Rattle.hwp_core_rule.specs.parts.Owners.{NamesOwn}
-use Rattle.hwp_core_rule.proofs.PageWords.{same-page}
-use Rattle.hwp_core_rule.proofs.Lists.{at_map, term-le, same-number}
-use Rattle.hwp_core_rule.proofs.MetWords.{frame-word, frame-named}
-use Rattle.hwp_core_rule.proofs.MoveKeeps.{shaped}
-use Rattle.hwp_core_rule.proofs.WordsByKind.{words-read}
+use Rattle.hwp_page.specs.hwp_geom.declared.Frame.{Frame}
+use Rattle.hwp_page.specs.hwp_geom.declared.Layout.{Layout}
+use Rattle.hwp_page.specs.hwp_geom.declared.Page.{Page}
+use Rattle.hwp_page.specs.hwp_geom.declared.Proc.{Proc}
+use Rattle.hwp_page.specs.hwp_geom.declared.TransDecl.{TransDecl}
+use Rattle.hwp_page.specs.hwp_geom.declared.VSlot.{VSlot}
+use Rattle.hwp_core.specs.hwp_words.declared.Pte.TheVariants as ptes
+use Rattle.hwp_core.specs.hwp_words.Frames.{count_of, owner_of, handled_of, is_handled, lock_of}
+use Rattle.hwp_core.specs.hwp_words.Names.{page_named}
+use Rattle.hwp_core.specs.hwp_words.Translations.{pte_word}
+use Rattle.hwp_core.specs.hwp_core_rule.declared.FrameLock.{FrameLock}
+use Rattle.hwp_core.specs.hwp_core_rule.declared.InHand.{InHand}
+use Rattle.hwp_core.specs.hwp_core_rule.declared.Log.{Log}
+use Rattle.hwp_core.specs.hwp_core_rule.declared.PageLock.{PageLock}
+use Rattle.hwp_core.specs.hwp_core_rule.declared.SharedWord.TheVariants as places
+use Rattle.hwp_core.specs.hwp_core_rule.declared.State.{State}
+use Rattle.hwp_core.specs.hwp_core_rule.declared.View.{View}
+use Rattle.hwp_core.specs.hwp_core_rule.Logs.{state_of, fitting_word}
+use Rattle.hwp_core.specs.hwp_core_rule.Rule.{Holds}
+use Rattle.hwp_core.specs.hwp_core_rule.SlotMoves.{IsIn, frame_slot}
+use Rattle.hwp_core.specs.hwp_core_rule.Views.{frame_in}
+use Rattle.hwp_core.specs.hwp_core_rule.Words.{words_of, index}
+use Rattle.hwp_core.specs.hwp_core_rule.parts.Bodies.{IsAtHome, content_name}
+use Rattle.hwp_core.specs.hwp_core_rule.parts.Counts.{named}
+use Rattle.hwp_core.specs.hwp_core_rule.parts.Fits.{Fits}
+use Rattle.hwp_core.specs.hwp_core_rule.parts.Locks.{IsLocked}
+use Rattle.hwp_core.specs.hwp_core_rule.parts.Owners.{NamesOwn}
+use Rattle.hwp_core.proofs.of_hwp_core_rule.PageWords.{same-page}
+use Rattle.hwp_core.proofs.of_hwp_core_rule.Lists.{at_map, term-le, same-number}
+use Rattle.hwp_core.proofs.of_hwp_core_rule.MetWords.{frame-word, frame-named}
+use Rattle.hwp_core.proofs.of_hwp_core_rule.MoveKeeps.{shaped}
+use Rattle.hwp_core.proofs.of_hwp_core_rule.WordsByKind.{words-read}
 
 -- a name is of one frame
 abbrev frame-or : Frame → Option Frame → Frame

@@ -1,14 +1,15 @@
 -- An access: the task's states, its steps and what they come to.
 use Rattle.std.specs.Prelude.{◌≡◌, ℕ, ◌+◌, ◌-◌, ◌^◌, ◌<◌, ◌≤◌, ◌==◌, Bool, true, false, not, bit_and, cond, [], ◌∷◌, ◌++◌, Option, Some, None, is_some, is_none, length, slice_get, slice_index, IsBitSet, IsTrue}
 use Rattle.std.specs.FinSet as set
-use Rattle.hwp_geom.specs.declared.Frame.{Frame}
-use Rattle.hwp_geom.specs.declared.Layout.{Layout}
-use Rattle.hwp_geom.specs.declared.Mask.{Mask}
-use Rattle.hwp_geom.specs.declared.Page.{Page}
-use Rattle.hwp_geom.specs.declared.ThreadDecl.{ThreadDecl}
-use Rattle.hwp_geom.specs.declared.TransDecl.{TransDecl}
-use Rattle.hwp_geom.specs.declared.VSlot.{VSlot}
-use Rattle.hwp_geom.specs.Limits.{line_limit}
+use Rattle.hwp_page.specs.hwp_geom.declared.Frame.{Frame}
+use Rattle.hwp_page.specs.hwp_geom.declared.Layout.{Layout}
+use Rattle.hwp_page.specs.hwp_geom.declared.Mask.{Mask}
+use Rattle.hwp_page.specs.hwp_geom.declared.Page.{Page}
+use Rattle.hwp_page.specs.hwp_geom.declared.ThreadDecl.{ThreadDecl}
+use Rattle.hwp_page.specs.hwp_geom.declared.TransDecl.{TransDecl}
+use Rattle.hwp_page.specs.hwp_geom.declared.VSlot.{VSlot}
+use Rattle.hwp_page.specs.hwp_geom.Limits.{line_limit}
+use Rattle.hwp_page.specs.declared.At.{At}
 use Rattle.hwp_page.specs.declared.Entry.{Entry}
 use Rattle.hwp_page.specs.declared.Met.TheVariants.{Word}
 use Rattle.hwp_page.specs.declared.What.{What}
@@ -16,24 +17,25 @@ use Rattle.hwp_page.specs.declared.What.TheVariants as entries
 use Rattle.hwp_page.specs.History.{BodyValue, IsReplay}
 use Rattle.hwp_page.specs.Refusals.{IsAway}
 use Rattle.hwp_page.specs.Step.{after}
-use Rattle.hwp_words.specs.Frames.{is_locked}
-use Rattle.hwp_words.specs.Names.{page_named}
-use Rattle.hwp_words.specs.Stops.{is_stopped}
-use Rattle.hwp_core_rule.specs.declared.InHand.{InHand}
-use Rattle.hwp_core_rule.specs.declared.SharedWord.TheVariants as places
-use Rattle.hwp_core_rule.specs.declared.Step.{Step}
-use Rattle.hwp_core_rule.specs.declared.Step.TheVariants as steps
-use Rattle.hwp_core_rule.specs.declared.View.{View}
-use Rattle.hwp_core_rule.specs.Logs.{log_of}
-use Rattle.hwp_core_rule.specs.Views.{body_of, frame_in, more_of}
-use Rattle.hwp_core_rule.specs.Words.{Words}
-use Rattle.hwp_core_task.specs.declared.Turn.{Turn}
-use Rattle.hwp_core_task.specs.declared.Turn.TheVariants.{Moved, Waits}
-use Rattle.hwp_core_task.specs.Calls.{IsOnTurn}
-use Rattle.hwp_core_task.specs.Hands.{hand_of, empty, body_in}
-use Rattle.hwp_core_task.specs.Ranks.{stale}
-use Rattle.hwp_core_task.specs.Known.{Saw, SawStop, HasMadeNone, Precedes, HasOnly, HasMade}
-use Rattle.hwp_core_task.specs.Pages.{SawState}
+use Rattle.hwp_core.specs.hwp_words.Frames.{is_locked}
+use Rattle.hwp_core.specs.hwp_words.Names.{page_named}
+use Rattle.hwp_core.specs.hwp_words.Stops.{is_stopped}
+use Rattle.hwp_core.specs.hwp_core_rule.declared.InHand.{InHand}
+use Rattle.hwp_core.specs.hwp_core_rule.declared.SharedWord.TheVariants as places
+use Rattle.hwp_core.specs.hwp_core_rule.declared.Step.{Step}
+use Rattle.hwp_core.specs.hwp_core_rule.declared.Step.TheVariants as steps
+use Rattle.hwp_core.specs.hwp_core_rule.declared.View.{View}
+use Rattle.hwp_core.specs.hwp_core_rule.Logs.{log_of}
+use Rattle.hwp_core.specs.hwp_core_rule.Views.{body_of, frame_in, more_of}
+use Rattle.hwp_core.specs.hwp_core_rule.Words.{Words}
+use Rattle.hwp_core.specs.hwp_core_task.declared.Turn.{Turn}
+use Rattle.hwp_core.specs.hwp_core_task.declared.Turn.TheVariants.{Moved, Waits}
+use Rattle.hwp_core.specs.hwp_core_task.Calls.{IsOnTurn}
+use Rattle.hwp_core.specs.hwp_core_task.Hands.{hand_of, empty, body_in}
+use Rattle.hwp_core.specs.hwp_core_task.Ranks.{stale}
+use Rattle.hwp_core.specs.hwp_core_task.Known.{Saw, SawStop, HasMadeNone, Precedes, HasOnly, HasMade}
+use Rattle.hwp_core.specs.hwp_core_task.Pages.{SawState}
+use Rattle.hwp_core.specs.hwp_core_task.Turns.{Member}
 use Rattle.hwp_core.specs.declared.GiveUp.{GiveUp}
 use Rattle.hwp_core.specs.declared.give_up.GiveUpAt.{GiveUpAt}
 use Rattle.hwp_core.specs.declared.give_up.GiveUpAt.TheVariants as give_up_at
@@ -144,14 +146,14 @@ abbrev pub unlocked : Unlock → Option AccessAnswer → AccessAt
 unlocked u then = cond (is_none (unlocks.plan u)) (ended then) (at.Unlock u then)
 
 -- once the page was brought in, or another has done so, the translation is read anew
-abbrev pub after_fault_at : Page → Fault → Option FaultAnswer → AccessAt
-after_fault_at page f None = at.Fault f
-after_fault_at page f (Some fault_answers.Again) = at.LoadTranslation
-after_fault_at page f (Some (fault_answers.NoFrame place)) = at.Over answers.NoFrame
-after_fault_at page f (Some (fault_answers.Sigbus place)) = at.Over (answers.Sigbus page place)
+abbrev pub after_fault_at : Fault → Option FaultAnswer → AccessAt
+after_fault_at f None = at.Fault f
+after_fault_at f (Some fault_answers.Again) = at.LoadTranslation
+after_fault_at f (Some (fault_answers.NoFrame place)) = at.Over answers.NoFrame
+after_fault_at f (Some (fault_answers.Sigbus place)) = at.Over (answers.Sigbus place)
 
-abbrev pub after_fault : Page → Fault → AccessAt
-after_fault page f = after_fault_at page f (faults.answer f)
+abbrev pub after_fault : Fault → AccessAt
+after_fault f = after_fault_at f (faults.answer f)
 
 -- the word names this frame
 abbrev pub is_frame : Frame → Option Frame → Bool
@@ -197,16 +199,20 @@ entered a what body = record body { state = after body.state what; log = body.lo
 abbrev pub word_in : Request → BodyValue → ℕ
 word_in a body = slice_index body.state.val a.line
 
-abbrev pub reply_by : AccessKind → ℕ → Page → ℕ → AccessAnswer
-reply_by kinds.Load word page place = answers.Value word page place
-reply_by (kinds.Store stored) word page place = answers.Stored page place
+abbrev pub reply_by : AccessKind → ℕ → At → AccessAnswer
+reply_by kinds.Load word place = answers.Value word place
+reply_by (kinds.Store stored) word place = answers.Stored place
+
+-- the place of the next entry
+abbrev pub place_in : Request → BodyValue → At
+place_in a body = record { page = a.page; entry = length body.log }
 
 abbrev pub word_reply : Request → BodyValue → AccessAnswer
-word_reply a body = reply_by a.kind (word_in a body) a.page (length body.log)
+word_reply a body = reply_by a.kind (word_in a body) (place_in a body)
 
 -- the answer of one that met a bad line in this frame
 abbrev pub checked : Request → Frame → BodyValue → AccessAnswer
-checked a frame body = answers.Checked frame a.page (length body.log)
+checked a frame body = answers.Checked frame (place_in a body)
 
 -- what an access that met these bad lines comes to: the body with its entry, and its answer
 abbrev pub reached : Request → ℕ → BodyValue → BodyValue
@@ -240,10 +246,10 @@ abbrev pub LooksAgain : Request → Frame → Option BodyValue → ℕ → Acces
 LooksAgain a frame body found next = LooksOf (leads_to frame found) a frame body next
 
 -- what follows a step of the fault
-pub record FaultStepped (layout : Layout) (page : Page) (f : Fault) (found : ℕ) (got : Option BodyValue) (next : AccessAt) (turn : Turn) : Type 0 where
+pub record FaultStepped (layout : Layout) (f : Fault) (found : ℕ) (got : Option BodyValue) (next : AccessAt) (turn : Turn) : Type 0 where
   pub after : Fault
   pub follows : faults.Follows layout f found got after turn
-  pub next_is : next ≡ after_fault page after
+  pub next_is : next ≡ after_fault after
 
 -- what follows the frame's lock: the translation is read again under it, or it is waited for
 abbrev pub LocksFrame : Frame → ℕ → Option BodyValue → AccessAt → Turn → Type 0
@@ -262,7 +268,7 @@ NextAt layout a (at.LockFrame frame) found got next turn = LocksFrame frame foun
 NextAt layout a (at.LoadAgain frame body) found got next turn = LooksAgain a frame body found next × (turn ≡ Moved)
 NextAt layout a (at.LoadBad frame body) found got next turn = (next ≡ let_go a frame body found) × (turn ≡ Moved)
 NextAt layout a (at.Unlock u then) found got next turn = (next ≡ unlocked (unlocks.next u found) then) × (turn ≡ Moved)
-NextAt layout a (at.Fault f) found got next turn = FaultStepped layout a.page f found got next turn
+NextAt layout a (at.Fault f) found got next turn = FaultStepped layout f found got next turn
 NextAt layout a (at.GiveUp g) found got next turn = (next ≡ at.GiveUp (give_ups.next g found)) × (turn ≡ give_ups.turn g)
 NextAt layout a (at.Over answer) found got next turn = (next ≡ at.Over answer) × (turn ≡ Moved)
 
@@ -317,10 +323,10 @@ pub record HasRefusal (a : Request) (view : View) (place : ℕ) : Type 0 where
 
 -- each answer rests on what the command was shown, and on the entry that it made
 abbrev pub Answered : Layout → View → Request → AccessAnswer → Type 0
-Answered layout view a (answers.Value word page place) = (a.kind ≡ kinds.Load) × (page ≡ a.page) × HasReached a view word place
-Answered layout view a (answers.Stored page place) = (stored : ℕ) × (a.kind ≡ kinds.Store stored) × (page ≡ a.page) × HasReached a view stored place
-Answered layout view a (answers.Checked frame page place) = (page ≡ a.page) × HasChecked layout a view frame place
-Answered layout view a (answers.Sigbus page place) = (page ≡ a.page) × HasRefusal a view place
+Answered layout view a (answers.Value word place) = (a.kind ≡ kinds.Load) × (place.page ≡ a.page) × HasReached a view word place.entry
+Answered layout view a (answers.Stored place) = (stored : ℕ) × (a.kind ≡ kinds.Store stored) × (place.page ≡ a.page) × HasReached a view stored place.entry
+Answered layout view a (answers.Checked frame place) = (place.page ≡ a.page) × HasChecked layout a view frame place.entry
+Answered layout view a (answers.Sigbus place) = (place.page ≡ a.page) × HasRefusal a view place.entry
 Answered layout view a answers.NoFrame = GoesOn a view × Saw view a.who places.Available 0 × (place : ℕ) × SawState layout view a.who a.page place IsAway
 Answered layout view a (answers.Gone page) = Saw view a.who (places.Process a.process) (page.0 + 1) × HasOnly (Precedes a.page a.slot a.line) view a.who
 Answered layout view a answers.Stopped = SawStop view a.who × HasMadeNone view a.who
@@ -519,3 +525,19 @@ cost_at slot (at.Over answer) words = 0
 
 abbrev pub cost : Access → Words → ℕ
 cost a words = cost_at a.request.slot a.at words
+
+-- the task, as the laws of tasks read it
+abbrev pub task : Member Access
+task = record {
+  who = λ a. a.request.who;
+  plan = plan;
+  put = put;
+  bare = bare;
+  shows = Shows;
+  next = Next;
+  fits = Fits;
+  class = class;
+  cost = cost;
+  aborts = λ a. false;
+  claims = λ a. None;
+}

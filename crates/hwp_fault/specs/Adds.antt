@@ -1,13 +1,13 @@
 -- What a step of an access adds to the entries of its command.
 use Rattle.std.specs.Prelude.{◌≡◌, ◌⊎◌, ℕ, ◌&&◌, Bool, true, false, [], ◌∷◌, ◌++◌, Option, Some, None}
-use Rattle.hwp_geom.specs.declared.VSlot.{VSlot}
-use Rattle.hwp_geom.specs.declared.Who.{Who}
+use Rattle.hwp_page.specs.hwp_geom.declared.VSlot.{VSlot}
+use Rattle.hwp_page.specs.hwp_geom.declared.Who.{Who}
 use Rattle.hwp_page.specs.declared.Met.{Met}
 use Rattle.hwp_page.specs.declared.What.{What}
 use Rattle.hwp_page.specs.declared.What.TheVariants as entries
-use Rattle.hwp_core_rule.specs.declared.Made.{Made}
-use Rattle.hwp_core_rule.specs.declared.View.{View}
-use Rattle.hwp_core_task.specs.Known.{deeds, such_deeds}
+use Rattle.hwp_core.specs.hwp_core_rule.declared.Made.{Made}
+use Rattle.hwp_core.specs.hwp_core_rule.declared.View.{View}
+use Rattle.hwp_core.specs.hwp_core_task.Known.{deeds, such_deeds}
 use Rattle.hwp_core.specs.declared.unlock.UnlockAt.{UnlockAt}
 use Rattle.hwp_core.specs.declared.unlock.UnlockAt.TheVariants as unlock_at
 use Rattle.hwp_fault.specs.declared.access.Request.{Request}
@@ -37,7 +37,7 @@ pub record AddsCheck (a : Request) (old new : View) : Type 0 where
 
 -- the access has met a bad line
 abbrev pub is_checked : AccessAnswer → Bool
-is_checked (answers.Checked frame page place) = true
+is_checked (answers.Checked frame place) = true
 is_checked _ = false
 
 -- the frame's body is home

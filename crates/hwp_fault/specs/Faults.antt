@@ -2,35 +2,37 @@
 -- come to.
 use Rattle.std.specs.Prelude.{◌≡◌, ◌⊎◌, ℕ, ◌+◌, ◌<◌, ◌≤◌, Bool, true, false, cond, [], ◌∷◌, Option, Some, None, is_some, is_none, length, slice_index}
 use Rattle.std.specs.FinSet as set
-use Rattle.hwp_geom.specs.declared.Frame.{Frame}
-use Rattle.hwp_geom.specs.declared.Layout.{Layout}
-use Rattle.hwp_geom.specs.declared.Page.{Page}
-use Rattle.hwp_geom.specs.declared.VSlot.{VSlot}
-use Rattle.hwp_geom.specs.declared.Who.{Who}
+use Rattle.hwp_page.specs.hwp_geom.declared.Frame.{Frame}
+use Rattle.hwp_page.specs.hwp_geom.declared.Layout.{Layout}
+use Rattle.hwp_page.specs.hwp_geom.declared.Page.{Page}
+use Rattle.hwp_page.specs.hwp_geom.declared.VSlot.{VSlot}
+use Rattle.hwp_page.specs.hwp_geom.declared.Who.{Who}
+use Rattle.hwp_page.specs.declared.At.{At}
 use Rattle.hwp_page.specs.declared.PageState.{PageState}
 use Rattle.hwp_page.specs.Endings.{ends}
 use Rattle.hwp_page.specs.History.{BodyValue}
 use Rattle.hwp_page.specs.Refusals.{IsAway}
 use Rattle.hwp_page.specs.Step.{IsOf, IsRefused}
-use Rattle.hwp_words.specs.declared.Pte.{Pte}
-use Rattle.hwp_words.specs.declared.Pte.TheVariants as ptes
-use Rattle.hwp_words.specs.Translations.{pte_reading}
-use Rattle.hwp_core_rule.specs.declared.InHand.{InHand}
-use Rattle.hwp_core_rule.specs.declared.SharedWord.TheVariants as places
-use Rattle.hwp_core_rule.specs.declared.Step.{Step}
-use Rattle.hwp_core_rule.specs.declared.Step.TheVariants as steps
-use Rattle.hwp_core_rule.specs.declared.View.{View}
-use Rattle.hwp_core_rule.specs.Lists.{EachMember}
-use Rattle.hwp_core_rule.specs.Logs.{log_of}
-use Rattle.hwp_core_rule.specs.Views.{body_of, frame_in, more_of}
-use Rattle.hwp_core_rule.specs.Words.{Words}
-use Rattle.hwp_core_task.specs.declared.Turn.{Turn}
-use Rattle.hwp_core_task.specs.declared.Turn.TheVariants.{Moved}
-use Rattle.hwp_core_task.specs.Calls.{IsOnTurn}
-use Rattle.hwp_core_task.specs.Hands.{hand_of, empty}
-use Rattle.hwp_core_task.specs.Ranks.{stale}
-use Rattle.hwp_core_task.specs.Known.{Saw, SawLog, HasOnly, HasMade, Precedes}
-use Rattle.hwp_core_task.specs.Pages.{SawState}
+use Rattle.hwp_core.specs.hwp_words.declared.Pte.{Pte}
+use Rattle.hwp_core.specs.hwp_words.declared.Pte.TheVariants as ptes
+use Rattle.hwp_core.specs.hwp_words.Translations.{pte_reading}
+use Rattle.hwp_core.specs.hwp_core_rule.declared.InHand.{InHand}
+use Rattle.hwp_core.specs.hwp_core_rule.declared.SharedWord.TheVariants as places
+use Rattle.hwp_core.specs.hwp_core_rule.declared.Step.{Step}
+use Rattle.hwp_core.specs.hwp_core_rule.declared.Step.TheVariants as steps
+use Rattle.hwp_core.specs.hwp_core_rule.declared.View.{View}
+use Rattle.hwp_core.specs.hwp_core_rule.Lists.{EachMember}
+use Rattle.hwp_core.specs.hwp_core_rule.Logs.{log_of}
+use Rattle.hwp_core.specs.hwp_core_rule.Views.{body_of, frame_in, more_of}
+use Rattle.hwp_core.specs.hwp_core_rule.Words.{Words}
+use Rattle.hwp_core.specs.hwp_core_task.declared.Turn.{Turn}
+use Rattle.hwp_core.specs.hwp_core_task.declared.Turn.TheVariants.{Moved}
+use Rattle.hwp_core.specs.hwp_core_task.Calls.{IsOnTurn}
+use Rattle.hwp_core.specs.hwp_core_task.Hands.{hand_of, empty}
+use Rattle.hwp_core.specs.hwp_core_task.Ranks.{stale}
+use Rattle.hwp_core.specs.hwp_core_task.Known.{Saw, SawLog, HasOnly, HasMade, Precedes}
+use Rattle.hwp_core.specs.hwp_core_task.Pages.{SawState}
+use Rattle.hwp_core.specs.hwp_core_task.Turns.{Member}
 use Rattle.hwp_fault_fill.specs.declared.Fill.{Fill}
 use Rattle.hwp_fault_fill.specs.declared.fill.FillAt.{FillAt}
 use Rattle.hwp_fault_fill.specs.declared.fill.FillAt.TheVariants as fill_at
@@ -124,7 +126,7 @@ abbrev pub after_hold : Hold → FaultAt
 after_hold h = after_hold_at h h.at
 
 -- once the entry that the access is refused is appended, the process is ended where its thread has no handler
-abbrev pub after_refusal : Layout → Who → Page → Touch → Option Frame → BodyValue → ℕ → FaultAt
+abbrev pub after_refusal : Layout → Who → Page → Touch → Option Frame → BodyValue → At → FaultAt
 after_refusal layout who page touch frame body place =
     cond (ends layout touch.process touch.thread) (at.Kill frame body place) (let_go who page frame body (answers.Sigbus place))
 
@@ -132,7 +134,7 @@ after_refusal layout who page touch frame body place =
 abbrev pub refuse : Layout → Who → Page → VSlot → Touch → Option Frame → BodyValue → Option ℕ → FaultAt
 refuse layout who page slot touch frame body None = at.GiveUp (give_ups.with_page who page frame 1 body)
 refuse layout who page slot touch frame body (Some spare) =
-    after_refusal layout who page touch frame (refused who slot touch (record body { spare = spare })) (length body.log)
+    after_refusal layout who page touch frame (refused who slot touch (record body { spare = spare })) (record { page = page; entry = length body.log })
 
 -- where the translation leads to a frame there is nothing to do; a poison entry refuses the access, and so does a page whose
 -- content is lost
@@ -155,7 +157,7 @@ pub record CanRefuse (slot : VSlot) (touch : Touch) (body : BodyValue) : Type 0 
 -- once the page is in a frame, the translation comes into use; or no frame was available
 abbrev pub after_fill_at : Who → Page → VSlot → Fill → FillAt → Option ℕ → FaultAt
 after_fill_at who page slot f (fill_at.Over (Some frame)) spare = with_room who page slot (Some frame) f.body spare
-after_fill_at who page slot f (fill_at.Over None) spare = let_go who page None f.body (answers.NoFrame (length f.body.log))
+after_fill_at who page slot f (fill_at.Over None) spare = let_go who page None f.body (answers.NoFrame (record { page = page; entry = length f.body.log }))
 after_fill_at who page slot f _ spare = at.Fill f
 
 abbrev pub after_fill : Who → Page → VSlot → Fill → Option ℕ → FaultAt
@@ -291,19 +293,20 @@ pub record IsMapping (layout : Layout) (view : View) (who : Who) (page : Page) (
 
 -- the access is refused, and its process is to be ended: the page is held, and its body has the entry more that it was taken
 -- with
-pub record IsEnding (layout : Layout) (view : View) (who : Who) (page : Page) (slot : VSlot) (touch : Touch) (frame : Option Frame) (body : BodyValue) (place : ℕ) : Type 0 where
+pub record IsEnding (layout : Layout) (view : View) (who : Who) (page : Page) (slot : VSlot) (touch : Touch) (frame : Option Frame) (body : BodyValue) (place : At) : Type 0 where
   pub before : BodyValue
   pub held : HoldsPage layout view page frame before
   pub allowed : IsRefused layout page before.state touch.thread slot
   pub body_is : body ≡ refused who slot touch before
-  pub place_is : place ≡ length before.log
+  pub place_is : place ≡ record { page = page; entry = length before.log }
   pub ending : ends layout touch.process touch.thread ≡ true
 
--- the command saw why no frame is answered: none was available, and the page was in none after so many entries
+-- what is answered is of the page; and the command saw why no frame is: none was available, and the page was in none after so many
+-- entries
 abbrev pub IsWhy : Layout → View → Who → Page → FaultAnswer → Type 0
 IsWhy layout view who page answers.Again = Unit {0}
-IsWhy layout view who page (answers.NoFrame place) = Saw view who places.Available 0 × SawState layout view who page place IsAway
-IsWhy layout view who page (answers.Sigbus place) = Unit {0}
+IsWhy layout view who page (answers.NoFrame place) = (place.page ≡ page) × Saw view who places.Available 0 × SawState layout view who page place.entry IsAway
+IsWhy layout view who page (answers.Sigbus place) = place.page ≡ page
 
 abbrev pub is_sigbus : FaultAnswer → Bool
 is_sigbus answers.Again = false
@@ -358,8 +361,8 @@ pub record HasListed (view : View) (who : Who) (page : Page) (slot : VSlot) (tou
 
 -- what the command has made: entries that may stand before its answer; and then, where the access was refused, the one that it was
 abbrev pub MadeAt : View → Who → Page → VSlot → Touch → FaultAt → Type 0
-MadeAt view who page slot touch (at.Unhold u (answers.Sigbus place)) = HasToList view who page slot touch (unholds.put u) place ⊎ HasListed view who page slot touch (unholds.put u) place
-MadeAt view who page slot touch (at.Over (Some (answers.Sigbus place))) = HasMade (Precedes page slot touch.line) view who page place (refusal slot touch)
+MadeAt view who page slot touch (at.Unhold u (answers.Sigbus place)) = HasToList view who page slot touch (unholds.put u) place.entry ⊎ HasListed view who page slot touch (unholds.put u) place.entry
+MadeAt view who page slot touch (at.Over (Some (answers.Sigbus place))) = HasMade (Precedes page slot touch.line) view who page place.entry (refusal slot touch)
 MadeAt view who page slot touch _ = HasOnly (Precedes page slot touch.line) view who
 
 -- The processor holds nothing at first and in the end. The translation is one of the page, and the names are of the layout.
@@ -417,3 +420,19 @@ cost_at slot (at.Over answer) words = rest_of slot answer words
 
 abbrev pub cost : Fault → Words → ℕ
 cost f words = cost_at f.slot f.at words
+
+-- the task, as the laws of tasks read it
+abbrev pub task : Member Fault
+task = record {
+  who = λ f. f.who;
+  plan = plan;
+  put = put;
+  bare = bare;
+  shows = Shows;
+  next = Follows;
+  fits = Fits;
+  class = class;
+  cost = cost;
+  aborts = λ f. false;
+  claims = λ f. None;
+}

@@ -7,12 +7,13 @@ ghost use Rattle.hwp_fault.specs.Faults as faults;
 
 use crate::fault::{Fault, FaultAnswer};
 use crate::touch::{AccessKind, Touch};
-use hwp_core::{GiveUp, Pin, PinAnswer, Unlock};
-use hwp_core_rule::{SharedWord, Step, frame_in};
-use hwp_core_task::{Ranked, Scheduled, Task, Turn};
-use hwp_geom::{Frame, Layout, Line, Mask, Page, Proc, Thread, VSlot, Who};
-use hwp_page::{Body, Entry, Met, What};
-use hwp_words::{FrameWord, ProcessWord, is_stopped};
+use hwp_core::{
+    FrameWord, GiveUp, Pin, PinAnswer, ProcessWord, Ranked, Scheduled, SharedWord, Step, Task,
+    Turn, Unlock, frame_in, is_stopped,
+};
+use hwp_page::{
+    At, Body, Entry, Frame, Layout, Line, Mask, Met, Page, Proc, Thread, VSlot, What, Who,
+};
 use std::mem;
 
 /// A thread reads or writes a line of a page through a translation; where the translation leads to no frame, the page is
@@ -35,38 +36,22 @@ pub struct Request {
     pub process: Proc,
 }
 
-/// What an `Access` came to. A place is the number of an entry in the page's history, from 0 (this project's rule).
+/// What an `Access` came to (this project's rule).
 #[derive(Clone, Copy)]
 pub enum AccessAnswer {
     /// This word was read: the entry at the place.
-    Value {
-        word: u64,
-        page: Page,
-        place: u64,
-    },
+    Value { word: u64, at: At },
     /// The word was written: the entry at the place.
-    Stored {
-        page: Page,
-        place: u64,
-    },
+    Stored { at: At },
     /// The line was bad in this frame, so its content was neither read nor written: the entry at the place.
-    Checked {
-        frame: Frame,
-        page: Page,
-        place: u64,
-    },
+    Checked { frame: Frame, at: At },
     /// The access was answered by SIGBUS, because the translation has a poison entry or the page's content is lost: the
     /// entry at the place.
-    Sigbus {
-        page: Page,
-        place: u64,
-    },
+    Sigbus { at: At },
     /// No frame was available for the page.
     NoFrame,
     /// The thread's process has ended, by a signal in the history of this page.
-    Gone {
-        page: Page,
-    },
+    Gone { page: Page },
     /// A processor had stopped the machine.
     Stopped,
 }
@@ -194,8 +179,8 @@ impl Access {
         }
     }
 
-    fn after_fault(page: Page, fault: Fault) -> AccessAt
-        ensures { result ≡ after_fault page fault }
+    fn after_fault(fault: Fault) -> AccessAt
+        ensures { result ≡ after_fault fault }
     {
         match fault.answer() {
             Some(FaultAnswer::Again) => {
@@ -208,10 +193,10 @@ impl Access {
                     answer: AccessAnswer::NoFrame,
                 }
             }
-            Some(FaultAnswer::Sigbus { place }) => {
+            Some(FaultAnswer::Sigbus { at }) => {
                 drop(fault);
                 AccessAt::Over {
-                    answer: AccessAnswer::Sigbus { page, place },
+                    answer: AccessAnswer::Sigbus { at },
                 }
             }
             None => AccessAt::Fault { fault },
@@ -311,7 +296,10 @@ impl Request {
         ensures body { body.new ≡ entered self.now (check_of self.now mask) body.old }
         ensures reply { result ≡ checked self.now frame body.old }
     {
-        let place = body.len();
+        let at = At {
+            page: self.page,
+            entry: body.len(),
+        };
         let check = Entry {
             who: self.who,
             what: What::Mce {
@@ -321,11 +309,7 @@ impl Request {
             },
         };
         body.append(check);
-        AccessAnswer::Checked {
-            frame,
-            page: self.page,
-            place,
-        }
+        AccessAnswer::Checked { frame, at }
     }
 
     /// Reads or writes the word, and makes the entry of it.
@@ -335,20 +319,16 @@ impl Request {
         ensures body { body.new ≡ entered self.now (what_of self.now mask (word_in self.now body.old)) body.old }
         ensures reply { result ≡ word_reply self.now body.old }
     {
-        let place = body.len();
+        let at = At {
+            page: self.page,
+            entry: body.len(),
+        };
         let word = body.state().val.get(self.line);
         let entry = self.entry(mask, word);
         body.append(entry);
         match self.kind {
-            AccessKind::Load => AccessAnswer::Value {
-                word,
-                page: self.page,
-                place,
-            },
-            AccessKind::Store { .. } => AccessAnswer::Stored {
-                page: self.page,
-                place,
-            },
+            AccessKind::Load => AccessAnswer::Value { word, at },
+            AccessKind::Store { .. } => AccessAnswer::Stored { at },
         }
     }
 
@@ -400,14 +380,14 @@ impl Request {
             AccessAt::Unlock { unlock, then } => {
                 (unlock_more(layout, unlock, found, got, then), Turn::Moved)
             }
-            AccessAt::Fault { fault } => fault_more(layout, self.page, fault, found, got),
+            AccessAt::Fault { fault } => fault_more(layout, fault, found, got),
             AccessAt::GiveUp { give_up } => give_up_more(layout, give_up, found, got),
             AccessAt::Over { answer } => (AccessAt::Over { answer }, moved(got)),
         }
     }
 }
 
-ghost use Rattle.hwp_core_task.specs.declared.Turn.TheVariants.{Moved};
+ghost use Rattle.hwp_core.specs.hwp_core_task.declared.Turn.TheVariants.{Moved};
 ghost use Rattle.hwp_fault.specs.Accesses.{FaultStepped, LocksFrame, is_bad, leads_to, pinned, unlocked};
 
 /// The turn of a step that moved; the body that it met is let go.
@@ -454,19 +434,13 @@ fn unlock_more(
 }
 
 /// Runs one more step of the page fault.
-fn fault_more(
-    layout: &Layout,
-    page: Page,
-    fault: Fault,
-    found: u64,
-    got: Option<Body>,
-) -> (AccessAt, Turn)
+fn fault_more(layout: &Layout, fault: Fault, found: u64, got: Option<Body>) -> (AccessAt, Turn)
     requires { faults.Shows fault found got }
-    ensures { FaultStepped layout.now page fault found got result.0 result.1 }
+    ensures { FaultStepped layout.now fault found got result.0 result.1 }
 {
     let mut fault = fault;
     let turn = fault.settle(layout, found, got);
-    (Access::after_fault(page, fault), turn)
+    (Access::after_fault(fault), turn)
 }
 
 /// Runs one more step of giving the command up.
@@ -497,21 +471,9 @@ fn leads_to(frame: Frame, word: u64) -> bool
 }
 
 impl Task for Access {
-    ghost use Rattle.hwp_fault.specs.Accesses.{plan, put, bare, Next, Shows, Fits};
+    ghost use Rattle.hwp_fault.specs.Accesses as accesses;
 
-    ghost who = { λ a. a.request.who };
-
-    ghost plan = { λ a. plan a };
-
-    ghost put = { λ a. put a };
-
-    ghost bare = { λ a. bare a };
-
-    ghost shows = { λ a found got. Shows a found got };
-
-    ghost next = { λ layout a found got after result. Next layout a found got after result };
-
-    ghost fits = { λ layout view a. Fits layout view a };
+    ghost task = { accesses.task };
 
     fn who(&self) -> Who {
         self.request.who
@@ -565,17 +527,6 @@ impl Task for Access {
 }
 
 impl Ranked for Access {
-    ghost use Rattle.std.specs.Prelude.{false, None};
-    ghost use Rattle.hwp_fault.specs.Accesses.{class, cost};
-
-    ghost class_of = { λ a. class a };
-
-    ghost cost = { λ a words. cost a words };
-
-    ghost aborts = { λ a. false };
-
-    ghost claims = { λ a. None };
-
     fn class(&self) -> u8 {
         match &self.at {
             AccessAt::LoadAgain { .. } | AccessAt::LoadBad { .. } => 1,

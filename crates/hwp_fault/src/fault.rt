@@ -1,4 +1,4 @@
-ghost use Rattle.std.specs.Prelude.{◌≡◌, false, is_none};
+ghost use Rattle.std.specs.Prelude.{◌≡◌, is_none};
 ghost use Rattle.hwp_core.specs.GiveUps as give_ups;
 ghost use Rattle.hwp_core.specs.Holds as holds;
 ghost use Rattle.hwp_core.specs.Unholds as unholds;
@@ -7,13 +7,9 @@ ghost use Rattle.hwp_fault.specs.MapIns as map_ins;
 
 use crate::map_in::MapIn;
 use crate::touch::Touch;
-use hwp_core::{GiveUp, Hold, Unhold};
-use hwp_core_rule::{SharedWord, Step};
-use hwp_core_task::{Ranked, Task, Turn};
+use hwp_core::{GiveUp, Hold, Pte, Ranked, SharedWord, Step, Task, Turn, Unhold};
 use hwp_fault_fill::{Fill, FillAnswer};
-use hwp_geom::{Frame, Layout, Page, VSlot, Who};
-use hwp_page::{Body, Entry};
-use hwp_words::Pte;
+use hwp_page::{At, Body, Entry, Frame, Layout, Page, VSlot, Who};
 use std::mem;
 use std::snapshot::Snapshot;
 
@@ -41,7 +37,7 @@ enum FaultAt {
     Kill {
         frame: Option<Frame>,
         body: Body,
-        place: u64,
+        at: At,
     },
     Fill {
         fill: Fill,
@@ -67,9 +63,9 @@ pub enum FaultAnswer {
     /// The translation led to a frame: the access starts over.
     Again,
     /// No frame was available for the page, which after so many entries was in none.
-    NoFrame { place: u64 },
-    /// The access was answered by SIGBUS: the entry at the place of the page's history.
-    Sigbus { place: u64 },
+    NoFrame { at: At },
+    /// The access was answered by SIGBUS: the entry at the place.
+    Sigbus { at: At },
 }
 
 impl Fault {
@@ -187,9 +183,12 @@ impl Fault {
     {
         match body.room() {
             Ok(()) => {
-                let place = body.len();
+                let at = At {
+                    page: self.page,
+                    entry: body.len(),
+                };
                 self.enter(&mut body);
-                self.after_refusal(layout, frame, body, place)
+                self.after_refusal(layout, frame, body, at)
             }
             Err(_) => FaultAt::GiveUp {
                 give_up: GiveUp::with_page(self.who, self.page, frame, 1, body),
@@ -209,25 +208,13 @@ impl Fault {
     }
 
     /// Ends the process where its thread has no handler; or lets the page go at once.
-    fn after_refusal(
-        &self,
-        layout: &Layout,
-        frame: Option<Frame>,
-        body: Body,
-        place: u64,
-    ) -> FaultAt
-        ensures { result ≡ after_refusal layout.now self.now.who self.now.page self.now.touch frame body place }
+    fn after_refusal(&self, layout: &Layout, frame: Option<Frame>, body: Body, at: At) -> FaultAt
+        ensures { result ≡ after_refusal layout.now self.now.who self.now.page self.now.touch frame body at }
     {
         if self.touch.ends(layout) {
-            FaultAt::Kill { frame, body, place }
+            FaultAt::Kill { frame, body, at }
         } else {
-            Fault::let_go(
-                self.who,
-                self.page,
-                frame,
-                body,
-                FaultAnswer::Sigbus { place },
-            )
+            Fault::let_go(self.who, self.page, frame, body, FaultAnswer::Sigbus { at })
         }
     }
 
@@ -240,8 +227,11 @@ impl Fault {
             }
             Some(FillAnswer::NoFrame) => {
                 let body = fill.body();
-                let place = body.len();
-                Fault::let_go(who, page, None, body, FaultAnswer::NoFrame { place })
+                let at = At {
+                    page,
+                    entry: body.len(),
+                };
+                Fault::let_go(who, page, None, body, FaultAnswer::NoFrame { at })
             }
             None => FaultAt::Fill { fill },
         }
@@ -300,9 +290,9 @@ impl Fault {
                 let pte = Pte::unpack(found);
                 (self.after_pte(layout, frame, body, pte), Turn::Moved)
             }
-            FaultAt::Kill { frame, body, place } => {
+            FaultAt::Kill { frame, body, at } => {
                 drop(got);
-                let answer = FaultAnswer::Sigbus { place };
+                let answer = FaultAnswer::Sigbus { at };
                 let next = Fault::let_go(self.who, self.page, frame, body, answer);
                 (next, Turn::Moved)
             }
@@ -396,22 +386,9 @@ fn give_up_more(layout: &Layout, give_up: GiveUp, found: u64, got: Option<Body>)
 }
 
 impl Task for Fault {
-    ghost use Rattle.std.specs.Prelude.{◌≡◌};
-    ghost use Rattle.hwp_fault.specs.Faults.{plan, put, bare, Follows, Shows, Fits};
+    ghost use Rattle.hwp_fault.specs.Faults as faults;
 
-    ghost who = { λ f. f.who };
-
-    ghost plan = { λ f. plan f };
-
-    ghost put = { λ f. put f };
-
-    ghost bare = { λ f. bare f };
-
-    ghost shows = { λ f found got. Shows f found got };
-
-    ghost next = { λ layout f found got after result. Follows layout f found got after result };
-
-    ghost fits = { λ layout view f. Fits layout view f };
+    ghost task = { faults.task };
 
     fn who(&self) -> Who {
         self.who
@@ -458,17 +435,6 @@ impl Task for Fault {
 }
 
 impl Ranked for Fault {
-    ghost use Rattle.std.specs.Prelude.{false, None};
-    ghost use Rattle.hwp_fault.specs.Faults.{class, cost};
-
-    ghost class_of = { λ f. class f };
-
-    ghost cost = { λ f words. cost f words };
-
-    ghost aborts = { λ f. false };
-
-    ghost claims = { λ f. None };
-
     fn class(&self) -> u8 {
         match &self.at {
             FaultAt::Hold { hold } => hold.class(),

@@ -1,12 +1,8 @@
 ghost use Rattle.std.specs.Prelude.{◌≡◌};
 ghost use Rattle.hwp_fault.specs.MapIns.{HasRoomFor, mapped};
 
-use hwp_core::Refer;
-use hwp_core_rule::Step;
-use hwp_core_task::{Ranked, Task, Turn};
-use hwp_geom::{Frame, Layout, Page, VSlot, Who};
-use hwp_page::{Body, Entry, What};
-use hwp_words::Pte;
+use hwp_core::{Pte, Ranked, Refer, Step, Task, Turn};
+use hwp_page::{Body, Entry, Frame, Layout, Page, VSlot, What, Who};
 
 /// Brings a translation of a page into use, when the page is held with its frame (Linux set_pte_at).
 #[derive(Drop)]
@@ -93,22 +89,9 @@ fn map(who: Who, slot: VSlot, body: &mut Body)
 }
 
 impl Task for MapIn {
-    ghost use Rattle.std.specs.Prelude.{◌≡◌, None};
-    ghost use Rattle.hwp_fault.specs.MapIns.{plan, next, turn, Shows, Fits};
+    ghost use Rattle.hwp_fault.specs.MapIns as map_ins;
 
-    ghost who = { λ m. m.who };
-
-    ghost plan = { λ m. plan m };
-
-    ghost put = { λ m. None };
-
-    ghost bare = { λ m. m };
-
-    ghost shows = { λ m found got. Shows m };
-
-    ghost next = { λ layout m found got after result. (after ≡ next m found) × (result ≡ turn m found) };
-
-    ghost fits = { λ layout view m. Fits layout view m };
+    ghost task = { map_ins.task };
 
     fn who(&self) -> Who {
         self.who
@@ -151,17 +134,6 @@ impl Task for MapIn {
 }
 
 impl Ranked for MapIn {
-    ghost use Rattle.std.specs.Prelude.{false, None};
-    ghost use Rattle.hwp_fault.specs.MapIns.{cost};
-
-    ghost class_of = { λ m. 1 };
-
-    ghost cost = { λ m words. cost m words };
-
-    ghost aborts = { λ m. false };
-
-    ghost claims = { λ m. None };
-
     fn class(&self) -> u8 {
         1
     }

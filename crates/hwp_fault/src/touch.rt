@@ -2,8 +2,7 @@ ghost use Rattle.std.specs.Prelude.{◌≡◌};
 ghost use Rattle.hwp_page.specs.Endings.{ends};
 ghost use Rattle.hwp_fault.specs.Touches.{refusal};
 
-use hwp_geom::{Layout, Line, Proc, Thread, VSlot};
-use hwp_page::{Met, What};
+use hwp_page::{Layout, Line, Met, Proc, Thread, VSlot, What};
 
 /// What an access does.
 #[derive(Clone, Copy)]

@@ -2,19 +2,19 @@
 use Rattle.std.proofs.Common.{◌≡◌, ℕ, ◌+◌, ◌<◌, ◌≤◌, ◌==◌, ◌⊎◌, inl, inr, Bool, true, false, cond, Some, None, refl, sym, ap, ◌∙◌, subst, arith}
 use Rattle.std.proofs.lemmas.Bool.{both_ways}
 use Rattle.std.proofs.lemmas.Option.{none-some, same_Some}
-use Rattle.hwp_geom.specs.declared.Layout.{Layout}
-use Rattle.hwp_core_rule.specs.declared.State.{State}
-use Rattle.hwp_core_rule.specs.declared.Step.{Step}
-use Rattle.hwp_core_rule.specs.declared.Step.TheVariants as steps
-use Rattle.hwp_core_rule.specs.declared.View.{View}
-use Rattle.hwp_core_rule.specs.Rule.{Holds}
-use Rattle.hwp_core_rule.specs.Lasting.{IsMild}
-use Rattle.hwp_core_rule.specs.Steps.{place_of, word_after}
-use Rattle.hwp_core_rule.specs.Words.{Words, read}
-use Rattle.hwp_core_task.specs.declared.Turn.{Turn}
-use Rattle.hwp_core_task.specs.Boards.{view_of}
-use Rattle.hwp_core_task.specs.Ranks.{Member, member, Made, CostFalls, HasFailed, IsRanked, is_waits, words_at}
-use Rattle.hwp_core_task.proofs.StepRanks.{met, words-after, words-kept, retire-fails, failed, rank-failing}
+use Rattle.hwp_core.specs.hwp_geom.declared.Layout.{Layout}
+use Rattle.hwp_core.specs.hwp_core_rule.declared.State.{State}
+use Rattle.hwp_core.specs.hwp_core_rule.declared.Step.{Step}
+use Rattle.hwp_core.specs.hwp_core_rule.declared.Step.TheVariants as steps
+use Rattle.hwp_core.specs.hwp_core_rule.declared.View.{View}
+use Rattle.hwp_core.specs.hwp_core_rule.Rule.{Holds}
+use Rattle.hwp_core.specs.hwp_core_rule.Lasting.{IsMild}
+use Rattle.hwp_core.specs.hwp_core_rule.Steps.{place_of, word_after}
+use Rattle.hwp_core.specs.hwp_core_rule.Words.{Words, read}
+use Rattle.hwp_core.specs.hwp_core_task.declared.Turn.{Turn}
+use Rattle.hwp_core.specs.hwp_core_task.Boards.{view_of}
+use Rattle.hwp_core.specs.hwp_core_task.Ranks.{Made, CostFalls, HasFailed, IsRanked, is_waits, words_at}
+use Rattle.hwp_core.proofs.of_hwp_core_task.StepRanks.{met, words-after, words-kept, retire-fails, failed, rank-failing}
 use Rattle.hwp_core.specs.declared.refer.Refer.{Refer}
 use Rattle.hwp_core.specs.declared.refer.ReferAt.{ReferAt}
 use Rattle.hwp_core.specs.declared.refer.ReferAt.TheVariants as refer_at
@@ -123,16 +123,13 @@ fill-mild s step is = which s.at is
     which (fill_at.SetCache frame) e = subst IsMild (same_Some (steps.SetCache s.page (Some frame)) step e) tt
     which (fill_at.Over frame) e = absurd (none-some step e)
 
-abbrev fill-member : Member Fill
-fill-member = member (λ f. f.who) fills.plan (λ f. None) (λ f. f) (λ layout f found got after result. (after ≡ fills.next layout f found) × (result ≡ fills.turn f found)) fills.Fits fills.class fills.cost (λ f. false) (λ f. None)
-
-module _ {layout : Layout} {seat : ℕ} {a b : State} {s t : Fill} {turn : Turn} (made : Made fill-member layout seat a b s t turn) where
-  fill-lowers : (fills.cost (fills.next layout s made.found) (words_at layout b) < fills.cost s (words_at layout a)) ⊎ taking.Retires made.step → CostFalls fill-member layout a b s t ⊎ HasFailed fill-member layout a b s t
+module _ {layout : Layout} {seat : ℕ} {a b : State} {s t : Fill} {turn : Turn} (made : Made fills.task layout seat a b s t turn) where
+  fill-lowers : (fills.cost (fills.next layout s made.found) (words_at layout b) < fills.cost s (words_at layout a)) ⊎ taking.Retires made.step → CostFalls fills.task layout a b s t ⊎ HasFailed fills.task layout a b s t
   fill-lowers (inl less) = inl (subst (λ (x : Fill). fills.cost x (words_at layout b) < fills.cost s (words_at layout a)) (sym made.follows.0) less)
   fill-lowers (inr retires) = inr (failed (retire-fails made retires.0 retires.1) (let few : fills.cost t (words_at layout b) ≤ 8208 = fill-small layout b t made.kept in omega (arith, few)))
 
-pub fill-ranked : IsRanked fill-member
-fill-ranked = rank-failing fill-member (λ s. refl) fill-class (λ layout a seat s rule fits. let few : fills.cost s (words_at layout a) ≤ 8208 = fill-small layout a s rule in omega arith)
+pub fill-ranked : IsRanked fills.task
+fill-ranked = rank-failing fills.task (λ s. refl) fill-class (λ layout a seat s rule fits. let few : fills.cost s (words_at layout a) ≤ 8208 = fill-small layout a s rule in omega arith)
     (λ layout seat a b s t turn made goes. fill-lowers made (fill-falls layout a seat (view_of a seat) (words_at layout b) s made.step made.found (is-met made) (words-after made) (met made) (words-kept made) made.fits made.planned))
     (λ layout seat a b s t turn made is quiet. absurd (both_ways true (sym is ∙ ap is_waits made.follows.1 ∙ fill-goes s made.found) refl))
     (λ s. refl) fill-mild

@@ -9,33 +9,33 @@ use Rattle.std.specs.FinSet as set
 use Rattle.std.specs.Int.{from_bool}
 use Rattle.std.specs.List.{find}
 use Rattle.std.specs.Ordering.{nat_cmp}
-use Rattle.hwp_geom.specs.declared.Frame.{Frame}
-use Rattle.hwp_geom.specs.declared.Layout.{Layout}
-use Rattle.hwp_geom.specs.declared.Page.{Page}
-use Rattle.hwp_geom.specs.declared.Who.{Who}
-use Rattle.hwp_page.specs.declared.Entry.{Entry}
-use Rattle.hwp_page.specs.declared.PageState.{PageState}
-use Rattle.hwp_page.specs.declared.What.TheVariants as entries
-use Rattle.hwp_page.specs.History.{BodyValue, IsReplay, Leads}
-use Rattle.hwp_page.specs.Step.{Allowed, after}
-use Rattle.hwp_page.specs.Endings.{has_ending}
-use Rattle.hwp_words.specs.Names.{frame_name}
-use Rattle.hwp_words.specs.Translations.{pte_word}
-use Rattle.hwp_words.specs.declared.Pte.TheVariants as ptes
-use Rattle.hwp_core_rule.specs.declared.InHand.{InHand}
-use Rattle.hwp_core_rule.specs.declared.Log.{Log}
-use Rattle.hwp_core_rule.specs.declared.PageLock.{PageLock}
-use Rattle.hwp_core_rule.specs.declared.Sight.{Sight}
-use Rattle.hwp_core_rule.specs.declared.View.{View}
-use Rattle.hwp_core_rule.specs.Asks.{Extends, PutFits, CanGoHome}
-use Rattle.hwp_core_rule.specs.Lists.{EachMember}
-use Rattle.hwp_core_rule.specs.Logs.{log_of, opening_at, state_of, fitting, fitting_word}
-use Rattle.hwp_core_rule.specs.Views.{is_body_of, more_of, page_locks_on}
-use Rattle.hwp_core_rule.specs.parts.Entries.{HasSeen}
-use Rattle.hwp_core_rule.specs.parts.Fits.{FitsWords}
-use Rattle.hwp_core_rule.proofs.PageWords.{fitting-at}
-use Rattle.hwp_core_rule.proofs.Lists.{same-number}
-use Rattle.hwp_core_task.specs.Hands.{Hand, hand_of, body_in}
+use Rattle.hwp_core.specs.hwp_geom.declared.Frame.{Frame}
+use Rattle.hwp_core.specs.hwp_geom.declared.Layout.{Layout}
+use Rattle.hwp_core.specs.hwp_geom.declared.Page.{Page}
+use Rattle.hwp_core.specs.hwp_geom.declared.Who.{Who}
+use Rattle.hwp_core.specs.hwp_page.declared.Entry.{Entry}
+use Rattle.hwp_core.specs.hwp_page.declared.PageState.{PageState}
+use Rattle.hwp_core.specs.hwp_page.declared.What.TheVariants as entries
+use Rattle.hwp_core.specs.hwp_page.History.{BodyValue, IsReplay, Leads}
+use Rattle.hwp_core.specs.hwp_page.Step.{Allowed, after}
+use Rattle.hwp_core.specs.hwp_page.Endings.{has_ending}
+use Rattle.hwp_core.specs.hwp_words.Names.{frame_name}
+use Rattle.hwp_core.specs.hwp_words.Translations.{pte_word}
+use Rattle.hwp_core.specs.hwp_words.declared.Pte.TheVariants as ptes
+use Rattle.hwp_core.specs.hwp_core_rule.declared.InHand.{InHand}
+use Rattle.hwp_core.specs.hwp_core_rule.declared.Log.{Log}
+use Rattle.hwp_core.specs.hwp_core_rule.declared.PageLock.{PageLock}
+use Rattle.hwp_core.specs.hwp_core_rule.declared.Sight.{Sight}
+use Rattle.hwp_core.specs.hwp_core_rule.declared.View.{View}
+use Rattle.hwp_core.specs.hwp_core_rule.Asks.{Extends, PutFits, CanGoHome}
+use Rattle.hwp_core.specs.hwp_core_rule.Lists.{EachMember}
+use Rattle.hwp_core.specs.hwp_core_rule.Logs.{log_of, opening_at, state_of, fitting, fitting_word}
+use Rattle.hwp_core.specs.hwp_core_rule.Views.{is_body_of, more_of, page_locks_on}
+use Rattle.hwp_core.specs.hwp_core_rule.parts.Entries.{HasSeen}
+use Rattle.hwp_core.specs.hwp_core_rule.parts.Fits.{FitsWords}
+use Rattle.hwp_core.proofs.of_hwp_core_rule.PageWords.{fitting-at}
+use Rattle.hwp_core.proofs.of_hwp_core_rule.Lists.{same-number}
+use Rattle.hwp_core.specs.hwp_core_task.Hands.{Hand, hand_of, body_in}
 use Rattle.hwp_core.specs.Holds.{page_lock}
 use Rattle.hwp_core.specs.Unholds.{holding}
 use Rattle.hwp_core.proofs.BodyStates.{replay-state, replay-unused}

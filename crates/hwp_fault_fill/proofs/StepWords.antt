@@ -1,17 +1,18 @@
 -- A step that a task made on a board: what it met, and the words after it.
 use Rattle.std.proofs.Common.{◌≡◌, ℕ, ◌^◌, ◌<◌, Some, slice_get, slice_index, sym, ap, ◌∙◌}
-use Rattle.hwp_geom.specs.declared.Layout.{Layout}
-use Rattle.hwp_core_rule.specs.declared.State.{State}
-use Rattle.hwp_core_rule.specs.declared.Step.{Step}
-use Rattle.hwp_core_rule.specs.declared.View.{View}
-use Rattle.hwp_core_rule.specs.Rule.{Holds}
-use Rattle.hwp_core_rule.specs.Steps.{place_of, word_after}
-use Rattle.hwp_core_rule.specs.Words.{Words, put, read, index, IsPlace}
-use Rattle.hwp_core_rule.proofs.WordsByKind.{words-read, same-put}
-use Rattle.hwp_core_task.specs.declared.Turn.{Turn}
-use Rattle.hwp_core_task.specs.Boards.{view_of}
-use Rattle.hwp_core_task.specs.Ranks.{Member, Made, words_at}
-use Rattle.hwp_core_task.proofs.StepRanks.{me}
+use Rattle.hwp_core.specs.hwp_geom.declared.Layout.{Layout}
+use Rattle.hwp_core.specs.hwp_core_rule.declared.State.{State}
+use Rattle.hwp_core.specs.hwp_core_rule.declared.Step.{Step}
+use Rattle.hwp_core.specs.hwp_core_rule.declared.View.{View}
+use Rattle.hwp_core.specs.hwp_core_rule.Rule.{Holds}
+use Rattle.hwp_core.specs.hwp_core_rule.Steps.{place_of, word_after}
+use Rattle.hwp_core.specs.hwp_core_rule.Words.{Words, put, read, index, IsPlace}
+use Rattle.hwp_core.proofs.of_hwp_core_rule.WordsByKind.{words-read, same-put}
+use Rattle.hwp_core.specs.hwp_core_task.declared.Turn.{Turn}
+use Rattle.hwp_core.specs.hwp_core_task.Boards.{view_of}
+use Rattle.hwp_core.specs.hwp_core_task.Ranks.{Made, words_at}
+use Rattle.hwp_core.specs.hwp_core_task.Turns.{Member}
+use Rattle.hwp_core.proofs.of_hwp_core_task.StepRanks.{me}
 
 -- a step of a seat meets a word on a board that keeps the rule
 pub record IsMet (layout : Layout) (a : State) (seat : ℕ) (view : View) (step : Step) (found : ℕ) : Type 0 where

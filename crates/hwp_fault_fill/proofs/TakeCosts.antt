@@ -2,29 +2,29 @@
 use Rattle.std.proofs.Common.{◌≡◌, ℕ, ◌+◌, ◌-◌, ◌/◌, ◌<◌, ◌≤◌, ◌==◌, ◌⊎◌, inl, inr, nat_lt, Bool, true, false, not, cond, Some, None, length, slice_index, refl, sym, ap, ◌∙◌, subst, arith}
 use Rattle.std.proofs.lemmas.Bool.{both_ways, eqb-true, eqb-false, ne_eqb, ltb-false}
 use Rattle.std.proofs.lemmas.Option.{none-some, same_Some}
-use Rattle.hwp_geom.specs.declared.Frame.{Frame}
-use Rattle.hwp_geom.specs.declared.Layout.{Layout}
-use Rattle.hwp_words.specs.Frames.{is_poisoned}
-use Rattle.hwp_core_rule.specs.declared.SharedWord.TheVariants as places
-use Rattle.hwp_core_rule.specs.declared.State.{State}
-use Rattle.hwp_core_rule.specs.declared.Step.{Step}
-use Rattle.hwp_core_rule.specs.declared.Step.TheVariants as steps
-use Rattle.hwp_core_rule.specs.declared.View.{View}
-use Rattle.hwp_core_rule.specs.Rule.{Holds}
-use Rattle.hwp_core_rule.specs.Lasting.{IsMild}
-use Rattle.hwp_core_rule.specs.Words.{Words, free_words, free_bit}
-use Rattle.hwp_core_rule.proofs.Lists.{same-number}
-use Rattle.hwp_core_task.specs.declared.Turn.{Turn}
-use Rattle.hwp_core_task.specs.declared.Turn.TheVariants.{Moved, Changed}
-use Rattle.hwp_core_task.specs.Boards.{view_of}
-use Rattle.hwp_core_task.specs.Ranks.{Member, member, Made, CostFalls, HasFailed, IsRanked, is_waits, stale, words_at}
-use Rattle.hwp_core_task.proofs.StepRanks.{words-after, retire-fails, failed, rank-failing}
+use Rattle.hwp_core.specs.hwp_geom.declared.Frame.{Frame}
+use Rattle.hwp_core.specs.hwp_geom.declared.Layout.{Layout}
+use Rattle.hwp_core.specs.hwp_words.Frames.{is_poisoned}
+use Rattle.hwp_core.specs.hwp_core_rule.declared.SharedWord.TheVariants as places
+use Rattle.hwp_core.specs.hwp_core_rule.declared.State.{State}
+use Rattle.hwp_core.specs.hwp_core_rule.declared.Step.{Step}
+use Rattle.hwp_core.specs.hwp_core_rule.declared.Step.TheVariants as steps
+use Rattle.hwp_core.specs.hwp_core_rule.declared.View.{View}
+use Rattle.hwp_core.specs.hwp_core_rule.Rule.{Holds}
+use Rattle.hwp_core.specs.hwp_core_rule.Lasting.{IsMild}
+use Rattle.hwp_core.specs.hwp_core_rule.Words.{Words, free_words, free_bit}
+use Rattle.hwp_core.proofs.of_hwp_core_rule.Lists.{same-number}
+use Rattle.hwp_core.specs.hwp_core_task.declared.Turn.{Turn}
+use Rattle.hwp_core.specs.hwp_core_task.declared.Turn.TheVariants.{Moved, Changed}
+use Rattle.hwp_core.specs.hwp_core_task.Boards.{view_of}
+use Rattle.hwp_core.specs.hwp_core_task.Ranks.{Made, CostFalls, HasFailed, IsRanked, is_waits, stale, words_at}
+use Rattle.hwp_core.proofs.of_hwp_core_task.StepRanks.{words-after, retire-fails, failed, rank-failing}
 use Rattle.hwp_core.proofs.FreeWords.{all_zero, frees-length, some-free, some-reserved, shown, lowest-shown, none-cleared, zero-on, not-zero, zero-past}
 use Rattle.hwp_core.proofs.TaskCosts.{stale-most}
 use Rattle.hwp_fault_fill.specs.declared.take.Take.{Take}
 use Rattle.hwp_fault_fill.specs.declared.take.TakeAt.{TakeAt}
 use Rattle.hwp_fault_fill.specs.declared.take.TakeAt.TheVariants as take_at
-use Rattle.hwp_fault_fill.specs.Takes.{at_available, after_word, lowest_free, has_bit, plan, plan_at, next, next_at, turn, turn_at, Fits, FitsAt, class, class_at, are_empty, cost, cost_at}
+use Rattle.hwp_fault_fill.specs.Takes.{at_available, after_word, lowest_free, has_bit, plan, plan_at, next, next_at, turn, turn_at, Fits, FitsAt, class, class_at, are_empty, cost, cost_at, task as take-task}
 use Rattle.hwp_fault_fill.proofs.StepWords.{IsMet, words_then, is-met, read-met, words-stay}
 
 -- the step retires a frame
@@ -210,17 +210,14 @@ mild s step is = which s.at is
     which (take_at.Retire frame) e = subst IsMild (same_Some (steps.Retire frame) step e) tt
     which (take_at.Over frame) e = absurd (none-some step e)
 
-abbrev take-member : Member Take
-take-member = member (λ t. t.who) plan (λ t. None) (λ t. t) (λ layout t found got after result. (after ≡ next layout t found) × (result ≡ turn t found)) Fits class cost (λ t. false) (λ t. None)
-
-module _ {layout : Layout} {seat : ℕ} {a b : State} {s t : Take} {turned : Turn} (made : Made take-member layout seat a b s t turned) where
-  lowers : (cost (next layout s made.found) (words_then layout a made.step made.found) < cost s (words_at layout a)) ⊎ Retires made.step → CostFalls take-member layout a b s t ⊎ HasFailed take-member layout a b s t
+module _ {layout : Layout} {seat : ℕ} {a b : State} {s t : Take} {turned : Turn} (made : Made take-task layout seat a b s t turned) where
+  lowers : (cost (next layout s made.found) (words_then layout a made.step made.found) < cost s (words_at layout a)) ⊎ Retires made.step → CostFalls take-task layout a b s t ⊎ HasFailed take-task layout a b s t
   lowers (inl less) = inl (subst (λ (x : Take). cost x (words_at layout b) < cost s (words_at layout a)) (sym made.follows.0)
       (subst (λ (w : Words). cost (next layout s made.found) w < cost s (words_at layout a)) (sym (words-after made)) less))
   lowers (inr retires) = inr (failed (retire-fails made retires.0 retires.1) (let few : cost t (words_at layout b) ≤ 8204 = small layout b t made.kept in omega (arith, few)))
 
-pub ranked : IsRanked take-member
-ranked = rank-failing take-member (λ s. refl) class-within (λ layout a seat s rule fits. let few : cost s (words_at layout a) ≤ 8204 = small layout a s rule in omega arith)
+pub ranked : IsRanked take-task
+ranked = rank-failing take-task (λ s. refl) class-within (λ layout a seat s rule fits. let few : cost s (words_at layout a) ≤ 8204 = small layout a s rule in omega arith)
     (λ layout seat a b s t turned made goes. lowers made (falls layout a seat (view_of a seat) made.found s made.step (is-met made) made.fits made.planned))
     (λ layout seat a b s t turned made is quiet. absurd (both_ways true (sym is ∙ ap is_waits made.follows.1 ∙ goes-on s made.found) refl))
     (λ s. refl) mild

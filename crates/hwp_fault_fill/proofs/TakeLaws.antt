@@ -2,41 +2,41 @@
 use Rattle.std.proofs.Common.{◌≡◌, ℕ, ◌+◌, ◌-◌, ◌/◌, ◌^◌, ◌<◌, ◌≤◌, ◌==◌, nat_lt, Bool, true, false, cond, [], ◌∷◌, ◌++◌, Option, Some, None, length, slice_get, slice_index, refl, sym, ap, ◌∙◌, subst, arith}
 use Rattle.std.proofs.lemmas.Bool.{ltb-true, eqb-true, eqb-false}
 use Rattle.std.proofs.lemmas.Option.{none-some, same_Some}
-use Rattle.hwp_geom.specs.declared.Frame.{Frame}
-use Rattle.hwp_geom.specs.declared.Layout.{Layout}
-use Rattle.hwp_geom.specs.declared.Who.{Who}
-use Rattle.hwp_page.specs.History.{BodyValue}
-use Rattle.hwp_words.specs.Frames.{is_handled, is_poisoned, owner_of}
-use Rattle.hwp_core_rule.specs.declared.FrameInHand.{FrameInHand}
-use Rattle.hwp_core_rule.specs.declared.FrameLock.{FrameLock}
-use Rattle.hwp_core_rule.specs.declared.Log.{Log}
-use Rattle.hwp_core_rule.specs.declared.SharedWord.TheVariants as places
-use Rattle.hwp_core_rule.specs.declared.State.{State}
-use Rattle.hwp_core_rule.specs.declared.Step.{Step}
-use Rattle.hwp_core_rule.specs.declared.Step.TheVariants as steps
-use Rattle.hwp_core_rule.specs.declared.View.{View}
-use Rattle.hwp_core_rule.specs.Asks.{CanRetire, HasInHand, HasLock, HasRoom}
-use Rattle.hwp_core_rule.specs.Logs.{log_of}
-use Rattle.hwp_core_rule.specs.Rule.{Holds, holdings_of}
-use Rattle.hwp_core_rule.specs.Slots.{IsIn, frame_slot}
-use Rattle.hwp_core_rule.specs.Lists.{SomeMember}
-use Rattle.hwp_core_rule.specs.Views.{lock_found, refs_on, with_refs, less_refs, without, is_hand_of, is_lock_of}
-use Rattle.hwp_core_rule.specs.Views as views
-use Rattle.hwp_core_rule.specs.Words.{free_words, index, words_of}
-use Rattle.hwp_core_rule.specs.parts.Bodies.{IsAtHome, content_name}
-use Rattle.hwp_core_rule.specs.parts.Places.{IsBare}
-use Rattle.hwp_core_rule.proofs.Lists.{at_map, same-number, some-last}
-use Rattle.hwp_core_rule.proofs.MetWords.{frame-word, hand-bare}
-use Rattle.hwp_core_rule.proofs.MoveKeeps.{shaped}
-use Rattle.hwp_core_rule.proofs.Refs.{length-less-all, refs-with}
-use Rattle.hwp_core_rule.proofs.ListDrops.{length-without}
-use Rattle.hwp_core_rule.proofs.kinds.Adopt.{unreferenced}
-use Rattle.hwp_core_task.specs.declared.Turn.{Turn}
-use Rattle.hwp_core_task.specs.Calls.{CanMake, Steps, logs}
-use Rattle.hwp_core_task.specs.Hands.{Hand, hand_of}
-use Rattle.hwp_core_task.proofs.StepLeaves.{on-turn-after, hand-planned, steps-planned, can-make}
-use Rattle.hwp_core_task.specs.Known.{Saw}
-use Rattle.hwp_core_task.proofs.SightKeeps.{saw-load, saw-reserve}
+use Rattle.hwp_core.specs.hwp_geom.declared.Frame.{Frame}
+use Rattle.hwp_core.specs.hwp_geom.declared.Layout.{Layout}
+use Rattle.hwp_core.specs.hwp_geom.declared.Who.{Who}
+use Rattle.hwp_core.specs.hwp_page.History.{BodyValue}
+use Rattle.hwp_core.specs.hwp_words.Frames.{is_handled, is_poisoned, owner_of}
+use Rattle.hwp_core.specs.hwp_core_rule.declared.FrameInHand.{FrameInHand}
+use Rattle.hwp_core.specs.hwp_core_rule.declared.FrameLock.{FrameLock}
+use Rattle.hwp_core.specs.hwp_core_rule.declared.Log.{Log}
+use Rattle.hwp_core.specs.hwp_core_rule.declared.SharedWord.TheVariants as places
+use Rattle.hwp_core.specs.hwp_core_rule.declared.State.{State}
+use Rattle.hwp_core.specs.hwp_core_rule.declared.Step.{Step}
+use Rattle.hwp_core.specs.hwp_core_rule.declared.Step.TheVariants as steps
+use Rattle.hwp_core.specs.hwp_core_rule.declared.View.{View}
+use Rattle.hwp_core.specs.hwp_core_rule.Asks.{CanRetire, HasInHand, HasLock, HasRoom}
+use Rattle.hwp_core.specs.hwp_core_rule.Logs.{log_of}
+use Rattle.hwp_core.specs.hwp_core_rule.Rule.{Holds, holdings_of}
+use Rattle.hwp_core.specs.hwp_core_rule.SlotMoves.{IsIn, frame_slot}
+use Rattle.hwp_core.specs.hwp_core_rule.Lists.{SomeMember}
+use Rattle.hwp_core.specs.hwp_core_rule.Views.{lock_found, refs_on, with_refs, less_refs, without, is_hand_of, is_lock_of}
+use Rattle.hwp_core.specs.hwp_core_rule.Views as views
+use Rattle.hwp_core.specs.hwp_core_rule.Words.{free_words, index, words_of}
+use Rattle.hwp_core.specs.hwp_core_rule.parts.Bodies.{IsAtHome, content_name}
+use Rattle.hwp_core.specs.hwp_core_rule.parts.Places.{IsBare}
+use Rattle.hwp_core.proofs.of_hwp_core_rule.Lists.{at_map, same-number, some-last}
+use Rattle.hwp_core.proofs.of_hwp_core_rule.MetWords.{frame-word, hand-bare}
+use Rattle.hwp_core.proofs.of_hwp_core_rule.MoveKeeps.{shaped}
+use Rattle.hwp_core.proofs.of_hwp_core_rule.Refs.{length-less-all, refs-with}
+use Rattle.hwp_core.proofs.of_hwp_core_rule.ListDrops.{length-without}
+use Rattle.hwp_core.proofs.of_hwp_core_rule.kinds.Adopt.{unreferenced}
+use Rattle.hwp_core.specs.hwp_core_task.declared.Turn.{Turn}
+use Rattle.hwp_core.specs.hwp_core_task.Calls.{CanMake, Steps, logs}
+use Rattle.hwp_core.specs.hwp_core_task.Hands.{Hand, hand_of}
+use Rattle.hwp_core.proofs.of_hwp_core_task.StepLeaves.{on-turn-after, hand-planned, steps-planned, can-make}
+use Rattle.hwp_core.specs.hwp_core_task.Known.{Saw}
+use Rattle.hwp_core.proofs.of_hwp_core_task.SightKeeps.{saw-load, saw-reserve}
 use Rattle.hwp_core.specs.Releases.{adopted_lock}
 use Rattle.hwp_core.proofs.FreeWords.{lowest-shown}
 use Rattle.hwp_fault_fill.specs.declared.take.Take.{Take}

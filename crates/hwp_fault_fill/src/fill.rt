@@ -2,11 +2,7 @@ ghost use Rattle.std.specs.Prelude.{◌≡◌, None};
 ghost use Rattle.hwp_fault_fill.specs.Fills.{HasRoomFor, brought};
 
 use crate::take::{Take, TakeAnswer};
-use hwp_core::Refer;
-use hwp_core_rule::Step;
-use hwp_core_task::{Ranked, Task, Turn};
-use hwp_geom::{Frame, Layout, Page, Who};
-use hwp_page::{Body, Entry, What};
+use hwp_core::{Body, Entry, Frame, Layout, Page, Ranked, Refer, Step, Task, Turn, What, Who};
 
 /// Puts a page that is held, and in no frame, into a free frame: the first half of a fault on it (this project's rule).
 #[derive(Drop)]
@@ -109,22 +105,9 @@ fn bring(who: Who, body: &mut Body)
 }
 
 impl Task for Fill {
-    ghost use Rattle.std.specs.Prelude.{◌≡◌, None};
-    ghost use Rattle.hwp_fault_fill.specs.Fills.{plan, next, turn, Shows, Fits};
+    ghost use Rattle.hwp_fault_fill.specs.Fills as fills;
 
-    ghost who = { λ f. f.who };
-
-    ghost plan = { λ f. plan f };
-
-    ghost put = { λ f. None };
-
-    ghost bare = { λ f. f };
-
-    ghost shows = { λ f found got. Shows f found got };
-
-    ghost next = { λ layout f found got after result. (after ≡ next layout f found) × (result ≡ turn f found) };
-
-    ghost fits = { λ layout view f. Fits layout view f };
+    ghost task = { fills.task };
 
     fn who(&self) -> Who {
         self.who
@@ -180,17 +163,6 @@ impl Task for Fill {
 }
 
 impl Ranked for Fill {
-    ghost use Rattle.std.specs.Prelude.{false, None};
-    ghost use Rattle.hwp_fault_fill.specs.Fills.{class, cost};
-
-    ghost class_of = { λ f. class f };
-
-    ghost cost = { λ f words. cost f words };
-
-    ghost aborts = { λ f. false };
-
-    ghost claims = { λ f. None };
-
     fn class(&self) -> u8 {
         match self.at {
             FillAt::Take { take } => { if take.class() == 1 { 1 } else { 2 } }

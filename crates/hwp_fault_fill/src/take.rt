@@ -1,10 +1,8 @@
 ghost use Rattle.std.specs.Prelude.{◌≡◌, ◌^◌, ◌<◌, is_some, is_none};
 
-use hwp_core_rule::{SharedWord, Step};
-use hwp_core_task::{Ranked, Task, Turn};
-use hwp_geom::{Frame, Layout, Who};
-use hwp_page::Body;
-use hwp_words::{FrameWord, FreeWord};
+use hwp_core::{
+    Body, Frame, FrameWord, FreeWord, Layout, Ranked, SharedWord, Step, Task, Turn, Who,
+};
 
 /// Takes a free frame, the lowest that it is shown: it then has one reference, and the processor has its lock. A poisoned one
 /// is retired, and another one looked for (Linux alloc_page).
@@ -117,22 +115,9 @@ fn has_bit(frame: Frame, word: u64) -> bool
 }
 
 impl Task for Take {
-    ghost use Rattle.std.specs.Prelude.{◌≡◌, None};
-    ghost use Rattle.hwp_fault_fill.specs.Takes.{plan, next, turn, Shows, Fits};
+    ghost use Rattle.hwp_fault_fill.specs.Takes as takes;
 
-    ghost who = { λ t. t.who };
-
-    ghost plan = { λ t. plan t };
-
-    ghost put = { λ t. None };
-
-    ghost bare = { λ t. t };
-
-    ghost shows = { λ t found got. Shows t found got };
-
-    ghost next = { λ layout t found got after result. (after ≡ next layout t found) × (result ≡ turn t found) };
-
-    ghost fits = { λ layout view t. Fits layout view t };
+    ghost task = { takes.task };
 
     fn who(&self) -> Who {
         self.who
@@ -201,17 +186,6 @@ impl Task for Take {
 }
 
 impl Ranked for Take {
-    ghost use Rattle.std.specs.Prelude.{false, None};
-    ghost use Rattle.hwp_fault_fill.specs.Takes.{class, cost};
-
-    ghost class_of = { λ t. class t };
-
-    ghost cost = { λ t words. cost t words };
-
-    ghost aborts = { λ t. false };
-
-    ghost claims = { λ t. None };
-
     fn class(&self) -> u8 {
         match self.at {
             TakeAt::LoadAvailable | TakeAt::Reserve { .. } | TakeAt::Over { frame: None } => 4,

@@ -6,3 +6,4 @@ pub mod PolicyOwners
 pub mod Search
 pub mod Tables
 pub mod Unique
+pub use Rattle.hwp_geom.proofs as of_hwp_geom

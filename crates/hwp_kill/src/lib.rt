@@ -10,6 +10,10 @@ mod signal_list;
 mod slots;
 mod types;
 
+pub use hwp_geom::{
+    Cpu, Damage, FileNo, Frame, Kind, Layout, Line, Lines, List, Mask, Mode, OutOfMemory, Page,
+    PageKind, Proc, Text, Thread, VSlot, Who, lowest_bit,
+};
 pub use kill::signals;
 pub use next::next_to_read;
 pub use policies::{

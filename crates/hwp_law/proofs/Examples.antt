@@ -22,7 +22,7 @@ use Rattle.hwp_report_text.specs.declared.MarkLine.{MarkLine}
 use Rattle.hwp_report_text.specs.declared.MarkLine.TheVariants as marks
 use Rattle.hwp_report_text.specs.declared.Whereabouts.TheVariants as places
 use Rattle.hwp_report_text.specs.declared.Report.{Report}
-use Rattle.hwp_law.specs.Checks.{empty_banks}
+use Rattle.hwp_report_text.specs.hwp_banks.Banks.{empty_banks}
 use Rattle.hwp_law.specs.Commands.{arrival_of}
 use Rattle.hwp_law.specs.Events.{AreEventsOf}
 use Rattle.hwp_law.specs.Lines.{events_of}

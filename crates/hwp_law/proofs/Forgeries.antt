@@ -22,7 +22,9 @@ use Rattle.hwp_report_text.specs.declared.MarkLine.TheVariants as marks
 use Rattle.hwp_report_text.specs.declared.Whereabouts.TheVariants as places
 use Rattle.hwp_report_text.specs.declared.Report.{Report}
 use Rattle.hwp_law.specs.Causes.{IsCaused}
-use Rattle.hwp_law.specs.Checks.{Banks, IsFailureAct, empty_banks, is_stopping}
+use Rattle.hwp_law.specs.Checks.{IsFailureAct}
+use Rattle.hwp_report_text.specs.Acts.{is_stopping}
+use Rattle.hwp_report_text.specs.hwp_banks.Banks.{Banks, empty_banks}
 use Rattle.hwp_law.specs.Commands.{arrival_of}
 use Rattle.hwp_law.specs.Endings.{EndingsStay}
 use Rattle.hwp_law.specs.Entries.{IsMadeBy}
@@ -32,7 +34,7 @@ use Rattle.hwp_law.specs.Halts.{IsStoppedBy}
 use Rattle.hwp_law.specs.Lines.{EventLine}
 use Rattle.hwp_law.specs.Pairings.{AreRecorded}
 use Rattle.hwp_law.specs.Records.{Alternates, HaveEvents, WasPoisoned, ends_poisoned}
-use Rattle.hwp_law.specs.Seen.{IsPolicySeen}
+use Rattle.hwp_law.specs.SeenPolicies.{IsPolicySeen}
 use Rattle.hwp_law.specs.States.{IsInWindow}
 use Rattle.hwp_law.specs.Stops.{StaysStopped}
 use Rattle.hwp_law.proofs.Examples.{command, history, layout, mark, report, script}

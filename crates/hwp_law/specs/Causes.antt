@@ -31,7 +31,7 @@ use Rattle.hwp_report_text.specs.declared.MarkLine.{MarkLine}
 use Rattle.hwp_report_text.specs.declared.MarkLine.TheVariants as marks
 use Rattle.hwp_report_text.specs.declared.Report.{Report}
 use Rattle.hwp_law.specs.Answers.{IsAnswer, StandsAt, is_ample}
-use Rattle.hwp_law.specs.Checks.{is_panic, is_stopping}
+use Rattle.hwp_report_text.specs.Acts.{is_panic, is_stopping}
 use Rattle.hwp_law.specs.Commands.{current_thread, is_kernels}
 use Rattle.hwp_law.specs.Endings.{IsGone}
 use Rattle.hwp_law.specs.Lines.{EventLine, bad_lines_of, events_of, marks_of}

@@ -1,11 +1,9 @@
--- The banks of a processor, and the event lines of one machine check.
+-- The event lines of one machine check.
 use Rattle.std.specs.Prelude.{◌≡◌, ◌⊎◌, ℕ, ◌+◌, nat_le, Bool, true, false, not, ◌||◌, List, [], ◌∷◌, Option, Some, None, replicate, slice_index_or, slice_set, MatchBool, Contains}
 use Rattle.std.specs.List.{list_any}
 use Rattle.hwp_script_read.specs.hwp_geom.declared.Who.{Who}
 use Rattle.hwp_report_text.specs.hwp_banks.declared.Event.{Event}
 use Rattle.hwp_report_text.specs.hwp_banks.Addresses.{frame_at}
-use Rattle.hwp_report_text.specs.hwp_banks.Events.{bank_count}
-use Rattle.hwp_report_text.specs.hwp_banks.Logged.{logged}
 use Rattle.hwp_report_text.specs.hwp_severity.declared.Severity.{Severity}
 use Rattle.hwp_report_text.specs.hwp_severity.declared.Severity.TheVariants as severities
 use Rattle.hwp_report_text.specs.hwp_severity.Graded.{graded}
@@ -14,43 +12,12 @@ use Rattle.hwp_report_text.specs.declared.Acted.{Acted}
 use Rattle.hwp_report_text.specs.declared.Acted.TheVariants as acts
 use Rattle.hwp_report_text.specs.declared.MarkLine.{MarkLine}
 use Rattle.hwp_report_text.specs.declared.Report.{Report}
-use Rattle.hwp_law.specs.Commands.{Arrival}
+use Rattle.hwp_report_text.specs.hwp_banks.Banks.{Banks, held_from}
+use Rattle.hwp_report_text.specs.Acts.{is_panic}
+use Rattle.hwp_report_text.specs.hwp_severity.declared.Arrival.{Arrival}
+use Rattle.hwp_report_text.specs.hwp_severity.Handling.{has_stop, severity_of}
 use Rattle.hwp_law.specs.Lines.{EventLine, marks_of}
 use Rattle.hwp_law.specs.Records.{WasPoisoned, hardware_marks, mark_results}
-
--- what the banks of a processor hold, from bank 0 on
-abbrev pub Banks : Type 0
-Banks = List (Option Event)
-
-abbrev pub empty_banks : Banks
-empty_banks = replicate bank_count None
-
--- the banks after an event of one of them
-abbrev pub log_in : ℕ → Event → Banks → Banks
-log_in bank event banks = slice_set banks bank (logged (slice_index_or banks bank None) event)
-
--- the banks that hold something, from bank n on: each with its number
-abbrev pub held_from : ℕ → Banks → List (ℕ × Event)
-held_from n [] = []
-held_from n (None ∷ banks) = held_from (n + 1) banks
-held_from n (Some event ∷ banks) = (n, event) ∷ held_from (n + 1) banks
-
--- how severe an event is in a machine check that arrives so
-abbrev pub severity_of : Arrival → Event → Severity
-severity_of how event = (graded event.status how.mcg how.mode).severity
-
-abbrev pub is_stop : Severity → Bool
-is_stop severities.Stop = true
-is_stop _ = false
-
--- what was done about an event stopped the machine; it was a panic
-abbrev pub is_stopping : Acted → Bool
-is_stopping acts.Stop = true
-is_stopping _ = false
-
-abbrev pub is_panic : Acted → Bool
-is_panic acts.Panic = true
-is_panic _ = false
 
 -- the event of a bank was a failure, and it came to a result: that of a mark that the command made on the frame
 abbrev pub IsResult : List MarkLine → Who → Acted → Type 0
@@ -90,10 +57,6 @@ abbrev pub AreLinesOf : Script → Report → Who → Arrival → Bool → List 
 AreLinesOf script report who how held [] [] = Unit {0}
 AreLinesOf script report who how held (b ∷ bs) (l ∷ ls) = IsLineOf script report who how held b.0 b.1 l × AreLinesOf script report who how (held || is_panic l.acted) bs ls
 AreLinesOf script report who how held _ _ = ⊥
-
--- a bank would stop the machine
-abbrev pub has_stop : Arrival → Banks → Bool
-has_stop how banks = list_any (λ (b : ℕ × Event). is_stop (severity_of how b.1)) (held_from 0 banks)
 
 -- these are the lines of one machine check that finds the banks so
 abbrev pub IsCheck : Script → Report → Who → Arrival → Banks → List EventLine → Type 0

@@ -12,7 +12,7 @@ use Rattle.hwp_script_read.specs.hwp_geom.declared.Who.{Who}
 use Rattle.hwp_script_read.specs.declared.Command.{Command}
 use Rattle.hwp_script_read.specs.declared.Command.TheVariants as commands
 use Rattle.hwp_script_read.specs.declared.Script.{Script}
-use Rattle.hwp_report_text.specs.hwp_severity.declared.McgBits.{McgBits}
+use Rattle.hwp_report_text.specs.hwp_severity.declared.Arrival.{Arrival}
 use Rattle.hwp_law.specs.Places.{command_at}
 
 -- an access: its thread, the translation and the line
@@ -61,11 +61,7 @@ can_fail (commands.KLoad thread slot line) = true
 can_fail (commands.Store thread slot line word) = true
 can_fail _ = false
 
--- how a machine check arrives: RIPV and EIPV of IA32_MCG_STATUS, and the mode of the processor
-pub record Arrival : Type 0 where
-  pub mcg : McgBits
-  pub mode : Mode
-
+-- RIPV and EIPV of IA32_MCG_STATUS, and the mode of the processor
 abbrev pub arrival : Bool → Bool → Mode → Arrival
 arrival ripv eipv mode = record { mcg = record { ripv = ripv; eipv = eipv }; mode = mode }
 

@@ -16,8 +16,10 @@ use Rattle.hwp_script_read.specs.declared.Script.{Script}
 use Rattle.hwp_report_text.specs.declared.Answer.{Answer}
 use Rattle.hwp_report_text.specs.declared.Answer.TheVariants as answers
 use Rattle.hwp_report_text.specs.declared.Report.{Report}
-use Rattle.hwp_law.specs.Checks.{AreLinesOf, Banks, IsCheck, empty_banks, log_in}
-use Rattle.hwp_law.specs.Commands.{Arrival, arrival_of}
+use Rattle.hwp_report_text.specs.hwp_banks.Banks.{Banks, empty_banks, log_in, raw_bank, raw_event}
+use Rattle.hwp_law.specs.Checks.{AreLinesOf, IsCheck}
+use Rattle.hwp_report_text.specs.hwp_severity.declared.Arrival.{Arrival}
+use Rattle.hwp_law.specs.Commands.{arrival_of}
 use Rattle.hwp_law.specs.Lines.{EventLine, answer_of, bad_lines_of, events_of, weak_lines_of}
 use Rattle.hwp_law.specs.Pairings.{entries_of}
 use Rattle.hwp_law.specs.Places.{command_at}
@@ -90,13 +92,7 @@ abbrev pub IsRaise : Script → Report → Who → Arrival → Banks → List Ev
 IsRaise script report who how banks lines after =
     MatchBool (is_raised (answer_of report who) lines) (IsCheck script report who how banks lines × (after ≡ empty_banks)) ((lines ≡ []) × (after ≡ banks))
 
--- the bank of raw events, and a raw event
-abbrev pub raw_bank : ℕ
-raw_bank = 1
-
-abbrev pub raw_event : ℕ → ℕ → ℕ → Event
-raw_event status addr misc = record { status = record { 0 = status }; addr = addr; misc = misc }
-
+-- a raw event is in its bank once its command is done
 abbrev pub logged_if_done : Option Answer → Event → Banks → Banks
 logged_if_done (Some answers.Done) event banks = log_in raw_bank event banks
 logged_if_done _ event banks = banks

@@ -14,7 +14,7 @@ use Rattle.hwp_report_text.specs.declared.Report.{Report}
 use Rattle.hwp_report_text.specs.declared.Stop.{Stop}
 use Rattle.hwp_report_text.specs.declared.StopCause.{StopCause}
 use Rattle.hwp_report_text.specs.declared.StopCause.TheVariants as causes
-use Rattle.hwp_law.specs.Checks.{is_panic, is_stopping}
+use Rattle.hwp_report_text.specs.Acts.{is_panic, is_stopping}
 use Rattle.hwp_law.specs.Commands.{arrival_of}
 use Rattle.hwp_law.specs.Lines.{EventLine, answer_of, events_of}
 use Rattle.hwp_law.specs.Places.{command_at}

@@ -20,8 +20,8 @@ use Rattle.hwp_law.specs.Halts.{StopAgrees}
 use Rattle.hwp_law.specs.History.{AreOrdered}
 use Rattle.hwp_law.specs.Losses.{LossesAgree}
 use Rattle.hwp_law.specs.Pairings.{AreRecorded}
-use Rattle.hwp_law.specs.Report.{IsHistory}
-use Rattle.hwp_law.specs.Seen.{AreSeen, SeenNeverFalls}
+use Rattle.hwp_law.specs.PageHistory.{IsHistory}
+use Rattle.hwp_law.specs.SeenPolicies.{AreSeen, SeenNeverFalls}
 
 -- the report has a line, a history or lines for each frame, page and processor of the script
 pub record HasShape (script : Script) (report : Report) : Type 0 where

@@ -4,12 +4,12 @@ pub mod Policies
 pub mod States
 pub mod Answers
 pub mod Stops
-pub mod Report
+pub mod PageHistory
 pub mod Runs
 pub mod Lines
 pub mod Commands
 pub mod Entries
-pub mod Seen
+pub mod SeenPolicies
 pub mod Records
 pub mod Pairings
 pub mod Frames

@@ -1,3 +1,14 @@
 //! The report law: what must hold between a fault script and a report of its run. This crate has definitions
 //! alone, and lemmas on how a report grows; the crates above cite them in their contracts.
 #![tactic(auto)]
+
+pub use hwp_report_text::{
+    Acted, Answer, Arrival, At, Code, CpuLine, Decision, Entry, FrameLine, Grade, How, MarkLine,
+    McgBits, Met, Outcome, PageState, Policy, Reply, Report, Seen, Severity, Signal, Situation,
+    Slots, Stop, StopCause, What, Whereabouts, grade, handle, policy_word, prctl, print,
+};
+pub use hwp_script_read::{
+    Command, Cpu, FileNo, Frame, Layout, Line, List, MAX_SCRIPT, Mask, Mode, OutOfMemory, Page,
+    PageKind, PrctlArgs, Proc, ReadScript, Script, Text, Thread, ThreadDecl, VSlot, Who, is_text,
+    kind_name, read, read_number, words_in,
+};

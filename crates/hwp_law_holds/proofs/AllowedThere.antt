@@ -11,7 +11,7 @@ use Rattle.hwp_law_run.specs.hwp_page.History.{Leads, state_after}
 use Rattle.hwp_law_run.specs.hwp_page.Step.{Allowed, after}
 use Rattle.hwp_law_run.specs.hwp_report_text.declared.Report.{Report}
 use Rattle.hwp_law_run.specs.hwp_law.Places.{entry_at}
-use Rattle.hwp_law_run.specs.hwp_law.Report.{IsHistory}
+use Rattle.hwp_law_run.specs.hwp_law.PageHistory.{IsHistory}
 use Rattle.hwp_law_run.specs.hwp_law.States.{HadState}
 use Rattle.hwp_law_run.proofs.Reported.{stands-in}
 

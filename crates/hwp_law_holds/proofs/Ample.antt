@@ -28,13 +28,13 @@ use Rattle.hwp_law_run.proofs.Homes.{there-is}
 use Rattle.hwp_law_run.proofs.of_hwp_core_rule.MoreEntries.{each-append}
 use Rattle.hwp_soft.specs.hwp_claim_frame.Done.{Marking, marking_of, poisoning}
 use Rattle.hwp_law_run.specs.hwp_law.Places.{command_at}
-use Rattle.hwp_scrub.specs.hwp_cpu_check.declared.Found.{Found}
+use Rattle.hwp_soft.specs.hwp_claim.declared.Found.{Found}
 use Rattle.hwp_cpu_row.specs.declared.FrameChange.{FrameChange}
 use Rattle.hwp_cpu_row.specs.declared.FrameChange.TheVariants as owns
 use Rattle.hwp_cpu_row.specs.declared.Row.{Row}
-use Rattle.hwp_scrub.specs.hwp_cpu_check.declared.EventOutcome.{EventOutcome}
-use Rattle.hwp_scrub.specs.hwp_cpu_check.Done.{marked_in}
-use Rattle.hwp_scrub.specs.hwp_cpu_check.Told.{frame_of}
+use Rattle.hwp_cpu_row.specs.hwp_cpu_check.declared.EventOutcome.{EventOutcome}
+use Rattle.hwp_cpu_row.specs.hwp_cpu_check.Done.{marked_in}
+use Rattle.hwp_cpu_row.specs.hwp_cpu_check.Told.{frame_of}
 use Rattle.hwp_law_holds.specs.Accounts.{IsOwn, is_same, marking_by, markings, markings_in, own_marking}
 use Rattle.hwp_law_holds.proofs.RunEnds.{IsEnd, command-of, filter-has, list-of, own-view, rows-of, served-of}
 use Rattle.hwp_law_holds.proofs.lines.NamedEvents.{AreSuch, IsNamed, events-named, named-at}

@@ -26,16 +26,16 @@ use Rattle.hwp_law_run.specs.hwp_report_text.declared.Acted.TheVariants as acts
 use Rattle.hwp_law_run.specs.hwp_report_text.declared.Answer.{Answer}
 use Rattle.hwp_law_run.specs.hwp_report_text.declared.Answer.TheVariants as answers
 use Rattle.hwp_law_run.specs.hwp_report_text.declared.Report.{Report}
-use Rattle.hwp_law_run.specs.hwp_law.Checks.{Banks}
+use Rattle.hwp_law_run.specs.hwp_banks.Banks.{Banks}
 use Rattle.hwp_law_run.specs.hwp_law.Commands.{current_thread, process_at, process_of_thread, thread_of}
 use Rattle.hwp_law_run.specs.hwp_law.Lines.{answer_of, events_of}
 use Rattle.hwp_law_run.specs.hwp_law.Places.{command_at}
 use Rattle.hwp_law_run.specs.hwp_law.Records.{outcome_act}
-use Rattle.hwp_scrub.specs.hwp_cpu_check.declared.Found.{Found}
+use Rattle.hwp_soft.specs.hwp_claim.declared.Found.{Found}
 use Rattle.hwp_cpu_row.specs.declared.Row.{Row}
-use Rattle.hwp_scrub.specs.hwp_cpu_check.declared.EventOutcome.{EventOutcome}
-use Rattle.hwp_scrub.specs.hwp_cpu_check.Fits.{IsDone, IsFailed}
-use Rattle.hwp_scrub.specs.hwp_cpu_check.Told.{at_once, frame_of, is_already, required_by, severity_at_once}
+use Rattle.hwp_cpu_row.specs.hwp_cpu_check.declared.EventOutcome.{EventOutcome}
+use Rattle.hwp_cpu_row.specs.hwp_cpu_check.Fits.{IsDone, IsFailed}
+use Rattle.hwp_cpu_row.specs.hwp_cpu_check.Told.{at_once, frame_of, is_already, required_by, severity_at_once}
 use Rattle.hwp_law_run.specs.Scrubs.{ScrubsShown}
 use Rattle.hwp_law_run.specs.Shown.{AlreadyShown, IsShown}
 use Rattle.hwp_law_run.proofs.SeatKnows.{Said}

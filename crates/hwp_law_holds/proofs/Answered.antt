@@ -50,8 +50,8 @@ use Rattle.hwp_law_run.proofs.Reported.{listed-entry, seen-had}
 use Rattle.hwp_cpu_row.specs.declared.FrameChange.{FrameChange}
 use Rattle.hwp_cpu_row.specs.declared.FrameChange.TheVariants as owns
 use Rattle.hwp_cpu_row.specs.declared.Row.{Row}
-use Rattle.hwp_scrub.specs.hwp_cpu_check.declared.EventOutcome.{EventOutcome}
-use Rattle.hwp_scrub.specs.hwp_cpu_check.Told.{first_signal}
+use Rattle.hwp_cpu_row.specs.hwp_cpu_check.declared.EventOutcome.{EventOutcome}
+use Rattle.hwp_cpu_row.specs.hwp_cpu_check.Told.{first_signal}
 use Rattle.hwp_law_holds.specs.Causes.{FoundState, HasCome, IsAnswerCaused, IsInjectCaused, IsOfflineCaused, IsSoftCaused, IsUnpoisonCaused, SawBadLines}
 use Rattle.hwp_law_holds.specs.Rows.{offlined}
 use Rattle.hwp_law_holds.specs.Runs.{row_at}

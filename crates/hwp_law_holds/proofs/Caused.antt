@@ -21,7 +21,7 @@ use Rattle.hwp_law_run.specs.hwp_law.Halts.{CanStop as CanStopFor, IsStopOf, Sto
 use Rattle.hwp_law_run.specs.hwp_law.Places.{command_at}
 use Rattle.hwp_law_run.specs.hwp_law.Stops.{StaysStopped}
 use Rattle.hwp_cpu_row.specs.declared.Row.{Row}
-use Rattle.hwp_scrub.specs.hwp_cpu_check.declared.EventOutcome.{EventOutcome}
+use Rattle.hwp_cpu_row.specs.hwp_cpu_check.declared.EventOutcome.{EventOutcome}
 use Rattle.hwp_law_holds.specs.Rows.{event_line, lines_from}
 use Rattle.hwp_law_holds.specs.Runs.{IsCauseOf, IsRunOf, row_at}
 use Rattle.hwp_law_holds.specs.Served.{CanStop}

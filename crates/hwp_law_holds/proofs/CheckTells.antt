@@ -23,15 +23,17 @@ use Rattle.hwp_law_run.specs.hwp_script_read.declared.Command.{Command}
 use Rattle.hwp_law_run.specs.hwp_script_read.declared.Command.TheVariants as commands
 use Rattle.hwp_law_run.specs.hwp_report_text.declared.Answer.{Answer}
 use Rattle.hwp_law_run.specs.hwp_report_text.declared.Answer.TheVariants as answers
-use Rattle.hwp_law_run.specs.hwp_law.Checks.{Banks, empty_banks, has_stop}
-use Rattle.hwp_law_run.specs.hwp_law.Commands.{Arrival, arrival_of}
+use Rattle.hwp_law_run.specs.hwp_banks.Banks.{Banks, empty_banks}
+use Rattle.hwp_law_run.specs.hwp_severity.Handling.{has_stop}
+use Rattle.hwp_law_run.specs.hwp_law.Commands.{arrival_of}
+use Rattle.hwp_law_run.specs.hwp_severity.declared.Arrival.{Arrival}
 use Rattle.hwp_law_run.specs.hwp_law.Events.{is_check}
-use Rattle.hwp_scrub.specs.hwp_cpu_check.declared.Found.{Found}
+use Rattle.hwp_soft.specs.hwp_claim.declared.Found.{Found}
 use Rattle.hwp_cpu_row.specs.declared.Row.{Row}
-use Rattle.hwp_scrub.specs.hwp_cpu_check.declared.EventOutcome.{EventOutcome}
-use Rattle.hwp_scrub.specs.hwp_cpu_check.Checks.{AreChecks, Check, IsActedOn, IsCheck}
-use Rattle.hwp_scrub.specs.hwp_cpu_check.Fits.{IsEntered}
-use Rattle.hwp_scrub.proofs.of_hwp_cpu_check.FailureKeeps.{Stay, told-stays}
+use Rattle.hwp_cpu_row.specs.hwp_cpu_check.declared.EventOutcome.{EventOutcome}
+use Rattle.hwp_cpu_row.specs.hwp_cpu_check.Checks.{AreChecks, Check, IsActedOn, IsCheck}
+use Rattle.hwp_cpu_row.specs.hwp_cpu_check.Fits.{IsEntered}
+use Rattle.hwp_cpu_row.proofs.of_hwp_cpu_check.FailureKeeps.{Stay, told-stays}
 use Rattle.hwp_scrub.proofs.VisitLaws.{bad-stays, visits-stay}
 use Rattle.hwp_law_holds.specs.Told.{AreToldBy, IsAccessTold, IsCutShort, IsRaiseTold, IsScrubTold, IsRowTold, IsUntold, is_raised}
 use Rattle.hwp_law_holds.proofs.AccountKeeps.{marks-stay}

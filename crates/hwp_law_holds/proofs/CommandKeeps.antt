@@ -38,12 +38,12 @@ use Rattle.hwp_law_run.specs.hwp_script_read.declared.Command.{Command}
 use Rattle.hwp_law_run.specs.hwp_script_read.declared.Command.TheVariants as commands
 use Rattle.hwp_law_run.specs.hwp_report_text.declared.Answer.{Answer}
 use Rattle.hwp_law_run.specs.hwp_report_text.declared.Answer.TheVariants as answers
-use Rattle.hwp_law_run.specs.hwp_law.Checks.{Banks}
+use Rattle.hwp_law_run.specs.hwp_banks.Banks.{Banks}
 use Rattle.hwp_law_run.specs.hwp_law.Commands.{Access, access_of}
-use Rattle.hwp_scrub.specs.hwp_cpu_check.declared.Found.{Found}
+use Rattle.hwp_soft.specs.hwp_claim.declared.Found.{Found}
 use Rattle.hwp_cpu_row.specs.declared.FrameChange.{FrameChange}
 use Rattle.hwp_cpu_row.specs.declared.Row.{Row}
-use Rattle.hwp_scrub.specs.hwp_cpu_check.declared.EventOutcome.{EventOutcome}
+use Rattle.hwp_cpu_row.specs.hwp_cpu_check.declared.EventOutcome.{EventOutcome}
 use Rattle.hwp_law_holds.specs.Causes.{FoundGone, FoundNoFrame, FoundPoisoned, FoundState, FoundStopped, FoundBadLines, HasCome, HasFailed, HasMoved, HasOnlyBegun, HasOnlyMet, HasSpoiledLine, HasTaken, IsAnswerCaused, IsCaused, IsCopyCaused, IsInjectCaused, IsLoadCaused, IsOfflineCaused, IsPageCaused, IsReplied, IsSoftCaused, IsStoreCaused, IsTableCaused, MadeOne, Reached, SawBadLines, SawProcess, WasRaised, WasSignalled, IsUnpoisonCaused}
 use Rattle.hwp_law_holds.specs.Served.{IsRowServed}
 use Rattle.hwp_law_holds.proofs.AccountKeeps.{account-stays}

@@ -27,7 +27,7 @@ use Rattle.hwp_law_run.proofs.Legal.{run-legal}
 use Rattle.hwp_law_run.proofs.SightOrder.{run-rises}
 use Rattle.hwp_cpu_row.specs.declared.FrameChange.{FrameChange}
 use Rattle.hwp_cpu_row.specs.declared.Row.{Row}
-use Rattle.hwp_scrub.specs.hwp_cpu_check.declared.EventOutcome.{EventOutcome}
+use Rattle.hwp_cpu_row.specs.hwp_cpu_check.declared.EventOutcome.{EventOutcome}
 use Rattle.hwp_law_holds.specs.Causes.{FoundNoFrame, IsAnswerCaused}
 use Rattle.hwp_law_holds.specs.Runs.{IsRunOf}
 use Rattle.hwp_law_holds.proofs.RunKeeps.{run-keeps}

@@ -23,7 +23,7 @@ use Rattle.hwp_law_run.specs.hwp_core_rule.parts.Handled.{IsOutOfUse}
 use Rattle.hwp_law_run.specs.hwp_core_rule.parts.Owners.{NamesOwn}
 use Rattle.hwp_law_run.specs.hwp_core_rule.parts.Places.{in_hand}
 use Rattle.hwp_law_run.specs.hwp_core_task.Boards.{Played}
-use Rattle.hwp_law_run.specs.hwp_core_task.Ranks.{Member}
+use Rattle.hwp_law_run.specs.hwp_core_task.Turns.{Member}
 use Rattle.hwp_law_run.specs.hwp_script_read.declared.Script.{Script}
 use Rattle.hwp_law_run.specs.hwp_report_text.declared.Report.{Report}
 use Rattle.hwp_law_run.specs.Run.{CoreRun}

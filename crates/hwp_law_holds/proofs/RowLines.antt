@@ -16,7 +16,7 @@ use Rattle.hwp_law_run.specs.hwp_report_text.declared.Report.{Report}
 use Rattle.hwp_law_run.proofs.of_hwp_law.Rows.{same_answer}
 use Rattle.hwp_law_run.specs.hwp_law.Lines.{AnswerLine, EventLine, answer_among, answer_in, answer_of, event_in, events_among, events_of}
 use Rattle.hwp_cpu_row.specs.declared.Row.{Row}
-use Rattle.hwp_scrub.specs.hwp_cpu_check.declared.EventOutcome.{EventOutcome}
+use Rattle.hwp_cpu_row.specs.hwp_cpu_check.declared.EventOutcome.{EventOutcome}
 use Rattle.hwp_law_holds.specs.Rows.{event_line, lines_from, row_lines}
 use Rattle.hwp_law_holds.specs.Runs.{row_at}
 use Rattle.hwp_law_holds.proofs.RunEnds.{IsEnd, IsOf, list-of, rows-of-lines, served-of}

@@ -21,7 +21,7 @@ use Rattle.hwp_law_run.specs.hwp_script_read.declared.Command.{Command}
 use Rattle.hwp_law_run.specs.hwp_script_read.declared.Script.{Script}
 use Rattle.hwp_law_run.specs.hwp_report_text.declared.CpuLine.{CpuLine}
 use Rattle.hwp_law_run.specs.hwp_report_text.declared.Report.{Report}
-use Rattle.hwp_law_run.specs.hwp_law.Checks.{Banks, empty_banks}
+use Rattle.hwp_law_run.specs.hwp_banks.Banks.{Banks, empty_banks}
 use Rattle.hwp_law_run.proofs.Homes.{there-is}
 use Rattle.hwp_law_run.proofs.Reported.{IsLast}
 use Rattle.hwp_cpu_row.specs.declared.Row.{Row}

@@ -35,13 +35,14 @@ use Rattle.hwp_law_run.specs.hwp_law.Answers.{reply_answer}
 use Rattle.hwp_law_run.specs.hwp_law.Commands.{Access, access_of, current_thread}
 use Rattle.hwp_law_run.specs.hwp_law.Policies.{arguments, last_policy, settings}
 use Rattle.hwp_law_run.specs.hwp_law.States.{place_named, state_named}
-use Rattle.hwp_scrub.specs.hwp_cpu_check.declared.Found.{Found}
+use Rattle.hwp_soft.specs.hwp_claim.declared.Found.{Found}
 use Rattle.hwp_cpu_row.specs.declared.FrameChange.{FrameChange}
 use Rattle.hwp_cpu_row.specs.declared.Row.{Row}
-use Rattle.hwp_scrub.specs.hwp_cpu_check.declared.EventOutcome.{EventOutcome}
-use Rattle.hwp_scrub.specs.hwp_cpu_check.Done.{entered_by, failed_by}
-use Rattle.hwp_scrub.specs.hwp_cpu_check.Done as done
-use Rattle.hwp_scrub.specs.hwp_cpu_check.Told.{first_signal, required_by, signal_of}
+use Rattle.hwp_cpu_row.specs.hwp_cpu_check.declared.EventOutcome.{EventOutcome}
+use Rattle.hwp_soft.specs.hwp_claim.Done.{entered_by}
+use Rattle.hwp_cpu_row.specs.hwp_cpu_check.Done.{failed_by}
+use Rattle.hwp_cpu_row.specs.hwp_cpu_check.Done as done
+use Rattle.hwp_cpu_row.specs.hwp_cpu_check.Told.{first_signal, required_by, signal_of}
 use Rattle.hwp_law_holds.specs.Accounts.{IsAccounted, failures_in, own_failure}
 use Rattle.hwp_law_holds.specs.Causes.{IsAnswerCaused, IsCaused, IsOfflineCaused, IsSoftCaused, IsTableCaused, WasSignalled, IsUnpoisonCaused}
 use Rattle.hwp_law_holds.proofs.Picked.{picked-has, picked-is}

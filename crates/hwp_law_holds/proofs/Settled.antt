@@ -3,7 +3,8 @@ use Rattle.std.proofs.Common.{ℕ}
 use Rattle.hwp_law_run.specs.hwp_geom.declared.Frame.{Frame}
 use Rattle.hwp_law_run.specs.hwp_core_task.Boards.{view_of}
 use Rattle.hwp_law_run.specs.hwp_core_task.Classes.{TellsClass}
-use Rattle.hwp_law_run.specs.hwp_core_task.Ranks.{Member, Pending}
+use Rattle.hwp_law_run.specs.hwp_core_task.Ranks.{Pending}
+use Rattle.hwp_law_run.specs.hwp_core_task.Turns.{Member}
 use Rattle.hwp_law_run.specs.hwp_plain_order.Order.{AreOver, Running, seat_of}
 use Rattle.hwp_law_run.specs.hwp_plain_order.Rank.{words_in}
 use Rattle.hwp_law_run.specs.hwp_plain_order.Ready.{IsCrew}

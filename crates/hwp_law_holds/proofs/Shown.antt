@@ -50,8 +50,8 @@ use Rattle.hwp_law_run.specs.hwp_law.Places.{command_at}
 use Rattle.hwp_law_run.specs.hwp_law.Policies.{arguments, last_policy, settings}
 use Rattle.hwp_law_run.specs.hwp_law.Runs.{slot_of}
 use Rattle.hwp_cpu_row.specs.declared.FrameChange.{FrameChange}
-use Rattle.hwp_scrub.specs.hwp_cpu_check.declared.EventOutcome.{EventOutcome}
-use Rattle.hwp_scrub.specs.hwp_cpu_check.Told.{frame_of}
+use Rattle.hwp_cpu_row.specs.hwp_cpu_check.declared.EventOutcome.{EventOutcome}
+use Rattle.hwp_cpu_row.specs.hwp_cpu_check.Told.{frame_of}
 use Rattle.hwp_law_run.specs.Shown.{AlreadyShown, AnswerShown, GoesOn, GoneShown, IsFree, LengthShown, NoFrameShown, ProcessShown, StopShown, IsRevivable}
 use Rattle.hwp_law_run.specs.Turns.{Finds, FindsBad, HasFrameOf, SawPage, SeesPage, TurnBy}
 use Rattle.hwp_law_run.proofs.SeatKnows.{IsUnder, Said}

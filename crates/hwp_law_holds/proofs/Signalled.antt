@@ -35,7 +35,7 @@ use Rattle.hwp_law_run.specs.hwp_law.Causes.{IsSigbus, SendsSigbus}
 use Rattle.hwp_law_run.specs.hwp_law.Commands.{current_thread}
 use Rattle.hwp_law_run.specs.hwp_law.Places.{entry_at}
 use Rattle.hwp_law_run.proofs.Reported.{histories-lead, listed-entry}
-use Rattle.hwp_scrub.specs.hwp_cpu_check.Told.{required_by}
+use Rattle.hwp_cpu_row.specs.hwp_cpu_check.Told.{required_by}
 use Rattle.hwp_law_holds.proofs.AllowedThere.{allowed-there, had-so}
 use Rattle.hwp_law_holds.proofs.deeds.Made.{some-so}
 use Rattle.hwp_law_holds.proofs.RunEnds.{IsEnd}

@@ -17,7 +17,7 @@ use Rattle.hwp_law_run.specs.hwp_script_read.declared.Script.{Script}
 use Rattle.hwp_law_run.specs.hwp_report_text.declared.Report.{Report}
 use Rattle.hwp_law_run.specs.hwp_law.Law.{IsLawful}
 use Rattle.hwp_law_run.specs.hwp_law.Places.{entry_at}
-use Rattle.hwp_law_run.specs.hwp_law.Seen.{seen_in}
+use Rattle.hwp_law_run.specs.hwp_law.SeenPolicies.{seen_in}
 use Rattle.hwp_law_run.specs.hwp_law.States.{HadState}
 use Rattle.hwp_law_holds.specs.Signals.{AreFailuresAsModel, IsFailureAsModel}
 use Rattle.hwp_law_holds.proofs.AllowedThere.{allowed-there, had-so}

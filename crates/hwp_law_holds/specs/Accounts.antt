@@ -29,11 +29,11 @@ use Rattle.hwp_law_run.specs.hwp_report_text.declared.MarkLine.TheVariants as ma
 use Rattle.hwp_law_run.specs.hwp_law.Commands.{current_thread}
 use Rattle.hwp_law_run.specs.hwp_law.Policies.{arguments}
 use Rattle.hwp_law_run.specs.hwp_law.Records.{is_moved, outcome_answer}
-use Rattle.hwp_scrub.specs.hwp_cpu_check.declared.Found.{Found}
+use Rattle.hwp_soft.specs.hwp_claim.declared.Found.{Found}
 use Rattle.hwp_cpu_row.specs.declared.FrameChange.{FrameChange}
 use Rattle.hwp_cpu_row.specs.declared.FrameChange.TheVariants as owns
 use Rattle.hwp_cpu_row.specs.declared.Row.{Row}
-use Rattle.hwp_scrub.specs.hwp_cpu_check.Done.{failed_by, failed_in, marked_in}
+use Rattle.hwp_cpu_row.specs.hwp_cpu_check.Done.{failed_by, failed_in, marked_in}
 use Rattle.hwp_law_holds.specs.Rows.{Note}
 
 abbrev pub is_same : Who → Who → Bool

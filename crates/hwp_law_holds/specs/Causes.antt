@@ -40,15 +40,15 @@ use Rattle.hwp_law_run.specs.hwp_law.Answers.{reply_answer}
 use Rattle.hwp_law_run.specs.hwp_law.Commands.{Access, access_of, can_fail, process_of_thread}
 use Rattle.hwp_law_run.specs.hwp_law.Policies.{arguments, last_policy, settings}
 use Rattle.hwp_law_run.specs.Shown.{IsRevivable}
-use Rattle.hwp_scrub.specs.hwp_cpu_check.declared.Found.{Found}
+use Rattle.hwp_soft.specs.hwp_claim.declared.Found.{Found}
 use Rattle.hwp_soft.specs.hwp_claim_frame.Grabs.{WasFree}
 use Rattle.hwp_soft.specs.hwp_soft_move.Seizes.{IsUsers, SawKernel}
 use Rattle.hwp_cpu_row.specs.declared.FrameChange.{FrameChange}
 use Rattle.hwp_cpu_row.specs.declared.FrameChange.TheVariants as owns
 use Rattle.hwp_cpu_row.specs.declared.Row.{Row}
-use Rattle.hwp_scrub.specs.hwp_cpu_check.declared.EventOutcome.{EventOutcome}
-use Rattle.hwp_scrub.specs.hwp_cpu_check.Fits.{IsEntered}
-use Rattle.hwp_scrub.specs.hwp_cpu_check.Told.{first_signal}
+use Rattle.hwp_cpu_row.specs.hwp_cpu_check.declared.EventOutcome.{EventOutcome}
+use Rattle.hwp_cpu_row.specs.hwp_cpu_check.Fits.{IsEntered}
+use Rattle.hwp_cpu_row.specs.hwp_cpu_check.Told.{first_signal}
 
 -- a step of the command showed this word of its thread's process
 pub record SawProcess (layout : Layout) (view : View) (who : Who) (thread : Thread) (word : ℕ) : Type 0 where

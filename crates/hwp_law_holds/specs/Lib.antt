@@ -13,7 +13,7 @@ pub use Rattle.hwp_soft.specs.hwp_claim as hwp_claim
 pub use Rattle.hwp_soft.specs.hwp_claim_frame as hwp_claim_frame
 pub use Rattle.hwp_law_run.specs.hwp_core_rule as hwp_core_rule
 pub use Rattle.hwp_law_run.specs.hwp_core_task as hwp_core_task
-pub use Rattle.hwp_scrub.specs.hwp_cpu_check as hwp_cpu_check
+pub use Rattle.hwp_cpu_row.specs.hwp_cpu_check as hwp_cpu_check
 pub use Rattle.hwp_cpu_row.specs as hwp_cpu_row
 pub use Rattle.hwp_soft.specs.hwp_evict as hwp_evict
 pub use Rattle.hwp_law_run.specs.hwp_geom as hwp_geom
@@ -21,7 +21,6 @@ pub use Rattle.hwp_law_run.specs.hwp_kill as hwp_kill
 pub use Rattle.hwp_law_run.specs.hwp_law as hwp_law
 pub use Rattle.hwp_law_run.specs as hwp_law_run
 pub use Rattle.hwp_law_run.specs.hwp_page as hwp_page
-pub use Rattle.hwp_law_run.specs.hwp_plain_order as hwp_plain_order
 pub use Rattle.hwp_law_run.specs.hwp_report_text as hwp_report_text
 pub use Rattle.hwp_law_run.specs.hwp_script_lines as hwp_script_lines
 pub use Rattle.hwp_scrub.specs as hwp_scrub

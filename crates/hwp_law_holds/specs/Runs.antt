@@ -21,15 +21,16 @@ use Rattle.hwp_law_run.specs.hwp_report_text.declared.Report.{Report}
 use Rattle.hwp_law_run.specs.hwp_report_text.declared.Stop.{Stop}
 use Rattle.hwp_law_run.specs.hwp_report_text.declared.StopCause.{StopCause}
 use Rattle.hwp_law_run.specs.hwp_report_text.declared.StopCause.TheVariants as causes
-use Rattle.hwp_law_run.specs.hwp_law.Checks.{is_panic, is_stopping}
-use Rattle.hwp_law_run.specs.hwp_law.Commands.{Arrival, arrival_of}
+use Rattle.hwp_law_run.specs.hwp_report_text.Acts.{is_panic, is_stopping}
+use Rattle.hwp_law_run.specs.hwp_law.Commands.{arrival_of}
+use Rattle.hwp_law_run.specs.hwp_severity.declared.Arrival.{Arrival}
 use Rattle.hwp_law_run.specs.hwp_law.Places.{command_at}
 use Rattle.hwp_law_run.specs.hwp_law.Records.{cycle_in, is_poisoning}
 use Rattle.hwp_law_run.specs.Ends.{EndsWith}
 use Rattle.hwp_law_run.specs.Turns.{Leads}
 use Rattle.hwp_cpu_row.specs.declared.Row.{Row}
-use Rattle.hwp_scrub.specs.hwp_cpu_check.declared.EventOutcome.{EventOutcome}
-use Rattle.hwp_scrub.specs.hwp_cpu_check.Told.{frame_of}
+use Rattle.hwp_cpu_row.specs.hwp_cpu_check.declared.EventOutcome.{EventOutcome}
+use Rattle.hwp_cpu_row.specs.hwp_cpu_check.Told.{frame_of}
 use Rattle.hwp_law_holds.specs.Rows.{Note, lines_from, notes_from, record_of}
 use Rattle.hwp_law_holds.specs.Served.{IsServed}
 

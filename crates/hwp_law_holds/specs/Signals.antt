@@ -20,7 +20,7 @@ use Rattle.hwp_law_run.specs.hwp_report_text.declared.Report.{Report}
 use Rattle.hwp_law_run.specs.hwp_law.Losses.{answered, lost_in, told}
 use Rattle.hwp_law_run.specs.hwp_law.Places.{entry_at}
 use Rattle.hwp_law_run.specs.hwp_law.Records.{ends_poisoned}
-use Rattle.hwp_law_run.specs.hwp_law.Seen.{IsPolicySeen}
+use Rattle.hwp_law_run.specs.hwp_law.SeenPolicies.{IsPolicySeen}
 use Rattle.hwp_law_run.specs.hwp_law.States.{HadState}
 
 -- A failure found the page in a frame, in the situation of the state that the page had at the entry's place. It read the policies

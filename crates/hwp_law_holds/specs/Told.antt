@@ -14,12 +14,14 @@ use Rattle.hwp_law_run.specs.hwp_script_read.declared.Command.{Command}
 use Rattle.hwp_law_run.specs.hwp_script_read.declared.Command.TheVariants as commands
 use Rattle.hwp_law_run.specs.hwp_report_text.declared.Answer.{Answer}
 use Rattle.hwp_law_run.specs.hwp_report_text.declared.Answer.TheVariants as answers
-use Rattle.hwp_law_run.specs.hwp_law.Checks.{Banks, empty_banks}
-use Rattle.hwp_law_run.specs.hwp_law.Commands.{Arrival, arrival_of}
-use Rattle.hwp_law_run.specs.hwp_law.Events.{is_check, logged_if_done, raw_event}
+use Rattle.hwp_law_run.specs.hwp_banks.Banks.{Banks, empty_banks}
+use Rattle.hwp_law_run.specs.hwp_law.Commands.{arrival_of}
+use Rattle.hwp_law_run.specs.hwp_severity.declared.Arrival.{Arrival}
+use Rattle.hwp_law_run.specs.hwp_law.Events.{is_check, logged_if_done}
+use Rattle.hwp_law_run.specs.hwp_banks.Banks.{raw_event}
 use Rattle.hwp_cpu_row.specs.declared.Row.{Row}
-use Rattle.hwp_scrub.specs.hwp_cpu_check.declared.EventOutcome.{EventOutcome}
-use Rattle.hwp_scrub.specs.hwp_cpu_check.Checks.{AreChecks, Check, IsActedOn, left_by, lines_of}
+use Rattle.hwp_cpu_row.specs.hwp_cpu_check.declared.EventOutcome.{EventOutcome}
+use Rattle.hwp_cpu_row.specs.hwp_cpu_check.Checks.{AreChecks, Check, IsActedOn, left_by, lines_of}
 use Rattle.hwp_scrub.specs.Visits as scrubs
 use Rattle.hwp_scrub.specs.Visits.{AreVisits, Find, IsBadFind, Visit, left_by_bad}
 

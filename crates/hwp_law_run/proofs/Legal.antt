@@ -26,7 +26,7 @@ use Rattle.hwp_plain_order.specs.hwp_core_rule.Lists.{EachMember, Homes}
 use Rattle.hwp_plain_order.specs.hwp_core_rule.Logs.{log_of, opening_at, state_of}
 use Rattle.hwp_plain_order.specs.hwp_core_rule.Moves.{Move}
 use Rattle.hwp_plain_order.specs.hwp_core_rule.Opening.{below, opening, opening_log, opening_view}
-use Rattle.hwp_plain_order.specs.hwp_core_rule.Slots.{MeetsSlot, frame_slot, homes_after, homes_moved, moved_out, shelf_slot, slot_move}
+use Rattle.hwp_plain_order.specs.hwp_core_rule.SlotMoves.{MeetsSlot, frame_slot, homes_after, homes_moved, moved_out, shelf_slot, slot_move}
 use Rattle.hwp_plain_order.specs.hwp_core_rule.Steps.{goes}
 use Rattle.hwp_plain_order.specs.hwp_core_rule.Views.{body_of, is_body_of, killed_by, listed_of, loaded, lock_found, lock_of_page, more_of, noted, put_home, taken, view_after, view_by}
 use Rattle.hwp_plain_order.proofs.of_hwp_core_rule.AsksNoted.{asks-noted}

@@ -22,7 +22,7 @@ use Rattle.hwp_plain_order.proofs.of_hwp_core_rule.Lists.{map-was, sum-zero}
 use Rattle.hwp_plain_order.proofs.of_hwp_core_rule.MoveKeeps.{shaped}
 use Rattle.hwp_law.specs.hwp_report_text.declared.FrameLine.{FrameLine}
 use Rattle.hwp_law.specs.hwp_report_text.declared.Whereabouts.TheVariants as places
-use Rattle.hwp_law.specs.Report.{is_of}
+use Rattle.hwp_law.specs.PageHistory.{is_of}
 use Rattle.hwp_law_run.specs.Ends.{place_in, place_owned}
 use Rattle.hwp_law_run.proofs.Homes.{home-within, there-is}
 

@@ -28,7 +28,7 @@ use Rattle.hwp_law.specs.hwp_report_text.declared.FrameLine.{FrameLine}
 use Rattle.hwp_law.specs.hwp_report_text.declared.Report.{Report}
 use Rattle.hwp_law.specs.History.{AreOrdered}
 use Rattle.hwp_law.specs.Places.{entry_at}
-use Rattle.hwp_law.specs.Report.{IsHistory}
+use Rattle.hwp_law.specs.PageHistory.{IsHistory}
 use Rattle.hwp_law.specs.States.{HadState}
 use Rattle.hwp_law_run.specs.Ends.{EndsWith, place_in}
 use Rattle.hwp_law_run.proofs.Histories.{IsThat, entry-made, made-stands, one-body}

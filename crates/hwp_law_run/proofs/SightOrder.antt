@@ -26,7 +26,7 @@ use Rattle.hwp_plain_order.specs.hwp_core_rule.Lists.{EachMember, of_home, sum_a
 use Rattle.hwp_plain_order.specs.hwp_core_rule.Moves.{Move}
 use Rattle.hwp_plain_order.specs.hwp_core_rule.Opening.{below, opening, opening_view}
 use Rattle.hwp_plain_order.specs.hwp_core_rule.Rule.{Holds, holder_of}
-use Rattle.hwp_plain_order.specs.hwp_core_rule.Slots.{MeetsSlot}
+use Rattle.hwp_plain_order.specs.hwp_core_rule.SlotMoves.{MeetsSlot}
 use Rattle.hwp_plain_order.specs.hwp_core_rule.Views.{is_body_of, made_from, more_of, noted, stamp_of, view_after}
 use Rattle.hwp_plain_order.specs.hwp_core_rule.Words.{words_of}
 use Rattle.hwp_plain_order.specs.hwp_core_rule.parts.Bodies.{Holder}

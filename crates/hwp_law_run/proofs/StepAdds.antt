@@ -15,7 +15,7 @@ use Rattle.hwp_plain_order.specs.hwp_core_rule.declared.Step.TheVariants as step
 use Rattle.hwp_plain_order.specs.hwp_core_rule.declared.View.{View}
 use Rattle.hwp_plain_order.specs.hwp_core_rule.Asks.{AsksOf, CanPut, Extends}
 use Rattle.hwp_plain_order.specs.hwp_core_rule.Logs.{log_of}
-use Rattle.hwp_plain_order.specs.hwp_core_rule.Slots.{frame_slot, moved_out, shelf_slot, slot_move}
+use Rattle.hwp_plain_order.specs.hwp_core_rule.SlotMoves.{frame_slot, moved_out, shelf_slot, slot_move}
 use Rattle.hwp_plain_order.specs.hwp_core_rule.Steps.{goes}
 use Rattle.hwp_plain_order.specs.hwp_core_rule.Views.{body_of, listed_of, loaded, lock_found, lock_of_page, made_from, more_of, put_home, stamp_of, taken, view_by}
 

@@ -1,10 +1,10 @@
 -- How a history begins at a page's opening, and grows by an entry.
 use Rattle.std.proofs.Common.{◌≡◌, ℕ, ◌<◌, length, List, [], ◌∷◌, ◌++◌, Some, slice_get, slice_index_or, refl, sym, ap, ◌∙◌, subst}
 use Rattle.std.proofs.lemmas.Option.{slice_get-get_or, same_Some}
-use Rattle.hwp_geom.specs.declared.Layout.{Layout}
-use Rattle.hwp_geom.specs.declared.Page.{Page}
-use Rattle.hwp_geom.specs.declared.PageKind.{PageKind}
-use Rattle.hwp_geom.specs.Layout.{IsSound}
+use Rattle.hwp_kill.specs.hwp_geom.declared.Layout.{Layout}
+use Rattle.hwp_kill.specs.hwp_geom.declared.Page.{Page}
+use Rattle.hwp_kill.specs.hwp_geom.declared.PageKind.{PageKind}
+use Rattle.hwp_kill.specs.hwp_geom.Layout.{IsSound}
 use Rattle.hwp_page.specs.declared.state.PageState.{PageState}
 use Rattle.hwp_page.specs.declared.entry.Entry.{Entry}
 use Rattle.hwp_page.specs.Step.{Allowed, after, opening_of}

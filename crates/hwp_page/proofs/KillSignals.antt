@@ -3,8 +3,8 @@ use Rattle.std.proofs.Common.{◌≡◌, ◌↔◌, Bool, List, Option, subst}
 use Rattle.std.specs.Prelude.{IsTrue}
 use Rattle.std.specs.Ordering.{nat_cmp}
 use Rattle.std.specs.FinSet as set
-use Rattle.hwp_geom.specs.declared.Layout.{Layout}
-use Rattle.hwp_geom.specs.declared.Thread.{Thread}
+use Rattle.hwp_kill.specs.hwp_geom.declared.Layout.{Layout}
+use Rattle.hwp_kill.specs.hwp_geom.declared.Thread.{Thread}
 use Rattle.hwp_kill.specs.declared.Seen.{Seen}
 use Rattle.hwp_kill.specs.declared.Signal.{Signal}
 use Rattle.hwp_kill.specs.Kill.{Killed}

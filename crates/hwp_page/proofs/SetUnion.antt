@@ -7,7 +7,7 @@ use Rattle.std.specs.FinSet as set
 use Rattle.std.specs.FinSet.{nat_cmp-IsAntisymmetric}
 use Rattle.std.proofs.lemmas.Bool.{cases_lt}
 use Rattle.std.proofs.lemmas.Bool.Decides.{nat_tests}
-use Rattle.hwp_geom.specs.declared.VSlot.{VSlot}
+use Rattle.hwp_kill.specs.hwp_geom.declared.VSlot.{VSlot}
 use Rattle.hwp_kill.specs.Lowest.{HasNoneFrom, IsLowestFrom}
 
 -- the members of `slots` below `at` were put into what was `start`

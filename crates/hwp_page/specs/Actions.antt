@@ -1,8 +1,8 @@
 -- What a memory failure finds of a page, and what it does to the page's state.
 use Rattle.std.specs.Prelude.{ℕ, Bool, true, false, cond, Option, Some, None, List}
 use Rattle.std.specs.FinSet as set
-use Rattle.hwp_geom.specs.declared.PageKind.{PageKind}
-use Rattle.hwp_geom.specs.declared.PageKind.TheVariants.{Anon, File}
+use Rattle.hwp_kill.specs.hwp_geom.declared.PageKind.{PageKind}
+use Rattle.hwp_kill.specs.hwp_geom.declared.PageKind.TheVariants.{Anon, File}
 use Rattle.hwp_page.specs.declared.state.PageState.{PageState}
 use Rattle.hwp_page.specs.declared.situation.Situation.{Situation}
 use Rattle.hwp_page.specs.declared.situation.Situation.TheVariants.{Free, Kernel, FileClean, FileDirty, AnonOnly, SwapClean, SwapDirty}

@@ -1,10 +1,10 @@
 -- Processes that a signal ended.
 use Rattle.std.specs.Prelude.{◌==◌, ◌&&◌, Bool, false, not, List, Option, Some, None, slice_get}
 use Rattle.std.specs.List.{list_any}
-use Rattle.hwp_geom.specs.declared.Layout.{Layout}
-use Rattle.hwp_geom.specs.declared.Proc.{Proc}
-use Rattle.hwp_geom.specs.declared.Thread.{Thread}
-use Rattle.hwp_geom.specs.declared.ThreadDecl.{ThreadDecl}
+use Rattle.hwp_kill.specs.hwp_geom.declared.Layout.{Layout}
+use Rattle.hwp_kill.specs.hwp_geom.declared.Proc.{Proc}
+use Rattle.hwp_kill.specs.hwp_geom.declared.Thread.{Thread}
+use Rattle.hwp_kill.specs.hwp_geom.declared.ThreadDecl.{ThreadDecl}
 use Rattle.hwp_kill.specs.declared.Signal.{Signal}
 use Rattle.hwp_page.specs.declared.entry.Entry.{Entry}
 use Rattle.hwp_page.specs.declared.entry.Met.TheVariants.{Sigbus}

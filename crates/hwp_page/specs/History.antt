@@ -1,9 +1,9 @@
 -- Histories of a page, and what clauses see of a body.
 use Rattle.std.specs.Prelude.{◌≡◌, ℕ, List, [], ◌∷◌, Some, fold, slice_get}
-use Rattle.hwp_geom.specs.declared.Layout.{Layout}
-use Rattle.hwp_geom.specs.declared.Page.{Page}
-use Rattle.hwp_geom.specs.declared.PageKind.{PageKind}
-use Rattle.hwp_geom.specs.Layout.{IsSound}
+use Rattle.hwp_kill.specs.hwp_geom.declared.Layout.{Layout}
+use Rattle.hwp_kill.specs.hwp_geom.declared.Page.{Page}
+use Rattle.hwp_kill.specs.hwp_geom.declared.PageKind.{PageKind}
+use Rattle.hwp_kill.specs.hwp_geom.Layout.{IsSound}
 use Rattle.hwp_page.specs.declared.state.PageState.{PageState}
 use Rattle.hwp_page.specs.declared.entry.Entry.{Entry}
 use Rattle.hwp_page.specs.Step.{Allowed, after, opening_of}

@@ -2,9 +2,9 @@
 use Rattle.std.specs.Prelude.{ℕ, ◌==◌, Bool, true, false, List, Option, Some, None}
 use Rattle.std.specs.List.{sum_by}
 use Rattle.std.specs.Int.{from_bool}
-use Rattle.hwp_geom.specs.declared.FileNo.{FileNo}
-use Rattle.hwp_geom.specs.declared.PageKind.{PageKind}
-use Rattle.hwp_geom.specs.declared.PageKind.TheVariants.{Anon, File}
+use Rattle.hwp_kill.specs.hwp_geom.declared.FileNo.{FileNo}
+use Rattle.hwp_kill.specs.hwp_geom.declared.PageKind.{PageKind}
+use Rattle.hwp_kill.specs.hwp_geom.declared.PageKind.TheVariants.{Anon, File}
 use Rattle.hwp_page.specs.declared.entry.Entry.{Entry}
 use Rattle.hwp_page.specs.declared.entry.What.{What}
 use Rattle.hwp_page.specs.declared.entry.What.TheVariants as entries

@@ -1,6 +1,6 @@
 -- Which of two commands of a processor comes first.
 use Rattle.std.specs.Prelude.{◌≡◌, ◌<◌, ◌≤◌}
-use Rattle.hwp_geom.specs.declared.Who.{Who}
+use Rattle.hwp_kill.specs.hwp_geom.declared.Who.{Who}
 
 -- the one is of an earlier command of the same processor
 abbrev pub IsEarlier : Who → Who → Type 0

@@ -1,7 +1,7 @@
 -- Why a page is left as it is.
 use Rattle.std.specs.Prelude.{◌≡◌, ◌≢◌, ◌⊎◌, true, false, None, IsFalse}
 use Rattle.std.specs.FinSet as set
-use Rattle.hwp_geom.specs.declared.VSlot.{VSlot}
+use Rattle.hwp_kill.specs.hwp_geom.declared.VSlot.{VSlot}
 use Rattle.hwp_page.specs.declared.state.PageState.{PageState}
 
 -- the page is in no frame

@@ -3,14 +3,14 @@
 use Rattle.std.specs.Prelude.{◌≡◌, ◌≢◌, ℕ, ◌<◌, Bool, true, false, Option, Some, None, List, [], ◌⊎◌, slice_get, slice_index, slice_set, replicate, IsSomeAnd, IsBitSet, IsTrue, IsFalse, MatchBool}
 use Rattle.std.specs.Ordering.{nat_cmp}
 use Rattle.std.specs.FinSet as set
-use Rattle.hwp_geom.specs.declared.Layout.{Layout}
-use Rattle.hwp_geom.specs.declared.Page.{Page}
-use Rattle.hwp_geom.specs.declared.VSlot.{VSlot}
-use Rattle.hwp_geom.specs.declared.Thread.{Thread}
-use Rattle.hwp_geom.specs.declared.TransDecl.{TransDecl}
-use Rattle.hwp_geom.specs.declared.PageKind.{PageKind}
-use Rattle.hwp_geom.specs.declared.PageKind.TheVariants.{Anon, File}
-use Rattle.hwp_geom.specs.Limits.{line_limit}
+use Rattle.hwp_kill.specs.hwp_geom.declared.Layout.{Layout}
+use Rattle.hwp_kill.specs.hwp_geom.declared.Page.{Page}
+use Rattle.hwp_kill.specs.hwp_geom.declared.VSlot.{VSlot}
+use Rattle.hwp_kill.specs.hwp_geom.declared.Thread.{Thread}
+use Rattle.hwp_kill.specs.hwp_geom.declared.TransDecl.{TransDecl}
+use Rattle.hwp_kill.specs.hwp_geom.declared.PageKind.{PageKind}
+use Rattle.hwp_kill.specs.hwp_geom.declared.PageKind.TheVariants.{Anon, File}
+use Rattle.hwp_kill.specs.hwp_geom.Limits.{line_limit}
 use Rattle.hwp_kill.specs.Limits.{slot_limit}
 use Rattle.hwp_kill.specs.declared.Seen.{Seen}
 use Rattle.hwp_kill.specs.declared.Signal.{Signal}

@@ -1,7 +1,7 @@
 ghost use Rattle.std.specs.Prelude.{◌↔◌, IsTrue};
 ghost use Rattle.hwp_page.specs.Step.{IsOf, IsThreadOf};
 
-use hwp_geom::{Layout, Page, Thread, VSlot};
+use hwp_kill::{Layout, Page, Thread, VSlot};
 
 /// Whether the translation belongs to the page.
 pub fn is_of(layout: &Layout, page: Page, slot: VSlot) -> bool

@@ -2,13 +2,13 @@ ghost use Rattle.std.specs.Prelude.{◌≡◌, ◌+◌, ◌-◌, ◌<◌, ◌≤
 ghost use Rattle.std.specs.Arc.{arc_value};
 ghost use Rattle.std.specs.Option.{option_copied};
 ghost use Rattle.std.specs.Slice.{IsItemAt};
-ghost use Rattle.hwp_geom.specs.Layout.{IsSound};
+ghost use Rattle.hwp_kill.specs.hwp_geom.Layout.{IsSound};
 ghost use Rattle.hwp_page.specs.Step.{Allowed, after};
 ghost use Rattle.hwp_page.specs.History.{IsFresh, IsReplay};
 
 use crate::entry::Entry;
 use crate::state::PageState;
-use hwp_geom::{Layout, List, OutOfMemory, Page};
+use hwp_kill::{Layout, List, OutOfMemory, Page};
 use std::alloc::Global;
 use std::marker::Model;
 use std::sync::Arc;

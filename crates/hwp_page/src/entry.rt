@@ -1,8 +1,7 @@
 ghost use Rattle.std.specs.Prelude.{◌≡◌, IfOk};
 
 use crate::situation::Situation;
-use hwp_geom::{Line, List, Mask, OutOfMemory, Page, Thread, VSlot, Who};
-use hwp_kill::{Seen, Signal};
+use hwp_kill::{Line, List, Mask, OutOfMemory, Page, Seen, Signal, Thread, VSlot, Who};
 use std::alloc::Global;
 
 /// A place in a history: the entry's number in its page, from 0.

@@ -1,10 +1,9 @@
 ghost use Rattle.std.specs.Prelude.{◌≡◌, ◌↔◌, IsTrue};
-ghost use Rattle.hwp_geom.specs.Layout.{IsSound};
+ghost use Rattle.hwp_kill.specs.hwp_geom.Layout.{IsSound};
 ghost use Rattle.hwp_kill.specs.Kill.{Killed};
 ghost use Rattle.hwp_page.specs.Step.{IsSeenList};
 
-use hwp_geom::{Layout, List, Thread};
-use hwp_kill::{Seen, Signal, SignalList, Slots, are_policies_read, signals};
+use hwp_kill::{Layout, List, Seen, Signal, SignalList, Slots, Thread, are_policies_read, signals};
 
 /// Whether these are the threads whose policies a memory failure reads, for the policies that the list names.
 pub(crate) fn is_seen_list(

@@ -1,8 +1,7 @@
 ghost use Rattle.std.specs.Prelude.{◌≡◌, ◌↔◌, IsTrue};
 ghost use Rattle.std.specs.FinSet as set;
 
-use hwp_geom::VSlot;
-use hwp_kill::Slots;
+use hwp_kill::{Slots, VSlot};
 
 /// Whether the set has no member.
 pub fn is_empty(slots: &Slots) -> bool

@@ -6,8 +6,9 @@ use crate::entry::{Met, What};
 use crate::failing::{are_signals, is_seen_list};
 use crate::sets::{is_empty, put_all};
 use crate::situation::Situation;
-use hwp_geom::{Layout, Line, Lines, List, Mask, Page, PageKind, Thread, VSlot};
-use hwp_kill::{Seen, Signal, Slots};
+use hwp_kill::{
+    Layout, Line, Lines, List, Mask, Page, PageKind, Seen, Signal, Slots, Thread, VSlot,
+};
 
 /// The state of a page (Linux hwpoison.rst for what it stands for; its exact form is this project's rule).
 #[derive(Drop)]
@@ -30,7 +31,7 @@ pub struct PageState {
 }
 
 impl PageState {
-    ghost use Rattle.hwp_geom.specs.Layout.{IsSound};
+    ghost use Rattle.hwp_kill.specs.hwp_geom.Layout.{IsSound};
     ghost use Rattle.hwp_page.specs.Actions.{acted, barred, situation_of, unmapped};
     ghost use Rattle.hwp_page.specs.Step.{Allowed, MapsWithin, CanMap, IsDroppable, IsFailure, IsRefused, after, is_file, opening_of};
 

@@ -2,15 +2,15 @@
 use Rattle.std.proofs.Common.{◌≡◌, ℕ, suc, ◌+◌, ◌<◌, List, [], ◌∷◌, Option, Some, None, map, length, slice_get, refl, ap, ◌∙◌, subst, sym, arith}
 use Rattle.std.proofs.lemmas.List.{length-map}
 use Rattle.std.proofs.lemmas.Option.{none-some, same_Some}
-use Rattle.hwp_geom.specs.declared.Layout.{Layout}
-use Rattle.hwp_page.specs.History.{BodyValue}
-use Rattle.hwp_core_rule.specs.declared.Log.{Log}
-use Rattle.hwp_core_rule.specs.Lists.{EachMember}
-use Rattle.hwp_core_rule.specs.declared.State.{State}
-use Rattle.hwp_core_rule.specs.Rule.{Holds}
-use Rattle.hwp_core_rule.specs.Slots.{IsIn}
-use Rattle.hwp_core_rule.specs.parts.Holdings.{HoldsNothing}
-use Rattle.hwp_core_rule.proofs.Lists.{each-map}
+use Rattle.hwp_core_task.specs.hwp_geom.declared.Layout.{Layout}
+use Rattle.hwp_core_task.specs.hwp_page.History.{BodyValue}
+use Rattle.hwp_core_task.specs.hwp_core_rule.declared.Log.{Log}
+use Rattle.hwp_core_task.specs.hwp_core_rule.Lists.{EachMember}
+use Rattle.hwp_core_task.specs.hwp_core_rule.declared.State.{State}
+use Rattle.hwp_core_task.specs.hwp_core_rule.Rule.{Holds}
+use Rattle.hwp_core_task.specs.hwp_core_rule.SlotMoves.{IsIn}
+use Rattle.hwp_core_task.specs.hwp_core_rule.parts.Holdings.{HoldsNothing}
+use Rattle.hwp_core_task.proofs.of_hwp_core_rule.Lists.{each-map}
 use Rattle.hwp_core_task.specs.Calls.{FitsLayout}
 use Rattle.hwp_plain_words.specs.Openings.{home_with}
 use Rattle.hwp_plain_words.proofs.AllHome.{all-home}
@@ -45,3 +45,7 @@ bodies-taken layout s holds nothing slots bodies homes are = homes ∙ bodies-in
         let count : length slots ≡ layout.frames + length layout.pages = sym (length-map slots home_of) ∙ ap length (sym homes) ∙ holds.slots in
         let home = all-home layout s holds nothing k (omega (arith, less, count)) in
         (home.0, ap (λ (l : List (Option (Option Log))). slice_get l k) (sym homes) ∙ home.1)
+
+-- and there is one for each frame and each page
+pub bodies-count : (layout : Layout) (s : State) → Holds layout s → (bodies : List (Option BodyValue)) → s.homes ≡ map home_with bodies → length bodies ≡ layout.frames + length layout.pages
+bodies-count layout s holds bodies are = sym (length-map bodies home_with) ∙ ap length (sym are) ∙ holds.slots

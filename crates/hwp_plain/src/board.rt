@@ -1,21 +1,21 @@
 ghost use Rattle.std.specs.Prelude.{◌≡◌, ◌<◌, true, false, [], cond, None, IfOk, length};
-ghost use Rattle.hwp_geom.specs.Layout.{IsSound};
-ghost use Rattle.hwp_core_rule.specs.Lists.{EachMember};
-ghost use Rattle.hwp_core_rule.specs.Opening.{opening};
-ghost use Rattle.hwp_core_rule.specs.parts.Holdings.{HoldsNothing};
+ghost use Rattle.hwp_core_task.specs.hwp_geom.Layout.{IsSound};
+ghost use Rattle.hwp_core_task.specs.hwp_core_rule.Lists.{EachMember};
+ghost use Rattle.hwp_core_task.specs.hwp_core_rule.Opening.{opening};
+ghost use Rattle.hwp_core_task.specs.hwp_core_rule.parts.Holdings.{HoldsNothing};
 ghost use Rattle.hwp_core_task.specs.Calls.{CanMake, Steps, logs, rec_of};
 ghost use Rattle.hwp_plain.specs.Boards.{IsReached, Moves, own_view, with_turn};
-ghost use Rattle.hwp_plain_words.specs.Ends.{AreHistories};
+ghost use Rattle.hwp_plain_words.specs.Ends.{AreHistories, IsMachineOf};
 ghost use Rattle.hwp_core_task.specs.Boards.{AreSeated};
 
 use crate::bodies::{bodies_of, slots_of};
 use crate::slot::{Slot, carry};
 use crate::trail::{Trail, tell};
-use hwp_core_rule::{SharedWord, Step, index};
-use hwp_core_task::{Met, Turn};
-use hwp_geom::{Cpu, Kind, Layout, List, OutOfMemory, Page, Who};
-use hwp_page::{Body, Entry};
-use hwp_plain_words::{histories, opening_bodies, opening_words};
+use hwp_core_task::{
+    Body, Cpu, Entry, Kind, Layout, List, Met, OutOfMemory, Page, SharedWord, Step, Turn, Who,
+    index,
+};
+use hwp_plain_words::{Machine, histories, machine_of, opening_bodies, opening_words};
 use std::alloc::Global;
 use std::marker::Model;
 use std::snapshot::Snapshot;
@@ -38,7 +38,7 @@ impl Model for PlainBoard {
     ghost use Rattle.std.specs.Arc.{arc_value};
     ghost use Rattle.hwp_plain.specs.Boards.{Board, IsBoard, state_of};
     ghost use Rattle.hwp_plain.specs.Trails.{played};
-    ghost use Rattle.hwp_page.specs.hwp_kill.contracts.Slots as sets;
+    ghost use Rattle.hwp_core_task.specs.hwp_kill.contracts.Slots as sets;
     ghost use Rattle.std.specs.Coded.{codes};
 
     ghost Value = { Board };
@@ -158,6 +158,21 @@ impl PlainBoard {
             found,
             body: carried.body,
         }
+    }
+
+    /// What the machine came to, when nothing is held and the board is done with.
+    pub fn close(self, alloc: Global) -> Result<Machine, OutOfMemory>
+        requires nothing { EachMember HoldsNothing self.state.views }
+        ensures { IfOk result (IsMachineOf self.layout self.state.words self.state.homes) }
+    {
+        let PlainBoard {
+            layout,
+            words,
+            slots,
+            ..
+        } = self;
+        let bodies = bodies_of(alloc, slots)?;
+        machine_of(&layout, words, bodies)
     }
 
     /// The history of each page, in their order, when nothing is held and the board is done with.

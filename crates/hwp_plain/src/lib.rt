@@ -12,3 +12,4 @@ mod turns;
 
 pub use board::PlainBoard;
 pub use hwp_plain_order::step_all;
+pub use hwp_plain_words::Machine;

@@ -1,15 +1,12 @@
 ghost use Rattle.std.specs.Prelude.{◌≡◌, true};
 
 use crate::board::PlainBoard;
-use hwp_core_rule::Step;
-use hwp_core_task::{Met, Ops};
-use hwp_geom::{Layout, Who};
-use hwp_page::Body;
+use hwp_core_task::{Body, Layout, Met, Ops, Step, Who};
 
 impl Ops for PlainBoard {
     ghost use Rattle.hwp_plain.specs.Boards.{own_view, Moves};
 
-    ghost machine = { λ b. b.layout };
+    ghost layout = { λ b. b.layout };
 
     ghost view = { λ b. own_view b };
 

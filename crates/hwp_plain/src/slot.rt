@@ -1,13 +1,12 @@
 ghost use Rattle.std.specs.Prelude.{◌≡◌, false, Some, None, cond, map, length, option_map};
-ghost use Rattle.hwp_geom.specs.declared.Layout.{Layout};
-ghost use Rattle.hwp_page.specs.History.{BodyValue, IsReplay};
-ghost use Rattle.hwp_core_rule.specs.Logs.{log_of};
-ghost use Rattle.hwp_core_rule.specs.Slots.{IsWithin, LeavesHome, MeetsSlot, homes_moved, is_out};
+ghost use Rattle.hwp_core_task.specs.hwp_geom.declared.Layout.{Layout};
+ghost use Rattle.hwp_core_task.specs.hwp_page.History.{BodyValue, IsReplay};
+ghost use Rattle.hwp_core_task.specs.hwp_core_rule.Logs.{log_of};
+ghost use Rattle.hwp_core_task.specs.hwp_core_rule.SlotMoves.{IsWithin, LeavesHome, MeetsSlot, homes_moved, is_out};
 ghost use Rattle.hwp_core_task.specs.Calls.{FitsLayout};
 ghost use Rattle.hwp_plain.specs.Slots.{home_of, AreOfLayout};
 
-use hwp_core_rule::SlotMove;
-use hwp_page::Body;
+use hwp_core_task::{Body, SlotMove};
 use std::mem;
 use std::snapshot::Snapshot;
 

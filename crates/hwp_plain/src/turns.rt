@@ -1,9 +1,8 @@
 use crate::board::PlainBoard;
-use hwp_core_task::{Board, Task, Turn, advance};
-use hwp_geom::{Cpu, Kind};
+use hwp_core_task::{Board, Cpu, Kind, Task, Turn, advance};
 
 impl Board for PlainBoard {
-    ghost machine = { λ b. b.layout };
+    ghost layout = { λ b. b.layout };
 
     ghost state = { λ b. b.state };
 

@@ -1,10 +1,11 @@
 -- Who comes next: what is known of the levels of the others.
 use Rattle.std.proofs.Common.{◌≡◌, ◌≢◌, ℕ, zero, suc, ◌<◌, ◌≤◌, ◌⊎◌, inl, inr, true, List, [], ◌∷◌, map, length, get_or, set, Option, Some, None, refl, sym, ap, ◌∙◌, subst, arith}
 use Rattle.std.proofs.lemmas.List.{get_or-set_same, get_or-set_other, length-set, get_or-map, length-map}
-use Rattle.hwp_geom.specs.declared.Frame.{Frame}
+use Rattle.hwp_script_read.specs.hwp_geom.declared.Frame.{Frame}
 use Rattle.hwp_core_task.specs.hwp_core_rule.declared.Step.{Step}
 use Rattle.hwp_core_task.specs.Boards.{view_of}
-use Rattle.hwp_core_task.specs.Ranks.{Member, HasFrame, HasPage, Pending, Quiet}
+use Rattle.hwp_core_task.specs.Ranks.{HasFrame, HasPage, Pending, Quiet}
+use Rattle.hwp_core_task.specs.Turns.{Member}
 use Rattle.hwp_core_task.specs.Classes.{IsScheduled}
 use Rattle.hwp_plain_order.specs.Order.{Running, IsAt, IsOver, AreOver, level_by, level, levels, IsChosen, seat_of}
 use Rattle.hwp_plain_order.specs.Rank.{has_one, words_in}

@@ -2,15 +2,16 @@
 use Rattle.std.proofs.Common.{◌≡◌, ◌≢◌, ℕ, ◌<◌, ◌≤◌, ◌⊎◌, inl, inr, Bool, true, false, List, length, get_or, set, Option, Some, None, refl, sym, ap, ◌∙◌, subst, arith}
 use Rattle.std.proofs.lemmas.Bool.{cases_eq}
 use Rattle.std.proofs.lemmas.List.{get_or-set_other, length-set, length-map, map-set}
-use Rattle.hwp_geom.specs.declared.Cpu.{Cpu}
-use Rattle.hwp_geom.specs.declared.Frame.{Frame}
-use Rattle.hwp_geom.specs.declared.Layout.{Layout}
+use Rattle.hwp_script_read.specs.hwp_geom.declared.Cpu.{Cpu}
+use Rattle.hwp_script_read.specs.hwp_geom.declared.Frame.{Frame}
+use Rattle.hwp_script_read.specs.hwp_geom.declared.Layout.{Layout}
 use Rattle.hwp_core_task.specs.hwp_core_rule.declared.View.{View}
 use Rattle.hwp_core_task.specs.hwp_core_rule.Rule.{Holds}
 use Rattle.hwp_core_task.specs.declared.Turn.{Turn}
 use Rattle.hwp_core_task.specs.declared.Turn.TheVariants as turns
 use Rattle.hwp_core_task.specs.Boards.{Played, view_of, AreSeated}
-use Rattle.hwp_core_task.specs.Ranks.{Member, CostFalls, HasFailed, OtherHand, Pending, failures_left, is_refused, is_waits, top, words_at}
+use Rattle.hwp_core_task.specs.Ranks.{CostFalls, HasFailed, OtherHand, Pending, failures_left, is_refused, is_waits, top, words_at}
+use Rattle.hwp_core_task.specs.Turns.{Member}
 use Rattle.hwp_core_task.specs.Classes.{IsScheduled}
 use Rattle.hwp_core_task.proofs.Failures.{failures-few}
 use Rattle.hwp_plain_order.specs.Order.{Running, IsAt, IsNoMemory, TurnOf, level, levels, IsChosen, cpu_of, seat_of}

@@ -3,8 +3,8 @@ use Rattle.std.proofs.Common.{◌≡◌, ℕ, ◌<◌, ◌≤◌, ◌⊎◌, inl
 use Rattle.std.proofs.lemmas.Bool.{cases_lt}
 use Rattle.std.proofs.lemmas.List.{get_or_past}
 use Rattle.std.proofs.lemmas.Option.{slice_get-get_or}
-use Rattle.hwp_geom.specs.declared.Layout.{Layout}
-use Rattle.hwp_geom.specs.Layout.{IsSound}
+use Rattle.hwp_script_read.specs.hwp_geom.declared.Layout.{Layout}
+use Rattle.hwp_script_read.specs.hwp_geom.Layout.{IsSound}
 use Rattle.hwp_core_task.specs.hwp_core_rule.declared.Part.{Part}
 use Rattle.hwp_core_task.specs.hwp_core_rule.declared.View.{View}
 use Rattle.hwp_core_task.specs.hwp_core_rule.Lists.{SomeMember}
@@ -13,7 +13,8 @@ use Rattle.hwp_core_task.specs.hwp_core_rule.parts.Holdings.{HoldsNothing, Proce
 use Rattle.hwp_core_task.proofs.of_hwp_core_rule.Lists.{at_map}
 use Rattle.hwp_core_task.proofs.of_hwp_core_rule.NotLater.{one-view}
 use Rattle.hwp_core_task.specs.Boards.{view_of}
-use Rattle.hwp_core_task.specs.Ranks.{Member, HasFrame, HasPage}
+use Rattle.hwp_core_task.specs.Ranks.{HasFrame, HasPage}
+use Rattle.hwp_core_task.specs.Turns.{Member}
 use Rattle.hwp_plain_order.specs.Order.{Running, seat_of}
 use Rattle.hwp_plain_order.specs.Ready.{Ready}
 

@@ -2,9 +2,9 @@
 use Rattle.std.proofs.Common.{◌≡◌, ◌≢◌, ℕ, ◌<◌, ◌≤◌, inr, List, length, take, get_or, set, false, Option, Some, None, refl, sym, ap, ◌∙◌, subst, arith}
 use Rattle.std.proofs.lemmas.List.{get_or-take, get_or_default, length-set, map-set}
 use Rattle.std.proofs.Math.Seq.{take-set-lt}
-use Rattle.hwp_geom.specs.declared.Cpu.{Cpu}
-use Rattle.hwp_geom.specs.declared.Kind.{Kind}
-use Rattle.hwp_geom.specs.declared.Layout.{Layout}
+use Rattle.hwp_script_read.specs.hwp_geom.declared.Cpu.{Cpu}
+use Rattle.hwp_script_read.specs.hwp_geom.declared.Kind.{Kind}
+use Rattle.hwp_script_read.specs.hwp_geom.declared.Layout.{Layout}
 use Rattle.hwp_core_task.specs.hwp_core_rule.declared.State.{State}
 use Rattle.hwp_core_task.specs.hwp_core_rule.declared.Step.{Step}
 use Rattle.hwp_core_task.specs.hwp_core_rule.Rule.{Holds}
@@ -12,9 +12,10 @@ use Rattle.hwp_script_read.specs.declared.Until.{Until}
 use Rattle.hwp_script_read.specs.declared.Until.TheVariants as untils
 use Rattle.hwp_core_task.specs.declared.Turn.{Turn}
 use Rattle.hwp_core_task.specs.declared.Turn.TheVariants as turns
-use Rattle.hwp_core_task.specs.Boards.{Played, TakesTurn, view_of, AreSeated}
+use Rattle.hwp_core_task.specs.Boards.{Played, TakesTurn, TakesTurnBy, view_of, AreSeated}
 use Rattle.hwp_core_task.specs.Calls.{logs, rec_of}
-use Rattle.hwp_core_task.specs.Ranks.{Member, is_waits}
+use Rattle.hwp_core_task.specs.Ranks.{is_waits}
+use Rattle.hwp_core_task.specs.Turns.{Member}
 use Rattle.hwp_plain_order.specs.Order.{Running, running, IsAt, IsNoMemory, IsOver, IsRefused, EndsCommand, EndsWord, told_of, level_by, level, levels, IsChosen, cpu_of, seat_of}
 use Rattle.hwp_plain_order.specs.Rank.{words_in, rank, need_at}
 use Rattle.hwp_plain_order.specs.Ready.{InPlay, IsNext, Ready, TurnTold}
@@ -35,7 +36,7 @@ read-again tasks p d is = ap (get_or tasks p) is
 
 module _ {S : Type 0} (m : Member S) (ls : List ℕ) (layout layout2 : Layout) (seat seat2 : Cpu → ℕ) (tasks : List S) (a b : State) (was now : List Played) (p : ℕ) (s t : S) (result : Turn × Option Kind)
     (play : InPlay m ls (running layout seat tasks a)) (h : p < length tasks) (going : get_or ls p 5 < 5) (is : s ≡ get_or tasks p s)
-    (taken : TakesTurn layout (seat (cpu_of p)) (m.who s) (m.plan s) (m.put s) (m.next layout (m.bare s)) a b was now s t result) where
+    (taken : TakesTurn m layout (seat (cpu_of p)) a b was now s t result) where
   at : IsAt tasks p s
   at = record { within = h; is = sym is }
 
@@ -46,7 +47,7 @@ module _ {S : Type 0} (m : Member S) (ls : List ℕ) (layout layout2 : Layout) (
   pub turn-told : (layout2 ≡ layout) × (seat2 ≡ seat) → Holds layout2 b → (IsNoMemory result.0 → ⊥) → TurnTold m (running layout seat tasks a) p was now result (running layout2 seat2 (set tasks p t) b)
   turn-told same rule went = by (m.plan s) refl taken
     where
-      by : (o : Option Step) → m.plan s ≡ o → TakesTurn layout (seat (cpu_of p)) (m.who s) o (m.put s) (m.next layout (m.bare s)) a b was now s t result
+      by : (o : Option Step) → m.plan s ≡ o → TakesTurnBy m layout (seat (cpu_of p)) o a b was now s t result
           → TurnTold m (running layout seat tasks a) p was now result (running layout2 seat2 (set tasks p t) b)
       by None over made = absurd (going-on over)
       by (Some step) planned made = record {
@@ -79,7 +80,7 @@ module _ {S : Type 0} (m : Member S) (ls : List ℕ) (layout layout2 : Layout) (
   pub turn-refused : IsNoMemory result.0 → IsRefused now
   turn-refused refused = by (m.plan s) refl taken
     where
-      by : (o : Option Step) → m.plan s ≡ o → TakesTurn layout (seat (cpu_of p)) (m.who s) o (m.put s) (m.next layout (m.bare s)) a b was now s t result → IsRefused now
+      by : (o : Option Step) → m.plan s ≡ o → TakesTurnBy m layout (seat (cpu_of p)) o a b was now s t result → IsRefused now
       by None over made = absurd (going-on over)
       by (Some step) planned made = subst IsRefused (sym made.logged) refused
 

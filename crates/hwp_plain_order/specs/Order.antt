@@ -1,8 +1,8 @@
 -- The order of turns: the schedule's words, and then the finishing order.
 use Rattle.std.specs.Prelude.{◌≡◌, ℕ, ◌<◌, ◌≤◌, ◌⊎◌, List, [], ◌∷◌, ◌++◌, map, length, get_or, set, Option, Some, None}
-use Rattle.hwp_geom.specs.declared.Cpu.{Cpu}
-use Rattle.hwp_geom.specs.declared.Kind.{Kind}
-use Rattle.hwp_geom.specs.declared.Layout.{Layout}
+use Rattle.hwp_script_read.specs.hwp_geom.declared.Cpu.{Cpu}
+use Rattle.hwp_script_read.specs.hwp_geom.declared.Kind.{Kind}
+use Rattle.hwp_script_read.specs.hwp_geom.declared.Layout.{Layout}
 use Rattle.hwp_core_task.specs.hwp_core_rule.declared.State.{State}
 use Rattle.hwp_core_task.specs.hwp_core_rule.Steps.{kind_of}
 use Rattle.hwp_script_read.specs.declared.Go.{Go}
@@ -12,7 +12,8 @@ use Rattle.hwp_core_task.specs.declared.Turn.{Turn}
 use Rattle.hwp_core_task.specs.declared.Turn.TheVariants as turns
 use Rattle.hwp_core_task.specs.Boards.{Played}
 use Rattle.hwp_core_task.specs.Calls.{logs, rec_of}
-use Rattle.hwp_core_task.specs.Ranks.{Member, Made}
+use Rattle.hwp_core_task.specs.Ranks.{Made}
+use Rattle.hwp_core_task.specs.Turns.{Member}
 
 -- tasks that run on a board, each at the place of its processor
 pub record Running (S : Type 0) : Type 0 where

@@ -1,11 +1,12 @@
 -- What a scheduler asks of tasks and board, and what it keeps between turns.
 use Rattle.std.specs.Prelude.{◌≡◌, ℕ, ◌<◌, ◌≤◌, List, ◌∷◌, length, take, get_or, Option, Some, None}
-use Rattle.hwp_geom.specs.declared.Frame.{Frame}
-use Rattle.hwp_geom.specs.declared.Kind.{Kind}
+use Rattle.hwp_script_read.specs.hwp_geom.declared.Frame.{Frame}
+use Rattle.hwp_script_read.specs.hwp_geom.declared.Kind.{Kind}
 use Rattle.hwp_core_task.specs.hwp_core_rule.Rule.{Holds}
 use Rattle.hwp_core_task.specs.declared.Turn.{Turn}
 use Rattle.hwp_core_task.specs.Boards.{Played, view_of, AreSeated}
-use Rattle.hwp_core_task.specs.Ranks.{Member, Pending}
+use Rattle.hwp_core_task.specs.Ranks.{Pending}
+use Rattle.hwp_core_task.specs.Turns.{Member}
 use Rattle.hwp_core_task.specs.Classes.{IsScheduled}
 use Rattle.hwp_plain_order.specs.Order.{Running, IsAt, IsChosen, TurnOf, cpu_of, levels, seat_of, told_of}
 use Rattle.hwp_plain_order.specs.Rank.{words_in}

@@ -1,13 +1,11 @@
 ghost use Rattle.std.specs.Prelude.{◌≡◌, ℕ, ◌<◌, ◌≤◌, ◌↔◌, List, length, take, get_or, All, IfOk, OnOk, OnErr, IsTrue};
 ghost use Rattle.hwp_script_read.specs.declared.Go.{Go as GoOf};
-ghost use Rattle.hwp_core_task.specs.Ranks.{member};
 ghost use Rattle.hwp_core_task.specs.Classes.{IsScheduled};
 ghost use Rattle.hwp_plain_order.specs.Order.{running, level, levels, IsNoMemory, EndsWord, Word, Finishing, InOrder, Grows, IsRefused, AreOver};
 ghost use Rattle.hwp_plain_order.specs.Ready.{IsCrew, InPlay, TurnTold, IsNext};
 
 use hwp_core_task::{Board, Scheduled, Turn};
-use hwp_geom::{Cpu, Kind, MAX_CPUS, OutOfMemory};
-use hwp_script_read::{Go, Until};
+use hwp_script_read::{Cpu, Go, Kind, MAX_CPUS, OutOfMemory, Until};
 use std::alloc::AllocError;
 
 /// The level of a task that is over, above all classes.
@@ -18,7 +16,7 @@ const PLACES: usize = MAX_CPUS as usize;
 
 /// The class of a task, or `OVER`.
 fn level_of<T: Scheduled>(task: &T) -> u8
-    ensures { result ≡ level (member T.who T.plan T.put T.bare T.next T.fits T.class_of T.cost T.aborts T.claims) task.now }
+    ensures { result ≡ level T.task task.now }
 {
     if task.is_over() { OVER } else { task.class() }
 }
@@ -26,7 +24,7 @@ fn level_of<T: Scheduled>(task: &T) -> u8
 /// The levels of the tasks, and `OVER` in the places that are left.
 fn levels_of<T: Scheduled>(tasks: &[T]) -> [u8; PLACES]
     requires few { length tasks.now ≤ 8 }
-    ensures { (length result ≡ 8) × (take (length tasks.now) result ≡ levels (member T.who T.plan T.put T.bare T.next T.fits T.class_of T.cost T.aborts T.claims) tasks.now) }
+    ensures { (length result ≡ 8) × (take (length tasks.now) result ≡ levels T.task tasks.now) }
 {
     let mut levels = [OVER; PLACES];
     for (i, task) in tasks.iter().enumerate() {
@@ -37,7 +35,7 @@ fn levels_of<T: Scheduled>(tasks: &[T]) -> [u8; PLACES]
 
 /// The law of the tasks, where there is one. Proof only: a call tells its clauses.
 fn keep_law<T: Scheduled>(tasks: &[T])
-    ensures { 0 < length tasks.now → IsScheduled (member T.who T.plan T.put T.bare T.next T.fits T.class_of T.cost T.aborts T.claims) }
+    ensures { 0 < length tasks.now → IsScheduled T.task }
 {
     let Some(task) = tasks.first() else {
         return;
@@ -87,12 +85,12 @@ fn make_turn<B: Board, T: Scheduled>(
     levels: &mut [u8; PLACES],
     cpu: usize,
 ) -> Result<(Turn, Option<Kind>), OutOfMemory>
-    requires play { InPlay (member T.who T.plan T.put T.bare T.next T.fits T.class_of T.cost T.aborts T.claims) levels.old (running (B.machine board.old) (B.seat board.old) tasks.old (B.state board.old)) }
+    requires play { InPlay T.task levels.old (running (B.layout board.old) (B.seat board.old) tasks.old (B.state board.old)) }
     requires cpu { cpu < length tasks.old }
     requires going { get_or levels.old cpu 5 < 5 }
-    ensures play { OnOk result (InPlay (member T.who T.plan T.put T.bare T.next T.fits T.class_of T.cost T.aborts T.claims) levels.new (running (B.machine board.new) (B.seat board.new) tasks.new (B.state board.new))) }
+    ensures play { OnOk result (InPlay T.task levels.new (running (B.layout board.new) (B.seat board.new) tasks.new (B.state board.new))) }
     ensures count { length tasks.new ≡ length tasks.old }
-    ensures turn { IfOk result (λ told. TurnTold (member T.who T.plan T.put T.bare T.next T.fits T.class_of T.cost T.aborts T.claims) (running (B.machine board.old) (B.seat board.old) tasks.old (B.state board.old)) cpu (B.log board.old) (B.log board.new) told (running (B.machine board.new) (B.seat board.new) tasks.new (B.state board.new))) }
+    ensures turn { IfOk result (λ told. TurnTold T.task (running (B.layout board.old) (B.seat board.old) tasks.old (B.state board.old)) cpu (B.log board.old) (B.log board.new) told (running (B.layout board.new) (B.seat board.new) tasks.new (B.state board.new))) }
     ensures refused { OnErr result (IsRefused (B.log board.new)) }
 {
     let (turn, kind) = board.advance(Cpu(cpu as u8), &mut tasks[cpu]);
@@ -111,11 +109,11 @@ fn play_word<B: Board, T: Scheduled>(
     levels: &mut [u8; PLACES],
     go: &Go,
 ) -> Result<(), OutOfMemory>
-    requires play { InPlay (member T.who T.plan T.put T.bare T.next T.fits T.class_of T.cost T.aborts T.claims) levels.old (running (B.machine board.old) (B.seat board.old) tasks.old (B.state board.old)) }
+    requires play { InPlay T.task levels.old (running (B.layout board.old) (B.seat board.old) tasks.old (B.state board.old)) }
     requires cpu { go.now.cpu.0 < length tasks.old }
-    ensures play { OnOk result (InPlay (member T.who T.plan T.put T.bare T.next T.fits T.class_of T.cost T.aborts T.claims) levels.new (running (B.machine board.new) (B.seat board.new) tasks.new (B.state board.new))) }
+    ensures play { OnOk result (InPlay T.task levels.new (running (B.layout board.new) (B.seat board.new) tasks.new (B.state board.new))) }
     ensures count { length tasks.new ≡ length tasks.old }
-    ensures word { OnOk result (Grows (B.log board.old) (B.log board.new) (λ ps. Word (member T.who T.plan T.put T.bare T.next T.fits T.class_of T.cost T.aborts T.claims) go.now (running (B.machine board.old) (B.seat board.old) tasks.old (B.state board.old)) ps (running (B.machine board.new) (B.seat board.new) tasks.new (B.state board.new)))) }
+    ensures word { OnOk result (Grows (B.log board.old) (B.log board.new) (λ ps. Word T.task go.now (running (B.layout board.old) (B.seat board.old) tasks.old (B.state board.old)) ps (running (B.layout board.new) (B.seat board.new) tasks.new (B.state board.new)))) }
     ensures refused { OnErr result (IsRefused (B.log board.new)) }
 {
     let cpu = usize::from(go.cpu.0);
@@ -134,10 +132,10 @@ fn finish<B: Board, T: Scheduled>(
     tasks: &mut [T],
     levels: &mut [u8; PLACES],
 ) -> Result<(), OutOfMemory>
-    requires play { InPlay (member T.who T.plan T.put T.bare T.next T.fits T.class_of T.cost T.aborts T.claims) levels.old (running (B.machine board.old) (B.seat board.old) tasks.old (B.state board.old)) }
-    ensures play { OnOk result (InPlay (member T.who T.plan T.put T.bare T.next T.fits T.class_of T.cost T.aborts T.claims) levels.new (running (B.machine board.new) (B.seat board.new) tasks.new (B.state board.new))) }
-    ensures over { OnOk result (AreOver (member T.who T.plan T.put T.bare T.next T.fits T.class_of T.cost T.aborts T.claims) tasks.new) }
-    ensures order { OnOk result (Grows (B.log board.old) (B.log board.new) (λ ps. Finishing (member T.who T.plan T.put T.bare T.next T.fits T.class_of T.cost T.aborts T.claims) (running (B.machine board.old) (B.seat board.old) tasks.old (B.state board.old)) ps (running (B.machine board.new) (B.seat board.new) tasks.new (B.state board.new)))) }
+    requires play { InPlay T.task levels.old (running (B.layout board.old) (B.seat board.old) tasks.old (B.state board.old)) }
+    ensures play { OnOk result (InPlay T.task levels.new (running (B.layout board.new) (B.seat board.new) tasks.new (B.state board.new))) }
+    ensures over { OnOk result (AreOver T.task tasks.new) }
+    ensures order { OnOk result (Grows (B.log board.old) (B.log board.new) (λ ps. Finishing T.task (running (B.layout board.old) (B.seat board.old) tasks.old (B.state board.old)) ps (running (B.layout board.new) (B.seat board.new) tasks.new (B.state board.new)))) }
     ensures refused { OnErr result (IsRefused (B.log board.new)) }
 {
     let mut next = choose(&levels[..tasks.len()]);
@@ -158,11 +156,11 @@ pub fn step_all<B: Board, T: Scheduled>(
     tasks: &mut [T],
     go: &[Go],
 ) -> Result<(), OutOfMemory>
-    requires crew { IsCrew (member T.who T.plan T.put T.bare T.next T.fits T.class_of T.cost T.aborts T.claims) (running (B.machine board.old) (B.seat board.old) tasks.old (B.state board.old)) }
+    requires crew { IsCrew T.task (running (B.layout board.old) (B.seat board.old) tasks.old (B.state board.old)) }
     requires words { All (λ (g : GoOf). g.cpu.0 < length tasks.old) go.now }
-    ensures crew { OnOk result (IsCrew (member T.who T.plan T.put T.bare T.next T.fits T.class_of T.cost T.aborts T.claims) (running (B.machine board.new) (B.seat board.new) tasks.new (B.state board.new))) }
-    ensures over { OnOk result (AreOver (member T.who T.plan T.put T.bare T.next T.fits T.class_of T.cost T.aborts T.claims) tasks.new) }
-    ensures order { OnOk result (Grows (B.log board.old) (B.log board.new) (λ ps. InOrder (member T.who T.plan T.put T.bare T.next T.fits T.class_of T.cost T.aborts T.claims) go.now (running (B.machine board.old) (B.seat board.old) tasks.old (B.state board.old)) ps (running (B.machine board.new) (B.seat board.new) tasks.new (B.state board.new)))) }
+    ensures crew { OnOk result (IsCrew T.task (running (B.layout board.new) (B.seat board.new) tasks.new (B.state board.new))) }
+    ensures over { OnOk result (AreOver T.task tasks.new) }
+    ensures order { OnOk result (Grows (B.log board.old) (B.log board.new) (λ ps. InOrder T.task go.now (running (B.layout board.old) (B.seat board.old) tasks.old (B.state board.old)) ps (running (B.layout board.new) (B.seat board.new) tasks.new (B.state board.new)))) }
     ensures refused { OnErr result (IsRefused (B.log board.new)) }
 {
     board.keeps();

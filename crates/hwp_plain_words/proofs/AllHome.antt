@@ -2,8 +2,8 @@
 use Rattle.std.proofs.Common.{◌≡◌, ◌⊎◌, ℕ, ◌+◌, ◌-◌, ◌<◌, ◌≤◌, ◌==◌, Bool, true, false, cond, List, Option, Some, length, map, take, drop, slice_get, refl, sym, ap, ◌∙◌, subst, arith, inl, inr}
 use Rattle.std.proofs.lemmas.Bool.{cases_lt, eqb-false}
 use Rattle.std.proofs.lemmas.Option.{slice_get_within}
-use Rattle.hwp_geom.specs.declared.Layout.{Layout}
-use Rattle.hwp_geom.specs.declared.Page.{Page}
+use Rattle.hwp_core_task.specs.hwp_geom.declared.Layout.{Layout}
+use Rattle.hwp_core_task.specs.hwp_geom.declared.Page.{Page}
 use Rattle.hwp_core_task.specs.hwp_words.Frames.{lock_of}
 use Rattle.hwp_core_task.specs.hwp_core_rule.declared.FrameLock.{FrameLock}
 use Rattle.hwp_core_task.specs.hwp_core_rule.declared.Log.{Log}
@@ -13,7 +13,7 @@ use Rattle.hwp_core_task.specs.hwp_core_rule.declared.State.{State}
 use Rattle.hwp_core_task.specs.hwp_core_rule.declared.View.{View}
 use Rattle.hwp_core_task.specs.hwp_core_rule.Lists.{EachMember}
 use Rattle.hwp_core_task.specs.hwp_core_rule.Rule.{Holds}
-use Rattle.hwp_core_task.specs.hwp_core_rule.Slots.{IsIn}
+use Rattle.hwp_core_task.specs.hwp_core_rule.SlotMoves.{IsIn}
 use Rattle.hwp_core_task.specs.hwp_core_rule.Views.{locks_on, page_locks_on}
 use Rattle.hwp_core_task.specs.hwp_core_rule.Words.{caches_from, words_of}
 use Rattle.hwp_core_task.specs.hwp_core_rule.parts.Bodies.{IsAtHome}

@@ -2,8 +2,8 @@
 use Rattle.std.proofs.Common.{◌≡◌, ◌≢◌, ◌⊎◌, ℕ, zero, suc, ◌+◌, ◌<◌, ◌≤◌, List, [], ◌∷◌, ◌++◌, Some, None, length, set, slice_get, slice_index, refl, sym, ap, ◌∙◌, arith, inl, inr}
 use Rattle.std.proofs.lemmas.List.{length-append}
 use Rattle.std.proofs.lemmas.Option.{none-some, same_Some, slice_get-get_or}
-use Rattle.hwp_geom.specs.declared.Page.{Page}
-use Rattle.hwp_page.specs.declared.Entry.{Entry}
+use Rattle.hwp_core_task.specs.hwp_geom.declared.Page.{Page}
+use Rattle.hwp_core_task.specs.hwp_page.declared.Entry.{Entry}
 use Rattle.hwp_core_task.specs.hwp_core_rule.declared.Log.{Log}
 use Rattle.hwp_core_task.specs.hwp_core_rule.Lists.{Homes}
 use Rattle.hwp_core_task.proofs.of_hwp_core_rule.PageWords.{same-page}

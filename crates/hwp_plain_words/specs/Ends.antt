@@ -1,9 +1,12 @@
 -- What a board comes to at the end of a run, when no lock is held and no body is in hand.
-use Rattle.std.specs.Prelude.{◌≡◌, ℕ, ◌+◌, ◌-◌, ◌==◌, cond, List, Option, Some, slice_get}
-use Rattle.hwp_geom.specs.declared.Page.{Page}
-use Rattle.hwp_page.specs.declared.Entry.{Entry}
+use Rattle.std.specs.Prelude.{◌≡◌, ℕ, ◌+◌, ◌-◌, ◌==◌, ◌++◌, cond, length, List, map, Option, Some, slice_get}
+use Rattle.hwp_core_task.specs.hwp_geom.declared.Layout.{Layout}
+use Rattle.hwp_core_task.specs.hwp_geom.declared.Page.{Page}
+use Rattle.hwp_core_task.specs.hwp_page.declared.Entry.{Entry}
 use Rattle.hwp_core_task.specs.hwp_core_rule.declared.Log.{Log}
 use Rattle.hwp_core_task.specs.hwp_core_rule.Lists.{Homes, SomeMember}
+use Rattle.hwp_plain_words.specs.declared.machine.Machine.{Machine}
+use Rattle.hwp_plain_words.specs.Openings.{home_with}
 
 -- the slot of a page's body, by the page's cache word: that of the frame that the word names, or the page's shelf
 abbrev pub slot_by : ℕ → ℕ → ℕ → ℕ
@@ -24,3 +27,10 @@ IsHistoryOf homes page entries = SomeMember (λ (content : Option (Option Log)).
 -- the histories are those of the bodies in the slots, in the order of the pages
 abbrev pub AreHistories : Homes → List (List Entry) → Type 0
 AreHistories homes pages = (page : Page) (entries : List Entry) → slice_get pages page.0 ≡ Some entries → IsHistoryOf homes page entries
+
+-- the machine has these words, and in its slots, those of the frames first, what is at home here
+pub record IsMachineOf (layout : Layout) (words : List ℕ) (homes : Homes) (machine : Machine) : Type 0 where
+  pub words_are : machine.words.items ≡ words
+  pub homes_are : map home_with (machine.frames.items ++ machine.shelves.items) ≡ homes
+  pub frames : length machine.frames.items ≡ layout.frames
+  pub shelves : length machine.shelves.items ≡ length layout.pages

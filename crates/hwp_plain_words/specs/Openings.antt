@@ -2,7 +2,7 @@
 use Rattle.std.specs.Prelude.{ℕ, List, not, Bool, Option, Some}
 use Rattle.std.specs.List.{sum_by}
 use Rattle.std.specs.Int.{from_bool}
-use Rattle.hwp_page.specs.History.{BodyValue}
+use Rattle.hwp_core_task.specs.hwp_page.History.{BodyValue}
 use Rattle.hwp_core_task.specs.hwp_core_rule.declared.Log.{Log}
 use Rattle.hwp_core_task.specs.Calls.{logs}
 

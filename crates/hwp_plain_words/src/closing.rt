@@ -3,8 +3,7 @@ ghost use Rattle.hwp_core_task.specs.hwp_core_rule.declared.Log.{Log};
 ghost use Rattle.hwp_plain_words.specs.Openings.{home_with};
 ghost use Rattle.hwp_plain_words.specs.Ends.{slot_by, AreLed, AreHistories};
 
-use hwp_geom::{List, OutOfMemory};
-use hwp_page::{Body, Entry};
+use hwp_core_task::{Body, Entry, List, OutOfMemory};
 use std::alloc::Global;
 
 /// The histories of the bodies that the cache words lead to, in the order of the pages. The bodies are what is in the slots of

@@ -6,10 +6,10 @@ use Rattle.std.proofs.lemmas.Bool.{cases_lt}
 use Rattle.std.proofs.lemmas.List.Splits.{slice_split_at}
 use Rattle.std.proofs.lemmas.List.{append_cancel_left, length-append, length-map, length-take-le, take-append-drop, take-map, take_at}
 use Rattle.std.proofs.lemmas.List.Elements.{All-head, All-tail, All-append, All-take}
-use Rattle.hwp_geom.specs.Words.{line, pieces, cut}
-use Rattle.hwp_geom.proofs.Cuts.{joined, none_is, line-joined, cut-joined_line, pieces-line}
+use Rattle.hwp_report_text.specs.hwp_geom.Words.{line, pieces, cut}
+use Rattle.hwp_report_text.proofs.of_hwp_geom.Cuts.{joined, none_is, line-joined, cut-joined_line, pieces-line}
 use Rattle.hwp_report_text.specs.declared.Report.{Report}
-use Rattle.hwp_report_text.specs.Text.{report_lines}
+use Rattle.hwp_report_text.specs.ReportText.{report_lines}
 use Rattle.hwp_report_lines.specs.declared.ReportLine.{ReportLine}
 use Rattle.hwp_report.specs.declared.partial.Partial.{Partial}
 use Rattle.hwp_report.specs.declared.partial.Partial.TheVariants as partials

@@ -2,8 +2,8 @@
 use Rattle.std.proofs.Common.{◌≡◌, ℕ, ◌+◌, ◌<◌, ◌≤◌, ◌==◌, Bool, true, false, if◌then◌else◌, List, [], ◌∷◌, ◌++◌, length, Option, Some, refl, subst, arith}
 use Rattle.std.proofs.lemmas.Bool.Decides.{nat_tests}
 use Rattle.std.proofs.lemmas.List.{length-append}
-use Rattle.hwp_kill.specs.Limits.{signal_limit}
-use Rattle.hwp_kill.specs.declared.Signal.{Signal}
+use Rattle.hwp_report_text.specs.hwp_kill.Limits.{signal_limit}
+use Rattle.hwp_report_text.specs.hwp_kill.declared.Signal.{Signal}
 use Rattle.hwp_report_text.specs.declared.FrameLine.{FrameLine}
 use Rattle.hwp_report_lines.specs.declared.ReportLine.{ReportLine}
 use Rattle.hwp_report_lines.specs.declared.ReportLine.TheVariants as forms

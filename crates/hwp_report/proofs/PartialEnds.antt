@@ -4,13 +4,13 @@ use Rattle.std.specs.Prelude.{All}
 use Rattle.std.specs.List.{flat_map}
 use Rattle.std.proofs.lemmas.List.{length-append, length-replicate}
 use Rattle.std.proofs.lemmas.List.Elements.{All-nil, All-cons, All-append, All-map, All-replicate}
-use Rattle.hwp_kill.specs.Limits.{signal_limit}
-use Rattle.hwp_kill.specs.declared.Code.TheVariants as kinds
-use Rattle.hwp_kill.specs.declared.Policy.TheVariants as policies
-use Rattle.hwp_kill.specs.declared.Seen.{Seen}
-use Rattle.hwp_kill.specs.declared.Signal.{Signal}
-use Rattle.hwp_page.specs.declared.Entry.{Entry}
-use Rattle.hwp_page.specs.declared.What.TheVariants as whats
+use Rattle.hwp_report_text.specs.hwp_kill.Limits.{signal_limit}
+use Rattle.hwp_report_text.specs.hwp_kill.declared.Code.TheVariants as kinds
+use Rattle.hwp_report_text.specs.hwp_kill.declared.Policy.TheVariants as policies
+use Rattle.hwp_report_text.specs.hwp_kill.declared.Seen.{Seen}
+use Rattle.hwp_report_text.specs.hwp_kill.declared.Signal.{Signal}
+use Rattle.hwp_report_text.specs.hwp_page.declared.Entry.{Entry}
+use Rattle.hwp_report_text.specs.hwp_page.declared.What.TheVariants as whats
 use Rattle.hwp_report_text.specs.declared.Answer.TheVariants as answers
 use Rattle.hwp_report_text.specs.declared.CpuLine.{CpuLine}
 use Rattle.hwp_report_text.specs.declared.CpuLine.TheVariants as lines

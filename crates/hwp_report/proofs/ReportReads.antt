@@ -5,14 +5,14 @@ use Rattle.std.specs.List.{flat_map}
 use Rattle.std.proofs.lemmas.Bool.Decides.{nat_tests}
 use Rattle.std.proofs.lemmas.List.{length-append}
 use Rattle.std.proofs.lemmas.List.Elements.{All-head, All-tail}
-use Rattle.hwp_geom.specs.declared.Mask.{Mask}
-use Rattle.hwp_kill.specs.Limits.{signal_limit}
-use Rattle.hwp_kill.specs.declared.Seen.{Seen}
-use Rattle.hwp_kill.specs.declared.Signal.{Signal}
-use Rattle.hwp_page.specs.declared.Entry.{Entry}
-use Rattle.hwp_page.specs.declared.What.{What}
-use Rattle.hwp_page.specs.declared.What.TheVariants as whats
-use Rattle.hwp_geom.specs.declared.Who.{Who}
+use Rattle.hwp_report_text.specs.hwp_geom.declared.Mask.{Mask}
+use Rattle.hwp_report_text.specs.hwp_kill.Limits.{signal_limit}
+use Rattle.hwp_report_text.specs.hwp_kill.declared.Seen.{Seen}
+use Rattle.hwp_report_text.specs.hwp_kill.declared.Signal.{Signal}
+use Rattle.hwp_report_text.specs.hwp_page.declared.Entry.{Entry}
+use Rattle.hwp_report_text.specs.hwp_page.declared.What.{What}
+use Rattle.hwp_report_text.specs.hwp_page.declared.What.TheVariants as whats
+use Rattle.hwp_report_text.specs.hwp_geom.declared.Who.{Who}
 use Rattle.hwp_report_text.specs.declared.Report.{Report}
 use Rattle.hwp_report_text.specs.declared.FrameLine.{FrameLine}
 use Rattle.hwp_report_text.specs.declared.MarkLine.{MarkLine}

@@ -2,18 +2,18 @@
 use Rattle.std.proofs.Common.{◌≡◌, ℕ, ◌+◌, List, [], ◌∷◌, ◌++◌, length, map, codes, decimal, refl, ap, ◌∙◌}
 use Rattle.std.specs.List.{flat_map}
 use Rattle.std.proofs.lemmas.List.{map-append}
-use Rattle.hwp_geom.specs.Words.{line}
-use Rattle.hwp_geom.specs.declared.Who.{Who}
-use Rattle.hwp_kill.specs.declared.Seen.{Seen}
-use Rattle.hwp_kill.specs.declared.Signal.{Signal}
-use Rattle.hwp_page.specs.declared.Entry.{Entry}
-use Rattle.hwp_page.specs.declared.What.{What}
-use Rattle.hwp_page.specs.declared.What.TheVariants as whats
+use Rattle.hwp_report_text.specs.hwp_geom.Words.{line}
+use Rattle.hwp_report_text.specs.hwp_geom.declared.Who.{Who}
+use Rattle.hwp_report_text.specs.hwp_kill.declared.Seen.{Seen}
+use Rattle.hwp_report_text.specs.hwp_kill.declared.Signal.{Signal}
+use Rattle.hwp_report_text.specs.hwp_page.declared.Entry.{Entry}
+use Rattle.hwp_report_text.specs.hwp_page.declared.What.{What}
+use Rattle.hwp_report_text.specs.hwp_page.declared.What.TheVariants as whats
 use Rattle.hwp_report_text.specs.declared.Report.{Report}
 use Rattle.hwp_report_text.specs.declared.FrameLine.{FrameLine}
 use Rattle.hwp_report_text.specs.declared.MarkLine.{MarkLine}
 use Rattle.hwp_report_text.specs.declared.CpuLine.{CpuLine}
-use Rattle.hwp_report_text.specs.Text.{numbered, file_lines, frame_lines, page_lines, cpu_lines, mark_words, entry_words, entry_lines, lines_below, seen_words, signal_words, cpu_line_words, report_lines, report_text}
+use Rattle.hwp_report_text.specs.ReportText.{numbered, file_lines, frame_lines, page_lines, cpu_lines, mark_words, entry_words, entry_lines, lines_below, seen_words, signal_words, cpu_line_words, report_lines, report_text}
 use Rattle.hwp_report_lines.specs.declared.ReportLine.{ReportLine}
 use Rattle.hwp_report_lines.specs.declared.ReportLine.TheVariants as forms
 use Rattle.hwp_report_lines.specs.Forms.{form_words}

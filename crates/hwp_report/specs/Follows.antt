@@ -1,10 +1,10 @@
 -- Which line may follow what was read of a report so far, and what is read with it.
 use Rattle.std.specs.Prelude.{◌≡◌, ℕ, ◌==◌, ◌⊎◌, if◌then◌else◌, List, [], ◌∷◌, ◌++◌, length, Option, Some, None}
-use Rattle.hwp_geom.specs.Words.{line as line_text}
-use Rattle.hwp_kill.specs.Limits.{signal_limit}
-use Rattle.hwp_kill.specs.declared.Signal.{Signal}
-use Rattle.hwp_page.specs.declared.Entry.{Entry}
-use Rattle.hwp_page.specs.declared.What.TheVariants as whats
+use Rattle.hwp_report_text.specs.hwp_geom.Words.{line as line_text}
+use Rattle.hwp_report_text.specs.hwp_kill.Limits.{signal_limit}
+use Rattle.hwp_report_text.specs.hwp_kill.declared.Signal.{Signal}
+use Rattle.hwp_report_text.specs.hwp_page.declared.Entry.{Entry}
+use Rattle.hwp_report_text.specs.hwp_page.declared.What.TheVariants as whats
 use Rattle.hwp_report_text.specs.declared.Report.{Report}
 use Rattle.hwp_report_text.specs.declared.Stop.{Stop}
 use Rattle.hwp_report_text.specs.declared.FrameLine.{FrameLine}

@@ -2,3 +2,6 @@ pub mod Cutting
 pub mod Fits
 pub mod Texts
 pub mod Follows
+pub use Rattle.hwp_report_text.specs.hwp_geom as hwp_geom
+pub use Rattle.hwp_report_text.specs as hwp_report_text
+pub use Rattle.hwp_report_page_lines.specs.hwp_script_lines as hwp_script_lines

@@ -1,9 +1,9 @@
 -- Which bytes are the text of a report, and which line of other bytes is the first at fault.
 use Rattle.std.specs.Prelude.{◌≡◌, ℕ, ◌-◌, ◌≤◌, ◌<◌, List, ◌++◌, length, take}
 use Rattle.std.specs.List.{flat_map}
-use Rattle.hwp_geom.specs.Words.{line}
+use Rattle.hwp_report_text.specs.hwp_geom.Words.{line}
 use Rattle.hwp_report_text.specs.declared.Report.{Report}
-use Rattle.hwp_report_text.specs.Text.{report_lines, report_text}
+use Rattle.hwp_report_text.specs.ReportText.{report_lines, report_text}
 use Rattle.hwp_report.specs.declared.reading.BadReport.{BadReport}
 use Rattle.hwp_report.specs.declared.reading.BadReport.TheVariants as faults
 use Rattle.hwp_report.specs.Fits.{ReportFits}

@@ -5,9 +5,8 @@ ghost use Rattle.hwp_report.specs.Texts.{IsFaultOf, IsReportOf};
 
 use crate::cuts::first_line;
 use crate::partial::Partial;
-use hwp_geom::OutOfMemory;
 use hwp_report_lines::read_line;
-use hwp_report_text::Report;
+use hwp_report_text::{OutOfMemory, Report};
 use std::alloc::{AllocError, Global};
 
 /// Why no report was read.

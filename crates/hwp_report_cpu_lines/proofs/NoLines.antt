@@ -1,7 +1,7 @@
 -- Words that are no line of a processor, by what is missing.
 use Rattle.std.proofs.Common.{◌≡◌, ℕ, List, [], ◌∷◌, length, get_or, drop, codes, decimal, ap, arith}
-use Rattle.hwp_geom.specs.declared.Mode.{Mode}
-use Rattle.hwp_page.specs.declared.At.{At}
+use Rattle.hwp_report_text.specs.hwp_geom.declared.Mode.{Mode}
+use Rattle.hwp_report_text.specs.hwp_page.declared.At.{At}
 use Rattle.hwp_report_text.specs.declared.Acted.{Acted}
 use Rattle.hwp_report_text.specs.declared.Answer.{Answer}
 use Rattle.hwp_report_text.specs.declared.Answer.TheVariants as answers
@@ -9,8 +9,8 @@ use Rattle.hwp_report_text.specs.declared.CpuLine.{CpuLine}
 use Rattle.hwp_report_text.specs.declared.CpuLine.TheVariants as lines
 use Rattle.hwp_report_text.specs.declared.StopCause.{StopCause}
 use Rattle.hwp_report_text.specs.declared.StopCause.TheVariants as causes
-use Rattle.hwp_report_text.specs.Text.{answer_words, cause_words, cpu_line_words}
-use Rattle.hwp_severity.specs.declared.McgBits.{McgBits}
+use Rattle.hwp_report_text.specs.ReportText.{answer_words, cause_words, cpu_line_words}
+use Rattle.hwp_report_text.specs.hwp_severity.declared.McgBits.{McgBits}
 use Rattle.hwp_report_words.specs.Words.{AtFits, at_words}
 use Rattle.hwp_report_words.proofs.SameWords.{tag, tag_at, word_at}
 use Rattle.hwp_report_cpu_lines.specs.declared.replies.Counted.{Counted}

@@ -8,7 +8,7 @@ use Rattle.hwp_report_text.specs.declared.CpuLine.TheVariants as lines
 use Rattle.hwp_report_text.specs.declared.StopCause.{StopCause}
 use Rattle.hwp_report_text.specs.declared.StopCause.TheVariants as causes
 use Rattle.hwp_report_text.specs.declared.Stop.{Stop}
-use Rattle.hwp_report_text.specs.Text.{row_word, cause_words, stop_words, answer_words, cpu_line_words}
+use Rattle.hwp_report_text.specs.ReportText.{row_word, cause_words, stop_words, answer_words, cpu_line_words}
 use Rattle.hwp_report_words.proofs.SameWords.{tag, tag_at, word_at, same_u8, same_u16, same_u32, same_u64, same_mask, same_flag, same_mode, same_acted, same_who, same_at}
 use Rattle.hwp_report_cpu_lines.specs.Fits.{CauseFits, StopFits, AnswerFits, CpuLineFits}
 

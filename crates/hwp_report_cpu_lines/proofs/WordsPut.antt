@@ -1,7 +1,7 @@
 -- The words of a processor's line, and of what stopped the machine, are words: none is empty, and none has a space or a line feed in it.
 use Rattle.std.proofs.Common.{ℕ, ◌<◌, ◌^◌, [], Option, Some, None, decimal, refl, arith}
 use Rattle.std.specs.Prelude.{IfSome}
-use Rattle.hwp_geom.proofs.WordsPut.{IsPut, ArePut, fixed, then, nothing, put_append}
+use Rattle.hwp_report_text.proofs.of_hwp_geom.WordsPut.{IsPut, ArePut, fixed, then, nothing, put_append}
 use Rattle.hwp_report_text.specs.declared.Answer.{Answer}
 use Rattle.hwp_report_text.specs.declared.Answer.TheVariants as answers
 use Rattle.hwp_report_text.specs.declared.CpuLine.{CpuLine}
@@ -9,7 +9,7 @@ use Rattle.hwp_report_text.specs.declared.CpuLine.TheVariants as lines
 use Rattle.hwp_report_text.specs.declared.Stop.{Stop}
 use Rattle.hwp_report_text.specs.declared.StopCause.{StopCause}
 use Rattle.hwp_report_text.specs.declared.StopCause.TheVariants as causes
-use Rattle.hwp_report_text.specs.Text.{row_word, cause_words, stop_words, answer_words, cpu_line_words}
+use Rattle.hwp_report_text.specs.ReportText.{row_word, cause_words, stop_words, answer_words, cpu_line_words}
 use Rattle.hwp_report_words.proofs.WordsPut.{put_small, put_flag, put_mode, put_acted, put_u8, put_u16, put_u32, put_u64, put_mask, put_place}
 use Rattle.hwp_report_cpu_lines.specs.Fits.{CauseFits, StopFits, AnswerFits, CpuLineFits}
 

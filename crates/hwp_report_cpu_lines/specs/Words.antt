@@ -1,12 +1,12 @@
 -- The words of a processor's line, and of parts of lines.
 use Rattle.std.specs.Prelude.{◌≡◌, ℕ, ◌^◌, ◌<◌, List, [], ◌∷◌, decimal, Option, MatchOption}
-use Rattle.hwp_geom.specs.Words.{hex}
-use Rattle.hwp_geom.specs.declared.Mode.{Mode}
+use Rattle.hwp_report_text.specs.hwp_geom.Words.{hex}
+use Rattle.hwp_report_text.specs.hwp_geom.declared.Mode.{Mode}
 use Rattle.hwp_report_text.specs.declared.Acted.{Acted}
 use Rattle.hwp_report_text.specs.declared.CpuLine.{CpuLine}
 use Rattle.hwp_report_text.specs.Terms.{acted_word, flag_number, mode_word}
-use Rattle.hwp_report_text.specs.Text.{cpu_line_words, row_word}
-use Rattle.hwp_severity.specs.declared.McgBits.{McgBits}
+use Rattle.hwp_report_text.specs.ReportText.{cpu_line_words, row_word}
+use Rattle.hwp_report_text.specs.hwp_severity.declared.McgBits.{McgBits}
 use Rattle.hwp_report_cpu_lines.specs.Fits.{CpuLineFits}
 
 -- `RIPV EIPV MODE`

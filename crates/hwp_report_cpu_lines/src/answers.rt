@@ -1,5 +1,5 @@
 ghost use Rattle.std.specs.Prelude.{◌≡◌, ◌≢◌, [], ◌∷◌, codes, get_or, map};
-ghost use Rattle.hwp_report_text.specs.Text.{answer_words, cpu_line_words, placed};
+ghost use Rattle.hwp_report_text.specs.ReportText.{answer_words, cpu_line_words, placed};
 ghost use Rattle.hwp_report_words.specs.Reads.{IsReadAs};
 ghost use Rattle.hwp_report_words.specs.Words.{AtFits};
 ghost use Rattle.hwp_report_cpu_lines.specs.Answers.{placed_text, short_text};
@@ -10,9 +10,7 @@ use crate::replies::{
     Counted, Placed, Short, Valued, read_counted, read_placed, read_short, read_valued,
 };
 use crate::stops::read_row;
-use hwp_geom::{Frame, Mask, Page};
-use hwp_page::At;
-use hwp_report_text::{Acted, Answer, CpuLine};
+use hwp_report_text::{Acted, Answer, At, CpuLine, Frame, Mask, Page};
 use hwp_report_words::{
     is_text, read_acted, read_at, read_hex, read_number, read_u8, read_u16, read_u32,
 };

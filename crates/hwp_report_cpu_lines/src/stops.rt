@@ -1,13 +1,11 @@
 ghost use Rattle.std.specs.Prelude.{◌^◌, ◌∷◌, codes, map, IfSome};
-ghost use Rattle.hwp_report_text.specs.Text.{cause_words, row_word, stop_words};
+ghost use Rattle.hwp_report_text.specs.ReportText.{cause_words, row_word, stop_words};
 ghost use Rattle.hwp_report_words.specs.Reads.{Any, Below, IsReadAs};
 ghost use Rattle.hwp_report_cpu_lines.specs.Fits.{CauseFits, StopFits};
 ghost use Rattle.hwp_report_cpu_lines.specs.Words.{bits_words};
 
-use hwp_geom::{Frame, Mode};
-use hwp_report_text::{Stop, StopCause};
+use hwp_report_text::{Frame, McgBits, Mode, Stop, StopCause};
 use hwp_report_words::{is_text, read_flag, read_hex, read_mode, read_u8, read_u16, read_who};
-use hwp_severity::McgBits;
 
 /// The row of the severity table that a word names.
 pub(crate) fn read_row(word: &[u8]) -> Option<u8>

@@ -1,11 +1,11 @@
 -- The first word of a line says which kind of line it is.
 use Rattle.std.proofs.Common.{◌≡◌, ℕ, ◌≤◌, ◌==◌, ◌⊎◌, if◌then◌else◌, inl, inr, List, [], ◌∷◌, get_or, Option, Some, None, codes, refl, sym, ap, subst, ◌∙◌, arith}
-use Rattle.hwp_geom.specs.declared.Who.{Who}
-use Rattle.hwp_page.specs.declared.What.{What}
-use Rattle.hwp_page.specs.declared.What.TheVariants as whats
+use Rattle.hwp_report_text.specs.hwp_geom.declared.Who.{Who}
+use Rattle.hwp_report_text.specs.hwp_page.declared.What.{What}
+use Rattle.hwp_report_text.specs.hwp_page.declared.What.TheVariants as whats
 use Rattle.hwp_report_text.specs.declared.CpuLine.{CpuLine}
 use Rattle.hwp_report_text.specs.declared.MarkLine.TheVariants as marks
-use Rattle.hwp_report_text.specs.Text.{entry_words, cpu_line_words}
+use Rattle.hwp_report_text.specs.ReportText.{entry_words, cpu_line_words}
 use Rattle.hwp_report_words.proofs.SameWords.{tag, word_at}
 use Rattle.hwp_report_page_lines.specs.declared.Verb.TheVariants as verbs
 use Rattle.hwp_report_page_lines.specs.Verbs.{verb_of, verb_text}

@@ -3,8 +3,8 @@ use Rattle.std.proofs.Common.{◌≡◌, ℕ, List, [], ◌∷◌, ◌++◌, Opt
 use Rattle.std.specs.List.{join_with_byte}
 use Rattle.std.proofs.lemmas.List.{append_cancel_right}
 use Rattle.std.proofs.lemmas.List.Splits.{join_with_byte-slice_split}
-use Rattle.hwp_geom.specs.Words.{IsLine, line, cut}
-use Rattle.hwp_geom.proofs.Cuts.{joined, line-joined, cut-joined_line}
+use Rattle.hwp_report_text.specs.hwp_geom.Words.{IsLine, line, cut}
+use Rattle.hwp_report_text.proofs.of_hwp_geom.Cuts.{joined, line-joined, cut-joined_line}
 use Rattle.hwp_report_lines.specs.declared.report_line.ReportLine.{ReportLine}
 use Rattle.hwp_report_lines.specs.Forms.{form_words, IsFormRead, IsLineRead}
 use Rattle.hwp_report_lines.proofs.WordsPut.{line_of_form}

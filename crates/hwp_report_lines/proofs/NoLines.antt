@@ -1,10 +1,10 @@
 -- Words that are no line of a kind, by what is missing.
 use Rattle.std.proofs.Common.{◌≡◌, ℕ, ◌<◌, ◌≤◌, ◌^◌, ◌-◌, List, ◌∷◌, length, get_or, map, take, drop, Option, Some, codes, decimal, sym, ap, ◌∙◌}
-use Rattle.hwp_geom.specs.declared.Mask.{Mask}
+use Rattle.hwp_report_text.specs.hwp_geom.declared.Mask.{Mask}
 use Rattle.hwp_report_text.specs.declared.CpuLine.{CpuLine}
 use Rattle.hwp_report_text.specs.declared.MarkLine.TheVariants as marks
 use Rattle.hwp_report_text.specs.declared.Whereabouts.{Whereabouts}
-use Rattle.hwp_report_text.specs.Text.{cpu_line_words}
+use Rattle.hwp_report_text.specs.ReportText.{cpu_line_words}
 use Rattle.hwp_report_words.specs.Reads.{AreBelow, two_words}
 use Rattle.hwp_report_words.proofs.Rests.{first_of}
 use Rattle.hwp_report_page_lines.specs.Words.{StandingFits, standing_words}

@@ -1,14 +1,14 @@
 -- The words of each line of a report are words: none is empty, and none has a space or a line feed in it.
 use Rattle.std.proofs.Common.{◌≡◌, ◌≢◌, [], Some, None, refl, arith}
 use Rattle.std.proofs.lemmas.List.Elements.{All-weaker}
-use Rattle.hwp_geom.specs.declared.Who.{Who}
-use Rattle.hwp_geom.specs.Words.{IsWord, IsLine}
-use Rattle.hwp_geom.proofs.WordsPut.{IsPut, ArePut, put_word, fixed, then, nothing}
-use Rattle.hwp_page.specs.declared.What.{What}
-use Rattle.hwp_page.specs.declared.What.TheVariants as whats
+use Rattle.hwp_report_text.specs.hwp_geom.declared.Who.{Who}
+use Rattle.hwp_report_text.specs.hwp_geom.Words.{IsWord, IsLine}
+use Rattle.hwp_report_text.proofs.of_hwp_geom.WordsPut.{IsPut, ArePut, put_word, fixed, then, nothing}
+use Rattle.hwp_report_text.specs.hwp_page.declared.What.{What}
+use Rattle.hwp_report_text.specs.hwp_page.declared.What.TheVariants as whats
 use Rattle.hwp_report_text.specs.declared.CpuLine.TheVariants as lines
 use Rattle.hwp_report_text.specs.declared.MarkLine.TheVariants as marks
-use Rattle.hwp_report_text.specs.Text.{entry_words}
+use Rattle.hwp_report_text.specs.ReportText.{entry_words}
 use Rattle.hwp_report_words.proofs.WordsPut.{put_small, put_policy, put_code, put_situation, put_u8, put_u16, put_u32, put_u64, put_mask}
 use Rattle.hwp_report_page_lines.proofs.WordsPut.{put_state, put_mark, put_required, put_entry}
 use Rattle.hwp_report_cpu_lines.proofs.WordsPut.{put_stop, put_cpu_line}

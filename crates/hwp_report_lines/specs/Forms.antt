@@ -1,8 +1,8 @@
 -- The lines of a report as data, and the words of each.
 use Rattle.std.specs.Prelude.{◌≡◌, ℕ, ◌^◌, ◌<◌, List, [], ◌∷◌, ◌++◌, codes, decimal, Option, Some, IfSome, MatchOption}
-use Rattle.hwp_geom.specs.Words.{line as line_text}
+use Rattle.hwp_report_text.specs.hwp_geom.Words.{line as line_text}
 use Rattle.hwp_report_text.specs.declared.MarkLine.{MarkLine}
-use Rattle.hwp_report_text.specs.Text.{stop_words, frame_words, mark_words, entry_words, seen_words, signal_words, cpu_line_words}
+use Rattle.hwp_report_text.specs.ReportText.{stop_words, frame_words, mark_words, entry_words, seen_words, signal_words, cpu_line_words}
 use Rattle.hwp_report_words.specs.Reads.{IsReadAs}
 use Rattle.hwp_report_page_lines.specs.Fits.{PlaceFits, MarkFits, PlainEntryFits, FailFits, SeenFits, SignalFits}
 use Rattle.hwp_report_page_lines.specs.Words.{failure_words}

@@ -6,9 +6,9 @@ ghost use Rattle.hwp_report_lines.specs.Forms.{IsFormRead, IsLineRead, IsRestRea
 use crate::frames::{read_frame, read_poisoned, read_unpoisoned};
 use crate::heads::{Head, read_head};
 use crate::report_line::ReportLine;
-use hwp_geom::OutOfMemory;
 use hwp_report_cpu_lines::{read_cpu_line, read_stop};
 use hwp_report_page_lines::{Verb, read_failure, read_plain_entry, read_seen, read_signal};
+use hwp_report_text::OutOfMemory;
 use hwp_report_words::{is_text, read_number};
 use std::alloc::Global;
 

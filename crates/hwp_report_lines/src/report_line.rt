@@ -1,8 +1,5 @@
-use hwp_geom::Mask;
-use hwp_kill::{Seen, Signal};
-use hwp_page::Entry;
 use hwp_report_page_lines::Failure;
-use hwp_report_text::{CpuLine, MarkLine, Stop, Whereabouts};
+use hwp_report_text::{CpuLine, Entry, MarkLine, Mask, Seen, Signal, Stop, Whereabouts};
 
 /// A line of a report.
 #[derive(Drop)]

@@ -1,16 +1,16 @@
 -- Words that are no line of a kind below frames and pages, by what is missing.
 use Rattle.std.proofs.Common.{◌≡◌, ℕ, ◌<◌, ◌^◌, List, [], ◌∷◌, ◌++◌, get_or, drop, Option, Some, None, codes, decimal, ap, arith}
-use Rattle.hwp_geom.specs.declared.Mask.{Mask}
-use Rattle.hwp_geom.specs.declared.Thread.{Thread}
-use Rattle.hwp_geom.specs.declared.VSlot.{VSlot}
-use Rattle.hwp_geom.specs.declared.Who.{Who}
-use Rattle.hwp_page.specs.declared.Met.{Met}
-use Rattle.hwp_page.specs.declared.Met.TheVariants as mets
-use Rattle.hwp_page.specs.declared.What.{What}
-use Rattle.hwp_page.specs.declared.What.TheVariants as whats
+use Rattle.hwp_report_text.specs.hwp_geom.declared.Mask.{Mask}
+use Rattle.hwp_report_text.specs.hwp_geom.declared.Thread.{Thread}
+use Rattle.hwp_report_text.specs.hwp_geom.declared.VSlot.{VSlot}
+use Rattle.hwp_report_text.specs.hwp_geom.declared.Who.{Who}
+use Rattle.hwp_report_text.specs.hwp_page.declared.Met.{Met}
+use Rattle.hwp_report_text.specs.hwp_page.declared.Met.TheVariants as mets
+use Rattle.hwp_report_text.specs.hwp_page.declared.What.{What}
+use Rattle.hwp_report_text.specs.hwp_page.declared.What.TheVariants as whats
 use Rattle.hwp_report_text.specs.declared.Whereabouts.{Whereabouts}
 use Rattle.hwp_report_text.specs.declared.Whereabouts.TheVariants as places
-use Rattle.hwp_report_text.specs.Text.{entry_words, met_words, place_words, required_words, verb_words}
+use Rattle.hwp_report_text.specs.ReportText.{entry_words, met_words, place_words, required_words, verb_words}
 use Rattle.hwp_report_words.proofs.SameWords.{tag_at, word_at}
 use Rattle.hwp_report_page_lines.specs.declared.verbs.Verb.TheVariants as verbs
 use Rattle.hwp_report_page_lines.specs.Fits.{AccessFits, MetFits, PlainFits}

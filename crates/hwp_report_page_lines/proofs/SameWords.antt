@@ -5,20 +5,20 @@ use Rattle.std.specs.Char.{digit_value}
 use Rattle.std.proofs.lemmas.Bool.Decides.{nat_tests}
 use Rattle.std.proofs.lemmas.Fmt.{digits_is_IsNumeral}
 use Rattle.std.specs.Str.Parse.{AllDigits}
-use Rattle.hwp_geom.specs.Words.{hex}
-use Rattle.hwp_geom.specs.declared.Thread.{Thread}
-use Rattle.hwp_geom.specs.declared.Who.{Who}
-use Rattle.hwp_page.specs.declared.Met.{Met}
-use Rattle.hwp_page.specs.declared.Met.TheVariants as mets
-use Rattle.hwp_page.specs.declared.What.{What}
-use Rattle.hwp_page.specs.declared.What.TheVariants as whats
+use Rattle.hwp_report_text.specs.hwp_geom.Words.{hex}
+use Rattle.hwp_report_text.specs.hwp_geom.declared.Thread.{Thread}
+use Rattle.hwp_report_text.specs.hwp_geom.declared.Who.{Who}
+use Rattle.hwp_report_text.specs.hwp_page.declared.Met.{Met}
+use Rattle.hwp_report_text.specs.hwp_page.declared.Met.TheVariants as mets
+use Rattle.hwp_report_text.specs.hwp_page.declared.What.{What}
+use Rattle.hwp_report_text.specs.hwp_page.declared.What.TheVariants as whats
 use Rattle.hwp_report_text.specs.declared.How.{How}
 use Rattle.hwp_report_text.specs.declared.How.TheVariants as hows
 use Rattle.hwp_report_text.specs.declared.MarkLine.{MarkLine}
 use Rattle.hwp_report_text.specs.declared.MarkLine.TheVariants as marks
 use Rattle.hwp_report_text.specs.declared.Whereabouts.{Whereabouts}
 use Rattle.hwp_report_text.specs.declared.Whereabouts.TheVariants as places
-use Rattle.hwp_report_text.specs.Text.{place_words, how_words, mark_words, met_words, required_words, entry_words}
+use Rattle.hwp_report_text.specs.ReportText.{place_words, how_words, mark_words, met_words, required_words, entry_words}
 use Rattle.hwp_report_words.proofs.SameWords.{tag_at, word_at, same_u8, same_u16, same_u32, same_u64, same_mask, same_line, same_origin, same_situation, same_outcome, same_who}
 use Rattle.hwp_report_words.specs.Words.{WhoFits}
 use Rattle.hwp_report_page_lines.specs.Fits.{PlaceFits, MarkFits, MetFits, ThreadFits, PlainFits}

@@ -1,20 +1,20 @@
 -- The words of the lines below frames and pages are words: none is empty, and none has a space or a line feed in it.
 use Rattle.std.proofs.Common.{ℕ, ◌<◌, ◌^◌, ◌++◌, List, Option, Some, None, decimal, refl, arith}
 use Rattle.std.specs.Prelude.{IfSome}
-use Rattle.hwp_geom.specs.declared.Thread.{Thread}
-use Rattle.hwp_geom.specs.declared.Who.{Who}
-use Rattle.hwp_geom.proofs.WordsPut.{IsPut, ArePut, fixed, then, nothing}
-use Rattle.hwp_page.specs.declared.Met.{Met}
-use Rattle.hwp_page.specs.declared.Met.TheVariants as mets
-use Rattle.hwp_page.specs.declared.What.{What}
-use Rattle.hwp_page.specs.declared.What.TheVariants as whats
+use Rattle.hwp_report_text.specs.hwp_geom.declared.Thread.{Thread}
+use Rattle.hwp_report_text.specs.hwp_geom.declared.Who.{Who}
+use Rattle.hwp_report_text.proofs.of_hwp_geom.WordsPut.{IsPut, ArePut, fixed, then, nothing}
+use Rattle.hwp_report_text.specs.hwp_page.declared.Met.{Met}
+use Rattle.hwp_report_text.specs.hwp_page.declared.Met.TheVariants as mets
+use Rattle.hwp_report_text.specs.hwp_page.declared.What.{What}
+use Rattle.hwp_report_text.specs.hwp_page.declared.What.TheVariants as whats
 use Rattle.hwp_report_text.specs.declared.How.{How}
 use Rattle.hwp_report_text.specs.declared.How.TheVariants as hows
 use Rattle.hwp_report_text.specs.declared.MarkLine.{MarkLine}
 use Rattle.hwp_report_text.specs.declared.MarkLine.TheVariants as marks
 use Rattle.hwp_report_text.specs.declared.Whereabouts.{Whereabouts}
 use Rattle.hwp_report_text.specs.declared.Whereabouts.TheVariants as places
-use Rattle.hwp_report_text.specs.Text.{place_words, how_words, mark_words, met_words, required_words, entry_words}
+use Rattle.hwp_report_text.specs.ReportText.{place_words, how_words, mark_words, met_words, required_words, entry_words}
 use Rattle.hwp_report_words.proofs.WordsPut.{put_small, put_situation, put_outcome, put_origin, put_u8, put_u16, put_u32, put_u64, put_mask}
 use Rattle.hwp_report_page_lines.specs.Fits.{PlaceFits, MarkFits, MetFits, ThreadFits, PlainFits}
 

@@ -1,15 +1,15 @@
 -- Which values the lines below frames and pages may have: each number is within its type.
 use Rattle.std.specs.Prelude.{ℕ, ◌^◌, ◌<◌, ◌≤◌, List, length, All, Option, IfSome}
-use Rattle.hwp_geom.specs.declared.Thread.{Thread}
-use Rattle.hwp_geom.specs.Limits.{line_limit}
-use Rattle.hwp_kill.specs.Limits.{signal_limit}
-use Rattle.hwp_kill.specs.declared.Seen.{Seen}
-use Rattle.hwp_kill.specs.declared.Signal.{Signal}
-use Rattle.hwp_page.specs.declared.Entry.{Entry}
-use Rattle.hwp_page.specs.declared.Met.{Met}
-use Rattle.hwp_page.specs.declared.Met.TheVariants as mets
-use Rattle.hwp_page.specs.declared.What.{What}
-use Rattle.hwp_page.specs.declared.What.TheVariants as whats
+use Rattle.hwp_report_text.specs.hwp_geom.declared.Thread.{Thread}
+use Rattle.hwp_report_text.specs.hwp_geom.Limits.{line_limit}
+use Rattle.hwp_report_text.specs.hwp_kill.Limits.{signal_limit}
+use Rattle.hwp_report_text.specs.hwp_kill.declared.Seen.{Seen}
+use Rattle.hwp_report_text.specs.hwp_kill.declared.Signal.{Signal}
+use Rattle.hwp_report_text.specs.hwp_page.declared.Entry.{Entry}
+use Rattle.hwp_report_text.specs.hwp_page.declared.Met.{Met}
+use Rattle.hwp_report_text.specs.hwp_page.declared.Met.TheVariants as mets
+use Rattle.hwp_report_text.specs.hwp_page.declared.What.{What}
+use Rattle.hwp_report_text.specs.hwp_page.declared.What.TheVariants as whats
 use Rattle.hwp_report_text.specs.declared.Whereabouts.{Whereabouts}
 use Rattle.hwp_report_text.specs.declared.Whereabouts.TheVariants as places
 use Rattle.hwp_report_text.specs.declared.MarkLine.{MarkLine}

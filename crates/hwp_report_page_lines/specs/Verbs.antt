@@ -1,7 +1,7 @@
 -- The first words of entries.
 use Rattle.std.specs.Prelude.{ℕ, List, codes}
-use Rattle.hwp_page.specs.declared.What.{What}
-use Rattle.hwp_page.specs.declared.What.TheVariants as whats
+use Rattle.hwp_report_text.specs.hwp_page.declared.What.{What}
+use Rattle.hwp_report_text.specs.hwp_page.declared.What.TheVariants as whats
 use Rattle.hwp_report_page_lines.specs.declared.verbs.Verb.{Verb}
 use Rattle.hwp_report_page_lines.specs.declared.verbs.Verb.TheVariants as verbs
 

@@ -1,19 +1,19 @@
 -- The words of the lines below frames and pages, and of their parts.
 use Rattle.std.specs.Prelude.{◌≡◌, ℕ, ◌^◌, ◌<◌, ◌≤◌, List, [], ◌∷◌, ◌++◌, codes, decimal, Option, IfSome, MatchOption}
-use Rattle.hwp_geom.specs.Limits.{line_limit}
-use Rattle.hwp_geom.specs.Words.{hex}
-use Rattle.hwp_geom.specs.declared.Mask.{Mask}
-use Rattle.hwp_geom.specs.declared.Thread.{Thread}
-use Rattle.hwp_geom.specs.declared.VSlot.{VSlot}
-use Rattle.hwp_geom.specs.declared.Who.{Who}
-use Rattle.hwp_kill.specs.Limits.{signal_limit}
-use Rattle.hwp_kill.specs.declared.Code.{Code}
-use Rattle.hwp_page.specs.declared.Met.{Met}
-use Rattle.hwp_page.specs.declared.What.{What}
+use Rattle.hwp_report_text.specs.hwp_geom.Limits.{line_limit}
+use Rattle.hwp_report_text.specs.hwp_geom.Words.{hex}
+use Rattle.hwp_report_text.specs.hwp_geom.declared.Mask.{Mask}
+use Rattle.hwp_report_text.specs.hwp_geom.declared.Thread.{Thread}
+use Rattle.hwp_report_text.specs.hwp_geom.declared.VSlot.{VSlot}
+use Rattle.hwp_report_text.specs.hwp_geom.declared.Who.{Who}
+use Rattle.hwp_report_text.specs.hwp_kill.Limits.{signal_limit}
+use Rattle.hwp_report_text.specs.hwp_kill.declared.Code.{Code}
+use Rattle.hwp_report_text.specs.hwp_page.declared.Met.{Met}
+use Rattle.hwp_report_text.specs.hwp_page.declared.What.{What}
 use Rattle.hwp_report_text.specs.declared.Whereabouts.{Whereabouts}
 use Rattle.hwp_report_text.specs.declared.Whereabouts.TheVariants as places
 use Rattle.hwp_report_text.specs.Terms.{code_word, situation_word}
-use Rattle.hwp_report_text.specs.Text.{entry_words, met_words, place_words, required_words, verb_words}
+use Rattle.hwp_report_text.specs.ReportText.{entry_words, met_words, place_words, required_words, verb_words}
 use Rattle.hwp_report_words.specs.Reads.{IsReadAs}
 use Rattle.hwp_report_page_lines.specs.declared.failures.Failure.{Failure}
 use Rattle.hwp_report_page_lines.specs.declared.verbs.Verb.{Verb}

@@ -1,6 +1,6 @@
 ghost use Rattle.std.specs.Prelude.{◌^◌, ◌<◌, ◌≤◌, ◌≡◌, ◌≢◌, [], ◌∷◌, codes, decimal, map, IfSome, MatchOption};
-ghost use Rattle.hwp_kill.specs.Limits.{signal_limit};
-ghost use Rattle.hwp_report_text.specs.Text.{entry_words, met_words, required_words, seen_words, signal_words};
+ghost use Rattle.hwp_report_text.specs.hwp_kill.Limits.{signal_limit};
+ghost use Rattle.hwp_report_text.specs.ReportText.{entry_words, met_words, required_words, seen_words, signal_words};
 ghost use Rattle.hwp_report_words.specs.Reads.{IsReadAs, two_words};
 ghost use Rattle.hwp_report_page_lines.specs.Fits.{FailFits, MetFits, PlainEntryFits, SeenFits, SignalFits, ThreadFits};
 ghost use Rattle.hwp_report_page_lines.specs.Verbs.{verb_of, verb_text};
@@ -8,9 +8,9 @@ ghost use Rattle.hwp_report_page_lines.specs.Words.{AimFits, aim_words, CountsFi
 
 use crate::failures::Failure;
 use crate::verbs::Verb;
-use hwp_geom::{Line, Mask, Proc, Thread, VSlot};
-use hwp_kill::{Code, MAX_SIGNALS, Seen, Signal};
-use hwp_page::{Entry, Met, What};
+use hwp_report_text::{
+    Code, Entry, Line, MAX_SIGNALS, Mask, Met, Proc, Seen, Signal, Thread, VSlot, What,
+};
 use hwp_report_words::{
     is_text, read_code, read_hex, read_line_number, read_number, read_policy, read_situation,
     read_u8, read_u16, read_u32, read_who,

@@ -1,5 +1,4 @@
-use hwp_geom::{Thread, Who};
-use hwp_page::Situation;
+use hwp_report_text::{Situation, Thread, Who};
 
 /// The line of a memory failure, with the numbers of policies and of signals whose lines follow it.
 #[derive(Clone, Copy)]

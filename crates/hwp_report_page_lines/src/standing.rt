@@ -1,10 +1,9 @@
 ghost use Rattle.std.specs.Prelude.{◌≢◌, [], ◌∷◌, codes, get_or, map};
-ghost use Rattle.hwp_report_text.specs.Text.{how_words, place_words};
+ghost use Rattle.hwp_report_text.specs.ReportText.{how_words, place_words};
 ghost use Rattle.hwp_report_words.specs.Reads.{Any, IsReadAs};
 ghost use Rattle.hwp_report_page_lines.specs.Words.{IsPageless, MasksFit, masks_words, StandingFits, standing_words};
 
-use hwp_geom::{Mask, Page};
-use hwp_report_text::{How, Whereabouts};
+use hwp_report_text::{How, Mask, Page, Whereabouts};
 use hwp_report_words::{is_text, read_hex, read_origin, read_outcome, read_situation, read_u16};
 
 /// Where a frame is that holds no page.

@@ -1,6 +1,6 @@
 -- The text of a summary: eight lines of words.
 use Rattle.std.specs.Prelude.{ℕ, Bool, true, false, List, [], ◌∷◌, codes, decimal, flat_map}
-use Rattle.hwp_geom.specs.Words.{line}
+use Rattle.hwp_report_text.specs.hwp_geom.Words.{line}
 use Rattle.hwp_report_summary.specs.declared.counts.Summary.{Summary}
 
 -- `stop yes` where the machine stopped, else `stop none`

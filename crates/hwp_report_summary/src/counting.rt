@@ -3,9 +3,7 @@ ghost use Rattle.std.specs.List.{sum_by};
 ghost use Rattle.hwp_report_summary.specs.Counts.{answers_in, capped, is_answer, is_without_frame, signals_in, signals_of, summary_of, without_frame_in};
 
 use crate::counts::Summary;
-use hwp_geom::List;
-use hwp_page::{Entry, What};
-use hwp_report_text::{Answer, CpuLine, Report};
+use hwp_report_text::{Answer, CpuLine, Entry, List, Report, What};
 
 /// The summary of a report, by one walk over its lines and one over its histories.
 pub fn summary(report: &Report) -> Summary

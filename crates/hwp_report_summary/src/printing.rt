@@ -1,9 +1,9 @@
 ghost use Rattle.std.specs.Prelude.{◌≡◌, ◌∷◌, [], ◌++◌, IfOk, OnOk, string_bytes, decimal};
-ghost use Rattle.hwp_geom.specs.Words.{line};
+ghost use Rattle.hwp_report_text.specs.hwp_geom.Words.{line};
 ghost use Rattle.hwp_report_summary.specs.Text.{stop_words, summary_text};
 
 use crate::counts::Summary;
-use hwp_geom::{OutOfMemory, Text};
+use hwp_report_text::{OutOfMemory, Text};
 use std::alloc::Global;
 
 /// The one text of the summary of the run that a seed gives.

@@ -3,8 +3,8 @@ use Rattle.std.proofs.Common.{◌≡◌, ℕ, ◌+◌, ◌<◌, List, [], ◌∷
 use Rattle.std.specs.List.{flat_map}
 use Rattle.std.proofs.lemmas.List.{take_more, length-take-le}
 use Rattle.std.proofs.lemmas.List.Concat.{flat_map-append}
-use Rattle.hwp_geom.specs.Words.{line}
-use Rattle.hwp_report_text.specs.Text.{numbered}
+use Rattle.hwp_page.specs.hwp_geom.Words.{line}
+use Rattle.hwp_report_text.specs.ReportText.{numbered}
 
 -- the lines of one item more
 pub numbered-push : {A : Type 0} (lines_of : ℕ → A → List (List (List ℕ))) (n : ℕ) (xs : List A) (x : A)

@@ -1,6 +1,8 @@
+pub mod Acts
 pub mod Terms
-pub mod Text
+pub mod ReportText
 pub use Rattle.hwp_severity.specs.hwp_banks as hwp_banks
-pub use Rattle.hwp_kill.specs as hwp_kill
+pub use Rattle.hwp_page.specs.hwp_geom as hwp_geom
+pub use Rattle.hwp_page.specs.hwp_kill as hwp_kill
 pub use Rattle.hwp_page.specs as hwp_page
 pub use Rattle.hwp_severity.specs as hwp_severity

@@ -1,11 +1,11 @@
 -- The words of a report.
 use Rattle.std.specs.Prelude.{ℕ, Bool, true, false, List, codes}
-use Rattle.hwp_geom.specs.declared.Mode.{Mode}
-use Rattle.hwp_geom.specs.declared.Mode.TheVariants as modes
-use Rattle.hwp_kill.specs.declared.Policy.{Policy}
-use Rattle.hwp_kill.specs.declared.Policy.TheVariants as policies
-use Rattle.hwp_kill.specs.declared.Code.{Code}
-use Rattle.hwp_kill.specs.declared.Code.TheVariants as kinds
+use Rattle.hwp_page.specs.hwp_geom.declared.Mode.{Mode}
+use Rattle.hwp_page.specs.hwp_geom.declared.Mode.TheVariants as modes
+use Rattle.hwp_page.specs.hwp_kill.declared.Policy.{Policy}
+use Rattle.hwp_page.specs.hwp_kill.declared.Policy.TheVariants as policies
+use Rattle.hwp_page.specs.hwp_kill.declared.Code.{Code}
+use Rattle.hwp_page.specs.hwp_kill.declared.Code.TheVariants as kinds
 use Rattle.hwp_page.specs.declared.Situation.{Situation}
 use Rattle.hwp_page.specs.declared.Situation.TheVariants as situations
 use Rattle.hwp_page.specs.declared.Outcome.{Outcome}

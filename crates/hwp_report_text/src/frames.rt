@@ -1,5 +1,4 @@
-use hwp_geom::{List, Mask, Page, Who};
-use hwp_page::{Outcome, Situation};
+use hwp_page::{List, Mask, Outcome, Page, Situation, Who};
 
 /// Where a frame is.
 #[derive(Clone, Copy)]

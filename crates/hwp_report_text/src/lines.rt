@@ -1,5 +1,4 @@
-use hwp_geom::{Frame, Mask, Page};
-use hwp_page::At;
+use hwp_page::{At, Frame, Mask, Page};
 
 /// What was done about the event of a bank.
 #[derive(Clone, Copy)]
@@ -28,6 +27,25 @@ pub enum Acted {
     Panic,
     /// It was not acted on, because the machine stopped.
     Held,
+}
+
+impl Acted {
+    ghost use Rattle.std.specs.Prelude.{◌≡◌};
+    ghost use Rattle.hwp_report_text.specs.Acts.{is_panic, is_stopping};
+
+    /// Whether the event stopped the machine.
+    pub fn is_stopping(self) -> bool
+        ensures { result ≡ is_stopping self }
+    {
+        matches!(self, Acted::Stop)
+    }
+
+    /// Whether the memory failure was a panic.
+    pub fn is_panic(self) -> bool
+        ensures { result ≡ is_panic self }
+    {
+        matches!(self, Acted::Panic)
+    }
 }
 
 /// The answer of a command. A place is that of the entry that gave the answer, or the number of entries at that moment.

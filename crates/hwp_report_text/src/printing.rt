@@ -1,7 +1,7 @@
 ghost use Rattle.std.specs.Prelude.{◌≡◌, [], ◌∷◌, ◌++◌, OnOk, IfOk, string_bytes, codes, decimal, map};
 ghost use Rattle.std.specs.List.{flat_map};
-ghost use Rattle.hwp_geom.specs.Words.{hex, line};
-ghost use Rattle.hwp_report_text.specs.Text.{cause_words, cpu_lines, file_lines, frame_lines, frame_words, graded_words, head_lines, how_words, mark_words, numbered, page_lines, report_text, stop_words};
+ghost use Rattle.hwp_page.specs.hwp_geom.Words.{hex, line};
+ghost use Rattle.hwp_report_text.specs.ReportText.{cause_words, cpu_lines, file_lines, frame_lines, frame_words, graded_words, head_lines, how_words, mark_words, numbered, page_lines, report_text, stop_words};
 
 use crate::frames::{FrameLine, How, MarkLine, Whereabouts};
 use crate::lines::CpuLine;
@@ -9,8 +9,7 @@ use crate::report::{Report, Stop, StopCause};
 use crate::terms::{flag_number, mode_word, origin_word, outcome_word, situation_word};
 use answers::put_cpu_lines;
 use entries::put_entries;
-use hwp_geom::{List, Mask, Mode, OutOfMemory, Page, Text, Who};
-use hwp_page::Entry;
+use hwp_page::{Entry, List, Mask, Mode, OutOfMemory, Page, Text, Who};
 use hwp_severity::McgBits;
 use std::alloc::Global;
 

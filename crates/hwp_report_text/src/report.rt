@@ -1,7 +1,6 @@
 use crate::frames::FrameLine;
 use crate::lines::CpuLine;
-use hwp_geom::{Frame, List, Mode, Who};
-use hwp_page::Entry;
+use hwp_page::{Entry, Frame, List, Mode, Who};
 use hwp_severity::McgBits;
 
 /// What stopped the machine.

@@ -2,9 +2,7 @@ ghost use Rattle.std.specs.Prelude.{◌≡◌};
 ghost use Rattle.hwp_report_text.specs.Terms as terms;
 
 use crate::lines::Acted;
-use hwp_geom::Mode;
-use hwp_kill::{Code, Policy};
-use hwp_page::{Outcome, Situation};
+use hwp_page::{Code, Mode, Outcome, Policy, Situation};
 
 /// The number of a yes or no.
 pub(crate) fn flag_number(set: bool) -> u8

@@ -4,12 +4,12 @@ use Rattle.std.specs.Prelude.{All}
 use Rattle.std.proofs.lemmas.List.{take_all}
 use Rattle.std.proofs.lemmas.List.Elements.{All-more, All-get_or}
 use Rattle.hwp_report_words.specs.Reads.{IsAmong, IsNamedBy}
-use Rattle.hwp_kill.specs.declared.Policy.{Policy}
-use Rattle.hwp_kill.specs.declared.Policy.TheVariants as policies
-use Rattle.hwp_page.specs.declared.Situation.{Situation}
-use Rattle.hwp_page.specs.declared.Situation.TheVariants as situations
-use Rattle.hwp_page.specs.declared.Outcome.{Outcome}
-use Rattle.hwp_page.specs.declared.Outcome.TheVariants as outcomes
+use Rattle.hwp_report_text.specs.hwp_kill.declared.Policy.{Policy}
+use Rattle.hwp_report_text.specs.hwp_kill.declared.Policy.TheVariants as policies
+use Rattle.hwp_report_text.specs.hwp_page.declared.Situation.{Situation}
+use Rattle.hwp_report_text.specs.hwp_page.declared.Situation.TheVariants as situations
+use Rattle.hwp_report_text.specs.hwp_page.declared.Outcome.{Outcome}
+use Rattle.hwp_report_text.specs.hwp_page.declared.Outcome.TheVariants as outcomes
 use Rattle.hwp_report_text.specs.declared.Acted.{Acted}
 use Rattle.hwp_report_text.specs.declared.Acted.TheVariants as acts
 

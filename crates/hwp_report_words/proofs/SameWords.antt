@@ -2,19 +2,19 @@
 use Rattle.std.proofs.Common.{◌≡◌, ℕ, ◌+◌, ◌*◌, ◌<◌, ◌^◌, Bool, true, false, List, [], ◌∷◌, get_or, decimal, refl, sym, ap, ◌∙◌, arith}
 use Rattle.std.proofs.lemmas.Fmt.{decimal_injective, digits_is_IsNumeral}
 use Rattle.std.specs.Str.Parse.{digits_value}
-use Rattle.hwp_geom.specs.Words.{hex}
-use Rattle.hwp_geom.specs.declared.Mode.{Mode}
-use Rattle.hwp_geom.specs.declared.Mode.TheVariants as modes
-use Rattle.hwp_geom.specs.declared.Who.{Who}
-use Rattle.hwp_kill.specs.declared.Policy.{Policy}
-use Rattle.hwp_kill.specs.declared.Policy.TheVariants as policies
-use Rattle.hwp_kill.specs.declared.Code.{Code}
-use Rattle.hwp_kill.specs.declared.Code.TheVariants as kinds
-use Rattle.hwp_page.specs.declared.At.{At}
-use Rattle.hwp_page.specs.declared.Situation.{Situation}
-use Rattle.hwp_page.specs.declared.Situation.TheVariants as situations
-use Rattle.hwp_page.specs.declared.Outcome.{Outcome}
-use Rattle.hwp_page.specs.declared.Outcome.TheVariants as outcomes
+use Rattle.hwp_script_lines.specs.hwp_geom.Words.{hex}
+use Rattle.hwp_script_lines.specs.hwp_geom.declared.Mode.{Mode}
+use Rattle.hwp_script_lines.specs.hwp_geom.declared.Mode.TheVariants as modes
+use Rattle.hwp_script_lines.specs.hwp_geom.declared.Who.{Who}
+use Rattle.hwp_report_text.specs.hwp_kill.declared.Policy.{Policy}
+use Rattle.hwp_report_text.specs.hwp_kill.declared.Policy.TheVariants as policies
+use Rattle.hwp_report_text.specs.hwp_kill.declared.Code.{Code}
+use Rattle.hwp_report_text.specs.hwp_kill.declared.Code.TheVariants as kinds
+use Rattle.hwp_report_text.specs.hwp_page.declared.At.{At}
+use Rattle.hwp_report_text.specs.hwp_page.declared.Situation.{Situation}
+use Rattle.hwp_report_text.specs.hwp_page.declared.Situation.TheVariants as situations
+use Rattle.hwp_report_text.specs.hwp_page.declared.Outcome.{Outcome}
+use Rattle.hwp_report_text.specs.hwp_page.declared.Outcome.TheVariants as outcomes
 use Rattle.hwp_report_text.specs.declared.Acted.{Acted}
 use Rattle.hwp_report_text.specs.declared.Acted.TheVariants as acts
 use Rattle.hwp_report_text.specs.Terms.{flag_number, mode_word, policy_word, code_word, situation_word, outcome_word, origin_word, acted_word}

@@ -1,18 +1,18 @@
 -- What is printed of a number, and of a value that has a name, is a word: it isn't empty, and has no space or line feed in it.
 use Rattle.std.proofs.Common.{ℕ, ◌<◌, ◌≤◌, ◌^◌, Bool, true, false, [], ◌∷◌, decimal, refl, arith}
-use Rattle.hwp_geom.specs.declared.Mode.{Mode}
-use Rattle.hwp_geom.specs.declared.Mode.TheVariants as modes
-use Rattle.hwp_geom.specs.Words.{hex}
-use Rattle.hwp_geom.proofs.WordsPut.{IsPut, ArePut, put_decimal, put_hex, fixed, then, nothing}
-use Rattle.hwp_kill.specs.declared.Policy.{Policy}
-use Rattle.hwp_kill.specs.declared.Policy.TheVariants as policies
-use Rattle.hwp_kill.specs.declared.Code.{Code}
-use Rattle.hwp_kill.specs.declared.Code.TheVariants as kinds
-use Rattle.hwp_page.specs.declared.At.{At}
-use Rattle.hwp_page.specs.declared.Situation.{Situation}
-use Rattle.hwp_page.specs.declared.Situation.TheVariants as situations
-use Rattle.hwp_page.specs.declared.Outcome.{Outcome}
-use Rattle.hwp_page.specs.declared.Outcome.TheVariants as outcomes
+use Rattle.hwp_script_lines.specs.hwp_geom.declared.Mode.{Mode}
+use Rattle.hwp_script_lines.specs.hwp_geom.declared.Mode.TheVariants as modes
+use Rattle.hwp_script_lines.specs.hwp_geom.Words.{hex}
+use Rattle.hwp_script_lines.proofs.of_hwp_geom.WordsPut.{IsPut, ArePut, put_decimal, put_hex, fixed, then, nothing}
+use Rattle.hwp_report_text.specs.hwp_kill.declared.Policy.{Policy}
+use Rattle.hwp_report_text.specs.hwp_kill.declared.Policy.TheVariants as policies
+use Rattle.hwp_report_text.specs.hwp_kill.declared.Code.{Code}
+use Rattle.hwp_report_text.specs.hwp_kill.declared.Code.TheVariants as kinds
+use Rattle.hwp_report_text.specs.hwp_page.declared.At.{At}
+use Rattle.hwp_report_text.specs.hwp_page.declared.Situation.{Situation}
+use Rattle.hwp_report_text.specs.hwp_page.declared.Situation.TheVariants as situations
+use Rattle.hwp_report_text.specs.hwp_page.declared.Outcome.{Outcome}
+use Rattle.hwp_report_text.specs.hwp_page.declared.Outcome.TheVariants as outcomes
 use Rattle.hwp_report_text.specs.declared.Acted.{Acted}
 use Rattle.hwp_report_text.specs.declared.Acted.TheVariants as acts
 use Rattle.hwp_report_text.specs.Terms.{flag_number, mode_word, policy_word, code_word, situation_word, outcome_word, origin_word, acted_word}

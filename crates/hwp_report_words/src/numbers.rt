@@ -1,12 +1,11 @@
 ghost use Rattle.std.specs.Prelude.{◌≡◌, ◌≢◌, ◌^◌, ◌<◌, ◌≤◌, ◌↔◌, [], ◌∷◌, false, length, slice_index, decimal, IsTrue};
 ghost use Rattle.std.specs.Fmt.{digit_glyph};
-ghost use Rattle.hwp_geom.specs.Limits.{line_limit};
-ghost use Rattle.hwp_geom.specs.Words.{hex};
+ghost use Rattle.hwp_script_lines.specs.hwp_geom.Limits.{line_limit};
+ghost use Rattle.hwp_script_lines.specs.hwp_geom.Words.{hex};
 ghost use Rattle.hwp_report_words.specs.Reads.{IsReadAs, Below};
 ghost use Rattle.hwp_report_words.specs.Words.{AtFits, WhoFits, at_words, who_words};
 
-use hwp_geom::{Cpu, Line, Page, Who};
-use hwp_page::At;
+use hwp_report_text::{At, Cpu, Line, Page, Who};
 
 /// Whether a word has this text.
 pub fn is_text(word: &[u8], text: &str) -> bool

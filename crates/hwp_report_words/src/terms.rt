@@ -4,10 +4,10 @@ ghost use Rattle.hwp_report_words.specs.Reads.{IsNamedBy};
 
 use crate::numbers::{is_text, read_below};
 use crate::words::{HasWord, named};
-use hwp_geom::Mode;
-use hwp_kill::{Code, Policy};
-use hwp_page::{Outcome, Situation};
-use hwp_report_text::{Acted, acted_word, outcome_word, policy_word, situation_word};
+use hwp_report_text::{
+    Acted, Code, Mode, Outcome, Policy, Situation, acted_word, outcome_word, policy_word,
+    situation_word,
+};
 
 /// All policies.
 const POLICIES: [Policy; 3] = [Policy::Late, Policy::Early, Policy::Default];

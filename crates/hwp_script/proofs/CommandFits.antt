@@ -3,12 +3,12 @@ use Rattle.std.proofs.Common.{◌≡◌, ℕ, ◌+◌, ◌-◌, ◌*◌, ◌/◌
 use Rattle.std.proofs.Math.Nat.{div-le_self, mod-lt}
 use Rattle.std.proofs.lemmas.Bool.{cases_lt, lt-ltb, le-ltb}
 use Rattle.std.proofs.lemmas.Nat.{or_of_32}
-use Rattle.hwp_geom.specs.declared.Frame.{Frame}
-use Rattle.hwp_geom.specs.declared.PageKind.TheVariants as kinds
-use Rattle.hwp_geom.specs.declared.Thread.{Thread}
-use Rattle.hwp_geom.specs.declared.VSlot.{VSlot}
-use Rattle.hwp_script_lines.specs.declared.Command.{Command}
-use Rattle.hwp_script_lines.specs.declared.Command.TheVariants as commands
+use Rattle.hwp_script_read.specs.hwp_geom.declared.Frame.{Frame}
+use Rattle.hwp_script_read.specs.hwp_geom.declared.PageKind.TheVariants as kinds
+use Rattle.hwp_script_read.specs.hwp_geom.declared.Thread.{Thread}
+use Rattle.hwp_script_read.specs.hwp_geom.declared.VSlot.{VSlot}
+use Rattle.hwp_script_read.specs.hwp_script_lines.declared.Command.{Command}
+use Rattle.hwp_script_read.specs.hwp_script_lines.declared.Command.TheVariants as commands
 use Rattle.hwp_script_read.specs.Valid.{HasWords, IsAccess, IsAnon, IsCommandOf, IsFile}
 use Rattle.rand_pcg.specs.Lcg.{Lcg}
 use Rattle.hwp_script.specs.Commands.{accessed, called, chosen, chosen_access, chosen_change, chosen_failure, command, frame_at, marred, numbered, page_at, scrub_of, slot_at, stored, thread_at}

@@ -1,6 +1,6 @@
 -- Lists that are made of the numbers below one, and drawn one thing after the other.
 use Rattle.std.proofs.Common.{◌≡◌, ℕ, zero, suc, ◌+◌, List, [], ◌∷◌, ◌++◌, refl, sym, ap, ◌∙◌, arith}
-use Rattle.hwp_script_lines.specs.declared.Command.{Command}
+use Rattle.hwp_script_read.specs.hwp_script_lines.declared.Command.{Command}
 use Rattle.rand_pcg.specs.Lcg.{Lcg}
 use Rattle.hwp_script.specs.Generated.{commands_of, lists, many, one_more}
 use Rattle.hwp_script.specs.Machine.{first}

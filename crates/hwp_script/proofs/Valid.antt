@@ -4,13 +4,13 @@ use Rattle.std.proofs.Math.Nat.{mod-lt}
 use Rattle.std.proofs.lemmas.List.{length-append}
 use Rattle.std.proofs.lemmas.List.Elements.{All-append, All-cons, All-nil}
 use Rattle.std.proofs.lemmas.List.Sums.{sum_by_push}
-use Rattle.hwp_geom.specs.declared.Layout.{Layout}
-use Rattle.hwp_geom.specs.declared.PageKind.TheVariants as kinds
-use Rattle.hwp_geom.specs.declared.ThreadDecl.{ThreadDecl}
-use Rattle.hwp_geom.specs.declared.TransDecl.{TransDecl}
-use Rattle.hwp_geom.specs.Layout.{IsBacked, IsSound}
-use Rattle.hwp_script_lines.specs.declared.Command.{Command}
-use Rattle.hwp_script_lines.specs.declared.Go.{Go}
+use Rattle.hwp_script_read.specs.hwp_geom.declared.Layout.{Layout}
+use Rattle.hwp_script_read.specs.hwp_geom.declared.PageKind.TheVariants as kinds
+use Rattle.hwp_script_read.specs.hwp_geom.declared.ThreadDecl.{ThreadDecl}
+use Rattle.hwp_script_read.specs.hwp_geom.declared.TransDecl.{TransDecl}
+use Rattle.hwp_script_read.specs.hwp_geom.Layout.{IsBacked, IsSound}
+use Rattle.hwp_script_read.specs.hwp_script_lines.declared.Command.{Command}
+use Rattle.hwp_script_read.specs.hwp_script_lines.declared.Go.{Go}
 use Rattle.hwp_script_read.specs.Valid.{AreLists, HasFill, HasWords, IsCommandOf, IsValid}
 use Rattle.rand_pcg.specs.Lcg.{Lcg}
 use Rattle.hwp_script.specs.Commands.{command}

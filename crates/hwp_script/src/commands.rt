@@ -3,8 +3,7 @@ ghost use Rattle.hwp_script.specs.Commands.{accessed, called, chosen, chosen_acc
 ghost use Rattle.hwp_script.specs.Draws.{after, drawn};
 
 use crate::draws::{draw, draw_word};
-use hwp_geom::{FileNo, Frame, Line, Page, Thread, VSlot};
-use hwp_script_lines::{Command, PrctlArgs};
+use hwp_script_read::{Command, FileNo, Frame, Line, Page, PrctlArgs, Thread, VSlot};
 use rand_pcg::Lcg64Xsh32;
 
 /// A command of a processor, whose kind is drawn first.

@@ -1,7 +1,7 @@
 ghost use Rattle.std.specs.Prelude.{◌≡◌, ◌<◌, IfOk};
 ghost use Rattle.hwp_script.specs.Machine.{first, is_kernel, machine, page_kind, thread_decl, trans_decl};
 
-use hwp_geom::{
+use hwp_script_read::{
     Cpu, FileNo, Layout, List, OutOfMemory, Page, PageKind, Proc, ThreadDecl, TransDecl,
 };
 use std::alloc::Global;

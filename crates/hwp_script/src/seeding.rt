@@ -6,9 +6,7 @@ ghost use Rattle.hwp_script.specs.Generated.{commands_of, generated, go, lists, 
 use crate::commands::draw_command;
 use crate::draws::draw;
 use crate::machine::machine;
-use hwp_geom::{Cpu, List, OutOfMemory};
-use hwp_script_lines::{Command, Go, Until};
-use hwp_script_read::Script;
+use hwp_script_read::{Command, Cpu, Go, List, OutOfMemory, Script, Until};
 use rand_pcg::Lcg64Xsh32;
 use std::alloc::Global;
 

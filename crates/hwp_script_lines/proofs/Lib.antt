@@ -10,3 +10,4 @@ pub mod SentenceLaws
 pub mod LineUnique
 pub mod Shapes
 pub mod LineLaws
+pub use Rattle.hwp_geom.proofs as of_hwp_geom

@@ -2,14 +2,14 @@
 use Rattle.std.proofs.Common.{ℕ, Bool, ◌≡◌, ◌<◌, ◌≤◌, ◌+◌, List, [], length, inl, inr, arith, Option, None, Some}
 use Rattle.std.specs.Prelude.{Contains, IsSome}
 use Rattle.hwp_script_read.specs.Limits.{schedule_limit}
-use Rattle.hwp_geom.specs.Limits.{command_limit}
+use Rattle.hwp_script_read.specs.hwp_geom.Limits.{command_limit}
 use Rattle.hwp_script_read.specs.Context.{cpus_in, kernel_in, recovery_in, early_in, lists_in, commands_in, go_in}
 use Rattle.hwp_script_read.specs.Reasons.{Applies, IsMisplaced, IsClean}
-use Rattle.hwp_script_lines.specs.declared.Command.{Command}
-use Rattle.hwp_script_lines.specs.declared.Backing.{Backing}
-use Rattle.hwp_script_lines.specs.declared.Go.{Go}
-use Rattle.hwp_script_lines.specs.declared.ScriptLine.{ScriptLine}
-use Rattle.hwp_script_lines.specs.declared.ScriptLine.TheVariants as forms
+use Rattle.hwp_script_read.specs.hwp_script_lines.declared.Command.{Command}
+use Rattle.hwp_script_read.specs.hwp_script_lines.declared.Backing.{Backing}
+use Rattle.hwp_script_read.specs.hwp_script_lines.declared.Go.{Go}
+use Rattle.hwp_script_read.specs.hwp_script_lines.declared.ScriptLine.{ScriptLine}
+use Rattle.hwp_script_read.specs.hwp_script_lines.declared.ScriptLine.TheVariants as forms
 use Rattle.hwp_script_read.specs.declared.Why.{Why}
 use Rattle.hwp_script_read.specs.declared.Why.TheVariants as whys
 use Rattle.hwp_script_read.proofs.CleanLaws.{IsPlaced, IsCpusClean, IsFramesClean, IsKernelClean, IsRecoveryClean, IsEarlyClean, IsFileClean, IsProcClean, IsThreadClean, IsPageClean, IsTransClean, IsCpuClean, IsCommandClean, IsScheduleClean}

@@ -1,9 +1,9 @@
 -- The text of a line of the schedule.
 use Rattle.std.proofs.Common.{ℕ, ◌≡◌, ◌++◌, List, [], ◌∷◌, map, codes, refl, sym, ap, ◌∙◌, append_assoc}
 use Rattle.std.specs.List.{flat_map}
-use Rattle.hwp_geom.specs.Words.{line}
-use Rattle.hwp_script_lines.specs.Grammar.{turn_text}
-use Rattle.hwp_script_lines.specs.declared.Go.{Go}
+use Rattle.hwp_script_read.specs.hwp_geom.Words.{line}
+use Rattle.hwp_script_read.specs.hwp_script_lines.Grammar.{turn_text}
+use Rattle.hwp_script_read.specs.hwp_script_lines.declared.Go.{Go}
 
 line-turns : (w : List ℕ) (turns : List Go) → line (w ∷ map turn_text turns) ≡ w ++ (flat_map (λ turn. 32 ∷ turn_text turn) turns ++ 10 ∷ [])
 line-turns w [] = refl

@@ -3,11 +3,11 @@ use Rattle.std.proofs.Common.{ℕ, ◌≡◌, ◌+◌, ◌-◌, ◌<◌, ◌≤�
 use Rattle.std.proofs.lemmas.List.{take_more, length-take-le, take_all}
 use Rattle.std.proofs.lemmas.List.FromFn.{map-range_with_len_more}
 use Rattle.std.proofs.lemmas.List.Concat.{flat_map-append}
-use Rattle.hwp_geom.specs.Words.{line}
-use Rattle.hwp_script_lines.specs.Grammar.{form_words}
+use Rattle.hwp_script_read.specs.hwp_geom.Words.{line}
+use Rattle.hwp_script_read.specs.hwp_script_lines.Grammar.{form_words}
 use Rattle.hwp_script_print.specs.Printed.{forms_text}
-use Rattle.hwp_script_lines.specs.declared.ScriptLine.{ScriptLine}
-use Rattle.hwp_script_lines.specs.declared.ScriptLine.TheVariants as forms
+use Rattle.hwp_script_read.specs.hwp_script_lines.declared.ScriptLine.{ScriptLine}
+use Rattle.hwp_script_read.specs.hwp_script_lines.declared.ScriptLine.TheVariants as forms
 use Rattle.hwp_script_read.specs.declared.Script.{Script}
 use Rattle.hwp_script_print.specs.Text.{numbered, counted, head_forms, kernel_forms, setting_forms, file_form, proc_form, thread_forms, page_forms, trans_forms, list_forms, go_row, rows_of, script_text}
 

@@ -7,26 +7,26 @@ use Rattle.std.proofs.lemmas.Bool.Decides.{nat_tests}
 use Rattle.std.proofs.lemmas.Fmt.{digits_is_IsNumeral}
 use Rattle.std.proofs.lemmas.List.Splits.{slice_split_none, slice_split_at}
 use Rattle.std.proofs.lemmas.List.Elements.{All-nil, All-cons, All-append, All-weaker, All-head, All-tail}
-use Rattle.hwp_geom.specs.Limits.{cpu_limit}
-use Rattle.hwp_geom.specs.Words.{IsWord, IsLine, hex, pieces}
-use Rattle.hwp_geom.specs.Pairs.{Pairs}
-use Rattle.hwp_geom.proofs.Cuts.{joined, differs, none_is, pieces-line, cut-joined_line}
-use Rattle.hwp_geom.proofs.WordsPut.{IsHigh, IsPut, ArePut, put_word}
-use Rattle.hwp_script_lines.specs.Kinds.{kind_text}
-use Rattle.hwp_script_lines.specs.Numbers.{IsRegister, register}
-use Rattle.hwp_script_lines.specs.Grammar.{rest_words, form_words, turn_text, until_text, turn_pieces, pieces_of, command_words, CommandFits, IsTurn, AreRestWords, AreCommandWords, IsForm}
-use Rattle.hwp_script_lines.specs.Lines.{words_of, is_comment, is_skipped, numbered_from, IsNumbered, AreLinesOf}
+use Rattle.hwp_script_read.specs.hwp_geom.Limits.{cpu_limit}
+use Rattle.hwp_script_read.specs.hwp_geom.Words.{IsWord, IsLine, hex, pieces}
+use Rattle.hwp_script_read.specs.hwp_geom.Pairs.{Pairs}
+use Rattle.hwp_script_read.proofs.of_hwp_geom.Cuts.{joined, differs, none_is, pieces-line, cut-joined_line}
+use Rattle.hwp_script_read.proofs.of_hwp_geom.WordsPut.{IsHigh, IsPut, ArePut, put_word}
+use Rattle.hwp_script_read.specs.hwp_script_lines.Kinds.{kind_text}
+use Rattle.hwp_script_read.specs.hwp_script_lines.Numbers.{IsRegister, register}
+use Rattle.hwp_script_read.specs.hwp_script_lines.Grammar.{rest_words, form_words, turn_text, until_text, turn_pieces, pieces_of, command_words, CommandFits, IsTurn, AreRestWords, AreCommandWords, IsForm}
+use Rattle.hwp_script_read.specs.hwp_script_lines.Lines.{words_of, is_comment, is_skipped, numbered_from, IsNumbered, AreLinesOf}
 use Rattle.hwp_script_print.specs.Printed.{forms_text}
-use Rattle.hwp_script_lines.specs.declared.ScriptLine.{ScriptLine}
-use Rattle.hwp_script_lines.specs.declared.Command.{Command}
-use Rattle.hwp_script_lines.specs.declared.Go.{Go}
-use Rattle.hwp_script_lines.specs.declared.Until.{Until}
-use Rattle.hwp_script_lines.specs.declared.Numbered.{Numbered}
-use Rattle.hwp_script_lines.specs.declared.ScriptLine.TheVariants as forms
-use Rattle.hwp_script_lines.specs.declared.Command.TheVariants as commands
-use Rattle.hwp_script_lines.specs.declared.Until.TheVariants as untils
-use Rattle.hwp_script_lines.specs.declared.LineRead.TheVariants as reads
-use Rattle.hwp_script_lines.proofs.CommandLaws.{low}
+use Rattle.hwp_script_read.specs.hwp_script_lines.declared.ScriptLine.{ScriptLine}
+use Rattle.hwp_script_read.specs.hwp_script_lines.declared.Command.{Command}
+use Rattle.hwp_script_read.specs.hwp_script_lines.declared.Go.{Go}
+use Rattle.hwp_script_read.specs.hwp_script_lines.declared.Until.{Until}
+use Rattle.hwp_script_read.specs.hwp_script_lines.declared.Numbered.{Numbered}
+use Rattle.hwp_script_read.specs.hwp_script_lines.declared.ScriptLine.TheVariants as forms
+use Rattle.hwp_script_read.specs.hwp_script_lines.declared.Command.TheVariants as commands
+use Rattle.hwp_script_read.specs.hwp_script_lines.declared.Until.TheVariants as untils
+use Rattle.hwp_script_read.specs.hwp_script_lines.declared.LineRead.TheVariants as reads
+use Rattle.hwp_script_read.proofs.of_hwp_script_lines.CommandLaws.{low}
 use Rattle.hwp_script_read.specs.Refusals.{AreForms}
 use Rattle.hwp_script_print.proofs.WordsPut.{IsNoAt, IsWhole, put_words, no_at-decimal, no_at-kind}
 

@@ -4,13 +4,13 @@ use Rattle.std.specs.Prelude.{◌↔◌, All, Contains, slice_get, sum_by, fold}
 use Rattle.std.specs.List.{range_with_len}
 use Rattle.std.proofs.lemmas.List.{length_push, take_all}
 use Rattle.std.proofs.lemmas.List.Elements.{All-nil, Contains-append_right, Contains-append_cases, Contains-push_cases}
-use Rattle.hwp_geom.specs.Limits.{command_limit}
-use Rattle.hwp_geom.specs.Layout.{IsSound, IsBacked}
-use Rattle.hwp_geom.specs.declared.Layout.{Layout}
-use Rattle.hwp_geom.specs.declared.PageKind.{PageKind}
-use Rattle.hwp_geom.specs.declared.PageKind.TheVariants as kinds
-use Rattle.hwp_script_lines.specs.declared.ScriptLine.{ScriptLine}
-use Rattle.hwp_script_lines.specs.declared.ScriptLine.TheVariants as forms
+use Rattle.hwp_script_read.specs.hwp_geom.Limits.{command_limit}
+use Rattle.hwp_script_read.specs.hwp_geom.Layout.{IsSound, IsBacked}
+use Rattle.hwp_script_read.specs.hwp_geom.declared.Layout.{Layout}
+use Rattle.hwp_script_read.specs.hwp_geom.declared.PageKind.{PageKind}
+use Rattle.hwp_script_read.specs.hwp_geom.declared.PageKind.TheVariants as kinds
+use Rattle.hwp_script_read.specs.hwp_script_lines.declared.ScriptLine.{ScriptLine}
+use Rattle.hwp_script_read.specs.hwp_script_lines.declared.ScriptLine.TheVariants as forms
 use Rattle.hwp_script_read.specs.declared.Script.{Script}
 use Rattle.hwp_script_read.specs.Context.{cpus_in, commands_in, place_after}
 use Rattle.hwp_script_read.specs.Collects.{Collects, IsEnded, commands_of, commands_from}

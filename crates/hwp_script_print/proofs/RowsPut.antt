@@ -4,9 +4,9 @@ use Rattle.std.specs.Prelude.{All}
 use Rattle.std.specs.List.{range_with_len}
 use Rattle.std.proofs.lemmas.List.{length-take, length-drop}
 use Rattle.std.proofs.lemmas.List.Elements.{All-head, All-tail, All-take, All-drop, All-weaker}
-use Rattle.hwp_geom.specs.Limits.{cpu_limit}
-use Rattle.hwp_script_lines.specs.declared.ScriptLine.{ScriptLine}
-use Rattle.hwp_script_lines.specs.declared.Go.{Go}
+use Rattle.hwp_script_read.specs.hwp_geom.Limits.{cpu_limit}
+use Rattle.hwp_script_read.specs.hwp_script_lines.declared.ScriptLine.{ScriptLine}
+use Rattle.hwp_script_read.specs.hwp_script_lines.declared.Go.{Go}
 use Rattle.hwp_script_read.specs.Limits.{schedule_limit}
 use Rattle.hwp_script_read.specs.Context.{cpus_in, go_in}
 use Rattle.hwp_script_read.specs.Reasons.{IsClean, top_cpu}

@@ -4,14 +4,14 @@ use Rattle.std.specs.Prelude.{All, Contains}
 use Rattle.std.specs.List.{range_with_len}
 use Rattle.std.proofs.lemmas.List.{append-nil, append_assoc, length_push}
 use Rattle.std.proofs.lemmas.List.Elements.{All-nil, All-cons, All-head, All-tail, All-push, All-weaker, All-contains}
-use Rattle.hwp_geom.specs.Limits.{cpu_limit}
-use Rattle.hwp_geom.specs.declared.ThreadDecl.{ThreadDecl}
-use Rattle.hwp_geom.specs.declared.TransDecl.{TransDecl}
-use Rattle.hwp_geom.specs.declared.PageKind.{PageKind}
-use Rattle.hwp_geom.specs.declared.PageKind.TheVariants as kinds
-use Rattle.hwp_script_lines.specs.declared.ScriptLine.{ScriptLine}
-use Rattle.hwp_script_lines.specs.declared.Go.{Go}
-use Rattle.hwp_script_lines.specs.declared.ScriptLine.TheVariants as forms
+use Rattle.hwp_script_read.specs.hwp_geom.Limits.{cpu_limit}
+use Rattle.hwp_script_read.specs.hwp_geom.declared.ThreadDecl.{ThreadDecl}
+use Rattle.hwp_script_read.specs.hwp_geom.declared.TransDecl.{TransDecl}
+use Rattle.hwp_script_read.specs.hwp_geom.declared.PageKind.{PageKind}
+use Rattle.hwp_script_read.specs.hwp_geom.declared.PageKind.TheVariants as kinds
+use Rattle.hwp_script_read.specs.hwp_script_lines.declared.ScriptLine.{ScriptLine}
+use Rattle.hwp_script_read.specs.hwp_script_lines.declared.Go.{Go}
+use Rattle.hwp_script_read.specs.hwp_script_lines.declared.ScriptLine.TheVariants as forms
 use Rattle.hwp_script_read.specs.Context.{cpus_of, frames_of, kernel_of, recovery_of, early_of, file_of, proc_of, thread_of, page_of, trans_of, cpu_of, command_of, words_of, kind_of, cpus_in, frames_in, kernel_in, recovery_in, early_in, files_in, procs_in, threads_in, pages_in, trans_in, lists_in, commands_in, go_in, place_in, place_after, group, highest}
 use Rattle.hwp_script_read.specs.Reasons.{IsClean, AreClean, IsBackingOver, IsBackingUndeclared}
 use Rattle.hwp_script_read.proofs.ContextLaws.{onto, plus, more, either, pushed}
@@ -19,7 +19,7 @@ use Rattle.hwp_script_read.proofs.CleanLaws.{IsPlaced}
 use Rattle.hwp_script_read.proofs.CleanLists.{AreClean-none, AreClean-push}
 use Rattle.hwp_script_read.proofs.ValidLaws.{IsNamedThread, IsNamedTrans}
 use Rattle.hwp_script_print.specs.Text.{backing_of, numbered, head_forms, kernel_forms, setting_forms, file_form, proc_form, thread_forms, page_forms, trans_forms}
-use Rattle.hwp_script_lines.specs.Grammar.{bit, Fits}
+use Rattle.hwp_script_read.specs.hwp_script_lines.Grammar.{bit, Fits}
 use Rattle.hwp_script_print.proofs.WordsPut.{IsWhole}
 use Rattle.hwp_script_print.proofs.CleanPut.{put_header, put_cpus, put_frames, put_kernel, put_recovery, put_early, put_file, put_proc, put_thread, put_page, put_trans}
 

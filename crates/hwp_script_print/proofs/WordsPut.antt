@@ -7,24 +7,24 @@ use Rattle.std.proofs.lemmas.Bool.{and_parts}
 use Rattle.std.proofs.lemmas.Bool.Decides.{nat_tests}
 use Rattle.std.proofs.lemmas.Fmt.{decimal_is_IsNumeral}
 use Rattle.std.proofs.lemmas.List.Elements.{All-nil, All-cons, All-head, All-tail}
-use Rattle.hwp_geom.specs.Limits.{line_limit, cpu_limit, frame_limit, file_limit, thread_limit, page_limit, translation_limit}
-use Rattle.hwp_geom.specs.Words.{hex}
-use Rattle.hwp_geom.specs.declared.Kind.{Kind}
-use Rattle.hwp_geom.specs.declared.Kind.TheVariants as kinds
-use Rattle.hwp_geom.proofs.WordsPut.{IsHigh, IsPut, ArePut, put_append, put_decimal, put_hex, are_fixed, fixed_high, fixed, then, nothing}
-use Rattle.hwp_script_lines.specs.Kinds.{kind_text}
-use Rattle.hwp_script_lines.specs.Numbers.{register}
-use Rattle.hwp_script_lines.specs.Grammar.{bit, keyword, keyword_text, command_words, rest_words, form_words, handler_text, turn_text, until_text, Fits, CommandFits}
+use Rattle.hwp_script_read.specs.hwp_geom.Limits.{line_limit, cpu_limit, frame_limit, file_limit, thread_limit, page_limit, translation_limit}
+use Rattle.hwp_script_read.specs.hwp_geom.Words.{hex}
+use Rattle.hwp_script_read.specs.hwp_geom.declared.Kind.{Kind}
+use Rattle.hwp_script_read.specs.hwp_geom.declared.Kind.TheVariants as kinds
+use Rattle.hwp_script_read.proofs.of_hwp_geom.WordsPut.{IsHigh, IsPut, ArePut, put_append, put_decimal, put_hex, are_fixed, fixed_high, fixed, then, nothing}
+use Rattle.hwp_script_read.specs.hwp_script_lines.Kinds.{kind_text}
+use Rattle.hwp_script_read.specs.hwp_script_lines.Numbers.{register}
+use Rattle.hwp_script_read.specs.hwp_script_lines.Grammar.{bit, keyword, keyword_text, command_words, rest_words, form_words, handler_text, turn_text, until_text, Fits, CommandFits}
 use Rattle.hwp_script_read.specs.Context.{words_of as turns_in}
-use Rattle.hwp_script_lines.specs.declared.ScriptLine.{ScriptLine}
-use Rattle.hwp_script_lines.specs.declared.Command.{Command}
-use Rattle.hwp_script_lines.specs.declared.Go.{Go}
-use Rattle.hwp_script_lines.specs.declared.Until.{Until}
-use Rattle.hwp_script_lines.specs.declared.ScriptLine.TheVariants as forms
-use Rattle.hwp_script_lines.specs.declared.Command.TheVariants as commands
-use Rattle.hwp_script_lines.specs.declared.Backing.TheVariants as backings
-use Rattle.hwp_script_lines.specs.declared.Until.TheVariants as untils
-use Rattle.hwp_script_lines.proofs.CommandLaws.{bit_low, low}
+use Rattle.hwp_script_read.specs.hwp_script_lines.declared.ScriptLine.{ScriptLine}
+use Rattle.hwp_script_read.specs.hwp_script_lines.declared.Command.{Command}
+use Rattle.hwp_script_read.specs.hwp_script_lines.declared.Go.{Go}
+use Rattle.hwp_script_read.specs.hwp_script_lines.declared.Until.{Until}
+use Rattle.hwp_script_read.specs.hwp_script_lines.declared.ScriptLine.TheVariants as forms
+use Rattle.hwp_script_read.specs.hwp_script_lines.declared.Command.TheVariants as commands
+use Rattle.hwp_script_read.specs.hwp_script_lines.declared.Backing.TheVariants as backings
+use Rattle.hwp_script_read.specs.hwp_script_lines.declared.Until.TheVariants as untils
+use Rattle.hwp_script_read.proofs.of_hwp_script_lines.CommandLaws.{bit_low, low}
 
 -- not `@`
 abbrev pub IsNoAt : ℕ → Type 0

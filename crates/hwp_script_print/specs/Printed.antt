@@ -1,13 +1,13 @@
 -- The printed words of some kinds of line, from their parts, and the text of lines.
 use Rattle.std.specs.Prelude.{ℕ, Bool, List, ◌∷◌}
 use Rattle.std.specs.List.{flat_map}
-use Rattle.hwp_geom.specs.Words.{line}
-use Rattle.hwp_script_lines.specs.Grammar.{form_words, command_text, command_word, command_words}
-use Rattle.hwp_script_lines.specs.declared.ScriptLine.{ScriptLine}
-use Rattle.hwp_script_lines.specs.declared.Backing.{Backing}
-use Rattle.hwp_script_lines.specs.declared.Command.{Command}
-use Rattle.hwp_script_lines.specs.declared.Go.{Go}
-use Rattle.hwp_script_lines.specs.declared.ScriptLine.TheVariants as forms
+use Rattle.hwp_script_read.specs.hwp_geom.Words.{line}
+use Rattle.hwp_script_read.specs.hwp_script_lines.Grammar.{form_words, command_text, command_word, command_words}
+use Rattle.hwp_script_read.specs.hwp_script_lines.declared.ScriptLine.{ScriptLine}
+use Rattle.hwp_script_read.specs.hwp_script_lines.declared.Backing.{Backing}
+use Rattle.hwp_script_read.specs.hwp_script_lines.declared.Command.{Command}
+use Rattle.hwp_script_read.specs.hwp_script_lines.declared.Go.{Go}
+use Rattle.hwp_script_read.specs.hwp_script_lines.declared.ScriptLine.TheVariants as forms
 
 -- the text of the line of a command
 unfoldable pub command_line : Command → List ℕ

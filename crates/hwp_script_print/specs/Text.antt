@@ -1,18 +1,18 @@
 -- The one text of a script.
 use Rattle.std.specs.Prelude.{ℕ, ◌+◌, ◌*◌, ◌/◌, ◌++◌, Bool, true, false, List, [], ◌∷◌, length, map, take, drop}
 use Rattle.std.specs.List.{range_with_len}
-use Rattle.hwp_geom.specs.declared.PageKind.{PageKind}
-use Rattle.hwp_geom.specs.declared.ThreadDecl.{ThreadDecl}
-use Rattle.hwp_geom.specs.declared.TransDecl.{TransDecl}
-use Rattle.hwp_geom.specs.declared.PageKind.TheVariants as kinds
-use Rattle.hwp_script_lines.specs.Grammar.{bit}
+use Rattle.hwp_script_read.specs.hwp_geom.declared.PageKind.{PageKind}
+use Rattle.hwp_script_read.specs.hwp_geom.declared.ThreadDecl.{ThreadDecl}
+use Rattle.hwp_script_read.specs.hwp_geom.declared.TransDecl.{TransDecl}
+use Rattle.hwp_script_read.specs.hwp_geom.declared.PageKind.TheVariants as kinds
+use Rattle.hwp_script_read.specs.hwp_script_lines.Grammar.{bit}
 use Rattle.hwp_script_print.specs.Printed.{forms_text}
-use Rattle.hwp_script_lines.specs.declared.ScriptLine.{ScriptLine}
-use Rattle.hwp_script_lines.specs.declared.Command.{Command}
-use Rattle.hwp_script_lines.specs.declared.Backing.{Backing}
-use Rattle.hwp_script_lines.specs.declared.Go.{Go}
-use Rattle.hwp_script_lines.specs.declared.ScriptLine.TheVariants as forms
-use Rattle.hwp_script_lines.specs.declared.Backing.TheVariants as backings
+use Rattle.hwp_script_read.specs.hwp_script_lines.declared.ScriptLine.{ScriptLine}
+use Rattle.hwp_script_read.specs.hwp_script_lines.declared.Command.{Command}
+use Rattle.hwp_script_read.specs.hwp_script_lines.declared.Backing.{Backing}
+use Rattle.hwp_script_read.specs.hwp_script_lines.declared.Go.{Go}
+use Rattle.hwp_script_read.specs.hwp_script_lines.declared.ScriptLine.TheVariants as forms
+use Rattle.hwp_script_read.specs.hwp_script_lines.declared.Backing.TheVariants as backings
 use Rattle.hwp_script_read.specs.declared.Script.{Script}
 
 -- what stands behind a page, with its numbers

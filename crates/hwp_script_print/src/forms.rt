@@ -1,12 +1,14 @@
 ghost use Rattle.std.specs.Prelude.{◌≡◌, ◌∷◌, ◌++◌, [], OnOk, string_bytes, codes, decimal};
 ghost use Rattle.std.specs.List.{flat_map};
-ghost use Rattle.hwp_geom.specs.Words.{line};
-ghost use Rattle.hwp_script_lines.specs.Grammar.{bit, form_words, turn_text};
-ghost use Rattle.hwp_script_lines.specs.Numbers.{register};
+ghost use Rattle.hwp_script_read.specs.hwp_geom.Words.{line};
+ghost use Rattle.hwp_script_read.specs.hwp_script_lines.Grammar.{bit, form_words, turn_text};
+ghost use Rattle.hwp_script_read.specs.hwp_script_lines.Numbers.{register};
 ghost use Rattle.hwp_script_print.specs.Printed.{command_line, thread_words, page_words, schedule_words};
 
-use hwp_geom::{Frame, Line, OutOfMemory, Thread, VSlot};
-use hwp_script_lines::{Backing, Command, Go, PrctlArgs, ScriptLine, Until, kind_name};
+use hwp_script_read::{
+    Backing, Command, Frame, Go, Line, OutOfMemory, PrctlArgs, ScriptLine, Thread, Until, VSlot,
+    kind_name,
+};
 
 /// Adds the line of a form to a text, with its line feed.
 #[tactic(auto, unfolding(crate::specs::Printed::command_line))]

@@ -1,6 +1,6 @@
 ghost use Rattle.std.specs.Prelude.{◌≡◌, ◌∷◌, ◌++◌, [], Bool, OnOk, IfOk, length, take, drop, ◌<◌, ◌≤◌, ◌+◌, ◌*◌, ◌⊎◌, string_bytes};
-ghost use Rattle.hwp_geom.specs.Words.{line};
-ghost use Rattle.hwp_script_lines.specs.Grammar.{form_words};
+ghost use Rattle.hwp_script_read.specs.hwp_geom.Words.{line};
+ghost use Rattle.hwp_script_read.specs.hwp_script_lines.Grammar.{form_words};
 ghost use Rattle.hwp_script_print.specs.Printed.{forms_text};
 ghost use Rattle.hwp_script_read.specs.Limits.{script_limit};
 ghost use Rattle.hwp_script_read.specs.Valid.{IsValid};
@@ -8,9 +8,10 @@ ghost use Rattle.hwp_script_print.specs.Round.{IsTextOf};
 ghost use Rattle.hwp_script_print.specs.Text.{backing_of, head_forms, kernel_forms, setting_forms, thread_forms, page_forms, trans_forms, list_forms, go_row, numbered, counted, file_form, proc_form, rows_of, script_text};
 
 use crate::put_form;
-use hwp_geom::{List, OutOfMemory, PageKind, Text, ThreadDecl, TransDecl};
-use hwp_script_lines::{Backing, ScriptLine};
-use hwp_script_read::{Command, Go, Script};
+use hwp_script_read::{
+    Backing, Command, Go, List, OutOfMemory, PageKind, Script, ScriptLine, Text, ThreadDecl,
+    TransDecl,
+};
 use std::alloc::Global;
 
 /// How many words of the schedule stand on a line.

@@ -3,31 +3,32 @@ use Rattle.std.proofs.Common.{◌≡◌, ◌≢◌, ◌⊎◌, inl, inr, ℕ, �
 use Rattle.std.proofs.lemmas.Bool.{both_ways, ltb-true}
 use Rattle.std.proofs.lemmas.List.{length-append, length-set}
 use Rattle.std.proofs.lemmas.Option.{none-some, same_Some}
-use Rattle.hwp_geom.specs.declared.Frame.{Frame}
-use Rattle.hwp_geom.specs.declared.Layout.{Layout}
-use Rattle.hwp_banks.specs.declared.Origin.TheVariants as origins
-use Rattle.hwp_banks.specs.Events.{bank_count, bank_of}
-use Rattle.hwp_words.specs.Stops.{is_stopped}
-use Rattle.hwp_core_rule.specs.declared.SharedWord.TheVariants as places
-use Rattle.hwp_core_rule.specs.declared.State.{State}
-use Rattle.hwp_core_rule.specs.declared.Step.{Step}
-use Rattle.hwp_core_rule.specs.declared.Step.TheVariants as steps
-use Rattle.hwp_core_rule.specs.declared.View.{View}
-use Rattle.hwp_core_rule.specs.Moves.{Move}
-use Rattle.hwp_core_rule.specs.Rule.{Holds}
-use Rattle.hwp_core_rule.specs.Lasting.{IsMild, LeavesPoison}
-use Rattle.hwp_core_rule.specs.Words.{Words}
-use Rattle.hwp_core_task.specs.declared.Turn.{Turn}
-use Rattle.hwp_core_task.specs.Boards.{view_of}
-use Rattle.hwp_core_task.specs.Calls.{logs, rec_of}
-use Rattle.hwp_core_task.specs.Classes.{TellsClass}
-use Rattle.hwp_core_task.specs.Hands.{hand_of, empty}
-use Rattle.hwp_core_task.specs.Ranks.{CostFalls, HasFailed, HasFrame, HasPage, IsRanked, Made, Member, OtherHand, Pending, Quiet, failure_weight, failures_left, is_refused, is_waits, member, top, words_at}
-use Rattle.hwp_core_task.proofs.StepRanks.{part-made, pending-kept}
+use Rattle.hwp_cpu_check.specs.hwp_geom.declared.Frame.{Frame}
+use Rattle.hwp_cpu_check.specs.hwp_geom.declared.Layout.{Layout}
+use Rattle.hwp_cpu_check.specs.hwp_banks.declared.Origin.TheVariants as origins
+use Rattle.hwp_cpu_check.specs.hwp_banks.Events.{bank_count, bank_of}
+use Rattle.hwp_cpu_check.specs.hwp_words.Stops.{is_stopped}
+use Rattle.hwp_cpu_check.specs.hwp_core_rule.declared.SharedWord.TheVariants as places
+use Rattle.hwp_cpu_check.specs.hwp_core_rule.declared.State.{State}
+use Rattle.hwp_cpu_check.specs.hwp_core_rule.declared.Step.{Step}
+use Rattle.hwp_cpu_check.specs.hwp_core_rule.declared.Step.TheVariants as steps
+use Rattle.hwp_cpu_check.specs.hwp_core_rule.declared.View.{View}
+use Rattle.hwp_cpu_check.specs.hwp_core_rule.Moves.{Move}
+use Rattle.hwp_cpu_check.specs.hwp_core_rule.Rule.{Holds}
+use Rattle.hwp_cpu_check.specs.hwp_core_rule.Lasting.{IsMild, LeavesPoison}
+use Rattle.hwp_cpu_check.specs.hwp_core_rule.Words.{Words}
+use Rattle.hwp_cpu_check.specs.hwp_core_task.declared.Turn.{Turn}
+use Rattle.hwp_cpu_check.specs.hwp_core_task.Boards.{view_of}
+use Rattle.hwp_cpu_check.specs.hwp_core_task.Calls.{logs, rec_of}
+use Rattle.hwp_cpu_check.specs.hwp_core_task.Classes.{TellsClass}
+use Rattle.hwp_cpu_check.specs.hwp_core_task.Hands.{hand_of, empty}
+use Rattle.hwp_cpu_check.specs.hwp_core_task.Ranks.{CostFalls, HasFailed, HasFrame, HasPage, IsRanked, Made, OtherHand, Pending, Quiet, failure_weight, failures_left, is_refused, is_waits, top, words_at}
+use Rattle.hwp_cpu_check.proofs.of_hwp_core_task.StepRanks.{part-made, pending-kept}
 use Rattle.hwp_cpu_check.proofs.of_hwp_core.TaskTells.{no-frame, no-page}
 use Rattle.hwp_cpu_check.specs.hwp_claim.Fails as fails
 use Rattle.hwp_cpu_check.proofs.of_hwp_claim.FailRank.{fail-small}
-use Rattle.hwp_cpu_check.specs.hwp_law.Checks.{Banks, has_stop}
+use Rattle.hwp_cpu_check.specs.hwp_banks.Banks.{Banks}
+use Rattle.hwp_cpu_check.specs.hwp_severity.Handling.{has_stop}
 use Rattle.hwp_cpu_check.specs.declared.Handler.{Handler}
 use Rattle.hwp_cpu_check.specs.declared.EventOutcome.{EventOutcome}
 use Rattle.hwp_cpu_check.specs.declared.handler.HandlerAt.{HandlerAt}
@@ -37,20 +38,17 @@ use Rattle.hwp_cpu_check.specs.Fits as handler_fits
 use Rattle.hwp_cpu_check.specs.Fits.{events_of}
 use Rattle.hwp_cpu_check.specs.Handlers as handlers
 use Rattle.hwp_cpu_check.proofs.BankGrades.{found-in}
-use Rattle.hwp_cpu_check.proofs.HandlerRank.{handler-lasting, handler-member, handler-ranked, handler-tells}
+use Rattle.hwp_cpu_check.proofs.HandlerRank.{handler-lasting, handler-ranked, handler-tells}
 use Rattle.hwp_cpu_check.proofs.EventTells.{tell-cost, tell-idle}
 use Rattle.hwp_scrub.specs.Costs.{aborts, aborts_at, claims, claims_at, class, class_at, cost, cost_at, rest_cost}
-use Rattle.hwp_scrub.specs.Fits.{Fits, FitsAt}
-use Rattle.hwp_scrub.specs.Scrubs.{AfterBadBy, AfterWeakBy, BeginsCheck, Follows, FollowsAt, after_handler, after_handler_by, bare, bare_at, emptied, gone_on, handler_of, kept, plan, plan_at, put, put_at, with_room}
+use Rattle.hwp_scrub.specs.Fits.{Fits, FitsAt, task as scrub-task}
+use Rattle.hwp_scrub.specs.Scrubs.{AfterBadBy, AfterWeakBy, BeginsCheck, Follows, FollowsAt, after_handler, after_handler_by, bare, bare_at, emptied, gone_on, handler_of, kept, plan, plan_at, put_at, with_room}
 use Rattle.hwp_scrub.specs.Visits.{scrubbing, with_bad}
 use Rattle.hwp_scrub.specs.declared.scrub.Scrub.{Scrub}
 use Rattle.hwp_scrub.specs.declared.scrub.ScrubAnswer.TheVariants as answers
 use Rattle.hwp_scrub.specs.declared.scrub.ScrubAt.{ScrubAt}
 use Rattle.hwp_scrub.specs.declared.scrub.ScrubAt.TheVariants as at
 use Rattle.hwp_scrub.proofs.VisitLaws.{left-banks}
-
-abbrev pub scrub-member : Member Scrub
-scrub-member = member (λ s. s.who) plan put bare (λ layout s found got after result. Follows layout s found got after result) Fits class cost aborts claims
 
 scrub-class : (s : Scrub) → (1 ≤ class s) × (class s ≤ 4)
 scrub-class s = which s.at
@@ -163,7 +161,7 @@ plain-weak s frame (Some line) after (inr (spare, room, is)) = subst (IsPlain (r
 
 -- ---- each turn
 
-module _ {layout : Layout} {seat : ℕ} {a b : State} {s t : Scrub} {turn : Turn} (made : Made scrub-member layout seat a b s t turn) where
+module _ {layout : Layout} {seat : ℕ} {a b : State} {s t : Scrub} {turn : Turn} (made : Made scrub-task layout seat a b s t turn) where
   abbrev w : Words
   w = words_at layout a
 
@@ -183,8 +181,8 @@ module _ {layout : Layout} {seat : ℕ} {a b : State} {s t : Scrub} {turn : Turn
   Next x = FollowsAt layout (bare s) (bare_at x) made.found made.got t turn
 
   -- a step of the machine check
-  handler-made : (frame : Frame) (h g : Handler) → Has (at.Handle frame h) → handlers.plan h ≡ Some made.step → Moves (at.Handle frame h) → handlers.Follows layout (handlers.bare h) made.found made.got g turn → Made handler-member layout seat a b h g turn
-  handler-made frame h g has e move follows = part-made made handler-member h g has.0.own has.0.handler e move follows
+  handler-made : (frame : Frame) (h g : Handler) → Has (at.Handle frame h) → handlers.plan h ≡ Some made.step → Moves (at.Handle frame h) → handlers.Follows layout (handlers.bare h) made.found made.got g turn → Made handler_fits.task layout seat a b h g turn
+  handler-made frame h g has e move follows = part-made made handler_fits.task h g has.0.own has.0.handler e move follows
 
   like : (frame : Frame) (g : Handler) → t ≡ after_handler (bare s) frame g → IsAs s.last frame g t
   like frame g is = subst (IsAs s.last frame g) (sym is) (as-handler (bare s) frame g)
@@ -207,7 +205,7 @@ module _ {layout : Layout} {seat : ℕ} {a b : State} {s t : Scrub} {turn : Turn
   goes-at at.GiveUp e has move next goes = inl (let none : cost t now ≡ 0 = ap (λ (x : Scrub). cost x now) next.0 in omega (arith, none))
   goes-at (at.Over answer) e has move next goes = absurd (none-some made.step e)
 
-  falls : is_waits turn ≡ false → CostFalls scrub-member layout a b s t ⊎ HasFailed scrub-member layout a b s t
+  falls : is_waits turn ≡ false → CostFalls scrub-task layout a b s t ⊎ HasFailed scrub-task layout a b s t
   falls goes = elim (goes-at s.at made.planned made.fits.at made.move made.follows goes) [
     | inl less ↦ inl less
     | inr failed ↦ inr (record { fewer = failed.0; bounded = failed.1 })
@@ -258,7 +256,7 @@ module _ {layout : Layout} {seat : ℕ} {a b : State} {s t : Scrub} {turn : Turn
   owns-at at.GiveUp frame cycle e has move next going pending = inr (stays-pending at.GiveUp steps.GiveUp frame cycle e tt refl pending)
   owns-at (at.Over answer) frame cycle e has move next going pending = absurd (none-some made.step e)
 
-pub scrub-ranked : IsRanked scrub-member
+pub scrub-ranked : IsRanked scrub-task
 scrub-ranked = record {
   classes = scrub-class;
   small = scrub-small;
@@ -306,7 +304,7 @@ module _ (layout : Layout) (view : View) (s : Scrub) where
   claim-told at.GiveUp of cycle has claimed = absurd (none-some (of, cycle) claimed)
   claim-told (at.Over answer) of cycle has claimed = absurd (none-some (of, cycle) claimed)
 
-pub scrub-tells : TellsClass scrub-member
+pub scrub-tells : TellsClass scrub-task
 scrub-tells = record {
   frame = λ layout view s fits some. frame-told layout view s s.at fits.at some;
   page = λ layout view s fits some. page-told layout view s s.at fits.at some;

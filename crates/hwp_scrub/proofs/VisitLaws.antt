@@ -4,19 +4,21 @@ use Rattle.std.proofs.lemmas.List.{length-append, length-set}
 use Rattle.std.proofs.lemmas.List.Concat.{flat_map-append}
 use Rattle.std.proofs.lemmas.List.Folds.{list_any-append}
 use Rattle.std.proofs.lemmas.Option.{get_or_from_slice_get}
-use Rattle.hwp_geom.specs.declared.Frame.{Frame}
-use Rattle.hwp_geom.specs.declared.Layout.{Layout}
-use Rattle.hwp_geom.specs.declared.Who.{Who}
-use Rattle.hwp_banks.specs.declared.Event.{Event}
-use Rattle.hwp_banks.specs.declared.Origin.TheVariants as origins
-use Rattle.hwp_banks.specs.Events.{own_event}
-use Rattle.hwp_banks.specs.Logged.{logged, without_over}
-use Rattle.hwp_core_rule.specs.declared.SharedWord.{SharedWord}
-use Rattle.hwp_core_rule.specs.declared.SharedWord.TheVariants as places
-use Rattle.hwp_core_rule.specs.declared.View.{View}
-use Rattle.hwp_core_rule.proofs.Lists.{set_here}
-use Rattle.hwp_core_task.specs.Known.{Saw}
-use Rattle.hwp_cpu_check.specs.hwp_law.Checks.{Banks, empty_banks, has_stop, is_panic, is_stopping}
+use Rattle.hwp_cpu_check.specs.hwp_geom.declared.Frame.{Frame}
+use Rattle.hwp_cpu_check.specs.hwp_geom.declared.Layout.{Layout}
+use Rattle.hwp_cpu_check.specs.hwp_geom.declared.Who.{Who}
+use Rattle.hwp_cpu_check.specs.hwp_banks.declared.Event.{Event}
+use Rattle.hwp_cpu_check.specs.hwp_banks.declared.Origin.TheVariants as origins
+use Rattle.hwp_cpu_check.specs.hwp_banks.Events.{own_event}
+use Rattle.hwp_cpu_check.specs.hwp_banks.Logged.{logged, without_over}
+use Rattle.hwp_cpu_check.specs.hwp_core_rule.declared.SharedWord.{SharedWord}
+use Rattle.hwp_cpu_check.specs.hwp_core_rule.declared.SharedWord.TheVariants as places
+use Rattle.hwp_cpu_check.specs.hwp_core_rule.declared.View.{View}
+use Rattle.hwp_cpu_check.proofs.of_hwp_core_rule.Lists.{set_here}
+use Rattle.hwp_cpu_check.specs.hwp_core_task.Known.{Saw}
+use Rattle.hwp_cpu_check.specs.hwp_report_text.Acts.{is_panic, is_stopping}
+use Rattle.hwp_cpu_check.specs.hwp_banks.Banks.{Banks, empty_banks}
+use Rattle.hwp_cpu_check.specs.hwp_severity.Handling.{has_stop}
 use Rattle.hwp_cpu_check.specs.declared.EventOutcome.{EventOutcome}
 use Rattle.hwp_cpu_check.specs.Told.{halts}
 use Rattle.hwp_cpu_check.proofs.FailureKeeps.{Stay, told-stays}

@@ -1,17 +1,19 @@
 -- What is held and known during a scrub.
 use Rattle.std.specs.Prelude.{◌≡◌, ◌⊎◌, ℕ, ◌+◌, ◌<◌, ◌≤◌, Bool, true, false, List, [], ◌++◌, Some, None, length}
-use Rattle.hwp_geom.specs.declared.Frame.{Frame}
-use Rattle.hwp_geom.specs.declared.Layout.{Layout}
-use Rattle.hwp_geom.specs.declared.Who.{Who}
-use Rattle.hwp_geom.specs.Layout.{IsSound}
-use Rattle.hwp_banks.specs.Events.{bank_count}
-use Rattle.hwp_core_rule.specs.declared.Made.{Made}
-use Rattle.hwp_core_rule.specs.declared.SharedWord.TheVariants as places
-use Rattle.hwp_core_rule.specs.declared.View.{View}
-use Rattle.hwp_core_task.specs.Calls.{IsOnTurn}
-use Rattle.hwp_core_task.specs.Hands.{hand_of, empty}
-use Rattle.hwp_core_task.specs.Known.{HasMadeNone, HasOnly, SawStop, is_failure}
-use Rattle.hwp_cpu_check.specs.hwp_law.Checks.{Banks, empty_banks, has_stop}
+use Rattle.hwp_cpu_check.specs.hwp_geom.declared.Frame.{Frame}
+use Rattle.hwp_cpu_check.specs.hwp_geom.declared.Layout.{Layout}
+use Rattle.hwp_cpu_check.specs.hwp_geom.declared.Who.{Who}
+use Rattle.hwp_cpu_check.specs.hwp_geom.Layout.{IsSound}
+use Rattle.hwp_cpu_check.specs.hwp_banks.Events.{bank_count}
+use Rattle.hwp_cpu_check.specs.hwp_core_rule.declared.Made.{Made}
+use Rattle.hwp_cpu_check.specs.hwp_core_rule.declared.SharedWord.TheVariants as places
+use Rattle.hwp_cpu_check.specs.hwp_core_rule.declared.View.{View}
+use Rattle.hwp_cpu_check.specs.hwp_core_task.Calls.{IsOnTurn}
+use Rattle.hwp_cpu_check.specs.hwp_core_task.Hands.{hand_of, empty}
+use Rattle.hwp_cpu_check.specs.hwp_core_task.Known.{HasMadeNone, HasOnly, SawStop, is_failure}
+use Rattle.hwp_cpu_check.specs.hwp_core_task.Turns.{Member}
+use Rattle.hwp_cpu_check.specs.hwp_banks.Banks.{Banks, empty_banks}
+use Rattle.hwp_cpu_check.specs.hwp_severity.Handling.{has_stop}
 use Rattle.hwp_cpu_check.specs.declared.Handler.{Handler}
 use Rattle.hwp_cpu_check.specs.Events.{held_in}
 use Rattle.hwp_cpu_check.specs.Fits as handler_fits
@@ -19,6 +21,8 @@ use Rattle.hwp_cpu_check.specs.Fits.{IsAtRest, IsStoppedIf, events_of}
 use Rattle.hwp_cpu_check.specs.Handlers as handlers
 use Rattle.hwp_cpu_check.specs.Told.{halts}
 use Rattle.hwp_scrub.specs.Visits.{AreBanks, AreVisits, Find, IsBadFind, SawLowest, Visit, left_by, left_by_bad, lines_of, scrubbing, with_bad}
+use Rattle.hwp_scrub.specs.Scrubs.{Follows, Shows, bare, plan, put}
+use Rattle.hwp_scrub.specs.Costs.{aborts, claims, class, cost}
 use Rattle.hwp_scrub.specs.declared.scrub.Scrub.{Scrub}
 use Rattle.hwp_scrub.specs.declared.scrub.ScrubAnswer.{ScrubAnswer}
 use Rattle.hwp_scrub.specs.declared.scrub.ScrubAnswer.TheVariants as answers
@@ -105,3 +109,19 @@ pub record Fits (layout : Layout) (view : View) (s : Scrub) : Type 0 where
   pub frames : AreFrames layout s.first s.last
   pub banks : AreBanks s.before.value
   pub at : FitsAt layout view s s.at
+
+-- the task, as the laws of tasks read it
+abbrev pub task : Member Scrub
+task = record {
+  who = λ s. s.who;
+  plan = plan;
+  put = put;
+  bare = bare;
+  shows = Shows;
+  next = Follows;
+  fits = Fits;
+  class = class;
+  cost = cost;
+  aborts = aborts;
+  claims = claims;
+}

@@ -1,19 +1,15 @@
 ghost use Rattle.std.specs.Prelude.{◌≡◌, ◌≤◌, length, MatchOption};
-ghost use Rattle.hwp_geom.specs.Bits.{HasNoBitFrom, IsLowestBit};
-ghost use Rattle.hwp_banks.specs.Events.{bank_count};
-ghost use Rattle.hwp_cpu_check.specs.hwp_law.Checks.{empty_banks};
+ghost use Rattle.hwp_cpu_check.specs.hwp_geom.Bits.{HasNoBitFrom, IsLowestBit};
+ghost use Rattle.hwp_cpu_check.specs.hwp_banks.Events.{bank_count};
+ghost use Rattle.hwp_cpu_check.specs.hwp_banks.Banks.{empty_banks};
 ghost use Rattle.hwp_scrub.specs.Visits.{with_bad};
 ghost use Rattle.hwp_scrub.specs.Scrubs.{AfterBad, AfterWeak, BeginsCheck, MeetsWeak, after_handler, after_stop, answer, begin, gone_on, kept, kept_line};
 
-use hwp_banks::{BANKS, Bank, Event, Origin};
-use hwp_core_rule::{SharedWord, Step};
-use hwp_core_task::{Ranked, Scheduled, Task, Turn};
-use hwp_cpu_check::{EventOutcome, Handler, Held, ToldLines, no_events};
-use hwp_geom::{Frame, Layout, Line, List, Mode, Who, lowest_bit};
-use hwp_page::Body;
-use hwp_report_text::Acted;
-use hwp_severity::{McgBits, grade};
-use hwp_words::is_stopped;
+use hwp_cpu_check::{
+    Acted, BANKS, Bank, Body, Event, EventOutcome, Frame, Handler, Held, Layout, Line, List,
+    McgBits, Mode, Origin, Ranked, Scheduled, SharedWord, Step, Task, ToldLines, Turn, Who, grade,
+    is_stopped, lowest_bit, no_events,
+};
 use std::alloc::Global;
 use std::mem;
 use std::snapshot::Snapshot;
@@ -275,22 +271,9 @@ fn kept_line(event: Event) -> EventOutcome
 }
 
 impl Task for Scrub {
-    ghost use Rattle.hwp_scrub.specs.Scrubs.{Follows, Shows, bare, plan, put};
-    ghost use Rattle.hwp_scrub.specs.Fits.{Fits};
+    ghost use Rattle.hwp_scrub.specs.Fits as fits;
 
-    ghost who = { λ s. s.who };
-
-    ghost plan = { λ s. plan s };
-
-    ghost put = { λ s. put s };
-
-    ghost bare = { λ s. bare s };
-
-    ghost shows = { λ s found got. Shows s found got };
-
-    ghost next = { λ layout s found got after result. Follows layout s found got after result };
-
-    ghost fits = { λ layout view s. Fits layout view s };
+    ghost task = { fits.task };
 
     fn who(&self) -> Who {
         self.who
@@ -366,16 +349,6 @@ impl Task for Scrub {
 }
 
 impl Ranked for Scrub {
-    ghost use Rattle.hwp_scrub.specs.Costs.{aborts, claims, class, cost};
-
-    ghost class_of = { λ s. class s };
-
-    ghost cost = { λ s words. cost s words };
-
-    ghost aborts = { λ s. aborts s };
-
-    ghost claims = { λ s. claims s };
-
     fn class(&self) -> u8 {
         match &self.at {
             ScrubAt::Handle { handler, .. } => handler.class(),

@@ -1,6 +1,6 @@
 ghost use Rattle.std.specs.Prelude.{◌≡◌, ◌<◌, IfSome, map};
 ghost use Rattle.hwp_banks.specs.Events.{bank_count};
-ghost use Rattle.hwp_severity.specs.Handling.{grade_of, lowest_stop, stops};
+ghost use Rattle.hwp_severity.specs.Handling.{grade_of, is_stop, lowest_stop};
 
 use crate::{Grade, McgBits, Severity, grade};
 use hwp_banks::{BANKS, Bank, Status};
@@ -52,7 +52,7 @@ fn stopping_bank(grades: &[Grade; BANKS]) -> Option<usize>
 }
 
 fn is_stop(grade: Grade) -> bool
-    ensures { result ≡ stops grade.severity }
+    ensures { result ≡ is_stop grade.severity }
 {
     matches!(grade.severity, Severity::Stop)
 }

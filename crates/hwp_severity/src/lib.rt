@@ -8,4 +8,4 @@ mod types;
 
 pub use grading::grade;
 pub use handling::{Decision, handle};
-pub use types::{Grade, McgBits, Severity};
+pub use types::{Arrival, Grade, McgBits, Severity};

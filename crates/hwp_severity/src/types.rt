@@ -1,3 +1,5 @@
+use hwp_geom::Mode;
+
 /// What is done about an event (this project's rule, with the Intel SDM's names for uncorrected recoverable errors).
 #[derive(Clone, Copy, PartialEq, Eq)]
 pub enum Severity {
@@ -30,4 +32,11 @@ pub struct Grade {
 pub struct McgBits {
     pub ripv: bool,
     pub eipv: bool,
+}
+
+/// How a machine check arrives: two bits of IA32_MCG_STATUS, and the mode of the processor (this project's rule).
+#[derive(Clone, Copy)]
+pub struct Arrival {
+    pub mcg: McgBits,
+    pub mode: Mode,
 }

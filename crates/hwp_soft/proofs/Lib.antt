@@ -8,8 +8,4 @@ pub mod SoftFits
 pub mod SoftRank
 pub mod SoftTells
 pub use Rattle.hwp_claim.proofs as of_hwp_claim
-pub use Rattle.hwp_claim.proofs.of_hwp_claim_act as of_hwp_claim_act
-pub use Rattle.hwp_soft_move.proofs.of_hwp_claim_frame as of_hwp_claim_frame
-pub use Rattle.hwp_soft_move.proofs.of_hwp_evict as of_hwp_evict
-pub use Rattle.hwp_soft_move.proofs as of_hwp_soft_move
 pub use Rattle.hwp_soft_unpoison.proofs as of_hwp_soft_unpoison

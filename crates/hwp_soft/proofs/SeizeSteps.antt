@@ -3,38 +3,38 @@ use Rattle.std.proofs.Common.{◌≡◌, ◌⊎◌, inl, inr, ℕ, ◌+◌, ◌<
 use Rattle.std.proofs.lemmas.Bool.{eqb-false, eqb-true}
 use Rattle.std.proofs.lemmas.List.{drop-append-le, length-append}
 use Rattle.std.proofs.lemmas.Option.{none-some, same_Some}
-use Rattle.hwp_geom.specs.declared.Frame.{Frame}
-use Rattle.hwp_geom.specs.declared.Layout.{Layout}
-use Rattle.hwp_geom.specs.declared.Page.{Page}
-use Rattle.hwp_geom.specs.declared.Who.{Who}
-use Rattle.hwp_page.specs.declared.PageState.{PageState}
-use Rattle.hwp_page.specs.History.{BodyValue}
-use Rattle.hwp_words.specs.Stops.{is_stopped}
-use Rattle.hwp_core_rule.specs.declared.FrameLock.{FrameLock}
-use Rattle.hwp_core_rule.specs.declared.SharedWord.TheVariants as places
-use Rattle.hwp_core_rule.specs.declared.Sight.{Sight}
-use Rattle.hwp_core_rule.specs.declared.Step.{Step}
-use Rattle.hwp_core_rule.specs.declared.Step.TheVariants as steps
-use Rattle.hwp_core_rule.specs.declared.View.{View}
-use Rattle.hwp_core_rule.specs.Lists.{SomeMember}
-use Rattle.hwp_core_rule.specs.Logs.{log_of}
-use Rattle.hwp_core_rule.specs.Views.{noted, stamp_of}
-use Rattle.hwp_core_rule.specs.parts.Entries.{Shows}
-use Rattle.hwp_core_rule.proofs.Lists.{some-last}
-use Rattle.hwp_core_task.specs.Calls.{IsOnTurn, Steps, logs}
-use Rattle.hwp_core_task.specs.Hands.{Hand, empty, hand_of}
-use Rattle.hwp_core_task.proofs.StepLeaves.{hand-planned}
-use Rattle.hwp_core_task.specs.Known.{HasMadeNone, is_by}
-use Rattle.hwp_core_task.proofs.MadeEntries.{deeds-same, made-kept}
-use Rattle.hwp_core_task.proofs.SightKeeps.{saw-bad-of-load, saw-load}
-use Rattle.hwp_core.specs.Holds.{HoldsPage, held}
-use Rattle.hwp_core.specs.Unlocks as unlocks
-use Rattle.hwp_core.proofs.GiveUpLaws.{page-given-up}
-use Rattle.hwp_core.proofs.HoldEnds.{held-unholds}
-use Rattle.hwp_soft_move.proofs.of_hwp_evict.PageStates.{is-cached, state-is}
-use Rattle.hwp_soft_move.specs.hwp_claim_frame.Meets.{HoldsMet}
-use Rattle.hwp_soft_move.proofs.of_hwp_claim_frame.ViewKeeps.{Account, OnlyHolds, grab-only, kept, meet-only, planned, unlock-only}
-use Rattle.hwp_soft_move.proofs.of_hwp_claim_frame.FrameUnlocks.{one-taken}
+use Rattle.hwp_evict.specs.hwp_geom.declared.Frame.{Frame}
+use Rattle.hwp_evict.specs.hwp_geom.declared.Layout.{Layout}
+use Rattle.hwp_evict.specs.hwp_geom.declared.Page.{Page}
+use Rattle.hwp_evict.specs.hwp_geom.declared.Who.{Who}
+use Rattle.hwp_evict.specs.hwp_page.declared.PageState.{PageState}
+use Rattle.hwp_evict.specs.hwp_page.History.{BodyValue}
+use Rattle.hwp_evict.specs.hwp_words.Stops.{is_stopped}
+use Rattle.hwp_evict.specs.hwp_core_rule.declared.FrameLock.{FrameLock}
+use Rattle.hwp_evict.specs.hwp_core_rule.declared.SharedWord.TheVariants as places
+use Rattle.hwp_evict.specs.hwp_core_rule.declared.Sight.{Sight}
+use Rattle.hwp_evict.specs.hwp_core_rule.declared.Step.{Step}
+use Rattle.hwp_evict.specs.hwp_core_rule.declared.Step.TheVariants as steps
+use Rattle.hwp_evict.specs.hwp_core_rule.declared.View.{View}
+use Rattle.hwp_evict.specs.hwp_core_rule.Lists.{SomeMember}
+use Rattle.hwp_evict.specs.hwp_core_rule.Logs.{log_of}
+use Rattle.hwp_evict.specs.hwp_core_rule.Views.{noted, stamp_of}
+use Rattle.hwp_evict.specs.hwp_core_rule.parts.Entries.{Shows}
+use Rattle.hwp_evict.proofs.of_hwp_core_rule.Lists.{some-last}
+use Rattle.hwp_evict.specs.hwp_core_task.Calls.{IsOnTurn, Steps, logs}
+use Rattle.hwp_evict.specs.hwp_core_task.Hands.{Hand, empty, hand_of}
+use Rattle.hwp_evict.proofs.of_hwp_core_task.StepLeaves.{hand-planned}
+use Rattle.hwp_evict.specs.hwp_core_task.Known.{HasMadeNone, is_by}
+use Rattle.hwp_evict.proofs.of_hwp_core_task.MadeEntries.{deeds-same, made-kept}
+use Rattle.hwp_evict.proofs.of_hwp_core_task.SightKeeps.{saw-bad-of-load, saw-load}
+use Rattle.hwp_evict.specs.hwp_core.Holds.{HoldsPage, held}
+use Rattle.hwp_evict.specs.hwp_core.Unlocks as unlocks
+use Rattle.hwp_evict.proofs.of_hwp_core.GiveUpLaws.{page-given-up}
+use Rattle.hwp_evict.proofs.of_hwp_core.HoldEnds.{held-unholds}
+use Rattle.hwp_evict.proofs.PageStates.{is-cached, state-is}
+use Rattle.hwp_soft_unpoison.specs.hwp_claim_frame.Meets.{HoldsMet}
+use Rattle.hwp_soft_unpoison.proofs.of_hwp_claim_frame.ViewKeeps.{Account, OnlyHolds, grab-only, kept, meet-only, planned, unlock-only}
+use Rattle.hwp_soft_unpoison.proofs.of_hwp_claim_frame.FrameUnlocks.{one-taken}
 use Rattle.hwp_soft_move.specs.declared.discard.Discard.{Discard}
 use Rattle.hwp_soft_move.specs.declared.discard.DiscardAt.{DiscardAt}
 use Rattle.hwp_soft_move.specs.declared.discard.DiscardAt.TheVariants as discard_at

@@ -1,43 +1,43 @@
 -- The laws of `Soft`: what follows a step fits again.
 use Rattle.std.proofs.Common.{◌≡◌, ℕ, Bool, true, false, cond, Option, Some, None, filter, is_none, refl, sym, ap, ◌∙◌, subst}
 use Rattle.std.proofs.lemmas.Option.{none-some}
-use Rattle.hwp_geom.specs.declared.Frame.{Frame}
-use Rattle.hwp_geom.specs.declared.Layout.{Layout}
-use Rattle.hwp_geom.specs.declared.Who.{Who}
-use Rattle.hwp_page.specs.History.{BodyValue}
-use Rattle.hwp_core_rule.specs.declared.Step.{Step}
-use Rattle.hwp_core_rule.specs.declared.View.{View}
-use Rattle.hwp_core_task.specs.declared.Turn.{Turn}
-use Rattle.hwp_core_task.specs.Calls.{IsOnTurn, Steps, logs}
-use Rattle.hwp_core_task.specs.Hands.{empty, hand_of}
-use Rattle.hwp_core_task.proofs.StepLeaves.{hand-planned, on-turn-after, steps-planned}
-use Rattle.hwp_core_task.specs.Known.{HasMadeNone, is_by}
-use Rattle.hwp_core_task.proofs.MadeEntries.{deeds-same, has-made-stays}
-use Rattle.hwp_core_task.proofs.SightKeeps.{saw-bad-of-stays, saw-stays}
-use Rattle.hwp_core.specs.declared.give_up.GiveUp.{GiveUp}
-use Rattle.hwp_core.specs.declared.give_up.GiveUpAt.{GiveUpAt}
-use Rattle.hwp_core.specs.declared.give_up.GiveUpAt.TheVariants as give_up_at
-use Rattle.hwp_core.specs.declared.release.Release.{Release}
-use Rattle.hwp_core.specs.declared.release.ReleaseAt.{ReleaseAt}
-use Rattle.hwp_core.specs.declared.release.ReleaseAt.TheVariants as release_at
-use Rattle.hwp_core.specs.declared.unhold.Unhold.{Unhold}
-use Rattle.hwp_core.specs.declared.unhold.UnholdAt.{UnholdAt}
-use Rattle.hwp_core.specs.declared.unhold.UnholdAt.TheVariants as unhold_at
-use Rattle.hwp_core.specs.declared.unlock.Unlock.{Unlock}
-use Rattle.hwp_core.specs.declared.unlock.UnlockAt.{UnlockAt}
-use Rattle.hwp_core.specs.declared.unlock.UnlockAt.TheVariants as unlock_at
-use Rattle.hwp_core.specs.GiveUps as give_ups
-use Rattle.hwp_core.specs.Releases as releases
-use Rattle.hwp_core.specs.Unholds as unholds
-use Rattle.hwp_core.specs.Unlocks as unlocks
-use Rattle.hwp_core.proofs.GiveUpLaws as giving_up
-use Rattle.hwp_core.proofs.HoldEnds.{nothing-left}
-use Rattle.hwp_core.proofs.UnholdLaws as unholding
-use Rattle.hwp_soft_move.specs.hwp_claim_frame.Claims.{HasMarked, SawPoison}
-use Rattle.hwp_soft_move.specs.hwp_claim_frame.Grabs.{WasFree}
-use Rattle.hwp_soft_move.specs.hwp_claim_frame.Meets.{AsTaken}
-use Rattle.hwp_soft_move.proofs.of_hwp_claim_frame.ClaimLaws.{mark-stays}
-use Rattle.hwp_soft_move.proofs.of_hwp_claim_frame.ViewKeeps.{Account, OnlyHolds, account_of, kept, planned, release-only}
+use Rattle.hwp_evict.specs.hwp_geom.declared.Frame.{Frame}
+use Rattle.hwp_evict.specs.hwp_geom.declared.Layout.{Layout}
+use Rattle.hwp_evict.specs.hwp_geom.declared.Who.{Who}
+use Rattle.hwp_evict.specs.hwp_page.History.{BodyValue}
+use Rattle.hwp_evict.specs.hwp_core_rule.declared.Step.{Step}
+use Rattle.hwp_evict.specs.hwp_core_rule.declared.View.{View}
+use Rattle.hwp_evict.specs.hwp_core_task.declared.Turn.{Turn}
+use Rattle.hwp_evict.specs.hwp_core_task.Calls.{IsOnTurn, Steps, logs}
+use Rattle.hwp_evict.specs.hwp_core_task.Hands.{empty, hand_of}
+use Rattle.hwp_evict.proofs.of_hwp_core_task.StepLeaves.{hand-planned, on-turn-after, steps-planned}
+use Rattle.hwp_evict.specs.hwp_core_task.Known.{HasMadeNone, is_by}
+use Rattle.hwp_evict.proofs.of_hwp_core_task.MadeEntries.{deeds-same, has-made-stays}
+use Rattle.hwp_evict.proofs.of_hwp_core_task.SightKeeps.{saw-bad-of-stays, saw-stays}
+use Rattle.hwp_evict.specs.hwp_core.declared.give_up.GiveUp.{GiveUp}
+use Rattle.hwp_evict.specs.hwp_core.declared.give_up.GiveUpAt.{GiveUpAt}
+use Rattle.hwp_evict.specs.hwp_core.declared.give_up.GiveUpAt.TheVariants as give_up_at
+use Rattle.hwp_evict.specs.hwp_core.declared.release.Release.{Release}
+use Rattle.hwp_evict.specs.hwp_core.declared.release.ReleaseAt.{ReleaseAt}
+use Rattle.hwp_evict.specs.hwp_core.declared.release.ReleaseAt.TheVariants as release_at
+use Rattle.hwp_evict.specs.hwp_core.declared.unhold.Unhold.{Unhold}
+use Rattle.hwp_evict.specs.hwp_core.declared.unhold.UnholdAt.{UnholdAt}
+use Rattle.hwp_evict.specs.hwp_core.declared.unhold.UnholdAt.TheVariants as unhold_at
+use Rattle.hwp_evict.specs.hwp_core.declared.unlock.Unlock.{Unlock}
+use Rattle.hwp_evict.specs.hwp_core.declared.unlock.UnlockAt.{UnlockAt}
+use Rattle.hwp_evict.specs.hwp_core.declared.unlock.UnlockAt.TheVariants as unlock_at
+use Rattle.hwp_evict.specs.hwp_core.GiveUps as give_ups
+use Rattle.hwp_evict.specs.hwp_core.Releases as releases
+use Rattle.hwp_evict.specs.hwp_core.Unholds as unholds
+use Rattle.hwp_evict.specs.hwp_core.Unlocks as unlocks
+use Rattle.hwp_evict.proofs.of_hwp_core.GiveUpLaws as giving_up
+use Rattle.hwp_evict.proofs.of_hwp_core.HoldEnds.{nothing-left}
+use Rattle.hwp_evict.proofs.of_hwp_core.UnholdLaws as unholding
+use Rattle.hwp_soft_unpoison.specs.hwp_claim_frame.Claims.{HasMarked, SawPoison}
+use Rattle.hwp_soft_unpoison.specs.hwp_claim_frame.Grabs.{WasFree}
+use Rattle.hwp_soft_unpoison.specs.hwp_claim_frame.Meets.{AsTaken}
+use Rattle.hwp_soft_unpoison.proofs.of_hwp_claim_frame.ClaimLaws.{mark-stays}
+use Rattle.hwp_soft_unpoison.proofs.of_hwp_claim_frame.ViewKeeps.{Account, OnlyHolds, account_of, kept, planned, release-only}
 use Rattle.hwp_soft_move.specs.declared.relocate.Relocate.{Relocate}
 use Rattle.hwp_soft_move.specs.declared.relocate.Transfer.{Transfer}
 use Rattle.hwp_soft_move.specs.Discards as discards

@@ -2,62 +2,62 @@
 use Rattle.std.proofs.Common.{◌≡◌, ◌≢◌, ◌⊎◌, inl, inr, ℕ, ◌+◌, ◌<◌, ◌≤◌, ◌==◌, Bool, true, false, cond, Option, Some, None, MatchBool, is_none, length, slice_get, refl, sym, ap, ◌∙◌, subst, arith}
 use Rattle.std.proofs.lemmas.Bool.{both_ways}
 use Rattle.std.proofs.lemmas.Option.{none-some, same_Some}
-use Rattle.hwp_geom.specs.declared.Frame.{Frame}
-use Rattle.hwp_geom.specs.declared.Layout.{Layout}
-use Rattle.hwp_geom.specs.declared.Page.{Page}
-use Rattle.hwp_geom.specs.declared.VSlot.{VSlot}
-use Rattle.hwp_geom.specs.declared.Who.{Who}
-use Rattle.hwp_page.specs.declared.At.{At}
-use Rattle.hwp_page.specs.History.{BodyValue}
-use Rattle.hwp_words.specs.Frames.{cycle_of, is_poisoned}
-use Rattle.hwp_words.specs.Stops.{is_stopped}
-use Rattle.hwp_core_rule.specs.declared.State.{State}
-use Rattle.hwp_core_rule.specs.declared.Step.{Step}
-use Rattle.hwp_core_rule.specs.declared.Step.TheVariants as steps
-use Rattle.hwp_core_rule.specs.Moves.{Move}
-use Rattle.hwp_core_rule.specs.Rule.{Holds}
-use Rattle.hwp_core_rule.specs.Lasting.{IsMild}
-use Rattle.hwp_core_rule.specs.Words.{Words, free_words}
-use Rattle.hwp_core_task.specs.declared.Turn.{Turn}
-use Rattle.hwp_core_task.specs.declared.Turn.TheVariants.{Moved}
-use Rattle.hwp_core_task.specs.Boards.{view_of}
-use Rattle.hwp_core_task.specs.Calls.{logs, rec_of}
-use Rattle.hwp_core_task.specs.Hands.{Hand}
-use Rattle.hwp_core_task.specs.Ranks.{IsRanked, Made, Member, OtherHand, Pending, Quiet, failures_left, is_waits, member, words_at}
-use Rattle.hwp_core_task.proofs.StepRanks.{failed, met, pending-kept, retire-fails, steps-on, words-after, words-kept}
-use Rattle.hwp_core.specs.declared.give_up.GiveUp.{GiveUp}
-use Rattle.hwp_core.specs.declared.refer.Refer.{Refer}
-use Rattle.hwp_core.specs.declared.refer.ReferAt.{ReferAt}
-use Rattle.hwp_core.specs.declared.refer.ReferAt.TheVariants as refer_at
-use Rattle.hwp_core.specs.declared.release.Release.{Release}
-use Rattle.hwp_core.specs.declared.release.ReleaseAt.{ReleaseAt}
-use Rattle.hwp_core.specs.declared.release.ReleaseAt.TheVariants as release_at
+use Rattle.hwp_evict.specs.hwp_geom.declared.Frame.{Frame}
+use Rattle.hwp_evict.specs.hwp_geom.declared.Layout.{Layout}
+use Rattle.hwp_evict.specs.hwp_geom.declared.Page.{Page}
+use Rattle.hwp_evict.specs.hwp_geom.declared.VSlot.{VSlot}
+use Rattle.hwp_evict.specs.hwp_geom.declared.Who.{Who}
+use Rattle.hwp_evict.specs.hwp_page.declared.At.{At}
+use Rattle.hwp_evict.specs.hwp_page.History.{BodyValue}
+use Rattle.hwp_evict.specs.hwp_words.Frames.{cycle_of, is_poisoned}
+use Rattle.hwp_evict.specs.hwp_words.Stops.{is_stopped}
+use Rattle.hwp_evict.specs.hwp_core_rule.declared.State.{State}
+use Rattle.hwp_evict.specs.hwp_core_rule.declared.Step.{Step}
+use Rattle.hwp_evict.specs.hwp_core_rule.declared.Step.TheVariants as steps
+use Rattle.hwp_evict.specs.hwp_core_rule.Moves.{Move}
+use Rattle.hwp_evict.specs.hwp_core_rule.Rule.{Holds}
+use Rattle.hwp_evict.specs.hwp_core_rule.Lasting.{IsMild}
+use Rattle.hwp_evict.specs.hwp_core_rule.Words.{Words, free_words}
+use Rattle.hwp_evict.specs.hwp_core_task.declared.Turn.{Turn}
+use Rattle.hwp_evict.specs.hwp_core_task.declared.Turn.TheVariants.{Moved}
+use Rattle.hwp_evict.specs.hwp_core_task.Boards.{view_of}
+use Rattle.hwp_evict.specs.hwp_core_task.Calls.{logs, rec_of}
+use Rattle.hwp_evict.specs.hwp_core_task.Hands.{Hand}
+use Rattle.hwp_evict.specs.hwp_core_task.Ranks.{IsRanked, Made, OtherHand, Pending, Quiet, failures_left, is_waits, words_at}
+use Rattle.hwp_evict.proofs.of_hwp_core_task.StepRanks.{failed, met, pending-kept, retire-fails, steps-on, words-after, words-kept}
+use Rattle.hwp_evict.specs.hwp_core.declared.give_up.GiveUp.{GiveUp}
+use Rattle.hwp_evict.specs.hwp_core.declared.refer.Refer.{Refer}
+use Rattle.hwp_evict.specs.hwp_core.declared.refer.ReferAt.{ReferAt}
+use Rattle.hwp_evict.specs.hwp_core.declared.refer.ReferAt.TheVariants as refer_at
+use Rattle.hwp_evict.specs.hwp_core.declared.release.Release.{Release}
+use Rattle.hwp_evict.specs.hwp_core.declared.release.ReleaseAt.{ReleaseAt}
+use Rattle.hwp_evict.specs.hwp_core.declared.release.ReleaseAt.TheVariants as release_at
 use Rattle.hwp_fault_fill.specs.declared.take.Take.{Take}
 use Rattle.hwp_fault_fill.specs.declared.take.TakeAt.{TakeAt}
 use Rattle.hwp_fault_fill.specs.declared.take.TakeAt.TheVariants as take_at
-use Rattle.hwp_core.specs.declared.unhold.Unhold.{Unhold}
-use Rattle.hwp_core.specs.GiveUps as give_ups
-use Rattle.hwp_core.specs.Refers as refers
-use Rattle.hwp_core.specs.Releases as releases
+use Rattle.hwp_evict.specs.hwp_core.declared.unhold.Unhold.{Unhold}
+use Rattle.hwp_evict.specs.hwp_core.GiveUps as give_ups
+use Rattle.hwp_evict.specs.hwp_core.Refers as refers
+use Rattle.hwp_evict.specs.hwp_core.Releases as releases
 use Rattle.hwp_fault_fill.specs.Takes as takes
-use Rattle.hwp_core.specs.Unholds as unholds
-use Rattle.hwp_core.proofs.GiveUpCosts.{give-up-falls, give-up-goes, give-up-mild, give-up-ranked, give-up-small}
-use Rattle.hwp_core.proofs.FreeWords.{frees-length}
+use Rattle.hwp_evict.specs.hwp_core.Unholds as unholds
+use Rattle.hwp_evict.proofs.of_hwp_core.GiveUpCosts.{give-up-falls, give-up-goes, give-up-mild, give-up-ranked, give-up-small}
+use Rattle.hwp_evict.proofs.of_hwp_core.FreeWords.{frees-length}
 use Rattle.hwp_fault_fill.proofs.StepWords.{is-met, words_then}
-use Rattle.hwp_core.proofs.TaskCosts.{release-falls, release-mild, release-small, unhold-class, unhold-falls, unhold-mild, unhold-small}
+use Rattle.hwp_evict.proofs.of_hwp_core.TaskCosts.{release-falls, release-mild, release-small, unhold-class, unhold-falls, unhold-mild, unhold-small}
 use Rattle.hwp_fault_fill.proofs.TakeCosts as taking
-use Rattle.hwp_soft_move.specs.hwp_claim_frame.declared.grab.Grab.{Grab}
-use Rattle.hwp_soft_move.specs.hwp_claim_frame.declared.grab.GrabAnswer.{GrabAnswer}
-use Rattle.hwp_soft_move.specs.hwp_claim_frame.declared.grab.GrabAnswer.TheVariants as grab_answers
-use Rattle.hwp_soft_move.specs.hwp_claim_frame.declared.meet.Meet.{Meet}
-use Rattle.hwp_soft_move.specs.hwp_claim_frame.declared.meet.MeetAt.{MeetAt}
-use Rattle.hwp_soft_move.specs.hwp_claim_frame.declared.meet.MeetAt.TheVariants as meet_at
-use Rattle.hwp_soft_move.specs.hwp_claim_frame.declared.meet.MeetAnswer.{MeetAnswer}
-use Rattle.hwp_soft_move.specs.hwp_claim_frame.declared.meet.MeetAnswer.TheVariants as meet_answers
-use Rattle.hwp_soft_move.specs.hwp_claim_frame.Grabs as grabs
-use Rattle.hwp_soft_move.specs.hwp_claim_frame.Meets as meets
-use Rattle.hwp_soft_move.proofs.of_hwp_claim_frame.PoisonLaws.{poison-owns}
-use Rattle.hwp_soft_move.proofs.of_hwp_claim_frame.ClaimKeeps.{Keeps, drops-now, owned-by, retired}
+use Rattle.hwp_soft_unpoison.specs.hwp_claim_frame.declared.grab.Grab.{Grab}
+use Rattle.hwp_soft_unpoison.specs.hwp_claim_frame.declared.grab.GrabAnswer.{GrabAnswer}
+use Rattle.hwp_soft_unpoison.specs.hwp_claim_frame.declared.grab.GrabAnswer.TheVariants as grab_answers
+use Rattle.hwp_soft_unpoison.specs.hwp_claim_frame.declared.meet.Meet.{Meet}
+use Rattle.hwp_soft_unpoison.specs.hwp_claim_frame.declared.meet.MeetAt.{MeetAt}
+use Rattle.hwp_soft_unpoison.specs.hwp_claim_frame.declared.meet.MeetAt.TheVariants as meet_at
+use Rattle.hwp_soft_unpoison.specs.hwp_claim_frame.declared.meet.MeetAnswer.{MeetAnswer}
+use Rattle.hwp_soft_unpoison.specs.hwp_claim_frame.declared.meet.MeetAnswer.TheVariants as meet_answers
+use Rattle.hwp_soft_unpoison.specs.hwp_claim_frame.Grabs as grabs
+use Rattle.hwp_soft_unpoison.specs.hwp_claim_frame.Meets as meets
+use Rattle.hwp_soft_unpoison.proofs.of_hwp_claim_frame.PoisonLaws.{poison-owns}
+use Rattle.hwp_soft_unpoison.proofs.of_hwp_claim_frame.ClaimKeeps.{Keeps, drops-now, owned-by, retired}
 use Rattle.hwp_soft_move.specs.declared.discard.Discard.{Discard}
 use Rattle.hwp_soft_move.specs.declared.discard.DiscardAt.{DiscardAt}
 use Rattle.hwp_soft_move.specs.declared.discard.DiscardAt.TheVariants as discard_at
@@ -73,20 +73,17 @@ use Rattle.hwp_soft_move.specs.Relocating as relocating
 use Rattle.hwp_soft_move.specs.Relocations as relocations
 use Rattle.hwp_soft_move.specs.Remaps.{old_lock}
 use Rattle.hwp_soft_move.specs.Seizes as seizes
-use Rattle.hwp_soft_move.proofs.DiscardLaws.{discard-class, discard-falls, discard-member, discard-owns, discard-small}
+use Rattle.hwp_soft_move.proofs.DiscardLaws.{discard-class, discard-falls, discard-owns, discard-small}
 use Rattle.hwp_soft_move.proofs.RelocateCosts.{relocate-class, relocate-falls, relocate-goes, relocate-mild, relocate-small}
-use Rattle.hwp_soft_move.proofs.SeizeCosts.{seize-class, seize-falls, seize-leaves, seize-member, seize-mild, seize-small, seize-waits}
+use Rattle.hwp_soft_move.proofs.SeizeCosts.{seize-class, seize-falls, seize-leaves, seize-mild, seize-small, seize-waits}
 use Rattle.hwp_soft.specs.declared.soft.Soft.{Soft}
 use Rattle.hwp_soft.specs.declared.soft.SoftAnswer.{SoftAnswer}
 use Rattle.hwp_soft.specs.declared.soft.SoftAnswer.TheVariants as answers
 use Rattle.hwp_soft.specs.declared.soft.SoftAt.{SoftAt}
 use Rattle.hwp_soft.specs.declared.soft.SoftAt.TheVariants as at
-use Rattle.hwp_soft.specs.Offline.{Fits, FitsAt, IsDiscarding, IsRelocating, IsSeizing}
+use Rattle.hwp_soft.specs.Offline.{Fits, FitsAt, IsDiscarding, IsRelocating, IsSeizing, task as soft-task}
 use Rattle.hwp_soft.specs.Softs.{Follows, FollowsAt, Moves, ShowsAt, TakesOne, aborts, aborts_at, after_discard, after_relocate, after_release, after_seize, after_take, after_unhold, bare, bare_at, claim_of, claims, claims_at, class, class_at, cost, cost_at, ended, given_up, let_go, plan, plan_at, put, put_at}
 use Rattle.hwp_soft.proofs.SoftFits.{both}
-
-abbrev pub soft-member : Member Soft
-soft-member = member (λ s. s.who) plan put bare (λ layout s found got after result. Follows layout s found got after result) Fits class cost aborts claims
 
 -- ---- what is left once a part is over
 
@@ -279,7 +276,7 @@ module _ (frame : Frame) (r : Relocate) (to : Frame) (place : At) (cycle : ℕ) 
 
 -- ---- each turn
 
-module _ {layout : Layout} {seat : ℕ} {a b : State} {s t : Soft} {turned : Turn} (made : Made soft-member layout seat a b s t turned) where
+module _ {layout : Layout} {seat : ℕ} {a b : State} {s t : Soft} {turned : Turn} (made : Made soft-task layout seat a b s t turned) where
   abbrev w : Words
   w = words_at layout a
 
@@ -295,7 +292,7 @@ module _ {layout : Layout} {seat : ℕ} {a b : State} {s t : Soft} {turned : Tur
   abbrev next-discard : Discard → Discard
   next-discard d = discards.next (discards.bare d) made.found
 
-  seize-made : (z : Seize) → IsSeizing layout (view_of a seat) s.who s.frame z → seizes.plan z ≡ Some made.step → Moves-by (seizes.put z) → Made seize-member layout seat a b z (next-seize z) (seizes.turn (seizes.bare z) made.found)
+  seize-made : (z : Seize) → IsSeizing layout (view_of a seat) s.who s.frame z → seizes.plan z ≡ Some made.step → Moves-by (seizes.put z) → Made seizes.task layout seat a b z (next-seize z) (seizes.turn (seizes.bare z) made.found)
   seize-made z has e move = record {
     step = made.step;
     found = made.found;
@@ -309,7 +306,7 @@ module _ {layout : Layout} {seat : ℕ} {a b : State} {s t : Soft} {turned : Tur
     follows = (refl, refl);
   }
 
-  discard-made : (d : Discard) → IsDiscarding layout (view_of a seat) s.who s.frame d → discards.plan d ≡ Some made.step → Moves-by (discards.put d) → Made discard-member layout seat a b d (next-discard d) Moved
+  discard-made : (d : Discard) → IsDiscarding layout (view_of a seat) s.who s.frame d → discards.plan d ≡ Some made.step → Moves-by (discards.put d) → Made discards.task layout seat a b d (next-discard d) Moved
   discard-made d has e move = record {
     step = made.step;
     found = made.found;
@@ -550,7 +547,7 @@ soft-small layout a s rule = which s.at
     which (at.GiveUp g) = let few : give_ups.cost g (words_at layout a) ≤ 6 = give-up-small (words_at layout a) g in omega (arith, few)
     which (at.Over answer) = omega arith
 
-pub soft-ranked : IsRanked soft-member
+pub soft-ranked : IsRanked soft-task
 soft-ranked = record {
   classes = soft-class;
   small = λ layout a seat s rule fits. let few : cost s (words_at layout a) ≤ 9380 = soft-small layout a s rule in omega (arith, few);

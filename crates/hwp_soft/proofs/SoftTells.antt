@@ -2,24 +2,24 @@
 use Rattle.std.proofs.Common.{◌≡◌, ◌≢◌, ℕ, ◌≤◌, Bool, true, false, Option, Some, None, is_none, refl, sym, ap, ◌∙◌, subst, arith}
 use Rattle.std.proofs.lemmas.Bool.{both_ways}
 use Rattle.std.proofs.lemmas.Option.{none-some, same_Some}
-use Rattle.hwp_geom.specs.declared.Frame.{Frame}
-use Rattle.hwp_geom.specs.declared.Layout.{Layout}
-use Rattle.hwp_core_rule.specs.declared.SharedWord.TheVariants as places
-use Rattle.hwp_core_rule.specs.declared.Step.{Step}
-use Rattle.hwp_core_rule.specs.declared.Step.TheVariants as steps
-use Rattle.hwp_core_rule.specs.declared.View.{View}
-use Rattle.hwp_core_rule.specs.Lasting.{LeavesPoison}
-use Rattle.hwp_core_task.specs.Classes.{TellsClass}
-use Rattle.hwp_core_task.specs.Hands.{empty, hand_of}
-use Rattle.hwp_core_task.proofs.Failures.{mild-leaves}
-use Rattle.hwp_core.specs.declared.give_up.GiveUp.{GiveUp}
-use Rattle.hwp_core.specs.declared.give_up.GiveUpAt.{GiveUpAt}
-use Rattle.hwp_core.specs.declared.give_up.GiveUpAt.TheVariants as give_up_at
-use Rattle.hwp_core.specs.GiveUps as give_ups
-use Rattle.hwp_core.proofs.GiveUpCosts.{give-up-mild}
-use Rattle.hwp_core.proofs.TaskCosts.{release-mild, unhold-mild}
+use Rattle.hwp_evict.specs.hwp_geom.declared.Frame.{Frame}
+use Rattle.hwp_evict.specs.hwp_geom.declared.Layout.{Layout}
+use Rattle.hwp_evict.specs.hwp_core_rule.declared.SharedWord.TheVariants as places
+use Rattle.hwp_evict.specs.hwp_core_rule.declared.Step.{Step}
+use Rattle.hwp_evict.specs.hwp_core_rule.declared.Step.TheVariants as steps
+use Rattle.hwp_evict.specs.hwp_core_rule.declared.View.{View}
+use Rattle.hwp_evict.specs.hwp_core_rule.Lasting.{LeavesPoison}
+use Rattle.hwp_evict.specs.hwp_core_task.Classes.{TellsClass}
+use Rattle.hwp_evict.specs.hwp_core_task.Hands.{empty, hand_of}
+use Rattle.hwp_evict.proofs.of_hwp_core_task.Failures.{mild-leaves}
+use Rattle.hwp_evict.specs.hwp_core.declared.give_up.GiveUp.{GiveUp}
+use Rattle.hwp_evict.specs.hwp_core.declared.give_up.GiveUpAt.{GiveUpAt}
+use Rattle.hwp_evict.specs.hwp_core.declared.give_up.GiveUpAt.TheVariants as give_up_at
+use Rattle.hwp_evict.specs.hwp_core.GiveUps as give_ups
+use Rattle.hwp_evict.proofs.of_hwp_core.GiveUpCosts.{give-up-mild}
+use Rattle.hwp_evict.proofs.of_hwp_core.TaskCosts.{release-mild, unhold-mild}
 use Rattle.hwp_fault_fill.proofs.TakeCosts as taking
-use Rattle.hwp_core.proofs.TaskTells.{Tells, empty-tells, frame-tells, give-up-tells, no-frame, no-page, unhold-tells}
+use Rattle.hwp_evict.proofs.of_hwp_core.TaskTells.{Tells, empty-tells, frame-tells, give-up-tells, no-frame, no-page, unhold-tells}
 use Rattle.hwp_soft_move.specs.declared.discard.Discard.{Discard}
 use Rattle.hwp_soft_move.specs.declared.discard.DiscardAt.{DiscardAt}
 use Rattle.hwp_soft_move.specs.declared.discard.DiscardAt.TheVariants as discard_at
@@ -35,9 +35,8 @@ use Rattle.hwp_soft_move.proofs.SeizeLaws.{seize-tells}
 use Rattle.hwp_soft.specs.declared.soft.Soft.{Soft}
 use Rattle.hwp_soft.specs.declared.soft.SoftAt.{SoftAt}
 use Rattle.hwp_soft.specs.declared.soft.SoftAt.TheVariants as at
-use Rattle.hwp_soft.specs.Offline.{Fits, FitsAt}
+use Rattle.hwp_soft.specs.Offline.{Fits, FitsAt, task as soft-task}
 use Rattle.hwp_soft.specs.Softs.{claims, claims_at, class, class_at, plan, plan_at}
-use Rattle.hwp_soft.proofs.SoftRank.{soft-member}
 
 -- no step comes of what is under way
 stuck : {A : Type 0} {o : Option A} → is_none o ≡ false → o ≡ None → ⊥
@@ -142,7 +141,7 @@ claims-on layout view s frame cycle fits is = which s.at fits.at is
     which (at.GiveUp g) has is = absurd (none-some (frame, cycle) is)
     which (at.Over answer) has is = absurd (none-some (frame, cycle) is)
 
-pub soft-tells-class : TellsClass soft-member
+pub soft-tells-class : TellsClass soft-task
 soft-tells-class = record {
   frame = λ layout view s fits some. ((soft-tells layout view s fits).0 some, λ none. no-frame view (idle layout view s fits none) refl refl refl some);
   page = λ layout view s fits some. ((soft-tells layout view s fits).1 some, λ none. no-page view (idle layout view s fits none) refl some);

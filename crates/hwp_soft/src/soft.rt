@@ -1,7 +1,7 @@
 ghost use Rattle.std.specs.Prelude.{◌≡◌, true};
-ghost use Rattle.hwp_core.specs.GiveUps as give_ups;
-ghost use Rattle.hwp_core.specs.Releases as releases;
-ghost use Rattle.hwp_core.specs.Unholds as unholds;
+ghost use Rattle.hwp_evict.specs.hwp_core.GiveUps as give_ups;
+ghost use Rattle.hwp_evict.specs.hwp_core.Releases as releases;
+ghost use Rattle.hwp_evict.specs.hwp_core.Unholds as unholds;
 ghost use Rattle.hwp_fault_fill.specs.Takes as takes;
 ghost use Rattle.hwp_soft.specs.declared.soft.SoftAt.TheVariants as states;
 ghost use Rattle.hwp_soft_move.specs.Discards as discards;
@@ -9,14 +9,12 @@ ghost use Rattle.hwp_soft_move.specs.Relocations as relocations;
 ghost use Rattle.hwp_soft_move.specs.Seizes as seizes;
 ghost use Rattle.hwp_soft.specs.Softs.{begin, answer, after_stop, after_seize, after_discard, AfterBad, after_take, AfterPoison, after_relocate, CanMakeEntry, IsRelocated, Moves, after_release, after_unhold, let_go, ended, FollowsAt, ShowsAt};
 
-use hwp_core::{GiveUp, Release, Unhold};
-use hwp_core_rule::{SharedWord, Step};
-use hwp_core_task::{Ranked, Scheduled, Task, Turn};
+use hwp_evict::{
+    At, Body, Entry, Frame, FrameWord, GiveUp, Layout, Mask, Page, Ranked, Release, Scheduled,
+    SharedWord, Step, Task, Turn, Unhold, What, Who, is_stopped,
+};
 use hwp_fault_fill::{Take, TakeAnswer};
-use hwp_geom::{Frame, Layout, Mask, Page, Who};
-use hwp_page::{At, Body, Entry, What};
 use hwp_soft_move::{Discard, Relocate, Seize, SeizeAnswer};
-use hwp_words::{FrameWord, is_stopped};
 use std::mem;
 
 /// What a `Soft` came to (this project's rule).
@@ -496,22 +494,9 @@ fn settled(
 }
 
 impl Task for Soft {
-    ghost use Rattle.hwp_soft.specs.Softs.{plan, put, bare, Shows, Follows};
-    ghost use Rattle.hwp_soft.specs.Offline.{Fits};
+    ghost use Rattle.hwp_soft.specs.Offline as offline;
 
-    ghost who = { λ s. s.who };
-
-    ghost plan = { λ s. plan s };
-
-    ghost put = { λ s. put s };
-
-    ghost bare = { λ s. bare s };
-
-    ghost shows = { λ s found got. Shows s found got };
-
-    ghost next = { λ layout s found got after result. Follows layout s found got after result };
-
-    ghost fits = { λ layout view s. Fits layout view s };
+    ghost task = { offline.task };
 
     fn who(&self) -> Who {
         self.who
@@ -567,16 +552,6 @@ impl Task for Soft {
 }
 
 impl Ranked for Soft {
-    ghost use Rattle.hwp_soft.specs.Softs.{class, cost, aborts, claims};
-
-    ghost class_of = { λ s. class s };
-
-    ghost cost = { λ s words. cost s words };
-
-    ghost aborts = { λ s. aborts s };
-
-    ghost claims = { λ s. claims s };
-
     fn class(&self) -> u8 {
         match &self.at {
             SoftAt::LoadStop | SoftAt::Over { .. } => 4,

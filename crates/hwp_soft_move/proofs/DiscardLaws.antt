@@ -2,42 +2,42 @@
 use Rattle.std.proofs.Common.{◌≡◌, ◌≢◌, ◌⊎◌, inl, inr, ℕ, ◌<◌, ◌≤◌, Bool, true, false, cond, [], ◌∷◌, Option, Some, None, is_none, slice_get, refl, sym, ap, ◌∙◌, subst, arith}
 use Rattle.std.proofs.lemmas.Bool.{both_ways}
 use Rattle.std.proofs.lemmas.Option.{none-some, same_Some}
-use Rattle.hwp_geom.specs.declared.Frame.{Frame}
-use Rattle.hwp_geom.specs.declared.Layout.{Layout}
-use Rattle.hwp_geom.specs.declared.Who.{Who}
-use Rattle.hwp_page.specs.History.{BodyValue}
-use Rattle.hwp_words.specs.Frames.{cycle_of, is_poisoned}
-use Rattle.hwp_core_rule.specs.declared.FrameLock.{FrameLock}
-use Rattle.hwp_core_rule.specs.declared.Log.{Log}
-use Rattle.hwp_core_rule.specs.declared.State.{State}
-use Rattle.hwp_core_rule.specs.declared.Step.{Step}
-use Rattle.hwp_core_rule.specs.declared.Step.TheVariants as steps
-use Rattle.hwp_core_rule.specs.declared.View.{View}
-use Rattle.hwp_core_rule.specs.Lasting.{IsMild, LeavesPoison}
-use Rattle.hwp_core_rule.specs.Views.{is_lock_of, less_refs, without}
-use Rattle.hwp_core_rule.specs.Words.{Words}
-use Rattle.hwp_core_rule.proofs.Lists.{same-number}
-use Rattle.hwp_core_task.specs.declared.Turn.{Turn}
-use Rattle.hwp_core_task.specs.declared.Turn.TheVariants.{Moved}
-use Rattle.hwp_core_task.specs.Boards.{view_of}
-use Rattle.hwp_core_task.specs.Calls.{CanMake, IsOnTurn, Steps, logs}
-use Rattle.hwp_core_task.specs.Hands.{Hand, hand_of, empty}
-use Rattle.hwp_core_task.specs.Ranks.{IsRanked, Made, Member, Pending, is_waits, member, words_at}
-use Rattle.hwp_core_task.proofs.Failures.{mild-leaves}
-use Rattle.hwp_core_task.proofs.StepRanks.{pending-kept}
-use Rattle.hwp_core_task.proofs.StepLeaves.{on-turn-after, hand-planned, steps-planned, can-make}
-use Rattle.hwp_core_task.proofs.SightKeeps.{saw-stays}
-use Rattle.hwp_core.specs.declared.release.Release.{Release}
-use Rattle.hwp_core.specs.declared.release.ReleaseAt.{ReleaseAt}
-use Rattle.hwp_core.specs.declared.release.ReleaseAt.TheVariants as release_at
-use Rattle.hwp_core.specs.declared.unlock.Unlock.{Unlock}
-use Rattle.hwp_core.specs.declared.unlock.UnlockAt.{UnlockAt}
-use Rattle.hwp_core.specs.declared.unlock.UnlockAt.TheVariants as unlock_at
-use Rattle.hwp_core.specs.Releases as releases
-use Rattle.hwp_core.specs.Unlocks as unlocks
-use Rattle.hwp_core.specs.Unlocks.{empty_frame}
-use Rattle.hwp_core.proofs.TaskTells.{Tells, frame-tells, unlock-tells}
-use Rattle.hwp_core.proofs.UnlockLaws as unlocking
+use Rattle.hwp_claim_frame.specs.hwp_geom.declared.Frame.{Frame}
+use Rattle.hwp_claim_frame.specs.hwp_geom.declared.Layout.{Layout}
+use Rattle.hwp_claim_frame.specs.hwp_geom.declared.Who.{Who}
+use Rattle.hwp_claim_frame.specs.hwp_page.History.{BodyValue}
+use Rattle.hwp_claim_frame.specs.hwp_words.Frames.{cycle_of, is_poisoned}
+use Rattle.hwp_claim_frame.specs.hwp_core_rule.declared.FrameLock.{FrameLock}
+use Rattle.hwp_claim_frame.specs.hwp_core_rule.declared.Log.{Log}
+use Rattle.hwp_claim_frame.specs.hwp_core_rule.declared.State.{State}
+use Rattle.hwp_claim_frame.specs.hwp_core_rule.declared.Step.{Step}
+use Rattle.hwp_claim_frame.specs.hwp_core_rule.declared.Step.TheVariants as steps
+use Rattle.hwp_claim_frame.specs.hwp_core_rule.declared.View.{View}
+use Rattle.hwp_claim_frame.specs.hwp_core_rule.Lasting.{IsMild, LeavesPoison}
+use Rattle.hwp_claim_frame.specs.hwp_core_rule.Views.{is_lock_of, less_refs, without}
+use Rattle.hwp_claim_frame.specs.hwp_core_rule.Words.{Words}
+use Rattle.hwp_claim_frame.proofs.of_hwp_core_rule.Lists.{same-number}
+use Rattle.hwp_claim_frame.specs.hwp_core_task.declared.Turn.{Turn}
+use Rattle.hwp_claim_frame.specs.hwp_core_task.declared.Turn.TheVariants.{Moved}
+use Rattle.hwp_claim_frame.specs.hwp_core_task.Boards.{view_of}
+use Rattle.hwp_claim_frame.specs.hwp_core_task.Calls.{CanMake, IsOnTurn, Steps, logs}
+use Rattle.hwp_claim_frame.specs.hwp_core_task.Hands.{Hand, hand_of, empty}
+use Rattle.hwp_claim_frame.specs.hwp_core_task.Ranks.{IsRanked, Made, Pending, is_waits, words_at}
+use Rattle.hwp_claim_frame.proofs.of_hwp_core_task.Failures.{mild-leaves}
+use Rattle.hwp_claim_frame.proofs.of_hwp_core_task.StepRanks.{pending-kept}
+use Rattle.hwp_claim_frame.proofs.of_hwp_core_task.StepLeaves.{on-turn-after, hand-planned, steps-planned, can-make}
+use Rattle.hwp_claim_frame.proofs.of_hwp_core_task.SightKeeps.{saw-stays}
+use Rattle.hwp_claim_frame.specs.hwp_core.declared.release.Release.{Release}
+use Rattle.hwp_claim_frame.specs.hwp_core.declared.release.ReleaseAt.{ReleaseAt}
+use Rattle.hwp_claim_frame.specs.hwp_core.declared.release.ReleaseAt.TheVariants as release_at
+use Rattle.hwp_claim_frame.specs.hwp_core.declared.unlock.Unlock.{Unlock}
+use Rattle.hwp_claim_frame.specs.hwp_core.declared.unlock.UnlockAt.{UnlockAt}
+use Rattle.hwp_claim_frame.specs.hwp_core.declared.unlock.UnlockAt.TheVariants as unlock_at
+use Rattle.hwp_claim_frame.specs.hwp_core.Releases as releases
+use Rattle.hwp_claim_frame.specs.hwp_core.Unlocks as unlocks
+use Rattle.hwp_claim_frame.specs.hwp_core.Unlocks.{empty_frame}
+use Rattle.hwp_claim_frame.proofs.of_hwp_core.TaskTells.{Tells, frame-tells, unlock-tells}
+use Rattle.hwp_claim_frame.proofs.of_hwp_core.UnlockLaws as unlocking
 use Rattle.hwp_claim_frame.specs.Claims.{SawPoison}
 use Rattle.hwp_claim_frame.specs.Meets.{HoldsFree}
 use Rattle.hwp_claim_frame.proofs.ClaimLaws.{has-marked, mark-stays, owes-count, retires, saw-poison}
@@ -46,7 +46,7 @@ use Rattle.hwp_claim_frame.proofs.ClaimKeeps.{Keeps, drops-now, owned-by, retire
 use Rattle.hwp_soft_move.specs.declared.discard.Discard.{Discard}
 use Rattle.hwp_soft_move.specs.declared.discard.DiscardAt.{DiscardAt}
 use Rattle.hwp_soft_move.specs.declared.discard.DiscardAt.TheVariants as at
-use Rattle.hwp_soft_move.specs.Discards.{plan, plan_at, put, put_at, bare, bare_at, poisoned, after_unlock, next, next_at, IsPoisoned, Fits, FitsAt, class, class_at, claims, claims_at, cost, cost_at}
+use Rattle.hwp_soft_move.specs.Discards.{plan, plan_at, put, put_at, bare, bare_at, poisoned, after_unlock, next, next_at, IsPoisoned, Fits, FitsAt, class, class_at, claims, claims_at, cost, cost_at, task as discard-task}
 
 pub can : (layout : Layout) (view : View) (d : Discard) (step : Step) → Fits layout view d → plan d ≡ Some step → CanMake layout d.who step (put d) view
 can layout view d step fits is = which d.at fits.at is
@@ -180,11 +180,8 @@ discard-class d = which d.at
     which (at.Unlock u) = unlocking.unlock-class u
     which (at.Over cycle) = (omega arith, omega arith)
 
-abbrev pub discard-member : Member Discard
-discard-member = member (λ d. d.who) plan put bare (λ layout d found got after result. (after ≡ next d found) × (result ≡ Moved)) Fits class cost (λ d. false) claims
-
 -- the failure of the frame is the task's from its poison on, until the frame is out of use
-module _ {layout : Layout} {seat : ℕ} {a b : State} {s t : Discard} {turned : Turn} (made : Made discard-member layout seat a b s t turned) where
+module _ {layout : Layout} {seat : ℕ} {a b : State} {s t : Discard} {turned : Turn} (made : Made discard-task layout seat a b s t turned) where
   abbrev the-lock : FrameLock
   the-lock = locked-by s.frame true
 
@@ -209,7 +206,7 @@ module _ {layout : Layout} {seat : ℕ} {a b : State} {s t : Discard} {turned : 
       which (at.Unlock u) has e = kept None _ (unlocking.mild u made.step e) (inl refl)
       which (at.Over own) has e = absurd (none-some made.step e)
 
-pub discard-ranked : IsRanked discard-member
+pub discard-ranked : IsRanked discard-task
 discard-ranked = record {
   classes = discard-class;
   small = λ layout a seat s rule fits. let few : cost s (words_at layout a) ≤ 5 = discard-small (words_at layout a) s in omega (arith, few);

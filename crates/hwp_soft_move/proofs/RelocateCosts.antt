@@ -4,36 +4,36 @@ use Rattle.std.proofs.lemmas.Bool.{both_ways}
 use Rattle.std.proofs.lemmas.Option.{none-some, same_Some}
 use Rattle.std.specs.FinSet as set
 use Rattle.std.specs.Ordering.{nat_cmp}
-use Rattle.hwp_geom.specs.declared.Layout.{Layout}
-use Rattle.hwp_geom.specs.declared.VSlot.{VSlot}
-use Rattle.hwp_core_rule.specs.declared.Step.{Step}
-use Rattle.hwp_core_rule.specs.declared.Step.TheVariants as steps
-use Rattle.hwp_core_rule.specs.declared.View.{View}
-use Rattle.hwp_core_rule.specs.Lasting.{IsMild}
-use Rattle.hwp_core_rule.specs.Steps.{place_of, word_after}
-use Rattle.hwp_core_rule.specs.Words.{Words, read}
-use Rattle.hwp_core_task.specs.declared.Turn.{Turn}
-use Rattle.hwp_core_task.specs.Boards.{view_of}
-use Rattle.hwp_core_task.specs.Ranks.{Member, member, IsRanked, is_waits, words_at}
-use Rattle.hwp_core_task.proofs.StepRanks.{met, rank-of, steps-on, words-kept}
-use Rattle.hwp_core.specs.declared.refer.Refer.{Refer}
-use Rattle.hwp_core.specs.declared.refer.ReferAt.{ReferAt}
-use Rattle.hwp_core.specs.declared.refer.ReferAt.TheVariants as refer_at
-use Rattle.hwp_core.specs.declared.release.Release.{Release}
-use Rattle.hwp_core.specs.declared.release.ReleaseAt.{ReleaseAt}
-use Rattle.hwp_core.specs.declared.release.ReleaseAt.TheVariants as release_at
-use Rattle.hwp_core.specs.Refers as refers
-use Rattle.hwp_core.specs.Releases as releases
-use Rattle.hwp_core.proofs.ReferCosts.{refer-falls, refer-goes, refer-mild, refer-small}
-use Rattle.hwp_core.proofs.TaskCosts.{release-falls, release-mild, release-small}
-use Rattle.hwp_core.proofs.TaskTells.{Tells, frame-tells, page-tells}
+use Rattle.hwp_claim_frame.specs.hwp_geom.declared.Layout.{Layout}
+use Rattle.hwp_claim_frame.specs.hwp_geom.declared.VSlot.{VSlot}
+use Rattle.hwp_claim_frame.specs.hwp_core_rule.declared.Step.{Step}
+use Rattle.hwp_claim_frame.specs.hwp_core_rule.declared.Step.TheVariants as steps
+use Rattle.hwp_claim_frame.specs.hwp_core_rule.declared.View.{View}
+use Rattle.hwp_claim_frame.specs.hwp_core_rule.Lasting.{IsMild}
+use Rattle.hwp_claim_frame.specs.hwp_core_rule.Steps.{place_of, word_after}
+use Rattle.hwp_claim_frame.specs.hwp_core_rule.Words.{Words, read}
+use Rattle.hwp_claim_frame.specs.hwp_core_task.declared.Turn.{Turn}
+use Rattle.hwp_claim_frame.specs.hwp_core_task.Boards.{view_of}
+use Rattle.hwp_claim_frame.specs.hwp_core_task.Ranks.{IsRanked, is_waits, words_at}
+use Rattle.hwp_claim_frame.proofs.of_hwp_core_task.StepRanks.{met, rank-of, steps-on, words-kept}
+use Rattle.hwp_claim_frame.specs.hwp_core.declared.refer.Refer.{Refer}
+use Rattle.hwp_claim_frame.specs.hwp_core.declared.refer.ReferAt.{ReferAt}
+use Rattle.hwp_claim_frame.specs.hwp_core.declared.refer.ReferAt.TheVariants as refer_at
+use Rattle.hwp_claim_frame.specs.hwp_core.declared.release.Release.{Release}
+use Rattle.hwp_claim_frame.specs.hwp_core.declared.release.ReleaseAt.{ReleaseAt}
+use Rattle.hwp_claim_frame.specs.hwp_core.declared.release.ReleaseAt.TheVariants as release_at
+use Rattle.hwp_claim_frame.specs.hwp_core.Refers as refers
+use Rattle.hwp_claim_frame.specs.hwp_core.Releases as releases
+use Rattle.hwp_claim_frame.proofs.of_hwp_core.ReferCosts.{refer-falls, refer-goes, refer-mild, refer-small}
+use Rattle.hwp_claim_frame.proofs.of_hwp_core.TaskCosts.{release-falls, release-mild, release-small}
+use Rattle.hwp_claim_frame.proofs.of_hwp_core.TaskTells.{Tells, frame-tells, page-tells}
 use Rattle.hwp_soft_move.specs.declared.relocate.Relocate.{Relocate}
 use Rattle.hwp_soft_move.specs.declared.relocate.RelocateAt.{RelocateAt}
 use Rattle.hwp_soft_move.specs.declared.relocate.RelocateAt.TheVariants as at
 use Rattle.hwp_soft_move.specs.declared.relocate.Transfer.{Transfer}
 use Rattle.hwp_soft_move.specs.declared.remap.Remap.{Remap}
-use Rattle.hwp_soft_move.specs.Relocations.{plan, plan_at, put, bare, after_remap, after_release, AfterReferAt, FollowsAt, Follows, Shows, ShowsAt, class, class_at, cost, cost_at}
-use Rattle.hwp_soft_move.specs.Relocating.{Fits, FitsAt}
+use Rattle.hwp_soft_move.specs.Relocations.{plan, plan_at, bare, after_remap, after_release, AfterReferAt, FollowsAt, Follows, Shows, ShowsAt, class, class_at, cost, cost_at}
+use Rattle.hwp_soft_move.specs.Relocating.{Fits, FitsAt, task as relocate-task}
 use Rattle.hwp_soft_move.specs.Remaps as remaps
 use Rattle.hwp_soft_move.proofs.RelocateLaws.{both}
 use Rattle.hwp_soft_move.proofs.RemapLaws.{remap-mild, remap-small, remaps-fall}
@@ -161,11 +161,8 @@ relocate-mild r step is = which r.at is
     which at.UnlockPage e = subst IsMild (same_Some (steps.UnlockPage r.transfer.page) step e) tt
     which at.Over e = absurd (none-some step e)
 
-abbrev relocate-member : Member Relocate
-relocate-member = member (λ r. r.transfer.who) plan put bare (λ layout r found got after result. Follows r found after result) Fits class cost (λ r. false) (λ r. None)
-
-pub relocate-ranked : IsRanked relocate-member
-relocate-ranked = rank-of relocate-member (λ s. refl) relocate-class (λ layout a seat s rule fits. let few : _ = relocate-small (words_at layout a) s in omega (arith, few))
+pub relocate-ranked : IsRanked relocate-task
+relocate-ranked = rank-of relocate-task (λ s. refl) relocate-class (λ layout a seat s rule fits. let few : _ = relocate-small (words_at layout a) s in omega (arith, few))
     (λ layout seat a b s t turn made goes. relocate-falls (words_at layout a) (words_at layout b) s made.step made.found t turn made.planned
     (both layout (view_of a seat) _ s made.step made.found made.got made.fits made.planned (steps-on made)).0 made.follows (met made) (words-kept made))
     (λ layout seat a b s t turn made is quiet. absurd (both_ways true (sym is ∙ relocate-goes s made.found t turn made.follows) refl))

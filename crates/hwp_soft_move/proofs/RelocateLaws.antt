@@ -5,48 +5,48 @@ use Rattle.std.proofs.lemmas.Option.{none-some, same_Some}
 use Rattle.std.specs.FinSet as set
 use Rattle.std.specs.List.{find}
 use Rattle.std.specs.Ordering.{nat_cmp}
-use Rattle.hwp_geom.specs.declared.Frame.{Frame}
-use Rattle.hwp_geom.specs.declared.Layout.{Layout}
-use Rattle.hwp_geom.specs.declared.Page.{Page}
-use Rattle.hwp_geom.specs.declared.TransDecl.{TransDecl}
-use Rattle.hwp_geom.specs.declared.VSlot.{VSlot}
-use Rattle.hwp_geom.specs.declared.Who.{Who}
-use Rattle.hwp_geom.specs.Layout.{IsSound}
-use Rattle.hwp_page.specs.declared.At.{At}
-use Rattle.hwp_page.specs.declared.PageState.{PageState}
-use Rattle.hwp_page.specs.History.{BodyValue}
-use Rattle.hwp_words.specs.Translations.{pte_word}
-use Rattle.hwp_words.specs.declared.Pte.TheVariants as ptes
-use Rattle.hwp_core_rule.specs.declared.InHand.{InHand}
-use Rattle.hwp_core_rule.specs.declared.PageLock.{PageLock}
-use Rattle.hwp_core_rule.specs.declared.SharedWord.TheVariants as places
-use Rattle.hwp_core_rule.specs.declared.Sight.{Sight}
-use Rattle.hwp_core_rule.specs.declared.Step.{Step}
-use Rattle.hwp_core_rule.specs.declared.Step.TheVariants as steps
-use Rattle.hwp_core_rule.specs.declared.View.{View}
-use Rattle.hwp_core_rule.specs.Asks.{CanFree, CanName, CanUnlockFrame, HasPage}
-use Rattle.hwp_core_rule.specs.Logs.{state_of, fitting_word}
-use Rattle.hwp_core_rule.specs.Views.{is_body_of, locks_on, noted, refs_on, sighted, stamp_of, with_refs}
-use Rattle.hwp_core_rule.proofs.Lists.{same-number}
-use Rattle.hwp_core_rule.proofs.MetWords.{frame-named}
-use Rattle.hwp_core_task.specs.declared.Turn.{Turn}
-use Rattle.hwp_core_task.specs.Calls.{CanMake, IsOnTurn, Steps, logs}
-use Rattle.hwp_core_task.specs.Hands.{Hand, empty, hand_of}
-use Rattle.hwp_core_task.proofs.StepLeaves.{on-turn-after, steps-planned, can-make, can-put}
-use Rattle.hwp_core_task.specs.Known.{deeds}
-use Rattle.hwp_core_task.proofs.MadeEntries.{ListsNone, deeds-same, has-made-stays}
-use Rattle.hwp_core.specs.declared.refer.Refer.{Refer}
-use Rattle.hwp_core.specs.declared.refer.ReferAt.{ReferAt}
-use Rattle.hwp_core.specs.declared.refer.ReferAt.TheVariants as refer_at
-use Rattle.hwp_core.specs.declared.release.Release.{Release}
-use Rattle.hwp_core.specs.declared.release.ReleaseAt.{ReleaseAt}
-use Rattle.hwp_core.specs.declared.release.ReleaseAt.TheVariants as release_at
-use Rattle.hwp_core.specs.Holds.{page_lock}
-use Rattle.hwp_core.specs.Refers as refers
-use Rattle.hwp_core.specs.Releases as releases
-use Rattle.hwp_core.proofs.TaskCosts.{release-lists}
-use Rattle.hwp_core.proofs.ReferLaws as referring
-use Rattle.hwp_core.proofs.ReleaseLaws as releasing_laws
+use Rattle.hwp_claim_frame.specs.hwp_geom.declared.Frame.{Frame}
+use Rattle.hwp_claim_frame.specs.hwp_geom.declared.Layout.{Layout}
+use Rattle.hwp_claim_frame.specs.hwp_geom.declared.Page.{Page}
+use Rattle.hwp_claim_frame.specs.hwp_geom.declared.TransDecl.{TransDecl}
+use Rattle.hwp_claim_frame.specs.hwp_geom.declared.VSlot.{VSlot}
+use Rattle.hwp_claim_frame.specs.hwp_geom.declared.Who.{Who}
+use Rattle.hwp_claim_frame.specs.hwp_geom.Layout.{IsSound}
+use Rattle.hwp_claim_frame.specs.hwp_page.declared.At.{At}
+use Rattle.hwp_claim_frame.specs.hwp_page.declared.PageState.{PageState}
+use Rattle.hwp_claim_frame.specs.hwp_page.History.{BodyValue}
+use Rattle.hwp_claim_frame.specs.hwp_words.Translations.{pte_word}
+use Rattle.hwp_claim_frame.specs.hwp_words.declared.Pte.TheVariants as ptes
+use Rattle.hwp_claim_frame.specs.hwp_core_rule.declared.InHand.{InHand}
+use Rattle.hwp_claim_frame.specs.hwp_core_rule.declared.PageLock.{PageLock}
+use Rattle.hwp_claim_frame.specs.hwp_core_rule.declared.SharedWord.TheVariants as places
+use Rattle.hwp_claim_frame.specs.hwp_core_rule.declared.Sight.{Sight}
+use Rattle.hwp_claim_frame.specs.hwp_core_rule.declared.Step.{Step}
+use Rattle.hwp_claim_frame.specs.hwp_core_rule.declared.Step.TheVariants as steps
+use Rattle.hwp_claim_frame.specs.hwp_core_rule.declared.View.{View}
+use Rattle.hwp_claim_frame.specs.hwp_core_rule.Asks.{CanFree, CanName, CanUnlockFrame, HasPage}
+use Rattle.hwp_claim_frame.specs.hwp_core_rule.Logs.{state_of, fitting_word}
+use Rattle.hwp_claim_frame.specs.hwp_core_rule.Views.{is_body_of, locks_on, noted, refs_on, sighted, stamp_of, with_refs}
+use Rattle.hwp_claim_frame.proofs.of_hwp_core_rule.Lists.{same-number}
+use Rattle.hwp_claim_frame.proofs.of_hwp_core_rule.MetWords.{frame-named}
+use Rattle.hwp_claim_frame.specs.hwp_core_task.declared.Turn.{Turn}
+use Rattle.hwp_claim_frame.specs.hwp_core_task.Calls.{CanMake, IsOnTurn, Steps, logs}
+use Rattle.hwp_claim_frame.specs.hwp_core_task.Hands.{Hand, empty, hand_of}
+use Rattle.hwp_claim_frame.proofs.of_hwp_core_task.StepLeaves.{on-turn-after, steps-planned, can-make, can-put}
+use Rattle.hwp_claim_frame.specs.hwp_core_task.Known.{deeds}
+use Rattle.hwp_claim_frame.proofs.of_hwp_core_task.MadeEntries.{ListsNone, deeds-same, has-made-stays}
+use Rattle.hwp_claim_frame.specs.hwp_core.declared.refer.Refer.{Refer}
+use Rattle.hwp_claim_frame.specs.hwp_core.declared.refer.ReferAt.{ReferAt}
+use Rattle.hwp_claim_frame.specs.hwp_core.declared.refer.ReferAt.TheVariants as refer_at
+use Rattle.hwp_claim_frame.specs.hwp_core.declared.release.Release.{Release}
+use Rattle.hwp_claim_frame.specs.hwp_core.declared.release.ReleaseAt.{ReleaseAt}
+use Rattle.hwp_claim_frame.specs.hwp_core.declared.release.ReleaseAt.TheVariants as release_at
+use Rattle.hwp_claim_frame.specs.hwp_core.Holds.{page_lock}
+use Rattle.hwp_claim_frame.specs.hwp_core.Refers as refers
+use Rattle.hwp_claim_frame.specs.hwp_core.Releases as releases
+use Rattle.hwp_claim_frame.proofs.of_hwp_core.TaskCosts.{release-lists}
+use Rattle.hwp_claim_frame.proofs.of_hwp_core.ReferLaws as referring
+use Rattle.hwp_claim_frame.proofs.of_hwp_core.ReleaseLaws as releasing_laws
 use Rattle.hwp_evict.specs.Clears.{IsNextFrom, is_done}
 use Rattle.hwp_evict.specs.Vacates.{page_held}
 use Rattle.hwp_evict.proofs.TranslationWrites.{declared-of}

@@ -6,45 +6,45 @@ use Rattle.std.proofs.lemmas.Option.{none-some, same_Some}
 use Rattle.std.specs.FinSet as set
 use Rattle.std.specs.List.{find, sum_by}
 use Rattle.std.specs.Ordering.{nat_cmp}
-use Rattle.hwp_geom.specs.declared.Frame.{Frame}
-use Rattle.hwp_geom.specs.declared.Layout.{Layout}
-use Rattle.hwp_geom.specs.declared.Page.{Page}
-use Rattle.hwp_geom.specs.declared.Who.{Who}
-use Rattle.hwp_page.specs.declared.At.{At}
-use Rattle.hwp_page.specs.declared.Entry.{Entry}
-use Rattle.hwp_page.specs.declared.What.TheVariants as entries
-use Rattle.hwp_page.specs.History.{BodyValue}
-use Rattle.hwp_words.specs.Frames.{count_of, handled_of, is_poisoned}
-use Rattle.hwp_core_rule.specs.declared.FrameLock.{FrameLock}
-use Rattle.hwp_core_rule.specs.declared.InHand.{InHand}
-use Rattle.hwp_core_rule.specs.declared.Log.{Log}
-use Rattle.hwp_core_rule.specs.declared.Made.{Made}
-use Rattle.hwp_core_rule.specs.declared.Ref.{Ref}
-use Rattle.hwp_core_rule.specs.declared.Sight.{Sight}
-use Rattle.hwp_core_rule.specs.declared.Step.TheVariants as steps
-use Rattle.hwp_core_rule.specs.declared.View.{View}
-use Rattle.hwp_core_rule.specs.Logs.{log_of}
-use Rattle.hwp_core_rule.specs.Steps.{is_last}
-use Rattle.hwp_core_rule.specs.Views.{body_of, changed, frame_in, hand_found, is_body_of, is_lock_of, less_refs, more_of, refs_on, with_named, with_refs, without}
-use Rattle.hwp_core_rule.specs.Words.{words_of}
-use Rattle.hwp_core_rule.specs.parts.Counts.{named as named_by}
-use Rattle.hwp_core_rule.specs.parts.Entries.{HasSeen}
-use Rattle.hwp_core_rule.proofs.Lists.{at_map, same-number, term-le}
-use Rattle.hwp_core_rule.proofs.MetWords.{cache-word, frame-named, frame-word, lock-knows}
-use Rattle.hwp_core_rule.proofs.Sights.{seen-more}
-use Rattle.hwp_core_task.specs.Calls.{Steps, logs}
-use Rattle.hwp_core_task.specs.Hands.{Hand, empty, hand_of, putting}
-use Rattle.hwp_core_task.proofs.StepLeaves.{hand-planned}
-use Rattle.hwp_core_task.specs.Known.{IsAt, deeds}
-use Rattle.hwp_core_task.proofs.MadeEntries.{deeds-one, deeds-same, frame-lists, has-made}
-use Rattle.hwp_core.specs.declared.refer.ReferAt.{ReferAt}
-use Rattle.hwp_core.specs.declared.refer.ReferAt.TheVariants as refer_at
-use Rattle.hwp_core.specs.declared.release.ReleaseAt.{ReleaseAt}
-use Rattle.hwp_core.specs.declared.release.ReleaseAt.TheVariants as release_at
-use Rattle.hwp_core.specs.Holds.{named, one_ref, page_lock, refs_to}
-use Rattle.hwp_core.specs.Refers as refers
-use Rattle.hwp_core.specs.Releases as releases
-use Rattle.hwp_core.specs.Releases.{new_lock}
+use Rattle.hwp_claim_frame.specs.hwp_geom.declared.Frame.{Frame}
+use Rattle.hwp_claim_frame.specs.hwp_geom.declared.Layout.{Layout}
+use Rattle.hwp_claim_frame.specs.hwp_geom.declared.Page.{Page}
+use Rattle.hwp_claim_frame.specs.hwp_geom.declared.Who.{Who}
+use Rattle.hwp_claim_frame.specs.hwp_page.declared.At.{At}
+use Rattle.hwp_claim_frame.specs.hwp_page.declared.Entry.{Entry}
+use Rattle.hwp_claim_frame.specs.hwp_page.declared.What.TheVariants as entries
+use Rattle.hwp_claim_frame.specs.hwp_page.History.{BodyValue}
+use Rattle.hwp_claim_frame.specs.hwp_words.Frames.{count_of, handled_of, is_poisoned}
+use Rattle.hwp_claim_frame.specs.hwp_core_rule.declared.FrameLock.{FrameLock}
+use Rattle.hwp_claim_frame.specs.hwp_core_rule.declared.InHand.{InHand}
+use Rattle.hwp_claim_frame.specs.hwp_core_rule.declared.Log.{Log}
+use Rattle.hwp_claim_frame.specs.hwp_core_rule.declared.Made.{Made}
+use Rattle.hwp_claim_frame.specs.hwp_core_rule.declared.Ref.{Ref}
+use Rattle.hwp_claim_frame.specs.hwp_core_rule.declared.Sight.{Sight}
+use Rattle.hwp_claim_frame.specs.hwp_core_rule.declared.Step.TheVariants as steps
+use Rattle.hwp_claim_frame.specs.hwp_core_rule.declared.View.{View}
+use Rattle.hwp_claim_frame.specs.hwp_core_rule.Logs.{log_of}
+use Rattle.hwp_claim_frame.specs.hwp_core_rule.Steps.{is_last}
+use Rattle.hwp_claim_frame.specs.hwp_core_rule.Views.{body_of, changed, frame_in, hand_found, is_body_of, is_lock_of, less_refs, more_of, refs_on, with_named, with_refs, without}
+use Rattle.hwp_claim_frame.specs.hwp_core_rule.Words.{words_of}
+use Rattle.hwp_claim_frame.specs.hwp_core_rule.parts.Counts.{named as named_by}
+use Rattle.hwp_claim_frame.specs.hwp_core_rule.parts.Entries.{HasSeen}
+use Rattle.hwp_claim_frame.proofs.of_hwp_core_rule.Lists.{at_map, same-number, term-le}
+use Rattle.hwp_claim_frame.proofs.of_hwp_core_rule.MetWords.{cache-word, frame-named, frame-word, lock-knows}
+use Rattle.hwp_claim_frame.proofs.of_hwp_core_rule.Sights.{seen-more}
+use Rattle.hwp_claim_frame.specs.hwp_core_task.Calls.{Steps, logs}
+use Rattle.hwp_claim_frame.specs.hwp_core_task.Hands.{Hand, empty, hand_of, putting}
+use Rattle.hwp_claim_frame.proofs.of_hwp_core_task.StepLeaves.{hand-planned}
+use Rattle.hwp_claim_frame.specs.hwp_core_task.Known.{IsAt, deeds}
+use Rattle.hwp_claim_frame.proofs.of_hwp_core_task.MadeEntries.{deeds-one, deeds-same, frame-lists, has-made}
+use Rattle.hwp_claim_frame.specs.hwp_core.declared.refer.ReferAt.{ReferAt}
+use Rattle.hwp_claim_frame.specs.hwp_core.declared.refer.ReferAt.TheVariants as refer_at
+use Rattle.hwp_claim_frame.specs.hwp_core.declared.release.ReleaseAt.{ReleaseAt}
+use Rattle.hwp_claim_frame.specs.hwp_core.declared.release.ReleaseAt.TheVariants as release_at
+use Rattle.hwp_claim_frame.specs.hwp_core.Holds.{named, one_ref, page_lock, refs_to}
+use Rattle.hwp_claim_frame.specs.hwp_core.Refers as refers
+use Rattle.hwp_claim_frame.specs.hwp_core.Releases as releases
+use Rattle.hwp_claim_frame.specs.hwp_core.Releases.{new_lock}
 use Rattle.hwp_evict.specs.Vacates.{page_held}
 use Rattle.hwp_evict.proofs.BodyGrows.{Grown, length-grown}
 use Rattle.hwp_evict.proofs.VacateLaws.{refs-are, refs-gone}

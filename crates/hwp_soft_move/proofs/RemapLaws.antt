@@ -4,44 +4,44 @@ use Rattle.std.proofs.lemmas.Bool.{both_ways, le-ltb, ne_eqb}
 use Rattle.std.proofs.lemmas.Option.{none-some, same_Some, slice_get_within}
 use Rattle.std.specs.FinSet as set
 use Rattle.std.specs.List.{find}
-use Rattle.hwp_geom.specs.declared.Frame.{Frame}
-use Rattle.hwp_geom.specs.declared.Layout.{Layout}
-use Rattle.hwp_geom.specs.declared.Page.{Page}
-use Rattle.hwp_geom.specs.declared.TransDecl.{TransDecl}
-use Rattle.hwp_geom.specs.declared.VSlot.{VSlot}
-use Rattle.hwp_kill.specs.Limits.{slot_limit}
-use Rattle.hwp_page.specs.declared.PageState.{PageState}
-use Rattle.hwp_page.specs.History.{BodyValue}
-use Rattle.hwp_words.specs.Translations.{pte_word}
-use Rattle.hwp_words.specs.declared.Pte.TheVariants as ptes
-use Rattle.hwp_core_rule.specs.declared.FrameLock.{FrameLock}
-use Rattle.hwp_core_rule.specs.declared.Ref.{Ref}
-use Rattle.hwp_core_rule.specs.declared.Step.{Step}
-use Rattle.hwp_core_rule.specs.declared.Step.TheVariants as steps
-use Rattle.hwp_core_rule.specs.declared.View.{View}
-use Rattle.hwp_core_rule.specs.Asks.{CanFree, CanName, CanSetPte, HasLock}
-use Rattle.hwp_core_rule.specs.Logs.{state_of}
-use Rattle.hwp_core_rule.specs.Lasting.{IsMild}
-use Rattle.hwp_core_rule.specs.Views.{frame_in, is_body_of, less_named, less_refs, refs_on, with_named, with_refs}
-use Rattle.hwp_core_rule.specs.Words.{Words}
-use Rattle.hwp_core_rule.proofs.Lists.{same-number, same-or, set_here, set_else}
-use Rattle.hwp_core_rule.proofs.MetWords.{frame-named, lock-knows}
-use Rattle.hwp_core_task.specs.declared.Turn.{Turn}
-use Rattle.hwp_core_task.specs.declared.Turn.TheVariants.{Moved}
-use Rattle.hwp_core_task.specs.Calls.{CanMake, Steps}
-use Rattle.hwp_core_task.specs.Hands.{Hand, hand_of}
-use Rattle.hwp_core_task.specs.Ranks.{Member, member, IsRanked, is_waits, words_at}
-use Rattle.hwp_core_task.specs.Boards.{view_of}
-use Rattle.hwp_core_task.proofs.StepRanks.{rank-of, steps-on}
-use Rattle.hwp_core_task.proofs.StepLeaves.{on-turn-after, hand-planned, steps-planned, can-make}
-use Rattle.hwp_core_task.proofs.MadeEntries.{ListsNone}
-use Rattle.hwp_core.specs.Holds.{page_lock}
+use Rattle.hwp_claim_frame.specs.hwp_geom.declared.Frame.{Frame}
+use Rattle.hwp_claim_frame.specs.hwp_geom.declared.Layout.{Layout}
+use Rattle.hwp_claim_frame.specs.hwp_geom.declared.Page.{Page}
+use Rattle.hwp_claim_frame.specs.hwp_geom.declared.TransDecl.{TransDecl}
+use Rattle.hwp_claim_frame.specs.hwp_geom.declared.VSlot.{VSlot}
+use Rattle.hwp_claim_frame.specs.hwp_kill.Limits.{slot_limit}
+use Rattle.hwp_claim_frame.specs.hwp_page.declared.PageState.{PageState}
+use Rattle.hwp_claim_frame.specs.hwp_page.History.{BodyValue}
+use Rattle.hwp_claim_frame.specs.hwp_words.Translations.{pte_word}
+use Rattle.hwp_claim_frame.specs.hwp_words.declared.Pte.TheVariants as ptes
+use Rattle.hwp_claim_frame.specs.hwp_core_rule.declared.FrameLock.{FrameLock}
+use Rattle.hwp_claim_frame.specs.hwp_core_rule.declared.Ref.{Ref}
+use Rattle.hwp_claim_frame.specs.hwp_core_rule.declared.Step.{Step}
+use Rattle.hwp_claim_frame.specs.hwp_core_rule.declared.Step.TheVariants as steps
+use Rattle.hwp_claim_frame.specs.hwp_core_rule.declared.View.{View}
+use Rattle.hwp_claim_frame.specs.hwp_core_rule.Asks.{CanFree, CanName, CanSetPte, HasLock}
+use Rattle.hwp_claim_frame.specs.hwp_core_rule.Logs.{state_of}
+use Rattle.hwp_claim_frame.specs.hwp_core_rule.Lasting.{IsMild}
+use Rattle.hwp_claim_frame.specs.hwp_core_rule.Views.{frame_in, is_body_of, less_named, less_refs, refs_on, with_named, with_refs}
+use Rattle.hwp_claim_frame.specs.hwp_core_rule.Words.{Words}
+use Rattle.hwp_claim_frame.proofs.of_hwp_core_rule.Lists.{same-number, same-or, set_here, set_else}
+use Rattle.hwp_claim_frame.proofs.of_hwp_core_rule.MetWords.{frame-named, lock-knows}
+use Rattle.hwp_claim_frame.specs.hwp_core_task.declared.Turn.{Turn}
+use Rattle.hwp_claim_frame.specs.hwp_core_task.declared.Turn.TheVariants.{Moved}
+use Rattle.hwp_claim_frame.specs.hwp_core_task.Calls.{CanMake, Steps}
+use Rattle.hwp_claim_frame.specs.hwp_core_task.Hands.{Hand, hand_of}
+use Rattle.hwp_claim_frame.specs.hwp_core_task.Ranks.{IsRanked, is_waits, words_at}
+use Rattle.hwp_claim_frame.specs.hwp_core_task.Boards.{view_of}
+use Rattle.hwp_claim_frame.proofs.of_hwp_core_task.StepRanks.{rank-of, steps-on}
+use Rattle.hwp_claim_frame.proofs.of_hwp_core_task.StepLeaves.{on-turn-after, hand-planned, steps-planned, can-make}
+use Rattle.hwp_claim_frame.proofs.of_hwp_core_task.MadeEntries.{ListsNone}
+use Rattle.hwp_claim_frame.specs.hwp_core.Holds.{page_lock}
 use Rattle.hwp_evict.specs.Clears.{IsNextFrom, is_done}
 use Rattle.hwp_evict.specs.Vacates.{page_held}
 use Rattle.hwp_evict.proofs.ClearLaws.{done-behind, done-same}
 use Rattle.hwp_evict.proofs.TranslationWrites.{trans-word}
 use Rattle.hwp_soft_move.specs.declared.remap.Remap.{Remap}
-use Rattle.hwp_soft_move.specs.Remaps.{CountsOn, plan, plan_at, Follows, FollowsAt, Shows, ShowsAt, word_now, with_both, IsRemapping, Fits, cost, cost_at}
+use Rattle.hwp_soft_move.specs.Remaps.{CountsOn, plan, plan_at, Follows, FollowsAt, Shows, ShowsAt, word_now, with_both, IsRemapping, Fits, cost, cost_at, task as remap-task}
 use Rattle.hwp_soft_move.proofs.SetCounts.{one-fewer}
 
 -- ---- the references to two frames
@@ -267,11 +267,8 @@ remap-lists r step is = which r.next is
     which (Some slot) e = subst ListsNone (same_Some (steps.SetPte slot (ptes.At r.to)) step e) tt
     which None e = absurd (none-some step e)
 
-abbrev remap-member : Member Remap
-remap-member = member (λ r. r.who) plan (λ r. None) (λ r. r) (λ layout r found got after result. Follows r after × (result ≡ Moved)) Fits (λ r. 1) cost (λ r. false) (λ r. None)
-
-pub remap-ranked : IsRanked remap-member
-remap-ranked = rank-of remap-member (λ s. refl) (λ s. (omega arith, omega arith)) (λ layout a seat s rule fits. let few : _ = remap-small (words_at layout a) s in omega (arith, few))
+pub remap-ranked : IsRanked remap-task
+remap-ranked = rank-of remap-task (λ s. refl) (λ s. (omega arith, omega arith)) (λ layout a seat s rule fits. let few : _ = remap-small (words_at layout a) s in omega (arith, few))
     (λ layout seat a b s t turn made goes. remaps-fall s t (words_at layout a) (words_at layout b) made.planned made.follows.0 (both layout (view_of a seat) _ s made.step made.found made.got made.fits made.planned (steps-on made)).0)
     (λ layout seat a b s t turn made is quiet. absurd (both_ways true (sym is ∙ ap is_waits made.follows.1) refl))
     (λ s. refl) remap-mild

@@ -2,26 +2,26 @@
 use Rattle.std.proofs.Common.{◌≡◌, ◌⊎◌, inl, inr, ℕ, ◌+◌, ◌<◌, ◌≤◌, ◌==◌, Bool, true, false, cond, Option, Some, None, slice_index, refl, sym, ap, ◌∙◌, subst, arith}
 use Rattle.std.proofs.lemmas.Bool.{both_ways}
 use Rattle.std.proofs.lemmas.Option.{none-some, same_Some}
-use Rattle.hwp_geom.specs.declared.Layout.{Layout}
-use Rattle.hwp_page.specs.History.{BodyValue}
-use Rattle.hwp_words.specs.Frames.{count_of, is_kernel, is_poisoned}
-use Rattle.hwp_core_rule.specs.declared.SharedWord.TheVariants as places
-use Rattle.hwp_core_rule.specs.declared.State.{State}
-use Rattle.hwp_core_rule.specs.declared.Step.{Step}
-use Rattle.hwp_core_rule.specs.declared.Step.TheVariants as steps
-use Rattle.hwp_core_rule.specs.Moves.{Move}
-use Rattle.hwp_core_rule.specs.Lasting.{IsMild}
-use Rattle.hwp_core_rule.specs.Steps.{word_after}
-use Rattle.hwp_core_rule.specs.Words.{Words}
-use Rattle.hwp_core_rule.proofs.Lists.{same-number}
-use Rattle.hwp_core_task.specs.declared.Turn.{Turn}
-use Rattle.hwp_core_task.specs.Boards.{view_of}
-use Rattle.hwp_core_task.specs.Calls.{logs, rec_of}
-use Rattle.hwp_core_task.specs.Ranks.{IsRanked, Member, member, Made, Quiet, OtherHand, is_waits, stale, words_at}
-use Rattle.hwp_core_task.proofs.StepRanks.{met, pending-kept, words-kept}
-use Rattle.hwp_core.specs.declared.release.ReleaseAt.{ReleaseAt}
-use Rattle.hwp_core.specs.declared.release.ReleaseAt.TheVariants as release_at
-use Rattle.hwp_core.proofs.TaskCosts.{met-own}
+use Rattle.hwp_claim_frame.specs.hwp_geom.declared.Layout.{Layout}
+use Rattle.hwp_claim_frame.specs.hwp_page.History.{BodyValue}
+use Rattle.hwp_claim_frame.specs.hwp_words.Frames.{count_of, is_kernel, is_poisoned}
+use Rattle.hwp_claim_frame.specs.hwp_core_rule.declared.SharedWord.TheVariants as places
+use Rattle.hwp_claim_frame.specs.hwp_core_rule.declared.State.{State}
+use Rattle.hwp_claim_frame.specs.hwp_core_rule.declared.Step.{Step}
+use Rattle.hwp_claim_frame.specs.hwp_core_rule.declared.Step.TheVariants as steps
+use Rattle.hwp_claim_frame.specs.hwp_core_rule.Moves.{Move}
+use Rattle.hwp_claim_frame.specs.hwp_core_rule.Lasting.{IsMild}
+use Rattle.hwp_claim_frame.specs.hwp_core_rule.Steps.{word_after}
+use Rattle.hwp_claim_frame.specs.hwp_core_rule.Words.{Words}
+use Rattle.hwp_claim_frame.proofs.of_hwp_core_rule.Lists.{same-number}
+use Rattle.hwp_claim_frame.specs.hwp_core_task.declared.Turn.{Turn}
+use Rattle.hwp_claim_frame.specs.hwp_core_task.Boards.{view_of}
+use Rattle.hwp_claim_frame.specs.hwp_core_task.Calls.{logs, rec_of}
+use Rattle.hwp_claim_frame.specs.hwp_core_task.Ranks.{IsRanked, Made, Quiet, OtherHand, is_waits, stale, words_at}
+use Rattle.hwp_claim_frame.proofs.of_hwp_core_task.StepRanks.{met, pending-kept, words-kept}
+use Rattle.hwp_claim_frame.specs.hwp_core.declared.release.ReleaseAt.{ReleaseAt}
+use Rattle.hwp_claim_frame.specs.hwp_core.declared.release.ReleaseAt.TheVariants as release_at
+use Rattle.hwp_claim_frame.proofs.of_hwp_core.TaskCosts.{met-own}
 use Rattle.hwp_claim_frame.specs.declared.grab.Grab.{Grab}
 use Rattle.hwp_claim_frame.specs.declared.grab.GrabAt.{GrabAt}
 use Rattle.hwp_claim_frame.specs.declared.grab.GrabAt.TheVariants as grab_at
@@ -36,11 +36,8 @@ use Rattle.hwp_claim_frame.proofs.MeetCosts.{meet-class, meet-falls, meet-made, 
 use Rattle.hwp_soft_move.specs.declared.seize.Seize.{Seize}
 use Rattle.hwp_soft_move.specs.declared.seize.SeizeAt.{SeizeAt}
 use Rattle.hwp_soft_move.specs.declared.seize.SeizeAt.TheVariants as at
-use Rattle.hwp_soft_move.specs.Seizes.{plan, plan_at, put, put_at, bare, bare_at, looked, after_grab, after_grab_by, after_meet, next, next_at, turn, turn_at, Fits, FitsAt, class, class_at, aborts, aborts_at, cost, cost_with}
+use Rattle.hwp_soft_move.specs.Seizes.{plan, plan_at, put_at, bare, bare_at, looked, after_grab, after_grab_by, after_meet, next, next_at, turn, turn_at, FitsAt, class, class_at, aborts, aborts_at, cost, cost_with, task as seize-task}
 use Rattle.hwp_soft_move.proofs.SeizeLaws.{lasts-on}
-
-abbrev pub seize-member : Member Seize
-seize-member = member (λ s. s.who) plan put bare (λ layout s found got after result. (after ≡ next s found got) × (result ≡ turn s found)) Fits class cost aborts (λ s. None)
 
 -- ---- what is left once a part is over
 
@@ -77,7 +74,7 @@ module _ (rest : ℕ) (w : Words) where
   meet-ends m meet_at.Free is = omega arith
   meet-ends m (meet_at.Owned page body) is = omega arith
 
-module _ {layout : Layout} {seat : ℕ} {a b : State} {s t : Seize} {turned : Turn} (made : Made seize-member layout seat a b s t turned) where
+module _ {layout : Layout} {seat : ℕ} {a b : State} {s t : Seize} {turned : Turn} (made : Made seize-task layout seat a b s t turned) where
   abbrev Moves : Option BodyValue → Type 0
   Moves given = Move layout seat (rec_of layout s.who made.step (logs given) made.found made.got) a b
 
@@ -211,7 +208,7 @@ seize-mild s step is = which s.at is
     which at.Free e = absurd (none-some step e)
     which (at.Owned page body) e = absurd (none-some step e)
 
-pub seize-ranked : IsRanked seize-member
+pub seize-ranked : IsRanked seize-task
 seize-ranked = record {
   classes = seize-class;
   small = λ layout a seat s rule fits. let few : cost s (words_at layout a) ≤ 0 + 0 + 8300 = seize-small 0 s.at (words_at layout a) in omega (arith, few);

@@ -3,8 +3,8 @@ use Rattle.std.proofs.Common.{◌≡◌, ◌⊎◌, inl, inr, ℕ, zero, suc, �
 use Rattle.std.proofs.lemmas.Bool.{both_ways, cases_lt}
 use Rattle.std.specs.FinSet as set
 use Rattle.std.specs.Ordering.{nat_cmp}
-use Rattle.hwp_geom.specs.declared.VSlot.{VSlot}
-use Rattle.hwp_kill.specs.Lowest.{HasNoneFrom, IsLowestFrom}
+use Rattle.hwp_claim_frame.specs.hwp_geom.declared.VSlot.{VSlot}
+use Rattle.hwp_claim_frame.specs.hwp_kill.Lowest.{HasNoneFrom, IsLowestFrom}
 use Rattle.hwp_evict.specs.Clears.{IsNextFrom}
 use Rattle.hwp_soft_move.specs.Remaps.{CountsOn, IsCount}
 

@@ -1,20 +1,22 @@
 -- A locked frame without a page put out of use: the task's states, its steps and what they come to.
 use Rattle.std.specs.Prelude.{◌≡◌, ℕ, ◌<◌, Bool, true, false, cond, Option, Some, None, is_none}
-use Rattle.hwp_geom.specs.declared.Frame.{Frame}
-use Rattle.hwp_geom.specs.declared.Layout.{Layout}
-use Rattle.hwp_geom.specs.declared.Who.{Who}
-use Rattle.hwp_page.specs.History.{BodyValue}
-use Rattle.hwp_words.specs.Frames.{cycle_of, is_poisoned}
-use Rattle.hwp_core_rule.specs.declared.Step.{Step}
-use Rattle.hwp_core_rule.specs.declared.Step.TheVariants as steps
-use Rattle.hwp_core_rule.specs.declared.View.{View}
-use Rattle.hwp_core_rule.specs.Asks.{OwesCount}
-use Rattle.hwp_core_rule.specs.Words.{Words}
-use Rattle.hwp_core_task.specs.Calls.{IsOnTurn}
-use Rattle.hwp_core_task.specs.Hands.{hand_of, empty}
-use Rattle.hwp_core.specs.declared.unlock.Unlock.{Unlock}
-use Rattle.hwp_core.specs.Unlocks as unlocks
-use Rattle.hwp_core.specs.Unlocks.{empty_frame}
+use Rattle.hwp_claim_frame.specs.hwp_geom.declared.Frame.{Frame}
+use Rattle.hwp_claim_frame.specs.hwp_geom.declared.Layout.{Layout}
+use Rattle.hwp_claim_frame.specs.hwp_geom.declared.Who.{Who}
+use Rattle.hwp_claim_frame.specs.hwp_page.History.{BodyValue}
+use Rattle.hwp_claim_frame.specs.hwp_words.Frames.{cycle_of, is_poisoned}
+use Rattle.hwp_claim_frame.specs.hwp_core_rule.declared.Step.{Step}
+use Rattle.hwp_claim_frame.specs.hwp_core_rule.declared.Step.TheVariants as steps
+use Rattle.hwp_claim_frame.specs.hwp_core_rule.declared.View.{View}
+use Rattle.hwp_claim_frame.specs.hwp_core_rule.Asks.{OwesCount}
+use Rattle.hwp_claim_frame.specs.hwp_core_rule.Words.{Words}
+use Rattle.hwp_claim_frame.specs.hwp_core_task.Calls.{IsOnTurn}
+use Rattle.hwp_claim_frame.specs.hwp_core_task.Hands.{hand_of, empty}
+use Rattle.hwp_claim_frame.specs.hwp_core_task.Turns.{Member}
+use Rattle.hwp_claim_frame.specs.hwp_core_task.declared.Turn.TheVariants.{Moved}
+use Rattle.hwp_claim_frame.specs.hwp_core.declared.unlock.Unlock.{Unlock}
+use Rattle.hwp_claim_frame.specs.hwp_core.Unlocks as unlocks
+use Rattle.hwp_claim_frame.specs.hwp_core.Unlocks.{empty_frame}
 use Rattle.hwp_claim_frame.specs.Claims.{HasMarked, IsUnlocking, SawPoison}
 use Rattle.hwp_claim_frame.specs.Meets.{HoldsFree}
 use Rattle.hwp_soft_move.specs.declared.discard.Discard.{Discard}
@@ -122,3 +124,19 @@ cost_at (at.Over cycle) words = 0
 
 abbrev pub cost : Discard → Words → ℕ
 cost d words = cost_at d.at words
+
+-- the task, as the laws of tasks read it
+abbrev pub task : Member Discard
+task = record {
+  who = λ d. d.who;
+  plan = plan;
+  put = put;
+  bare = bare;
+  shows = λ d found got. Unit {0};
+  next = λ layout d found got after result. (after ≡ next d found) × (result ≡ Moved);
+  fits = Fits;
+  class = class;
+  cost = cost;
+  aborts = λ d. false;
+  claims = claims;
+}

@@ -1,35 +1,36 @@
 -- What is held and known while a page is put into another frame.
 use Rattle.std.specs.FinSet as set
 use Rattle.std.specs.Ordering.{nat_cmp}
-use Rattle.std.specs.Prelude.{◌≡◌, ◌≢◌, ℕ, ◌+◌, ◌-◌, ◌<◌, ◌≤◌, true, false, List, [], ◌∷◌, ◌++◌, Option, Some, is_none, length, drop, slice_get}
-use Rattle.hwp_geom.specs.declared.Frame.{Frame}
-use Rattle.hwp_geom.specs.declared.Layout.{Layout}
-use Rattle.hwp_geom.specs.declared.Page.{Page}
-use Rattle.hwp_geom.specs.declared.TransDecl.{TransDecl}
-use Rattle.hwp_geom.specs.declared.Who.{Who}
-use Rattle.hwp_geom.specs.Layout.{IsSound}
-use Rattle.hwp_page.specs.declared.At.{At}
-use Rattle.hwp_page.specs.declared.What.TheVariants as entries
-use Rattle.hwp_page.specs.History.{BodyValue, IsReplay}
-use Rattle.hwp_core_rule.specs.declared.InHand.{InHand}
-use Rattle.hwp_core_rule.specs.declared.Log.{Log}
-use Rattle.hwp_core_rule.specs.declared.View.{View}
-use Rattle.hwp_core_rule.specs.Asks.{OwesCount}
-use Rattle.hwp_core_rule.specs.Logs.{log_of, state_of, fitting_word}
-use Rattle.hwp_core_rule.specs.Views.{unpoisoned}
-use Rattle.hwp_core_rule.specs.parts.Entries.{HasSeen}
-use Rattle.hwp_core_task.specs.Calls.{IsOnTurn}
-use Rattle.hwp_core_task.specs.Hands.{Hand, body_in, empty, hand_of}
-use Rattle.hwp_core_task.specs.Known.{HasMade, HasMadeNone}
-use Rattle.hwp_core.specs.declared.refer.Refer.{Refer}
-use Rattle.hwp_core.specs.declared.refer.ReferAt.{ReferAt}
-use Rattle.hwp_core.specs.declared.refer.ReferAt.TheVariants as refer_at
-use Rattle.hwp_core.specs.declared.release.Release.{Release}
-use Rattle.hwp_core.specs.declared.release.ReleaseAt.{ReleaseAt}
-use Rattle.hwp_core.specs.declared.release.ReleaseAt.TheVariants as release_at
-use Rattle.hwp_core.specs.Holds.{named, refs_to}
-use Rattle.hwp_core.specs.Refers as refers
-use Rattle.hwp_core.specs.Releases as releases
+use Rattle.std.specs.Prelude.{◌≡◌, ◌≢◌, ℕ, ◌+◌, ◌-◌, ◌<◌, ◌≤◌, true, false, List, [], ◌∷◌, ◌++◌, Option, Some, None, is_none, length, drop, slice_get}
+use Rattle.hwp_claim_frame.specs.hwp_geom.declared.Frame.{Frame}
+use Rattle.hwp_claim_frame.specs.hwp_geom.declared.Layout.{Layout}
+use Rattle.hwp_claim_frame.specs.hwp_geom.declared.Page.{Page}
+use Rattle.hwp_claim_frame.specs.hwp_geom.declared.TransDecl.{TransDecl}
+use Rattle.hwp_claim_frame.specs.hwp_geom.declared.Who.{Who}
+use Rattle.hwp_claim_frame.specs.hwp_geom.Layout.{IsSound}
+use Rattle.hwp_claim_frame.specs.hwp_page.declared.At.{At}
+use Rattle.hwp_claim_frame.specs.hwp_page.declared.What.TheVariants as entries
+use Rattle.hwp_claim_frame.specs.hwp_page.History.{BodyValue, IsReplay}
+use Rattle.hwp_claim_frame.specs.hwp_core_rule.declared.InHand.{InHand}
+use Rattle.hwp_claim_frame.specs.hwp_core_rule.declared.Log.{Log}
+use Rattle.hwp_claim_frame.specs.hwp_core_rule.declared.View.{View}
+use Rattle.hwp_claim_frame.specs.hwp_core_rule.Asks.{OwesCount}
+use Rattle.hwp_claim_frame.specs.hwp_core_rule.Logs.{log_of, state_of, fitting_word}
+use Rattle.hwp_claim_frame.specs.hwp_core_rule.Views.{unpoisoned}
+use Rattle.hwp_claim_frame.specs.hwp_core_rule.parts.Entries.{HasSeen}
+use Rattle.hwp_claim_frame.specs.hwp_core_task.Calls.{IsOnTurn}
+use Rattle.hwp_claim_frame.specs.hwp_core_task.Hands.{Hand, body_in, empty, hand_of}
+use Rattle.hwp_claim_frame.specs.hwp_core_task.Known.{HasMade, HasMadeNone}
+use Rattle.hwp_claim_frame.specs.hwp_core_task.Turns.{Member}
+use Rattle.hwp_claim_frame.specs.hwp_core.declared.refer.Refer.{Refer}
+use Rattle.hwp_claim_frame.specs.hwp_core.declared.refer.ReferAt.{ReferAt}
+use Rattle.hwp_claim_frame.specs.hwp_core.declared.refer.ReferAt.TheVariants as refer_at
+use Rattle.hwp_claim_frame.specs.hwp_core.declared.release.Release.{Release}
+use Rattle.hwp_claim_frame.specs.hwp_core.declared.release.ReleaseAt.{ReleaseAt}
+use Rattle.hwp_claim_frame.specs.hwp_core.declared.release.ReleaseAt.TheVariants as release_at
+use Rattle.hwp_claim_frame.specs.hwp_core.Holds.{named, refs_to}
+use Rattle.hwp_claim_frame.specs.hwp_core.Refers as refers
+use Rattle.hwp_claim_frame.specs.hwp_core.Releases as releases
 use Rattle.hwp_evict.specs.Vacates.{page_held}
 use Rattle.hwp_soft_move.specs.declared.relocate.Relocate.{Relocate}
 use Rattle.hwp_soft_move.specs.declared.relocate.RelocateAt.{RelocateAt}
@@ -38,6 +39,7 @@ use Rattle.hwp_soft_move.specs.declared.relocate.Transfer.{Transfer}
 use Rattle.hwp_soft_move.specs.declared.remap.Remap.{Remap}
 use Rattle.hwp_soft_move.specs.Remaps as remaps
 use Rattle.hwp_soft_move.specs.Remaps.{IsCount, old_lock, with_both}
+use Rattle.hwp_soft_move.specs.Relocations.{Follows, Shows, bare, class, cost, plan, put}
 
 -- the body is one of this history with the entry of the soft offline; the page was in a frame
 pub record HasEntry (layout : Layout) (who : Who) (page : Page) (log : Log) (done : At) (body : BodyValue) : Type 0 where
@@ -163,3 +165,19 @@ pub record Fits (layout : Layout) (view : View) (r : Relocate) : Type 0 where
   pub count_is : r.transfer.count ≡ number + 2
   pub room : r.transfer.count ≤ length layout.trans + 2
   pub at : FitsAt layout view r.transfer r.maps r.done r.body r.at
+
+-- the task, as the laws of tasks read it
+abbrev pub task : Member Relocate
+task = record {
+  who = λ r. r.transfer.who;
+  plan = plan;
+  put = put;
+  bare = bare;
+  shows = λ r found got. Shows r;
+  next = λ layout r found got after result. Follows r found after result;
+  fits = Fits;
+  class = class;
+  cost = cost;
+  aborts = λ r. false;
+  claims = λ r. None;
+}

@@ -1,21 +1,22 @@
 -- A good frame taken from those that use it, or could: the task's states, its steps and what they come to.
 use Rattle.std.specs.Prelude.{◌≡◌, ℕ, ◌+◌, ◌<◌, ◌==◌, Bool, true, false, cond, Option, Some, None, is_none, slice_get}
-use Rattle.hwp_geom.specs.declared.Frame.{Frame}
-use Rattle.hwp_geom.specs.declared.Layout.{Layout}
-use Rattle.hwp_geom.specs.declared.Page.{Page}
-use Rattle.hwp_geom.specs.declared.Who.{Who}
-use Rattle.hwp_page.specs.History.{BodyValue}
-use Rattle.hwp_words.specs.Frames.{count_of, is_kernel, is_poisoned}
-use Rattle.hwp_core_rule.specs.declared.SharedWord.TheVariants as places
-use Rattle.hwp_core_rule.specs.declared.Step.{Step}
-use Rattle.hwp_core_rule.specs.declared.Step.TheVariants as steps
-use Rattle.hwp_core_rule.specs.declared.View.{View}
-use Rattle.hwp_core_rule.specs.Words.{Words}
-use Rattle.hwp_core_task.specs.declared.Turn.{Turn}
-use Rattle.hwp_core_task.specs.declared.Turn.TheVariants.{Moved}
-use Rattle.hwp_core_task.specs.Calls.{IsOnTurn}
-use Rattle.hwp_core_task.specs.Hands.{hand_of, empty}
-use Rattle.hwp_core_task.specs.Known.{Saw}
+use Rattle.hwp_claim_frame.specs.hwp_geom.declared.Frame.{Frame}
+use Rattle.hwp_claim_frame.specs.hwp_geom.declared.Layout.{Layout}
+use Rattle.hwp_claim_frame.specs.hwp_geom.declared.Page.{Page}
+use Rattle.hwp_claim_frame.specs.hwp_geom.declared.Who.{Who}
+use Rattle.hwp_claim_frame.specs.hwp_page.History.{BodyValue}
+use Rattle.hwp_claim_frame.specs.hwp_words.Frames.{count_of, is_kernel, is_poisoned}
+use Rattle.hwp_claim_frame.specs.hwp_core_rule.declared.SharedWord.TheVariants as places
+use Rattle.hwp_claim_frame.specs.hwp_core_rule.declared.Step.{Step}
+use Rattle.hwp_claim_frame.specs.hwp_core_rule.declared.Step.TheVariants as steps
+use Rattle.hwp_claim_frame.specs.hwp_core_rule.declared.View.{View}
+use Rattle.hwp_claim_frame.specs.hwp_core_rule.Words.{Words}
+use Rattle.hwp_claim_frame.specs.hwp_core_task.declared.Turn.{Turn}
+use Rattle.hwp_claim_frame.specs.hwp_core_task.declared.Turn.TheVariants.{Moved}
+use Rattle.hwp_claim_frame.specs.hwp_core_task.Calls.{IsOnTurn}
+use Rattle.hwp_claim_frame.specs.hwp_core_task.Hands.{hand_of, empty}
+use Rattle.hwp_claim_frame.specs.hwp_core_task.Known.{Saw}
+use Rattle.hwp_claim_frame.specs.hwp_core_task.Turns.{Member}
 use Rattle.hwp_claim_frame.specs.declared.grab.Grab.{Grab}
 use Rattle.hwp_claim_frame.specs.declared.grab.GrabAnswer.{GrabAnswer}
 use Rattle.hwp_claim_frame.specs.declared.grab.GrabAnswer.TheVariants as grab_answers
@@ -221,3 +222,19 @@ cost_with rest _ words = rest
 
 abbrev pub cost : Seize → Words → ℕ
 cost s words = cost_with 0 s.at words
+
+-- the task, as the laws of tasks read it
+abbrev pub task : Member Seize
+task = record {
+  who = λ s. s.who;
+  plan = plan;
+  put = put;
+  bare = bare;
+  shows = Shows;
+  next = λ layout s found got after result. (after ≡ next s found got) × (result ≡ turn s found);
+  fits = Fits;
+  class = class;
+  cost = cost;
+  aborts = aborts;
+  claims = λ s. None;
+}

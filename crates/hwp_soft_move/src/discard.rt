@@ -1,13 +1,8 @@
 ghost use Rattle.std.specs.Prelude.{◌≡◌, Option};
-ghost use Rattle.hwp_core.specs.Unlocks as unlocks;
+ghost use Rattle.hwp_claim_frame.specs.hwp_core.Unlocks as unlocks;
 ghost use Rattle.hwp_soft_move.specs.Discards.{begin, answer, poisoned, after_unlock, next_at};
 
-use hwp_core::Unlock;
-use hwp_core_rule::Step;
-use hwp_core_task::{Ranked, Task, Turn};
-use hwp_geom::{Frame, Layout, Who};
-use hwp_page::Body;
-use hwp_words::FrameWord;
+use hwp_claim_frame::{Body, Frame, FrameWord, Layout, Ranked, Step, Task, Turn, Unlock, Who};
 use std::mem;
 
 /// Puts a locked frame in which no page is out of use: poisons it, counts that, and retires it (Linux page_handle_poison).
@@ -110,23 +105,9 @@ fn settled(
 }
 
 impl Task for Discard {
-    ghost use Rattle.std.specs.Prelude.{◌≡◌};
-    ghost use Rattle.hwp_core_task.specs.declared.Turn.TheVariants.{Moved};
-    ghost use Rattle.hwp_soft_move.specs.Discards.{plan, put, bare, next, Fits};
+    ghost use Rattle.hwp_soft_move.specs.Discards as discards;
 
-    ghost who = { λ d. d.who };
-
-    ghost plan = { λ d. plan d };
-
-    ghost put = { λ d. put d };
-
-    ghost bare = { λ d. bare d };
-
-    ghost shows = { λ d found got. Unit {0} };
-
-    ghost next = { λ layout d found got after result. (after ≡ next d found) × (result ≡ Moved) };
-
-    ghost fits = { λ layout view d. Fits layout view d };
+    ghost task = { discards.task };
 
     fn who(&self) -> Who {
         self.who
@@ -163,17 +144,6 @@ impl Task for Discard {
 }
 
 impl Ranked for Discard {
-    ghost use Rattle.std.specs.Prelude.{false};
-    ghost use Rattle.hwp_soft_move.specs.Discards.{class, cost, claims};
-
-    ghost class_of = { λ d. class d };
-
-    ghost cost = { λ d words. cost d words };
-
-    ghost aborts = { λ d. false };
-
-    ghost claims = { λ d. claims d };
-
     fn class(&self) -> u8 {
         match &self.at {
             DiscardAt::Poison { .. } | DiscardAt::Count { .. } | DiscardAt::Retire { .. } => 1,

@@ -1,16 +1,13 @@
 ghost use Rattle.std.specs.Prelude.{◌≡◌, is_none};
-ghost use Rattle.hwp_core.specs.Refers as refers;
-ghost use Rattle.hwp_core.specs.Releases as releases;
+ghost use Rattle.hwp_claim_frame.specs.hwp_core.Refers as refers;
+ghost use Rattle.hwp_claim_frame.specs.hwp_core.Releases as releases;
 ghost use Rattle.hwp_soft_move.specs.Remaps as remaps;
 ghost use Rattle.hwp_soft_move.specs.Relocations.{IsBegun, plan, FollowsAt, AfterRefer, IsRemapped, IsReferred, StartsRemap, ShowsAt, after_remap, after_release};
 
 use crate::remap::{Remap, count};
-use hwp_core::{Refer, Release};
-use hwp_core_rule::Step;
-use hwp_core_task::{Ranked, Task, Turn};
-use hwp_geom::{Frame, Layout, Page, Who};
-use hwp_kill::Slots;
-use hwp_page::{At, Body};
+use hwp_claim_frame::{
+    At, Body, Frame, Layout, Page, Ranked, Refer, Release, Slots, Step, Task, Turn, Who,
+};
 use std::mem;
 
 /// Puts a page that is held into another frame, which is held too, and its old frame out of use: the poison of that is counted,
@@ -220,22 +217,9 @@ fn settled(
 }
 
 impl Task for Relocate {
-    ghost use Rattle.hwp_soft_move.specs.Relocations.{plan, put, bare, Shows, Follows};
-    ghost use Rattle.hwp_soft_move.specs.Relocating.{Fits};
+    ghost use Rattle.hwp_soft_move.specs.Relocating as relocating;
 
-    ghost who = { λ r. r.transfer.who };
-
-    ghost plan = { λ r. plan r };
-
-    ghost put = { λ r. put r };
-
-    ghost bare = { λ r. bare r };
-
-    ghost shows = { λ r found got. Shows r };
-
-    ghost next = { λ layout r found got after result. Follows r found after result };
-
-    ghost fits = { λ layout view r. Fits layout view r };
+    ghost task = { relocating.task };
 
     fn who(&self) -> Who {
         self.transfer.who
@@ -304,17 +288,6 @@ impl Task for Relocate {
 }
 
 impl Ranked for Relocate {
-    ghost use Rattle.std.specs.Prelude.{false, None};
-    ghost use Rattle.hwp_soft_move.specs.Relocations.{class, cost};
-
-    ghost class_of = { λ r. class r };
-
-    ghost cost = { λ r words. cost r words };
-
-    ghost aborts = { λ r. false };
-
-    ghost claims = { λ r. None };
-
     fn class(&self) -> u8 {
         match &self.at {
             RelocateAt::UnlockPage => 2,

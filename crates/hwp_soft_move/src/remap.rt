@@ -1,13 +1,10 @@
 ghost use Rattle.std.specs.Prelude.{◌≡◌, ◌≤◌, is_none};
-ghost use Rattle.hwp_kill.specs.Limits.{slot_limit};
-ghost use Rattle.hwp_soft_move.specs.Remaps.{IsBegun, IsCount, plan};
+ghost use Rattle.hwp_claim_frame.specs.hwp_kill.Limits.{slot_limit};
+ghost use Rattle.hwp_soft_move.specs.Remaps.{IsBegun, IsCount};
 
-use hwp_core_rule::Step;
-use hwp_core_task::{Ranked, Task, Turn};
-use hwp_geom::{Frame, Layout, Page, VSlot, Who};
-use hwp_kill::Slots;
-use hwp_page::Body;
-use hwp_words::Pte;
+use hwp_claim_frame::{
+    Body, Frame, Layout, Page, Pte, Ranked, Slots, Step, Task, Turn, VSlot, Who,
+};
 
 /// Writes the translations that lead to the frame of a page, in rising order, so that they lead to another one (Linux
 /// remove_migration_ptes).
@@ -65,23 +62,9 @@ impl Remap {
 }
 
 impl Task for Remap {
-    ghost use Rattle.std.specs.Prelude.{◌≡◌, None};
-    ghost use Rattle.hwp_core_task.specs.declared.Turn.TheVariants.{Moved};
-    ghost use Rattle.hwp_soft_move.specs.Remaps.{plan, Shows, Follows, Fits};
+    ghost use Rattle.hwp_soft_move.specs.Remaps as remaps;
 
-    ghost who = { λ r. r.who };
-
-    ghost plan = { λ r. plan r };
-
-    ghost put = { λ r. None };
-
-    ghost bare = { λ r. r };
-
-    ghost shows = { λ r found got. Shows r };
-
-    ghost next = { λ layout r found got after result. Follows r after × (result ≡ Moved) };
-
-    ghost fits = { λ layout view r. Fits layout view r };
+    ghost task = { remaps.task };
 
     fn who(&self) -> Who {
         self.who
@@ -110,17 +93,6 @@ impl Task for Remap {
 }
 
 impl Ranked for Remap {
-    ghost use Rattle.std.specs.Prelude.{false, None};
-    ghost use Rattle.hwp_soft_move.specs.Remaps.{cost};
-
-    ghost class_of = { λ r. 1 };
-
-    ghost cost = { λ r words. cost r words };
-
-    ghost aborts = { λ r. false };
-
-    ghost claims = { λ r. None };
-
     fn class(&self) -> u8 {
         1
     }

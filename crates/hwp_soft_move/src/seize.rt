@@ -3,12 +3,10 @@ ghost use Rattle.hwp_claim_frame.specs.Grabs as grabs;
 ghost use Rattle.hwp_claim_frame.specs.Meets as meets;
 ghost use Rattle.hwp_soft_move.specs.Seizes.{begin, answer, is_owned, IsBody, looked, after_grab, after_meet, next_at, turn_at, ShowsAt};
 
-use hwp_claim_frame::{Grab, GrabAnswer, Meet, MeetAnswer};
-use hwp_core_rule::{SharedWord, Step};
-use hwp_core_task::{Ranked, Task, Turn};
-use hwp_geom::{Frame, Layout, Page, Who};
-use hwp_page::Body;
-use hwp_words::FrameWord;
+use hwp_claim_frame::{
+    Body, Frame, FrameWord, Grab, GrabAnswer, Layout, Meet, MeetAnswer, Page, Ranked, SharedWord,
+    Step, Task, Turn, Who,
+};
 use std::mem;
 
 /// Takes a good frame from those that use it, or could: out of the free ones, or under its locks (Linux get_hwpoison_page, within
@@ -180,22 +178,9 @@ fn settled(
 }
 
 impl Task for Seize {
-    ghost use Rattle.std.specs.Prelude.{◌≡◌};
-    ghost use Rattle.hwp_soft_move.specs.Seizes.{plan, put, bare, next, turn, Shows, Fits};
+    ghost use Rattle.hwp_soft_move.specs.Seizes as seizes;
 
-    ghost who = { λ s. s.who };
-
-    ghost plan = { λ s. plan s };
-
-    ghost put = { λ s. put s };
-
-    ghost bare = { λ s. bare s };
-
-    ghost shows = { λ s found got. Shows s found got };
-
-    ghost next = { λ layout s found got after result. (after ≡ next s found got) × (result ≡ turn s found) };
-
-    ghost fits = { λ layout view s. Fits layout view s };
+    ghost task = { seizes.task };
 
     fn who(&self) -> Who {
         self.who
@@ -238,17 +223,6 @@ impl Task for Seize {
 }
 
 impl Ranked for Seize {
-    ghost use Rattle.std.specs.Prelude.{None};
-    ghost use Rattle.hwp_soft_move.specs.Seizes.{class, cost, aborts};
-
-    ghost class_of = { λ s. class s };
-
-    ghost cost = { λ s words. cost s words };
-
-    ghost aborts = { λ s. aborts s };
-
-    ghost claims = { λ s. None };
-
     fn class(&self) -> u8 {
         match &self.at {
             SeizeAt::Grab { grab } => grab.class(),

@@ -1,19 +1,19 @@
 -- What a step of an `Unpoison` adds to what the view lists: the mark of its frame, and the count of that.
 use Rattle.std.proofs.Common.{◌≡◌, inl, inr, ℕ, ◌+◌, ◌-◌, ◌<◌, ◌==◌, Bool, true, false, cond, List, [], Option, Some, None, refl, ap, arith}
 use Rattle.std.proofs.lemmas.Option.{none-some}
-use Rattle.hwp_geom.specs.declared.Frame.{Frame}
-use Rattle.hwp_geom.specs.declared.Layout.{Layout}
-use Rattle.hwp_geom.specs.declared.Who.{Who}
-use Rattle.hwp_page.specs.History.{BodyValue}
-use Rattle.hwp_words.specs.Counters.{hardware_of}
-use Rattle.hwp_words.specs.Frames.{count_of, cycle_of, is_poisoned}
-use Rattle.hwp_words.specs.Stops.{is_stopped}
-use Rattle.hwp_core_rule.specs.declared.Debts.{Debts}
-use Rattle.hwp_core_rule.specs.declared.Step.{Step}
-use Rattle.hwp_core_rule.specs.declared.Step.TheVariants as steps
-use Rattle.hwp_core_rule.specs.declared.View.{View}
-use Rattle.hwp_core_task.specs.Calls.{Steps}
-use Rattle.hwp_core_task.proofs.StepLeaves.{steps-planned}
+use Rattle.hwp_claim_frame.specs.hwp_geom.declared.Frame.{Frame}
+use Rattle.hwp_claim_frame.specs.hwp_geom.declared.Layout.{Layout}
+use Rattle.hwp_claim_frame.specs.hwp_geom.declared.Who.{Who}
+use Rattle.hwp_claim_frame.specs.hwp_page.History.{BodyValue}
+use Rattle.hwp_claim_frame.specs.hwp_words.Counters.{hardware_of}
+use Rattle.hwp_claim_frame.specs.hwp_words.Frames.{count_of, cycle_of, is_poisoned}
+use Rattle.hwp_claim_frame.specs.hwp_words.Stops.{is_stopped}
+use Rattle.hwp_claim_frame.specs.hwp_core_rule.declared.Debts.{Debts}
+use Rattle.hwp_claim_frame.specs.hwp_core_rule.declared.Step.{Step}
+use Rattle.hwp_claim_frame.specs.hwp_core_rule.declared.Step.TheVariants as steps
+use Rattle.hwp_claim_frame.specs.hwp_core_rule.declared.View.{View}
+use Rattle.hwp_claim_frame.specs.hwp_core_task.Calls.{Steps}
+use Rattle.hwp_claim_frame.proofs.of_hwp_core_task.StepLeaves.{steps-planned}
 use Rattle.hwp_claim_frame.specs.Done.{Marking, counts_owed}
 use Rattle.hwp_soft_unpoison.specs.declared.unpoison.Unpoison.{Unpoison}
 use Rattle.hwp_soft_unpoison.specs.declared.unpoison.UnpoisonAt.{UnpoisonAt}

@@ -2,32 +2,32 @@
 use Rattle.std.proofs.Common.{◌≡◌, ◌≢◌, ℕ, ◌+◌, ◌*◌, ◌<◌, ◌≤◌, ◌⊎◌, ◌==◌, inl, inr, Bool, true, false, cond, [], Some, None, slice_index, refl, sym, ap, ◌∙◌, subst, arith}
 use Rattle.std.proofs.lemmas.Bool.{both_ways}
 use Rattle.std.proofs.lemmas.Option.{none-some, same_Some}
-use Rattle.hwp_geom.specs.declared.Frame.{Frame}
-use Rattle.hwp_geom.specs.declared.Layout.{Layout}
-use Rattle.hwp_words.specs.Counters.{hardware_of}
-use Rattle.hwp_words.specs.Frames.{count_of, cycle_of, is_poisoned}
-use Rattle.hwp_words.specs.Stops.{is_stopped}
-use Rattle.hwp_core_rule.specs.declared.State.{State}
-use Rattle.hwp_core_rule.specs.declared.Step.{Step}
-use Rattle.hwp_core_rule.specs.declared.Step.TheVariants as steps
-use Rattle.hwp_core_rule.specs.declared.View.{View}
-use Rattle.hwp_core_rule.specs.Lasting.{IsMild, LeavesPoison}
-use Rattle.hwp_core_rule.specs.Steps.{place_of, word_after}
-use Rattle.hwp_core_rule.specs.Words.{Words, read}
-use Rattle.hwp_core_rule.proofs.Lists.{same-number}
-use Rattle.hwp_core_task.specs.declared.Turn.{Turn}
-use Rattle.hwp_core_task.specs.declared.Turn.TheVariants.{Moved, Changed}
-use Rattle.hwp_core_task.specs.Classes.{TellsClass}
-use Rattle.hwp_core_task.specs.Hands.{Hand, hand_of, empty}
-use Rattle.hwp_core_task.specs.Ranks.{Member, member, Made, CostFalls, HasFrame, IsRanked, PaysRevival, Pending, failure_weight, failures_left, is_waits, stale, words_at}
-use Rattle.hwp_core_task.proofs.StepRanks.{failures-kept, met, pending-kept, words-kept}
-use Rattle.hwp_core_task.proofs.Revivals.{revive-misses, revive-pending, revive-rises}
+use Rattle.hwp_claim_frame.specs.hwp_geom.declared.Frame.{Frame}
+use Rattle.hwp_claim_frame.specs.hwp_geom.declared.Layout.{Layout}
+use Rattle.hwp_claim_frame.specs.hwp_words.Counters.{hardware_of}
+use Rattle.hwp_claim_frame.specs.hwp_words.Frames.{count_of, cycle_of, is_poisoned}
+use Rattle.hwp_claim_frame.specs.hwp_words.Stops.{is_stopped}
+use Rattle.hwp_claim_frame.specs.hwp_core_rule.declared.State.{State}
+use Rattle.hwp_claim_frame.specs.hwp_core_rule.declared.Step.{Step}
+use Rattle.hwp_claim_frame.specs.hwp_core_rule.declared.Step.TheVariants as steps
+use Rattle.hwp_claim_frame.specs.hwp_core_rule.declared.View.{View}
+use Rattle.hwp_claim_frame.specs.hwp_core_rule.Lasting.{IsMild, LeavesPoison}
+use Rattle.hwp_claim_frame.specs.hwp_core_rule.Steps.{place_of, word_after}
+use Rattle.hwp_claim_frame.specs.hwp_core_rule.Words.{Words, read}
+use Rattle.hwp_claim_frame.proofs.of_hwp_core_rule.Lists.{same-number}
+use Rattle.hwp_claim_frame.specs.hwp_core_task.declared.Turn.{Turn}
+use Rattle.hwp_claim_frame.specs.hwp_core_task.declared.Turn.TheVariants.{Moved, Changed}
+use Rattle.hwp_claim_frame.specs.hwp_core_task.Classes.{TellsClass}
+use Rattle.hwp_claim_frame.specs.hwp_core_task.Hands.{Hand, hand_of, empty}
+use Rattle.hwp_claim_frame.specs.hwp_core_task.Ranks.{Made, CostFalls, HasFrame, IsRanked, PaysRevival, Pending, failure_weight, failures_left, is_waits, stale, words_at}
+use Rattle.hwp_claim_frame.proofs.of_hwp_core_task.StepRanks.{failures-kept, met, pending-kept, words-kept}
+use Rattle.hwp_claim_frame.proofs.of_hwp_core_task.Revivals.{revive-misses, revive-pending, revive-rises}
 use Rattle.hwp_claim_frame.proofs.of_hwp_core.TaskCosts.{left-own, met-own, stale-most}
 use Rattle.hwp_soft_unpoison.specs.declared.unpoison.Unpoison.{Unpoison}
 use Rattle.hwp_soft_unpoison.specs.declared.unpoison.UnpoisonAt.{UnpoisonAt}
 use Rattle.hwp_soft_unpoison.specs.declared.unpoison.UnpoisonAt.TheVariants as at
 use Rattle.hwp_soft_unpoison.specs.declared.unpoison.UnpoisonAnswer.TheVariants as answers
-use Rattle.hwp_soft_unpoison.specs.Unpoisons.{plan, plan_at, next, next_at, turn, turn_at, class, class_at, cost, cost_at, hand_at, is_revivable, premium, stale_word, Fits}
+use Rattle.hwp_soft_unpoison.specs.Unpoisons.{plan, plan_at, next, next_at, turn, turn_at, class, class_at, cost, cost_at, hand_at, is_revivable, premium, stale_word, Fits, task}
 
 -- ---- the cost falls
 
@@ -126,11 +126,8 @@ goes-on u found = which u.at
     which (at.Unreserve cycle) = refl
     which (at.Over answer) = refl
 
-abbrev pub the-member : Member Unpoison
-the-member = member (λ u. u.who) plan (λ u. None) (λ u. u) (λ layout u found got after result. (after ≡ next u found) × (result ≡ turn u found)) Fits class cost (λ u. false) (λ u. None)
-
-module _ {layout : Layout} {seat : ℕ} {a b : State} {s t : Unpoison} {turned : Turn} (made : Made the-member layout seat a b s t turned) where
-  lowers : CostFalls the-member layout a b s t
+module _ {layout : Layout} {seat : ℕ} {a b : State} {s t : Unpoison} {turned : Turn} (made : Made task layout seat a b s t turned) where
+  lowers : CostFalls task layout a b s t
   lowers = subst (λ (x : Unpoison). cost x (words_at layout b) < cost s (words_at layout a)) (sym made.follows.0)
       (falls (words_at layout a) (words_at layout b) s made.step made.found made.planned (met made) (words-kept made))
 
@@ -176,7 +173,7 @@ no-pages layout view u fits = ap (λ (h : Hand). h.pages) fits.hand_is ∙ which
     which (at.Unreserve cycle) = refl
     which (at.Over answer) = refl
 
-pub tells : TellsClass the-member
+pub tells : TellsClass task
 tells = record {
   frame = tells-frame;
   page = λ layout view u fits has. absurd (has (no-pages layout view u fits));
@@ -185,7 +182,7 @@ tells = record {
 
 -- ---- the law of ranks
 
-module _ {layout : Layout} {seat : ℕ} {a b : State} {s t : Unpoison} {turned : Turn} (made : Made the-member layout seat a b s t turned) where
+module _ {layout : Layout} {seat : ℕ} {a b : State} {s t : Unpoison} {turned : Turn} (made : Made task layout seat a b s t turned) where
   -- what a turn leaves of the failures that aren't ended
   still-pending : (frame : Frame) (cycle : ℕ) → Pending (words_at layout b) frame cycle → Pending (words_at layout a) frame cycle
   still-pending frame cycle pending = which s.at made.planned
@@ -238,10 +235,10 @@ module _ {layout : Layout} {seat : ℕ} {a b : State} {s t : Unpoison} {turned :
       which (at.Unreserve cycle) at_is e = lasts e tt
       which (at.Over answer) at_is e = absurd (none-some made.step e)
 
-pub pays : PaysRevival the-member
+pub pays : PaysRevival task
 pays layout seat a b s t turned made = paid made
 
-pub ranked : IsRanked the-member
+pub ranked : IsRanked task
 ranked = record {
   classes = class-within;
   small = λ layout a seat s rule fits. let few : cost s (words_at layout a) ≤ 69640 = small s (words_at layout a) in omega (arith, few);

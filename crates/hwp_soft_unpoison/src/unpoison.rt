@@ -1,11 +1,10 @@
 ghost use Rattle.std.specs.Prelude.{◌≡◌};
 ghost use Rattle.hwp_soft_unpoison.specs.Unpoisons.{after_bad, after_count, after_frame, after_revive, after_stop, answer, begin, is_revivable, next_at, turn_at};
 
-use hwp_core_rule::{SharedWord, Step};
-use hwp_core_task::{Ranked, Scheduled, Task, Turn};
-use hwp_geom::{Frame, Layout, Mask, Who};
-use hwp_page::Body;
-use hwp_words::{CounterWord, FrameWord, is_stopped};
+use hwp_claim_frame::{
+    Body, CounterWord, Frame, FrameWord, Layout, Mask, Ranked, Scheduled, SharedWord, Step, Task,
+    Turn, Who, is_stopped,
+};
 
 /// What an `Unpoison` came to (this project's rule).
 #[derive(Clone, Copy)]
@@ -198,22 +197,9 @@ fn turn_at(at: UnpoisonAt, found: u64) -> Turn
 }
 
 impl Task for Unpoison {
-    ghost use Rattle.std.specs.Prelude.{◌≡◌, None};
-    ghost use Rattle.hwp_soft_unpoison.specs.Unpoisons.{plan, next, turn, Fits};
+    ghost use Rattle.hwp_soft_unpoison.specs.Unpoisons as unpoisons;
 
-    ghost who = { λ u. u.who };
-
-    ghost plan = { λ u. plan u };
-
-    ghost put = { λ u. None };
-
-    ghost bare = { λ u. u };
-
-    ghost shows = { λ u found got. Unit {0} };
-
-    ghost next = { λ layout u found got after result. (after ≡ next u found) × (result ≡ turn u found) };
-
-    ghost fits = { λ layout view u. Fits layout view u };
+    ghost task = { unpoisons.task };
 
     fn who(&self) -> Who {
         self.who
@@ -256,17 +242,6 @@ impl Task for Unpoison {
 }
 
 impl Ranked for Unpoison {
-    ghost use Rattle.std.specs.Prelude.{false, None};
-    ghost use Rattle.hwp_soft_unpoison.specs.Unpoisons.{class, cost};
-
-    ghost class_of = { λ u. class u };
-
-    ghost cost = { λ u words. cost u words };
-
-    ghost aborts = { λ u. false };
-
-    ghost claims = { λ u. None };
-
     fn class(&self) -> u8 {
         match self.at {
             UnpoisonAt::Uncount { .. }

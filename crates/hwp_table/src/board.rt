@@ -1,9 +1,9 @@
-ghost use Rattle.std.specs.Prelude.{◌≡◌, ◌<◌, true, false, [], cond, None, IfOk, Some, map, slice_get};
+ghost use Rattle.std.specs.Prelude.{◌≡◌, ℕ, ◌<◌, true, false, [], cond, None, IfOk, Some, map, slice_get};
 ghost use Rattle.atomic_table.specs.Seated.{TableId};
-ghost use Rattle.hwp_core_rule.specs.Lists.{EachMember};
-ghost use Rattle.hwp_core_rule.specs.Opening.{opening};
-ghost use Rattle.hwp_core_rule.specs.parts.Holdings.{HoldsNothing};
-ghost use Rattle.hwp_table.specs.Seats.{AreSeats, no_table};
+ghost use Rattle.hwp_core_task.specs.hwp_core_rule.Lists.{EachMember};
+ghost use Rattle.hwp_core_task.specs.hwp_core_rule.Opening.{opening};
+ghost use Rattle.hwp_core_task.specs.hwp_core_rule.parts.Holdings.{HoldsNothing};
+ghost use Rattle.hwp_table.specs.Seats.{AreSeats, IsHeld, no_table};
 ghost use Rattle.hwp_table.specs.Boards.{whole_then};
 ghost use Rattle.hwp_table_words.specs.Ends.{HasAll};
 ghost use Rattle.hwp_core_task.specs.Boards.{AreSeated};
@@ -15,10 +15,7 @@ ghost use Rattle.hwp_table_words.specs.Seats.{IsTableOf, mine};
 use crate::dealing::{deal_seats, gather_seats};
 use crate::hand::hand_over;
 use crate::turns::{Turns, tell};
-use hwp_core_rule::Step;
-use hwp_core_task::{Met, Ops, Turn};
-use hwp_geom::{Cpu, Kind, Layout, List, OutOfMemory, Who};
-use hwp_page::Body;
+use hwp_core_task::{Body, Cpu, Kind, Layout, List, Met, Ops, OutOfMemory, Step, Turn, Who};
 use hwp_table_words::{Pass, SeatOps, Sheet, let_go};
 use std::alloc::Global;
 use std::marker::{Brand, Model, PhantomData};
@@ -52,7 +49,7 @@ impl<'a, N: OfTable> Model for SeatBoard<'a, N> {
     ghost use Rattle.hwp_table.specs.Boards.{IsAtTable, state_of};
     ghost use Rattle.hwp_table.specs.Seats.{whole_at};
     ghost use Rattle.hwp_table.specs.Turns.{played, turns_of};
-    ghost use Rattle.hwp_page.specs.hwp_kill.contracts.Slots as sets;
+    ghost use Rattle.hwp_core_task.specs.hwp_kill.contracts.Slots as sets;
     ghost use Rattle.std.specs.Coded.{codes};
 
     ghost Value = { Board };
@@ -117,10 +114,11 @@ impl<'a, N: OfTable> SeatBoard<'a, N> {
     }
 
     /// The seats, in the order of the processors: each is its processor's, with the view that the board's state has for it.
-    /// All rights stay with one of them. It takes no memory.
+    /// All rights stay with one of them, which knows what the board came to. It takes no memory.
     pub fn seats(self) -> List<SeatOps<'a>>
         ensures seats { AreSeats N.table self.entry.layout result }
         ensures views { map mine result ≡ self.entry.state.views }
+        ensures rights { (holder : ℕ) × IsHeld self.entry.layout result holder (whole_then self.entry.state self.entry.log) }
     {
         let SeatBoard { seats, .. } = self;
         List::from_vec(seats)

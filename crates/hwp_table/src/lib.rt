@@ -9,4 +9,6 @@ mod ops;
 mod turns;
 
 pub use board::{OfTable, SeatBoard};
-pub use hwp_table_words::{Ended, Pass, SeatOps, Sheet, WordTable, begin, close, join, split};
+pub use hwp_table_words::{
+    Ended, Machine, Pass, SeatOps, Sheet, WordTable, begin, close, join, split,
+};

@@ -1,15 +1,12 @@
 ghost use Rattle.std.specs.Prelude.{◌≡◌, true};
 
 use crate::board::{OfTable, SeatBoard};
-use hwp_core_rule::Step;
-use hwp_core_task::{Board, Met, Ops, Task, Turn, advance};
-use hwp_geom::{Cpu, Kind, Layout, Who};
-use hwp_page::Body;
+use hwp_core_task::{Board, Body, Cpu, Kind, Layout, Met, Ops, Step, Task, Turn, Who, advance};
 
 impl<'a, N: OfTable> Ops for SeatBoard<'a, N> {
     ghost use Rattle.hwp_plain.specs.Boards.{own_view, Moves};
 
-    ghost machine = { λ b. b.layout };
+    ghost layout = { λ b. b.layout };
 
     ghost view = { λ b. own_view b };
 
@@ -27,7 +24,7 @@ impl<'a, N: OfTable> Ops for SeatBoard<'a, N> {
 }
 
 impl<'a, N: OfTable> Board for SeatBoard<'a, N> {
-    ghost machine = { λ b. b.layout };
+    ghost layout = { λ b. b.layout };
 
     ghost state = { λ b. b.state };
 

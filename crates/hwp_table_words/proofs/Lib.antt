@@ -14,6 +14,5 @@ mod SeatKeeps
 mod Taken
 pub mod Opened
 mod Closed
-pub use Rattle.hwp_core_rule.proofs as of_hwp_core_rule
-pub use Rattle.hwp_core_task.proofs as of_hwp_core_task
-pub use Rattle.hwp_page.proofs as of_hwp_page
+pub use Rattle.hwp_core_task.proofs.of_hwp_core_rule as of_hwp_core_rule
+pub use Rattle.hwp_plain_words.proofs as of_hwp_plain_words

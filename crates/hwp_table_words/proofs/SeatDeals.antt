@@ -1,8 +1,8 @@
 -- What seats that come and go ask of the rule of the table: the run stays.
 use Rattle.std.proofs.Common.{◌≡◌, ℕ, Some, set, slice_get, sym, ◌∙◌, subst}
 use Rattle.atomic_table.specs.Table.{Splits, Joins}
-use Rattle.hwp_geom.specs.declared.Layout.{Layout}
-use Rattle.hwp_core_rule.proofs.Lists.{set_else}
+use Rattle.hwp_core_task.specs.hwp_geom.declared.Layout.{Layout}
+use Rattle.hwp_core_task.proofs.of_hwp_core_rule.Lists.{set_else}
 use Rattle.hwp_table_words.specs.Known.{Known, idle, let_go, note, dealt, kept, joined}
 use Rattle.hwp_table_words.specs.Rules.{Reached}
 use Rattle.hwp_table_words.specs.Stands.{stand}

@@ -2,8 +2,8 @@
 use Rattle.std.proofs.Common.{◌≡◌, ℕ, ◌<◌, List, [], ◌∷◌, ◌++◌, length, ap, ◌∙◌, sym, subst, arith}
 use Rattle.std.proofs.lemmas.List.{append-nil}
 use Rattle.atomic_table.specs.Seated.{TableId}
-use Rattle.hwp_geom.specs.declared.Layout.{Layout}
-use Rattle.hwp_core_rule.specs.declared.View.{View}
+use Rattle.hwp_core_task.specs.hwp_geom.declared.Layout.{Layout}
+use Rattle.hwp_core_task.specs.hwp_core_rule.declared.View.{View}
 use Rattle.hwp_table_words.specs.Known.{Known, joined, let_go, times, with_note}
 use Rattle.hwp_table_words.specs.Seats.{IsSeat, IsTableOf, cpu_of, mine_of, slots_of}
 use Rattle.hwp_table_words.specs.Stands.{Me}

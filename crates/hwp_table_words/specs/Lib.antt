@@ -7,6 +7,10 @@ pub mod Carrying
 pub mod Plays
 pub mod Seats
 pub mod Ends
-pub use Rattle.hwp_core_rule.specs as hwp_core_rule
+pub use Rattle.hwp_core_task.specs.hwp_core_rule as hwp_core_rule
 pub use Rattle.hwp_core_task.specs as hwp_core_task
-pub use Rattle.hwp_page.specs as hwp_page
+pub use Rattle.hwp_core_task.specs.hwp_geom as hwp_geom
+pub use Rattle.hwp_core_task.specs.hwp_kill as hwp_kill
+pub use Rattle.hwp_core_task.specs.hwp_page as hwp_page
+pub use Rattle.hwp_plain_words.specs as hwp_plain_words
+pub use Rattle.hwp_core_task.specs.hwp_words as hwp_words

@@ -2,7 +2,7 @@ ghost use Rattle.std.specs.Prelude.{◌≡◌, ◌<◌, []};
 ghost use Rattle.hwp_table_words.specs.Known.{dealt, joined, kept, let_go, note};
 
 use crate::plays::{Deals, Given, Joins, Lets, Pass, Sheet};
-use hwp_geom::Cpu;
+use hwp_core_task::Cpu;
 use std::marker::Brand;
 
 /// The seat's rights go off on a note, with what it knows of the whole.

@@ -1,11 +1,15 @@
-ghost use Rattle.std.specs.Prelude.{◌≡◌, ◌<◌, ◌≤◌, ℕ, [], false, length, slice_index_or, vec_capacity, vec_len, IfErr, IfOk};
+ghost use Rattle.std.specs.Prelude.{◌≡◌, ◌<◌, ◌≤◌, ℕ, [], false, length, map, slice_index_or, vec_capacity, vec_len, IfErr, IfOk};
 ghost use Rattle.std.specs.Slots.{slots_items, slots_filled, slots_len, IsFull};
+ghost use Rattle.hwp_plain_words.specs.Openings.{home_with};
+ghost use Rattle.hwp_plain_words.specs.Ends.{IsMachineOf};
 ghost use Rattle.hwp_table_words.specs.Ends.{HasAll, IsEnd};
 ghost use Rattle.hwp_table_words.specs.Order.{in_rule};
 ghost use Rattle.hwp_table_words.specs.Seats.{IsTableOf};
 
 use crate::plays::{Pass, Slot, WordTable};
 use atomic_table::Closed;
+use hwp_core_task::{Layout, OutOfMemory};
+use hwp_plain_words::{Machine, machine_of};
 use std::alloc::Global;
 use std::marker::Model;
 use std::snapshot::Snapshot;
@@ -22,7 +26,7 @@ pub struct Ended {
 
 impl Model for Ended {
     ghost use Rattle.hwp_table_words.specs.Ends.{EndValue, IsEnd};
-    ghost use Rattle.hwp_page.specs.hwp_kill.contracts.Slots as sets;
+    ghost use Rattle.hwp_core_task.specs.hwp_kill.contracts.Slots as sets;
     ghost use Rattle.std.specs.Coded.{codes};
 
     ghost Value = { EndValue };
@@ -47,6 +51,16 @@ impl Ended {
         ensures { IsEnd self.now.layout self.now.known self.now.words self.now.slots }
     {
         let _words = &self.words;
+    }
+
+    /// What the machine came to, by the bodies that `close` gave beside this.
+    pub fn machine(self, layout: &Layout, bodies: Vec<Slot>) -> Result<Machine, OutOfMemory>
+        requires layout { self.layout ≡ layout.now }
+        requires bodies { self.slots ≡ bodies.items }
+        ensures { IfOk result (IsMachineOf self.layout self.words (map home_with self.slots)) }
+    {
+        let Ended { words, .. } = self;
+        machine_of(layout, words, bodies)
     }
 }
 

@@ -16,6 +16,7 @@ mod words;
 
 pub use baton::{join, let_go, split};
 pub use closing::{Ended, close};
+pub use hwp_plain_words::Machine;
 pub use knowledge::Knowledge;
 pub use opening::begin;
 pub use plays::{Pass, Rule, Sheet, Slot, WordTable};

@@ -1,10 +1,10 @@
 ghost use Rattle.std.specs.Prelude.{◌≡◌, ℕ, ◌^◌};
-ghost use Rattle.hwp_core_rule.specs.Steps as tables;
+ghost use Rattle.hwp_core_task.specs.hwp_core_rule.Steps as tables;
 ghost use Rattle.hwp_table_words.specs.Operations.{applied};
 
-use hwp_core_rule::Step;
-use hwp_geom::Frame;
-use hwp_words::{CacheWord, FrameWord, HANDLED, LOCK, POISON, PolicyWord, REFERENCE, StopWord};
+use hwp_core_task::{
+    CacheWord, Frame, FrameWord, HANDLED, LOCK, POISON, PolicyWord, REFERENCE, Step, StopWord,
+};
 
 /// An atomic operation on one word of the table, with its operands.
 #[derive(Clone, Copy)]

@@ -1,13 +1,10 @@
 use crate::seat::SeatOps;
-use hwp_core_rule::Step;
-use hwp_core_task::{Met, Ops};
-use hwp_geom::{Layout, Who};
-use hwp_page::Body;
+use hwp_core_task::{Body, Layout, Met, Ops, Step, Who};
 
 impl<'a> Ops for SeatOps<'a> {
     ghost use Rattle.hwp_table_words.specs.Seats.{HasRight, Moves, mine};
 
-    ghost machine = { λ s. s.layout };
+    ghost layout = { λ s. s.layout };
 
     ghost view = { λ s. mine s };
 

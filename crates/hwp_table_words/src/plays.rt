@@ -5,8 +5,7 @@ ghost use Rattle.hwp_table_words.specs.Rules.{Reached};
 
 use crate::knowledge::Knowledge;
 use atomic_table::{Join, Play, Seat, Shared, Split, Table, TableRule};
-use hwp_geom::Layout;
-use hwp_page::Body;
+use hwp_core_task::{Body, Layout};
 use std::alloc::Global;
 use std::marker::{Brand, PhantomData};
 

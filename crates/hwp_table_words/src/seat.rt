@@ -9,10 +9,7 @@ use crate::plays::{Pass, Sheet};
 use crate::steps::step_as;
 use crate::words::word_of;
 use arrayvec::ArrayVec;
-use hwp_core_rule::Step;
-use hwp_core_task::Met;
-use hwp_geom::{Layout, Who};
-use hwp_page::Body;
+use hwp_core_task::{Body, Layout, Met, Step, Who};
 use std::marker::{Brand, Model};
 
 /// A seat at the table that has the view of one processor, with the slots of its locks, which are empty between its steps.
@@ -27,7 +24,7 @@ pub struct SeatOps<'a> {
 impl<'a> Model for SeatOps<'a> {
     ghost use Rattle.std.specs.Prelude.{◌≡◌};
     ghost use Rattle.hwp_table_words.specs.Seats.{SeatValue, IsSeat};
-    ghost use Rattle.hwp_page.specs.hwp_kill.contracts.Slots as sets;
+    ghost use Rattle.hwp_core_task.specs.hwp_kill.contracts.Slots as sets;
     ghost use Rattle.std.specs.Coded.{codes};
 
     ghost Value = { SeatValue };

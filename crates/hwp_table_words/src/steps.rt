@@ -4,8 +4,7 @@ ghost use Rattle.hwp_table_words.specs.Seats.{CanPlay};
 
 use crate::operation::{Operation, operation_of};
 use crate::plays::{Makes, Named, Pass, Sheet};
-use hwp_core_rule::Step;
-use hwp_geom::Who;
+use hwp_core_task::{Step, Who};
 
 /// A step of any kind, as one atomic operation on the table: it answers the word that it met.
 pub(crate) fn step_as<N: Named>(

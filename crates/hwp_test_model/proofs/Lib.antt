@@ -1,1 +1,2 @@
 mod TaskBegins
+mod SeatPasses

@@ -1,14 +1,14 @@
 -- A processor at opening can begin a task.
 use Rattle.std.proofs.Common.{◌≡◌, ℕ, zero, suc, ◌<◌, ◌≤◌, Some, map, slice_get, refl, ap, arith}
 use Rattle.std.proofs.lemmas.Option.{none-some, same_Some, get_or_from_slice_get}
-use Rattle.hwp_geom.specs.declared.Layout.{Layout}
-use Rattle.hwp_geom.specs.declared.Who.{Who}
-use Rattle.hwp_core_task.specs.hwp_core_rule.declared.Part.{Part}
-use Rattle.hwp_core_task.specs.hwp_core_rule.Opening.{below, opening, opening_view}
-use Rattle.hwp_core_task.proofs.of_hwp_core_rule.Lists.{at_map}
-use Rattle.hwp_core_task.proofs.of_hwp_core_rule.WordsOpen.{below-at}
-use Rattle.hwp_core_task.specs.Boards.{view_of}
-use Rattle.hwp_core_task.specs.Calls.{IsOnTurn}
+use Rattle.hwp_page.specs.hwp_geom.declared.Layout.{Layout}
+use Rattle.hwp_page.specs.hwp_geom.declared.Who.{Who}
+use Rattle.hwp_core.specs.hwp_core_rule.declared.Part.{Part}
+use Rattle.hwp_core.specs.hwp_core_rule.Opening.{below, opening, opening_view}
+use Rattle.hwp_core.proofs.of_hwp_core_rule.Lists.{at_map}
+use Rattle.hwp_core.proofs.of_hwp_core_rule.WordsOpen.{below-at}
+use Rattle.hwp_core.specs.hwp_core_task.Boards.{view_of}
+use Rattle.hwp_core.specs.hwp_core_task.Calls.{IsOnTurn}
 use Rattle.hwp_fault_fill.specs.Takes as takes
 
 pub view-open : (layout : Layout) (c : ℕ) → c < layout.cpus → view_of (opening layout) c ≡ opening_view c

@@ -1,8 +1,10 @@
 //! The kill table, the policies that it reads, and prctl(2).
 
 use crate::machine::{all_seen, machine};
-use hwp_geom::{Proc, Thread, VSlot};
-use hwp_kill::{Code, Policy, Reply, Signal, SignalList, Slots, are_policies_read, prctl, signals};
+use hwp_page::{
+    Code, Policy, Proc, Reply, Signal, SignalList, Slots, Thread, VSlot, are_policies_read, prctl,
+    signals,
+};
 use std::alloc::Global;
 use std::process::Abort;
 

@@ -1,6 +1,9 @@
-//! Tests of the crates that model the machine: the kill table, the page machine, and tasks on the board in plain vectors.
+//! Tests of the crates that model the machine: the kill table, the page machine, tasks on the board in plain vectors, and what
+//! that board and the table come to.
 #![tactic(auto)]
 
+#[cfg(test)]
+mod ends;
 #[cfg(test)]
 mod killing;
 #[cfg(test)]

@@ -1,7 +1,6 @@
-ghost use Rattle.hwp_geom.specs.Layout.{IsSound};
+ghost use Rattle.hwp_page.specs.hwp_geom.Layout.{IsSound};
 
-use hwp_geom::{Layout, List, Thread};
-use hwp_kill::{Policy, Seen};
+use hwp_page::{Layout, List, Policy, Seen, Thread};
 use hwp_script_read::read;
 use std::alloc::Global;
 use std::process::Abort;

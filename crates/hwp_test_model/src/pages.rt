@@ -1,9 +1,10 @@
 //! The page machine: what becomes of a page that fails, and which failures it allows.
 
 use crate::machine::{all_seen, machine};
-use hwp_geom::{Cpu, Line, List, Mask, Page, Proc, Thread, VSlot, Who};
-use hwp_kill::{Code, Policy, Signal};
-use hwp_page::{Body, Entry, Met, Outcome, Situation, What};
+use hwp_page::{
+    Body, Code, Cpu, Entry, Line, List, Mask, Met, Outcome, Page, Policy, Proc, Signal, Situation,
+    Thread, VSlot, What, Who,
+};
 use std::alloc::Global;
 use std::process::Abort;
 use std::sync::Arc;

@@ -1,11 +1,8 @@
 //! References given back, and a page let go: the steps, and what they come to.
 
 use crate::machine::machine;
-use hwp_core::{Release, ReleaseAnswer, Unhold, UnholdAnswer};
-use hwp_core_task::Task;
-use hwp_geom::{Cpu, Frame, Kind, Page, Who};
-use hwp_page::Body;
-use hwp_words::{POISON, REFERENCE};
+use hwp_core::{POISON, REFERENCE, Release, ReleaseAnswer, Task, Unhold, UnholdAnswer};
+use hwp_page::{Body, Cpu, Frame, Kind, Page, Who};
 use std::alloc::Global;
 use std::process::Abort;
 use std::sync::Arc;

@@ -1,14 +1,14 @@
 //! Turns of two processors on a board.
 
 ghost use Rattle.std.specs.Prelude.{◌≡◌, ℕ, ◌<◌};
-ghost use Rattle.hwp_geom.specs.Layout.{IsSound};
-ghost use Rattle.hwp_core_task.specs.hwp_core_rule.Opening.{opening_view};
-ghost use Rattle.hwp_core_task.specs.Boards.{view_of};
+ghost use Rattle.hwp_page.specs.hwp_geom.Layout.{IsSound};
+ghost use Rattle.hwp_core.specs.hwp_core_rule.Opening.{opening_view};
+ghost use Rattle.hwp_core.specs.hwp_core_task.Boards.{view_of};
 ghost use Rattle.hwp_fault_fill.specs.Takes.{Fits};
 
-use hwp_core_task::{Board, Task, Turn};
+use hwp_core::{Board, Task, Turn};
 use hwp_fault_fill::{Take, TakeAnswer};
-use hwp_geom::{Cpu, Kind, Layout, List, PageKind, Who};
+use hwp_page::{Cpu, Kind, Layout, List, PageKind, Who};
 use hwp_plain::PlainBoard;
 use std::alloc::Global;
 use std::process::Abort;
@@ -62,13 +62,13 @@ fn turn_of<A: Task, B: Task>(
     other: bool,
 ) -> (Turn, Option<Kind>)
     requires cpus { 1 < board.old.layout.cpus }
-    requires own { ((A.who first.old).cpu.0 ≡ 0) × ((B.who second.old).cpu.0 ≡ 1) }
-    requires first { A.fits board.old.layout (view_of board.old.state 0) first.old }
-    requires second { B.fits board.old.layout (view_of board.old.state 1) second.old }
+    requires own { ((A.task.who first.old).cpu.0 ≡ 0) × ((B.task.who second.old).cpu.0 ≡ 1) }
+    requires first { A.task.fits board.old.layout (view_of board.old.state 0) first.old }
+    requires second { B.task.fits board.old.layout (view_of board.old.state 1) second.old }
     ensures layout { board.new.layout ≡ board.old.layout }
-    ensures own { ((A.who first.new).cpu.0 ≡ 0) × ((B.who second.new).cpu.0 ≡ 1) }
-    ensures first { A.fits board.new.layout (view_of board.new.state 0) first.new }
-    ensures second { B.fits board.new.layout (view_of board.new.state 1) second.new }
+    ensures own { ((A.task.who first.new).cpu.0 ≡ 0) × ((B.task.who second.new).cpu.0 ≡ 1) }
+    ensures first { A.task.fits board.new.layout (view_of board.new.state 0) first.new }
+    ensures second { B.task.fits board.new.layout (view_of board.new.state 1) second.new }
 {
     if other {
         board.advance(Cpu(1), second)
@@ -86,9 +86,9 @@ fn play<A: Task, B: Task>(
     turns: &[(bool, Turn, Option<Kind>)],
 )
     requires cpus { 1 < board.old.layout.cpus }
-    requires own { ((A.who first.old).cpu.0 ≡ 0) × ((B.who second.old).cpu.0 ≡ 1) }
-    requires first { A.fits board.old.layout (view_of board.old.state 0) first.old }
-    requires second { B.fits board.old.layout (view_of board.old.state 1) second.old }
+    requires own { ((A.task.who first.old).cpu.0 ≡ 0) × ((B.task.who second.old).cpu.0 ≡ 1) }
+    requires first { A.task.fits board.old.layout (view_of board.old.state 0) first.old }
+    requires second { B.task.fits board.old.layout (view_of board.old.state 1) second.old }
 {
     for (other, turn, kind) in turns {
         let made = turn_of(board, first, second, *other);

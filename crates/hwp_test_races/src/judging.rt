@@ -1,8 +1,7 @@
 //! Two processors under every order of their first turns: the checker calls each report legal.
 
 use crate::stepping::report_of;
-use hwp_check::judge;
-use hwp_check_rules::Verdict;
+use hwp_check::{Verdict, judge};
 use hwp_io::{MemSource, read_all};
 use std::alloc::Global;
 use std::process::Abort;

@@ -1,9 +1,7 @@
 //! `gen` and `sum`: the script that a seed gives, its report, and the summary of that.
 
 use crate::helpers::{Left, call, leaves, step};
-use hwp_script::generate;
-use hwp_script_print::print;
-use hwp_script_read::{Script, read};
+use hwp_script::{Script, generate, print, read};
 use std::alloc::Global;
 use std::process::Abort;
 

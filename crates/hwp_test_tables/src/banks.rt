@@ -1,7 +1,7 @@
 //! The overwrite table of a bank, and the machine's own events.
 
 use hwp_banks::{Bank, Event, Mcg, Origin, Shutdown, Status};
-use hwp_geom::{Frame, Line};
+use hwp_kill::{Frame, Line};
 use std::process::Abort;
 
 /// An event of a status, with the address and the misc that tell the first from the second.

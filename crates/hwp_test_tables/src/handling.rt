@@ -1,7 +1,7 @@
 //! A machine check: the bank that stops the machine, and the grades.
 
 use hwp_banks::{Bank, Event, Status};
-use hwp_geom::Mode;
+use hwp_kill::Mode;
 use hwp_severity::{Grade, McgBits, Severity, handle};
 use std::process::Abort;
 

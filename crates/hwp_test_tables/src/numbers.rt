@@ -1,6 +1,6 @@
 //! Lines, masks and lists at the edges of their ranges.
 
-use hwp_geom::{Line, Lines, List, Mask, Text};
+use hwp_kill::{Line, Lines, List, Mask, Text};
 use std::process::Abort;
 
 /// Whether the number is one of a line, and what stands on it among words of which the last is 70 and all others are 9.

@@ -1,7 +1,7 @@
 //! The severity table, as a person reads it.
 
 use hwp_banks::Status;
-use hwp_geom::Mode;
+use hwp_kill::Mode;
 use hwp_severity::{Grade, McgBits, Severity, grade};
 use std::process::Abort;
 

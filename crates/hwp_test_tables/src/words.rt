@@ -1,7 +1,6 @@
 //! The words by their layout, and the edges of each field.
 
-use hwp_geom::{Cpu, Frame, Line, Mask, Page};
-use hwp_kill::Policy;
+use hwp_kill::{Cpu, Frame, Line, Mask, Page, Policy};
 use hwp_words::{
     AvailableWord, CacheWord, CounterWord, DamageWord, FrameWord, FreeWord, LossWord, PageWord,
     PolicyWord, ProcessWord, Pte, StopWord,

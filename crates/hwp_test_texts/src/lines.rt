@@ -1,7 +1,7 @@
 //! The lines of scripts: each kind as it is read and printed, and what is no line.
 
-use hwp_script_lines::{LineRead, read_lines};
 use hwp_script_print::put_form;
+use hwp_script_read::{LineRead, read_lines};
 use std::alloc::Global;
 use std::process::Abort;
 

@@ -1,13 +1,10 @@
 //! Reports beside their texts, written by hand: each kind of line, and the largest numbers.
 
-use hwp_geom::{Cpu, Frame, Line, List, Mask, Mode, Page, Proc, Thread, VSlot, Who};
-use hwp_kill::{Code, Policy, Seen, Signal};
-use hwp_page::{At, Entry, Situation, What};
 use hwp_report_text::{
-    Acted, Answer, CpuLine, FrameLine, How, MarkLine, Outcome, Report, Stop, StopCause,
-    Whereabouts, print,
+    Acted, Answer, At, Code, CpuLine, Entry, FrameLine, How, MarkLine, McgBits, Outcome, Policy,
+    Report, Seen, Signal, Situation, Stop, StopCause, What, Whereabouts, print,
 };
-use hwp_severity::McgBits;
+use hwp_script_read::{Cpu, Frame, Line, List, Mask, Mode, Page, Proc, Thread, VSlot, Who};
 use std::alloc::Global;
 use std::process::Abort;
 use std::str;

@@ -1,7 +1,6 @@
 //! Scripts read, and refused at their first line at fault.
 
-use hwp_geom::Layout;
-use hwp_script_read::{Command, ReadScript, Refused, Script, Why, read};
+use hwp_script_read::{Command, Layout, ReadScript, Refused, Script, Why, read};
 use std::alloc::Global;
 use std::process::Abort;
 

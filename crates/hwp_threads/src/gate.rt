@@ -1,4 +1,4 @@
-use hwp_geom::Cpu;
+use hwp_core_task::Cpu;
 
 /// Where a worker stands in a command of its processor.
 #[derive(Clone, Copy)]

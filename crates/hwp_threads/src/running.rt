@@ -1,13 +1,11 @@
 ghost use Rattle.std.specs.Prelude.{◌≡◌, All, length};
 ghost use Rattle.crossbeam_utils.specs.Padded.{padded_value};
-ghost use Rattle.hwp_core_task.specs.Ranks.{member};
 ghost use Rattle.hwp_threads.specs.Workers.{AllRan, CanRun, RanToEnd, StaysReady};
 
 use crate::gate::{Gate, Point};
 use crate::worker::Worker;
 use crossbeam_utils::{Backoff, CachePadded};
-use hwp_core_task::{Ops, Scheduled, Turn};
-use hwp_geom::Who;
+use hwp_core_task::{Ops, Scheduled, Turn, Who};
 use std::sync::Wait;
 use std::thread;
 use std::thread::Threads;
@@ -22,14 +20,14 @@ pub fn run_all<R: Threads + Wait + Sync, O: Ops + Send, T: Scheduled + Send, G: 
     gate: &G,
 )
     requires law { StaysReady O.ready O.moves }
-    requires can { All (λ w. CanRun O.machine O.view O.ready T.fits (padded_value w)) workers.old }
+    requires can { All (λ w. CanRun O.layout O.view O.ready T.task.fits (padded_value w)) workers.old }
     ensures count { length workers.new ≡ length workers.old }
-    ensures ran { AllRan (member T.who T.plan T.put T.bare T.next T.fits T.class_of T.cost T.aborts T.claims) O.machine O.view O.moves workers.old workers.new }
+    ensures ran { AllRan T.task O.layout O.view O.moves workers.old workers.new }
 {
     let threads = workers.len().max(1);
     let work = |_: usize, worker: &mut CachePadded<Worker<O, T>>|
-        requires { StaysReady O.ready O.moves × CanRun O.machine O.view O.ready T.fits (padded_value worker.old) }
-        ensures { RanToEnd (member T.who T.plan T.put T.bare T.next T.fits T.class_of T.cost T.aborts T.claims) O.machine O.view O.moves (padded_value worker.old) (padded_value worker.new) }
+        requires { StaysReady O.ready O.moves × CanRun O.layout O.view O.ready T.task.fits (padded_value worker.old) }
+        ensures { RanToEnd T.task O.layout O.view O.moves (padded_value worker.old) (padded_value worker.new) }
     { run(rt, worker, gate) };
     thread::for_each_mut(rt, workers, threads, &work);
 }
@@ -37,8 +35,8 @@ pub fn run_all<R: Threads + Wait + Sync, O: Ops + Send, T: Scheduled + Send, G: 
 /// All turns of a worker, until its task is over. While it waits for what another holds, it leaves its processor to others.
 fn run<R: Wait, O: Ops, T: Scheduled, G: Gate>(rt: &R, worker: &mut Worker<O, T>, gate: &G)
     requires law { StaysReady O.ready O.moves }
-    requires can { CanRun O.machine O.view O.ready T.fits worker.old }
-    ensures { RanToEnd (member T.who T.plan T.put T.bare T.next T.fits T.class_of T.cost T.aborts T.claims) O.machine O.view O.moves worker.old worker.new }
+    requires can { CanRun O.layout O.view O.ready T.task.fits worker.old }
+    ensures { RanToEnd T.task O.layout O.view O.moves worker.old worker.new }
 {
     let backoff = Backoff::new();
     let mut begun = None;

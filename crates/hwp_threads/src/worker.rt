@@ -1,5 +1,5 @@
 ghost use Rattle.std.specs.Prelude.{◌≡◌, ◌≢◌, None, cond, false, true};
-ghost use Rattle.hwp_core_task.specs.Ranks.{is_refused, member};
+ghost use Rattle.hwp_core_task.specs.Ranks.{is_refused};
 ghost use Rattle.hwp_threads.specs.Workers.{CanRun, StaysReady, TookTurn};
 
 use hwp_core_task::{Ops, Scheduled, Turn, advance};
@@ -27,10 +27,10 @@ impl<O: Ops, T: Scheduled> Worker<O, T> {
     /// The next turn of its task.
     pub(crate) fn turn(&mut self) -> Turn
         requires law { StaysReady O.ready O.moves }
-        requires can { CanRun O.machine O.view O.ready T.fits self.old }
-        requires going { T.plan self.old.task ≢ None }
-        ensures can { CanRun O.machine O.view O.ready T.fits self.new }
-        ensures turn { TookTurn (member T.who T.plan T.put T.bare T.next T.fits T.class_of T.cost T.aborts T.claims) O.machine O.view O.moves self.old self.new }
+        requires can { CanRun O.layout O.view O.ready T.task.fits self.old }
+        requires going { T.task.plan self.old.task ≢ None }
+        ensures can { CanRun O.layout O.view O.ready T.task.fits self.new }
+        ensures turn { TookTurn T.task O.layout O.view O.moves self.old self.new }
     {
         let turn = advance(&mut self.task, &mut self.seat);
         self.refused = refused_by(self.refused, turn);

@@ -8,7 +8,7 @@ use Rattle.hwp_core_task.specs.hwp_core_rule.declared.View.{View}
 use Rattle.hwp_core_task.specs.hwp_core_rule.Views.{view_after}
 use Rattle.hwp_core_task.specs.declared.Turn.{Turn}
 use Rattle.hwp_core_task.specs.Calls.{Brings, logs, rec_of}
-use Rattle.hwp_core_task.specs.Ranks.{Member}
+use Rattle.hwp_core_task.specs.Turns.{Member}
 
 -- a processor between two of its turns: what it knows, and its task
 pub record Standing (S : Type 0) : Type 0 where

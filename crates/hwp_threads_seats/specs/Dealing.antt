@@ -1,7 +1,7 @@
 -- The seats of workers, as they are dealt and after moves.
 use Rattle.std.specs.Prelude.{◌≡◌, ℕ, ◌+◌, ◌<◌, ◌≤◌, false, List, [], ◌∷◌, None, map}
 use Rattle.atomic_table.specs.Seated.{TableId}
-use Rattle.hwp_geom.specs.declared.Layout.{Layout}
+use Rattle.hwp_core_task.specs.hwp_geom.declared.Layout.{Layout}
 use Rattle.hwp_core_task.specs.hwp_core_rule.declared.Rec.{Rec}
 use Rattle.hwp_core_task.specs.hwp_core_rule.declared.View.{View}
 use Rattle.hwp_core_task.specs.hwp_core_rule.Lists.{EachMember}

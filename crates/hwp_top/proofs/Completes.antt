@@ -4,12 +4,12 @@ use Rattle.std.proofs.Common.{◌≡◌, ◌⊎◌, inl, inr, ℕ, zero, suc, �
 use Rattle.std.specs.Prelude.{Contains}
 use Rattle.std.specs.Io.KnownBytes.{Appends}
 use Rattle.hwp_io.specs.Causes.{Rose}
-use Rattle.hwp_top_step.specs.hwp_script_read.Reads.{Reads}
-use Rattle.hwp_top_step.specs.hwp_script_read.declared.Refused.{Refused}
-use Rattle.hwp_top_step.specs.hwp_script_read.declared.Script.{Script}
-use Rattle.hwp_top_step.proofs.of_hwp_script_read.OneScript.{one_script}
-use Rattle.hwp_report_text.specs.declared.Report.{Report}
-use Rattle.hwp_top_step.specs.hwp_table_words.Ends.{EndValue}
+use Rattle.hwp_top_turns.specs.hwp_script_read.Reads.{Reads}
+use Rattle.hwp_top_turns.specs.hwp_script_read.declared.Refused.{Refused}
+use Rattle.hwp_top_turns.specs.hwp_script_read.declared.Script.{Script}
+use Rattle.hwp_top_turns.proofs.of_hwp_script_read.OneScript.{one_script}
+use Rattle.hwp_top_turns.specs.hwp_report_text.declared.Report.{Report}
+use Rattle.hwp_top_turns.specs.hwp_table_words.Ends.{EndValue}
 use Rattle.hwp_top_step.specs.Outputs.{HasRun}
 use Rattle.hwp_top_step.specs.Top.{IsDone, Refuses}
 use Rattle.hwp_top_step.proofs.Completes.{all-given, unrefused}

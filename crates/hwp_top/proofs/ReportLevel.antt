@@ -1,7 +1,7 @@
 -- The report level of what `run` writes follows from its output.
 use Rattle.std.specs.Prelude.{ℕ, List, Option, Some, None, IsSomeAnd}
-use Rattle.hwp_report_text.specs.declared.Report.{Report}
-use Rattle.hwp_top_step.specs.hwp_table_words.Ends.{EndValue}
+use Rattle.hwp_top_turns.specs.hwp_report_text.declared.Report.{Report}
+use Rattle.hwp_top_turns.specs.hwp_table_words.Ends.{EndValue}
 use Rattle.hwp_top_step.specs.Outputs.{HasRun, IsStepReport}
 use Rattle.hwp_top.specs.Top.{IsThreaded}
 

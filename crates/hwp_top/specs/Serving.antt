@@ -1,10 +1,10 @@
 -- What `run` comes to where nothing fails.
 use Rattle.std.specs.Prelude.{◌≡◌, ℕ, List, Option, Some}
 use Rattle.std.specs.Io.KnownBytes.{Appends}
-use Rattle.hwp_top_step.specs.hwp_script_read.declared.Script.{Script}
-use Rattle.hwp_report_text.specs.declared.Report.{Report}
-use Rattle.hwp_report_text.specs.Text.{report_text}
-use Rattle.hwp_top_step.specs.hwp_table_words.Ends.{EndValue}
+use Rattle.hwp_top_turns.specs.hwp_script_read.declared.Script.{Script}
+use Rattle.hwp_top_turns.specs.hwp_report_text.declared.Report.{Report}
+use Rattle.hwp_top_turns.specs.hwp_report_text.ReportText.{report_text}
+use Rattle.hwp_top_turns.specs.hwp_table_words.Ends.{EndValue}
 use Rattle.hwp_top_step.specs.Top.{done_status}
 use Rattle.hwp_top.specs.Top.{IsReportOfThreads}
 

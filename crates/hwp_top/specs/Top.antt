@@ -1,11 +1,11 @@
 -- What `run` writes.
 use Rattle.std.specs.Prelude.{◌≡◌, ℕ, List, [], ◌∷◌, Option, codes}
-use Rattle.hwp_top_step.specs.hwp_script_read.declared.Script.{Script}
-use Rattle.hwp_report_text.specs.declared.Report.{Report}
-use Rattle.hwp_report_text.specs.Text.{report_text}
-use Rattle.hwp_top_step.specs.hwp_law.Law.{IsLawful}
-use Rattle.hwp_top_step.specs.hwp_law.Runs.{IsOfRun}
-use Rattle.hwp_top_step.specs.hwp_table_words.Ends.{EndValue}
+use Rattle.hwp_top_turns.specs.hwp_script_read.declared.Script.{Script}
+use Rattle.hwp_top_turns.specs.hwp_report_text.declared.Report.{Report}
+use Rattle.hwp_top_turns.specs.hwp_report_text.ReportText.{report_text}
+use Rattle.hwp_top_turns.specs.hwp_law.Law.{IsLawful}
+use Rattle.hwp_top_turns.specs.hwp_law.Runs.{IsOfRun}
+use Rattle.hwp_top_turns.specs.hwp_table_words.Ends.{EndValue}
 use Rattle.hwp_top_threads.specs.Runs.{IsThreadRun}
 use Rattle.hwp_top_step.specs.Top.{Takes, done_status}
 

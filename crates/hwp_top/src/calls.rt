@@ -1,7 +1,7 @@
 ghost use Rattle.std.specs.Prelude.{◌≡◌, ◌≢◌, ◌↔◌, ℕ, List, [], ◌∷◌, codes, map, string_bytes, Contains, IsSomeAnd, IsTrue, Some, None};
 ghost use Rattle.std.specs.Io.KnownBytes.{Appends};
 ghost use Rattle.hwp_io.specs.Causes.{AppendsStrictFront, Rose};
-ghost use Rattle.hwp_top_step.specs.hwp_script_read.declared.Refused.{Refused};
+ghost use Rattle.hwp_top_turns.specs.hwp_script_read.declared.Refused.{Refused};
 ghost use Rattle.hwp_top_step.specs.Outputs.{HasRun, IsStepReport};
 ghost use Rattle.hwp_top_step.specs.Top.{IsDone, Refuses, Told, refusal_text, told_text};
 ghost use Rattle.hwp_top.specs.Top.{IsRun, IsThreaded};

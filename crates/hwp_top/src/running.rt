@@ -1,17 +1,17 @@
 //! What `run` writes.
 ghost use Rattle.std.specs.Prelude.{◌≡◌, IfOk, IsErrOf};
 ghost use Rattle.hwp_io.specs.Causes.{Rose};
-ghost use Rattle.hwp_top_step.specs.hwp_script_read.declared.Refused.{Refused};
-ghost use Rattle.hwp_report_text.specs.Text.{report_text};
+ghost use Rattle.hwp_top_turns.specs.hwp_script_read.declared.Refused.{Refused};
+ghost use Rattle.hwp_top_turns.specs.hwp_report_text.ReportText.{report_text};
 ghost use Rattle.hwp_top_step.specs.Outputs.{HasRun};
 ghost use Rattle.hwp_top_step.specs.Top.{Refuses};
 ghost use Rattle.hwp_top.specs.Top.{IsThreaded, Reports};
 
-use hwp_geom::Text;
 use hwp_io::Source;
 use hwp_threads::Gate;
 use hwp_top_step::{InputFault, Output, status_of, take_script};
-use hwp_top_threads::{Finished, run_on_threads};
+use hwp_top_threads::run_on_threads;
+use hwp_top_turns::{Finished, Text};
 use std::alloc::Global;
 use std::sync::Wait;
 use std::thread::Threads;
@@ -32,7 +32,7 @@ fn report_of<R: Threads + Wait + Sync, S: Source, G: Gate + Sync>(
     let Ok(run) = run_on_threads(rt, alloc, &script, gate) else {
         return Err(InputFault::OutOfMemory);
     };
-    let Ok(text) = hwp_report_text::print(alloc, &run.report) else {
+    let Ok(text) = hwp_top_turns::print(alloc, &run.report) else {
         return Err(InputFault::OutOfMemory);
     };
     Ok((run, text))

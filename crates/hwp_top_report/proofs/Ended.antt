@@ -4,38 +4,39 @@ use Rattle.std.specs.List.{sum_by}
 use Rattle.std.specs.Option.{option_or}
 use Rattle.std.proofs.lemmas.Bool.{cases_lt}
 use Rattle.std.proofs.lemmas.Option.{none-some, same_Some, slice_get_within}
-use Rattle.hwp_geom.specs.declared.Frame.{Frame}
-use Rattle.hwp_geom.specs.declared.Layout.{Layout}
-use Rattle.hwp_geom.specs.declared.Who.{Who}
-use Rattle.hwp_page.specs.declared.Entry.{Entry}
-use Rattle.hwp_words.specs.Counters.{biased_poisoned_of}
-use Rattle.hwp_words.specs.Frames.{poison_of}
-use Rattle.hwp_words.specs.Stops.{stopper_of}
-use Rattle.hwp_core_rule.specs.declared.State.{State}
-use Rattle.hwp_core_rule.specs.declared.View.{View}
-use Rattle.hwp_core_rule.specs.Lists.{SomeMember}
-use Rattle.hwp_core_rule.specs.Rule.{Holds, count_debts_of}
-use Rattle.hwp_core_rule.specs.Words.{words_of}
-use Rattle.hwp_core_rule.specs.parts.Counter.{CountDebts}
-use Rattle.hwp_core_rule.specs.parts.Holdings.{HoldsNothing}
-use Rattle.hwp_core_rule.specs.declared.Debts.{Debts}
-use Rattle.hwp_core_rule.proofs.CountsBelow.{some-term}
-use Rattle.hwp_core_rule.proofs.Lists.{at_map, each-map, each-weaken, map-was, sum-zero}
-use Rattle.hwp_core_rule.proofs.MoveKeeps.{shaped}
-use Rattle.hwp_core_rule.proofs.WordsByKind.{word-there}
-use Rattle.hwp_script_read.specs.declared.Command.{Command}
-use Rattle.hwp_script_read.specs.declared.Command.TheVariants as commands
-use Rattle.hwp_report_text.specs.declared.FrameLine.{FrameLine}
-use Rattle.hwp_report_text.specs.declared.Report.{Report}
-use Rattle.hwp_report_text.specs.declared.Stop.{Stop}
-use Rattle.hwp_report_text.specs.declared.StopCause.{StopCause}
-use Rattle.hwp_report_text.specs.declared.StopCause.TheVariants as causes
-use Rattle.hwp_cpu_check.specs.hwp_law.Checks.{is_panic, is_stopping}
-use Rattle.hwp_cpu_check.specs.hwp_law.Commands.{Arrival, arrival_of}
+use Rattle.hwp_plain_words.specs.hwp_geom.declared.Frame.{Frame}
+use Rattle.hwp_plain_words.specs.hwp_geom.declared.Layout.{Layout}
+use Rattle.hwp_plain_words.specs.hwp_geom.declared.Who.{Who}
+use Rattle.hwp_plain_words.specs.hwp_page.declared.Entry.{Entry}
+use Rattle.hwp_plain_words.specs.hwp_words.Counters.{biased_poisoned_of}
+use Rattle.hwp_plain_words.specs.hwp_words.Frames.{poison_of}
+use Rattle.hwp_plain_words.specs.hwp_words.Stops.{stopper_of}
+use Rattle.hwp_plain_words.specs.hwp_core_rule.declared.State.{State}
+use Rattle.hwp_plain_words.specs.hwp_core_rule.declared.View.{View}
+use Rattle.hwp_plain_words.specs.hwp_core_rule.Lists.{SomeMember}
+use Rattle.hwp_plain_words.specs.hwp_core_rule.Rule.{Holds, count_debts_of}
+use Rattle.hwp_plain_words.specs.hwp_core_rule.Words.{words_of}
+use Rattle.hwp_plain_words.specs.hwp_core_rule.parts.Counter.{CountDebts}
+use Rattle.hwp_plain_words.specs.hwp_core_rule.parts.Holdings.{HoldsNothing}
+use Rattle.hwp_plain_words.specs.hwp_core_rule.declared.Debts.{Debts}
+use Rattle.hwp_plain_words.proofs.of_hwp_core_rule.CountsBelow.{some-term}
+use Rattle.hwp_plain_words.proofs.of_hwp_core_rule.Lists.{at_map, each-map, each-weaken, map-was, sum-zero}
+use Rattle.hwp_plain_words.proofs.of_hwp_core_rule.MoveKeeps.{shaped}
+use Rattle.hwp_plain_words.proofs.of_hwp_core_rule.WordsByKind.{word-there}
+use Rattle.hwp_cpu_row.specs.hwp_script_read.declared.Command.{Command}
+use Rattle.hwp_cpu_row.specs.hwp_script_read.declared.Command.TheVariants as commands
+use Rattle.hwp_cpu_row.specs.hwp_report_text.declared.FrameLine.{FrameLine}
+use Rattle.hwp_cpu_row.specs.hwp_report_text.declared.Report.{Report}
+use Rattle.hwp_cpu_row.specs.hwp_report_text.declared.Stop.{Stop}
+use Rattle.hwp_cpu_row.specs.hwp_report_text.declared.StopCause.{StopCause}
+use Rattle.hwp_cpu_row.specs.hwp_report_text.declared.StopCause.TheVariants as causes
+use Rattle.hwp_cpu_row.specs.hwp_report_text.Acts.{is_panic, is_stopping}
+use Rattle.hwp_cpu_row.specs.hwp_law.Commands.{arrival_of}
+use Rattle.hwp_cpu_row.specs.hwp_severity.declared.Arrival.{Arrival}
 use Rattle.hwp_cpu.specs.hwp_law_run.Ends.{IsFrameOn, IsStopOn}
 use Rattle.hwp_cpu_row.specs.declared.Row.{Row}
-use Rattle.hwp_cpu_check.specs.declared.EventOutcome.{EventOutcome}
-use Rattle.hwp_cpu_check.specs.Told.{halts}
+use Rattle.hwp_cpu_row.specs.hwp_cpu_check.declared.EventOutcome.{EventOutcome}
+use Rattle.hwp_cpu_row.specs.hwp_cpu_check.Told.{halts}
 use Rattle.hwp_cpu.specs.hwp_law_holds.Rows.{Note, record_of}
 use Rattle.hwp_cpu.specs.hwp_law_holds.Runs.{IsCauseOf, notes_of, panic_cause, row_at, severity_cause, told_cause}
 use Rattle.hwp_cpu.specs.hwp_law_holds.Served.{CanStop, IsFirstStopped}

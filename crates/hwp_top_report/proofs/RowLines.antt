@@ -5,16 +5,16 @@ use Rattle.std.proofs.lemmas.Bool.{cases_lt}
 use Rattle.std.proofs.lemmas.List.{length-take-le, take_more}
 use Rattle.std.proofs.lemmas.List.Elements.{filter_map-append}
 use Rattle.std.proofs.lemmas.Option.{get_or_from_slice_get, none-some, slice_get-get_or}
-use Rattle.hwp_geom.specs.declared.Cpu.{Cpu}
-use Rattle.hwp_geom.specs.declared.Who.{Who}
-use Rattle.hwp_words.specs.Stops.{stopper_of}
-use Rattle.hwp_core_rule.specs.Lists.{EachMember}
-use Rattle.hwp_script_read.specs.declared.Command.{Command}
-use Rattle.hwp_report_text.specs.declared.Answer.TheVariants as answers
-use Rattle.hwp_report_text.specs.declared.CpuLine.{CpuLine}
-use Rattle.hwp_report_text.specs.declared.StopCause.{StopCause}
+use Rattle.hwp_plain_words.specs.hwp_geom.declared.Cpu.{Cpu}
+use Rattle.hwp_plain_words.specs.hwp_geom.declared.Who.{Who}
+use Rattle.hwp_plain_words.specs.hwp_words.Stops.{stopper_of}
+use Rattle.hwp_plain_words.specs.hwp_core_rule.Lists.{EachMember}
+use Rattle.hwp_cpu_row.specs.hwp_script_read.declared.Command.{Command}
+use Rattle.hwp_cpu_row.specs.hwp_report_text.declared.Answer.TheVariants as answers
+use Rattle.hwp_cpu_row.specs.hwp_report_text.declared.CpuLine.{CpuLine}
+use Rattle.hwp_cpu_row.specs.hwp_report_text.declared.StopCause.{StopCause}
 use Rattle.hwp_cpu_row.specs.declared.Row.{Row}
-use Rattle.hwp_cpu_check.specs.declared.EventOutcome.{EventOutcome}
+use Rattle.hwp_cpu_row.specs.hwp_cpu_check.declared.EventOutcome.{EventOutcome}
 use Rattle.hwp_cpu.specs.hwp_law_holds.Rows.{Note, lines_from, notes_from, own_note, row_lines, row_notes, told_note}
 use Rattle.hwp_cpu.specs.Processors.{at_number}
 use Rattle.hwp_cpu.proofs.Rows.{notes-more}

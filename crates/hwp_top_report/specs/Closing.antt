@@ -1,35 +1,35 @@
 -- The report of a run, from what the board on which it ends came to and from the rows of its processors.
 use Rattle.std.specs.Prelude.{◌≡◌, ◌≢◌, ℕ, ◌+◌, ◌^◌, ◌<◌, ◌≤◌, true, List, Option, Some, None, length, map, option_and_then, slice_get, slice_index, unwrap_or, IfSome}
-use Rattle.hwp_geom.specs.declared.Frame.{Frame}
-use Rattle.hwp_geom.specs.declared.Layout.{Layout}
-use Rattle.hwp_geom.specs.declared.Who.{Who}
-use Rattle.hwp_geom.specs.Layout.{IsSound}
-use Rattle.hwp_geom.specs.Limits.{command_limit, cpu_limit}
-use Rattle.hwp_page.specs.declared.Entry.{Entry}
-use Rattle.hwp_words.specs.Stops.{stopper_of}
-use Rattle.hwp_core_rule.specs.declared.State.{State}
-use Rattle.hwp_core_rule.specs.declared.View.{View}
-use Rattle.hwp_core_rule.specs.Lists.{EachMember}
-use Rattle.hwp_core_rule.specs.Rule.{Holds}
-use Rattle.hwp_core_rule.specs.Words.{Words, size}
-use Rattle.hwp_core_rule.specs.parts.Holdings.{HoldsNothing}
+use Rattle.hwp_plain_words.specs.hwp_geom.declared.Frame.{Frame}
+use Rattle.hwp_plain_words.specs.hwp_geom.declared.Layout.{Layout}
+use Rattle.hwp_plain_words.specs.hwp_geom.declared.Who.{Who}
+use Rattle.hwp_plain_words.specs.hwp_geom.Layout.{IsSound}
+use Rattle.hwp_plain_words.specs.hwp_geom.Limits.{command_limit, cpu_limit}
+use Rattle.hwp_plain_words.specs.hwp_page.declared.Entry.{Entry}
+use Rattle.hwp_plain_words.specs.hwp_words.Stops.{stopper_of}
+use Rattle.hwp_plain_words.specs.hwp_core_rule.declared.State.{State}
+use Rattle.hwp_plain_words.specs.hwp_core_rule.declared.View.{View}
+use Rattle.hwp_plain_words.specs.hwp_core_rule.Lists.{EachMember}
+use Rattle.hwp_plain_words.specs.hwp_core_rule.Rule.{Holds}
+use Rattle.hwp_plain_words.specs.hwp_core_rule.Words.{Words, size}
+use Rattle.hwp_plain_words.specs.hwp_core_rule.parts.Holdings.{HoldsNothing}
 use Rattle.hwp_plain_words.specs.Ends.{AreHistories}
-use Rattle.hwp_script_read.specs.declared.Command.{Command}
-use Rattle.hwp_script_read.specs.declared.Command.TheVariants as commands
-use Rattle.hwp_report_text.specs.declared.CpuLine.{CpuLine}
-use Rattle.hwp_report_text.specs.declared.FrameLine.{FrameLine}
-use Rattle.hwp_report_text.specs.declared.MarkLine.{MarkLine}
-use Rattle.hwp_report_text.specs.declared.Report.{Report}
-use Rattle.hwp_report_text.specs.declared.Stop.{Stop}
-use Rattle.hwp_report_text.specs.declared.StopCause.{StopCause}
-use Rattle.hwp_report_text.specs.declared.StopCause.TheVariants as causes
-use Rattle.hwp_cpu_check.specs.hwp_law.Checks.{is_panic}
-use Rattle.hwp_cpu_check.specs.hwp_law.Commands.{arrival_of}
+use Rattle.hwp_cpu_row.specs.hwp_script_read.declared.Command.{Command}
+use Rattle.hwp_cpu_row.specs.hwp_script_read.declared.Command.TheVariants as commands
+use Rattle.hwp_cpu_row.specs.hwp_report_text.declared.CpuLine.{CpuLine}
+use Rattle.hwp_cpu_row.specs.hwp_report_text.declared.FrameLine.{FrameLine}
+use Rattle.hwp_cpu_row.specs.hwp_report_text.declared.MarkLine.{MarkLine}
+use Rattle.hwp_cpu_row.specs.hwp_report_text.declared.Report.{Report}
+use Rattle.hwp_cpu_row.specs.hwp_report_text.declared.Stop.{Stop}
+use Rattle.hwp_cpu_row.specs.hwp_report_text.declared.StopCause.{StopCause}
+use Rattle.hwp_cpu_row.specs.hwp_report_text.declared.StopCause.TheVariants as causes
+use Rattle.hwp_cpu_row.specs.hwp_report_text.Acts.{is_panic}
+use Rattle.hwp_cpu_row.specs.hwp_law.Commands.{arrival_of}
 use Rattle.hwp_cpu.specs.hwp_law_run.Ends.{AreMarks, EndsWith, place_in}
-use Rattle.hwp_cpu_check.specs.declared.Found.{Found}
+use Rattle.hwp_cpu_row.specs.hwp_claim.declared.Found.{Found}
 use Rattle.hwp_cpu_row.specs.declared.Row.{Row}
-use Rattle.hwp_cpu_check.specs.declared.EventOutcome.{EventOutcome}
-use Rattle.hwp_cpu_check.specs.Told.{frame_of}
+use Rattle.hwp_cpu_row.specs.hwp_cpu_check.declared.EventOutcome.{EventOutcome}
+use Rattle.hwp_cpu_row.specs.hwp_cpu_check.Told.{frame_of}
 use Rattle.hwp_cpu.specs.hwp_law_holds.Rows.{Note, lines_from, record_of}
 use Rattle.hwp_cpu.specs.hwp_law_holds.Runs.{AreSorted, IsCauseOf, notes_of, row_at, told_cause}
 use Rattle.hwp_cpu.specs.hwp_law_holds.Served.{CanStop, IsFirstStopped}

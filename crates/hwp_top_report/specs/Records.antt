@@ -1,7 +1,7 @@
 -- The records of frames, gathered from what processors noted.
 use Rattle.std.specs.Prelude.{◌≡◌, ℕ, List, [], ◌∷◌, ◌++◌, Some, length, slice_get, slice_index_or, slice_set}
-use Rattle.hwp_geom.specs.declared.Frame.{Frame}
-use Rattle.hwp_report_text.specs.declared.MarkLine.{MarkLine}
+use Rattle.hwp_plain_words.specs.hwp_geom.declared.Frame.{Frame}
+use Rattle.hwp_cpu_row.specs.hwp_report_text.declared.MarkLine.{MarkLine}
 use Rattle.hwp_cpu.specs.hwp_law_holds.Rows.{Note, lines_of, record_of}
 
 -- a line more in the record of its frame

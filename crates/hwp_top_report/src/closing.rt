@@ -1,6 +1,6 @@
 ghost use Rattle.std.specs.Prelude.{◌≡◌, IfOk};
-ghost use Rattle.hwp_core_rule.specs.declared.State.{State};
-ghost use Rattle.hwp_core_rule.specs.Words.{words_of};
+ghost use Rattle.hwp_plain_words.specs.hwp_core_rule.declared.State.{State};
+ghost use Rattle.hwp_plain_words.specs.hwp_core_rule.Words.{words_of};
 ghost use Rattle.hwp_top_report.specs.Closing.{AreWordsOf, IsClosing, IsOutcome};
 
 use crate::frames::{frame_lines, poisoned_frames};
@@ -8,12 +8,7 @@ use crate::lines::all_lines;
 use crate::notes::all_notes;
 use crate::stopping::stop_of;
 use crate::words::word;
-use hwp_core_rule::SharedWord;
-use hwp_cpu_row::Row;
-use hwp_geom::{FileNo, Layout, List, OutOfMemory};
-use hwp_page::Entry;
-use hwp_report_text::Report;
-use hwp_script_read::Command;
+use hwp_cpu_row::{Command, Entry, FileNo, Layout, List, OutOfMemory, Report, Row, SharedWord};
 use std::alloc::Global;
 
 /// The report of a run: of the words, in the frame rule's order, and the pages' histories of the board on which it ends, and of the

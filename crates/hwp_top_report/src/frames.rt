@@ -1,16 +1,15 @@
 ghost use Rattle.std.specs.Prelude.{◌≡◌, ◌<◌, ◌≤◌, IfOk};
 ghost use Rattle.std.specs.List.{sum_by};
-ghost use Rattle.hwp_words.specs.Frames.{poison_of};
-ghost use Rattle.hwp_core_rule.specs.Words.{words_of};
+ghost use Rattle.hwp_plain_words.specs.hwp_words.Frames.{poison_of};
+ghost use Rattle.hwp_plain_words.specs.hwp_core_rule.Words.{words_of};
 ghost use Rattle.hwp_cpu.specs.hwp_law_run.Ends.{place_in};
 ghost use Rattle.hwp_top_report.specs.Closing.{AreLinesBy, AreWordsOf, line_with};
 
 use crate::records::{gather, ordered};
 use crate::words::word;
-use hwp_core_rule::SharedWord;
-use hwp_geom::{Frame, Layout, List, Mask, OutOfMemory};
-use hwp_report_text::{FrameLine, MarkLine, Whereabouts};
-use hwp_words::FrameWord;
+use hwp_cpu_row::{
+    Frame, FrameLine, FrameWord, Layout, List, MarkLine, Mask, OutOfMemory, SharedWord, Whereabouts,
+};
 use std::alloc::Global;
 
 /// The lines of all frames, each with what processors noted of it.

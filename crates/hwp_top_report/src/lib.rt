@@ -11,3 +11,11 @@ mod stopping;
 mod words;
 
 pub use closing::report;
+pub use hwp_cpu::Processor;
+pub use hwp_cpu_row::{
+    Board, CacheWord, CounterWord, Cpu, Entry, Frame, FrameWord, Kind, Layout, List, MAX_SCRIPT,
+    Ops, OutOfMemory, Page, PageWord, PolicyWord, ProcessWord, Pte, Report, Row, Script,
+    SharedWord, StopWord, Task, Text, Turn, Who, index, is_text, kind_name, policy_word, print,
+    read_number,
+};
+pub use hwp_plain_words::histories;

@@ -2,10 +2,7 @@ ghost use Rattle.std.specs.Prelude.{◌≡◌, ◌++◌, map, IfOk, OnOk};
 ghost use Rattle.hwp_cpu.specs.hwp_law_holds.Rows.{event_line, lines_from, row_lines};
 ghost use Rattle.hwp_top_report.specs.Closing.{AreTellable, IsTellable, lines_of_all};
 
-use hwp_cpu_check::EventOutcome;
-use hwp_cpu_row::Row;
-use hwp_geom::{List, OutOfMemory};
-use hwp_report_text::CpuLine;
+use hwp_cpu_row::{CpuLine, EventOutcome, List, OutOfMemory, Row};
 use std::alloc::Global;
 
 /// The lines of all processors.

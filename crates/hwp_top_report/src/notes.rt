@@ -1,16 +1,15 @@
 ghost use Rattle.std.specs.Prelude.{◌≡◌, ◌++◌, ◌≤◌, ◌<◌, ◌^◌, [], length, filter_map, IfOk, OnOk};
 ghost use Rattle.std.specs.List.{cons_option};
-ghost use Rattle.hwp_geom.specs.Limits.{cpu_limit};
-ghost use Rattle.hwp_core_rule.specs.Lists.{EachMember};
+ghost use Rattle.hwp_plain_words.specs.hwp_geom.Limits.{cpu_limit};
+ghost use Rattle.hwp_plain_words.specs.hwp_core_rule.Lists.{EachMember};
 ghost use Rattle.hwp_cpu.specs.hwp_law_holds.Rows.{note_by, note_of, notes_from, offlined, own_note, told_note};
 ghost use Rattle.hwp_cpu.specs.hwp_law_holds.Runs.{notes_of};
-ghost use Rattle.hwp_cpu_check.specs.Told.{frame_of};
+ghost use Rattle.hwp_cpu_row.specs.hwp_cpu_check.Told.{frame_of};
 ghost use Rattle.hwp_top_report.specs.Closing.{AreTellable, IsNamed, IsTellable};
 
-use hwp_cpu_check::{EventOutcome, Found, Held};
-use hwp_cpu_row::{FrameChange, Row};
-use hwp_geom::{Cpu, Frame, List, OutOfMemory, Who};
-use hwp_report_text::{How, MarkLine};
+use hwp_cpu_row::{
+    Cpu, EventOutcome, Found, Frame, FrameChange, Held, How, List, MarkLine, OutOfMemory, Row, Who,
+};
 use std::alloc::Global;
 
 type Note = (Frame, MarkLine);

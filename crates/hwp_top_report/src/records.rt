@@ -2,8 +2,7 @@ ghost use Rattle.std.specs.Prelude.{◌≡◌, [], replicate, IfOk, OnOk};
 ghost use Rattle.hwp_cpu.specs.hwp_law_holds.Runs.{AreSorted, place_in};
 ghost use Rattle.hwp_top_report.specs.Records.{AreGathered, GoOn, with_note};
 
-use hwp_geom::{Frame, List, OutOfMemory};
-use hwp_report_text::MarkLine;
+use hwp_cpu_row::{Frame, List, MarkLine, OutOfMemory};
 use std::alloc::Global;
 
 /// So many empty records.

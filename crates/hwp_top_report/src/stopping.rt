@@ -1,22 +1,18 @@
 ghost use Rattle.std.specs.Prelude.{◌≡◌, ◌↔◌, ◌+◌, option_map, IsTrue, MatchOption};
 ghost use Rattle.std.specs.List.{find};
-ghost use Rattle.hwp_words.specs.Stops.{stopper_of};
-ghost use Rattle.hwp_report_text.specs.declared.Answer.TheVariants as answers;
-ghost use Rattle.hwp_core_rule.specs.Lists.{EachMember};
-ghost use Rattle.hwp_cpu_check.specs.hwp_law.Checks.{is_panic, is_stopping};
-ghost use Rattle.hwp_cpu_check.specs.hwp_law.Commands.{arrival_of};
+ghost use Rattle.hwp_plain_words.specs.hwp_words.Stops.{stopper_of};
+ghost use Rattle.hwp_cpu_row.specs.hwp_report_text.declared.Answer.TheVariants as answers;
+ghost use Rattle.hwp_plain_words.specs.hwp_core_rule.Lists.{EachMember};
+ghost use Rattle.hwp_cpu_row.specs.hwp_report_text.Acts.{is_panic, is_stopping};
+ghost use Rattle.hwp_cpu_row.specs.hwp_law.Commands.{arrival_of};
 ghost use Rattle.hwp_cpu.specs.hwp_law_holds.Runs.{panic_cause, severity_cause, told_cause};
 ghost use Rattle.hwp_cpu.specs.Serving.{HasStopped};
 ghost use Rattle.hwp_top_report.specs.Closing.{AreTellable, HasStopper, IsFirstStop, IsNamed, IsStopBy, IsTellable, cause_in, command_in, own_cause};
 
 use crate::notes::frame_of;
-use hwp_cpu_check::EventOutcome;
-use hwp_cpu_row::Row;
-use hwp_geom::{Cpu, List, Mode, Who};
-use hwp_report_text::{Acted, Answer, Stop, StopCause};
-use hwp_script_read::Command;
-use hwp_severity::McgBits;
-use hwp_words::StopWord;
+use hwp_cpu_row::{
+    Answer, Command, Cpu, EventOutcome, List, McgBits, Mode, Row, Stop, StopCause, StopWord, Who,
+};
 
 /// The stop record: the processor that the stop word names, the first of its commands that was answered `stopped`, and why that
 /// one stopped the machine.
@@ -109,7 +105,7 @@ fn severity_cause(mcg: McgBits, mode: Mode, told: &[EventOutcome]) -> Option<Sto
     ensures { result ≡ option_map (severity_cause (record { mcg = mcg; mode = mode })) (find (λ t. is_stopping t.acted) told.now) }
 {
     for event in told {
-        if is_stopping(event.acted) {
+        if event.acted.is_stopping() {
             return Some(StopCause::Severity {
                 row: event.held.grade.row,
                 bank: event.held.bank,
@@ -128,23 +124,11 @@ fn panic_cause(told: &[EventOutcome]) -> Option<StopCause>
     ensures { result ≡ option_map panic_cause (find (λ t. is_panic t.acted) told.now) }
 {
     for event in told {
-        if is_panic(event.acted) {
+        if event.acted.is_panic() {
             return Some(StopCause::Panic(frame_of(&event.held)));
         }
     }
     None
-}
-
-fn is_stopping(acted: Acted) -> bool
-    ensures { result ≡ is_stopping acted }
-{
-    matches!(acted, Acted::Stop)
-}
-
-fn is_panic(acted: Acted) -> bool
-    ensures { result ≡ is_panic acted }
-{
-    matches!(acted, Acted::Panic)
 }
 
 /// The number of the first command that was answered `stopped`.

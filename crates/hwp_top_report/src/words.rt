@@ -1,9 +1,8 @@
 ghost use Rattle.std.specs.Prelude.{◌≡◌};
-ghost use Rattle.hwp_core_rule.specs.Words.{IsPlace, read, words_of};
+ghost use Rattle.hwp_plain_words.specs.hwp_core_rule.Words.{IsPlace, read, words_of};
 ghost use Rattle.hwp_top_report.specs.Closing.{AreWordsOf};
 
-use hwp_core_rule::{SharedWord, index};
-use hwp_geom::Layout;
+use hwp_cpu_row::{Layout, SharedWord, index};
 
 /// The word of a place, among the words in the frame rule's order.
 pub(crate) fn word(layout: &Layout, words: &[u64], place: SharedWord) -> u64

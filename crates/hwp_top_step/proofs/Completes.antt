@@ -5,16 +5,16 @@ use Rattle.std.specs.Prelude.{Contains}
 use Rattle.std.specs.Io.KnownBytes.{Appends, Consumes, IsAtEnd}
 use Rattle.std.proofs.lemmas.List.{length-append}
 use Rattle.hwp_io.specs.Causes.{Rose}
-use Rattle.hwp_script_read.specs.Reads.{IsRefused, IsRefusedFor, Reads}
-use Rattle.hwp_script_read.specs.Reasons.{number}
-use Rattle.hwp_script_read.specs.declared.Refused.{Refused}
-use Rattle.hwp_script_read.specs.declared.Script.{Script}
-use Rattle.hwp_script_read.specs.declared.Why.{Why}
-use Rattle.hwp_script_read.specs.declared.Why.TheVariants as whys
-use Rattle.hwp_script_read.proofs.OneScript.{one_script}
-use Rattle.hwp_script_read.proofs.ReadLaws.{apart}
-use Rattle.hwp_report_text.specs.declared.Report.{Report}
-use Rattle.hwp_table_words.specs.Ends.{EndValue}
+use Rattle.hwp_script.specs.hwp_script_read.Reads.{IsRefused, IsRefusedFor, Reads}
+use Rattle.hwp_script.specs.hwp_script_read.Reasons.{number}
+use Rattle.hwp_script.specs.hwp_script_read.declared.Refused.{Refused}
+use Rattle.hwp_script.specs.hwp_script_read.declared.Script.{Script}
+use Rattle.hwp_script.specs.hwp_script_read.declared.Why.{Why}
+use Rattle.hwp_script.specs.hwp_script_read.declared.Why.TheVariants as whys
+use Rattle.hwp_script.proofs.of_hwp_script_read.OneScript.{one_script}
+use Rattle.hwp_script.proofs.of_hwp_script_read.ReadLaws.{apart}
+use Rattle.hwp_report_summary.specs.hwp_report_text.declared.Report.{Report}
+use Rattle.hwp_top_turns.specs.hwp_table_words.Ends.{EndValue}
 use Rattle.hwp_top_step.specs.declared.served.Call.{Call}
 use Rattle.hwp_top_step.specs.declared.served.Call.TheVariants as calls
 use Rattle.hwp_top_step.specs.Calls.{IsCall, IsNoCall, IsStep}

@@ -1,12 +1,12 @@
 -- The statuses of the top call are those of its list.
 use Rattle.std.specs.Prelude.{◌≡◌, ℕ, List, [], ◌∷◌, Contains, Bool, true, false, if◌then◌else◌, is_some, ◌⊎◌, Option, Some, None}
 use Rattle.std.proofs.Common.{lit<, refl, subst, sym, inl, inr}
-use Rattle.hwp_report_text.specs.declared.Report.{Report}
-use Rattle.hwp_table_words.specs.Ends.{EndValue}
+use Rattle.hwp_report_summary.specs.hwp_report_text.declared.Report.{Report}
+use Rattle.hwp_top_turns.specs.hwp_table_words.Ends.{EndValue}
 use Rattle.hwp_top_step.specs.declared.served.Call.{Call}
 use Rattle.hwp_top_step.specs.declared.served.Call.TheVariants as calls
-use Rattle.hwp_check_rules.specs.declared.verdicts.Verdict.{Verdict}
-use Rattle.hwp_check_rules.specs.declared.verdicts.Verdict.TheVariants as verdicts
+use Rattle.hwp_check.specs.hwp_check_rules.declared.verdicts.Verdict.{Verdict}
+use Rattle.hwp_check.specs.hwp_check_rules.declared.verdicts.Verdict.TheVariants as verdicts
 use Rattle.hwp_top_step.specs.Checked.{verdict_status}
 use Rattle.hwp_top_step.specs.Outputs.{IsOutputOf}
 use Rattle.hwp_top_step.specs.Top.{IsDone, done_status}

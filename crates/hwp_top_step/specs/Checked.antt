@@ -1,10 +1,10 @@
 -- What `check` takes from a source, and what it says.
 use Rattle.std.specs.Prelude.{◌≡◌, ℕ, ◌*◌, ◌^◌, ◌<◌, ◌⊎◌, List, Option, length}
 use Rattle.std.specs.Io.KnownBytes.{Consumes, IsAtEnd}
-use Rattle.hwp_script_read.specs.declared.Refused.{Refused}
-use Rattle.hwp_script_read.specs.declared.Why.TheVariants as whys
-use Rattle.hwp_check_rules.specs.declared.verdicts.Verdict.{Verdict}
-use Rattle.hwp_check_rules.specs.declared.verdicts.Verdict.TheVariants as verdicts
+use Rattle.hwp_script.specs.hwp_script_read.declared.Refused.{Refused}
+use Rattle.hwp_script.specs.hwp_script_read.declared.Why.TheVariants as whys
+use Rattle.hwp_check.specs.hwp_check_rules.declared.verdicts.Verdict.{Verdict}
+use Rattle.hwp_check.specs.hwp_check_rules.declared.verdicts.Verdict.TheVariants as verdicts
 use Rattle.hwp_check.specs.Judging.{IsJudgedInput, IsRefusedInput}
 use Rattle.hwp_check.specs.Text.{verdict_text}
 

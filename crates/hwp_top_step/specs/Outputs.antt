@@ -1,16 +1,16 @@
 -- What each call writes, and why it writes nothing.
 use Rattle.std.specs.Prelude.{◌≡◌, ◌≤◌, ℕ, List, Option, None, IsSomeAnd, length}
-use Rattle.hwp_script_read.specs.Limits.{script_limit}
-use Rattle.hwp_script_read.specs.declared.Refused.{Refused}
-use Rattle.hwp_script_read.specs.declared.Script.{Script}
-use Rattle.hwp_script_print.specs.Round.{IsTextOf}
-use Rattle.hwp_script_print.specs.Text.{script_text}
+use Rattle.hwp_script.specs.hwp_script_read.Limits.{script_limit}
+use Rattle.hwp_script.specs.hwp_script_read.declared.Refused.{Refused}
+use Rattle.hwp_script.specs.hwp_script_read.declared.Script.{Script}
+use Rattle.hwp_script.specs.hwp_script_print.Round.{IsTextOf}
+use Rattle.hwp_script.specs.hwp_script_print.Text.{script_text}
 use Rattle.hwp_script.specs.Generated.{generated}
-use Rattle.hwp_report_text.specs.declared.Report.{Report}
-use Rattle.hwp_report_text.specs.Text.{report_text}
+use Rattle.hwp_report_summary.specs.hwp_report_text.declared.Report.{Report}
+use Rattle.hwp_report_summary.specs.hwp_report_text.ReportText.{report_text}
 use Rattle.hwp_report_summary.specs.Counts.{summary_of}
 use Rattle.hwp_report_summary.specs.Text.{summary_text}
-use Rattle.hwp_table_words.specs.Ends.{EndValue}
+use Rattle.hwp_top_turns.specs.hwp_table_words.Ends.{EndValue}
 use Rattle.hwp_top_step.specs.declared.served.Call.{Call}
 use Rattle.hwp_top_step.specs.declared.served.Call.TheVariants as calls
 use Rattle.hwp_top_step.specs.Calls.{IsCall}

@@ -1,10 +1,10 @@
 -- What `step` comes to where nothing fails.
 use Rattle.std.specs.Prelude.{◌≡◌, ℕ, List, Option, Some}
 use Rattle.std.specs.Io.KnownBytes.{Appends}
-use Rattle.hwp_script_read.specs.declared.Script.{Script}
-use Rattle.hwp_report_text.specs.declared.Report.{Report}
-use Rattle.hwp_report_text.specs.Text.{report_text}
-use Rattle.hwp_table_words.specs.Ends.{EndValue}
+use Rattle.hwp_script.specs.hwp_script_read.declared.Script.{Script}
+use Rattle.hwp_report_summary.specs.hwp_report_text.declared.Report.{Report}
+use Rattle.hwp_report_summary.specs.hwp_report_text.ReportText.{report_text}
+use Rattle.hwp_top_turns.specs.hwp_table_words.Ends.{EndValue}
 use Rattle.hwp_top_step.specs.Top.{IsReportOfRun, done_status}
 
 -- the report of a run of the script is there, and what the run's table was closed with; all of the report was written, and the

@@ -2,15 +2,15 @@
 use Rattle.std.specs.Prelude.{◌≡◌, ◌≢◌, ℕ, ◌++◌, ◌==◌, if◌then◌else◌, List, [], ◌∷◌, Option, Some, None, is_some, codes, decimal, ◌⊎◌}
 use Rattle.std.specs.Io.KnownBytes.{Appends, Consumes, IsAtEnd}
 use Rattle.hwp_io.specs.Causes.{Rose}
-use Rattle.hwp_script_read.specs.declared.Script.{Script}
-use Rattle.hwp_script_read.specs.declared.Refused.{Refused}
-use Rattle.hwp_script_read.specs.declared.Why.{Why}
-use Rattle.hwp_script_read.specs.declared.Why.TheVariants as whys
-use Rattle.hwp_script_read.specs.Reads.{Reads, IsRefused}
-use Rattle.hwp_report_text.specs.declared.Report.{Report}
-use Rattle.hwp_check_rules.specs.hwp_law.Law.{IsLawful}
-use Rattle.hwp_check_rules.specs.hwp_law.Runs.{IsOfRun}
-use Rattle.hwp_table_words.specs.Ends.{EndValue}
+use Rattle.hwp_script.specs.hwp_script_read.declared.Script.{Script}
+use Rattle.hwp_script.specs.hwp_script_read.declared.Refused.{Refused}
+use Rattle.hwp_script.specs.hwp_script_read.declared.Why.{Why}
+use Rattle.hwp_script.specs.hwp_script_read.declared.Why.TheVariants as whys
+use Rattle.hwp_script.specs.hwp_script_read.Reads.{Reads, IsRefused}
+use Rattle.hwp_report_summary.specs.hwp_report_text.declared.Report.{Report}
+use Rattle.hwp_check.specs.hwp_law.Law.{IsLawful}
+use Rattle.hwp_check.specs.hwp_law.Runs.{IsOfRun}
+use Rattle.hwp_top_turns.specs.hwp_table_words.Ends.{EndValue}
 use Rattle.hwp_top_turns.specs.Runs.{IsCoreRun, IsTableRun}
 
 -- a source gave these bytes, and they are refused so: they are the text of no script; all reasons but the length need the whole input

@@ -2,7 +2,7 @@ ghost use Rattle.std.specs.Prelude.{◌≡◌, ◌≢◌, ◌↔◌, ◌⊎◌, 
 ghost use Rattle.std.specs.Io.KnownBytes.{Appends};
 ghost use Rattle.std.specs.Process.{exit_status};
 ghost use Rattle.hwp_io.specs.Causes.{AppendsStrictFront, Rose};
-ghost use Rattle.hwp_script_read.specs.declared.Refused.{Refused};
+ghost use Rattle.hwp_script.specs.hwp_script_read.declared.Refused.{Refused};
 ghost use Rattle.hwp_top_step.specs.Calls.{IsNoCall, IsReading};
 ghost use Rattle.hwp_top_step.specs.Outputs.{IsOutput, IsRefusedCall, IsReported};
 ghost use Rattle.hwp_top_step.specs.Top.{IsDone, Told, memory_text, refusal_text, told_text, write_fault_text};
@@ -12,8 +12,7 @@ use crate::messages::{OUT_OF_MEMORY, READ_FAULT, USAGE, WRITE_FAULT, refusal, te
 use crate::outputs::{Output, output_of};
 use crate::words::call_of;
 use hwp_io::{Sink, Source, WriteFault, write_all};
-use hwp_report_text::Report;
-use hwp_table_words::Ended;
+use hwp_top_turns::{Ended, Report};
 use std::alloc::Global;
 use std::process::ExitCode;
 

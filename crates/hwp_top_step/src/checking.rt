@@ -2,17 +2,16 @@
 ghost use Rattle.std.specs.Prelude.{◌≡◌, IfOk, IsErrOf};
 ghost use Rattle.std.specs.Io.KnownBytes.{Consumes, IsAtEnd};
 ghost use Rattle.hwp_io.specs.Causes.{Rose};
-ghost use Rattle.hwp_script_read.specs.declared.Refused.{Refused};
+ghost use Rattle.hwp_script.specs.hwp_script_read.declared.Refused.{Refused};
 ghost use Rattle.hwp_top_step.specs.Checked.{RefusesChecked, verdict_status};
 ghost use Rattle.hwp_top_step.specs.Outputs.{IsOutputOf};
 
 use crate::inputs::{InputFault, whole};
 use crate::outputs::Output;
 use crate::served::Call;
-use hwp_check::{judge, print};
-use hwp_check_rules::Verdict;
+use hwp_check::{Verdict, judge, print};
 use hwp_io::{Bytes, ReadAll, Source, read_all};
-use hwp_script_read::{ReadScript, Why};
+use hwp_script::{ReadScript, Why};
 use std::alloc::Global;
 
 /// The most bytes of a script and a report: 17 MiB.

@@ -1,12 +1,13 @@
 //! The script that a source gives.
 ghost use Rattle.std.specs.Prelude.{◌≡◌, ◌≤◌, IfOk, IsErrOf};
 ghost use Rattle.hwp_io.specs.Causes.{Rose};
-ghost use Rattle.hwp_script_read.specs.Valid.{IsValid};
-ghost use Rattle.hwp_script_read.specs.declared.Refused.{Refused};
+ghost use Rattle.hwp_script.specs.hwp_script_read.Valid.{IsValid};
+ghost use Rattle.hwp_script.specs.hwp_script_read.declared.Refused.{Refused};
 ghost use Rattle.hwp_top_step.specs.Top.{Refuses, Takes};
 
 use hwp_io::{ReadAll, Source, read_all};
-use hwp_script_read::{MAX_SCRIPT, ReadScript, Refused, Script, Why, read};
+use hwp_script::{ReadScript, Refused, Script, Why, read};
+use hwp_top_turns::MAX_SCRIPT;
 use std::alloc::Global;
 
 /// Why a source gives no script.

@@ -3,7 +3,7 @@ ghost use Rattle.std.specs.Prelude.{◌≡◌, ◌≤◌, IfOk, string_bytes};
 ghost use Rattle.hwp_top_step.specs.Top.{Told, refusal_text, why_text};
 
 use hwp_io::{Sink, write_all};
-use hwp_script_read::{Refused, Why};
+use hwp_script::{Refused, Why};
 use std::alloc::{AllocError, Global};
 
 /// Usage line.

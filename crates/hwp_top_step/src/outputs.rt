@@ -1,21 +1,18 @@
 //! What each call writes.
 ghost use Rattle.std.specs.Prelude.{◌≡◌, ◌≢◌, IfOk, IsErrOf, None};
 ghost use Rattle.hwp_io.specs.Causes.{Rose};
-ghost use Rattle.hwp_script_read.specs.declared.Refused.{Refused};
-ghost use Rattle.hwp_report_text.specs.Text.{report_text};
+ghost use Rattle.hwp_script.specs.hwp_script_read.declared.Refused.{Refused};
+ghost use Rattle.hwp_report_summary.specs.hwp_report_text.ReportText.{report_text};
 ghost use Rattle.hwp_top_step.specs.Outputs.{HasRun, IsGenerated, IsOutputOf, IsRefusedFor, IsSummed};
 ghost use Rattle.hwp_top_step.specs.Top.{Refuses, Reports, done_status};
 
 use crate::checking::checked;
 use crate::inputs::{InputFault, take_script};
 use crate::served::Call;
-use hwp_geom::Text;
 use hwp_io::Source;
 use hwp_report_summary::summary;
-use hwp_report_text::Report;
 use hwp_script::generate;
-use hwp_table_words::Ended;
-use hwp_top_turns::{Finished, run_in_turns};
+use hwp_top_turns::{Ended, Finished, Report, Text, run_in_turns};
 use std::alloc::Global;
 
 /// What a call writes, the status where all of it is written, and, where it made a run, the report, and what the run's table was
@@ -39,7 +36,7 @@ fn report_of<S: Source>(alloc: Global, src: &mut S) -> Result<(Finished, Text), 
     let Ok(run) = run_in_turns(alloc, &script) else {
         return Err(InputFault::OutOfMemory);
     };
-    let Ok(text) = hwp_report_text::print(alloc, &run.report) else {
+    let Ok(text) = hwp_top_turns::print(alloc, &run.report) else {
         return Err(InputFault::OutOfMemory);
     };
     Ok((run, text))
@@ -75,7 +72,7 @@ fn script_text(alloc: Global, seed: u64) -> Result<Output, InputFault>
     let Ok(script) = generate(alloc, seed) else {
         return Err(InputFault::OutOfMemory);
     };
-    let Ok(text) = hwp_script_print::print(alloc, &script) else {
+    let Ok(text) = hwp_script::print(alloc, &script) else {
         return Err(InputFault::OutOfMemory);
     };
     Ok(Output {

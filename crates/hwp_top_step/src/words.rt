@@ -3,7 +3,7 @@ ghost use Rattle.std.specs.Prelude.{[], ◌∷◌, map, string_bytes, IfSome, If
 ghost use Rattle.hwp_top_step.specs.Calls.{IsCall, IsNoCall};
 
 use crate::served::Call;
-use hwp_script_lines::{is_text, read_number};
+use hwp_top_turns::{is_text, read_number};
 
 /// The call that one word is.
 fn call_alone(word: &[u8]) -> Option<Call>

@@ -3,28 +3,28 @@ use Rattle.std.proofs.Common.{◌≡◌, ◌⊎◌, inl, inr, ℕ, ◌<◌, ◌=
 use Rattle.std.specs.Int.{from_bool}
 use Rattle.std.specs.List.{sum_by}
 use Rattle.std.proofs.lemmas.List.{length-map}
-use Rattle.hwp_geom.specs.declared.Layout.{Layout}
-use Rattle.hwp_table_words.specs.hwp_core_rule.declared.State.{State}
-use Rattle.hwp_table_words.specs.hwp_core_rule.declared.View.{View}
-use Rattle.hwp_table_words.specs.hwp_core_rule.Opening.{below, opening, opening_view}
-use Rattle.hwp_table_words.specs.hwp_core_rule.parts.Holdings.{HoldsNothing}
-use Rattle.hwp_table_words.proofs.of_hwp_core_rule.Lists.{at_map, from_bool-same, term-le}
-use Rattle.hwp_table_words.proofs.of_hwp_core_rule.WordsOpen.{length-below}
-use Rattle.hwp_table_words.specs.hwp_core_task.Boards.{Played}
-use Rattle.hwp_table_words.specs.hwp_core_task.Hands.{Hand}
+use Rattle.hwp_threads.specs.hwp_geom.declared.Layout.{Layout}
+use Rattle.hwp_threads.specs.hwp_core_rule.declared.State.{State}
+use Rattle.hwp_threads.specs.hwp_core_rule.declared.View.{View}
+use Rattle.hwp_threads.specs.hwp_core_rule.Opening.{below, opening, opening_view}
+use Rattle.hwp_threads.specs.hwp_core_rule.parts.Holdings.{HoldsNothing}
+use Rattle.hwp_threads.proofs.of_hwp_core_rule.Lists.{at_map, from_bool-same, term-le}
+use Rattle.hwp_threads.proofs.of_hwp_core_rule.WordsOpen.{length-below}
+use Rattle.hwp_threads.specs.hwp_core_task.Boards.{Played}
+use Rattle.hwp_threads.specs.hwp_core_task.Hands.{Hand}
 use Rattle.hwp_threads.specs.hwp_threads_order.Parts.{Own}
-use Rattle.hwp_script_read.specs.declared.Script.{Script}
-use Rattle.hwp_script_read.specs.Valid.{IsValid}
-use Rattle.hwp_cpu.specs.hwp_report_text.declared.Report.{Report}
-use Rattle.hwp_cpu.proofs.of_hwp_law_run.Homes.{there-is}
-use Rattle.hwp_cpu.specs.hwp_cpu_row.declared.Row.{Row}
-use Rattle.hwp_cpu.specs.hwp_law_holds.Runs.{IsRunOf}
-use Rattle.hwp_cpu.proofs.of_hwp_law_holds.AnswerSights.{report-shown, scrubs-shown}
-use Rattle.hwp_cpu.specs.declared.Processor.{Processor}
-use Rattle.hwp_cpu.specs.Serving.{Fits, FitsAt, IsDone}
-use Rattle.hwp_table_words.specs.Ends.{EndValue, HasAll, IsEnd, board_of}
-use Rattle.hwp_table_words.specs.Known.{Known, moves_by}
-use Rattle.hwp_table_words.specs.Stands.{Content}
+use Rattle.hwp_top_turns.specs.hwp_script_read.declared.Script.{Script}
+use Rattle.hwp_top_turns.specs.hwp_script_read.Valid.{IsValid}
+use Rattle.hwp_top_turns.specs.hwp_report_text.declared.Report.{Report}
+use Rattle.hwp_top_turns.proofs.of_hwp_law_run.Homes.{there-is}
+use Rattle.hwp_top_turns.specs.hwp_cpu_row.declared.Row.{Row}
+use Rattle.hwp_top_turns.specs.hwp_law_holds.Runs.{IsRunOf}
+use Rattle.hwp_top_turns.proofs.of_hwp_law_holds.AnswerSights.{report-shown, scrubs-shown}
+use Rattle.hwp_top_turns.specs.hwp_cpu.declared.Processor.{Processor}
+use Rattle.hwp_top_turns.specs.hwp_cpu.Serving.{Fits, FitsAt, IsDone}
+use Rattle.hwp_threads_seats.specs.hwp_table_words.Ends.{EndValue, HasAll, IsEnd, board_of}
+use Rattle.hwp_threads_seats.specs.hwp_table_words.Known.{Known, moves_by}
+use Rattle.hwp_threads_seats.specs.hwp_table_words.Stands.{Content}
 use Rattle.hwp_top_turns.specs.hwp_top_report.Closing.{IsClosing}
 use Rattle.hwp_top_turns.specs.Runs.{AreFinished, HasEnded, HasEndedAt, IsFinished, own_seat}
 use Rattle.hwp_top_turns.proofs.Came.{last-bare}
@@ -92,9 +92,17 @@ module _ (script : Script) (v : Known) (now : List Processor) (rows : List (List
     }
 
 pub closed-run : (script : Script) (ended : EndValue) (now : List Processor) (rows : List (List Row)) → IsValid script → ended.layout ≡ script.layout → HaveRun script ended.known now → AreFinished now rows → IsEnd ended.layout ended.known ended.words ended.slots → IsThreadPlayed script ended rows
+unfolding done
 closed-run script ended now rows valid layout_is have finished end =
     let there : IsEnd script.layout ended.known ended.words ended.slots = subst (λ (l : Layout). IsEnd l ended.known ended.words ended.slots) layout_is end in
-    record { layout_is = layout_is; views = there.views; done = done script ended.known now rows valid have finished ended.words ended.slots there }
+    record {
+      layout_is = layout_is;
+      views = there.views;
+      done = done script ended.known now rows valid have finished ended.words ended.slots there;
+      all = has-all script ended.known now rows valid have finished;
+      views_are = there.mines;
+      moves_are = there.own;
+    }
 
 -- ---- the report
 

@@ -2,41 +2,41 @@
 use Rattle.std.proofs.Common.{◌≡◌, ℕ, ◌<◌, List, [], ◌∷◌, ◌++◌, Some, None, length, map, set, slice_get, refl, sym, ap, ◌∙◌, subst, arith}
 use Rattle.std.proofs.lemmas.List.{length-map}
 use Rattle.std.proofs.lemmas.Option.{get_or_from_slice_get, same_Some, slice_get-get_or, slice_get_within}
-use Rattle.hwp_geom.specs.declared.Frame.{Frame}
-use Rattle.hwp_geom.specs.declared.Layout.{Layout}
-use Rattle.hwp_table_words.specs.hwp_core_rule.declared.Rec.{Rec}
-use Rattle.hwp_table_words.specs.hwp_core_rule.declared.State.{State}
-use Rattle.hwp_table_words.specs.hwp_core_rule.declared.View.{View}
-use Rattle.hwp_table_words.specs.hwp_core_rule.Lists.{EachMember}
-use Rattle.hwp_table_words.specs.hwp_core_rule.Moves.{Run}
-use Rattle.hwp_table_words.specs.hwp_core_rule.Opening.{below, opening, opening_view}
-use Rattle.hwp_table_words.specs.hwp_core_rule.Rule.{Holds}
-use Rattle.hwp_table_words.specs.hwp_core_rule.Views.{view_after}
-use Rattle.hwp_table_words.proofs.of_hwp_core_rule.Lists.{at_map, map-was}
-use Rattle.hwp_table_words.proofs.of_hwp_core_rule.MoveKeeps.{holds-moved}
-use Rattle.hwp_table_words.proofs.of_hwp_core_rule.BoardOpens.{opening-holds}
-use Rattle.hwp_table_words.proofs.of_hwp_core_rule.WordsOpen.{below-at, length-below}
-use Rattle.hwp_table_words.proofs.of_hwp_core_rule.StepKeeps.{keeps}
-use Rattle.hwp_table_words.specs.hwp_core_task.Boards.{AreSeated, Played, view_of}
-use Rattle.hwp_table_words.specs.hwp_core_task.Ranks.{Pending, words_at}
+use Rattle.hwp_threads.specs.hwp_geom.declared.Frame.{Frame}
+use Rattle.hwp_threads.specs.hwp_geom.declared.Layout.{Layout}
+use Rattle.hwp_threads.specs.hwp_core_rule.declared.Rec.{Rec}
+use Rattle.hwp_threads.specs.hwp_core_rule.declared.State.{State}
+use Rattle.hwp_threads.specs.hwp_core_rule.declared.View.{View}
+use Rattle.hwp_threads.specs.hwp_core_rule.Lists.{EachMember}
+use Rattle.hwp_threads.specs.hwp_core_rule.Moves.{Run}
+use Rattle.hwp_threads.specs.hwp_core_rule.Opening.{below, opening, opening_view}
+use Rattle.hwp_threads.specs.hwp_core_rule.Rule.{Holds}
+use Rattle.hwp_threads.specs.hwp_core_rule.Views.{view_after}
+use Rattle.hwp_threads.proofs.of_hwp_core_rule.Lists.{at_map, map-was}
+use Rattle.hwp_threads.proofs.of_hwp_core_rule.MoveKeeps.{holds-moved}
+use Rattle.hwp_threads.proofs.of_hwp_core_rule.BoardOpens.{opening-holds}
+use Rattle.hwp_threads.proofs.of_hwp_core_rule.WordsOpen.{below-at, length-below}
+use Rattle.hwp_threads.proofs.of_hwp_core_rule.StepKeeps.{keeps}
+use Rattle.hwp_threads.specs.hwp_core_task.Boards.{AreSeated, Played, view_of}
+use Rattle.hwp_threads.specs.hwp_core_task.Ranks.{Pending, words_at}
 use Rattle.hwp_threads.specs.hwp_threads_order.Own.{IsTurn, Standing, Turned}
 use Rattle.hwp_threads.specs.hwp_threads_order.Parts.{AreParts, IsClaim, Own, Stands, froms, tos}
 use Rattle.hwp_threads.proofs.of_hwp_threads_order.FailureClaims.{back, stands-on, stands-settled}
 use Rattle.hwp_threads.proofs.of_hwp_threads_order.OwnKeeps.{own-keeps}
 use Rattle.hwp_top_turns.proofs.of_hwp_plain.TrailViews.{AreViews, view-there, views-more, views-open}
-use Rattle.hwp_script_read.specs.declared.Script.{Script}
-use Rattle.hwp_script_read.specs.Valid.{IsValid}
-use Rattle.hwp_cpu.specs.hwp_plain_order.Order.{logged}
-use Rattle.hwp_cpu.specs.hwp_plain_order.Ready.{Claimed}
-use Rattle.hwp_cpu.specs.hwp_law_run.Turns.{Leads}
-use Rattle.hwp_cpu.proofs.of_hwp_law_run.Homes.{there-is}
-use Rattle.hwp_cpu.proofs.of_hwp_law_run.TurnLeads.{leads-hold, leads-on}
-use Rattle.hwp_cpu.specs.hwp_cpu_row.declared.Row.{Row}
-use Rattle.hwp_cpu.specs.declared.Processor.{Processor}
-use Rattle.hwp_cpu.specs.Processors.{plan, plan_of}
-use Rattle.hwp_cpu.specs.Serving.{Fits}
-use Rattle.hwp_cpu.proofs.ProcessorCosts.{ranked}
-use Rattle.hwp_cpu.proofs.ProcessorTells.{tells}
+use Rattle.hwp_top_turns.specs.hwp_script_read.declared.Script.{Script}
+use Rattle.hwp_top_turns.specs.hwp_script_read.Valid.{IsValid}
+use Rattle.hwp_top_turns.specs.hwp_plain_order.Order.{logged}
+use Rattle.hwp_top_turns.specs.hwp_plain_order.Ready.{Claimed}
+use Rattle.hwp_top_turns.specs.hwp_law_run.Turns.{Leads}
+use Rattle.hwp_top_turns.proofs.of_hwp_law_run.Homes.{there-is}
+use Rattle.hwp_top_turns.proofs.of_hwp_law_run.TurnLeads.{leads-hold, leads-on}
+use Rattle.hwp_top_turns.specs.hwp_cpu_row.declared.Row.{Row}
+use Rattle.hwp_top_turns.specs.hwp_cpu.declared.Processor.{Processor}
+use Rattle.hwp_top_turns.specs.hwp_cpu.Processors.{plan, plan_of}
+use Rattle.hwp_top_turns.specs.hwp_cpu.Serving.{Fits}
+use Rattle.hwp_top_turns.proofs.of_hwp_cpu.ProcessorCosts.{ranked}
+use Rattle.hwp_top_turns.proofs.of_hwp_cpu.ProcessorTells.{tells}
 use Rattle.hwp_top_turns.specs.Runs.{HasEnded, own_seat, processors}
 use Rattle.hwp_top_turns.proofs.Crews.{begin-crew, finished-length}
 use Rattle.hwp_top_threads.specs.Runs.{AreDone, moves_in, tasks_then}

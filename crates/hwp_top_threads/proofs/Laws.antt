@@ -1,13 +1,13 @@
 -- The laws of memory failure, of a run on threads.
-use Rattle.hwp_table_words.specs.hwp_core_rule.declared.State.{State}
-use Rattle.hwp_script_read.specs.declared.Script.{Script}
-use Rattle.hwp_cpu.specs.hwp_report_text.declared.Report.{Report}
-use Rattle.hwp_cpu.specs.hwp_law.Law.{IsLawful}
-use Rattle.hwp_cpu.specs.hwp_law_holds.Loads.{AreGoodLoads}
-use Rattle.hwp_cpu.specs.hwp_law_holds.Retired.{AreHandledRetired, IsBoardOf}
-use Rattle.hwp_cpu.proofs.of_hwp_law_holds.Retired.{handled-out-of-use}
-use Rattle.hwp_cpu.proofs.of_hwp_law_holds.loads.GoodLoads.{no-bad-bytes}
-use Rattle.hwp_table_words.specs.Ends.{EndValue}
+use Rattle.hwp_threads.specs.hwp_core_rule.declared.State.{State}
+use Rattle.hwp_top_turns.specs.hwp_script_read.declared.Script.{Script}
+use Rattle.hwp_top_turns.specs.hwp_report_text.declared.Report.{Report}
+use Rattle.hwp_top_turns.specs.hwp_law.Law.{IsLawful}
+use Rattle.hwp_top_turns.specs.hwp_law_holds.Loads.{AreGoodLoads}
+use Rattle.hwp_top_turns.specs.hwp_law_holds.Retired.{AreHandledRetired, IsBoardOf}
+use Rattle.hwp_top_turns.proofs.of_hwp_law_holds.Retired.{handled-out-of-use}
+use Rattle.hwp_top_turns.proofs.of_hwp_law_holds.loads.GoodLoads.{no-bad-bytes}
+use Rattle.hwp_threads_seats.specs.hwp_table_words.Ends.{EndValue}
 use Rattle.hwp_top_threads.specs.Runs.{IsThreadRun, last_of}
 
 -- On every board of the run, before, between and after its steps, a handled frame is out of use.

@@ -6,33 +6,33 @@ use Rattle.std.proofs.lemmas.Option.{get_or_from_slice_get, none-some, same_Some
 use Rattle.atomic_table.specs.Seated.{TableId}
 use Rattle.crossbeam_utils.specs.declared.CachePadded.{CachePadded}
 use Rattle.crossbeam_utils.specs.Padded.{padded_value}
-use Rattle.hwp_geom.specs.declared.Layout.{Layout}
-use Rattle.hwp_table_words.specs.hwp_core_rule.declared.Rec.{Rec}
-use Rattle.hwp_table_words.specs.hwp_core_rule.declared.View.{View}
-use Rattle.hwp_table_words.specs.hwp_core_rule.Opening.{below, opening, opening_view}
-use Rattle.hwp_table_words.specs.hwp_core_rule.parts.Holdings.{HoldsNothing}
-use Rattle.hwp_table_words.proofs.of_hwp_core_rule.Lists.{at_map, from_bool-same, map-was, term-le}
-use Rattle.hwp_table_words.proofs.of_hwp_core_rule.WordsOpen.{below-at}
+use Rattle.hwp_threads.specs.hwp_geom.declared.Layout.{Layout}
+use Rattle.hwp_threads.specs.hwp_core_rule.declared.Rec.{Rec}
+use Rattle.hwp_threads.specs.hwp_core_rule.declared.View.{View}
+use Rattle.hwp_threads.specs.hwp_core_rule.Opening.{below, opening, opening_view}
+use Rattle.hwp_threads.specs.hwp_core_rule.parts.Holdings.{HoldsNothing}
+use Rattle.hwp_threads.proofs.of_hwp_core_rule.Lists.{at_map, from_bool-same, map-was, term-le}
+use Rattle.hwp_threads.proofs.of_hwp_core_rule.WordsOpen.{below-at}
 use Rattle.std.specs.Int.{from_bool}
-use Rattle.hwp_table_words.specs.hwp_core_task.Boards.{view_of}
+use Rattle.hwp_threads.specs.hwp_core_task.Boards.{view_of}
 use Rattle.hwp_threads.specs.hwp_threads_order.Own.{IsOwnRun, Standing, made_of}
 use Rattle.hwp_threads.specs.hwp_threads_order.Parts.{Own}
 use Rattle.hwp_threads.specs.declared.Worker.{Worker}
 use Rattle.hwp_threads.specs.Workers.{AllRan, CanRun, RanToEnd, recs_of, standing}
-use Rattle.hwp_table_words.specs.Known.{Known, moves_by}
-use Rattle.hwp_table_words.specs.Seats.{HasRight, Moves, SeatValue, cpu, cpu_of, mine}
-use Rattle.hwp_table_words.specs.Stands.{Me}
+use Rattle.hwp_threads_seats.specs.hwp_table_words.Known.{Known, moves_by}
+use Rattle.hwp_threads_seats.specs.hwp_table_words.Seats.{HasRight, Moves, SeatValue, cpu, cpu_of, mine}
+use Rattle.hwp_threads_seats.specs.hwp_table_words.Stands.{Me}
 use Rattle.hwp_threads_seats.specs.Dealing.{HasMoved, IsUnused, seat_at, workers_at}
 use Rattle.hwp_threads_seats.specs.Gathering.{AreBare, AreGathered, mine_in, own_in}
 use Rattle.hwp_threads_seats.proofs.SeatMoves.{bare-when-over, dealt-moved, have-moved}
-use Rattle.hwp_script_read.specs.declared.Script.{Script}
-use Rattle.hwp_script_read.specs.Valid.{IsValid}
-use Rattle.hwp_cpu.specs.hwp_plain_order.Order.{cpu_of as number_of}
-use Rattle.hwp_cpu.proofs.of_hwp_law_run.Homes.{there-is}
-use Rattle.hwp_cpu.specs.declared.Processor.{Processor}
-use Rattle.hwp_cpu.specs.Serving.{Fits}
-use Rattle.hwp_cpu.proofs.Ends.{opening-fits}
-use Rattle.hwp_cpu.proofs.ProcessorTells.{tells}
+use Rattle.hwp_top_turns.specs.hwp_script_read.declared.Script.{Script}
+use Rattle.hwp_top_turns.specs.hwp_script_read.Valid.{IsValid}
+use Rattle.hwp_top_turns.specs.hwp_plain_order.Order.{cpu_of as number_of}
+use Rattle.hwp_top_turns.proofs.of_hwp_law_run.Homes.{there-is}
+use Rattle.hwp_top_turns.specs.hwp_cpu.declared.Processor.{Processor}
+use Rattle.hwp_top_turns.specs.hwp_cpu.Serving.{Fits}
+use Rattle.hwp_top_turns.proofs.of_hwp_cpu.Ends.{opening-fits}
+use Rattle.hwp_top_turns.proofs.of_hwp_cpu.ProcessorTells.{tells}
 use Rattle.hwp_top_turns.specs.Runs.{AreAtBeginning, processors}
 use Rattle.hwp_top_threads.specs.Runs.{HasRun, HaveRun, tasks_then}
 use Rattle.hwp_top_threads.proofs.ListChoice.{AreOwn, Chosen, at-past, at-split, choose, moves_of, own-of-all}

@@ -1,31 +1,31 @@
 -- What a run on threads is.
 use Rattle.std.specs.Prelude.{◌≡◌, ◌⊎◌, ℕ, false, List, [], Some, length, map, slice_get}
-use Rattle.hwp_geom.specs.declared.Frame.{Frame}
-use Rattle.hwp_table_words.specs.hwp_core_rule.declared.Rec.{Rec}
-use Rattle.hwp_table_words.specs.hwp_core_rule.declared.State.{State}
-use Rattle.hwp_table_words.specs.hwp_core_rule.declared.View.{View}
-use Rattle.hwp_table_words.specs.hwp_core_rule.Lists.{EachMember, SomeMember}
-use Rattle.hwp_table_words.specs.hwp_core_rule.Moves.{Run}
-use Rattle.hwp_table_words.specs.hwp_core_rule.Opening.{opening, opening_view}
-use Rattle.hwp_table_words.specs.hwp_core_rule.Rule.{Holds}
-use Rattle.hwp_table_words.specs.hwp_core_rule.parts.Holdings.{HoldsNothing}
-use Rattle.hwp_table_words.specs.hwp_core_task.Boards.{Played}
-use Rattle.hwp_table_words.specs.hwp_core_task.Ranks.{Pending, is_refused, words_at}
+use Rattle.hwp_threads.specs.hwp_geom.declared.Frame.{Frame}
+use Rattle.hwp_threads.specs.hwp_core_rule.declared.Rec.{Rec}
+use Rattle.hwp_threads.specs.hwp_core_rule.declared.State.{State}
+use Rattle.hwp_threads.specs.hwp_core_rule.declared.View.{View}
+use Rattle.hwp_threads.specs.hwp_core_rule.Lists.{EachMember, SomeMember}
+use Rattle.hwp_threads.specs.hwp_core_rule.Moves.{Run}
+use Rattle.hwp_threads.specs.hwp_core_rule.Opening.{opening, opening_view}
+use Rattle.hwp_threads.specs.hwp_core_rule.Rule.{Holds}
+use Rattle.hwp_threads.specs.hwp_core_rule.parts.Holdings.{HoldsNothing}
+use Rattle.hwp_threads.specs.hwp_core_task.Boards.{Played}
+use Rattle.hwp_threads.specs.hwp_core_task.Ranks.{Pending, is_refused, words_at}
 use Rattle.hwp_threads.specs.hwp_threads_order.Own.{IsOwnRun, Turned, made_of}
 use Rattle.hwp_threads.specs.hwp_threads_order.Parts.{AreParts, Own}
-use Rattle.hwp_script_read.specs.declared.Script.{Script}
-use Rattle.hwp_cpu.specs.hwp_plain_order.Order.{logged}
-use Rattle.hwp_cpu.specs.hwp_report_text.declared.Report.{Report}
-use Rattle.hwp_cpu.specs.hwp_law_run.Ends.{EndsWith}
-use Rattle.hwp_cpu.specs.hwp_law_run.Scrubs.{ScrubsShown}
-use Rattle.hwp_cpu.specs.hwp_law_run.Shown.{IsShown}
-use Rattle.hwp_cpu.specs.hwp_law_run.Turns.{Leads}
-use Rattle.hwp_cpu.specs.hwp_cpu_row.declared.Row.{Row}
-use Rattle.hwp_cpu.specs.hwp_law_holds.Runs.{AreServed}
-use Rattle.hwp_cpu.specs.declared.Processor.{Processor}
-use Rattle.hwp_cpu.specs.Serving.{Fits}
-use Rattle.hwp_table_words.specs.Ends.{EndValue, board_of}
-use Rattle.hwp_table_words.specs.Known.{Known, moves_by}
+use Rattle.hwp_top_turns.specs.hwp_script_read.declared.Script.{Script}
+use Rattle.hwp_top_turns.specs.hwp_plain_order.Order.{logged}
+use Rattle.hwp_top_turns.specs.hwp_report_text.declared.Report.{Report}
+use Rattle.hwp_top_turns.specs.hwp_law_run.Ends.{EndsWith}
+use Rattle.hwp_top_turns.specs.hwp_law_run.Scrubs.{ScrubsShown}
+use Rattle.hwp_top_turns.specs.hwp_law_run.Shown.{IsShown}
+use Rattle.hwp_top_turns.specs.hwp_law_run.Turns.{Leads}
+use Rattle.hwp_top_turns.specs.hwp_cpu_row.declared.Row.{Row}
+use Rattle.hwp_top_turns.specs.hwp_law_holds.Runs.{AreServed}
+use Rattle.hwp_top_turns.specs.hwp_cpu.declared.Processor.{Processor}
+use Rattle.hwp_top_turns.specs.hwp_cpu.Serving.{Fits}
+use Rattle.hwp_threads_seats.specs.hwp_table_words.Ends.{EndValue, HasAll, board_of}
+use Rattle.hwp_threads_seats.specs.hwp_table_words.Known.{Known, moves_by}
 use Rattle.hwp_top_turns.specs.Runs.{AreAtBeginning, AreFinished, own_seat, processors}
 
 -- a processor's run began at the opening, with the task of the processor, and the task that it led to fits
@@ -67,11 +67,15 @@ pub record HaveRun (script : Script) (v : Known) (now : List Processor) : Type 0
   pub now_are : now ≡ tasks_then owns
   pub others : EachMember (λ (x : ℕ × View). HoldsNothing x.1 ⊎ ((o : Own Processor) × (slice_get owns x.0 ≡ Some o) × (x.1 ≡ o.to.view))) v.mines
 
--- the table was closed with what they led to
+-- the table was closed with what they led to, by a seat that had the view of each processor: the views and the parts of the moves are
+-- those that it knew
 pub record IsThreadPlayed (script : Script) (ended : EndValue) (rows : List (List Row)) : Type 0 where
   pub layout_is : ended.layout ≡ script.layout
   pub views : List View
   pub done : AreDone script (board_of ended.words ended.slots views) rows
+  pub all : HasAll script.layout ended.known
+  pub views_are : EachMember (λ (x : ℕ × View). slice_get views x.0 ≡ Some x.1) ended.known.mines
+  pub moves_are : EachMember (λ (x : ℕ × View). moves_by x.0 ended.known.own ≡ moves_by x.0 done.moves) ended.known.mines
 
 -- the moves of turns that are given in their order, the newest first
 abbrev pub moves_in : List Played → List (ℕ × Rec)

@@ -1,18 +1,17 @@
 ghost use Rattle.std.specs.Prelude.{◌≡◌, [], IfOk};
-ghost use Rattle.hwp_cpu.specs.hwp_law.Law.{IsLawful};
-ghost use Rattle.hwp_cpu.specs.hwp_law.Runs.{IsOfRun};
-ghost use Rattle.hwp_script_read.specs.Valid.{IsValid};
-ghost use Rattle.hwp_table_words.specs.Known.{first_known};
-ghost use Rattle.hwp_table_words.specs.Seats.{IsTableOf};
+ghost use Rattle.hwp_top_turns.specs.hwp_law.Law.{IsLawful};
+ghost use Rattle.hwp_top_turns.specs.hwp_law.Runs.{IsOfRun};
+ghost use Rattle.hwp_top_turns.specs.hwp_script_read.Valid.{IsValid};
+ghost use Rattle.hwp_threads_seats.specs.hwp_table_words.Known.{first_known};
+ghost use Rattle.hwp_threads_seats.specs.hwp_table_words.Seats.{IsTableOf};
 ghost use Rattle.hwp_top_threads.specs.Runs.{HaveRun, IsThreadPlayed, IsThreadRun};
 
-use hwp_cpu::Processor;
-use hwp_geom::OutOfMemory;
-use hwp_script_read::Script;
-use hwp_table_words::{Ended, Pass, Sheet, Slot, begin, close};
 use hwp_threads::{Gate, run_all};
 use hwp_threads_seats::{deal, gather};
-use hwp_top_turns::{Finished, Rows, crew_of, finish_run, rows_of};
+use hwp_top_turns::{
+    Ended, Finished, OutOfMemory, Pass, Processor, Rows, Script, Sheet, Slot, begin, close,
+    crew_of, finish_run, rows_of,
+};
 use std::alloc::{AllocError, Global};
 use std::sync::{Arc, Wait};
 use std::thread::Threads;

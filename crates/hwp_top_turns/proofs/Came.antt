@@ -1,18 +1,18 @@
 -- What the board of a run came to, as the report reads it.
 use Rattle.std.proofs.Common.{◌≡◌, ℕ, List, length, map, refl, sym, ◌∙◌, subst}
-use Rattle.hwp_geom.specs.declared.Layout.{Layout}
-use Rattle.hwp_page.specs.declared.Entry.{Entry}
-use Rattle.hwp_core_rule.specs.declared.State.{State}
-use Rattle.hwp_core_rule.specs.Lists.{EachMember, Homes}
-use Rattle.hwp_core_rule.specs.parts.Holdings.{HoldsNothing}
-use Rattle.hwp_core_task.specs.Boards.{Played}
-use Rattle.hwp_plain_words.specs.Openings.{home_with}
-use Rattle.hwp_plain_words.specs.Ends.{AreHistories}
-use Rattle.hwp_script_read.specs.declared.Command.{Command}
-use Rattle.hwp_script_read.specs.declared.Script.{Script}
-use Rattle.hwp_script_read.specs.Valid.{IsValid}
-use Rattle.hwp_report_text.specs.declared.Report.{Report}
-use Rattle.hwp_cpu_row.specs.declared.Row.{Row}
+use Rattle.hwp_table_words.specs.hwp_geom.declared.Layout.{Layout}
+use Rattle.hwp_table_words.specs.hwp_page.declared.Entry.{Entry}
+use Rattle.hwp_table_words.specs.hwp_core_rule.declared.State.{State}
+use Rattle.hwp_table_words.specs.hwp_core_rule.Lists.{EachMember, Homes}
+use Rattle.hwp_table_words.specs.hwp_core_rule.parts.Holdings.{HoldsNothing}
+use Rattle.hwp_table_words.specs.hwp_core_task.Boards.{Played}
+use Rattle.hwp_table_words.specs.hwp_plain_words.Openings.{home_with}
+use Rattle.hwp_table_words.specs.hwp_plain_words.Ends.{AreHistories}
+use Rattle.hwp_plain.specs.hwp_script_read.declared.Command.{Command}
+use Rattle.hwp_plain.specs.hwp_script_read.declared.Script.{Script}
+use Rattle.hwp_plain.specs.hwp_script_read.Valid.{IsValid}
+use Rattle.hwp_top_report.specs.hwp_report_text.declared.Report.{Report}
+use Rattle.hwp_top_report.specs.hwp_cpu_row.declared.Row.{Row}
 use Rattle.hwp_table_words.specs.Ends.{EndValue}
 use Rattle.hwp_top_report.specs.Closing.{IsClosing, IsOutcome}
 use Rattle.hwp_top_turns.specs.Runs.{HasEnded, HasEndedAt}

@@ -5,39 +5,40 @@ use Rattle.std.specs.Prelude.{IfSome}
 use Rattle.std.proofs.lemmas.Bool.{leb-false}
 use Rattle.std.proofs.lemmas.List.Sums.{get_or-le-sum_by}
 use Rattle.std.proofs.lemmas.Option.{get_or_from_slice_get, same_Some, slice_get_within}
-use Rattle.hwp_geom.specs.declared.Cpu.{Cpu}
-use Rattle.hwp_geom.specs.declared.Layout.{Layout}
-use Rattle.hwp_geom.specs.declared.Thread.{Thread}
-use Rattle.hwp_geom.specs.declared.Who.{Who}
-use Rattle.hwp_geom.specs.Pairs.{Pairs}
-use Rattle.hwp_geom.specs.Limits.{command_limit, cpu_limit}
-use Rattle.hwp_report_text.specs.hwp_severity.declared.Severity.{Severity}
-use Rattle.hwp_report_text.specs.hwp_severity.declared.Severity.TheVariants as severities
-use Rattle.hwp_core_rule.specs.declared.State.{State}
-use Rattle.hwp_core_rule.specs.declared.View.{View}
-use Rattle.hwp_core_rule.specs.Rule.{Holds}
-use Rattle.hwp_core_task.specs.Boards.{AreSeated, view_of}
-use Rattle.hwp_script_read.specs.declared.Command.{Command}
-use Rattle.hwp_script_read.specs.declared.Script.{Script}
-use Rattle.hwp_script_read.specs.Valid.{IsValid}
-use Rattle.hwp_report_text.specs.declared.Acted.{Acted}
-use Rattle.hwp_report_text.specs.declared.Acted.TheVariants as acts
-use Rattle.hwp_cpu_row.specs.hwp_law.Checks.{empty_banks, is_panic}
-use Rattle.hwp_cpu.proofs.of_hwp_law_run.Homes.{there-is}
-use Rattle.hwp_cpu_row.specs.hwp_cpu_check.declared.Found.{Found}
-use Rattle.hwp_cpu_row.specs.declared.Row.{Row}
-use Rattle.hwp_cpu_row.specs.hwp_cpu_check.declared.EventOutcome.{EventOutcome}
-use Rattle.hwp_cpu_row.specs.hwp_cpu_check.Fits.{IsDone, IsTold}
-use Rattle.hwp_cpu_row.specs.hwp_cpu_check.Told.{at_once, failure_at_once, frame_of, required_by, severity_at_once}
-use Rattle.hwp_cpu.specs.hwp_law_holds.Accounts.{IsNote}
-use Rattle.hwp_cpu.specs.hwp_law_holds.Rows.{Note, notes_from}
-use Rattle.hwp_cpu.specs.hwp_law_holds.Runs.{AreServed, notes_of}
-use Rattle.hwp_cpu.specs.hwp_law_holds.Served.{IsOwnStop, IsServed}
-use Rattle.hwp_cpu.proofs.of_hwp_law_holds.RunEnds.{nothing-held, row-at, seat-view}
-use Rattle.hwp_cpu.proofs.of_hwp_law_holds.lines.ScrubBank.{empty-free}
-use Rattle.hwp_cpu.proofs.of_hwp_law_holds.lines.FrameRecords.{AreNoted}
-use Rattle.hwp_cpu.proofs.of_hwp_law_holds.RowTold.{told-so}
-use Rattle.hwp_cpu.proofs.of_hwp_law_holds.marks.RowNotes.{notes-at, notes-fit}
+use Rattle.hwp_table_words.specs.hwp_geom.declared.Cpu.{Cpu}
+use Rattle.hwp_table_words.specs.hwp_geom.declared.Layout.{Layout}
+use Rattle.hwp_table_words.specs.hwp_geom.declared.Thread.{Thread}
+use Rattle.hwp_table_words.specs.hwp_geom.declared.Who.{Who}
+use Rattle.hwp_table_words.specs.hwp_geom.Pairs.{Pairs}
+use Rattle.hwp_table_words.specs.hwp_geom.Limits.{command_limit, cpu_limit}
+use Rattle.hwp_top_report.specs.hwp_severity.declared.Severity.{Severity}
+use Rattle.hwp_top_report.specs.hwp_severity.declared.Severity.TheVariants as severities
+use Rattle.hwp_table_words.specs.hwp_core_rule.declared.State.{State}
+use Rattle.hwp_table_words.specs.hwp_core_rule.declared.View.{View}
+use Rattle.hwp_table_words.specs.hwp_core_rule.Rule.{Holds}
+use Rattle.hwp_table_words.specs.hwp_core_task.Boards.{AreSeated, view_of}
+use Rattle.hwp_plain.specs.hwp_script_read.declared.Command.{Command}
+use Rattle.hwp_plain.specs.hwp_script_read.declared.Script.{Script}
+use Rattle.hwp_plain.specs.hwp_script_read.Valid.{IsValid}
+use Rattle.hwp_top_report.specs.hwp_report_text.declared.Acted.{Acted}
+use Rattle.hwp_top_report.specs.hwp_report_text.declared.Acted.TheVariants as acts
+use Rattle.hwp_top_report.specs.hwp_report_text.Acts.{is_panic}
+use Rattle.hwp_top_report.specs.hwp_banks.Banks.{empty_banks}
+use Rattle.hwp_top_report.proofs.of_hwp_law_run.Homes.{there-is}
+use Rattle.hwp_top_report.specs.hwp_claim.declared.Found.{Found}
+use Rattle.hwp_top_report.specs.hwp_cpu_row.declared.Row.{Row}
+use Rattle.hwp_top_report.specs.hwp_cpu_check.declared.EventOutcome.{EventOutcome}
+use Rattle.hwp_top_report.specs.hwp_cpu_check.Fits.{IsDone, IsTold}
+use Rattle.hwp_top_report.specs.hwp_cpu_check.Told.{at_once, failure_at_once, frame_of, required_by, severity_at_once}
+use Rattle.hwp_top_report.specs.hwp_law_holds.Accounts.{IsNote}
+use Rattle.hwp_top_report.specs.hwp_law_holds.Rows.{Note, notes_from}
+use Rattle.hwp_top_report.specs.hwp_law_holds.Runs.{AreServed, notes_of}
+use Rattle.hwp_top_report.specs.hwp_law_holds.Served.{IsOwnStop, IsServed}
+use Rattle.hwp_top_report.proofs.of_hwp_law_holds.RunEnds.{nothing-held, row-at, seat-view}
+use Rattle.hwp_top_report.proofs.of_hwp_law_holds.lines.ScrubBank.{empty-free}
+use Rattle.hwp_top_report.proofs.of_hwp_law_holds.lines.FrameRecords.{AreNoted}
+use Rattle.hwp_top_report.proofs.of_hwp_law_holds.RowTold.{told-so}
+use Rattle.hwp_top_report.proofs.of_hwp_law_holds.marks.RowNotes.{notes-at, notes-fit}
 use Rattle.hwp_top_report.specs.Closing.{IsEnded, IsHalter, IsNamed, IsTellable, lines_of_all}
 use Rattle.hwp_top_report.proofs.Noted.{are-marks}
 

@@ -4,28 +4,28 @@ use Rattle.std.proofs.lemmas.Bool.{cases_lt}
 use Rattle.std.proofs.lemmas.List.{length-append}
 use Rattle.std.proofs.lemmas.List.Sums.{get_or-le-sum_by}
 use Rattle.std.proofs.lemmas.Option.{get_or_from_slice_get, same_Some, slice_get-get_or, slice_get_within}
-use Rattle.hwp_geom.specs.declared.Cpu.{Cpu}
-use Rattle.hwp_geom.specs.declared.Layout.{Layout}
-use Rattle.hwp_core_rule.specs.declared.State.{State}
-use Rattle.hwp_core_rule.specs.Opening.{opening}
-use Rattle.hwp_core_rule.specs.Rule.{Holds}
-use Rattle.hwp_core_task.specs.declared.Turn.{Turn}
-use Rattle.hwp_core_task.specs.Boards.{AreSeated, Played, view_of}
-use Rattle.hwp_core_task.specs.Ranks.{Made}
-use Rattle.hwp_script_read.specs.declared.Command.{Command}
-use Rattle.hwp_script_read.specs.declared.Script.{Script}
-use Rattle.hwp_script_read.specs.Valid.{AreLists, IsCommandOf, IsValid}
-use Rattle.hwp_plain_order.specs.Order.{InOrder, IsAt, Running, cpu_of, running}
-use Rattle.hwp_plain_order.specs.Ready.{IsCrew}
-use Rattle.hwp_plain_order.proofs.CrewOpens.{opening-crew}
-use Rattle.hwp_cpu.proofs.of_hwp_law_run.Homes.{there-is}
-use Rattle.hwp_cpu.proofs.of_hwp_law_run.RunKeeps.{kept-ordered}
-use Rattle.hwp_cpu_row.specs.declared.Row.{Row}
-use Rattle.hwp_cpu.specs.hwp_law_holds.Runs.{AreServed}
-use Rattle.hwp_cpu.specs.declared.Processor.{Processor}
-use Rattle.hwp_cpu.specs.Processors.{AreCommands, AtBeginning}
-use Rattle.hwp_cpu.specs.Serving.{Fits}
-use Rattle.hwp_cpu.proofs.Ends.{opening-fits, opening-own}
+use Rattle.hwp_table_words.specs.hwp_geom.declared.Cpu.{Cpu}
+use Rattle.hwp_table_words.specs.hwp_geom.declared.Layout.{Layout}
+use Rattle.hwp_table_words.specs.hwp_core_rule.declared.State.{State}
+use Rattle.hwp_table_words.specs.hwp_core_rule.Opening.{opening}
+use Rattle.hwp_table_words.specs.hwp_core_rule.Rule.{Holds}
+use Rattle.hwp_table_words.specs.hwp_core_task.declared.Turn.{Turn}
+use Rattle.hwp_table_words.specs.hwp_core_task.Boards.{AreSeated, Played, view_of}
+use Rattle.hwp_table_words.specs.hwp_core_task.Ranks.{Made}
+use Rattle.hwp_plain.specs.hwp_script_read.declared.Command.{Command}
+use Rattle.hwp_plain.specs.hwp_script_read.declared.Script.{Script}
+use Rattle.hwp_plain.specs.hwp_script_read.Valid.{AreLists, IsCommandOf, IsValid}
+use Rattle.hwp_plain.specs.hwp_plain_order.Order.{InOrder, IsAt, Running, cpu_of, running}
+use Rattle.hwp_plain.specs.hwp_plain_order.Ready.{IsCrew}
+use Rattle.hwp_plain.proofs.of_hwp_plain_order.CrewOpens.{opening-crew}
+use Rattle.hwp_top_report.proofs.of_hwp_law_run.Homes.{there-is}
+use Rattle.hwp_top_report.proofs.of_hwp_law_run.RunKeeps.{kept-ordered}
+use Rattle.hwp_top_report.specs.hwp_cpu_row.declared.Row.{Row}
+use Rattle.hwp_top_report.specs.hwp_law_holds.Runs.{AreServed}
+use Rattle.hwp_top_report.specs.hwp_cpu.declared.Processor.{Processor}
+use Rattle.hwp_top_report.specs.hwp_cpu.Processors.{AreCommands, AtBeginning}
+use Rattle.hwp_top_report.specs.hwp_cpu.Serving.{Fits}
+use Rattle.hwp_top_report.proofs.of_hwp_cpu.Ends.{opening-fits, opening-own}
 use Rattle.hwp_top_report.specs.Closing.{lines_of_all}
 use Rattle.hwp_top_turns.proofs.ProcessorServes.{Keeps, begins-kept, next-kept, served-kept}
 use Rattle.hwp_top_turns.specs.Runs.{AreAtBeginning, AreFinished, own_seat, processors}

@@ -1,16 +1,16 @@
 -- The turns of a run lead to its last board, on which the run has ended.
 use Rattle.std.proofs.Common.{◌≡◌, List, sym, subst}
-use Rattle.hwp_core_rule.specs.declared.State.{State}
-use Rattle.hwp_core_rule.specs.Opening.{opening}
-use Rattle.hwp_core_rule.specs.Rule.{Holds}
-use Rattle.hwp_core_task.specs.Boards.{Played}
-use Rattle.hwp_script_read.specs.declared.Command.{Command}
-use Rattle.hwp_script_read.specs.declared.Script.{Script}
-use Rattle.hwp_cpu.proofs.of_hwp_law_run.TurnLeads.{leads-hold}
-use Rattle.hwp_script_read.specs.Valid.{IsValid}
-use Rattle.hwp_cpu_row.specs.declared.Row.{Row}
-use Rattle.hwp_cpu.specs.hwp_law_holds.Runs.{notes_of}
-use Rattle.hwp_cpu.proofs.of_hwp_law_holds.lines.FrameRecords.{AreNoted}
+use Rattle.hwp_table_words.specs.hwp_core_rule.declared.State.{State}
+use Rattle.hwp_table_words.specs.hwp_core_rule.Opening.{opening}
+use Rattle.hwp_table_words.specs.hwp_core_rule.Rule.{Holds}
+use Rattle.hwp_table_words.specs.hwp_core_task.Boards.{Played}
+use Rattle.hwp_plain.specs.hwp_script_read.declared.Command.{Command}
+use Rattle.hwp_plain.specs.hwp_script_read.declared.Script.{Script}
+use Rattle.hwp_top_report.proofs.of_hwp_law_run.TurnLeads.{leads-hold}
+use Rattle.hwp_plain.specs.hwp_script_read.Valid.{IsValid}
+use Rattle.hwp_top_report.specs.hwp_cpu_row.declared.Row.{Row}
+use Rattle.hwp_top_report.specs.hwp_law_holds.Runs.{notes_of}
+use Rattle.hwp_top_report.proofs.of_hwp_law_holds.lines.FrameRecords.{AreNoted}
 use Rattle.hwp_top_report.specs.Closing.{IsEnded}
 use Rattle.hwp_top_turns.specs.Runs.{HasEnded, own_seat}
 use Rattle.hwp_top_turns.proofs.Closable.{are-noted, ended-of}

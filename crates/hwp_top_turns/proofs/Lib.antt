@@ -6,6 +6,9 @@ pub mod Came
 pub mod Whole
 mod Tabled
 pub mod ProcessorServes
-pub use Rattle.hwp_cpu_row.proofs.of_hwp_law as of_hwp_law
+pub use Rattle.hwp_table_words.proofs.of_hwp_core_rule as of_hwp_core_rule
+pub use Rattle.hwp_top_report.proofs.of_hwp_cpu as of_hwp_cpu
+pub use Rattle.hwp_top_report.proofs.of_hwp_law_holds as of_hwp_law_holds
+pub use Rattle.hwp_top_report.proofs.of_hwp_law_run as of_hwp_law_run
 pub use Rattle.hwp_plain.proofs as of_hwp_plain
-pub use Rattle.hwp_top_report.proofs as of_hwp_top_report
+pub use Rattle.hwp_plain.proofs.of_hwp_script_read as of_hwp_script_read

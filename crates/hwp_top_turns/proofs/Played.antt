@@ -1,24 +1,24 @@
 -- The tasks of a script on a board at opening, and where their turns lead.
 use Rattle.std.proofs.Common.{◌≡◌, ℕ, ◌++◌, List, length, take, drop, refl, sym, ap, ◌∙◌, subst, arith}
 use Rattle.std.proofs.lemmas.List.{take_all, take-append-le}
-use Rattle.hwp_geom.specs.declared.Cpu.{Cpu}
-use Rattle.hwp_geom.specs.declared.Layout.{Layout}
-use Rattle.hwp_core_rule.specs.declared.State.{State}
-use Rattle.hwp_core_rule.specs.Opening.{opening}
-use Rattle.hwp_core_rule.specs.Rule.{Holds}
-use Rattle.hwp_core_task.specs.Boards.{AreSeated, Played}
-use Rattle.hwp_script_read.specs.declared.Go.{Go}
-use Rattle.hwp_script_read.specs.declared.Script.{Script}
-use Rattle.hwp_script_read.specs.Valid.{IsValid}
-use Rattle.hwp_plain_order.specs.Order.{AreOver, Grows, InOrder, Running, logged, running}
-use Rattle.hwp_plain_order.specs.Ready.{IsCrew}
-use Rattle.hwp_cpu.specs.hwp_law_run.Turns.{Leads}
-use Rattle.hwp_cpu.proofs.of_hwp_law_run.RunKeeps.{same-ordered}
-use Rattle.hwp_cpu.proofs.of_hwp_law_run.TurnLeads.{leads-hold, leads-ordered}
-use Rattle.hwp_cpu_row.specs.declared.Row.{Row}
-use Rattle.hwp_cpu.proofs.of_hwp_law_holds.Settled.{settled-when-over}
-use Rattle.hwp_cpu.specs.declared.Processor.{Processor}
-use Rattle.hwp_cpu.proofs.ProcessorTells.{tells}
+use Rattle.hwp_table_words.specs.hwp_geom.declared.Cpu.{Cpu}
+use Rattle.hwp_table_words.specs.hwp_geom.declared.Layout.{Layout}
+use Rattle.hwp_table_words.specs.hwp_core_rule.declared.State.{State}
+use Rattle.hwp_table_words.specs.hwp_core_rule.Opening.{opening}
+use Rattle.hwp_table_words.specs.hwp_core_rule.Rule.{Holds}
+use Rattle.hwp_table_words.specs.hwp_core_task.Boards.{AreSeated, Played}
+use Rattle.hwp_plain.specs.hwp_script_read.declared.Go.{Go}
+use Rattle.hwp_plain.specs.hwp_script_read.declared.Script.{Script}
+use Rattle.hwp_plain.specs.hwp_script_read.Valid.{IsValid}
+use Rattle.hwp_plain.specs.hwp_plain_order.Order.{AreOver, Grows, InOrder, Running, logged, running}
+use Rattle.hwp_plain.specs.hwp_plain_order.Ready.{IsCrew}
+use Rattle.hwp_top_report.specs.hwp_law_run.Turns.{Leads}
+use Rattle.hwp_top_report.proofs.of_hwp_law_run.RunKeeps.{same-ordered}
+use Rattle.hwp_top_report.proofs.of_hwp_law_run.TurnLeads.{leads-hold, leads-ordered}
+use Rattle.hwp_top_report.specs.hwp_cpu_row.declared.Row.{Row}
+use Rattle.hwp_top_report.proofs.of_hwp_law_holds.Settled.{settled-when-over}
+use Rattle.hwp_top_report.specs.hwp_cpu.declared.Processor.{Processor}
+use Rattle.hwp_top_report.proofs.of_hwp_cpu.ProcessorTells.{tells}
 use Rattle.hwp_top_turns.specs.Runs.{AreAtBeginning, AreFinished, IsOpened, IsPlayed, own_seat, processors}
 use Rattle.hwp_top_turns.proofs.Crews.{all-served, begin-crew, finished-length}
 

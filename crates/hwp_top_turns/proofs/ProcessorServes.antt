@@ -1,27 +1,27 @@
 -- Processors that are finished have served their commands, whatever led them there.
 use Rattle.std.proofs.Common.{◌≡◌, ℕ, zero, suc, ◌<◌, List, [], ◌∷◌, Option, Some, None, slice_get, refl, sym, ap, ◌∙◌, subst, arith}
 use Rattle.std.proofs.lemmas.Option.{none-some, same_Some, slice_get_within}
-use Rattle.hwp_geom.specs.declared.Cpu.{Cpu}
-use Rattle.hwp_geom.specs.declared.Layout.{Layout}
-use Rattle.hwp_page.specs.History.{BodyValue}
-use Rattle.hwp_core_rule.specs.declared.State.{State}
-use Rattle.hwp_core_rule.specs.Rule.{Holds}
-use Rattle.hwp_core_rule.proofs.Lists.{at_map}
-use Rattle.hwp_core_task.specs.declared.Turn.{Turn}
-use Rattle.hwp_core_task.specs.Boards.{AreSeated, view_of}
-use Rattle.hwp_script_read.specs.declared.Command.{Command}
-use Rattle.hwp_script_read.specs.declared.Script.{Script}
-use Rattle.hwp_script_read.specs.Valid.{IsValid}
-use Rattle.hwp_plain_order.specs.Order.{cpu_of}
-use Rattle.hwp_cpu.proofs.of_hwp_law_run.Homes.{there-is}
-use Rattle.hwp_cpu_row.specs.declared.Row.{Row}
-use Rattle.hwp_cpu.specs.hwp_law_holds.Rows.{lines_from}
-use Rattle.hwp_cpu.specs.hwp_law_holds.Runs.{AreServed}
-use Rattle.hwp_cpu.specs.hwp_law_holds.Served.{IsServed}
-use Rattle.hwp_cpu.specs.declared.Processor.{Processor}
-use Rattle.hwp_cpu.specs.Processors.{Next, bare}
-use Rattle.hwp_cpu.specs.Serving.{Fits}
-use Rattle.hwp_cpu.proofs.Ends.{next-keeps, served-of}
+use Rattle.hwp_table_words.specs.hwp_geom.declared.Cpu.{Cpu}
+use Rattle.hwp_table_words.specs.hwp_geom.declared.Layout.{Layout}
+use Rattle.hwp_table_words.specs.hwp_page.History.{BodyValue}
+use Rattle.hwp_table_words.specs.hwp_core_rule.declared.State.{State}
+use Rattle.hwp_table_words.specs.hwp_core_rule.Rule.{Holds}
+use Rattle.hwp_table_words.proofs.of_hwp_core_rule.Lists.{at_map}
+use Rattle.hwp_table_words.specs.hwp_core_task.declared.Turn.{Turn}
+use Rattle.hwp_table_words.specs.hwp_core_task.Boards.{AreSeated, view_of}
+use Rattle.hwp_plain.specs.hwp_script_read.declared.Command.{Command}
+use Rattle.hwp_plain.specs.hwp_script_read.declared.Script.{Script}
+use Rattle.hwp_plain.specs.hwp_script_read.Valid.{IsValid}
+use Rattle.hwp_plain.specs.hwp_plain_order.Order.{cpu_of}
+use Rattle.hwp_top_report.proofs.of_hwp_law_run.Homes.{there-is}
+use Rattle.hwp_top_report.specs.hwp_cpu_row.declared.Row.{Row}
+use Rattle.hwp_top_report.specs.hwp_law_holds.Rows.{lines_from}
+use Rattle.hwp_top_report.specs.hwp_law_holds.Runs.{AreServed}
+use Rattle.hwp_top_report.specs.hwp_law_holds.Served.{IsServed}
+use Rattle.hwp_top_report.specs.hwp_cpu.declared.Processor.{Processor}
+use Rattle.hwp_top_report.specs.hwp_cpu.Processors.{Next, bare}
+use Rattle.hwp_top_report.specs.hwp_cpu.Serving.{Fits}
+use Rattle.hwp_top_report.proofs.of_hwp_cpu.Ends.{next-keeps, served-of}
 use Rattle.hwp_top_report.specs.Closing.{lines_of_all}
 use Rattle.hwp_top_turns.specs.Runs.{AreAtBeginning, AreFinished, own_seat}
 

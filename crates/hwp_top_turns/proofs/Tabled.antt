@@ -1,11 +1,11 @@
 -- A table was closed with what the processors' turns led to.
 use Rattle.std.proofs.Common.{◌≡◌, ℕ, ◌+◌, ◌-◌, List, length, map, take, drop, subst}
-use Rattle.hwp_geom.specs.declared.Layout.{Layout}
-use Rattle.hwp_core_rule.specs.Rule.{Holds}
-use Rattle.hwp_core_rule.specs.Words.{caches_from}
-use Rattle.hwp_plain_words.specs.Openings.{home_with}
-use Rattle.hwp_plain_words.specs.Ends.{AreLed}
-use Rattle.hwp_plain_words.proofs.AllHome.{led-here}
+use Rattle.hwp_table_words.specs.hwp_geom.declared.Layout.{Layout}
+use Rattle.hwp_table_words.specs.hwp_core_rule.Rule.{Holds}
+use Rattle.hwp_table_words.specs.hwp_core_rule.Words.{caches_from}
+use Rattle.hwp_table_words.specs.hwp_plain_words.Openings.{home_with}
+use Rattle.hwp_table_words.specs.hwp_plain_words.Ends.{AreLed}
+use Rattle.hwp_table_words.proofs.of_hwp_plain_words.AllHome.{led-here}
 use Rattle.hwp_table_words.specs.Ends.{EndValue, IsEnd, board_of}
 use Rattle.hwp_table_words.specs.Stands.{Content}
 

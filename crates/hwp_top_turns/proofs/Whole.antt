@@ -1,26 +1,26 @@
 -- The report of a run is lawful, and the law of the run holds of it.
 use Rattle.std.proofs.Common.{◌≡◌, List, [], Some, length, sym, ap, ◌∙◌, subst}
 use Rattle.std.proofs.lemmas.List.{length-map}
-use Rattle.hwp_script_read.specs.declared.Script.{Script}
-use Rattle.hwp_script_read.specs.Valid.{IsValid}
-use Rattle.hwp_report_text.specs.declared.CpuLine.{CpuLine}
-use Rattle.hwp_report_text.specs.declared.Stop.{Stop}
-use Rattle.hwp_report_text.specs.declared.Report.{Report}
-use Rattle.hwp_cpu_row.specs.hwp_law.Law.{IsLawful}
-use Rattle.hwp_cpu_row.specs.hwp_law.Runs.{IsOfRun}
-use Rattle.hwp_core_rule.specs.declared.State.{State}
-use Rattle.hwp_core_rule.specs.Opening.{opening}
-use Rattle.hwp_core_task.specs.Boards.{Played}
-use Rattle.hwp_plain_order.specs.Order.{logged}
-use Rattle.hwp_cpu.specs.hwp_law_run.Ends.{EndsWith}
-use Rattle.hwp_cpu.specs.hwp_law_run.Turns.{Leads}
-use Rattle.hwp_cpu_row.specs.declared.Row.{Row}
-use Rattle.hwp_cpu.specs.hwp_law_holds.Rows.{lines_from}
-use Rattle.hwp_cpu.specs.hwp_law_holds.Runs.{AreServed, HasStopCause, IsRunOf, notes_of}
-use Rattle.hwp_cpu.proofs.of_hwp_law_holds.lines.FrameRecords.{gathered}
-use Rattle.hwp_cpu.proofs.of_hwp_law_holds.LastBoard.{report-of-run}
-use Rattle.hwp_cpu.proofs.of_hwp_law_holds.Lawful.{law-holds}
-use Rattle.hwp_cpu.proofs.of_hwp_law_holds.AnswerSights.{report-shown, scrubs-shown}
+use Rattle.hwp_plain.specs.hwp_script_read.declared.Script.{Script}
+use Rattle.hwp_plain.specs.hwp_script_read.Valid.{IsValid}
+use Rattle.hwp_top_report.specs.hwp_report_text.declared.CpuLine.{CpuLine}
+use Rattle.hwp_top_report.specs.hwp_report_text.declared.Stop.{Stop}
+use Rattle.hwp_top_report.specs.hwp_report_text.declared.Report.{Report}
+use Rattle.hwp_top_report.specs.hwp_law.Law.{IsLawful}
+use Rattle.hwp_top_report.specs.hwp_law.Runs.{IsOfRun}
+use Rattle.hwp_table_words.specs.hwp_core_rule.declared.State.{State}
+use Rattle.hwp_table_words.specs.hwp_core_rule.Opening.{opening}
+use Rattle.hwp_table_words.specs.hwp_core_task.Boards.{Played}
+use Rattle.hwp_plain.specs.hwp_plain_order.Order.{logged}
+use Rattle.hwp_top_report.specs.hwp_law_run.Ends.{EndsWith}
+use Rattle.hwp_top_report.specs.hwp_law_run.Turns.{Leads}
+use Rattle.hwp_top_report.specs.hwp_cpu_row.declared.Row.{Row}
+use Rattle.hwp_top_report.specs.hwp_law_holds.Rows.{lines_from}
+use Rattle.hwp_top_report.specs.hwp_law_holds.Runs.{AreServed, HasStopCause, IsRunOf, notes_of}
+use Rattle.hwp_top_report.proofs.of_hwp_law_holds.lines.FrameRecords.{gathered}
+use Rattle.hwp_top_report.proofs.of_hwp_law_holds.LastBoard.{report-of-run}
+use Rattle.hwp_top_report.proofs.of_hwp_law_holds.Lawful.{law-holds}
+use Rattle.hwp_top_report.proofs.of_hwp_law_holds.AnswerSights.{report-shown, scrubs-shown}
 use Rattle.hwp_table_words.specs.Ends.{EndValue}
 use Rattle.hwp_top_report.specs.Closing.{IsClosing}
 use Rattle.hwp_top_turns.specs.Runs.{HasClosed, HasEnded, HasEndedAt, IsCoreRun, IsFinished, IsPlayed, IsReportOf, IsTablePlayed, IsTableRun, own_seat}

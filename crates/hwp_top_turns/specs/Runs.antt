@@ -1,36 +1,37 @@
 -- The run of a script: the processors' tasks as they begin, how they end, and the law of the report.
 use Rattle.std.specs.Prelude.{◌≡◌, ℕ, List, [], Some, None, length, map, slice_get}
-use Rattle.hwp_geom.specs.Pairs.{Pairs}
-use Rattle.hwp_geom.specs.declared.Cpu.{Cpu}
-use Rattle.hwp_geom.specs.declared.Frame.{Frame}
-use Rattle.hwp_geom.specs.declared.Layout.{Layout}
-use Rattle.hwp_core_rule.specs.declared.State.{State}
-use Rattle.hwp_core_rule.specs.Opening.{opening}
-use Rattle.hwp_core_rule.specs.Rule.{Holds}
-use Rattle.hwp_core_task.specs.Boards.{AreSeated, Played}
-use Rattle.hwp_core_task.specs.Ranks.{Member, Pending, member, words_at}
-use Rattle.hwp_plain_words.specs.Openings.{home_with}
+use Rattle.hwp_table_words.specs.hwp_geom.Pairs.{Pairs}
+use Rattle.hwp_table_words.specs.hwp_geom.declared.Cpu.{Cpu}
+use Rattle.hwp_table_words.specs.hwp_geom.declared.Frame.{Frame}
+use Rattle.hwp_table_words.specs.hwp_geom.declared.Layout.{Layout}
+use Rattle.hwp_table_words.specs.hwp_core_rule.declared.State.{State}
+use Rattle.hwp_table_words.specs.hwp_core_rule.Opening.{opening}
+use Rattle.hwp_table_words.specs.hwp_core_rule.Rule.{Holds}
+use Rattle.hwp_table_words.specs.hwp_core_task.Boards.{AreSeated, Played}
+use Rattle.hwp_table_words.specs.hwp_core_task.Ranks.{Pending, words_at}
+use Rattle.hwp_table_words.specs.hwp_core_task.Turns.{Member}
+use Rattle.hwp_table_words.specs.hwp_plain_words.Openings.{home_with}
 use Rattle.hwp_table_words.specs.Ends.{EndValue, HasAll}
 use Rattle.hwp_table_words.specs.Known.{Known}
 use Rattle.hwp_table.specs.Boards.{whole_then}
-use Rattle.hwp_script_read.specs.declared.Command.{Command}
-use Rattle.hwp_script_read.specs.declared.Script.{Script}
-use Rattle.hwp_plain_order.specs.Order.{InOrder, Running, logged, running}
-use Rattle.hwp_report_text.specs.declared.Report.{Report}
-use Rattle.hwp_cpu_row.specs.hwp_law.Law.{IsLawful}
-use Rattle.hwp_cpu_row.specs.hwp_law.Runs.{IsOfRun}
-use Rattle.hwp_cpu.specs.hwp_law_run.Run.{CoreRun}
-use Rattle.hwp_cpu.specs.hwp_law_run.Turns.{Leads}
-use Rattle.hwp_cpu_row.specs.declared.Row.{Row}
-use Rattle.hwp_cpu.specs.hwp_law_holds.Runs.{AreServed}
-use Rattle.hwp_cpu.specs.declared.Processor.{Processor}
-use Rattle.hwp_cpu.specs.Processors.{AtBeginning, Next, aborts, bare, claims, class, cost, plan, put, who}
-use Rattle.hwp_cpu.specs.Serving.{Fits}
+use Rattle.hwp_plain.specs.hwp_script_read.declared.Command.{Command}
+use Rattle.hwp_plain.specs.hwp_script_read.declared.Script.{Script}
+use Rattle.hwp_plain.specs.hwp_plain_order.Order.{InOrder, Running, logged, running}
+use Rattle.hwp_top_report.specs.hwp_report_text.declared.Report.{Report}
+use Rattle.hwp_top_report.specs.hwp_law.Law.{IsLawful}
+use Rattle.hwp_top_report.specs.hwp_law.Runs.{IsOfRun}
+use Rattle.hwp_top_report.specs.hwp_law_run.Run.{CoreRun}
+use Rattle.hwp_top_report.specs.hwp_law_run.Turns.{Leads}
+use Rattle.hwp_top_report.specs.hwp_cpu_row.declared.Row.{Row}
+use Rattle.hwp_top_report.specs.hwp_law_holds.Runs.{AreServed}
+use Rattle.hwp_top_report.specs.hwp_cpu.declared.Processor.{Processor}
+use Rattle.hwp_top_report.specs.hwp_cpu.Processors.{AtBeginning}
+use Rattle.hwp_top_report.specs.hwp_cpu.Serving as serving
 use Rattle.hwp_top_report.specs.Closing.{IsClosing, lines_of_all}
 
 -- a processor as a task
 abbrev pub processors : Member Processor
-processors = member (λ p. who p) (λ p. plan p) (λ p. put p) (λ p. bare p) (λ layout p found got after turn. Next layout p found got after turn) (λ layout view p. Fits layout view p) (λ p. class p) (λ p words. cost p words) (λ p. aborts p) (λ p. claims p)
+processors = serving.task
 
 -- a processor's seat has its number
 abbrev pub own_seat : Cpu → ℕ

@@ -1,11 +1,8 @@
 ghost use Rattle.std.specs.Prelude.{IfOk};
-ghost use Rattle.hwp_script_read.specs.Valid.{IsValid};
+ghost use Rattle.hwp_plain.specs.hwp_script_read.Valid.{IsValid};
 ghost use Rattle.hwp_top_turns.specs.Runs.{AreAtBeginning, AreFinished};
 
-use hwp_cpu::Processor;
-use hwp_cpu_row::Row;
-use hwp_geom::{Cpu, List, OutOfMemory};
-use hwp_script_read::Script;
+use hwp_top_report::{Cpu, List, OutOfMemory, Processor, Row, Script};
 use std::alloc::Global;
 use std::sync::Arc;
 

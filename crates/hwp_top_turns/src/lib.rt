@@ -8,6 +8,14 @@ mod playing;
 mod running;
 
 pub use crew::{Rows, crew_of, rows_of};
+pub use hwp_plain::PlainBoard;
+pub use hwp_table_words::{Ended, Pass, Sheet, Slot, begin, close};
+pub use hwp_top_report::{
+    Board, CacheWord, CounterWord, Cpu, Frame, FrameWord, Kind, Layout, List, MAX_SCRIPT, Ops,
+    OutOfMemory, Page, PageWord, PolicyWord, ProcessWord, Processor, Pte, Report, Script,
+    SharedWord, StopWord, Task, Text, Turn, Who, index, is_text, kind_name, policy_word, print,
+    read_number,
+};
 pub use plain::{report_of, run_plain};
 pub use playing::play;
 pub use running::{Finished, finish_run, run_in_turns};

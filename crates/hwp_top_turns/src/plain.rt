@@ -1,16 +1,13 @@
 ghost use Rattle.std.specs.Prelude.{◌≡◌, IfOk};
-ghost use Rattle.hwp_cpu_row.specs.hwp_law.Law.{IsLawful};
-ghost use Rattle.hwp_cpu_row.specs.hwp_law.Runs.{IsOfRun};
-ghost use Rattle.hwp_script_read.specs.Valid.{IsValid};
+ghost use Rattle.hwp_top_report.specs.hwp_law.Law.{IsLawful};
+ghost use Rattle.hwp_top_report.specs.hwp_law.Runs.{IsOfRun};
+ghost use Rattle.hwp_plain.specs.hwp_script_read.Valid.{IsValid};
 ghost use Rattle.hwp_top_turns.specs.Runs.{IsCoreRun, IsPlayed, IsReportOf};
 
 use crate::crew::Rows;
 use crate::playing::play;
-use hwp_geom::OutOfMemory;
 use hwp_plain::PlainBoard;
-use hwp_report_text::Report;
-use hwp_script_read::Script;
-use hwp_top_report::report;
+use hwp_top_report::{OutOfMemory, Report, Script, report};
 use std::alloc::Global;
 
 /// The report of a run in turns that was made on a plain board.

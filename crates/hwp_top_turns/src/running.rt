@@ -1,24 +1,20 @@
 ghost use Rattle.std.specs.Prelude.{◌≡◌, [], length, map, IfOk};
-ghost use Rattle.hwp_cpu_row.specs.hwp_law.Law.{IsLawful};
-ghost use Rattle.hwp_cpu_row.specs.hwp_law.Runs.{IsOfRun};
-ghost use Rattle.hwp_script_read.specs.Valid.{IsValid};
-ghost use Rattle.hwp_plain_words.specs.Openings.{home_with};
-ghost use Rattle.hwp_plain_words.specs.Ends.{AreHistories};
+ghost use Rattle.hwp_top_report.specs.hwp_law.Law.{IsLawful};
+ghost use Rattle.hwp_top_report.specs.hwp_law.Runs.{IsOfRun};
+ghost use Rattle.hwp_plain.specs.hwp_script_read.Valid.{IsValid};
+ghost use Rattle.hwp_table_words.specs.hwp_plain_words.Openings.{home_with};
+ghost use Rattle.hwp_table_words.specs.hwp_plain_words.Ends.{AreHistories};
 ghost use Rattle.hwp_table_words.specs.Known.{first_known};
 ghost use Rattle.hwp_table_words.specs.Seats.{IsTableOf};
 ghost use Rattle.hwp_top_turns.specs.Runs.{HasEndedAt, IsCoreRun, IsFinished, IsTablePlayed, IsTableRun, KnowsRun};
 
 use crate::crew::Rows;
 use crate::playing::play;
-use hwp_core_rule::{SharedWord, index};
-use hwp_geom::{Layout, List, OutOfMemory, Page};
-use hwp_page::Entry;
-use hwp_plain_words::histories;
-use hwp_report_text::Report;
-use hwp_script_read::Script;
 use hwp_table::{OfTable, SeatBoard};
 use hwp_table_words::{Ended, Pass, Sheet, Slot, begin, close};
-use hwp_top_report::report;
+use hwp_top_report::{
+    Entry, Layout, List, OutOfMemory, Page, Report, Script, SharedWord, histories, index, report,
+};
 use std::alloc::{AllocError, Global};
 use std::marker::Brand;
 use std::sync::Arc;

@@ -1,6 +1,6 @@
 -- What the program writes.
 use Rattle.std.specs.Prelude.{◌≡◌, ℕ, ◌++◌, ◌==◌, if◌then◌else◌, List, [], ◌∷◌, Option, Some, IsSomeAnd, codes}
-use Rattle.hwp_top_step.specs.hwp_script_read.declared.Script.{Script}
+use Rattle.hwp_trace_run.specs.hwp_script_read.declared.Script.{Script}
 use Rattle.hwp_report_text.specs.declared.Report.{Report}
 use Rattle.hwp_top_step.specs.Top.{Takes, done_status}
 use Rattle.hwp_top_step.specs.Top as top

@@ -1,13 +1,12 @@
 //! The trace of a script that a source gives.
 ghost use Rattle.std.specs.Prelude.{◌≡◌, None, IfOk, IsErrOf};
 ghost use Rattle.hwp_io.specs.Causes.{Rose};
-ghost use Rattle.hwp_top_step.specs.hwp_script_read.declared.Refused.{Refused};
+ghost use Rattle.hwp_trace_run.specs.hwp_script_read.declared.Refused.{Refused};
 ghost use Rattle.hwp_top_step.specs.Top.{Refuses, done_status};
 ghost use Rattle.hwp_trace.specs.Shown.{IsShown, IsTraceOf};
 
-use hwp_geom::Text;
 use hwp_io::Source;
-use hwp_report_text::Report;
+use hwp_report_text::{Report, Text};
 use hwp_top_step::{InputFault, Output, status_of, take_script};
 use hwp_trace_run::{print, trace};
 use std::alloc::Global;

@@ -2,22 +2,22 @@
 use Rattle.std.proofs.Common.{◌≡◌, ℕ, ◌<◌, List, ◌∷◌, Option, Some, None, length, slice_set, refl, sym, ap, ◌∙◌, subst, arith}
 use Rattle.std.proofs.lemmas.List.{get_or-set_same}
 use Rattle.std.proofs.lemmas.Option.{none-some, same_Some}
-use Rattle.hwp_geom.specs.declared.Kind.{Kind}
-use Rattle.hwp_geom.specs.declared.Layout.{Layout}
-use Rattle.hwp_geom.specs.declared.Who.{Who}
-use Rattle.hwp_report_text.specs.hwp_page.History.{BodyValue}
-use Rattle.hwp_core_rule.specs.declared.SharedWord.{SharedWord}
-use Rattle.hwp_core_rule.specs.declared.Log.{Log}
-use Rattle.hwp_core_rule.specs.declared.Rec.{Rec}
-use Rattle.hwp_core_rule.specs.declared.State.{State}
-use Rattle.hwp_core_rule.specs.declared.Step.{Step}
-use Rattle.hwp_core_rule.specs.Moves.{Move}
-use Rattle.hwp_core_rule.specs.Steps.{kind_of, place_of, word_after}
-use Rattle.hwp_core_rule.specs.Words.{IsPlace, index, read, size, words_of}
-use Rattle.hwp_core_rule.proofs.WordsByKind.{index-within, words-read}
-use Rattle.hwp_core_task.specs.declared.Turn.{Turn}
-use Rattle.hwp_core_task.specs.Boards.{Played, TakesTurn}
-use Rattle.hwp_core_task.specs.Calls.{logs, rec_of}
+use Rattle.hwp_top_turns.specs.hwp_geom.declared.Kind.{Kind}
+use Rattle.hwp_top_turns.specs.hwp_geom.declared.Layout.{Layout}
+use Rattle.hwp_top_turns.specs.hwp_geom.declared.Who.{Who}
+use Rattle.hwp_top_turns.specs.hwp_core_rule.declared.SharedWord.{SharedWord}
+use Rattle.hwp_top_turns.specs.hwp_core_rule.declared.Log.{Log}
+use Rattle.hwp_top_turns.specs.hwp_core_rule.declared.Rec.{Rec}
+use Rattle.hwp_top_turns.specs.hwp_core_rule.declared.State.{State}
+use Rattle.hwp_top_turns.specs.hwp_core_rule.declared.Step.{Step}
+use Rattle.hwp_top_turns.specs.hwp_core_rule.Moves.{Move}
+use Rattle.hwp_top_turns.specs.hwp_core_rule.Steps.{kind_of, place_of, word_after}
+use Rattle.hwp_top_turns.specs.hwp_core_rule.Words.{IsPlace, index, read, size, words_of}
+use Rattle.hwp_top_turns.proofs.of_hwp_core_rule.WordsByKind.{index-within, words-read}
+use Rattle.hwp_top_turns.specs.hwp_core_task.declared.Turn.{Turn}
+use Rattle.hwp_top_turns.specs.hwp_core_task.Boards.{Played, TakesTurn, TakesTurnBy}
+use Rattle.hwp_top_turns.specs.hwp_core_task.Calls.{logs, rec_of}
+use Rattle.hwp_top_turns.specs.hwp_core_task.Turns.{Member}
 use Rattle.hwp_trace_run.specs.declared.line.TraceLine.{TraceLine}
 use Rattle.hwp_trace_run.specs.declared.notes.Sight.{Sight}
 use Rattle.hwp_trace_run.specs.Notes.{Notes, Sees, SeesStep, line_now, line_seen}
@@ -56,27 +56,27 @@ line-tells layout seat who step content found kind turn a b whole inside is move
   turn = refl;
 }
 
-pub noted-turn : {S : Type 0} (layout : Layout) (seat : ℕ) (who : Who) (plan : Option Step) (put : Option BodyValue) (next : ℕ → Option BodyValue → S → Turn → Type 0) (a b : State) (was now : List Played) (before after : S) (turn : Turn) (kind : Option Kind) (seen : Option Sight)
-    → length a.words ≡ size layout → TakesTurn layout seat who plan put next a b was now before after (turn, kind) → Sees layout a who plan seen → NotedTurn was now (line_seen layout b seen turn kind)
-noted-turn layout seat who None put next a b was now before after turn kind seen whole takes sees = record {
+pub noted-turn : {S : Type 0} (m : Member S) (layout : Layout) (seat : ℕ) (planned : Option Step) (a b : State) (was now : List Played) (before after : S) (turn : Turn) (kind : Option Kind) (seen : Option Sight)
+    → length a.words ≡ size layout → TakesTurnBy m layout seat planned a b was now before after (turn, kind) → Sees layout a (m.who before) planned seen → NotedTurn was now (line_seen layout b seen turn kind)
+noted-turn m layout seat None a b was now before after turn kind seen whole takes sees = record {
   none = λ is. takes.log;
   some = λ told is. absurd (none-some told (sym (ap (λ (s : Option Sight). line_seen layout b s turn kind) sees) ∙ is));
 }
-noted-turn {S} layout seat who (Some step) put next a b was now before after turn kind seen whole takes sees = record {
-  none = λ is. absurd (none-some (line_now layout b (sight_of layout who step a) turn has.kind) (sym is ∙ seen-line));
+noted-turn m layout seat (Some step) a b was now before after turn kind seen whole takes sees = record {
+  none = λ is. absurd (none-some (line_now layout b (sight_of layout (m.who before) step a) turn has.kind) (sym is ∙ seen-line));
   some = λ told is. (
-    played_by seat (rec_of layout who step (logs put) takes.found takes.got) turn,
+    played_by seat (rec_of layout (m.who before) step (logs (m.put before)) takes.found takes.got) turn,
     takes.logged,
-    subst (Tells (played_by seat (rec_of layout who step (logs put) takes.found takes.got) turn)) (same_Some (line_now layout b (sight_of layout who step a) turn has.kind) told (sym seen-line ∙ is))
-        (line-tells layout seat who step (rec_of layout who step (logs put) takes.found takes.got).content takes.found has.kind turn a b whole sees.within has.is takes.move),
+    subst (Tells (played_by seat (rec_of layout (m.who before) step (logs (m.put before)) takes.found takes.got) turn)) (same_Some (line_now layout b (sight_of layout (m.who before) step a) turn has.kind) told (sym seen-line ∙ is))
+        (line-tells layout seat (m.who before) step (rec_of layout (m.who before) step (logs (m.put before)) takes.found takes.got).content takes.found has.kind turn a b whole sees.within has.is takes.move),
   );
 }
   where
     has : HasKind step
-    has = has-kind layout who step (rec_of layout who step (logs put) takes.found takes.got).content takes.move.view takes.move.asks.kind
+    has = has-kind layout (m.who before) step (rec_of layout (m.who before) step (logs (m.put before)) takes.found takes.got).content takes.move.view takes.move.asks.kind
 
-    seen-line : line_seen layout b seen turn kind ≡ Some (line_now layout b (sight_of layout who step a) turn has.kind)
-    seen-line = ap (λ (s : Option Sight). line_seen layout b s turn kind) sees.seen_is ∙ ap (line_seen layout b (Some (sight_of layout who step a)) turn) (takes.kind ∙ has.is)
+    seen-line : line_seen layout b seen turn kind ≡ Some (line_now layout b (sight_of layout (m.who before) step a) turn has.kind)
+    seen-line = ap (λ (s : Option Sight). line_seen layout b s turn kind) sees.seen_is ∙ ap (line_seen layout b (Some (sight_of layout (m.who before) step a)) turn) (takes.kind ∙ has.is)
 
 -- what is seen of the step that comes
 pub sees-step : (layout : Layout) (state : State) (who : Who) (plan : Option Step) (step : Step) (seen : Option Sight) → plan ≡ Some step → SeesStep layout state who step seen → Sees layout state who plan seen
@@ -92,8 +92,8 @@ traced-turn was now (Some line) lines (Some all) noted notes traced = λ told is
     (notes.earlier, line, sym (same_Some all told is) ∙ notes.now_is, turn.2, traced notes.earlier notes.were)
 
 -- one turn of a board that notes it
-pub turn-traced : {S : Type 0} (layout : Layout) (seat : ℕ) (who : Who) (plan : Option Step) (put : Option BodyValue) (next : ℕ → Option BodyValue → S → Turn → Type 0) (a b : State) (was now : List Played) (before after : S) (turn : Turn) (kind : Option Kind) (seen : Option Sight) (line : Option TraceLine) (lines new : Option (List TraceLine))
-    → length a.words ≡ size layout → TakesTurn layout seat who plan put next a b was now before after (turn, kind) → Sees layout a who plan seen → line ≡ line_seen layout b seen turn kind → Notes lines line new → IsTraced was lines
+pub turn-traced : {S : Type 0} (m : Member S) (layout : Layout) (seat : ℕ) (a b : State) (was now : List Played) (before after : S) (turn : Turn) (kind : Option Kind) (seen : Option Sight) (line : Option TraceLine) (lines new : Option (List TraceLine))
+    → length a.words ≡ size layout → TakesTurn m layout seat a b was now before after (turn, kind) → Sees layout a (m.who before) (m.plan before) seen → line ≡ line_seen layout b seen turn kind → Notes lines line new → IsTraced was lines
     → IsTraced now new
-turn-traced layout seat who plan put next a b was now before after turn kind seen line lines new whole takes sees line-is notes traced =
-    traced-turn was now line lines new (subst (NotedTurn was now) (sym line-is) (noted-turn layout seat who plan put next a b was now before after turn kind seen whole takes sees)) notes traced
+turn-traced m layout seat a b was now before after turn kind seen line lines new whole takes sees line-is notes traced =
+    traced-turn was now line lines new (subst (NotedTurn was now) (sym line-is) (noted-turn m layout seat (m.plan before) a b was now before after turn kind seen whole takes sees)) notes traced

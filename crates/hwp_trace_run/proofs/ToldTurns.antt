@@ -1,11 +1,11 @@
 -- The lines of a log that grew, turn by turn.
 use Rattle.std.proofs.Common.{◌≡◌, List, [], ◌∷◌, ◌++◌, sym, ap, ◌∙◌, subst, append_assoc, append-nil}
-use Rattle.hwp_geom.specs.Pairs.{Pairs}
-use Rattle.hwp_core_task.specs.Boards.{Played}
-use Rattle.hwp_plain.specs.Boards.{Board}
-use Rattle.hwp_script_read.specs.declared.Script.{Script}
-use Rattle.hwp_plain.specs.hwp_plain_order.Order.{logged}
-use Rattle.hwp_report_text.specs.declared.Report.{Report}
+use Rattle.hwp_top_turns.specs.hwp_geom.Pairs.{Pairs}
+use Rattle.hwp_top_turns.specs.hwp_core_task.Boards.{Played}
+use Rattle.hwp_top_turns.specs.hwp_plain.Boards.{Board}
+use Rattle.hwp_top_turns.specs.hwp_script_read.declared.Script.{Script}
+use Rattle.hwp_top_turns.specs.hwp_plain_order.Order.{logged}
+use Rattle.hwp_top_turns.specs.hwp_report_text.declared.Report.{Report}
 use Rattle.hwp_top_turns.specs.Runs.{IsReportOf}
 use Rattle.hwp_trace_run.specs.declared.line.TraceLine.{TraceLine}
 use Rattle.hwp_trace_run.specs.Traced.{AreTold, Tells}

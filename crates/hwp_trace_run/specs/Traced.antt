@@ -1,8 +1,8 @@
 -- What the lines of a board tell of its moves.
 use Rattle.std.specs.Prelude.{◌≡◌, List, [], ◌∷◌, ◌++◌, Option, Some}
-use Rattle.hwp_core_rule.specs.Steps.{kind_of, place_of, word_after}
-use Rattle.hwp_core_task.specs.Boards.{Played}
-use Rattle.hwp_plain.specs.Boards.{Board}
+use Rattle.hwp_top_turns.specs.hwp_core_rule.Steps.{kind_of, place_of, word_after}
+use Rattle.hwp_top_turns.specs.hwp_core_task.Boards.{Played}
+use Rattle.hwp_top_turns.specs.hwp_plain.Boards.{Board}
 use Rattle.hwp_trace_run.specs.declared.line.TraceLine.{TraceLine}
 
 -- the plain board, and its lines, if memory was there for each

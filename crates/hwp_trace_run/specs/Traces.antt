@@ -1,8 +1,8 @@
 -- The lines of a script's run, and its report.
 use Rattle.std.specs.Prelude.{List}
-use Rattle.hwp_geom.specs.Pairs.{Pairs}
-use Rattle.hwp_script_read.specs.declared.Script.{Script}
-use Rattle.hwp_report_text.specs.declared.Report.{Report}
+use Rattle.hwp_top_turns.specs.hwp_geom.Pairs.{Pairs}
+use Rattle.hwp_top_turns.specs.hwp_script_read.declared.Script.{Script}
+use Rattle.hwp_top_turns.specs.hwp_report_text.declared.Report.{Report}
 use Rattle.hwp_top_turns.specs.hwp_law.Law.{IsLawful}
 use Rattle.hwp_top_turns.specs.hwp_law.Runs.{IsOfRun}
 use Rattle.hwp_top_turns.specs.Runs.{IsCoreRun}

@@ -1,13 +1,11 @@
 ghost use Rattle.std.specs.Prelude.{◌≡◌, [], IfOk};
-ghost use Rattle.hwp_geom.specs.Layout.{IsSound};
-ghost use Rattle.hwp_core_rule.specs.Opening.{opening};
+ghost use Rattle.hwp_top_turns.specs.hwp_geom.Layout.{IsSound};
+ghost use Rattle.hwp_top_turns.specs.hwp_core_rule.Opening.{opening};
 ghost use Rattle.hwp_trace_run.specs.Traced.{AreTold};
 
 use crate::TraceLine;
 use crate::notes::{line_of, look, noted};
-use hwp_core_task::{Board, Task, Turn};
-use hwp_geom::{Cpu, Kind, Layout, List, OutOfMemory};
-use hwp_plain::PlainBoard;
+use hwp_top_turns::{Board, Cpu, Kind, Layout, List, OutOfMemory, PlainBoard, Task, Turn};
 use std::alloc::{AllocError, Global};
 use std::marker::Model;
 use std::mem;
@@ -21,7 +19,7 @@ pub(crate) struct TracedBoard {
 
 impl Model for TracedBoard {
     ghost use Rattle.hwp_trace_run.specs.Traced.{IsTraced, Traced};
-    ghost use Rattle.hwp_words.specs.hwp_kill.contracts.Slots as sets;
+    ghost use Rattle.hwp_top_turns.specs.hwp_kill.contracts.Slots as sets;
     ghost use Rattle.std.specs.Coded.{codes};
 
     ghost Value = { Traced };
@@ -65,7 +63,7 @@ impl TracedBoard {
 }
 
 impl Board for TracedBoard {
-    ghost machine = { λ b. b.board.layout };
+    ghost layout = { λ b. b.board.layout };
 
     ghost state = { λ b. b.board.state };
 

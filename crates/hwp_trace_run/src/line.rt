@@ -1,6 +1,4 @@
-use hwp_core_rule::SharedWord;
-use hwp_core_task::Turn;
-use hwp_geom::{Kind, Who};
+use hwp_top_turns::{Kind, SharedWord, Turn, Who};
 
 /// A turn that made a step, as a trace tells it.
 #[derive(Clone, Copy)]

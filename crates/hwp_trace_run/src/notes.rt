@@ -1,14 +1,11 @@
 ghost use Rattle.std.specs.Prelude.{◌≡◌, IfSome, length};
-ghost use Rattle.hwp_geom.specs.Layout.{IsSound};
-ghost use Rattle.hwp_core_task.specs.Boards.{view_of};
+ghost use Rattle.hwp_top_turns.specs.hwp_geom.Layout.{IsSound};
+ghost use Rattle.hwp_top_turns.specs.hwp_core_task.Boards.{view_of};
 ghost use Rattle.hwp_trace_run.specs.Notes.{Notes, Sees, line_seen};
-ghost use Rattle.hwp_core_rule.specs.Words.{IsPlace, read, size, words_of};
+ghost use Rattle.hwp_top_turns.specs.hwp_core_rule.Words.{IsPlace, read, size, words_of};
 
 use crate::TraceLine;
-use hwp_core_rule::{SharedWord, index};
-use hwp_core_task::{Ops, Task, Turn};
-use hwp_geom::{Kind, Layout, List, Who};
-use hwp_plain::PlainBoard;
+use hwp_top_turns::{Kind, Layout, List, Ops, PlainBoard, SharedWord, Task, Turn, Who, index};
 
 /// What a task is about to touch, and the word that stands there.
 #[derive(Clone, Copy)]
@@ -42,8 +39,8 @@ fn word_at(board: &PlainBoard, place: SharedWord) -> u64
 
 /// What the task's next step will touch; `None` where the task is over.
 pub(crate) fn look<M: Task>(board: &PlainBoard, task: &M) -> Option<Sight>
-    requires fits { M.fits board.now.layout (view_of board.now.state (M.who task.now).cpu.0) task.now }
-    ensures { Sees board.now.layout board.now.state (M.who task.now) (M.plan task.now) result }
+    requires fits { M.task.fits board.now.layout (view_of board.now.state (M.task.who task.now).cpu.0) task.now }
+    ensures { Sees board.now.layout board.now.state (M.task.who task.now) (M.task.plan task.now) result }
 {
     let who = task.who();
     let Some(step) = task.plan() else {

@@ -1,13 +1,10 @@
 ghost use Rattle.std.specs.Prelude.{IfOk};
-ghost use Rattle.hwp_script_read.specs.Valid.{IsValid};
+ghost use Rattle.hwp_top_turns.specs.hwp_script_read.Valid.{IsValid};
 ghost use Rattle.hwp_trace_run.specs.Traces.{IsTrace};
 
 use crate::TraceLine;
 use crate::board::TracedBoard;
-use hwp_geom::{List, OutOfMemory};
-use hwp_report_text::Report;
-use hwp_script_read::Script;
-use hwp_top_turns::{play, report_of};
+use hwp_top_turns::{List, OutOfMemory, Report, Script, play, report_of};
 use std::alloc::Global;
 
 /// A run that was watched: its report, and a line for each turn.

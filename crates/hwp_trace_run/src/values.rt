@@ -3,11 +3,9 @@ ghost use Rattle.std.specs.Prelude.{◌≡◌, ◌++◌, OnOk, string_bytes};
 ghost use Rattle.hwp_trace_run.specs.Text.{counter_words, cycle_words, ended_words, frame_words, in_words, lock_words, mark_words, owner_words, policy_words, pte_words, spaced, stop_words, stopper_words, value_words};
 
 use crate::words::{put_flag, put_named, put_number, put_set, put_word};
-use hwp_core_rule::SharedWord;
-use hwp_geom::{Cpu, Frame, OutOfMemory, Page};
-use hwp_report_text::policy_word;
-use hwp_words::{
-    CacheWord, CounterWord, FrameWord, PageWord, PolicyWord, ProcessWord, Pte, StopWord,
+use hwp_top_turns::{
+    CacheWord, CounterWord, Cpu, Frame, FrameWord, OutOfMemory, Page, PageWord, PolicyWord,
+    ProcessWord, Pte, SharedWord, StopWord, policy_word,
 };
 
 /// What the word of a place says.

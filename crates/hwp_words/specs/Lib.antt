@@ -5,4 +5,3 @@ pub mod Translations
 pub mod Counters
 pub mod Policies
 pub mod Stops
-pub use Rattle.hwp_kill.specs as hwp_kill

@@ -1,8 +1,8 @@
 -- Frames, pages and processors as words name them: a word or a field has the number plus 1, or 0 for none.
 use Rattle.std.specs.Prelude.{ℕ, ◌+◌, ◌-◌, ◌%◌, ◌^◌, ◌==◌, Option, Some, None, if◌then◌else◌}
-use Rattle.hwp_geom.specs.declared.numbers.Frame.{Frame}
-use Rattle.hwp_geom.specs.declared.numbers.Page.{Page}
-use Rattle.hwp_geom.specs.declared.numbers.Cpu.{Cpu}
+use Rattle.hwp_kill.specs.hwp_geom.declared.numbers.Frame.{Frame}
+use Rattle.hwp_kill.specs.hwp_geom.declared.numbers.Page.{Page}
+use Rattle.hwp_kill.specs.hwp_geom.declared.numbers.Cpu.{Cpu}
 
 abbrev pub frame_name : Option Frame → ℕ
 frame_name None = 0

@@ -1,6 +1,6 @@
 -- The translation word: a page-table entry.
 use Rattle.std.specs.Prelude.{ℕ, ◌==◌, List, [], ◌∷◌, Option, Some, None, if◌then◌else◌}
-use Rattle.hwp_geom.specs.declared.numbers.Frame.{Frame}
+use Rattle.hwp_kill.specs.hwp_geom.declared.numbers.Frame.{Frame}
 use Rattle.hwp_words.specs.declared.translation.Pte.{Pte}
 use Rattle.hwp_words.specs.declared.translation.Pte.TheVariants as ptes
 use Rattle.hwp_words.specs.Fields.{Field, field, bit, packed}

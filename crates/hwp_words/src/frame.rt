@@ -1,6 +1,6 @@
 use crate::field::field;
 use crate::names::{page_name, page_named};
-use hwp_geom::Page;
+use hwp_kill::Page;
 
 /// Bit 0 of a frame word and of a page word (Linux PG_locked).
 pub const LOCK: u64 = 1;

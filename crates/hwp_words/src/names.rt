@@ -1,7 +1,7 @@
 ghost use Rattle.std.specs.Prelude.{◌≡◌, ◌+◌, ◌≤◌, ◌^◌, ◌<◌};
 ghost use Rattle.hwp_words.specs.Names.{cpu_name, cpu_named, frame_name, frame_named, page_name, page_named};
 
-use hwp_geom::{Cpu, Frame, Page};
+use hwp_kill::{Cpu, Frame, Page};
 
 /// The number of a frame plus 1, or 0 for none.
 pub fn frame_name(frame: Option<Frame>) -> u64

@@ -1,12 +1,12 @@
 ghost use Rattle.std.specs.Prelude.{◌≡◌, ◌↔◌, IsNone, MatchOption};
 ghost use Rattle.std.specs.Int.{from_bool};
-ghost use Rattle.hwp_geom.specs.Bits.{HasNoBitFrom, IsLowestBit};
+ghost use Rattle.hwp_kill.specs.hwp_geom.Bits.{HasNoBitFrom, IsLowestBit};
 ghost use Rattle.hwp_words.specs.Frames.{is_locked};
 ghost use Rattle.hwp_words.specs.Names.{frame_name, frame_named, page_name, page_named};
 
 use crate::field::field;
 use crate::names::{frame_name, frame_named, page_name, page_named};
-use hwp_geom::{Frame, Line, Mask, Page, lowest_bit};
+use hwp_kill::{Frame, Line, Mask, Page, lowest_bit};
 
 /// The word of a page (this project's rule).
 #[derive(Clone, Copy, PartialEq, Eq)]

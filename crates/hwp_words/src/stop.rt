@@ -3,7 +3,7 @@ ghost use Rattle.hwp_words.specs.Stops.{is_stopped, stop_reading, stop_word};
 
 use crate::field::field;
 use crate::names::{cpu_name, cpu_named};
-use hwp_geom::Cpu;
+use hwp_kill::Cpu;
 
 /// The word that stops the machine (this project's rule).
 #[derive(Clone, Copy, PartialEq, Eq)]

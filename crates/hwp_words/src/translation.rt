@@ -1,6 +1,6 @@
 use crate::field::field;
 use crate::names::{frame_name, frame_named};
-use hwp_geom::Frame;
+use hwp_kill::Frame;
 
 /// The word of a translation, a page-table entry (this project's rule).
 #[derive(Clone, Copy, PartialEq, Eq)]

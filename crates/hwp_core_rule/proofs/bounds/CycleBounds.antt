@@ -3,9 +3,9 @@ use Rattle.std.proofs.Common.{add-mul, ◌≡◌, ℕ, zero, suc, ◌+◌, ◌*�
 use Rattle.std.specs.Int.{from_bool}
 use Rattle.std.specs.List.{sum_by}
 use Rattle.std.proofs.lemmas.List.Sums.{sum_by-cons}
-use Rattle.hwp_geom.specs.declared.Cpu.{Cpu}
-use Rattle.hwp_geom.specs.declared.Layout.{Layout}
-use Rattle.hwp_geom.specs.Limits.{command_limit}
+use Rattle.hwp_page.specs.hwp_geom.declared.Cpu.{Cpu}
+use Rattle.hwp_page.specs.hwp_geom.declared.Layout.{Layout}
+use Rattle.hwp_page.specs.hwp_geom.Limits.{command_limit}
 use Rattle.hwp_words.specs.Frames.{cycle_of}
 use Rattle.hwp_core_rule.specs.declared.view.Mark.{Mark}
 use Rattle.hwp_core_rule.specs.declared.view.Part.{Part}

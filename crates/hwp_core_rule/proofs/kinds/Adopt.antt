@@ -4,8 +4,8 @@ use Rattle.std.specs.Int.{from_bool}
 use Rattle.std.specs.List.{sum_by}
 use Rattle.std.proofs.lemmas.List.{length-append}
 use Rattle.std.proofs.lemmas.Option.{slice_get-get_or}
-use Rattle.hwp_geom.specs.declared.Frame.{Frame}
-use Rattle.hwp_geom.specs.declared.Layout.{Layout}
+use Rattle.hwp_page.specs.hwp_geom.declared.Frame.{Frame}
+use Rattle.hwp_page.specs.hwp_geom.declared.Layout.{Layout}
 use Rattle.hwp_words.specs.Frames.{count_of, owner_of, lock_of, handled_of, poison_of, kernel_of, cycle_of, is_kernel}
 use Rattle.hwp_words.proofs.FrameSteps.{FieldsAre, fields-adopt}
 use Rattle.hwp_core_rule.specs.declared.log.Log.{Log}
@@ -25,7 +25,7 @@ use Rattle.hwp_core_rule.specs.parts.Locks.{FrameLocksHeld, PageLocksHeld, IsLoc
 use Rattle.hwp_core_rule.specs.parts.Owners.{CacheWordsOwned, HoldsBoth}
 use Rattle.hwp_core_rule.specs.parts.Places.{HasOnePlace, IsApart, IsBare, in_hand, IsHanded}
 use Rattle.hwp_core_rule.proofs.Lists.{change, keep, at_map, at_set, set_here, set_else, set-set, each-set, each-push, each-weaken, some-set, term-le, same-or, not-both, from_bool-same, from_bool-other, some-push}
-use Rattle.hwp_core_rule.proofs.FrameWord.{IsLike, like-fields, word-was, like-translations, like-caches, like-locked, counted-again, locked-again, like-handed-all, like-failures}
+use Rattle.hwp_core_rule.proofs.FrameWordLaws.{IsLike, like-fields, word-was, like-translations, like-caches, like-locked, counted-again, locked-again, like-handed-all, like-failures}
 use Rattle.hwp_core_rule.proofs.ListDrops.{each-without, length-without}
 use Rattle.hwp_core_rule.proofs.FramesInHand.{in_hand-mine, in_hand-without, is-of}
 use Rattle.hwp_core_rule.proofs.Refs.{refs-with, refs-with-other, length-with}

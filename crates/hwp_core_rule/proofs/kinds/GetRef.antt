@@ -2,7 +2,7 @@
 use Rattle.std.proofs.Common.{◌≡◌, ℕ, ◌+◌, ◌*◌, ◌%◌, ◌^◌, ◌<◌, ◌≤◌, ◌==◌, min, Bool, true, false, cond, List, Some, map, set, length, slice_get, slice_index, slice_set, inl, inr, refl, sym, ap, subst, arith}
 use Rattle.std.proofs.lemmas.Bool.{eqb-true}
 use prog.Atomic.{either}
-use Rattle.hwp_geom.specs.declared.Frame.{Frame}
+use Rattle.hwp_page.specs.hwp_geom.declared.Frame.{Frame}
 use Rattle.hwp_words.specs.Frames.{lock_of, poison_of, handled_of, count_of, owner_of, kernel_of, cycle_of}
 use Rattle.hwp_words.proofs.FrameSteps.{FieldsAre, fields-get_ref}
 use Rattle.hwp_core_rule.specs.declared.view.FrameLock.{FrameLock}
@@ -16,7 +16,7 @@ use Rattle.hwp_core_rule.specs.parts.Holdings.{IsBounded, frames_held}
 use Rattle.hwp_core_rule.specs.parts.Places.{HasOnePlace, in_hand}
 use Rattle.hwp_core_rule.proofs.Lists.{at_map, same-or, set_again}
 use Rattle.hwp_core_rule.proofs.Keeps.{Keeps}
-use Rattle.hwp_core_rule.proofs.FrameWord.{IsLike, bare-like, like-fields, placed-again, counted-again, like-handed-all}
+use Rattle.hwp_core_rule.proofs.FrameWordLaws.{IsLike, bare-like, like-fields, placed-again, counted-again, like-handed-all}
 use Rattle.hwp_core_rule.proofs.bounds.RefBounds.{count-fits}
 use Rattle.hwp_core_rule.proofs.steps.CountSteps.{keeps-refs}
 use Rattle.hwp_core_rule.proofs.WordsByKind.{word-there}

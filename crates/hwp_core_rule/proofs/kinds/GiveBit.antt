@@ -1,6 +1,6 @@
 -- A frame in hand made free again keeps the frame rule.
 use Rattle.std.proofs.Common.{arith}
-use Rattle.hwp_geom.specs.declared.Frame.{Frame}
+use Rattle.hwp_page.specs.hwp_geom.declared.Frame.{Frame}
 use Rattle.hwp_core_rule.proofs.Keeps.{Keeps}
 use Rattle.hwp_core_rule.proofs.FreeAndHand.{bit-given}
 use Rattle.hwp_core_rule.specs.declared.step.Step.TheVariants as steps

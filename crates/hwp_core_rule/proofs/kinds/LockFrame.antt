@@ -5,9 +5,9 @@ use Rattle.std.proofs.lemmas.List.Sums.{sum_by_push}
 use Rattle.std.proofs.lemmas.Option.{same_Some, slice_get_within}
 use Rattle.std.specs.Int.{from_bool}
 use Rattle.std.specs.List.{sum_by}
-use Rattle.hwp_geom.specs.declared.Frame.{Frame}
-use Rattle.hwp_geom.specs.declared.Layout.{Layout}
-use Rattle.hwp_geom.specs.declared.Who.{Who}
+use Rattle.hwp_page.specs.hwp_geom.declared.Frame.{Frame}
+use Rattle.hwp_page.specs.hwp_geom.declared.Layout.{Layout}
+use Rattle.hwp_page.specs.hwp_geom.declared.Who.{Who}
 use Rattle.hwp_words.specs.Frames.{lock_of, count_of, owner_of, is_locked}
 use Rattle.hwp_words.proofs.FrameSteps.{fields-lock}
 use Rattle.hwp_core_rule.specs.declared.log.Log.{Log}
@@ -20,7 +20,7 @@ use Rattle.hwp_core_rule.specs.declared.view.View.{View}
 use Rattle.hwp_core_rule.specs.Asks.{CanLockFrame}
 use Rattle.hwp_core_rule.specs.Lists.{Homes, EachMember}
 use Rattle.hwp_core_rule.specs.Logs.{state_of, fitting}
-use Rattle.hwp_core_rule.specs.Slots.{IsIn, MeetsSlot, homes_moved, moved_out}
+use Rattle.hwp_core_rule.specs.SlotMoves.{IsIn, MeetsSlot, homes_moved, moved_out}
 use Rattle.hwp_core_rule.specs.Rule.{FrameRule, holder_of}
 use Rattle.hwp_core_rule.specs.Views.{locks_on, page_locks_on, lock_found, taken, knowing, changed, is_page_lock_of, stamp_of}
 use Rattle.hwp_core_rule.specs.Words.{Words}
@@ -30,7 +30,7 @@ use Rattle.hwp_core_rule.specs.parts.Holdings.{IsPast}
 use Rattle.hwp_core_rule.specs.parts.Locks.{IsLocked}
 use Rattle.hwp_core_rule.specs.parts.Owners.{HoldsBoth}
 use Rattle.hwp_core_rule.proofs.Lists.{at_map, map-was, same-number, set_again, set_here, term-le, each-push, each-weaken, each-changed, some-push, some-last, sum-changed, length-changed}
-use Rattle.hwp_core_rule.proofs.FrameWord.{IsLike, like-fields, like-locked}
+use Rattle.hwp_core_rule.proofs.FrameWordLaws.{IsLike, like-fields, like-locked}
 use Rattle.hwp_core_rule.proofs.Keeps.{Keeps, IsShaped}
 use Rattle.hwp_core_rule.proofs.BodySlots.{carry-none, carry-out}
 use Rattle.hwp_core_rule.proofs.steps.FrameLockSteps.{keeps-locking}

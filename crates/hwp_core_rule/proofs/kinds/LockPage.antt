@@ -6,10 +6,10 @@ use Rattle.std.proofs.lemmas.List.Sums.{sum_by-cons}
 use Rattle.std.proofs.lemmas.Option.{none-some, same_Some}
 use Rattle.std.specs.Int.{from_bool}
 use Rattle.std.specs.List.{sum_by}
-use Rattle.hwp_geom.specs.declared.Frame.{Frame}
-use Rattle.hwp_geom.specs.declared.Layout.{Layout}
-use Rattle.hwp_geom.specs.declared.Page.{Page}
-use Rattle.hwp_geom.specs.declared.Who.{Who}
+use Rattle.hwp_page.specs.hwp_geom.declared.Frame.{Frame}
+use Rattle.hwp_page.specs.hwp_geom.declared.Layout.{Layout}
+use Rattle.hwp_page.specs.hwp_geom.declared.Page.{Page}
+use Rattle.hwp_page.specs.hwp_geom.declared.Who.{Who}
 use Rattle.hwp_words.specs.Frames.{lock_of, is_locked}
 use Rattle.hwp_words.specs.Names.{frame_name}
 use Rattle.hwp_words.proofs.FrameSteps.{fields-lock}
@@ -20,7 +20,7 @@ use Rattle.hwp_core_rule.specs.declared.view.Stamp.{Stamp}
 use Rattle.hwp_core_rule.specs.declared.view.View.{View}
 use Rattle.hwp_core_rule.specs.Lists.{Homes, EachMember}
 use Rattle.hwp_core_rule.specs.Logs.{state_of, fitting}
-use Rattle.hwp_core_rule.specs.Slots.{IsIn, MeetsSlot, homes_moved, moved_out}
+use Rattle.hwp_core_rule.specs.SlotMoves.{IsIn, MeetsSlot, homes_moved, moved_out}
 use Rattle.hwp_core_rule.specs.Rule.{FrameRule, holder_of}
 use Rattle.hwp_core_rule.specs.Views.{page_locks_on, lock_of_page, body_of, taken, knowing, changed, is_body_of, is_page_lock_of, stamp_of}
 use Rattle.hwp_core_rule.specs.Words.{Words}

@@ -8,11 +8,11 @@ use Rattle.std.proofs.lemmas.Option.{same_Some, slice_get_within}
 use Rattle.std.specs.Int.Bits.{or_zero_r}
 use Rattle.std.specs.Int.{from_bool}
 use Rattle.std.specs.List.{sum_by}
-use Rattle.hwp_geom.specs.declared.Cpu.{Cpu}
-use Rattle.hwp_geom.specs.declared.Frame.{Frame}
-use Rattle.hwp_geom.specs.declared.Layout.{Layout}
-use Rattle.hwp_geom.specs.declared.Who.{Who}
-use Rattle.hwp_geom.specs.Limits.{command_limit}
+use Rattle.hwp_page.specs.hwp_geom.declared.Cpu.{Cpu}
+use Rattle.hwp_page.specs.hwp_geom.declared.Frame.{Frame}
+use Rattle.hwp_page.specs.hwp_geom.declared.Layout.{Layout}
+use Rattle.hwp_page.specs.hwp_geom.declared.Who.{Who}
+use Rattle.hwp_page.specs.hwp_geom.Limits.{command_limit}
 use Rattle.hwp_words.specs.Counters.{biased_poisoned_of, hardware_of}
 use Rattle.hwp_words.specs.Frames.{lock_of, poison_of, handled_of, kernel_of, count_of, owner_of, cycle_of, is_kernel, is_poisoned}
 use Rattle.hwp_words.proofs.FrameSteps.{FieldsAre, fields-poison}

@@ -5,7 +5,7 @@ use Rattle.std.proofs.lemmas.List.Sums.{sum_by_push}
 use Rattle.std.proofs.lemmas.Option.{same_Some}
 use Rattle.std.specs.Int.{from_bool}
 use Rattle.std.specs.List.{sum_by}
-use Rattle.hwp_geom.specs.declared.Frame.{Frame}
+use Rattle.hwp_page.specs.hwp_geom.declared.Frame.{Frame}
 use Rattle.hwp_words.specs.Frames.{lock_of, poison_of, handled_of, count_of, owner_of, kernel_of, cycle_of}
 use Rattle.hwp_words.proofs.FrameSteps.{FieldsAre, fields-put_ref}
 use Rattle.hwp_core_rule.specs.declared.view.FrameLock.{FrameLock}
@@ -23,7 +23,7 @@ use Rattle.hwp_core_rule.specs.parts.Owners.{HoldsBoth}
 use Rattle.hwp_core_rule.specs.parts.Places.{HasOnePlace, IsBare, in_hand, IsHanded}
 use Rattle.hwp_core_rule.proofs.Lists.{at_map, map-was, same-or, same-number, set_again, sum-set, term-le, terms-le, each-set, each-push, sum-zero}
 use Rattle.hwp_core_rule.proofs.Keeps.{Keeps}
-use Rattle.hwp_core_rule.proofs.FrameWord.{IsLike, bare-like, like-fields, placed-again, counted-again, like-handed-all}
+use Rattle.hwp_core_rule.proofs.FrameWordLaws.{IsLike, bare-like, like-fields, placed-again, counted-again, like-handed-all}
 use Rattle.hwp_core_rule.proofs.steps.CountSteps.{keeps-refs}
 use Rattle.hwp_core_rule.proofs.WordsByKind.{word-there}
 use Rattle.hwp_core_rule.specs.declared.step.Step.TheVariants as steps

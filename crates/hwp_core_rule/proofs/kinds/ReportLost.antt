@@ -2,7 +2,7 @@
 use Rattle.std.proofs.Common.{◌≡◌, ℕ, ◌+◌, ◌<◌, ◌==◌, eq-eqb, ne_eqb, Bool, cond, List, [], ◌∷◌, ◌++◌, Some, map, set, slice_get, slice_index, inl, inr, refl, sym, ap, subst, arith}
 use Rattle.std.specs.List.{sum_by}
 use Rattle.std.proofs.lemmas.List.Sums.{sum_by_push}
-use Rattle.hwp_geom.specs.declared.FileNo.{FileNo}
+use Rattle.hwp_page.specs.hwp_geom.declared.FileNo.{FileNo}
 use Rattle.hwp_core_rule.specs.declared.view.InHand.{InHand}
 use Rattle.hwp_core_rule.specs.declared.view.Reported.{Reported}
 use Rattle.hwp_core_rule.specs.declared.view.View.{View}

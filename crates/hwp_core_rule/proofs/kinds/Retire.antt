@@ -3,8 +3,8 @@ use Rattle.std.proofs.Common.{◌≡◌, ◌≢◌, ℕ, ◌+◌, ◌-◌, ◌<�
 use Rattle.std.proofs.lemmas.Bool.{eqb-true, eqb-false}
 use Rattle.std.proofs.lemmas.Option.{same_Some}
 use Rattle.std.specs.List.{sum_by}
-use Rattle.hwp_geom.specs.declared.Frame.{Frame}
-use Rattle.hwp_geom.specs.declared.Layout.{Layout}
+use Rattle.hwp_page.specs.hwp_geom.declared.Frame.{Frame}
+use Rattle.hwp_page.specs.hwp_geom.declared.Layout.{Layout}
 use Rattle.hwp_words.specs.Frames.{lock_of, poison_of, handled_of, kernel_of, count_of, owner_of, cycle_of, is_kernel}
 use Rattle.hwp_words.proofs.FrameSteps.{FieldsAre, fields-unlock, fields-retire}
 use Rattle.hwp_core_rule.specs.declared.log.Log.{Log}

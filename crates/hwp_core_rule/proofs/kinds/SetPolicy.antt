@@ -3,10 +3,10 @@ use Rattle.std.proofs.Common.{◌≡◌, ◌≢◌, ℕ, ◌+◌, ◌<◌, ◌�
 use Rattle.std.proofs.lemmas.List.{length-append, take-append-le}
 use Rattle.std.proofs.lemmas.List.Elements.{filter-append}
 use Rattle.std.proofs.lemmas.Option.{same_Some}
-use Rattle.hwp_geom.specs.declared.Thread.{Thread}
-use Rattle.hwp_geom.specs.declared.ThreadDecl.{ThreadDecl}
-use Rattle.hwp_geom.specs.Limits.{command_limit}
-use Rattle.hwp_kill.specs.declared.Policy.{Policy}
+use Rattle.hwp_page.specs.hwp_geom.declared.Thread.{Thread}
+use Rattle.hwp_page.specs.hwp_geom.declared.ThreadDecl.{ThreadDecl}
+use Rattle.hwp_page.specs.hwp_geom.Limits.{command_limit}
+use Rattle.hwp_page.specs.hwp_kill.declared.Policy.{Policy}
 use Rattle.hwp_core_rule.specs.declared.view.Part.{Part}
 use Rattle.hwp_core_rule.specs.declared.view.Setting.{Setting}
 use Rattle.hwp_core_rule.specs.declared.view.Sight.{Sight}
@@ -21,7 +21,7 @@ use Rattle.hwp_core_rule.proofs.Keeps.{Keeps}
 use Rattle.hwp_core_rule.proofs.Lists.{change, keep, at_map, at_set, map-was, each-set, each-push, each-weaken}
 use Rattle.hwp_core_rule.proofs.WordsByKind.{word-there}
 use Rattle.hwp_core_rule.proofs.NotLater.{one-view}
-use Rattle.hwp_kill.specs.declared.Policy.TheVariants as policy_names
+use Rattle.hwp_page.specs.hwp_kill.declared.Policy.TheVariants as policy_names
 use Rattle.hwp_core_rule.specs.declared.shared_word.SharedWord.TheVariants as places
 use Rattle.hwp_core_rule.specs.declared.step.Step.TheVariants as steps
 use Rattle.hwp_core_rule.proofs.PartKeeps

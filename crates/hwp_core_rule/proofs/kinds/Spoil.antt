@@ -6,9 +6,9 @@ use Rattle.std.proofs.lemmas.Nat.Bits.{bit_at_or}
 use Rattle.std.specs.Int.Bits.{or_zero_r}
 use Rattle.std.specs.Int.{from_bool, bit_at}
 use Rattle.std.specs.List.{sum_by}
-use Rattle.hwp_geom.specs.declared.Damage.{Damage}
-use Rattle.hwp_geom.specs.declared.Damage.TheVariants as damages
-use Rattle.hwp_geom.specs.declared.Frame.{Frame}
+use Rattle.hwp_page.specs.hwp_geom.declared.Damage.{Damage}
+use Rattle.hwp_page.specs.hwp_geom.declared.Damage.TheVariants as damages
+use Rattle.hwp_page.specs.hwp_geom.declared.Frame.{Frame}
 use Rattle.hwp_words.proofs.OtherSteps.{field-set_same, field-set_other}
 use Rattle.hwp_core_rule.specs.declared.shared_word.SharedWord.{SharedWord}
 use Rattle.hwp_core_rule.specs.declared.shared_word.SharedWord.TheVariants as places

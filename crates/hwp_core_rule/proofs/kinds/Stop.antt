@@ -3,8 +3,8 @@ use Rattle.std.proofs.Common.{◌≡◌, ℕ, ◌+◌, ◌<◌, ◌≤◌, ◌==
 use Rattle.std.specs.List.{sum_by}
 use Rattle.std.proofs.lemmas.List.{length-append}
 use prog.Atomic.{either}
-use Rattle.hwp_geom.specs.declared.Cpu.{Cpu}
-use Rattle.hwp_geom.specs.declared.Who.{Who}
+use Rattle.hwp_page.specs.hwp_geom.declared.Cpu.{Cpu}
+use Rattle.hwp_page.specs.hwp_geom.declared.Who.{Who}
 use Rattle.hwp_words.specs.Stops.{stopper_of}
 use Rattle.hwp_words.proofs.OtherSteps.{stopper_of-stop}
 use Rattle.hwp_core_rule.specs.declared.view.InHand.{InHand}

@@ -2,7 +2,7 @@
 use Rattle.std.proofs.Common.{◌≡◌, ℕ, ◌-◌, ◌*◌, ◌/◌, ◌%◌, ◌^◌, ◌<◌, ◌==◌, Bool, true, false, cond, List, [], ◌∷◌, ◌++◌, length, set, get_or, bit_and, w64, inl, inr, refl, sym, subst, arith}
 use Rattle.std.specs.Int.{bit_not}
 use Rattle.std.proofs.lemmas.Bool.{eqb-true}
-use Rattle.hwp_geom.specs.declared.Frame.{Frame}
+use Rattle.hwp_page.specs.hwp_geom.declared.Frame.{Frame}
 use Rattle.hwp_core_rule.specs.Rule.{FrameRule}
 use Rattle.hwp_core_rule.specs.Steps.{place_of, goes}
 use Rattle.hwp_core_rule.specs.Views.{sighted, stamp_of, unpoisoned}

@@ -4,8 +4,8 @@ use Rattle.std.proofs.lemmas.Bool.{eqb-true, eqb-false, ne_eqb}
 use Rattle.std.proofs.lemmas.Option.{none-some, same_Some, slice_get_within}
 use Rattle.std.specs.Int.{from_bool}
 use Rattle.std.specs.List.{sum_by}
-use Rattle.hwp_geom.specs.declared.Frame.{Frame}
-use Rattle.hwp_geom.specs.declared.Layout.{Layout}
+use Rattle.hwp_page.specs.hwp_geom.declared.Frame.{Frame}
+use Rattle.hwp_page.specs.hwp_geom.declared.Layout.{Layout}
 use Rattle.hwp_words.specs.Frames.{lock_of, count_of, owner_of}
 use Rattle.hwp_words.proofs.FrameSteps.{fields-unlock}
 use Rattle.hwp_core_rule.specs.declared.log.Log.{Log}
@@ -24,12 +24,12 @@ use Rattle.hwp_core_rule.specs.parts.Fits.{Fits, KnowsWords, KnowsOwn}
 use Rattle.hwp_core_rule.specs.parts.Locks.{IsLocked}
 use Rattle.hwp_core_rule.specs.parts.Owners.{HoldsBoth}
 use Rattle.hwp_core_rule.proofs.Lists.{at_map, same-or, same-number, set_here, term-le, each-weaken, each-changed, sum-changed, length-changed, map-was, set-set, terms-le}
-use Rattle.hwp_core_rule.proofs.FrameWord.{IsLike, like-fields, like-locked}
+use Rattle.hwp_core_rule.proofs.FrameWordLaws.{IsLike, like-fields, like-locked}
 use Rattle.hwp_core_rule.proofs.ListDrops.{sum-without, length-without, each-without, some-without}
 use Rattle.hwp_core_rule.proofs.PageWords.{first-lock}
 use Rattle.hwp_core_rule.proofs.BodySlots.{carry-none, carry-home, another}
 use Rattle.hwp_core_rule.proofs.steps.FrameLockSteps.{keeps-locking}
-use Rattle.hwp_geom.specs.declared.Who.{Who}
+use Rattle.hwp_page.specs.hwp_geom.declared.Who.{Who}
 use Rattle.hwp_core_rule.specs.Asks.{CanUnlockFrame, CanGoHome}
 use Rattle.hwp_core_rule.proofs.Keeps.{Given, Keeps}
 use Rattle.hwp_core_rule.proofs.WordsByKind.{word-there}

@@ -1,6 +1,6 @@
 -- Steps on a frame's count keep the frame rule, where the parts on counts, places and locks do.
 use Rattle.std.proofs.Common.{◌≡◌, ℕ, ◌+◌, ◌<◌, List, Some, map, set, slice_get, refl, ap}
-use Rattle.hwp_geom.specs.declared.Layout.{Layout}
+use Rattle.hwp_page.specs.hwp_geom.declared.Layout.{Layout}
 use Rattle.hwp_words.specs.Frames.{lock_of}
 use Rattle.hwp_core_rule.specs.declared.view.FrameLock.{FrameLock}
 use Rattle.hwp_core_rule.specs.declared.view.Ref.{Ref}
@@ -14,7 +14,7 @@ use Rattle.hwp_core_rule.specs.parts.Holdings.{IsBounded}
 use Rattle.hwp_core_rule.specs.parts.Locks.{FrameLocksHeld}
 use Rattle.hwp_core_rule.specs.parts.Places.{HasOnePlace}
 use Rattle.hwp_core_rule.proofs.Lists.{change, at_map}
-use Rattle.hwp_core_rule.proofs.FrameWord.{IsLike, like-locked, locked-again, like-failures, like-pages}
+use Rattle.hwp_core_rule.proofs.FrameWordLaws.{IsLike, like-locked, locked-again, like-failures, like-pages}
 use Rattle.hwp_core_rule.proofs.PartKeeps
 use Rattle.hwp_core_rule.specs.declared.view.FrameInHand.{FrameInHand}
 

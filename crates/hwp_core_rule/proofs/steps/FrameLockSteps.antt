@@ -2,7 +2,7 @@
 use Rattle.std.proofs.Common.{◌≡◌, ◌≢◌, ℕ, ◌+◌, ◌<◌, ◌≤◌, ◌==◌, ◌⊎◌, min, Bool, true, false, cond, List, Option, Some, None, map, set, length, slice_get, inl, inr, refl, sym, ap, ◌∙◌, subst, arith}
 use Rattle.std.proofs.lemmas.Option.{same_Some}
 use Rattle.std.specs.List.{sum_by}
-use Rattle.hwp_geom.specs.declared.Layout.{Layout}
+use Rattle.hwp_page.specs.hwp_geom.declared.Layout.{Layout}
 use Rattle.hwp_words.specs.Frames.{lock_of, count_of, owner_of, handled_of, is_kernel}
 use Rattle.hwp_core_rule.specs.declared.log.Log.{Log}
 use Rattle.hwp_core_rule.specs.declared.view.FrameLock.{FrameLock}
@@ -20,7 +20,7 @@ use Rattle.hwp_core_rule.specs.parts.Locks.{FrameLocksHeld, PageLocksHeld, IsLoc
 use Rattle.hwp_core_rule.specs.parts.Owners.{CacheWordsOwned, HoldsBoth}
 use Rattle.hwp_core_rule.specs.parts.Places.{HasOnePlace, in_hand}
 use Rattle.hwp_core_rule.proofs.Lists.{change, at_map, at_set, set_here, set_else, same-or, set_again, sum-set, term-le, each-set}
-use Rattle.hwp_core_rule.proofs.FrameWord.{IsLike, word-was, like-translations, like-caches, placed-again, like-handed-all, counted-again, locked-again, like-failures}
+use Rattle.hwp_core_rule.proofs.FrameWordLaws.{IsLike, word-was, like-translations, like-caches, placed-again, like-handed-all, counted-again, locked-again, like-failures}
 use Rattle.hwp_core_rule.proofs.BodySlots.{Carries}
 use Rattle.hwp_core_rule.proofs.BodySlots
 use Rattle.hwp_core_rule.proofs.PartKeeps

@@ -3,8 +3,8 @@ use Rattle.std.proofs.Common.{◌≡◌, ℕ, ◌+◌, ◌*◌, ◌<◌, ◌≤�
 use Rattle.std.proofs.lemmas.List.Sums.{sum_by_push}
 use Rattle.std.specs.Int.{from_bool}
 use Rattle.std.specs.List.{sum_by}
-use Rattle.hwp_geom.specs.declared.FileNo.{FileNo}
-use Rattle.hwp_geom.specs.declared.Layout.{Layout}
+use Rattle.hwp_page.specs.hwp_geom.declared.FileNo.{FileNo}
+use Rattle.hwp_page.specs.hwp_geom.declared.Layout.{Layout}
 use Rattle.hwp_page.specs.Losses.{is_loss}
 use Rattle.hwp_page.specs.Orders.{IsNotLater}
 use Rattle.hwp_words.specs.Counters.{hardware_of}

@@ -5,11 +5,11 @@ use Rattle.std.specs.Int.{from_bool}
 use Rattle.std.specs.List.{sum_by}
 use Rattle.std.specs.Option.{IfSome}
 use Rattle.std.proofs.lemmas.Option.{same_Some, slice_get_within, slice_get-get_or}
-use Rattle.hwp_geom.specs.declared.Frame.{Frame}
-use Rattle.hwp_geom.specs.declared.Layout.{Layout}
-use Rattle.hwp_geom.specs.declared.Page.{Page}
-use Rattle.hwp_geom.specs.declared.TransDecl.{TransDecl}
-use Rattle.hwp_geom.specs.Layout.{IsSound}
+use Rattle.hwp_page.specs.hwp_geom.declared.Frame.{Frame}
+use Rattle.hwp_page.specs.hwp_geom.declared.Layout.{Layout}
+use Rattle.hwp_page.specs.hwp_geom.declared.Page.{Page}
+use Rattle.hwp_page.specs.hwp_geom.declared.TransDecl.{TransDecl}
+use Rattle.hwp_page.specs.hwp_geom.Layout.{IsSound}
 use Rattle.hwp_words.specs.Frames.{count_of, lock_of, handled_of}
 use Rattle.hwp_words.specs.Names.{frame_name, frame_named}
 use Rattle.hwp_words.specs.Translations.{pte_word}

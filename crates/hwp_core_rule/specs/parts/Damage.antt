@@ -1,10 +1,10 @@
 -- Bad and weak lines.
 use Rattle.std.specs.Prelude.{◌≡◌, ℕ, ◌<◌, ◌≤◌, ◌==◌, ◌&&◌, min, Bool, true, false, not, List, Some, slice_get}
 use Rattle.std.specs.Int.{from_bool, bit_at}
-use Rattle.hwp_geom.specs.declared.Damage.{Damage}
-use Rattle.hwp_geom.specs.declared.Damage.TheVariants as damages
-use Rattle.hwp_geom.specs.declared.Frame.{Frame}
-use Rattle.hwp_geom.specs.Limits.{line_limit}
+use Rattle.hwp_page.specs.hwp_geom.declared.Damage.{Damage}
+use Rattle.hwp_page.specs.hwp_geom.declared.Damage.TheVariants as damages
+use Rattle.hwp_page.specs.hwp_geom.declared.Frame.{Frame}
+use Rattle.hwp_page.specs.hwp_geom.Limits.{line_limit}
 use Rattle.hwp_core_rule.specs.declared.shared_word.SharedWord.{SharedWord}
 use Rattle.hwp_core_rule.specs.declared.shared_word.SharedWord.TheVariants as places
 use Rattle.hwp_core_rule.specs.declared.view.Sight.{Sight}

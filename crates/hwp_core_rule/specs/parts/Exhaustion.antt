@@ -1,7 +1,7 @@
 -- Why no frame is free.
 use Rattle.std.specs.Prelude.{◌≡◌, ℕ, ◌+◌, ◌*◌, ◌≤◌, ◌==◌, min, not, List, length, slice_index_or, true}
 use Rattle.std.specs.Int.{from_bool}
-use Rattle.hwp_geom.specs.declared.Layout.{Layout}
+use Rattle.hwp_page.specs.hwp_geom.declared.Layout.{Layout}
 use Rattle.hwp_core_rule.specs.declared.shared_word.SharedWord.TheVariants as places
 use Rattle.hwp_core_rule.specs.declared.view.Mark.{Mark}
 use Rattle.hwp_core_rule.specs.declared.view.Sight.{Sight}

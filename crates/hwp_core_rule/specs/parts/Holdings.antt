@@ -1,8 +1,8 @@
 -- How much a view holds, and of which processors it is.
 use Rattle.std.specs.Prelude.{◌≡◌, ℕ, ◌+◌, ◌<◌, ◌≤◌, ◌==◌, List, [], length}
 use Rattle.std.specs.Int.{from_bool}
-use Rattle.hwp_geom.specs.declared.Layout.{Layout}
-use Rattle.hwp_geom.specs.declared.Who.{Who}
+use Rattle.hwp_page.specs.hwp_geom.declared.Layout.{Layout}
+use Rattle.hwp_page.specs.hwp_geom.declared.Who.{Who}
 use Rattle.hwp_core_rule.specs.declared.view.Part.{Part}
 use Rattle.hwp_core_rule.specs.declared.view.Ref.{Ref}
 use Rattle.hwp_core_rule.specs.declared.view.Made.{Made}

@@ -2,9 +2,9 @@
 use Rattle.std.specs.Prelude.{◌≡◌, ℕ, ◌<◌, ◌≤◌, ◌==◌, ◌&&◌, nat_lt, cond, List, Some, length, slice_get}
 use Rattle.std.specs.List.{sum_by}
 use Rattle.std.specs.Int.{from_bool}
-use Rattle.hwp_geom.specs.declared.Cpu.{Cpu}
-use Rattle.hwp_geom.specs.declared.Frame.{Frame}
-use Rattle.hwp_geom.specs.Limits.{command_limit}
+use Rattle.hwp_page.specs.hwp_geom.declared.Cpu.{Cpu}
+use Rattle.hwp_page.specs.hwp_geom.declared.Frame.{Frame}
+use Rattle.hwp_page.specs.hwp_geom.Limits.{command_limit}
 use Rattle.hwp_words.specs.Frames.{poison_of, cycle_of}
 use Rattle.hwp_core_rule.specs.declared.shared_word.SharedWord.TheVariants as places
 use Rattle.hwp_core_rule.specs.declared.view.Mark.{Mark}

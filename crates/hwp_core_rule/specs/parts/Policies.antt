@@ -1,12 +1,12 @@
 -- The policies of threads.
 use Rattle.std.specs.Prelude.{◌≡◌, ℕ, ◌≤◌, ◌==◌, List, [], ◌∷◌, Some, length, take, slice_get}
 use Rattle.std.specs.List.{filter}
-use Rattle.hwp_geom.specs.declared.Cpu.{Cpu}
-use Rattle.hwp_geom.specs.declared.Thread.{Thread}
-use Rattle.hwp_geom.specs.declared.ThreadDecl.{ThreadDecl}
-use Rattle.hwp_geom.specs.Limits.{command_limit}
-use Rattle.hwp_kill.specs.declared.Policy.{Policy}
-use Rattle.hwp_kill.specs.declared.Policy.TheVariants as policy_names
+use Rattle.hwp_page.specs.hwp_geom.declared.Cpu.{Cpu}
+use Rattle.hwp_page.specs.hwp_geom.declared.Thread.{Thread}
+use Rattle.hwp_page.specs.hwp_geom.declared.ThreadDecl.{ThreadDecl}
+use Rattle.hwp_page.specs.hwp_geom.Limits.{command_limit}
+use Rattle.hwp_page.specs.hwp_kill.declared.Policy.{Policy}
+use Rattle.hwp_page.specs.hwp_kill.declared.Policy.TheVariants as policy_names
 use Rattle.hwp_core_rule.specs.declared.shared_word.SharedWord.TheVariants as places
 use Rattle.hwp_core_rule.specs.declared.view.Part.{Part}
 use Rattle.hwp_core_rule.specs.declared.view.Setting.{Setting}

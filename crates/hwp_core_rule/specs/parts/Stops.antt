@@ -1,8 +1,8 @@
 -- What stays: ended processes and the stop.
 use Rattle.std.specs.Prelude.{◌≡◌, ◌≢◌, ℕ, ◌+◌, min, List, Some, length, slice_get}
 use Rattle.std.specs.List.{sum_by}
-use Rattle.hwp_geom.specs.declared.Proc.{Proc}
-use Rattle.hwp_geom.specs.declared.Who.{Who}
+use Rattle.hwp_page.specs.hwp_geom.declared.Proc.{Proc}
+use Rattle.hwp_page.specs.hwp_geom.declared.Who.{Who}
 use Rattle.hwp_words.specs.Stops.{stopper_of}
 use Rattle.hwp_core_rule.specs.declared.shared_word.SharedWord.TheVariants as places
 use Rattle.hwp_core_rule.specs.declared.view.InHand.{InHand}

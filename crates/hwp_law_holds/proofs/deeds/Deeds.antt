@@ -27,7 +27,7 @@ use Rattle.hwp_law_run.specs.hwp_law.History.{Fits, Names}
 use Rattle.hwp_law_run.specs.hwp_law.States.{entry_named}
 use Rattle.hwp_cpu_row.specs.declared.FrameChange.{FrameChange}
 use Rattle.hwp_cpu_row.specs.declared.Row.{Row}
-use Rattle.hwp_scrub.specs.hwp_cpu_check.declared.EventOutcome.{EventOutcome}
+use Rattle.hwp_cpu_row.specs.hwp_cpu_check.declared.EventOutcome.{EventOutcome}
 use Rattle.hwp_law_holds.specs.Accounts.{IsAccounted}
 use Rattle.hwp_law_holds.specs.Causes.{HasCome, HasOnlyMet, IsAnswerCaused, IsCaused, IsMet, IsSoftCaused, IsTableCaused, WasSignalled}
 use Rattle.hwp_law_holds.proofs.deeds.Needed.{IsNeeded, needed}

@@ -21,11 +21,12 @@ use Rattle.hwp_law_run.specs.hwp_severity.declared.Severity.TheVariants as sever
 use Rattle.hwp_law_run.specs.hwp_script_read.declared.Command.{Command}
 use Rattle.hwp_law_run.specs.hwp_law.Commands.{current_thread}
 use Rattle.hwp_law_run.specs.hwp_law.Entries.{IsRequiredBy}
-use Rattle.hwp_scrub.specs.hwp_cpu_check.declared.Found.{Found}
+use Rattle.hwp_soft.specs.hwp_claim.declared.Found.{Found}
 use Rattle.hwp_cpu_row.specs.declared.Row.{Row}
-use Rattle.hwp_scrub.specs.hwp_cpu_check.declared.EventOutcome.{EventOutcome}
-use Rattle.hwp_scrub.specs.hwp_cpu_check.Done.{entered_by, failed_by, failed_in}
-use Rattle.hwp_scrub.specs.hwp_cpu_check.Told.{required_by}
+use Rattle.hwp_cpu_row.specs.hwp_cpu_check.declared.EventOutcome.{EventOutcome}
+use Rattle.hwp_soft.specs.hwp_claim.Done.{entered_by}
+use Rattle.hwp_cpu_row.specs.hwp_cpu_check.Done.{failed_by, failed_in}
+use Rattle.hwp_cpu_row.specs.hwp_cpu_check.Told.{required_by}
 use Rattle.hwp_law_holds.specs.Accounts.{IsAccounted, failures_in, found_in, own_failure}
 use Rattle.hwp_law_holds.proofs.Picked.{picked-has, picked-is}
 

@@ -22,7 +22,7 @@ use Rattle.hwp_law_run.specs.hwp_law.Pairings.{is_soft}
 use Rattle.hwp_cpu_row.specs.declared.FrameChange.{FrameChange}
 use Rattle.hwp_cpu_row.specs.declared.FrameChange.TheVariants as owns
 use Rattle.hwp_cpu_row.specs.declared.Row.{Row}
-use Rattle.hwp_scrub.specs.hwp_cpu_check.declared.EventOutcome.{EventOutcome}
+use Rattle.hwp_cpu_row.specs.hwp_cpu_check.declared.EventOutcome.{EventOutcome}
 use Rattle.hwp_law_holds.specs.Accounts.{IsAccounted, IsOwn}
 use Rattle.hwp_law_holds.specs.Causes.{IsAnswerCaused, IsCaused, IsMet}
 use Rattle.hwp_law_holds.proofs.deeds.Deeds.{IsDeed, are-deeds}

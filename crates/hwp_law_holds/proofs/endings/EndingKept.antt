@@ -25,7 +25,7 @@ use Rattle.hwp_law_run.specs.hwp_core_rule.Asks.{Extends, IsTurnOf}
 use Rattle.hwp_law_run.specs.hwp_core_rule.Lists.{EachMember, SomeMember}
 use Rattle.hwp_law_run.specs.hwp_core_rule.Moves.{Move}
 use Rattle.hwp_law_run.specs.hwp_core_rule.Rule.{Holds}
-use Rattle.hwp_law_run.specs.hwp_core_rule.Slots.{MeetsSlot, slot_move}
+use Rattle.hwp_law_run.specs.hwp_core_rule.SlotMoves.{MeetsSlot, slot_move}
 use Rattle.hwp_law_run.specs.hwp_core_rule.Steps.{place_of}
 use Rattle.hwp_law_run.specs.hwp_core_rule.Views.{body_of, changed, is_body_of, made_from, more_of, noted, view_after}
 use Rattle.hwp_law_run.specs.hwp_core_rule.Words.{words_of}

@@ -28,7 +28,7 @@ use Rattle.hwp_law_run.specs.hwp_law.Commands.{Access, access_of, process_of_thr
 use Rattle.hwp_law_run.specs.hwp_law.Endings.{EndingsStay, HasEnded, IsOver, WasGone}
 use Rattle.hwp_law_run.proofs.Reported.{entry-listed}
 use Rattle.hwp_cpu_row.specs.declared.FrameChange.{FrameChange}
-use Rattle.hwp_scrub.specs.hwp_cpu_check.declared.EventOutcome.{EventOutcome}
+use Rattle.hwp_cpu_row.specs.hwp_cpu_check.declared.EventOutcome.{EventOutcome}
 use Rattle.hwp_law_holds.specs.Causes.{IsAnswerCaused, IsTableCaused, SawProcess, WasSignalled}
 use Rattle.hwp_law_holds.specs.Runs.{IsRunOf}
 use Rattle.hwp_law_holds.proofs.RunKeeps.{run-keeps}

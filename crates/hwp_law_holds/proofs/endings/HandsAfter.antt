@@ -17,7 +17,7 @@ use Rattle.hwp_law_run.specs.hwp_core_rule.declared.View.{View}
 use Rattle.hwp_law_run.specs.hwp_core_rule.Asks.{AsksOf, CanPut, Extends}
 use Rattle.hwp_law_run.specs.hwp_core_rule.Lists.{EachMember}
 use Rattle.hwp_law_run.specs.hwp_core_rule.Logs.{log_of}
-use Rattle.hwp_law_run.specs.hwp_core_rule.Slots.{frame_slot, moved_out, shelf_slot, slot_move}
+use Rattle.hwp_law_run.specs.hwp_core_rule.SlotMoves.{frame_slot, moved_out, shelf_slot, slot_move}
 use Rattle.hwp_law_run.specs.hwp_core_rule.Steps.{goes}
 use Rattle.hwp_law_run.specs.hwp_core_rule.Views.{body_of, changed, is_body_of, killed_by, listed_of, loaded, lock_found, lock_of_page, put_home, sighted, taken, view_by}
 use Rattle.hwp_law_run.proofs.of_hwp_core_rule.Lists.{each-changed, each-push}

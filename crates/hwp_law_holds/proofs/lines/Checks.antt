@@ -20,18 +20,21 @@ use Rattle.hwp_law_run.specs.hwp_core_task.Boards.{view_of}
 use Rattle.hwp_law_run.specs.hwp_script_read.declared.Script.{Script}
 use Rattle.hwp_law_run.specs.hwp_report_text.declared.Acted.TheVariants as acts
 use Rattle.hwp_law_run.specs.hwp_report_text.declared.Report.{Report}
-use Rattle.hwp_law_run.specs.hwp_law.Checks.{AreLinesOf, Banks, IsAct, IsCheck, IsLineOf, IsResult, empty_banks, has_stop, held_from, is_panic}
-use Rattle.hwp_law_run.specs.hwp_law.Commands.{Arrival}
+use Rattle.hwp_law_run.specs.hwp_law.Checks.{AreLinesOf, IsAct, IsCheck, IsLineOf, IsResult}
+use Rattle.hwp_law_run.specs.hwp_report_text.Acts.{is_panic}
+use Rattle.hwp_law_run.specs.hwp_banks.Banks.{Banks, empty_banks, held_from}
+use Rattle.hwp_law_run.specs.hwp_severity.Handling.{has_stop}
+use Rattle.hwp_law_run.specs.hwp_severity.declared.Arrival.{Arrival}
 use Rattle.hwp_law_run.specs.hwp_law.Events.{AreAccessChecks, IsDamaged}
 use Rattle.hwp_law_run.specs.hwp_law.Lines.{marks_of}
 use Rattle.hwp_law_run.specs.hwp_law.Records.{WasPoisoned}
-use Rattle.hwp_scrub.specs.hwp_cpu_check.declared.Found.{Found}
-use Rattle.hwp_scrub.specs.hwp_cpu_check.declared.Held.{Held}
-use Rattle.hwp_scrub.specs.hwp_cpu_check.declared.EventOutcome.{EventOutcome}
-use Rattle.hwp_scrub.specs.hwp_cpu_check.Checks.{AreChecks, Check, IsActedOn, SawBad, left_by, lines_of, restarting}
-use Rattle.hwp_scrub.specs.hwp_cpu_check.Events.{graded_in}
-use Rattle.hwp_scrub.specs.hwp_cpu_check.Fits.{AreTold, IsDone, IsFailed, IsTold}
-use Rattle.hwp_scrub.specs.hwp_cpu_check.Told.{frame_of, required_by, severity_at_once}
+use Rattle.hwp_soft.specs.hwp_claim.declared.Found.{Found}
+use Rattle.hwp_cpu_row.specs.hwp_cpu_check.declared.Held.{Held}
+use Rattle.hwp_cpu_row.specs.hwp_cpu_check.declared.EventOutcome.{EventOutcome}
+use Rattle.hwp_cpu_row.specs.hwp_cpu_check.Checks.{AreChecks, Check, IsActedOn, SawBad, left_by, lines_of, restarting}
+use Rattle.hwp_cpu_row.specs.hwp_cpu_check.Events.{graded_in}
+use Rattle.hwp_cpu_row.specs.hwp_cpu_check.Fits.{AreTold, IsDone, IsFailed, IsTold}
+use Rattle.hwp_cpu_row.specs.hwp_cpu_check.Told.{frame_of, required_by, severity_at_once}
 use Rattle.hwp_law_holds.proofs.RunEnds.{IsEnd}
 use Rattle.hwp_law_holds.proofs.RowLines.{behind, event_at}
 use Rattle.hwp_law_holds.proofs.marks.RecordPlaces.{was-poisoned}

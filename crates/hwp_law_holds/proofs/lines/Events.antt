@@ -22,15 +22,18 @@ use Rattle.hwp_law_run.specs.hwp_script_read.declared.Script.{Script}
 use Rattle.hwp_law_run.specs.hwp_report_text.declared.Answer.{Answer}
 use Rattle.hwp_law_run.specs.hwp_report_text.declared.Answer.TheVariants as answers
 use Rattle.hwp_law_run.specs.hwp_report_text.declared.Report.{Report}
-use Rattle.hwp_law_run.specs.hwp_law.Checks.{Banks, IsCheck, empty_banks}
-use Rattle.hwp_law_run.specs.hwp_law.Commands.{Arrival, arrival_of}
-use Rattle.hwp_law_run.specs.hwp_law.Events.{AreAccessChecks, AreEvents, AreEventsFrom, AreEventsOf, AreScrubbed, IsAccessChecked, IsDamaged, IsRaise, is_check, logged_if_done, raw_event}
+use Rattle.hwp_law_run.specs.hwp_law.Checks.{IsCheck}
+use Rattle.hwp_law_run.specs.hwp_banks.Banks.{Banks, empty_banks}
+use Rattle.hwp_law_run.specs.hwp_law.Commands.{arrival_of}
+use Rattle.hwp_law_run.specs.hwp_severity.declared.Arrival.{Arrival}
+use Rattle.hwp_law_run.specs.hwp_law.Events.{AreAccessChecks, AreEvents, AreEventsFrom, AreEventsOf, AreScrubbed, IsAccessChecked, IsDamaged, IsRaise, is_check, logged_if_done}
+use Rattle.hwp_law_run.specs.hwp_banks.Banks.{raw_event}
 use Rattle.hwp_law_run.specs.hwp_law.Events as law
 use Rattle.hwp_law_run.specs.hwp_law.Lines.{EventLine, answer_of, events_of}
 use Rattle.hwp_law_run.specs.hwp_law.Pairings.{entries_of}
 use Rattle.hwp_cpu_row.specs.declared.Row.{Row}
-use Rattle.hwp_scrub.specs.hwp_cpu_check.declared.EventOutcome.{EventOutcome}
-use Rattle.hwp_scrub.specs.hwp_cpu_check.Checks.{IsActedOn, SawBad, lines_of, restarting}
+use Rattle.hwp_cpu_row.specs.hwp_cpu_check.declared.EventOutcome.{EventOutcome}
+use Rattle.hwp_cpu_row.specs.hwp_cpu_check.Checks.{IsActedOn, SawBad, lines_of, restarting}
 use Rattle.hwp_law_holds.specs.Runs.{IsRunOf, row_at}
 use Rattle.hwp_law_holds.specs.Served.{AreRowsServed}
 use Rattle.hwp_scrub.specs.Visits.{scrubbing}

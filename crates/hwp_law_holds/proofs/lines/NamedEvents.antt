@@ -40,16 +40,18 @@ use Rattle.hwp_law_run.specs.hwp_banks.Status.{is_valid}
 use Rattle.hwp_law_run.specs.hwp_core_rule.Lists.{EachMember}
 use Rattle.hwp_law_run.proofs.of_hwp_core_rule.Lists.{each-set}
 use Rattle.hwp_law_run.proofs.of_hwp_core_rule.MoreEntries.{each-append}
-use Rattle.hwp_law_run.specs.hwp_law.Checks.{Banks, empty_banks, held_from, log_in}
-use Rattle.hwp_law_run.specs.hwp_law.Commands.{Arrival, arrival_of}
-use Rattle.hwp_law_run.specs.hwp_law.Events.{logged_if_done, raw_bank, raw_event}
+use Rattle.hwp_law_run.specs.hwp_banks.Banks.{Banks, empty_banks, held_from, log_in}
+use Rattle.hwp_law_run.specs.hwp_law.Commands.{arrival_of}
+use Rattle.hwp_law_run.specs.hwp_severity.declared.Arrival.{Arrival}
+use Rattle.hwp_law_run.specs.hwp_law.Events.{logged_if_done}
+use Rattle.hwp_law_run.specs.hwp_banks.Banks.{raw_bank, raw_event}
 use Rattle.hwp_law_run.specs.hwp_law.Places.{command_at}
-use Rattle.hwp_scrub.specs.hwp_cpu_check.declared.Found.{Found}
-use Rattle.hwp_scrub.specs.hwp_cpu_check.declared.Held.{Held}
+use Rattle.hwp_soft.specs.hwp_claim.declared.Found.{Found}
+use Rattle.hwp_cpu_row.specs.hwp_cpu_check.declared.Held.{Held}
 use Rattle.hwp_cpu_row.specs.declared.Row.{Row}
-use Rattle.hwp_scrub.specs.hwp_cpu_check.declared.EventOutcome.{EventOutcome}
-use Rattle.hwp_scrub.specs.hwp_cpu_check.Checks.{AreChecks, Check, IsActedOn, SawBad, left_by, lines_of, with_own}
-use Rattle.hwp_scrub.specs.hwp_cpu_check.Events.{graded_in}
+use Rattle.hwp_cpu_row.specs.hwp_cpu_check.declared.EventOutcome.{EventOutcome}
+use Rattle.hwp_cpu_row.specs.hwp_cpu_check.Checks.{AreChecks, Check, IsActedOn, SawBad, left_by, lines_of, with_own}
+use Rattle.hwp_cpu_row.specs.hwp_cpu_check.Events.{graded_in}
 use Rattle.hwp_scrub.specs.Visits as scrubs
 use Rattle.hwp_scrub.specs.Visits.{AreBanks, AreVisits, IsBadMet, IsWeakMet, SawLowest, Visit, left_by_bad, left_by_visit, left_by_weak, lines_of_visit, scrub_bank, scrubbing, with_bad}
 use Rattle.hwp_scrub.proofs.VisitLaws.{bad-leaves, left-banks}

@@ -28,12 +28,12 @@ use Rattle.hwp_law_run.specs.hwp_report_text.declared.Report.{Report}
 use Rattle.hwp_law_run.specs.hwp_law.Commands.{current_thread}
 use Rattle.hwp_law_run.specs.hwp_law.Records.{is_kernel_found, is_moved, outcome_answer}
 use Rattle.hwp_law_run.proofs.Homes.{there-is}
-use Rattle.hwp_scrub.specs.hwp_cpu_check.declared.Found.{Found}
+use Rattle.hwp_soft.specs.hwp_claim.declared.Found.{Found}
 use Rattle.hwp_cpu_row.specs.declared.FrameChange.{FrameChange}
 use Rattle.hwp_cpu_row.specs.declared.FrameChange.TheVariants as owns
 use Rattle.hwp_cpu_row.specs.declared.Row.{Row}
-use Rattle.hwp_scrub.specs.hwp_cpu_check.declared.EventOutcome.{EventOutcome}
-use Rattle.hwp_scrub.specs.hwp_cpu_check.Fits.{IsEntered}
+use Rattle.hwp_cpu_row.specs.hwp_cpu_check.declared.EventOutcome.{EventOutcome}
+use Rattle.hwp_cpu_row.specs.hwp_cpu_check.Fits.{IsEntered}
 use Rattle.hwp_law_holds.specs.Accounts.{IsOfflined, IsOwn}
 use Rattle.hwp_law_holds.specs.Causes.{HasCome, HasFailed, IsAnswerCaused}
 use Rattle.hwp_law_holds.specs.Runs.{row_at}

@@ -23,11 +23,11 @@ use Rattle.hwp_law_run.specs.hwp_report_text.declared.MarkLine.TheVariants as ma
 use Rattle.hwp_law_run.specs.hwp_report_text.declared.Report.{Report}
 use Rattle.hwp_law_run.specs.hwp_law.Pairings.{situation_number}
 use Rattle.hwp_law_run.specs.hwp_law.Records.{who_in}
-use Rattle.hwp_scrub.specs.hwp_cpu_check.declared.Found.{Found}
+use Rattle.hwp_soft.specs.hwp_claim.declared.Found.{Found}
 use Rattle.hwp_cpu_row.specs.declared.FrameChange.{FrameChange}
 use Rattle.hwp_cpu_row.specs.declared.Row.{Row}
-use Rattle.hwp_scrub.specs.hwp_cpu_check.declared.EventOutcome.{EventOutcome}
-use Rattle.hwp_scrub.specs.hwp_cpu_check.Told.{frame_of}
+use Rattle.hwp_cpu_row.specs.hwp_cpu_check.declared.EventOutcome.{EventOutcome}
+use Rattle.hwp_cpu_row.specs.hwp_cpu_check.Told.{frame_of}
 use Rattle.hwp_law_holds.specs.Accounts.{IsNote}
 use Rattle.hwp_law_holds.specs.Rows.{Note, note_by, notes_from, record_of}
 use Rattle.hwp_law_holds.specs.Runs.{notes_of, row_at}

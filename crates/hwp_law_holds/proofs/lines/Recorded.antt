@@ -37,14 +37,15 @@ use Rattle.hwp_law_run.specs.hwp_law.Lines.{EventLine, is_same_command}
 use Rattle.hwp_law_run.specs.hwp_law.Pairings.{AreRecorded, entries_of, finds, has_page, is_commands, is_failure, is_failure_mark, is_move, is_move_mark, is_required, is_soft, is_urgent, marks_in, situation_number, urgent_from}
 use Rattle.hwp_law_run.specs.hwp_law.Records.{hardware_marks, how_in, is_by_hardware, result_lines, who_in}
 use Rattle.hwp_law_run.proofs.Homes.{there-is}
-use Rattle.hwp_scrub.specs.hwp_cpu_check.declared.Found.{Found}
+use Rattle.hwp_soft.specs.hwp_claim.declared.Found.{Found}
 use Rattle.hwp_cpu_row.specs.declared.FrameChange.{FrameChange}
 use Rattle.hwp_cpu_row.specs.declared.FrameChange.TheVariants as owns
 use Rattle.hwp_cpu_row.specs.declared.Row.{Row}
-use Rattle.hwp_scrub.specs.hwp_cpu_check.declared.EventOutcome.{EventOutcome}
-use Rattle.hwp_scrub.specs.hwp_cpu_check.Done.{entered_by, failed_by, failed_in}
-use Rattle.hwp_scrub.specs.hwp_cpu_check.Fits.{IsEntered}
-use Rattle.hwp_scrub.specs.hwp_cpu_check.Told.{frame_of, required_by}
+use Rattle.hwp_cpu_row.specs.hwp_cpu_check.declared.EventOutcome.{EventOutcome}
+use Rattle.hwp_soft.specs.hwp_claim.Done.{entered_by}
+use Rattle.hwp_cpu_row.specs.hwp_cpu_check.Done.{failed_by, failed_in}
+use Rattle.hwp_cpu_row.specs.hwp_cpu_check.Fits.{IsEntered}
+use Rattle.hwp_cpu_row.specs.hwp_cpu_check.Told.{frame_of, required_by}
 use Rattle.hwp_law_holds.specs.Accounts.{failures_in, own_failure}
 use Rattle.hwp_law_holds.specs.Rows.{Note, note_by, note_of, own_note, told_note}
 use Rattle.hwp_law_holds.specs.Runs.{row_at}

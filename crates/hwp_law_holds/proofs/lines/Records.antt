@@ -34,14 +34,14 @@ use Rattle.hwp_law_run.specs.hwp_law.Commands.{current_thread}
 use Rattle.hwp_law_run.specs.hwp_law.Lines.{EventLine, answer_of, marks_of}
 use Rattle.hwp_law_run.specs.hwp_law.Places.{command_at}
 use Rattle.hwp_law_run.specs.hwp_law.Records.{HaveEvents, is_kernel_found, IsAnswered, IsFound, IsFrameRecord, IsMarkAt, hardware_marks, how_in, is_by_hardware, is_moved, line_results, mark_results, result_lines, result_of, who_in}
-use Rattle.hwp_scrub.specs.hwp_cpu_check.declared.Found.{Found}
+use Rattle.hwp_soft.specs.hwp_claim.declared.Found.{Found}
 use Rattle.hwp_cpu_row.specs.declared.FrameChange.{FrameChange}
 use Rattle.hwp_cpu_row.specs.declared.FrameChange.TheVariants as owns
 use Rattle.hwp_cpu_row.specs.declared.Row.{Row}
-use Rattle.hwp_scrub.specs.hwp_cpu_check.declared.EventOutcome.{EventOutcome}
-use Rattle.hwp_scrub.specs.hwp_cpu_check.Done.{marked_in}
-use Rattle.hwp_scrub.specs.hwp_cpu_check.Fits.{IsEntered}
-use Rattle.hwp_scrub.specs.hwp_cpu_check.Told.{required_by}
+use Rattle.hwp_cpu_row.specs.hwp_cpu_check.declared.EventOutcome.{EventOutcome}
+use Rattle.hwp_cpu_row.specs.hwp_cpu_check.Done.{marked_in}
+use Rattle.hwp_cpu_row.specs.hwp_cpu_check.Fits.{IsEntered}
+use Rattle.hwp_cpu_row.specs.hwp_cpu_check.Told.{required_by}
 use Rattle.hwp_law_holds.specs.Accounts.{marking_by, markings, markings_in, own_marking}
 use Rattle.hwp_law_holds.specs.Rows.{Note, lines_of, note_by, offlined, own_note, record_of, told_note}
 use Rattle.hwp_law_holds.specs.Runs.{notes_of, row_at}

@@ -18,16 +18,18 @@ use Rattle.hwp_law_run.specs.hwp_script_read.declared.Command.{Command}
 use Rattle.hwp_law_run.specs.hwp_script_read.declared.Command.TheVariants as commands
 use Rattle.hwp_law_run.specs.hwp_report_text.declared.Answer.{Answer}
 use Rattle.hwp_law_run.specs.hwp_report_text.declared.Answer.TheVariants as answers
-use Rattle.hwp_law_run.specs.hwp_law.Checks.{Banks, empty_banks, log_in}
-use Rattle.hwp_law_run.specs.hwp_law.Commands.{Arrival, arrival_of}
-use Rattle.hwp_law_run.specs.hwp_law.Events.{logged_if_done, raw_bank, raw_event}
-use Rattle.hwp_scrub.specs.hwp_cpu_check.declared.Held.{Held}
+use Rattle.hwp_law_run.specs.hwp_banks.Banks.{Banks, empty_banks, log_in}
+use Rattle.hwp_law_run.specs.hwp_law.Commands.{arrival_of}
+use Rattle.hwp_law_run.specs.hwp_severity.declared.Arrival.{Arrival}
+use Rattle.hwp_law_run.specs.hwp_law.Events.{logged_if_done}
+use Rattle.hwp_law_run.specs.hwp_banks.Banks.{raw_bank, raw_event}
+use Rattle.hwp_cpu_row.specs.hwp_cpu_check.declared.Held.{Held}
 use Rattle.hwp_cpu_row.specs.declared.Row.{Row}
-use Rattle.hwp_scrub.specs.hwp_cpu_check.declared.EventOutcome.{EventOutcome}
-use Rattle.hwp_scrub.specs.hwp_cpu_check.Checks.{Check, IsActedOn, left_by, with_own}
-use Rattle.hwp_scrub.specs.hwp_cpu_check.Events.{graded_in}
-use Rattle.hwp_scrub.specs.hwp_cpu_check.Fits.{AreTold, IsDone}
-use Rattle.hwp_scrub.specs.hwp_cpu_check.Told.{at_once, required_by}
+use Rattle.hwp_cpu_row.specs.hwp_cpu_check.declared.EventOutcome.{EventOutcome}
+use Rattle.hwp_cpu_row.specs.hwp_cpu_check.Checks.{Check, IsActedOn, left_by, with_own}
+use Rattle.hwp_cpu_row.specs.hwp_cpu_check.Events.{graded_in}
+use Rattle.hwp_cpu_row.specs.hwp_cpu_check.Fits.{AreTold, IsDone}
+use Rattle.hwp_cpu_row.specs.hwp_cpu_check.Told.{at_once, required_by}
 use Rattle.hwp_scrub.specs.Visits as scrubs
 use Rattle.hwp_scrub.specs.Visits.{AreBanks, IsKept, scrub_bank, scrubbing}
 use Rattle.hwp_scrub.proofs.VisitLaws.{bad-leaves, left-banks}

@@ -15,10 +15,10 @@ use Rattle.hwp_law_run.specs.hwp_core_rule.Lists.{EachMember, SomeMember}
 use Rattle.hwp_law_run.specs.hwp_core_rule.Steps.{damage_place}
 use Rattle.hwp_law_run.proofs.of_hwp_core_rule.Lists.{at_longer, at_map, each-weaken, map-was}
 use Rattle.hwp_law_run.proofs.of_hwp_core_rule.MoreEntries.{each-append}
-use Rattle.hwp_law_run.specs.hwp_law.Checks.{Banks, held_from}
-use Rattle.hwp_scrub.specs.hwp_cpu_check.declared.Held.{Held}
-use Rattle.hwp_scrub.specs.hwp_cpu_check.declared.EventOutcome.{EventOutcome}
-use Rattle.hwp_scrub.specs.hwp_cpu_check.Events.{graded_in}
+use Rattle.hwp_law_run.specs.hwp_banks.Banks.{Banks, held_from}
+use Rattle.hwp_cpu_row.specs.hwp_cpu_check.declared.Held.{Held}
+use Rattle.hwp_cpu_row.specs.hwp_cpu_check.declared.EventOutcome.{EventOutcome}
+use Rattle.hwp_cpu_row.specs.hwp_cpu_check.Events.{graded_in}
 use Rattle.hwp_law_run.specs.Scrubs.{IsFoundAt}
 use Rattle.hwp_scrub.specs.Visits as scrubs
 use Rattle.hwp_scrub.specs.Visits.{AreBanks, AreVisits, Find, IsBadMet, IsVisit, IsWeakMet, SawLowest, Visit, left_by_bad, left_by_visit, lines_of_visit, scrub_bank, scrubbing, with_bad}

@@ -34,8 +34,8 @@ use Rattle.hwp_law_run.specs.hwp_law.Lines.{answer_of, bad_lines_of, weak_lines_
 use Rattle.hwp_law_run.specs.hwp_law.Places.{command_at}
 use Rattle.hwp_cpu_row.specs.declared.FrameChange.{FrameChange}
 use Rattle.hwp_cpu_row.specs.declared.Row.{Row}
-use Rattle.hwp_scrub.specs.hwp_cpu_check.declared.EventOutcome.{EventOutcome}
-use Rattle.hwp_scrub.specs.hwp_cpu_check.Checks.{SawBad}
+use Rattle.hwp_cpu_row.specs.hwp_cpu_check.declared.EventOutcome.{EventOutcome}
+use Rattle.hwp_cpu_row.specs.hwp_cpu_check.Checks.{SawBad}
 use Rattle.hwp_law_run.proofs.Homes.{there-is}
 use Rattle.hwp_law_run.proofs.of_hwp_core_rule.MoveKeeps.{shaped}
 use Rattle.hwp_law_run.specs.hwp_law.Frames.{WasDone}

@@ -25,15 +25,16 @@ use Rattle.hwp_law_run.specs.hwp_script_read.declared.Command.{Command}
 use Rattle.hwp_law_run.specs.hwp_report_text.declared.Acted.{Acted}
 use Rattle.hwp_law_run.specs.hwp_report_text.declared.Acted.TheVariants as acts
 use Rattle.hwp_law_run.specs.hwp_report_text.declared.Answer.{Answer}
-use Rattle.hwp_law_run.specs.hwp_law.Checks.{Banks}
-use Rattle.hwp_law_run.specs.hwp_law.Commands.{Arrival, current_thread}
+use Rattle.hwp_law_run.specs.hwp_banks.Banks.{Banks}
+use Rattle.hwp_law_run.specs.hwp_law.Commands.{current_thread}
+use Rattle.hwp_law_run.specs.hwp_severity.declared.Arrival.{Arrival}
 use Rattle.hwp_law_run.specs.hwp_law.Records.{outcome_act, result_of}
-use Rattle.hwp_scrub.specs.hwp_cpu_check.declared.Found.{Found}
-use Rattle.hwp_scrub.specs.hwp_cpu_check.declared.Held.{Held}
-use Rattle.hwp_scrub.specs.hwp_cpu_check.declared.EventOutcome.{EventOutcome}
-use Rattle.hwp_scrub.specs.hwp_cpu_check.Events.{graded_in}
-use Rattle.hwp_scrub.specs.hwp_cpu_check.Fits.{AreTold, HasPoisoned, IsDone, IsEntered, IsFailed, IsTold}
-use Rattle.hwp_scrub.specs.hwp_cpu_check.Told.{at_once, frame_of, required_by, severity_at_once}
+use Rattle.hwp_soft.specs.hwp_claim.declared.Found.{Found}
+use Rattle.hwp_cpu_row.specs.hwp_cpu_check.declared.Held.{Held}
+use Rattle.hwp_cpu_row.specs.hwp_cpu_check.declared.EventOutcome.{EventOutcome}
+use Rattle.hwp_cpu_row.specs.hwp_cpu_check.Events.{graded_in}
+use Rattle.hwp_cpu_row.specs.hwp_cpu_check.Fits.{AreTold, HasPoisoned, IsDone, IsEntered, IsFailed, IsTold}
+use Rattle.hwp_cpu_row.specs.hwp_cpu_check.Told.{at_once, frame_of, required_by, severity_at_once}
 use Rattle.hwp_law_holds.specs.Told.{AreToldBy}
 use Rattle.hwp_law_holds.proofs.RowTold.{IsToldRight, told-by, told-each}
 

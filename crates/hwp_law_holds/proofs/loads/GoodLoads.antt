@@ -19,7 +19,7 @@ use Rattle.hwp_law_run.specs.hwp_core_rule.Rule.{Holds}
 use Rattle.hwp_law_run.specs.hwp_core_rule.parts.Holdings.{HoldsNothing}
 use Rattle.hwp_law_run.proofs.of_hwp_core_rule.Lists.{each-weaken}
 use Rattle.hwp_law_run.specs.hwp_core_task.Boards.{Played}
-use Rattle.hwp_law_run.specs.hwp_core_task.Ranks.{Member}
+use Rattle.hwp_law_run.specs.hwp_core_task.Turns.{Member}
 use Rattle.hwp_law_run.specs.hwp_script_read.declared.Script.{Script}
 use Rattle.hwp_law_run.specs.hwp_report_text.declared.Report.{Report}
 use Rattle.hwp_law_run.specs.hwp_law.Law.{IsLawful}

@@ -15,7 +15,7 @@ use Rattle.hwp_law_run.specs.hwp_script_read.declared.Command.{Command}
 use Rattle.hwp_law_run.specs.hwp_script_read.declared.Command.TheVariants as commands
 use Rattle.hwp_law_run.specs.hwp_report_text.declared.Answer.{Answer}
 use Rattle.hwp_law_run.specs.hwp_report_text.declared.Answer.TheVariants as answers
-use Rattle.hwp_law_run.specs.hwp_law.Checks.{Banks, empty_banks}
+use Rattle.hwp_law_run.specs.hwp_banks.Banks.{Banks, empty_banks}
 use Rattle.hwp_law_run.specs.hwp_law.Lines.{AnswerLine, answer_in}
 use Rattle.hwp_law_run.specs.hwp_law.Losses.{told, told_by}
 use Rattle.hwp_cpu_row.specs.declared.Row.{Row}

@@ -13,12 +13,12 @@ use Rattle.hwp_law_run.proofs.of_hwp_core_rule.MoreEntries.{each-append}
 use Rattle.hwp_law_run.specs.hwp_report_text.declared.MarkLine.{MarkLine}
 use Rattle.hwp_law_run.specs.hwp_law.Lines.{is_same_command}
 use Rattle.hwp_law_run.specs.hwp_law.Records.{hardware_marks, is_by_hardware, who_in}
-use Rattle.hwp_scrub.specs.hwp_cpu_check.declared.Found.{Found}
+use Rattle.hwp_soft.specs.hwp_claim.declared.Found.{Found}
 use Rattle.hwp_cpu_row.specs.declared.FrameChange.{FrameChange}
 use Rattle.hwp_cpu_row.specs.declared.FrameChange.TheVariants as owns
 use Rattle.hwp_cpu_row.specs.declared.Row.{Row}
-use Rattle.hwp_scrub.specs.hwp_cpu_check.declared.EventOutcome.{EventOutcome}
-use Rattle.hwp_scrub.specs.hwp_cpu_check.Told.{frame_of}
+use Rattle.hwp_cpu_row.specs.hwp_cpu_check.declared.EventOutcome.{EventOutcome}
+use Rattle.hwp_cpu_row.specs.hwp_cpu_check.Told.{frame_of}
 use Rattle.hwp_law_holds.specs.Rows.{Note, lines_of, note_by, note_of, notes_from, own_note, record_of, row_notes, told_note}
 use Rattle.hwp_law_holds.specs.Runs.{notes_of, row_at}
 

@@ -42,7 +42,7 @@ use Rattle.hwp_law_run.specs.hwp_law.Entries.{Makes}
 use Rattle.hwp_law_run.specs.hwp_law.Lines.{answer_among, answer_of, rows_of}
 use Rattle.hwp_law_run.specs.hwp_law.Places.{entry_at}
 use Rattle.hwp_law_run.specs.hwp_law.Policies.{commands_before, last_policy, setting_of, settings}
-use Rattle.hwp_law_run.specs.hwp_law.Seen.{AreSeen, IsOwnCount, IsPolicySeen, SeenNeverFalls, commands_around, cpu_of_thread, is_done, seen_in, settings_done}
+use Rattle.hwp_law_run.specs.hwp_law.SeenPolicies.{AreSeen, IsOwnCount, IsPolicySeen, SeenNeverFalls, commands_around, cpu_of_thread, is_done, seen_in, settings_done}
 use Rattle.hwp_law_run.proofs.Reported.{entry-listed}
 use Rattle.hwp_law_holds.specs.Accounts.{is_same, set_by}
 use Rattle.hwp_law_holds.specs.Rows.{lines_from}

@@ -1,12 +1,11 @@
 ghost use Rattle.std.specs.Prelude.{◌≡◌, ◌∷◌, [], ◌++◌, OnOk, string_bytes, codes, decimal, map};
 ghost use Rattle.std.specs.List.{flat_map};
-ghost use Rattle.hwp_geom.specs.Words.{line, hex};
-ghost use Rattle.hwp_report_text.specs.Text.{answer_words, cpu_line_words, placed};
+ghost use Rattle.hwp_page.specs.hwp_geom.Words.{line, hex};
+ghost use Rattle.hwp_report_text.specs.ReportText.{answer_words, cpu_line_words, placed};
 
 use crate::lines::{Answer, CpuLine};
 use crate::terms::acted_word;
-use hwp_geom::{Frame, Mask, OutOfMemory};
-use hwp_page::At;
+use hwp_page::{At, Frame, Mask, OutOfMemory};
 
 /// The lines below a processor.
 pub(crate) fn put_cpu_lines(out: &mut String, lines: &[CpuLine]) -> Result<(), OutOfMemory>

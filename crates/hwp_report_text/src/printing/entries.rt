@@ -1,13 +1,13 @@
 ghost use Rattle.std.specs.Prelude.{◌≡◌, ◌∷◌, [], ◌++◌, OnOk, string_bytes, codes, decimal, map};
 ghost use Rattle.std.specs.List.{flat_map};
-ghost use Rattle.hwp_geom.specs.Words.{line, hex};
+ghost use Rattle.hwp_page.specs.hwp_geom.Words.{line, hex};
 ghost use Rattle.hwp_report_text.specs.Terms.{situation_word as situation_text};
-ghost use Rattle.hwp_report_text.specs.Text.{entry_lines, met_words, required_words, seen_words, signal_words, verb_words};
+ghost use Rattle.hwp_report_text.specs.ReportText.{entry_lines, met_words, required_words, seen_words, signal_words, verb_words};
 
 use crate::terms::{code_word, policy_word, situation_word};
-use hwp_geom::{Line, Mask, OutOfMemory, Thread, VSlot, Who};
-use hwp_kill::{Seen, Signal};
-use hwp_page::{Entry, Met, Situation, What};
+use hwp_page::{
+    Entry, Line, Mask, Met, OutOfMemory, Seen, Signal, Situation, Thread, VSlot, What, Who,
+};
 
 /// The lines below a page.
 pub(crate) fn put_entries(out: &mut String, entries: &[Entry]) -> Result<(), OutOfMemory>

@@ -1,5 +1,5 @@
 use Rattle.std.proofs.Common.{◌≡◌, ◌+◌, ◌≤◌, ℕ, Option, Some, MatchOption, length, slice_get, sym, subst, arith}
-use Rattle.hwp_check_evidence.specs.hwp_law.Checks.{empty_banks}
+use Rattle.hwp_check_evidence.specs.hwp_banks.Banks.{empty_banks}
 use Rattle.hwp_check_evidence.specs.hwp_law.Events.{AreEventsFrom}
 use Rattle.hwp_check_rules.specs.Standing.{cpu_line, last_line}
 use Rattle.hwp_check_answers.proofs.OrderLaws.{next-line, read-at, within-report}

@@ -1,6 +1,6 @@
 use Rattle.std.proofs.Common.{Option, List, false, ap, length, map, replicate, ◌∙◌}
-use Rattle.hwp_page.specs.declared.At.{At}
-use Rattle.hwp_report_text.specs.declared.Answer.{Answer}
+use Rattle.hwp_check_evidence.specs.hwp_page.declared.At.{At}
+use Rattle.hwp_check_evidence.specs.hwp_report_text.declared.Answer.{Answer}
 use Rattle.hwp_check_evidence.specs.Firsts.{entry_of}
 use Rattle.hwp_check_evidence.specs.Named.{flagged_pages}
 use Rattle.hwp_check_answers.proofs.FactLaws.{namings}

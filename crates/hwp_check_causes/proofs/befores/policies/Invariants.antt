@@ -1,5 +1,5 @@
 use Rattle.std.proofs.Common.{◌≡◌, ◌++◌, drop, length, replicate}
-use Rattle.hwp_kill.specs.declared.Policy.TheVariants.{Default}
+use Rattle.hwp_check_evidence.specs.hwp_kill.declared.Policy.TheVariants.{Default}
 use Rattle.hwp_check_causes.specs.Befores.{policies_before, thread_numbers}
 use Rattle.hwp_check_causes.proofs.befores.policies.Given as goal
 

@@ -1,6 +1,6 @@
 use Rattle.std.proofs.Common.{ℕ, ◌<◌}
 use Rattle.std.specs.Int.{IsBitSet}
-use Rattle.hwp_check_poison.specs.hwp_law.Lines.{bad_lines_of}
+use Rattle.hwp_law.specs.Lines.{bad_lines_of}
 use Rattle.hwp_check_events.proofs.accesses.first_bad.Given as goal
 
 abbrev pub invariant-loop-frame : goal.invariant-loop-frame

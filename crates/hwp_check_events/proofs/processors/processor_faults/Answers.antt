@@ -1,6 +1,6 @@
 use Rattle.std.proofs.Common.{rules, List, length, subst}
-use Rattle.hwp_report_text.specs.declared.CpuLine.{CpuLine}
-use Rattle.hwp_report_text.specs.declared.Report.{Report}
+use Rattle.hwp_law.specs.hwp_report_text.declared.CpuLine.{CpuLine}
+use Rattle.hwp_law.specs.hwp_report_text.declared.Report.{Report}
 use Rattle.hwp_check_events.specs.Walked.{IsWalked}
 use Rattle.hwp_check_events.proofs.Verdicts.{empty-table, processor-judged}
 use Rattle.hwp_check_events.proofs.processors.processor_faults.Goals as goal

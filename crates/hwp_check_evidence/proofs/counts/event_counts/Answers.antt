@@ -1,6 +1,6 @@
 use Rattle.std.proofs.Common.{◌≡◌, ℕ, ◌+◌, ◌≤◌, List, drop, fold, length, replicate, ap, ◌∙◌, sym, subst, arith}
 use Rattle.std.proofs.lemmas.List.{at_drop_more}
-use Rattle.hwp_report_text.specs.declared.CpuLine.{CpuLine}
+use Rattle.hwp_law.specs.hwp_report_text.declared.CpuLine.{CpuLine}
 use Rattle.hwp_check_evidence.specs.Counts.{AreCounts, AreFew, counted}
 use Rattle.hwp_check_evidence.proofs.CountLaws.{counts_are, few_more}
 use Rattle.hwp_check_evidence.proofs.WindowLaws.{past-empty}

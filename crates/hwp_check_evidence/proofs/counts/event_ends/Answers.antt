@@ -1,5 +1,5 @@
 use Rattle.std.proofs.Common.{◌≡◌, ◌≤◌, List, false, fold, length, replicate, ap, ◌∙◌, sym, subst, arith}
-use Rattle.hwp_report_text.specs.declared.CpuLine.{CpuLine}
+use Rattle.hwp_law.specs.hwp_report_text.declared.CpuLine.{CpuLine}
 use Rattle.hwp_check_evidence.specs.Counts.{AreFlags, flagged_by}
 use Rattle.hwp_check_evidence.proofs.CountLaws.{flags_are}
 use Rattle.hwp_check_evidence.proofs.WindowLaws.{past-empty}

@@ -1,5 +1,5 @@
 use Rattle.std.proofs.Common.{◌≡◌, ℕ, List, drop, fold, length}
-use Rattle.hwp_kill.specs.declared.Signal.{Signal}
+use Rattle.hwp_law.specs.hwp_kill.declared.Signal.{Signal}
 use Rattle.hwp_check_evidence.specs.Ends.{process_numbers, signalled}
 use Rattle.hwp_check_evidence.proofs.ends.signal_all.Given as goal
 

@@ -1,5 +1,5 @@
 use Rattle.std.proofs.Common.{◌≡◌, ◌≤◌, List, None, fold, length, replicate, ap, ◌∙◌, sym, subst, arith}
-use Rattle.hwp_report_text.specs.declared.CpuLine.{CpuLine}
+use Rattle.hwp_law.specs.hwp_report_text.declared.CpuLine.{CpuLine}
 use Rattle.hwp_check_evidence.specs.Firsts.{AreAnswersOf, answered_by}
 use Rattle.hwp_check_evidence.proofs.FirstLaws.{answers_are}
 use Rattle.hwp_check_evidence.proofs.WindowLaws.{past-empty}

@@ -1,7 +1,7 @@
 use Rattle.std.proofs.Common.{◌≡◌, ℕ, List, Some, length, slice_get}
-use Rattle.hwp_geom.specs.declared.PageKind.{PageKind}
-use Rattle.hwp_page.specs.Step.{opening_of}
-use Rattle.hwp_page.specs.declared.Entry.{Entry}
+use Rattle.hwp_law.specs.hwp_geom.declared.PageKind.{PageKind}
+use Rattle.hwp_law.specs.hwp_page.Step.{opening_of}
+use Rattle.hwp_law.specs.hwp_page.declared.Entry.{Entry}
 use Rattle.hwp_check_evidence.specs.declared.glances.Glance.{Glance}
 use Rattle.hwp_check_evidence.specs.Glances.{glances_from}
 use Rattle.hwp_check_evidence.proofs.glances.glances_of.Given as goal

@@ -1,5 +1,5 @@
 use Rattle.std.proofs.Common.{[]}
-use Rattle.hwp_page.specs.Step.{after, opening_of}
+use Rattle.hwp_law.specs.hwp_page.Step.{after, opening_of}
 use Rattle.hwp_check_evidence.specs.Glances.{glance_of, glances_from}
 use Rattle.hwp_check_evidence.proofs.GlanceLaws.{begins, goes-on-at, last-pushed}
 use Rattle.hwp_check_evidence.proofs.glances.page_glances.Goals as goal

@@ -1,5 +1,5 @@
 use Rattle.std.proofs.Common.{◌≡◌, ◌-◌, ◌++◌, Some, drop, length, slice_get}
-use Rattle.hwp_page.specs.Step.{opening_of}
+use Rattle.hwp_law.specs.hwp_page.Step.{opening_of}
 use Rattle.hwp_check_evidence.specs.Glances.{glance_of, glances_from}
 use Rattle.hwp_check_evidence.proofs.GlanceLaws.{later}
 use Rattle.hwp_check_evidence.proofs.glances.page_glances.Given as goal

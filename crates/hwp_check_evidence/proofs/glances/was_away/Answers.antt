@@ -1,6 +1,6 @@
 use Rattle.std.proofs.Common.{not, ap, ◌∙◌, sym}
 use Rattle.std.specs.Option.{option_copied}
-use Rattle.hwp_page.specs.Refusals.{IsAway}
+use Rattle.hwp_law.specs.hwp_page.Refusals.{IsAway}
 use Rattle.hwp_check_evidence.specs.declared.glances.Glance.{Glance}
 use Rattle.hwp_check_evidence.proofs.GlanceLaws.{away-by, had-by, had-never}
 use Rattle.hwp_check_evidence.proofs.glances.was_away.Goals as goal

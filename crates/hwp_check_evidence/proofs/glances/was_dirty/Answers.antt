@@ -1,6 +1,6 @@
 use Rattle.std.proofs.Common.{◌↔◌, ◌&&◌, Bool, IsTrue, ap, ◌∙◌, sym, subst}
 use Rattle.std.specs.Option.{option_copied}
-use Rattle.hwp_page.specs.Refusals.{IsDirty}
+use Rattle.hwp_law.specs.hwp_page.Refusals.{IsDirty}
 use Rattle.hwp_law.specs.States.{HadState}
 use Rattle.hwp_check_evidence.specs.declared.glances.Glance.{Glance}
 use Rattle.hwp_check_evidence.proofs.GlanceLaws.{dirty-by, had-by, had-never}

@@ -1,6 +1,6 @@
 use Rattle.std.proofs.Common.{ap, ◌∙◌, sym}
 use Rattle.std.specs.Option.{option_copied}
-use Rattle.hwp_page.specs.Refusals.{IsMapped}
+use Rattle.hwp_law.specs.hwp_page.Refusals.{IsMapped}
 use Rattle.hwp_check_evidence.proofs.GlanceLaws.{had-never, mapped-is}
 use Rattle.hwp_check_evidence.proofs.glances.was_mapped.Goals as goal
 

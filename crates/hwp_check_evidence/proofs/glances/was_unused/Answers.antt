@@ -1,7 +1,7 @@
 use Rattle.std.proofs.Common.{◌↔◌, not, Bool, IsTrue, ap, ◌∙◌, sym, subst}
 use Rattle.std.specs.FinSet as set
 use Rattle.std.specs.Option.{option_copied}
-use Rattle.hwp_page.specs.Refusals.{IsUnused}
+use Rattle.hwp_law.specs.hwp_page.Refusals.{IsUnused}
 use Rattle.hwp_law.specs.States.{HadState}
 use Rattle.hwp_check_evidence.specs.declared.glances.Glance.{Glance}
 use Rattle.hwp_check_evidence.proofs.GlanceLaws.{unused-by, had-by, had-never}

@@ -1,6 +1,6 @@
 use Rattle.std.proofs.Common.{◌≡◌, ◌∙◌, List, length, sym, ap, subst}
-use Rattle.hwp_report_text.specs.declared.FrameLine.{FrameLine}
-use Rattle.hwp_report_text.specs.declared.MarkLine.{MarkLine}
+use Rattle.hwp_check_rules.specs.hwp_report_text.declared.FrameLine.{FrameLine}
+use Rattle.hwp_check_rules.specs.hwp_report_text.declared.MarkLine.{MarkLine}
 use Rattle.hwp_check_rules.specs.hwp_law.Lines.{marks_of}
 use Rattle.hwp_check_frames.specs.MarkScans.{AreRightMarks}
 use Rattle.hwp_check_frames.proofs.RecordLaws.{shown-at}

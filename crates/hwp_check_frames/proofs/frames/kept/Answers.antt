@@ -1,6 +1,6 @@
 use Rattle.std.proofs.Common.{◌≡◌, ◌≤◌, ◌+◌, ◌<◌, List, length, ap, arith}
-use Rattle.hwp_report_text.specs.declared.FrameLine.{FrameLine}
-use Rattle.hwp_report_text.specs.declared.MarkLine.{MarkLine}
+use Rattle.hwp_check_rules.specs.hwp_report_text.declared.FrameLine.{FrameLine}
+use Rattle.hwp_check_rules.specs.hwp_report_text.declared.MarkLine.{MarkLine}
 use Rattle.hwp_check_rules.specs.hwp_law.Lines.{marks_of}
 use Rattle.hwp_check_rules.specs.Standing.{last_line}
 use Rattle.hwp_check_frames.proofs.RecordLaws.{as-many, frame-room, kept-clear, kept-first, kept-next, kernel-at, shown-at}

@@ -1,5 +1,5 @@
 use Rattle.std.proofs.Common.{◌≡◌, ◌∙◌, ℕ, List, length, sym, ap, arith}
-use Rattle.hwp_report_text.specs.declared.FrameLine.{FrameLine}
+use Rattle.hwp_check_rules.specs.hwp_report_text.declared.FrameLine.{FrameLine}
 use Rattle.hwp_check_frames.specs.Counts.{at_key}
 use Rattle.hwp_check_frames.specs.Own.{frames_own}
 use Rattle.hwp_check_frames.proofs.IndexLaws.{none-flagged, some-flagged}

@@ -1,5 +1,5 @@
 use Rattle.std.proofs.Common.{◌≡◌, drop}
-use Rattle.hwp_page.specs.declared.Entry.{Entry}
+use Rattle.hwp_check_rules.specs.hwp_page.declared.Entry.{Entry}
 use Rattle.hwp_check_rules.specs.MarkFaults.{home_of}
 use Rattle.hwp_check_marks.specs.Lacking.{is_lacking, lowest_entry}
 use Rattle.hwp_check_marks.proofs.lacking.lowest_entry.Given as goal

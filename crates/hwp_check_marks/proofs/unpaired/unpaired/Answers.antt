@@ -1,5 +1,5 @@
 use Rattle.std.proofs.Common.{◌≡◌, ◌≤◌, List, length, ap, ◌∙◌, arith}
-use Rattle.hwp_report_text.specs.declared.FrameLine.{FrameLine}
+use Rattle.hwp_check_rules.specs.hwp_report_text.declared.FrameLine.{FrameLine}
 use Rattle.hwp_check_marks.proofs.MarkExtras.{first-frame, next-frame, place-within, room-here}
 use Rattle.hwp_check_marks.proofs.UnpairedLaws.{few-clear}
 use Rattle.hwp_check_marks.proofs.unpaired.unpaired.Goals as goal

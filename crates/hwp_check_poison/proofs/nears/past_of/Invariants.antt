@@ -1,5 +1,5 @@
 use Rattle.std.proofs.Common.{◌≡◌, ℕ, Some, length, slice_get}
-use Rattle.hwp_report_text.specs.declared.FrameLine.{FrameLine}
+use Rattle.hwp_law.specs.hwp_report_text.declared.FrameLine.{FrameLine}
 use Rattle.hwp_check_poison.specs.declared.nears.Nears.{Nears}
 use Rattle.hwp_check_poison.specs.Nears.{AreNears}
 use Rattle.hwp_check_poison.proofs.nears.past_of.Given as goal

@@ -1,6 +1,6 @@
 use Rattle.std.proofs.Common.{◌≡◌, ◌↔◌, List, Some, None, IsTrue, slice_get, sym, ap, ◌∙◌, subst}
 use Rattle.std.specs.Option.{option_copied}
-use Rattle.hwp_report_text.specs.declared.MarkLine.{MarkLine}
+use Rattle.hwp_law.specs.hwp_report_text.declared.MarkLine.{MarkLine}
 use Rattle.hwp_law.specs.Records.{WasPoisoned}
 use Rattle.hwp_check_poison.specs.Nears.{AreNears}
 use Rattle.hwp_check_poison.proofs.PastLaws.{past-nears, past-none}

@@ -1,6 +1,6 @@
 use Rattle.std.proofs.Common.{◌≡◌, ℕ, ◌+◌, List, Some, length, slice_get, ap, ◌∙◌, sym, subst}
 use Rattle.std.proofs.lemmas.List.{length_push}
-use Rattle.hwp_geom.specs.declared.Thread.{Thread}
+use Rattle.hwp_law.specs.hwp_geom.declared.Thread.{Thread}
 use Rattle.hwp_check_rules.specs.declared.pasts.ThreadPolicies.{ThreadPolicies}
 use Rattle.hwp_check_rules.specs.Pasts.{IsPast}
 use Rattle.hwp_check_rules.proofs.PastLaws.{pasts-more}

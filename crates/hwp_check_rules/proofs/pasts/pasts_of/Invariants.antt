@@ -1,5 +1,5 @@
 use Rattle.std.proofs.Common.{◌≡◌, Some, length, slice_get}
-use Rattle.hwp_geom.specs.declared.Thread.{Thread}
+use Rattle.hwp_law.specs.hwp_geom.declared.Thread.{Thread}
 use Rattle.hwp_check_rules.specs.declared.pasts.ThreadPolicies.{ThreadPolicies}
 use Rattle.hwp_check_rules.specs.Pasts.{IsPast}
 use Rattle.hwp_check_rules.proofs.pasts.pasts_of.Given as goal

@@ -1,5 +1,5 @@
 use Rattle.std.proofs.Common.{◌≡◌, drop}
-use Rattle.hwp_check_events.specs.hwp_law.Lines.{answer_among}
+use Rattle.hwp_law.specs.Lines.{answer_among}
 use Rattle.hwp_check_rules.proofs.rows.answer_among.Given as goal
 
 abbrev pub invariant-loop-row : goal.invariant-loop-row

@@ -1,7 +1,7 @@
 use Rattle.std.proofs.Common.{◌+◌, ◌≤◌, ℕ, ap, ◌∙◌, arith}
 use Rattle.std.specs.Bool.{nat_lt}
 use Rattle.std.specs.Int.{from_bool}
-use Rattle.hwp_geom.specs.Limits.{line_limit}
+use Rattle.hwp_banks.specs.hwp_geom.Limits.{line_limit}
 use Rattle.hwp_check_scrub.specs.Scrubbing.{low_of}
 use Rattle.hwp_check_scrub.specs.Scrubs.{marked_from}
 use Rattle.hwp_check_scrub.proofs.MarkLaws.{mark-next, one-most}

@@ -1,5 +1,4 @@
 use Rattle.std.proofs.Common.{◌≡◌, length}
-use Rattle.hwp_core_task.specs.Ranks.{member}
 use Rattle.hwp_plain_order.specs.Order.{running, Word}
 use Rattle.hwp_plain_order.specs.Rank.{need_at, words_in}
 use Rattle.hwp_plain_order.specs.Ready.{InPlay}
@@ -8,10 +7,10 @@ use Rattle.hwp_plain_order.proofs.scheduler.play_word.Given as goal
 
 abbrev pub invariant-loop-levels : goal.invariant-loop-levels
 invariant-loop-levels g l = record {
-  play : InPlay (member g.T.Task.who g.T.Task.plan g.T.Task.put g.T.Task.bare g.T.Task.next g.T.Task.fits g.T.Ranked.class_of g.T.Ranked.cost g.T.Ranked.aborts g.T.Ranked.claims) l.levels (running (g.B.Board.machine l.board) (g.B.Board.seat l.board) l.tasks (g.B.Board.state l.board));
+  play : InPlay g.T.Task.task l.levels (running (g.B.Board.layout l.board) (g.B.Board.seat l.board) l.tasks (g.B.Board.state l.board));
   count : length l.tasks ≡ length l.fn.tasks;
-  so_far : SoFar (Word (member g.T.Task.who g.T.Task.plan g.T.Task.put g.T.Task.bare g.T.Task.next g.T.Task.fits g.T.Ranked.class_of g.T.Ranked.cost g.T.Ranked.aborts g.T.Ranked.claims) l.go) (running (g.B.Board.machine l.fn.board) (g.B.Board.seat l.fn.board) l.fn.tasks (g.B.Board.state l.fn.board)) (g.B.Board.log l.fn.board) (running (g.B.Board.machine l.board) (g.B.Board.seat l.board) l.tasks (g.B.Board.state l.board)) (g.B.Board.log l.board);
+  so_far : SoFar (Word g.T.Task.task l.go) (running (g.B.Board.layout l.fn.board) (g.B.Board.seat l.fn.board) l.fn.tasks (g.B.Board.state l.fn.board)) (g.B.Board.log l.fn.board) (running (g.B.Board.layout l.board) (g.B.Board.seat l.board) l.tasks (g.B.Board.state l.board)) (g.B.Board.log l.board);
 }
 
 abbrev pub decreases-loop-levels : goal.decreases-loop-levels
-decreases-loop-levels g l = need_at (member g.T.Task.who g.T.Task.plan g.T.Task.put g.T.Task.bare g.T.Task.next g.T.Task.fits g.T.Ranked.class_of g.T.Ranked.cost g.T.Ranked.aborts g.T.Ranked.claims) l.tasks (words_in (running (g.B.Board.machine l.board) (g.B.Board.seat l.board) l.tasks (g.B.Board.state l.board))) l.cpu
+decreases-loop-levels g l = need_at g.T.Task.task l.tasks (words_in (running (g.B.Board.layout l.board) (g.B.Board.seat l.board) l.tasks (g.B.Board.state l.board))) l.cpu

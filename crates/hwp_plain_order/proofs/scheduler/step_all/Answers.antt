@@ -1,5 +1,4 @@
 use Rattle.std.proofs.Common.{refl, ◌∙◌}
-use Rattle.hwp_core_task.specs.Ranks.{member}
 use Rattle.hwp_plain_order.specs.Order.{running}
 use Rattle.hwp_plain_order.proofs.Seats.{few-tasks}
 use Rattle.hwp_plain_order.proofs.ScheduleTells.{schedule-start, schedule-next, in-order}
@@ -16,17 +15,17 @@ loop-word-init g c = record {
     are = c.levels_of-levels.ensures.1;
   };
   count = refl;
-  so_far = schedule-start (member g.T.Task.who g.T.Task.plan g.T.Task.put g.T.Task.bare g.T.Task.next g.T.Task.fits g.T.Ranked.class_of g.T.Ranked.cost g.T.Ranked.aborts g.T.Ranked.claims) (running (g.B.Board.machine c.args.board.now) (g.B.Board.seat c.args.board.now) c.args.tasks.now (g.B.Board.state c.args.board.now)) (g.B.Board.log c.args.board.now);
+  so_far = schedule-start g.T.Task.task (running (g.B.Board.layout c.args.board.now) (g.B.Board.seat c.args.board.now) c.args.tasks.now (g.B.Board.state c.args.board.now)) (g.B.Board.log c.args.board.now);
 }
 
 pub loop-word-preserved : goal.loop-word-preserved
 loop-word-preserved g c = record {
   play = c.in_ok-play_word.ensures.play;
   count = c.play_word.ensures.count ∙ c.loop-word.invariant.count;
-  so_far = schedule-next (member g.T.Task.who g.T.Task.plan g.T.Task.put g.T.Task.bare g.T.Task.next g.T.Task.fits g.T.Ranked.class_of g.T.Ranked.cost g.T.Ranked.aborts g.T.Ranked.claims) (running (g.B.Board.machine c.args.board.now) (g.B.Board.seat c.args.board.now) c.args.tasks.now (g.B.Board.state c.args.board.now)) (g.B.Board.log c.args.board.now) (running (g.B.Board.machine c.loop-word.board) (g.B.Board.seat c.loop-word.board) c.loop-word.tasks (g.B.Board.state c.loop-word.board)) (g.B.Board.log c.loop-word.board) c.args.go.now c.loop-word.word-index _ (running (g.B.Board.machine c.play_word.new.board) (g.B.Board.seat c.play_word.new.board) c.play_word.new.tasks (g.B.Board.state c.play_word.new.board)) (g.B.Board.log c.play_word.new.board)
+  so_far = schedule-next g.T.Task.task (running (g.B.Board.layout c.args.board.now) (g.B.Board.seat c.args.board.now) c.args.tasks.now (g.B.Board.state c.args.board.now)) (g.B.Board.log c.args.board.now) (running (g.B.Board.layout c.loop-word.board) (g.B.Board.seat c.loop-word.board) c.loop-word.tasks (g.B.Board.state c.loop-word.board)) (g.B.Board.log c.loop-word.board) c.args.go.now c.loop-word.word-index _ (running (g.B.Board.layout c.play_word.new.board) (g.B.Board.seat c.play_word.new.board) c.play_word.new.tasks (g.B.Board.state c.play_word.new.board)) (g.B.Board.log c.play_word.new.board)
       c.loop-word-test.true c.loop-word.invariant.so_far c.in_ok-play_word.ensures.word;
 }
 
 pub returns-clause-order : goal.returns-clause-order
-returns-clause-order g c = in-order (member g.T.Task.who g.T.Task.plan g.T.Task.put g.T.Task.bare g.T.Task.next g.T.Task.fits g.T.Ranked.class_of g.T.Ranked.cost g.T.Ranked.aborts g.T.Ranked.claims) (running (g.B.Board.machine c.args.board.now) (g.B.Board.seat c.args.board.now) c.args.tasks.now (g.B.Board.state c.args.board.now)) (g.B.Board.log c.args.board.now) (running (g.B.Board.machine c.loop-word.board) (g.B.Board.seat c.loop-word.board) c.loop-word.tasks (g.B.Board.state c.loop-word.board)) (g.B.Board.log c.loop-word.board) c.args.go.now c.loop-word.word-index (running (g.B.Board.machine c.finish.new.board) (g.B.Board.seat c.finish.new.board) c.finish.new.tasks (g.B.Board.state c.finish.new.board)) (g.B.Board.log c.finish.new.board)
+returns-clause-order g c = in-order g.T.Task.task (running (g.B.Board.layout c.args.board.now) (g.B.Board.seat c.args.board.now) c.args.tasks.now (g.B.Board.state c.args.board.now)) (g.B.Board.log c.args.board.now) (running (g.B.Board.layout c.loop-word.board) (g.B.Board.seat c.loop-word.board) c.loop-word.tasks (g.B.Board.state c.loop-word.board)) (g.B.Board.log c.loop-word.board) c.args.go.now c.loop-word.word-index (running (g.B.Board.layout c.finish.new.board) (g.B.Board.seat c.finish.new.board) c.finish.new.tasks (g.B.Board.state c.finish.new.board)) (g.B.Board.log c.finish.new.board)
     c.loop-word-test.false c.loop-word.invariant.so_far c.in_ok-finish.ensures.order

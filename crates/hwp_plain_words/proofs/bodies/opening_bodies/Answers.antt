@@ -1,7 +1,7 @@
 use Rattle.std.proofs.Common.{◌≡◌, ◌+◌, List, Option, Some, None, map, replicate, sym, ap, subst, arith}
 use Rattle.std.specs.Arc.{arc_value}
-use Rattle.hwp_geom.specs.declared.Layout.{Layout}
-use Rattle.hwp_page.specs.History.{BodyValue}
+use Rattle.hwp_core_task.specs.hwp_geom.declared.Layout.{Layout}
+use Rattle.hwp_core_task.specs.hwp_page.History.{BodyValue}
 use Rattle.hwp_core_task.specs.hwp_core_rule.Lists.{EachMember}
 use Rattle.hwp_core_task.specs.Calls.{FitsLayout}
 use Rattle.hwp_plain_words.specs.Openings.{home_with}

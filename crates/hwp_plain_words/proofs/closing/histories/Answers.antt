@@ -1,5 +1,5 @@
 use Rattle.std.proofs.Common.{◌+◌, List, map, sym, subst}
-use Rattle.hwp_page.specs.declared.Entry.{Entry}
+use Rattle.hwp_core_task.specs.hwp_page.declared.Entry.{Entry}
 use Rattle.hwp_plain_words.specs.Openings.{home_with}
 use Rattle.hwp_plain_words.proofs.TakenHistories.{Taken, next-body, next-taken}
 use Rattle.hwp_plain_words.proofs.closing.histories.Goals as goal

@@ -1,5 +1,5 @@
 use Rattle.std.proofs.Common.{◌≡◌, take, List, length, sum_by}
-use Rattle.hwp_page.specs.declared.Entry.{Entry}
+use Rattle.hwp_report_text.specs.hwp_page.declared.Entry.{Entry}
 use Rattle.hwp_report_summary.specs.Counts.{capped}
 use Rattle.hwp_report_summary.proofs.counting.entries.Given as goal
 

@@ -1,7 +1,7 @@
 use Rattle.std.proofs.Common.{◌++◌, ◌∙◌, ap, append_assoc}
 use Rattle.std.proofs.lemmas.Result.{IfOk-weaker}
-use Rattle.hwp_geom.specs.Words.{line}
-use Rattle.hwp_report_text.specs.Text.{graded_words}
+use Rattle.hwp_page.specs.hwp_geom.Words.{line}
+use Rattle.hwp_report_text.specs.ReportText.{graded_words}
 use Rattle.hwp_report_text.proofs.printing.put_cause.Goals as goal
 
 pub returns-in_ok-write-in-Severity : goal.returns-in_ok-write-in-Severity

@@ -1,5 +1,5 @@
 use Rattle.std.proofs.Common.{◌∙◌, arith}
-use Rattle.hwp_report_text.specs.Text.{cpu_lines}
+use Rattle.hwp_report_text.specs.ReportText.{cpu_lines}
 use Rattle.hwp_report_text.proofs.Numbered.{put_numbered}
 use Rattle.hwp_report_text.proofs.printing.put_cpus.Goals as goal
 

@@ -1,5 +1,5 @@
 use Rattle.std.proofs.Common.{arith, refl}
-use Rattle.hwp_report_text.specs.Text.{file_lines}
+use Rattle.hwp_report_text.specs.ReportText.{file_lines}
 use Rattle.hwp_report_text.proofs.Numbered.{put_numbered}
 use Rattle.hwp_report_text.proofs.printing.put_files.Goals as goal
 

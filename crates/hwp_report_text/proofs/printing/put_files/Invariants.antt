@@ -1,7 +1,7 @@
 use Rattle.std.proofs.Common.{◌≡◌, ◌++◌, string_bytes, take}
 use Rattle.std.specs.List.{flat_map}
-use Rattle.hwp_geom.specs.Words.{line}
-use Rattle.hwp_report_text.specs.Text.{numbered, file_lines}
+use Rattle.hwp_page.specs.hwp_geom.Words.{line}
+use Rattle.hwp_report_text.specs.ReportText.{numbered, file_lines}
 use Rattle.hwp_report_text.proofs.printing.put_files.Given as goal
 
 abbrev pub invariant-loop-number : goal.invariant-loop-number

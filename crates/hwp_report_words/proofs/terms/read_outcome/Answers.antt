@@ -1,4 +1,4 @@
-use Rattle.hwp_page.specs.declared.Outcome.TheVariants as outcomes
+use Rattle.hwp_report_text.specs.hwp_page.declared.Outcome.TheVariants as outcomes
 use Rattle.hwp_report_text.specs.Terms as terms
 use Rattle.hwp_report_words.proofs.NamedValues.{all_outcomes, outcome_listed, named_read}
 use Rattle.hwp_report_words.proofs.terms.read_outcome.Goals as goal

@@ -1,4 +1,4 @@
-use Rattle.hwp_kill.specs.declared.Policy.TheVariants as policies
+use Rattle.hwp_report_text.specs.hwp_kill.declared.Policy.TheVariants as policies
 use Rattle.hwp_report_text.specs.Terms as terms
 use Rattle.hwp_report_words.proofs.NamedValues.{all_policies, policy_listed, named_read}
 use Rattle.hwp_report_words.proofs.terms.read_policy.Goals as goal

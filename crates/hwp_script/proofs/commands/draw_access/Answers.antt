@@ -1,5 +1,5 @@
 use Rattle.std.proofs.Common.{nat_lt, if◌then◌else◌, ◌∙◌}
-use Rattle.hwp_script_lines.specs.declared.Command.TheVariants as commands
+use Rattle.hwp_script_read.specs.hwp_script_lines.declared.Command.TheVariants as commands
 use Rattle.hwp_script.specs.Commands.{accessed, stored}
 use Rattle.hwp_script.proofs.ChoiceLaws.{below-first, not-below}
 use Rattle.hwp_script.proofs.commands.draw_access.Goals as goal

@@ -1,5 +1,5 @@
 use Rattle.std.proofs.Common.{◌∷◌, ◌++◌, [], ap, ◌∙◌}
-use Rattle.hwp_geom.specs.declared.PageKind.{PageKind}
+use Rattle.hwp_script_read.specs.hwp_geom.declared.PageKind.{PageKind}
 use Rattle.hwp_script.specs.Machine.{page_kind}
 use Rattle.hwp_script.proofs.Lists.{first-more, first-none}
 use Rattle.hwp_script.proofs.machine.pages.Goals as goal

@@ -1,5 +1,5 @@
 use Rattle.std.proofs.Common.{◌∷◌, ◌++◌, [], ap, ◌∙◌}
-use Rattle.hwp_geom.specs.declared.TransDecl.{TransDecl}
+use Rattle.hwp_script_read.specs.hwp_geom.declared.TransDecl.{TransDecl}
 use Rattle.hwp_script.specs.Machine.{trans_decl}
 use Rattle.hwp_script.proofs.Lists.{first-more, first-none}
 use Rattle.hwp_script.proofs.machine.translations.Goals as goal

@@ -1,5 +1,5 @@
 use Rattle.std.proofs.Common.{List, [], ◌∷◌, ◌++◌, ap, ◌∙◌}
-use Rattle.hwp_script_lines.specs.declared.Command.{Command}
+use Rattle.hwp_script_read.specs.hwp_script_lines.declared.Command.{Command}
 use Rattle.rand_pcg.specs.Lcg.{Lcg}
 use Rattle.hwp_script.proofs.Lists.{lists-more, lists-none}
 use Rattle.hwp_script.proofs.seeding.draw_lists.Goals as goal

@@ -1,5 +1,5 @@
 use Rattle.std.proofs.Common.{List, [], ◌∷◌, ◌++◌, ap, ◌∙◌}
-use Rattle.hwp_script_lines.specs.declared.Go.{Go}
+use Rattle.hwp_script_read.specs.hwp_script_lines.declared.Go.{Go}
 use Rattle.rand_pcg.specs.Lcg.{Lcg}
 use Rattle.hwp_script.specs.Generated.{go}
 use Rattle.hwp_script.proofs.Lists.{many-more, many-none}

@@ -1,5 +1,5 @@
 use Rattle.std.proofs.Common.{List, ap}
-use Rattle.hwp_script_lines.specs.declared.Go.{Go}
+use Rattle.hwp_script_read.specs.hwp_script_lines.declared.Go.{Go}
 use Rattle.rand_pcg.specs.Lcg.{Lcg}
 use Rattle.hwp_script.proofs.Valid.{drawn-valid}
 use Rattle.hwp_script.proofs.seeding.generate.Goals as goal

@@ -1,7 +1,7 @@
 use Rattle.std.proofs.Common.{◌≡◌, ◌++◌, ◌∷◌, take}
 use Rattle.std.specs.Prelude.{string_bytes}
 use Rattle.std.specs.List.{flat_map}
-use Rattle.hwp_script_lines.specs.Grammar.{turn_text}
+use Rattle.hwp_script_read.specs.hwp_script_lines.Grammar.{turn_text}
 use Rattle.hwp_script_print.proofs.forms.put_turns.Given as goal
 
 abbrev pub invariant-loop-turn : goal.invariant-loop-turn

@@ -1,6 +1,6 @@
 use Rattle.std.proofs.Common.{◌≡◌, ◌++◌, ◌∷◌, map, string_bytes, take}
 use Rattle.hwp_script_print.specs.Printed.{forms_text}
-use Rattle.hwp_script_lines.specs.declared.ScriptLine.TheVariants as forms
+use Rattle.hwp_script_read.specs.hwp_script_lines.declared.ScriptLine.TheVariants as forms
 use Rattle.hwp_script_print.proofs.printing.put_list.Given as goal
 
 abbrev pub invariant-loop-command : goal.invariant-loop-command

@@ -1,5 +1,5 @@
 use Rattle.std.proofs.Common.{ap, ◌∙◌}
-use Rattle.hwp_page.specs.declared.PageState.{PageState}
+use Rattle.hwp_evict.specs.hwp_page.declared.PageState.{PageState}
 use Rattle.hwp_soft.proofs.MoveBegins.{begins-moving}
 use Rattle.hwp_soft.proofs.soft.relocate.Goals as goal
 

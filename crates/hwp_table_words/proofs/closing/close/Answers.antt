@@ -1,6 +1,6 @@
 use Rattle.std.proofs.Common.{ℕ, List, ap, ◌∙◌, sym, subst}
 use Rattle.std.specs.Slots.{slots_items}
-use Rattle.hwp_geom.specs.declared.Layout.{Layout}
+use Rattle.hwp_core_task.specs.hwp_geom.declared.Layout.{Layout}
 use Rattle.hwp_table_words.specs.Ends.{IsEnd}
 use Rattle.hwp_table_words.specs.Known.{Known}
 use Rattle.hwp_table_words.proofs.Closed.{ended}

@@ -1,9 +1,9 @@
 use Rattle.std.proofs.Common.{◌≡◌, ap, ◌∙◌, sym, subst}
 use Rattle.std.specs.Arc.{arc_value}
-use Rattle.hwp_geom.specs.declared.Layout.{Layout}
-use Rattle.hwp_geom.specs.Layout.{IsSound}
-use Rattle.hwp_core_rule.specs.Lists.{EachMember}
-use Rattle.hwp_core_rule.specs.Opening.{opening_homes, opening_words}
+use Rattle.hwp_core_task.specs.hwp_geom.declared.Layout.{Layout}
+use Rattle.hwp_core_task.specs.hwp_geom.Layout.{IsSound}
+use Rattle.hwp_core_task.specs.hwp_core_rule.Lists.{EachMember}
+use Rattle.hwp_core_task.specs.hwp_core_rule.Opening.{opening_homes, opening_words}
 use Rattle.hwp_core_task.specs.Calls.{FitsLayout}
 use Rattle.hwp_table_words.specs.Order.{in_rule}
 use Rattle.hwp_table_words.proofs.Opened.{opens, counted-words, counted-slots}

@@ -1,8 +1,8 @@
 use Rattle.std.proofs.Common.{List, ◌∙◌, ap, sym, subst}
 use Rattle.std.specs.Prelude.{filter_map, ◌++◌}
-use Rattle.hwp_core_rule.specs.Lists.{EachMember}
+use Rattle.hwp_plain_words.specs.hwp_core_rule.Lists.{EachMember}
 use Rattle.hwp_cpu_row.specs.declared.Row.{Row}
-use Rattle.hwp_cpu_check.specs.declared.EventOutcome.{EventOutcome}
+use Rattle.hwp_cpu_row.specs.hwp_cpu_check.declared.EventOutcome.{EventOutcome}
 use Rattle.hwp_cpu.specs.hwp_law_holds.Rows.{told_note}
 use Rattle.hwp_cpu.specs.Processors.{at_number}
 use Rattle.hwp_top_report.specs.Closing.{IsNamed}

@@ -1,5 +1,5 @@
 use Rattle.std.proofs.Common.{◌≡◌, ℕ, ◌<◌, Some, slice_get}
-use Rattle.hwp_report_text.specs.declared.Answer.TheVariants as answers
+use Rattle.hwp_cpu_row.specs.hwp_report_text.declared.Answer.TheVariants as answers
 use Rattle.hwp_cpu_row.specs.declared.Row.{Row}
 use Rattle.hwp_top_report.proofs.stopping.first_stop.Given as goal
 

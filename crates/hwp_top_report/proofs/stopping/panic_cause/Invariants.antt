@@ -1,5 +1,5 @@
 use Rattle.std.proofs.Common.{◌≡◌, None, find, take}
-use Rattle.hwp_cpu_check.specs.hwp_law.Checks.{is_panic}
+use Rattle.hwp_cpu_row.specs.hwp_report_text.Acts.{is_panic}
 use Rattle.hwp_top_report.proofs.stopping.panic_cause.Given as goal
 
 abbrev pub invariant-loop-event : goal.invariant-loop-event

@@ -1,5 +1,5 @@
 use Rattle.std.proofs.Common.{◌≡◌, ◌∙◌, ap, refl, subst}
-use Rattle.hwp_script_read.specs.declared.Script.{Script}
+use Rattle.hwp_script.specs.hwp_script_read.declared.Script.{Script}
 use Rattle.hwp_script.specs.Generated.{generated}
 use Rattle.hwp_report_summary.specs.Text.{summary_text}
 use Rattle.hwp_top_step.specs.Top.{IsReportOfRun}

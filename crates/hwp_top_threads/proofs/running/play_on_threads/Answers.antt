@@ -1,7 +1,7 @@
 use Rattle.std.proofs.Common.{◌≡◌, sym, ◌∙◌, subst, rules}
-use Rattle.hwp_geom.specs.declared.Layout.{Layout}
-use Rattle.hwp_table_words.specs.Ends.{HasAll}
-use Rattle.hwp_table_words.specs.Known.{Known}
+use Rattle.hwp_threads.specs.hwp_geom.declared.Layout.{Layout}
+use Rattle.hwp_threads_seats.specs.hwp_table_words.Ends.{HasAll}
+use Rattle.hwp_threads_seats.specs.hwp_table_words.Known.{Known}
 use Rattle.hwp_top_threads.specs.Runs.{HaveRun}
 use Rattle.hwp_top_threads.proofs.Closed.{closed-run, has-all}
 use Rattle.hwp_top_threads.proofs.running.play_on_threads.Goals as goal

@@ -1,7 +1,7 @@
 use denote.Param.Send.{sendable}
 use Rattle.std.proofs.Common.{◌≡◌, length, sym, ap, subst, arith}
 use Rattle.std.proofs.lemmas.Result.{IfOk-weaker}
-use Rattle.hwp_table_words.specs.Stands.{Me}
+use Rattle.hwp_threads_seats.specs.hwp_table_words.Stands.{Me}
 use Rattle.hwp_threads_seats.specs.Dealing.{CanDeal}
 use Rattle.hwp_threads_seats.proofs.SeatMoves.{stays-ready}
 use Rattle.hwp_threads_seats.proofs.SeatDeals.{first-deals}

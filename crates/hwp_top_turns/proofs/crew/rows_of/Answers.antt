@@ -1,7 +1,7 @@
 use Rattle.std.proofs.Common.{◌≡◌, [], ◌∷◌, ◌++◌, None, List, sym, subst}
-use Rattle.hwp_script_read.proofs.of_hwp_script_lines.PairsLaws.{Pairs-push}
-use Rattle.hwp_cpu_row.specs.declared.Row.{Row}
-use Rattle.hwp_cpu.specs.declared.Processor.{Processor}
+use Rattle.hwp_plain.proofs.of_hwp_script_lines.PairsLaws.{Pairs-push}
+use Rattle.hwp_top_report.specs.hwp_cpu_row.declared.Row.{Row}
+use Rattle.hwp_top_report.specs.hwp_cpu.declared.Processor.{Processor}
 use Rattle.hwp_top_turns.specs.Runs.{AreFinished}
 use Rattle.hwp_top_turns.proofs.crew.rows_of.Goals as goal
 

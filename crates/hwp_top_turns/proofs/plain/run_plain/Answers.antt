@@ -1,6 +1,6 @@
 use Rattle.std.proofs.lemmas.Result.{IfOk-weaker}
-use Rattle.hwp_cpu_row.specs.hwp_law.Law.{IsLawful}
-use Rattle.hwp_cpu_row.specs.hwp_law.Runs.{IsOfRun}
+use Rattle.hwp_top_report.specs.hwp_law.Law.{IsLawful}
+use Rattle.hwp_top_report.specs.hwp_law.Runs.{IsOfRun}
 use Rattle.hwp_top_turns.specs.Runs.{IsCoreRun, IsReportOf}
 use Rattle.hwp_top_turns.proofs.plain.run_plain.Goals as goal
 

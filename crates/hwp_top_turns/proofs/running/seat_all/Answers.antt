@@ -1,5 +1,5 @@
 use Rattle.std.proofs.Common.{subst}
-use Rattle.hwp_geom.specs.declared.Layout.{Layout}
+use Rattle.hwp_table_words.specs.hwp_geom.declared.Layout.{Layout}
 use Rattle.hwp_table_words.specs.Ends.{HasAll}
 use Rattle.hwp_top_turns.proofs.Came.{last-bare}
 use Rattle.hwp_top_turns.proofs.running.seat_all.Goals as goal

@@ -1,6 +1,6 @@
 use Rattle.std.proofs.Common.{Some, sym, ap, ◌∙◌, subst}
-use Rattle.hwp_core_rule.specs.declared.SharedWord.{SharedWord}
-use Rattle.hwp_core_rule.specs.Words.{IsPlace, read, words_of}
+use Rattle.hwp_top_turns.specs.hwp_core_rule.declared.SharedWord.{SharedWord}
+use Rattle.hwp_top_turns.specs.hwp_core_rule.Words.{IsPlace, read, words_of}
 use Rattle.hwp_trace_run.proofs.LineTells.{sees-step}
 use Rattle.hwp_trace_run.proofs.notes.look.Goals as goal
 
@@ -12,7 +12,7 @@ word_at-requires g c = record {
 pub returns : goal.returns
 returns g c =
     let board = c.args.board.now in
-    sees-step board.layout board.state (g.M.Task.who c.args.task.now) (g.M.Task.plan c.args.task.now) c.in-Some.step (Some (record { who = c.who-who.result; place = c.place-place.result; before = c.word_at.result }))
+    sees-step board.layout board.state (g.M.Task.task.who c.args.task.now) (g.M.Task.task.plan c.args.task.now) c.in-Some.step (Some (record { who = c.who-who.result; place = c.place-place.result; before = c.word_at.result }))
     (sym c.plan.ensures ∙ c.in-Some.is)
     (record {
       seen_is = λ i. Some (record {

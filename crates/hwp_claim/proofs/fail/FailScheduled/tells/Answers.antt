@@ -1,10 +1,11 @@
 use Rattle.hwp_claim.proofs.fail.FailScheduled.tells.Goals as goal
-use Rattle.hwp_core_task.proofs.Revivals.{lasting-pays}
-use Rattle.hwp_claim.proofs.FailRank.{fail-lasting, fail-member}
+use Rattle.hwp_claim_frame.proofs.of_hwp_core_task.Revivals.{lasting-pays}
+use Rattle.hwp_claim.proofs.FailRank.{fail-lasting}
 use Rattle.hwp_claim.proofs.FailTells.{fail-tells-class}
+use Rattle.hwp_claim.specs.Fails.{task as fail-task}
 
 pub returns-clause-class : goal.returns-clause-class
 returns-clause-class c = fail-tells-class
 
 pub returns-clause-pays : goal.returns-clause-pays
-returns-clause-pays c = lasting-pays fail-member fail-lasting
+returns-clause-pays c = lasting-pays fail-task fail-lasting

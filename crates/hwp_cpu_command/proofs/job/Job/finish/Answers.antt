@@ -1,6 +1,6 @@
 use Rattle.std.proofs.Common.{option_and_then, List, [], Option, ◌∙◌, sym, ap}
-use Rattle.hwp_geom.specs.declared.Frame.{Frame}
-use Rattle.hwp_cpu_check.specs.declared.EventOutcome.{EventOutcome}
+use Rattle.hwp_cpu_control.specs.hwp_geom.declared.Frame.{Frame}
+use Rattle.hwp_cpu_row.specs.hwp_cpu_check.declared.EventOutcome.{EventOutcome}
 use Rattle.hwp_cpu_row.specs.declared.FrameChange.{FrameChange}
 use Rattle.hwp_cpu_command.specs.declared.job.Job.{Job}
 use Rattle.hwp_cpu_command.specs.Jobs.{offlined_by, row, row_of}

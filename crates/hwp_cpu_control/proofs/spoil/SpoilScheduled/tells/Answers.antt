@@ -1,9 +1,10 @@
 use Rattle.hwp_cpu_control.proofs.spoil.SpoilScheduled.tells.Goals as goal
 use Rattle.hwp_core_task.proofs.Revivals.{mild-pays}
-use Rattle.hwp_cpu_control.proofs.SpoilLaws.{mild, tells, the-member}
+use Rattle.hwp_cpu_control.proofs.SpoilLaws.{mild, tells}
+use Rattle.hwp_cpu_control.specs.Spoils.{task}
 
 pub returns-clause-class : goal.returns-clause-class
 returns-clause-class c = tells
 
 pub returns-clause-pays : goal.returns-clause-pays
-returns-clause-pays c = mild-pays the-member mild
+returns-clause-pays c = mild-pays task mild

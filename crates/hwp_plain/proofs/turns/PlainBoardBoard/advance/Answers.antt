@@ -3,6 +3,5 @@ use Rattle.hwp_plain.proofs.turns.PlainBoardBoard.advance.Goals as goal
 
 pub returns-clause-turn : goal.returns-clause-turn
 returns-clause-turn g c =
-    takes-turn c.args.self.now c.begin.new.self c.advance-turn.new.o c.end.new.self c.args.cpu (g.M.Task.who c.args.task.now) (g.M.Task.plan c.args.task.now) (g.M.Task.put c.args.task.now)
-    (λ layout. g.M.Task.next layout (g.M.Task.bare c.args.task.now)) c.args.task.now c.advance-turn.new.m c.advance-turn.result c.made.result
+    takes-turn g.M.Task.task c.args.self.now c.begin.new.self c.advance-turn.new.o c.end.new.self c.args.cpu c.args.task.now c.advance-turn.new.m c.advance-turn.result c.made.result
     c.begin.ensures c.end.ensures c.made.ensures c.advance-turn.ensures.turn

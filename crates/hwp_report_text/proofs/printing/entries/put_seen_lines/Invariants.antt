@@ -1,8 +1,8 @@
 use Rattle.std.proofs.Common.{◌≡◌, ◌++◌, string_bytes, take}
 use Rattle.std.specs.List.{flat_map}
 use Rattle.std.specs.Prelude.{map}
-use Rattle.hwp_geom.specs.Words.{line}
-use Rattle.hwp_report_text.specs.Text.{seen_words}
+use Rattle.hwp_page.specs.hwp_geom.Words.{line}
+use Rattle.hwp_report_text.specs.ReportText.{seen_words}
 use Rattle.hwp_report_text.proofs.printing.entries.put_seen_lines.Given as goal
 
 abbrev pub invariant-loop-seen : goal.invariant-loop-seen

@@ -1,8 +1,8 @@
 use Rattle.std.proofs.Common.{◌≡◌, ◌++◌, string_bytes, take}
 use Rattle.std.specs.List.{flat_map}
 use Rattle.std.specs.Prelude.{map}
-use Rattle.hwp_geom.specs.Words.{line}
-use Rattle.hwp_report_text.specs.Text.{signal_words}
+use Rattle.hwp_page.specs.hwp_geom.Words.{line}
+use Rattle.hwp_report_text.specs.ReportText.{signal_words}
 use Rattle.hwp_report_text.proofs.printing.entries.put_signal_lines.Given as goal
 
 abbrev pub invariant-loop-signal : goal.invariant-loop-signal

@@ -1,9 +1,10 @@
 use Rattle.hwp_scrub.proofs.scrub.ScrubScheduled.tells.Goals as goal
-use Rattle.hwp_core_task.proofs.Revivals.{lasting-pays}
-use Rattle.hwp_scrub.proofs.ScrubRank.{scrub-lasting, scrub-member, scrub-tells}
+use Rattle.hwp_cpu_check.proofs.of_hwp_core_task.Revivals.{lasting-pays}
+use Rattle.hwp_scrub.proofs.ScrubRank.{scrub-lasting, scrub-tells}
+use Rattle.hwp_scrub.specs.Fits.{task as scrub-task}
 
 pub returns-clause-class : goal.returns-clause-class
 returns-clause-class c = scrub-tells
 
 pub returns-clause-pays : goal.returns-clause-pays
-returns-clause-pays c = lasting-pays scrub-member scrub-lasting
+returns-clause-pays c = lasting-pays scrub-task scrub-lasting

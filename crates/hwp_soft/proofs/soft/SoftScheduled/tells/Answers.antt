@@ -1,10 +1,10 @@
 use Rattle.hwp_soft.proofs.soft.SoftScheduled.tells.Goals as goal
-use Rattle.hwp_core_task.proofs.Revivals.{lasting-pays}
-use Rattle.hwp_soft.proofs.SoftRank.{soft-member}
+use Rattle.hwp_evict.proofs.of_hwp_core_task.Revivals.{lasting-pays}
 use Rattle.hwp_soft.proofs.SoftTells.{soft-lasting, soft-tells-class}
+use Rattle.hwp_soft.specs.Offline.{task as soft-task}
 
 pub returns-clause-class : goal.returns-clause-class
 returns-clause-class c = soft-tells-class
 
 pub returns-clause-pays : goal.returns-clause-pays
-returns-clause-pays c = lasting-pays soft-member soft-lasting
+returns-clause-pays c = lasting-pays soft-task soft-lasting

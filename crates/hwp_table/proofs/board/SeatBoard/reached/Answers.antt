@@ -1,5 +1,5 @@
 use Rattle.std.proofs.Common.{subst}
-use Rattle.hwp_geom.specs.declared.Cpu.{Cpu}
+use Rattle.hwp_core_task.specs.hwp_geom.declared.Cpu.{Cpu}
 use Rattle.hwp_core_task.specs.Boards.{AreSeated}
 use Rattle.hwp_plain.specs.Boards.{Board}
 use Rattle.hwp_table.specs.Turns.{turns_of}

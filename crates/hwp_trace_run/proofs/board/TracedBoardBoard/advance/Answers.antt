@@ -1,6 +1,6 @@
 use Rattle.std.proofs.Common.{List, Option, ap, ◌∙◌, subst}
-use Rattle.hwp_geom.specs.declared.Layout.{Layout}
-use Rattle.hwp_core_task.specs.Boards.{view_of}
+use Rattle.hwp_top_turns.specs.hwp_geom.declared.Layout.{Layout}
+use Rattle.hwp_top_turns.specs.hwp_core_task.Boards.{view_of}
 use Rattle.hwp_trace_run.specs.declared.line.TraceLine.{TraceLine}
 use Rattle.hwp_trace_run.specs.Notes.{Notes, line_seen}
 use Rattle.hwp_trace_run.specs.Traced.{Traced}
@@ -11,8 +11,7 @@ pub invariant_of-self : goal.invariant_of-self
 invariant_of-self g c =
     let was = c.self.inside.board in
     let now = c.advance-turn.new.self in
-    turn-traced was.layout c.args.cpu.0 (g.M.Task.who c.args.task.now) (g.M.Task.plan c.args.task.now) (g.M.Task.put c.args.task.now) (g.M.Task.next was.layout (g.M.Task.bare c.args.task.now))
-    was.state now.state was.log now.log c.args.task.now c.advance-turn.new.task c.advance-turn.result.0 c.advance-turn.result.1 c.look-seen.result c.line_of-line.result c.self.inside.lines c.noted.result
+    turn-traced g.M.Task.task was.layout c.args.cpu.0 was.state now.state was.log now.log c.args.task.now c.advance-turn.new.task c.advance-turn.result.0 c.advance-turn.result.1 c.look-seen.result c.line_of-line.result c.self.inside.lines c.noted.result
     c.keeps.ensures.rule.words c.advance-turn.ensures.turn c.look-seen.ensures
     (c.line_of-line.ensures ∙ ap (λ (l : Layout). line_seen l now.state c.look-seen.result c.advance-turn.result.0 c.advance-turn.result.1) c.advance-turn.ensures.same.0)
     (subst (λ (lines : Option (List TraceLine)). Notes lines c.line_of-line.result c.noted.result) c.replace-lines.ensures.value c.noted.ensures)

@@ -1,12 +1,12 @@
 -- The text of a report: lines of words.
 use Rattle.std.specs.Prelude.{ℕ, ◌+◌, List, [], ◌∷◌, ◌++◌, Option, Some, None, length, codes, decimal, flat_map, map}
-use Rattle.hwp_geom.specs.Words.{line, hex}
-use Rattle.hwp_geom.specs.declared.Who.{Who}
-use Rattle.hwp_geom.specs.declared.Thread.{Thread}
-use Rattle.hwp_geom.specs.declared.Mode.{Mode}
+use Rattle.hwp_page.specs.hwp_geom.Words.{line, hex}
+use Rattle.hwp_page.specs.hwp_geom.declared.Who.{Who}
+use Rattle.hwp_page.specs.hwp_geom.declared.Thread.{Thread}
+use Rattle.hwp_page.specs.hwp_geom.declared.Mode.{Mode}
 use Rattle.hwp_severity.specs.declared.McgBits.{McgBits}
-use Rattle.hwp_kill.specs.declared.Seen.{Seen}
-use Rattle.hwp_kill.specs.declared.Signal.{Signal}
+use Rattle.hwp_page.specs.hwp_kill.declared.Seen.{Seen}
+use Rattle.hwp_page.specs.hwp_kill.declared.Signal.{Signal}
 use Rattle.hwp_page.specs.declared.At.{At}
 use Rattle.hwp_page.specs.declared.Entry.{Entry}
 use Rattle.hwp_page.specs.declared.Met.{Met}

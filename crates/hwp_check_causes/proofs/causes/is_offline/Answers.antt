@@ -1,0 +1,10 @@
+use Rattle.std.proofs.Common.{◌↔◌, IsTrue, sym, subst}
+use Rattle.hwp_check_evidence.specs.hwp_report_text.declared.Answer.{Answer}
+use Rattle.hwp_check_evidence.specs.hwp_law.Causes.{IsOfflineAnswer}
+use Rattle.hwp_check_causes.specs.Cases.{CaseValue}
+use Rattle.hwp_check_causes.proofs.causes.is_offline.Goals as goal
+
+pub returns-in-TakenFree : goal.returns-in-TakenFree
+returns-in-TakenFree c =
+    subst (λ (v : CaseValue). IsTrue c.was_taken_free.result ↔ IsOfflineAnswer v.script v.report v.who c.args.frame c.args.answer.now) c.case.view_is
+    (subst (λ (a : Answer). IsTrue c.was_taken_free.result ↔ IsOfflineAnswer c.case.inside.script.now c.case.inside.report.now c.case.inside.who c.args.frame a) (sym c.in-TakenFree.is) c.was_taken_free.ensures)
