@@ -23,7 +23,7 @@ use Rattle.hwp_check_answers.specs.Sifting.{IsAnswerLine, IsWrongAnswer}
 use Rattle.hwp_check_answers.proofs.NextLaws.{count-rises, next_of}
 
 abbrev told_in : CpuLine → Answer
-told_in (lines.Event seq bank status addr misc graded acted) = answers.Stopped
+told_in (lines.Event event) = answers.Stopped
 told_in (lines.Answer seq answer) = answer
 
 -- an item of a front of a list is one of the list

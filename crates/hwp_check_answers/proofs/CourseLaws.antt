@@ -137,9 +137,9 @@ module _ (script : Script) (report : Report) (cpu : Cpu) (rows : List CpuLine) (
   -- what the lines before tell, with one line more
   pub course_next : (row seq : ℕ) (line : CpuLine) (course after : Course) → slice_get rows row ≡ Some line → IsNextOf rows seq line → IsCourse script report (take row rows) (at_seq seq) course
       → after.floors.items ≡ raised course.floors.items line → after.gone.items ≡ gone_by script cpu course.gone.items line → IsCourse script report (take (row + 1) rows) (at_seq (next_seq seq line)) after
-  course_next row seq (lines.Event s bank status addr misc graded acted) course after there next is floors gone = record {
-    floors = floors ∙ ap (λ (f : List ℕ). raised f (lines.Event s bank status addr misc graded acted)) is.floors ∙ sym (floors-next row (lines.Event s bank status addr misc graded acted) there);
-    earlier = earlier-event row seq (lines.Event s bank status addr misc graded acted) there refl is.earlier;
+  course_next row seq (lines.Event line) course after there next is floors gone = record {
+    floors = floors ∙ ap (λ (f : List ℕ). raised f (lines.Event line)) is.floors ∙ sym (floors-next row (lines.Event line) there);
+    earlier = earlier-event row seq (lines.Event line) there refl is.earlier;
     many = ap length gone ∙ is.many;
     gone = λ process small. (λ set. (is.gone process small).0 (sym (ap (λ (l : List Bool). get_or l process.0 false) gone) ∙ set), λ had. ap (λ (l : List Bool). get_or l process.0 false) gone ∙ (is.gone process small).1 had);
   }

@@ -76,12 +76,12 @@ so-far-start n rows = record {
 }
 
 pub so-far-next : (n : ℕ) (rows : List CpuLine) (i : ℕ) (flags : List Bool) (line : CpuLine) → slice_get rows i ≡ Some line → SoFar n rows i flags → SoFar n rows (i + 1) (marked line flags)
-so-far-next n rows i flags (lines.Event seq bank status addr misc graded acted) there so = record {
+so-far-next n rows i flags (lines.Event event) there so = record {
   size = so.size;
   right = so.right;
   whole = λ s row answer less is unset. elim (below-next i row less) [
     | inl low ↦ so.whole s row answer low is unset
-    | inr same ↦ absurd (true≢false (sym (ap is_answer (at-same rows i row (lines.Event seq bank status addr misc graded acted) (lines.Answer s answer) same there is))))
+    | inr same ↦ absurd (true≢false (sym (ap is_answer (at-same rows i row (lines.Event event) (lines.Answer s answer) same there is))))
   ];
 }
 so-far-next n rows i flags (lines.Answer seq answer) there so = record {

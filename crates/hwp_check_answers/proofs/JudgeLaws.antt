@@ -88,7 +88,4 @@ module _ (script : Script) (report : Report) (who : Who) (command : Command) whe
   caused-there answer at named caused = absurd (none-some at named)
 
   pub right_there : (answer : Answer) → IsRight script report who command answer → (at : At) → state_named answer ≡ Some at → at.page.0 < length report.pages
-  right_there answer right at named = elim right.shown [
-    | inl stopped ↦ absurd (none-some at (ap state_named (sym stopped) ∙ named))
-    | inr caused ↦ caused-there answer at named caused
-  ]
+  right_there answer right at named = caused-there answer at named right.shown

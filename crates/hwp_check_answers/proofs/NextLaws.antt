@@ -31,7 +31,7 @@ first-answer : (rows : List CpuLine) (row seq : ℕ) (answer : Answer) → slice
     → ((r s : ℕ) (a : Answer) → r < row → slice_get rows r ≡ Some (lines.Answer s a) → s ≡ seq → ⊥) → answer_among rows seq ≡ Some answer
 first-answer [] row seq answer is none = absurd (none-some _ is)
 first-answer (x ∷ rs) zero seq answer is none = subst (λ (l : CpuLine). answer_among (l ∷ rs) seq ≡ Some answer) (sym (same_Some _ _ is)) (among-own seq seq answer rs refl)
-first-answer (lines.Event s bank status addr misc graded acted ∷ rs) (suc row) seq answer is none = first-answer rs row seq answer is (λ r t a low there. none (suc r) t a (omega (arith, low)) there)
+first-answer (lines.Event event ∷ rs) (suc row) seq answer is none = first-answer rs row seq answer is (λ r t a low there. none (suc r) t a (omega (arith, low)) there)
 first-answer (lines.Answer s b ∷ rs) (suc row) seq answer is none =
     among-other s seq b rs (none 0 s b (omega arith) refl) ∙ first-answer rs row seq answer is (λ r t a low there. none (suc r) t a (omega (arith, low)) there)
 

@@ -10,10 +10,6 @@ use Rattle.hwp_check_rules.specs.hwp_check_event_line.declared.Shown.{Shown}
 use Rattle.hwp_check_rules.specs.AnswerFaults.{events_before}
 use Rattle.hwp_check_rules.specs.Answered.{is_answer, seq_of}
 
--- the line that shows an event
-abbrev pub row_of : Shown → CpuLine
-row_of s = lines.Event s.seq s.bank s.status s.addr s.misc s.row s.acted
-
 module _ (seq : ℕ) where
   abbrev own : CpuLine → Bool
   own l = not (is_answer l) && (seq_of l == seq)
@@ -30,8 +26,8 @@ module _ (seq : ℕ) where
   pub record Stands (rows : List CpuLine) (place number : ℕ) (s : Shown) : Type 0 where
     pub k : ℕ
     pub place_is : s.place ≡ place + k
-    pub there : slice_get rows k ≡ Some (row_of s)
-    pub seq_is : s.seq ≡ seq
+    pub there : slice_get rows k ≡ Some (lines.Event s.line)
+    pub seq_is : s.line.seq ≡ seq
     pub number_is : events_before rows k seq ≡ number
 
   pub stands : (rows : List CpuLine) (place number : ℕ) (s : Shown) → slice_get (shown_from seq place rows) number ≡ Some s → Stands rows place number s
@@ -44,41 +40,41 @@ module _ (seq : ℕ) where
         seq_is = rest.seq_is;
         number_is = let c : events_before (lines.Answer n answer ∷ rs) (suc rest.k) seq ≡ 0 + events_before rs rest.k seq = counted (lines.Answer n answer) rs rest.k in let m : events_before rs rest.k seq ≡ number = rest.number_is in omega (arith, c, m);
       }
-  stands (lines.Event n bank status addr misc row acted ∷ rs) place number s there = by (cases_eq seq n) (stands rs (place + 1)) number there
+  stands (lines.Event event ∷ rs) place number s there = by (cases_eq seq event.seq) (stands rs (place + 1)) number there
     where
       now : Shown
-      now = record { place = place; seq = n; bank = bank; status = status; addr = addr; misc = misc; row = row; acted = acted }
+      now = record { place = place; line = event }
 
       count : Bool → ℕ
       count b = cond b 1 0
 
       raise : ℕ
-      raise = count (n == seq)
+      raise = count (event.seq == seq)
 
       -- behind the first
-      later : (rest m : ℕ) → (t : Shown) → raise ≡ rest → (at : Stands rs (place + 1) m t) → Stands (lines.Event n bank status addr misc row acted ∷ rs) place (rest + m) t
+      later : (rest m : ℕ) → (t : Shown) → raise ≡ rest → (at : Stands rs (place + 1) m t) → Stands (lines.Event event ∷ rs) place (rest + m) t
       later rest m t is at = record {
         k = suc at.k;
         place_is = let p : t.place ≡ place + 1 + at.k = at.place_is in omega (arith, p);
         there = at.there;
         seq_is = at.seq_is;
-        number_is = let c : events_before (lines.Event n bank status addr misc row acted ∷ rs) (suc at.k) seq ≡ raise + events_before rs at.k seq = counted (lines.Event n bank status addr misc row acted) rs at.k in
+        number_is = let c : events_before (lines.Event event ∷ rs) (suc at.k) seq ≡ raise + events_before rs at.k seq = counted (lines.Event event) rs at.k in
             let q : events_before rs at.k seq ≡ m = at.number_is in omega (arith, c, q, is);
       }
 
-      raised : (b : Bool) → (n == seq) ≡ b → raise ≡ count b
+      raised : (b : Bool) → (event.seq == seq) ≡ b → raise ≡ count b
       raised b is = ap count is
 
-      by : (seq ≡ n) ⊎ (seq ≡ n → ⊥) → ((m : ℕ) (t : Shown) → slice_get (shown_from seq (place + 1) rs) m ≡ Some t → Stands rs (place + 1) m t) → (m : ℕ)
-          → slice_get (cond (seq == n) (now ∷ []) [] ++ shown_from seq (place + 1) rs) m ≡ Some s → Stands (lines.Event n bank status addr misc row acted ∷ rs) place m s
-      by (inl same) rest m at = here m (subst (λ (b : Bool). slice_get (cond b (now ∷ []) [] ++ shown_from seq (place + 1) rs) m ≡ Some s) (eq-eqb seq n same) at)
+      by : (seq ≡ event.seq) ⊎ (seq ≡ event.seq → ⊥) → ((m : ℕ) (t : Shown) → slice_get (shown_from seq (place + 1) rs) m ≡ Some t → Stands rs (place + 1) m t) → (m : ℕ)
+          → slice_get (cond (seq == event.seq) (now ∷ []) [] ++ shown_from seq (place + 1) rs) m ≡ Some s → Stands (lines.Event event ∷ rs) place m s
+      by (inl same) rest m at = here m (subst (λ (b : Bool). slice_get (cond b (now ∷ []) [] ++ shown_from seq (place + 1) rs) m ≡ Some s) (eq-eqb seq event.seq same) at)
         where
-          here : (m : ℕ) → slice_get (now ∷ shown_from seq (place + 1) rs) m ≡ Some s → Stands (lines.Event n bank status addr misc row acted ∷ rs) place m s
-          here zero is = subst (λ (t : Shown). Stands (lines.Event n bank status addr misc row acted ∷ rs) place 0 t) (same_Some _ _ is) (record { k = 0; place_is = let e : place ≡ place + 0 = omega arith in e; there = refl; seq_is = sym same; number_is = none-before (lines.Event n bank status addr misc row acted ∷ rs) })
-          here (suc m) is = subst (λ (x : ℕ). Stands (lines.Event n bank status addr misc row acted ∷ rs) place x s) (let e : 1 + m ≡ suc m = omega arith in e) (later 1 m s (raised true (eq-eqb n seq (sym same))) (rest m s is))
+          here : (m : ℕ) → slice_get (now ∷ shown_from seq (place + 1) rs) m ≡ Some s → Stands (lines.Event event ∷ rs) place m s
+          here zero is = subst (λ (t : Shown). Stands (lines.Event event ∷ rs) place 0 t) (same_Some _ _ is) (record { k = 0; place_is = let e : place ≡ place + 0 = omega arith in e; there = refl; seq_is = sym same; number_is = none-before (lines.Event event ∷ rs) })
+          here (suc m) is = subst (λ (x : ℕ). Stands (lines.Event event ∷ rs) place x s) (let e : 1 + m ≡ suc m = omega arith in e) (later 1 m s (raised true (eq-eqb event.seq seq (sym same))) (rest m s is))
       by (inr other) rest m at =
-          subst (λ (x : ℕ). Stands (lines.Event n bank status addr misc row acted ∷ rs) place x s) (let e : 0 + m ≡ m = omega arith in e)
-          (later 0 m s (raised false (ne_eqb n seq (λ is. other (sym is)))) (rest m s (subst (λ (b : Bool). slice_get (cond b (now ∷ []) [] ++ shown_from seq (place + 1) rs) m ≡ Some s) (ne_eqb seq n other) at)))
+          subst (λ (x : ℕ). Stands (lines.Event event ∷ rs) place x s) (let e : 0 + m ≡ m = omega arith in e)
+          (later 0 m s (raised false (ne_eqb event.seq seq (λ is. other (sym is)))) (rest m s (subst (λ (b : Bool). slice_get (cond b (now ∷ []) [] ++ shown_from seq (place + 1) rs) m ≡ Some s) (ne_eqb seq event.seq other) at)))
 
   -- an event line is shown, by how many stand before it
   pub record IsShown (rows : List CpuLine) (place k : ℕ) : Type 0 where
@@ -95,34 +91,34 @@ module _ (seq : ℕ) where
         there = ap (slice_get (shown_from seq (place + 1) rs)) (let c : events_before (lines.Answer n answer ∷ rs) (suc k) seq ≡ 0 + events_before rs k seq = counted (lines.Answer n answer) rs k in let e : events_before (lines.Answer n answer ∷ rs) (suc k) seq ≡ events_before rs k seq = omega (arith, c) in e) ∙ rest.there;
         place_is = let p : rest.shown.place ≡ place + 1 + k = rest.place_is in omega (arith, p);
       }
-  is-shown (lines.Event n bank status addr misc row acted ∷ rs) place zero l there event is = record {
+  is-shown (lines.Event line ∷ rs) place zero l there event is = record {
     shown = now;
-    there = ap (λ (b : Bool). slice_get (cond b (now ∷ []) [] ++ shown_from seq (place + 1) rs) 0) (eq-eqb seq n (sym is ∙ ap seq_of (sym (same_Some _ _ there))));
+    there = ap (λ (b : Bool). slice_get (cond b (now ∷ []) [] ++ shown_from seq (place + 1) rs) 0) (eq-eqb seq line.seq (sym is ∙ ap seq_of (sym (same_Some _ _ there))));
     place_is = let e : place ≡ place + 0 = omega arith in e;
   }
     where
       now : Shown
-      now = record { place = place; seq = n; bank = bank; status = status; addr = addr; misc = misc; row = row; acted = acted }
-  is-shown (lines.Event n bank status addr misc row acted ∷ rs) place (suc k) l there event is = by (cases_eq seq n) (is-shown rs (place + 1) k l there event is)
+      now = record { place = place; line = line }
+  is-shown (lines.Event line ∷ rs) place (suc k) l there event is = by (cases_eq seq line.seq) (is-shown rs (place + 1) k l there event is)
     where
       now : Shown
-      now = record { place = place; seq = n; bank = bank; status = status; addr = addr; misc = misc; row = row; acted = acted }
+      now = record { place = place; line = line }
 
-      count : (b : Bool) → (n == seq) ≡ b → events_before (lines.Event n bank status addr misc row acted ∷ rs) (suc k) seq ≡ cond b 1 0 + events_before rs k seq
-      count b at = counted (lines.Event n bank status addr misc row acted) rs k ∙ ap (λ (c : Bool). cond c 1 0 + events_before rs k seq) at
+      count : (b : Bool) → (line.seq == seq) ≡ b → events_before (lines.Event line ∷ rs) (suc k) seq ≡ cond b 1 0 + events_before rs k seq
+      count b at = counted (lines.Event line) rs k ∙ ap (λ (c : Bool). cond c 1 0 + events_before rs k seq) at
 
-      by : (seq ≡ n) ⊎ (seq ≡ n → ⊥) → IsShown rs (place + 1) k → IsShown (lines.Event n bank status addr misc row acted ∷ rs) place (suc k)
+      by : (seq ≡ line.seq) ⊎ (seq ≡ line.seq → ⊥) → IsShown rs (place + 1) k → IsShown (lines.Event line ∷ rs) place (suc k)
       by (inl same) rest = record {
         shown = rest.shown;
-        there = ap (λ (b : Bool). slice_get (cond b (now ∷ []) [] ++ shown_from seq (place + 1) rs) (events_before (lines.Event n bank status addr misc row acted ∷ rs) (suc k) seq)) (eq-eqb seq n same)
-            ∙ ap (slice_get (now ∷ shown_from seq (place + 1) rs)) (let c : events_before (lines.Event n bank status addr misc row acted ∷ rs) (suc k) seq ≡ 1 + events_before rs k seq = count true (eq-eqb n seq (sym same)) in let e : events_before (lines.Event n bank status addr misc row acted ∷ rs) (suc k) seq ≡ suc (events_before rs k seq) = omega (arith, c) in e)
+        there = ap (λ (b : Bool). slice_get (cond b (now ∷ []) [] ++ shown_from seq (place + 1) rs) (events_before (lines.Event line ∷ rs) (suc k) seq)) (eq-eqb seq line.seq same)
+            ∙ ap (slice_get (now ∷ shown_from seq (place + 1) rs)) (let c : events_before (lines.Event line ∷ rs) (suc k) seq ≡ 1 + events_before rs k seq = count true (eq-eqb line.seq seq (sym same)) in let e : events_before (lines.Event line ∷ rs) (suc k) seq ≡ suc (events_before rs k seq) = omega (arith, c) in e)
             ∙ rest.there;
         place_is = let p : rest.shown.place ≡ place + 1 + k = rest.place_is in omega (arith, p);
       }
       by (inr other) rest = record {
         shown = rest.shown;
-        there = ap (λ (b : Bool). slice_get (cond b (now ∷ []) [] ++ shown_from seq (place + 1) rs) (events_before (lines.Event n bank status addr misc row acted ∷ rs) (suc k) seq)) (ne_eqb seq n other)
-            ∙ ap (slice_get (shown_from seq (place + 1) rs)) (let c : events_before (lines.Event n bank status addr misc row acted ∷ rs) (suc k) seq ≡ 0 + events_before rs k seq = count false (ne_eqb n seq (λ at. other (sym at))) in let e : events_before (lines.Event n bank status addr misc row acted ∷ rs) (suc k) seq ≡ events_before rs k seq = omega (arith, c) in e)
+        there = ap (λ (b : Bool). slice_get (cond b (now ∷ []) [] ++ shown_from seq (place + 1) rs) (events_before (lines.Event line ∷ rs) (suc k) seq)) (ne_eqb seq line.seq other)
+            ∙ ap (slice_get (shown_from seq (place + 1) rs)) (let c : events_before (lines.Event line ∷ rs) (suc k) seq ≡ 0 + events_before rs k seq = count false (ne_eqb line.seq seq (λ at. other (sym at))) in let e : events_before (lines.Event line ∷ rs) (suc k) seq ≡ events_before rs k seq = omega (arith, c) in e)
             ∙ rest.there;
         place_is = let p : rest.shown.place ≡ place + 1 + k = rest.place_is in omega (arith, p);
       }

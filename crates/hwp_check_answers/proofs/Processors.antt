@@ -6,6 +6,7 @@ use Rattle.hwp_check_evidence.specs.hwp_geom.declared.Cpu.{Cpu}
 use Rattle.hwp_check_evidence.specs.hwp_script_read.declared.Command.{Command}
 use Rattle.hwp_check_evidence.specs.hwp_script_read.declared.Script.{Script}
 use Rattle.hwp_check_evidence.specs.hwp_report_text.declared.CpuLine.{CpuLine}
+use Rattle.hwp_check_evidence.specs.hwp_report_text.declared.CpuLine.TheVariants as lines
 use Rattle.hwp_check_evidence.specs.hwp_report_text.declared.Report.{Report}
 use Rattle.hwp_check_evidence.specs.hwp_banks.Banks.{empty_banks}
 use Rattle.hwp_check_evidence.specs.hwp_law.Events.{AreEventsFrom}
@@ -19,7 +20,7 @@ use Rattle.hwp_check_rules.specs.Standing.{cpu_line}
 use Rattle.hwp_check_answers.specs.Facts.{at_number}
 use Rattle.hwp_check_answers.specs.Joining.{IsEventLine, IsWrongEvent}
 use Rattle.hwp_check_answers.specs.Firsts.{line_of}
-use Rattle.hwp_check_answers.proofs.Places.{IsShown, Stands, is-shown, row_of, stands}
+use Rattle.hwp_check_answers.proofs.Places.{IsShown, Stands, is-shown, stands}
 
 abbrev pub cpu_of : ℕ → Cpu
 cpu_of n = record { 0 = n }
@@ -63,7 +64,7 @@ module _ (script : Script) (report : Report) (n : ℕ) (commands : List Command)
     commands = commands;
     rows = rows;
     row = at.k;
-    shown = row_of w.shown;
+    shown = lines.Event w.shown.line;
     command = w.command;
     of_script = of_script;
     of_report = of_report;
@@ -82,7 +83,7 @@ module _ (script : Script) (report : Report) (n : ℕ) (commands : List Command)
   pub row-within : (row : ℕ) → WrongAt row → row < length rows
   row-within row w =
       let at = stands w.seq rows 0 w.number w.shown w.there in
-      let within : at.k < length rows = slice_get_within rows at.k (row_of w.shown) at.there in
+      let within : at.k < length rows = slice_get_within rows at.k (lines.Event w.shown.line) at.there in
       let p : w.shown.place ≡ 0 + at.k = at.place_is in
       let r : row ≡ w.shown.place = w.row_is in
       omega (arith, within, p, r)

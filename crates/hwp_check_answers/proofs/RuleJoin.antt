@@ -35,13 +35,13 @@ module _ (script : Script) (report : Report) where
       by : (shown : CpuLine) → slice_get f.rows f.row ≡ Some shown → (command : Command) → slice_get f.commands (seq_of shown) ≡ Some command → IsLineWrong script report f.cpu f.rows f.row shown command → IsLine line
       by (lines.Answer seq answer) there command made wrong =
           inl (inr (record { cpu = f.cpu; commands = f.commands; rows = f.rows; row = f.row; seq = seq; answer = answer; command = command; of_script = f.of_script; of_report = f.of_report; there = there; made = made; line_is = f.line_is; wrong = wrong }))
-      by (lines.Event seq bank status addr misc graded acted) there command made wrong =
+      by (lines.Event line) there command made wrong =
           inr (inr (record {
             cpu = f.cpu;
             commands = f.commands;
             rows = f.rows;
             row = f.row;
-            shown = lines.Event seq bank status addr misc graded acted;
+            shown = lines.Event line;
             command = command;
             of_script = f.of_script;
             of_report = f.of_report;
@@ -62,7 +62,7 @@ module _ (script : Script) (report : Report) where
     where
       by : (shown : CpuLine) → is_answer shown ≡ false → IsEventWrong script report w.rows w.row (at_number w.cpu (seq_of shown)) w.command → IsLineWrong script report w.cpu w.rows w.row shown w.command
       by (lines.Answer seq answer) event wrong = absurd (true≢false event)
-      by (lines.Event seq bank status addr misc graded acted) event wrong = wrong
+      by (lines.Event line) event wrong = wrong
 
   line-fault : (line : ℕ) → IsLine line → IsAnswerFault script report line
   line-fault line (inl (inl (inl unanswered))) = inl unanswered

@@ -47,7 +47,7 @@ over answer = inr (λ o. o)
 -- the answer of a command stands in some line
 answer-line : (rows : List CpuLine) (seq : ℕ) (answer : Answer) → answer_among rows seq ≡ Some answer → (row : ℕ) × (slice_get rows row ≡ Some (lines.Answer seq answer))
 answer-line [] seq answer is = absurd (none-some answer is)
-answer-line (lines.Event s bank status addr misc graded acted ∷ rs) seq answer is = let r = answer-line rs seq answer is in (suc r.0, r.1)
+answer-line (lines.Event event ∷ rs) seq answer is = let r = answer-line rs seq answer is in (suc r.0, r.1)
 answer-line (lines.Answer s a ∷ rs) seq answer is = which (seq == s) refl is (λ more. answer-line rs seq answer more)
   where
     which : (b : Bool) → (seq == s) ≡ b → option_map (λ (l : AnswerLine). l.answer) (cond b (Some (record { seq = s; answer = a })) (find (λ (l : AnswerLine). seq == l.seq) (filter_map answer_in rs))) ≡ Some answer

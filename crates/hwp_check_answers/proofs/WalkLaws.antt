@@ -15,9 +15,9 @@ use Rattle.hwp_check_answers.specs.Judging.{next_seq}
 
 -- the number of the next command
 pub next_count : (rows : List CpuLine) (row : ℕ) (line : CpuLine) → slice_get rows row ≡ Some line → next_seq (count_by is_answer (take row rows)) line ≡ count_by is_answer (take (row + 1) rows)
-next_count rows row (lines.Event seq bank status addr misc graded acted) there =
-    sym (count_by_more_no is_answer rows row (lines.Event seq bank status addr misc graded acted) (slice_get_within rows row (lines.Event seq bank status addr misc graded acted) there)
-    (ap is_answer (get_or_from_slice_get rows row (lines.Event seq bank status addr misc graded acted) (lines.Event seq bank status addr misc graded acted) there)))
+next_count rows row (lines.Event event) there =
+    sym (count_by_more_no is_answer rows row (lines.Event event) (slice_get_within rows row (lines.Event event) there)
+    (ap is_answer (get_or_from_slice_get rows row (lines.Event event) (lines.Event event) there)))
 next_count rows row (lines.Answer seq answer) there =
     sym (count_by_more_yes is_answer rows row (lines.Answer seq answer) (slice_get_within rows row (lines.Answer seq answer) there)
     (ap is_answer (get_or_from_slice_get rows row (lines.Answer seq answer) (lines.Answer seq answer) there)))

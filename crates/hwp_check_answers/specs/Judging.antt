@@ -43,12 +43,12 @@ gone_after gone _ _ = gone
 
 -- the same after a line
 abbrev pub gone_by : Script → Cpu → List Bool → CpuLine → List Bool
-gone_by script cpu gone (lines.Event seq bank status addr misc row acted) = gone
+gone_by script cpu gone (lines.Event event) = gone
 gone_by script cpu gone (lines.Answer seq answer) = gone_after gone (process_at script (record { cpu = cpu; seq = seq })) answer
 
 -- the number of the command whose answer comes next, after a line
 abbrev pub next_seq : ℕ → CpuLine → ℕ
-next_seq seq (lines.Event s bank status addr misc row acted) = seq
+next_seq seq (lines.Event event) = seq
 next_seq seq (lines.Answer s answer) = seq + 1
 
 -- the line is of the command whose answer comes next, and if it is an answer it is the command's first

@@ -41,7 +41,7 @@ pub record TellAnswers (n : ℕ) (rows : List CpuLine) (flags : List Bool) : Typ
 
 -- the flags after a line: an answer sets that of its command
 abbrev pub marked : CpuLine → List Bool → List Bool
-marked (lines.Event seq bank status addr misc row acted) flags = flags
+marked (lines.Event event) flags = flags
 marked (lines.Answer seq answer) flags = slice_set flags seq true
 
 -- all of these are set

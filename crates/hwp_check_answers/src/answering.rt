@@ -16,7 +16,7 @@ use std::alloc::Global;
 /// The first line of a report that is out of place, where a command has no answer, or where an answer is wrong; its event lines
 /// are another matter.
 #[tactic(auto, using(crate::proofs::JoinLaws::joined))]
-pub fn answer_lines(
+pub(crate) fn answer_lines(
     alloc: Global,
     script: &Script,
     report: &Report,
@@ -34,7 +34,7 @@ pub fn answer_lines(
 /// The first line of a report that breaks the rule of answers, by the first of those of its answers and the first of its event
 /// lines.
 #[tactic(auto, using(crate::proofs::RuleJoin::both_lines))]
-pub fn first_of_both(
+pub(crate) fn first_of_both(
     script: &Script,
     report: &Report,
     lines: Option<u64>,

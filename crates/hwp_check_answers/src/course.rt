@@ -5,7 +5,7 @@ ghost use Rattle.hwp_check_answers.specs.Judging.{gone_after, gone_by};
 ghost use Rattle.hwp_check_answers.specs.Walk.{IsCourseAt};
 
 use crate::judging::Course;
-use crate::processor::Processor;
+use crate::processor::JudgedProcessor;
 use hwp_check_causes::process_at;
 use hwp_check_evidence::{no_floors, raise};
 use hwp_check_rules::{Answer, Cpu, CpuLine, OutOfMemory, Proc, Script, Who};
@@ -32,7 +32,7 @@ fn flag_by(script: &Script, cpu: Cpu, gone: &mut Vec<bool>, row: &CpuLine)
     ensures { gone.new.items ≡ gone_by script.now cpu gone.old.items row.now }
 {
     match row {
-        CpuLine::Event { .. } => {}
+        CpuLine::Event(_) => {}
         CpuLine::Answer { seq, answer } => {
             let who = Who { cpu, seq: *seq };
             flag(gone, process_at(script, who), answer);
@@ -41,7 +41,7 @@ fn flag_by(script: &Script, cpu: Cpu, gone: &mut Vec<bool>, row: &CpuLine)
 }
 
 /// Notes a line more.
-pub(crate) fn note(processor: &Processor<'_>, course: &mut Course, row: &CpuLine)
+pub(crate) fn note(processor: &JudgedProcessor<'_>, course: &mut Course, row: &CpuLine)
     requires { length course.old.gone.items ≡ process_numbers }
     ensures floors { course.new.floors.items ≡ raised course.old.floors.items row.now }
     ensures gone { course.new.gone.items ≡ gone_by processor.now.script processor.now.cpu course.old.gone.items row.now }
@@ -59,7 +59,7 @@ fn no_flags(alloc: Global, processes: usize) -> Result<Vec<bool>, OutOfMemory>
 
 /// What is known before any line.
 #[tactic(auto, using(crate::proofs::CourseLaws::begins))]
-pub(crate) fn begin(alloc: Global, processor: &Processor<'_>) -> Result<Course, OutOfMemory>
+pub(crate) fn begin(alloc: Global, processor: &JudgedProcessor<'_>) -> Result<Course, OutOfMemory>
     ensures { IfOk result (λ course. IsCourseAt processor.now 0 0 course) }
 {
     let floors = no_floors(alloc, processor.report.pages.len())?;

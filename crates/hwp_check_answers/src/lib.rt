@@ -15,5 +15,4 @@ mod rule;
 mod sifting;
 mod walk;
 
-pub use answering::{answer_lines, first_of_both};
 pub use rule::answers_fault;

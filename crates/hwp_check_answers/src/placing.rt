@@ -10,7 +10,7 @@ fn seq_of(row: &CpuLine) -> u32
     ensures { result ≡ seq_of row.now }
 {
     match row {
-        CpuLine::Event { seq, .. } => *seq,
+        CpuLine::Event(event) => event.seq,
         CpuLine::Answer { seq, .. } => *seq,
     }
 }
@@ -43,7 +43,7 @@ fn mark(flags: &mut Vec<bool>, row: &CpuLine)
     ensures { flags.new.items ≡ marked row.now flags.old.items }
 {
     match row {
-        CpuLine::Event { .. } => {}
+        CpuLine::Event(_) => {}
         CpuLine::Answer { seq, .. } => {
             let at = *seq as usize;
             if at < flags.len() {

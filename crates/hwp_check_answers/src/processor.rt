@@ -13,7 +13,7 @@ use std::marker::Model;
 /// A processor with its commands and its lines, and what is known of them. Clauses see the processor, its commands, its lines, the
 /// script and the report.
 #[derive(Drop)]
-pub(crate) struct Processor<'a> {
+pub(crate) struct JudgedProcessor<'a> {
     pub(crate) script: &'a Script,
     pub(crate) report: &'a Report,
     pub(crate) cpu: Cpu,
@@ -25,7 +25,7 @@ pub(crate) struct Processor<'a> {
     pub(crate) naming: Naming,
 }
 
-impl<'a> Model for Processor<'a> {
+impl<'a> Model for JudgedProcessor<'a> {
     ghost use Rattle.hwp_check_answers.specs.Facts.{IsReady};
     ghost use Rattle.hwp_check_answers.specs.Values.{ProcessorValue};
 
@@ -36,7 +36,7 @@ impl<'a> Model for Processor<'a> {
     ghost invariant = { λ p. IsReady p.script.now p.report.now p.cpu p.commands.now p.rows.now p.known.now p.own p.facts p.naming };
 }
 
-impl<'a> Processor<'a> {
+impl<'a> JudgedProcessor<'a> {
     /// A processor whose commands and lines these are.
     pub(crate) fn new(
         alloc: Global,
@@ -46,7 +46,7 @@ impl<'a> Processor<'a> {
         cpu: Cpu,
         commands: &'a [Command],
         rows: &'a [CpuLine],
-    ) -> Result<Processor<'a>, OutOfMemory>
+    ) -> Result<JudgedProcessor<'a>, OutOfMemory>
         requires few { length report.now.pages ≤ 256 }
         requires known { IsKnown script.now report.now known.now }
         requires of_script { slice_get script.now.lists cpu.0 ≡ Some commands.now }
@@ -55,7 +55,7 @@ impl<'a> Processor<'a> {
     {
         let (own, naming) = own_and_naming(alloc, script, report, cpu, commands, rows)?;
         let facts = facts_of(alloc, commands, rows)?;
-        Ok(Processor {
+        Ok(JudgedProcessor {
             script,
             report,
             cpu,

@@ -4,8 +4,8 @@ ghost use Rattle.hwp_check_rules.specs.Standing.{last_line};
 ghost use Rattle.hwp_check_rules.specs.declared.Rule.TheVariants.{Answers};
 ghost use Rattle.hwp_check_rules.specs.Verdicts.{HoldBelow, Holds, IsBroken};
 
+use crate::answering::{answer_lines, first_of_both};
 use crate::events::{event_lines, lines_break};
-use crate::{answer_lines, first_of_both};
 use hwp_check_rules::{OutOfMemory, Report, Script};
 use std::alloc::Global;
 

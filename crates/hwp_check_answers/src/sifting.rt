@@ -7,7 +7,7 @@ ghost use Rattle.hwp_check_rules.specs.Verdicts.{HoldBelow};
 
 use crate::course::begin;
 use crate::placing::first_out;
-use crate::processor::Processor;
+use crate::processor::JudgedProcessor;
 use crate::walk::first_bad;
 use hwp_check_causes::known_of;
 use hwp_check_rules::{
@@ -29,7 +29,7 @@ fn cut(commands: &[Command], rows: &[CpuLine]) -> usize
 /// The number of the first wrong answer among so many lines of a processor.
 fn first_wrong(
     alloc: Global,
-    processor: &Processor<'_>,
+    processor: &JudgedProcessor<'_>,
     end: usize,
 ) -> Result<Option<usize>, OutOfMemory>
     requires { IsCut processor.now.commands processor.now.rows end }
@@ -42,7 +42,7 @@ fn first_wrong(
 /// The line of the first wrong answer of a processor whose heading stands at `heading`, as far as its lines are in place.
 fn unsound(
     alloc: Global,
-    processor: &Processor<'_>,
+    processor: &JudgedProcessor<'_>,
     heading: u64,
 ) -> Result<Option<u64>, OutOfMemory>
     requires { heading + 1 + length processor.now.rows < 2 ^ 64 }
@@ -72,7 +72,7 @@ pub(crate) fn unsound_answers(
         let cpu = Cpu(number);
         let commands = commands_of(script, cpu);
         let rows = rows_on(report, cpu);
-        let processor = Processor::new(alloc, script, report, &known, cpu, commands, rows)?;
+        let processor = JudgedProcessor::new(alloc, script, report, &known, cpu, commands, rows)?;
         let found = unsound(alloc, &processor, line)?;
         if found.is_some() {
             return Ok(found);

@@ -8,12 +8,12 @@ ghost use Rattle.hwp_check_answers.specs.Walk.{AreGoodLines, IsBadLine, IsCourse
 use crate::course::note;
 use crate::given::GivenAnswer;
 use crate::judging::{Course, is_good};
-use crate::processor::Processor;
+use crate::processor::JudgedProcessor;
 use hwp_check_rules::{Answer, Command, CpuLine};
 
 /// Whether nothing is wrong about the answer of this command.
 fn is_good_command<'a>(
-    processor: &'a Processor<'_>,
+    processor: &'a JudgedProcessor<'_>,
     number: usize,
     course: &'a Course,
     seq: u32,
@@ -37,7 +37,7 @@ fn is_good_command<'a>(
 
 /// Whether nothing is wrong about the answer of a command, if there is such a command.
 fn is_good_answer(
-    processor: &Processor<'_>,
+    processor: &JudgedProcessor<'_>,
     number: usize,
     course: &Course,
     seq: u32,
@@ -55,14 +55,19 @@ fn is_good_answer(
 }
 
 /// Whether the line at the number, if it is a command's answer, has nothing wrong about it.
-fn is_good_row(processor: &Processor<'_>, number: usize, course: &Course, row: &CpuLine) -> bool
+fn is_good_row(
+    processor: &JudgedProcessor<'_>,
+    number: usize,
+    course: &Course,
+    row: &CpuLine,
+) -> bool
     requires within { number ≤ length processor.now.rows }
     requires course { IsCourseAt processor.now number (answered_before processor.now number) course.now }
     requires next { IsNextOf processor.now.rows (answered_before processor.now number) row.now }
     ensures { MatchBool result (IsGoodLine processor.now number row.now) (IsBadLine processor.now number row.now) }
 {
     match row {
-        CpuLine::Event { .. } => true,
+        CpuLine::Event(_) => true,
         CpuLine::Answer { seq, answer } => {
             is_good_answer(processor, number, course, *seq, answer)
         }
@@ -70,7 +75,7 @@ fn is_good_row(processor: &Processor<'_>, number: usize, course: &Course, row: &
 }
 
 /// The number of the first of so many lines that is a command's answer with something wrong about it.
-pub(crate) fn first_bad(processor: &Processor<'_>, end: usize, start: Course) -> Option<usize>
+pub(crate) fn first_bad(processor: &JudgedProcessor<'_>, end: usize, start: Course) -> Option<usize>
     requires within { end ≤ length processor.now.rows }
     requires places { FirstInPlace processor.now.commands processor.now.rows end }
     requires course { IsCourseAt processor.now 0 0 start }

@@ -1,4 +1,4 @@
-ghost use Rattle.std.specs.Prelude.{◌≡◌, ◌≢◌, ◌↔◌, ◌<◌, IsTrue, true};
+ghost use Rattle.std.specs.Prelude.{◌≡◌, ◌≢◌, ◌↔◌, ◌<◌, IsSome, IsTrue, true};
 ghost use Rattle.hwp_check_evidence.specs.hwp_report_text.declared.Answer.TheVariants as answers;
 ghost use Rattle.hwp_check_evidence.specs.hwp_law.Causes.{IsCaused, IsHeeded};
 ghost use Rattle.hwp_check_rules.specs.Answered.{IsRight};
@@ -13,7 +13,7 @@ use crate::causes::{is_failure, is_offline, is_reply, is_unpoison};
 use crate::known::{is_by_end, is_by_lines, is_by_state};
 use crate::plain::{is_kernels, is_plain};
 use crate::telling::is_by_entry;
-use hwp_check_rules::{Answer, Command, Thread};
+use hwp_check_rules::{Answer, Command, Report, Thread};
 
 /// Whether an answer that names an entry is of that kind.
 fn names_entry(answer: &Answer) -> bool
@@ -122,8 +122,15 @@ fn is_heeded(case: &Case<'_>, answer: &Answer) -> bool
     !case.told.ends || is_stopped(answer)
 }
 
+/// Whether the report tells of a stop.
+fn tells_stop(report: &Report) -> bool
+    ensures { IsTrue result ↔ IsSome report.now.stop }
+{
+    report.stop.is_some()
+}
+
 /// Whether the answer is right: `stopped` where one of the command's events stopped the machine, or was a panic, and with a cause
-/// that the report shows; that of `stopped` is the matter of the stop line.
+/// that the report shows.
 pub fn is_right(case: &Case<'_>, answer: &Answer) -> bool
     ensures { IsTrue result ↔ IsRight case.now.script case.now.report case.now.who case.now.command answer.now }
 {
@@ -131,7 +138,7 @@ pub fn is_right(case: &Case<'_>, answer: &Answer) -> bool
         return false;
     }
     if is_stopped(answer) {
-        return true;
+        return tells_stop(case.report());
     }
     is_caused(case, answer)
 }

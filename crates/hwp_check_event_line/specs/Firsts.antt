@@ -1,6 +1,11 @@
 -- The first of the event lines of a command that isn't right at its place.
-use Rattle.std.specs.Prelude.{◌≡◌, ℕ, ◌<◌, Bool, true, false, List, Option, Some, None, MatchOption, slice_get}
-use Rattle.hwp_law.specs.Lines.{EventLine}
+use Rattle.std.specs.Prelude.{◌≡◌, ℕ, ◌<◌, Bool, true, false, List, Option, Some, None, MatchOption, map, slice_get}
+use Rattle.hwp_law.specs.hwp_report_text.declared.EventLine.{EventLine}
+use Rattle.hwp_check_event_line.specs.declared.shown.Shown.{Shown}
+
+-- the event lines that are shown
+abbrev pub shown_lines : List Shown → List EventLine
+shown_lines shown = map (λ (s : Shown). s.line) shown
 
 -- each is right
 abbrev pub AreRight : (ℕ → EventLine → Type 0) → List EventLine → Type 0

@@ -15,7 +15,8 @@ use Rattle.hwp_banks.specs.Banks.{Banks}
 use Rattle.hwp_law.specs.hwp_severity.Handling.{is_stop, severity_of}
 use Rattle.hwp_law.specs.hwp_severity.declared.Arrival.{Arrival}
 use Rattle.hwp_banks.specs.Banks.{raw_bank}
-use Rattle.hwp_law.specs.Lines.{EventLine, bad_lines_of}
+use Rattle.hwp_law.specs.hwp_report_text.declared.EventLine.{EventLine}
+use Rattle.hwp_law.specs.Lines.{bad_lines_of}
 
 -- the banks of a processor between its machine checks
 abbrev pub resting : Option Event → Banks

@@ -1,5 +1,4 @@
 pub mod Ended
-pub mod Told
 pub mod Firsts
 pub mod Found
 pub mod Lines

@@ -2,12 +2,10 @@ ghost use Rattle.std.specs.Prelude.{◌≡◌, ◌↔◌, ◌||◌, IsTrue};
 ghost use Rattle.hwp_law.specs.Checks.{IsAct, IsFailureAct, IsLineOf, IsResult};
 ghost use Rattle.hwp_law.specs.Lines.{marks_of};
 ghost use Rattle.hwp_check_event_line.specs.Found.{IsRawLine, may_stop, stops};
-ghost use Rattle.hwp_check_event_line.specs.Told.{told};
 
-use crate::shown::Shown;
 use crate::traced::Traced;
 use hwp_banks::Event;
-use hwp_law::{Acted, Arrival, Script, Severity, Who, grade};
+use hwp_law::{Acted, Arrival, EventLine, Script, Severity, Who, grade};
 
 /// Whether a failure of the frame came to this result by the command.
 #[tactic(auto, using(crate::proofs::ActLaws::result_is))]
@@ -84,9 +82,9 @@ pub fn is_line_of(
     held: bool,
     bank: u8,
     event: Event,
-    line: &Shown,
+    line: &EventLine,
 ) -> bool
-    ensures { IsTrue result ↔ IsLineOf script.now report.now who how held bank event (told line.now) }
+    ensures { IsTrue result ↔ IsLineOf script.now report.now who how held bank event line.now }
 {
     let grade = grade(event.status, how.mcg, how.mode);
     line.bank == bank
@@ -130,9 +128,9 @@ pub fn is_raw_line(
     how: Arrival,
     held: bool,
     raw: Option<Event>,
-    line: &Shown,
+    line: &EventLine,
 ) -> bool
-    ensures { IsTrue result ↔ IsRawLine script.now report.now who how held raw (told line.now) }
+    ensures { IsTrue result ↔ IsRawLine script.now report.now who how held raw line.now }
 {
     match raw {
         Some(event) => is_line_of(script, report, who, how, held, 1, event, line),

@@ -15,7 +15,7 @@ use Rattle.hwp_law.specs.hwp_report_text.Acts.{is_panic}
 use Rattle.hwp_banks.specs.Banks.{Banks, held_from}
 use Rattle.hwp_law.specs.hwp_severity.declared.Arrival.{Arrival}
 use Rattle.hwp_law.specs.Events.{AreAccessChecks, IsDamaged}
-use Rattle.hwp_law.specs.Lines.{EventLine}
+use Rattle.hwp_law.specs.hwp_report_text.declared.EventLine.{EventLine}
 use Rattle.hwp_check_events.specs.Accesses.{Access, IsAccessLine, IsOwnLine, asked_by_access, asked_first, begins_in_panic}
 use Rattle.hwp_check_event_line.specs.Found.{IsRawLine, beside, has_stopper, of_access, own_found, resting}
 use Rattle.hwp_check_event_line.specs.Firsts.{AreRight}

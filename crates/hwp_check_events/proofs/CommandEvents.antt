@@ -13,6 +13,7 @@ use Rattle.hwp_law.specs.hwp_script_read.declared.Command.TheVariants as command
 use Rattle.hwp_law.specs.hwp_script_read.declared.Script.{Script}
 use Rattle.hwp_law.specs.hwp_report_text.declared.Answer.{Answer}
 use Rattle.hwp_law.specs.hwp_report_text.declared.Answer.TheVariants as answers
+use Rattle.hwp_law.specs.hwp_report_text.declared.EventLine.{EventLine}
 use Rattle.hwp_law.specs.hwp_report_text.declared.Report.{Report}
 use Rattle.hwp_law.specs.Checks.{IsCheck}
 use Rattle.hwp_banks.specs.Banks.{Banks, empty_banks}
@@ -20,13 +21,13 @@ use Rattle.hwp_law.specs.Commands.{arrival_of}
 use Rattle.hwp_law.specs.hwp_severity.declared.Arrival.{Arrival}
 use Rattle.hwp_law.specs.Events.{AreEventsOf, AreScrubbed, IsAccessChecked, IsDamaged, IsRaise, is_check, is_raised, logged_if_done}
 use Rattle.hwp_banks.specs.Banks.{raw_event}
-use Rattle.hwp_law.specs.Lines.{EventLine, answer_of}
+use Rattle.hwp_law.specs.Lines.{answer_of}
 use Rattle.hwp_law.specs.Pairings.{entries_of}
 use Rattle.hwp_check_events.specs.Accesses.{IsAccessLine, IsRaisedLine, asked_by_access}
 use Rattle.hwp_check_event_line.specs.Firsts.{AreRight}
 use Rattle.hwp_check_event_line.specs.Found.{of_access, resting}
 use Rattle.hwp_check_events.specs.Misfits.{IsFit, IsRightLine, Lacks, access_of, course_of, leaves, logged_if}
-use Rattle.hwp_check_scrub.specs.Scrubs.{Course, IsScrubbedLine, after, after_all, lacking, marked_from, reach_from, turn}
+use Rattle.hwp_check_scrub.specs.Scrubs.{Course, IsScrubbedLine, after, after_all, comes_instead, is_instead, lacking, marked_from, reach_from, turn}
 use Rattle.hwp_check_scrub.specs.Scrubbing.{IsRightIn}
 use Rattle.hwp_check_scrub.specs.declared.Reach.{Reach}
 use Rattle.hwp_check_scrub.specs.declared.Turn.{Turn}
@@ -122,17 +123,29 @@ module _ (script : Script) (report : Report) (who : Who) where
     abbrev All : Reach → List EventLine → Type 0
     All reach lines = AllGood script report who how course reach lines
 
+    -- the first of right lines doesn't come in place of another
+    not-instead : (lines : List EventLine) (reach : Reach) → All reach lines → comes_instead report course reach (slice_get lines 0) ≡ false
+    not-instead [] reach good = refl
+    not-instead (x ∷ xs) reach good = by (turn report course reach x) good.0
+      where
+        by : (t : Turn) → IsScrubbedLine script report who how reach x t → is_instead t ≡ false
+        by turns.Beside is = refl
+        by turns.Bad is = refl
+        by turns.Weak is = refl
+        by turns.Instead is = absurd is
+        by turns.Stray is = refl
+
     good-right : (lines : List EventLine) (reach : Reach) → All reach lines → AreRight (IsRightIn script report who how course reach lines) lines
     good-right [] reach good = λ n l there. absurd (none-some l there)
     good-right (x ∷ xs) reach good = at (good-right xs (step script report who how course reach x) good.1)
       where
         at : AreRight (IsRightIn script report who how course (step script report who how course reach x) xs) xs → AreRight (IsRightIn script report who how course reach (x ∷ xs)) (x ∷ xs)
-        at rest zero l there = subst (λ (y : EventLine). IsScrubbedLine script report who how reach y (turn report course reach y)) (same_Some _ _ there) good.0
+        at rest zero l there = (subst (λ (y : EventLine). IsScrubbedLine script report who how reach y (turn report course reach y)) (same_Some _ _ there) good.0, not-instead xs (step script report who how course reach x) good.1)
         at rest (suc n) l there = rest n l there
 
     right-good : (lines : List EventLine) (reach : Reach) → AreRight (IsRightIn script report who how course reach lines) lines → All reach lines
     right-good [] reach right = record {}
-    right-good (x ∷ xs) reach right = (right 0 x refl, right-good xs (step script report who how course reach x) (λ n l there. right (suc n) l there))
+    right-good (x ∷ xs) reach right = ((right 0 x refl).0, right-good xs (step script report who how course reach x) (λ n l there. right (suc n) l there))
 
     no-strays : (lines : List EventLine) (reach : Reach) → All reach lines → (after_all report course reach lines).strays ≡ reach.strays
     no-strays [] reach good = refl
@@ -142,6 +155,7 @@ module _ (script : Script) (report : Report) (who : Who) where
         by turns.Beside is = refl
         by turns.Bad is = refl
         by turns.Weak is = refl
+        by turns.Instead is = absurd is
         by turns.Stray is = absurd is
 
   -- a scrub

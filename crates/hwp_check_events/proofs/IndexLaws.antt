@@ -1,13 +1,14 @@
 -- The event lines of each command, line by line.
-use Rattle.std.proofs.Common.{◌≡◌, ◌⊎◌, inl, inr, ℕ, zero, suc, ◌+◌, ◌<◌, ◌≤◌, ◌==◌, Bool, true, false, cond, List, [], ◌∷◌, ◌++◌, Option, Some, None, get_or, length, map, replicate, slice_get, slice_index_or, take, refl, sym, ap, ◌∙◌, subst, arith}
+use Rattle.std.proofs.Common.{◌≡◌, ◌⊎◌, inl, inr, ℕ, zero, suc, ◌+◌, ◌<◌, ◌≤◌, ◌==◌, Bool, true, false, cond, List, [], ◌∷◌, ◌++◌, Option, Some, None, get_or, length, replicate, slice_get, slice_index_or, take, refl, sym, ap, ◌∙◌, subst, arith}
 use Rattle.std.proofs.lemmas.Bool.{cases_eq, eq-eqb, ne_eqb}
 use Rattle.std.proofs.lemmas.List.{append_assoc, get_or-set_other, get_or-set_same, length-replicate, length-set, length-take-le, take_all, take_more}
 use Rattle.std.proofs.lemmas.Option.{get_or_from_slice_get, none-some, same_Some, slice_get-get_or, slice_get_within}
 use Rattle.hwp_law.specs.hwp_report_text.declared.CpuLine.{CpuLine}
 use Rattle.hwp_law.specs.hwp_report_text.declared.CpuLine.TheVariants as lines
-use Rattle.hwp_law.specs.Lines.{EventLine, events_among}
+use Rattle.hwp_law.specs.hwp_report_text.declared.EventLine.{EventLine}
+use Rattle.hwp_law.specs.Lines.{events_among}
 use Rattle.hwp_check_events.specs.Indexed.{AreShown, own_shown, shown_at, shown_from, with_shown}
-use Rattle.hwp_check_event_line.specs.Told.{told}
+use Rattle.hwp_check_event_line.specs.Firsts.{shown_lines}
 use Rattle.hwp_check_event_line.specs.declared.Shown.{Shown}
 
 append-none : (l : List Shown) → l ++ [] ≡ l
@@ -25,35 +26,35 @@ from-more seq (x ∷ xs) place row =
 abbrev pub So : List CpuLine → ℕ → ℕ → List (List Shown) → Type 0
 So rows count n lists = AreShown (take n rows) count lists
 
-same-own : (seq : ℕ) (s : Shown) → seq ≡ s.seq → own_shown seq (Some s) ≡ s ∷ []
-same-own seq s is = ap (λ (b : Bool). cond b (s ∷ []) []) (eq-eqb seq s.seq is)
+same-own : (seq : ℕ) (s : Shown) → seq ≡ s.line.seq → own_shown seq (Some s) ≡ s ∷ []
+same-own seq s is = ap (λ (b : Bool). cond b (s ∷ []) []) (eq-eqb seq s.line.seq is)
 
-other-own : (seq : ℕ) (s : Shown) → (seq ≡ s.seq → ⊥) → own_shown seq (Some s) ≡ []
-other-own seq s is = ap (λ (b : Bool). cond b (s ∷ []) []) (ne_eqb seq s.seq is)
+other-own : (seq : ℕ) (s : Shown) → (seq ≡ s.line.seq → ⊥) → own_shown seq (Some s) ≡ []
+other-own seq s is = ap (λ (b : Bool). cond b (s ∷ []) []) (ne_eqb seq s.line.seq is)
 
 with-each : (o : Option Shown) (lists : List (List Shown)) (seq : ℕ) (list before : List Shown) → slice_get (with_shown o lists) seq ≡ Some list → ((l : List Shown) → slice_get lists seq ≡ Some l → l ≡ before) → list ≡ before ++ own_shown seq o
 with-each None lists seq list before there each = each list there ∙ sym (append-none before)
-with-each (Some s) lists seq list before there each = which (cases_eq seq s.seq)
+with-each (Some s) lists seq list before there each = which (cases_eq seq s.line.seq)
   where
     within : seq < length lists
-    within = subst (λ (n : ℕ). seq < n) (length-set lists s.seq (slice_index_or lists s.seq [] ++ s ∷ [])) (slice_get_within (with_shown (Some s) lists) seq list there)
+    within = subst (λ (n : ℕ). seq < n) (length-set lists s.line.seq (slice_index_or lists s.line.seq [] ++ s ∷ [])) (slice_get_within (with_shown (Some s) lists) seq list there)
 
     was : slice_get lists seq ≡ Some (get_or lists seq [])
     was = slice_get-get_or lists seq [] within
 
-    which : (seq ≡ s.seq) ⊎ (seq ≡ s.seq → ⊥) → list ≡ before ++ own_shown seq (Some s)
+    which : (seq ≡ s.line.seq) ⊎ (seq ≡ s.line.seq → ⊥) → list ≡ before ++ own_shown seq (Some s)
     which (inl same) =
         sym (get_or_from_slice_get (with_shown (Some s) lists) seq list [] there)
         ∙ ap (λ (n : ℕ). get_or (with_shown (Some s) lists) n []) same
-        ∙ get_or-set_same lists s.seq (slice_index_or lists s.seq [] ++ s ∷ []) [] (subst (λ (n : ℕ). n < length lists) same within)
+        ∙ get_or-set_same lists s.line.seq (slice_index_or lists s.line.seq [] ++ s ∷ []) [] (subst (λ (n : ℕ). n < length lists) same within)
         ∙ ap (λ (n : ℕ). get_or lists n [] ++ s ∷ []) (sym same) ∙ ap (λ (l : List Shown). l ++ s ∷ []) (each (get_or lists seq []) was) ∙ ap (λ (l : List Shown). before ++ l) (sym (same-own seq s same))
     which (inr other) =
-        sym (get_or_from_slice_get (with_shown (Some s) lists) seq list [] there) ∙ get_or-set_other lists s.seq seq (slice_index_or lists s.seq [] ++ s ∷ []) [] other ∙ each (get_or lists seq []) was
+        sym (get_or_from_slice_get (with_shown (Some s) lists) seq list [] there) ∙ get_or-set_other lists s.line.seq seq (slice_index_or lists s.line.seq [] ++ s ∷ []) [] other ∙ each (get_or lists seq []) was
         ∙ sym (append-none before) ∙ ap (λ (l : List Shown). before ++ l) (sym (other-own seq s other))
 
 with-size : (o : Option Shown) (lists : List (List Shown)) → length (with_shown o lists) ≡ length lists
 with-size None lists = refl
-with-size (Some s) lists = length-set lists s.seq (slice_index_or lists s.seq [] ++ s ∷ [])
+with-size (Some s) lists = length-set lists s.line.seq (slice_index_or lists s.line.seq [] ++ s ∷ [])
 
 pub so-next : (rows : List CpuLine) (count n : ℕ) (lists next : List (List Shown)) (shown : Option Shown) (d : CpuLine) → n < length rows → shown ≡ shown_at n (get_or rows n d) → next ≡ with_shown shown lists → So rows count n lists → So rows count (n + 1) next
 so-next rows count n lists next shown d within shown_is next_is so = record { size = ap length next_is ∙ with-size shown lists ∙ so.size; each = each }
@@ -89,17 +90,17 @@ pub so-last : (rows : List CpuLine) (count n : ℕ) (lists : List (List Shown)) 
 so-last rows count n lists all so = subst (λ (r : List CpuLine). AreShown r count lists) (take_all n rows all) so
 
 -- the lists are what the law calls a command's event lines
-told-from : (seq : ℕ) (rows : List CpuLine) (place : ℕ) → map told (shown_from seq place rows) ≡ events_among rows seq
+told-from : (seq : ℕ) (rows : List CpuLine) (place : ℕ) → shown_lines (shown_from seq place rows) ≡ events_among rows seq
 told-from seq [] place = refl
 told-from seq (lines.Answer s answer ∷ rows) place = told-from seq rows (place + 1)
-told-from seq (lines.Event s bank status addr misc row acted ∷ rows) place = by (told-from seq rows (place + 1)) (seq == s)
+told-from seq (lines.Event event ∷ rows) place = by (told-from seq rows (place + 1)) (seq == event.seq)
   where
     now : Shown
-    now = record { place = place; seq = s; bank = bank; status = status; addr = addr; misc = misc; row = row; acted = acted }
+    now = record { place = place; line = event }
 
-    by : map told (shown_from seq (place + 1) rows) ≡ events_among rows seq → (b : Bool) → map told (cond b (now ∷ []) [] ++ shown_from seq (place + 1) rows) ≡ cond b (told now ∷ events_among rows seq) (events_among rows seq)
-    by rest true = ap (λ (l : List EventLine). told now ∷ l) rest
+    by : shown_lines (shown_from seq (place + 1) rows) ≡ events_among rows seq → (b : Bool) → shown_lines (cond b (now ∷ []) [] ++ shown_from seq (place + 1) rows) ≡ cond b (now.line ∷ events_among rows seq) (events_among rows seq)
+    by rest true = ap (λ (l : List EventLine). now.line ∷ l) rest
     by rest false = rest
 
-pub told-is : (seq : ℕ) (rows : List CpuLine) → map told (shown_from seq 0 rows) ≡ events_among rows seq
+pub told-is : (seq : ℕ) (rows : List CpuLine) → shown_lines (shown_from seq 0 rows) ≡ events_among rows seq
 told-is seq rows = told-from seq rows 0

@@ -16,20 +16,20 @@ use Rattle.hwp_law.specs.hwp_script_read.declared.Command.{Command}
 use Rattle.hwp_law.specs.hwp_script_read.declared.Command.TheVariants as commands
 use Rattle.hwp_law.specs.hwp_script_read.declared.Script.{Script}
 use Rattle.hwp_law.specs.hwp_report_text.declared.Answer.{Answer}
+use Rattle.hwp_law.specs.hwp_report_text.declared.EventLine.{EventLine}
 use Rattle.hwp_law.specs.hwp_report_text.declared.Report.{Report}
 use Rattle.hwp_law.specs.Commands.{arrival_of}
 use Rattle.hwp_law.specs.hwp_severity.declared.Arrival.{Arrival}
 use Rattle.hwp_law.specs.Events.{is_check, is_raised}
-use Rattle.hwp_law.specs.Lines.{EventLine, answer_of}
+use Rattle.hwp_law.specs.Lines.{answer_of}
 use Rattle.hwp_law.specs.Pairings.{entries_of}
 use Rattle.hwp_law.specs.Policies.{commands_before}
 use Rattle.hwp_check_events.specs.Accesses.{Access, IsAccessLine, IsRaisedLine, access_by, asked_by_access}
-use Rattle.hwp_check_event_line.specs.Firsts.{IsScanned}
+use Rattle.hwp_check_event_line.specs.Firsts.{IsScanned, shown_lines}
 use Rattle.hwp_check_events.specs.Judged.{IsAccessJudged, IsJudged, IsScrubJudged, IsTable}
 use Rattle.hwp_check_events.specs.Misfits.{access_of, course_of, is_scrubbed, low_of}
 use Rattle.hwp_check_scrub.specs.Scrubs.{Course, after_all, bound_from, lacking, lowest, reach_from}
 use Rattle.hwp_check_scrub.specs.Scrubbing.{IsRightIn, course_by, low_of as low_by}
-use Rattle.hwp_check_event_line.specs.Told.{told}
 use Rattle.hwp_check_event_line.specs.declared.Faults.{Faults}
 use Rattle.hwp_check_events.specs.declared.known.Checks.{Checks}
 use Rattle.hwp_check_event_line.specs.declared.Shown.{Shown}
@@ -40,7 +40,7 @@ less-decides a b false is = λ less. let most : b ≤ a = ltb-false a b (sym is)
 
 module _ (script : Script) (report : Report) (who : Who) (raw left : Option Event) (shown : List Shown) (wrong : Option ℕ) (lacks : Bool) where
   abbrev lines : List EventLine
-  lines = map told shown
+  lines = shown_lines shown
 
   pub access-judged : (how expected : Arrival) (origin : Origin) (at : ℕ) (checks : Checks) → how ≡ expected → checks.origin ≡ origin → checks.at ≡ at → checks.count ≡ entries_of report who is_check
       → IsScanned (IsAccessLine script report who how (access_by checks raw) lines) lines wrong → lacks ≡ nat_lt (length shown) (asked_by_access (access_by checks raw)) → left ≡ cond (checks.count == 0) raw None
@@ -48,7 +48,7 @@ module _ (script : Script) (report : Report) (who : Who) (raw left : Option Even
       × MatchBool lacks (length lines < asked_by_access (access_of report who origin at raw)) (length lines < asked_by_access (access_of report who origin at raw) → ⊥) × (left ≡ cond (entries_of report who is_check == 0) raw None)
   access-judged how expected origin at checks how_is origin_is at_is count_is scanned lacks_is left_is = (
     subst (λ (a : Access). IsScanned (IsAccessLine script report who expected a lines) lines wrong) same (subst (λ (h : Arrival). IsScanned (IsAccessLine script report who h (access_by checks raw) lines) lines wrong) how_is scanned),
-    less-decides (length lines) (asked_by_access (access_of report who origin at raw)) lacks (lacks_is ∙ ap (λ (n : ℕ). nat_lt n (asked_by_access (access_by checks raw))) (sym (length-map shown told)) ∙ ap (λ (a : Access). nat_lt (length lines) (asked_by_access a)) same),
+    less-decides (length lines) (asked_by_access (access_of report who origin at raw)) lacks (lacks_is ∙ ap (λ (n : ℕ). nat_lt n (asked_by_access (access_by checks raw))) (sym (length-map shown (λ (s : Shown). s.line))) ∙ ap (λ (a : Access). nat_lt (length lines) (asked_by_access a)) same),
     left_is ∙ ap (λ (n : ℕ). cond (n == 0) raw None) count_is,
   )
     where
@@ -63,7 +63,7 @@ module _ (script : Script) (report : Report) (who : Who) (raw left : Option Even
   raise-judged how expected answer how_is answer_is scanned lacks_is left_is = (
     subst (λ (a : Option Answer). IsScanned (λ (n : ℕ) (l : EventLine). MatchBool (is_raised a lines) (IsRaisedLine script report who expected raw n l) ⊥) lines wrong) answer_is
         (subst (λ (h : Arrival). IsScanned (λ (n : ℕ) (l : EventLine). MatchBool (is_raised answer lines) (IsRaisedLine script report who h raw n l) ⊥) lines wrong) how_is scanned),
-    less-decides (length lines) (cond (is_raised (answer_of report who) lines) (from_bool (is_some raw)) 0) lacks (lacks_is ∙ ap (λ (n : ℕ). nat_lt n (cond (is_raised answer lines) (from_bool (is_some raw)) 0)) (sym (length-map shown told))
+    less-decides (length lines) (cond (is_raised (answer_of report who) lines) (from_bool (is_some raw)) 0) lacks (lacks_is ∙ ap (λ (n : ℕ). nat_lt n (cond (is_raised answer lines) (from_bool (is_some raw)) 0)) (sym (length-map shown (λ (s : Shown). s.line)))
         ∙ ap (λ (a : Option Answer). nat_lt (length lines) (cond (is_raised a lines) (from_bool (is_some raw)) 0)) answer_is),
     left_is ∙ ap (λ (a : Option Answer). cond (is_raised a lines) None raw) answer_is,
   )

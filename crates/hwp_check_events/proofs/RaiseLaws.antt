@@ -1,5 +1,5 @@
 -- The machine check of a raise: what the law says of it, line by line.
-use Rattle.std.proofs.Common.{◌≡◌, ℕ, zero, suc, ◌<◌, ◌||◌, Bool, false, List, [], ◌∷◌, Option, Some, None, get_or, is_some, length, map, slice_get, refl, sym, ap, subst, arith}
+use Rattle.std.proofs.Common.{◌≡◌, ℕ, zero, suc, ◌<◌, ◌||◌, Bool, false, List, [], ◌∷◌, Option, Some, None, get_or, is_some, length, slice_get, refl, sym, ap, subst, arith}
 use Rattle.std.specs.Int.{from_bool}
 use Rattle.std.proofs.lemmas.Option.{none-some, same_Some}
 use Rattle.hwp_banks.specs.hwp_geom.declared.Who.{Who}
@@ -8,11 +8,10 @@ use Rattle.hwp_law.specs.hwp_script_read.declared.Script.{Script}
 use Rattle.hwp_law.specs.hwp_report_text.declared.Report.{Report}
 use Rattle.hwp_law.specs.Checks.{IsCheck}
 use Rattle.hwp_law.specs.hwp_severity.declared.Arrival.{Arrival}
-use Rattle.hwp_law.specs.Lines.{EventLine}
+use Rattle.hwp_law.specs.hwp_report_text.declared.EventLine.{EventLine}
 use Rattle.hwp_check_events.specs.Accesses.{IsRaisedLine}
 use Rattle.hwp_check_event_line.specs.Found.{IsRawLine, may_stop, resting, stops}
-use Rattle.hwp_check_event_line.specs.Firsts.{AreRight, AreRightTo, IsFirstWrong}
-use Rattle.hwp_check_event_line.specs.Told.{told}
+use Rattle.hwp_check_event_line.specs.Firsts.{AreRight, AreRightTo, IsFirstWrong, shown_lines}
 use Rattle.hwp_check_event_line.specs.declared.Shown.{Shown}
 use Rattle.hwp_check_event_line.proofs.FoundLaws.{one-line, or-none}
 
@@ -39,11 +38,11 @@ module _ (script : Script) (report : Report) (who : Who) (how : Arrival) where
   check-back (Some event) (l ∷ m ∷ ms) size right = absurd (omega (arith, size))
 
   -- a second line is wrong
-  pub second-wrong : (raw : Option Event) (lines : List Shown) (d : Shown) (held : Bool) → 1 < length lines → held ≡ may_stop how raw → IsRawLine script report who how held raw (told (get_or lines 0 d)) → IsFirstWrong (Right raw) (map told lines) 1
+  pub second-wrong : (raw : Option Event) (lines : List Shown) (d : Shown) (held : Bool) → 1 < length lines → held ≡ may_stop how raw → IsRawLine script report who how held raw (get_or lines 0 d).line → IsFirstWrong (Right raw) (shown_lines lines) 1
   second-wrong raw [] d held more is first = absurd (omega (arith, more))
   second-wrong raw (x ∷ []) d held more is first = absurd (omega (arith, more))
-  second-wrong raw (x ∷ y ∷ ys) d held more is first = record { line = told y; there = refl; before = before; wrong = λ wrong. absurd (let one : 1 ≡ 0 = wrong.0 in omega (arith, one)) }
+  second-wrong raw (x ∷ y ∷ ys) d held more is first = record { line = y.line; there = refl; before = before; wrong = λ wrong. absurd (let one : 1 ≡ 0 = wrong.0 in omega (arith, one)) }
     where
-      before : AreRightTo (Right raw) (map told (x ∷ y ∷ ys)) 1
-      before zero l less there = (refl, subst (IsRawLine script report who how (may_stop how raw) raw) (same_Some _ _ there) (subst (λ (h : Bool). IsRawLine script report who how h raw (told x)) is first))
+      before : AreRightTo (Right raw) (shown_lines (x ∷ y ∷ ys)) 1
+      before zero l less there = (refl, subst (IsRawLine script report who how (may_stop how raw) raw) (same_Some _ _ there) (subst (λ (h : Bool). IsRawLine script report who how h raw x.line) is first))
       before (suc n) l less there = absurd (omega (arith, less))

@@ -1,5 +1,5 @@
 -- What is wrong about the event lines of a processor, one command more.
-use Rattle.std.proofs.Common.{◌≡◌, ◌⊎◌, inl, inr, ℕ, zero, suc, ◌+◌, ◌<◌, ◌≤◌, ◌==◌, ◌||◌, min, Bool, true, false, cond, List, [], ◌∷◌, ◌++◌, Option, Some, None, MatchBool, MatchOption, get_or, length, map, option_map, slice_get, take, unwrap_or, refl, sym, ap, ◌∙◌, subst, arith}
+use Rattle.std.proofs.Common.{◌≡◌, ◌⊎◌, inl, inr, ℕ, zero, suc, ◌+◌, ◌<◌, ◌≤◌, ◌==◌, ◌||◌, min, Bool, true, false, cond, List, [], ◌∷◌, ◌++◌, Option, Some, None, MatchBool, MatchOption, get_or, length, option_map, slice_get, take, unwrap_or, refl, sym, ap, ◌∙◌, subst, arith}
 use Rattle.std.proofs.lemmas.Bool.{cases_lt}
 use Rattle.std.proofs.lemmas.List.{length-take-le, take_more}
 use Rattle.std.proofs.lemmas.Option.{none-some, same_Some}
@@ -10,13 +10,13 @@ use Rattle.hwp_law.specs.hwp_script_read.declared.Command.{Command}
 use Rattle.hwp_law.specs.hwp_script_read.declared.Script.{Script}
 use Rattle.hwp_law.specs.hwp_report_text.declared.CpuLine.{CpuLine}
 use Rattle.hwp_law.specs.hwp_report_text.declared.CpuLine.TheVariants as rowkinds
+use Rattle.hwp_law.specs.hwp_report_text.declared.EventLine.{EventLine}
 use Rattle.hwp_law.specs.hwp_report_text.declared.Report.{Report}
-use Rattle.hwp_law.specs.Lines.{EventLine, events_of}
-use Rattle.hwp_check_event_line.specs.Firsts.{AreRight, IsFirstWrong}
+use Rattle.hwp_law.specs.Lines.{events_of}
+use Rattle.hwp_check_event_line.specs.Firsts.{AreRight, IsFirstWrong, shown_lines}
 use Rattle.hwp_check_events.specs.Indexed.{shown_from}
 use Rattle.hwp_check_events.specs.Judged.{IsJudged}
 use Rattle.hwp_check_events.specs.Misfits.{IsRightLine, IsWrong, Lacks, found_by, leaves, left_by}
-use Rattle.hwp_check_event_line.specs.Told.{told}
 use Rattle.hwp_check_events.specs.Walked.{AllRight, IsFirstRow, IsWalked, IsWrongRow, LacksSome, joined, joined_wrong, place_at}
 use Rattle.hwp_check_event_line.specs.declared.Faults.{Faults}
 use Rattle.hwp_check_events.specs.declared.misfits.Misfits.{Misfits}
@@ -26,10 +26,10 @@ use Rattle.hwp_check_event_line.specs.declared.Shown.{Shown}
 from-place : (seq : ℕ) (rows : List CpuLine) (place i : ℕ) (s : Shown) → slice_get (shown_from seq place rows) i ≡ Some s → place ≤ s.place
 from-place seq [] place i s there = absurd (none-some s there)
 from-place seq (rowkinds.Answer n answer ∷ rows) place i s there = let rest : place + 1 ≤ s.place = from-place seq rows (place + 1) i s there in omega (arith, rest)
-from-place seq (rowkinds.Event n bank status addr misc row acted ∷ rows) place i s there = by (seq == n) (from-place seq rows (place + 1)) i there
+from-place seq (rowkinds.Event line ∷ rows) place i s there = by (seq == line.seq) (from-place seq rows (place + 1)) i there
   where
     now : Shown
-    now = record { place = place; seq = n; bank = bank; status = status; addr = addr; misc = misc; row = row; acted = acted }
+    now = record { place = place; line = line }
 
     by : (b : Bool) → ((k : ℕ) (t : Shown) → slice_get (shown_from seq (place + 1) rows) k ≡ Some t → place + 1 ≤ t.place) → (k : ℕ) → slice_get (cond b (now ∷ []) [] ++ shown_from seq (place + 1) rows) k ≡ Some s → place ≤ s.place
     by true rest zero at = let e : place ≡ s.place = ap (λ (t : Shown). t.place) (same_Some _ _ at) in omega (arith, e)
@@ -39,10 +39,10 @@ from-place seq (rowkinds.Event n bank status addr misc row acted ∷ rows) place
 pub places-rise : (seq : ℕ) (rows : List CpuLine) (place i j : ℕ) (s t : Shown) → slice_get (shown_from seq place rows) i ≡ Some s → slice_get (shown_from seq place rows) j ≡ Some t → i ≤ j → s.place ≤ t.place
 places-rise seq [] place i j s t one other less = absurd (none-some s one)
 places-rise seq (rowkinds.Answer n answer ∷ rows) place i j s t one other less = places-rise seq rows (place + 1) i j s t one other less
-places-rise seq (rowkinds.Event n bank status addr misc row acted ∷ rows) place i j s t one other less = by (seq == n) (λ a b. places-rise seq rows (place + 1) a b s t) i j one other less
+places-rise seq (rowkinds.Event line ∷ rows) place i j s t one other less = by (seq == line.seq) (λ a b. places-rise seq rows (place + 1) a b s t) i j one other less
   where
     now : Shown
-    now = record { place = place; seq = n; bank = bank; status = status; addr = addr; misc = misc; row = row; acted = acted }
+    now = record { place = place; line = line }
 
     by : (b : Bool) → ((k m : ℕ) → slice_get (shown_from seq (place + 1) rows) k ≡ Some s → slice_get (shown_from seq (place + 1) rows) m ≡ Some t → k ≤ m → s.place ≤ t.place) → (k m : ℕ)
         → slice_get (cond b (now ∷ []) [] ++ shown_from seq (place + 1) rows) k ≡ Some s → slice_get (cond b (now ∷ []) [] ++ shown_from seq (place + 1) rows) m ≡ Some t → k ≤ m → s.place ≤ t.place
@@ -55,8 +55,8 @@ places-rise seq (rowkinds.Event n bank status addr misc row acted ∷ rows) plac
     by true rest (suc k) (suc m) at there few = rest k m at there (omega (arith, few))
     by false rest k m at there few = rest k m at there few
 
--- a line in the law's words is that of an event that is shown
-shown-of : (lines : List Shown) (k : ℕ) (line : EventLine) → slice_get (map told lines) k ≡ Some line → (s : Shown) × (slice_get lines k ≡ Some s)
+-- a line among those that are shown is that of one of them
+shown-of : (lines : List Shown) (k : ℕ) (line : EventLine) → slice_get (shown_lines lines) k ≡ Some line → (s : Shown) × (slice_get lines k ≡ Some s)
 shown-of [] k line there = absurd (none-some line there)
 shown-of (x ∷ xs) zero line there = (x, refl)
 shown-of (x ∷ xs) (suc k) line there = shown-of xs k line there
@@ -78,7 +78,7 @@ module _ (script : Script) (report : Report) (cpu : Cpu) (list : List Command) (
   row-more : (n row : ℕ) → IsWrongRow script report cpu list rows n row → IsWrongRow script report cpu list rows (n + 1) row
   row-more n row w = record { seq = w.seq; command = w.command; number = w.number; shown = w.shown; within = let l : w.seq < n = w.within in omega (arith, l); made = w.made; there = w.there; row_is = w.row_is; wrong = w.wrong }
 
-  module _ (n : ℕ) (command : Command) (made : slice_get list n ≡ Some command) (left : Option Event) (faults : Faults) (lines : List Shown) (lines_are : lines ≡ shown_from n 0 rows) (told_are : map told lines ≡ events n)
+  module _ (n : ℕ) (command : Command) (made : slice_get list n ≡ Some command) (left : Option Event) (faults : Faults) (lines : List Shown) (lines_are : lines ≡ shown_from n 0 rows) (told_are : shown_lines lines ≡ events n)
       (judged : IsJudged script report (at n) command (found_by script report (at n)) left (events n) faults) where
     abbrev Less : ℕ → Type 0
     Less seq = (seq < n) ⊎ (seq ≡ n)

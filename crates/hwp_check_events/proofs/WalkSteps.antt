@@ -1,5 +1,5 @@
 -- The walk over a processor's commands: what is known before each.
-use Rattle.std.proofs.Common.{◌≡◌, ℕ, ◌+◌, ◌*◌, ◌<◌, ◌≤◌, ◌^◌, ◌&&◌, false, List, [], ◌∷◌, Option, Some, None, get_or, length, map, slice_get, sum_by, take, unwrap_or, refl, sym, ap, ◌∙◌, subst, arith}
+use Rattle.std.proofs.Common.{◌≡◌, ℕ, ◌+◌, ◌*◌, ◌<◌, ◌≤◌, ◌^◌, ◌&&◌, false, List, [], ◌∷◌, Option, Some, None, get_or, length, slice_get, sum_by, take, unwrap_or, refl, sym, ap, ◌∙◌, subst, arith}
 use Rattle.std.proofs.lemmas.List.Sums.{count_by-le-length, get_or-le-sum_by, sum_by-le-sum_by}
 use Rattle.std.proofs.lemmas.Option.{get_or_from_slice_get, slice_get-get_or, slice_get_within}
 use Rattle.hwp_banks.specs.hwp_geom.declared.Cpu.{Cpu}
@@ -12,14 +12,15 @@ use Rattle.hwp_law.specs.hwp_script_read.declared.Command.TheVariants as command
 use Rattle.hwp_law.specs.hwp_script_read.declared.Script.{Script}
 use Rattle.hwp_law.specs.hwp_report_text.declared.Answer.{Answer}
 use Rattle.hwp_law.specs.hwp_report_text.declared.CpuLine.{CpuLine}
+use Rattle.hwp_law.specs.hwp_report_text.declared.EventLine.{EventLine}
 use Rattle.hwp_law.specs.hwp_report_text.declared.Report.{Report}
-use Rattle.hwp_law.specs.Lines.{EventLine, answer_among, answer_of, events_among, events_of, is_same_command}
+use Rattle.hwp_law.specs.Lines.{answer_among, answer_of, events_among, events_of, is_same_command}
 use Rattle.hwp_law.specs.Events.{is_check}
 use Rattle.hwp_law.specs.Pairings.{entries_of}
 use Rattle.hwp_check_events.specs.Indexed.{AreChecks, AreFirst, AreShown, checks_in, shown_from}
 use Rattle.hwp_check_events.specs.Judged.{IsJudged, IsTable}
 use Rattle.hwp_check_events.specs.Misfits.{IsFit, found_by, leaves, left_by}
-use Rattle.hwp_check_event_line.specs.Told.{told}
+use Rattle.hwp_check_event_line.specs.Firsts.{shown_lines}
 use Rattle.hwp_check_events.specs.Walked.{HasPlace, IsTableOf, IsWalked, joined, with_mark}
 use Rattle.hwp_check_event_line.specs.declared.Faults.{Faults}
 use Rattle.hwp_check_events.specs.declared.misfits.Misfits.{Misfits}
@@ -86,7 +87,7 @@ module _ (script : Script) (report : Report) (cpu : Cpu) (list : List Command) (
 
   -- one command more
   pub so-next : (n : ℕ) (raw left : Option Event) (table next : List ℕ) (found : Misfits) (faults : Faults) (lines lists_d : List Shown) (lists : List (List Shown)) (command d : Command) → n < length list → command ≡ get_or list n d → lines ≡ get_or lists n lists_d
-      → AreShown rows (length list) lists → IsJudged script report (at n) command raw left (map told lines) faults → next ≡ with_mark command table
+      → AreShown rows (length list) lists → IsJudged script report (at n) command raw left (shown_lines lines) faults → next ≡ with_mark command table
       → SoFar script report cpu list rows n raw table found → SoFar script report cpu list rows (n + 1) left next (joined found faults lines)
   so-next n raw left table next found faults lines lists_d lists command d within command_is lines_are shown judged next_is so = record {
     raw_is = left-next script report cpu list rows n d raw left within (left_is ∙ ap (λ (c : Command). leaves script report (at n) c raw (events_of report (at n))) command_is) so.raw_is;
@@ -104,12 +105,12 @@ module _ (script : Script) (report : Report) (cpu : Cpu) (list : List Command) (
       own : lines ≡ shown_from n 0 rows
       own = lines_are ∙ shown.each n (get_or lists n lists_d) (slice_get-get_or lists n lists_d (let s : length lists ≡ length list = shown.size in omega (arith, s, within)))
 
-      told_are : map told lines ≡ events_of report (at n)
-      told_are = ap (map told) own ∙ told-is n rows ∙ ap (λ (r : List CpuLine). events_among r n) of_report
+      told_are : shown_lines lines ≡ events_of report (at n)
+      told_are = ap shown_lines own ∙ told-is n rows ∙ ap (λ (r : List CpuLine). events_among r n) of_report
 
       own_judged : IsJudged script report (at n) command (found_by script report (at n)) left (events_of report (at n)) faults
       own_judged = subst (λ (l : List EventLine). IsJudged script report (at n) command (found_by script report (at n)) left l faults) told_are
-          (subst (λ (r : Option Event). IsJudged script report (at n) command r left (map told lines) faults) (so.raw_is ∙ sym (found-is n)) judged)
+          (subst (λ (r : Option Event). IsJudged script report (at n) command r left (shown_lines lines) faults) (so.raw_is ∙ sym (found-is n)) judged)
 
       left_is : left ≡ leaves script report (at n) command raw (events_of report (at n))
       left_is = judged.left_is ∙ ap (leaves script report (at n) command raw) told_are

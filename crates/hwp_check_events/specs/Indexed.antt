@@ -12,14 +12,13 @@ use Rattle.hwp_check_event_line.specs.declared.Shown.{Shown}
 
 -- the event that a line shows, which stands at this place
 abbrev pub shown_at : ℕ → CpuLine → Option Shown
-shown_at place (lines.Event seq bank status addr misc row acted) =
-    Some (record { place = place; seq = seq; bank = bank; status = status; addr = addr; misc = misc; row = row; acted = acted })
+shown_at place (lines.Event event) = Some (record { place = place; line = event })
 shown_at place (lines.Answer seq answer) = None
 
 -- the event with its place where it is of the command with this number
 abbrev pub own_shown : ℕ → Option Shown → List Shown
 own_shown seq None = []
-own_shown seq (Some s) = cond (seq == s.seq) (s ∷ []) []
+own_shown seq (Some s) = cond (seq == s.line.seq) (s ∷ []) []
 
 -- the event lines of the command with this number, the first of these lines standing at a place
 abbrev pub shown_from : ℕ → ℕ → List CpuLine → List Shown
@@ -29,7 +28,7 @@ shown_from seq place (row ∷ rows) = own_shown seq (shown_at place row) ++ show
 -- a line more in the lists of the commands
 abbrev pub with_shown : Option Shown → List (List Shown) → List (List Shown)
 with_shown None lists = lists
-with_shown (Some s) lists = slice_set lists s.seq (slice_index_or lists s.seq [] ++ s ∷ [])
+with_shown (Some s) lists = slice_set lists s.line.seq (slice_index_or lists s.line.seq [] ++ s ∷ [])
 
 -- a list for each command has its event lines
 pub record AreShown (rows : List CpuLine) (count : ℕ) (lists : List (List Shown)) : Type 0 where
@@ -38,7 +37,7 @@ pub record AreShown (rows : List CpuLine) (count : ℕ) (lists : List (List Show
 
 -- what a line answers to the command with this number; the first answer of two; the first that lines give it
 abbrev pub answer_here : ℕ → CpuLine → Option Answer
-answer_here seq (lines.Event s bank status addr misc row acted) = None
+answer_here seq (lines.Event event) = None
 answer_here seq (lines.Answer s answer) = cond (seq == s) (Some answer) None
 
 abbrev pub first_answer : Option Answer → Option Answer → Option Answer
@@ -47,7 +46,7 @@ first_answer (Some answer) other = Some answer
 
 -- a line more in the first answers of the commands
 abbrev pub with_answer : CpuLine → List (Option Answer) → List (Option Answer)
-with_answer (lines.Event s bank status addr misc row acted) answers = answers
+with_answer (lines.Event event) answers = answers
 with_answer (lines.Answer s answer) answers = slice_set answers s (first_answer (slice_index_or answers s None) (Some answer))
 
 -- for each command its first answer

@@ -1,5 +1,5 @@
 -- Which event line of a command isn't the one that its machine checks ask, whether some lack, and what the command leaves in bank 1.
-use Rattle.std.specs.Prelude.{◌≡◌, ℕ, ◌+◌, ◌-◌, ◌<◌, ◌≤◌, ◌==◌, Bool, true, false, cond, List, [], ◌∷◌, Option, Some, None, MatchBool, is_some, length, slice_get, take}
+use Rattle.std.specs.Prelude.{◌≡◌, ℕ, ◌+◌, ◌-◌, ◌<◌, ◌≤◌, ◌==◌, Bool, true, false, cond, List, [], ◌∷◌, Option, Some, None, MatchBool, is_some, length, slice_get}
 use Rattle.std.specs.Int.{from_bool}
 use Rattle.hwp_banks.specs.hwp_geom.Limits.{line_limit}
 use Rattle.hwp_banks.specs.hwp_geom.declared.Cpu.{Cpu}
@@ -14,17 +14,18 @@ use Rattle.hwp_law.specs.hwp_script_read.declared.Command.TheVariants as command
 use Rattle.hwp_law.specs.hwp_script_read.declared.Script.{Script}
 use Rattle.hwp_law.specs.hwp_report_text.declared.Answer.{Answer}
 use Rattle.hwp_law.specs.hwp_report_text.declared.Answer.TheVariants as answers
+use Rattle.hwp_law.specs.hwp_report_text.declared.EventLine.{EventLine}
 use Rattle.hwp_law.specs.hwp_report_text.declared.Report.{Report}
 use Rattle.hwp_law.specs.Commands.{arrival_of}
 use Rattle.hwp_law.specs.Events.{is_check, is_raised}
 use Rattle.hwp_banks.specs.Banks.{raw_event}
-use Rattle.hwp_law.specs.Lines.{EventLine, answer_of, events_of}
+use Rattle.hwp_law.specs.Lines.{answer_of, events_of}
 use Rattle.hwp_law.specs.Pairings.{entries_of}
 use Rattle.hwp_law.specs.Policies.{commands_before}
 use Rattle.hwp_check_event_line.specs.Firsts.{AreRight}
 use Rattle.hwp_check_events.specs.Accesses.{Access, IsAccessLine, IsRaisedLine, asked_by_access}
-use Rattle.hwp_check_scrub.specs.Scrubs.{Course, IsScrubbedLine, after_all, bound_from, lacking, lowest, reach_from, turn}
-use Rattle.hwp_check_scrub.specs.declared.Reach.{Reach}
+use Rattle.hwp_check_scrub.specs.Scrubs.{Course, after_all, bound_from, lacking, lowest, reach_from}
+use Rattle.hwp_check_scrub.specs.Scrubbing.{IsRightIn}
 
 -- the machine checks of an access, by the entries that they left
 abbrev pub access_of : Report → Who → Origin → ℕ → Option Event → Access
@@ -42,9 +43,6 @@ abbrev pub course_of : Script → Report → Who → Frame → Frame → Course
 course_of script report who first last =
     record { low = low_of script report who; last = last.0; bound = bound_from report (low_of script report who) 0 first.0 (last.0 + 1 - first.0) }
 
-abbrev pub IsScrubLine : Script → Report → Who → Course → Reach → EventLine → Type 0
-IsScrubLine script report who course reach line = IsScrubbedLine script report who (arrival_of (commands.Scrub (record { 0 = 0 }) (record { 0 = 0 }))) reach line (turn report course reach line)
-
 -- the line is right as the one with this number among a command's lines, where bank 1 holds this
 abbrev pub IsRightLine : Script → Report → Who → Command → Option Event → List EventLine → ℕ → EventLine → Type 0
 IsRightLine script report who (commands.Load thread slot at) raw lines number line = IsAccessLine script report who (arrival_of (commands.Load thread slot at)) (access_of report who origins.Access at raw) lines number line
@@ -53,7 +51,7 @@ IsRightLine script report who (commands.KLoad thread slot at) raw lines number l
 IsRightLine script report who (commands.Store thread slot at word) raw lines number line =
     IsAccessLine script report who (arrival_of (commands.Store thread slot at word)) (access_of report who origins.Access at raw) lines number line
 IsRightLine script report who (commands.Scrub first last) raw lines number line =
-    IsScrubLine script report who (course_of script report who first last) (after_all report (course_of script report who first last) (reach_from first raw) (take number lines)) line
+    IsRightIn script report who (arrival_of (commands.Scrub first last)) (course_of script report who first last) (reach_from first raw) lines number line
 IsRightLine script report who (commands.RaiseUser thread ripv eipv) raw lines number line =
     MatchBool (is_raised (answer_of report who) lines) (IsRaisedLine script report who (arrival_of (commands.RaiseUser thread ripv eipv)) raw number line) ⊥
 IsRightLine script report who (commands.RaiseKernel ripv eipv) raw lines number line =

@@ -1,14 +1,13 @@
-ghost use Rattle.std.specs.Prelude.{◌≡◌, ◌↔◌, ◌<◌, ◌≤◌, ◌+◌, ◌^◌, ◌||◌, ℕ, true, None, IsTrue, IsBitSet, MatchOption, length, map};
+ghost use Rattle.std.specs.Prelude.{◌≡◌, ◌↔◌, ◌<◌, ◌≤◌, ◌+◌, ◌^◌, ◌||◌, ℕ, true, None, IsTrue, IsBitSet, MatchOption, length};
 ghost use Rattle.hwp_law.specs.Lines.{bad_lines_of};
-ghost use Rattle.hwp_check_event_line.specs.Firsts.{IsScanned};
+ghost use Rattle.hwp_check_event_line.specs.Firsts.{IsScanned, shown_lines};
 ghost use Rattle.hwp_check_event_line.specs.Found.{IsCandidate, beside, may_stop, of_access, own_found, stops};
-ghost use Rattle.hwp_check_event_line.specs.Told.{told};
 ghost use Rattle.hwp_check_events.specs.Accesses.{IsAccessLine, IsOwnLine, access_by, asked_by_access, begins_in_panic};
 
 use crate::known::Checks;
 use hwp_banks::{Bank, Event, Origin};
 use hwp_check_event_line::{Shown, Traced, has_stopper, is_bad_at, is_line_of, is_raw_line};
-use hwp_law::{Arrival, Frame, Line, Script, Who};
+use hwp_law::{Arrival, EventLine, Frame, Line, Script, Who};
 
 /// The lowest frame that is bad at a line.
 fn first_bad(report: &Traced<'_>, at: Line) -> Option<Frame>
@@ -66,7 +65,7 @@ fn beside(origin: Origin, raw: Option<Event>) -> Option<Event>
 
 /// Whether failures are held back in the second line of an access's first machine check.
 fn is_held(how: Arrival, checks: &Checks, beside: Option<Event>, lines: &[Shown]) -> bool
-    ensures { result ≡ ((stops how (own_found checks.now.origin None (record { 0 = 0 }) checks.now.at) || may_stop how beside) || begins_in_panic (map told lines.now)) }
+    ensures { result ≡ ((stops how (own_found checks.now.origin None (record { 0 = 0 }) checks.now.at) || may_stop how beside) || begins_in_panic (shown_lines lines.now)) }
 {
     let own = own_found(checks.origin, &mut Bank::new(), Frame(0), checks.at);
     has_stopper(how, own, beside) || begins_in_panic(lines)
@@ -81,11 +80,11 @@ fn is_own_line(
     how: Arrival,
     checks: &Checks,
     raw: &mut Bank,
-    line: &Shown,
+    line: &EventLine,
 ) -> bool
     requires access { of_access checks.now.origin ≡ true }
     requires frames { length report.now.frames ≤ 65536 }
-    ensures { IsTrue result ↔ IsOwnLine script.now report.now who how checks.now.origin checks.now.at raw.old (told line.now) }
+    ensures { IsTrue result ↔ IsOwnLine script.now report.now who how checks.now.origin checks.now.at raw.old line.now }
 {
     match candidate(report, checks.at, line.addr) {
         Some(frame) => {
@@ -101,10 +100,10 @@ fn is_own_line(
 
 /// Whether the first line is a panic.
 fn begins_in_panic(lines: &[Shown]) -> bool
-    ensures { result ≡ begins_in_panic (map told lines.now) }
+    ensures { result ≡ begins_in_panic (shown_lines lines.now) }
 {
     match lines.first() {
-        Some(line) => line.acted.is_panic(),
+        Some(shown) => shown.line.acted.is_panic(),
         None => false,
     }
 }
@@ -133,12 +132,12 @@ fn is_first_line(
     how: Arrival,
     checks: &Checks,
     raw: &mut Bank,
-    line: &Shown,
+    line: &EventLine,
 ) -> bool
     requires access { of_access checks.now.origin ≡ true }
     requires frames { length report.now.frames ≤ 65536 }
     requires few { checks.now.count + 1 < 2 ^ 64 }
-    ensures first { IsTrue result ↔ ((0 < asked_by_access (access_by checks.now raw.old)) × IsOwnLine script.now report.now who how checks.now.origin checks.now.at raw.old (told line.now)) }
+    ensures first { IsTrue result ↔ ((0 < asked_by_access (access_by checks.now raw.old)) × IsOwnLine script.now report.now who how checks.now.origin checks.now.at raw.old line.now) }
     ensures kept { checks.now.count ≡ 0 → raw.new ≡ raw.old }
 {
     asked_by_access(checks, raw.get()) > 0
@@ -155,13 +154,13 @@ fn is_later_line(
     raw: Option<Event>,
     lines: &[Shown],
     number: usize,
-    line: &Shown,
+    line: &EventLine,
 ) -> bool
     requires access { of_access checks.now.origin ≡ true }
     requires frames { length report.now.frames ≤ 65536 }
     requires few { checks.now.count + 1 < 2 ^ 64 }
     requires later { 0 < number }
-    ensures { IsTrue result ↔ IsAccessLine script.now report.now who how (access_by checks.now raw) (map told lines.now) number (told line.now) }
+    ensures { IsTrue result ↔ IsAccessLine script.now report.now who how (access_by checks.now raw) (shown_lines lines.now) number line.now }
 {
     if number as u64 >= asked_by_access(checks, raw) {
         return false;
@@ -187,18 +186,18 @@ pub(crate) fn access_wrong(
     requires access { of_access checks.now.origin ≡ true }
     requires frames { length report.now.frames ≤ 65536 }
     requires few { checks.now.count + 1 < 2 ^ 64 }
-    ensures scanned { IsScanned (IsAccessLine script.now report.now who how (access_by checks.now raw.old) (map told lines.now)) (map told lines.now) result }
+    ensures scanned { IsScanned (IsAccessLine script.now report.now who how (access_by checks.now raw.old) (shown_lines lines.now)) (shown_lines lines.now) result }
     ensures kept { checks.now.count ≡ 0 → raw.new ≡ raw.old }
 {
     let held = raw.get();
     if lines.is_empty() {
         return None;
     }
-    if !is_first_line(script, report, who, how, checks, raw, &lines[0]) {
+    if !is_first_line(script, report, who, how, checks, raw, &lines[0].line) {
         return Some(0);
     }
     for number in 1..lines.len() {
-        let line = &lines[number];
+        let line = &lines[number].line;
         if !is_later_line(script, report, who, how, checks, held, lines, number, line) {
             return Some(number);
         }

@@ -1,9 +1,8 @@
-ghost use Rattle.std.specs.Prelude.{◌≡◌, ◌≤◌, ◌+◌, ◌<◌, ◌==◌, ◌^◌, true, None, cond, nat_lt, is_some, length, map, MatchBool};
+ghost use Rattle.std.specs.Prelude.{◌≡◌, ◌≤◌, ◌+◌, ◌<◌, ◌==◌, ◌^◌, true, None, cond, nat_lt, is_some, length, MatchBool};
 ghost use Rattle.std.specs.Int.{from_bool};
 ghost use Rattle.hwp_law.specs.Events.{is_raised};
-ghost use Rattle.hwp_check_event_line.specs.Firsts.{IsScanned};
+ghost use Rattle.hwp_check_event_line.specs.Firsts.{IsScanned, shown_lines};
 ghost use Rattle.hwp_check_event_line.specs.Found.{of_access};
-ghost use Rattle.hwp_check_event_line.specs.Told.{told};
 ghost use Rattle.hwp_check_events.specs.Accesses.{IsAccessLine, IsRaisedLine, access_by, asked_by_access};
 
 use crate::accesses::{access_wrong, asked_by_access};
@@ -14,7 +13,7 @@ use hwp_law::{Answer, Arrival, Script, Who};
 
 /// The first line where none is asked.
 pub(crate) fn any(lines: &[Shown]) -> Option<usize>
-    ensures { IsScanned (λ number line. ⊥) (map told lines.now) result }
+    ensures { IsScanned (λ number line. ⊥) (shown_lines lines.now) result }
 {
     if lines.is_empty() { None } else { Some(0) }
 }
@@ -32,7 +31,7 @@ pub(crate) fn access_faults(
     requires access { of_access checks.now.origin ≡ true }
     requires frames { length report.now.frames ≤ 65536 }
     requires few { checks.now.count + 1 < 2 ^ 64 }
-    ensures scanned { IsScanned (IsAccessLine script.now report.now who how (access_by checks.now raw.old) (map told lines.now)) (map told lines.now) result.wrong }
+    ensures scanned { IsScanned (IsAccessLine script.now report.now who how (access_by checks.now raw.old) (shown_lines lines.now)) (shown_lines lines.now) result.wrong }
     ensures lacks { result.lacks ≡ nat_lt (length lines.now) (asked_by_access (access_by checks.now raw.old)) }
     ensures left { raw.new ≡ cond (checks.now.count == 0) raw.old None }
 {
@@ -49,7 +48,7 @@ pub(crate) fn access_faults(
 
 /// Whether a raise that was answered so, with lines or without, was a machine check.
 pub(crate) fn is_raised(answer: Option<Answer>, lines: &[Shown]) -> bool
-    ensures { result ≡ is_raised answer (map told lines.now) }
+    ensures { result ≡ is_raised answer (shown_lines lines.now) }
 {
     match answer {
         Some(Answer::Raised(..)) => true,
@@ -67,13 +66,13 @@ fn raise_wrong(
     raw: Option<Event>,
     lines: &[Shown],
 ) -> Option<usize>
-    ensures { IsScanned (IsRaisedLine script.now report.now who how raw) (map told lines.now) result }
+    ensures { IsScanned (IsRaisedLine script.now report.now who how raw) (shown_lines lines.now) result }
 {
     if lines.is_empty() {
         return None;
     }
     let held = may_stop(how, raw);
-    if !is_raw_line(script, report, who, how, held, raw, &lines[0]) {
+    if !is_raw_line(script, report, who, how, held, raw, &lines[0].line) {
         return Some(0);
     }
     if lines.len() > 1 { Some(1) } else { None }
@@ -89,9 +88,9 @@ pub(crate) fn raise_faults(
     raw: &mut Bank,
     lines: &[Shown],
 ) -> Faults
-    ensures scanned { IsScanned (λ number line. MatchBool (is_raised answer (map told lines.now)) (IsRaisedLine script.now report.now who how raw.old number line) ⊥) (map told lines.now) result.wrong }
-    ensures lacks { result.lacks ≡ nat_lt (length lines.now) (cond (is_raised answer (map told lines.now)) (from_bool (is_some raw.old)) 0) }
-    ensures left { raw.new ≡ cond (is_raised answer (map told lines.now)) None raw.old }
+    ensures scanned { IsScanned (λ number line. MatchBool (is_raised answer (shown_lines lines.now)) (IsRaisedLine script.now report.now who how raw.old number line) ⊥) (shown_lines lines.now) result.wrong }
+    ensures lacks { result.lacks ≡ nat_lt (length lines.now) (cond (is_raised answer (shown_lines lines.now)) (from_bool (is_some raw.old)) 0) }
+    ensures left { raw.new ≡ cond (is_raised answer (shown_lines lines.now)) None raw.old }
 {
     if !is_raised(answer, lines) {
         return Faults {

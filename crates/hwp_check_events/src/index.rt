@@ -10,24 +10,7 @@ fn shown_at(place: usize, row: &CpuLine) -> Option<Shown>
     ensures { result ≡ shown_at place row.now }
 {
     match *row {
-        CpuLine::Event {
-            seq,
-            bank,
-            status,
-            addr,
-            misc,
-            row,
-            acted,
-        } => Some(Shown {
-            place,
-            seq,
-            bank,
-            status,
-            addr,
-            misc,
-            row,
-            acted,
-        }),
+        CpuLine::Event(line) => Some(Shown { place, line }),
         CpuLine::Answer { .. } => None,
     }
 }
@@ -49,7 +32,7 @@ fn add(lists: &mut Vec<List<Shown>>, shown: Option<Shown>) -> Result<(), OutOfMe
     ensures { OnOk result (lists.new.items ≡ with_shown shown lists.old.items) }
 {
     if let Some(shown) = shown {
-        let at = shown.seq as usize;
+        let at = shown.line.seq as usize;
         if at < lists.len() {
             lists[at].push(shown)?;
         }

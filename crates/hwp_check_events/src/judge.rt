@@ -1,11 +1,10 @@
-ghost use Rattle.std.specs.Prelude.{◌≡◌, ◌≤◌, ◌+◌, ◌<◌, ◌^◌, true, false, length, map};
+ghost use Rattle.std.specs.Prelude.{◌≡◌, ◌≤◌, ◌+◌, ◌<◌, ◌^◌, true, false, length};
 ghost use Rattle.hwp_law.specs.Commands.{arrival_of};
 ghost use Rattle.hwp_law.specs.Events.{is_check};
 ghost use Rattle.hwp_law.specs.Lines.{answer_of};
 ghost use Rattle.hwp_law.specs.Pairings.{entries_of};
-ghost use Rattle.hwp_check_event_line.specs.Firsts.{IsScanned};
+ghost use Rattle.hwp_check_event_line.specs.Firsts.{IsScanned, shown_lines};
 ghost use Rattle.hwp_check_event_line.specs.Found.{of_access};
-ghost use Rattle.hwp_check_event_line.specs.Told.{told};
 ghost use Rattle.hwp_check_events.specs.Judged.{IsAccessJudged, IsJudged, IsScrubJudged, IsTable};
 ghost use Rattle.hwp_check_events.specs.Misfits.{IsFit, is_scrubbed, logged_if};
 
@@ -61,7 +60,7 @@ fn log_if_done(answer: Option<Answer>, event: Event, raw: &mut Bank)
 
 /// What is wrong where no lines are asked.
 fn none_asked(lines: &[Shown]) -> Faults
-    ensures scanned { IsScanned (λ number line. ⊥) (map told lines.now) result.wrong }
+    ensures scanned { IsScanned (λ number line. ⊥) (shown_lines lines.now) result.wrong }
     ensures lacks { result.lacks ≡ false }
 {
     Faults {
@@ -86,7 +85,7 @@ fn judge_access(
     requires frames { length report.now.frames ≤ 65536 }
     requires few { known.now.checks + 1 < 2 ^ 64 }
     requires checks { known.now.checks ≡ entries_of report.now who is_check }
-    ensures { IsAccessJudged script.now report.now who how origin at raw.old raw.new (map told lines.now) result }
+    ensures { IsAccessJudged script.now report.now who how origin at raw.old raw.new (shown_lines lines.now) result }
 {
     let checks = checks_of(origin, at, known);
     access_faults(script, report, who, how, &checks, raw, lines)
@@ -108,7 +107,7 @@ fn judge_scrub(
     requires answer { known.now.answer ≡ answer_of report.now who }
     requires table { IsTable script.now who table.now }
     requires fit { first.0 ≤ last.0 }
-    ensures { IsScrubJudged script.now report.now who how first last raw.old raw.new (map told lines.now) result }
+    ensures { IsScrubJudged script.now report.now who how first last raw.old raw.new (shown_lines lines.now) result }
 {
     let whole = is_scrubbed(known.answer);
     scrub_faults(
@@ -133,7 +132,7 @@ pub(crate) fn command_faults(
     requires answer { known.now.answer ≡ answer_of report.now who }
     requires table { IsTable script.now who table.now }
     requires fit { IsFit command.now }
-    ensures { IsJudged script.now report.now who command.now raw.old raw.new (map told lines.now) result }
+    ensures { IsJudged script.now report.now who command.now raw.old raw.new (shown_lines lines.now) result }
 {
     let how = arrival_of(command);
     match *command {

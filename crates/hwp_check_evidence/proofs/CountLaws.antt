@@ -5,9 +5,10 @@ use Rattle.std.proofs.lemmas.Bool.{cases_eq, cases_lt, eq-eqb, eqb-true, false_f
 use Rattle.std.proofs.lemmas.List.{get_or-set_same, get_or-set_other, get_or-replicate, get_or_past, length-replicate, length-set}
 use Rattle.hwp_law.specs.hwp_report_text.declared.CpuLine.{CpuLine}
 use Rattle.hwp_law.specs.hwp_report_text.declared.CpuLine.TheVariants as lines
+use Rattle.hwp_law.specs.hwp_report_text.declared.EventLine.{EventLine}
 use Rattle.hwp_law.specs.Causes.{ends_machine}
 use Rattle.hwp_law.specs.hwp_report_text.Acts.{is_panic, is_stopping}
-use Rattle.hwp_law.specs.Lines.{EventLine, events_among}
+use Rattle.hwp_law.specs.Lines.{events_among}
 use Rattle.hwp_check_evidence.specs.Counts.{AreCounts, AreFew, AreFlags, counted, flagged_by}
 
 abbrev one_if : Bool → ℕ
@@ -15,34 +16,34 @@ one_if true = 1
 one_if false = 0
 
 pub count-many : (counts : List ℕ) (row : CpuLine) → length (counted counts row) ≡ length counts
-count-many counts (lines.Event seq bank status addr misc graded acted) = length-set counts seq (get_or counts seq 0 + 1)
+count-many counts (lines.Event event) = length-set counts event.seq (get_or counts event.seq 0 + 1)
 count-many counts (lines.Answer seq answer) = refl
 
 flag-many : (flags : List Bool) (row : CpuLine) → length (flagged_by flags row) ≡ length flags
-flag-many flags (lines.Event seq bank status addr misc graded acted) = which (is_stopping acted || is_panic acted)
+flag-many flags (lines.Event event) = which (is_stopping event.acted || is_panic event.acted)
   where
-    which : (b : Bool) → length (cond b (set flags seq true) flags) ≡ length flags
-    which true = length-set flags seq true
+    which : (b : Bool) → length (cond b (set flags event.seq true) flags) ≡ length flags
+    which true = length-set flags event.seq true
     which false = refl
 flag-many flags (lines.Answer seq answer) = refl
 
 -- one line more is one event more at most
 pub few_more : (n : ℕ) (counts : List ℕ) (row : CpuLine) → AreFew n counts → AreFew (n + 1) (counted counts row)
 few_more n counts (lines.Answer seq answer) few = λ k. let low : get_or counts k 0 ≤ n = few k in omega (arith, low)
-few_more n counts (lines.Event seq bank status addr misc graded acted) few = λ k. elim (cases_eq k seq) [
+few_more n counts (lines.Event event) few = λ k. elim (cases_eq k event.seq) [
   | inl here ↦ elim (cases_lt k (length counts)) [
     | inl inside ↦
-        let got : get_or (set counts seq (get_or counts seq 0 + 1)) k 0 ≡ get_or counts k 0 + 1 =
+        let got : get_or (set counts event.seq (get_or counts event.seq 0 + 1)) k 0 ≡ get_or counts k 0 + 1 =
         subst (λ (m : ℕ). get_or (set counts m (get_or counts m 0 + 1)) k 0 ≡ get_or counts k 0 + 1) here (get_or-set_same counts k (get_or counts k 0 + 1) 0 inside) in
         let low : get_or counts k 0 ≤ n = few k in
         omega (arith, got, low)
     | inr past ↦
-        let many : length (set counts seq (get_or counts seq 0 + 1)) ≡ length counts = length-set counts seq (get_or counts seq 0 + 1) in
-        let got : get_or (set counts seq (get_or counts seq 0 + 1)) k 0 ≡ 0 = get_or_past (set counts seq (get_or counts seq 0 + 1)) k 0 (omega (arith, many, past)) in
+        let many : length (set counts event.seq (get_or counts event.seq 0 + 1)) ≡ length counts = length-set counts event.seq (get_or counts event.seq 0 + 1) in
+        let got : get_or (set counts event.seq (get_or counts event.seq 0 + 1)) k 0 ≡ 0 = get_or_past (set counts event.seq (get_or counts event.seq 0 + 1)) k 0 (omega (arith, many, past)) in
         omega (arith, got)
   ]
   | inr other ↦
-      let got : get_or (set counts seq (get_or counts seq 0 + 1)) k 0 ≡ get_or counts k 0 = get_or-set_other counts seq k (get_or counts seq 0 + 1) 0 other in
+      let got : get_or (set counts event.seq (get_or counts event.seq 0 + 1)) k 0 ≡ get_or counts k 0 = get_or-set_other counts event.seq k (get_or counts event.seq 0 + 1) 0 other in
       let low : get_or counts k 0 ≤ n = few k in
       omega (arith, got, low)
 ]
@@ -63,29 +64,26 @@ module _ (seq : ℕ) where
   counts-law : (rows : List CpuLine) (counts : List ℕ) → seq < length counts → get_or (fold counted counts rows) seq 0 ≡ get_or counts seq 0 + length (events_among rows seq)
   counts-law [] counts inside = omega arith
   counts-law (lines.Answer s answer ∷ rs) counts inside = counts-law rs counts inside
-  counts-law (lines.Event s bank status addr misc graded acted ∷ rs) counts inside =
-      by (counts-law rs (set counts s (get_or counts s 0 + 1)) (subst (λ (m : ℕ). seq < m) (sym (length-set counts s (get_or counts s 0 + 1))) inside))
+  counts-law (lines.Event event ∷ rs) counts inside =
+      by (counts-law rs (set counts event.seq (get_or counts event.seq 0 + 1)) (subst (λ (m : ℕ). seq < m) (sym (length-set counts event.seq (get_or counts event.seq 0 + 1))) inside))
     where
-      line : EventLine
-      line = record { seq = s; bank = bank; status = status; addr = addr; misc = misc; row = graded; acted = acted }
-
-      more : (b : Bool) (l : List EventLine) → length (cond b (line ∷ l) l) ≡ length l + one_if b
+      more : (b : Bool) (l : List EventLine) → length (cond b (event ∷ l) l) ≡ length l + one_if b
       more true l = let z : suc (length l) ≡ length l + 1 = omega arith in z
       more false l = let z : length l ≡ length l + 0 = omega arith in z
 
-      by : get_or (fold counted (set counts s (get_or counts s 0 + 1)) rs) seq 0 ≡ get_or (set counts s (get_or counts s 0 + 1)) seq 0 + length (events_among rs seq)
-          → get_or (fold counted (set counts s (get_or counts s 0 + 1)) rs) seq 0 ≡ get_or counts seq 0 + length (events_among (lines.Event s bank status addr misc graded acted ∷ rs) seq)
-      by is = elim (cases_eq seq s) [
+      by : get_or (fold counted (set counts event.seq (get_or counts event.seq 0 + 1)) rs) seq 0 ≡ get_or (set counts event.seq (get_or counts event.seq 0 + 1)) seq 0 + length (events_among rs seq)
+          → get_or (fold counted (set counts event.seq (get_or counts event.seq 0 + 1)) rs) seq 0 ≡ get_or counts seq 0 + length (events_among (lines.Event event ∷ rs) seq)
+      by is = elim (cases_eq seq event.seq) [
         | inl here ↦
-            let own : one_if (seq == s) ≡ 1 = ap one_if (eq-eqb seq s here) in
-            let got : get_or (set counts s (get_or counts s 0 + 1)) seq 0 ≡ get_or counts seq 0 + 1 =
+            let own : one_if (seq == event.seq) ≡ 1 = ap one_if (eq-eqb seq event.seq here) in
+            let got : get_or (set counts event.seq (get_or counts event.seq 0 + 1)) seq 0 ≡ get_or counts seq 0 + 1 =
             subst (λ (m : ℕ). get_or (set counts m (get_or counts m 0 + 1)) seq 0 ≡ get_or counts seq 0 + 1) here (get_or-set_same counts seq (get_or counts seq 0 + 1) 0 inside) in
-            let all : length (events_among (lines.Event s bank status addr misc graded acted ∷ rs) seq) ≡ length (events_among rs seq) + one_if (seq == s) = more (seq == s) (events_among rs seq) in
+            let all : length (events_among (lines.Event event ∷ rs) seq) ≡ length (events_among rs seq) + one_if (seq == event.seq) = more (seq == event.seq) (events_among rs seq) in
             omega (arith, own, got, all, is)
         | inr other ↦
-            let far : one_if (seq == s) ≡ 0 = ap one_if (other-is s other) in
-            let got : get_or (set counts s (get_or counts s 0 + 1)) seq 0 ≡ get_or counts seq 0 = get_or-set_other counts s seq (get_or counts s 0 + 1) 0 other in
-            let all : length (events_among (lines.Event s bank status addr misc graded acted ∷ rs) seq) ≡ length (events_among rs seq) + one_if (seq == s) = more (seq == s) (events_among rs seq) in
+            let far : one_if (seq == event.seq) ≡ 0 = ap one_if (other-is event.seq other) in
+            let got : get_or (set counts event.seq (get_or counts event.seq 0 + 1)) seq 0 ≡ get_or counts seq 0 = get_or-set_other counts event.seq seq (get_or counts event.seq 0 + 1) 0 other in
+            let all : length (events_among (lines.Event event ∷ rs) seq) ≡ length (events_among rs seq) + one_if (seq == event.seq) = more (seq == event.seq) (events_among rs seq) in
             omega (arith, far, got, all, is)
       ]
 
@@ -122,12 +120,12 @@ module _ (seq : ℕ) where
   flags-law : (rows : List CpuLine) (flags : List Bool) → seq < length flags → get_or (fold flagged_by flags rows) seq false ≡ (get_or flags seq false || list_any ends_machine (events_among rows seq))
   flags-law [] flags inside = sym (or-false (get_or flags seq false))
   flags-law (lines.Answer s answer ∷ rs) flags inside = flags-law rs flags inside
-  flags-law (lines.Event s bank status addr misc graded acted ∷ rs) flags inside =
-      flags-law rs (flagged_by flags (lines.Event s bank status addr misc graded acted)) (subst (λ (m : ℕ). seq < m) (sym (flag-many flags (lines.Event s bank status addr misc graded acted))) inside)
-      ∙ ap (λ (b : Bool). b || list_any ends_machine (events_among rs seq)) (flag-at flags s (is_stopping acted || is_panic acted) inside)
-      ∙ or-assoc (get_or flags seq false) (cond (seq == s) (is_stopping acted || is_panic acted) false) (list_any ends_machine (events_among rs seq))
+  flags-law (lines.Event event ∷ rs) flags inside =
+      flags-law rs (flagged_by flags (lines.Event event)) (subst (λ (m : ℕ). seq < m) (sym (flag-many flags (lines.Event event))) inside)
+      ∙ ap (λ (b : Bool). b || list_any ends_machine (events_among rs seq)) (flag-at flags event.seq (is_stopping event.acted || is_panic event.acted) inside)
+      ∙ or-assoc (get_or flags seq false) (cond (seq == event.seq) (is_stopping event.acted || is_panic event.acted) false) (list_any ends_machine (events_among rs seq))
       ∙ ap (λ (b : Bool). get_or flags seq false || b)
-      (sym (any-more (seq == s) (record { seq = s; bank = bank; status = status; addr = addr; misc = misc; row = graded; acted = acted }) (events_among rs seq)))
+      (sym (any-more (seq == event.seq) event (events_among rs seq)))
 
 all-count-many : (rows : List CpuLine) (counts : List ℕ) → length (fold counted counts rows) ≡ length counts
 all-count-many [] counts = refl

@@ -9,12 +9,12 @@ use Rattle.hwp_law.specs.Lines.{events_among}
 
 -- the counts with a line more
 abbrev pub counted : List ℕ → CpuLine → List ℕ
-counted counts (lines.Event seq bank status addr misc row acted) = slice_set counts seq (slice_index_or counts seq 0 + 1)
+counted counts (lines.Event event) = slice_set counts event.seq (slice_index_or counts event.seq 0 + 1)
 counted counts (lines.Answer seq answer) = counts
 
 -- and the flags
 abbrev pub flagged_by : List Bool → CpuLine → List Bool
-flagged_by flags (lines.Event seq bank status addr misc row acted) = cond (is_stopping acted || is_panic acted) (slice_set flags seq true) flags
+flagged_by flags (lines.Event event) = cond (is_stopping event.acted || is_panic event.acted) (slice_set flags event.seq true) flags
 flagged_by flags (lines.Answer seq answer) = flags
 
 -- no command has more than so many

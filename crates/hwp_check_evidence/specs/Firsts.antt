@@ -10,7 +10,7 @@ use Rattle.hwp_law.specs.States.{entry_named}
 
 -- the answers with a line more: an answer that came before stays
 abbrev pub answered_by : List (Option Answer) → CpuLine → List (Option Answer)
-answered_by list (lines.Event seq bank status addr misc row acted) = list
+answered_by list (lines.Event event) = list
 answered_by list (lines.Answer seq answer) = slice_set list seq (option_or (slice_index_or list seq None) (Some answer))
 
 -- these are the answers of the first commands

@@ -66,7 +66,7 @@ raised_by None floors = floors
 raised_by (Some at) floors = slice_set floors at.page.0 (max (slice_index_or floors at.page.0 0) at.entry)
 
 abbrev pub named_in : CpuLine → Option At
-named_in (lines.Event seq bank status addr misc row acted) = None
+named_in (lines.Event event) = None
 named_in (lines.Answer seq answer) = place_named answer
 
 abbrev pub raised : List ℕ → CpuLine → List ℕ

@@ -10,8 +10,8 @@ fn count(counts: &mut Vec<u64>, row: &CpuLine)
     ensures { counts.new.items ≡ counted counts.old.items row.now }
 {
     match *row {
-        CpuLine::Event { seq, .. } => {
-            let at = seq as usize;
+        CpuLine::Event(event) => {
+            let at = event.seq as usize;
             if at < counts.len() {
                 counts[at] += 1;
             }
@@ -42,9 +42,9 @@ fn flag(flags: &mut Vec<bool>, row: &CpuLine)
     ensures { flags.new.items ≡ flagged_by flags.old.items row.now }
 {
     match *row {
-        CpuLine::Event { seq, acted, .. } => {
-            let at = seq as usize;
-            if (acted.is_stopping() || acted.is_panic()) && at < flags.len() {
+        CpuLine::Event(event) => {
+            let at = event.seq as usize;
+            if (event.acted.is_stopping() || event.acted.is_panic()) && at < flags.len() {
                 flags[at] = true;
             }
         }

@@ -10,7 +10,7 @@ fn note(list: &mut Vec<Option<Answer>>, row: &CpuLine)
     ensures { list.new.items ≡ answered_by list.old.items row.now }
 {
     match *row {
-        CpuLine::Event { .. } => {}
+        CpuLine::Event(_) => {}
         CpuLine::Answer { seq, answer } => {
             let at = seq as usize;
             if at < list.len() {

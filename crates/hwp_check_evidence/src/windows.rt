@@ -158,7 +158,7 @@ fn named_in(row: &CpuLine) -> Option<At>
     ensures { result ≡ named_in row.now }
 {
     match row {
-        CpuLine::Event { .. } => None,
+        CpuLine::Event(_) => None,
         CpuLine::Answer { answer, .. } => named_place(answer),
     }
 }

@@ -10,9 +10,10 @@ use Rattle.hwp_check_rules.specs.hwp_report_text.declared.Acted.{Acted}
 use Rattle.hwp_check_rules.specs.hwp_report_text.declared.Acted.TheVariants as acts
 use Rattle.hwp_check_rules.specs.hwp_report_text.declared.CpuLine.{CpuLine}
 use Rattle.hwp_check_rules.specs.hwp_report_text.declared.CpuLine.TheVariants as lines
+use Rattle.hwp_check_rules.specs.hwp_report_text.declared.EventLine.{EventLine}
 use Rattle.hwp_check_rules.specs.hwp_report_text.declared.MarkLine.{MarkLine}
 use Rattle.hwp_check_rules.specs.hwp_report_text.declared.Report.{Report}
-use Rattle.hwp_check_rules.specs.hwp_law.Lines.{EventLine, events_of, marks_of, rows_of}
+use Rattle.hwp_check_rules.specs.hwp_law.Lines.{events_of, marks_of, rows_of}
 use Rattle.hwp_check_rules.specs.hwp_law.Records.{hardware_marks, line_results, result_lines, result_of}
 use Rattle.hwp_check_frames.specs.Counts.{at_key}
 use Rattle.hwp_check_frames.specs.Flags.{AreFlags, row_flag, rows_flag}
@@ -74,12 +75,12 @@ module _ {S : Type 0} {T : Type 0} (report : Report) (many : HashMap ((ℕ × �
   module _ (own : HashMap ((ℕ × ℕ) × ℕ) ℕ S) (own_are : (q : (ℕ × ℕ) × ℕ) → at_key own q ≡ frames_own 0 q report.frames) where
     row-same : (all : List CpuLine) (cpu frame : ℕ) (r : CpuLine) → slice_get report.cpus cpu ≡ Some all → row_flag own many cpu frame r ≡ row_beyond (marks_of report frame) all frame cpu r
     row-same all cpu frame (lines.Answer s answer) there = refl
-    row-same all cpu frame (lines.Event s bank status addr misc row acted) there =
-        let who : Who = record { cpu = record { 0 = cpu }; seq = s } in
-        ap (λ (n : ℕ). (is_some (result_of acted) && (frame == frame_at addr)) && nat_lt n (at_key many ((cpu, s), frame))) (own_are ((cpu, s), frame) ∙ own-is report who frame)
-        ∙ ap (λ (n : ℕ). (is_some (result_of acted) && (frame == frame_at addr)) && nat_lt (length (hardware_marks who (marks_of report frame))) n)
-        (many-is who frame ∙ ap (λ (o : Option (List CpuLine)). length (results_in s frame (unwrap_or o []))) there)
-        ∙ ap (λ (b : Bool). b && is_beyond (marks_of report frame) all frame cpu s) (said-here acted (frame == frame_at addr) ∙ ap (λ (b : Bool). is_some (cond (b && (frame == frame_at addr)) (result_of acted) None)) (sym (eq-eqb s s refl)))
+    row-same all cpu frame (lines.Event event) there =
+        let who : Who = record { cpu = record { 0 = cpu }; seq = event.seq } in
+        ap (λ (n : ℕ). (is_some (result_of event.acted) && (frame == frame_at event.addr)) && nat_lt n (at_key many ((cpu, event.seq), frame))) (own_are ((cpu, event.seq), frame) ∙ own-is report who frame)
+        ∙ ap (λ (n : ℕ). (is_some (result_of event.acted) && (frame == frame_at event.addr)) && nat_lt (length (hardware_marks who (marks_of report frame))) n)
+        (many-is who frame ∙ ap (λ (o : Option (List CpuLine)). length (results_in event.seq frame (unwrap_or o []))) there)
+        ∙ ap (λ (b : Bool). b && is_beyond (marks_of report frame) all frame cpu event.seq) (said-here event.acted (frame == frame_at event.addr) ∙ ap (λ (b : Bool). is_some (cond (b && (frame == frame_at event.addr)) (result_of event.acted) None)) (sym (eq-eqb event.seq event.seq refl)))
 
     rows-same : (all : List CpuLine) (cpu frame : ℕ) (list : List CpuLine) → slice_get report.cpus cpu ≡ Some all → rows_flag own many cpu frame list ≡ rows_beyond (marks_of report frame) all frame cpu list
     rows-same all cpu frame [] there = refl

@@ -14,12 +14,13 @@ use Rattle.hwp_check_rules.specs.hwp_report_text.declared.Acted.{Acted}
 use Rattle.hwp_check_rules.specs.hwp_report_text.declared.Acted.TheVariants as acts
 use Rattle.hwp_check_rules.specs.hwp_report_text.declared.CpuLine.{CpuLine}
 use Rattle.hwp_check_rules.specs.hwp_report_text.declared.CpuLine.TheVariants as lines
+use Rattle.hwp_check_rules.specs.hwp_report_text.declared.EventLine.{EventLine}
 use Rattle.hwp_check_rules.specs.hwp_report_text.declared.How.{How}
 use Rattle.hwp_check_rules.specs.hwp_report_text.declared.How.TheVariants as hows
 use Rattle.hwp_check_rules.specs.hwp_report_text.declared.MarkLine.{MarkLine}
 use Rattle.hwp_check_rules.specs.hwp_report_text.declared.MarkLine.TheVariants as marks
 use Rattle.hwp_check_rules.specs.hwp_report_text.declared.Report.{Report}
-use Rattle.hwp_check_rules.specs.hwp_law.Lines.{EventLine, events_among, is_same_command, rows_of}
+use Rattle.hwp_check_rules.specs.hwp_law.Lines.{events_among, is_same_command, rows_of}
 use Rattle.hwp_check_rules.specs.hwp_law.Records.{hardware_act, hardware_marks, is_by_hardware, line_results, mark_results, outcome_act, result_lines, result_of, who_in}
 use Rattle.hwp_check_frames.specs.MarkScans.{HasEvent, IsNextResult, is_beyond, result_in, results_in, row_beyond, rows_beyond}
 use Rattle.hwp_check_frames.proofs.FramePlaces.{and-right, or-left, or-right}
@@ -31,9 +32,9 @@ lines-for seq frame rows = filter (λ (l : EventLine). (frame == frame_at l.addr
 abbrev BothSay : ℕ → ℕ → List CpuLine → Type 0
 BothSay seq frame rows = (line_results (lines-for seq frame rows) ≡ results_in seq frame rows) × (length (lines-for seq frame rows) ≡ length (results_in seq frame rows))
 
-module _ (seq frame s b st addr m g : ℕ) (rows : List CpuLine) (rest : BothSay seq frame rows) where
+module _ (seq frame : ℕ) (event : EventLine) (rows : List CpuLine) (rest : BothSay seq frame rows) where
   abbrev now : Acted → EventLine
-  now a = record { seq = s; bank = b; status = st; addr = addr; misc = m; row = g; acted = a }
+  now a = record event { acted = a }
 
   says : (a : Acted)
       → (line_results (cond (is_some (result_of a)) (now a ∷ lines-for seq frame rows) (lines-for seq frame rows)) ≡ cons_option (result_of a) (results_in seq frame rows))
@@ -50,15 +51,15 @@ module _ (seq frame s b st addr m g : ℕ) (rows : List CpuLine) (rest : BothSay
   says-here acted false = rest
 
   says-own : (acted : Acted) (o : Bool)
-      → (line_results (filter (λ (l : EventLine). (frame == frame_at l.addr) && is_some (result_of l.acted)) (cond o (now acted ∷ events_among rows seq) (events_among rows seq))) ≡ cons_option (cond (o && (frame == frame_at addr)) (result_of acted) None) (results_in seq frame rows))
-      × (length (filter (λ (l : EventLine). (frame == frame_at l.addr) && is_some (result_of l.acted)) (cond o (now acted ∷ events_among rows seq) (events_among rows seq))) ≡ length (cons_option (cond (o && (frame == frame_at addr)) (result_of acted) None) (results_in seq frame rows)))
-  says-own acted true = says-here acted (frame == frame_at addr)
+      → (line_results (filter (λ (l : EventLine). (frame == frame_at l.addr) && is_some (result_of l.acted)) (cond o (now acted ∷ events_among rows seq) (events_among rows seq))) ≡ cons_option (cond (o && (frame == frame_at event.addr)) (result_of acted) None) (results_in seq frame rows))
+      × (length (filter (λ (l : EventLine). (frame == frame_at l.addr) && is_some (result_of l.acted)) (cond o (now acted ∷ events_among rows seq) (events_among rows seq))) ≡ length (cons_option (cond (o && (frame == frame_at event.addr)) (result_of acted) None) (results_in seq frame rows)))
+  says-own acted true = says-here acted (frame == frame_at event.addr)
   says-own acted false = rest
 
 both-say : (seq frame : ℕ) (rows : List CpuLine) → BothSay seq frame rows
 both-say seq frame [] = (refl, refl)
 both-say seq frame (lines.Answer s answer ∷ rows) = both-say seq frame rows
-both-say seq frame (lines.Event s b st addr m g acted ∷ rows) = says-own seq frame s b st addr m g rows (both-say seq frame rows) acted (seq == s)
+both-say seq frame (lines.Event event ∷ rows) = says-own seq frame event rows (both-say seq frame rows) event.acted (seq == event.seq)
 
 pub results-are : (report : Report) (who : Who) (frame : ℕ) → line_results (result_lines report who frame) ≡ results_in who.seq frame (rows_of report who)
 results-are report who frame = (both-say who.seq frame (rows_of report who)).0
@@ -162,15 +163,15 @@ agree who said (m ∷ ms) k each few = elim (cases_Bool (own who m)) [
 row-says : (list : List MarkLine) (all : List CpuLine) (frame cpu seq : ℕ) (r : CpuLine) → row_beyond list all frame cpu r ≡ false
     → (result_in seq frame r ≡ None) ⊎ (is_beyond list all frame cpu seq ≡ false)
 row-says list all frame cpu seq (lines.Answer s answer) none = inl refl
-row-says list all frame cpu seq (lines.Event s b st addr m g acted) none = elim (cases_Bool (seq == s)) [
-  | inr other ↦ inl (ap (λ (o : Bool). cond (o && (frame == frame_at addr)) (result_of acted) None) other)
+row-says list all frame cpu seq (lines.Event event) none = elim (cases_Bool (seq == event.seq)) [
+  | inr other ↦ inl (ap (λ (o : Bool). cond (o && (frame == frame_at event.addr)) (result_of event.acted) None) other)
   | inl mine ↦
-      let same : s ≡ seq = sym (eqb-true seq s mine) in
-      by (result_in seq frame (lines.Event s b st addr m g acted)) refl (subst (λ n. (is_some (result_in n frame (lines.Event s b st addr m g acted)) && is_beyond list all frame cpu n) ≡ false) same none)
+      let same : event.seq ≡ seq = sym (eqb-true seq event.seq mine) in
+      by (result_in seq frame (lines.Event event)) refl (subst (λ n. (is_some (result_in n frame (lines.Event event)) && is_beyond list all frame cpu n) ≡ false) same none)
 ]
   where
-    by : (o : Option Acted) → result_in seq frame (lines.Event s b st addr m g acted) ≡ o → (is_some (result_in seq frame (lines.Event s b st addr m g acted)) && is_beyond list all frame cpu seq) ≡ false
-        → (result_in seq frame (lines.Event s b st addr m g acted) ≡ None) ⊎ (is_beyond list all frame cpu seq ≡ false)
+    by : (o : Option Acted) → result_in seq frame (lines.Event event) ≡ o → (is_some (result_in seq frame (lines.Event event)) && is_beyond list all frame cpu seq) ≡ false
+        → (result_in seq frame (lines.Event event) ≡ None) ⊎ (is_beyond list all frame cpu seq ≡ false)
     by None is held = inl is
     by (Some a) is held = inr (sym (ap (λ (o : Option Acted). is_some o && is_beyond list all frame cpu seq) is) ∙ held)
 
@@ -195,7 +196,7 @@ none-beyond list rows frame cpu seq none = elim (none-says list rows frame cpu s
 -- where some line is, the command is
 row-beyond : (list : List MarkLine) (all : List CpuLine) (frame cpu : ℕ) (r : CpuLine) → row_beyond list all frame cpu r ≡ true → (seq : ℕ) × (is_beyond list all frame cpu seq ≡ true)
 row-beyond list all frame cpu (lines.Answer s answer) is = absurd (true≢false (sym is))
-row-beyond list all frame cpu (lines.Event s b st addr m g acted) is = (s, and-right _ _ is)
+row-beyond list all frame cpu (lines.Event event) is = (event.seq, and-right _ _ is)
 
 some-says : (list : List MarkLine) (all : List CpuLine) (frame cpu : ℕ) (rows : List CpuLine) → rows_beyond list all frame cpu rows ≡ true → (seq : ℕ) × (is_beyond list all frame cpu seq ≡ true)
 some-says list all frame cpu [] is = absurd (true≢false (sym is))

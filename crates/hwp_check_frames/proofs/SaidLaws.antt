@@ -7,11 +7,11 @@ use Rattle.std.proofs.lemmas.List.Sums.{get_or-le-sum_by, sum_by_more_le}
 use Rattle.std.proofs.lemmas.Option.{slice_get-get_or, slice_get_past}
 use Rattle.hwp_check_rules.specs.hwp_geom.declared.Who.{Who}
 use Rattle.hwp_check_rules.specs.hwp_banks.Addresses.{frame_at}
-use Rattle.hwp_check_rules.specs.hwp_report_text.declared.Acted.{Acted}
 use Rattle.hwp_check_rules.specs.hwp_report_text.declared.CpuLine.{CpuLine}
 use Rattle.hwp_check_rules.specs.hwp_report_text.declared.CpuLine.TheVariants as lines
+use Rattle.hwp_check_rules.specs.hwp_report_text.declared.EventLine.{EventLine}
 use Rattle.hwp_check_rules.specs.hwp_report_text.declared.Report.{Report}
-use Rattle.hwp_check_rules.specs.hwp_law.Lines.{EventLine, events_among}
+use Rattle.hwp_check_rules.specs.hwp_law.Lines.{events_among}
 use Rattle.hwp_check_rules.specs.hwp_law.Records.{result_lines, result_of}
 use Rattle.hwp_check_rules.specs.Standing.{cpu_height, last_line}
 use Rattle.hwp_check_frames.specs.Counts.{at_key, is_key, raise}
@@ -98,10 +98,10 @@ rows-next cpu list i d f many rows within noted =
 other-said : (cpu : ℕ) (q : (ℕ × ℕ) × ℕ) (rows : List CpuLine) → (cpu == q.0.0) ≡ false → rows_said cpu q rows ≡ []
 other-said cpu q [] other = refl
 other-said cpu q (lines.Answer s answer ∷ rest) other = other-said cpu q rest other
-other-said cpu q (lines.Event s bank status addr misc row acted ∷ rest) other =
-    ap (λ (b : Bool). cond (is_some (result_of acted) && ((b && (s == q.0.1)) && (frame_at addr == q.1))) (record { row = row; acted = acted } ∷ []) [] ++ rows_said cpu q rest) other ∙ ap (λ (l : List Noted). l ++ rows_said cpu q rest) (never (is_some (result_of acted))) ∙ other-said cpu q rest other
+other-said cpu q (lines.Event event ∷ rest) other =
+    ap (λ (b : Bool). cond (is_some (result_of event.acted) && ((b && (event.seq == q.0.1)) && (frame_at event.addr == q.1))) (record { row = event.row; acted = event.acted } ∷ []) [] ++ rows_said cpu q rest) other ∙ ap (λ (l : List Noted). l ++ rows_said cpu q rest) (never (is_some (result_of event.acted))) ∙ other-said cpu q rest other
   where
-    never : (b : Bool) → cond {A = List Noted} (b && false) (record { row = row; acted = acted } ∷ []) [] ≡ []
+    never : (b : Bool) → cond {A = List Noted} (b && false) (record { row = event.row; acted = event.acted } ∷ []) [] ≡ []
     never true = refl
     never false = refl
 
@@ -133,9 +133,9 @@ below-next report n list many rows are noted = noted-same (λ q. said_below n re
 said-low : (cpu : ℕ) (q : (ℕ × ℕ) × ℕ) (rows : List CpuLine) → length (rows_said cpu q rows) ≤ length rows
 said-low cpu q [] = omega arith
 said-low cpu q (lines.Answer s answer ∷ rest) = let low : length (rows_said cpu q rest) ≤ length rest = said-low cpu q rest in omega (arith, low)
-said-low cpu q (lines.Event s bank status addr misc row acted ∷ rest) = by (is_some (result_of acted) && is_key ((cpu, s), frame_at addr) q) (said-low cpu q rest)
+said-low cpu q (lines.Event event ∷ rest) = by (is_some (result_of event.acted) && is_key ((cpu, event.seq), frame_at event.addr) q) (said-low cpu q rest)
   where
-    by : (b : Bool) → length (rows_said cpu q rest) ≤ length rest → length (cond b (record { row = row; acted = acted } ∷ []) [] ++ rows_said cpu q rest) ≤ suc (length rest)
+    by : (b : Bool) → length (rows_said cpu q rest) ≤ length rest → length (cond b (record { row = event.row; acted = event.acted } ∷ []) [] ++ rows_said cpu q rest) ≤ suc (length rest)
     by true low = omega (arith, low)
     by false low = omega (arith, low)
 
@@ -174,13 +174,12 @@ row-in l = record { row = l.row; acted = l.acted }
 rows-are : (cpu seq frame : ℕ) (rows : List CpuLine) → rows_said cpu ((cpu, seq), frame) rows ≡ map row-in (filter (of_frame frame) (events_among rows seq))
 rows-are cpu seq frame [] = refl
 rows-are cpu seq frame (lines.Answer s answer ∷ rest) = rows-are cpu seq frame rest
-rows-are cpu seq frame (lines.Event s bank status addr misc row acted ∷ rest) =
-    let l : EventLine = record { seq = s; bank = bank; status = status; addr = addr; misc = misc; row = row; acted = acted } in
-    let mine : ((cpu == cpu) && (s == seq)) ≡ (seq == s) = ap (λ (b : Bool). b && (s == seq)) (eq-eqb cpu cpu refl) ∙ eqb-swap s seq in
-    ap (λ (b : Bool). cond (is_some (result_of acted) && (b && (frame_at addr == frame))) (record { row = row; acted = acted } ∷ []) [] ++ rows_said cpu ((cpu, seq), frame) rest) mine
-    ∙ ap (λ (b : Bool). cond (is_some (result_of acted) && ((seq == s) && b)) (record { row = row; acted = acted } ∷ []) [] ++ rows_said cpu ((cpu, seq), frame) rest) (eqb-swap (frame_at addr) frame)
-    ∙ ap (λ (xs : List Noted). cond (is_some (result_of acted) && ((seq == s) && (frame == frame_at addr))) (record { row = row; acted = acted } ∷ []) [] ++ xs) (rows-are cpu seq frame rest)
-    ∙ by (seq == s) l (is_some (result_of acted)) (frame == frame_at addr) refl
+rows-are cpu seq frame (lines.Event event ∷ rest) =
+    let mine : ((cpu == cpu) && (event.seq == seq)) ≡ (seq == event.seq) = ap (λ (b : Bool). b && (event.seq == seq)) (eq-eqb cpu cpu refl) ∙ eqb-swap event.seq seq in
+    ap (λ (b : Bool). cond (is_some (result_of event.acted) && (b && (frame_at event.addr == frame))) (record { row = event.row; acted = event.acted } ∷ []) [] ++ rows_said cpu ((cpu, seq), frame) rest) mine
+    ∙ ap (λ (b : Bool). cond (is_some (result_of event.acted) && ((seq == event.seq) && b)) (record { row = event.row; acted = event.acted } ∷ []) [] ++ rows_said cpu ((cpu, seq), frame) rest) (eqb-swap (frame_at event.addr) frame)
+    ∙ ap (λ (xs : List Noted). cond (is_some (result_of event.acted) && ((seq == event.seq) && (frame == frame_at event.addr))) (record { row = event.row; acted = event.acted } ∷ []) [] ++ xs) (rows-are cpu seq frame rest)
+    ∙ by (seq == event.seq) event (is_some (result_of event.acted)) (frame == frame_at event.addr) refl
   where
     by : (b : Bool) (l : EventLine) (said here : Bool) → of_frame frame l ≡ (here && said)
         → cond (said && (b && here)) (row-in l ∷ []) [] ++ map row-in (filter (of_frame frame) (events_among rest seq)) ≡ map row-in (filter (of_frame frame) (cond b (l ∷ events_among rest seq) (events_among rest seq)))
@@ -201,8 +200,8 @@ said-all report who frame = elim (cases_lt who.cpu.0 (length report.cpus)) [
 ]
 
 -- a line with a result, as it is read
-pub event-noted : {S : Type 0} {T : Type 0} (f : (ℕ × ℕ) × ℕ → List Noted) (many : HashMap ((ℕ × ℕ) × ℕ) ℕ S) (rows : HashMap (((ℕ × ℕ) × ℕ) × ℕ) Noted T) (cpu seq bank status addr misc row : ℕ) (acted : Acted) → is_some (result_of acted) ≡ true
-    → AreNoted (λ q. f q ++ cond (is_key ((cpu, seq), frame_at addr) q) (record { row = row; acted = acted } ∷ []) []) many rows → AreNoted (λ q. f q ++ row_said cpu q (lines.Event seq bank status addr misc row acted)) many rows
-event-noted f many rows cpu seq bank status addr misc row acted said noted =
-    noted-same (λ q. f q ++ cond (is_key ((cpu, seq), frame_at addr) q) (record { row = row; acted = acted } ∷ []) []) (λ q. f q ++ row_said cpu q (lines.Event seq bank status addr misc row acted)) many rows
-    (λ q. ap (λ (b : Bool). f q ++ cond (b && is_key ((cpu, seq), frame_at addr) q) (record { row = row; acted = acted } ∷ []) []) (sym said)) noted
+pub event-noted : {S : Type 0} {T : Type 0} (f : (ℕ × ℕ) × ℕ → List Noted) (many : HashMap ((ℕ × ℕ) × ℕ) ℕ S) (rows : HashMap (((ℕ × ℕ) × ℕ) × ℕ) Noted T) (cpu : ℕ) (event : EventLine) → is_some (result_of event.acted) ≡ true
+    → AreNoted (λ q. f q ++ cond (is_key ((cpu, event.seq), frame_at event.addr) q) (record { row = event.row; acted = event.acted } ∷ []) []) many rows → AreNoted (λ q. f q ++ row_said cpu q (lines.Event event)) many rows
+event-noted f many rows cpu event said noted =
+    noted-same (λ q. f q ++ cond (is_key ((cpu, event.seq), frame_at event.addr) q) (record { row = event.row; acted = event.acted } ∷ []) []) (λ q. f q ++ row_said cpu q (lines.Event event)) many rows
+    (λ q. ap (λ (b : Bool). f q ++ cond (b && is_key ((cpu, event.seq), frame_at event.addr) q) (record { row = event.row; acted = event.acted } ∷ []) []) (sym said)) noted

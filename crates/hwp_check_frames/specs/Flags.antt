@@ -10,8 +10,8 @@ use Rattle.hwp_check_frames.specs.Counts.{at_key}
 
 -- the line says a result for the frame, and its command has more such lines than marks
 abbrev pub row_flag : {S : Type 0} → HashMap ((ℕ × ℕ) × ℕ) ℕ S → HashMap ((ℕ × ℕ) × ℕ) ℕ S → ℕ → ℕ → CpuLine → Bool
-row_flag own many cpu frame (lines.Event seq bank status addr misc row acted) =
-    (is_some (result_of acted) && (frame == frame_at addr)) && nat_lt (at_key own ((cpu, seq), frame)) (at_key many ((cpu, seq), frame))
+row_flag own many cpu frame (lines.Event event) =
+    (is_some (result_of event.acted) && (frame == frame_at event.addr)) && nat_lt (at_key own ((cpu, event.seq), frame)) (at_key many ((cpu, event.seq), frame))
 row_flag own many cpu frame (lines.Answer seq answer) = false
 
 abbrev pub rows_flag : {S : Type 0} → HashMap ((ℕ × ℕ) × ℕ) ℕ S → HashMap ((ℕ × ℕ) × ℕ) ℕ S → ℕ → ℕ → List CpuLine → Bool

@@ -19,7 +19,7 @@ first_of None answer = answer
 first_of (Some found) answer = found
 
 abbrev pub row_given : ℕ → ℕ × ℕ → Option Answer → CpuLine → Option Answer
-row_given cpu q found (lines.Event seq bank status addr misc row acted) = found
+row_given cpu q found (lines.Event event) = found
 row_given cpu q found (lines.Answer seq answer) = cond (is_pair (cpu, seq) q) (Some (first_of found answer)) found
 
 abbrev pub rows_given : ℕ → ℕ × ℕ → Option Answer → List CpuLine → Option Answer

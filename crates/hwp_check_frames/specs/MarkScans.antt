@@ -83,7 +83,7 @@ IsUnpoison frame command = command ≡ Some (commands.Unpoison frame)
 
 -- the result for the frame that a line of the command with this number says
 abbrev pub result_in : ℕ → ℕ → CpuLine → Option Acted
-result_in seq frame (lines.Event s bank status addr misc row acted) = cond ((seq == s) && (frame == frame_at addr)) (result_of acted) None
+result_in seq frame (lines.Event event) = cond ((seq == event.seq) && (frame == frame_at event.addr)) (result_of event.acted) None
 result_in seq frame (lines.Answer s answer) = None
 
 -- all that its lines say
@@ -130,8 +130,8 @@ is_beyond list rows frame cpu seq = nat_lt (length (hardware_marks (record { cpu
 
 -- a line is of such a command; some of these lines is
 abbrev pub row_beyond : List MarkLine → List CpuLine → ℕ → ℕ → CpuLine → Bool
-row_beyond list rows frame cpu (lines.Event s bank status addr misc row acted) =
-    is_some (result_in s frame (lines.Event s bank status addr misc row acted)) && is_beyond list rows frame cpu s
+row_beyond list rows frame cpu (lines.Event event) =
+    is_some (result_in event.seq frame (lines.Event event)) && is_beyond list rows frame cpu event.seq
 row_beyond list rows frame cpu (lines.Answer s answer) = false
 
 abbrev pub rows_beyond : List MarkLine → List CpuLine → ℕ → ℕ → List CpuLine → Bool

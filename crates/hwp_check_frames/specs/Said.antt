@@ -19,7 +19,7 @@ row_at m p = hash.get is_place m p
 
 -- what a line of a processor says, where it is such
 abbrev pub row_said : ℕ → (ℕ × ℕ) × ℕ → CpuLine → List Noted
-row_said cpu q (lines.Event seq bank status addr misc row acted) = cond (is_some (result_of acted) && is_key ((cpu, seq), frame_at addr) q) (record { row = row; acted = acted } ∷ []) []
+row_said cpu q (lines.Event event) = cond (is_some (result_of event.acted) && is_key ((cpu, event.seq), frame_at event.addr) q) (record { row = event.row; acted = event.acted } ∷ []) []
 row_said cpu q (lines.Answer seq answer) = []
 
 abbrev pub rows_said : ℕ → (ℕ × ℕ) × ℕ → List CpuLine → List Noted

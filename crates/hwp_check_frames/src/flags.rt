@@ -19,19 +19,13 @@ fn flag_row(flags: &mut Vec<bool>, own: &Counts, many: &Counts, cpu: u8, row: &C
     ensures each { length flags.new.items ≡ length flags.old.items }
     ensures is { (frame : ℕ) (d : Bool) → frame < length flags.old.items → slice_index_or flags.new.items frame d ≡ (slice_index_or flags.old.items frame d || row_flag own.now many.now cpu frame row.now) }
 {
-    if let CpuLine::Event {
-        seq,
-        addr,
-        acted,
-        ..
-    } = *row
-    {
-        let frame = addr / 4096;
-        let key = ((cpu, seq), frame);
+    if let CpuLine::Event(event) = *row {
+        let frame = event.addr / 4096;
+        let key = ((cpu, event.seq), frame);
         let beyond = count(own, key) < count(many, key);
         if frame < flags.len() as u64 {
             let before = flags[frame as usize];
-            flags[frame as usize] = before || flags_it(acted, beyond);
+            flags[frame as usize] = before || flags_it(event.acted, beyond);
         }
     }
 }

@@ -47,16 +47,13 @@ fn note_row(said: &mut Said, cpu: u8, row: &CpuLine) -> Result<(), OutOfMemory>
     ensures few { OnOk result ((q : (ℕ × ℕ) × ℕ) → at_key said.new.many q ≤ at_key said.old.many q + 1) }
 {
     match *row {
-        CpuLine::Event {
-            seq,
-            addr,
-            row: graded,
-            acted,
-            ..
-        } => {
-            if is_result(acted) {
-                let said_here = Noted { row: graded, acted };
-                note(said, ((cpu, seq), addr / 4096), said_here)?;
+        CpuLine::Event(event) => {
+            if is_result(event.acted) {
+                let said_here = Noted {
+                    row: event.row,
+                    acted: event.acted,
+                };
+                note(said, ((cpu, event.seq), event.addr / 4096), said_here)?;
             }
             Ok(())
         }

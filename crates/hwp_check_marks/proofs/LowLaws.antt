@@ -6,8 +6,9 @@ use Rattle.std.proofs.lemmas.Option.{slice_get_past}
 use Rattle.hwp_check_rules.specs.hwp_banks.Addresses.{frame_at}
 use Rattle.hwp_check_rules.specs.hwp_report_text.declared.CpuLine.{CpuLine}
 use Rattle.hwp_check_rules.specs.hwp_report_text.declared.CpuLine.TheVariants as lines
+use Rattle.hwp_check_rules.specs.hwp_report_text.declared.EventLine.{EventLine}
 use Rattle.hwp_check_rules.specs.hwp_report_text.declared.Report.{Report}
-use Rattle.hwp_check_rules.specs.hwp_law.Lines.{EventLine, events_among}
+use Rattle.hwp_check_rules.specs.hwp_law.Lines.{events_among}
 use Rattle.hwp_check_rules.specs.hwp_law.Records.{result_of}
 use Rattle.hwp_check_rules.specs.MarkFaults.{lower, lowest_of}
 use Rattle.hwp_check_marks.specs.Lows.{AreLows, low_at, lows_below, row_low, rows_low}
@@ -44,12 +45,11 @@ rows-merged : (cpu seq : ℕ) (low : Option ℕ) (rows : List CpuLine) → rows_
 unfolding merged
 rows-merged cpu seq low [] = refl
 rows-merged cpu seq low (lines.Answer s answer ∷ rest) = rows-merged cpu seq low rest
-rows-merged cpu seq low (lines.Event s bank status addr misc row acted ∷ rest) =
-    let l : EventLine = record { seq = s; bank = bank; status = status; addr = addr; misc = misc; row = row; acted = acted } in
-    let same : is_pair (cpu, s) (cpu, seq) ≡ (seq == s) = ap (λ (b : Bool). b && (s == seq)) (eq-eqb cpu cpu refl) ∙ eqb-swap s seq in
-    rows-merged cpu seq (row_low cpu (cpu, seq) low (lines.Event s bank status addr misc row acted)) rest
-    ∙ ap (λ (b : Bool). merged (cond (is_some (result_of acted) && b) (Some (lower (frame_at addr) low)) low) (lowest_of (events_among rest seq))) same
-    ∙ line-more (frame_at addr) (is_some (result_of acted)) (seq == s) low l (events_among rest seq) refl refl
+rows-merged cpu seq low (lines.Event event ∷ rest) =
+    let same : is_pair (cpu, event.seq) (cpu, seq) ≡ (seq == event.seq) = ap (λ (b : Bool). b && (event.seq == seq)) (eq-eqb cpu cpu refl) ∙ eqb-swap event.seq seq in
+    rows-merged cpu seq (row_low cpu (cpu, seq) low (lines.Event event)) rest
+    ∙ ap (λ (b : Bool). merged (cond (is_some (result_of event.acted) && b) (Some (lower (frame_at event.addr) low)) low) (lowest_of (events_among rest seq))) same
+    ∙ line-more (frame_at event.addr) (is_some (result_of event.acted)) (seq == event.seq) low event (events_among rest seq) refl refl
 
 pub rows-lowest : (cpu seq : ℕ) (rows : List CpuLine) → rows_low cpu (cpu, seq) None rows ≡ lowest_of (events_among rows seq)
 rows-lowest cpu seq rows = rows-merged cpu seq None rows ∙ none-merged (lowest_of (events_among rows seq))
@@ -58,10 +58,10 @@ rows-lowest cpu seq rows = rows-merged cpu seq None rows ∙ none-merged (lowest
 pub other-rows : (cpu : ℕ) (q : ℕ × ℕ) (low : Option ℕ) (rows : List CpuLine) → (cpu == q.0) ≡ false → rows_low cpu q low rows ≡ low
 other-rows cpu q low [] other = refl
 other-rows cpu q low (lines.Answer s answer ∷ rest) other = other-rows cpu q low rest other
-other-rows cpu q low (lines.Event s bank status addr misc row acted ∷ rest) other =
-    ap (λ (l : Option ℕ). rows_low cpu q l rest) (ap (λ (b : Bool). cond (is_some (result_of acted) && (b && (s == q.1))) (Some (lower (frame_at addr) low)) low) other ∙ never (is_some (result_of acted))) ∙ other-rows cpu q low rest other
+other-rows cpu q low (lines.Event event ∷ rest) other =
+    ap (λ (l : Option ℕ). rows_low cpu q l rest) (ap (λ (b : Bool). cond (is_some (result_of event.acted) && (b && (event.seq == q.1))) (Some (lower (frame_at event.addr) low)) low) other ∙ never (is_some (result_of event.acted))) ∙ other-rows cpu q low rest other
   where
-    never : (b : Bool) → cond (b && false) (Some (lower (frame_at addr) low)) low ≡ low
+    never : (b : Bool) → cond (b && false) (Some (lower (frame_at event.addr) low)) low ≡ low
     never true = refl
     never false = refl
 

@@ -15,7 +15,8 @@ use Rattle.hwp_check_rules.specs.hwp_script_read.declared.Script.{Script}
 use Rattle.hwp_check_rules.specs.hwp_report_text.declared.FrameLine.{FrameLine}
 use Rattle.hwp_check_rules.specs.hwp_report_text.declared.MarkLine.{MarkLine}
 use Rattle.hwp_check_rules.specs.hwp_report_text.declared.Report.{Report}
-use Rattle.hwp_check_rules.specs.hwp_law.Lines.{EventLine, is_same_command}
+use Rattle.hwp_check_rules.specs.hwp_report_text.declared.EventLine.{EventLine}
+use Rattle.hwp_check_rules.specs.hwp_law.Lines.{is_same_command}
 use Rattle.hwp_check_rules.specs.hwp_law.Pairings.{AreRecorded, entries_of, finds, has_page, is_failure, is_failure_mark, is_move_mark, is_required, is_soft, is_urgent, marks_in, urgent_from}
 use Rattle.hwp_check_rules.specs.hwp_law.Places.{entry_at}
 use Rattle.hwp_check_rules.specs.hwp_law.Records.{IsAnswered, IsMarkAt, hardware_marks, how_in, is_by_hardware, result_lines, who_in}

@@ -14,7 +14,8 @@ use Rattle.hwp_check_rules.specs.hwp_report_text.declared.How.TheVariants as how
 use Rattle.hwp_check_rules.specs.hwp_report_text.declared.MarkLine.{MarkLine}
 use Rattle.hwp_check_rules.specs.hwp_report_text.declared.MarkLine.TheVariants as marks
 use Rattle.hwp_check_rules.specs.hwp_report_text.declared.Report.{Report}
-use Rattle.hwp_check_rules.specs.hwp_law.Lines.{EventLine, is_same_command}
+use Rattle.hwp_check_rules.specs.hwp_report_text.declared.EventLine.{EventLine}
+use Rattle.hwp_check_rules.specs.hwp_law.Lines.{is_same_command}
 use Rattle.hwp_check_rules.specs.hwp_law.Pairings.{is_urgent, situation_number, urgent_from}
 use Rattle.hwp_check_rules.specs.hwp_law.Records.{hardware_marks, is_by_hardware, result_lines, who_in}
 use Rattle.hwp_check_rules.specs.Standing.{frame_height}

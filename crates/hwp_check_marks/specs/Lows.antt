@@ -17,7 +17,7 @@ low_at m q = hash.get is_pair m q
 
 -- a line of a processor makes the lowest frame of a command lower
 abbrev pub row_low : ℕ → ℕ × ℕ → Option ℕ → CpuLine → Option ℕ
-row_low cpu q low (lines.Event seq bank status addr misc row acted) = cond (is_some (result_of acted) && is_pair (cpu, seq) q) (Some (lower (frame_at addr) low)) low
+row_low cpu q low (lines.Event event) = cond (is_some (result_of event.acted) && is_pair (cpu, event.seq) q) (Some (lower (frame_at event.addr) low)) low
 row_low cpu q low (lines.Answer seq answer) = low
 
 abbrev pub rows_low : ℕ → ℕ × ℕ → Option ℕ → List CpuLine → Option ℕ

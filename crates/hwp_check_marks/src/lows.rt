@@ -35,14 +35,9 @@ fn lower_row(lows: &mut Lows, cpu: u8, row: &CpuLine) -> Result<(), OutOfMemory>
     ensures { OnOk result ((q : ℕ × ℕ) → low_at lows.new q ≡ row_low cpu q (low_at lows.old q) row.now) }
 {
     match *row {
-        CpuLine::Event {
-            seq,
-            addr,
-            acted,
-            ..
-        } => {
-            if is_result(acted) {
-                lower(lows, (cpu, seq), addr / 4096)
+        CpuLine::Event(event) => {
+            if is_result(event.acted) {
+                lower(lows, (cpu, event.seq), event.addr / 4096)
             } else {
                 Ok(())
             }

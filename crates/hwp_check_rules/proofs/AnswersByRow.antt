@@ -1,5 +1,5 @@
 -- The answers of a processor, told from the first command on, and told line by line: the same.
-use Rattle.std.proofs.Common.{◌≡◌, inl, inr, ℕ, zero, suc, ◌+◌, ◌<◌, Bool, false, cond, true≢false, List, [], ◌∷◌, Some, count_by, get_or, length, slice_get, take, IsSome, refl, sym, ap, ◌∙◌, subst, arith}
+use Rattle.std.proofs.Common.{◌≡◌, ℕ, zero, suc, ◌+◌, ◌<◌, Bool, false, cond, true≢false, List, [], ◌∷◌, Some, count_by, get_or, length, slice_get, take, IsSome, refl, sym, ap, ◌∙◌, subst, arith}
 use Rattle.std.proofs.lemmas.Option.{same_Some, none-some}
 use Rattle.std.proofs.lemmas.List.Sums.{sum_by-cons, sum_by_more}
 use Rattle.hwp_law.specs.hwp_geom.declared.Cpu.{Cpu}
@@ -12,7 +12,7 @@ use Rattle.hwp_law.specs.hwp_report_text.declared.CpuLine.{CpuLine}
 use Rattle.hwp_law.specs.hwp_report_text.declared.CpuLine.TheVariants as lines
 use Rattle.hwp_law.specs.hwp_report_text.declared.Report.{Report}
 use Rattle.hwp_law.specs.Causes.{AreCaused, IsCaused, IsHeeded}
-use Rattle.hwp_check_rules.specs.Answered.{AreAnswered, HasAnswer, IsRight, IsShown, is_answer, seq_of}
+use Rattle.hwp_check_rules.specs.Answered.{AreAnswered, HasAnswer, IsRight, is_answer, seq_of}
 
 -- the last of the commands that a line is of, and of which command it is, where so many were answered before
 abbrev pub answers_in : ℕ → List CpuLine → ℕ
@@ -40,12 +40,12 @@ module _ (script : Script) (report : Report) (cpu : Cpu) where
   place-of n [] [] h row line is = absurd (none-some _ is)
   place-of n [] (r ∷ rest) h row line is = absurd h
   place-of n (c ∷ cs) [] h row line is = absurd h
-  place-of n (c ∷ cs) (lines.Event seq bank status addr misc graded acted ∷ rest) h zero line is =
-      let same : seq ≡ seq_of line = ap seq_of (same_Some _ _ is) in let first : seq ≡ n = h.0 in (omega (arith, same, first), omega (arith, same, first))
-  place-of n (c ∷ cs) (lines.Event seq bank status addr misc graded acted ∷ rest) h (suc row) line is =
+  place-of n (c ∷ cs) (lines.Event event ∷ rest) h zero line is =
+      let same : event.seq ≡ seq_of line = ap seq_of (same_Some _ _ is) in let first : event.seq ≡ n = h.0 in (omega (arith, same, first), omega (arith, same, first))
+  place-of n (c ∷ cs) (lines.Event event ∷ rest) h (suc row) line is =
       let later = place-of n (c ∷ cs) rest h.1 row line is in
       let at : seq_of line ≡ n + answers_in row rest = later.0 in
-      let more : answers_in (suc row) (lines.Event seq bank status addr misc graded acted ∷ rest) ≡ 0 + answers_in row rest = in-more row (lines.Event seq bank status addr misc graded acted) rest in
+      let more : answers_in (suc row) (lines.Event event ∷ rest) ≡ 0 + answers_in row rest = in-more row (lines.Event event) rest in
       (omega (arith, at, more), later.1)
   place-of n (c ∷ cs) (lines.Answer seq answer ∷ rest) h zero line is =
       let same : seq ≡ seq_of line = ap seq_of (same_Some _ _ is) in let first : seq ≡ n = h.0 in (omega (arith, same, first), omega (arith, same, first))
@@ -59,7 +59,7 @@ module _ (script : Script) (report : Report) (cpu : Cpu) where
   each-of : (n : ℕ) (commands : List Command) (rows : List CpuLine) → AreCaused script report cpu n commands rows → (k seq : ℕ) → k < length commands → seq ≡ n + k → HasAnswer rows seq
   each-of n [] rows h k seq less is = absurd (omega arith)
   each-of n (c ∷ cs) [] h k seq less is = absurd h
-  each-of n (c ∷ cs) (lines.Event s bank status addr misc graded acted ∷ rest) h k seq less is =
+  each-of n (c ∷ cs) (lines.Event event ∷ rest) h k seq less is =
       let r = each-of n (c ∷ cs) rest h.1 k seq less is in record { row = suc r.row; answer = r.answer; there = r.there }
   each-of n (c ∷ cs) (lines.Answer s answer ∷ rest) h zero seq less is =
       let first : s ≡ n = h.0 in let same : s ≡ seq = omega (arith, first, is) in record { row = 0; answer = answer; there = ap (λ (m : ℕ). Some (lines.Answer m answer)) same }
@@ -70,8 +70,8 @@ module _ (script : Script) (report : Report) (cpu : Cpu) where
   right-of n [] [] h row k seq answer command is same there = absurd (none-some _ is)
   right-of n [] (r ∷ rest) h row k seq answer command is same there = absurd h
   right-of n (c ∷ cs) [] h row k seq answer command is same there = absurd h
-  right-of n (c ∷ cs) (lines.Event s bank status addr misc graded acted ∷ rest) h zero k seq answer command is same there = absurd (cc)
-  right-of n (c ∷ cs) (lines.Event s bank status addr misc graded acted ∷ rest) h (suc row) k seq answer command is same there = right-of n (c ∷ cs) rest h.1 row k seq answer command is same there
+  right-of n (c ∷ cs) (lines.Event event ∷ rest) h zero k seq answer command is same there = absurd (cc)
+  right-of n (c ∷ cs) (lines.Event event ∷ rest) h (suc row) k seq answer command is same there = right-of n (c ∷ cs) rest h.1 row k seq answer command is same there
   right-of n (c ∷ cs) (lines.Answer s given ∷ rest) h zero zero seq answer command is same there =
       let of_seq : n ≡ seq = omega (arith, same) in
       let of_answer : given ≡ answer = ap answer_in_line (same_Some _ _ is) in
@@ -81,7 +81,7 @@ module _ (script : Script) (report : Report) (cpu : Cpu) where
       (subst (λ (x : Command). IsCaused script report (who n) x given × IsHeeded report (who n) given) of_command (h.1, h.2)))
     where
       answer_in_line : CpuLine → Answer
-      answer_in_line (lines.Event s2 bank status addr misc graded acted) = answers.Stopped
+      answer_in_line (lines.Event event) = answers.Stopped
       answer_in_line (lines.Answer s2 a) = a
   right-of n (c ∷ cs) (lines.Answer s given ∷ rest) h zero (suc k) seq answer command is same there =
       let of_seq : s ≡ seq = ap seq_of (same_Some _ _ is) in let first : s ≡ n = h.0 in absurd (omega (arith, of_seq, first, same))
@@ -98,7 +98,7 @@ module _ (script : Script) (report : Report) (cpu : Cpu) where
         record { of_next = omega (arith, at); of_some = omega (arith, below) };
     each = λ seq less. each-of 0 commands rows h seq seq less (omega arith);
     right = λ row seq answer command is there.
-        let r = right-of 0 commands rows h row seq seq answer command is (omega arith) there in record { shown = inr r.0; heeded = r.1 };
+        let r = right-of 0 commands rows h row seq seq answer command is (omega arith) there in record { shown = r.0; heeded = r.1 };
   }
 
   -- and where an answer is `stopped` there is a stop
@@ -106,12 +106,12 @@ module _ (script : Script) (report : Report) (cpu : Cpu) where
   told-of n [] [] h row seq is = absurd (none-some _ is)
   told-of n [] (r ∷ rest) h row seq is = absurd h
   told-of n (c ∷ cs) [] h row seq is = absurd h
-  told-of n (c ∷ cs) (lines.Event s bank status addr misc graded acted ∷ rest) h zero seq is = absurd (cc)
-  told-of n (c ∷ cs) (lines.Event s bank status addr misc graded acted ∷ rest) h (suc row) seq is = told-of n (c ∷ cs) rest h.1 row seq is
+  told-of n (c ∷ cs) (lines.Event event ∷ rest) h zero seq is = absurd (cc)
+  told-of n (c ∷ cs) (lines.Event event ∷ rest) h (suc row) seq is = told-of n (c ∷ cs) rest h.1 row seq is
   told-of n (c ∷ cs) (lines.Answer s given ∷ rest) h zero seq is = subst (λ (a : Answer). IsCaused script report (who n) c a) (ap answer_in_line (same_Some _ _ is)) h.1
     where
       answer_in_line : CpuLine → Answer
-      answer_in_line (lines.Event s2 bank status addr misc graded acted) = answers.Stopped
+      answer_in_line (lines.Event event) = answers.Stopped
       answer_in_line (lines.Answer s2 a) = a
   told-of n (c ∷ cs) (lines.Answer s given ∷ rest) h (suc row) seq is = told-of (n + 1) cs rest h.3 row seq is
 
@@ -152,28 +152,24 @@ module _ (script : Script) (report : Report) (cpu : Cpu) where
       later : (m m2 : ℕ) → m ≡ m2 → n < m → HasAnswer (lines.Answer s a ∷ rest) m → HasAnswer rest m2
       later m m2 same more h = later_at m m2 same more h.row h.answer h.there
 
-  caused-of : (n : ℕ) (c : Command) (a : Answer) → (a ≡ answers.Stopped → IsSome report.stop) → IsShown script report (who n) c a → IsCaused script report (who n) c a
-  caused-of n c a told (inl stopped) = subst (λ (x : Answer). IsCaused script report (who n) c x) (sym stopped) (told stopped)
-  caused-of n c a told (inr caused) = caused
-
-  from-rows : (n : ℕ) (commands : List Command) (rows : List CpuLine) → From n commands rows → ((row seq : ℕ) → slice_get rows row ≡ Some (lines.Answer seq answers.Stopped) → IsSome report.stop) → AreCaused script report cpu n commands rows
-  from-rows n [] [] f told = record {}
-  from-rows n [] (r ∷ rest) f told =
+  from-rows : (n : ℕ) (commands : List Command) (rows : List CpuLine) → From n commands rows → AreCaused script report cpu n commands rows
+  from-rows n [] [] f = record {}
+  from-rows n [] (r ∷ rest) f =
       let below : seq_of r < n + 0 = f.below 0 r refl in let at : seq_of r ≡ n + 0 = f.at 0 r refl in absurd (omega (arith, below, at))
-  from-rows n (c ∷ cs) [] f told = let h = f.each 0 (omega arith) in absurd (none-some _ h.there)
-  from-rows n (c ∷ cs) (lines.Event s bank status addr misc graded acted ∷ rest) f told =
-      let at : s ≡ n + 0 = f.at 0 _ refl in (omega (arith, at), from-rows n (c ∷ cs) rest (past-event n (c ∷ cs) _ rest refl f) (λ row seq is. told (suc row) seq is))
-  from-rows n (c ∷ cs) (lines.Answer s a ∷ rest) f told =
+  from-rows n (c ∷ cs) [] f = let h = f.each 0 (omega arith) in absurd (none-some _ h.there)
+  from-rows n (c ∷ cs) (lines.Event line ∷ rest) f =
+      let at : line.seq ≡ n + 0 = f.at 0 _ refl in (omega (arith, at), from-rows n (c ∷ cs) rest (past-event n (c ∷ cs) _ rest refl f))
+  from-rows n (c ∷ cs) (lines.Answer s a ∷ rest) f =
       let at : s ≡ n + 0 = f.at 0 _ refl in
       let first : s ≡ n = omega (arith, at) in
       let r = f.right 0 0 n a c (ap (λ (m : ℕ). Some (lines.Answer m a)) first) (omega arith) refl in
-      (first, caused-of n c a (λ stopped. told 0 s (ap (λ (x : Answer). Some (lines.Answer s x)) stopped)) r.shown, r.heeded, from-rows (n + 1) cs rest (past-answer n c cs s a rest first f) (λ row seq is. told (suc row) seq is))
+      (first, r.shown, r.heeded, from-rows (n + 1) cs rest (past-answer n c cs s a rest first f))
 
   -- told one by one, the lines are told from the first command on
-  pub rows-by : (commands : List Command) (rows : List CpuLine) → AreAnswered script report cpu commands rows → ((row seq : ℕ) → slice_get rows row ≡ Some (lines.Answer seq answers.Stopped) → IsSome report.stop) → AreCaused script report cpu 0 commands rows
-  rows-by commands rows h told = from-rows 0 commands rows (record {
+  pub rows-by : (commands : List Command) (rows : List CpuLine) → AreAnswered script report cpu commands rows → AreCaused script report cpu 0 commands rows
+  rows-by commands rows h = from-rows 0 commands rows (record {
     at = λ row l is. let e : seq_of l ≡ answers_in row rows = (h.in_place row l is).of_next in omega (arith, e);
     below = λ row l is. let e : seq_of l < length commands = (h.in_place row l is).of_some in omega (arith, e);
     each = λ k less. let zero_and : k ≡ 0 + k = omega arith in subst (HasAnswer rows) zero_and (h.each k less);
     right = λ row k seq answer command is same there. h.right row seq answer command is (ap (slice_get commands) (omega (arith, same)) ∙ there);
-  }) told
+  })

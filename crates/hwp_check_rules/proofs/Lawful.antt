@@ -103,7 +103,7 @@ module _ (script : Script) (report : Report) where
       shape = record { frames = shape_fits.frames; pages = shape_fits.pages; cpus = shape_fits.cpus };
       histories = record { legal = legal; made = of_histories.made; ordered = of_histories.ordered; seen = of_seen.right; falls_never = of_seen.falls_never };
       answers = record {
-        caused = λ cpu list rows of_script of_report. rows-by script report cpu list rows (of_answers.answered cpu list rows of_script of_report) (λ row seq is. of_stop.told cpu rows row seq of_report is);
+        caused = λ cpu list rows of_script of_report. rows-by script report cpu list rows (of_answers.answered cpu list rows of_script of_report);
         named = of_answers.named;
         windows = of_answers.windows;
         endings = of_answers.endings;

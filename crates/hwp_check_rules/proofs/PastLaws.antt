@@ -46,11 +46,11 @@ other-answer seq answer rest k other =
 
 -- one line more, from the last one on
 noted-length : (row : CpuLine) (flags : List Bool) → length (noted row flags) ≡ length flags
-noted-length (lines.Event seq bank status addr misc graded acted) flags = refl
+noted-length (lines.Event event) flags = refl
 noted-length (lines.Answer seq answer) flags = length-set flags seq (is_done (Some answer))
 
 noted-done : (row : CpuLine) (rest : List CpuLine) (flags : List Bool) → AreDone rest flags → AreDone (row ∷ rest) (noted row flags)
-noted-done (lines.Event seq bank status addr misc graded acted) rest flags are = are
+noted-done (lines.Event event) rest flags are = are
 noted-done (lines.Answer seq answer) rest flags are = λ k d less. which k d (subst (λ (n : ℕ). k < n) (length-set flags seq (is_done (Some answer))) less) (cases_eq k seq)
   where
     which : (k : ℕ) (d : Bool) → k < length flags → (k ≡ seq) ⊎ (k ≡ seq → ⊥)

@@ -82,7 +82,7 @@ pub record IsEventWrong (script : Script) (report : Report) (rows : List CpuLine
 -- what is wrong about a line of a command: an answer is judged by the lines before it, since of lines that stand wrong the first is named
 abbrev pub IsLineWrong : Script → Report → Cpu → List CpuLine → ℕ → CpuLine → Command → Type 0
 IsLineWrong script report cpu rows row (lines.Answer seq answer) command = IsAnswerWrong script report (take row rows) (record { cpu = cpu; seq = seq }) command answer
-IsLineWrong script report cpu rows row (lines.Event seq bank status addr misc graded acted) command = IsEventWrong script report rows row (record { cpu = cpu; seq = seq }) command
+IsLineWrong script report cpu rows row (lines.Event event) command = IsEventWrong script report rows row (record { cpu = cpu; seq = event.seq }) command
 
 -- a line of a processor that is not in its place, or is wrong
 pub record IsRowFault (script : Script) (report : Report) (line : ℕ) : Type 0 where

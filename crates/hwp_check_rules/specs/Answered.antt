@@ -1,11 +1,10 @@
 -- The answers of processors, line by line: each line at its place, and each answer with its cause.
-use Rattle.std.specs.Prelude.{◌≡◌, ◌⊎◌, ℕ, ◌<◌, Bool, true, false, List, Some, count_by, length, slice_get, take}
+use Rattle.std.specs.Prelude.{◌≡◌, ℕ, ◌<◌, Bool, true, false, List, Some, count_by, length, slice_get, take}
 use Rattle.hwp_law.specs.hwp_geom.declared.Cpu.{Cpu}
 use Rattle.hwp_law.specs.hwp_geom.declared.Who.{Who}
 use Rattle.hwp_law.specs.hwp_script_read.declared.Command.{Command}
 use Rattle.hwp_law.specs.hwp_script_read.declared.Script.{Script}
 use Rattle.hwp_law.specs.hwp_report_text.declared.Answer.{Answer}
-use Rattle.hwp_law.specs.hwp_report_text.declared.Answer.TheVariants as answers
 use Rattle.hwp_law.specs.hwp_report_text.declared.CpuLine.{CpuLine}
 use Rattle.hwp_law.specs.hwp_report_text.declared.CpuLine.TheVariants as lines
 use Rattle.hwp_law.specs.hwp_report_text.declared.Report.{Report}
@@ -13,11 +12,11 @@ use Rattle.hwp_law.specs.Causes.{IsCaused, IsHeeded}
 
 -- the number of the command that a line is of
 abbrev pub seq_of : CpuLine → ℕ
-seq_of (lines.Event seq bank status addr misc row acted) = seq
+seq_of (lines.Event event) = event.seq
 seq_of (lines.Answer seq answer) = seq
 
 abbrev pub is_answer : CpuLine → Bool
-is_answer (lines.Event seq bank status addr misc row acted) = false
+is_answer (lines.Event event) = false
 is_answer (lines.Answer seq answer) = true
 
 -- the line is of the command whose answer comes next: as many answers stand before it as commands before that one
@@ -31,13 +30,9 @@ pub record HasAnswer (rows : List CpuLine) (seq : ℕ) : Type 0 where
   pub answer : Answer
   pub there : slice_get rows row ≡ Some (lines.Answer seq answer)
 
--- the report shows the cause of an answer; that of `stopped` is the matter of the stop line
-abbrev pub IsShown : Script → Report → Who → Command → Answer → Type 0
-IsShown script report who command answer = (answer ≡ answers.Stopped) ⊎ IsCaused script report who command answer
-
--- what a row's answer must be
+-- what a row's answer must be: the report shows its cause, which of `stopped` is that the stop line isn't `none`
 pub record IsRight (script : Script) (report : Report) (who : Who) (command : Command) (answer : Answer) : Type 0 where
-  pub shown : IsShown script report who command answer
+  pub shown : IsCaused script report who command answer
   pub heeded : IsHeeded report who answer
 
 -- the lines of a processor: each in its place, an answer for each command, and each answer right

@@ -14,7 +14,8 @@ use Rattle.hwp_law.specs.hwp_report_text.declared.FrameLine.{FrameLine}
 use Rattle.hwp_law.specs.hwp_report_text.declared.How.{How}
 use Rattle.hwp_law.specs.hwp_report_text.declared.MarkLine.{MarkLine}
 use Rattle.hwp_law.specs.hwp_report_text.declared.Report.{Report}
-use Rattle.hwp_law.specs.Lines.{EventLine, events_of, marks_of}
+use Rattle.hwp_law.specs.hwp_report_text.declared.EventLine.{EventLine}
+use Rattle.hwp_law.specs.Lines.{events_of, marks_of}
 use Rattle.hwp_law.specs.Pairings.{entries_of, has_page, is_commands, is_failure, is_failure_mark, is_move_mark, is_required, is_soft, marks_in, urgent_from}
 use Rattle.hwp_law.specs.Places.{command_at, entry_at}
 use Rattle.hwp_law.specs.Records.{IsAnswered, IsFound, IsMarkAt, hardware_act, hardware_marks, how_in, is_by_hardware, line_results, result_lines, result_of, who_in}

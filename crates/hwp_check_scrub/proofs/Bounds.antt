@@ -2,7 +2,7 @@
 use Rattle.std.proofs.Common.{◌≡◌, ◌⊎◌, inl, inr, ℕ, zero, suc, ◌+◌, ◌-◌, ◌*◌, ◌<◌, cond, List, [], ◌∷◌, Option, None, refl, sym, ap, ◌∙◌, arith}
 use Rattle.hwp_banks.specs.declared.Event.{Event}
 use Rattle.hwp_law.specs.hwp_report_text.declared.Report.{Report}
-use Rattle.hwp_law.specs.Lines.{EventLine}
+use Rattle.hwp_law.specs.hwp_report_text.declared.EventLine.{EventLine}
 use Rattle.hwp_check_scrub.specs.Scrubs.{Course, after, after_all, bound_from, can_meet_bad, turn}
 use Rattle.hwp_check_scrub.specs.declared.reach.Reach.{Reach}
 use Rattle.hwp_check_scrub.specs.declared.reach.Turn.{Turn}
@@ -37,6 +37,7 @@ module _ (report : Report) (course : Course) where
       by turns.Beside same = inl same
       by turns.Bad same = inr same
       by turns.Weak same = inl same
+      by turns.Instead same = inl same
       by turns.Stray same = inl same
 
   pub kept-by : (lines : List EventLine) (start end : Reach) (raw : Option Event) → end ≡ after_all report course start lines → start.raw ≡ raw → (end.raw ≡ raw) ⊎ (end.raw ≡ None)

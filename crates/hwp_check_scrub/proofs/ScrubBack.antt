@@ -16,7 +16,7 @@ use Rattle.hwp_law.specs.Checks.{IsLineOf}
 use Rattle.hwp_law.specs.hwp_report_text.Acts.{is_panic}
 use Rattle.hwp_law.specs.hwp_severity.declared.Arrival.{Arrival}
 use Rattle.hwp_law.specs.Events.{AreScrubbed, MeetsMarked}
-use Rattle.hwp_law.specs.Lines.{EventLine}
+use Rattle.hwp_law.specs.hwp_report_text.declared.EventLine.{EventLine}
 use Rattle.hwp_check_event_line.specs.Found.{IsRawLine, has_stopper, resting}
 use Rattle.hwp_check_scrub.specs.Scrubs.{Course, IsScrubbedLine, after, line_at, marked_from, own_at, passed_to, place_of, turn}
 use Rattle.hwp_check_scrub.specs.declared.reach.Reach.{Reach}
@@ -178,6 +178,7 @@ module _ (script : Script) (report : Report) (who : Who) (how : Arrival) (course
   rises-once reach line turns.Beside = omega arith
   rises-once reach line turns.Bad = omega arith
   rises-once reach line turns.Weak = omega arith
+  rises-once reach line turns.Instead = omega arith
   rises-once reach line turns.Stray = omega arith
 
   rises : (lines : List EventLine) (reach : Reach) → reach.passed ≤ (end reach lines).passed
@@ -283,6 +284,7 @@ module _ (script : Script) (report : Report) (who : Who) (how : Arrival) (course
       by turns.Beside k is d = absurd (none-some (is_panic line.acted) (sym d.begun))
       by turns.Bad k is d = bad-case line [] at-end over frame raw reach s k is (record {}) d
       by turns.Weak k is d = weak-case line [] at-end over frame raw reach s k is (record {}) d
+      by turns.Instead k is d = absurd is
       by turns.Stray k is d = absurd is
 
   more-lines : (first line : EventLine) (lines : List EventLine) → Holds (line ∷ lines) → Holds lines → Holds (first ∷ line ∷ lines)
@@ -293,6 +295,7 @@ module _ (script : Script) (report : Report) (who : Who) (how : Arrival) (course
       second turns.Beside k told is good_rest d = absurd (true≢false (sym k.1))
       second turns.Bad k told is good_rest d = beside-case first line lines rest over frame raw reach s told k is good_rest d
       second turns.Weak k told is good_rest d = absurd (true≢false (sym k.0))
+      second turns.Instead k told is good_rest d = absurd is
       second turns.Stray k told is good_rest d = absurd is
 
       by : (t : Turn) → Known report course reach first t → IsScrubbedLine script report who how reach first t → AllGood script report who how course (after course reach first t) (line ∷ lines) → Done (end (after course reach first t) (line ∷ lines))
@@ -300,6 +303,7 @@ module _ (script : Script) (report : Report) (who : Who) (how : Arrival) (course
       by turns.Beside k is good_rest d = second (turn report course (opened reach first) line) (known report course (opened reach first) line) is good_rest.0 good_rest.1 d
       by turns.Bad k is good_rest d = bad-case first (line ∷ lines) holds over frame raw reach s k is good_rest d
       by turns.Weak k is good_rest d = weak-case first (line ∷ lines) holds over frame raw reach s k is good_rest d
+      by turns.Instead k is good_rest d = absurd is
       by turns.Stray k is good_rest d = absurd is
 
   all-hold : (lines : List EventLine) → Holds lines

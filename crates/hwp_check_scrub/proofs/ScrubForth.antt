@@ -18,7 +18,8 @@ use Rattle.hwp_law.specs.hwp_report_text.Acts.{is_panic}
 use Rattle.hwp_banks.specs.Banks.{Banks}
 use Rattle.hwp_law.specs.hwp_severity.declared.Arrival.{Arrival}
 use Rattle.hwp_law.specs.Events.{AreScrubbed, IsDamaged, IsScrubbed, IsWeakFound, MeetsMarked}
-use Rattle.hwp_law.specs.Lines.{EventLine, bad_lines_of}
+use Rattle.hwp_law.specs.hwp_report_text.declared.EventLine.{EventLine}
+use Rattle.hwp_law.specs.Lines.{bad_lines_of}
 use Rattle.hwp_check_event_line.specs.Found.{IsRawLine, has_stopper, resting}
 use Rattle.hwp_check_scrub.specs.Scrubs.{Course, IsScrubbedLine, after, bound_from, can_meet_bad, has_line_below, line_at, marked_from, own_at, passed_to, place_of, turn}
 use Rattle.hwp_check_event_line.specs.Lines.{has_line}

@@ -14,7 +14,7 @@ use Rattle.hwp_banks.specs.Banks.{Banks, held_from}
 use Rattle.hwp_law.specs.hwp_severity.Handling.{has_stop}
 use Rattle.hwp_law.specs.hwp_severity.declared.Arrival.{Arrival}
 use Rattle.hwp_law.specs.Events.{IsBadFound, IsDamaged, IsWeakFound}
-use Rattle.hwp_law.specs.Lines.{EventLine}
+use Rattle.hwp_law.specs.hwp_report_text.declared.EventLine.{EventLine}
 use Rattle.hwp_check_event_line.specs.Found.{has_stopper, resting, stops}
 use Rattle.hwp_check_event_line.proofs.FoundLaws.{banks_at, held_raw, one-line, two-lines}
 

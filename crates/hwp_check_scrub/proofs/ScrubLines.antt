@@ -14,7 +14,7 @@ use Rattle.hwp_law.specs.Checks.{IsLineOf}
 use Rattle.hwp_law.specs.hwp_severity.declared.Arrival.{Arrival}
 use Rattle.hwp_law.specs.Events.{IsDamaged}
 use Rattle.hwp_banks.specs.Banks.{raw_bank}
-use Rattle.hwp_law.specs.Lines.{EventLine}
+use Rattle.hwp_law.specs.hwp_report_text.declared.EventLine.{EventLine}
 use Rattle.hwp_check_scrub.specs.Scrubs.{Course, damaged_lines, line_at, may_meet, place_of, tells_own, turn}
 use Rattle.hwp_check_event_line.specs.Lines.{has_line}
 use Rattle.hwp_check_scrub.specs.declared.reach.Reach.{Reach}
@@ -140,24 +140,27 @@ module _ (report : Report) (course : Course) where
   abbrev third_case : Reach → EventLine → Bool
   third_case reach line = is_none reach.begun && may_meet report course origins.WeakLine reach line
 
+  abbrev fourth_case : Reach → EventLine → Bool
+  fourth_case reach line = may_meet report course origins.WeakLine reach line
+
   not-beside : (reach : Reach) (line : EventLine) → line.bank ≡ 2 → first_case reach line ≡ false
   not-beside reach line is = not-first (line.bank == raw_bank) (is_some reach.raw) (is_none reach.begun) (nat_lt reach.next course.bound) (ne_eqb line.bank raw_bank (λ one. omega (arith, is, one)))
 
   pub turn-beside : (reach : Reach) (line : EventLine) → line.bank ≡ 1 → is_some reach.raw ≡ true → is_none reach.begun ≡ true → reach.next < course.bound → turn report course reach line ≡ turns.Beside
   turn-beside reach line bank raw begun more =
-      cond-true (first_case reach line) turns.Beside (cond (second_case reach line) turns.Bad (cond (third_case reach line) turns.Weak turns.Stray))
+      cond-true (first_case reach line) turns.Beside (cond (second_case reach line) turns.Bad (cond (third_case reach line) turns.Weak (cond (fourth_case reach line) turns.Instead turns.Stray)))
       (all-four (line.bank == raw_bank) (is_some reach.raw) (is_none reach.begun) (nat_lt reach.next course.bound) (eq-eqb line.bank raw_bank bank) raw begun (lt-ltb _ _ more))
 
   pub turn-bad : (reach : Reach) (line : EventLine) → line.bank ≡ 2 → (is_none reach.raw || is_some reach.begun) ≡ true → may_meet report course origins.BadLine reach line ≡ true → turn report course reach line ≡ turns.Bad
   turn-bad reach line bank free may =
-      cond-false (first_case reach line) turns.Beside (cond (second_case reach line) turns.Bad (cond (third_case reach line) turns.Weak turns.Stray)) (not-beside reach line bank)
-      ∙ cond-true (second_case reach line) turns.Bad (cond (third_case reach line) turns.Weak turns.Stray) (and_from _ _ free may)
+      cond-false (first_case reach line) turns.Beside (cond (second_case reach line) turns.Bad (cond (third_case reach line) turns.Weak (cond (fourth_case reach line) turns.Instead turns.Stray))) (not-beside reach line bank)
+      ∙ cond-true (second_case reach line) turns.Bad (cond (third_case reach line) turns.Weak (cond (fourth_case reach line) turns.Instead turns.Stray)) (and_from _ _ free may)
 
   pub turn-weak : (reach : Reach) (line : EventLine) (frame at : ℕ) → Says origins.WeakLine frame at line → is_none reach.begun ≡ true → may_meet report course origins.WeakLine reach line ≡ true → turn report course reach line ≡ turns.Weak
   turn-weak reach line frame at s begun may =
-      cond-false (first_case reach line) turns.Beside (cond (second_case reach line) turns.Bad (cond (third_case reach line) turns.Weak turns.Stray)) (not-beside reach line s.bank)
-      ∙ cond-false (second_case reach line) turns.Bad (cond (third_case reach line) turns.Weak turns.Stray) (and_right (is_none reach.raw || is_some reach.begun) (may_meet report course origins.BadLine reach line) no-bad)
-      ∙ cond-true (third_case reach line) turns.Weak turns.Stray (and_from _ _ begun may)
+      cond-false (first_case reach line) turns.Beside (cond (second_case reach line) turns.Bad (cond (third_case reach line) turns.Weak (cond (fourth_case reach line) turns.Instead turns.Stray))) (not-beside reach line s.bank)
+      ∙ cond-false (second_case reach line) turns.Bad (cond (third_case reach line) turns.Weak (cond (fourth_case reach line) turns.Instead turns.Stray)) (and_right (is_none reach.raw || is_some reach.begun) (may_meet report course origins.BadLine reach line) no-bad)
+      ∙ cond-true (third_case reach line) turns.Weak (cond (fourth_case reach line) turns.Instead turns.Stray) (and_from _ _ begun may)
     where
       other : (line.status == own_status origins.BadLine) ≡ false
       other = ap (λ (n : ℕ). n == own_status origins.BadLine) s.status
@@ -172,13 +175,15 @@ module _ (report : Report) (course : Course) where
   Known reach line turns.Beside = (is_some reach.raw ≡ true) × (is_none reach.begun ≡ true) × (reach.next < course.bound)
   Known reach line turns.Bad = ((is_none reach.raw || is_some reach.begun) ≡ true) × Met origins.BadLine reach line
   Known reach line turns.Weak = (is_none reach.begun ≡ true) × Met origins.WeakLine reach line
+  Known reach line turns.Instead = Unit {0}
   Known reach line turns.Stray = Unit {0}
 
   pub known : (reach : Reach) (line : EventLine) → Known reach line (turn report course reach line)
-  known reach line = by (first_case reach line) refl (second_case reach line) refl (third_case reach line) refl
+  known reach line = by (first_case reach line) refl (second_case reach line) refl (third_case reach line) refl (fourth_case reach line)
     where
-      by : (a : Bool) → first_case reach line ≡ a → (b : Bool) → second_case reach line ≡ b → (c : Bool) → third_case reach line ≡ c → Known reach line (cond a turns.Beside (cond b turns.Bad (cond c turns.Weak turns.Stray)))
-      by true is b b_is c c_is = let parts = each-of-four (line.bank == raw_bank) (is_some reach.raw) (is_none reach.begun) (nat_lt reach.next course.bound) is in (parts.1, parts.2, ltb-true _ _ parts.3)
-      by false is true b_is c c_is = let parts = and_parts (is_none reach.raw || is_some reach.begun) (may_meet report course origins.BadLine reach line) b_is in (parts.0, met origins.BadLine reach line parts.1)
-      by false is false b_is true c_is = let parts = and_parts (is_none reach.begun) (may_meet report course origins.WeakLine reach line) c_is in (parts.0, met origins.WeakLine reach line parts.1)
-      by false is false b_is false c_is = record {}
+      by : (a : Bool) → first_case reach line ≡ a → (b : Bool) → second_case reach line ≡ b → (c : Bool) → third_case reach line ≡ c → (d : Bool) → Known reach line (cond a turns.Beside (cond b turns.Bad (cond c turns.Weak (cond d turns.Instead turns.Stray))))
+      by true is b b_is c c_is d = let parts = each-of-four (line.bank == raw_bank) (is_some reach.raw) (is_none reach.begun) (nat_lt reach.next course.bound) is in (parts.1, parts.2, ltb-true _ _ parts.3)
+      by false is true b_is c c_is d = let parts = and_parts (is_none reach.raw || is_some reach.begun) (may_meet report course origins.BadLine reach line) b_is in (parts.0, met origins.BadLine reach line parts.1)
+      by false is false b_is true c_is d = let parts = and_parts (is_none reach.begun) (may_meet report course origins.WeakLine reach line) c_is in (parts.0, met origins.WeakLine reach line parts.1)
+      by false is false b_is false c_is true = record {}
+      by false is false b_is false c_is false = record {}

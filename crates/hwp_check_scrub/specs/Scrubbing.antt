@@ -1,5 +1,5 @@
 -- A scrub by the table of the lowest lines that were marked.
-use Rattle.std.specs.Prelude.{ℕ, ◌+◌, ◌-◌, ◌*◌, ◌≤◌, Bool, cond, List, slice_index_or, take}
+use Rattle.std.specs.Prelude.{◌≡◌, ℕ, suc, ◌+◌, ◌-◌, ◌*◌, ◌≤◌, Bool, false, cond, List, slice_get, slice_index_or, take}
 use Rattle.hwp_banks.specs.hwp_geom.Limits.{line_limit}
 use Rattle.hwp_banks.specs.Addresses.{frame_at}
 use Rattle.hwp_banks.specs.declared.Origin.TheVariants as origins
@@ -9,8 +9,8 @@ use Rattle.hwp_banks.specs.hwp_geom.declared.Who.{Who}
 use Rattle.hwp_law.specs.hwp_script_read.declared.Script.{Script}
 use Rattle.hwp_law.specs.hwp_report_text.declared.Report.{Report}
 use Rattle.hwp_law.specs.hwp_severity.declared.Arrival.{Arrival}
-use Rattle.hwp_law.specs.Lines.{EventLine}
-use Rattle.hwp_check_scrub.specs.Scrubs.{Course, IsScrubbedLine, after_all, bound_from, place_of, turn}
+use Rattle.hwp_law.specs.hwp_report_text.declared.EventLine.{EventLine}
+use Rattle.hwp_check_scrub.specs.Scrubs.{Course, IsScrubbedLine, after_all, bound_from, comes_instead, place_of, turn}
 use Rattle.hwp_check_scrub.specs.declared.reach.Reach.{Reach}
 use Rattle.hwp_check_scrub.specs.declared.reach.Turn.{Turn}
 use Rattle.hwp_check_scrub.specs.declared.reach.Turn.TheVariants as turns
@@ -34,6 +34,7 @@ IsWithin range reach origin line = (reach.next ≤ place_of origin (frame_at lin
 abbrev pub IsAhead : Range → Reach → EventLine → Turn → Type 0
 IsAhead range reach line turns.Bad = IsWithin range reach origins.BadLine line
 IsAhead range reach line turns.Weak = IsWithin range reach origins.WeakLine line
+IsAhead range reach line turns.Instead = IsWithin range reach origins.WeakLine line
 IsAhead range reach line _ = Unit {0}
 
 -- as far as a scrub can have come behind so many lines
@@ -46,7 +47,8 @@ pub record IsSound (range : Range) (reach : Reach) (lines : ℕ) : Type 0 where
 abbrev pub reach_at : Report → Course → Reach → List EventLine → ℕ → Reach
 reach_at report course start lines number = after_all report course start (take number lines)
 
--- the line with this number is right
+-- the line with this number is right, and the next one doesn't come in place of a bad line's
 abbrev pub IsRightIn : Script → Report → Who → Arrival → Course → Reach → List EventLine → ℕ → EventLine → Type 0
 IsRightIn script report who how course start lines number line =
     IsScrubbedLine script report who how (reach_at report course start lines number) line (turn report course (reach_at report course start lines number) line)
+    × (comes_instead report course (reach_at report course start lines (suc number)) (slice_get lines (suc number)) ≡ false)

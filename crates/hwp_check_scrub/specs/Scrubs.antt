@@ -1,6 +1,6 @@
 -- The event lines of a scrub, one after another: at which place it comes to a line, and what it passes over. The bad line of a
 -- frame and its weak line have a place each, in the order in which the scrub comes to them.
-use Rattle.std.specs.Prelude.{ℕ, zero, suc, ◌+◌, ◌-◌, ◌*◌, ◌/◌, ◌%◌, ◌==◌, nat_le, nat_lt, min, Bool, false, ◌&&◌, ◌||◌, cond, List, Option, Some, None, fold, is_none, is_some, unwrap_or}
+use Rattle.std.specs.Prelude.{ℕ, zero, suc, ◌+◌, ◌-◌, ◌*◌, ◌/◌, ◌%◌, ◌==◌, nat_le, nat_lt, min, Bool, true, false, ◌&&◌, ◌||◌, cond, List, Option, Some, None, fold, is_none, is_some, unwrap_or}
 use Rattle.std.specs.Int.{from_bool}
 use Rattle.hwp_banks.specs.hwp_geom.Limits.{line_limit}
 use Rattle.hwp_banks.specs.hwp_geom.declared.Frame.{Frame}
@@ -18,7 +18,8 @@ use Rattle.hwp_law.specs.Checks.{IsLineOf}
 use Rattle.hwp_law.specs.hwp_report_text.Acts.{is_panic}
 use Rattle.hwp_law.specs.hwp_severity.declared.Arrival.{Arrival}
 use Rattle.hwp_banks.specs.Banks.{raw_bank}
-use Rattle.hwp_law.specs.Lines.{EventLine, bad_lines_of, weak_lines_of}
+use Rattle.hwp_law.specs.hwp_report_text.declared.EventLine.{EventLine}
+use Rattle.hwp_law.specs.Lines.{bad_lines_of, weak_lines_of}
 use Rattle.hwp_check_event_line.specs.Found.{IsRawLine, has_stopper}
 use Rattle.hwp_check_event_line.specs.Lines.{has_line}
 use Rattle.hwp_check_scrub.specs.declared.reach.Reach.{Reach}
@@ -78,12 +79,13 @@ bound_from report low bound frame zero = bound
 bound_from report low bound frame (suc more) = bound_from report low (cond (can_meet_bad report low frame) (place_of origins.BadLine frame + 1) bound) (frame + 1) more
 
 -- what a line is to a scrub: the line of bank 1 in a machine check at a bad line that the scrub may still meet, the line of a bad line
--- or of a weak line that it meets, or a line that it passes by
+-- or of a weak line that it meets, that of a weak line where the line of a bad line is due, or a line that it passes by
 abbrev pub turn : Report → Course → Reach → EventLine → Turn
 turn report course reach line =
     cond ((line.bank == raw_bank) && is_some reach.raw && is_none reach.begun && nat_lt reach.next course.bound) turns.Beside
     (cond ((is_none reach.raw || is_some reach.begun) && may_meet report course origins.BadLine reach line) turns.Bad
-    (cond (is_none reach.begun && may_meet report course origins.WeakLine reach line) turns.Weak turns.Stray))
+    (cond (is_none reach.begun && may_meet report course origins.WeakLine reach line) turns.Weak
+    (cond (may_meet report course origins.WeakLine reach line) turns.Instead turns.Stray)))
 
 -- how many of so many places from one on were marked
 abbrev pub marked_from : (ℕ → ℕ) → ℕ → ℕ → ℕ
@@ -107,6 +109,12 @@ after course reach line turns.Weak = record reach {
   next = place_of origins.WeakLine (frame_at line.addr) + 1;
   passed = passed_to course reach (place_of origins.WeakLine (frame_at line.addr));
 }
+after course reach line turns.Instead = record reach {
+  next = place_of origins.WeakLine (frame_at line.addr) + 1;
+  begun = None;
+  passed = passed_to course reach (place_of origins.WeakLine (frame_at line.addr));
+  strays = reach.strays + 1;
+}
 after course reach line turns.Stray = record reach { strays = reach.strays + 1 }
 
 abbrev pub after_all : Report → Course → Reach → List EventLine → Reach
@@ -126,7 +134,18 @@ IsScrubbedLine script report who how reach line turns.Beside = IsRawLine script 
 IsScrubbedLine script report who how reach line turns.Bad =
     IsLineOf script report who how (has_stopper how origins.BadLine reach.raw || unwrap_or reach.begun false) (bank_of origins.BadLine) (own_at origins.BadLine line.addr) line
 IsScrubbedLine script report who how reach line turns.Weak = IsLineOf script report who how false (bank_of origins.WeakLine) (own_at origins.WeakLine line.addr) line
+IsScrubbedLine script report who how reach line turns.Instead = ⊥
 IsScrubbedLine script report who how reach line turns.Stray = ⊥
+
+-- the line that comes next, if one does, is a weak line where the line of a bad line is due: the machine check isn't there of which the
+-- line of bank 1 before it would be
+abbrev pub is_instead : Turn → Bool
+is_instead turns.Instead = true
+is_instead _ = false
+
+abbrev pub comes_instead : Report → Course → Reach → Option EventLine → Bool
+comes_instead report course reach None = false
+comes_instead report course reach (Some line) = is_instead (turn report course reach line)
 
 -- how many lines the scrub lacks where it has come so far: the marked places that it passed over, and a bad line that was begun
 abbrev pub lacking : Course → Reach → ℕ

@@ -1,6 +1,5 @@
-ghost use Rattle.std.specs.Prelude.{◌≡◌, ◌≤◌, ◌<◌, ◌+◌, ◌-◌, ◌*◌, ◌^◌, ◌⊎◌, None, cond, nat_lt, map};
-ghost use Rattle.hwp_check_event_line.specs.Firsts.{IsScanned};
-ghost use Rattle.hwp_check_event_line.specs.Told.{told};
+ghost use Rattle.std.specs.Prelude.{◌≡◌, ◌≤◌, ◌<◌, ◌+◌, ◌-◌, ◌*◌, ◌^◌, ◌⊎◌, None, cond, nat_lt};
+ghost use Rattle.hwp_check_event_line.specs.Firsts.{IsScanned, shown_lines};
 ghost use Rattle.hwp_check_scrub.specs.Scrubbing.{IsRightIn, course_by, low_of};
 ghost use Rattle.hwp_check_scrub.specs.Scrubs.{after_all, bound_from, can_meet_bad, lacking, reach_from};
 
@@ -69,9 +68,9 @@ pub fn scrub_faults(
     lines: &[Shown],
 ) -> Faults
     requires { first.0 ≤ last.0 }
-    ensures scanned { IsScanned (IsRightIn script.now report.now who how (course_by report.now table.now whole first last) (reach_from first raw.old) (map told lines.now)) (map told lines.now) result.wrong }
-    ensures lacks { result.lacks ≡ nat_lt (after_all report.now (course_by report.now table.now whole first last) (reach_from first raw.old) (map told lines.now)).strays (lacking (course_by report.now table.now whole first last) (after_all report.now (course_by report.now table.now whole first last) (reach_from first raw.old) (map told lines.now))) }
-    ensures left { raw.new ≡ (after_all report.now (course_by report.now table.now whole first last) (reach_from first raw.old) (map told lines.now)).raw }
+    ensures scanned { IsScanned (IsRightIn script.now report.now who how (course_by report.now table.now whole first last) (reach_from first raw.old) (shown_lines lines.now)) (shown_lines lines.now) result.wrong }
+    ensures lacks { result.lacks ≡ nat_lt (after_all report.now (course_by report.now table.now whole first last) (reach_from first raw.old) (shown_lines lines.now)).strays (lacking (course_by report.now table.now whole first last) (after_all report.now (course_by report.now table.now whole first last) (reach_from first raw.old) (shown_lines lines.now))) }
+    ensures left { raw.new ≡ (after_all report.now (course_by report.now table.now whole first last) (reach_from first raw.old) (shown_lines lines.now)).raw }
 {
     let more = u64::from(last.0) + 1 - u64::from(first.0);
     let bound = bound_of(report, table, whole, u64::from(first.0), more);

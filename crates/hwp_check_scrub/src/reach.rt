@@ -20,6 +20,8 @@ pub enum Turn {
     Bad,
     /// The line of a weak line that the scrub meets.
     Weak,
+    /// The line of a weak line that the scrub meets where the line of a bad line is due.
+    Instead,
     /// A line that it passes by.
     Stray,
 }

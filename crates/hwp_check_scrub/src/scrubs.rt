@@ -1,18 +1,18 @@
-ghost use Rattle.std.specs.Prelude.{◌≡◌, ◌≤◌, ◌<◌, ◌+◌, ◌-◌, ◌*◌, ◌^◌, ◌↔◌, ◌||◌, IsTrue, length, map};
+ghost use Rattle.std.specs.Prelude.{◌≡◌, ◌≤◌, ◌<◌, ◌+◌, ◌-◌, ◌*◌, ◌^◌, ◌↔◌, ◌||◌, IsTrue, false, length, option_map, slice_get};
 ghost use Rattle.hwp_banks.specs.Addresses.{frame_at};
 ghost use Rattle.hwp_banks.specs.Events.{own_status};
-ghost use Rattle.hwp_check_event_line.specs.Firsts.{IsScanned, first_of};
+ghost use Rattle.hwp_check_event_line.specs.Firsts.{IsScanned, first_of, shown_lines};
 ghost use Rattle.hwp_check_event_line.specs.Found.{has_stopper};
-ghost use Rattle.hwp_check_event_line.specs.Told.{told};
+ghost use Rattle.hwp_check_event_line.specs.declared.Shown.{Shown};
 ghost use Rattle.hwp_check_scrub.specs.Scrubbing.{IsAhead, IsRightIn, IsSound, IsWithin, course_of, low_of};
-ghost use Rattle.hwp_check_scrub.specs.Scrubs.{IsScrubbedLine, after, after_all, lacking, marked_from, may_meet, own_at, passed_to, place_of, tells_own, turn};
+ghost use Rattle.hwp_check_scrub.specs.Scrubs.{IsScrubbedLine, after, after_all, comes_instead, is_instead, lacking, marked_from, may_meet, own_at, passed_to, place_of, tells_own, turn};
 ghost use Rattle.hwp_banks.specs.declared.Origin.TheVariants as origins;
 
 use crate::lines::{damaged_lines, line_at};
 use crate::reach::{Range, Reach, Turn};
 use hwp_banks::{Event, Origin, Status};
 use hwp_check_event_line::{Shown, Traced, has_line, has_stopper, is_line_of, is_raw_line};
-use hwp_law::{Arrival, Frame, Line, Script, Who};
+use hwp_law::{Arrival, EventLine, Frame, Line, Script, Who};
 
 /// The greatest line number, and one more.
 pub(crate) const LINES: u8 = 64;
@@ -63,8 +63,8 @@ fn own_at(origin: Origin, addr: u64) -> Event
 }
 
 /// Whether the line tells the scrubber's own event of this kind, at some line of some frame.
-fn tells_own(origin: Origin, line: &Shown) -> bool
-    ensures { result ≡ tells_own origin (told line.now) }
+fn tells_own(origin: Origin, line: &EventLine) -> bool
+    ensures { result ≡ tells_own origin line.now }
 {
     usize::from(line.bank) == origin.bank()
         && line.status == own_status(origin)
@@ -79,10 +79,10 @@ fn may_meet(
     range: Range,
     origin: Origin,
     reach: Reach,
-    line: &Shown,
+    line: &EventLine,
 ) -> bool
-    ensures may { result ≡ may_meet report.now (course_of table.now range) origin reach (told line.now) }
-    ensures ahead { IsTrue result → IsWithin range reach origin (told line.now) }
+    ensures may { result ≡ may_meet report.now (course_of table.now range) origin reach line.now }
+    ensures ahead { IsTrue result → IsWithin range reach origin line.now }
 {
     let frame = line.addr / 4096;
     let place = place_of(origin, frame);
@@ -95,9 +95,9 @@ fn may_meet(
 }
 
 /// What a line is to the scrub.
-fn turn(report: &Traced<'_>, table: &[u8], range: Range, reach: Reach, line: &Shown) -> Turn
-    ensures turn { result ≡ turn report.now (course_of table.now range) reach (told line.now) }
-    ensures ahead { IsAhead range reach (told line.now) result }
+fn turn(report: &Traced<'_>, table: &[u8], range: Range, reach: Reach, line: &EventLine) -> Turn
+    ensures turn { result ≡ turn report.now (course_of table.now range) reach line.now }
+    ensures ahead { IsAhead range reach line.now result }
 {
     let held = reach.raw.is_some();
     let open = reach.begun.is_some();
@@ -110,7 +110,34 @@ fn turn(report: &Traced<'_>, table: &[u8], range: Range, reach: Reach, line: &Sh
     if !open && may_meet(report, table, range, Origin::WeakLine, reach, line) {
         return Turn::Weak;
     }
+    if may_meet(report, table, range, Origin::WeakLine, reach, line) {
+        return Turn::Instead;
+    }
     Turn::Stray
+}
+
+/// Whether it is a weak line where the line of a bad line is due.
+fn is_instead(turn: Turn) -> bool
+    ensures { result ≡ is_instead turn }
+{
+    matches!(turn, Turn::Instead)
+}
+
+/// Whether the line with the number, if there is one, is a weak line where the line of a bad line is due.
+fn comes_instead(
+    report: &Traced<'_>,
+    table: &[u8],
+    range: Range,
+    reach: Reach,
+    lines: &[Shown],
+    number: usize,
+) -> bool
+    ensures { result ≡ comes_instead report.now (course_of table.now range) reach (option_map (λ (s : Shown). s.line) (slice_get lines.now number)) }
+{
+    match lines.get(number) {
+        Some(shown) => is_instead(turn(report, table, range, reach, &shown.line)),
+        None => false,
+    }
 }
 
 /// How many of so many places from one on were marked.
@@ -138,8 +165,8 @@ fn passed_to(table: &[u8], range: Range, reach: Reach, place: u64) -> u64
 }
 
 /// How far the scrub has come when it met a line of this kind.
-fn met(table: &[u8], range: Range, reach: Reach, origin: Origin, line: &Shown) -> Reach
-    requires ahead { IsWithin range reach origin (told line.now) }
+fn met(table: &[u8], range: Range, reach: Reach, origin: Origin, line: &EventLine) -> Reach
+    requires ahead { IsWithin range reach origin line.now }
     requires few { reach.passed ≤ reach.next }
     ensures next { result.next ≡ place_of origin (frame_at line.now.addr) + 1 }
     ensures passed { result.passed ≡ passed_to (course_of table.now range) reach (place_of origin (frame_at line.now.addr)) }
@@ -156,11 +183,18 @@ fn met(table: &[u8], range: Range, reach: Reach, origin: Origin, line: &Shown) -
 }
 
 /// How far the scrub has come behind a line.
-fn after(table: &[u8], range: Range, reach: Reach, line: &Shown, turn: Turn, behind: usize) -> Reach
-    requires ahead { IsAhead range reach (told line.now) turn }
+fn after(
+    table: &[u8],
+    range: Range,
+    reach: Reach,
+    line: &EventLine,
+    turn: Turn,
+    behind: usize,
+) -> Reach
+    requires ahead { IsAhead range reach line.now turn }
     requires sound { IsSound range reach behind }
     requires room { behind < 2 ^ 63 }
-    ensures after { result ≡ after (course_of table.now range) reach (told line.now) turn }
+    ensures after { result ≡ after (course_of table.now range) reach line.now turn }
     ensures sound { IsSound range result (behind + 1) }
 {
     let _count = behind;
@@ -175,6 +209,11 @@ fn after(table: &[u8], range: Range, reach: Reach, line: &Shown, turn: Turn, beh
             ..met(table, range, reach, Origin::BadLine, line)
         },
         Turn::Weak => met(table, range, reach, Origin::WeakLine, line),
+        Turn::Instead => Reach {
+            begun: None,
+            strays: reach.strays + 1,
+            ..met(table, range, reach, Origin::WeakLine, line)
+        },
         Turn::Stray => Reach {
             strays: reach.strays + 1,
             ..reach
@@ -196,10 +235,10 @@ fn is_scrubbed_line(
     who: Who,
     how: Arrival,
     reach: Reach,
-    line: &Shown,
+    line: &EventLine,
     turn: Turn,
 ) -> bool
-    ensures { IsTrue result ↔ IsScrubbedLine script.now report.now who how reach (told line.now) turn }
+    ensures { IsTrue result ↔ IsScrubbedLine script.now report.now who how reach line.now turn }
 {
     let held = is_held(how, reach.raw);
     match turn {
@@ -222,7 +261,7 @@ fn is_scrubbed_line(
             let own = own_at(Origin::WeakLine, line.addr);
             is_line_of(script, report, who, how, false, 2, own, line)
         }
-        Turn::Stray => false,
+        Turn::Instead | Turn::Stray => false,
     }
 }
 
@@ -231,6 +270,13 @@ fn either(a: bool, b: bool) -> bool
     ensures { result ≡ (a || b) }
 {
     a || b
+}
+
+/// Whether the first is so, and the second not.
+fn only(a: bool, b: bool) -> bool
+    ensures { IsTrue result ↔ (IsTrue a × (b ≡ false)) }
+{
+    a && !b
 }
 
 /// The first line that is wrong, by the one found so far.
@@ -262,18 +308,20 @@ pub(crate) fn scan(
     lines: &[Shown],
 ) -> Scanned
     requires { IsSound range start 0 }
-    ensures scanned { IsScanned (IsRightIn script.now report.now who how (course_of table.now range) start (map told lines.now)) (map told lines.now) result.wrong }
-    ensures end { result.end ≡ after_all report.now (course_of table.now range) start (map told lines.now) }
+    ensures scanned { IsScanned (IsRightIn script.now report.now who how (course_of table.now range) start (shown_lines lines.now)) (shown_lines lines.now) result.wrong }
+    ensures end { result.end ≡ after_all report.now (course_of table.now range) start (shown_lines lines.now) }
     ensures sound { IsSound range result.end (length lines.now) }
 {
     let mut reach = start;
     let mut wrong = None;
     for number in 0..lines.len() {
-        let line = &lines[number];
+        let line = &lines[number].line;
         let turn = turn(report, table, range, reach, line);
         let right = is_scrubbed_line(script, report, who, how, reach, line, turn);
-        wrong = first_of(wrong, right, number);
         reach = after(table, range, reach, line, turn, number);
+        let instead = comes_instead(report, table, range, reach, lines, number + 1);
+        let good = only(right, instead);
+        wrong = first_of(wrong, good, number);
     }
     Scanned { wrong, end: reach }
 }

@@ -61,15 +61,15 @@ got (y ∷ xs) (suc i) d x within is = got xs i d x (omega arith) is
 module _ (file : FileNo) where
   -- what a further line tells, where so many commands have their answers before it
   told-behind : (commands : List Command) (rows : List CpuLine) (row : CpuLine) → sum_by (told file) (zip commands (filter_map answer_in (rows ++ row ∷ []))) ≡ sum_by (told file) (zip commands (filter_map answer_in rows)) + told_at file commands (count_by is_answer rows) row
-  told-behind [] [] (lines.Event seq bank status addr misc row acted) = refl
+  told-behind [] [] (lines.Event event) = refl
   told-behind [] [] (lines.Answer seq answer) = refl
-  told-behind (c ∷ cs) [] (lines.Event seq bank status addr misc row acted) = refl
+  told-behind (c ∷ cs) [] (lines.Event event) = refl
   told-behind (c ∷ cs) [] (lines.Answer seq answer) = ap (λ (l : List (Command × AnswerLine)). sum_by (told file) ((c, record { seq = seq; answer = answer }) ∷ l)) (zip-nil cs)
-  told-behind commands (lines.Event s b st a m g acted ∷ rows) row =
-      let all : count_by is_answer (lines.Event s b st a m g acted ∷ rows) ≡ 0 + count_by is_answer rows = sum_by-cons (λ (l : CpuLine). cond (is_answer l) 1 0) (lines.Event s b st a m g acted) rows in
-      let same : count_by is_answer rows ≡ count_by is_answer (lines.Event s b st a m g acted ∷ rows) = omega (arith, all) in
+  told-behind commands (lines.Event event ∷ rows) row =
+      let all : count_by is_answer (lines.Event event ∷ rows) ≡ 0 + count_by is_answer rows = sum_by-cons (λ (l : CpuLine). cond (is_answer l) 1 0) (lines.Event event) rows in
+      let same : count_by is_answer rows ≡ count_by is_answer (lines.Event event ∷ rows) = omega (arith, all) in
       told-behind commands rows row ∙ ap (λ (n : ℕ). sum_by (told file) (zip commands (filter_map answer_in rows)) + told_at file commands n row) same
-  told-behind [] (lines.Answer s a ∷ rows) (lines.Event seq bank status addr misc row acted) = refl
+  told-behind [] (lines.Answer s a ∷ rows) (lines.Event event) = refl
   told-behind [] (lines.Answer s a ∷ rows) (lines.Answer seq answer) = refl
   told-behind (c ∷ cs) (lines.Answer s a ∷ rows) row =
       let now : Command × AnswerLine = (c, record { seq = s; answer = a }) in
@@ -82,7 +82,7 @@ module _ (file : FileNo) where
       omega (arith, more, less, rest, at)
     where
       past : (n : ℕ) (r : CpuLine) → told_at file (c ∷ cs) (suc n) r ≡ told_at file cs n r
-      past n (lines.Event seq bank status addr misc row acted) = refl
+      past n (lines.Event event) = refl
       past n (lines.Answer seq answer) = refl
 
   -- one line more

@@ -8,9 +8,10 @@ use Rattle.hwp_check_rules.specs.hwp_report_text.declared.Answer.{Answer}
 use Rattle.hwp_check_rules.specs.hwp_report_text.declared.Answer.TheVariants as answers
 use Rattle.hwp_check_rules.specs.hwp_report_text.declared.CpuLine.{CpuLine}
 use Rattle.hwp_check_rules.specs.hwp_report_text.declared.CpuLine.TheVariants as lines
+use Rattle.hwp_check_rules.specs.hwp_report_text.declared.EventLine.{EventLine}
 use Rattle.hwp_check_rules.specs.hwp_report_text.Acts.{is_stopping}
 use Rattle.hwp_check_rules.specs.hwp_law.Halts.{IsStoppedBy, is_panic_of}
-use Rattle.hwp_check_rules.specs.hwp_law.Lines.{EventLine, events_among}
+use Rattle.hwp_check_rules.specs.hwp_law.Lines.{events_among}
 use Rattle.hwp_check_rules.specs.hwp_law.Stops.{StaysStopped}
 use Rattle.hwp_check_state.specs.Stopping.{goes_on, has_stopped, is_lower, is_stopped, is_stopper, rows_panic, rows_stopped_by, stays, stopped_by}
 
@@ -23,11 +24,11 @@ stop-only n answers.Stopped h = refl
 stop-only n _ h = absurd (true≢false h)
 
 other-goes : (r : CpuLine) → goes_on r ≡ true → (n : ℕ) × (a : Answer) × (r ≡ lines.Answer n a) × (a ≢ answers.Stopped)
-other-goes (lines.Event s bank status addr misc graded acted) h = absurd (true≢false (sym h))
+other-goes (lines.Event event) h = absurd (true≢false (sym h))
 other-goes (lines.Answer n a) h = (n, a, refl, λ e. absurd (true≢false (sym h ∙ ap (λ (x : Answer). goes_on (lines.Answer n x)) e)))
 
 stopped-is : (r : CpuLine) → is_stopped r ≡ true → (n : ℕ) × (r ≡ lines.Answer n answers.Stopped)
-stopped-is (lines.Event s bank status addr misc graded acted) h = absurd (true≢false (sym h))
+stopped-is (lines.Event event) h = absurd (true≢false (sym h))
 stopped-is (lines.Answer n answers.Stopped) h = (n, refl)
 stopped-is (lines.Answer n _) h = absurd (true≢false (sym h))
 
@@ -105,19 +106,19 @@ is-has (r ∷ rs) (suc row) seq is = or-right (is_stopped r) (has_stopped rs) (i
 pub rows-events : (seq row bank status : ℕ) (rows : List CpuLine) → rows_stopped_by seq row bank status rows ≡ stopped_by row bank status (events_among rows seq)
 rows-events seq row bank status [] = refl
 rows-events seq row bank status (lines.Answer s answer ∷ rs) = rows-events seq row bank status rs
-rows-events seq row bank status (lines.Event s b st addr misc graded acted ∷ rs) = by (seq == s) (rows-events seq row bank status rs)
+rows-events seq row bank status (lines.Event event ∷ rs) = by (seq == event.seq) (rows-events seq row bank status rs)
   where
-    by : (own : Bool) → rows_stopped_by seq row bank status rs ≡ stopped_by row bank status (events_among rs seq) → ((own && is_stopper row bank status (record { seq = s; bank = b; status = st; addr = addr; misc = misc; row = graded; acted = acted })) || cond (own && is_lower bank (record { seq = s; bank = b; status = st; addr = addr; misc = misc; row = graded; acted = acted })) false (rows_stopped_by seq row bank status rs)) ≡ stopped_by row bank status (cond own (record { seq = s; bank = b; status = st; addr = addr; misc = misc; row = graded; acted = acted } ∷ events_among rs seq) (events_among rs seq))
-    by true rest = ap (λ (x : Bool). is_stopper row bank status (record { seq = s; bank = b; status = st; addr = addr; misc = misc; row = graded; acted = acted }) || cond (is_lower bank (record { seq = s; bank = b; status = st; addr = addr; misc = misc; row = graded; acted = acted })) false x) rest
+    by : (own : Bool) → rows_stopped_by seq row bank status rs ≡ stopped_by row bank status (events_among rs seq) → ((own && is_stopper row bank status event) || cond (own && is_lower bank event) false (rows_stopped_by seq row bank status rs)) ≡ stopped_by row bank status (cond own (event ∷ events_among rs seq) (events_among rs seq))
+    by true rest = ap (λ (x : Bool). is_stopper row bank status event || cond (is_lower bank event) false x) rest
     by false rest = rest
 
 pub rows_panics : (seq : ℕ) (frame : Frame) (rows : List CpuLine) → rows_panic seq frame rows ≡ list_any (is_panic_of frame) (events_among rows seq)
 rows_panics seq frame [] = refl
 rows_panics seq frame (lines.Answer s answer ∷ rs) = rows_panics seq frame rs
-rows_panics seq frame (lines.Event s b st addr misc graded acted ∷ rs) = by (seq == s) (rows_panics seq frame rs)
+rows_panics seq frame (lines.Event event ∷ rs) = by (seq == event.seq) (rows_panics seq frame rs)
   where
-    by : (own : Bool) → rows_panic seq frame rs ≡ list_any (is_panic_of frame) (events_among rs seq) → ((own && is_panic_of frame (record { seq = s; bank = b; status = st; addr = addr; misc = misc; row = graded; acted = acted })) || rows_panic seq frame rs) ≡ list_any (is_panic_of frame) (cond own (record { seq = s; bank = b; status = st; addr = addr; misc = misc; row = graded; acted = acted } ∷ events_among rs seq) (events_among rs seq))
-    by true rest = ap (λ (x : Bool). is_panic_of frame (record { seq = s; bank = b; status = st; addr = addr; misc = misc; row = graded; acted = acted }) || x) rest
+    by : (own : Bool) → rows_panic seq frame rs ≡ list_any (is_panic_of frame) (events_among rs seq) → ((own && is_panic_of frame event) || rows_panic seq frame rs) ≡ list_any (is_panic_of frame) (cond own (event ∷ events_among rs seq) (events_among rs seq))
+    by true rest = ap (λ (x : Bool). is_panic_of frame event || x) rest
     by false rest = rest
 
 module _ (row bank status : ℕ) where

@@ -19,7 +19,7 @@ told_of file answer (Some command) = told_by file command answer
 
 -- what a line tells: an answer is that of the command with this number
 abbrev pub told_at : FileNo → List Command → ℕ → CpuLine → ℕ
-told_at file commands n (lines.Event seq bank status addr misc row acted) = 0
+told_at file commands n (lines.Event event) = 0
 told_at file commands n (lines.Answer seq answer) = told_of file answer (slice_get commands n)
 
 -- the commands of some lists with the answers of as many processors

@@ -3,12 +3,12 @@ use Rattle.std.specs.Prelude.{ℕ, ◌==◌, ◌&&◌, ◌||◌, nat_lt, Bool, t
 use Rattle.hwp_check_rules.specs.hwp_report_text.declared.Answer.TheVariants as answers
 use Rattle.hwp_check_rules.specs.hwp_report_text.declared.CpuLine.{CpuLine}
 use Rattle.hwp_check_rules.specs.hwp_report_text.declared.CpuLine.TheVariants as lines
+use Rattle.hwp_check_rules.specs.hwp_report_text.declared.EventLine.{EventLine}
 use Rattle.hwp_check_rules.specs.hwp_report_text.Acts.{is_stopping}
 use Rattle.hwp_check_rules.specs.hwp_geom.declared.Frame.{Frame}
 use Rattle.hwp_check_rules.specs.hwp_script_read.declared.Script.{Script}
 use Rattle.hwp_check_rules.specs.hwp_report_text.declared.Report.{Report}
 use Rattle.hwp_check_rules.specs.hwp_law.Halts.{IsStopOf, is_panic_of}
-use Rattle.hwp_check_rules.specs.hwp_law.Lines.{EventLine}
 
 -- the line is an answer `stopped`; it is another answer
 abbrev pub is_stopped : CpuLine → Bool
@@ -44,7 +44,7 @@ stopped_by row bank status (l ∷ ls) = is_stopper row bank status l || cond (is
 
 -- the same of the lines of a processor, of the command with this number
 abbrev pub is_of_event : ℕ → (EventLine → Bool) → CpuLine → Bool
-is_of_event seq test (lines.Event s bank status addr misc row acted) = (seq == s) && test (record { seq = s; bank = bank; status = status; addr = addr; misc = misc; row = row; acted = acted })
+is_of_event seq test (lines.Event event) = (seq == event.seq) && test event
 is_of_event seq test (lines.Answer s answer) = false
 
 abbrev pub rows_stopped_by : ℕ → ℕ → ℕ → ℕ → List CpuLine → Bool

@@ -37,7 +37,7 @@ fn told_at(file: FileNo, commands: &[Command], number: usize, row: &CpuLine) -> 
             Some(command) => told_by(file, command, answer),
             None => 0,
         },
-        CpuLine::Event { .. } => 0,
+        CpuLine::Event(_) => 0,
     }
 }
 

@@ -16,7 +16,7 @@ fn is_stopped(row: &CpuLine) -> bool
 {
     match row {
         CpuLine::Answer { answer, .. } => matches!(answer, Answer::Stopped),
-        CpuLine::Event { .. } => false,
+        CpuLine::Event(_) => false,
     }
 }
 
@@ -26,7 +26,7 @@ fn goes_on(row: &CpuLine) -> bool
 {
     match row {
         CpuLine::Answer { answer, .. } => !matches!(answer, Answer::Stopped),
-        CpuLine::Event { .. } => false,
+        CpuLine::Event(_) => false,
     }
 }
 
@@ -69,19 +69,12 @@ fn is_stopper(line: &CpuLine, number: u32, by: Graded) -> bool
     ensures { result ≡ is_of_event number (is_stopper by.row by.bank by.status) line.now }
 {
     match line {
-        CpuLine::Event {
-            seq,
-            bank,
-            status,
-            row,
-            acted,
-            ..
-        } => {
-            number == *seq
-                && acted.is_stopping()
-                && *bank == by.bank
-                && *status == by.status
-                && *row == by.row
+        CpuLine::Event(event) => {
+            number == event.seq
+                && event.acted.is_stopping()
+                && event.bank == by.bank
+                && event.status == by.status
+                && event.row == by.row
         }
         CpuLine::Answer { .. } => false,
     }
@@ -92,12 +85,9 @@ fn is_lower(line: &CpuLine, number: u32, by: Graded) -> bool
     ensures { result ≡ is_of_event number (is_lower by.bank) line.now }
 {
     match line {
-        CpuLine::Event {
-            seq,
-            bank,
-            acted,
-            ..
-        } => { number == *seq && acted.is_stopping() && *bank < by.bank }
+        CpuLine::Event(event) => {
+            number == event.seq && event.acted.is_stopping() && event.bank < by.bank
+        }
         CpuLine::Answer { .. } => false,
     }
 }
@@ -122,12 +112,9 @@ fn is_panic_of(line: &CpuLine, number: u32, frame: Frame) -> bool
     ensures { result ≡ is_of_event number (is_panic_of frame) line.now }
 {
     match line {
-        CpuLine::Event {
-            seq,
-            addr,
-            acted,
-            ..
-        } => { number == *seq && acted.is_panic() && *addr / 4096 == u64::from(frame.0) }
+        CpuLine::Event(event) => {
+            number == event.seq && event.acted.is_panic() && event.addr / 4096 == u64::from(frame.0)
+        }
         CpuLine::Answer { .. } => false,
     }
 }

@@ -78,7 +78,7 @@ module _ {layout : Layout} {old new : View} {step : Step} {found : ℕ} {got : O
         unhandled = ap (λ (n : ℕ). n == 1) bare.unhandled
 
     was-free : WasFree new g.who g.frame found
-    was-free = record { saw = saw-adopt own; bare = bare; uncounted = uncounted }
+    was-free = record { saw = saw-adopt own (omega (arith, ap (λ (h : Hand). length h.locks) held)); bare = bare; uncounted = uncounted }
 
   -- what a step leaves of what is held
   pub held-after : (h : Hand) → hand_of old ≡ h → hand_of new ≡ hand_next g found h

@@ -17,7 +17,7 @@ use Rattle.hwp_core.specs.hwp_core_task.declared.Turn.TheVariants.{Moved, Change
 use Rattle.hwp_core.specs.hwp_core_task.Calls.{IsOnTurn}
 use Rattle.hwp_core.specs.hwp_core_task.Hands.{Hand, hand_of, empty}
 use Rattle.hwp_core.specs.hwp_core_task.Ranks.{stale}
-use Rattle.hwp_core.specs.hwp_core_task.Known.{Saw}
+use Rattle.hwp_core.specs.hwp_core_task.Known.{SawAdopted}
 use Rattle.hwp_core.specs.hwp_core_task.Turns.{Member}
 use Rattle.hwp_core.specs.Releases.{adopted_lock}
 use Rattle.hwp_claim_frame.specs.declared.grab.Grab.{Grab}
@@ -98,9 +98,10 @@ held_at frame at.Adopt = handed frame
 held_at frame at.LookAgain = empty
 held_at frame (at.Grabbed word) = grabbed frame (is_poisoned word)
 
--- the word of a frame that was grabbed is one that the command saw; it had no reference, no owner and no lock, and wasn't handled
+-- the word of a frame that was grabbed is the one that the command met as it adopted the frame; it had no reference, no owner and no
+-- lock, and wasn't handled
 pub record WasFree (view : View) (who : Who) (frame : Frame) (word : ℕ) : Type 0 where
-  pub saw : Saw view who (places.Frame frame) word
+  pub saw : SawAdopted view who frame word
   pub bare : IsBare word
   pub uncounted : count_of word ≡ 0
 

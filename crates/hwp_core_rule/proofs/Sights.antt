@@ -142,7 +142,7 @@ module _ (layout : Layout) (w : Words) (homes : Homes) (views : List View) (seat
           };
     }
 
-    kept-sight : IsPast v.parts s.stamp.who → IsExplained layout w homes views s → FrameRule layout w homes (set views seat u)
+    pub kept-sight : IsPast v.parts s.stamp.who → IsExplained layout w homes views s → FrameRule layout w homes (set views seat u)
     kept-sight past x = record {
       frames = PartKeeps.same-frames views seat v u me refl h.frames;
       pages = PartKeeps.same-pages views seat v u me refl h.pages;

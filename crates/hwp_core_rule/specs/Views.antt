@@ -222,8 +222,17 @@ abbrev pub lost_by : Layout → Who → FileNo → Log → View → View
 lost_by layout who file log v =
     record (listed layout who log v) { owed = record (listed layout who log v).owed { losses = without (λ (n : FileNo). n.0 == file.0) (listed layout who log v).owed.losses } }
 
+-- a frame in hand gets its first reference and is locked
+abbrev pub adopting : Frame → ℕ → View → View
+adopting frame found v = record v {
+  hands = without (is_hand_of frame) v.hands;
+  refs = with_refs frame 1 v.refs;
+  locks = v.locks ++ lock_found frame found ∷ [];
+}
+
 -- what its own kind of step makes of a seat's view, when the step is noted: `found` is the word that it met, and
--- `content` what was in the slot that it took, or what it put there
+-- `content` what was in the slot that it took, or what it put there; an adoption shows its word under the lock that it takes, which
+-- no other step does of an unlocked word
 abbrev pub view_by : Layout → Who → Step → ℕ → Option Log → View → View
 view_by layout who (steps.Load place) found content v = loaded who place found v
 view_by layout who (steps.Reserve seen) found content v =
@@ -234,11 +243,7 @@ view_by layout who (steps.TakeBit frame) found content v =
     (sighted who (place_of (steps.TakeBit frame)) found v)
 view_by layout who (steps.GiveBit frame) found content v = record v { reserved = v.reserved + 1; hands = without (is_hand_of frame) v.hands }
 view_by layout who steps.Unreserve found content v = record v { reserved = v.reserved - 1 }
-view_by layout who (steps.Adopt frame) found content v = record (sighted who (places.Frame frame) found v) {
-  hands = without (is_hand_of frame) v.hands;
-  refs = with_refs frame 1 v.refs;
-  locks = v.locks ++ lock_found frame found ∷ [];
-}
+view_by layout who (steps.Adopt frame) found content v = sighted who (places.Frame frame) found (adopting frame found v)
 view_by layout who (steps.GetRef frame seen count) found content v =
     cond (found == seen) (record v { refs = with_refs frame count v.refs }) (sighted who (places.Frame frame) found v)
 view_by layout who (steps.PutRef frame count) found content v = record v {

@@ -64,8 +64,8 @@ pub struct Debts {
     pub losses: List<FileNo>,
 }
 
-/// When something was seen or done: by which command, and under which locks; and the owner of the first frame locked, by the
-/// page's number plus 1.
+/// When something was seen or done: by which command, and under which locks, an adoption under the one that it takes; and
+/// the owner of the first frame locked, by the page's number plus 1.
 #[derive(Clone, Copy)]
 pub struct Stamp {
     pub who: Who,

@@ -1,5 +1,5 @@
 -- What a command has seen it has seen after each step too; what a step shows; and bad lines that were seen stay bad.
-use Rattle.std.proofs.Common.{◌≡◌, ℕ, ◌+◌, ◌<◌, ◌≤◌, ◌==◌, min, not, Bool, true, false, cond, [], ◌∷◌, ◌++◌, Option, Some, None, bit_and, length, option_map, slice_get, refl, sym, ap, ◌∙◌, subst, arith}
+use Rattle.std.proofs.Common.{◌≡◌, ◌⊎◌, ℕ, ◌+◌, ◌<◌, ◌≤◌, ◌==◌, min, not, Bool, true, false, cond, List, [], ◌∷◌, ◌++◌, Option, Some, None, bit_and, length, option_map, slice_get, inl, inr, refl, sym, ap, ◌∙◌, subst, arith}
 use Rattle.std.specs.Int.{bit_at}
 use Rattle.std.proofs.lemmas.Nat.Bits.{bit_at_and, same_from_bits}
 use Rattle.hwp_core_rule.specs.hwp_geom.declared.FileNo.{FileNo}
@@ -28,13 +28,13 @@ use Rattle.hwp_core_rule.specs.Logs.{log_of}
 use Rattle.hwp_core_rule.specs.Rule.{Holds}
 use Rattle.hwp_core_rule.specs.SlotMoves.{IsIn, frame_slot, shelf_slot, is_out, moved_out}
 use Rattle.hwp_core_rule.specs.Steps.{goes}
-use Rattle.hwp_core_rule.specs.Views.{body_of, listed_of, lock_found, lock_of_page, loaded, noted, put_home, sighted, stamp_of, taken, view_by}
+use Rattle.hwp_core_rule.specs.Views.{adopting, body_of, listed_of, lock_found, lock_of_page, loaded, noted, put_home, sighted, stamp_of, taken, view_by}
 use Rattle.hwp_core_rule.specs.Words.{words_of}
 use Rattle.hwp_core_rule.proofs.Lists.{at_map, some-push, some-last}
 use Rattle.hwp_core_rule.proofs.MetWords.{free-word, on-shelf}
 use Rattle.hwp_core_task.specs.Calls.{Steps}
 use Rattle.hwp_core_task.proofs.StepLeaves.{brought, content_of, was-home}
-use Rattle.hwp_core_task.specs.Known.{IsLook, IsMet, IsShown, Saw, SawBadOf, SawLog, SawStop}
+use Rattle.hwp_core_task.specs.Known.{IsAdoption, IsLook, IsMet, IsShown, Saw, SawAdopted, SawBadOf, SawLog, SawStop}
 use Rattle.hwp_core_task.specs.Pages.{SawState}
 
 -- every sight and every history that was seen stays
@@ -128,6 +128,9 @@ module _ {layout : Layout} {who : Who} {step : Step} {put : Option Log} {old new
   pub saw-stays : {by : Who} {place : SharedWord} {word : ℕ} → Saw old by place word → Saw new by place word
   saw-stays {by} {place} {word} saw = grows.sights (IsShown by place word) saw
 
+  pub saw-adopted-stays : {by : Who} {frame : Frame} {word : ℕ} → SawAdopted old by frame word → SawAdopted new by frame word
+  saw-adopted-stays {by} {frame} {word} saw = grows.sights (IsAdoption by frame word) saw
+
   pub saw-bad-of-stays : {by : Who} (page : Page) {frame : Frame} {mask : ℕ} → SawBadOf old by page frame mask → SawBadOf new by page frame mask
   saw-bad-of-stays {by} page {frame} {mask} saw = grows.sights (IsLook by page frame mask) saw
 
@@ -167,9 +170,16 @@ module _ {layout : Layout} {who : Who} {put : Option Log} {old new : View} {foun
   pub saw-get-ref : {frame : Frame} {seen count : ℕ} → Steps layout who (steps.GetRef frame seen count) put old new found got → (found == seen) ≡ false → Saw new who (places.Frame frame) found
   saw-get-ref {frame} {seen} {count} made other = last-shown who (places.Frame frame) found (noted who old) new (ap (λ (v : View). v.sights) made.told.next ∙ chose (found == seen) false _ _ other)
 
-  -- so do an adoption and the report of a file's losses
-  pub saw-adopt : {frame : Frame} → Steps layout who (steps.Adopt frame) put old new found got → Saw new who (places.Frame frame) found
-  saw-adopt {frame} made = last-shown who (places.Frame frame) found (noted who old) new (ap (λ (v : View). v.sights) made.told.next)
+  -- so do an adoption, under the lock that it takes, and the report of a file's losses
+  pub saw-adopt : {frame : Frame} → Steps layout who (steps.Adopt frame) put old new found got → length old.locks < 2 → SawAdopted new who frame found
+  saw-adopt {frame} made few = subst (SomeMember (IsAdoption who frame found)) (sym (ap (λ (v : View). v.sights) made.told.next))
+      (some-last (IsAdoption who frame found) old.sights (record { stamp = stamp_of who (adopting frame found (noted who old)); place = places.Frame frame; word = found }) ((refl, refl, refl), named old.locks few))
+    where
+      named : (locks : List FrameLock) → length locks < 2
+          → (option_map (λ (l : FrameLock). l.frame) (slice_get (locks ++ lock_found frame found ∷ []) 0) ≡ Some frame) ⊎ (option_map (λ (l : FrameLock). l.frame) (slice_get (locks ++ lock_found frame found ∷ []) 1) ≡ Some frame)
+      named [] room = inl refl
+      named (l ∷ []) room = inr refl
+      named (l ∷ k ∷ ls) room = absurd (omega (arith, room))
 
   pub saw-report : {file : FileNo} → Steps layout who (steps.ReportLost file) put old new found got → Saw new who (places.Loss file) found
   saw-report {file} made = last-shown who (places.Loss file) found (noted who old) new (ap (λ (v : View). v.sights) made.told.next)

@@ -24,6 +24,14 @@ IsShown who place word s = (s.stamp.who ≡ who) × (s.place ≡ place) × (s.wo
 abbrev pub Saw : View → Who → SharedWord → ℕ → Type 0
 Saw view who place word = SomeMember (IsShown who place word) view.sights
 
+-- a step of the command showed the word of a frame whose lock its seat has since; where the word is unlocked, the step adopted the
+-- frame
+abbrev pub IsAdoption : Who → Frame → ℕ → Sight → Type 0
+IsAdoption who frame word s = IsShown who (places.Frame frame) word s × ((s.stamp.frame ≡ Some frame) ⊎ (s.stamp.second ≡ Some frame))
+
+abbrev pub SawAdopted : View → Who → Frame → ℕ → Type 0
+SawAdopted view who frame word = SomeMember (IsAdoption who frame word) view.sights
+
 -- a step of the command, under the lock of a frame that the page owns, showed which of the frame's lines are bad
 abbrev pub IsLook : Who → Page → Frame → ℕ → Sight → Type 0
 IsLook who page frame mask s = IsShown who (places.Bad frame) mask s × (s.stamp.frame ≡ Some frame) × (s.stamp.owner ≡ Some (page.0 + 1))

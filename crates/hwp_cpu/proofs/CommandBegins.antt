@@ -30,14 +30,14 @@ use Rattle.hwp_cpu_command.specs.Begins.{Begins}
 use Rattle.hwp_cpu_command.specs.Jobs as jobs
 use Rattle.hwp_cpu_command.specs.Jobs.{banks_after, banks_before, left_in}
 use Rattle.hwp_cpu_command.specs.Runs.{Runs}
-use Rattle.hwp_cpu_command.specs.Stays.{IsAtStop, IsHalted, KnowsPolicies, Stepped}
+use Rattle.hwp_cpu_command.specs.Stays.{EndsStopped, IsAtStop, IsHalted, KnowsPolicies, Stepped}
 use Rattle.hwp_cpu_command.proofs.JobEnds.{ends}
 use Rattle.hwp_cpu_command_laws.proofs.CommandRuns.{before-begins, begins-fits, begins-runs, runs-who}
 use Rattle.hwp_cpu_command_laws.proofs.PolicyKeeps.{counted, left, policies-end, policies-next}
 use Rattle.hwp_cpu_command_laws.proofs.CommandStops.{begins-stop, has-stopped, only-stopped, stopped-halts}
 use Rattle.hwp_cpu_causes.specs.hwp_law_holds.Accounts.{IsNote}
 use Rattle.hwp_cpu_causes.specs.hwp_law_holds.Rows.{notes_from}
-use Rattle.hwp_cpu_causes.specs.hwp_law_holds.Served.{IsOneOf, IsOwnSpoil, IsOwnStop, IsRowServed}
+use Rattle.hwp_cpu_causes.specs.hwp_law_holds.Served.{IsOneOf, IsOwnSpoil, IsOwnStop, IsRowServed, SawRunning}
 use Rattle.hwp_cpu_causes.proofs.of_hwp_law_holds.CommandKeeps.{made-none-later}
 use Rattle.hwp_cpu_causes.proofs.of_hwp_law_holds.lines.ScrubBank.{banks-free, empty-free}
 use Rattle.hwp_cpu_causes.proofs.RowServed.{row-served}
@@ -109,9 +109,14 @@ module _ (layout : Layout) (old new : View) (cpu : Cpu) (list : List Command) (r
   number : length longer ≡ n + 1
   number = length-append rows (row ∷ [])
 
+  -- a command with another answer than `stopped` saw the machine running
+  running : EndsStopped k ⊎ SawRunning new (at_number cpu n) → (a ≡ answers.Stopped) ⊎ SawRunning new (at_number cpu n)
+  running (inl ends) = inl (only-stopped k ends has)
+  running (inr saw) = inr saw
+
   served : IsRowServed layout list new (at_number cpu n) now.command (banks_before k banks) row after
   served = row-served layout list new (at_number cpu n) now.command k banks now.runs now.fits has (λ thread replied. counted now.policies thread replied)
-      now.account.marked (failed-end layout new (at_number cpu n) k a now.fits has named now.account) now.account.taken now.account.set
+      (running now.looked) now.account.marked (failed-end layout new (at_number cpu n) k a now.fits has named now.account) now.account.taken now.account.set
 
   unowing : new.owed ≡ no_debts
   unowing = owes-nothing layout new (at_number cpu n) k a now.fits has named now.account
@@ -188,6 +193,7 @@ module _ (layout : Layout) (old new : View) (cpu : Cpu) (list : List Command) (r
     });
     policies = subst (λ (i : ℕ). KnowsPolicies layout list new (at_number cpu i) b) (sym number) know;
     stopped = λ some. inl start;
+    looked = inl (inl start);
     stops = λ i who at. inl (stops i who at);
     listed = subst (λ (i : ℕ). IsListed new cpu (i + 1)) (sym number) (record { marked = later (λ (m : Mark). m.stamp.who) new.marks now.listed.marked; taken = later (λ (r : Reported). r.stamp.who) new.reported now.listed.taken; set = later (λ (g : Setting). g.stamp.who) new.settings now.listed.set });
     account = subst (λ (i : ℕ). HasAccount new (at_number cpu i) b) (sym number) (account-starts new cpu (n + 1) b now.listed (later-none (n + 1) (omega arith)) unowing start);

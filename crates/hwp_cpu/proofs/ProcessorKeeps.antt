@@ -1,29 +1,33 @@
 -- A step of the command that runs leaves what the processor keeps.
-use Rattle.std.proofs.Common.{◌≡◌, ◌≢◌, ℕ, ◌⊎◌, inl, inr, List, Some, length, slice_get, refl, subst, sym, ap, ◌∙◌, arith}
+use Rattle.std.proofs.Common.{◌≡◌, ◌≢◌, ℕ, ◌⊎◌, inl, inr, false, List, Some, length, slice_get, refl, subst, sym, ap, ◌∙◌, arith}
 use Rattle.std.proofs.lemmas.Option.{none-some}
 use Rattle.hwp_cpu_row.specs.hwp_geom.declared.Cpu.{Cpu}
 use Rattle.hwp_cpu_row.specs.hwp_geom.declared.Layout.{Layout}
 use Rattle.hwp_cpu_row.specs.hwp_geom.declared.Who.{Who}
 use Rattle.hwp_cpu_row.specs.hwp_script_lines.declared.Command.{Command}
+use Rattle.hwp_cpu_row.specs.hwp_report_text.declared.Answer.TheVariants as answers
+use Rattle.hwp_cpu_row.specs.hwp_core_rule.declared.SharedWord.TheVariants as places
 use Rattle.hwp_cpu_row.specs.hwp_core_rule.declared.Step.{Step}
 use Rattle.hwp_cpu_row.specs.hwp_core_rule.declared.View.{View}
 use Rattle.hwp_cpu_row.specs.hwp_core_rule.Lists.{EachMember}
 use Rattle.hwp_cpu_row.proofs.of_hwp_core_rule.Lists.{at_push}
 use Rattle.hwp_cpu_row.specs.hwp_core_task.Calls.{CanMake}
+use Rattle.hwp_cpu_row.specs.hwp_core_task.Known.{Saw}
 use Rattle.hwp_cpu_row.specs.declared.Row.{Row}
 use Rattle.hwp_cpu_row.specs.hwp_banks.Banks.{Banks, empty_banks}
+use Rattle.hwp_cpu_command.specs.hwp_words.Stops.{is_stopped}
 use Rattle.hwp_cpu_command.specs.declared.job.Job.{Job}
 use Rattle.hwp_cpu_command.specs.Jobs as jobs
 use Rattle.hwp_cpu_command.specs.Jobs.{banks_before}
 use Rattle.hwp_cpu_command.specs.Runs.{Runs}
-use Rattle.hwp_cpu_command.specs.Stays.{Stepped, StopsItself}
+use Rattle.hwp_cpu_command.specs.Stays.{EndsStopped, Stepped, StopsItself}
 use Rattle.hwp_cpu_command.proofs.JobLaws as jobbing
 use Rattle.hwp_cpu_command.proofs.JobEnds.{answered-over}
 use Rattle.hwp_cpu_command_laws.proofs.CommandRuns.{before-stays, runs-on, runs-who}
 use Rattle.hwp_cpu_command_laws.proofs.PolicyKeeps.{policies-stay}
-use Rattle.hwp_cpu_command_laws.proofs.CommandStops.{halted-stays, has-stopped, no-own-stop, stops-after}
-use Rattle.hwp_cpu_causes.specs.hwp_law_holds.Served.{AreRowsServed, IsOwnStop}
-use Rattle.hwp_cpu_causes.proofs.of_hwp_law_holds.CommandKeeps.{row-stays}
+use Rattle.hwp_cpu_command_laws.proofs.CommandStops.{halted-stays, has-stopped, looks-first, no-own-stop, stops-after}
+use Rattle.hwp_cpu_causes.specs.hwp_law_holds.Served.{AreRowsServed, IsOwnStop, SawRunning}
+use Rattle.hwp_cpu_causes.proofs.of_hwp_law_holds.CommandKeeps.{row-stays, saw-running-stays}
 use Rattle.hwp_cpu.specs.Processors.{at_number}
 use Rattle.hwp_cpu.specs.Serving.{HasStoppedIt, IsRunning, Serves}
 use Rattle.hwp_cpu.proofs.ProcessorNotes.{account-on, listed-on, noted-on, spoils-on}
@@ -59,6 +63,19 @@ module _ (layout : Layout) (old new : View) (cpu : Cpu) (list : List Command) (r
     halted = λ some. (halted-stays made (run.serves.halted some) (run.stopped some)).0;
   }
 
+  -- the step shows whether the machine has stopped, where the command had yet to look
+  looked : EndsStopped k ⊎ SawRunning new (at_number cpu (length rows))
+  looked = which run.looked
+    where
+      first : (jobs.answer k ≡ Some answers.Stopped) ⊎ ((is_stopped made.found ≡ false) × Saw new (jobs.who j) places.Stop made.found) → EndsStopped k ⊎ SawRunning new (at_number cpu (length rows))
+      first (inl stopped) = inl (inr stopped)
+      first (inr clear) = inr (record { word = made.found; running = clear.0; saw = subst (λ (w : Who). Saw new w places.Stop made.found) own clear.1 })
+
+      which : EndsStopped j ⊎ SawRunning old (at_number cpu (length rows)) → EndsStopped k ⊎ SawRunning new (at_number cpu (length rows))
+      which (inl (inl start)) = first (looks-first made start)
+      which (inl (inr stopped)) = absurd (none-some made.step (sym (answered-over j stopped) ∙ made.planned))
+      which (inr saw) = inr (saw-running-stays made.made saw)
+
   -- a stop of the machine is one from before, or that of this step
   stops : EachMember (λ (who : Who). IsOwnStop layout cpu list rows who ⊎ HasStoppedIt rows k who) new.stops
   stops i who there = which (stops-after made)
@@ -88,6 +105,7 @@ module _ (layout : Layout) (old new : View) (cpu : Cpu) (list : List Command) (r
     fits = ((jobbing.stays layout old new j made.step made.found made.got made.fits made.planned made.made).1 k made.turn made.follows).0;
     policies = policies-stay made list (at_number cpu (length rows)) run.policies;
     stopped = λ some. (halted-stays made (run.serves.halted some) (run.stopped some)).1;
+    looked = looked;
     stops = stops;
     listed = listed-on made can own run.listed;
     account = account-on made can own run.account;

@@ -66,6 +66,7 @@ module _ (layout : Layout) (cpu : Cpu) (list : List Command) (few : length list 
     fits = begins-fits layout view (at_number cpu 0) command empty_banks j begins empty-free (record { on_turn = first-turn; hand_is = refl; paid = refl; made = refl; unmarked = refl; left = left know start (let within : 0 < length list = slice_get_within list 0 command there in omega (arith, few, within)); revivals = revival-left view cpu [] tt (omega arith) });
     policies = know;
     stopped = λ some. inl start;
+    looked = inl (inl start);
     stops = λ i who at. absurd (none-some who at);
     listed = listed 1;
     account = account-starts view cpu 0 j (listed 0) refl refl start;

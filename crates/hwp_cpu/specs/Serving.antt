@@ -33,7 +33,7 @@ use Rattle.hwp_cpu_command.specs.Stays.{EndsStopped, HasSpoiled, IsHalted, Knows
 use Rattle.hwp_cpu_causes.specs.hwp_law_holds.Accounts.{IsNote, failures, losses_taken, markings, policies_set}
 use Rattle.hwp_cpu_causes.specs.hwp_law_holds.Owed.{OwesOwn}
 use Rattle.hwp_cpu_causes.specs.hwp_law_holds.Rows.{notes_from}
-use Rattle.hwp_cpu_causes.specs.hwp_law_holds.Served.{AreRowsServed, IsOneOf, IsOwnSpoil, IsOwnStop, StaysStopped}
+use Rattle.hwp_cpu_causes.specs.hwp_law_holds.Served.{AreRowsServed, IsOneOf, IsOwnSpoil, IsOwnStop, SawRunning, StaysStopped}
 use Rattle.hwp_cpu.specs.declared.processor.Processor.{Processor}
 use Rattle.hwp_cpu.specs.Processors.{IsReady, Next, Shows, aborts, at_number, bare, claims, class, cost, plan, put, who}
 
@@ -79,7 +79,8 @@ pub record HasStoppedIt (rows : List Row) (j : Job) (who : Who) : Type 0 where
   pub who_is : jobs.who j ≡ who
   pub first : HasStopped rows → ⊥
 
--- the command after those that are answered runs, and knows what those left
+-- the command after those that are answered runs, and knows what those left; it has yet to look whether the machine has stopped, or
+-- is answered `stopped`, or saw the machine running
 pub record IsRunning (layout : Layout) (view : View) (cpu : Cpu) (list : List Command) (rows : List Row) (banks : Banks) (j : Job) : Type 0 where
   pub serves : Serves layout view cpu list rows (banks_before j banks)
   pub command : Command
@@ -88,6 +89,7 @@ pub record IsRunning (layout : Layout) (view : View) (cpu : Cpu) (list : List Co
   pub fits : jobs.Fits layout view j
   pub policies : KnowsPolicies layout list view (at_number cpu (length rows)) j
   pub stopped : HasStopped rows → EndsStopped j
+  pub looked : EndsStopped j ⊎ SawRunning view (at_number cpu (length rows))
   pub stops : EachMember (λ (who : Who). IsOwnStop layout cpu list rows who ⊎ HasStoppedIt rows j who) view.stops
   pub listed : IsListed view cpu (length rows + 1)
   pub account : HasAccount view (at_number cpu (length rows)) j

@@ -1,11 +1,12 @@
 -- A command that is answered has served its row.
-use Rattle.std.proofs.Common.{◌≡◌, List, Some, ◌∙◌}
+use Rattle.std.proofs.Common.{◌≡◌, ◌⊎◌, List, Some, ◌∙◌}
 use Rattle.hwp_law_holds.specs.hwp_geom.declared.Layout.{Layout}
 use Rattle.hwp_law_holds.specs.hwp_geom.declared.Thread.{Thread}
 use Rattle.hwp_law_holds.specs.hwp_geom.declared.Who.{Who}
 use Rattle.hwp_law_holds.specs.hwp_core_rule.declared.View.{View}
 use Rattle.hwp_law_holds.specs.hwp_script_lines.declared.Command.{Command}
 use Rattle.hwp_law_holds.specs.hwp_report_text.declared.Answer.{Answer}
+use Rattle.hwp_law_holds.specs.hwp_report_text.declared.Answer.TheVariants as answers
 use Rattle.hwp_law_holds.specs.hwp_banks.Banks.{Banks}
 use Rattle.hwp_cpu_command.specs.declared.Job.{Job}
 use Rattle.hwp_cpu_command.specs.Done.{failed_now, marked_now, policies_now, taken_now}
@@ -13,17 +14,18 @@ use Rattle.hwp_cpu_command.specs.Jobs.{Fits, answer, banks_after, banks_before, 
 use Rattle.hwp_cpu_command.specs.Runs.{Runs}
 use Rattle.hwp_cpu_command.specs.Settings.{HasReplied, IsCounted}
 use Rattle.hwp_law_holds.specs.Accounts.{failures, losses_taken, markings, policies_set}
-use Rattle.hwp_law_holds.specs.Served.{IsRowServed}
+use Rattle.hwp_law_holds.specs.Served.{IsRowServed, SawRunning}
 use Rattle.hwp_cpu_causes.proofs.RowAccounts.{does}
 use Rattle.hwp_cpu_causes.proofs.CauseLaws.{caused}
 use Rattle.hwp_cpu_causes.proofs.CommandTells.{tells}
 
--- where the view lists of the command what it has done, the row that it gives is served
+-- where the view lists of the command what it has done, and the command saw the machine running or is answered `stopped`, the row
+-- that it gives is served
 pub row-served : (layout : Layout) (list : List Command) (view : View) (who : Who) (command : Command) (j : Job) {a : Answer} (kept : Banks) → Runs layout who command j → Fits layout view j → answer j ≡ Some a
-    → ((thread : Thread) → HasReplied j thread → IsCounted list view who j thread)
+    → ((thread : Thread) → HasReplied j thread → IsCounted list view who j thread) → (a ≡ answers.Stopped) ⊎ SawRunning view who
     → markings who view ≡ marked_now j → failures who view ≡ failed_now j → losses_taken who view ≡ taken_now j → policies_set who view ≡ policies_now j
     → IsRowServed layout list view who command (banks_before j kept) (row_of j a) (banks_after j kept)
-row-served layout list view who command j kept runs fits is counted marked failed taken set =
+row-served layout list view who command j kept runs fits is counted running marked failed taken set =
     let so = does layout view who command j runs fits is in
     let right = tells layout view who command j kept runs fits is in
     record {
@@ -31,4 +33,5 @@ row-served layout list view who command j kept runs fits is counted marked faile
       accounted = record { marked = marked ∙ so.marked; failed = failed ∙ so.failed; taken = taken ∙ so.taken; set = set ∙ so.set; own = so.own };
       told = right.told;
       heeded = right.heeded;
+      running = running;
     }

@@ -1,7 +1,7 @@
 -- Why a command that takes a frame's poison back is answered so.
 use Rattle.std.proofs.Common.{◌≡◌, ◌==◌, ◌&&◌, not, ℕ, ◌<◌, false, true, inl, List, Option, Some, refl, sym, ap, ◌∙◌, subst, true≢false}
 use Rattle.std.specs.Prelude.{option_and_then}
-use Rattle.std.proofs.lemmas.Bool.{and_from, eq-eqb}
+use Rattle.std.proofs.lemmas.Bool.{and_from, and_parts, eq-eqb, eqb-true}
 use Rattle.hwp_law_holds.specs.hwp_geom.declared.Frame.{Frame}
 use Rattle.hwp_law_holds.specs.hwp_geom.declared.Layout.{Layout}
 use Rattle.hwp_law_holds.specs.hwp_geom.declared.Who.{Who}
@@ -26,6 +26,7 @@ use Rattle.hwp_cpu_command.specs.Jobs.{Fits, answer, own_of, revived_by}
 use Rattle.hwp_cpu_command.specs.Runs.{anew}
 use Rattle.hwp_cpu_command.proofs.JobEnds.{mapped, unpoison-ended}
 use Rattle.hwp_cpu_command.proofs.OfKind.{of-unpoison}
+use Rattle.hwp_law_holds.proofs.of_hwp_core_rule.MetWords.{free-word}
 use Rattle.hwp_law_holds.specs.Causes.{IsAnswerCaused}
 use Rattle.hwp_cpu_causes.proofs.StopCauses.{found-stopped}
 
@@ -68,6 +69,14 @@ revivable word has =
     (and_from (not (is_locked word)) ((owner_of word == 0) && (count_of word == 1)) (ap (λ (lock : ℕ). not (lock == 1)) has.unlocked)
     (and_from (owner_of word == 0) (count_of word == 1) (eq-eqb (owner_of word) 0 has.unowned) (eq-eqb (count_of word) 1 has.alone)))
 
+-- and one that passes it is such a word
+so-revivable : (word : ℕ) → is_revivable word ≡ true → IsRevivable word
+so-revivable word is =
+    let first = and_parts (is_handled word) (not (is_locked word) && ((owner_of word == 0) && (count_of word == 1))) is in
+    let second = and_parts (not (is_locked word)) ((owner_of word == 0) && (count_of word == 1)) first.1 in
+    let third = and_parts (owner_of word == 0) (count_of word == 1) second.1 in
+    record { handled = first.0; unlocked = free-word word second.0; unowned = eqb-true (owner_of word) 0 third.0; alone = eqb-true (count_of word) 1 third.1 }
+
 in-use : (word : ℕ) → is_revivable word ≡ false → ¬ IsRevivable word
 in-use word used has = true≢false (sym (revivable word has) ∙ used)
 
@@ -75,7 +84,17 @@ in-use word used has = true≢false (sym (revivable word has) ∙ used)
 unpoisoned : (layout : Layout) (list : List Command) (view : View) (who : Who) (frame : Frame) (told : List EventOutcome) → frame.0 < layout.frames → (x : UnpoisonAnswer) → unpoisons.IsCaused view who frame x
     → IsAnswerCaused layout list view who (commands.Unpoison frame) told (revived_by frame x) (unpoison_answer x)
 unpoisoned layout list view who frame told inside answers.Stopped has = found-stopped layout (commands.Unpoison frame) view who (inl has.1) has.0
-unpoisoned layout list view who frame told inside (answers.Done cycle) has = (has.0, record { cycle = cycle; own_is = refl })
+unpoisoned layout list view who frame told inside (answers.Done cycle) has =
+    let saw = has.1.1 in (
+      has.0,
+      record {
+        cycle = cycle;
+        own_is = refl;
+        revivable = record { word = saw.revivable.word; poisoned = saw.revivable.such.0; revivable = so-revivable saw.revivable.word saw.revivable.such.1; saw = saw.revivable.saw };
+        counter = record { word = saw.counter.word; none = saw.counter.none; saw = saw.counter.saw };
+        bad = saw.bad;
+      },
+    )
 unpoisoned layout list view who frame told inside answers.NotPoisoned has = (has.0, record { word = has.1.word; sound = has.1.such; saw = has.1.saw })
 unpoisoned layout list view who frame told inside answers.HardwareSeen has = (has.0, record { word = has.1.word; some = has.1.some; saw = has.1.saw })
 unpoisoned layout list view who frame told inside (answers.HasBad mask) has = (has.0, record { inside = inside; some = has.1.0; saw = has.1.1 })

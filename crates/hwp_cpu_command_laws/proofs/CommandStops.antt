@@ -22,10 +22,10 @@ use Rattle.hwp_cpu_command.specs.hwp_core_rule.Lists.{SomeMember}
 use Rattle.hwp_cpu_command.specs.hwp_core_rule.Views.{noted, stamp_of}
 use Rattle.hwp_cpu_command.specs.hwp_core_rule.Words.{words_of}
 use Rattle.hwp_cpu_command.proofs.of_hwp_core_rule.Lists.{at_map, some-push}
-use Rattle.hwp_cpu_command.specs.hwp_core_task.Calls.{Steps}
+use Rattle.hwp_cpu_command.specs.hwp_core_task.Calls.{Steps, logs as logs_of}
 use Rattle.hwp_cpu_command.proofs.of_hwp_core_task.StepLeaves.{steps-planned}
-use Rattle.hwp_cpu_command.specs.hwp_core_task.Known.{SawStop}
-use Rattle.hwp_cpu_command.proofs.of_hwp_core_task.SightKeeps.{saw-stays}
+use Rattle.hwp_cpu_command.specs.hwp_core_task.Known.{Saw, SawStop}
+use Rattle.hwp_cpu_command.proofs.of_hwp_core_task.SightKeeps.{saw-load, saw-stays}
 use Rattle.hwp_cpu_command.specs.hwp_script_lines.declared.Command.{Command}
 use Rattle.hwp_cpu_command.specs.hwp_report_text.declared.Answer.{Answer}
 use Rattle.hwp_cpu_command.specs.hwp_report_text.declared.Answer.TheVariants as answers
@@ -122,7 +122,7 @@ use Rattle.hwp_cpu_command.specs.declared.job.Job.{Job}
 use Rattle.hwp_cpu_command.specs.declared.job.Job.TheVariants as jobs
 use Rattle.hwp_cpu_command.specs.Answers.{evict_answer, fail_answer, fsync_answer, instruction_answer, nested_answer, prctl_answer, raise_answer, read_stop_answer, refusal_answer, scrub_answer, soft_answer, spoil_answer, unpoison_answer}
 use Rattle.hwp_cpu_command.specs.Begins.{Begins}
-use Rattle.hwp_cpu_command.specs.Jobs.{Fits, answer, who}
+use Rattle.hwp_cpu_command.specs.Jobs.{Fits, answer, plan, put, who}
 use Rattle.hwp_cpu_command.specs.Stays.{EndsStopped, HasSpoiled, HasStopped, IsAtStop, IsHalted, IsStopping, Stepped, StopsItself}
 use Rattle.hwp_cpu_command.proofs.JobEnds.{InjectEnded, answered-over, inject-ended, instruction-ended, mapped, raise-ended, scrub-ended, soft-ended, unpoison-ended}
 use Rattle.hwp_cpu_command_laws.proofs.CommandLeaves.{StopsLeft, evict-left, fsync-left, inject-left, instruction-left, log-left, nested-left, prctl-left, raise-left, scrub-left, soft-left, spoil-left, unpoison-left}
@@ -295,63 +295,69 @@ module _ {layout : Layout} {old new : View} {j after : Job} (s : Stepped layout 
       inl (still.0, still.1, still.2, (still.3.1 ∙ shown.3.0, ap is_stopped still.3.2 ∙ shown.3.1))
   still-halted (inr own) = inr (more-stops (λ (w : Who). Unit {0}) own)
 
--- a command that looks for the first time finds that the machine has stopped
-looks : {layout : Layout} {old new : View} (j after : Job) → Stepped layout old new j after → IsHalted old → IsAtStop j → answer after ≡ Some answers.Stopped
-looks {layout} {old} {new} (jobs.Instruction i) after s halted (a, start, look, none) =
-    let word : is_stopped s.found ≡ true = stop-word (steps-planned {other = steps.Load places.Stop} (sym (ap instructions.plan_at start ∙ ap (accesses.plan_at a.request) look) ∙ s.planned) s.made) halted in
+-- the step of a command that has yet to look is the load of the stop word
+look-first : (j : Job) → IsAtStop j → plan j ≡ Some (steps.Load places.Stop)
+look-first (jobs.Instruction i) (a, start, look, none) = ap instructions.plan_at start ∙ ap (accesses.plan_at a.request) look
+look-first (jobs.Evict e) start = ap evicts.plan_at start
+look-first (jobs.Fsync f) start = ap (fsyncs.plan_at f.file) start
+look-first (jobs.Prctl p) start = ap (prctls.plan_at p.thread p.process) start
+look-first (jobs.Log l) start = ap read_stops.plan_at start
+look-first (jobs.Raise r) (start, none) = ap raises.plan_at start
+look-first (jobs.Scrub c) (start, none) = ap scrubs.plan_at start
+look-first (jobs.Spoil p) start = ap (spoils.plan_at p.frame p.line p.damage) start
+look-first (jobs.Nested n) start = ap (nesteds.plan_at n.who) start
+look-first (jobs.Inject i) start = ap injects.plan_at start
+look-first (jobs.Soft o) start = ap (softs.plan_at o.frame) start
+look-first (jobs.Unpoison u) start = ap (unpoisons.plan_at u.frame) start
+
+look-made : {layout : Layout} {old new : View} {j after : Job} (s : Stepped layout old new j after) → IsAtStop j → Steps layout (who j) (steps.Load places.Stop) (logs_of (put j)) old new s.found s.got
+look-made {j = j} s start = steps-planned {other = steps.Load places.Stop} (sym (look-first j start) ∙ s.planned) s.made
+
+-- a command that finds by it that the machine has stopped is answered `stopped`
+looks : {layout : Layout} {old new : View} (j after : Job) (s : Stepped layout old new j after) → is_stopped s.found ≡ true → IsAtStop j → answer after ≡ Some answers.Stopped
+looks {layout} {old} {new} (jobs.Instruction i) after s word (a, start, look, none) =
     let stepped = subst (λ (x : InstructionAt). instructions.FollowsAt layout (instructions.bare i) (instructions.bare_at x) s.found s.got s.follows.0 s.turn) start s.follows.2 in
     let at = subst (λ (x : AccessAt). accesses.NextAt layout a.request (accesses.bare_at x) s.found s.got stepped.access.at s.turn) look stepped.follows.at in
     let over : accesses.answer stepped.access ≡ Some access_answers.Stopped = ap accesses.answer_at at.0 ∙ ap (λ (b : Bool). accesses.answer_at (cond b (access_at.Over access_answers.Stopped) access_at.LoadProcess)) word in
     let next = subst (λ (o : Option AccessAnswer). instructions.AfterAccessBy layout (instructions.bare i) stepped.access o s.follows.0) over stepped.next_is in
     ap answer s.follows.1 ∙ ap (λ (k : Instruction). option_map instruction_answer (instructions.answer k)) next
-looks {layout} {old} {new} (jobs.Evict e) after s halted start =
-    let word : is_stopped s.found ≡ true = stop-word (steps-planned {other = steps.Load places.Stop} (sym (ap evicts.plan_at start) ∙ s.planned) s.made) halted in
+looks {layout} {old} {new} (jobs.Evict e) after s word start =
     let at = subst (λ (x : EvictAt). evicts.FollowsAt e.who e.page e.what (evicts.bare_at x) s.found s.got s.follows.0.at s.turn) start s.follows.2.1 in
     ap answer s.follows.1 ∙ ap (λ (x : EvictAt). option_map evict_answer (evicts.answer_at x)) at.0
     ∙ ap (λ (b : Bool). option_map evict_answer (evicts.answer_at (cond b (evict_at.Over evict_answers.Stopped) (evict_at.Hold (holds.begin e.who e.page))))) word
-looks (jobs.Fsync f) after s halted start =
-    let word : is_stopped s.found ≡ true = stop-word (steps-planned {other = steps.Load places.Stop} (sym (ap (fsyncs.plan_at f.file) start) ∙ s.planned) s.made) halted in
+looks (jobs.Fsync f) after s word start =
     ap answer s.follows.0 ∙ ap (λ (x : FsyncAt). option_map fsync_answer (fsyncs.answer_at (fsyncs.next_at x s.found))) start
     ∙ ap (λ (b : Bool). option_map fsync_answer (fsyncs.answer_at (cond b (fsync_at.Over fsync_answers.Stopped) fsync_at.Report))) word
-looks (jobs.Prctl p) after s halted start =
-    let word : is_stopped s.found ≡ true = stop-word (steps-planned {other = steps.Load places.Stop} (sym (ap (prctls.plan_at p.thread p.process) start) ∙ s.planned) s.made) halted in
+looks (jobs.Prctl p) after s word start =
     ap answer s.follows.0 ∙ ap (λ (x : PrctlAt). option_map prctl_answer (prctls.answer_at (prctls.next_at p.arguments x s.found))) start
     ∙ ap (λ (b : Bool). option_map prctl_answer (prctls.answer_at (cond b (prctl_at.Over prctl_answers.Stopped) prctl_at.LoadProcess))) word
-looks (jobs.Log l) after s halted start =
-    let word : is_stopped s.found ≡ true = stop-word (steps-planned {other = steps.Load places.Stop} (sym (ap read_stops.plan_at start) ∙ s.planned) s.made) halted in
+looks (jobs.Log l) after s word start =
     ap answer s.follows.0 ∙ ap (λ (o : Option ReadStopAnswer). option_map read_stop_answer (logs.answer (logs.next_by l s.found o))) (ap read_stops.answer_at start)
     ∙ ap (λ (x : ReadStopAt). option_map read_stop_answer (read_stops.answer_at (read_stops.next_at x s.found))) start
     ∙ ap (λ (b : Bool). Some (read_stop_answer (cond b read_stop_answers.Stopped read_stop_answers.Done))) word
-looks {layout} (jobs.Raise r) after s halted (start, none) =
-    let word : is_stopped s.found ≡ true = stop-word (steps-planned {other = steps.Load places.Stop} (sym (ap raises.plan_at start) ∙ s.planned) s.made) halted in
+looks {layout} (jobs.Raise r) after s word (start, none) =
     let stepped = subst (λ (x : RaiseAt). raises.FollowsAt layout (raises.bare r) (raises.bare_at x) s.found s.got s.follows.0 s.turn) start s.follows.2 in
     let next = subst (λ (b : Bool). raises.AfterStopBy layout (raises.bare r) b r.raiser s.follows.0) word stepped.0 in
     ap answer s.follows.1 ∙ ap (λ (k : Raise). option_map (raise_answer (length k.lines.told)) (raises.answer k)) next
-looks {layout} (jobs.Scrub c) after s halted (start, none) =
-    let word : is_stopped s.found ≡ true = stop-word (steps-planned {other = steps.Load places.Stop} (sym (ap scrubs.plan_at start) ∙ s.planned) s.made) halted in
+looks {layout} (jobs.Scrub c) after s word (start, none) =
     let stepped = subst (λ (x : ScrubAt). scrubs.FollowsAt layout (scrubs.bare c) (scrubs.bare_at x) s.found s.got s.follows.0 s.turn) start s.follows.2 in
     ap answer s.follows.1 ∙ ap (λ (k : Scrub). option_map (scrub_answer (length k.lines.told)) (scrubs.answer k)) stepped.0
     ∙ ap (λ (b : Bool). option_map (scrub_answer (length c.lines.told)) (scrubs.answer_at (cond b (scrub_at.Over (Some scrub_answers.Stopped)) (scrub_at.LoadBad c.first)))) word
-looks (jobs.Spoil p) after s halted start =
-    let word : is_stopped s.found ≡ true = stop-word (steps-planned {other = steps.Load places.Stop} (sym (ap (spoils.plan_at p.frame p.line p.damage) start) ∙ s.planned) s.made) halted in
+looks (jobs.Spoil p) after s word start =
     ap answer s.follows.0 ∙ ap (λ (x : SpoilAt). option_map spoil_answer (spoils.answer_at (spoils.next_at x s.found))) start
     ∙ ap (λ (b : Bool). option_map spoil_answer (spoils.answer_at (cond b (spoil_at.Over spoil_answers.Stopped) spoil_at.Spoil))) word
-looks (jobs.Nested n) after s halted start =
-    let word : is_stopped s.found ≡ true = stop-word (steps-planned {other = steps.Load places.Stop} (sym (ap (nesteds.plan_at n.who) start) ∙ s.planned) s.made) halted in
+looks (jobs.Nested n) after s word start =
     ap answer s.follows.0 ∙ ap (λ (x : NestedAt). option_map nested_answer (nesteds.answer_at (nesteds.next_at x s.found))) start
     ∙ ap (λ (b : Bool). option_map nested_answer (nesteds.answer_at (cond b (nested_at.Over (Some nested_answers.Stopped)) nested_at.Stop))) word
-looks {layout} (jobs.Inject i) after s halted start =
-    let word : is_stopped s.found ≡ true = stop-word (steps-planned {other = steps.Load places.Stop} (sym (ap injects.plan_at start) ∙ s.planned) s.made) halted in
+looks {layout} (jobs.Inject i) after s word start =
     let at = subst (λ (x : InjectAt). injects.FollowsAt layout i.alloc i.who i.frame (injects.bare_at x) s.found s.got s.follows.0.at s.turn) start s.follows.2.1 in
     ap answer s.follows.1 ∙ ap (λ (x : InjectAt). option_map fail_answer (injects.answer_at x)) at.0
     ∙ ap (λ (b : Bool). option_map fail_answer (injects.answer_at (cond b inject_at.Stopped (inject_at.Fail (fails.begin i.alloc i.who i.frame None false layout.recovery))))) word
-looks {layout} (jobs.Soft o) after s halted start =
-    let word : is_stopped s.found ≡ true = stop-word (steps-planned {other = steps.Load places.Stop} (sym (ap (softs.plan_at o.frame) start) ∙ s.planned) s.made) halted in
+looks {layout} (jobs.Soft o) after s word start =
     let at = subst (λ (x : SoftAt). softs.FollowsAt layout o.who o.frame (softs.bare_at x) s.found s.got s.follows.0.at s.turn) start s.follows.2.1 in
     ap answer s.follows.1 ∙ ap (λ (x : SoftAt). option_map soft_answer (softs.answer_at x)) at.0
     ∙ ap (λ (b : Bool). option_map soft_answer (softs.answer_at (cond b (soft_at.Over soft_answers.Stopped) (soft_at.Seize (seizes.begin o.who o.frame))))) word
-looks (jobs.Unpoison u) after s halted start =
-    let word : is_stopped s.found ≡ true = stop-word (steps-planned {other = steps.Load places.Stop} (sym (ap (unpoisons.plan_at u.frame) start) ∙ s.planned) s.made) halted in
+looks (jobs.Unpoison u) after s word start =
     ap answer s.follows.0 ∙ ap (λ (x : UnpoisonAt). option_map unpoison_answer (unpoisons.answer_at (unpoisons.next_at x s.found))) start
     ∙ ap (λ (b : Bool). option_map unpoison_answer (unpoisons.answer_at (cond b (unpoison_at.Over unpoison_answers.Stopped) unpoison_at.LoadFrame))) word
 
@@ -360,8 +366,16 @@ pub halted-stays : {layout : Layout} {old new : View} {j after : Job} → Steppe
 halted-stays {layout} {old} {new} {j} {after} s halted ends = (still-halted s halted, inr (which ends))
   where
     which : EndsStopped j → answer after ≡ Some answers.Stopped
-    which (inl start) = looks j after s halted start
+    which (inl start) = looks j after s (stop-word (look-made s start) halted) start
     which (inr stopped) = absurd (none-some s.step (sym (answered-over j stopped) ∙ s.planned))
+
+-- a command that looks is answered `stopped`, or saw the machine running
+pub looks-first : {layout : Layout} {old new : View} {j after : Job} (s : Stepped layout old new j after) → IsAtStop j → (answer after ≡ Some answers.Stopped) ⊎ ((is_stopped s.found ≡ false) × Saw new (who j) places.Stop s.found)
+looks-first {new = new} {j = j} {after = after} s start = which (is_stopped s.found) refl
+  where
+    which : (b : Bool) → is_stopped s.found ≡ b → (answer after ≡ Some answers.Stopped) ⊎ ((is_stopped s.found ≡ false) × Saw new (who j) places.Stop s.found)
+    which true stopped = inl (looks j after s stopped start)
+    which false clear = inr (clear, saw-load (look-made s start))
 
 -- ---- the beginning and the end of a command
 

@@ -5,11 +5,11 @@ mod row;
 
 pub use hwp_cpu_check::{
     Acted, Answer, BANKS, Bank, Board, Body, CacheWord, Command, CounterWord, Cpu, CpuLine,
-    Decision, Entry, Event, EventOutcome, FailAnswer, FileNo, Found, Frame, FrameLine, FrameWord,
-    Held, How, Inject, Kind, Layout, List, MAX_SCRIPT, MarkLine, Mask, McgBits, Mode, Ops, Origin,
-    OutOfMemory, Page, PageWord, PolicyWord, PrctlArgs, ProcessWord, Pte, Ranked, Report,
-    Scheduled, Script, SharedWord, Status, Step, Stop, StopCause, StopWord, Task, Text, Turn,
-    Whereabouts, Who, handle, index, is_text, kind_name, no_events, policy_word, print,
+    Decision, Entry, Event, EventLine, EventOutcome, FailAnswer, FileNo, Found, Frame, FrameLine,
+    FrameWord, Held, How, Inject, Kind, Layout, List, MAX_SCRIPT, MarkLine, Mask, McgBits, Mode,
+    Ops, Origin, OutOfMemory, Page, PageWord, PolicyWord, PrctlArgs, ProcessWord, Pte, Ranked,
+    Report, Scheduled, Script, SharedWord, Status, Step, Stop, StopCause, StopWord, Task, Text,
+    Turn, Whereabouts, Who, handle, index, is_text, kind_name, no_events, policy_word, print,
     read_number,
 };
 pub use row::{FrameChange, Row};

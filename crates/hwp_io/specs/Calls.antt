@@ -1,6 +1,5 @@
 -- What a source and a sink in memory hold.
-use Rattle.std.specs.Prelude.{ℕ, ◌+◌, min, Bool, List, Contains}
-use Rattle.hwp_io.specs.Causes.{last_count}
+use Rattle.std.specs.Prelude.{ℕ, ◌+◌, ◌-◌, ◌^◌, min, Bool, List, Contains}
 
 -- the calls of an object in memory: the numbers of those that fail, how many were made, and how many failed
 pub record Calls : Type 0 where
@@ -8,9 +7,9 @@ pub record Calls : Type 0 where
   pub made : ℕ
   pub failed : ℕ
 
--- one more; a count stays at its last value
+-- the number of the call after call n; the last number stays
 abbrev pub next : ℕ → ℕ
-next n = min (n + 1) last_count
+next n = min (n + 1) (2 ^ 64 - 1)
 
 -- no call was made yet
 abbrev pub no_calls : List ℕ → Calls
@@ -26,7 +25,7 @@ counted calls = record calls { made = next calls.made }
 
 -- the calls after one more that failed
 abbrev pub counted_failed : Calls → Calls
-counted_failed calls = record calls { made = next calls.made; failed = next calls.failed }
+counted_failed calls = record calls { made = next calls.made; failed = calls.failed + 1 }
 
 -- a source in memory: the bytes that it has left, and its calls
 pub record SourceState : Type 0 where

@@ -1,14 +1,6 @@
 -- Why a read or a write failed, and what it left.
-use Rattle.std.specs.Prelude.{◌≡◌, ℕ, ◌-◌, ◌^◌, ◌<◌, ◌≤◌, ◌⊎◌, List, ◌++◌, length, Option}
+use Rattle.std.specs.Prelude.{◌≡◌, ℕ, ◌<◌, ◌≤◌, List, ◌++◌, length, Option}
 use Rattle.std.specs.Io.KnownBytes.{Appends, Consumes}
-
--- the last value of a count, at which it stays
-abbrev pub last_count : ℕ
-last_count = 2 ^ 64 - 1
-
--- a count of faults rose, or it stands at its last value
-abbrev pub Rose : ℕ → ℕ → Type 0
-Rose old new = (old < new) ⊎ (new ≡ last_count)
 
 -- the text begins with the bytes, and more of it follows
 pub record IsStrictFront (bytes text : List ℕ) : Type 0 where

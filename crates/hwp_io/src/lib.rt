@@ -1,6 +1,7 @@
 //! The outside of the machine: where a script is read from, and where a report is written to.
 #![tactic(auto)]
 
+mod counts;
 mod memory;
 mod plan;
 mod reading;

@@ -1,7 +1,6 @@
 ghost use Rattle.std.specs.Prelude.{◌≡◌, ◌<◌, ◌≤◌, ◌↔◌, ◌⊎◌, ◌++◌, [], false, min, take, drop, length, IfOk, OnOk, OnErr, IsErr, IsTrue, Some};
 ghost use Rattle.std.specs.Io.{ReadsAtMost, WritesAtMost};
 ghost use Rattle.std.specs.Io.KnownBytes.{ReadConsumes, WriteAppends};
-ghost use Rattle.hwp_io.specs.Causes.{Rose};
 ghost use Rattle.hwp_io.specs.Calls.{IsNextFailing, no_calls, counted, counted_failed};
 
 use super::plan::FaultPlan;
@@ -53,7 +52,7 @@ impl Source for MemSource {
         ensures bytes { ReadConsumes (Some self.old.left) (Some self.new.left) result buf.new }
         ensures later { self.old.calls.failed ≤ self.new.calls.failed }
         ensures quiet { OnOk result (self.new.calls.failed ≡ self.old.calls.failed) }
-        ensures fault { OnErr result (Rose self.old.calls.failed self.new.calls.failed) }
+        ensures fault { OnErr result (self.old.calls.failed < self.new.calls.failed) }
 
         ensures listed { IsErr result ↔ IsNextFailing self.old.calls }
         ensures count { IfOk result (λ n. n ≡ min (length buf.new) (length self.old.left)) }
@@ -133,7 +132,7 @@ impl Sink for MemSink {
         ensures bytes { WriteAppends (Some self.old.taken) (Some self.new.taken) result buf.now }
         ensures later { self.old.calls.failed ≤ self.new.calls.failed }
         ensures quiet { OnOk result (self.new.calls.failed ≡ self.old.calls.failed) }
-        ensures fault { OnErr result (Rose self.old.calls.failed self.new.calls.failed) }
+        ensures fault { OnErr result (self.old.calls.failed < self.new.calls.failed) }
 
         ensures listed { IsErr result ↔ (IsNextFailing self.old.calls ⊎ IsTrue self.new.starved) }
         ensures starved { IsNextFailing self.old.calls → self.new.starved ≡ self.old.starved }

@@ -1,23 +1,25 @@
-ghost use Rattle.std.specs.Prelude.{◌≡◌, ◌≤◌, ◌↔◌, IsTrue, if◌then◌else◌};
-ghost use Rattle.hwp_io.specs.Calls.{IsNextFailing, no_calls, next, counted, counted_failed};
+ghost use Rattle.std.specs.Prelude.{◌≡◌, ◌≤◌, ◌↔◌, ◌+◌, IsTrue, if◌then◌else◌};
+ghost use Rattle.hwp_io.specs.Calls.{IsNextFailing, no_calls, counted, counted_failed};
 
+use super::counts::FaultCount;
 use std::marker::Model;
 
-/// Which calls of an object in memory fail, how many it has had, and how many of them failed. Each
-/// count stays at `u64::MAX`.
+/// Which calls of an object in memory fail, how many it has had, and how many of them failed. The
+/// number of a call stays at `u64::MAX`.
 #[derive(Drop)]
 pub(crate) struct FaultPlan {
     fail: Vec<u64>,
     made: u64,
-    failed: u64,
+    failed: FaultCount,
 }
 
 impl Model for FaultPlan {
     ghost use Rattle.hwp_io.specs.Calls.{Calls};
+    ghost use Rattle.hwp_io.specs.Counts.{count};
 
     ghost Value = { Calls };
 
-    ghost view = { λ p. record { fail = p.fail.items; made = p.made; failed = p.failed } };
+    ghost view = { λ p. record { fail = p.fail.items; made = p.made; failed = count p.failed } };
 }
 
 impl FaultPlan {
@@ -28,7 +30,7 @@ impl FaultPlan {
         FaultPlan {
             fail,
             made: 0,
-            failed: 0,
+            failed: FaultCount::Zero,
         }
     }
 
@@ -48,9 +50,9 @@ impl FaultPlan {
 
     /// Counts one more failed call.
     pub(crate) fn add_failure(&mut self)
-        ensures counts { self.new ≡ record self.old { failed = next self.old.failed } }
+        ensures counts { self.new ≡ record self.old { failed = self.old.failed + 1 } }
         ensures later { self.old.failed ≤ self.new.failed }
     {
-        self.failed = self.failed.saturating_add(1);
+        self.failed.add();
     }
 }

@@ -1,6 +1,6 @@
-ghost use Rattle.std.specs.Prelude.{◌≡◌, ◌≤◌, ℕ, List, length, IfOk, IsErrOf};
+ghost use Rattle.std.specs.Prelude.{◌≡◌, ◌<◌, ◌≤◌, ℕ, List, length, IfOk, IsErrOf};
 ghost use Rattle.std.specs.Io.KnownBytes.{Consumes, IsAtEnd};
-ghost use Rattle.hwp_io.specs.Causes.{Rose, ConsumesAtMost, ConsumesMore};
+ghost use Rattle.hwp_io.specs.Causes.{ConsumesAtMost, ConsumesMore};
 ghost use Rattle.hwp_io.specs.declared.reading.ReadAll.TheVariants.{ReadFault, OutOfMemory};
 
 use super::{Failed, Source};
@@ -78,7 +78,7 @@ pub fn read_all<S: Source>(alloc: Global, src: &mut S, limit: usize) -> Result<B
 
     // The count of faults rises at a fault alone.
     ensures later { S.faults src.old ≤ S.faults src.new }
-    ensures fault { IsErrOf result ReadAll.ReadFault → Rose (S.faults src.old) (S.faults src.new) }
+    ensures fault { IsErrOf result ReadAll.ReadFault → S.faults src.old < S.faults src.new }
     ensures quiet { ¬ IsErrOf result ReadAll.ReadFault → S.faults src.new ≡ S.faults src.old }
 {
     let mut bytes = Vec::new(alloc);

@@ -1,6 +1,7 @@
 ghost use Rattle.std.specs.Prelude.{◌≡◌};
 ghost use Rattle.hwp_io.specs.Standard.{source_reader, source_faults, sink_writer, sink_faults};
 
+use super::counts::FaultCount;
 use super::{Failed, Sink, Source};
 use std::io::{Read, Write};
 
@@ -8,7 +9,7 @@ use std::io::{Read, Write};
 #[derive(Drop)]
 pub struct StdSource<R> {
     reader: R,
-    faults: u64,
+    faults: FaultCount,
 }
 
 impl<R: Read> StdSource<R> {
@@ -17,7 +18,10 @@ impl<R: Read> StdSource<R> {
         ensures reader { source_reader result ≡ reader }
         ensures faults { source_faults result ≡ 0 }
     {
-        StdSource { reader, faults: 0 }
+        StdSource {
+            reader,
+            faults: FaultCount::Zero,
+        }
     }
 }
 
@@ -31,7 +35,7 @@ impl<R: Read> Source for StdSource<R> {
         match self.reader.read(buf) {
             Ok(count) => Ok(count),
             Err(_) => {
-                self.faults = self.faults.saturating_add(1);
+                self.faults.add();
                 Err(Failed)
             }
         }
@@ -44,7 +48,7 @@ impl<R: Read> Source for StdSource<R> {
 #[derive(Drop)]
 pub struct StdSink<W> {
     writer: W,
-    faults: u64,
+    faults: FaultCount,
 }
 
 impl<W: Write> StdSink<W> {
@@ -53,7 +57,10 @@ impl<W: Write> StdSink<W> {
         ensures writer { sink_writer result ≡ writer }
         ensures faults { sink_faults result ≡ 0 }
     {
-        StdSink { writer, faults: 0 }
+        StdSink {
+            writer,
+            faults: FaultCount::Zero,
+        }
     }
 }
 
@@ -67,7 +74,7 @@ impl<W: Write> Sink for StdSink<W> {
         match self.writer.write(buf) {
             Ok(count) if count > 0 || buf.is_empty() => Ok(count),
             _ => {
-                self.faults = self.faults.saturating_add(1);
+                self.faults.add();
                 Err(Failed)
             }
         }

@@ -1,7 +1,6 @@
 ghost use Rattle.std.specs.Prelude.{◌≡◌, ℕ, List, ◌<◌, ◌≤◌, length, IfOk, OnOk, OnErr, Option};
 ghost use Rattle.std.specs.Io.{ReadsAtMost, WritesAtMost};
 ghost use Rattle.std.specs.Io.KnownBytes.{ReadConsumes, WriteAppends};
-ghost use Rattle.hwp_io.specs.Causes.{Rose};
 
 use thiserror::Error;
 
@@ -13,7 +12,7 @@ pub struct Failed;
 /// Where bytes come from.
 ///
 /// `left` is what it has still to give, or `None` where it can't tell. `faults` counts its failed
-/// reads and never falls. A count that stands at its last value, `u64::MAX`, stays there.
+/// reads, without a bound.
 pub trait Source {
     ghost left: { Self → Option (List ℕ) };
 
@@ -26,13 +25,13 @@ pub trait Source {
         ensures bytes { ReadConsumes (left self.old) (left self.new) result buf.new }
         ensures later { faults self.old ≤ faults self.new }
         ensures quiet { OnOk result (faults self.new ≡ faults self.old) }
-        ensures fault { OnErr result (Rose (faults self.old) (faults self.new)) };
+        ensures fault { OnErr result (faults self.old < faults self.new) };
 }
 
 /// Where bytes go to.
 ///
-/// `taken` is what it took so far, or `None` where it can't tell. `faults` counts its failed writes
-/// and never falls. A count that stands at its last value, `u64::MAX`, stays there.
+/// `taken` is what it took so far, or `None` where it can't tell. `faults` counts its failed writes,
+/// without a bound.
 pub trait Sink {
     ghost taken: { Self → Option (List ℕ) };
 
@@ -46,5 +45,5 @@ pub trait Sink {
         ensures bytes { WriteAppends (taken self.old) (taken self.new) result buf.now }
         ensures later { faults self.old ≤ faults self.new }
         ensures quiet { OnOk result (faults self.new ≡ faults self.old) }
-        ensures fault { OnErr result (Rose (faults self.old) (faults self.new)) };
+        ensures fault { OnErr result (faults self.old < faults self.new) };
 }

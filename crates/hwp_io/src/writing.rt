@@ -1,6 +1,6 @@
-ghost use Rattle.std.specs.Prelude.{◌≡◌, ◌≤◌, OnOk, OnErr};
+ghost use Rattle.std.specs.Prelude.{◌≡◌, ◌<◌, ◌≤◌, OnOk, OnErr};
 ghost use Rattle.std.specs.Io.KnownBytes.{Appends};
-ghost use Rattle.hwp_io.specs.Causes.{Rose, AppendsStrictFront};
+ghost use Rattle.hwp_io.specs.Causes.{AppendsStrictFront};
 
 use super::{Failed, Sink};
 use thiserror::Error;
@@ -24,7 +24,7 @@ pub fn write_all<K: Sink>(out: &mut K, text: &[u8]) -> Result<(), WriteFault>
     // The count of faults rises at a fault alone.
     ensures later { K.faults out.old ≤ K.faults out.new }
     ensures quiet { OnOk result (K.faults out.new ≡ K.faults out.old) }
-    ensures fault { OnErr result (Rose (K.faults out.old) (K.faults out.new)) }
+    ensures fault { OnErr result (K.faults out.old < K.faults out.new) }
 {
     let mut rest = text;
     while !rest.is_empty() {

@@ -88,7 +88,7 @@ report = record {
   cpus =
       (lines.Answer 0 (answers.Stored (record { page = record { 0 = 0 }; entry = 2 }))
       ∷ lines.Answer 1 answers.Done
-      ∷ lines.Event 2 0 0xbd80000000000134 0x140 0x86 9 acts.Recovered
+      ∷ lines.Event (record { seq = 2; bank = 0; status = 0xbd80000000000134; addr = 0x140; misc = 0x86; row = 9; acted = acts.Recovered })
       ∷ lines.Answer 2 (answers.Sigbus (record { page = record { 0 = 0 }; entry = 4 }))
       ∷ lines.Answer 3 (answers.Sigbus (record { page = record { 0 = 0 }; entry = 5 }))
       ∷ []) ∷ [];

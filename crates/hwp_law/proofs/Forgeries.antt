@@ -16,6 +16,7 @@ use Rattle.hwp_report_text.specs.declared.Acted.TheVariants as acts
 use Rattle.hwp_report_text.specs.declared.Answer.{Answer}
 use Rattle.hwp_report_text.specs.declared.Answer.TheVariants as answers
 use Rattle.hwp_report_text.specs.declared.CpuLine.TheVariants as lines
+use Rattle.hwp_report_text.specs.declared.EventLine.{EventLine}
 use Rattle.hwp_report_text.specs.declared.How.TheVariants as hows
 use Rattle.hwp_report_text.specs.declared.MarkLine.{MarkLine}
 use Rattle.hwp_report_text.specs.declared.MarkLine.TheVariants as marks
@@ -31,7 +32,6 @@ use Rattle.hwp_law.specs.Entries.{IsMadeBy}
 use Rattle.hwp_law.specs.Events.{AreEventsOf, IsDamaged, MeetsMarked}
 use Rattle.hwp_law.specs.Frames.{IsPlaced}
 use Rattle.hwp_law.specs.Halts.{IsStoppedBy}
-use Rattle.hwp_law.specs.Lines.{EventLine}
 use Rattle.hwp_law.specs.Pairings.{AreRecorded}
 use Rattle.hwp_law.specs.Records.{Alternates, HaveEvents, WasPoisoned, ends_poisoned}
 use Rattle.hwp_law.specs.SeenPolicies.{IsPolicySeen}

@@ -24,6 +24,7 @@ use Rattle.hwp_report_text.specs.declared.Answer.{Answer}
 use Rattle.hwp_report_text.specs.declared.Answer.TheVariants as answers
 use Rattle.hwp_report_text.specs.declared.CpuLine.{CpuLine}
 use Rattle.hwp_report_text.specs.declared.CpuLine.TheVariants as lines
+use Rattle.hwp_report_text.specs.declared.EventLine.{EventLine}
 use Rattle.hwp_report_text.specs.declared.FrameLine.{FrameLine}
 use Rattle.hwp_report_text.specs.declared.How.{How}
 use Rattle.hwp_report_text.specs.declared.How.TheVariants as hows
@@ -34,7 +35,7 @@ use Rattle.hwp_law.specs.Answers.{IsAnswer, StandsAt, is_ample}
 use Rattle.hwp_report_text.specs.Acts.{is_panic, is_stopping}
 use Rattle.hwp_law.specs.Commands.{current_thread, is_kernels}
 use Rattle.hwp_law.specs.Endings.{IsGone}
-use Rattle.hwp_law.specs.Lines.{EventLine, bad_lines_of, events_of, marks_of}
+use Rattle.hwp_law.specs.Lines.{bad_lines_of, events_of, marks_of}
 use Rattle.hwp_law.specs.Places.{entry_at}
 use Rattle.hwp_law.specs.Records.{WasPoisoned, how_in, is_by_hardware, outcome_in, who_in}
 use Rattle.hwp_law.specs.States.{HadState}
@@ -157,7 +158,7 @@ IsHeeded report who answer = list_any ends_machine (events_of report who) ≡ tr
 -- the commands from number n on have exactly one answer each, in order, after their event lines, and the report shows its cause
 abbrev pub AreCaused : Script → Report → Cpu → ℕ → List Command → List CpuLine → Type 0
 AreCaused script report cpu n [] [] = Unit {0}
-AreCaused script report cpu n (command ∷ commands) (lines.Event seq bank status addr misc row acted ∷ rest) = (seq ≡ n) × AreCaused script report cpu n (command ∷ commands) rest
+AreCaused script report cpu n (command ∷ commands) (lines.Event event ∷ rest) = (event.seq ≡ n) × AreCaused script report cpu n (command ∷ commands) rest
 AreCaused script report cpu n (command ∷ commands) (lines.Answer seq answer ∷ rest) =
     (seq ≡ n) × IsCaused script report (record { cpu = cpu; seq = n }) command answer × IsHeeded report (record { cpu = cpu; seq = n }) answer × AreCaused script report cpu (n + 1) commands rest
 AreCaused script report cpu n _ _ = ⊥

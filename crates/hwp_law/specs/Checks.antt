@@ -10,13 +10,14 @@ use Rattle.hwp_report_text.specs.hwp_severity.Graded.{graded}
 use Rattle.hwp_script_read.specs.declared.Script.{Script}
 use Rattle.hwp_report_text.specs.declared.Acted.{Acted}
 use Rattle.hwp_report_text.specs.declared.Acted.TheVariants as acts
+use Rattle.hwp_report_text.specs.declared.EventLine.{EventLine}
 use Rattle.hwp_report_text.specs.declared.MarkLine.{MarkLine}
 use Rattle.hwp_report_text.specs.declared.Report.{Report}
 use Rattle.hwp_report_text.specs.hwp_banks.Banks.{Banks, held_from}
 use Rattle.hwp_report_text.specs.Acts.{is_panic}
 use Rattle.hwp_report_text.specs.hwp_severity.declared.Arrival.{Arrival}
 use Rattle.hwp_report_text.specs.hwp_severity.Handling.{has_stop, severity_of}
-use Rattle.hwp_law.specs.Lines.{EventLine, marks_of}
+use Rattle.hwp_law.specs.Lines.{marks_of}
 use Rattle.hwp_law.specs.Records.{WasPoisoned, hardware_marks, mark_results}
 
 -- the event of a bank was a failure, and it came to a result: that of a mark that the command made on the frame

@@ -15,12 +15,13 @@ use Rattle.hwp_script_read.specs.declared.Command.TheVariants as commands
 use Rattle.hwp_script_read.specs.declared.Script.{Script}
 use Rattle.hwp_report_text.specs.declared.Answer.{Answer}
 use Rattle.hwp_report_text.specs.declared.Answer.TheVariants as answers
+use Rattle.hwp_report_text.specs.declared.EventLine.{EventLine}
 use Rattle.hwp_report_text.specs.declared.Report.{Report}
 use Rattle.hwp_report_text.specs.hwp_banks.Banks.{Banks, empty_banks, log_in, raw_bank, raw_event}
 use Rattle.hwp_law.specs.Checks.{AreLinesOf, IsCheck}
 use Rattle.hwp_report_text.specs.hwp_severity.declared.Arrival.{Arrival}
 use Rattle.hwp_law.specs.Commands.{arrival_of}
-use Rattle.hwp_law.specs.Lines.{EventLine, answer_of, bad_lines_of, events_of, weak_lines_of}
+use Rattle.hwp_law.specs.Lines.{answer_of, bad_lines_of, events_of, weak_lines_of}
 use Rattle.hwp_law.specs.Pairings.{entries_of}
 use Rattle.hwp_law.specs.Places.{command_at}
 

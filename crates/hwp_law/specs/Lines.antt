@@ -2,23 +2,13 @@
 use Rattle.std.specs.Prelude.{ℕ, ◌==◌, ◌&&◌, Bool, List, [], Option, Some, None, filter, filter_map, slice_get, option_map, unwrap_or}
 use Rattle.std.specs.List.{find}
 use Rattle.hwp_script_read.specs.hwp_geom.declared.Who.{Who}
-use Rattle.hwp_report_text.specs.declared.Acted.{Acted}
 use Rattle.hwp_report_text.specs.declared.Answer.{Answer}
 use Rattle.hwp_report_text.specs.declared.CpuLine.{CpuLine}
 use Rattle.hwp_report_text.specs.declared.CpuLine.TheVariants as lines
+use Rattle.hwp_report_text.specs.declared.EventLine.{EventLine}
 use Rattle.hwp_report_text.specs.declared.FrameLine.{FrameLine}
 use Rattle.hwp_report_text.specs.declared.MarkLine.{MarkLine}
 use Rattle.hwp_report_text.specs.declared.Report.{Report}
-
--- the line of a bank's event
-pub record EventLine : Type 0 where
-  pub seq : ℕ
-  pub bank : ℕ
-  pub status : ℕ
-  pub addr : ℕ
-  pub misc : ℕ
-  pub row : ℕ
-  pub acted : Acted
 
 -- the line of an answer
 pub record AnswerLine : Type 0 where
@@ -26,12 +16,11 @@ pub record AnswerLine : Type 0 where
   pub answer : Answer
 
 abbrev pub event_in : CpuLine → Option EventLine
-event_in (lines.Event seq bank status addr misc row acted) =
-    Some (record { seq = seq; bank = bank; status = status; addr = addr; misc = misc; row = row; acted = acted })
+event_in (lines.Event event) = Some event
 event_in (lines.Answer seq answer) = None
 
 abbrev pub answer_in : CpuLine → Option AnswerLine
-answer_in (lines.Event seq bank status addr misc row acted) = None
+answer_in (lines.Event event) = None
 answer_in (lines.Answer seq answer) = Some (record { seq = seq; answer = answer })
 
 -- the two are one command of one processor

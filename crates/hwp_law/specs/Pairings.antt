@@ -12,7 +12,8 @@ use Rattle.hwp_report_text.specs.declared.How.{How}
 use Rattle.hwp_report_text.specs.declared.How.TheVariants as hows
 use Rattle.hwp_report_text.specs.declared.MarkLine.{MarkLine}
 use Rattle.hwp_report_text.specs.declared.Report.{Report}
-use Rattle.hwp_law.specs.Lines.{EventLine, is_same_command}
+use Rattle.hwp_report_text.specs.declared.EventLine.{EventLine}
+use Rattle.hwp_law.specs.Lines.{is_same_command}
 use Rattle.hwp_law.specs.Records.{hardware_marks, how_in, is_by_hardware, result_lines, who_in}
 
 -- the marks of a command that no bank's event caused

@@ -15,12 +15,13 @@ use Rattle.hwp_report_text.specs.declared.Acted.{Acted}
 use Rattle.hwp_report_text.specs.declared.Acted.TheVariants as acts
 use Rattle.hwp_report_text.specs.declared.Answer.{Answer}
 use Rattle.hwp_report_text.specs.declared.Answer.TheVariants as answers
+use Rattle.hwp_report_text.specs.declared.EventLine.{EventLine}
 use Rattle.hwp_report_text.specs.declared.How.{How}
 use Rattle.hwp_report_text.specs.declared.How.TheVariants as hows
 use Rattle.hwp_report_text.specs.declared.MarkLine.{MarkLine}
 use Rattle.hwp_report_text.specs.declared.MarkLine.TheVariants as marks
 use Rattle.hwp_report_text.specs.declared.Report.{Report}
-use Rattle.hwp_law.specs.Lines.{EventLine, answer_of, events_of, is_same_command, marks_of}
+use Rattle.hwp_law.specs.Lines.{answer_of, events_of, is_same_command, marks_of}
 use Rattle.hwp_law.specs.Places.{command_at}
 
 -- what a mark says

@@ -1,5 +1,5 @@
 -- Each answer of a run rests on what its own command was shown.
-use Rattle.std.proofs.Common.{◌≡◌, ℕ, ◌<◌, Bool, true, false, cond, nat_le, List, Option, Some, None, map, slice_get, option_and_then, sym, ap, ◌∙◌, subst, refl, true≢false}
+use Rattle.std.proofs.Common.{◌≡◌, ◌⊎◌, ℕ, ◌<◌, Bool, true, false, cond, nat_le, List, Option, Some, None, map, slice_get, option_and_then, sym, ap, ◌∙◌, subst, refl, true≢false}
 use Rattle.std.proofs.lemmas.Option.{none-some, same_Some}
 use Rattle.hwp_law_run.specs.hwp_geom.declared.Cpu.{Cpu}
 use Rattle.hwp_law_run.specs.hwp_geom.declared.Layout.{Layout}
@@ -42,16 +42,17 @@ use Rattle.hwp_law_run.proofs.SeatKnows.{Said}
 use Rattle.hwp_law_run.proofs.SeatTells.{all-told, told}
 use Rattle.hwp_scrub.specs.Visits.{AreBanks}
 use Rattle.hwp_law_holds.specs.Causes.{IsAnswerCaused}
+use Rattle.hwp_law_holds.specs.Rows.{event_at}
 use Rattle.hwp_law_holds.specs.Runs.{IsRunOf, row_at}
-use Rattle.hwp_law_holds.specs.Served.{IsRowServed}
+use Rattle.hwp_law_holds.specs.Served.{IsRowServed, SawRunning}
 use Rattle.hwp_law_holds.specs.Told.{IsScrubTold}
 use Rattle.hwp_law_holds.proofs.RunEnds.{command-of}
 use Rattle.hwp_law_holds.proofs.LastBoard.{ended}
-use Rattle.hwp_law_holds.proofs.RowLines.{answer-told, event_at, events-by-row, events-told, told_at}
+use Rattle.hwp_law_holds.proofs.RowLines.{answer-told, events-by-row, events-told, told_at}
 use Rattle.hwp_law_holds.proofs.lines.OfRows.{row-of}
 use Rattle.hwp_law_holds.proofs.lines.ScrubShown.{bad-shown, looked-at, weak-shown}
 use Rattle.hwp_law_holds.proofs.RowTold.{IsToldRight, told-so}
-use Rattle.hwp_law_holds.proofs.Shown.{already-shown, answer-shown, goes-shown}
+use Rattle.hwp_law_holds.proofs.Shown.{already-shown, answer-shown, goes-shown, runs-shown}
 
 -- the list of a processor that has such a command
 record HasCommand (script : Script) (who : Who) (command : Command) : Type 0 where
@@ -164,7 +165,7 @@ module _ (script : Script) (seat : Cpu → ℕ) (turns : List Played) (last : St
   caused-so {who} {command} a = subst (IsAnswerCaused script.layout a.list (view_of last (seat who.cpu)) who command a.row.told a.row.own) a.answer_is a.served.caused
 
   said : (cpu : Cpu) → cpu.0 < script.layout.cpus → Said (told script.layout turns) (view_of last (seat cpu))
-  said cpu inside = all-told script.layout turns last run.moves (seat cpu) (view_of last (seat cpu)) (run.seated.there cpu inside)
+  said cpu inside = all-told script.layout turns last run.rule run.moves (seat cpu) (view_of last (seat cpu)) (run.seated.there cpu inside)
 
   events-shown : (who : Who) (o : Option Row) → row_at (ended script seat turns last report run).rows who ≡ o → EachMember (AlreadyShown script.layout turns who) (map (event_at who.seq) (told_at o))
   events-shown who None none = λ i e there. absurd (none-some e there)
@@ -187,6 +188,9 @@ module _ (script : Script) (seat : Cpu → ℕ) (turns : List Played) (last : St
         let has = process-command script who process at in
         let a = answers-of who has.0 answer has.1 is in
         goes-shown script turns (view_of last (seat who.cpu)) (said who.cpu a.inside) who a.list process has.0 a.row.told a.row.own answer has.1 at (caused-so a);
+    running = λ who command answer at is.
+        let a = answers-of who command answer at is in
+        runs-shown script.layout turns (view_of last (seat who.cpu)) (said who.cpu a.inside) who answer (subst (λ (x : Answer). (x ≡ answers.Stopped) ⊎ SawRunning (view_of last (seat who.cpu)) who) a.answer_is a.served.running);
     events = λ who. subst (EachMember (AlreadyShown script.layout turns who)) (sym (events-by-row script seat last report (ended script seat turns last report run) who)) (events-shown who (row_at (ended script seat turns last report run).rows who) refl);
   }
 

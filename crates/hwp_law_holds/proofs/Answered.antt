@@ -34,13 +34,14 @@ use Rattle.hwp_law_run.specs.hwp_script_read.declared.Command.TheVariants as com
 use Rattle.hwp_law_run.specs.hwp_script_read.declared.Script.{Script}
 use Rattle.hwp_law_run.specs.hwp_report_text.declared.Answer.{Answer}
 use Rattle.hwp_law_run.specs.hwp_report_text.declared.Answer.TheVariants as answers
+use Rattle.hwp_law_run.specs.hwp_report_text.declared.EventLine.{EventLine}
 use Rattle.hwp_law_run.specs.hwp_report_text.declared.FrameLine.{FrameLine}
 use Rattle.hwp_law_run.specs.hwp_report_text.declared.MarkLine.{MarkLine}
 use Rattle.hwp_law_run.specs.hwp_report_text.declared.Report.{Report}
 use Rattle.hwp_law_run.specs.hwp_law.Answers.{StandsAt, reply_answer}
 use Rattle.hwp_law_run.specs.hwp_law.Causes.{AreBadLines, ComesTo, HadBadLines, HasMark, IsCaused as IsLawCaused, IsFailureAnswer, IsOfflineAnswer, IsSigbus, IsUnpoisonAnswer, SendsSigbus, TakesBack}
 use Rattle.hwp_law_run.specs.hwp_law.Commands.{current_thread}
-use Rattle.hwp_law_run.specs.hwp_law.Lines.{EventLine, bad_lines_of, events_of}
+use Rattle.hwp_law_run.specs.hwp_law.Lines.{bad_lines_of, events_of}
 use Rattle.hwp_law_run.specs.hwp_law.Places.{command_at, entry_at}
 use Rattle.hwp_law_run.specs.hwp_law.Policies.{arguments, last_policy, policy_before, settings}
 use Rattle.hwp_law_run.specs.hwp_law.Records.{how_in}
@@ -53,7 +54,7 @@ use Rattle.hwp_cpu_row.specs.declared.Row.{Row}
 use Rattle.hwp_cpu_row.specs.hwp_cpu_check.declared.EventOutcome.{EventOutcome}
 use Rattle.hwp_cpu_row.specs.hwp_cpu_check.Told.{first_signal}
 use Rattle.hwp_law_holds.specs.Causes.{FoundState, HasCome, IsAnswerCaused, IsInjectCaused, IsOfflineCaused, IsSoftCaused, IsUnpoisonCaused, SawBadLines}
-use Rattle.hwp_law_holds.specs.Rows.{offlined}
+use Rattle.hwp_law_holds.specs.Rows.{event_at, offlined}
 use Rattle.hwp_law_holds.specs.Runs.{row_at}
 use Rattle.hwp_law_holds.proofs.Ample.{not-ample}
 use Rattle.hwp_law_holds.proofs.RunEnds.{IsEnd, IsOf}
@@ -61,7 +62,7 @@ use Rattle.hwp_law_holds.proofs.endings.Gone.{is-gone}
 use Rattle.hwp_law_holds.proofs.deeds.Made.{command-is, some-so}
 use Rattle.hwp_law_holds.proofs.lines.Records.{own-mark}
 use Rattle.hwp_law_holds.proofs.marks.RecordPlaces.{was-hardware-seen, was-poisoned}
-use Rattle.hwp_law_holds.proofs.RowLines.{event_at, events-told}
+use Rattle.hwp_law_holds.proofs.RowLines.{events-told}
 use Rattle.hwp_law_holds.proofs.Seen.{HasSignalled, MadeWhat, has-signalled, made-what}
 use Rattle.hwp_law_holds.proofs.Signalled.{signalled-sends}
 use Rattle.hwp_law_holds.proofs.Stops.{stop-there}

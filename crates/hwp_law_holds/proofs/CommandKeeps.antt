@@ -45,7 +45,7 @@ use Rattle.hwp_cpu_row.specs.declared.FrameChange.{FrameChange}
 use Rattle.hwp_cpu_row.specs.declared.Row.{Row}
 use Rattle.hwp_cpu_row.specs.hwp_cpu_check.declared.EventOutcome.{EventOutcome}
 use Rattle.hwp_law_holds.specs.Causes.{FoundGone, FoundNoFrame, FoundPoisoned, FoundState, FoundStopped, FoundBadLines, HasCome, HasFailed, HasMoved, HasOnlyBegun, HasOnlyMet, HasSpoiledLine, HasTaken, IsAnswerCaused, IsCaused, IsCopyCaused, IsInjectCaused, IsLoadCaused, IsOfflineCaused, IsPageCaused, IsReplied, IsSoftCaused, IsStoreCaused, IsTableCaused, MadeOne, Reached, SawBadLines, SawProcess, WasRaised, WasSignalled, IsUnpoisonCaused}
-use Rattle.hwp_law_holds.specs.Served.{IsRowServed}
+use Rattle.hwp_law_holds.specs.Served.{IsRowServed, SawRunning}
 use Rattle.hwp_law_holds.proofs.AccountKeeps.{account-stays}
 use Rattle.hwp_law_holds.proofs.StepAdds.{some-more}
 use Rattle.hwp_law_holds.proofs.lines.Spoils.{spoils-by}
@@ -97,6 +97,12 @@ stops-by layout who (steps.Kill process page body) found content v =
     let is = lists layout who (log_of body.value) (body_of body.value.page v) v in either (found == 0) v _ _ (same v _ is) (same v _ is)
 stops-by layout who (steps.Lose file body) found content v = same v _ (lists layout who (log_of body.value) (body_of body.value.page v) v)
 stops-by layout who _ found content v = same v _ refl
+
+-- ---- the stop word
+
+-- a command that saw the machine running has seen it after each step too
+pub saw-running-stays : {layout : Layout} {by who : Who} {step : Step} {put : Option Log} {old new : View} {found : ℕ} {got : Option BodyValue} → Steps layout by step put old new found got → SawRunning old who → SawRunning new who
+saw-running-stays made saw = record { word = saw.word; running = saw.running; saw = saw-stays made saw.saw }
 
 -- ---- over a step of another command
 
@@ -240,7 +246,13 @@ module _ {layout : Layout} {by : Who} {step : Step} {body : Option BodyValue} {o
   -- ---- unpoisoning
 
   unpoison-stays : (frame : Frame) (own : Option FrameChange) (answer : Answer) → IsUnpoisonCaused layout old who frame own answer → IsUnpoisonCaused layout new who frame own answer
-  unpoison-stays frame own answers.Done caused = caused
+  unpoison-stays frame own answers.Done caused = record {
+    cycle = caused.cycle;
+    own_is = caused.own_is;
+    revivable = record { word = caused.revivable.word; poisoned = caused.revivable.poisoned; revivable = caused.revivable.revivable; saw = saw-stays made caused.revivable.saw };
+    counter = record { word = caused.counter.word; none = caused.counter.none; saw = saw-stays made caused.counter.saw };
+    bad = saw-stays made caused.bad;
+  }
   unpoison-stays frame own answers.NotPoisoned caused = record { word = caused.word; sound = caused.sound; saw = saw-stays made caused.saw }
   unpoison-stays frame own answers.HardwareSeen caused = record { word = caused.word; some = caused.some; saw = saw-stays made caused.saw }
   unpoison-stays frame own (answers.HasBad mask) caused = record { inside = caused.inside; some = caused.some; saw = saw-stays made caused.saw }
@@ -311,4 +323,9 @@ module _ {layout : Layout} {by : Who} {step : Step} {body : Option BodyValue} {o
     accounted = account-stays made who other same-deeds command row served.accounted;
     told = row-told-stays can made who other command before row left served.told;
     heeded = served.heeded;
+    running = still served.running;
   }
+    where
+      still : (row.answer ≡ answers.Stopped) ⊎ SawRunning old who → (row.answer ≡ answers.Stopped) ⊎ SawRunning new who
+      still (inl stopped) = inl stopped
+      still (inr saw) = inr (saw-running-stays made saw)

@@ -12,18 +12,15 @@ use Rattle.hwp_law_run.specs.hwp_script_read.declared.Script.{Script}
 use Rattle.hwp_law_run.specs.hwp_report_text.declared.Answer.{Answer}
 use Rattle.hwp_law_run.specs.hwp_report_text.declared.CpuLine.{CpuLine}
 use Rattle.hwp_law_run.specs.hwp_report_text.declared.CpuLine.TheVariants as lines
+use Rattle.hwp_law_run.specs.hwp_report_text.declared.EventLine.{EventLine}
 use Rattle.hwp_law_run.specs.hwp_report_text.declared.Report.{Report}
 use Rattle.hwp_law_run.proofs.of_hwp_law.Rows.{same_answer}
-use Rattle.hwp_law_run.specs.hwp_law.Lines.{AnswerLine, EventLine, answer_among, answer_in, answer_of, event_in, events_among, events_of}
+use Rattle.hwp_law_run.specs.hwp_law.Lines.{AnswerLine, answer_among, answer_in, answer_of, event_in, events_among, events_of}
 use Rattle.hwp_cpu_row.specs.declared.Row.{Row}
 use Rattle.hwp_cpu_row.specs.hwp_cpu_check.declared.EventOutcome.{EventOutcome}
-use Rattle.hwp_law_holds.specs.Rows.{event_line, lines_from, row_lines}
+use Rattle.hwp_law_holds.specs.Rows.{event_at, event_line, lines_from, row_lines}
 use Rattle.hwp_law_holds.specs.Runs.{row_at}
 use Rattle.hwp_law_holds.proofs.RunEnds.{IsEnd, IsOf, list-of, rows-of-lines, served-of}
-
--- what a report says of an event that a command told
-abbrev pub event_at : ℕ → EventOutcome → EventLine
-event_at seq t = record { seq = seq; bank = t.held.bank; status = t.held.event.status.0; addr = t.held.event.addr; misc = t.held.event.misc; row = t.held.grade.row; acted = t.acted }
 
 -- what a command told that has this row, or none
 abbrev pub told_at : Option Row → List EventOutcome
@@ -56,7 +53,7 @@ first-of (x ∷ xs) ys zero y there = there
 first-of (x ∷ xs) ys (suc i) y there = first-of xs ys i y there
 
 abbrev is_answer : CpuLine → Bool
-is_answer (lines.Event seq bank status addr misc row acted) = false
+is_answer (lines.Event event) = false
 is_answer (lines.Answer seq answer) = true
 
 -- a row has one answer, which stands last

@@ -1,7 +1,7 @@
 -- What a command's cause rests on was shown by turns of the command itself.
-use Rattle.std.proofs.Common.{◌≡◌, ◌≢◌, ◌⊎◌, ℕ, ◌+◌, not, true, false, List, Option, Some, None, length, take, slice_get, option_and_then, refl, sym, ap, ◌∙◌, subst, inl, inr, true≢false, ◌<◌}
+use Rattle.std.proofs.Common.{◌≡◌, ◌≢◌, ◌⊎◌, ℕ, ◌+◌, ◌==◌, not, true, false, List, Option, Some, None, length, take, slice_get, option_and_then, refl, sym, ap, ◌∙◌, subst, inl, inr, true≢false, ◌<◌}
 use Rattle.std.specs.Prelude.{IsSomeAnd}
-use Rattle.std.proofs.lemmas.Bool.{eq-eqb}
+use Rattle.std.proofs.lemmas.Bool.{eq-eqb, eqb-true, not-false}
 use Rattle.std.proofs.lemmas.Option.{none-some, same_Some}
 use Rattle.hwp_law_run.specs.hwp_geom.declared.Frame.{Frame}
 use Rattle.hwp_law_run.specs.hwp_geom.declared.Layout.{Layout}
@@ -20,7 +20,7 @@ use Rattle.hwp_law_run.specs.hwp_page.declared.PageState.{PageState}
 use Rattle.hwp_law_run.specs.hwp_page.Refusals.{IsAway}
 use Rattle.hwp_law_run.specs.hwp_page.Step.{IsOf}
 use Rattle.hwp_law_run.specs.hwp_words.Counters.{hardware_of}
-use Rattle.hwp_law_run.specs.hwp_words.Frames.{is_kernel, is_poisoned, count_of}
+use Rattle.hwp_law_run.specs.hwp_words.Frames.{count_of, is_kernel, is_poisoned, lock_of}
 use Rattle.hwp_law_run.specs.hwp_words.Stops.{stopper_of}
 use Rattle.hwp_law_run.specs.hwp_core_rule.declared.Length.{Length}
 use Rattle.hwp_law_run.specs.hwp_core_rule.declared.Log.{Log}
@@ -34,7 +34,7 @@ use Rattle.hwp_law_run.specs.hwp_core_rule.Lists.{SomeMember}
 use Rattle.hwp_law_run.specs.hwp_core_rule.Logs.{state_of}
 use Rattle.hwp_law_run.specs.hwp_core_rule.Steps.{place_of}
 use Rattle.hwp_law_run.specs.hwp_core_task.Boards.{Played}
-use Rattle.hwp_law_run.specs.hwp_core_task.Known.{Saw, SawBadOf, SawLog, SawStop}
+use Rattle.hwp_law_run.specs.hwp_core_task.Known.{Saw, SawAdopted, SawBadOf, SawLog, SawStop}
 use Rattle.hwp_soft.specs.hwp_claim_frame.Claims.{SawPoison}
 use Rattle.hwp_law_run.specs.hwp_core_task.Pages.{SawState}
 use Rattle.hwp_law_run.specs.hwp_script_read.declared.Command.{Command}
@@ -52,12 +52,13 @@ use Rattle.hwp_law_run.specs.hwp_law.Runs.{slot_of}
 use Rattle.hwp_cpu_row.specs.declared.FrameChange.{FrameChange}
 use Rattle.hwp_cpu_row.specs.hwp_cpu_check.declared.EventOutcome.{EventOutcome}
 use Rattle.hwp_cpu_row.specs.hwp_cpu_check.Told.{frame_of}
-use Rattle.hwp_law_run.specs.Shown.{AlreadyShown, AnswerShown, GoesOn, GoneShown, IsFree, LengthShown, NoFrameShown, ProcessShown, StopShown, IsRevivable}
+use Rattle.hwp_law_run.specs.Shown.{AdoptShown, AlreadyShown, AnswerShown, GoesOn, GoneShown, IsFree, LengthShown, NoFrameShown, ProcessShown, RunningShown, StopShown, IsRevivable}
 use Rattle.hwp_law_run.specs.Turns.{Finds, FindsBad, HasFrameOf, SawPage, SeesPage, TurnBy}
 use Rattle.hwp_law_run.proofs.SeatKnows.{IsUnder, Said}
-use Rattle.hwp_law_run.proofs.SeatTells.{told}
+use Rattle.hwp_law_run.proofs.SeatTells.{ShowsAdopted, told}
 use Rattle.hwp_law_holds.specs.Causes.{FoundGone, FoundNoFrame, FoundState, FoundStopped, IsAnswerCaused, IsOfflineCaused, IsSoftCaused, IsTableCaused, SawBadLines, SawProcess, WasSignalled, IsUnpoisonCaused}
-use Rattle.hwp_law_holds.proofs.RowLines.{event_at}
+use Rattle.hwp_law_holds.specs.Rows.{event_at}
+use Rattle.hwp_law_holds.specs.Served.{SawRunning}
 use Rattle.hwp_law_holds.proofs.deeds.Made.{some-so}
 
 -- a translation is of one page
@@ -91,14 +92,21 @@ module _ (layout : Layout) (turns : List Played) (view : View) (said : Said (tol
   pub word-shown : (P : ℕ → Type 0) (place : SharedWord) (word : ℕ) → P word → Saw view who place word → Finds layout turns who place P
   word-shown P place word such saw =
       let s : Sight = saw.1 in
-      turn-so (λ (made : Rec) (v : View). (place_of made.step ≡ s.place) × (made.found ≡ s.word) × IsUnder s v) (λ (made : Rec) (v : View). (place_of made.step ≡ place) × P made.found) s.stamp.who saw.3.0
+      turn-so (λ (made : Rec) (v : View). (place_of made.step ≡ s.place) × (made.found ≡ s.word) × IsUnder s v × ShowsAdopted s made.step) (λ (made : Rec) (v : View). (place_of made.step ≡ place) × P made.found) s.stamp.who saw.3.0
       (λ made v is. (is.0 ∙ saw.3.1, subst P (sym (is.1 ∙ saw.3.2)) such)) (said.sights saw.0 s saw.2)
+
+  -- a free frame that the command adopted
+  pub adopt-shown : (frame : Frame) (word : ℕ) → IsFree word → SawAdopted view who frame word → AdoptShown layout turns who frame
+  adopt-shown frame word free saw =
+      let s : Sight = saw.1 in
+      turn-so (λ (made : Rec) (v : View). (place_of made.step ≡ s.place) × (made.found ≡ s.word) × IsUnder s v × ShowsAdopted s made.step) (λ (made : Rec) (v : View). (made.step ≡ steps.Adopt frame) × IsFree made.found) s.stamp.who saw.3.0.0
+      (λ made v is. (is.3.adopted frame saw.3.0.1 saw.3.1 (ap lock_of saw.3.0.2 ∙ free.bare.unlocked), subst IsFree (sym (is.1 ∙ saw.3.0.2)) free)) (said.sights saw.0 s saw.2)
 
   -- bad lines of a frame that the command saw under the frame's lock
   look-shown : (page : Page) (frame : Frame) (mask : ℕ) → SawBadOf view who page frame mask → FindsBad layout turns who page frame mask
   look-shown page frame mask saw =
       let s : Sight = saw.1 in
-      turn-so (λ (made : Rec) (v : View). (place_of made.step ≡ s.place) × (made.found ≡ s.word) × IsUnder s v) (λ (made : Rec) (v : View). (place_of made.step ≡ places.Bad frame) × (made.found ≡ mask) × HasFrameOf page frame v) s.stamp.who saw.3.0.0
+      turn-so (λ (made : Rec) (v : View). (place_of made.step ≡ s.place) × (made.found ≡ s.word) × IsUnder s v × ShowsAdopted s made.step) (λ (made : Rec) (v : View). (place_of made.step ≡ places.Bad frame) × (made.found ≡ mask) × HasFrameOf page frame v) s.stamp.who saw.3.0.0
       (λ made v is. (is.0 ∙ saw.3.0.1, is.1 ∙ saw.3.0.2, is.2.locked frame (page.0 + 1) saw.3.0.1 saw.3.1 saw.3.2)) (said.sights saw.0 s saw.2)
 
   -- a history that the command saw
@@ -137,6 +145,15 @@ module _ (layout : Layout) (turns : List Played) (view : View) (said : Said (tol
       which : SawStop view who ⊎ SomeMember (λ (w : Who). w ≡ who) view.stops → StopShown layout turns who
       which (inl saw) = inl (word-shown (λ (word : ℕ). stopper_of word ≢ 0) places.Stop saw.word (λ none. true≢false (sym saw.stopped ∙ ap not (eq-eqb (stopper_of saw.word) 0 none))) saw.saw)
       which (inr own) = inr (subst (λ (by : Who). TurnBy layout turns by (λ (made : Rec) (v : View). (made.step ≡ steps.Stop by.cpu) × (made.found ≡ 0))) own.3 (said.stops own.0 own.1 own.2))
+
+  -- the machine ran
+  running-shown : (answer : Answer) → SawRunning view who → RunningShown layout turns who answer
+  running-shown answers.Stopped saw = tt
+  running-shown answer saw = word-shown (λ (word : ℕ). stopper_of word ≡ 0) places.Stop saw.word (eqb-true (stopper_of saw.word) 0 (not-false (stopper_of saw.word == 0) saw.running)) saw.saw
+
+  pub runs-shown : (answer : Answer) → (answer ≡ answers.Stopped) ⊎ SawRunning view who → RunningShown layout turns who answer
+  runs-shown answer (inl stopped) = subst (RunningShown layout turns who) (sym stopped) tt
+  runs-shown answer (inr saw) = running-shown answer saw
 
   -- the word of the process of the command's thread
   pub process-shown : {thread : Thread} {word : ℕ} (process : Proc) → process_of_thread layout thread ≡ Some process → SawProcess layout view who thread word → ProcessShown layout turns who process word
@@ -226,7 +243,7 @@ module _ (script : Script) (turns : List Played) (view : View) (said : Said (tol
   -- what the answer of a soft offline rests on
   offline-shown : (frame : Frame) (own : Option FrameChange) (answer : Answer) → IsOfflineCaused script.layout view who frame own answer → AnswerShown script turns who (commands.Soft frame) answer
   offline-shown frame own (answers.Moved other entry) caused =
-      word-shown script.layout turns view said who IsFree (places.Frame other) caused.word (record { bare = caused.free.bare; uncounted = caused.free.uncounted }) caused.free.saw
+      adopt-shown script.layout turns view said who other caused.word (record { bare = caused.free.bare; uncounted = caused.free.uncounted }) caused.free.saw
   offline-shown frame own answers.TakenFree caused = tt
   offline-shown frame own answers.Already caused =
       word-shown script.layout turns view said who (λ (word : ℕ). is_poisoned word ≡ true) (places.Frame frame) caused.0.word caused.0.poisoned caused.0.saw
@@ -245,7 +262,11 @@ module _ (script : Script) (turns : List Played) (view : View) (said : Said (tol
 
   -- what the answer of a command that takes a poison back rests on
   unpoison-shown : (frame : Frame) (own : Option FrameChange) (answer : Answer) → IsUnpoisonCaused script.layout view who frame own answer → AnswerShown script turns who (commands.Unpoison frame) answer
-  unpoison-shown frame own answers.Done caused = tt
+  unpoison-shown frame own answers.Done caused = record {
+    revivable = word-shown script.layout turns view said who (λ (word : ℕ). IsRevivable word × (is_poisoned word ≡ true)) (places.Frame frame) caused.revivable.word (caused.revivable.revivable, caused.revivable.poisoned) caused.revivable.saw;
+    counter = word-shown script.layout turns view said who (λ (word : ℕ). hardware_of word ≡ 0) places.Counter caused.counter.word caused.counter.none caused.counter.saw;
+    bad = word-shown script.layout turns view said who (λ (word : ℕ). word ≡ 0) (places.Bad frame) 0 refl caused.bad;
+  }
   unpoison-shown frame own answers.NotPoisoned caused = word-shown script.layout turns view said who (λ (word : ℕ). is_poisoned word ≡ false) (places.Frame frame) caused.word caused.sound caused.saw
   unpoison-shown frame own answers.HardwareSeen caused = word-shown script.layout turns view said who (λ (word : ℕ). 0 < hardware_of word) places.Counter caused.word caused.some caused.saw
   unpoison-shown frame own (answers.HasBad mask) caused = word-shown script.layout turns view said who (λ (word : ℕ). word ≡ mask.0) (places.Bad frame) mask.0 refl caused.saw

@@ -22,21 +22,22 @@ use Rattle.hwp_law_run.specs.hwp_script_read.declared.Command.TheVariants as com
 use Rattle.hwp_law_run.specs.hwp_script_read.declared.Script.{Script}
 use Rattle.hwp_law_run.specs.hwp_report_text.declared.Acted.{Acted}
 use Rattle.hwp_law_run.specs.hwp_report_text.declared.Acted.TheVariants as acts
+use Rattle.hwp_law_run.specs.hwp_report_text.declared.EventLine.{EventLine}
 use Rattle.hwp_law_run.specs.hwp_report_text.declared.Report.{Report}
 use Rattle.hwp_law_run.specs.hwp_report_text.declared.StopCause.{StopCause}
 use Rattle.hwp_law_run.specs.hwp_law.Causes.{ends_machine}
 use Rattle.hwp_law_run.specs.hwp_report_text.Acts.{is_panic, is_stopping}
 use Rattle.hwp_law_run.specs.hwp_law.Commands.{arrival_of}
 use Rattle.hwp_law_run.specs.hwp_law.Halts.{CanStop as CanStopFor, Panics, is_panic_of}
-use Rattle.hwp_law_run.specs.hwp_law.Lines.{EventLine, events_of}
+use Rattle.hwp_law_run.specs.hwp_law.Lines.{events_of}
 use Rattle.hwp_law_run.specs.hwp_law.Records.{outcome_act}
 use Rattle.hwp_soft.specs.hwp_claim.declared.Found.{Found}
 use Rattle.hwp_cpu_row.specs.hwp_cpu_check.declared.EventOutcome.{EventOutcome}
 use Rattle.hwp_cpu_row.specs.hwp_cpu_check.Fits.{IsDone, IsFailed}
 use Rattle.hwp_cpu_row.specs.hwp_cpu_check.Told.{at_once, frame_of, halts, required_by, severity_at_once}
+use Rattle.hwp_law_holds.specs.Rows.{event_at}
 use Rattle.hwp_law_holds.specs.Runs.{IsCauseOf, panic_cause, severity_cause, told_cause}
 use Rattle.hwp_law_holds.specs.Served.{CanStop}
-use Rattle.hwp_law_holds.proofs.RowLines.{event_at}
 use Rattle.hwp_law_holds.proofs.RowTold.{IsToldRight}
 
 -- ---- lists

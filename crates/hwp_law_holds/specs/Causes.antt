@@ -247,13 +247,29 @@ pub record FoundInUse (view : View) (who : Who) (frame : Frame) (count : ℕ) : 
   pub count_is : count_of word ≡ count
   pub saw : Saw view who (places.Frame frame) word
 
--- or it took the frame's poison back
-pub record HasRevived (frame : Frame) (own : Option FrameChange) : Type 0 where
+-- or that no memory had failed by the hardware
+pub record FoundNoHardware (view : View) (who : Who) : Type 0 where
+  pub word : ℕ
+  pub none : hardware_of word ≡ 0
+  pub saw : Saw view who places.Counter word
+
+-- or that the frame was poisoned and could be unpoisoned
+pub record FoundRevivable (view : View) (who : Who) (frame : Frame) : Type 0 where
+  pub word : ℕ
+  pub poisoned : is_poisoned word ≡ true
+  pub revivable : IsRevivable word
+  pub saw : Saw view who (places.Frame frame) word
+
+-- or it took the frame's poison back, and was shown that it could: the frame's word, no failure by the hardware, and no bad line
+pub record HasRevived (view : View) (who : Who) (frame : Frame) (own : Option FrameChange) : Type 0 where
   pub cycle : ℕ
   pub own_is : own ≡ Some (owns.Revived frame cycle)
+  pub revivable : FoundRevivable view who frame
+  pub counter : FoundNoHardware view who
+  pub bad : Saw view who (places.Bad frame) 0
 
 abbrev pub IsUnpoisonCaused : Layout → View → Who → Frame → Option FrameChange → Answer → Type 0
-IsUnpoisonCaused layout view who frame own answers.Done = HasRevived frame own
+IsUnpoisonCaused layout view who frame own answers.Done = HasRevived view who frame own
 IsUnpoisonCaused layout view who frame own answers.NotPoisoned = FoundSound view who frame
 IsUnpoisonCaused layout view who frame own answers.HardwareSeen = FoundHardware view who
 IsUnpoisonCaused layout view who frame own (answers.HasBad mask) = FoundBad layout view who frame mask

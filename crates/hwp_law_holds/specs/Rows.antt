@@ -7,6 +7,7 @@ use Rattle.hwp_law_run.specs.hwp_geom.declared.Who.{Who}
 use Rattle.hwp_law_run.specs.hwp_page.Situations.{outcome_of}
 use Rattle.hwp_law_run.specs.hwp_report_text.declared.CpuLine.{CpuLine}
 use Rattle.hwp_law_run.specs.hwp_report_text.declared.CpuLine.TheVariants as lines
+use Rattle.hwp_law_run.specs.hwp_report_text.declared.EventLine.{EventLine}
 use Rattle.hwp_law_run.specs.hwp_report_text.declared.How.{How}
 use Rattle.hwp_law_run.specs.hwp_report_text.declared.How.TheVariants as hows
 use Rattle.hwp_law_run.specs.hwp_report_text.declared.MarkLine.{MarkLine}
@@ -20,9 +21,12 @@ use Rattle.hwp_cpu_row.specs.hwp_cpu_check.Told.{frame_of}
 
 -- ---- lines
 
--- what a command told of an event
+-- what a command told of an event, and its line
+abbrev pub event_at : ℕ → EventOutcome → EventLine
+event_at seq t = record { seq = seq; bank = t.held.bank; status = t.held.event.status.0; addr = t.held.event.addr; misc = t.held.event.misc; row = t.held.grade.row; acted = t.acted }
+
 abbrev pub event_line : ℕ → EventOutcome → CpuLine
-event_line seq t = lines.Event seq t.held.bank t.held.event.status.0 t.held.event.addr t.held.event.misc t.held.grade.row t.acted
+event_line seq t = lines.Event (event_at seq t)
 
 -- the events first, and then the answer
 abbrev pub row_lines : ℕ → Row → List CpuLine

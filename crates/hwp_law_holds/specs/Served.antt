@@ -1,5 +1,5 @@
 -- What a processor has done when its commands are answered.
-use Rattle.std.specs.Prelude.{◌≡◌, ℕ, ◌+◌, ◌<◌, true, false, List, [], ◌∷◌, Some, length, map, slice_get}
+use Rattle.std.specs.Prelude.{◌≡◌, ◌⊎◌, ℕ, ◌+◌, ◌<◌, true, false, List, [], ◌∷◌, Some, length, map, slice_get}
 use Rattle.hwp_law_run.specs.hwp_geom.declared.Cpu.{Cpu}
 use Rattle.hwp_law_run.specs.hwp_geom.declared.Damage.{Damage}
 use Rattle.hwp_law_run.specs.hwp_geom.declared.Damage.TheVariants as damages
@@ -12,16 +12,19 @@ use Rattle.hwp_law_run.specs.hwp_core_rule.declared.Made.{Made}
 use Rattle.hwp_law_run.specs.hwp_core_rule.declared.Mark.{Mark}
 use Rattle.hwp_law_run.specs.hwp_core_rule.declared.Reported.{Reported}
 use Rattle.hwp_law_run.specs.hwp_core_rule.declared.Setting.{Setting}
+use Rattle.hwp_law_run.specs.hwp_core_rule.declared.SharedWord.TheVariants as places
 use Rattle.hwp_law_run.specs.hwp_core_rule.declared.Spoiled.{Spoiled}
 use Rattle.hwp_law_run.specs.hwp_core_rule.declared.View.{View}
 use Rattle.hwp_law_run.specs.hwp_core_rule.Lists.{EachMember, StartsWith}
 use Rattle.hwp_law_run.specs.hwp_core_rule.parts.Holdings.{HoldsNothing}
 use Rattle.hwp_law_run.specs.hwp_core_rule.parts.Policies.{settings_of}
+use Rattle.hwp_law_run.specs.hwp_core_task.Known.{Saw}
 use Rattle.hwp_law_run.specs.hwp_script_read.declared.Command.{Command}
 use Rattle.hwp_law_run.specs.hwp_script_read.declared.Command.TheVariants as commands
 use Rattle.hwp_law_run.specs.hwp_report_text.declared.Answer.TheVariants as answers
 use Rattle.hwp_law_run.specs.hwp_banks.Banks.{Banks, empty_banks}
 use Rattle.hwp_law_run.specs.hwp_law.Policies.{settings}
+use Rattle.hwp_law_run.specs.hwp_words.Stops.{is_stopped}
 use Rattle.hwp_cpu_row.specs.declared.Row.{Row}
 use Rattle.hwp_cpu_row.specs.hwp_cpu_check.declared.EventOutcome.{EventOutcome}
 use Rattle.hwp_cpu_row.specs.hwp_cpu_check.Told.{halts}
@@ -30,13 +33,20 @@ use Rattle.hwp_law_holds.specs.Causes.{IsCaused}
 use Rattle.hwp_law_holds.specs.Rows.{notes_from}
 use Rattle.hwp_law_holds.specs.Told.{IsRowTold}
 
+-- a step of the command showed that no processor had stopped the machine
+pub record SawRunning (view : View) (who : Who) : Type 0 where
+  pub word : ℕ
+  pub running : is_stopped word ≡ false
+  pub saw : Saw view who places.Stop word
+
 -- what a command that is answered so, with these lines, has done and told; a command whose events stopped the machine answers
--- `stopped`
+-- `stopped`, and one with another answer saw the machine running
 pub record IsRowServed (layout : Layout) (list : List Command) (view : View) (who : Who) (command : Command) (before : Banks) (row : Row) (after : Banks) : Type 0 where
   pub caused : IsCaused layout list view who command row
   pub accounted : IsAccounted view who command row
   pub told : IsRowTold layout view who command before row after
   pub heeded : halts row.told ≡ true → row.answer ≡ answers.Stopped
+  pub running : (row.answer ≡ answers.Stopped) ⊎ SawRunning view who
 
 -- the rows are those of the first of these commands, in order, and lead from what the banks held before to what they hold after;
 -- the commands are those of the processor's list from its n-th on

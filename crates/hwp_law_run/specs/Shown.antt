@@ -27,9 +27,10 @@ use Rattle.hwp_law.specs.hwp_script_read.declared.Script.{Script}
 use Rattle.hwp_law.specs.hwp_report_text.declared.Acted.TheVariants as acts
 use Rattle.hwp_law.specs.hwp_report_text.declared.Answer.{Answer}
 use Rattle.hwp_law.specs.hwp_report_text.declared.Answer.TheVariants as answers
+use Rattle.hwp_law.specs.hwp_report_text.declared.EventLine.{EventLine}
 use Rattle.hwp_law.specs.hwp_report_text.declared.Report.{Report}
 use Rattle.hwp_law.specs.Commands.{process_at}
-use Rattle.hwp_law.specs.Lines.{EventLine, answer_of, events_of}
+use Rattle.hwp_law.specs.Lines.{answer_of, events_of}
 use Rattle.hwp_law.specs.Places.{command_at}
 use Rattle.hwp_law.specs.Runs.{slot_of}
 use Rattle.hwp_law_run.specs.Turns.{Finds, FindsBad, SawPage, TurnBy}
@@ -72,6 +73,16 @@ pub record IsFree (word : ℕ) : Type 0 where
   pub bare : IsBare word
   pub uncounted : count_of word ≡ 0
 
+-- the command adopted the frame, which was free
+abbrev pub AdoptShown : Layout → List Played → Who → Frame → Type 0
+AdoptShown layout turns who frame = TurnBy layout turns who (λ (made : Rec) (view : View). (made.step ≡ steps.Adopt frame) × IsFree made.found)
+
+-- the frame was poisoned, and could be unpoisoned; the hardware had reported no failure of memory; and the frame had no bad line
+pub record RevivalShown (layout : Layout) (turns : List Played) (who : Who) (frame : Frame) : Type 0 where
+  pub revivable : Finds layout turns who (places.Frame frame) (λ (word : ℕ). IsRevivable word × (is_poisoned word ≡ true))
+  pub counter : Finds layout turns who places.Counter (λ (word : ℕ). hardware_of word ≡ 0)
+  pub bad : BadShown layout turns who frame 0
+
 -- so many entries of the page, whose lock and body the seat had
 abbrev pub LengthShown : Layout → List Played → Who → At → Type 0
 LengthShown layout turns who at = SawPage layout turns who at.page (λ (log : Log). length log.entries ≡ at.entry)
@@ -89,13 +100,14 @@ FrameAnswerShown layout turns who frame answers.HardwareSeen = Finds layout turn
 FrameAnswerShown layout turns who frame (answers.HasBad mask) = BadShown layout turns who frame mask.0
 FrameAnswerShown layout turns who frame (answers.InUse count) = UseShown layout turns who frame count
 FrameAnswerShown layout turns who frame answers.Kernel = Finds layout turns who (places.Frame frame) (λ (word : ℕ). is_kernel word ≡ true)
-FrameAnswerShown layout turns who frame (answers.Moved other at) = Finds layout turns who (places.Frame other) IsFree
+FrameAnswerShown layout turns who frame (answers.Moved other at) = AdoptShown layout turns who other
 FrameAnswerShown layout turns who frame _ = Unit {0}
 
 -- what an answer of a command with this one rests on
 abbrev pub CommandAnswerShown : Layout → List Played → Who → Command → Answer → Type 0
 CommandAnswerShown layout turns who (commands.Inject frame) answer = FrameAnswerShown layout turns who frame answer
 CommandAnswerShown layout turns who (commands.Soft frame) answer = FrameAnswerShown layout turns who frame answer
+CommandAnswerShown layout turns who (commands.Unpoison frame) answers.Done = RevivalShown layout turns who frame
 CommandAnswerShown layout turns who (commands.Unpoison frame) answer = FrameAnswerShown layout turns who frame answer
 CommandAnswerShown layout turns who (commands.Fsync file) (answers.Eio lost) = Finds layout turns who (places.Loss file) (λ (word : ℕ). word ≡ lost)
 CommandAnswerShown layout turns who (commands.Fsync file) answers.Done = Finds layout turns who (places.Loss file) (λ (word : ℕ). word ≡ 0)
@@ -119,6 +131,11 @@ GoesOn layout turns who process answers.Stopped = Unit {0}
 GoesOn layout turns who process (answers.Gone page) = Unit {0}
 GoesOn layout turns who process answer = ProcessShown layout turns who process 0
 
+-- every other answer than `stopped` found the machine running
+abbrev pub RunningShown : Layout → List Played → Who → Answer → Type 0
+RunningShown layout turns who answers.Stopped = Unit {0}
+RunningShown layout turns who answer = Finds layout turns who places.Stop (λ (word : ℕ). stopper_of word ≡ 0)
+
 -- an event's frame that was poisoned already was seen so
 abbrev pub AlreadyShown : Layout → List Played → Who → EventLine → Type 0
 AlreadyShown layout turns who line = line.acted ≡ acts.Already → PoisonShown layout turns who (record { 0 = frame_at line.addr }) true
@@ -127,4 +144,5 @@ AlreadyShown layout turns who line = line.acted ≡ acts.Already → PoisonShown
 pub record IsShown (script : Script) (report : Report) (turns : List Played) : Type 0 where
   pub answers : (who : Who) (command : Command) (answer : Answer) → command_at script who ≡ Some command → answer_of report who ≡ Some answer → AnswerShown script turns who command answer
   pub going : (who : Who) (process : Proc) (answer : Answer) → process_at script who ≡ Some process → answer_of report who ≡ Some answer → GoesOn script.layout turns who process answer
+  pub running : (who : Who) (command : Command) (answer : Answer) → command_at script who ≡ Some command → answer_of report who ≡ Some answer → RunningShown script.layout turns who answer
   pub events : (who : Who) → EachMember (AlreadyShown script.layout turns who) (events_of report who)

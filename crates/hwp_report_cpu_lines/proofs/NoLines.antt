@@ -32,13 +32,13 @@ no_event_answer answer e = omega (arith, ap tag e)
 
 pub no_event : (seq : ℕ) (ws : List (List ℕ)) → ((end : ℕ × ℕ × Acted) → EndFits end → drop 3 ws ≡ end_words end → ⊥)
     → (line : CpuLine) → CpuLineFits line → decimal seq ∷ codes "event" ∷ ws ≡ cpu_line_words line → ⊥
-no_event seq ws none (lines.Event seq2 bank status addr misc row acted) fits e = none (misc, row, acted) (fits.1.3, fits.1.4) (ap (drop 5) e)
+no_event seq ws none (lines.Event event) fits e = none (event.misc, event.row, event.acted) (fits.1.3, fits.1.4) (ap (drop 5) e)
 no_event seq ws none (lines.Answer seq2 answer) fits e = no_event_answer answer (word_at 1 e)
 
 -- an answer
 pub no_answer : (seq : ℕ) (ws : List (List ℕ)) → (get_or ws 0 [] ≡ codes "event" → ⊥)
     → ((answer : Answer) → AnswerFits answer → ws ≡ answer_words answer → ⊥) → (line : CpuLine) → CpuLineFits line → decimal seq ∷ ws ≡ cpu_line_words line → ⊥
-no_answer seq ws other none (lines.Event seq2 bank status addr misc row acted) fits e = other (word_at 1 e)
+no_answer seq ws other none (lines.Event event) fits e = other (word_at 1 e)
 no_answer seq ws other none (lines.Answer seq2 answer) fits e = none answer fits.1 (ap (drop 1) e)
 
 -- what the severity table graded

@@ -101,10 +101,16 @@ no_event answers.NoFrame e = absurd (omega (arith, e))
 no_event a e = absurd (omega (arith, e))
 
 pub same_cpu_line : (a b : CpuLine) → CpuLineFits a → CpuLineFits b → cpu_line_words a ≡ cpu_line_words b → a ≡ b
-same_cpu_line (lines.Event seq bank status addr misc row acted) (lines.Event seq2 bank2 status2 addr2 misc2 row2 acted2) f g e =
-    λ i. lines.Event (same_u32 f.0 g.0 (word_at 0 e) i) (same_u8 f.1.0 g.1.0 (word_at 2 e) i) (same_mask f.1.1 g.1.1 (word_at 3 e) i) (same_mask f.1.2 g.1.2 (word_at 4 e) i)
-    (same_mask f.1.3 g.1.3 (word_at 5 e) i) (same_row row row2 f.1.4 g.1.4 (word_at 6 e) i) (same_acted acted acted2 (word_at 7 e) i)
-same_cpu_line (lines.Event seq bank status addr misc row acted) (lines.Answer seq2 answer) f g e = absurd (no_event answer (sym (ap (tag_at 1) e)))
-same_cpu_line (lines.Answer seq answer) (lines.Event seq2 bank status addr misc row acted) f g e = absurd (no_event answer (ap (tag_at 1) e))
+same_cpu_line (lines.Event event) (lines.Event event2) f g e = λ i. lines.Event (record {
+  seq = same_u32 f.0 g.0 (word_at 0 e) i;
+  bank = same_u8 f.1.0 g.1.0 (word_at 2 e) i;
+  status = same_mask f.1.1 g.1.1 (word_at 3 e) i;
+  addr = same_mask f.1.2 g.1.2 (word_at 4 e) i;
+  misc = same_mask f.1.3 g.1.3 (word_at 5 e) i;
+  row = same_row event.row event2.row f.1.4 g.1.4 (word_at 6 e) i;
+  acted = same_acted event.acted event2.acted (word_at 7 e) i;
+})
+same_cpu_line (lines.Event event) (lines.Answer seq2 answer) f g e = absurd (no_event answer (sym (ap (tag_at 1) e)))
+same_cpu_line (lines.Answer seq answer) (lines.Event event) f g e = absurd (no_event answer (ap (tag_at 1) e))
 same_cpu_line (lines.Answer seq answer) (lines.Answer seq2 answer2) f g e =
     λ i. lines.Answer (same_u32 f.0 g.0 (word_at 0 e) i) (same_answer answer answer2 f.1 g.1 (ap (drop 1) e) i)

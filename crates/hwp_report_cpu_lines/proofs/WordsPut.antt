@@ -58,6 +58,6 @@ put_answer (answers.Scrubbed events) h = then (fixed _ _ refl) (then (put_u64 h)
 put_answer (answers.Raised events) h = then (fixed _ _ refl) (then (put_u64 h) nothing)
 
 pub put_cpu_line : (item : CpuLine) → CpuLineFits item → ArePut (cpu_line_words item)
-put_cpu_line (lines.Event seq bank status addr misc row acted) h =
-    then (put_u32 h.0) (then (fixed _ _ refl) (then (put_u8 h.1.0) (then (put_mask h.1.1) (then (put_mask h.1.2) (then (put_mask h.1.3) (then (put_row row h.1.4) (then (put_acted acted) nothing)))))))
+put_cpu_line (lines.Event event) h =
+    then (put_u32 h.0) (then (fixed _ _ refl) (then (put_u8 h.1.0) (then (put_mask h.1.1) (then (put_mask h.1.2) (then (put_mask h.1.3) (then (put_row event.row h.1.4) (then (put_acted event.acted) nothing)))))))
 put_cpu_line (lines.Answer seq answer) h = then (put_u32 h.0) (put_answer answer h.1)

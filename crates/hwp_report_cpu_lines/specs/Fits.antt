@@ -7,6 +7,7 @@ use Rattle.hwp_report_text.specs.declared.Answer.{Answer}
 use Rattle.hwp_report_text.specs.declared.Answer.TheVariants as answers
 use Rattle.hwp_report_text.specs.declared.CpuLine.{CpuLine}
 use Rattle.hwp_report_text.specs.declared.CpuLine.TheVariants as lines
+use Rattle.hwp_report_text.specs.declared.EventLine.{EventLine}
 use Rattle.hwp_report_words.specs.Words.{AtFits, WhoFits}
 
 -- what stopped the machine
@@ -40,11 +41,10 @@ AnswerFits (answers.Raised events) = events < 2 ^ 64
 AnswerFits answer = Unit {0}
 
 -- what the bank of an event held
-abbrev pub EventFits : ℕ → ℕ → ℕ → ℕ → ℕ → Type 0
-EventFits bank status addr misc row =
-    (bank < 2 ^ 8) × (status < 2 ^ 64) × (addr < 2 ^ 64) × (misc < 2 ^ 64) × (row < 2 ^ 8)
+abbrev pub EventFits : EventLine → Type 0
+EventFits e = (e.bank < 2 ^ 8) × (e.status < 2 ^ 64) × (e.addr < 2 ^ 64) × (e.misc < 2 ^ 64) × (e.row < 2 ^ 8)
 
 -- a line of a processor
 abbrev pub CpuLineFits : CpuLine → Type 0
-CpuLineFits (lines.Event seq bank status addr misc row acted) = (seq < 2 ^ 32) × EventFits bank status addr misc row
+CpuLineFits (lines.Event event) = (event.seq < 2 ^ 32) × EventFits event
 CpuLineFits (lines.Answer seq answer) = (seq < 2 ^ 32) × AnswerFits answer

@@ -10,7 +10,7 @@ use crate::replies::{
     Counted, Placed, Short, Valued, read_counted, read_placed, read_short, read_valued,
 };
 use crate::stops::read_row;
-use hwp_report_text::{Acted, Answer, At, CpuLine, Frame, Mask, Page};
+use hwp_report_text::{Acted, Answer, At, CpuLine, EventLine, Frame, Mask, Page};
 use hwp_report_words::{
     is_text, read_acted, read_at, read_hex, read_number, read_u8, read_u16, read_u32,
 };
@@ -164,7 +164,7 @@ fn read_event(seq: u32, words: &[&[u8]]) -> Option<CpuLine>
     let Some((misc, row, acted)) = read_event_end(rest) else {
         return None;
     };
-    Some(CpuLine::Event {
+    Some(CpuLine::Event(EventLine {
         seq,
         bank,
         status,
@@ -172,7 +172,7 @@ fn read_event(seq: u32, words: &[&[u8]]) -> Option<CpuLine>
         misc,
         row,
         acted,
-    })
+    }))
 }
 
 /// The answer of this command, by the words behind its number.

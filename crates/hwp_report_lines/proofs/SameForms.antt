@@ -66,7 +66,7 @@ decimal_low : (n : ℕ) → n < 2 ^ 32 → get_or (decimal n) 0 0 < 58
 decimal_low n h = let numeral = (decimal_is_IsNumeral n (omega arith)).0 in first_low (decimal n) numeral.0 numeral.1
 
 pub cpu_line_low : (line : CpuLine) → CpuLineFits line → first_byte (cpu_line_words line) < 58
-cpu_line_low (lines.Event seq bank status addr misc row acted) h = decimal_low seq h.0
+cpu_line_low (lines.Event event) h = decimal_low event.seq h.0
 cpu_line_low (lines.Answer seq answer) h = decimal_low seq h.0
 
 numbered : (line : CpuLine) → CpuLineFits line → IsNumbered (forms.CpuLine line)

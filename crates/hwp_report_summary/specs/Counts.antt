@@ -17,7 +17,7 @@ capped n = min n (2 ^ 64 - 1)
 
 -- the line is the answer of a command; the others are events
 abbrev pub is_answer : CpuLine → Bool
-is_answer (lines.Event seq bank status addr misc row acted) = false
+is_answer (lines.Event event) = false
 is_answer (lines.Answer seq answer) = true
 
 -- no frame was free: of all commands, accesses and soft offlinings alone give this answer
@@ -26,7 +26,7 @@ has_no_frame answers.NoFrame = true
 has_no_frame _ = false
 
 abbrev pub is_without_frame : CpuLine → Bool
-is_without_frame (lines.Event seq bank status addr misc row acted) = false
+is_without_frame (lines.Event event) = false
 is_without_frame (lines.Answer seq answer) = has_no_frame answer
 
 -- the answers among a processor's lines, one for each of its commands

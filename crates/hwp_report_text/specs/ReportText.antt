@@ -28,6 +28,7 @@ use Rattle.hwp_report_text.specs.declared.lines.Answer.{Answer}
 use Rattle.hwp_report_text.specs.declared.lines.Answer.TheVariants as answers
 use Rattle.hwp_report_text.specs.declared.lines.CpuLine.{CpuLine}
 use Rattle.hwp_report_text.specs.declared.lines.CpuLine.TheVariants as lines
+use Rattle.hwp_report_text.specs.declared.lines.EventLine.{EventLine}
 use Rattle.hwp_report_text.specs.Terms.{acted_word, code_word, flag_number, mode_word, origin_word, outcome_word, policy_word, situation_word}
 
 -- the lines of each item of a list, with its number, counted from n
@@ -179,10 +180,13 @@ answer_words (answers.InUse count) = codes "inuse" ∷ decimal count ∷ []
 answer_words (answers.Scrubbed events) = codes "scrubbed" ∷ decimal events ∷ []
 answer_words (answers.Raised events) = codes "raised" ∷ decimal events ∷ []
 
--- a line of a processor: the command's number, and its answer or an event, `event BANK STATUS ADDR MISC ROW OUTCOME`
+-- an event: the command's number, and `event BANK STATUS ADDR MISC ROW OUTCOME`
+abbrev pub event_words : EventLine → List (List ℕ)
+event_words e = decimal e.seq ∷ codes "event" ∷ decimal e.bank ∷ hex e.status ∷ hex e.addr ∷ hex e.misc ∷ row_word e.row ∷ acted_word e.acted ∷ []
+
+-- a line of a processor: an event, or the command's number and its answer
 abbrev pub cpu_line_words : CpuLine → List (List ℕ)
-cpu_line_words (lines.Event seq bank status addr misc row acted) =
-    decimal seq ∷ codes "event" ∷ decimal bank ∷ hex status ∷ hex addr ∷ hex misc ∷ row_word row ∷ acted_word acted ∷ []
+cpu_line_words (lines.Event event) = event_words event
 cpu_line_words (lines.Answer seq answer) = decimal seq ∷ answer_words answer
 
 -- `cpu C N` with the number of its lines, and the lines

@@ -111,22 +111,30 @@ pub enum Answer {
     Raised(u64),
 }
 
-/// A line of a processor, of its command number `seq`, from 0.
+/// The event of a bank in a machine check: what the bank held, the row of the severity table, and what was done.
+#[derive(Clone, Copy)]
+pub struct EventLine {
+    /// The number of the processor's command, from 0.
+    pub seq: u32,
+    /// The bank's number.
+    pub bank: u8,
+    /// What the bank's MCi_STATUS held (Intel SDM vol. 3B).
+    pub status: u64,
+    /// What its MCi_ADDR held: a physical address.
+    pub addr: u64,
+    /// What its MCi_MISC held.
+    pub misc: u64,
+    /// The row of the severity table that graded it.
+    pub row: u8,
+    /// What was done about it.
+    pub acted: Acted,
+}
+
+/// A line of a processor.
 #[derive(Clone, Copy)]
 pub enum CpuLine {
-    /// The event of a bank in a machine check: what the bank held, the row of the severity table, and what was done.
-    Event {
-        seq: u32,
-        bank: u8,
-        status: u64,
-        addr: u64,
-        misc: u64,
-        row: u8,
-        acted: Acted,
-    },
-    /// The command's answer.
-    Answer {
-        seq: u32,
-        answer: Answer,
-    },
+    /// An event of a machine check.
+    Event(EventLine),
+    /// The answer of the command number `seq`, from 0.
+    Answer { seq: u32, answer: Answer },
 }

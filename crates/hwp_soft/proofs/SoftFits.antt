@@ -13,7 +13,7 @@ use Rattle.hwp_evict.specs.hwp_core_task.Hands.{empty, hand_of}
 use Rattle.hwp_evict.proofs.of_hwp_core_task.StepLeaves.{hand-planned, on-turn-after, steps-planned}
 use Rattle.hwp_evict.specs.hwp_core_task.Known.{HasMadeNone, is_by}
 use Rattle.hwp_evict.proofs.of_hwp_core_task.MadeEntries.{deeds-same, has-made-stays}
-use Rattle.hwp_evict.proofs.of_hwp_core_task.SightKeeps.{saw-bad-of-stays, saw-stays}
+use Rattle.hwp_evict.proofs.of_hwp_core_task.SightKeeps.{saw-adopted-stays, saw-bad-of-stays, saw-stays}
 use Rattle.hwp_evict.specs.hwp_core.declared.give_up.GiveUp.{GiveUp}
 use Rattle.hwp_evict.specs.hwp_core.declared.give_up.GiveUpAt.{GiveUpAt}
 use Rattle.hwp_evict.specs.hwp_core.declared.give_up.GiveUpAt.TheVariants as give_up_at
@@ -145,7 +145,7 @@ module _ {layout : Layout} {old new : View} {who : Who} (frame : Frame) {step : 
       which (answers.Moved to place cycle) has = (
         has-made-stays who old new (ap (λ (a : Account). filter (is_by who) a.made) same) has.0,
         mark-stays old new (ap (λ (a : Account). a.marks) same) has.1,
-        (has.2.0, record { saw = saw-stays made has.2.1.saw; bare = has.2.1.bare; uncounted = has.2.1.uncounted }),
+        (has.2.0, record { saw = saw-adopted-stays made has.2.1.saw; bare = has.2.1.bare; uncounted = has.2.1.uncounted }),
         has.3,
       )
 

@@ -18,7 +18,7 @@ use Rattle.hwp_evict.specs.hwp_core_rule.declared.View.{View}
 use Rattle.hwp_evict.specs.hwp_core_rule.Asks.{HasInHand}
 use Rattle.hwp_evict.specs.hwp_core_rule.Logs.{log_of}
 use Rattle.hwp_evict.specs.hwp_core_rule.Steps.{goes, is_last, place_of}
-use Rattle.hwp_evict.specs.hwp_core_rule.Views.{less_refs, noted, refs_on, sighted, stamp_of, unpoisoned, with_refs}
+use Rattle.hwp_evict.specs.hwp_core_rule.Views.{adopting, less_refs, noted, refs_on, sighted, stamp_of, unpoisoned, with_refs}
 use Rattle.hwp_evict.specs.hwp_core_rule.Words.{words_of}
 use Rattle.hwp_evict.specs.hwp_core_rule.parts.Places.{IsBare, in_hand}
 use Rattle.hwp_evict.proofs.of_hwp_core_rule.FramesInHand.{in_hand-mine}
@@ -82,8 +82,8 @@ module _ {layout : Layout} {old new : View} {who : Who} {found : ℕ} {got : Opt
           let mine = some in
           omega (arith, placed, mine)
 
-  pub adopt-free : WasFree new who to found
-  adopt-free = record { saw = saw-adopt made; bare = bare; uncounted = uncounted }
+  pub adopt-free : length old.locks < 2 → WasFree new who to found
+  adopt-free few = record { saw = saw-adopt made few; bare = bare; uncounted = uncounted }
 
 number-kept : (none : Bool) (found : ℕ) (h : Hand) → h ≡ with_take (cond none (take_at.Over None) (take_at.Reserve found)) h
 number-kept true found h = refl
@@ -191,6 +191,10 @@ either-grows false v w old s same more = inr (s, more)
 abbrev shown : Who → SharedWord → View → ℕ → Sight
 shown who place old found = record { stamp = stamp_of who (noted who old); place = place; word = found }
 
+-- the sight of an adoption is under the lock that it takes
+abbrev adopted : Who → Frame → View → ℕ → Sight
+adopted who frame old found = record { stamp = stamp_of who (adopting frame found (noted who old)); place = places.Frame frame; word = found }
+
 pub take-grows : {layout : Layout} {old new : View} {step : Step} {found : ℕ} {got : Option BodyValue} (t : Take) → takes.plan t ≡ Some step → Steps layout t.who step None old new found got → Grown old.sights new.sights
 take-grows {layout} {old} {new} {step} {found} {got} t is made = which t.at is
   where
@@ -201,7 +205,7 @@ take-grows {layout} {old} {new} {step} {found} {got} t is made = which t.at is
     which (take_at.LoadFree number) e = inr (shown t.who (places.Free number) old found, ap (λ (v : View). v.sights) (steps-planned e made).told.next)
     which (take_at.TakeBit to) e = subst (Grown old.sights) (sym (ap (λ (v : View). v.sights) (steps-planned e made).told.next))
         (either-grows (goes (steps.TakeBit to) found) (record (noted t.who old) { reserved = old.reserved - 1; hands = old.hands ++ unpoisoned to ∷ [] }) (sighted t.who (place_of (steps.TakeBit to)) found (noted t.who old)) old (shown t.who (place_of (steps.TakeBit to)) old found) refl refl)
-    which (take_at.Adopt to) e = inr (shown t.who (places.Frame to) old found, ap (λ (v : View). v.sights) (steps-planned e made).told.next)
+    which (take_at.Adopt to) e = inr (adopted t.who to old found, ap (λ (v : View). v.sights) (steps-planned e made).told.next)
     which (take_at.Retire to) e = inl (ap (λ (v : View). v.sights) (steps-planned e made).told.next)
     which (take_at.Over to) e = absurd (none-some step e)
 
@@ -212,6 +216,6 @@ release-grows {layout} {old} {new} {step} {found} {got} r is made = which r.at i
     which release_at.Put e = inl (ap (λ (v : View). v.sights) (steps-planned e made).told.next)
     which (release_at.Give word) e = inl (ap (λ (v : View). v.sights) (steps-planned e made).told.next)
     which (release_at.Unreserve word) e = inl (ap (λ (v : View). v.sights) (steps-planned e made).told.next)
-    which (release_at.Adopt word) e = inr (shown r.who (places.Frame r.frame) old found, ap (λ (v : View). v.sights) (steps-planned e made).told.next)
+    which (release_at.Adopt word) e = inr (adopted r.who r.frame old found, ap (λ (v : View). v.sights) (steps-planned e made).told.next)
     which (release_at.Retire word) e = inl (ap (λ (v : View). v.sights) (steps-planned e made).told.next)
     which (release_at.Back word) e = absurd (none-some step e)

@@ -31,7 +31,7 @@ use Rattle.hwp_evict.specs.hwp_core_task.Hands.{Hand, body_in, hand_of}
 use Rattle.hwp_evict.proofs.of_hwp_core_task.StepLeaves.{hand-planned, steps-planned}
 use Rattle.hwp_evict.specs.hwp_core_task.Known.{Saw, deeds, is_by}
 use Rattle.hwp_evict.proofs.of_hwp_core_task.MadeEntries.{ListsNone, deeds-same, made-kept}
-use Rattle.hwp_evict.proofs.of_hwp_core_task.SightKeeps.{saw-stays}
+use Rattle.hwp_evict.proofs.of_hwp_core_task.SightKeeps.{saw-adopted-stays, saw-stays}
 use Rattle.hwp_evict.specs.hwp_core.declared.release.Release.{Release}
 use Rattle.hwp_evict.specs.hwp_core.declared.release.ReleaseAt.{ReleaseAt}
 use Rattle.hwp_evict.specs.hwp_core.declared.release.ReleaseAt.TheVariants as release_at
@@ -67,7 +67,7 @@ use Rattle.hwp_soft_move.proofs.RemapLaws.{two_refs}
 use Rattle.hwp_soft.proofs.SpareFrame.{adopt-apart, adopt-free, base, either-grows, good-holds, good-on, page-let-go, release-grows, release-on, take-grows, take-on}
 
 pub free-stays : {layout : Layout} {who by : Who} {step : Step} {put : Option Log} {old new : View} {found : ℕ} {got : Option BodyValue} {frame : Frame} {word : ℕ} → Steps layout by step put old new found got → WasFree old who frame word → WasFree new who frame word
-free-stays made has = record { saw = saw-stays made has.saw; bare = has.bare; uncounted = has.uncounted }
+free-stays made has = record { saw = saw-adopted-stays made has.saw; bare = has.bare; uncounted = has.uncounted }
 
 -- ---- another frame is taken
 
@@ -139,7 +139,7 @@ module _ {layout : Layout} {old new : View} {who : Who} {frame : Frame} {page : 
             by false = refl
         which (take_at.Adopt other) e fit hand is = subst (λ (f : Frame). (frame.0 ≢ f.0) × ((word : ℕ) × WasFree new who f word)) (same_Some other to (sym (by (is_poisoned found)) ∙ is)) (
           adopt-apart other fit.0 fit.1.0 (steps-planned e made) frame (ap (λ (h : Hand). h.refs) hand),
-          (found, adopt-free other fit.0 fit.1.0 (steps-planned e made)),
+          (found, adopt-free other fit.0 fit.1.0 (steps-planned e made) (omega (arith, ap (λ (h : Hand). length h.locks) hand))),
         )
           where
             by : (b : Bool) → locked_in (cond b (take_at.Retire other) (take_at.Over (Some other))) ≡ Some other

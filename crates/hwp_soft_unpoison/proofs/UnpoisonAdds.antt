@@ -81,7 +81,7 @@ unpoison-adds layout old new u step found got fits is made = which u.at fits.at 
     which (at.LoadCount seen) has e = adds-none u.who u.frame (ap (λ (v : View). v.marks) (steps-planned e made).told.next) (ap counts_owed (steps-planned e made).told.next) (counted-none u.frame (hardware_of found == 0) seen)
     which (at.LoadBad seen) has e = adds-none u.who u.frame (ap (λ (v : View). v.marks) (steps-planned e made).told.next) (ap counts_owed (steps-planned e made).told.next) (looked-none u.frame (found == 0) (is_revivable seen) seen found)
     which (at.Revive seen) has e = revive-adds u.who u.frame seen (steps-planned e made) (found == seen) refl
-    which (at.Uncount cycle) has e = uncount-adds u.who u.frame cycle (steps-planned e made) has.1
+    which (at.Uncount cycle) has e = uncount-adds u.who u.frame cycle (steps-planned e made) has.2
     which (at.GiveBit cycle) has e = adds-none u.who u.frame (ap (λ (v : View). v.marks) (steps-planned e made).told.next) (ap counts_owed (steps-planned e made).told.next) refl
     which (at.Unreserve cycle) has e = adds-none u.who u.frame (ap (λ (v : View). v.marks) (steps-planned e made).told.next) (ap counts_owed (steps-planned e made).told.next) refl
     which (at.Over answer) has e = absurd (none-some step e)

@@ -28,7 +28,7 @@ use Rattle.hwp_claim_frame.specs.hwp_core_task.declared.Turn.{Turn}
 use Rattle.hwp_claim_frame.specs.hwp_core_task.Calls.{CanMake, Steps}
 use Rattle.hwp_claim_frame.specs.hwp_core_task.Hands.{Hand, hand_of, empty}
 use Rattle.hwp_claim_frame.proofs.of_hwp_core_task.StepLeaves.{can-make, hand-planned, on-turn-after, steps-planned}
-use Rattle.hwp_claim_frame.specs.hwp_core_task.Known.{HasMadeNone}
+use Rattle.hwp_claim_frame.specs.hwp_core_task.Known.{HasMadeNone, Saw}
 use Rattle.hwp_claim_frame.proofs.of_hwp_core_task.MadeEntries.{ListsNone, deeds-same}
 use Rattle.hwp_claim_frame.proofs.of_hwp_core_task.SightKeeps.{saw-load, saw-stays}
 use Rattle.hwp_soft_unpoison.specs.declared.unpoison.Unpoison.{Unpoison}
@@ -36,7 +36,7 @@ use Rattle.hwp_soft_unpoison.specs.declared.unpoison.UnpoisonAt.{UnpoisonAt}
 use Rattle.hwp_soft_unpoison.specs.declared.unpoison.UnpoisonAt.TheVariants as at
 use Rattle.hwp_soft_unpoison.specs.declared.unpoison.UnpoisonAnswer.{UnpoisonAnswer}
 use Rattle.hwp_soft_unpoison.specs.declared.unpoison.UnpoisonAnswer.TheVariants as answers
-use Rattle.hwp_soft_unpoison.specs.Unpoisons.{plan, plan_at, next, next_at, turn, answer, answer_at, hand_at, is_revivable, Fits, FitsAt, HasRevivalLeft, HasRevived, IsCaused, RestsOn, SawPoisoned}
+use Rattle.hwp_soft_unpoison.specs.Unpoisons.{plan, plan_at, next, next_at, turn, answer, answer_at, hand_at, is_revivable, Fits, FitsAt, HasRevivalLeft, HasRevived, IsCaused, RestsOn, SawNoHardware, SawPoisoned, SawRevivable}
 
 -- ---- the steps can be made
 
@@ -76,7 +76,7 @@ can layout view u step fits is = which u.at fits.hand_is fits.at is
     which (at.LoadCount seen) hand has e = can-make fits.on_turn e tt tt
     which (at.LoadBad seen) hand has e = can-make fits.on_turn e fits.frame tt
     which (at.Revive seen) hand has e = can-make fits.on_turn e fits.frame (revives view u.who.cpu seen hand has.0.left has.1)
-    which (at.Uncount cycle) hand has e = can-make fits.on_turn e tt has.1
+    which (at.Uncount cycle) hand has e = can-make fits.on_turn e tt has.2
     which (at.GiveBit cycle) hand has e = can-make fits.on_turn e (let inside : u.frame.0 < layout.frames = fits.frame in omega arith) (in-hand view u.frame hand)
     which (at.Unreserve cycle) hand has e = can-make fits.on_turn e tt (let one : view.reserved ≡ 1 = ap (λ (h : Hand). h.reserved) hand in omega (arith, one))
     which (at.Over said) hand has e = absurd (none-some step e)
@@ -122,6 +122,16 @@ module _ {layout : Layout} {old new : View} {step : Step} {found : ℕ} {got : O
   saw-on : {seen : ℕ} → new.marks ≡ old.marks → SawPoisoned old u.who u.frame seen → SawPoisoned new u.who u.frame seen
   saw-on same saw = record { left = left-stays old new u.who.cpu same saw.left; poisoned = saw.poisoned; saw = saw-stays made saw.saw }
 
+  hardware-on : SawNoHardware old u.who → SawNoHardware new u.who
+  hardware-on saw = record { word = saw.word; none = saw.none; saw = saw-stays made saw.saw }
+
+  revivable-on : SawRevivable old u.who u.frame → SawRevivable new u.who u.frame
+  revivable-on saw = record {
+    revivable = record { word = saw.revivable.word; such = saw.revivable.such; saw = saw-stays made saw.revivable.saw };
+    counter = hardware-on saw.counter;
+    bad = saw-stays made saw.bad;
+  }
+
   started : Some (steps.Load places.Stop) ≡ Some step → hand_of old ≡ empty → HasRevivalLeft u.who.cpu old → (b : Bool) → is_stopped found ≡ b → Fits layout new (record u { at = cond b (at.Over answers.Stopped) at.LoadFrame })
   started e hand left true is = fit (at.Over answers.Stopped) (hand-planned made e hand) (kept e tt) (record { word = found; stopped = is; saw = saw-load (steps-planned e made) })
   started e hand left false is = fit at.LoadFrame (hand-planned made e hand) (kept e tt) (left-stays old new u.who.cpu (ap (λ (v : View). v.marks) (steps-planned e made).told.next) left)
@@ -133,20 +143,31 @@ module _ {layout : Layout} {old new : View} {step : Step} {found : ℕ} {got : O
 
   counted : (seen : ℕ) → Some (steps.Load places.Counter) ≡ Some step → hand_of old ≡ empty → SawPoisoned old u.who u.frame seen → (b : Bool) → (hardware_of found == 0) ≡ b
       → Fits layout new (record u { at = cond b (at.LoadBad seen) (at.Over answers.HardwareSeen) })
-  counted seen e hand saw true is = fit (at.LoadBad seen) (hand-planned made e hand) (kept e tt) (saw-on (ap (λ (v : View). v.marks) (steps-planned e made).told.next) saw)
+  counted seen e hand saw true is = fit (at.LoadBad seen) (hand-planned made e hand) (kept e tt) (
+    saw-on (ap (λ (v : View). v.marks) (steps-planned e made).told.next) saw,
+    record { word = found; none = eqb-true (hardware_of found) 0 is; saw = saw-load (steps-planned e made) },
+  )
   counted seen e hand saw false is = fit (at.Over answers.HardwareSeen) (hand-planned made e hand) (kept e tt)
       (record { word = found; some = (let other = eqb-false (hardware_of found) 0 is in omega (arith, other)); saw = saw-load (steps-planned e made) })
 
-  looked : (seen : ℕ) → Some (steps.Load (places.Bad u.frame)) ≡ Some step → hand_of old ≡ empty → SawPoisoned old u.who u.frame seen → (b c : Bool) → (found == 0) ≡ b → is_revivable seen ≡ c
+  looked : (seen : ℕ) → Some (steps.Load (places.Bad u.frame)) ≡ Some step → hand_of old ≡ empty → SawPoisoned old u.who u.frame seen × SawNoHardware old u.who → (b c : Bool) → (found == 0) ≡ b → is_revivable seen ≡ c
       → Fits layout new (record u { at = cond b (cond c (at.Revive seen) (at.Over (answers.InUse (count_of seen)))) (at.Over (answers.HasBad (record { 0 = found }))) })
-  looked seen e hand saw true true none is = fit (at.Revive seen) (hand-planned made e hand) (kept e tt) (saw-on (ap (λ (v : View). v.marks) (steps-planned e made).told.next) saw, is)
-  looked seen e hand saw true false none is = fit (at.Over (answers.InUse (count_of seen))) (hand-planned made e hand) (kept e tt) (record { word = seen; such = (saw.poisoned, is, refl); saw = saw-stays made saw.saw })
+  looked seen e hand saw true true none is = fit (at.Revive seen) (hand-planned made e hand) (kept e tt) (
+    saw-on (ap (λ (v : View). v.marks) (steps-planned e made).told.next) saw.0,
+    is,
+    hardware-on saw.1,
+    subst (Saw new u.who (places.Bad u.frame)) (eqb-true found 0 none) (saw-load (steps-planned e made)),
+  )
+  looked seen e hand saw true false none is =
+      fit (at.Over (answers.InUse (count_of seen))) (hand-planned made e hand) (kept e tt) (record { word = seen; such = (saw.0.poisoned, is, refl); saw = saw-stays made saw.0.saw })
   looked seen e hand saw false c some is = fit (at.Over (answers.HasBad (record { 0 = found }))) (hand-planned made e hand) (kept e tt) (eqb-false found 0 some, saw-load (steps-planned e made))
 
-  exchanged : (seen : ℕ) → Some (steps.Revive u.frame seen) ≡ Some step → hand_of old ≡ empty → SawPoisoned old u.who u.frame seen → (b : Bool) → (found == seen) ≡ b
+  exchanged : (seen : ℕ) → Some (steps.Revive u.frame seen) ≡ Some step → hand_of old ≡ empty → FitsAt old u.who u.frame (at.Revive seen) → (b : Bool) → (found == seen) ≡ b
       → hand_of new ≡ cond b (record empty { hands = unpoisoned u.frame ∷ [] }) empty → Fits layout new (record u { at = cond b (at.Uncount (cycle_of found)) at.LoadFrame })
-  exchanged seen e hand saw true is held = fit (at.Uncount (cycle_of found)) held (kept e tt) (has-revived u.frame seen (steps-planned e made) is)
-  exchanged seen e hand saw false other held = fit at.LoadFrame held (kept e tt) (left-stays old new u.who.cpu (missed u.frame seen (steps-planned e made) other).0 saw.left)
+  exchanged seen e hand saw true is held =
+      let revived = has-revived u.frame seen (steps-planned e made) is in
+      fit (at.Uncount (cycle_of found)) held (kept e tt) (revived.0, revivable-on (record { revivable = record { word = seen; such = (saw.0.poisoned, saw.1); saw = saw.0.saw }; counter = saw.2; bad = saw.3 }), revived.1)
+  exchanged seen e hand saw false other held = fit at.LoadFrame held (kept e tt) (left-stays old new u.who.cpu (missed u.frame seen (steps-planned e made) other).0 saw.0.left)
 
   -- what follows a step fits again
   moved : plan u ≡ Some step → Fits layout new (next u found)
@@ -157,12 +178,12 @@ module _ {layout : Layout} {old new : View} {step : Step} {found : ℕ} {got : O
       which at.LoadFrame hand has e = framed e hand has (is_poisoned found) refl
       which (at.LoadCount seen) hand has e = counted seen e hand has (hardware_of found == 0) refl
       which (at.LoadBad seen) hand has e = looked seen e hand has (found == 0) (is_revivable seen) refl refl
-      which (at.Revive seen) hand has e = exchanged seen e hand has.0 (found == seen) refl (hand-planned made e hand)
-      which (at.Uncount cycle) hand has e = fit (at.GiveBit cycle) (hand-planned made e hand) (kept e tt) (revived-stays old new (ap (λ (v : View). v.marks) (steps-planned e made).told.next) has.0)
+      which (at.Revive seen) hand has e = exchanged seen e hand has (found == seen) refl (hand-planned made e hand)
+      which (at.Uncount cycle) hand has e = fit (at.GiveBit cycle) (hand-planned made e hand) (kept e tt) (revived-stays old new (ap (λ (v : View). v.marks) (steps-planned e made).told.next) has.0, revivable-on has.1)
       which (at.GiveBit cycle) hand has e = fit (at.Unreserve cycle)
           (hand-planned made e hand ∙ ap (λ (b : Bool). record empty { reserved = 1; hands = cond b [] (unpoisoned u.frame ∷ []) }) (same-number u.frame.0 u.frame.0 refl))
-          (kept e tt) (revived-stays old new (ap (λ (v : View). v.marks) (steps-planned e made).told.next) has)
-      which (at.Unreserve cycle) hand has e = fit (at.Over (answers.Done cycle)) (hand-planned made e hand) (kept e tt) (revived-stays old new (ap (λ (v : View). v.marks) (steps-planned e made).told.next) has)
+          (kept e tt) (revived-stays old new (ap (λ (v : View). v.marks) (steps-planned e made).told.next) has.0, revivable-on has.1)
+      which (at.Unreserve cycle) hand has e = fit (at.Over (answers.Done cycle)) (hand-planned made e hand) (kept e tt) (revived-stays old new (ap (λ (v : View). v.marks) (steps-planned e made).told.next) has.0, revivable-on has.1)
       which (at.Over said) hand has e = absurd (none-some step e)
 
 pub stays : (layout : Layout) (old new : View) (u : Unpoison) (step : Step) (found : ℕ) (got : Option BodyValue) → Fits layout old u → plan u ≡ Some step → Steps layout u.who step None old new found got

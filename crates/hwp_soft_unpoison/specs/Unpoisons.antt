@@ -115,17 +115,30 @@ pub record SawHardware (view : View) (who : Who) : Type 0 where
   pub some : 0 < hardware_of word
   pub saw : Saw view who places.Counter word
 
+-- a step of it showed that the hardware had reported none
+pub record SawNoHardware (view : View) (who : Who) : Type 0 where
+  pub word : ℕ
+  pub none : hardware_of word ≡ 0
+  pub saw : Saw view who places.Counter word
+
 -- the word of a poisoned frame that is in use, with this count
 abbrev pub IsUsed : ℕ → ℕ → Type 0
 IsUsed count word = (is_poisoned word ≡ true) × (is_revivable word ≡ false) × (count_of word ≡ count)
+
+-- steps of it showed that the frame was poisoned and its poison could be taken back, that the hardware had reported no failure, and
+-- that the frame had no bad line
+pub record SawRevivable (view : View) (who : Who) (frame : Frame) : Type 0 where
+  pub revivable : SawFrame view who frame (λ (word : ℕ). (is_poisoned word ≡ true) × (is_revivable word ≡ true))
+  pub counter : SawNoHardware view who
+  pub bad : Saw view who (places.Bad frame) 0
 
 -- the command took the frame's poison of this cycle back
 abbrev pub HasRevived : View → Who → Frame → ℕ → Type 0
 HasRevived view who frame cycle = SomeMember (λ (m : Mark). (m.stamp.who ≡ who) × (m.frame ≡ frame) × (m.cycle ≡ cycle) × (m.kind ≡ mark_kinds.Revived)) view.marks
 
--- what a step of it showed, or the mark that it made
+-- what steps of it showed, and the mark that it made
 abbrev pub RestsOn : View → Who → Frame → UnpoisonAnswer → Type 0
-RestsOn view who frame (answers.Done cycle) = HasRevived view who frame cycle
+RestsOn view who frame (answers.Done cycle) = HasRevived view who frame cycle × SawRevivable view who frame
 RestsOn view who frame answers.Stopped = SawStop view who
 RestsOn view who frame answers.NotPoisoned = SawFrame view who frame (λ (word : ℕ). is_poisoned word ≡ false)
 RestsOn view who frame answers.HardwareSeen = SawHardware view who
@@ -152,11 +165,11 @@ abbrev pub FitsAt : View → Who → Frame → UnpoisonAt → Type 0
 FitsAt view who frame at.LoadStop = HasRevivalLeft who.cpu view
 FitsAt view who frame at.LoadFrame = HasRevivalLeft who.cpu view
 FitsAt view who frame (at.LoadCount seen) = SawPoisoned view who frame seen
-FitsAt view who frame (at.LoadBad seen) = SawPoisoned view who frame seen
-FitsAt view who frame (at.Revive seen) = SawPoisoned view who frame seen × (is_revivable seen ≡ true)
-FitsAt view who frame (at.Uncount cycle) = HasRevived view who frame cycle × (0 < view.owed.uncounts)
-FitsAt view who frame (at.GiveBit cycle) = HasRevived view who frame cycle
-FitsAt view who frame (at.Unreserve cycle) = HasRevived view who frame cycle
+FitsAt view who frame (at.LoadBad seen) = SawPoisoned view who frame seen × SawNoHardware view who
+FitsAt view who frame (at.Revive seen) = SawPoisoned view who frame seen × (is_revivable seen ≡ true) × SawNoHardware view who × Saw view who (places.Bad frame) 0
+FitsAt view who frame (at.Uncount cycle) = HasRevived view who frame cycle × SawRevivable view who frame × (0 < view.owed.uncounts)
+FitsAt view who frame (at.GiveBit cycle) = HasRevived view who frame cycle × SawRevivable view who frame
+FitsAt view who frame (at.Unreserve cycle) = HasRevived view who frame cycle × SawRevivable view who frame
 FitsAt view who frame (at.Over answer) = RestsOn view who frame answer
 
 -- the frame is in hand from its exchange on, until its bit is given back; then its place is reserved

@@ -95,6 +95,7 @@ fn a_writer_of_std_is_a_sink(rt: HostRuntime) {
     let mut taken = Vec::new(rt.alloc());
     let mut sink = StdSink::new(&mut taken);
     let written = write_all(&mut sink, TEXT);
+    drop(sink);
     assert!(rt; (written, taken.as_slice()) == (Ok(()), TEXT.as_slice()));
 }
 

@@ -69,6 +69,10 @@ const FAULTS: &[(&[u8], u64)] = &[
         5,
     ),
     (
+        b"hwp-report 1\nstop none\ncount 0\ncpu 0 18446744073709551615\nend\n",
+        5,
+    ),
+    (
         b"hwp-report 1\nstop none\ncount 0\npage 0 18446744073709551616\nend\n",
         4,
     ),

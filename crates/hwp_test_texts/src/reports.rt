@@ -1,8 +1,8 @@
 //! Reports beside their texts, written by hand: each kind of line, and the largest numbers.
 
 use hwp_report_text::{
-    Acted, Answer, At, Code, CpuLine, Entry, FrameLine, How, MarkLine, McgBits, Outcome, Policy,
-    Report, Seen, Signal, Situation, Stop, StopCause, What, Whereabouts, print,
+    Acted, Answer, At, Code, CpuLine, Entry, EventLine, FrameLine, How, MarkLine, McgBits, Outcome,
+    Policy, Report, Seen, Signal, Situation, Stop, StopCause, What, Whereabouts, print,
 };
 use hwp_script_read::{Cpu, Frame, Line, List, Mask, Mode, Page, Proc, Thread, VSlot, Who};
 use std::alloc::Global;
@@ -366,7 +366,7 @@ fn answers(rt: &impl Abort, alloc: Global) -> List<CpuLine> {
 fn events(rt: &impl Abort, alloc: Global) -> List<CpuLine> {
     let mut lines = List::new(alloc);
     for (bank, row, acted) in EVENTS.iter() {
-        let line = CpuLine::Event {
+        let line = EventLine {
             seq: 2,
             bank: *bank,
             status: 0xfd80_0000_0000_00c0,
@@ -375,7 +375,7 @@ fn events(rt: &impl Abort, alloc: Global) -> List<CpuLine> {
             row: *row,
             acted: *acted,
         };
-        lines.push(line).expect(rt, "memory");
+        lines.push(CpuLine::Event(line)).expect(rt, "memory");
     }
     lines
 }

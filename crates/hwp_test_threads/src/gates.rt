@@ -47,6 +47,11 @@ impl<'a> Meeting<'a> {
         self.missed.load(Ordering::SeqCst)
     }
 
+    /// The points that were come to.
+    pub fn came(&self) -> u64 {
+        self.came.load(Ordering::SeqCst)
+    }
+
     /// Waits until others have come to these points.
     fn wait(&self, until: u64) {
         for _ in 0..LOOKS {

@@ -91,7 +91,8 @@ fn one_answers_while_the_other_is_inside_its_command(rt: HostRuntime) {
     ];
     let gate = Meeting::new(&holds);
     let left = call(&rt, rt.alloc(), "run", TWO, &[], (4096, &[]), &gate);
-    assert!(rt; !gate.is_missed());
+    // Both points of one command of processor 0, and of two of processor 1.
+    assert!(rt; (gate.is_missed(), gate.came()) == (false, 0xf03));
     assert!(rt; (left.reported, left.status) == (true, 0));
     let report = str::from_utf8(left.out.bytes()).unwrap_or("");
     assert!(rt; report.ends_with(ANSWERED));
@@ -109,6 +110,7 @@ fn eight_are_inside_their_commands_at_once(rt: HostRuntime) {
     }
     let gate = Meeting::new(&holds);
     let left = call(&rt, rt.alloc(), "run", EIGHT, &[], (4096, &[]), &gate);
-    assert!(rt; !gate.is_missed());
+    // Both points of one command of each.
+    assert!(rt; (gate.is_missed(), gate.came()) == (false, 0x0303_0303_0303_0303));
     leaves(&rt, &left, true, 0, EIGHT_DONE, "");
 }

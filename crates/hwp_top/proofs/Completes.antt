@@ -3,7 +3,6 @@
 use Rattle.std.proofs.Common.{◌≡◌, ◌⊎◌, inl, inr, ℕ, zero, suc, ◌<◌, List, [], ◌∷◌, Option, Some, None, slice_index_or, refl, sym, subst, arith}
 use Rattle.std.specs.Prelude.{Contains}
 use Rattle.std.specs.Io.KnownBytes.{Appends}
-use Rattle.hwp_io.specs.Causes.{Rose}
 use Rattle.hwp_top_turns.specs.hwp_script_read.Reads.{Reads}
 use Rattle.hwp_top_turns.specs.hwp_script_read.declared.Refused.{Refused}
 use Rattle.hwp_top_turns.specs.hwp_script_read.declared.Script.{Script}
@@ -20,7 +19,7 @@ module _ (words : List (List ℕ)) (had : List ℕ) (left taken taken' : Option 
     (statuses : Contains (0 ∷ 2 ∷ 3 ∷ 4 ∷ 5 ∷ 6 ∷ 8 ∷ []) status)
     (done : IsDone status → (text : List ℕ) × IsRun words × HasRun report closed (IsThreaded (Some had) left status text) × Appends taken taken' text)
     (usage : status ≡ 2 → IsRun words → ⊥) (refused : status ≡ 3 → (r : Refused) × Refuses (Some had) left r)
-    (read_fault : status ≡ 4 → Rose reads reads') (write_fault : status ≡ 5 → Rose writes writes')
+    (read_fault : status ≡ 4 → reads < reads') (write_fault : status ≡ 5 → writes < writes')
     (script : Script) (run : IsRun words) (is-text : Reads had script) where
   -- the output of `run`
   threaded : (text : List ℕ) (given : Option Report) (table : Option EndValue) → HasRun given table (IsThreaded (Some had) left status text) → Appends taken taken' text → HasReported script taken taken' status given table
@@ -43,7 +42,7 @@ module _ (words : List (List ℕ)) (had : List ℕ) (left taken taken' : Option 
   ended : IsDone status → HasReported script taken taken' status report closed
   ended is = let so = done is in threaded so.0 report closed so.2 so.3
 
-  pub completes : (Rose reads reads' → ⊥) → (Rose writes writes' → ⊥) → HasReported script taken taken' status report closed ⊎ (status ≡ 6)
+  pub completes : (reads < reads' → ⊥) → (writes < writes' → ⊥) → HasReported script taken taken' status report closed ⊎ (status ≡ 6)
   completes unread unwritten = by statuses.0 statuses.1 statuses.2
     where
       by : (k : ℕ) → k < 7 → slice_index_or (0 ∷ 2 ∷ 3 ∷ 4 ∷ 5 ∷ 6 ∷ 8 ∷ []) k status ≡ status → HasReported script taken taken' status report closed ⊎ (status ≡ 6)

@@ -1,6 +1,6 @@
-ghost use Rattle.std.specs.Prelude.{◌≡◌, ◌≢◌, ◌↔◌, ℕ, List, [], ◌∷◌, codes, map, string_bytes, Contains, IsSomeAnd, IsTrue, Some, None};
+ghost use Rattle.std.specs.Prelude.{◌≡◌, ◌≢◌, ◌↔◌, ◌<◌, ℕ, List, [], ◌∷◌, codes, map, string_bytes, Contains, IsSomeAnd, IsTrue, Some, None};
 ghost use Rattle.std.specs.Io.KnownBytes.{Appends};
-ghost use Rattle.hwp_io.specs.Causes.{AppendsStrictFront, Rose};
+ghost use Rattle.hwp_io.specs.Causes.{AppendsStrictFront};
 ghost use Rattle.hwp_top_turns.specs.hwp_script_read.declared.Refused.{Refused};
 ghost use Rattle.hwp_top_step.specs.Outputs.{HasRun, IsStepReport};
 ghost use Rattle.hwp_top_step.specs.Top.{IsDone, Refuses, Told, refusal_text, told_text};
@@ -69,8 +69,8 @@ pub fn top_run<R: Threads + Wait + Sync, S: Source, K: Sink, E: Sink, G: Gate + 
     ensures refused { result.status ≡ 3 → (r : Refused)
         × Refuses (S.left src.old) (S.left src.new) r
         × Told (E.taken err.old) (E.taken err.new) (E.faults err.old) (E.faults err.new) (refusal_text r) }
-    ensures read_fault { result.status ≡ 4 → Rose (S.faults src.old) (S.faults src.new) }
-    ensures write_fault { result.status ≡ 5 → Rose (K.faults out.old) (K.faults out.new) }
+    ensures read_fault { result.status ≡ 4 → S.faults src.old < S.faults src.new }
+    ensures write_fault { result.status ≡ 5 → K.faults out.old < K.faults out.new }
     ensures unread { (¬ IsRun (map string_bytes words.now)) → src.new ≡ src.old }
 
     // Status 5: a part of the report is written, and the report is there.

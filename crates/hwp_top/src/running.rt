@@ -1,6 +1,5 @@
 //! What `run` writes.
-ghost use Rattle.std.specs.Prelude.{◌≡◌, IfOk, IsErrOf};
-ghost use Rattle.hwp_io.specs.Causes.{Rose};
+ghost use Rattle.std.specs.Prelude.{◌≡◌, ◌<◌, IfOk, IsErrOf};
 ghost use Rattle.hwp_top_turns.specs.hwp_script_read.declared.Refused.{Refused};
 ghost use Rattle.hwp_top_turns.specs.hwp_report_text.ReportText.{report_text};
 ghost use Rattle.hwp_top_step.specs.Outputs.{HasRun};
@@ -26,7 +25,7 @@ fn report_of<R: Threads + Wait + Sync, S: Source, G: Gate + Sync>(
     ensures report { IfOk result (λ done. Reports (S.left src.old) (S.left src.new) done.0.report done.0.ended) }
     ensures text { IfOk result (λ done. done.1 ≡ report_text done.0.report) }
     ensures refused { (r : Refused) → IsErrOf result (InputFault.Refused r) → Refuses (S.left src.old) (S.left src.new) r }
-    ensures fault { IsErrOf result InputFault.ReadFault → Rose (S.faults src.old) (S.faults src.new) }
+    ensures fault { IsErrOf result InputFault.ReadFault → S.faults src.old < S.faults src.new }
 {
     let script = take_script(alloc, src)?;
     let Ok(run) = run_on_threads(rt, alloc, &script, gate) else {
@@ -47,7 +46,7 @@ pub(crate) fn threaded<R: Threads + Wait + Sync, S: Source, G: Gate + Sync>(
 ) -> Result<Output, InputFault>
     ensures output { IfOk result (λ o. HasRun o.report o.ended (IsThreaded (S.left src.old) (S.left src.new) o.status o.text)) }
     ensures refused { (r : Refused) → IsErrOf result (InputFault.Refused r) → Refuses (S.left src.old) (S.left src.new) r }
-    ensures fault { IsErrOf result InputFault.ReadFault → Rose (S.faults src.old) (S.faults src.new) }
+    ensures fault { IsErrOf result InputFault.ReadFault → S.faults src.old < S.faults src.new }
 {
     let (run, text) = report_of(rt, alloc, src, gate)?;
     Ok(Output {

@@ -2,7 +2,7 @@ ghost use Rattle.std.specs.Prelude.{◌≡◌, ◌++◌, map, IfOk, OnOk};
 ghost use Rattle.hwp_cpu.specs.hwp_law_holds.Rows.{event_line, lines_from, row_lines};
 ghost use Rattle.hwp_top_report.specs.Closing.{AreTellable, IsTellable, lines_of_all};
 
-use hwp_cpu_row::{CpuLine, EventOutcome, List, OutOfMemory, Row};
+use hwp_cpu_row::{CpuLine, EventLine, EventOutcome, List, OutOfMemory, Row};
 use std::alloc::Global;
 
 /// The lines of all processors.
@@ -59,7 +59,7 @@ fn add_events(lines: &mut Vec<CpuLine>, seq: u32, told: &[EventOutcome]) -> Resu
 fn event_line(seq: u32, told: &EventOutcome) -> CpuLine
     ensures { result ≡ event_line seq told.now }
 {
-    CpuLine::Event {
+    CpuLine::Event(EventLine {
         seq,
         bank: told.held.bank,
         status: told.held.event.status.0,
@@ -67,5 +67,5 @@ fn event_line(seq: u32, told: &EventOutcome) -> CpuLine
         misc: told.held.event.misc,
         row: told.held.grade.row,
         acted: told.acted,
-    }
+    })
 }

@@ -4,7 +4,6 @@ use Rattle.std.proofs.Common.{◌≡◌, ◌⊎◌, inl, inr, ℕ, zero, suc, �
 use Rattle.std.specs.Prelude.{Contains}
 use Rattle.std.specs.Io.KnownBytes.{Appends, Consumes, IsAtEnd}
 use Rattle.std.proofs.lemmas.List.{length-append}
-use Rattle.hwp_io.specs.Causes.{Rose}
 use Rattle.hwp_script.specs.hwp_script_read.Reads.{IsRefused, IsRefusedFor, Reads}
 use Rattle.hwp_script.specs.hwp_script_read.Reasons.{number}
 use Rattle.hwp_script.specs.hwp_script_read.declared.Refused.{Refused}
@@ -55,7 +54,7 @@ module _ (words : List (List ℕ)) (had : List ℕ) (left taken taken' : Option 
     (statuses : Contains (0 ∷ 1 ∷ 2 ∷ 3 ∷ 4 ∷ 5 ∷ 6 ∷ 8 ∷ []) status)
     (done : IsDone status → (text : List ℕ) × IsOutput words (Some had) left status text report closed × Appends taken taken' text)
     (usage : status ≡ 2 → IsNoCall words) (refused : status ≡ 3 → (r : Refused) × IsRefusedCall words (Some had) left r)
-    (read_fault : status ≡ 4 → Rose reads reads') (write_fault : status ≡ 5 → Rose writes writes')
+    (read_fault : status ≡ 4 → reads < reads') (write_fault : status ≡ 5 → writes < writes')
     (script : Script) (step : IsStep words) (is-text : Reads had script) where
   -- the output of `step`
   stepped : (text : List ℕ) (given : Option Report) (table : Option EndValue) → HasRun given table (IsStepped (Some had) left status text) → Appends taken taken' text → HasReported script taken taken' status given table
@@ -85,7 +84,7 @@ module _ (words : List (List ℕ)) (had : List ℕ) (left taken taken' : Option 
       let so = refused is in
       unrefused had script left so.0 is-text (subst (λ (call : Call). IsRefusedAt call (Some had) left so.0) (step-alone words so.1.call step so.1.asked) so.1.refuses)
 
-  pub completes : (Rose reads reads' → ⊥) → (Rose writes writes' → ⊥) → HasReported script taken taken' status report closed ⊎ (status ≡ 6)
+  pub completes : (reads < reads' → ⊥) → (writes < writes' → ⊥) → HasReported script taken taken' status report closed ⊎ (status ≡ 6)
   completes unread unwritten = by statuses.0 statuses.1 statuses.2
     where
       by : (k : ℕ) → k < 8 → slice_index_or (0 ∷ 1 ∷ 2 ∷ 3 ∷ 4 ∷ 5 ∷ 6 ∷ 8 ∷ []) k status ≡ status → HasReported script taken taken' status report closed ⊎ (status ≡ 6)

@@ -1,7 +1,6 @@
 -- What the top call promises: of what was read, of what was written, and of each status.
-use Rattle.std.specs.Prelude.{◌≡◌, ◌≢◌, ℕ, ◌++◌, ◌==◌, if◌then◌else◌, List, [], ◌∷◌, Option, Some, None, is_some, codes, decimal, ◌⊎◌}
+use Rattle.std.specs.Prelude.{◌≡◌, ◌≢◌, ◌<◌, ℕ, ◌++◌, ◌==◌, if◌then◌else◌, List, [], ◌∷◌, Option, Some, None, is_some, codes, decimal, ◌⊎◌}
 use Rattle.std.specs.Io.KnownBytes.{Appends, Consumes, IsAtEnd}
-use Rattle.hwp_io.specs.Causes.{Rose}
 use Rattle.hwp_script.specs.hwp_script_read.declared.Script.{Script}
 use Rattle.hwp_script.specs.hwp_script_read.declared.Refused.{Refused}
 use Rattle.hwp_script.specs.hwp_script_read.declared.Why.{Why}
@@ -64,7 +63,7 @@ refusal_text refused = codes "script line " ++ (decimal refused.line ++ (codes "
 
 -- a sink took the text, or its count of faults rose
 abbrev pub Told : Option (List ℕ) → Option (List ℕ) → ℕ → ℕ → List ℕ → Type 0
-Told taken taken' faults faults' text = Appends taken taken' text ⊎ Rose faults faults'
+Told taken taken' faults faults' text = Appends taken taken' text ⊎ (faults < faults')
 
 -- the texts of the statuses that have one text each
 abbrev pub usage_text : List ℕ

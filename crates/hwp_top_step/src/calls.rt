@@ -1,7 +1,7 @@
-ghost use Rattle.std.specs.Prelude.{◌≡◌, ◌≢◌, ◌↔◌, ◌⊎◌, ℕ, List, [], ◌∷◌, map, string_bytes, Contains, Some, None};
+ghost use Rattle.std.specs.Prelude.{◌≡◌, ◌≢◌, ◌↔◌, ◌⊎◌, ◌<◌, ℕ, List, [], ◌∷◌, map, string_bytes, Contains, Some, None};
 ghost use Rattle.std.specs.Io.KnownBytes.{Appends};
 ghost use Rattle.std.specs.Process.{exit_status};
-ghost use Rattle.hwp_io.specs.Causes.{AppendsStrictFront, Rose};
+ghost use Rattle.hwp_io.specs.Causes.{AppendsStrictFront};
 ghost use Rattle.hwp_script.specs.hwp_script_read.declared.Refused.{Refused};
 ghost use Rattle.hwp_top_step.specs.Calls.{IsNoCall, IsReading};
 ghost use Rattle.hwp_top_step.specs.Outputs.{IsOutput, IsRefusedCall, IsReported};
@@ -78,8 +78,8 @@ pub fn top<S: Source, K: Sink, E: Sink>(
     ensures refused { result.status ≡ 3 → (r : Refused)
         × IsRefusedCall (map string_bytes words.now) (S.left src.old) (S.left src.new) r
         × Told (E.taken err.old) (E.taken err.new) (E.faults err.old) (E.faults err.new) (refusal_text r) }
-    ensures read_fault { result.status ≡ 4 → Rose (S.faults src.old) (S.faults src.new) }
-    ensures write_fault { result.status ≡ 5 → Rose (K.faults out.old) (K.faults out.new) }
+    ensures read_fault { result.status ≡ 4 → S.faults src.old < S.faults src.new }
+    ensures write_fault { result.status ≡ 5 → K.faults out.old < K.faults out.new }
 
     // `step` and `check` alone read the source.
     ensures unread { (¬ IsReading (map string_bytes words.now)) → src.new ≡ src.old }
@@ -121,7 +121,7 @@ pub fn deliver<K: Sink, E: Sink>(out: &mut K, err: &mut E, output: Output) -> Do
     ensures report { (result.report ≡ output.report) × (result.ended ≡ output.ended) }
     ensures done { IsDone result.status → (result.status ≡ output.status) × Appends (K.taken out.old) (K.taken out.new) output.text }
     ensures silent { IsDone result.status → err.new ≡ err.old }
-    ensures write_fault { result.status ≡ 5 → Rose (K.faults out.old) (K.faults out.new) }
+    ensures write_fault { result.status ≡ 5 → K.faults out.old < K.faults out.new }
     ensures cut { result.status ≡ 5 → AppendsStrictFront (K.taken out.old) (K.taken out.new) output.text }
     ensures told { result.status ≡ 5 → Told (E.taken err.old) (E.taken err.new) (E.faults err.old) (E.faults err.new) write_fault_text }
 {

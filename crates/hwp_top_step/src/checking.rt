@@ -1,9 +1,8 @@
 //! What `check` says of an input.
-ghost use Rattle.std.specs.Prelude.{◌≡◌, IfOk, IsErrOf};
+ghost use Rattle.std.specs.Prelude.{◌≡◌, ◌≤◌, ◌<◌, IfOk, IsErrOf, length};
 ghost use Rattle.std.specs.Io.KnownBytes.{Consumes, IsAtEnd};
-ghost use Rattle.hwp_io.specs.Causes.{Rose};
 ghost use Rattle.hwp_script.specs.hwp_script_read.declared.Refused.{Refused};
-ghost use Rattle.hwp_top_step.specs.Checked.{RefusesChecked, verdict_status};
+ghost use Rattle.hwp_top_step.specs.Checked.{RefusesChecked, check_limit, verdict_status};
 ghost use Rattle.hwp_top_step.specs.Outputs.{IsOutputOf};
 
 use crate::inputs::{InputFault, whole};
@@ -20,8 +19,9 @@ const MAX_CHECKED: usize = 17_825_792;
 /// Reads a source to its end.
 fn take_input<S: Source>(alloc: Global, src: &mut S) -> Result<Bytes, InputFault>
     ensures all { IfOk result (λ bytes. Consumes (S.left src.old) (S.left src.new) bytes × IsAtEnd (S.left src.new)) }
+    ensures within { IfOk result (λ bytes. length bytes ≤ check_limit) }
     ensures refused { (r : Refused) → IsErrOf result (InputFault.Refused r) → RefusesChecked (S.left src.old) (S.left src.new) r }
-    ensures fault { IsErrOf result InputFault.ReadFault → Rose (S.faults src.old) (S.faults src.new) }
+    ensures fault { IsErrOf result InputFault.ReadFault → S.faults src.old < S.faults src.new }
 {
     match read_all(alloc, src, MAX_CHECKED) {
         Ok(bytes) => Ok(bytes),
@@ -45,7 +45,7 @@ fn status_of(verdict: Verdict) -> u8
 pub(crate) fn checked<S: Source>(alloc: Global, src: &mut S) -> Result<Output, InputFault>
     ensures output { IfOk result (λ o. IsOutputOf Call.Check (S.left src.old) (S.left src.new) o.status o.text o.report o.ended) }
     ensures refused { (r : Refused) → IsErrOf result (InputFault.Refused r) → RefusesChecked (S.left src.old) (S.left src.new) r }
-    ensures fault { IsErrOf result InputFault.ReadFault → Rose (S.faults src.old) (S.faults src.new) }
+    ensures fault { IsErrOf result InputFault.ReadFault → S.faults src.old < S.faults src.new }
 {
     let bytes = take_input(alloc, src)?;
     let verdict = match judge(alloc, bytes) {

@@ -1,6 +1,5 @@
 //! The script that a source gives.
-ghost use Rattle.std.specs.Prelude.{◌≡◌, ◌≤◌, IfOk, IsErrOf};
-ghost use Rattle.hwp_io.specs.Causes.{Rose};
+ghost use Rattle.std.specs.Prelude.{◌≡◌, ◌≤◌, ◌<◌, IfOk, IsErrOf};
 ghost use Rattle.hwp_script.specs.hwp_script_read.Valid.{IsValid};
 ghost use Rattle.hwp_script.specs.hwp_script_read.declared.Refused.{Refused};
 ghost use Rattle.hwp_top_step.specs.Top.{Refuses, Takes};
@@ -35,7 +34,7 @@ pub fn take_script<S: Source>(alloc: Global, src: &mut S) -> Result<Script, Inpu
     ensures refused { (r : Refused) → IsErrOf result (InputFault.Refused r)
         → Refuses (S.left src.old) (S.left src.new) r }
     ensures later { S.faults src.old ≤ S.faults src.new }
-    ensures fault { IsErrOf result InputFault.ReadFault → Rose (S.faults src.old) (S.faults src.new) }
+    ensures fault { IsErrOf result InputFault.ReadFault → S.faults src.old < S.faults src.new }
 {
     let bytes = match read_all(alloc, src, MAX_SCRIPT) {
         Ok(bytes) => bytes,

@@ -1,6 +1,5 @@
 //! What each call writes.
-ghost use Rattle.std.specs.Prelude.{◌≡◌, ◌≢◌, IfOk, IsErrOf, None};
-ghost use Rattle.hwp_io.specs.Causes.{Rose};
+ghost use Rattle.std.specs.Prelude.{◌≡◌, ◌≢◌, ◌<◌, IfOk, IsErrOf, None};
 ghost use Rattle.hwp_script.specs.hwp_script_read.declared.Refused.{Refused};
 ghost use Rattle.hwp_report_summary.specs.hwp_report_text.ReportText.{report_text};
 ghost use Rattle.hwp_top_step.specs.Outputs.{HasRun, IsGenerated, IsOutputOf, IsRefusedFor, IsSummed};
@@ -30,7 +29,7 @@ fn report_of<S: Source>(alloc: Global, src: &mut S) -> Result<(Finished, Text), 
     ensures report { IfOk result (λ done. Reports (S.left src.old) (S.left src.new) done.0.report done.0.ended) }
     ensures text { IfOk result (λ done. done.1 ≡ report_text done.0.report) }
     ensures refused { (r : Refused) → IsErrOf result (InputFault.Refused r) → Refuses (S.left src.old) (S.left src.new) r }
-    ensures fault { IsErrOf result InputFault.ReadFault → Rose (S.faults src.old) (S.faults src.new) }
+    ensures fault { IsErrOf result InputFault.ReadFault → S.faults src.old < S.faults src.new }
 {
     let script = take_script(alloc, src)?;
     let Ok(run) = run_in_turns(alloc, &script) else {
@@ -46,7 +45,7 @@ fn report_of<S: Source>(alloc: Global, src: &mut S) -> Result<(Finished, Text), 
 fn stepped<S: Source>(alloc: Global, src: &mut S) -> Result<Output, InputFault>
     ensures output { IfOk result (λ o. IsOutputOf Call.Step (S.left src.old) (S.left src.new) o.status o.text o.report o.ended) }
     ensures refused { (r : Refused) → IsErrOf result (InputFault.Refused r) → Refuses (S.left src.old) (S.left src.new) r }
-    ensures fault { IsErrOf result InputFault.ReadFault → Rose (S.faults src.old) (S.faults src.new) }
+    ensures fault { IsErrOf result InputFault.ReadFault → S.faults src.old < S.faults src.new }
 {
     let (run, text) = report_of(alloc, src)?;
     Ok(Output {
@@ -113,7 +112,7 @@ pub(crate) fn output_of<S: Source>(
 ) -> Result<Output, InputFault>
     ensures output { IfOk result (λ o. IsOutputOf call (S.left src.old) (S.left src.new) o.status o.text o.report o.ended) }
     ensures refused { (r : Refused) → IsErrOf result (InputFault.Refused r) → IsRefusedFor call (S.left src.old) (S.left src.new) r }
-    ensures fault { IsErrOf result InputFault.ReadFault → Rose (S.faults src.old) (S.faults src.new) }
+    ensures fault { IsErrOf result InputFault.ReadFault → S.faults src.old < S.faults src.new }
     ensures unread { call ≢ Call.Step → call ≢ Call.Check → src.new ≡ src.old }
 {
     match call {

@@ -28,7 +28,7 @@ use Rattle.hwp_threads_seats.specs.hwp_table_words.Stands.{Content}
 use Rattle.hwp_top_turns.specs.hwp_top_report.Closing.{IsClosing}
 use Rattle.hwp_top_turns.specs.Runs.{AreFinished, HasEnded, HasEndedAt, IsFinished, own_seat}
 use Rattle.hwp_top_turns.proofs.Came.{last-bare}
-use Rattle.hwp_top_turns.proofs.Whole.{lines-served, run-of}
+use Rattle.hwp_top_turns.proofs.Whole.{lines-served, records-noted, run-of}
 use Rattle.hwp_top_threads.specs.Runs.{AreDone, HaveRun, IsThreadPlayed, IsThreadRun, tasks_then}
 use Rattle.hwp_top_threads.proofs.Ended.{InTurns, all-ended, in-order}
 use Rattle.hwp_top_turns.proofs.ProcessorServes.{finished-over}
@@ -141,6 +141,7 @@ module _ (script : Script) (ended : EndValue) (rows : List (List Row)) (valid : 
       rule = ended-run.rule;
       leads = ended-run.moves;
       served = lines-served script turns last rows valid ended-run report closing;
+      records = records-noted script turns last rows valid ended-run report closing;
       nothing = last-bare script turns last rows valid ended-run;
       settled = ended-run.settled;
       ends = closing.ends;

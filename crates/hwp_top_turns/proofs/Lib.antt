@@ -4,6 +4,7 @@ pub mod Led
 pub mod Played
 pub mod Came
 pub mod Whole
+mod SwappedMarks
 mod Tabled
 pub mod ProcessorServes
 pub use Rattle.hwp_table_words.proofs.of_hwp_core_rule as of_hwp_core_rule

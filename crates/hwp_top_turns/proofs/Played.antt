@@ -85,6 +85,7 @@ module _ (script : Script) (layout : Layout) (seat : Cpu → ℕ) (state : State
           served = all-served script tasks valid begin grows.turns last order (leads-hold script.layout (opening script.layout) last.state grows.turns rule led) seated-there crew-there rows finished;
           count = finished-length last.tasks rows finished ∙ crew.count ∙ ap (λ (l : Layout). l.cpus) layout-is;
         };
+        finished = finished;
       }
 
 -- what a vector holds after its slice was written

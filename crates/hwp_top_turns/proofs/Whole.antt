@@ -16,7 +16,7 @@ use Rattle.hwp_top_report.specs.hwp_law_run.Ends.{EndsWith}
 use Rattle.hwp_top_report.specs.hwp_law_run.Turns.{Leads}
 use Rattle.hwp_top_report.specs.hwp_cpu_row.declared.Row.{Row}
 use Rattle.hwp_top_report.specs.hwp_law_holds.Rows.{lines_from}
-use Rattle.hwp_top_report.specs.hwp_law_holds.Runs.{AreServed, HasStopCause, IsRunOf, notes_of}
+use Rattle.hwp_top_report.specs.hwp_law_holds.Runs.{AreRecords, AreServed, HasStopCause, IsRunOf, notes_of}
 use Rattle.hwp_top_report.proofs.of_hwp_law_holds.lines.FrameRecords.{gathered}
 use Rattle.hwp_top_report.proofs.of_hwp_law_holds.LastBoard.{report-of-run}
 use Rattle.hwp_top_report.proofs.of_hwp_law_holds.Lawful.{law-holds}
@@ -35,6 +35,12 @@ module _ (script : Script) (turns : List Played) (state : State) (rows : List (L
   pub lines-served : AreServed script own_seat state rows report.cpus
   lines-served = subst (AreServed script own_seat state rows) (sym closing.lines) ended.served
 
+  -- each frame's record has what the processors noted of that frame
+  pub records-noted : AreRecords (notes_of 0 rows) report
+  records-noted = λ frame line there.
+      let on = closing.ends.frames frame line there in
+      gathered script.layout own_seat state (last-holds script turns state rows valid ended) ended.seated (notes_of 0 rows) (last-noted script turns state rows valid ended) frame on.word on.there line.marks (closing.marks frame line there)
+
   pub run-of : IsRunOf script own_seat turns state report
   run-of = record {
     rule = ended.rule;
@@ -43,9 +49,7 @@ module _ (script : Script) (turns : List Played) (state : State) (rows : List (L
     settled = ended.settled;
     rows = rows;
     served = lines-served;
-    records = λ frame line there.
-        let on = closing.ends.frames frame line there in
-        gathered script.layout own_seat state (last-holds script turns state rows valid ended) ended.seated (notes_of 0 rows) (last-noted script turns state rows valid ended) frame on.word on.there line.marks (closing.marks frame line there);
+    records = records-noted;
     ends = closing.ends;
     lengths = record {
       lists = valid.one_each;
@@ -85,7 +89,9 @@ module _ (script : Script) (log : List Played) (state : State) (rows : List (Lis
       scrubs = scrubs-shown script own_seat played.turns state report of-run;
     };
     rows = rows;
+    finished = played.finished;
     served = subst (λ (s : State). AreServed script own_seat s rows report.cpus) (sym played.state_is) (lines-served script played.turns state rows valid played.ended report closing);
+    records = records-noted script played.turns state rows valid played.ended report closing;
   }
 
   -- the report is of the run whose turns the log has

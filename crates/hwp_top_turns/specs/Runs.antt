@@ -23,7 +23,7 @@ use Rattle.hwp_top_report.specs.hwp_law.Runs.{IsOfRun}
 use Rattle.hwp_top_report.specs.hwp_law_run.Run.{CoreRun}
 use Rattle.hwp_top_report.specs.hwp_law_run.Turns.{Leads}
 use Rattle.hwp_top_report.specs.hwp_cpu_row.declared.Row.{Row}
-use Rattle.hwp_top_report.specs.hwp_law_holds.Runs.{AreServed}
+use Rattle.hwp_top_report.specs.hwp_law_holds.Runs.{AreRecords, AreServed, notes_of}
 use Rattle.hwp_top_report.specs.hwp_cpu.declared.Processor.{Processor}
 use Rattle.hwp_top_report.specs.hwp_cpu.Processors.{AtBeginning}
 use Rattle.hwp_top_report.specs.hwp_cpu.Serving as serving
@@ -63,7 +63,8 @@ pub record IsOpened (script : Script) (layout : Layout) (seat : Cpu → ℕ) (st
   pub state_is : state ≡ opening script.layout
   pub log_is : log ≡ []
 
--- the tasks made the turns of this log in the script's order, from their beginning to this board, on which the run has ended
+-- the tasks made the turns of this log in the script's order, from their beginning to this board, on which the run has ended and these
+-- are the tasks' rows
 pub record IsPlayed (script : Script) (log : List Played) (state : State) (rows : List (List Row)) : Type 0 where
   pub tasks : List Processor
   pub begin : AreAtBeginning script tasks
@@ -74,15 +75,19 @@ pub record IsPlayed (script : Script) (log : List Played) (state : State) (rows 
   pub order : InOrder processors script.go (running script.layout own_seat tasks (opening script.layout)) turns last
   pub state_is : last.state ≡ state
   pub ended : HasEnded script turns state rows
+  pub finished : AreFinished last.tasks rows
 
--- The report is of a run that the tasks of the script's processors make from their beginning, and on its last board each processor
--- has served its commands by its rows, of which the report's lines are.
+-- The report is of a run that the tasks of the script's processors make from their beginning to where all their commands are answered,
+-- by these rows. On its last board each processor has served its commands by its rows. The report's lines of processors are those
+-- of the rows, and each frame's record has the lines that the rows note of that frame.
 pub record IsCoreRun (script : Script) (report : Report) : Type 0 where
   pub tasks : List Processor
   pub begin : AreAtBeginning script tasks
   pub run : CoreRun processors tasks own_seat script report
   pub rows : List (List Row)
+  pub finished : AreFinished run.last.tasks rows
   pub served : AreServed script own_seat run.last.state rows report.cpus
+  pub records : AreRecords (notes_of 0 rows) report
 
 -- the report is of the run whose turns are those of this log, and lawful
 pub record IsReportOf (script : Script) (log : List Played) (report : Report) : Type 0 where

@@ -1,6 +1,6 @@
-ghost use Rattle.std.specs.Prelude.{◌≡◌, ◌≢◌, ◌↔◌, ℕ, List, [], ◌∷◌, Contains, None, Some};
+ghost use Rattle.std.specs.Prelude.{◌≡◌, ◌≢◌, ◌↔◌, ◌<◌, ℕ, List, [], ◌∷◌, Contains, None, Some};
 ghost use Rattle.std.specs.Io.KnownBytes.{Appends};
-ghost use Rattle.hwp_io.specs.Causes.{AppendsStrictFront, Rose};
+ghost use Rattle.hwp_io.specs.Causes.{AppendsStrictFront};
 ghost use Rattle.hwp_trace_run.specs.hwp_script_read.declared.Refused.{Refused};
 ghost use Rattle.hwp_top_step.specs.Top.{IsDone, Refuses, Told, refusal_text};
 ghost use Rattle.hwp_trace.specs.Shown.{IsShown, told_text};
@@ -38,8 +38,8 @@ pub fn show<S: Source, K: Sink, E: Sink>(
     ensures refused { result.status ≡ 3 → (r : Refused)
         × Refuses (S.left src.old) (S.left src.new) r
         × Told (E.taken err.old) (E.taken err.new) (E.faults err.old) (E.faults err.new) (refusal_text r) }
-    ensures read_fault { result.status ≡ 4 → Rose (S.faults src.old) (S.faults src.new) }
-    ensures write_fault { result.status ≡ 5 → Rose (K.faults out.old) (K.faults out.new) }
+    ensures read_fault { result.status ≡ 4 → S.faults src.old < S.faults src.new }
+    ensures write_fault { result.status ≡ 5 → K.faults out.old < K.faults out.new }
     ensures unread { words.now ≢ [] → src.new ≡ src.old }
 
     // Status 5: a part of the trace is written, and the report is there.

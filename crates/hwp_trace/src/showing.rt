@@ -1,6 +1,5 @@
 //! The trace of a script that a source gives.
-ghost use Rattle.std.specs.Prelude.{◌≡◌, None, IfOk, IsErrOf};
-ghost use Rattle.hwp_io.specs.Causes.{Rose};
+ghost use Rattle.std.specs.Prelude.{◌≡◌, ◌<◌, None, IfOk, IsErrOf};
 ghost use Rattle.hwp_trace_run.specs.hwp_script_read.declared.Refused.{Refused};
 ghost use Rattle.hwp_top_step.specs.Top.{Refuses, done_status};
 ghost use Rattle.hwp_trace.specs.Shown.{IsShown, IsTraceOf};
@@ -15,7 +14,7 @@ use std::alloc::Global;
 fn trace_of<S: Source>(alloc: Global, src: &mut S) -> Result<(Report, Text), InputFault>
     ensures trace { IfOk result (λ done. IsTraceOf (S.left src.old) (S.left src.new) (done_status done.0) done.1 done.0) }
     ensures refused { (r : Refused) → IsErrOf result (InputFault.Refused r) → Refuses (S.left src.old) (S.left src.new) r }
-    ensures fault { IsErrOf result InputFault.ReadFault → Rose (S.faults src.old) (S.faults src.new) }
+    ensures fault { IsErrOf result InputFault.ReadFault → S.faults src.old < S.faults src.new }
 {
     let script = take_script(alloc, src)?;
     let Ok(run) = trace(alloc, &script) else {
@@ -32,7 +31,7 @@ pub(crate) fn traced<S: Source>(alloc: Global, src: &mut S) -> Result<Output, In
     ensures output { IfOk result (λ o. IsShown (S.left src.old) (S.left src.new) o.status o.text o.report) }
     ensures no_table { IfOk result (λ o. o.ended ≡ None) }
     ensures refused { (r : Refused) → IsErrOf result (InputFault.Refused r) → Refuses (S.left src.old) (S.left src.new) r }
-    ensures fault { IsErrOf result InputFault.ReadFault → Rose (S.faults src.old) (S.faults src.new) }
+    ensures fault { IsErrOf result InputFault.ReadFault → S.faults src.old < S.faults src.new }
 {
     let (report, text) = trace_of(alloc, src)?;
     Ok(Output {

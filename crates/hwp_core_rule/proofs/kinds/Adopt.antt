@@ -12,11 +12,12 @@ use Rattle.hwp_core_rule.specs.declared.log.Log.{Log}
 use Rattle.hwp_core_rule.specs.declared.view.FrameLock.{FrameLock}
 use Rattle.hwp_core_rule.specs.declared.view.InHand.{InHand}
 use Rattle.hwp_core_rule.specs.declared.view.Ref.{Ref}
+use Rattle.hwp_core_rule.specs.declared.view.Sight.{Sight}
 use Rattle.hwp_core_rule.specs.declared.view.View.{View}
 use Rattle.hwp_core_rule.specs.Asks.{HasInHand}
 use Rattle.hwp_core_rule.specs.Lists.{Homes, EachMember, sum_bodies}
 use Rattle.hwp_core_rule.specs.Rule.{FrameRule, holder_of, holdings_of}
-use Rattle.hwp_core_rule.specs.Views.{without, is_hand_of, with_refs, refs_on, lock_found, sighted, stamp_of, locks_on}
+use Rattle.hwp_core_rule.specs.Views.{adopting, without, is_hand_of, with_refs, refs_on, lock_found, stamp_of, locks_on}
 use Rattle.hwp_core_rule.specs.Words.{Words, free_bit}
 use Rattle.hwp_core_rule.specs.parts.Bodies.{BodiesAtHome, Holder, IsAtHome, IsHolding, IsLockFor}
 use Rattle.hwp_core_rule.specs.parts.Counts.{CountsBalance, named}
@@ -29,7 +30,7 @@ use Rattle.hwp_core_rule.proofs.FrameWordLaws.{IsLike, like-fields, word-was, li
 use Rattle.hwp_core_rule.proofs.ListDrops.{each-without, length-without}
 use Rattle.hwp_core_rule.proofs.FramesInHand.{in_hand-mine, in_hand-without, is-of}
 use Rattle.hwp_core_rule.proofs.Refs.{refs-with, refs-with-other, length-with}
-use Rattle.hwp_core_rule.proofs.Sights.{keeps-sight, explained-frame}
+use Rattle.hwp_core_rule.proofs.Sights.{kept-sight, explained-frame}
 use Rattle.hwp_core_rule.proofs.EmptySlots.{is_bodiless, bodiless-name, bodies-sum, slot-fits, slot-histories, slot-failures}
 use Rattle.hwp_core_rule.proofs.Keeps.{IsShaped, Keeps}
 use Rattle.std.proofs.lemmas.List.Sums.{sum_by_push}
@@ -294,11 +295,14 @@ keeps-adopt frame layout w homes views seat v who content given =
     there : slice_get w.frames frame.0 ≡ Some read
     there = slice_get-get_or w.frames frame.0 0 (omega (arith, given.place, given.shaped.frames))
 
+    sight : Sight
+    sight = record { stamp = stamp_of who (adopting frame read v); place = places.Frame frame; word = read }
+
     shown : View
-    shown = sighted who (places.Frame frame) read v
+    shown = record v { sights = v.sights ++ sight ∷ [] }
 
     u : View
-    u = record shown { hands = without (is_hand_of frame) v.hands; refs = with_refs frame 1 v.refs; locks = v.locks ++ lock_found frame read ∷ [] }
+    u = adopting frame read shown
 
     rule : FrameRule layout w homes (set views seat shown)
-    rule = keeps-sight layout w homes views seat v who (places.Frame frame) read given.me given.past (explained-frame layout w homes views (stamp_of who v) frame read there) given.rule
+    rule = kept-sight layout w homes views seat v sight given.me given.rule given.past (explained-frame layout w homes views sight.stamp frame read there)

@@ -35,8 +35,9 @@ use Rattle.hwp_cpu_row.specs.hwp_cpu_check.Checks.{AreChecks, Check, IsActedOn, 
 use Rattle.hwp_cpu_row.specs.hwp_cpu_check.Events.{graded_in}
 use Rattle.hwp_cpu_row.specs.hwp_cpu_check.Fits.{AreTold, IsDone, IsFailed, IsTold}
 use Rattle.hwp_cpu_row.specs.hwp_cpu_check.Told.{frame_of, required_by, severity_at_once}
+use Rattle.hwp_law_holds.specs.Rows.{event_at}
 use Rattle.hwp_law_holds.proofs.RunEnds.{IsEnd}
-use Rattle.hwp_law_holds.proofs.RowLines.{behind, event_at}
+use Rattle.hwp_law_holds.proofs.RowLines.{behind}
 use Rattle.hwp_law_holds.proofs.marks.RecordPlaces.{was-poisoned}
 
 -- ---- lists

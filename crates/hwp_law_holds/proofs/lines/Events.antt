@@ -21,6 +21,7 @@ use Rattle.hwp_law_run.specs.hwp_script_read.declared.Command.TheVariants as com
 use Rattle.hwp_law_run.specs.hwp_script_read.declared.Script.{Script}
 use Rattle.hwp_law_run.specs.hwp_report_text.declared.Answer.{Answer}
 use Rattle.hwp_law_run.specs.hwp_report_text.declared.Answer.TheVariants as answers
+use Rattle.hwp_law_run.specs.hwp_report_text.declared.EventLine.{EventLine}
 use Rattle.hwp_law_run.specs.hwp_report_text.declared.Report.{Report}
 use Rattle.hwp_law_run.specs.hwp_law.Checks.{IsCheck}
 use Rattle.hwp_law_run.specs.hwp_banks.Banks.{Banks, empty_banks}
@@ -29,11 +30,12 @@ use Rattle.hwp_law_run.specs.hwp_severity.declared.Arrival.{Arrival}
 use Rattle.hwp_law_run.specs.hwp_law.Events.{AreAccessChecks, AreEvents, AreEventsFrom, AreEventsOf, AreScrubbed, IsAccessChecked, IsDamaged, IsRaise, is_check, logged_if_done}
 use Rattle.hwp_law_run.specs.hwp_banks.Banks.{raw_event}
 use Rattle.hwp_law_run.specs.hwp_law.Events as law
-use Rattle.hwp_law_run.specs.hwp_law.Lines.{EventLine, answer_of, events_of}
+use Rattle.hwp_law_run.specs.hwp_law.Lines.{answer_of, events_of}
 use Rattle.hwp_law_run.specs.hwp_law.Pairings.{entries_of}
 use Rattle.hwp_cpu_row.specs.declared.Row.{Row}
 use Rattle.hwp_cpu_row.specs.hwp_cpu_check.declared.EventOutcome.{EventOutcome}
 use Rattle.hwp_cpu_row.specs.hwp_cpu_check.Checks.{IsActedOn, SawBad, lines_of, restarting}
+use Rattle.hwp_law_holds.specs.Rows.{event_at}
 use Rattle.hwp_law_holds.specs.Runs.{IsRunOf, row_at}
 use Rattle.hwp_law_holds.specs.Served.{AreRowsServed}
 use Rattle.hwp_scrub.specs.Visits.{scrubbing}
@@ -41,7 +43,7 @@ use Rattle.hwp_law_holds.specs.Told.{AreToldBy, IsAccessTold, IsRaiseTold, IsScr
 use Rattle.hwp_law_holds.proofs.lines.Checks.{HasResult, check-so, checks-so}
 use Rattle.hwp_law_holds.proofs.RunEnds.{IsEnd, rows-of, served-of}
 use Rattle.hwp_law_holds.proofs.LastBoard.{ended}
-use Rattle.hwp_law_holds.proofs.RowLines.{answer-told, event_at, events-by-row, told_at}
+use Rattle.hwp_law_holds.proofs.RowLines.{answer-told, events-by-row, told_at}
 use Rattle.hwp_law_holds.proofs.deeds.CountedEntries.{entries-inside}
 use Rattle.hwp_law_holds.proofs.lines.OfRows.{row-of}
 use Rattle.hwp_law_holds.proofs.lines.Records.{result-told}

@@ -23,6 +23,7 @@ use Rattle.hwp_law_run.specs.hwp_script_read.declared.Script.{Script}
 use Rattle.hwp_law_run.specs.hwp_report_text.declared.Acted.{Acted}
 use Rattle.hwp_law_run.specs.hwp_report_text.declared.Acted.TheVariants as acts
 use Rattle.hwp_law_run.specs.hwp_report_text.declared.Answer.{Answer}
+use Rattle.hwp_law_run.specs.hwp_report_text.declared.EventLine.{EventLine}
 use Rattle.hwp_law_run.specs.hwp_report_text.declared.FrameLine.{FrameLine}
 use Rattle.hwp_law_run.specs.hwp_report_text.declared.How.{How}
 use Rattle.hwp_law_run.specs.hwp_report_text.declared.How.TheVariants as hows
@@ -31,7 +32,7 @@ use Rattle.hwp_law_run.specs.hwp_report_text.declared.Report.{Report}
 use Rattle.hwp_law_run.specs.hwp_law.Causes.{HasMark}
 use Rattle.hwp_law_run.specs.hwp_law.Checks.{IsResult}
 use Rattle.hwp_law_run.specs.hwp_law.Commands.{current_thread}
-use Rattle.hwp_law_run.specs.hwp_law.Lines.{EventLine, answer_of, marks_of}
+use Rattle.hwp_law_run.specs.hwp_law.Lines.{answer_of, marks_of}
 use Rattle.hwp_law_run.specs.hwp_law.Places.{command_at}
 use Rattle.hwp_law_run.specs.hwp_law.Records.{HaveEvents, is_kernel_found, IsAnswered, IsFound, IsFrameRecord, IsMarkAt, hardware_marks, how_in, is_by_hardware, is_moved, line_results, mark_results, result_lines, result_of, who_in}
 use Rattle.hwp_soft.specs.hwp_claim.declared.Found.{Found}

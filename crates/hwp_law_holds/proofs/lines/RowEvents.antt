@@ -16,10 +16,10 @@ use Rattle.hwp_law_run.specs.hwp_core_rule.Lists.{EachMember}
 use Rattle.hwp_law_run.specs.hwp_core_rule.Words.{sum_below}
 use Rattle.hwp_law_run.proofs.of_hwp_core_rule.CountsBelow.{below-swap}
 use Rattle.hwp_law_run.specs.hwp_report_text.declared.Acted.{Acted}
+use Rattle.hwp_law_run.specs.hwp_report_text.declared.EventLine.{EventLine}
 use Rattle.hwp_law_run.specs.hwp_report_text.declared.How.TheVariants as hows
 use Rattle.hwp_law_run.specs.hwp_report_text.declared.MarkLine.{MarkLine}
 use Rattle.hwp_law_run.specs.hwp_report_text.declared.MarkLine.TheVariants as marks
-use Rattle.hwp_law_run.specs.hwp_law.Lines.{EventLine}
 use Rattle.hwp_law_run.specs.hwp_law.Pairings.{is_urgent, situation_number}
 use Rattle.hwp_law_run.specs.hwp_law.Records.{is_by_hardware, line_results, mark_results, result_of}
 use Rattle.hwp_soft.specs.hwp_claim.declared.Found.{Found}
@@ -28,8 +28,7 @@ use Rattle.hwp_cpu_row.specs.declared.FrameChange.TheVariants as owns
 use Rattle.hwp_cpu_row.specs.declared.Row.{Row}
 use Rattle.hwp_cpu_row.specs.hwp_cpu_check.declared.EventOutcome.{EventOutcome}
 use Rattle.hwp_cpu_row.specs.hwp_cpu_check.Told.{frame_of}
-use Rattle.hwp_law_holds.specs.Rows.{Note, lines_of, note_by, note_of, own_note, row_notes, told_note}
-use Rattle.hwp_law_holds.proofs.RowLines.{event_at}
+use Rattle.hwp_law_holds.specs.Rows.{Note, event_at, lines_of, note_by, note_of, own_note, row_notes, told_note}
 use Rattle.hwp_law_holds.proofs.Sums.{below-one, sum-same}
 use Rattle.hwp_law_holds.proofs.lines.ToldRight.{found_act}
 use Rattle.hwp_law_holds.proofs.marks.RowNotes.{lines-append, through-map}

@@ -23,7 +23,8 @@ use Rattle.hwp_law_run.specs.Scrubs.{IsFoundAt}
 use Rattle.hwp_scrub.specs.Visits as scrubs
 use Rattle.hwp_scrub.specs.Visits.{AreBanks, AreVisits, Find, IsBadMet, IsVisit, IsWeakMet, SawLowest, Visit, left_by_bad, left_by_visit, lines_of_visit, scrub_bank, scrubbing, with_bad}
 use Rattle.hwp_scrub.proofs.VisitLaws.{bad-leaves, left-banks}
-use Rattle.hwp_law_holds.proofs.RowLines.{behind, event_at}
+use Rattle.hwp_law_holds.specs.Rows.{event_at}
+use Rattle.hwp_law_holds.proofs.RowLines.{behind}
 use Rattle.hwp_law_holds.proofs.lines.ScrubBank.{bad-alone, kept-so, lone_event}
 
 -- ---- members

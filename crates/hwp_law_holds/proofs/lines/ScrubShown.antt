@@ -19,9 +19,10 @@ use Rattle.hwp_law_run.specs.hwp_core_task.Known.{Saw}
 use Rattle.hwp_law_run.specs.hwp_script_read.declared.Script.{Script}
 use Rattle.hwp_law_run.specs.hwp_report_text.declared.Answer.{Answer}
 use Rattle.hwp_law_run.specs.hwp_report_text.declared.Answer.TheVariants as answers
+use Rattle.hwp_law_run.specs.hwp_report_text.declared.EventLine.{EventLine}
 use Rattle.hwp_law_run.specs.hwp_report_text.declared.Report.{Report}
 use Rattle.hwp_law_run.specs.hwp_banks.Banks.{Banks}
-use Rattle.hwp_law_run.specs.hwp_law.Lines.{EventLine, events_of}
+use Rattle.hwp_law_run.specs.hwp_law.Lines.{events_of}
 use Rattle.hwp_cpu_row.specs.hwp_cpu_check.declared.EventOutcome.{EventOutcome}
 use Rattle.hwp_law_run.specs.Scrubs.{AreFoundShown, AreLookedAt, HasFound, IsFoundAt}
 use Rattle.hwp_law_run.specs.Turns.{Finds}
@@ -31,8 +32,8 @@ use Rattle.hwp_law_run.proofs.SeatTells.{told}
 use Rattle.hwp_scrub.specs.Visits as scrubs
 use Rattle.hwp_scrub.specs.Visits.{AreBanks, IsLowest, SawLowest, Visit}
 use Rattle.hwp_scrub.proofs.VisitLaws.{left-banks}
+use Rattle.hwp_law_holds.specs.Rows.{event_at}
 use Rattle.hwp_law_holds.specs.Told.{HasScrubbed, IsCutShort, IsScrubTold, IsUntold}
-use Rattle.hwp_law_holds.proofs.RowLines.{event_at}
 use Rattle.hwp_law_holds.proofs.Shown.{word-shown}
 use Rattle.hwp_law_holds.proofs.lines.ScrubLines.{HasVisit, IsFoundIn, Tells, bad-here, find_of, line-told, origin_of, saw-of, visit-at, visits-here}
 

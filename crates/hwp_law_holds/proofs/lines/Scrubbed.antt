@@ -22,10 +22,11 @@ use Rattle.hwp_law_run.specs.hwp_script_read.declared.Command.{Command}
 use Rattle.hwp_law_run.specs.hwp_script_read.declared.Script.{Script}
 use Rattle.hwp_law_run.specs.hwp_report_text.declared.Answer.{Answer}
 use Rattle.hwp_law_run.specs.hwp_report_text.declared.Answer.TheVariants as answers
+use Rattle.hwp_law_run.specs.hwp_report_text.declared.EventLine.{EventLine}
 use Rattle.hwp_law_run.specs.hwp_report_text.declared.Report.{Report}
 use Rattle.hwp_law_run.specs.hwp_banks.Banks.{Banks}
 use Rattle.hwp_law_run.specs.hwp_law.Events.{AreScrubbed, IsBadFound, IsScrubbed, IsWeakFound}
-use Rattle.hwp_law_run.specs.hwp_law.Lines.{EventLine, answer_of}
+use Rattle.hwp_law_run.specs.hwp_law.Lines.{answer_of}
 use Rattle.hwp_law_run.specs.hwp_law.Places.{command_at}
 use Rattle.hwp_cpu_row.specs.declared.FrameChange.{FrameChange}
 use Rattle.hwp_cpu_row.specs.declared.Row.{Row}
@@ -33,11 +34,12 @@ use Rattle.hwp_cpu_row.specs.hwp_cpu_check.declared.EventOutcome.{EventOutcome}
 use Rattle.hwp_scrub.specs.Visits as scrubs
 use Rattle.hwp_scrub.specs.Visits.{AreVisits, IsBadMet, IsLowest, IsVisit, IsWeakMet, SawLowest, Visit, left_by_bad, left_by_visit, left_by_weak, lines_of_visit, scrub_bank, scrubbing, with_bad}
 use Rattle.hwp_law_holds.specs.Causes.{HasSpoiledLine, IsAnswerCaused}
+use Rattle.hwp_law_holds.specs.Rows.{event_at}
 use Rattle.hwp_law_holds.specs.Served.{spoiling}
 use Rattle.hwp_law_holds.specs.Told.{IsCutShort, IsScrubTold, IsUntold}
 use Rattle.hwp_law_holds.proofs.lines.Checks.{HasResult, check-so, each-first, each-second, lines-so}
 use Rattle.hwp_law_holds.proofs.RunEnds.{IsEnd, IsOf, command-of, served-of}
-use Rattle.hwp_law_holds.proofs.RowLines.{answer-told, event_at}
+use Rattle.hwp_law_holds.proofs.RowLines.{answer-told}
 use Rattle.hwp_law_holds.proofs.lines.SpoiledLines.{seen-after, spoil-shown}
 
 -- a scrub went to its end

@@ -1,6 +1,6 @@
 -- Each entry that rests on bad lines was made by a command that was shown them: by a step under the lock of the frame from which it
 -- had the page's body.
-use Rattle.std.proofs.Common.{◌≡◌, ◌⊎◌, inl, inr, ℕ, zero, suc, ◌+◌, ◌<◌, ◌≤◌, Bool, true, false, true≢false, List, [], ◌∷◌, ◌++◌, Option, Some, None, option_map, drop, length, slice_get, refl, sym, ap, ◌∙◌, subst, append_assoc, arith}
+use Rattle.std.proofs.Common.{◌≡◌, ◌⊎◌, inl, inr, ℕ, zero, suc, ◌+◌, ◌<◌, ◌≤◌, Bool, true, false, true≢false, List, [], ◌∷◌, ◌++◌, Option, Some, None, drop, length, slice_get, refl, sym, ap, ◌∙◌, subst, append_assoc, arith}
 use Rattle.std.proofs.lemmas.List.{append-nil}
 use Rattle.std.proofs.lemmas.Option.{none-some, same_Some, slice_get_within}
 use Rattle.hwp_law_run.specs.hwp_geom.declared.Frame.{Frame}
@@ -38,6 +38,7 @@ use Rattle.hwp_law_run.specs.hwp_core_task.Boards.{Played}
 use Rattle.hwp_law_run.specs.Turns.{Leads}
 use Rattle.hwp_law_run.proofs.StepAdds.{Adds, AddsMade, adds}
 use Rattle.hwp_law_run.proofs.TurnLeads.{leads-on}
+use Rattle.hwp_law_run.proofs.SeatKnows.{under-lock}
 use Rattle.hwp_law_run.proofs.SeatTells.{later, now}
 use Rattle.hwp_law_holds.specs.Loads.{HasPageIn, Inspects}
 use Rattle.hwp_law_holds.proofs.StepAdds.{OneMore, adds-by}
@@ -68,19 +69,6 @@ past-first : {A : Type 0} (l : List A) (n i : ℕ) (x : A) → slice_get (drop n
 past-first l zero i x there = ap (slice_get l) (let h : 0 + i ≡ i = omega arith in h) ∙ there
 past-first [] (suc n) i x there = absurd (none-some x there)
 past-first (y ∷ ys) (suc n) i x there = ap (slice_get (y ∷ ys)) (let h : suc n + i ≡ suc (n + i) = omega arith in h) ∙ past-first ys n i x there
-
--- the frame of a lock by its number
-lock-of : (locks : List FrameLock) (i : ℕ) (frame : Frame) → option_map (λ (l : FrameLock). l.frame) (slice_get locks i) ≡ Some frame → SomeMember (λ (l : FrameLock). l.frame ≡ frame) locks
-lock-of locks i frame is = which (slice_get locks i) refl is
-  where
-    which : (o : Option FrameLock) → slice_get locks i ≡ o → option_map (λ (l : FrameLock). l.frame) o ≡ Some frame → SomeMember (λ (l : FrameLock). l.frame ≡ frame) locks
-    which None none is = absurd (none-some frame is)
-    which (Some l) some is = (i, l, some, same_Some l.frame frame is)
-
--- a stamp under a frame's lock is of a view that has it
-under-lock : (who : Who) (v : View) (frame : Frame) → IsUnder frame (stamp_of who v) → SomeMember (λ (l : FrameLock). l.frame ≡ frame) v.locks
-under-lock who v frame (inl first) = lock-of v.locks 0 frame first
-under-lock who v frame (inr second) = lock-of v.locks 1 frame second
 
 -- ---- a step that shows bad lines
 

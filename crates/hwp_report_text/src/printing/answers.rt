@@ -1,9 +1,9 @@
 ghost use Rattle.std.specs.Prelude.{◌≡◌, ◌∷◌, [], ◌++◌, OnOk, string_bytes, codes, decimal, map};
 ghost use Rattle.std.specs.List.{flat_map};
 ghost use Rattle.hwp_page.specs.hwp_geom.Words.{line, hex};
-ghost use Rattle.hwp_report_text.specs.ReportText.{answer_words, cpu_line_words, placed};
+ghost use Rattle.hwp_report_text.specs.ReportText.{answer_words, cpu_line_words, event_words, placed};
 
-use crate::lines::{Answer, CpuLine};
+use crate::lines::{Answer, CpuLine, EventLine};
 use crate::terms::acted_word;
 use hwp_page::{At, Frame, Mask, OutOfMemory};
 
@@ -21,23 +21,28 @@ fn put_cpu_line(out: &mut String, item: CpuLine) -> Result<(), OutOfMemory>
     ensures { OnOk result (string_bytes out.new ≡ string_bytes out.old ++ line (cpu_line_words item)) }
 {
     match item {
-        CpuLine::Event {
-            seq,
-            bank,
-            status,
-            addr,
-            misc,
-            row,
-            acted,
-        } => {
-            let acted = acted_word(acted);
-            writeln!(
-                out,
-                "{seq} event {bank} {status:x} {addr:x} {misc:x} S{row} {acted}"
-            )
-        }
+        CpuLine::Event(event) => put_event(out, event),
         CpuLine::Answer { seq, answer } => put_answer(out, seq, answer),
     }
+}
+
+fn put_event(out: &mut String, event: EventLine) -> Result<(), OutOfMemory>
+    ensures { OnOk result (string_bytes out.new ≡ string_bytes out.old ++ line (event_words event)) }
+{
+    let EventLine {
+        seq,
+        bank,
+        status,
+        addr,
+        misc,
+        row,
+        acted,
+    } = event;
+    let acted = acted_word(acted);
+    writeln!(
+        out,
+        "{seq} event {bank} {status:x} {addr:x} {misc:x} S{row} {acted}"
+    )
 }
 
 fn put_answer(out: &mut String, seq: u32, answer: Answer) -> Result<(), OutOfMemory>
