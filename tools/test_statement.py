@@ -7,6 +7,7 @@ import subprocess
 import sys
 import unittest
 from pathlib import Path
+from typing import Any, List, Tuple
 
 PROGRAM = Path(__file__).resolve().with_name("statement")
 KNOWN = (
@@ -30,17 +31,24 @@ KNOWN = (
 )
 
 
-def loaded():
+def loaded() -> Any:
     """The program as a module."""
     sys.dont_write_bytecode = True
     loader = importlib.machinery.SourceFileLoader("statement", str(PROGRAM))
-    module = importlib.util.module_from_spec(importlib.util.spec_from_loader("statement", loader))
+    spec = importlib.util.spec_from_loader("statement", loader)
+    assert spec is not None
+    module = importlib.util.module_from_spec(spec)
     loader.exec_module(module)
     return module
 
 
 class Statement(unittest.TestCase):
     """The statement of `top`."""
+
+    tree: Any
+    roots: Any
+    defs: Any
+    report: Any
 
     @classmethod
     def setUpClass(cls) -> None:
@@ -80,7 +88,10 @@ class Statement(unittest.TestCase):
         self.assertEqual(self.tree.modules["hwp_banks", "Logged"].owner["Corrected"], "Class")
 
     def test_words(self) -> None:
-        for words, status in (["top", "--sizes"], 0), (["IsLawful", "--sizes"], 0), (["new"], 2), (["no_such_name"], 2), ([], 2):
+        cases: List[Tuple[List[str], int]] = [
+            (["top", "--sizes"], 0), (["IsLawful", "--sizes"], 0), (["new"], 2), (["no_such_name"], 2), ([], 2),
+        ]
+        for words, status in cases:
             done = subprocess.run([PROGRAM, *words], capture_output=True, text=True, check=False)
             self.assertEqual((words, done.returncode), (words, status))
         self.assertIn("report level: ", subprocess.run([PROGRAM, "top"], capture_output=True, text=True, check=True).stdout)

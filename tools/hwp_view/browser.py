@@ -114,6 +114,14 @@ class Browser:
             if "method" in message:
                 self.events.append(message)
 
+    def seconds_to_open(self, path: Path) -> float:
+        """Opens a page, and answers the seconds that its main thread worked on it, whatever else the machine does."""
+        self.call("Performance.enable", timeDomain="threadTicks")
+        self.open(path)
+        self.run("new Promise(done => requestAnimationFrame(() => requestAnimationFrame(done)))")
+        metrics = self.call("Performance.getMetrics")["metrics"]
+        return float(next(metric["value"] for metric in metrics if metric["name"] == "TaskDuration"))
+
     def run(self, script: str) -> Any:
         """The value of a JavaScript expression."""
         result = self.call("Runtime.evaluate", expression=script, returnByValue=True, awaitPromise=True)
@@ -137,6 +145,11 @@ class Browser:
     def point(self, x: float, y: float) -> None:
         """Moves the pointer."""
         self.call("Input.dispatchMouseEvent", type="mouseMoved", x=x, y=y)
+
+    def click(self, x: float, y: float) -> None:
+        """Clicks."""
+        for kind in ("mousePressed", "mouseReleased"):
+            self.call("Input.dispatchMouseEvent", type=kind, x=x, y=y, button="left", clickCount=1)
 
     def window(self, width: int, height: int, scheme: str) -> None:
         """Gives the page a size, and a light or a dark scheme."""

@@ -30,10 +30,11 @@ class Malformed(Exception):
 
 
 class Fitted(NamedTuple):
-    """The words of a line beside the slots of the shape that fits them."""
+    """The words of a line beside the slots of the shape that fits them, and where among all words each stands."""
 
     slots: tuple[str, ...]
     words: tuple[str, ...]
+    places: tuple[int, ...]
 
 
 def fitted(shapes: Sequence[str], words: Sequence[str]) -> Optional[Fitted]:
@@ -41,8 +42,8 @@ def fitted(shapes: Sequence[str], words: Sequence[str]) -> Optional[Fitted]:
     for shape in shapes:
         slots = shape.split()
         if len(slots) == len(words) and all(_may_stand(slot, word) for slot, word in zip(slots, words)):
-            open_slots = [(slot, word) for slot, word in zip(slots, words) if not slot.startswith("'")]
-            return Fitted(tuple(slot for slot, _ in open_slots), tuple(word for _, word in open_slots))
+            places = tuple(place for place, slot in enumerate(slots) if not slot.startswith("'"))
+            return Fitted(tuple(slots[p] for p in places), tuple(words[p] for p in places), places)
     return None
 
 

@@ -2,7 +2,7 @@
 from __future__ import annotations
 
 from collections import defaultdict
-from typing import Iterable, Iterator, Optional
+from typing import Iterable, Iterator, Optional, Union
 
 from . import plain
 from .markup import badge, esc, item, plural, sources, tie
@@ -10,7 +10,11 @@ from .order import Order
 from .report import Entry, Line
 from .run import Place, Run, Work, entry_named, sight_of, word_of
 from .script import Command
+from .locks import Hold, Trace, Wait
+from .trace import turn_text, value_text
+from .traced import TracedOrder
 
+AnyOrder = Union[Order, TracedOrder]
 MOST_ALIGNED_LANES = 9
 MOST_ROOMY_LANES = 5
 MOST_EAGER_LANES = 16
@@ -19,6 +23,7 @@ MOST_SHORT = 60
 PART = 20
 MOST_SLOTS = 8
 MOST_FAILED = 4
+MOST_HOLDS = 6
 KINDS = ("stop", "failure", "refusal", "offline")
 
 
@@ -35,9 +40,13 @@ def to_command(cpu: int, seq: int, hint: str, kind: str = "") -> str:
 class Lanes:
     """The lanes of one run."""
 
-    def __init__(self, run: Run, order: Order) -> None:
+    def __init__(self, run: Run, order: AnyOrder, trace: Optional[Trace] = None) -> None:
         self.run = run
         self.order = order
+        self.trace = trace
+        self.holds: dict[tuple[int, int], list[Hold]] = defaultdict(list)
+        for hold in trace.holds if trace else []:
+            self.holds[(hold.cpu, hold.seq)].append(hold)
         self.count = run.script.cpus + len(run.script.pages)
         self.is_aligned = order.is_free and self.count <= MOST_ALIGNED_LANES and order.height <= MOST_ALIGNED_ROWS
         self.slots: dict[int, list[str]] = defaultdict(list)
@@ -111,16 +120,49 @@ class Lanes:
         lines += [f'<span class="ans">{self._answer(answer, command)}</span>' for answer in work.answers]
         if not work.answers:
             lines.append(f'<span class="ans">{badge("refusal", "no answer")}in the report</span>')
+        lines += self._turns(command)
         return item(
             f"c{command.cpu}-{command.seq}",
             f"k-{kind}",
-            "com",
+            "com waited" if self._waits(command) else "com",
             "\n".join(lines),
             script=f"{command.line} {command.text}",
             report=sources(work.events + work.answers),
+            trace="\n".join(f"{wait.turn.number + 2} {turn_text(wait.turn)}" for wait in self._waits(command)),
             says=says,
             rows=self._rows(*self.order.spans[command.cpu][command.seq]),
         )
+
+    def _waits(self, command: Command) -> list[Wait]:
+        return self.trace.waits.get((command.cpu, command.seq), []) if self.trace else []
+
+    def _turns(self, command: Command) -> Iterator[str]:
+        """What a trace says of a command: what it waited for, its turns, and the locks that it held."""
+        if self.trace is None:
+            return
+        for wait in self._waits(command):
+            turn = wait.turn
+            why = f"{turn.kind} found {turn.place} as {value_text(turn.word, turn.before)}"
+            if wait.holder:
+                holder = to_command(*wait.holder, "the command")
+                text = f"for {esc(turn.place)}, which {holder} had locked"
+            else:
+                text = esc(why)
+            when = f"at turn {turn.number}" if wait.times == 1 else f"{wait.times} turns, {turn.number} to {wait.last},"
+            yield f'<span class="ans">{badge("wait", "waited")}{when} {text}</span>'
+        turns = self.trace.of[(command.cpu, command.seq)]
+        held = self.holds[(command.cpu, command.seq)]
+        shown = [f"{hold.word} in turns {hold.first} to {hold.last}" for hold in held[:MOST_HOLDS]]
+        shown += [f"and {len(held) - MOST_HOLDS} more"] if len(held) > MOST_HOLDS else []
+        locks = f"; it held {', '.join(shown)}" if shown else ""
+        yield f'<span class="ans why">turns {turns[0].number} to {turns[-1].number}{esc(locks)}</span>'
+
+    def _made_by(self, page: int, index: int) -> str:
+        """The line of the trace that made an entry."""
+        if not isinstance(self.order, TracedOrder):
+            return ""
+        turn = self.order.turn_of[(page, index)]
+        return f"{turn.number + 2} {turn_text(turn)}"
 
     def _frame_of(self, command: Command) -> str:
         """A link to the frame that a command names."""
@@ -241,7 +283,8 @@ class Lanes:
         body += f'<span class="ties">{link}</span>{below}'
         lines = sources((entry.line, *entry.seen, *entry.signals))
         row = self._rows(self.order.entry_row((page, index)))
-        return item(f"e{page}-{index}", f"k-{kind}", "ent", body, report=lines, rows=row)
+        made = self._made_by(page, index)
+        return item(f"e{page}-{index}", f"k-{kind}", "ent", body, report=lines, trace=made, rows=row)
 
     def _below(self, page: int, index: int, entry: Entry) -> Iterator[str]:
         """The policies that a failure read, and its signals."""

@@ -9,7 +9,7 @@ import time
 from pathlib import Path
 from typing import Any
 
-from hwp_view import large
+from hwp_view import large, test_trace
 from hwp_view.browser import Browser, Message
 from hwp_view.page import page_html
 from hwp_view.report import read_report
@@ -22,6 +22,8 @@ PICTURED = (400, 1600)
 ENTRY = r"(?:in|map|free|drop|sync|out|soft|load|store|mce|fail) "
 OF_ITEMS = rf"{ENTRY}|frame |poisoned |unpoisoned |seen |signal |[0-9]|stop [0-9]"
 MOST_PRESSES = 2000
+MOST_SECONDS_TO_OPEN = 1.5
+FRAMES = "new Promise(done => { let n = 15; const next = () => (--n ? requestAnimationFrame(next) : done()); next(); })"
 
 
 def count(pattern: str, text: str) -> int:
@@ -109,6 +111,64 @@ class Look:
                         self.browser.picture(self.pictures / f"{self.name}-{width}-{scheme}.png")
             grounds.add(self.browser.run("getComputedStyle(document.body).backgroundColor"))
         self.want(len(grounds) == 2, "light and dark have the same ground")
+
+    def fresh(self, path: Path, width: int) -> None:
+        """Each key works on a page just opened, and until then the pane takes little of the window."""
+        for key in ("ArrowDown", "ArrowRight", "Home", "End", "f", "r", "s"):
+            self.open(path, self.name, width)
+            share = self.browser.run("document.getElementById('pane').offsetHeight / innerHeight")
+            self.want(share < 0.1, f"at {width} px the empty pane takes {share:.0%} of the height")
+            kinds = {"f": ".k-failure, .k-stop", "r": ".k-refusal", "s": ".k-signal"}.get(key, ".it")
+            is_there = self.browser.run(f"[...document.querySelectorAll('.it')].some(el => el.matches('{kinds}'))")
+            self.browser.press(key)
+            self.browser.run(FRAMES)
+            focus = self.ask("focus()")
+            self.want((focus["id"] is not None) == is_there, f"{key} on a page just opened leads to {focus['id']}")
+            self.want(not is_there or focus.get("isSeen") is True, f"{key} on a page just opened leads to what isn't seen")
+
+    def in_view(self, key: str, width: int) -> None:
+        """What a key leads to is in view, also when the lanes around it have found their heights."""
+        self.browser.window(width, 900, "light")
+        self.browser.press("Home")
+        seen: list[str] = []
+        while len(seen) < MOST_PRESSES:
+            self.browser.press(key)
+            self.browser.run(FRAMES)
+            focus = self.ask("focus()")
+            if focus["id"] in seen:
+                break
+            seen.append(focus["id"])
+            self.want(focus.get("isSeen") is True, f"at {width} px: {key} leads to {focus['id']}, which isn't seen")
+        self.want(len(seen) > 1, f"{key} leads to {seen}")
+
+    def filters(self) -> None:
+        """A filter puts other items away, keys go through what is left, and the strip leads to a place of the run."""
+        self.browser.window(1600, 900, "light")
+        self.browser.press("/")
+        self.want(self.browser.run("document.activeElement.id") == "by-text", "/ doesn't lead to the search")
+        choose = "document.getElementById('by-{}').value = '{}'"
+        shown = "[...document.querySelectorAll('.it')].filter(el => el.checkVisibility()).map(el => el.id)"
+        self.browser.run(choose.format("page", "0") + "; " + choose.format("kind", "failure"))
+        self.browser.run("document.getElementById('filters').requestSubmit()")
+        kept = self.browser.run(shown)
+        is_failure = self.browser.run(
+            "[...document.querySelectorAll('.it')].filter(el => el.checkVisibility())"
+            ".every(el => el.matches('.k-failure') || el.querySelector('.k-failure'))"
+        )
+        self.want(is_failure, f"with a filter for failures of page 0 {kept} are shown")
+        if kept:
+            self.browser.press("End")
+            self.want(self.ask("focus()")["id"] in kept, "End leads to what is put away")
+        self.browser.run(choose.format("page", "") + "; " + choose.format("kind", ""))
+        self.browser.run("document.getElementById('filters').requestSubmit()")
+        self.want(len(self.browser.run(shown)) > len(kept), "no filter shows no more than a filter")
+        place = self.browser.run(
+            "(() => { const box = document.getElementById('strip').getBoundingClientRect();"
+            " return [box.right - 2, box.top + 9]; })()"
+        )
+        self.browser.click(*place)
+        at = self.browser.run("JSON.parse(document.getElementById('order').textContent).items.at(-1)[0]")
+        self.want(self.ask("focus()")["id"] == at, f"the end of the strip leads to {self.ask('focus()')['id']}, not {at}")
 
     def keyboard(self, width: int, script: str, report: str) -> None:
         """Tab leads to the first item and the arrow to each other one, each of which is seen and shows its lines."""
@@ -225,10 +285,42 @@ def look_at_example(look: Look, script: Path, folder: Path) -> None:
         look.keyboard(width, *texts)
     look.steps(texts[1])
     look.pointer()
+    look.filters()
     look.heard()
     look.check_events(look.browser.take_events())
+    for width in PICTURED:
+        look.fresh(page, width)
     look.browser.open(page, "#f0")
     look.want(look.browser.run("document.activeElement.id") == "f0", "#f0 doesn't lead to frame 0")
+
+
+def look_at_trace(look: Look, folder: Path) -> None:
+    """The page of a worked trace: the wait is found by its key, and shows its line. Then two runs side by side."""
+    script, report, page = test_trace.WORKED, folder / "traced.report", folder / "traced.html"
+    report.write_text(test_trace.REPORT)
+    with page.open("wb") as out:
+        command = [ROOT / "bin" / "hwp-view", script, report, script.with_suffix(".trace")]
+        subprocess.run(command, stdout=out, check=True)
+    look.open(page, "traced", 1600)
+    look.looks(is_pictured=True)
+    look.browser.press("w")
+    focus = look.ask("focus()")
+    look.want(focus["id"] == "c1-0", f"w leads to {focus['id']}")
+    line = ["trace line 43", "41 1 0 lock_frame frame 0 : count 4 owner 0 locked poisoned : waits"]
+    look.want(line in focus.get("lines", []), f"the wait shows {focus.get('lines')}")
+    other = folder / "other.report"
+    other.write_text(test_trace.REPORT.replace("value 5", "value 6").replace("0 0 5\nfail", "0 0 6\nfail"))
+    with page.open("wb") as out:
+        subprocess.run([ROOT / "bin" / "hwp-view", "--beside", script, report, script, other], stdout=out, check=True)
+    look.open(page, "beside", 400)
+    for key, wanted in (("n", "d0"), ("n", "d1"), ("p", "d0"), ("d", "d0")):
+        look.browser.press(key)
+        at = look.browser.run("document.activeElement.id")
+        look.want(at == wanted, f"{key} leads to {at}, not {wanted}")
+    shown = look.browser.run("[...document.querySelectorAll('tbody tr')].filter(el => el.checkVisibility()).map(el => el.id)")
+    look.want(shown == ["d0", "d1", "d2"], f"d shows {shown}")
+    look.want(not look.ask("overflow()"), f"too wide: {look.ask('overflow()')[:4]}")
+    look.check_events(look.browser.take_events())
 
 
 def seconds_to_draw(script: Path, report: Path) -> float:
@@ -239,15 +331,28 @@ def seconds_to_draw(script: Path, report: Path) -> float:
     return time.process_time() - begun
 
 
-def look_at_large(look: Look, folder: Path) -> None:
+def seconds_to_open(program: str, page: Path) -> float:
+    """The seconds that a browser that has just begun takes for a page."""
+    browser = Browser(program)
+    try:
+        browser.window(1600, 900, "light")
+        return browser.seconds_to_open(page)
+    finally:
+        browser.close()
+
+
+def look_at_large(look: Look, folder: Path, program: str) -> None:
     """A large run: its page is made in time that grows with the run and not faster, and one gets about in it."""
     small, big = large.write(folder, 250), large.write(folder, 1000)
+    write_page(*small, folder / "small.html")
+    look.open(folder / "small.html", "large of 1,000 commands", 400)
+    for key in ("s", "f"):
+        look.in_view(key, 400)
     less, more = min(seconds_to_draw(*small) for _ in range(3)), min(seconds_to_draw(*big) for _ in range(3))
     page = folder / "large.html"
     written = write_page(*big, page)
-    begun = time.monotonic()
+    opened = seconds_to_open(program, page)
     look.open(page, "large", 1600)
-    opened = time.monotonic() - begun
     look.want(more < 8 * less, f"four times the commands take {more / less:.1f} times as long")
     script, report = (path.read_text() for path in big)
     drawn = look.browser.run(
@@ -264,7 +369,8 @@ def look_at_large(look: Look, folder: Path) -> None:
     print(
         f"opened in {opened:.1f} s, a step in {step * 1000:.0f} ms; 4 times the commands take {more / less:.1f} times as long"
     )
-    look.want(opened < 30 and step < 1, "too slow to be of use")
+    look.want(opened < MOST_SECONDS_TO_OPEN, f"the page takes {opened:.2f} s of a processor to open")
+    look.want(step < 1, "too slow to be of use")
 
 
 def walk_in_large(look: Look) -> float:
@@ -302,7 +408,8 @@ def main(program: str, pictures: Path) -> int:
         with tempfile.TemporaryDirectory(prefix="hwp-view-") as folder:
             for script in scripts:
                 look_at_example(look, script, Path(folder))
-            look_at_large(look, Path(folder))
+            look_at_large(look, Path(folder), program)
+            look_at_trace(look, Path(folder))
     finally:
         browser.close()
     found = f"{len(look.faults)} faults" if look.faults else "all as wanted"

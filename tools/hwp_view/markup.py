@@ -7,7 +7,7 @@ from typing import Iterable, Optional
 
 from .report import Line
 
-SHAPES = {"failure": "▲", "refusal": "◇", "signal": "◆", "stop": "■", "offline": "●", "event": "△"}
+SHAPES = {"failure": "▲", "refusal": "◇", "signal": "◆", "stop": "■", "offline": "●", "event": "△", "wait": "◌"}
 WORDS = {
     "failure": "failure",
     "refusal": "refused",
@@ -15,6 +15,7 @@ WORDS = {
     "stop": "stop",
     "offline": "taken out",
     "event": "event",
+    "wait": "waited",
 }
 
 
@@ -46,11 +47,20 @@ def sources(lines: Iterable[Line]) -> str:
 
 
 def item(
-    name: str, kind: str, classes: str, body: str, *, script: str = "", report: str = "", says: str = "", rows: str = ""
+    name: str,
+    kind: str,
+    classes: str,
+    body: str,
+    *,
+    script: str = "",
+    report: str = "",
+    trace: str = "",
+    says: str = "",
+    rows: str = "",
 ) -> str:
-    """An item of the run: it takes the focus, and carries its lines of the script and the report."""
+    """An item of the run: it takes the focus, and carries its lines of the script, the report and the trace."""
     attributes = [f'id="{name}"', f'class="it {classes} {kind}"', 'tabindex="-1"']
-    for key, text in (("data-s", script), ("data-r", report), ("data-g", says)):
+    for key, text in (("data-s", script), ("data-r", report), ("data-t", trace), ("data-g", says)):
         if text:
             attributes.append(f'{key}="{esc(text)}"')
     if rows:

@@ -7,20 +7,23 @@ from pathlib import Path
 from typing import Iterator, Optional
 
 from . import plain
-from .lanes import Lanes
+from .about import facts_of, filters_html, table_html
+from .lanes import AnyOrder, Lanes
 from .markup import badge, esc, plural
 from .memory import files_html, frames_html, stop_html
 from .order import Order
 from .run import Run, word_of
 from .report import Report
 from .script import Script
+from .locks import Trace
+from .traced import TracedOrder
 
 HERE = Path(__file__).resolve().parent
 POLICY = "default-src 'none'; style-src 'unsafe-inline'; script-src 'unsafe-inline'"
 KEYS = (
     "<kbd>↓</kbd> <kbd>↑</kbd> through the run, <kbd>→</kbd> <kbd>←</kbd> through what belongs together, "
-    "<kbd>Enter</kbd> pins, <kbd>Esc</kbd> lets go; <kbd>f</kbd> <kbd>r</kbd> <kbd>s</kbd> next failure, refusal, signal "
-    "(with <kbd>Shift</kbd> the one before)"
+    "<kbd>Enter</kbd> pins, <kbd>Esc</kbd> lets go; <kbd>f</kbd> <kbd>r</kbd> <kbd>s</kbd> <kbd>w</kbd> next failure, refusal, signal, "
+    "wait (with <kbd>Shift</kbd> the one before)"
 )
 ALIGNED = (
     "Each lane goes down in its own order. Where lanes stand side by side, a thing stands below another if the report tells that "
@@ -30,6 +33,10 @@ APART = (
     "Each lane goes down in its own order. The keys and buttons go through all lanes in an order that the report allows; what "
     "shares no page, no frame and no policy may have come in any other."
 )
+TRACED = (
+    "All lanes share one order, that of the turns in the trace. A command reaches from its first turn to its last; an entry "
+    "stands at the turn that made it."
+)
 CONTRARY = "No order of time fits this report: its lanes contradict one another. Each lane is in its own order."
 LEGEND = (
     ("failure", "failure"),
@@ -38,15 +45,16 @@ LEGEND = (
     ("stop", "stop"),
     ("offline", "taken out or taken back"),
     ("event", "event"),
+    ("wait", "waited (told by a trace)"),
 )
 MOST_SHOWN = 200
 
 
-def page_html(script: Script, report: Report, name: str) -> Iterator[str]:
+def page_html(script: Script, report: Report, name: str, trace: Optional[Trace] = None) -> Iterator[str]:
     """The page of a run, in pieces."""
     run = Run(script, report)
-    order = Order(run)
-    lanes = Lanes(run, order)
+    order: AnyOrder = Order(run) if trace is None else TracedOrder(run, trace)
+    lanes = Lanes(run, order, trace)
     yield from _head(name, lanes)
     yield '<a class="skip" href="#run">To the run</a>\n<header>\n'
     yield f"<h1>Run of {esc(name)}</h1>\n"
@@ -55,13 +63,18 @@ def page_html(script: Script, report: Report, name: str) -> Iterator[str]:
     yield "</header>\n<main>\n"
     yield f'<section aria-labelledby="run"><h2 id="run" tabindex="-1">The run</h2>\n<p class="keys">{KEYS}.</p>\n'
     note = (ALIGNED if lanes.is_aligned else APART) if order.is_free else CONTRARY
+    note = note if trace is None else TRACED
     yield f'<p class="note">{note}</p>\n'
-    yield f'<p class="legend">{"".join(badge(kind, word) for kind, word in LEGEND)}</p>\n'
+    yield f'<p class="legend">{"".join(badge(kind, word) for kind, word in LEGEND if trace or kind != "wait")}</p>\n'
     yield from _schedule(script)
+    yield filters_html(script)
     yield stop_html(run)
     yield from lanes.html()
     yield '</section>\n<section aria-labelledby="frames"><h2 id="frames">Frames in the end</h2>\n'
     yield from frames_html(run)
+    yield "</section>\n"
+    yield '<section aria-labelledby="uses"><h2 id="uses">Pages by process</h2>\n'
+    yield from table_html(run)
     yield "</section>\n"
     if report.files:
         yield '<section aria-labelledby="files"><h2 id="files">Files</h2>\n'
@@ -69,9 +82,19 @@ def page_html(script: Script, report: Report, name: str) -> Iterator[str]:
         yield "</section>\n"
     yield from _machine(script)
     yield "</main>\n"
-    yield _pane()
-    yield f'<script type="application/json" id="order">{json.dumps(order.history(), separators=(",", ":"))}</script>\n'
-    yield f"<script>\n{(HERE / 'view.js').read_text(encoding='utf-8')}</script>\n</body></html>\n"
+    yield _pane(trace is not None)
+    yield f'<script type="application/json" id="order">{_facts(run, order)}</script>\n'
+    scripts = "".join((HERE / name).read_text(encoding="utf-8") for name in ("choices.js", "view.js"))
+    yield f"<script>\n{scripts}</script>\n</body></html>\n"
+
+
+def _facts(run: Run, order: AnyOrder) -> str:
+    """The ids of all items in their order, each with its pages and its processes, and its turn if that is known."""
+    names, facts = order.history(), facts_of(run)
+    turns = {name: turn for turn, _, name in order.places()} if isinstance(order, TracedOrder) else {}
+    last = max(turns.values(), default=0)
+    rows = [[name, sorted(facts[name][0]), sorted(facts[name][1]), turns.get(name, last)] for name in names]
+    return json.dumps({"items": rows, "isTraced": bool(turns)}, separators=(",", ":"))
 
 
 def _head(name: str, lanes: Lanes) -> Iterator[str]:
@@ -152,21 +175,22 @@ def _machine(script: Script) -> Iterator[str]:
     yield "</section>\n"
 
 
-def _pane() -> str:
-    """The bar at the bottom: the lines of what one points at or focuses, and of what is pinned."""
+def _pane(is_traced: bool) -> str:
+    """The bar at the bottom, and above it, once there is something to show, the lines of an item and of what is pinned."""
     steps = [
         ("back", "Back"),
         ("next", "Next"),
-        ("failure", "Next failure"),
-        ("refusal", "Next refusal"),
-        ("signal", "Next signal"),
+        ("failure", '<span class="long-word">Next </span>failure'),
+        ("refusal", '<span class="long-word">Next </span>refusal'),
+        ("signal", '<span class="long-word">Next </span>signal'),
     ]
+    steps += [("wait", '<span class="long-word">Next </span>wait')] if is_traced else []
     buttons = "".join(f'<button type="button" data-go="{go}">{text}</button>' for go, text in steps)
     return (
         '<aside id="pane" aria-label="Lines of the script and the report">\n'
+        '<canvas id="strip" height="18" aria-hidden="true"></canvas>\n'
         f'<div class="bar">{buttons}<button type="button" data-go="pin" aria-pressed="false">Pin</button>'
         '<button type="button" data-go="narrow" aria-pressed="false" hidden>Only its pages</button></div>\n'
-        '<div class="slots"><div id="now" aria-live="polite">'
-        '<p class="why">Point at something, or press Next, to see its lines.</p></div>'
+        '<div class="slots"><div id="now" aria-live="polite"></div>'
         '<div id="pinned" hidden></div></div></aside>\n'
     )

@@ -216,7 +216,7 @@ class _Reader:
         """Reads an event or an answer."""
         words = self.peek().split(" ")
         verb = words[1] if len(words) > 1 else ""
-        return self.take(_CPU_LINE_SHAPES.get(verb, []), f"an answer or an event of processor {number}")
+        return self.take(CPU_LINE_SHAPES.get(verb, []), f"an answer or an event of processor {number}")
 
     def report(self) -> Report:
         """Reads the whole report."""
@@ -237,8 +237,8 @@ class _Reader:
 
 _WORD_SLOTS = frozenset("situation result outcome policy code mode".split())
 _ENTRY_SHAPES = {verb: [f"'{verb} {WHO}{rest}".rstrip() for rest in shapes] for verb, shapes in ENTRIES.items()}
-_CPU_LINE_SHAPES = {verb: [f"seq '{verb} {rest}".rstrip() for rest in shapes] for verb, shapes in ANSWERS.items()}
-_CPU_LINE_SHAPES["event"] = EVENT
+CPU_LINE_SHAPES = {verb: [f"seq '{verb} {rest}".rstrip() for rest in shapes] for verb, shapes in ANSWERS.items()}
+CPU_LINE_SHAPES["event"] = EVENT
 
 
 def read_report(data: bytes, script: Script) -> Report:

@@ -157,6 +157,14 @@ class Script:
         return command.named("page") if translation is None else self.translations[translation].page
 
 
+class Refused(Malformed):
+    """A script is refused: the line, the reason, what stands there, the number of the word at fault, and what the lines above give."""
+
+    def __init__(self, line: int, why: str, text: str, word: int, above: Script) -> None:
+        super().__init__(f"script line {line}: {why}: {text}")
+        self.line, self.why, self.text, self.word, self.above = line, why, text, word, above
+
+
 class _Reader:
     """What the lines so far declare, and the reading of the next one."""
 
@@ -168,9 +176,9 @@ class _Reader:
         self.total = 0
         self.line = 1
 
-    def refuse(self, why: str, text: str) -> NoReturn:
-        """Refuses the line for this reason."""
-        raise Malformed(f"script line {self.line}: {why}: {text}")
+    def refuse(self, why: str, text: str, word: int = 0) -> NoReturn:
+        """Refuses the line for this reason, at the word of this number."""
+        raise Refused(self.line, why, text, word, self.script)
 
     def read(self, words: list[str]) -> None:
         """Reads a line behind the header: the reasons to refuse it are looked for in the order of their ranks."""
@@ -186,46 +194,46 @@ class _Reader:
             self.refuse("UnknownWord", f"no line of a script has these words: {shown(text)}")
         numbers = self.numbers(found)
         self.check_ranges(first, found, numbers)
-        self.check_names(first, found.slots, numbers)
+        self.check_names(first, found, numbers)
         self.check_twice(first, numbers)
-        self.check_place(first, found.slots, numbers)
+        self.check_place(first, found, numbers)
         self.add(words, found.slots, numbers)
 
     def numbers(self, found: Fitted) -> tuple[int, ...]:
         """The numbers of a line, or BadNumber."""
         numbers = []
-        for slot, word in zip(found.slots, found.words):
+        for slot, word, place in zip(*found):
             number = value(slot, word)
             if number is None:
                 kind = "register word (0x and hex digits)" if slot == "register" else "number"
-                self.refuse("BadNumber", f"{shown(word)} is no {kind}")
+                self.refuse("BadNumber", f"{shown(word)} is no {kind}", place + 1)
             numbers.append(number)
         return tuple(numbers)
 
     def check_ranges(self, first: str, found: Fitted, numbers: tuple[int, ...]) -> None:
         """OverLimit: a number outside its range, or one command too many."""
-        for slot, number in zip(found.slots, numbers):
+        for slot, number, place in zip(found.slots, numbers, found.places):
             low, high = LIMITS[slot]
             if not low <= number <= high:
-                self.refuse("OverLimit", f"{number} is outside its range, {low} to {high}")
+                self.refuse("OverLimit", f"{number} is outside its range, {low} to {high}", place + 1)
         if first == "scrub" and numbers[0] > numbers[1]:
-            self.refuse("OverLimit", f"frame {numbers[0]} is above frame {numbers[1]}")
+            self.refuse("OverLimit", f"frame {numbers[0]} is above frame {numbers[1]}", 1)
         if first in COMMANDS and self.total == COMMAND_LIMIT:
             self.refuse("OverLimit", f"more than {COMMAND_LIMIT} commands")
 
-    def check_names(self, first: str, slots: tuple[str, ...], numbers: tuple[int, ...]) -> None:
+    def check_names(self, first: str, found: Fitted, numbers: tuple[int, ...]) -> None:
         """Undeclared: a name that isn't declared above, or isn't of the thread's process, or of the right kind of page."""
-        script = self.script
+        script, slots = self.script, found.slots
         own = 1 if first in NUMBERED else 0
-        for slot, number in list(zip(slots, numbers))[own:]:
+        for slot, number, place in list(zip(slots, numbers, found.places))[own:]:
             if number >= script.declared(slot):
-                self.refuse("Undeclared", f"{CALLED.get(slot, slot)} {number} isn't declared above")
+                self.refuse("Undeclared", f"{CALLED.get(slot, slot)} {number} isn't declared above", place + 1)
         if "thread" in slots and "trans" in slots:
             thread, translation = numbers[slots.index("thread")], numbers[slots.index("trans")]
             if script.threads[thread].process != script.translations[translation].process:
-                self.refuse("Undeclared", f"translation {translation} isn't of the process of thread {thread}")
+                self.refuse("Undeclared", f"translation {translation} isn't of the process of thread {thread}", 2)
         if first in ("sync", "out") and (script.pages[numbers[0]].file is None) == (first == "sync"):
-            self.refuse("Undeclared", f"page {numbers[0]} is {'anonymous' if first == 'sync' else 'of a file'}")
+            self.refuse("Undeclared", f"page {numbers[0]} is {'anonymous' if first == 'sync' else 'of a file'}", 1)
 
     def check_twice(self, first: str, numbers: tuple[int, ...]) -> None:
         """Twice: what is declared already."""
@@ -238,7 +246,7 @@ class _Reader:
             named = f"{first} {number}" if first in (*NUMBERED, "kernel", "cpu") else first
             self.refuse("Twice", f"`{named}` stands above already")
 
-    def check_place(self, first: str, slots: tuple[str, ...], numbers: tuple[int, ...]) -> None:
+    def check_place(self, first: str, found: Fitted, numbers: tuple[int, ...]) -> None:
         """WrongPlace: a line out of order, a number that skips one, a command outside its processor's list."""
         group = SCHEDULE_GROUP if first in ("end", "schedule") else GROUPS.get(first, COMMAND_GROUP)
         if group < self.highest:
@@ -249,14 +257,16 @@ class _Reader:
         if group >= 2 and self.script.cpus == 0 or group >= 3 and self.script.frames == 0:
             self.refuse("WrongPlace", f"`{first}` stands before `cpus` and `frames`")
         if first in NUMBERED and numbers[0] > self.script.declared(first):
-            self.refuse("WrongPlace", f"{first} {numbers[0]} skips {first} {self.script.declared(first)}")
+            self.refuse("WrongPlace", f"{first} {numbers[0]} skips {first} {self.script.declared(first)}", 1)
         if first in COMMANDS:
             if self.place is None:
                 self.refuse("WrongPlace", "a command outside a processor's list")
-            if "thread" in slots:
-                thread = numbers[slots.index("thread")]
-                if self.script.threads[thread].cpu != self.place:
-                    self.refuse("WrongPlace", f"thread {thread} isn't on processor {self.place}")
+            if "thread" in found.slots:
+                named = found.slots.index("thread")
+                cpu = self.script.threads[numbers[named]].cpu
+                if cpu != self.place:
+                    text = f"thread {numbers[named]} is on processor {cpu}, and this list is of processor {self.place}"
+                    self.refuse("WrongPlace", text, found.places[named] + 1)
 
     def add(self, words: list[str], slots: tuple[str, ...], numbers: tuple[int, ...]) -> None:
         """Adds what the line declares."""
@@ -292,21 +302,24 @@ class _Reader:
 
     def read_schedule(self, words: list[str]) -> None:
         """Reads a line of the schedule."""
-        if not words or not all(_has_turn_shape(word) for word in words):
-            self.refuse("UnknownWord", "a schedule is one or more words `C`, `C.` or `C@KIND`")
+        misshapen = [place for place, word in enumerate(words, 1) if not _has_turn_shape(word)]
+        if misshapen or not words:
+            self.refuse("UnknownWord", "a schedule is one or more words `C`, `C.` or `C@KIND`", *misshapen[:1])
         numbers = []
-        for word in words:
-            number = value("cpu", word.split("@")[0].removesuffix(".") if "@" not in word else word.split("@")[0])
+        for place, word in enumerate(words, 1):
+            number = value("cpu", word.split("@")[0] if "@" in word else word.removesuffix("."))
             if number is None:
-                self.refuse("BadNumber", f"{shown(word)} doesn't begin with the number of a processor")
+                self.refuse("BadNumber", f"{shown(word)} doesn't begin with the number of a processor", place)
             numbers.append(number)
-        if max(numbers) > LIMITS["cpu"][1]:
-            self.refuse("OverLimit", f"processor {max(numbers)} is outside its range, 0 to {LIMITS['cpu'][1]}")
+        highest = max(numbers)
+        named = numbers.index(highest) + 1
+        if highest > LIMITS["cpu"][1]:
+            self.refuse("OverLimit", f"processor {highest} is outside its range, 0 to {LIMITS['cpu'][1]}", named)
         if len(self.script.schedule) + len(words) > SCHEDULE_LIMIT:
             self.refuse("OverLimit", f"more than {SCHEDULE_LIMIT} words of the schedule")
-        if max(numbers) >= self.script.cpus:
-            self.refuse("Undeclared", f"processor {max(numbers)} isn't declared above")
-        self.check_place("schedule", (), ())
+        if highest >= self.script.cpus:
+            self.refuse("Undeclared", f"processor {highest} isn't declared above", named)
+        self.check_place("schedule", Fitted((), (), ()), ())
         self.highest, self.place = SCHEDULE_GROUP, None
         self.script.schedule += words
 

@@ -19,7 +19,7 @@ from hwp_view.script import read_script
 from hwp_view.test_readers import EXAMPLES, REPORT, SCRIPT
 
 PROGRAM = Path(__file__).resolve().parents[2] / "bin" / "hwp-view"
-VOID = frozenset("meta link br".split())
+VOID = frozenset("meta link br input".split())
 
 
 class Tree(HTMLParser):
@@ -215,7 +215,10 @@ class Pages(unittest.TestCase):
                 (2, [script, bad], ""),
                 (2, ["-", report], SCRIPT.replace("end", "")),
                 (2, [report, script], ""),
+                (2, [script, report, report], ""),
+                (2, ["-", report, "-"], SCRIPT),
                 (4, [missing, report], ""),
+                (4, [script, report, missing], ""),
                 (4, [script, folder], ""),
             ]
             for status, words, given in rows:

@@ -1,0 +1,213 @@
+"""Tests of hwp-lint: typical mistakes, each with its line, column and reason, worked out from the reasons in docs/FORMATS.md."""
+from __future__ import annotations
+
+import ast
+import re
+import shutil
+import subprocess
+import tempfile
+import unittest
+from pathlib import Path
+from typing import Optional
+
+from hwp_tools.lint import fault_of
+
+HOME = Path(__file__).resolve().parents[2]
+BASE = """hwp 1
+cpus 2
+frames 4
+kernel 3
+recovery 1
+early 0
+file 0
+proc 0
+proc 1
+thread 0 0 0 handler
+thread 1 1 1 nohandler
+page 0 anon
+page 1 file 0 fill 9
+trans 0 0 0
+trans 1 1 1
+cpu 0
+store 0 0 5 77
+load 0 0 5
+out 0
+inject 0
+scrub 0 3
+log 0x9c000000000000c0 0x1000 0x8c
+raise user 0 1 1
+prctl 0 33 1 1 0 0
+cpu 1
+load 1 1 5
+sync 1
+fsync 0
+raise kernel 1 1
+raise nested
+schedule 0 1. 0@lock_frame
+end
+"""
+# A line of BASE, what a user wrote there (None: the line is missing), the line and the column that are named, the reason, and what
+# the message says among other things.
+MISTAKES: list[tuple[int, Optional[str], int, int, str, str]] = [
+    (1, None, 1, 1, "BadHeader", "`hwp 1` alone"),
+    (1, "hwp 2", 1, 1, "BadHeader", "`hwp 1` alone"),
+    (1, "hwp 1 # a race", 1, 7, "BadHeader", "stands behind `hwp 1`"),
+    (1, "\xef\xbb\xbfhwp 1", 1, 1, "BadHeader", "byte order mark"),
+    (1, "hwp 1\r", 1, 6, "BadHeader", "plain line feeds"),
+    (2, "cpus 2\r", 2, 7, "UnknownWord", "plain line feeds"),
+    (2, "hwp 1", 2, 1, "UnknownWord", "leave this line out"),
+    (2, "CPUS 2", 2, 1, "UnknownWord", "write `cpus N`"),
+    (2, "cpu 2", 2, 5, "Undeclared", "none is declared; declare it above, by `cpus N`"),
+    (2, "cpus two", 2, 6, "BadNumber", "write `cpus N`"),
+    (2, "cpus 0", 2, 6, "OverLimit", "1 to 8"),
+    (3, "frames 257", 3, 8, "OverLimit", "1 to 256"),
+    (3, None, 3, 8, "Undeclared", "none is declared; declare it above, by `frames N`"),
+    (4, "kernel 4", 4, 8, "Undeclared", "declared are 0 to 3"),
+    (4, "kernel 3\nkernel 3", 5, 1, "Twice", "stands in line 4"),
+    (5, "recovery yes", 5, 10, "BadNumber", "0 or 1"),
+    (6, "early 2", 6, 7, "OverLimit", "0 to 1"),
+    (7, "file 1", 7, 6, "WrongPlace", "write `file 0`"),
+    (8, "process 0", 8, 1, "UnknownWord", "write `proc P`"),
+    (9, "proc 0", 9, 1, "Twice", "stands in line 8"),
+    (10, "thread 0 0 0", 10, 13, "UnknownWord", "`thread T P C handler` or `thread T P C nohandler`"),
+    (10, "thread 0 0 0 sighandler", 10, 14, "UnknownWord", "'sighandler' may not stand here"),
+    (10, "thread 0 0 2 handler", 10, 12, "Undeclared", "declared are 0, 1"),
+    (8, "thread 0 0 0 handler\nproc 0", 8, 10, "Undeclared", "write line 9, which declares it, above this one"),
+    (12, "page 0 anonymous", 12, 8, "UnknownWord", "`page Q anon`"),
+    (13, "page 1 file 0", 13, 14, "UnknownWord", "`page Q file N fill X`"),
+    (13, "page 1 file 0 fill 0x9", 13, 20, "BadNumber", "in decimal: `9`"),
+    (13, "page 2 file 0 fill 9", 13, 6, "WrongPlace", "write `page 1`"),
+    (15, "trans 1 1 2", 15, 11, "Undeclared", "by `page Q anon`"),
+    (15, "trans 1 1 1\nproc 2", 16, 1, "WrongPlace", "stands below `thread` (line 10)"),
+    (16, None, 16, 1, "WrongPlace", "write `cpu C`"),
+    (17, "sotre 0 0 5 77", 17, 1, "UnknownWord", "write `store T V L X`"),
+    (17, "store 0 0 5", 17, 12, "UnknownWord", "words are missing"),
+    (17, "store\t0 0 5 77", 17, 6, "UnknownWord", "spaces between the words"),
+    (17, "store 0 0 5 0x4d", 17, 13, "BadNumber", "in decimal: `77`"),
+    (17, "store 0 0 64 77", 17, 11, "OverLimit", "0 to 63"),
+    (17, "store 0 0 5 18446744073709551616", 17, 13, "BadNumber", "up to 18446744073709551615"),
+    (18, "load 0 0 5 # again", 18, 12, "UnknownWord", "on a line of its own"),
+    (18, " # load", 18, 2, "UnknownWord", "whose first byte is `#`"),
+    (18, "load 0 0 05", 18, 10, "BadNumber", "without leading zeros: `5`"),
+    (18, "load 0 0 -1", 18, 10, "BadNumber", "without a sign"),
+    (18, "load 0 0 5 5", 18, 12, "UnknownWord", "'5' may not stand here"),
+    (18, "load 0 1 5", 18, 8, "Undeclared", "those of process 0 are: 0"),
+    (18, "load 0 2 5", 18, 8, "Undeclared", "by `trans V P Q`"),
+    (18, "load 1 1 5", 18, 6, "WrongPlace", "below `cpu 1`"),
+    (18, "loàd 0 0 5".encode().decode("latin-1"), 18, 3, "UnknownWord", "ASCII"),
+    (19, "out 1", 19, 5, "Undeclared", "write `sync 1`"),
+    (20, "inject 4", 20, 8, "Undeclared", "declared are 0 to 3"),
+    (20, "inject 256", 20, 8, "OverLimit", "0 to 255"),
+    (20, "inject", 20, 7, "UnknownWord", "write `inject F`"),
+    (21, "scrub 3 0", 21, 7, "OverLimit", "`scrub 0 3`"),
+    (22, "log 12 0 0", 22, 5, "BadNumber", "write `0xc`"),
+    (22, "log 0x 0 0", 22, 5, "BadNumber", "hex digits"),
+    (23, "raise 0 1 1", 23, 7, "UnknownWord", "`raise kernel R E`"),
+    (23, "raise user 0", 23, 13, "UnknownWord", "`raise user T R E`"),
+    (23, "raise user 1 1 1", 23, 12, "WrongPlace", "below `cpu 1`"),
+    (24, "prctl 0 PR_MCE_KILL 1 1 0 0", 24, 9, "BadNumber", "its number, 33"),
+    (25, "cpu 0", 25, 1, "Twice", "stands in line 16"),
+    (27, "sync 0", 27, 6, "Undeclared", "write `out 0`"),
+    (28, "fsync 1", 28, 7, "Undeclared", "by `file N`"),
+    (29, "raise kernel 2 1", 29, 14, "OverLimit", "0 to 1"),
+    (31, "schedule", 31, 9, "UnknownWord", "no word stands behind `schedule`"),
+    (31, "schedule 0@lock_fram", 31, 12, "UnknownWord", "write `0@lock_frame`"),
+    (31, "schedule 0 1@", 31, 14, "UnknownWord", "the kinds are adopt,"),
+    (31, "schedule 0@get_ref@1", 31, 10, "UnknownWord", "more than one `@`"),
+    (31, "schedule 0 0,1", 31, 12, "BadNumber", "no comma"),
+    (31, "schedule 0 0..", 31, 12, "BadNumber", "the number of a processor"),
+    (31, "schedule 0 2", 31, 12, "Undeclared", "declared are 0, 1"),
+    (31, "schedule 0 1. 8", 31, 15, "OverLimit", "0 to 7"),
+    (31, "schedule 0\nload 1 1 5", 32, 1, "WrongPlace", "stands below `schedule` (line 31)"),
+    (31, "schedule 0\ncpu 1", 32, 1, "Twice", "stands in line 25"),
+    (32, None, 31, 27, "NoEnd", "write `end` below it"),
+    (32, "end\nend", 33, 1, "WrongPlace", "stands below `end` (line 32)"),
+    (32, "end\nschedule 0", 33, 1, "WrongPlace", "write `end` as the last line"),
+]
+# The tables of refused scripts in the tests of the program's reader: what is put in place of what, or which line is another, the line
+# that is named, and the reason.
+READER_TESTS = HOME / "crates" / "hwp_test_texts" / "src" / "scripts.rt"
+CHANGE = re.compile(r'\(\s*"((?:[^"\\]|\\.)*)",\s*"((?:[^"\\]|\\.)*)",\s*(\d+),\s*Why::(\w+),?\s*\)')
+SWAP = re.compile(r'\(\s*(\d+),\s*b("(?:[^"\\]|\\.)*"),\s*Some\(\((\d+), Why::(\w+)\)\),?\s*\)')
+CONSTANT = re.compile(r'const (\w+): &str =\s*("(?:[^"\\]|\\.)*");')
+
+
+def changed(number: int, text: Optional[str]) -> bytes:
+    """BASE with another text in place of a line."""
+    lines: list[Optional[str]] = list(BASE.splitlines())
+    lines[number - 1] = text
+    return "".join(f"{line}\n" for line in lines if line is not None).encode("latin-1")
+
+
+class Lint(unittest.TestCase):
+    """What is said of scripts, and of none that is as it should be."""
+
+    def test_typical_mistakes_are_told_with_what_to_write(self) -> None:
+        self.assertGreaterEqual(len(MISTAKES), 39)
+        for number, text, line, column, why, says in MISTAKES:
+            with self.subTest(number=number, text=text):
+                fault = fault_of(changed(number, text))
+                assert fault is not None
+                self.assertEqual((fault.line, fault.column, fault.why), (line, column, why), fault.text)
+                self.assertIn(says, fault.text)
+                self.assertTrue(fault.text.isascii() and fault.text.isprintable(), fault.text)
+
+    def test_limits_of_a_script_are_told(self) -> None:
+        self.assertIsNone(fault_of(BASE.encode()))
+        for data, line, why in (
+            (b"", 1, "BadHeader"),
+            (b"# nothing\n\n", 1, "BadHeader"),
+            (b"hwp 1", 1, "NoEnd"),
+            (b"#" * (1 << 20) + b"\n", 0, "TooLong"),
+            (BASE.replace("load 0 0 5\n", "load 0 0 5\n" * 4096).encode(), 4113, "OverLimit"),
+            (BASE.replace("schedule 0", "schedule" + " 0" * 99_998 + "\nschedule 0").encode(), 32, "OverLimit"),
+        ):
+            with self.subTest(data=data[:40]):
+                fault = fault_of(data)
+                assert fault is not None
+                self.assertEqual((fault.line, fault.why), (line, why), fault.text)
+
+    def test_scripts_of_the_repository_are_told_as_it_says(self) -> None:
+        text = READER_TESTS.read_text(encoding="utf-8")
+        bases = {name: ast.literal_eval(script) for name, script in CONSTANT.findall(text)}
+        tried = 0
+        for name, table in re.findall(r"refused\(\s*&rt,\s*rt\.alloc\(\),\s*(\w+),\s*&\[(.*?)\n        \],", text, re.S):
+            for old, new, line, why in CHANGE.findall(table):
+                old, new = (ast.literal_eval(f'"{part}"') for part in (old, new))
+                tried += self.told(bases[name].replace(old, new).encode(), int(line), why)
+        for number, line_text, line, why in SWAP.findall(text):
+            lines = bases["ONE"].encode().splitlines()
+            lines[int(number) - 1] = ast.literal_eval("b" + line_text)
+            tried += self.told(b"".join(part + b"\n" for part in lines), int(line), why)
+        self.assertGreaterEqual(tried, 80)
+
+    def told(self, data: bytes, line: int, why: str) -> int:
+        """Whether the script is refused so."""
+        with self.subTest(data=data):
+            fault = fault_of(data)
+            assert fault is not None
+            self.assertEqual((fault.line, fault.why), (line, why), fault.text)
+        return 1
+
+    def test_scripts_that_run_have_no_fault(self) -> None:
+        paths = [path for folder in ("examples", "tests") for path in sorted((HOME / folder).rglob("*.hwp"))]
+        self.assertTrue(paths)
+        for path in paths:
+            with self.subTest(path.name):
+                self.assertIsNone(fault_of(path.read_bytes()))
+
+    @unittest.skipUnless(shutil.which("vim"), "there is no vim here")
+    def test_vim_goes_to_the_place(self) -> None:
+        with tempfile.TemporaryDirectory() as folder:
+            path, places = Path(folder) / "a race.hwp", Path(folder) / "places"
+            path.write_bytes(changed(17, "sotre 0 0 5 77"))
+            listed = "map(getqflist(), {_, e -> bufname(e.bufnr) . '|' . e.lnum . '|' . e.col . '|' . e.text})"
+            keys = ["compiler hwp", "silent make", f"call writefile({listed}, '{places}')", "qa!"]
+            calls = [part for key in keys for part in ("-c", key)]
+            vim = ["vim", "-N", "-u", "NONE", "-i", "NONE", "-es", "--cmd", f"set rtp^={HOME}/docs/vim", str(path), *calls]
+            subprocess.run(vim, stdin=subprocess.DEVNULL, stdout=subprocess.DEVNULL, cwd=folder, timeout=60, check=False)
+            self.assertRegex(places.read_text(), r"a race\.hwp\|17\|1\|UnknownWord: ")
+
+
+if __name__ == "__main__":
+    unittest.main()
