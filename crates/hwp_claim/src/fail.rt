@@ -1,18 +1,7 @@
-ghost use Rattle.std.specs.Prelude.{◌≡◌, true};
-ghost use Rattle.hwp_claim_act.specs.Acts as acts;
-ghost use Rattle.hwp_claim_frame.specs.Claims as claims;
+ghost use Rattle.std.specs.Prelude.{◌≡◌};
+ghost use Rattle.std.specs.Option.{unwrap_or};
 ghost use Rattle.hwp_claim.specs.declared.fail.FailAt.TheVariants as states;
-ghost use Rattle.hwp_claim.specs.Fails.{
-  begin,
-  answer,
-  after_act,
-  ActsOn,
-  AfterClaim,
-  FollowsAt,
-  IsCached,
-  pageless,
-  ShowsAt,
-};
+ghost use Rattle.hwp_claim.specs.Fails.{begin, answer, after_act, AfterClaim, IsCached, pageless};
 
 use hwp_claim_act::Act;
 use hwp_claim_frame::{
@@ -120,22 +109,30 @@ fn pageless(situation: Situation, cycle: u32) -> FailAnswer
 }
 
 /// Once the page is let go, the failure is over.
-fn after_act(cycle: u32, act: Act) -> FailAt
+fn after_act(cycle: u32, act: &Act) -> Option<FailAt>
+    ensures { unwrap_or result (states.Act cycle act.now) ≡ after_act cycle act.now }
+{
+    let failed = act.answer()?;
+    Some(FailAt::Over {
+        answer: FailAnswer::Done(Found {
+            situation: failed.situation,
+            cycle,
+            at: Some(failed.at),
+            signalled: failed.signalled,
+        }),
+    })
+}
+
+/// The failure acts on the page in the frame.
+fn begin_act(cycle: u32, act: Act) -> FailAt
     ensures { result ≡ after_act cycle act }
 {
-    match act.answer() {
-        None => FailAt::Act { cycle, act },
-        Some(failed) => {
+    match after_act(cycle, &act) {
+        Some(over) => {
             drop(act);
-            FailAt::Over {
-                answer: FailAnswer::Done(Found {
-                    situation: failed.situation,
-                    cycle,
-                    at: Some(failed.at),
-                    signalled: failed.signalled,
-                }),
-            }
+            over
         }
+        None => FailAt::Act { cycle, act },
     }
 }
 
@@ -165,65 +162,16 @@ fn after_claim(
         Some(ClaimAnswer::Kernel { cycle }) => ended(claim, pageless(Situation::Kernel, cycle)),
         Some(ClaimAnswer::Owned { cycle, page }) => {
             let body = claim.body();
-            after_act(cycle, Act::new(alloc, who, page, frame, required, body))
+            begin_act(cycle, Act::new(alloc, who, page, frame, required, body))
         }
     }
 }
 
-/// Runs one more step of the claim of the frame.
-fn claim_more(
-    alloc: Global,
-    who: Who,
-    frame: Frame,
-    required: Option<Thread>,
-    layout: &Layout,
-    claim: Claim,
-    found: u64,
-    got: Option<Body>,
-) -> (FailAt, Turn)
-    requires shows { claims.Shows claim found got }
-    requires cached { IsCached (claims.next claim found got) }
-    ensures at { AfterClaim who frame required (claims.next claim found got) result.0 }
-    ensures turn { result.1 ≡ claims.turn claim found }
-{
-    let mut claim = claim;
-    let turn = claim.settle(layout, found, got);
-    (after_claim(alloc, who, frame, required, claim), turn)
-}
-
-/// Runs one more step of the action on the page.
-fn act_more(cycle: u32, layout: &Layout, act: Act, found: u64, got: Option<Body>) -> (FailAt, Turn)
-    requires { acts.Shows act found }
-    ensures { ActsOn cycle act found result.0 result.1 }
-{
-    let mut act = act;
-    let turn = act.settle(layout, found, got);
-    (after_act(cycle, act), turn)
-}
-
-/// Where the failure is after its step, with the turn that brought it there.
-fn settled(
-    alloc: Global,
-    who: Who,
-    frame: Frame,
-    required: Option<Thread>,
-    layout: &Layout,
-    at: FailAt,
-    found: u64,
-    got: Option<Body>,
-) -> (FailAt, Turn)
-    requires { ShowsAt at found got }
-    ensures { FollowsAt who frame required at found got result.0 result.1 }
-{
-    match at {
-        FailAt::Claim { claim } => claim_more(
-            alloc, who, frame, required, layout, claim, found, got,
-        ),
-        FailAt::Act { cycle, act } => act_more(cycle, layout, act, found, got),
-        FailAt::Over { answer } => {
-            drop(got);
-            (FailAt::Over { answer }, Turn::Moved)
-        }
+impl Fail {
+    fn set(&mut self, at: FailAt)
+        ensures { self.new ≡ record self.old { at = at } }
+    {
+        self.at = at;
     }
 }
 
@@ -253,22 +201,30 @@ impl Task for Fail {
     }
 
     fn settle(&mut self, layout: &Layout, found: u64, body: Option<Body>) -> Turn {
-        let over = FailAt::Over {
-            answer: FailAnswer::Stopped,
-        };
-        let at = mem::replace(&mut self.at, over);
-        let (after, turn) = settled(
-            self.alloc,
-            self.who,
-            self.frame,
-            self.required,
-            layout,
-            at,
-            found,
-            body,
-        );
-        drop(mem::replace(&mut self.at, after));
-        turn
+        match &mut self.at {
+            FailAt::Claim { claim } => {
+                let turn = claim.settle(layout, found, body);
+                if claim.answer().is_some() {
+                    let over = FailAt::Over {
+                        answer: FailAnswer::Stopped,
+                    };
+                    let FailAt::Claim { claim } = mem::replace(&mut self.at, over) else {
+                        unreachable!();
+                    };
+                    let at = after_claim(self.alloc, self.who, self.frame, self.required, claim);
+                    self.set(at);
+                }
+                turn
+            }
+            FailAt::Act { cycle, act } => {
+                let turn = act.settle(layout, found, body);
+                if let Some(over) = after_act(*cycle, act) {
+                    self.set(over);
+                }
+                turn
+            }
+            FailAt::Over { .. } => Turn::Moved,
+        }
     }
 }
 
@@ -286,7 +242,11 @@ impl Ranked for Fail {
 
 impl Scheduled for Fail {
     fn is_over(&self) -> bool {
-        self.plan().is_none()
+        match &self.at {
+            FailAt::Claim { claim } => claim.is_over(),
+            FailAt::Act { act, .. } => act.plan().is_none(),
+            FailAt::Over { .. } => true,
+        }
     }
 
     fn tells(&self) {}

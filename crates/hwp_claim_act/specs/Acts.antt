@@ -74,6 +74,10 @@ failed_at _ = []
 abbrev pub given_up : Who → Page → Frame → BodyValue → ActAt
 given_up who page frame body = at.GiveUp (give_ups.with_page who page (Some frame) 1 body)
 
+-- the page leaves its frame, to which the command has so many references
+abbrev pub abandoned : Who → Page → Frame → ℕ → Entered → ActAt
+abandoned who page frame count entered = at.Abandon (abandons.begin who page frame count entered.losses entered.failed entered.body)
+
 -- once all translations are written, the page leaves its frame
 abbrev pub after_clear : Who → Page → Frame → Clear → Entered → ActAt
 after_clear who page frame c entered = cond (is_none c.next) (at.Abandon (abandons.begin who page frame c.count entered.losses entered.failed entered.body)) (at.Clear c entered.losses entered.failed entered.body)
@@ -169,6 +173,11 @@ FollowsAt who page frame (at.Over failed) found x turn = (x ≡ at.Over failed) 
 
 abbrev pub Follows : Act → ℕ → Act → Turn → Type 0
 Follows a found after turn = (after ≡ record a { at = after.at }) × FollowsAt a.who a.page a.frame a.at found after.at turn
+
+-- translations are being written
+abbrev pub IsAtClear : ActAt → Type 0
+IsAtClear (at.Clear c losses failed body) = Unit {0}
+IsAtClear _ = ⊥
 
 abbrev pub class_at : ActAt → ℕ
 class_at (at.Read r) = 1

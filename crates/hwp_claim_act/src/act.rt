@@ -1,10 +1,8 @@
-ghost use Rattle.std.specs.Prelude.{◌≡◌, ◌<◌, true};
-ghost use Rattle.hwp_evict.specs.Clears as clears;
-ghost use Rattle.hwp_evict.specs.hwp_core.GiveUps as give_ups;
-ghost use Rattle.hwp_claim_act.specs.Abandons as abandons;
-ghost use Rattle.hwp_claim_act.specs.Reads as reads;
+ghost use Rattle.std.specs.Prelude.{◌≡◌, ◌<◌, true, None};
+ghost use Rattle.hwp_evict.specs.hwp_core_task.declared.Turn.TheVariants.{Moved};
+ghost use Rattle.hwp_claim_act.specs.declared.act.ActAt.TheVariants as states;
 ghost use Rattle.hwp_claim_act.specs.Failing.{CanEnter};
-ghost use Rattle.hwp_claim_act.specs.Acts.{AfterRead, Begins, CanReadOn, Enters, FollowsAt, IsCleared, IsReadOn, ShowsAt, Starts, after_abandon, after_clear, after_give_up, answer, given_up};
+ghost use Rattle.hwp_claim_act.specs.Acts.{AfterRead, Begins, CanReadOn, Enters, Follows, IsAtClear, Shows, Starts, abandoned, after_clear, answer, given_up};
 
 use crate::abandon::{Abandon, Failed, Losses};
 use crate::failing::{Entered, bars, enter};
@@ -82,6 +80,50 @@ impl Act {
             | ActAt::Clear { .. }
             | ActAt::Abandon { .. }
             | ActAt::GiveUp { .. } => None,
+        }
+    }
+
+    fn set(&mut self, at: ActAt)
+        ensures { self.new ≡ record self.old { at = at } }
+    {
+        self.at = at;
+    }
+
+    /// What the state owns, to go on with.
+    fn take(&mut self) -> ActAt
+        ensures taken { result ≡ self.old.at }
+        ensures left { self.new ≡ record self.old { at = states.Over None } }
+    {
+        mem::replace(&mut self.at, ActAt::Over { failed: None })
+    }
+
+    /// Clears the next translation; after the last one the page leaves its frame.
+    fn clear_more(&mut self, layout: &Layout, found: u64, got: Option<Body>)
+        requires clearing { IsAtClear self.old.at }
+        requires shows { Shows self.old found }
+        ensures { Follows self.old found self.new Moved }
+    {
+        let ActAt::Clear { clear, .. } = &mut self.at else {
+            unreachable!();
+        };
+        let _turn = clear.settle(layout, found, got);
+        if clear.is_over() {
+            let count = clear.count();
+            let ActAt::Clear {
+                losses,
+                failed,
+                body,
+                ..
+            } = self.take()
+            else {
+                unreachable!();
+            };
+            let entered = Entered {
+                body,
+                losses,
+                failed,
+            };
+            self.set(abandoned(self.who, self.page, self.frame, count, entered));
         }
     }
 }
@@ -178,138 +220,38 @@ fn go_out(
     after_clear(who, page, frame, clear, entered)
 }
 
-/// Once all are written, the page leaves its frame.
+/// Where all are written already, the page leaves its frame.
 fn after_clear(who: Who, page: Page, frame: Frame, clear: Clear, entered: Entered) -> ActAt
     ensures { result ≡ after_clear who page frame clear entered }
+{
+    if clear.is_over() {
+        abandoned(who, page, frame, clear.count(), entered)
+    } else {
+        let Entered {
+            body,
+            losses,
+            failed,
+        } = entered;
+        ActAt::Clear {
+            clear,
+            losses,
+            failed,
+            body,
+        }
+    }
+}
+
+/// The page leaves its frame, to which the command has so many references.
+fn abandoned(who: Who, page: Page, frame: Frame, count: u32, entered: Entered) -> ActAt
+    ensures { result ≡ abandoned who page frame count entered }
 {
     let Entered {
         body,
         losses,
         failed,
     } = entered;
-    if clear.is_over() {
-        ActAt::Abandon {
-            abandon: Abandon::new(who, page, frame, clear.count(), losses, failed, body),
-        }
-    } else {
-        ActAt::Clear {
-            clear,
-            losses,
-            failed,
-            body,
-        }
-    }
-}
-
-/// Reads the next policy.
-fn read_more(
-    who: Who,
-    page: Page,
-    frame: Frame,
-    layout: &Layout,
-    read: ReadPolicies,
-    found: u64,
-    got: Option<Body>,
-) -> ActAt
-    requires shows { reads.Shows read found }
-    requires ready { CanReadOn read }
-    ensures { IsReadOn who page frame read found result }
-{
-    let mut read = read;
-    let _turn = read.settle(layout, found, got);
-    after_read(who, page, frame, read)
-}
-
-/// Clears the next translation.
-fn clear_more(
-    who: Who,
-    page: Page,
-    frame: Frame,
-    layout: &Layout,
-    clear: Clear,
-    found: u64,
-    got: Option<Body>,
-    entered: Entered,
-) -> ActAt
-    requires { clears.Shows clear }
-    ensures { IsCleared who page frame clear entered result }
-{
-    let mut clear = clear;
-    let _turn = clear.settle(layout, found, got);
-    after_clear(who, page, frame, clear, entered)
-}
-
-/// Where the command is after its step, with the turn that brought it there.
-fn settled(
-    who: Who,
-    page: Page,
-    frame: Frame,
-    layout: &Layout,
-    at: ActAt,
-    found: u64,
-    got: Option<Body>,
-) -> (ActAt, Turn)
-    requires { ShowsAt at found }
-    ensures { FollowsAt who page frame at found result.0 result.1 }
-{
-    match at {
-        ActAt::Read { read } => (
-            read_more(who, page, frame, layout, read, found, got),
-            Turn::Moved,
-        ),
-        ActAt::Clear {
-            clear,
-            losses,
-            failed,
-            body,
-        } => {
-            let entered = Entered {
-                body,
-                losses,
-                failed,
-            };
-            (
-                clear_more(who, page, frame, layout, clear, found, got, entered),
-                Turn::Moved,
-            )
-        }
-        ActAt::Abandon { abandon } => (abandon_more(layout, abandon, found, got), Turn::Moved),
-        ActAt::GiveUp { give_up } => give_up_more(layout, give_up, found, got),
-        ActAt::Over { failed } => (ActAt::Over { failed }, Turn::Moved),
-    }
-}
-
-/// Runs one more step of taking the page out of its frame.
-fn abandon_more(layout: &Layout, abandon: Abandon, found: u64, got: Option<Body>) -> ActAt
-    requires { abandons.Shows abandon }
-    ensures { result ≡ after_abandon (abandons.next abandon) }
-{
-    let mut abandon = abandon;
-    let _turn = abandon.settle(layout, found, got);
-    match abandon.answer() {
-        Some(failed) => ActAt::Over {
-            failed: Some(failed),
-        },
-        None => ActAt::Abandon { abandon },
-    }
-}
-
-/// Runs one more step of giving the command up.
-fn give_up_more(layout: &Layout, give_up: GiveUp, found: u64, got: Option<Body>) -> (ActAt, Turn)
-    ensures { (result.0 ≡ after_give_up (give_ups.next give_up found)) × (result.1 ≡ give_ups.turn give_up) }
-{
-    let mut give_up = give_up;
-    let turn = give_up.settle(layout, found, got);
-    (after_give_up(give_up), turn)
-}
-
-fn after_give_up(give_up: GiveUp) -> ActAt
-    ensures { result ≡ after_give_up give_up }
-{
-    if give_up.is_over() {
-        ActAt::Over { failed: None }
-    } else {
-        ActAt::GiveUp { give_up }
+    ActAt::Abandon {
+        abandon: Abandon::new(who, page, frame, count, losses, failed, body),
     }
 }
 
@@ -341,10 +283,39 @@ impl Task for Act {
     }
 
     fn settle(&mut self, layout: &Layout, found: u64, body: Option<Body>) -> Turn {
-        let at = mem::replace(&mut self.at, ActAt::Over { failed: None });
-        let (after, turn) = settled(self.who, self.page, self.frame, layout, at, found, body);
-        self.at = after;
-        turn
+        match &mut self.at {
+            ActAt::Read { read } => {
+                let _turn = read.settle(layout, found, body);
+                if read.is_over() {
+                    let ActAt::Read { read } = self.take() else {
+                        unreachable!();
+                    };
+                    self.set(after_read(self.who, self.page, self.frame, read));
+                }
+                Turn::Moved
+            }
+            ActAt::Clear { .. } => {
+                self.clear_more(layout, found, body);
+                Turn::Moved
+            }
+            ActAt::Abandon { abandon } => {
+                let _turn = abandon.settle(layout, found, body);
+                if let Some(failed) = abandon.answer() {
+                    self.set(ActAt::Over {
+                        failed: Some(failed),
+                    });
+                }
+                Turn::Moved
+            }
+            ActAt::GiveUp { give_up } => {
+                let turn = give_up.settle(layout, found, body);
+                if give_up.is_over() {
+                    self.set(ActAt::Over { failed: None });
+                }
+                turn
+            }
+            ActAt::Over { .. } => Turn::Moved,
+        }
     }
 }
 

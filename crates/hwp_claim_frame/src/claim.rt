@@ -1,16 +1,14 @@
-ghost use Rattle.std.specs.Prelude.{◌≡◌, ◌==◌, Option, true, false, cond, None};
-ghost use Rattle.hwp_core.specs.Unlocks as unlocks;
-ghost use Rattle.hwp_claim_frame.specs.Grabs as grabs;
-ghost use Rattle.hwp_claim_frame.specs.Meets as meets;
-ghost use Rattle.hwp_claim_frame.specs.Claims.{start, begin, answer, is_owned, IsBody, stopped, stop_turn, poisoned, is_done, looked, grabbed, after_grab, after_meet, after_unlock, next_at, turn_at, ShowsAt};
+ghost use Rattle.std.specs.Prelude.{◌≡◌, ◌==◌, Option, true, is_none};
+ghost use Rattle.std.specs.Option.{unwrap_or};
+ghost use Rattle.hwp_claim_frame.specs.declared.claim.ClaimAt.TheVariants as states;
+ghost use Rattle.hwp_claim_frame.specs.Claims.{start, begin, plan, answer, is_owned, IsBody, stopped, stop_turn, poisoned, is_done, looked, grabbed, after_grab, after_meet, after_unlock};
 
 use crate::grab::{Grab, GrabAnswer};
-use crate::meet::{Meet, MeetAnswer, is_ended, moved};
+use crate::meet::{Meet, MeetAnswer, is_ended};
 use hwp_core::{
     Body, Frame, FrameWord, Layout, Page, Ranked, SharedWord, Step, Task, Turn, Unlock, Who,
     is_stopped,
 };
-use std::mem;
 
 /// Poisons a frame, and takes it from those that use it, or could: out of the free ones, or under its locks (Linux
 /// memory_failure). From its poison on the failure is the command's own, until it is ended.
@@ -93,6 +91,28 @@ impl Claim {
         }
     }
 
+    /// Whether the task has come to its end.
+    pub fn is_over(&self) -> bool
+        ensures { result ≡ is_none (plan self.now) }
+    {
+        match &self.at {
+            ClaimAt::Grab { grab, .. } => grab.answer().is_some(),
+            ClaimAt::Meet { meet, .. } => meet.answer().is_some(),
+            ClaimAt::Unlock { unlock, .. } => unlock.is_over(),
+            ClaimAt::Stop
+            | ClaimAt::Poison
+            | ClaimAt::Count { .. }
+            | ClaimAt::Look { .. }
+            | ClaimAt::Retire { .. } => false,
+            ClaimAt::GaveUp
+            | ClaimAt::Stopped
+            | ClaimAt::Already
+            | ClaimAt::Free { .. }
+            | ClaimAt::Kernel { .. }
+            | ClaimAt::Owned { .. } => true,
+        }
+    }
+
     /// The body of the page that is in the frame.
     pub fn body(self) -> Body
         requires owned { is_owned self ≡ true }
@@ -124,19 +144,6 @@ fn start(recovery: bool) -> ClaimAt
         ClaimAt::Poison
     } else {
         ClaimAt::Stop
-    }
-}
-
-fn stopped(found: u64) -> (ClaimAt, Turn)
-    ensures at { result.0 ≡ stopped found }
-    ensures turn { result.1 ≡ stop_turn found }
-{
-    if found == 0 {
-        (ClaimAt::Stopped, Turn::Moved)
-    } else if is_stopped(found) {
-        (ClaimAt::Stopped, Turn::Changed(found))
-    } else {
-        (ClaimAt::GaveUp, Turn::NoMemory)
     }
 }
 
@@ -192,133 +199,72 @@ fn grabbed(who: Who, frame: Frame, cycle: u32, word: u64) -> ClaimAt
     }
 }
 
-fn after_grab(who: Who, frame: Frame, cycle: u32, grab: Grab) -> ClaimAt
-    ensures { result ≡ after_grab who frame cycle grab }
+fn after_grab(who: Who, frame: Frame, cycle: u32, grab: &Grab) -> Option<ClaimAt>
+    ensures { unwrap_or result (states.Grab cycle grab.now) ≡ after_grab who frame cycle grab.now }
 {
-    match grab.answer() {
-        None => ClaimAt::Grab { cycle, grab },
-        Some(GrabAnswer::LookAgain) => ClaimAt::Look { cycle },
-        Some(GrabAnswer::Grabbed(word)) => grabbed(who, frame, cycle, word),
+    match grab.answer()? {
+        GrabAnswer::LookAgain => Some(ClaimAt::Look { cycle }),
+        GrabAnswer::Grabbed(word) => Some(grabbed(who, frame, cycle, word)),
     }
 }
 
-fn after_meet(cycle: u32, meet: Meet) -> ClaimAt
-    ensures { result ≡ after_meet cycle meet }
+fn after_meet(cycle: u32, meet: &mut Meet) -> Option<ClaimAt>
+    ensures { unwrap_or result (states.Meet cycle meet.new) ≡ after_meet cycle meet.old }
 {
-    match meet.answer() {
-        None => ClaimAt::Meet { cycle, meet },
-        Some(MeetAnswer::LookAgain) => {
-            drop(meet);
-            ClaimAt::Look { cycle }
-        }
-        Some(MeetAnswer::Ended) => {
-            drop(meet);
-            ClaimAt::Free { cycle }
-        }
-        Some(MeetAnswer::Free) => {
-            drop(meet);
-            ClaimAt::Retire { cycle }
-        }
-        Some(MeetAnswer::Owned(page)) => ClaimAt::Owned {
+    match meet.answer()? {
+        MeetAnswer::LookAgain => Some(ClaimAt::Look { cycle }),
+        MeetAnswer::Ended => Some(ClaimAt::Free { cycle }),
+        MeetAnswer::Free => Some(ClaimAt::Retire { cycle }),
+        MeetAnswer::Owned(page) => Some(ClaimAt::Owned {
             cycle,
             page,
-            body: meet.body(),
-        },
+            body: meet.take_body(),
+        }),
     }
 }
 
-fn after_unlock(cycle: u32, unlock: Unlock) -> ClaimAt
-    ensures { result ≡ after_unlock cycle unlock }
+fn after_unlock(cycle: u32, unlock: &Unlock) -> Option<ClaimAt>
+    ensures { unwrap_or result (states.Unlock cycle unlock.now) ≡ after_unlock cycle unlock.now }
 {
     if unlock.is_over() {
-        drop(unlock);
-        ClaimAt::Free { cycle }
+        Some(ClaimAt::Free { cycle })
     } else {
-        ClaimAt::Unlock { cycle, unlock }
+        None
     }
 }
 
-fn grab_more(
-    who: Who,
-    frame: Frame,
-    cycle: u32,
-    layout: &Layout,
-    grab: Grab,
-    found: u64,
-    got: Option<Body>,
-) -> (ClaimAt, Turn)
-    ensures at { result.0 ≡ after_grab who frame cycle (grabs.next grab found) }
-    ensures turn { result.1 ≡ grabs.turn grab found }
-{
-    let mut grab = grab;
-    let turn = grab.settle(layout, found, got);
-    (after_grab(who, frame, cycle, grab), turn)
-}
+impl Claim {
+    fn set(&mut self, at: ClaimAt)
+        ensures { self.new ≡ record self.old { at = at } }
+    {
+        self.at = at;
+    }
 
-fn meet_more(
-    cycle: u32,
-    layout: &Layout,
-    meet: Meet,
-    found: u64,
-    got: Option<Body>,
-) -> (ClaimAt, Turn)
-    requires { meets.Shows meet found got }
-    ensures at { result.0 ≡ after_meet cycle (meets.next meet found got) }
-    ensures turn { result.1 ≡ meets.turn meet found }
-{
-    let mut meet = meet;
-    let turn = meet.settle(layout, found, got);
-    (after_meet(cycle, meet), turn)
-}
-
-fn unlock_more(
-    cycle: u32,
-    layout: &Layout,
-    unlock: Unlock,
-    found: u64,
-    got: Option<Body>,
-) -> ClaimAt
-    ensures { result ≡ after_unlock cycle (unlocks.next unlock found) }
-{
-    let mut unlock = unlock;
-    let _turn = unlock.settle(layout, found, got);
-    after_unlock(cycle, unlock)
-}
-
-/// What follows from the word and the body that a step of this state met, and which turn it was.
-fn settled(
-    who: Who,
-    frame: Frame,
-    layout: &Layout,
-    at: ClaimAt,
-    found: u64,
-    got: Option<Body>,
-) -> (ClaimAt, Turn)
-    requires { ShowsAt at found got }
-    ensures at { result.0 ≡ next_at who frame at found got }
-    ensures turn { result.1 ≡ turn_at at found }
-{
-    match at {
-        ClaimAt::Stop => {
-            drop(got);
-            stopped(found)
+    /// The state that follows, if another one does, with the turn of the step.
+    fn follow(&mut self, after: Option<ClaimAt>, turn: Turn) -> Turn
+        ensures at { self.new ≡ record self.old { at = unwrap_or after self.old.at } }
+        ensures turn { result ≡ turn }
+    {
+        if let Some(at) = after {
+            self.set(at);
         }
-        ClaimAt::Poison => (poisoned(found), moved(got)),
-        ClaimAt::Count { cycle } => (ClaimAt::Look { cycle }, moved(got)),
-        ClaimAt::Look { cycle } => (looked(who, frame, cycle, found), moved(got)),
-        ClaimAt::Grab { cycle, grab } => grab_more(who, frame, cycle, layout, grab, found, got),
-        ClaimAt::Meet { cycle, meet } => meet_more(cycle, layout, meet, found, got),
-        ClaimAt::Unlock { cycle, unlock } => (
-            unlock_more(cycle, layout, unlock, found, got),
-            Turn::Moved,
-        ),
-        ClaimAt::Retire { cycle } => (ClaimAt::Free { cycle }, moved(got)),
-        ClaimAt::GaveUp => (ClaimAt::GaveUp, moved(got)),
-        ClaimAt::Stopped => (ClaimAt::Stopped, moved(got)),
-        ClaimAt::Already => (ClaimAt::Already, moved(got)),
-        ClaimAt::Free { cycle } => (ClaimAt::Free { cycle }, moved(got)),
-        ClaimAt::Kernel { cycle } => (ClaimAt::Kernel { cycle }, moved(got)),
-        ClaimAt::Owned { cycle, page, body } => (ClaimAt::Owned { cycle, page, body }, moved(got)),
+        turn
+    }
+
+    fn stop(&mut self, found: u64) -> Turn
+        ensures at { self.new ≡ record self.old { at = stopped found } }
+        ensures turn { result ≡ stop_turn found }
+    {
+        if found == 0 {
+            self.set(ClaimAt::Stopped);
+            Turn::Moved
+        } else if is_stopped(found) {
+            self.set(ClaimAt::Stopped);
+            Turn::Changed(found)
+        } else {
+            self.set(ClaimAt::GaveUp);
+            Turn::NoMemory
+        }
     }
 }
 
@@ -377,10 +323,43 @@ impl Task for Claim {
     }
 
     fn settle(&mut self, layout: &Layout, found: u64, body: Option<Body>) -> Turn {
-        let at = mem::replace(&mut self.at, ClaimAt::GaveUp);
-        let (after, turn) = settled(self.who, self.frame, layout, at, found, body);
-        drop(mem::replace(&mut self.at, after));
-        turn
+        match &mut self.at {
+            ClaimAt::Stop => self.stop(found),
+            ClaimAt::Poison => self.follow(Some(poisoned(found)), Turn::Moved),
+            ClaimAt::Count { cycle } => {
+                let at = ClaimAt::Look { cycle: *cycle };
+                self.follow(Some(at), Turn::Moved)
+            }
+            ClaimAt::Look { cycle } => {
+                let at = looked(self.who, self.frame, *cycle, found);
+                self.follow(Some(at), Turn::Moved)
+            }
+            ClaimAt::Grab { cycle, grab } => {
+                let turn = grab.settle(layout, found, body);
+                let after = after_grab(self.who, self.frame, *cycle, grab);
+                self.follow(after, turn)
+            }
+            ClaimAt::Meet { cycle, meet } => {
+                let turn = meet.settle(layout, found, body);
+                let after = after_meet(*cycle, meet);
+                self.follow(after, turn)
+            }
+            ClaimAt::Unlock { cycle, unlock } => {
+                let _turn = unlock.settle(layout, found, body);
+                let after = after_unlock(*cycle, unlock);
+                self.follow(after, Turn::Moved)
+            }
+            ClaimAt::Retire { cycle } => {
+                let at = ClaimAt::Free { cycle: *cycle };
+                self.follow(Some(at), Turn::Moved)
+            }
+            ClaimAt::GaveUp
+            | ClaimAt::Stopped
+            | ClaimAt::Already
+            | ClaimAt::Free { .. }
+            | ClaimAt::Kernel { .. }
+            | ClaimAt::Owned { .. } => Turn::Moved,
+        }
     }
 }
 

@@ -130,6 +130,26 @@ impl Meet {
             | MeetAt::Free => unreachable!(),
         }
     }
+
+    /// The body of the page that the frame was met with, out of the task.
+    pub(crate) fn take_body(&mut self) -> Body
+        requires owned { is_owned self.old ≡ true }
+        ensures { IsBody self.old result }
+    {
+        match mem::replace(&mut self.at, MeetAt::Free) {
+            MeetAt::Owned { body, .. } => body,
+            MeetAt::GetRef { .. }
+            | MeetAt::LockFree
+            | MeetAt::LockPage { .. }
+            | MeetAt::LockOwned { .. }
+            | MeetAt::Unlock { .. }
+            | MeetAt::UnlockFrame { .. }
+            | MeetAt::UnlockPage { .. }
+            | MeetAt::Release { .. }
+            | MeetAt::Back { .. }
+            | MeetAt::Free => unreachable!(),
+        }
+    }
 }
 
 ghost use Rattle.hwp_core.specs.Holds.{is_free};
@@ -144,9 +164,6 @@ ghost use Rattle.hwp_claim_frame.specs.Meets.{
   free_at,
   owned_at,
   released,
-  next_at,
-  turn_at,
-  ShowsAt,
 };
 
 fn back(ended: bool) -> MeetAnswer
@@ -264,138 +281,89 @@ fn owned_at(
     }
 }
 
-fn released(release: Release, ended: bool) -> MeetAt
-    ensures { result ≡ released release ended }
-{
-    if release.is_over() {
-        MeetAt::Back { ended }
-    } else {
-        MeetAt::Release { release, ended }
-    }
-}
-
 ghost use Rattle.std.specs.Prelude.{◌==◌, false};
+ghost use Rattle.std.specs.Option.{unwrap_or};
 ghost use Rattle.hwp_core.specs.hwp_core_task.declared.Turn.TheVariants.{Changed, Moved, Waits};
 ghost use Rattle.hwp_claim_frame.specs.declared.meet.MeetAt.TheVariants.{
   Back,
-  LockFree,
   LockOwned,
-  LockPage,
   Release as Releasing,
 };
-
-/// The turn of a step that moved; the body that it met is let go.
-pub(crate) fn moved(_got: Option<Body>) -> Turn
-    ensures { result ≡ Moved }
-{
-    Turn::Moved
-}
-
-fn get_ref(seen: u64, found: u64, got: Option<Body>) -> (MeetAt, Turn)
-    ensures at { result.0 ≡ cond (found == seen) (referenced (owner_in seen)) (Back false) }
-    ensures turn { result.1 ≡ cond (found == seen) Moved (Changed found) }
-{
-    drop(got);
-    if found == seen {
-        (referenced(seen), Turn::Moved)
-    } else {
-        (MeetAt::Back { ended: false }, Turn::Changed(found))
-    }
-}
-
-fn lock_free(cycle: Option<u32>, found: u64, got: Option<Body>) -> (MeetAt, Turn)
-    ensures at { result.0 ≡ cond (is_free found) (free_at got (has_ended cycle found) (is_taken found)) LockFree }
-    ensures turn { result.1 ≡ cond (is_free found) Moved (Waits found) }
-{
-    if is_free(found) {
-        (free_at(cycle, found, got), Turn::Moved)
-    } else {
-        drop(got);
-        (MeetAt::LockFree, Turn::Waits(found))
-    }
-}
-
-fn lock_page(page: Page, found: u64, got: Option<Body>) -> (MeetAt, Turn)
-    ensures at { result.0 ≡ cond (is_free found) (LockOwned page got) (LockPage page) }
-    ensures turn { result.1 ≡ cond (is_free found) Moved (Waits found) }
-{
-    if is_free(found) {
-        (MeetAt::LockOwned { page, shelf: got }, Turn::Moved)
-    } else {
-        drop(got);
-        (MeetAt::LockPage { page }, Turn::Waits(found))
-    }
-}
-
-fn lock_owned(
-    page: Page,
-    cycle: Option<u32>,
-    found: u64,
-    shelf: Option<Body>,
-    got: Option<Body>,
-) -> (MeetAt, Turn)
-    ensures at { result.0 ≡ cond (is_free found) (owned_at page shelf got (has_ended cycle found) (is_owner page found)) (LockOwned page shelf) }
-    ensures turn { result.1 ≡ cond (is_free found) Moved (Waits found) }
-{
-    if is_free(found) {
-        (owned_at(page, cycle, found, shelf, got), Turn::Moved)
-    } else {
-        drop(got);
-        (MeetAt::LockOwned { page, shelf }, Turn::Waits(found))
-    }
-}
-
-/// What follows from the word and the body that a step of this state met, and which turn it was.
-fn settled(
-    who: Who,
-    frame: Frame,
-    cycle: Option<u32>,
-    layout: &Layout,
-    at: MeetAt,
-    found: u64,
-    got: Option<Body>,
-) -> (MeetAt, Turn)
-    requires { ShowsAt cycle at found got }
-    ensures at { result.0 ≡ next_at who frame cycle at found got }
-    ensures turn { result.1 ≡ turn_at at found }
-{
-    match at {
-        MeetAt::GetRef { seen } => get_ref(seen, found, got),
-        MeetAt::LockFree => lock_free(cycle, found, got),
-        MeetAt::LockPage { page } => lock_page(page, found, got),
-        MeetAt::LockOwned { page, shelf } => lock_owned(page, cycle, found, shelf, got),
-        MeetAt::Unlock { body, ended } => (give_back(who, frame, body, ended), moved(got)),
-        MeetAt::UnlockFrame {
-            page,
-            shelf,
-            body,
-            ended,
-        } => {
-            drop(body);
-            (MeetAt::UnlockPage { page, shelf, ended }, moved(got))
-        }
-        MeetAt::UnlockPage { shelf, ended, .. } => {
-            (give_back(who, frame, shelf, ended), moved(got))
-        }
-        MeetAt::Release { mut release, ended } => {
-            let turn = release.settle(layout, found, got);
-            (released(release, ended), turn)
-        }
-        MeetAt::Back { ended } => (MeetAt::Back { ended }, moved(got)),
-        MeetAt::Free => (MeetAt::Free, moved(got)),
-        MeetAt::Owned { page, body } => (MeetAt::Owned { page, body }, moved(got)),
-    }
-}
-
 ghost use Rattle.hwp_core.specs.Releases.{begin as begin_release};
 
-/// The last lock is given back with the body that it guards, and now the reference is to be.
-fn give_back(who: Who, frame: Frame, _body: Option<Body>, ended: bool) -> MeetAt
-    ensures { result ≡ Releasing (begin_release who frame 1) ended }
+fn released(release: &Release, ended: bool) -> Option<MeetAt>
+    ensures { unwrap_or result (Releasing release.now ended) ≡ released release.now ended }
 {
-    MeetAt::Release {
-        release: Release::new(who, frame, 1),
-        ended,
+    if release.is_over() {
+        Some(MeetAt::Back { ended })
+    } else {
+        None
+    }
+}
+
+impl Meet {
+    fn set(&mut self, at: MeetAt)
+        ensures { self.new ≡ record self.old { at = at } }
+    {
+        self.at = at;
+    }
+
+    /// The state that follows, if another one does, with the turn of the step.
+    fn follow(&mut self, after: Option<MeetAt>, turn: Turn) -> Turn
+        ensures at { self.new ≡ record self.old { at = unwrap_or after self.old.at } }
+        ensures turn { result ≡ turn }
+    {
+        if let Some(at) = after {
+            self.set(at);
+        }
+        turn
+    }
+
+    fn get_ref(&mut self, seen: u64, found: u64) -> Turn
+        ensures at { self.new ≡ record self.old { at = cond (found == seen) (referenced (owner_in seen)) (Back false) } }
+        ensures turn { result ≡ cond (found == seen) Moved (Changed found) }
+    {
+        if found == seen {
+            self.set(referenced(seen));
+            Turn::Moved
+        } else {
+            self.set(MeetAt::Back { ended: false });
+            Turn::Changed(found)
+        }
+    }
+
+    fn lock_free(&mut self, found: u64, got: Option<Body>) -> Turn
+        ensures at { self.new ≡ record self.old { at = cond (is_free found) (free_at got (has_ended self.old.cycle found) (is_taken found)) self.old.at } }
+        ensures turn { result ≡ cond (is_free found) Moved (Waits found) }
+    {
+        if is_free(found) {
+            self.set(free_at(self.cycle, found, got));
+            Turn::Moved
+        } else {
+            Turn::Waits(found)
+        }
+    }
+
+    fn lock_page(&mut self, page: Page, found: u64, got: Option<Body>) -> Turn
+        ensures at { self.new ≡ record self.old { at = cond (is_free found) (LockOwned page got) self.old.at } }
+        ensures turn { result ≡ cond (is_free found) Moved (Waits found) }
+    {
+        if is_free(found) {
+            self.set(MeetAt::LockOwned { page, shelf: got });
+            Turn::Moved
+        } else {
+            Turn::Waits(found)
+        }
+    }
+
+    /// The last lock is given back, and now the reference is to be.
+    fn give_back(&mut self, ended: bool) -> Turn
+        ensures at { self.new ≡ record self.old { at = Releasing (begin_release self.old.who self.old.frame 1) ended } }
+        ensures turn { result ≡ Moved }
+    {
+        let release = Release::new(self.who, self.frame, 1);
+        self.set(MeetAt::Release { release, ended });
+        Turn::Moved
     }
 }
 
@@ -430,9 +398,9 @@ impl Task for Meet {
 
     fn give(&mut self) -> Option<Body> {
         match &mut self.at {
-            MeetAt::Unlock { body, .. } => mem::replace(body, None),
-            MeetAt::UnlockFrame { body, .. } => mem::replace(body, None),
-            MeetAt::UnlockPage { shelf, .. } => mem::replace(shelf, None),
+            MeetAt::Unlock { body, .. } => body.take(),
+            MeetAt::UnlockFrame { body, .. } => body.take(),
+            MeetAt::UnlockPage { shelf, .. } => shelf.take(),
             MeetAt::GetRef { .. }
             | MeetAt::LockFree
             | MeetAt::LockPage { .. }
@@ -445,10 +413,43 @@ impl Task for Meet {
     }
 
     fn settle(&mut self, layout: &Layout, found: u64, body: Option<Body>) -> Turn {
-        let at = mem::replace(&mut self.at, MeetAt::Free);
-        let (after, turn) = settled(self.who, self.frame, self.cycle, layout, at, found, body);
-        drop(mem::replace(&mut self.at, after));
-        turn
+        match &mut self.at {
+            MeetAt::GetRef { seen } => {
+                let seen = *seen;
+                self.get_ref(seen, found)
+            }
+            MeetAt::LockFree => self.lock_free(found, body),
+            MeetAt::LockPage { page } => {
+                let page = *page;
+                self.lock_page(page, found, body)
+            }
+            MeetAt::LockOwned { page, shelf } => {
+                if !is_free(found) {
+                    return Turn::Waits(found);
+                }
+                let at = owned_at(*page, self.cycle, found, shelf.take(), body);
+                self.follow(Some(at), Turn::Moved)
+            }
+            MeetAt::Unlock { ended, .. } | MeetAt::UnlockPage { ended, .. } => {
+                let ended = *ended;
+                self.give_back(ended)
+            }
+            MeetAt::UnlockFrame {
+                page,
+                shelf,
+                ended,
+                ..
+            } => {
+                let (page, shelf, ended) = (*page, shelf.take(), *ended);
+                self.follow(Some(MeetAt::UnlockPage { page, shelf, ended }), Turn::Moved)
+            }
+            MeetAt::Release { release, ended } => {
+                let turn = release.settle(layout, found, body);
+                let after = released(release, *ended);
+                self.follow(after, turn)
+            }
+            MeetAt::Back { .. } | MeetAt::Free | MeetAt::Owned { .. } => Turn::Moved,
+        }
     }
 }
 

@@ -3,7 +3,6 @@ ghost use Rattle.std.specs.Prelude.{◌≡◌, Option, is_none};
 use crate::unhold::Unhold;
 use crate::unlock::Unlock;
 use hwp_core_task::{Body, Frame, Layout, Page, Ranked, Step, Task, Turn, Who};
-use std::mem;
 
 /// Ends a command for which memory was refused: its body goes home, what it holds is let go, and the stop word tells the
 /// other processors. That last turn is `NoMemory` (this project's rule).
@@ -22,7 +21,7 @@ enum GiveUpAt {
 }
 
 impl GiveUp {
-    ghost use Rattle.hwp_core.specs.GiveUps.{with_page, with_frame, plan, after_unhold, after_unlock};
+    ghost use Rattle.hwp_core.specs.GiveUps.{with_page, with_frame, plan};
 
     /// The command holds the page, with the frame that it is in, if any, so many references to that frame, and the page's
     /// body.
@@ -61,24 +60,10 @@ impl GiveUp {
         }
     }
 
-    fn after_unhold(unhold: Unhold) -> GiveUpAt
-        ensures { result ≡ after_unhold unhold }
+    fn set(&mut self, at: GiveUpAt)
+        ensures { self.new ≡ record self.old { at = at } }
     {
-        if unhold.is_over() {
-            GiveUpAt::GiveUp
-        } else {
-            GiveUpAt::Unhold { unhold }
-        }
-    }
-
-    fn after_unlock(unlock: Unlock) -> GiveUpAt
-        ensures { result ≡ after_unlock unlock }
-    {
-        if unlock.is_over() {
-            GiveUpAt::GiveUp
-        } else {
-            GiveUpAt::Unlock { unlock }
-        }
+        self.at = at;
     }
 }
 
@@ -101,38 +86,33 @@ impl Task for GiveUp {
     }
 
     fn give(&mut self) -> Option<Body> {
-        match mem::replace(&mut self.at, GiveUpAt::Over) {
-            GiveUpAt::Unhold { mut unhold } => {
-                let body = unhold.give();
-                self.at = GiveUpAt::Unhold { unhold };
-                body
-            }
-            GiveUpAt::Unlock { mut unlock } => {
-                let body = unlock.give();
-                self.at = GiveUpAt::Unlock { unlock };
-                body
-            }
-            GiveUpAt::GiveUp => {
-                self.at = GiveUpAt::GiveUp;
-                None
-            }
-            GiveUpAt::Over => None,
+        match &mut self.at {
+            GiveUpAt::Unhold { unhold } => unhold.give(),
+            GiveUpAt::Unlock { unlock } => unlock.give(),
+            GiveUpAt::GiveUp | GiveUpAt::Over => None,
         }
     }
 
     fn settle(&mut self, layout: &Layout, found: u64, body: Option<Body>) -> Turn {
-        match mem::replace(&mut self.at, GiveUpAt::Over) {
-            GiveUpAt::Unhold { mut unhold } => {
+        match &mut self.at {
+            GiveUpAt::Unhold { unhold } => {
                 let turn = unhold.settle(layout, found, body);
-                self.at = GiveUp::after_unhold(unhold);
+                if unhold.is_over() {
+                    self.set(GiveUpAt::GiveUp);
+                }
                 turn
             }
-            GiveUpAt::Unlock { mut unlock } => {
+            GiveUpAt::Unlock { unlock } => {
                 let turn = unlock.settle(layout, found, body);
-                self.at = GiveUp::after_unlock(unlock);
+                if unlock.is_over() {
+                    self.set(GiveUpAt::GiveUp);
+                }
                 turn
             }
-            GiveUpAt::GiveUp => Turn::NoMemory,
+            GiveUpAt::GiveUp => {
+                self.set(GiveUpAt::Over);
+                Turn::NoMemory
+            }
             GiveUpAt::Over => Turn::Moved,
         }
     }

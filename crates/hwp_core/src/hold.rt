@@ -5,7 +5,6 @@ use crate::unhold::Unhold;
 use hwp_core_task::{
     Body, Frame, Layout, Page, Ranked, SharedWord, Step, Task, Turn, Who, frame_in,
 };
-use std::mem;
 
 /// Locks a page and, where the page is in a frame, takes a reference to that frame and locks it too; and takes the page's
 /// body in hand, from the frame or from the page's shelf (this project's rule).
@@ -28,7 +27,7 @@ enum HoldAt {
 impl Hold {
     ghost use Rattle.std.specs.Prelude.{None};
     ghost use Rattle.hwp_core_task.specs.hwp_core_rule.Views.{frame_in};
-    ghost use Rattle.hwp_core.specs.Holds.{begin, answer, named_at, pinned, locked_at, IsBody};
+    ghost use Rattle.hwp_core.specs.Holds.{begin, answer, named_at, locked_at, IsBody};
     ghost use Rattle.hwp_core.specs.Unholds.{LetsGo};
 
     /// The command holds the page.
@@ -99,13 +98,10 @@ impl Hold {
         }
     }
 
-    fn at_pinned(pin: Pin) -> HoldAt
-        ensures { result ≡ pinned pin }
+    fn set(&mut self, at: HoldAt)
+        ensures { self.new ≡ record self.old { at = at } }
     {
-        match pin.answer() {
-            Some(PinAnswer::Held(_)) => HoldAt::LockFrame { frame: pin.frame() },
-            Some(PinAnswer::Gone(_)) | None => HoldAt::Pin { pin },
-        }
+        self.at = at;
     }
 
     fn at_locked(frame: Frame, body: Option<Body>) -> HoldAt
@@ -157,37 +153,38 @@ impl Task for Hold {
     }
 
     fn settle(&mut self, layout: &Layout, found: u64, body: Option<Body>) -> Turn {
-        match mem::replace(&mut self.at, HoldAt::LockPage) {
+        match &mut self.at {
             HoldAt::LockPage => {
                 if is_free(found) {
-                    self.at = HoldAt::LoadCache { body };
+                    self.set(HoldAt::LoadCache { body });
                     Turn::Moved
                 } else {
                     Turn::Waits(found)
                 }
             }
             HoldAt::LoadCache { body } => {
-                self.at = Hold::at_cache(self.who, body, found);
+                let body = body.take();
+                self.set(Hold::at_cache(self.who, body, found));
                 Turn::Moved
             }
-            HoldAt::Pin { mut pin } => {
+            HoldAt::Pin { pin } => {
                 let turn = pin.settle(layout, found, body);
-                self.at = Hold::at_pinned(pin);
+                if let Some(PinAnswer::Held(_)) = pin.answer() {
+                    let frame = pin.frame();
+                    self.set(HoldAt::LockFrame { frame });
+                }
                 turn
             }
             HoldAt::LockFrame { frame } => {
                 if is_free(found) {
-                    self.at = Hold::at_locked(frame, body);
+                    let at = Hold::at_locked(*frame, body);
+                    self.set(at);
                     Turn::Moved
                 } else {
-                    self.at = HoldAt::LockFrame { frame };
                     Turn::Waits(found)
                 }
             }
-            HoldAt::Held { frame, body } => {
-                self.at = HoldAt::Held { frame, body };
-                Turn::Moved
-            }
+            HoldAt::Held { .. } => Turn::Moved,
         }
     }
 }

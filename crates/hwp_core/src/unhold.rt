@@ -3,7 +3,6 @@ ghost use Rattle.std.specs.Prelude.{◌≡◌, is_some, is_none};
 use crate::release::Release;
 use hwp_core_task::{Body, Frame, Layout, Page, Ranked, Step, Task, Turn, Who};
 use std::cmp::min;
-use std::mem;
 
 /// Lets a page go: its body goes home, to the frame that it is in, which is unlocked and released, or to the page's shelf;
 /// and the page is unlocked (this project's rule).
@@ -38,7 +37,7 @@ pub enum UnholdAnswer {
 }
 
 impl Unhold {
-    ghost use Rattle.hwp_core.specs.Unholds.{begin, plan, answer, after_release};
+    ghost use Rattle.hwp_core.specs.Unholds.{begin, plan, answer};
 
     /// The command lets the page go, with the frame that it is in, if any, so many references to that frame, and the
     /// page's body.
@@ -82,14 +81,10 @@ impl Unhold {
         }
     }
 
-    fn after_release(release: Release) -> UnholdAt
-        ensures { result ≡ after_release release }
+    fn set(&mut self, at: UnholdAt)
+        ensures { self.new ≡ record self.old { at = at } }
     {
-        if release.is_over() {
-            UnholdAt::UnlockPage { body: None }
-        } else {
-            UnholdAt::Release { release }
-        }
+        self.at = at;
     }
 }
 
@@ -112,44 +107,32 @@ impl Task for Unhold {
     }
 
     fn give(&mut self) -> Option<Body> {
-        match mem::replace(&mut self.at, UnholdAt::Over) {
-            UnholdAt::UnlockFrame { frame, count, body } => {
-                self.at = UnholdAt::UnlockFrame {
-                    frame,
-                    count,
-                    body: None,
-                };
-                body
-            }
-            UnholdAt::UnlockPage { body } => {
-                self.at = UnholdAt::UnlockPage { body: None };
-                body
-            }
-            UnholdAt::Release { release } => {
-                self.at = UnholdAt::Release { release };
-                None
-            }
-            UnholdAt::Over => None,
+        match &mut self.at {
+            UnholdAt::UnlockFrame { body, .. } => body.take(),
+            UnholdAt::UnlockPage { body } => body.take(),
+            UnholdAt::Release { .. } | UnholdAt::Over => None,
         }
     }
 
     fn settle(&mut self, layout: &Layout, found: u64, body: Option<Body>) -> Turn {
-        match self.at {
+        match &mut self.at {
             UnholdAt::UnlockFrame { frame, count, .. } => {
-                self.at = UnholdAt::Release {
-                    release: Release::new(self.who, frame, count),
-                };
+                let release = Release::new(self.who, *frame, *count);
+                self.set(UnholdAt::Release { release });
                 Turn::Moved
             }
-            UnholdAt::Release { mut release } => {
+            UnholdAt::Release { release } => {
                 let turn = release.settle(layout, found, body);
-                self.at = Unhold::after_release(release);
+                if release.is_over() {
+                    self.set(UnholdAt::UnlockPage { body: None });
+                }
                 turn
             }
-            UnholdAt::UnlockPage { .. } | UnholdAt::Over => {
-                self.at = UnholdAt::Over;
+            UnholdAt::UnlockPage { .. } => {
+                self.set(UnholdAt::Over);
                 Turn::Moved
             }
+            UnholdAt::Over => Turn::Moved,
         }
     }
 }

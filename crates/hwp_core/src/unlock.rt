@@ -2,7 +2,6 @@ ghost use Rattle.std.specs.Prelude.{◌≡◌, Option, is_none};
 
 use crate::release::Release;
 use hwp_core_task::{Body, Frame, Layout, Ranked, Step, Task, Turn, Who};
-use std::mem;
 
 /// Lets a frame go that is held without its page: its body, if it has one, goes home, the frame is unlocked, and its
 /// reference is given back (this project's rule).
@@ -20,7 +19,7 @@ enum UnlockAt {
 }
 
 impl Unlock {
-    ghost use Rattle.hwp_core.specs.Unlocks.{begin, plan, after_release};
+    ghost use Rattle.hwp_core.specs.Unlocks.{begin, plan};
 
     /// The command has the frame's lock, one reference to it and the body that was in it, if any, but no page's lock.
     pub fn new(who: Who, frame: Frame, body: Option<Body>) -> Unlock
@@ -43,14 +42,10 @@ impl Unlock {
         }
     }
 
-    fn after_release(release: Release) -> UnlockAt
-        ensures { result ≡ after_release release }
+    fn set(&mut self, at: UnlockAt)
+        ensures { self.new ≡ record self.old { at = at } }
     {
-        if release.is_over() {
-            UnlockAt::Over
-        } else {
-            UnlockAt::Release { release }
-        }
+        self.at = at;
     }
 }
 
@@ -72,30 +67,24 @@ impl Task for Unlock {
     }
 
     fn give(&mut self) -> Option<Body> {
-        match mem::replace(&mut self.at, UnlockAt::Over) {
-            UnlockAt::UnlockFrame { frame, body } => {
-                self.at = UnlockAt::UnlockFrame { frame, body: None };
-                body
-            }
-            UnlockAt::Release { release } => {
-                self.at = UnlockAt::Release { release };
-                None
-            }
-            UnlockAt::Over => None,
+        match &mut self.at {
+            UnlockAt::UnlockFrame { body, .. } => body.take(),
+            UnlockAt::Release { .. } | UnlockAt::Over => None,
         }
     }
 
     fn settle(&mut self, layout: &Layout, found: u64, body: Option<Body>) -> Turn {
-        match mem::replace(&mut self.at, UnlockAt::Over) {
+        match &mut self.at {
             UnlockAt::UnlockFrame { frame, .. } => {
-                self.at = UnlockAt::Release {
-                    release: Release::new(self.who, frame, 1),
-                };
+                let release = Release::new(self.who, *frame, 1);
+                self.set(UnlockAt::Release { release });
                 Turn::Moved
             }
-            UnlockAt::Release { mut release } => {
+            UnlockAt::Release { release } => {
                 let turn = release.settle(layout, found, body);
-                self.at = Unlock::after_release(release);
+                if release.is_over() {
+                    self.set(UnlockAt::Over);
+                }
                 turn
             }
             UnlockAt::Over => Turn::Moved,

@@ -1,3 +1,4 @@
+mod AfterAccess
 pub mod CheckLaws
 pub mod Quiet
 pub mod CommandGrows

@@ -103,6 +103,11 @@ after_check i frame h =
 abbrev pub over_at : Instruction → Frame → Handler → Bool → InstructionAt
 over_at i frame h stopped = cond stopped (over answers.Stopped) (after_check i frame h)
 
+-- the same by what the machine check told
+abbrev pub over_with : Instruction → Frame → Bool → Option At → Bool → InstructionAt
+over_with i frame stopped signalled poisoned =
+    cond stopped (over answers.Stopped) (unwrap_or (option_map (λ (place : At). over (answers.Sigbus place)) signalled) (cond poisoned (at.LoadFrame frame) (restarted i)))
+
 abbrev pub after_handler_by : Instruction → Frame → Handler → Option Bool → Instruction
 after_handler_by i frame h None = record i { at = at.Handle frame h }
 after_handler_by i frame h (Some stopped) =

@@ -1,8 +1,10 @@
-ghost use Rattle.std.specs.Prelude.{◌≡◌, ◌≤◌, length};
+ghost use Rattle.std.specs.Prelude.{◌≡◌, ◌≤◌, Some, None, length};
 ghost use Rattle.hwp_cpu_check.specs.hwp_banks.Banks.{empty_banks};
 ghost use Rattle.hwp_cpu_check.specs.Checks.{with_own};
 ghost use Rattle.hwp_cpu_check.specs.hwp_banks.Events.{bank_count};
-ghost use Rattle.hwp_cpu_access.specs.Instructions.{AfterAccess, BeginsCheck, after_handler, after_load, after_stop, answer, answered, begin, first, is_pending, over, over_at, restarted, turn_of_load, turn_of_stop};
+ghost use Rattle.hwp_fault.specs.hwp_core_task.declared.Turn.TheVariants.{NoMemory};
+ghost use Rattle.hwp_cpu_access.specs.declared.instruction.InstructionAt.TheVariants as states;
+ghost use Rattle.hwp_cpu_access.specs.Instructions.{AfterAccessBy, BeginsCheck, after_handler, after_load, after_stop, answer, answered, begin, first, is_pending, over, over_with, restarted, turn_of_load, turn_of_stop};
 
 use hwp_cpu_check::{
     At, BANKS, Bank, Body, EventOutcome, Frame, FrameWord, Handler, Layout, List, McgBits, Mode,
@@ -121,15 +123,10 @@ impl Instruction {
         lines.into_list()
     }
 
-    /// The access goes on, or has its answer.
-    fn after_access(&mut self, layout: &Layout, access: Access)
-        ensures { AfterAccess layout.now self.old access self.new }
+    /// The access has its answer.
+    fn after_access(&mut self, layout: &Layout, answer: AccessAnswer)
+        ensures { (access : Access) → AfterAccessBy layout.now self.old access (Some answer) self.new }
     {
-        let Some(answer) = access.answer() else {
-            self.set(InstructionAt::Access { access });
-            return;
-        };
-        drop(access);
         match answer {
             AccessAnswer::Checked { frame, .. } => self.check(layout, frame),
             AccessAnswer::Value { word, at } => self.end(InstructionAnswer::Value { word, at }),
@@ -160,7 +157,7 @@ impl Instruction {
             self.mode,
             &banks,
         );
-        self.after_handler(frame, handler);
+        self.begin_check(frame, handler);
     }
 
     /// The banks with the machine's own event of the line in this frame. They are left empty.
@@ -174,8 +171,8 @@ impl Instruction {
         banks
     }
 
-    /// The machine check goes on, or is over.
-    fn after_handler(&mut self, frame: Frame, handler: Handler)
+    /// The machine check begins, or is over at once.
+    fn begin_check(&mut self, frame: Frame, handler: Handler)
         requires { length handler.events.told ≤ self.old.lines.spare }
         ensures { self.new ≡ after_handler self.old frame handler }
     {
@@ -184,37 +181,48 @@ impl Instruction {
             return;
         };
         self.lines.append(handler.told());
-        let at = self.after_check(frame, &handler, stopped);
+        let signalled = handler.signalled();
+        let was_poisoned = handler.was_poisoned(frame);
         drop(handler);
-        self.set(at);
+        self.end_check(frame, stopped, signalled, was_poisoned);
     }
 
-    /// What follows a machine check that is over.
-    fn after_check(&self, frame: Frame, handler: &Handler, stopped: bool) -> InstructionAt
-        ensures { result ≡ over_at self.now frame handler.now stopped }
+    /// The machine check is over: whether it stopped the machine, the first entry that signalled the thread, and whether a
+    /// failure found the frame poisoned already.
+    fn end_check(&mut self, frame: Frame, stopped: bool, signalled: Option<At>, was_poisoned: bool)
+        ensures { self.new ≡ record self.old { at = over_with self.old frame stopped signalled was_poisoned } }
     {
         if stopped {
-            over(InstructionAnswer::Stopped)
-        } else if let Some(at) = handler.signalled() {
-            over(InstructionAnswer::Sigbus { at })
-        } else if handler.was_poisoned(frame) {
-            InstructionAt::LoadFrame { frame }
+            self.end(InstructionAnswer::Stopped);
+        } else if let Some(at) = signalled {
+            self.end(InstructionAnswer::Sigbus { at });
+        } else if was_poisoned {
+            self.set(InstructionAt::LoadFrame { frame });
         } else {
-            self.restarted()
+            let at = self.restarted();
+            self.set(at);
         }
     }
 
     fn set(&mut self, at: InstructionAt)
         ensures { self.new ≡ record self.old { at = at } }
     {
-        // in one call, and not part by part
-        drop(mem::replace(&mut self.at, at));
+        self.at = at;
     }
 
     fn end(&mut self, answer: InstructionAnswer)
         ensures { self.new ≡ answered self.old answer }
     {
         self.set(over(answer));
+    }
+
+    /// Ends the command without an answer: memory ran out.
+    fn give_up(&mut self) -> Turn
+        ensures next { self.new ≡ record self.old { at = states.Over None } }
+        ensures turn { result ≡ NoMemory }
+    {
+        self.set(InstructionAt::Over { answer: None });
+        Turn::NoMemory
     }
 
     fn restarted(&self) -> InstructionAt
@@ -246,8 +254,7 @@ impl Instruction {
         ensures turn { result ≡ turn_of_stop found }
     {
         if StopWord::unpack(found).no_memory {
-            self.set(InstructionAt::Over { answer: None });
-            Turn::NoMemory
+            self.give_up()
         } else {
             self.set(InstructionAt::LoadFrame { frame });
             Turn::Moved
@@ -322,39 +329,37 @@ impl Task for Instruction {
     }
 
     fn settle(&mut self, layout: &Layout, found: u64, body: Option<Body>) -> Turn {
-        let at = mem::replace(&mut self.at, InstructionAt::Over { answer: None });
-        match at {
-            InstructionAt::Access { mut access } => {
+        match &mut self.at {
+            InstructionAt::Access { access } => {
                 let turn = access.settle(layout, found, body);
-                self.after_access(layout, access);
+                let Some(answer) = access.answer() else {
+                    return turn;
+                };
+                self.after_access(layout, answer);
                 turn
             }
-            InstructionAt::Handle { frame, mut handler } => {
+            InstructionAt::Handle { frame, handler } => {
+                let frame = *frame;
                 let turn = handler.settle(layout, found, body);
-                self.after_handler(frame, handler);
+                let Some(stopped) = handler.answer() else {
+                    return turn;
+                };
+                self.lines.append(handler.told());
+                let signalled = handler.signalled();
+                let was_poisoned = handler.was_poisoned(frame);
+                self.end_check(frame, stopped, signalled, was_poisoned);
                 turn
             }
             InstructionAt::LoadFrame { frame } => {
-                drop(at);
-                drop(body);
+                let frame = *frame;
                 self.after_load(frame, found)
             }
             InstructionAt::LoadStop { frame } => {
-                drop(at);
-                drop(body);
+                let frame = *frame;
                 self.after_stop(frame, found)
             }
-            InstructionAt::GiveUp => {
-                drop(at);
-                drop(body);
-                Turn::NoMemory
-            }
-            InstructionAt::Over { answer } => {
-                drop(at);
-                drop(body);
-                self.set(InstructionAt::Over { answer });
-                Turn::Moved
-            }
+            InstructionAt::GiveUp => self.give_up(),
+            InstructionAt::Over { .. } => Turn::Moved,
         }
     }
 }

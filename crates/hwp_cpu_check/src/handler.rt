@@ -17,6 +17,7 @@ use hwp_claim_frame::{
 };
 use hwp_law::{Acted, McgBits, Severity, handle};
 use std::alloc::Global;
+use std::mem;
 
 /// A machine check under way: what needs no step is told at once, memory failures run one after the other, and in the end the
 /// machine is stopped, if an event or a panic asks for it.
@@ -116,7 +117,7 @@ impl Handler {
             return;
         };
         self.events.tell(told_by(held, answer));
-        self.at = tell_on(
+        let at = tell_on(
             self.alloc,
             layout,
             self.who,
@@ -124,6 +125,31 @@ impl Handler {
             self.stops,
             &mut self.events,
         );
+        self.set(at);
+    }
+
+    /// What follows the stop word that the stop met: another may have given up because memory ran out.
+    fn after_stop(&mut self, found: u64) -> Turn
+        ensures at { self.new ≡ record self.old { at = after_stop found } }
+        ensures turn { result ≡ stop_turn found }
+    {
+        if found == 0 {
+            self.set(HandlerAt::Over { stopped: true });
+            Turn::Moved
+        } else if is_stopped(found) {
+            self.set(HandlerAt::Over { stopped: true });
+            Turn::Changed(found)
+        } else {
+            self.set(HandlerAt::GaveUp);
+            Turn::NoMemory
+        }
+    }
+
+    fn set(&mut self, at: HandlerAt)
+        ensures { self.new ≡ record self.old { at = at } }
+    {
+        // in one call, and not part by part
+        drop(mem::replace(&mut self.at, at));
     }
 }
 
@@ -321,20 +347,6 @@ fn is_already(told: &EventOutcome, frame: Frame) -> bool
     matches!(told.acted, Acted::Already) && frame_number(&told.held) == u64::from(frame.0)
 }
 
-/// What follows the stop word that the stop met: another may have given up because memory ran out.
-fn after_stop(found: u64) -> (HandlerAt, Turn)
-    ensures at { result.0 ≡ after_stop found }
-    ensures turn { result.1 ≡ stop_turn found }
-{
-    if found == 0 {
-        (HandlerAt::Over { stopped: true }, Turn::Moved)
-    } else if is_stopped(found) {
-        (HandlerAt::Over { stopped: true }, Turn::Changed(found))
-    } else {
-        (HandlerAt::GaveUp, Turn::NoMemory)
-    }
-}
-
 impl Task for Handler {
     ghost use Rattle.hwp_cpu_check.specs.Fits as fits;
 
@@ -361,11 +373,7 @@ impl Task for Handler {
 
     fn settle(&mut self, layout: &Layout, found: u64, body: Option<Body>) -> Turn {
         match &mut self.at {
-            HandlerAt::Stop => {
-                let (at, turn) = after_stop(found);
-                self.at = at;
-                turn
-            }
+            HandlerAt::Stop => self.after_stop(found),
             HandlerAt::Fail { fail } => {
                 let turn = fail.settle(layout, found, body);
                 let Some(answer) = fail.answer() else {

@@ -60,14 +60,14 @@ impl Job {
             Job::Fsync(fsync) => fsync.answer().map(|answer| fsync_answer(answer)),
             Job::Prctl(prctl) => prctl.answer().map(|answer| prctl_answer(answer)),
             Job::Log(log) => log.answer().map(|answer| read_stop_answer(answer)),
-            Job::Raise(raise) => {
-                let lines = raise.told().len();
-                raise.answer().map(|answer| raise_answer(lines, answer))
-            }
-            Job::Scrub(scrub) => {
-                let lines = scrub.told().len();
-                scrub.answer().map(|answer| scrub_answer(lines, answer))
-            }
+            Job::Raise(raise) => match raise.answer() {
+                Some(answer) => Some(raise_answer(raise.told().len(), answer)),
+                None => None,
+            },
+            Job::Scrub(scrub) => match scrub.answer() {
+                Some(answer) => Some(scrub_answer(scrub.told().len(), answer)),
+                None => None,
+            },
             Job::Spoil(spoil) => spoil.answer().map(|answer| spoil_answer(answer)),
             Job::Nested(nested) => nested.answer().map(|answer| nested_answer(answer)),
             Job::Inject(inject) => inject.answer().map(|answer| fail_answer(answer)),

@@ -99,6 +99,10 @@ after_handler_by r h (Some stopped) = ended (record r { lines = with_lines r.lin
 abbrev pub after_handler : Raise → Handler → Raise
 after_handler r h = after_handler_by r h (handlers.answer h)
 
+-- what follows when it is over, and what it told is taken over
+abbrev pub checked : Raise → Bool → Raise
+checked r stopped = ended r (cond stopped answers.Stopped answers.Raised)
+
 -- the machine check of what the banks hold
 abbrev pub handler_of : Layout → Raise → Handler
 handler_of layout r = handlers.begin layout r.alloc r.who (thread_of r.raiser) (how_of r) r.banks

@@ -1,5 +1,5 @@
 ghost use Rattle.std.specs.Prelude.{◌≡◌, ◌≤◌, length};
-ghost use Rattle.hwp_cpu_raise.specs.Raises.{AfterProcess, AfterStop, BeginsCheck, after_handler, answer, begin, ended, mode_of, thread_of};
+ghost use Rattle.hwp_cpu_raise.specs.Raises.{AfterProcess, AfterStop, BeginsCheck, after_handler, answer, begin, checked, ended, mode_of, thread_of};
 
 use hwp_cpu_check::{
     BANKS, Bank, Body, EventOutcome, Handler, Layout, List, McgBits, Mode, Page, Proc, ProcessWord,
@@ -157,7 +157,7 @@ impl Raise {
         self.after_handler(handler);
     }
 
-    /// The machine check goes on, or is over.
+    /// The machine check has begun, or is over at once.
     fn after_handler(&mut self, handler: Handler)
         requires { length handler.events.told ≤ self.old.lines.spare }
         ensures { self.new ≡ after_handler self.old handler }
@@ -168,6 +168,13 @@ impl Raise {
         };
         self.lines.append(handler.told());
         drop(handler);
+        self.after_check(stopped);
+    }
+
+    /// The machine check is over, and what it told is taken over.
+    fn after_check(&mut self, stopped: bool)
+        ensures { self.new ≡ checked self.old stopped }
+    {
         self.end(if stopped {
             RaiseAnswer::Stopped
         } else {
@@ -246,34 +253,32 @@ impl Task for Raise {
     }
 
     fn settle(&mut self, layout: &Layout, found: u64, body: Option<Body>) -> Turn {
-        let at = mem::replace(&mut self.at, RaiseAt::Over { answer: None });
-        match at {
+        match &mut self.at {
             RaiseAt::LoadStop => {
-                drop(at);
                 drop(body);
                 self.after_stop(layout, found);
                 Turn::Moved
             }
             RaiseAt::LoadProcess { .. } => {
-                drop(at);
                 drop(body);
                 self.after_process(layout, found);
                 Turn::Moved
             }
-            RaiseAt::Handle { mut handler } => {
+            RaiseAt::Handle { handler } => {
                 let turn = handler.settle(layout, found, body);
-                self.after_handler(handler);
+                if let Some(stopped) = handler.answer() {
+                    self.lines.append(handler.told());
+                    self.after_check(stopped);
+                }
                 turn
             }
             RaiseAt::GiveUp => {
-                drop(at);
                 drop(body);
+                self.set(RaiseAt::Over { answer: None });
                 Turn::NoMemory
             }
-            RaiseAt::Over { answer } => {
-                drop(at);
+            RaiseAt::Over { .. } => {
                 drop(body);
-                self.set(RaiseAt::Over { answer });
                 Turn::Moved
             }
         }

@@ -226,6 +226,13 @@ ShowsAt what _ found got = Unit {0}
 abbrev pub Shows : Evict → ℕ → Option BodyValue → Type 0
 Shows e found got = ShowsAt e.what e.at found got
 
+-- the page leaves its frame, or is let go
+abbrev pub IsLeaving : EvictAt → Type 0
+IsLeaving (at.Clear c body done) = Unit {0}
+IsLeaving (at.Vacate v done) = Unit {0}
+IsLeaving (at.Unhold u answer) = Unit {0}
+IsLeaving _ = ⊥
+
 -- ---- what is held and known
 
 -- the page is being held

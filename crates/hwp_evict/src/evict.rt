@@ -3,12 +3,7 @@ ghost use Rattle.hwp_evict.specs.declared.evict.EvictAt.TheVariants as states;
 ghost use Rattle.std.specs.FinSet as set;
 ghost use Rattle.hwp_evict.specs.declared.evict.Eviction.TheVariants as evictions;
 ghost use Rattle.hwp_evict.specs.Evictions.{entry_of, copies, absence, IsJudged};
-ghost use Rattle.hwp_evict.specs.Clears as clears;
-ghost use Rattle.hwp_evict.specs.Vacates as vacates;
-ghost use Rattle.hwp_core.specs.GiveUps as give_ups;
-ghost use Rattle.hwp_core.specs.Holds as holds;
-ghost use Rattle.hwp_core.specs.Unholds as unholds;
-ghost use Rattle.hwp_evict.specs.Evicts.{begin, answer, CanEnter, CanEnterHeld, CanMakeEntry, after_stop, AfterHold, AfterHeld, AfterBad, Enters, GoesOut, FollowsAt, IsCleared, ShowsAt, StartsClearing, freed, refused, with_entry, after_clear, after_vacate, after_unhold, turn_after};
+ghost use Rattle.hwp_evict.specs.Evicts.{begin, answer, CanEnter, CanEnterHeld, CanMakeEntry, after_stop, AfterHold, AfterHeld, AfterBad, Enters, GoesOut, Follows, IsLeaving, Shows, StartsClearing, freed, refused, with_entry, after_clear, turn_after};
 
 use crate::clear::Clear;
 use crate::vacate::Vacate;
@@ -225,18 +220,80 @@ impl Evict {
             | EvictAt::GiveUp { .. } => None,
         }
     }
-}
 
-fn after_stop(who: Who, page: Page, word: u64) -> EvictAt
-    ensures { result ≡ after_stop who page word }
-{
-    if is_stopped(word) {
-        EvictAt::Over {
-            answer: EvictAnswer::Stopped,
+    fn set(&mut self, at: EvictAt)
+        ensures { self.new ≡ record self.old { at = at } }
+    {
+        self.at = at;
+    }
+
+    /// What the state owns, to go on with.
+    fn take(&mut self) -> EvictAt
+        ensures taken { result ≡ self.old.at }
+        ensures left { self.new ≡ record self.old { at = states.LoadStop } }
+    {
+        mem::replace(&mut self.at, EvictAt::LoadStop)
+    }
+
+    /// The turn that ends the command answers it.
+    fn end(&mut self, answer: EvictAnswer) -> Turn
+        ensures over { self.new ≡ record self.old { at = states.Over answer } }
+        ensures turn { result ≡ turn_after (states.Over answer) }
+    {
+        self.set(EvictAt::Over { answer });
+        Turn::Answered
+    }
+
+    /// The machine has stopped, or the page is held next.
+    fn start(&mut self, word: u64) -> Turn
+        ensures at { self.new ≡ record self.old { at = after_stop self.old.who self.old.page word } }
+        ensures turn { result ≡ turn_after (after_stop self.old.who self.old.page word) }
+    {
+        if is_stopped(word) {
+            self.end(EvictAnswer::Stopped)
+        } else {
+            let hold = Hold::new(self.who, self.page);
+            self.set(EvictAt::Hold { hold });
+            Turn::Moved
         }
-    } else {
-        EvictAt::Hold {
-            hold: Hold::new(who, page),
+    }
+
+    /// Runs one more step of taking the page out of its frame, or of letting it go.
+    fn leave(&mut self, layout: &Layout, found: u64, got: Option<Body>) -> Turn
+        requires leaving { IsLeaving self.old.at }
+        requires shows { Shows self.old found got }
+        ensures { Follows self.old found got self.new result }
+    {
+        match &mut self.at {
+            EvictAt::Clear { clear, .. } => {
+                let _turn = clear.settle(layout, found, got);
+                if clear.is_over() {
+                    let EvictAt::Clear { clear, body, done } = self.take() else {
+                        unreachable!();
+                    };
+                    self.set(after_clear(self.who, self.page, clear, body, done));
+                }
+                Turn::Moved
+            }
+            EvictAt::Vacate { vacate, done } => {
+                let _turn = vacate.settle(layout, found, got);
+                if vacate.is_over() {
+                    let answer = EvictAnswer::Done(*done);
+                    self.end(answer)
+                } else {
+                    Turn::Moved
+                }
+            }
+            EvictAt::Unhold { unhold, answer } => {
+                let _turn = unhold.settle(layout, found, got);
+                if unhold.is_over() {
+                    let answer = *answer;
+                    self.end(answer)
+                } else {
+                    Turn::Moved
+                }
+            }
+            _ => unreachable!(),
         }
     }
 }
@@ -371,25 +428,6 @@ fn after_clear(who: Who, page: Page, clear: Clear, body: Body, done: At) -> Evic
     }
 }
 
-/// Clears the next translation.
-fn clear_more(
-    who: Who,
-    page: Page,
-    layout: &Layout,
-    clear: Clear,
-    found: u64,
-    got: Option<Body>,
-    body: Body,
-    done: At,
-) -> EvictAt
-    requires { clears.Shows clear }
-    ensures { IsCleared who page clear body done result }
-{
-    let mut clear = clear;
-    let _turn = clear.settle(layout, found, got);
-    after_clear(who, page, clear, body, done)
-}
-
 /// The command makes its entry, or gives up where memory for it is refused.
 fn enter(who: Who, page: Page, what: Eviction, frame: Frame, body: Body) -> EvictAt
     requires { CanMakeEntry what body }
@@ -415,139 +453,6 @@ fn freed(who: Who, page: Page, frame: Frame, body: Body, done: At) -> EvictAt
     EvictAt::Unhold {
         unhold: Unhold::new(who, page, Some(frame), 2, body),
         answer: EvictAnswer::Done(done),
-    }
-}
-
-/// Runs one more step of taking the page out of its frame.
-fn vacate_more(layout: &Layout, vacate: Vacate, found: u64, got: Option<Body>, done: At) -> EvictAt
-    ensures { result ≡ after_vacate (vacates.next vacate found) done }
-{
-    let mut vacate = vacate;
-    let _turn = vacate.settle(layout, found, got);
-    after_vacate(vacate, done)
-}
-
-/// Runs one more step of letting the page go.
-fn unhold_more(
-    layout: &Layout,
-    unhold: Unhold,
-    found: u64,
-    got: Option<Body>,
-    answer: EvictAnswer,
-) -> EvictAt
-    ensures { result ≡ after_unhold (unholds.next unhold found) answer }
-{
-    let mut unhold = unhold;
-    let _turn = unhold.settle(layout, found, got);
-    after_unhold(unhold, answer)
-}
-
-fn after_vacate(vacate: Vacate, done: At) -> EvictAt
-    ensures { result ≡ after_vacate vacate done }
-{
-    if vacate.is_over() {
-        EvictAt::Over {
-            answer: EvictAnswer::Done(done),
-        }
-    } else {
-        EvictAt::Vacate { vacate, done }
-    }
-}
-
-fn after_unhold(unhold: Unhold, answer: EvictAnswer) -> EvictAt
-    ensures { result ≡ after_unhold unhold answer }
-{
-    if unhold.is_over() {
-        EvictAt::Over { answer }
-    } else {
-        EvictAt::Unhold { unhold, answer }
-    }
-}
-
-/// The turn that ended the command answers it.
-fn turn_after(at: &EvictAt) -> Turn
-    ensures { result ≡ turn_after at.now }
-{
-    if matches!(at, EvictAt::Over { .. }) {
-        Turn::Answered
-    } else {
-        Turn::Moved
-    }
-}
-
-/// Where the command is, with the turn that brought it there.
-fn moved(at: EvictAt) -> (EvictAt, Turn)
-    ensures { (result.0 ≡ at) × (result.1 ≡ turn_after at) }
-{
-    let turn = turn_after(&at);
-    (at, turn)
-}
-
-/// Runs one more step of holding the page.
-fn hold_more(
-    who: Who,
-    page: Page,
-    what: Eviction,
-    layout: &Layout,
-    hold: Hold,
-    found: u64,
-    got: Option<Body>,
-) -> (EvictAt, Turn)
-    requires shows { holds.Shows hold found got }
-    requires enters { CanEnterHeld what (holds.next hold found got).at }
-    ensures { AfterHold who page what (holds.next hold found got) result.0 × (result.1 ≡ holds.turn hold found) }
-{
-    let mut hold = hold;
-    let turn = hold.settle(layout, found, got);
-    (after_hold(who, page, what, hold), turn)
-}
-
-/// Runs one more step of giving the command up.
-fn give_up_more(layout: &Layout, give_up: GiveUp, found: u64, got: Option<Body>) -> (EvictAt, Turn)
-    ensures { (result.0 ≡ states.GiveUp (give_ups.next give_up found)) × (result.1 ≡ give_ups.turn give_up) }
-{
-    let mut give_up = give_up;
-    let turn = give_up.settle(layout, found, got);
-    (EvictAt::GiveUp { give_up }, turn)
-}
-
-/// Where the command is after its step, with the turn that brought it there.
-fn settled(
-    who: Who,
-    page: Page,
-    what: Eviction,
-    layout: &Layout,
-    at: EvictAt,
-    found: u64,
-    got: Option<Body>,
-) -> (EvictAt, Turn)
-    requires { ShowsAt what at found got }
-    ensures { FollowsAt who page what at found got result.0 result.1 }
-{
-    match at {
-        EvictAt::LoadStop => moved(after_stop(who, page, found)),
-        EvictAt::Hold { hold } => hold_more(who, page, what, layout, hold, found, got),
-        EvictAt::LoadBad { frame, body } => {
-            (after_bad(who, page, what, frame, body, found), Turn::Moved)
-        }
-        EvictAt::SetPte {
-            frame,
-            body,
-            done,
-            ..
-        } => (freed(who, page, frame, body, done), Turn::Moved),
-        EvictAt::Clear { clear, body, done } => {
-            (
-                clear_more(who, page, layout, clear, found, got, body, done),
-                Turn::Moved,
-            )
-        }
-        EvictAt::Vacate { vacate, done } => { moved(vacate_more(layout, vacate, found, got, done)) }
-        EvictAt::Unhold { unhold, answer } => {
-            moved(unhold_more(layout, unhold, found, got, answer))
-        }
-        EvictAt::GiveUp { give_up } => give_up_more(layout, give_up, found, got),
-        EvictAt::Over { answer } => (EvictAt::Over { answer }, Turn::Moved),
     }
 }
 
@@ -596,10 +501,39 @@ impl Task for Evict {
     }
 
     fn settle(&mut self, layout: &Layout, found: u64, body: Option<Body>) -> Turn {
-        let at = mem::replace(&mut self.at, EvictAt::LoadStop);
-        let (after, turn) = settled(self.who, self.page, self.what, layout, at, found, body);
-        self.at = after;
-        turn
+        match &mut self.at {
+            EvictAt::LoadStop => self.start(found),
+            EvictAt::Hold { hold } => {
+                let turn = hold.settle(layout, found, body);
+                if hold.answer().is_some() {
+                    let EvictAt::Hold { hold } = self.take() else {
+                        unreachable!();
+                    };
+                    self.set(after_hold(self.who, self.page, self.what, hold));
+                }
+                turn
+            }
+            EvictAt::LoadBad { .. } => {
+                let EvictAt::LoadBad { frame, body } = self.take() else {
+                    unreachable!();
+                };
+                self.set(after_bad(self.who, self.page, self.what, frame, body, found));
+                Turn::Moved
+            }
+            EvictAt::SetPte { frame, done, .. } => {
+                let (frame, done) = (*frame, *done);
+                let EvictAt::SetPte { body, .. } = self.take() else {
+                    unreachable!();
+                };
+                self.set(freed(self.who, self.page, frame, body, done));
+                Turn::Moved
+            }
+            EvictAt::Clear { .. } | EvictAt::Vacate { .. } | EvictAt::Unhold { .. } => {
+                self.leave(layout, found, body)
+            }
+            EvictAt::GiveUp { give_up } => give_up.settle(layout, found, body),
+            EvictAt::Over { .. } => Turn::Moved,
+        }
     }
 }
 
@@ -620,7 +554,15 @@ impl Ranked for Evict {
 
 impl Scheduled for Evict {
     fn is_over(&self) -> bool {
-        self.plan().is_none()
+        match &self.at {
+            EvictAt::LoadStop | EvictAt::LoadBad { .. } | EvictAt::SetPte { .. } => false,
+            EvictAt::Hold { hold } => hold.plan().is_none(),
+            EvictAt::Clear { clear, .. } => clear.is_over(),
+            EvictAt::Vacate { vacate, .. } => vacate.is_over(),
+            EvictAt::Unhold { unhold, .. } => unhold.is_over(),
+            EvictAt::GiveUp { give_up } => give_up.is_over(),
+            EvictAt::Over { .. } => true,
+        }
     }
 
     fn tells(&self) {}

@@ -1,9 +1,8 @@
 ghost use Rattle.std.specs.Prelude.{◌≡◌, is_none};
-ghost use Rattle.hwp_evict.specs.Vacates.{begin, plan, after_release};
+ghost use Rattle.hwp_evict.specs.Vacates.{begin, plan};
 
 use hwp_core::{Body, Frame, Layout, Page, Ranked, Release, Step, Task, Turn, Who};
 use std::cmp::min;
-use std::mem;
 
 /// Takes a page that is held out of its frame: the page's cache word names no frame and the frame gets no owner, the frame is
 /// unlocked and released, the page's body goes onto its shelf, and the page is unlocked (this project's rule).
@@ -46,23 +45,13 @@ impl Vacate {
     pub fn is_over(&self) -> bool
         ensures { result ≡ is_none (plan self.now) }
     {
-        match self.at {
+        match &self.at {
             VacateAt::SetCache
             | VacateAt::SetOwner
             | VacateAt::UnlockFrame
             | VacateAt::UnlockPage => false,
             VacateAt::Release { release } => release.is_over(),
             VacateAt::Over => true,
-        }
-    }
-
-    fn after_release(release: Release) -> VacateAt
-        ensures { result ≡ after_release release }
-    {
-        if release.is_over() {
-            VacateAt::UnlockPage
-        } else {
-            VacateAt::Release { release }
         }
     }
 }
@@ -77,7 +66,7 @@ impl Task for Vacate {
     }
 
     fn plan(&self) -> Option<Step> {
-        match self.at {
+        match &self.at {
             VacateAt::SetCache => Some(Step::SetCache {
                 page: self.page,
                 frame: None,
@@ -96,7 +85,7 @@ impl Task for Vacate {
 
     fn give(&mut self) -> Option<Body> {
         match self.at {
-            VacateAt::UnlockPage => mem::replace(&mut self.body, None),
+            VacateAt::UnlockPage => self.body.take(),
             VacateAt::SetCache
             | VacateAt::SetOwner
             | VacateAt::UnlockFrame
@@ -106,7 +95,7 @@ impl Task for Vacate {
     }
 
     fn settle(&mut self, layout: &Layout, found: u64, body: Option<Body>) -> Turn {
-        match self.at {
+        match &mut self.at {
             VacateAt::SetCache => {
                 self.at = VacateAt::SetOwner;
                 Turn::Moved
@@ -121,22 +110,25 @@ impl Task for Vacate {
                 };
                 Turn::Moved
             }
-            VacateAt::Release { mut release } => {
+            VacateAt::Release { release } => {
                 let turn = release.settle(layout, found, body);
-                self.at = Vacate::after_release(release);
+                if release.is_over() {
+                    self.at = VacateAt::UnlockPage;
+                }
                 turn
             }
-            VacateAt::UnlockPage | VacateAt::Over => {
+            VacateAt::UnlockPage => {
                 self.at = VacateAt::Over;
                 Turn::Moved
             }
+            VacateAt::Over => Turn::Moved,
         }
     }
 }
 
 impl Ranked for Vacate {
     fn class(&self) -> u8 {
-        match self.at {
+        match &self.at {
             VacateAt::SetCache | VacateAt::SetOwner | VacateAt::UnlockFrame => 1,
             VacateAt::Release { release } => min(release.class(), 2),
             VacateAt::UnlockPage => 2,

@@ -1,5 +1,5 @@
 -- What follows a step of a fault: the parts that go on with the room that was made for an entry, and the task in all.
-use Rattle.std.proofs.Common.{◌≡◌, ℕ, ◌≤◌, Option, Some, None, length, sym, ap, ◌∙◌, subst}
+use Rattle.std.proofs.Common.{◌≡◌, ℕ, ◌≤◌, Option, Some, None, length, sym, ap, ◌∙◌}
 use Rattle.std.specs.declared.snapshot.Snapshot.{Snapshot}
 use Rattle.hwp_page.specs.hwp_geom.declared.Frame.{Frame}
 use Rattle.hwp_page.specs.hwp_geom.declared.Layout.{Layout}
@@ -64,7 +64,7 @@ settles layout f (at.GiveUp g) found got y turn e = record { spare = None; room 
 settles layout f (at.Over answer) found got y turn e = record { spare = None; room = tt; is = e.0; turn_is = e.1 }
 
 -- the task with the state that follows is the one that follows
-pub follows : (layout : Layout) (f : Fault) (x : FaultAt) (found : ℕ) (got : Option BodyValue) (y z : FaultAt) (turn : Turn) → x ≡ f.at → FollowsAt layout f.who f.page f.slot f.touch x found got y turn → z ≡ y → Follows layout f found got (record f { at = z }) turn
-follows layout f x found got y z turn here e put =
-    let all = settles layout f f.at found got y turn (subst (λ (z : FaultAt). FollowsAt layout f.who f.page f.slot f.touch z found got y turn) here e) in
-    record { spare = all.spare; room = all.room; after_is = ap (λ (x : FaultAt). record f { at = x }) (put ∙ all.is); turn_is = all.turn_is }
+pub follows : (layout : Layout) (f after : Fault) (found : ℕ) (got : Option BodyValue) (turn : Turn) → FollowsAt layout f.who f.page f.slot f.touch f.at found got after.at turn → after ≡ record f { at = after.at } → Follows layout f found got after turn
+follows layout f after found got turn e rest =
+    let all = settles layout f f.at found got after.at turn e in
+    record { spare = all.spare; room = all.room; after_is = rest ∙ ap (λ (x : FaultAt). record f { at = x }) all.is; turn_is = all.turn_is }

@@ -235,6 +235,22 @@ FollowsAt layout who page slot touch (at.Unhold u answer) found got x turn = (x 
 FollowsAt layout who page slot touch (at.GiveUp g) found got x turn = (x ≡ after_give_up (give_ups.next g found)) × (turn ≡ give_ups.turn g)
 FollowsAt layout who page slot touch (at.Over answer) found got x turn = (x ≡ at.Over answer) × (turn ≡ Moved)
 
+-- what follows a state from which the page's body goes on: its part is over, or its step is made and loaded this word
+abbrev pub GoesOn : Layout → Who → Page → VSlot → Touch → FaultAt → ℕ → FaultAt → Type 0
+GoesOn layout who page slot touch (at.Hold h) found x = x ≡ after_hold h
+GoesOn layout who page slot touch (at.LoadPte frame body) found x = IsLoaded layout who page slot touch frame body (pte_reading found) x
+GoesOn layout who page slot touch (at.Kill frame body place) found x = x ≡ let_go who page frame body (answers.Sigbus place)
+GoesOn layout who page slot touch (at.Fill f) found x = IsFilled who page slot f x
+GoesOn layout who page slot touch (at.MapIn m) found x = x ≡ after_map_in who page m
+GoesOn layout who page slot touch (at.Unhold u answer) found x = x ≡ at.Unhold u answer
+GoesOn layout who page slot touch (at.GiveUp g) found x = x ≡ at.GiveUp g
+GoesOn layout who page slot touch (at.Over answer) found x = x ≡ at.Over answer
+
+-- where the word that was loaded refuses the access, the entry of it is allowed
+abbrev pub CanGoOn : VSlot → Touch → FaultAt → ℕ → Type 0
+CanGoOn slot touch (at.LoadPte frame body) found = is_refused (pte_reading found) body.state ≡ true → IsRefused body.layout body.page body.state touch.thread slot
+CanGoOn slot touch _ found = Unit {0}
+
 -- which task follows a step, and which turn it was
 pub record Follows (layout : Layout) (f : Fault) (found : ℕ) (got : Option BodyValue) (after : Fault) (result : Turn) : Type 0 where
   pub spare : Option ℕ

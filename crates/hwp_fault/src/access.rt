@@ -1,9 +1,5 @@
 ghost use Rattle.std.specs.Prelude.{◌≡◌, ◌↔◌, Option, IsBitSet, IsTrue, is_none};
-ghost use Rattle.hwp_core.specs.GiveUps as give_ups;
-ghost use Rattle.hwp_core.specs.Pins as pins;
-ghost use Rattle.hwp_core.specs.Unlocks as unlocks;
 ghost use Rattle.hwp_fault.specs.declared.access.AccessAt.TheVariants as states;
-ghost use Rattle.hwp_fault.specs.Faults as faults;
 
 use crate::fault::{Fault, FaultAnswer};
 use crate::touch::{AccessKind, Touch};
@@ -91,6 +87,8 @@ enum AccessAt {
 }
 
 impl Access {
+    ghost use Rattle.std.specs.Prelude.{unwrap_or};
+    ghost use Rattle.hwp_core.specs.hwp_core_task.declared.Turn.TheVariants.{Moved};
     ghost use Rattle.hwp_fault.specs.Accesses.{begin, again, answer, at_start, at_process, pinned, unlocked, after_fault};
 
     /// The access at its beginning.
@@ -155,58 +153,76 @@ impl Access {
         }
     }
 
-    fn pinned(pin: Pin) -> AccessAt
-        ensures { result ≡ pinned pin }
+    /// What follows the step of a pin; `None` where it goes on.
+    fn pinned(pin: &Pin) -> Option<AccessAt>
+        ensures { unwrap_or result (states.Pin pin.now) ≡ pinned pin.now }
     {
         match pin.answer() {
-            Some(PinAnswer::Held(_)) => AccessAt::LockFrame { frame: pin.frame() },
-            Some(PinAnswer::Gone(_)) => AccessAt::LoadTranslation,
-            None => AccessAt::Pin { pin },
+            Some(PinAnswer::Held(_)) => Some(AccessAt::LockFrame { frame: pin.frame() }),
+            Some(PinAnswer::Gone(_)) => Some(AccessAt::LoadTranslation),
+            None => None,
         }
     }
 
-    fn unlocked(unlock: Unlock, then: Option<AccessAnswer>) -> AccessAt
-        ensures { result ≡ unlocked unlock then }
+    /// What follows a step of letting the frame go; `None` where that goes on.
+    fn unlocked(unlock: &Unlock, then: Option<AccessAnswer>) -> Option<AccessAt>
+        ensures { unwrap_or result (states.Unlock unlock.now then) ≡ unlocked unlock.now then }
     {
-        if unlock.is_over() {
-            drop(unlock);
-            match then {
-                Some(answer) => AccessAt::Over { answer },
-                None => AccessAt::LoadTranslation,
-            }
-        } else {
-            AccessAt::Unlock { unlock, then }
+        if !unlock.is_over() {
+            return None;
+        }
+        match then {
+            Some(answer) => Some(AccessAt::Over { answer }),
+            None => Some(AccessAt::LoadTranslation),
         }
     }
 
-    fn after_fault(fault: Fault) -> AccessAt
-        ensures { result ≡ after_fault fault }
+    /// What follows a step of the page fault; `None` where that goes on.
+    fn after_fault(fault: &Fault) -> Option<AccessAt>
+        ensures { unwrap_or result (states.Fault fault.now) ≡ after_fault fault.now }
     {
         match fault.answer() {
-            Some(FaultAnswer::Again) => {
-                drop(fault);
-                AccessAt::LoadTranslation
-            }
-            Some(FaultAnswer::NoFrame { .. }) => {
-                drop(fault);
-                AccessAt::Over {
-                    answer: AccessAnswer::NoFrame,
-                }
-            }
-            Some(FaultAnswer::Sigbus { at }) => {
-                drop(fault);
-                AccessAt::Over {
-                    answer: AccessAnswer::Sigbus { at },
-                }
-            }
-            None => AccessAt::Fault { fault },
+            Some(FaultAnswer::Again) => Some(AccessAt::LoadTranslation),
+            Some(FaultAnswer::NoFrame { .. }) => Some(AccessAt::Over {
+                answer: AccessAnswer::NoFrame,
+            }),
+            Some(FaultAnswer::Sigbus { at }) => Some(AccessAt::Over {
+                answer: AccessAnswer::Sigbus { at },
+            }),
+            None => None,
         }
+    }
+
+    fn set(&mut self, at: AccessAt)
+        ensures { self.new ≡ record self.old { at = at } }
+    {
+        drop(mem::replace(&mut self.at, at));
+    }
+
+    /// Goes on to the state, where there is one, with the turn of the step before it.
+    fn follow(&mut self, next: Option<AccessAt>, turn: Turn) -> Turn
+        ensures at { self.new ≡ record self.old { at = unwrap_or next self.old.at } }
+        ensures turn { result ≡ turn }
+    {
+        if let Some(at) = next {
+            self.set(at);
+        }
+        turn
+    }
+
+    /// Goes on to the state; the body that the step before it met is let go.
+    fn go(&mut self, at: AccessAt, got: Option<Body>) -> Turn
+        ensures at { self.new ≡ record self.old { at = at } }
+        ensures turn { result ≡ Moved }
+    {
+        self.set(at);
+        moved(got)
     }
 }
 
 impl Request {
     ghost use Rattle.std.specs.Prelude.{is_some, true};
-    ghost use Rattle.hwp_fault.specs.Accesses.{at_translation, LooksAgain, NextAt, Prepares, Reaches, ShowsAt, check_of, checked, entered, entry_of, leads_to, let_go, reached, reply, touch_of, what_of, word_in, word_reply};
+    ghost use Rattle.hwp_fault.specs.Accesses.{at_translation, LooksAgain, Prepares, Reaches, check_of, checked, entered, entry_of, leads_to, let_go, reached, reply, touch_of, what_of, word_in, word_reply};
 
     fn at_translation(&self, found: u64) -> AccessAt
         ensures { result ≡ at_translation self.now found }
@@ -355,40 +371,11 @@ impl Request {
             },
         }
     }
-
-    /// Where the access is after its step, with the turn that brought it there.
-    fn settled(
-        &self,
-        layout: &Layout,
-        at: AccessAt,
-        found: u64,
-        got: Option<Body>,
-    ) -> (AccessAt, Turn)
-        requires { ShowsAt self.now at found got }
-        ensures { NextAt layout.now self.now at found got result.0 result.1 }
-    {
-        match at {
-            AccessAt::LoadStop => (Access::at_start(found), moved(got)),
-            AccessAt::LoadProcess => (Access::at_process(found), moved(got)),
-            AccessAt::LoadTranslation => (self.at_translation(found), moved(got)),
-            AccessAt::Pin { pin } => pin_more(layout, pin, found, got),
-            AccessAt::LockFrame { frame } => lock_more(frame, found, got),
-            AccessAt::LoadAgain { frame, body } => {
-                (self.at_again(frame, body, found), moved(got))
-            }
-            AccessAt::LoadBad { frame, body } => (self.let_go(frame, body, found), moved(got)),
-            AccessAt::Unlock { unlock, then } => {
-                (unlock_more(layout, unlock, found, got, then), Turn::Moved)
-            }
-            AccessAt::Fault { fault } => fault_more(layout, fault, found, got),
-            AccessAt::GiveUp { give_up } => give_up_more(layout, give_up, found, got),
-            AccessAt::Over { answer } => (AccessAt::Over { answer }, moved(got)),
-        }
-    }
 }
 
+ghost use Rattle.std.specs.Prelude.{unwrap_or};
 ghost use Rattle.hwp_core.specs.hwp_core_task.declared.Turn.TheVariants.{Moved};
-ghost use Rattle.hwp_fault.specs.Accesses.{FaultStepped, LocksFrame, is_bad, leads_to, pinned, unlocked};
+ghost use Rattle.hwp_fault.specs.Accesses.{LocksFrame, is_bad, leads_to};
 
 /// The turn of a step that moved; the body that it met is let go.
 fn moved(_got: Option<Body>) -> Turn
@@ -397,59 +384,16 @@ fn moved(_got: Option<Body>) -> Turn
     Turn::Moved
 }
 
-/// Runs one more step of taking a reference to the frame.
-fn pin_more(layout: &Layout, pin: Pin, found: u64, got: Option<Body>) -> (AccessAt, Turn)
-    ensures { (result.0 ≡ pinned (pins.next pin found)) × (result.1 ≡ pins.turn pin found) }
-{
-    let mut pin = pin;
-    let turn = pin.settle(layout, found, got);
-    (Access::pinned(pin), turn)
-}
-
-/// Tries the frame's lock once more.
-fn lock_more(frame: Frame, found: u64, got: Option<Body>) -> (AccessAt, Turn)
-    ensures { LocksFrame frame found got result.0 result.1 }
+/// What follows a try of the frame's lock, with the turn of that; `None` where it is tried again.
+fn locked(frame: Frame, found: u64, got: Option<Body>) -> (Option<AccessAt>, Turn)
+    ensures { LocksFrame frame found got (unwrap_or result.0 (states.LockFrame frame)) result.1 }
 {
     if FrameWord::unpack(found).locked {
         drop(got);
-        (AccessAt::LockFrame { frame }, Turn::Waits(found))
+        (None, Turn::Waits(found))
     } else {
-        (AccessAt::LoadAgain { frame, body: got }, Turn::Moved)
+        (Some(AccessAt::LoadAgain { frame, body: got }), Turn::Moved)
     }
-}
-
-/// Runs one more step of letting the frame go.
-fn unlock_more(
-    layout: &Layout,
-    unlock: Unlock,
-    found: u64,
-    got: Option<Body>,
-    then: Option<AccessAnswer>,
-) -> AccessAt
-    ensures { result ≡ unlocked (unlocks.next unlock found) then }
-{
-    let mut unlock = unlock;
-    let _turn = unlock.settle(layout, found, got);
-    Access::unlocked(unlock, then)
-}
-
-/// Runs one more step of the page fault.
-fn fault_more(layout: &Layout, fault: Fault, found: u64, got: Option<Body>) -> (AccessAt, Turn)
-    requires { faults.Shows fault found got }
-    ensures { FaultStepped layout.now fault found got result.0 result.1 }
-{
-    let mut fault = fault;
-    let turn = fault.settle(layout, found, got);
-    (Access::after_fault(fault), turn)
-}
-
-/// Runs one more step of giving the command up.
-fn give_up_more(layout: &Layout, give_up: GiveUp, found: u64, got: Option<Body>) -> (AccessAt, Turn)
-    ensures { (result.0 ≡ states.GiveUp (give_ups.next give_up found)) × (result.1 ≡ give_ups.turn give_up) }
-{
-    let mut give_up = give_up;
-    let turn = give_up.settle(layout, found, got);
-    (AccessAt::GiveUp { give_up }, turn)
 }
 
 /// The line is one of the bad ones, which `mask` has.
@@ -519,10 +463,47 @@ impl Task for Access {
     }
 
     fn settle(&mut self, layout: &Layout, found: u64, body: Option<Body>) -> Turn {
-        let at = mem::replace(&mut self.at, AccessAt::LoadStop);
-        let (after, turn) = self.request.settled(layout, at, found, body);
-        drop(mem::replace(&mut self.at, after));
-        turn
+        match &mut self.at {
+            AccessAt::LoadStop => self.go(Access::at_start(found), body),
+            AccessAt::LoadProcess => self.go(Access::at_process(found), body),
+            AccessAt::LoadTranslation => {
+                let at = self.request.at_translation(found);
+                self.go(at, body)
+            }
+            AccessAt::Pin { pin } => {
+                let turn = pin.settle(layout, found, body);
+                let next = Access::pinned(pin);
+                self.follow(next, turn)
+            }
+            AccessAt::LockFrame { frame } => {
+                let (next, turn) = locked(*frame, found, body);
+                self.follow(next, turn)
+            }
+            AccessAt::LoadAgain { frame, body: held } => {
+                let at = self.request.at_again(*frame, held.take(), found);
+                self.go(at, body)
+            }
+            AccessAt::LoadBad { .. } => {
+                let before = mem::replace(&mut self.at, AccessAt::LoadStop);
+                let AccessAt::LoadBad { frame, body: held } = before else {
+                    unreachable!()
+                };
+                let at = self.request.let_go(frame, held, found);
+                self.go(at, body)
+            }
+            AccessAt::Unlock { unlock, then } => {
+                let _turn = unlock.settle(layout, found, body);
+                let next = Access::unlocked(unlock, *then);
+                self.follow(next, Turn::Moved)
+            }
+            AccessAt::Fault { fault } => {
+                let turn = fault.settle(layout, found, body);
+                let next = Access::after_fault(fault);
+                self.follow(next, turn)
+            }
+            AccessAt::GiveUp { give_up } => give_up.settle(layout, found, body),
+            AccessAt::Over { .. } => moved(body),
+        }
     }
 }
 
@@ -547,7 +528,19 @@ impl Ranked for Access {
 
 impl Scheduled for Access {
     fn is_over(&self) -> bool {
-        self.plan().is_none()
+        match &self.at {
+            AccessAt::Pin { pin } => pin.answer().is_some(),
+            AccessAt::Unlock { unlock, .. } => unlock.is_over(),
+            AccessAt::Fault { fault } => fault.is_over(),
+            AccessAt::GiveUp { give_up } => give_up.is_over(),
+            AccessAt::LoadStop
+            | AccessAt::LoadProcess
+            | AccessAt::LoadTranslation
+            | AccessAt::LockFrame { .. }
+            | AccessAt::LoadAgain { .. }
+            | AccessAt::LoadBad { .. } => false,
+            AccessAt::Over { .. } => true,
+        }
     }
 
     fn tells(&self) {}

@@ -1,9 +1,5 @@
 ghost use Rattle.std.specs.Prelude.{◌≡◌, is_none};
-ghost use Rattle.hwp_core.specs.GiveUps as give_ups;
-ghost use Rattle.hwp_core.specs.Holds as holds;
-ghost use Rattle.hwp_core.specs.Unholds as unholds;
-ghost use Rattle.hwp_fault_fill.specs.Fills as fills;
-ghost use Rattle.hwp_fault.specs.MapIns as map_ins;
+ghost use Rattle.hwp_fault.specs.declared.fault.FaultAt.TheVariants as states;
 
 use crate::map_in::MapIn;
 use crate::touch::Touch;
@@ -69,10 +65,11 @@ pub enum FaultAnswer {
 }
 
 impl Fault {
-    ghost use Rattle.std.specs.Prelude.{true};
+    ghost use Rattle.std.specs.Prelude.{true, unwrap_or};
+    ghost use Rattle.hwp_core.specs.hwp_core_task.declared.Turn.TheVariants.{Moved};
     ghost use Rattle.hwp_page.specs.Step.{IsRefused};
     ghost use Rattle.hwp_fault.specs.Touches.{refused};
-    ghost use Rattle.hwp_fault.specs.Faults.{begin, plan, answer, let_go, CanRefuse, FollowsAt, IsRoomed, ShowsAt, after_hold, after_map_in, after_refusal, after_unhold, after_give_up, is_refused, IsLoaded, IsRefusal, IsFilled};
+    ghost use Rattle.hwp_fault.specs.Faults.{begin, plan, answer, let_go, CanGoOn, CanRefuse, FollowsAt, GoesOn, IsRoomed, ShowsAt, after_hold, after_map_in, after_refusal, after_unhold, after_give_up, is_refused, IsLoaded, IsRefusal, IsFilled};
 
     /// The command brings the page in, and the translation, which is one of the page, into use; or else the touch, by a
     /// process of the translation, is refused.
@@ -94,7 +91,15 @@ impl Fault {
     pub fn is_over(&self) -> bool
         ensures { result ≡ is_none (plan self.now) }
     {
-        self.plan().is_none()
+        match &self.at {
+            FaultAt::Hold { hold } => hold.plan().is_none(),
+            FaultAt::LoadPte { .. } | FaultAt::Kill { .. } => false,
+            FaultAt::Fill { fill } => fill.plan().is_none(),
+            FaultAt::MapIn { map_in } => map_in.plan().is_none(),
+            FaultAt::Unhold { unhold, .. } => unhold.is_over(),
+            FaultAt::GiveUp { give_up } => give_up.is_over(),
+            FaultAt::Over { .. } => true,
+        }
     }
 
     /// What the task came to; `None` until it is over, and where the command was given up.
@@ -248,141 +253,125 @@ impl Fault {
         }
     }
 
-    fn after_unhold(unhold: Unhold, answer: FaultAnswer) -> FaultAt
-        ensures { result ≡ after_unhold unhold answer }
+    /// What follows a step of letting the page go; `None` where that goes on.
+    fn after_unhold(unhold: &Unhold, answer: FaultAnswer) -> Option<FaultAt>
+        ensures { unwrap_or result (states.Unhold unhold.now answer) ≡ after_unhold unhold.now answer }
     {
         if unhold.is_over() {
-            drop(unhold);
-            FaultAt::Over {
+            Some(FaultAt::Over {
                 answer: Some(answer),
-            }
+            })
         } else {
-            FaultAt::Unhold { unhold, answer }
+            None
         }
     }
 
-    fn after_give_up(give_up: GiveUp) -> FaultAt
-        ensures { result ≡ after_give_up give_up }
+    /// What follows a step of giving the command up; `None` where that goes on.
+    fn after_give_up(give_up: &GiveUp) -> Option<FaultAt>
+        ensures { unwrap_or result (states.GiveUp give_up.now) ≡ after_give_up give_up.now }
     {
         if give_up.is_over() {
-            drop(give_up);
-            FaultAt::Over { answer: None }
+            Some(FaultAt::Over { answer: None })
         } else {
-            FaultAt::GiveUp { give_up }
+            None
         }
     }
 
-    /// Where the fault is after its step, with the turn that brought it there.
-    fn settled(
-        &self,
-        layout: &Layout,
-        at: FaultAt,
-        found: u64,
-        got: Option<Body>,
-    ) -> (FaultAt, Turn)
-        requires { ShowsAt self.now.slot self.now.touch at found got }
-        ensures { FollowsAt layout.now self.now.who self.now.page self.now.slot self.now.touch at found got result.0 result.1 }
+    fn set(&mut self, at: FaultAt)
+        ensures { self.new ≡ record self.old { at = at } }
+    {
+        drop(mem::replace(&mut self.at, at));
+    }
+
+    /// Goes on to the state, where there is one, with the turn of the step before it.
+    fn follow(&mut self, next: Option<FaultAt>, turn: Turn) -> Turn
+        ensures at { self.new ≡ record self.old { at = unwrap_or next self.old.at } }
+        ensures turn { result ≡ turn }
+    {
+        if let Some(at) = next {
+            self.set(at);
+        }
+        turn
+    }
+
+    /// What follows a state from which the page's body goes on, and the word that its step loaded.
+    fn after(&self, layout: &Layout, at: FaultAt, found: u64) -> FaultAt
+        requires { CanGoOn self.now.slot self.now.touch at found }
+        ensures { GoesOn layout.now self.now.who self.now.page self.now.slot self.now.touch at found result }
     {
         match at {
-            FaultAt::Hold { hold } => hold_more(layout, hold, found, got),
+            FaultAt::Hold { hold } => Fault::after_hold(hold),
             FaultAt::LoadPte { frame, body } => {
-                drop(got);
-                let pte = Pte::unpack(found);
-                (self.after_pte(layout, frame, body, pte), Turn::Moved)
+                self.after_pte(layout, frame, body, Pte::unpack(found))
             }
             FaultAt::Kill { frame, body, at } => {
-                drop(got);
-                let answer = FaultAnswer::Sigbus { at };
-                let next = Fault::let_go(self.who, self.page, frame, body, answer);
-                (next, Turn::Moved)
+                Fault::let_go(self.who, self.page, frame, body, FaultAnswer::Sigbus { at })
             }
-            FaultAt::Fill { fill } => {
-                fill_more(self.who, self.page, self.slot, layout, fill, found, got)
-            }
-            FaultAt::MapIn { map_in } => {
-                map_in_more(self.who, self.page, layout, map_in, found, got)
-            }
-            FaultAt::Unhold { unhold, answer } => {
-                (unhold_more(layout, unhold, found, got, answer), Turn::Moved)
-            }
-            FaultAt::GiveUp { give_up } => give_up_more(layout, give_up, found, got),
-            FaultAt::Over { answer } => {
-                drop(got);
-                (FaultAt::Over { answer }, Turn::Moved)
-            }
+            FaultAt::Fill { fill } => Fault::after_fill(self.who, self.page, self.slot, fill),
+            FaultAt::MapIn { map_in } => Fault::after_map_in(self.who, self.page, map_in),
+            FaultAt::Unhold { unhold, answer } => FaultAt::Unhold { unhold, answer },
+            FaultAt::GiveUp { give_up } => FaultAt::GiveUp { give_up },
+            FaultAt::Over { answer } => FaultAt::Over { answer },
         }
     }
-}
 
-ghost use Rattle.hwp_fault.specs.Faults.{after_give_up, after_hold, after_map_in, after_unhold, IsFilled};
+    /// Goes on from such a state.
+    fn go_on(&mut self, layout: &Layout, found: u64)
+        requires { CanGoOn self.old.slot self.old.touch self.old.at found }
+        ensures at { GoesOn layout.now self.old.who self.old.page self.old.slot self.old.touch self.old.at found self.new.at }
+        ensures rest { self.new ≡ record self.old { at = self.new.at } }
+    {
+        let at = mem::replace(&mut self.at, FaultAt::Over { answer: None });
+        let next = self.after(layout, at, found);
+        self.set(next);
+    }
 
-/// Runs one more step of holding the page.
-fn hold_more(layout: &Layout, hold: Hold, found: u64, got: Option<Body>) -> (FaultAt, Turn)
-    requires { holds.Shows hold found got }
-    ensures { (result.0 ≡ after_hold (holds.next hold found got)) × (result.1 ≡ holds.turn hold found) }
-{
-    let mut hold = hold;
-    let turn = hold.settle(layout, found, got);
-    (Fault::after_hold(hold), turn)
-}
-
-/// Runs one more step of filling a frame with the page.
-fn fill_more(
-    who: Who,
-    page: Page,
-    slot: VSlot,
-    layout: &Layout,
-    fill: Fill,
-    found: u64,
-    got: Option<Body>,
-) -> (FaultAt, Turn)
-    requires { fills.Shows fill found got }
-    ensures { IsFilled who page slot (fills.next layout.now fill found) result.0 × (result.1 ≡ fills.turn fill found) }
-{
-    let mut fill = fill;
-    let turn = fill.settle(layout, found, got);
-    (Fault::after_fill(who, page, slot, fill), turn)
-}
-
-/// Runs one more step of mapping the page.
-fn map_in_more(
-    who: Who,
-    page: Page,
-    layout: &Layout,
-    map_in: MapIn,
-    found: u64,
-    got: Option<Body>,
-) -> (FaultAt, Turn)
-    requires { map_ins.Shows map_in }
-    ensures { (result.0 ≡ after_map_in who page (map_ins.next map_in found)) × (result.1 ≡ map_ins.turn map_in found) }
-{
-    let mut map_in = map_in;
-    let turn = map_in.settle(layout, found, got);
-    (Fault::after_map_in(who, page, map_in), turn)
-}
-
-/// Runs one more step of letting the page go.
-fn unhold_more(
-    layout: &Layout,
-    unhold: Unhold,
-    found: u64,
-    got: Option<Body>,
-    answer: FaultAnswer,
-) -> FaultAt
-    ensures { result ≡ after_unhold (unholds.next unhold found) answer }
-{
-    let mut unhold = unhold;
-    let _turn = unhold.settle(layout, found, got);
-    Fault::after_unhold(unhold, answer)
-}
-
-/// Runs one more step of giving the command up.
-fn give_up_more(layout: &Layout, give_up: GiveUp, found: u64, got: Option<Body>) -> (FaultAt, Turn)
-    ensures { (result.0 ≡ after_give_up (give_ups.next give_up found)) × (result.1 ≡ give_ups.turn give_up) }
-{
-    let mut give_up = give_up;
-    let turn = give_up.settle(layout, found, got);
-    (Fault::after_give_up(give_up), turn)
+    /// Goes on to the state that follows a step, with the turn that it was.
+    fn settled(&mut self, layout: &Layout, found: u64, got: Option<Body>) -> Turn
+        requires { ShowsAt self.old.slot self.old.touch self.old.at found got }
+        ensures at { FollowsAt layout.now self.old.who self.old.page self.old.slot self.old.touch self.old.at found got self.new.at result }
+        ensures rest { self.new ≡ record self.old { at = self.new.at } }
+    {
+        match &mut self.at {
+            FaultAt::Hold { hold } => {
+                let turn = hold.settle(layout, found, got);
+                if hold.answer().is_some() {
+                    self.go_on(layout, found);
+                }
+                turn
+            }
+            FaultAt::LoadPte { .. } | FaultAt::Kill { .. } => {
+                drop(got);
+                self.go_on(layout, found);
+                Turn::Moved
+            }
+            FaultAt::Fill { fill } => {
+                let turn = fill.settle(layout, found, got);
+                if fill.answer().is_some() {
+                    self.go_on(layout, found);
+                }
+                turn
+            }
+            FaultAt::MapIn { map_in } => {
+                let turn = map_in.settle(layout, found, got);
+                if map_in.is_over() {
+                    self.go_on(layout, found);
+                }
+                turn
+            }
+            FaultAt::Unhold { unhold, answer } => {
+                let _turn = unhold.settle(layout, found, got);
+                let next = Fault::after_unhold(unhold, *answer);
+                self.follow(next, Turn::Moved)
+            }
+            FaultAt::GiveUp { give_up } => {
+                let turn = give_up.settle(layout, found, got);
+                let next = Fault::after_give_up(give_up);
+                self.follow(next, turn)
+            }
+            FaultAt::Over { .. } => Turn::Moved,
+        }
+    }
 }
 
 impl Task for Fault {
@@ -427,10 +416,7 @@ impl Task for Fault {
     }
 
     fn settle(&mut self, layout: &Layout, found: u64, body: Option<Body>) -> Turn {
-        let at = mem::replace(&mut self.at, FaultAt::Over { answer: None });
-        let (after, turn) = self.settled(layout, at, found, body);
-        drop(mem::replace(&mut self.at, after));
-        turn
+        self.settled(layout, found, body)
     }
 }
 

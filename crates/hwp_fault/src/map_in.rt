@@ -23,7 +23,7 @@ enum MapInAt {
 }
 
 impl MapIn {
-    ghost use Rattle.hwp_fault.specs.MapIns.{begin, is_over, after_refer};
+    ghost use Rattle.hwp_fault.specs.MapIns.{begin, is_over};
 
     /// The command brings the translation into use: it is to lead to the frame that the page is in. The body has room for
     /// one entry more.
@@ -46,10 +46,7 @@ impl MapIn {
     pub fn is_over(&self) -> bool
         ensures { result ≡ is_over self.now }
     {
-        match self.at {
-            MapInAt::Refer { .. } | MapInAt::SetPte => false,
-            MapInAt::Over => true,
-        }
+        matches!(self.at, MapInAt::Over)
     }
 
     /// The frame that the page is in.
@@ -64,16 +61,6 @@ impl MapIn {
         ensures { result ≡ self.body }
     {
         self.body
-    }
-
-    fn after_refer(refer: Refer) -> MapInAt
-        ensures { result ≡ after_refer refer }
-    {
-        if refer.is_over() {
-            MapInAt::SetPte
-        } else {
-            MapInAt::Refer { refer }
-        }
     }
 }
 
@@ -98,7 +85,7 @@ impl Task for MapIn {
     }
 
     fn plan(&self) -> Option<Step> {
-        match self.at {
+        match &self.at {
             MapInAt::Refer { refer } => refer.plan(),
             MapInAt::SetPte => Some(Step::SetPte {
                 slot: self.slot,
@@ -113,10 +100,12 @@ impl Task for MapIn {
     }
 
     fn settle(&mut self, layout: &Layout, found: u64, body: Option<Body>) -> Turn {
-        match self.at {
-            MapInAt::Refer { mut refer } => {
+        match &mut self.at {
+            MapInAt::Refer { refer } => {
                 let turn = refer.settle(layout, found, body);
-                self.at = MapIn::after_refer(refer);
+                if refer.is_over() {
+                    self.at = MapInAt::SetPte;
+                }
                 turn
             }
             MapInAt::SetPte => {

@@ -32,7 +32,7 @@ pub enum FillAnswer {
 }
 
 impl Fill {
-    ghost use Rattle.hwp_fault_fill.specs.Fills.{begin, plan, answer, after_take, after_refer};
+    ghost use Rattle.hwp_fault_fill.specs.Fills.{begin, plan, answer};
 
     /// The command puts the page into a frame. The body has room for one entry more.
     pub fn new(who: Who, page: Page, body: Body) -> Fill
@@ -52,8 +52,8 @@ impl Fill {
     pub fn answer(&self) -> Option<FillAnswer>
         ensures { result ≡ answer self.now }
     {
-        match self.at {
-            FillAt::Over { frame: Some(frame) } => Some(FillAnswer::Filled(frame)),
+        match &self.at {
+            FillAt::Over { frame: Some(frame) } => Some(FillAnswer::Filled(*frame)),
             FillAt::Over { frame: None } => Some(FillAnswer::NoFrame),
             FillAt::Take { .. }
             | FillAt::SetOwner { .. }
@@ -68,28 +68,6 @@ impl Fill {
         ensures { result ≡ self.body }
     {
         self.body
-    }
-
-    fn after_take(take: Take) -> FillAt
-        ensures { result ≡ after_take take }
-    {
-        match take.answer() {
-            Some(TakeAnswer::Taken(frame)) => FillAt::SetOwner { frame },
-            Some(TakeAnswer::NoFrame) => FillAt::Over { frame: None },
-            None => FillAt::Take { take },
-        }
-    }
-
-    fn after_refer(refer: Refer) -> FillAt
-        ensures { result ≡ after_refer refer }
-    {
-        if refer.is_over() {
-            FillAt::SetCache {
-                frame: refer.frame(),
-            }
-        } else {
-            FillAt::Refer { refer }
-        }
     }
 }
 
@@ -114,17 +92,17 @@ impl Task for Fill {
     }
 
     fn plan(&self) -> Option<Step> {
-        match self.at {
+        match &self.at {
             FillAt::Take { take } => take.plan(),
             FillAt::SetOwner { frame } => Some(Step::SetOwner {
-                frame,
+                frame: *frame,
                 page: self.page,
                 owned: true,
             }),
             FillAt::Refer { refer } => refer.plan(),
             FillAt::SetCache { frame } => Some(Step::SetCache {
                 page: self.page,
-                frame: Some(frame),
+                frame: Some(*frame),
             }),
             FillAt::Over { .. } => None,
         }
@@ -135,26 +113,33 @@ impl Task for Fill {
     }
 
     fn settle(&mut self, layout: &Layout, found: u64, body: Option<Body>) -> Turn {
-        match self.at {
-            FillAt::Take { mut take } => {
+        match &mut self.at {
+            FillAt::Take { take } => {
                 let turn = take.settle(layout, found, body);
-                self.at = Fill::after_take(take);
+                match take.answer() {
+                    Some(TakeAnswer::Taken(frame)) => self.at = FillAt::SetOwner { frame },
+                    Some(TakeAnswer::NoFrame) => self.at = FillAt::Over { frame: None },
+                    None => {}
+                }
                 turn
             }
             FillAt::SetOwner { frame } => {
-                self.at = FillAt::Refer {
-                    refer: Refer::new(self.who, frame, 1),
-                };
+                let refer = Refer::new(self.who, *frame, 1);
+                self.at = FillAt::Refer { refer };
                 Turn::Moved
             }
-            FillAt::Refer { mut refer } => {
+            FillAt::Refer { refer } => {
                 let turn = refer.settle(layout, found, body);
-                self.at = Fill::after_refer(refer);
+                if refer.is_over() {
+                    let frame = refer.frame();
+                    self.at = FillAt::SetCache { frame };
+                }
                 turn
             }
             FillAt::SetCache { frame } => {
+                let frame = Some(*frame);
                 bring(self.who, &mut self.body);
-                self.at = FillAt::Over { frame: Some(frame) };
+                self.at = FillAt::Over { frame };
                 Turn::Moved
             }
             FillAt::Over { .. } => Turn::Moved,
@@ -164,7 +149,7 @@ impl Task for Fill {
 
 impl Ranked for Fill {
     fn class(&self) -> u8 {
-        match self.at {
+        match &self.at {
             FillAt::Take { take } => { if take.class() == 1 { 1 } else { 2 } }
             FillAt::SetOwner { .. }
             | FillAt::Refer { .. }

@@ -89,6 +89,10 @@ after_handler_by s frame h (Some stopped) = record s { lines = with_lines s.line
 abbrev pub after_handler : Scrub → Frame → Handler → Scrub
 after_handler s frame h = after_handler_by s frame h (handlers.answer h)
 
+-- what follows when it is over, and what it told is taken over
+abbrev pub checked : Scrub → Frame → Bool → Scrub
+checked s frame stopped = record s { at = cond stopped (at.Over (Some answers.Stopped)) (at.LoadWeak frame) }
+
 -- the machine check of a line that is bad in the frame: its own event is logged
 abbrev pub handler_of : Layout → Scrub → Frame → ℕ → Handler
 handler_of layout s frame line = handlers.begin layout s.alloc s.who None scrubbing (with_bad frame line s.banks)

@@ -3,7 +3,7 @@ ghost use Rattle.hwp_cpu_check.specs.hwp_geom.Bits.{HasNoBitFrom, IsLowestBit};
 ghost use Rattle.hwp_cpu_check.specs.hwp_banks.Events.{bank_count};
 ghost use Rattle.hwp_cpu_check.specs.hwp_banks.Banks.{empty_banks};
 ghost use Rattle.hwp_scrub.specs.Visits.{with_bad};
-ghost use Rattle.hwp_scrub.specs.Scrubs.{AfterBad, AfterWeak, BeginsCheck, MeetsWeak, after_handler, after_stop, answer, begin, gone_on, kept, kept_line};
+ghost use Rattle.hwp_scrub.specs.Scrubs.{AfterBad, AfterWeak, BeginsCheck, MeetsWeak, after_handler, after_stop, answer, begin, checked, gone_on, kept, kept_line};
 
 use hwp_cpu_check::{
     Acted, BANKS, Bank, Body, Event, EventOutcome, Frame, Handler, Held, Layout, Line, List,
@@ -173,7 +173,7 @@ impl Scrub {
         banks
     }
 
-    /// The machine check goes on, or is over.
+    /// The machine check has begun, or is over at once.
     fn after_handler(&mut self, frame: Frame, handler: Handler)
         requires { length handler.events.told ≤ self.old.lines.spare }
         ensures { self.new ≡ after_handler self.old frame handler }
@@ -184,6 +184,13 @@ impl Scrub {
         };
         self.lines.append(handler.told());
         drop(handler);
+        self.after_check(frame, stopped);
+    }
+
+    /// The machine check is over, and what it told is taken over.
+    fn after_check(&mut self, frame: Frame, stopped: bool)
+        ensures { self.new ≡ checked self.old frame stopped }
+    {
         let at = if stopped {
             ScrubAt::Over {
                 answer: Some(ScrubAnswer::Stopped),
@@ -308,40 +315,40 @@ impl Task for Scrub {
     }
 
     fn settle(&mut self, layout: &Layout, found: u64, body: Option<Body>) -> Turn {
-        let at = mem::replace(&mut self.at, ScrubAt::Over { answer: None });
-        match at {
+        match &mut self.at {
             ScrubAt::LoadStop => {
-                drop(at);
                 drop(body);
                 self.after_stop(found);
                 Turn::Moved
             }
             ScrubAt::LoadBad { frame } => {
-                drop(at);
                 drop(body);
+                let frame = *frame;
                 self.after_bad(layout, frame, found);
                 Turn::Moved
             }
-            ScrubAt::Handle { frame, mut handler } => {
+            ScrubAt::Handle { frame, handler } => {
                 let turn = handler.settle(layout, found, body);
-                self.after_handler(frame, handler);
+                if let Some(stopped) = handler.answer() {
+                    let frame = *frame;
+                    self.lines.append(handler.told());
+                    self.after_check(frame, stopped);
+                }
                 turn
             }
             ScrubAt::LoadWeak { frame } => {
-                drop(at);
                 drop(body);
+                let frame = *frame;
                 self.after_weak(frame, found);
                 Turn::Moved
             }
             ScrubAt::GiveUp => {
-                drop(at);
                 drop(body);
+                self.set(ScrubAt::Over { answer: None });
                 Turn::NoMemory
             }
-            ScrubAt::Over { answer } => {
-                drop(at);
+            ScrubAt::Over { .. } => {
                 drop(body);
-                self.set(ScrubAt::Over { answer });
                 Turn::Moved
             }
         }

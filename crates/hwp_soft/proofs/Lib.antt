@@ -1,4 +1,5 @@
 pub mod MoveBegins
+pub mod PartEnds
 pub mod SpareFrame
 pub mod SoftAsks
 pub mod SeizeSteps

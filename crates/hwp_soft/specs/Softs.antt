@@ -98,6 +98,23 @@ answer_at _ = None
 abbrev pub answer : Soft → Option SoftAnswer
 answer s = answer_at s.at
 
+-- the page is held, and its body lies in the state
+abbrev pub is_held : SoftAt → Bool
+is_held (at.LoadBad page body) = true
+is_held (at.Take page body t) = true
+is_held (at.Poison page body to) = true
+is_held (at.UnlockSpare page body to) = true
+is_held (at.ReleaseSpare page body r) = true
+is_held _ = false
+
+abbrev pub IsHeld : SoftAt → Page → BodyValue → Type 0
+IsHeld (at.LoadBad own in_hand) page body = (page ≡ own) × (body ≡ in_hand)
+IsHeld (at.Take own in_hand t) page body = (page ≡ own) × (body ≡ in_hand)
+IsHeld (at.Poison own in_hand to) page body = (page ≡ own) × (body ≡ in_hand)
+IsHeld (at.UnlockSpare own in_hand to) page body = (page ≡ own) × (body ≡ in_hand)
+IsHeld (at.ReleaseSpare own in_hand r) page body = (page ≡ own) × (body ≡ in_hand)
+IsHeld _ page body = ⊥
+
 abbrev pub after_stop : Who → Frame → ℕ → SoftAt
 after_stop who frame word = cond (is_stopped word) (at.Over answers.Stopped) (at.Seize (seizes.begin who frame))
 

@@ -1,13 +1,8 @@
-ghost use Rattle.std.specs.Prelude.{◌≡◌, true};
-ghost use Rattle.hwp_evict.specs.hwp_core.GiveUps as give_ups;
+ghost use Rattle.std.specs.Prelude.{◌≡◌, true, cond, Some};
 ghost use Rattle.hwp_evict.specs.hwp_core.Releases as releases;
-ghost use Rattle.hwp_evict.specs.hwp_core.Unholds as unholds;
-ghost use Rattle.hwp_fault_fill.specs.Takes as takes;
+ghost use Rattle.hwp_evict.specs.hwp_core_task.declared.Turn.TheVariants.{Answered, Moved};
 ghost use Rattle.hwp_soft.specs.declared.soft.SoftAt.TheVariants as states;
-ghost use Rattle.hwp_soft_move.specs.Discards as discards;
-ghost use Rattle.hwp_soft_move.specs.Relocations as relocations;
-ghost use Rattle.hwp_soft_move.specs.Seizes as seizes;
-ghost use Rattle.hwp_soft.specs.Softs.{begin, answer, after_stop, after_seize, after_discard, AfterBad, after_take, AfterPoison, after_relocate, CanMakeEntry, IsRelocated, Moves, after_release, after_unhold, let_go, ended, FollowsAt, ShowsAt};
+ghost use Rattle.hwp_soft.specs.Softs.{begin, answer, is_held, IsHeld, after_stop, after_seize, AfterBad, after_take_by, AfterPoison, CanMakeEntry, Moves, let_go, ended, Shows, Follows};
 
 use hwp_evict::{
     At, Body, Entry, Frame, FrameWord, GiveUp, Layout, Mask, Page, Ranked, Release, Scheduled,
@@ -132,6 +127,110 @@ impl Soft {
             | SoftAt::GiveUp { .. } => None,
         }
     }
+
+    fn set(&mut self, at: SoftAt)
+        ensures { self.new ≡ record self.old { at = at } }
+    {
+        drop(mem::replace(&mut self.at, at));
+    }
+
+    /// The step moved the command there.
+    fn move_to(&mut self, at: SoftAt) -> Turn
+        ensures there { self.new ≡ record self.old { at = at } }
+        ensures moved { result ≡ Moved }
+    {
+        self.set(at);
+        Turn::Moved
+    }
+
+    /// The step led there, by this turn, and answers the command where it ended it.
+    fn step_to(&mut self, at: SoftAt, turn: Turn) -> Turn
+        ensures there { self.new ≡ record self.old { at = at } }
+        ensures turn { result ≡ ended at turn }
+    {
+        let turn = ended(&at, turn);
+        self.set(at);
+        turn
+    }
+
+    fn end(&mut self, answer: SoftAnswer) -> Turn
+        ensures over { self.new ≡ record self.old { at = states.Over answer } }
+        ensures answered { result ≡ Answered }
+    {
+        self.set(SoftAt::Over { answer });
+        Turn::Answered
+    }
+
+    /// Where a part is over, the command is too.
+    fn end_with(&mut self, over: bool, answer: SoftAnswer, turn: Turn) -> Turn
+        ensures there { self.new ≡ record self.old { at = cond over (states.Over answer) self.old.at } }
+        ensures turn { result ≡ cond over Answered turn }
+    {
+        if over { self.end(answer) } else { turn }
+    }
+
+    /// The page that is held and its body, for the state that comes next.
+    fn take_page(&mut self) -> (Page, Body)
+        requires { is_held self.old.at ≡ true }
+        ensures left { self.new ≡ record self.old { at = states.LoadStop } }
+        ensures held { IsHeld self.old.at result.0 result.1 }
+    {
+        match mem::replace(&mut self.at, SoftAt::LoadStop) {
+            SoftAt::LoadBad { page, body }
+            | SoftAt::Take { page, body, .. }
+            | SoftAt::Poison { page, body, .. }
+            | SoftAt::UnlockSpare { page, body, .. }
+            | SoftAt::ReleaseSpare { page, body, .. } => (page, body),
+            SoftAt::LoadStop
+            | SoftAt::Seize { .. }
+            | SoftAt::Discard { .. }
+            | SoftAt::Relocate { .. }
+            | SoftAt::Unhold { .. }
+            | SoftAt::GiveUp { .. }
+            | SoftAt::Over { .. } => unreachable!(),
+        }
+    }
+
+    /// What follows a step while the page is held.
+    fn settle_held(&mut self, layout: &Layout, found: u64, got: Option<Body>) -> Turn
+        requires held { is_held self.old.at ≡ true }
+        requires shows { Shows self.old found got }
+        ensures { Follows layout.now self.old found got self.new result }
+    {
+        match &mut self.at {
+            SoftAt::LoadBad { .. } => {
+                let (page, body) = self.take_page();
+                self.move_to(after_bad(self.who, self.frame, page, body, found))
+            }
+            SoftAt::Take { take, .. } => {
+                let turn = take.settle(layout, found, got);
+                if let Some(answer) = take.answer() {
+                    let (page, body) = self.take_page();
+                    self.set(after_take(self.who, self.frame, page, body, answer));
+                }
+                turn
+            }
+            SoftAt::Poison { to, .. } => {
+                let to = *to;
+                let (page, body) = self.take_page();
+                self.move_to(after_poison(self.who, self.frame, page, body, to, found))
+            }
+            SoftAt::UnlockSpare { to, .. } => {
+                let to = *to;
+                let (page, body) = self.take_page();
+                self.move_to(release_spare(self.who, page, body, to))
+            }
+            SoftAt::ReleaseSpare { release, .. } => {
+                let _turn = release.settle(layout, found, got);
+                if release.is_over() {
+                    let (page, body) = self.take_page();
+                    self.set(let_go(self.who, self.frame, page, body, SoftAnswer::Already));
+                }
+                Turn::Moved
+            }
+            _ => unreachable!(),
+        }
+    }
 }
 
 fn after_stop(who: Who, frame: Frame, word: u64) -> SoftAt
@@ -185,26 +284,6 @@ fn after_seize(who: Who, frame: Frame, seize: Seize) -> SoftAt
     }
 }
 
-fn after_discard(discard: Discard) -> SoftAt
-    ensures { result ≡ after_discard discard }
-{
-    match discard.answer() {
-        None => SoftAt::Discard { discard },
-        Some(None) => {
-            drop(discard);
-            SoftAt::Over {
-                answer: SoftAnswer::Already,
-            }
-        }
-        Some(Some(cycle)) => {
-            drop(discard);
-            SoftAt::Over {
-                answer: SoftAnswer::TakenFree { cycle },
-            }
-        }
-    }
-}
-
 /// The page is let go as it was.
 fn let_go(who: Who, frame: Frame, page: Page, body: Body, answer: SoftAnswer) -> SoftAt
     ensures { result ≡ let_go who frame page body answer }
@@ -235,13 +314,12 @@ fn after_bad(who: Who, frame: Frame, page: Page, body: Body, word: u64) -> SoftA
     }
 }
 
-fn after_take(who: Who, frame: Frame, page: Page, body: Body, take: Take) -> SoftAt
-    ensures { result ≡ after_take who frame page body take }
+fn after_take(who: Who, frame: Frame, page: Page, body: Body, answer: TakeAnswer) -> SoftAt
+    ensures { (t : Take) → result ≡ after_take_by who frame page body t (Some answer) }
 {
-    match take.answer() {
-        None => SoftAt::Take { page, body, take },
-        Some(TakeAnswer::Taken(to)) => SoftAt::Poison { page, body, to },
-        Some(TakeAnswer::NoFrame) => let_go(who, frame, page, body, SoftAnswer::NoFrame),
+    match answer {
+        TakeAnswer::Taken(to) => SoftAt::Poison { page, body, to },
+        TakeAnswer::NoFrame => let_go(who, frame, page, body, SoftAnswer::NoFrame),
     }
 }
 
@@ -294,42 +372,6 @@ fn release_spare(who: Who, page: Page, body: Body, to: Frame) -> SoftAt
     }
 }
 
-fn after_release(who: Who, frame: Frame, page: Page, body: Body, release: Release) -> SoftAt
-    ensures { result ≡ after_release who frame page body release }
-{
-    if release.is_over() {
-        let_go(who, frame, page, body, SoftAnswer::Already)
-    } else {
-        SoftAt::ReleaseSpare {
-            page,
-            body,
-            release,
-        }
-    }
-}
-
-fn after_relocate(relocate: Relocate, answer: SoftAnswer) -> SoftAt
-    ensures { result ≡ after_relocate relocate answer }
-{
-    if relocate.is_over() {
-        drop(relocate);
-        SoftAt::Over { answer }
-    } else {
-        SoftAt::Relocate { relocate, answer }
-    }
-}
-
-fn after_unhold(unhold: Unhold, answer: SoftAnswer) -> SoftAt
-    ensures { result ≡ after_unhold unhold answer }
-{
-    if unhold.is_over() {
-        drop(unhold);
-        SoftAt::Over { answer }
-    } else {
-        SoftAt::Unhold { unhold, answer }
-    }
-}
-
 /// The turn that ended the command answers it.
 fn ended(at: &SoftAt, turn: Turn) -> Turn
     ensures { result ≡ ended at.now turn }
@@ -338,158 +380,6 @@ fn ended(at: &SoftAt, turn: Turn) -> Turn
         Turn::Answered
     } else {
         turn
-    }
-}
-
-/// Where the command is, with the turn that brought it there.
-fn moved(at: SoftAt, turn: Turn) -> (SoftAt, Turn)
-    ensures { (result.0 ≡ at) × (result.1 ≡ ended at turn) }
-{
-    let turn = ended(&at, turn);
-    (at, turn)
-}
-
-fn seize_more(
-    who: Who,
-    frame: Frame,
-    layout: &Layout,
-    seize: Seize,
-    found: u64,
-    got: Option<Body>,
-) -> (SoftAt, Turn)
-    requires { seizes.Shows seize found got }
-    ensures { (result.0 ≡ after_seize who frame (seizes.next seize found got)) × (result.1 ≡ ended (after_seize who frame (seizes.next seize found got)) (seizes.turn seize found)) }
-{
-    let mut seize = seize;
-    let turn = seize.settle(layout, found, got);
-    moved(after_seize(who, frame, seize), turn)
-}
-
-fn discard_more(layout: &Layout, discard: Discard, found: u64, got: Option<Body>) -> SoftAt
-    ensures { result ≡ after_discard (discards.next discard found) }
-{
-    let mut discard = discard;
-    let _turn = discard.settle(layout, found, got);
-    after_discard(discard)
-}
-
-fn take_more(
-    who: Who,
-    frame: Frame,
-    page: Page,
-    body: Body,
-    layout: &Layout,
-    take: Take,
-    found: u64,
-    got: Option<Body>,
-) -> (SoftAt, Turn)
-    requires { takes.Shows take found got }
-    ensures { (result.0 ≡ after_take who frame page body (takes.next layout.now take found)) × (result.1 ≡ takes.turn take found) }
-{
-    let mut take = take;
-    let turn = take.settle(layout, found, got);
-    (after_take(who, frame, page, body, take), turn)
-}
-
-fn release_more(
-    who: Who,
-    frame: Frame,
-    page: Page,
-    body: Body,
-    layout: &Layout,
-    release: Release,
-    found: u64,
-    got: Option<Body>,
-) -> SoftAt
-    ensures { result ≡ after_release who frame page body (releases.next release found) }
-{
-    let mut release = release;
-    let _turn = release.settle(layout, found, got);
-    after_release(who, frame, page, body, release)
-}
-
-fn relocate_more(
-    layout: &Layout,
-    relocate: Relocate,
-    found: u64,
-    got: Option<Body>,
-    answer: SoftAnswer,
-) -> (SoftAt, Turn)
-    requires { relocations.Shows relocate }
-    ensures { IsRelocated relocate answer found result.0 result.1 }
-{
-    let mut relocate = relocate;
-    let turn = relocate.settle(layout, found, got);
-    moved(after_relocate(relocate, answer), turn)
-}
-
-fn unhold_more(
-    layout: &Layout,
-    unhold: Unhold,
-    found: u64,
-    got: Option<Body>,
-    answer: SoftAnswer,
-) -> SoftAt
-    ensures { result ≡ after_unhold (unholds.next unhold found) answer }
-{
-    let mut unhold = unhold;
-    let _turn = unhold.settle(layout, found, got);
-    after_unhold(unhold, answer)
-}
-
-fn give_up_more(layout: &Layout, give_up: GiveUp, found: u64, got: Option<Body>) -> (SoftAt, Turn)
-    ensures { (result.0 ≡ states.GiveUp (give_ups.next give_up found)) × (result.1 ≡ give_ups.turn give_up) }
-{
-    let mut give_up = give_up;
-    let turn = give_up.settle(layout, found, got);
-    (SoftAt::GiveUp { give_up }, turn)
-}
-
-/// Where the command is after its step, with the turn that brought it there.
-fn settled(
-    who: Who,
-    frame: Frame,
-    layout: &Layout,
-    at: SoftAt,
-    found: u64,
-    got: Option<Body>,
-) -> (SoftAt, Turn)
-    requires { ShowsAt at found got }
-    ensures { FollowsAt layout.now who frame at found got result.0 result.1 }
-{
-    match at {
-        SoftAt::LoadStop => moved(after_stop(who, frame, found), Turn::Moved),
-        SoftAt::Seize { seize } => seize_more(who, frame, layout, seize, found, got),
-        SoftAt::Discard { discard } => moved(
-            discard_more(layout, discard, found, got),
-            Turn::Moved,
-        ),
-        SoftAt::LoadBad { page, body } => (after_bad(who, frame, page, body, found), Turn::Moved),
-        SoftAt::Take { page, body, take } => {
-            take_more(who, frame, page, body, layout, take, found, got)
-        }
-        SoftAt::Poison { page, body, to } => (
-            after_poison(who, frame, page, body, to, found),
-            Turn::Moved,
-        ),
-        SoftAt::UnlockSpare { page, body, to } => (release_spare(who, page, body, to), Turn::Moved),
-        SoftAt::ReleaseSpare {
-            page,
-            body,
-            release,
-        } => (
-            release_more(who, frame, page, body, layout, release, found, got),
-            Turn::Moved,
-        ),
-        SoftAt::Relocate { relocate, answer } => {
-            relocate_more(layout, relocate, found, got, answer)
-        }
-        SoftAt::Unhold { unhold, answer } => moved(
-            unhold_more(layout, unhold, found, got, answer),
-            Turn::Moved,
-        ),
-        SoftAt::GiveUp { give_up } => give_up_more(layout, give_up, found, got),
-        SoftAt::Over { answer } => (SoftAt::Over { answer }, Turn::Moved),
     }
 }
 
@@ -544,10 +434,44 @@ impl Task for Soft {
     }
 
     fn settle(&mut self, layout: &Layout, found: u64, body: Option<Body>) -> Turn {
-        let at = mem::replace(&mut self.at, SoftAt::LoadStop);
-        let (after, turn) = settled(self.who, self.frame, layout, at, found, body);
-        drop(mem::replace(&mut self.at, after));
-        turn
+        match &mut self.at {
+            SoftAt::LoadStop => self.step_to(after_stop(self.who, self.frame, found), Turn::Moved),
+            SoftAt::Seize { seize } => {
+                let turn = seize.settle(layout, found, body);
+                if seize.answer().is_none() {
+                    return turn;
+                }
+                let SoftAt::Seize { seize } = mem::replace(&mut self.at, SoftAt::LoadStop) else {
+                    unreachable!()
+                };
+                self.step_to(after_seize(self.who, self.frame, seize), turn)
+            }
+            SoftAt::Discard { discard } => {
+                let turn = discard.settle(layout, found, body);
+                match discard.answer() {
+                    None => turn,
+                    Some(None) => self.end(SoftAnswer::Already),
+                    Some(Some(cycle)) => self.end(SoftAnswer::TakenFree { cycle }),
+                }
+            }
+            SoftAt::LoadBad { .. }
+            | SoftAt::Take { .. }
+            | SoftAt::Poison { .. }
+            | SoftAt::UnlockSpare { .. }
+            | SoftAt::ReleaseSpare { .. } => self.settle_held(layout, found, body),
+            SoftAt::Relocate { relocate, answer } => {
+                let turn = relocate.settle(layout, found, body);
+                let (over, answer) = (relocate.is_over(), *answer);
+                self.end_with(over, answer, turn)
+            }
+            SoftAt::Unhold { unhold, answer } => {
+                let turn = unhold.settle(layout, found, body);
+                let (over, answer) = (unhold.is_over(), *answer);
+                self.end_with(over, answer, turn)
+            }
+            SoftAt::GiveUp { give_up } => give_up.settle(layout, found, body),
+            SoftAt::Over { .. } => Turn::Moved,
+        }
     }
 }
 
@@ -573,7 +497,20 @@ impl Ranked for Soft {
 
 impl Scheduled for Soft {
     fn is_over(&self) -> bool {
-        self.plan().is_none()
+        match &self.at {
+            SoftAt::LoadStop
+            | SoftAt::LoadBad { .. }
+            | SoftAt::Poison { .. }
+            | SoftAt::UnlockSpare { .. } => false,
+            SoftAt::Seize { seize } => seize.is_over(),
+            SoftAt::Discard { discard } => discard.is_over(),
+            SoftAt::Take { take, .. } => take.answer().is_some(),
+            SoftAt::ReleaseSpare { release, .. } => release.is_over(),
+            SoftAt::Relocate { relocate, .. } => relocate.is_over(),
+            SoftAt::Unhold { unhold, .. } => unhold.is_over(),
+            SoftAt::GiveUp { give_up } => give_up.is_over(),
+            SoftAt::Over { .. } => true,
+        }
     }
 
     fn tells(&self) {}

@@ -1,9 +1,7 @@
-ghost use Rattle.std.specs.Prelude.{◌≡◌, Option};
-ghost use Rattle.hwp_claim_frame.specs.hwp_core.Unlocks as unlocks;
-ghost use Rattle.hwp_soft_move.specs.Discards.{begin, answer, poisoned, after_unlock, next_at};
+ghost use Rattle.std.specs.Prelude.{◌≡◌, Option, is_none};
+ghost use Rattle.hwp_soft_move.specs.Discards.{begin, plan, answer, poisoned};
 
 use hwp_claim_frame::{Body, Frame, FrameWord, Layout, Ranked, Step, Task, Turn, Unlock, Who};
-use std::mem;
 
 /// Puts a locked frame in which no page is out of use: poisons it, counts that, and retires it (Linux page_handle_poison).
 #[derive(Drop)]
@@ -48,6 +46,23 @@ impl Discard {
             | DiscardAt::Unlock { .. } => None,
         }
     }
+
+    /// Whether the frame is let go.
+    pub fn is_over(&self) -> bool
+        ensures { result ≡ is_none (plan self.now) }
+    {
+        match &self.at {
+            DiscardAt::Poison { .. } | DiscardAt::Count { .. } | DiscardAt::Retire { .. } => false,
+            DiscardAt::Unlock { unlock } => unlock.is_over(),
+            DiscardAt::Over { .. } => true,
+        }
+    }
+
+    fn set(&mut self, at: DiscardAt)
+        ensures { self.new ≡ record self.old { at = at } }
+    {
+        self.at = at;
+    }
 }
 
 /// A frame that was poisoned already goes out of use where it was free before, and else is let go.
@@ -63,44 +78,6 @@ fn poisoned(who: Who, frame: Frame, used: bool, found: u64) -> DiscardAt
         }
     } else {
         DiscardAt::Retire { cycle: None }
-    }
-}
-
-fn after_unlock(unlock: Unlock) -> DiscardAt
-    ensures { result ≡ after_unlock unlock }
-{
-    if unlock.is_over() {
-        DiscardAt::Over { cycle: None }
-    } else {
-        DiscardAt::Unlock { unlock }
-    }
-}
-
-fn unlock_more(layout: &Layout, unlock: Unlock, found: u64, got: Option<Body>) -> DiscardAt
-    ensures { result ≡ after_unlock (unlocks.next unlock found) }
-{
-    let mut unlock = unlock;
-    let _turn = unlock.settle(layout, found, got);
-    after_unlock(unlock)
-}
-
-/// What follows from the word that a step of this state met.
-fn settled(
-    who: Who,
-    frame: Frame,
-    layout: &Layout,
-    at: DiscardAt,
-    found: u64,
-    got: Option<Body>,
-) -> DiscardAt
-    ensures { result ≡ next_at who frame at found }
-{
-    match at {
-        DiscardAt::Poison { used } => poisoned(who, frame, used, found),
-        DiscardAt::Count { cycle } => DiscardAt::Retire { cycle: Some(cycle) },
-        DiscardAt::Retire { cycle } => DiscardAt::Over { cycle },
-        DiscardAt::Unlock { unlock } => unlock_more(layout, unlock, found, got),
-        DiscardAt::Over { cycle } => DiscardAt::Over { cycle },
     }
 }
 
@@ -137,9 +114,31 @@ impl Task for Discard {
     }
 
     fn settle(&mut self, layout: &Layout, found: u64, body: Option<Body>) -> Turn {
-        let at = mem::replace(&mut self.at, DiscardAt::Over { cycle: None });
-        self.at = settled(self.who, self.frame, layout, at, found, body);
-        Turn::Moved
+        match &mut self.at {
+            DiscardAt::Poison { used } => {
+                let at = poisoned(self.who, self.frame, *used, found);
+                self.set(at);
+                Turn::Moved
+            }
+            DiscardAt::Count { cycle } => {
+                let cycle = Some(*cycle);
+                self.set(DiscardAt::Retire { cycle });
+                Turn::Moved
+            }
+            DiscardAt::Retire { cycle } => {
+                let cycle = *cycle;
+                self.set(DiscardAt::Over { cycle });
+                Turn::Moved
+            }
+            DiscardAt::Unlock { unlock } => {
+                let _turn = unlock.settle(layout, found, body);
+                if unlock.is_over() {
+                    self.set(DiscardAt::Over { cycle: None });
+                }
+                Turn::Moved
+            }
+            DiscardAt::Over { .. } => Turn::Moved,
+        }
     }
 }
 

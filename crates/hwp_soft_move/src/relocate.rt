@@ -1,14 +1,13 @@
-ghost use Rattle.std.specs.Prelude.{◌≡◌, is_none};
+ghost use Rattle.std.specs.Prelude.{◌≡◌, ◌-◌, is_none};
 ghost use Rattle.hwp_claim_frame.specs.hwp_core.Refers as refers;
-ghost use Rattle.hwp_claim_frame.specs.hwp_core.Releases as releases;
-ghost use Rattle.hwp_soft_move.specs.Remaps as remaps;
-ghost use Rattle.hwp_soft_move.specs.Relocations.{IsBegun, plan, FollowsAt, AfterRefer, IsRemapped, IsReferred, StartsRemap, ShowsAt, after_remap, after_release};
+ghost use Rattle.hwp_claim_frame.specs.hwp_core_task.declared.Turn.TheVariants.{Moved};
+ghost use Rattle.hwp_soft_move.specs.declared.relocate.RelocateAt.TheVariants as states;
+ghost use Rattle.hwp_soft_move.specs.Relocations.{IsBegun, plan, StartsRemap, after_remap};
 
 use crate::remap::{Remap, count};
 use hwp_claim_frame::{
     At, Body, Frame, Layout, Page, Ranked, Refer, Release, Slots, Step, Task, Turn, Who,
 };
-use std::mem;
 
 /// Puts a page that is held into another frame, which is held too, and its old frame out of use: the poison of that is counted,
 /// the translations and the page's cache word lead to the other frame, to which the page's body goes home, and then the old
@@ -100,6 +99,47 @@ impl Relocate {
             RelocateAt::Over => true,
         }
     }
+
+    /// The references that the page had beside the first one are taken to the new frame.
+    fn start_refer(&self) -> RelocateAt
+        ensures { result ≡ states.Refer (refers.begin self.now.transfer.who self.now.transfer.to (self.now.transfer.count - 1)) }
+    {
+        let count = self.transfer.count.saturating_sub(1);
+        RelocateAt::Refer {
+            refer: Refer::new(self.transfer.who, self.transfer.to, count),
+        }
+    }
+
+    /// The translations begin to be written.
+    fn start_remap(&self) -> RelocateAt
+        ensures { StartsRemap self.now.transfer self.now.maps result }
+    {
+        let transfer = self.transfer;
+        let remap = Remap::new(
+            transfer.who,
+            transfer.page,
+            transfer.from,
+            transfer.to,
+            self.maps.copy(),
+            transfer.count,
+        );
+        after_remap(remap)
+    }
+
+    fn set(&mut self, at: RelocateAt)
+        ensures { self.new ≡ record self.old { at = at } }
+    {
+        self.at = at;
+    }
+
+    /// The step moved the command there.
+    fn move_to(&mut self, at: RelocateAt) -> Turn
+        ensures there { self.new ≡ record self.old { at = at } }
+        ensures moved { result ≡ Moved }
+    {
+        self.set(at);
+        Turn::Moved
+    }
 }
 
 /// Once all translations are written, the cache word is.
@@ -110,109 +150,6 @@ fn after_remap(remap: Remap) -> RelocateAt
         RelocateAt::SetCache
     } else {
         RelocateAt::Remap { remap }
-    }
-}
-
-/// The translations begin to be written.
-fn start_remap(transfer: Transfer, maps: &Slots) -> RelocateAt
-    ensures { StartsRemap transfer maps.now result }
-{
-    let remap = Remap::new(
-        transfer.who,
-        transfer.page,
-        transfer.from,
-        transfer.to,
-        maps.copy(),
-        transfer.count,
-    );
-    after_remap(remap)
-}
-
-/// Once the references to the new frame are taken, the translations are written.
-fn after_refer(transfer: Transfer, maps: &Slots, refer: Refer) -> RelocateAt
-    ensures { AfterRefer transfer maps.now refer result }
-{
-    if refer.is_over() {
-        start_remap(transfer, maps)
-    } else {
-        RelocateAt::Refer { refer }
-    }
-}
-
-fn after_release(release: Release) -> RelocateAt
-    ensures { result ≡ after_release release }
-{
-    if release.is_over() {
-        RelocateAt::PutRef
-    } else {
-        RelocateAt::Release { release }
-    }
-}
-
-fn refer_more(
-    transfer: Transfer,
-    maps: &Slots,
-    layout: &Layout,
-    refer: Refer,
-    found: u64,
-    got: Option<Body>,
-) -> (RelocateAt, Turn)
-    ensures { IsReferred transfer maps.now refer found result.0 result.1 }
-{
-    let mut refer = refer;
-    let turn = refer.settle(layout, found, got);
-    (after_refer(transfer, maps, refer), turn)
-}
-
-fn remap_more(layout: &Layout, remap: Remap, found: u64, got: Option<Body>) -> RelocateAt
-    requires { remaps.Shows remap }
-    ensures { IsRemapped remap result }
-{
-    let mut remap = remap;
-    let _turn = remap.settle(layout, found, got);
-    after_remap(remap)
-}
-
-fn release_more(layout: &Layout, release: Release, found: u64, got: Option<Body>) -> RelocateAt
-    ensures { result ≡ after_release (releases.next release found) }
-{
-    let mut release = release;
-    let _turn = release.settle(layout, found, got);
-    after_release(release)
-}
-
-/// Where the command is after its step, with the turn that brought it there.
-fn settled(
-    transfer: Transfer,
-    maps: &Slots,
-    layout: &Layout,
-    at: RelocateAt,
-    found: u64,
-    got: Option<Body>,
-) -> (RelocateAt, Turn)
-    requires { ShowsAt at }
-    ensures { FollowsAt transfer maps.now at found result.0 result.1 }
-{
-    match at {
-        RelocateAt::Count => (RelocateAt::SetOwner, Turn::Moved),
-        RelocateAt::SetOwner => {
-            let refer = Refer::new(transfer.who, transfer.to, transfer.count.saturating_sub(1));
-            (RelocateAt::Refer { refer }, Turn::Moved)
-        }
-        RelocateAt::Refer { refer } => refer_more(transfer, maps, layout, refer, found, got),
-        RelocateAt::Remap { remap } => (remap_more(layout, remap, found, got), Turn::Moved),
-        RelocateAt::SetCache => (RelocateAt::ClearOwner, Turn::Moved),
-        RelocateAt::ClearOwner => (RelocateAt::UnlockFrame, Turn::Moved),
-        RelocateAt::UnlockFrame => {
-            let release = Release::new(transfer.who, transfer.to, 1);
-            (RelocateAt::Release { release }, Turn::Moved)
-        }
-        RelocateAt::Release { release } => {
-            (release_more(layout, release, found, got), Turn::Moved)
-        }
-        RelocateAt::PutRef => (RelocateAt::Retire, Turn::Moved),
-        RelocateAt::Retire => (RelocateAt::UnlockPage, Turn::Moved),
-        RelocateAt::UnlockPage | RelocateAt::Over => (RelocateAt::Over, Turn::Moved),
     }
 }
 
@@ -264,7 +201,7 @@ impl Task for Relocate {
 
     fn give(&mut self) -> Option<Body> {
         match &self.at {
-            RelocateAt::UnlockFrame => mem::replace(&mut self.body, None),
+            RelocateAt::UnlockFrame => self.body.take(),
             RelocateAt::Count
             | RelocateAt::SetOwner
             | RelocateAt::Refer { .. }
@@ -280,10 +217,40 @@ impl Task for Relocate {
     }
 
     fn settle(&mut self, layout: &Layout, found: u64, body: Option<Body>) -> Turn {
-        let at = mem::replace(&mut self.at, RelocateAt::Over);
-        let (after, turn) = settled(self.transfer, &self.maps, layout, at, found, body);
-        self.at = after;
-        turn
+        match &mut self.at {
+            RelocateAt::Count => self.move_to(RelocateAt::SetOwner),
+            RelocateAt::SetOwner => self.move_to(self.start_refer()),
+            RelocateAt::Refer { refer } => {
+                let turn = refer.settle(layout, found, body);
+                if refer.is_over() {
+                    self.set(self.start_remap());
+                }
+                turn
+            }
+            RelocateAt::Remap { remap } => {
+                let turn = remap.settle(layout, found, body);
+                if remap.is_over() {
+                    self.set(RelocateAt::SetCache);
+                }
+                turn
+            }
+            RelocateAt::SetCache => self.move_to(RelocateAt::ClearOwner),
+            RelocateAt::ClearOwner => self.move_to(RelocateAt::UnlockFrame),
+            RelocateAt::UnlockFrame => {
+                let release = Release::new(self.transfer.who, self.transfer.to, 1);
+                self.move_to(RelocateAt::Release { release })
+            }
+            RelocateAt::Release { release } => {
+                let _turn = release.settle(layout, found, body);
+                if release.is_over() {
+                    self.set(RelocateAt::PutRef);
+                }
+                Turn::Moved
+            }
+            RelocateAt::PutRef => self.move_to(RelocateAt::Retire),
+            RelocateAt::Retire => self.move_to(RelocateAt::UnlockPage),
+            RelocateAt::UnlockPage | RelocateAt::Over => self.move_to(RelocateAt::Over),
+        }
     }
 }
 

@@ -1,7 +1,5 @@
-ghost use Rattle.std.specs.Prelude.{◌≡◌, true};
-ghost use Rattle.hwp_claim_frame.specs.Grabs as grabs;
-ghost use Rattle.hwp_claim_frame.specs.Meets as meets;
-ghost use Rattle.hwp_soft_move.specs.Seizes.{begin, answer, is_owned, IsBody, looked, after_grab, after_meet, next_at, turn_at, ShowsAt};
+ghost use Rattle.std.specs.Prelude.{◌≡◌, true, is_none};
+ghost use Rattle.hwp_soft_move.specs.Seizes.{begin, plan, answer, is_owned, IsBody, looked};
 
 use hwp_claim_frame::{
     Body, Frame, FrameWord, Grab, GrabAnswer, Layout, Meet, MeetAnswer, Page, Ranked, SharedWord,
@@ -71,6 +69,22 @@ impl Seize {
         }
     }
 
+    /// Whether it came to something.
+    pub fn is_over(&self) -> bool
+        ensures { result ≡ is_none (plan self.now) }
+    {
+        match &self.at {
+            SeizeAt::Look => false,
+            SeizeAt::Grab { grab } => grab.answer().is_some(),
+            SeizeAt::Meet { meet } => meet.answer().is_some(),
+            SeizeAt::Kernel
+            | SeizeAt::Already
+            | SeizeAt::Grabbed
+            | SeizeAt::Free
+            | SeizeAt::Owned { .. } => true,
+        }
+    }
+
     /// The body of the page that is in the frame.
     pub fn body(self) -> Body
         requires owned { is_owned self ≡ true }
@@ -86,6 +100,12 @@ impl Seize {
             | SeizeAt::Grabbed
             | SeizeAt::Free => unreachable!(),
         }
+    }
+
+    fn set(&mut self, at: SeizeAt)
+        ensures { self.new ≡ record self.old { at = at } }
+    {
+        self.at = at;
     }
 }
 
@@ -106,74 +126,6 @@ fn looked(who: Who, frame: Frame, found: u64) -> SeizeAt
         SeizeAt::Meet {
             meet: Meet::new(who, frame, None, found),
         }
-    }
-}
-
-fn after_grab(grab: Grab) -> SeizeAt
-    ensures { result ≡ after_grab grab }
-{
-    match grab.answer() {
-        None => SeizeAt::Grab { grab },
-        Some(GrabAnswer::LookAgain) => SeizeAt::Look,
-        Some(GrabAnswer::Grabbed(_)) => SeizeAt::Grabbed,
-    }
-}
-
-fn after_meet(meet: Meet) -> SeizeAt
-    ensures { result ≡ after_meet meet }
-{
-    match meet.answer() {
-        None => SeizeAt::Meet { meet },
-        Some(MeetAnswer::LookAgain | MeetAnswer::Ended) => SeizeAt::Look,
-        Some(MeetAnswer::Free) => SeizeAt::Free,
-        Some(MeetAnswer::Owned(page)) => SeizeAt::Owned {
-            page,
-            body: meet.body(),
-        },
-    }
-}
-
-fn grab_more(layout: &Layout, grab: Grab, found: u64, got: Option<Body>) -> (SeizeAt, Turn)
-    ensures at { result.0 ≡ after_grab (grabs.next grab found) }
-    ensures turn { result.1 ≡ grabs.turn grab found }
-{
-    let mut grab = grab;
-    let turn = grab.settle(layout, found, got);
-    (after_grab(grab), turn)
-}
-
-fn meet_more(layout: &Layout, meet: Meet, found: u64, got: Option<Body>) -> (SeizeAt, Turn)
-    requires { meets.Shows meet found got }
-    ensures at { result.0 ≡ after_meet (meets.next meet found got) }
-    ensures turn { result.1 ≡ meets.turn meet found }
-{
-    let mut meet = meet;
-    let turn = meet.settle(layout, found, got);
-    (after_meet(meet), turn)
-}
-
-/// What follows from the word and the body that a step of this state met, and which turn it was.
-fn settled(
-    who: Who,
-    frame: Frame,
-    layout: &Layout,
-    at: SeizeAt,
-    found: u64,
-    got: Option<Body>,
-) -> (SeizeAt, Turn)
-    requires { ShowsAt at found got }
-    ensures at { result.0 ≡ next_at who frame at found got }
-    ensures turn { result.1 ≡ turn_at at found }
-{
-    match at {
-        SeizeAt::Look => (looked(who, frame, found), Turn::Moved),
-        SeizeAt::Grab { grab } => grab_more(layout, grab, found, got),
-        SeizeAt::Meet { meet } => meet_more(layout, meet, found, got),
-        SeizeAt::Kernel => (SeizeAt::Kernel, Turn::Moved),
-        SeizeAt::Already => (SeizeAt::Already, Turn::Moved),
-        SeizeAt::Grabbed => (SeizeAt::Grabbed, Turn::Moved),
-        SeizeAt::Free => (SeizeAt::Free, Turn::Moved),
-        SeizeAt::Owned { page, body } => (SeizeAt::Owned { page, body }, Turn::Moved),
     }
 }
 
@@ -215,10 +167,43 @@ impl Task for Seize {
     }
 
     fn settle(&mut self, layout: &Layout, found: u64, body: Option<Body>) -> Turn {
-        let at = mem::replace(&mut self.at, SeizeAt::Look);
-        let (after, turn) = settled(self.who, self.frame, layout, at, found, body);
-        self.at = after;
-        turn
+        match &mut self.at {
+            SeizeAt::Look => {
+                self.set(looked(self.who, self.frame, found));
+                Turn::Moved
+            }
+            SeizeAt::Grab { grab } => {
+                let turn = grab.settle(layout, found, body);
+                match grab.answer() {
+                    None => {}
+                    Some(GrabAnswer::LookAgain) => self.set(SeizeAt::Look),
+                    Some(GrabAnswer::Grabbed(_)) => self.set(SeizeAt::Grabbed),
+                }
+                turn
+            }
+            SeizeAt::Meet { meet } => {
+                let turn = meet.settle(layout, found, body);
+                match meet.answer() {
+                    None => {}
+                    Some(MeetAnswer::LookAgain | MeetAnswer::Ended) => self.set(SeizeAt::Look),
+                    Some(MeetAnswer::Free) => self.set(SeizeAt::Free),
+                    Some(MeetAnswer::Owned(page)) => {
+                        let SeizeAt::Meet { meet } = mem::replace(&mut self.at, SeizeAt::Look)
+                        else {
+                            unreachable!()
+                        };
+                        let body = meet.body();
+                        self.set(SeizeAt::Owned { page, body });
+                    }
+                }
+                turn
+            }
+            SeizeAt::Kernel
+            | SeizeAt::Already
+            | SeizeAt::Grabbed
+            | SeizeAt::Free
+            | SeizeAt::Owned { .. } => Turn::Moved,
+        }
     }
 }
 

@@ -1,5 +1,6 @@
 ghost use Rattle.std.specs.Prelude.{◌≡◌};
-ghost use Rattle.hwp_soft_unpoison.specs.Unpoisons.{after_bad, after_count, after_frame, after_revive, after_stop, answer, begin, is_revivable, next_at, turn_at};
+ghost use Rattle.hwp_claim_frame.specs.hwp_core_task.declared.Turn.TheVariants.{Moved};
+ghost use Rattle.hwp_soft_unpoison.specs.Unpoisons.{after_bad, after_count, after_frame, after_revive, after_stop, answer, begin, is_revivable};
 
 use hwp_claim_frame::{
     Body, CounterWord, Frame, FrameWord, Layout, Mask, Ranked, Scheduled, SharedWord, Step, Task,
@@ -79,6 +80,15 @@ impl Unpoison {
             | UnpoisonAt::Unreserve { .. } => None,
         }
     }
+
+    /// The step moved the command there.
+    fn move_to(&mut self, at: UnpoisonAt) -> Turn
+        ensures there { self.new ≡ record self.old { at = at } }
+        ensures moved { result ≡ Moved }
+    {
+        self.at = at;
+        Turn::Moved
+    }
 }
 
 /// The frame's failure has been handled, and nobody has the frame.
@@ -156,46 +166,6 @@ fn after_revive(seen: u64, word: u64) -> UnpoisonAt
     }
 }
 
-fn next_at(at: UnpoisonAt, found: u64) -> UnpoisonAt
-    ensures { result ≡ next_at at found }
-{
-    match at {
-        UnpoisonAt::LoadStop => after_stop(found),
-        UnpoisonAt::LoadFrame => after_frame(found),
-        UnpoisonAt::LoadCount { seen } => after_count(seen, found),
-        UnpoisonAt::LoadBad { seen } => after_bad(seen, found),
-        UnpoisonAt::Revive { seen } => after_revive(seen, found),
-        UnpoisonAt::Uncount { cycle } => UnpoisonAt::GiveBit { cycle },
-        UnpoisonAt::GiveBit { cycle } => UnpoisonAt::Unreserve { cycle },
-        UnpoisonAt::Unreserve { cycle } => UnpoisonAt::Over {
-            answer: UnpoisonAnswer::Done { cycle },
-        },
-        UnpoisonAt::Over { answer } => UnpoisonAt::Over { answer },
-    }
-}
-
-fn turn_at(at: UnpoisonAt, found: u64) -> Turn
-    ensures { result ≡ turn_at at found }
-{
-    match at {
-        UnpoisonAt::Revive { seen } => {
-            if found == seen {
-                Turn::Moved
-            } else {
-                Turn::Changed(found)
-            }
-        }
-        UnpoisonAt::LoadStop
-        | UnpoisonAt::LoadFrame
-        | UnpoisonAt::LoadCount { .. }
-        | UnpoisonAt::LoadBad { .. }
-        | UnpoisonAt::Uncount { .. }
-        | UnpoisonAt::GiveBit { .. }
-        | UnpoisonAt::Unreserve { .. }
-        | UnpoisonAt::Over { .. } => Turn::Moved,
-    }
-}
-
 impl Task for Unpoison {
     ghost use Rattle.hwp_soft_unpoison.specs.Unpoisons as unpoisons;
 
@@ -235,9 +205,27 @@ impl Task for Unpoison {
     }
 
     fn settle(&mut self, _layout: &Layout, found: u64, _body: Option<Body>) -> Turn {
-        let at = self.at;
-        self.at = next_at(at, found);
-        turn_at(at, found)
+        match self.at {
+            UnpoisonAt::LoadStop => self.move_to(after_stop(found)),
+            UnpoisonAt::LoadFrame => self.move_to(after_frame(found)),
+            UnpoisonAt::LoadCount { seen } => self.move_to(after_count(seen, found)),
+            UnpoisonAt::LoadBad { seen } => self.move_to(after_bad(seen, found)),
+            UnpoisonAt::Revive { seen } => {
+                self.at = after_revive(seen, found);
+                if found == seen {
+                    Turn::Moved
+                } else {
+                    Turn::Changed(found)
+                }
+            }
+            UnpoisonAt::Uncount { cycle } => self.move_to(UnpoisonAt::GiveBit { cycle }),
+            UnpoisonAt::GiveBit { cycle } => self.move_to(UnpoisonAt::Unreserve { cycle }),
+            UnpoisonAt::Unreserve { cycle } => {
+                let answer = UnpoisonAnswer::Done { cycle };
+                self.move_to(UnpoisonAt::Over { answer })
+            }
+            UnpoisonAt::Over { .. } => Turn::Moved,
+        }
     }
 }
 
