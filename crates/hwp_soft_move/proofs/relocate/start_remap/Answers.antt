@@ -1,4 +1,0 @@
-use Rattle.hwp_soft_move.proofs.relocate.start_remap.Goals as goal
-
-pub returns : goal.returns
-returns c = record { remap = c.new-remap.result; begun = rw c.copy.ensures at c.new-remap.ensures; next_is = c.after_remap.ensures }
