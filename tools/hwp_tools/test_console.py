@@ -55,6 +55,8 @@ class Ends(Folder):
     def test_a_signal_ends_the_program_too(self) -> None:
         for number in (signal.SIGTERM, signal.SIGINT, signal.SIGHUP):
             with self.subTest(number=number):
+                # who calls the tests may have had the signal ignored, as nohup does
+                self.addCleanup(signal.signal, number, signal.signal(number, signal.SIG_DFL))
                 program = self.program(f"program{number}", SLEEPER)
                 named = Path(f"{program}.id")
                 ran = self.start("hwp-judge", SCRIPT, REPORT, out=subprocess.DEVNULL, program=program)
