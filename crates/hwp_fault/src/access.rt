@@ -196,7 +196,7 @@ impl Access {
     fn set(&mut self, at: AccessAt)
         ensures { self.new ≡ record self.old { at = at } }
     {
-        drop(mem::replace(&mut self.at, at));
+        self.at = at;
     }
 
     /// Goes on to the state, where there is one, with the turn of the step before it.

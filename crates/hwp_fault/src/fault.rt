@@ -280,7 +280,7 @@ impl Fault {
     fn set(&mut self, at: FaultAt)
         ensures { self.new ≡ record self.old { at = at } }
     {
-        drop(mem::replace(&mut self.at, at));
+        self.at = at;
     }
 
     /// Goes on to the state, where there is one, with the turn of the step before it.

@@ -7,6 +7,7 @@ ghost use Rattle.hwp_page.specs.Step.{Allowed, after};
 ghost use Rattle.hwp_page.specs.History.{IsFresh, IsReplay};
 
 use crate::entry::Entry;
+use crate::replay::Replay;
 use crate::state::PageState;
 use hwp_kill::{Layout, List, OutOfMemory, Page};
 use std::alloc::Global;
@@ -16,16 +17,11 @@ use std::sync::Arc;
 /// A page's state and history together: the state is always the replay of the history from the page's opening.
 #[derive(Drop)]
 pub struct Body {
-    page: Page,
-    layout: Arc<Layout, Global>,
-    /// In a box, so that a body moves in few bytes.
-    state: Box<PageState, Global>,
-    log: Vec<Entry>,
+    /// In a box, so that a body moves as a pointer.
+    replay: Box<Replay, Global>,
 }
 
 impl Model for Body {
-    ghost use Rattle.std.specs.Prelude.{◌-◌, vec_len, vec_capacity};
-    ghost use Rattle.std.specs.Arc.{arc_value};
     ghost use Rattle.hwp_page.specs.History.{BodyValue, IsKept};
     ghost use Rattle.hwp_kill.specs.contracts.Slots as slots;
     ghost use Rattle.std.specs.Coded.{codes};
@@ -34,15 +30,7 @@ impl Model for Body {
 
     ghost coded = { Prim.hlevel (codes, slots.the_row.coded) };
 
-    ghost view = { λ b. record {
-      page = b.page;
-      layout = arc_value b.layout;
-      state = b.state.value;
-      log = b.log.items;
-      spare = vec_capacity b.log - vec_len b.log;
-    } };
-
-    ghost invariant = { λ b. IsKept (arc_value b.layout) b.page b.log.items b.state.value };
+    ghost view = { λ b. b.replay.value };
 }
 
 impl Body {
@@ -52,13 +40,8 @@ impl Body {
         requires inside { page.0 < length (arc_value layout.now).pages }
         ensures { IfOk result (λ body. IsFresh (arc_value layout.now) page body) }
     {
-        let declared: &Layout = layout;
-        let kind = declared.pages.as_slice()[usize::from(page.0)];
         Ok(Body {
-            page,
-            layout: layout.clone()?,
-            state: Box::new(alloc, PageState::opening(kind))?,
-            log: Vec::new(alloc),
+            replay: Box::new(alloc, Replay::new(alloc, layout, page)?)?,
         })
     }
 
@@ -67,7 +50,7 @@ impl Body {
         ensures ok { OnOk result ((self.new ≡ record self.old { spare = self.new.spare }) × (1 ≤ self.new.spare)) }
         ensures err { OnErr result (self.new ≡ self.old) }
     {
-        self.log.reserve(1)
+        self.replay.room()
     }
 
     /// Adds an entry that the state allows, and goes on to the state after it. It takes no memory.
@@ -76,22 +59,21 @@ impl Body {
         requires room { 0 < self.old.spare }
         ensures { self.new ≡ record self.old { state = after self.old.state entry.what; log = self.old.log ++ entry ∷ []; spare = self.old.spare - 1 } }
     {
-        self.state.step(&entry.what);
-        self.log.push_reserved(entry);
+        self.replay.append(entry);
     }
 
     /// Whether the state allows the entry.
     pub fn allowed(&self, entry: &Entry) -> bool
         ensures { IsTrue result ↔ Allowed self.now.layout self.now.page self.now.state entry.now.what }
     {
-        self.state.allows(&self.layout, self.page, &entry.what)
+        self.replay.allowed(entry)
     }
 
     /// How many entries the history has.
     pub fn len(&self) -> u64
         ensures { result ≡ length self.now.log }
     {
-        self.log.len() as u64
+        self.replay.len()
     }
 
     /// The state now: the replay of the history from the page's opening.
@@ -100,35 +82,35 @@ impl Body {
         ensures replay { IsReplay self.now.layout self.now.page self.now.log self.now.state }
         ensures sound { IsSound self.now.layout }
     {
-        &self.state
+        self.replay.state()
     }
 
     /// The layout of the page's machine.
     pub fn layout(&self) -> &Layout
         ensures { result.now ≡ self.now.layout }
     {
-        &self.layout
+        self.replay.layout()
     }
 
     /// The page.
     pub fn page(&self) -> Page
         ensures { result ≡ self.now.page }
     {
-        self.page
+        self.replay.page()
     }
 
     /// The entries, the oldest first.
     pub fn entries(&self) -> &[Entry]
         ensures { result.now ≡ self.now.log }
     {
-        self.log.as_slice()
+        self.replay.entries()
     }
 
     /// The entries, the oldest first, when the body is done with. It takes no memory.
     pub fn into_entries(self) -> List<Entry>
         ensures { result ≡ self.log }
     {
-        List::from_vec(self.log)
+        Box::into_inner(self.replay).into_entries()
     }
 
     /// The entry of this number. It is `None` exactly where the history ends before it.
@@ -136,6 +118,6 @@ impl Body {
         ensures value { option_copied result ≡ slice_get self.now.log number }
         ensures item { IsItemAt self.now.log number result }
     {
-        self.log.get(number as usize)
+        self.replay.entry(number)
     }
 }

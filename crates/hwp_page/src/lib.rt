@@ -5,6 +5,7 @@ mod belonging;
 mod body;
 mod entry;
 mod failing;
+mod replay;
 mod sets;
 mod situation;
 mod state;

@@ -1,6 +1,10 @@
 -- The table's words, read and written in the order of the rule.
 use Rattle.std.proofs.Common.{◌≡◌, ◌≢◌, ℕ, zero, suc, ◌+◌, ◌<◌, Bool, cond, List, [], ◌∷◌, ◌++◌, inl, inr, length, get_or, set, refl, sym, ap, ◌∙◌, arith, ne_eqb}
 use Rattle.std.proofs.lemmas.List.{length-append}
+use Rattle.hwp_core_task.specs.hwp_geom.declared.Layout.{Layout}
+use Rattle.hwp_core_task.specs.hwp_core_rule.declared.SharedWord.{SharedWord}
+use Rattle.hwp_core_task.specs.hwp_core_rule.declared.SharedWord.TheVariants as places
+use Rattle.hwp_core_task.specs.hwp_core_rule.Words.{IsPlace, index, size}
 use Rattle.hwp_core_task.proofs.of_hwp_core_rule.Lists.{same-or, same-number}
 use Rattle.hwp_table_words.specs.Order.{in_rule, in_table}
 
@@ -32,6 +36,22 @@ at-last count n is = ap (λ (b : Bool). cond b 0 (suc n)) (same-number (suc n) c
 
 at-front : (count n : ℕ) → suc n ≢ count → in_table count n ≡ suc n
 at-front count n other = ap (λ (b : Bool). cond b 0 (suc n)) (ne_eqb (suc n) count other)
+
+-- each word but the stop word is before the last one
+pub before_stop : (layout : Layout) (place : SharedWord) → IsPlace layout place → place ≢ places.Stop → in_table (size layout) (index layout place) ≡ suc (index layout place)
+before_stop layout (places.Frame frame) inside other = at-front (size layout) (index layout (places.Frame frame)) (λ e. omega (arith, inside, e))
+before_stop layout (places.Trans slot) inside other = at-front (size layout) (index layout (places.Trans slot)) (λ e. omega (arith, inside, e))
+before_stop layout (places.Cache page) inside other = at-front (size layout) (index layout (places.Cache page)) (λ e. omega (arith, inside, e))
+before_stop layout (places.Page page) inside other = at-front (size layout) (index layout (places.Page page)) (λ e. omega (arith, inside, e))
+before_stop layout (places.Free number) inside other = at-front (size layout) (index layout (places.Free number)) (λ e. omega (arith, inside, e))
+before_stop layout places.Available inside other = at-front (size layout) (index layout places.Available) (λ e. omega (arith, inside, e))
+before_stop layout (places.Bad frame) inside other = at-front (size layout) (index layout (places.Bad frame)) (λ e. omega (arith, inside, e))
+before_stop layout (places.Weak frame) inside other = at-front (size layout) (index layout (places.Weak frame)) (λ e. omega (arith, inside, e))
+before_stop layout places.Counter inside other = at-front (size layout) (index layout places.Counter) (λ e. omega (arith, inside, e))
+before_stop layout (places.Process process) inside other = at-front (size layout) (index layout (places.Process process)) (λ e. omega (arith, inside, e))
+before_stop layout (places.Policy thread) inside other = at-front (size layout) (index layout (places.Policy thread)) (λ e. omega (arith, inside, e))
+before_stop layout (places.Loss file) inside other = at-front (size layout) (index layout (places.Loss file)) (λ e. omega (arith, inside, e))
+before_stop layout places.Stop inside other = absurd (other refl)
 
 pub in_rule-read : (ws : List ℕ) (n : ℕ) → n < length ws → get_or (in_rule ws) n 0 ≡ get_or ws (in_table (length ws) n) 0
 in_rule-read [] n less = absurd (omega arith)

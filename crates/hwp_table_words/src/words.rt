@@ -6,16 +6,26 @@ ghost use Rattle.hwp_table_words.specs.Order.{in_table};
 use hwp_core_task::{Layout, SharedWord, index};
 
 /// Where the table has the word of a place: the stop word first, and then the others in their order.
+#[tactic(auto, using(crate::proofs::WordOrder::before_stop))]
 pub fn word_of(layout: &Layout, place: SharedWord) -> usize
     requires sound { IsSound layout.now }
     requires inside { IsPlace layout.now place }
     ensures value { result ≡ in_table (size layout.now) (index layout.now place) }
     ensures within { result < size layout.now }
 {
-    let at = index(layout, place);
-    if at == index(layout, SharedWord::Stop) {
-        0
-    } else {
-        at + 1
+    match place {
+        SharedWord::Stop => 0,
+        SharedWord::Frame(_)
+        | SharedWord::Trans(_)
+        | SharedWord::Cache(_)
+        | SharedWord::Page(_)
+        | SharedWord::Free(_)
+        | SharedWord::Available
+        | SharedWord::Bad(_)
+        | SharedWord::Weak(_)
+        | SharedWord::Counter
+        | SharedWord::Process(_)
+        | SharedWord::Policy(_)
+        | SharedWord::Loss(_) => index(layout, place) + 1,
     }
 }
