@@ -35,7 +35,6 @@ class Memory:
     ended: dict[int, str] = field(default_factory=dict)
     alive: dict[int, str] = field(default_factory=dict)
     policies: dict[int, str] = field(default_factory=dict)
-    untold: set[tuple[int, int]] = field(default_factory=set)
     is_hardware: bool = False
     is_over: bool = False
 
@@ -278,16 +277,6 @@ def is_unusable(event: Event) -> bool:
     return event.row in (9, 12) and (event.misc >> 6 & 7 != 2 or event.misc & 63 > 12)
 
 
-def told_to_each(case: Case, one: Difference) -> bool:
-    """Linux tells each open file of a loss once; hwp tells it once in all."""
-    return (case.verb, one.about, one.hwp, one.linux) == ("fsync", "answer", "done", "eio") and asked(case) in case.memory.untold
-
-
-def asked(case: Case) -> tuple[int, int]:
-    """The file of an `fsync`, and the processor that asks."""
-    return case.step.command.numbers[0], case.step.command.cpu
-
-
 def soft_of_unmapped_page(case: Case, one: Difference) -> bool:
     """Linux drops a clean page of a file that nobody has mapped, where hwp moves it."""
     page = case.page
@@ -347,7 +336,6 @@ RULES: dict[str, Callable[[Case, Difference], bool]] = {
     "overflow, optional": overflow_optional,
     "not restartable": not_restartable,
     "unusable address": unusable_address,
-    "told to each": told_to_each,
     "soft offline of an unmapped page": soft_of_unmapped_page,
 }
 FOLLOWS: tuple[Callable[[Case, Difference], Optional[str]], ...] = (kept, lost_there, still_poisoned, ended_there, other_policy)
@@ -368,9 +356,6 @@ def note(case: Case) -> None:
     for number, (situation, page) in case.step.failed.items():
         if page is not None and (situation == "swapdirty" or case.kinds[page] == SHARED):
             memory.still.setdefault(number, "page in a cache")
-    if case.verb == "fsync" and case.step.word == "eio":
-        memory.untold |= {(case.step.command.numbers[0], cpu) for cpu in range(case.script.cpus)}
-        memory.untold.discard(asked(case))
 
 
 def note_rule(case: Case, one: Difference, rule: str) -> None:
@@ -381,7 +366,5 @@ def note_rule(case: Case, one: Difference, rule: str) -> None:
     page = case.world.page_in(event.address // 4096) if one.about == "event" and event is not None and one.hwp == "nothing" else None
     if page is not None:
         case.memory.lost[page] = rule
-    if case.verb == "fsync":
-        case.memory.untold.discard(asked(case))
     if one.about in ("event", "answer") and one.linux in ("ignored", "already", "nothing", "value 0"):
         case.memory.kept.update((page, rule) for situation, page in case.step.failed.values() if page is not None)

@@ -44,7 +44,7 @@ EXPECTATIONS = [
     ("same", "same"),
     ("no form", "no form there"),
     ("differs never stored", "differs as understood: never stored"),
-    ("differs told to each; first mapping", "differs as understood: first mapping; told to each"),
+    ("differs untouched mapping; first mapping", "differs as understood: first mapping; untouched mapping"),
     ("differs", None),
     ("differs by a rule that there isn't", None),
     ("same again", None),

@@ -113,7 +113,7 @@ def _count(outcome: Outcome, _: Sequence[int]) -> list[Words]:
 
 
 def _lost(outcome: Outcome, numbers: Sequence[int]) -> list[Words]:
-    """How many losses of a file no `fsync` has told."""
+    """How many losses a file had."""
     return [outcome.report.files[numbers[0]].words[3:]]
 
 

@@ -31,7 +31,9 @@ RULES = {
     "`frame` line if one is missing; the first entry of a failure if the number of those that a thread needed is another than "
     "that of the events of row S9.",
     6: "The count must be that of the frames whose last record is `poisoned`. The line named is the `count` line.",
-    7: "For each file, the losses told and those left must be its dirty pages that failed. The line named is the `file` line.",
+    7: "The number of each file must be that of its dirty pages that failed. What `fsync` told a processor of a file, all its `eio` "
+    "numbers together, may never be more; and where it answers `done` or `eio`, it must be at least what earlier commands of that "
+    "processor lost. The line named is the `file` line.",
     8: "The stop record must be there if and only if an answer is `stopped`, and must have its cause; after a processor's first "
     "`stopped` all its answers must be `stopped`. The line named is the `stop` line.",
     9: "A page must be cached if and only if one frame says it; the other places, and the bad and weak lines of frames, must be "

@@ -74,6 +74,7 @@ RECORDS: list[tuple[str, str, dict[str, object]]] = [
     ("answer", "1 done 0 4", {"command": 1, "answer": "done", "page": 0, "at": 4}),
     ("answer", "1 badlines 3 0 4", {"command": 1, "answer": "badlines", "bad": [0, 1], "page": 0, "at": 4}),
     ("answer", "1 eio 3", {"command": 1, "answer": "eio", "number": 3}),
+    ("answer", "1 opened 0", {"command": 1, "answer": "opened", "number": 0}),
     ("answer", "1 gone 3", {"command": 1, "answer": "gone", "page": 3}),
     ("answer", "1 noframe", {"command": 1, "answer": "noframe"}),
 ]

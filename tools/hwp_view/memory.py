@@ -75,10 +75,10 @@ def stop_html(run: Run) -> str:
 
 
 def files_html(run: Run) -> Iterator[str]:
-    """The losses of each file that `fsync` hasn't told yet."""
+    """The losses of each file, told or not."""
     yield '<ul role="list" class="files">\n'
     for number, line in enumerate(run.report.files):
         lost = line.of("word")
-        text = badge("failure", f"{lost} not told yet") if lost else '<span class="why">no loss left to tell</span>'
+        text = badge("failure", f"{lost} lost") if lost else '<span class="why">nothing lost</span>'
         yield f"<li>file {number}: {text}</li>\n"
     yield "</ul>\n"

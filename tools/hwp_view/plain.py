@@ -10,7 +10,7 @@ from .script import Command, Script
 
 FAILURES = frozenset("sigbus gone eio recovered delayed ignored".split())
 RESULTS = frozenset("recovered delayed ignored".split())
-GOOD = frozenset("value stored done is scrubbed raised".split())
+GOOD = frozenset("value stored done is opened scrubbed raised".split())
 OFFLINE = frozenset("moved takenfree".split())
 QUIET_OUTCOMES = frozenset("none keep deferred logged".split())
 STOP_OUTCOMES = frozenset("stop panic".split())
@@ -51,7 +51,7 @@ COMMANDS = {
     "drop": "the frame of page {page} is freed, if the page is clean and unused",
     "sync": "page {page} is written back to its file",
     "out": "page {page} is swapped out",
-    "fsync": "asks what file {file} lost",
+    "fsync": "asks what file {file} lost since this processor asked last",
     "load": "thread {thread} loads line {line} of page {page}",
     "kload": "the kernel loads line {line} of page {page} for thread {thread}",
     "fetch": "thread {thread} fetches an instruction at line {line} of page {page}",
@@ -120,6 +120,7 @@ def answer_says(answer: Line) -> tuple[str, str]:
         return word, ANSWERS.get(word, "")
     meanings = {
         "eio": "loss told" if number == 1 else "losses told",
+        "opened": "loss before" if number == 1 else "losses before",
         "is": POLICIES.get(number, ""),
         "inuse": "the frame's count",
     }

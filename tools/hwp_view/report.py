@@ -49,6 +49,7 @@ ANSWERS = {
     "mapped": ["page entry"],
     "badlines": ["mask page entry"],
     "eio": ["word"],
+    "opened": ["word"],
     "is": ["word"],
     "moved": ["frame page entry"],
     "hasbad": ["mask"],

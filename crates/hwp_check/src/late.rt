@@ -35,31 +35,36 @@ fn marked_verdict(
     Ok(None)
 }
 
-/// The verdict, where the rules that need no memory are the next.
-fn counted_verdict(script: &Script, report: &Report) -> Option<Verdict>
+/// The verdict, where the rule of the count, that of losses or that of the stop is broken.
+fn counted_verdict(
+    alloc: Global,
+    script: &Script,
+    report: &Report,
+) -> Result<Option<Verdict>, OutOfMemory>
+    requires valid { IsValid script.now }
     requires room { last_line report.now < 2 ^ 64 }
     requires below { HoldBelow 6 script.now report.now }
-    ensures { MatchOption result (HoldBelow 9 script.now report.now) (IsVerdict script.now report.now) }
+    ensures { IfOk result (λ found. MatchOption found (HoldBelow 9 script.now report.now) (IsVerdict script.now report.now)) }
 {
     if let Some(line) = count_fault(script, report) {
-        return Some(Verdict::Not {
+        return Ok(Some(Verdict::Not {
             line,
             rule: Rule::Count,
-        });
+        }));
     }
-    if let Some(line) = losses_fault(script, report) {
-        return Some(Verdict::Not {
+    if let Some(line) = losses_fault(alloc, script, report)? {
+        return Ok(Some(Verdict::Not {
             line,
             rule: Rule::Losses,
-        });
+        }));
     }
     if let Some(line) = stop_fault(script, report) {
-        return Some(Verdict::Not {
+        return Ok(Some(Verdict::Not {
             line,
             rule: Rule::Stop,
-        });
+        }));
     }
-    None
+    Ok(None)
 }
 
 /// The verdict, where the rule of answers and those before it hold.
@@ -76,7 +81,7 @@ pub(crate) fn late_verdict(
     if let Some(verdict) = marked_verdict(alloc, script, report)? {
         return Ok(verdict);
     }
-    if let Some(verdict) = counted_verdict(script, report) {
+    if let Some(verdict) = counted_verdict(alloc, script, report)? {
         return Ok(verdict);
     }
     match frames_fault(alloc, script, report)? {

@@ -1,4 +1,5 @@
 ghost use Rattle.std.specs.Prelude.{◌≡◌, ◌≤◌, IfOk, false, length, slice_index_or};
+ghost use Rattle.hwp_check_evidence.specs.hwp_geom.Limits.{page_limit};
 ghost use Rattle.hwp_check_evidence.specs.hwp_kill.declared.Policy.TheVariants.{Default};
 ghost use Rattle.hwp_check_answers.specs.Facts.{AreFacts, AreNamings};
 ghost use Rattle.hwp_check_causes.specs.Knowing.{IsOwn};
@@ -47,7 +48,7 @@ pub(crate) fn own_and_naming(
     commands: &[Command],
     rows: &[CpuLine],
 ) -> Result<(ProcessorFacts, Naming), OutOfMemory>
-    requires { length report.now.pages ≤ 256 }
+    requires { length report.now.pages ≤ page_limit }
     ensures own { IfOk result (λ known. IsOwn script.now report.now cpu known.0) }
     ensures naming { IfOk result (λ known. AreNamings report.now cpu commands.now rows.now known.1) }
 {

@@ -1,5 +1,6 @@
 ghost use Rattle.std.specs.Prelude.{◌≡◌, ◌≤◌, ◌<◌, IfOk, Some, length, slice_get};
 ghost use Rattle.std.specs.Option.{option_copied};
+ghost use Rattle.hwp_check_evidence.specs.hwp_geom.Limits.{page_limit};
 ghost use Rattle.hwp_check_answers.specs.Facts.{at_number};
 ghost use Rattle.hwp_check_causes.specs.Knowing.{IsKnown};
 
@@ -47,7 +48,7 @@ impl<'a> JudgedProcessor<'a> {
         commands: &'a [Command],
         rows: &'a [CpuLine],
     ) -> Result<JudgedProcessor<'a>, OutOfMemory>
-        requires few { length report.now.pages ≤ 256 }
+        requires few { length report.now.pages ≤ page_limit }
         requires known { IsKnown script.now report.now known.now }
         requires of_script { slice_get script.now.lists cpu.0 ≡ Some commands.now }
         requires of_report { slice_get report.now.cpus cpu.0 ≡ Some rows.now }

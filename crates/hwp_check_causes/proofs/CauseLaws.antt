@@ -83,6 +83,11 @@ module _ (script : Script) (report : Report) (who : Who) where
   caused_last (commands.Soft f) answers.TakenFree by h = h
   caused_last (commands.Unpoison f) answers.TakenFree by h = h
   caused_last command answers.TakenFree by h = absurd h
+  caused_last (commands.Prctl thread args) (answers.Opened n) by h = h
+  caused_last (commands.Inject f) (answers.Opened n) by h = h
+  caused_last (commands.Soft f) (answers.Opened n) by h = h
+  caused_last (commands.Unpoison f) (answers.Opened n) by h = h
+  caused_last command (answers.Opened n) by h = absurd h
   caused_last (commands.Prctl thread args) answers.NotPoisoned by h = h
   caused_last (commands.Inject f) answers.NotPoisoned by h = h
   caused_last (commands.Soft f) answers.NotPoisoned by h = h
@@ -163,6 +168,11 @@ module _ (script : Script) (report : Report) (who : Who) where
   last_caused (commands.Soft f) answers.TakenFree by h = h
   last_caused (commands.Unpoison f) answers.TakenFree by h = h
   last_caused command answers.TakenFree by h = absurd h
+  last_caused (commands.Prctl thread args) (answers.Opened n) by h = h
+  last_caused (commands.Inject f) (answers.Opened n) by h = h
+  last_caused (commands.Soft f) (answers.Opened n) by h = h
+  last_caused (commands.Unpoison f) (answers.Opened n) by h = h
+  last_caused command (answers.Opened n) by h = absurd h
   last_caused (commands.Prctl thread args) answers.NotPoisoned by h = h
   last_caused (commands.Inject f) answers.NotPoisoned by h = h
   last_caused (commands.Soft f) answers.NotPoisoned by h = h

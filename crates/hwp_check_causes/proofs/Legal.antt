@@ -6,6 +6,7 @@ use Rattle.hwp_check_evidence.specs.hwp_geom.declared.Layout.{Layout}
 use Rattle.hwp_check_evidence.specs.hwp_geom.declared.Page.{Page}
 use Rattle.hwp_check_evidence.specs.hwp_geom.declared.TransDecl.{TransDecl}
 use Rattle.hwp_check_evidence.specs.hwp_geom.Layout.{IsSound}
+use Rattle.hwp_check_evidence.specs.hwp_geom.Limits.{translation_limit}
 use Rattle.hwp_check_evidence.specs.hwp_page.History.{Leads}
 use Rattle.hwp_check_evidence.specs.hwp_page.Step.{Allowed, MapsWithin, after, opening_of}
 use Rattle.hwp_check_evidence.specs.hwp_page.declared.Entry.{Entry}
@@ -28,7 +29,7 @@ slot-within : (layout : Layout) (page : Page) (state : PageState) (what : What) 
 slot-within layout page state (entries.Map slot) sound allowed =
     let found = declared (slice_get layout.trans slot.0) (λ (t : TransDecl). t.page ≡ page) allowed.1 in
     let within : slot.0 < length layout.trans = slice_get_within layout.trans slot.0 found.0 found.1 in
-    let few : length layout.trans ≤ 512 = sound.trans in
+    let few : length layout.trans ≤ translation_limit = sound.trans in
     omega (arith, within, few)
 slot-within layout page state what sound allowed = record {}
 

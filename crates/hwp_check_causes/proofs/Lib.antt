@@ -1,5 +1,6 @@
 mod TellLaws
 pub mod AskLaws
+mod AskedLaws
 mod PlainLaws
 pub mod CauseLaws
 mod LineLaws

@@ -1,4 +1,5 @@
 ghost use Rattle.std.specs.Prelude.{◌≡◌, ◌≤◌, false, replicate, IfOk, length};
+ghost use Rattle.hwp_check_evidence.specs.hwp_geom.Limits.{page_limit};
 ghost use Rattle.hwp_check_evidence.specs.Glances.{AreLegalSteps};
 ghost use Rattle.hwp_check_evidence.specs.Named.{flagged_pages};
 ghost use Rattle.hwp_check_causes.specs.Knowing.{IsKnown, IsOwn};
@@ -33,7 +34,7 @@ pub fn own_of(
     commands: usize,
     named: &[Option<At>],
 ) -> Result<(ProcessorFacts, Vec<bool>), OutOfMemory>
-    requires { length report.now.pages ≤ 256 }
+    requires { length report.now.pages ≤ page_limit }
     ensures own { IfOk result (λ known. IsOwn script.now report.now cpu known.0) }
     ensures others { IfOk result (λ known. known.1.items ≡ flagged_pages named.now cpu (replicate commands false) 0 report.now.pages) }
     ensures many { IfOk result (λ known. length known.1.items ≡ commands) }

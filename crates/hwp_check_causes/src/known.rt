@@ -4,7 +4,7 @@ ghost use Rattle.hwp_check_evidence.specs.hwp_law.Commands.{process_at, process_
 ghost use Rattle.hwp_check_evidence.specs.hwp_law.Endings.{IsGone};
 ghost use Rattle.hwp_check_evidence.specs.hwp_law.States.{HadState};
 ghost use Rattle.hwp_check_evidence.specs.hwp_report_text.declared.Answer.TheVariants as answers;
-ghost use Rattle.hwp_check_causes.specs.Asking.{IsSo, IsUnusedBy, is_by_state as is_by_state_of};
+ghost use Rattle.hwp_check_causes.specs.Asking.{IsAsked, IsSo, IsUnusedBy, is_by_state as is_by_state_of};
 ghost use Rattle.hwp_check_causes.specs.Causing.{IsBadSomewhere, MetBadLines, is_by_thread as is_by_thread_of};
 
 use crate::asking::{is_askable, named_state};
@@ -50,15 +50,20 @@ fn was_so(case: &Case<'_>, answer: &Answer, at: At) -> bool
     }
 }
 
+/// Whether the command can have this answer, and the state at the place was as it says.
+fn was_asked(case: &Case<'_>, answer: &Answer, at: At) -> bool
+    ensures { IsTrue result ↔ IsAsked case.now.script case.now.report case.now.command answer.now at }
+{
+    is_askable(&case.script.layout, case.command, answer) && was_so(case, answer, at)
+}
+
 /// Whether an answer that says what state a page was in, but for its bad lines, has its cause.
 pub(crate) fn is_by_state(case: &Case<'_>, answer: &Answer) -> bool
     requires { is_by_state_of answer.now ≡ true }
     ensures { IsTrue result ↔ IsCaused case.now.script case.now.report case.now.who case.now.command answer.now }
 {
     match named_state(answer) {
-        Some(at) => {
-            is_askable(&case.script.layout, case.command, answer) && was_so(case, answer, at)
-        }
+        Some(at) => was_asked(case, answer, at),
         None => false,
     }
 }

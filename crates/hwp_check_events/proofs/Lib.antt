@@ -1,4 +1,5 @@
 mod AccessLaws
+mod AccessScans
 mod RaiseLaws
 mod OwnLaws
 pub mod LowestMarks

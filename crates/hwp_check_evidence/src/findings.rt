@@ -1,4 +1,5 @@
 ghost use Rattle.std.specs.Prelude.{◌≡◌, ◌≤◌, [], false, fold, replicate, IfOk, OnOk, length};
+ghost use Rattle.hwp_law.specs.hwp_geom.Limits.{page_limit};
 ghost use Rattle.hwp_check_evidence.specs.Ends.{any_ended, never, own_page_ends, process_numbers};
 ghost use Rattle.hwp_check_evidence.specs.Findings.{AreFound, IsAdded};
 ghost use Rattle.hwp_check_evidence.specs.Named.{flagged_page};
@@ -114,7 +115,7 @@ pub fn findings_of(
     named: &[Option<At>],
     pages: &[List<Entry>],
 ) -> Result<Findings, OutOfMemory>
-    requires { length pages.now ≤ 256 }
+    requires { length pages.now ≤ page_limit }
     ensures { IfOk result (λ found. AreFound layout.now named.now cpu commands pages.now found) }
 {
     let mut found = nothing(alloc, commands, PROCESS_NUMBERS)?;

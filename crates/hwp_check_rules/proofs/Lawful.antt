@@ -1,7 +1,8 @@
 -- The nine rules together are the law of reports.
-use Rattle.std.proofs.Common.{◌≡◌, ℕ, zero, suc, Bool, cond, List, [], ◌∷◌, Some, IsSome, length, slice_get, refl, sym, ap, ◌∙◌, subst, arith}
-use Rattle.std.proofs.lemmas.Option.{same_Some, none-some}
+use Rattle.std.proofs.Common.{◌≡◌, ℕ, zero, suc, ◌<◌, Bool, true, cond, List, [], ◌∷◌, Some, IsSome, get_or, length, slice_get, refl, sym, ap, ◌∙◌, subst, arith}
+use Rattle.std.proofs.lemmas.Option.{same_Some, none-some, slice_get-get_or, slice_get_within}
 use Rattle.hwp_law.specs.hwp_geom.declared.Cpu.{Cpu}
+use Rattle.hwp_law.specs.hwp_geom.declared.FileNo.{FileNo}
 use Rattle.hwp_law.specs.hwp_geom.declared.Frame.{Frame}
 use Rattle.hwp_law.specs.hwp_geom.declared.Layout.{Layout}
 use Rattle.hwp_law.specs.hwp_geom.declared.Page.{Page}
@@ -10,7 +11,9 @@ use Rattle.hwp_law.specs.hwp_page.History.{IsReplay, Leads}
 use Rattle.hwp_law.specs.hwp_page.Step.{after, opening_of}
 use Rattle.hwp_law.specs.hwp_page.declared.Entry.{Entry}
 use Rattle.hwp_law.specs.hwp_page.declared.PageState.{PageState}
+use Rattle.hwp_law.specs.hwp_script_read.declared.Command.{Command}
 use Rattle.hwp_law.specs.hwp_script_read.declared.Script.{Script}
+use Rattle.hwp_law.specs.hwp_report_text.declared.Answer.{Answer}
 use Rattle.hwp_law.specs.hwp_report_text.declared.Answer.TheVariants as answers
 use Rattle.hwp_law.specs.hwp_report_text.declared.CpuLine.{CpuLine}
 use Rattle.hwp_law.specs.hwp_report_text.declared.CpuLine.TheVariants as lines
@@ -18,8 +21,9 @@ use Rattle.hwp_law.specs.hwp_report_text.declared.FrameLine.{FrameLine}
 use Rattle.hwp_law.specs.hwp_report_text.declared.Report.{Report}
 use Rattle.hwp_law.specs.Frames.{IsFrameLine}
 use Rattle.hwp_law.specs.Law.{IsLawful}
+use Rattle.hwp_law.specs.Losses.{IsNumber, answered, tells_number}
 use Rattle.hwp_law.specs.PageHistory.{IsHistory}
-use Rattle.hwp_check_rules.specs.Rules.{AnswersFit, FramesFit, HistoriesFit, MarksFit, SeenFit, ShapeFits, StopFits}
+use Rattle.hwp_check_rules.specs.Rules.{AnswersFit, FramesFit, HistoriesFit, LossesFit, MarksFit, SeenFit, ShapeFits, StopFits}
 use Rattle.hwp_check_rules.specs.declared.verdicts.Rule.{Rule}
 use Rattle.hwp_check_rules.specs.declared.verdicts.Rule.TheVariants.{Shape, Histories, Answers, Seen, Marks, Count, Losses, Stop, Frames}
 use Rattle.hwp_check_rules.specs.Verdicts.{Holds}
@@ -92,7 +96,12 @@ module _ (script : Script) (report : Report) where
     lawful-holds Seen = record { right = law.histories.seen; falls_never = law.histories.falls_never }
     lawful-holds Marks = record { kept = λ frame kernel line declared there. (law.frames.lines frame kernel line declared there).kept; recorded = law.frames.recorded }
     lawful-holds Count = law.frames.count
-    lawful-holds Losses = law.losses.balance
+    lawful-holds Losses = λ file lost there. record {
+      lost_is = law.losses.lost file lost there;
+      numbers = λ cpu list rows of_script of_report.
+          let within : file.0 < length report.files = slice_get_within report.files file.0 lost there in
+          law.losses.numbers file cpu list rows (omega (arith, within, law.losses.files_fit)) of_script of_report;
+    }
     lawful-holds Stop = stop_fits
     lawful-holds Frames = frames_fit
 
@@ -111,7 +120,7 @@ module _ (script : Script) (report : Report) where
         stop = record { caused = of_stop.caused; stays = of_stop.stays };
       };
       frames = record { lines = frame_lines; recorded = of_marks.recorded; count = holds Count };
-      losses = record { files_fit = shape_fits.files; balance = holds Losses };
+      losses = record { files_fit = shape_fits.files; lost = λ file lost there. (of_losses file lost there).lost_is; numbers = numbers };
     }
       where
         shape_fits : ShapeFits script report
@@ -131,6 +140,15 @@ module _ (script : Script) (report : Report) where
 
         of_stop : StopFits script report
         of_stop = holds Stop
+
+        of_losses : LossesFit script report
+        of_losses = holds Losses
+
+        numbers : (file : FileNo) (cpu : Cpu) (list : List Command) (rows : List CpuLine) → file.0 < script.layout.files
+            → slice_get script.lists cpu.0 ≡ Some list → slice_get report.cpus cpu.0 ≡ Some rows
+            → (i : ℕ) (p : Command × Answer) → slice_get {X = Command × Answer} (answered list rows) i ≡ Some p
+            → tells_number file p.0 p.1 ≡ true → IsNumber script report file cpu (answered list rows) i
+        numbers file cpu list rows within = (of_losses file (get_or report.files file.0 0) (slice_get-get_or report.files file.0 0 (omega (arith, within, shape_fits.files)))).numbers cpu list rows
 
         of_frames : FramesFit script report
         of_frames = holds Frames

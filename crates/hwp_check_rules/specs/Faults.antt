@@ -21,7 +21,7 @@ use Rattle.hwp_law.specs.Entries.{IsMadeBy}
 use Rattle.hwp_law.specs.Places.{entry_at}
 use Rattle.hwp_law.specs.PageHistory.{is_of}
 use Rattle.hwp_law.specs.SeenPolicies.{IsOwnCount, IsPolicySeen, seen_in}
-use Rattle.hwp_check_rules.specs.Rules.{CountFits, IsBalanced, IsFrameShown, StopFits}
+use Rattle.hwp_check_rules.specs.Rules.{CountFits, IsFrameShown, IsTold, StopFits}
 use Rattle.hwp_check_rules.specs.Standing.{count_line, cpu_line, entry_line, file_line, frame_line, page_line, seen_line, stop_line}
 
 -- a section has not as many items as it should: named is the line in the place of the first that lacks, or the heading of the
@@ -88,13 +88,13 @@ pub record IsSeenFault (script : Script) (report : Report) (line : ℕ) : Type 0
 abbrev pub IsCountFault : Report → ℕ → Type 0
 IsCountFault report line = (CountFits report → ⊥) × (line ≡ count_line)
 
--- a file whose losses don't balance
+-- a file whose losses are another number, or of which a processor was told a wrong number
 pub record IsLossFault (script : Script) (report : Report) (line : ℕ) : Type 0 where
   pub file : FileNo
-  pub left : ℕ
-  pub there : slice_get report.files file.0 ≡ Some left
+  pub lost : ℕ
+  pub there : slice_get report.files file.0 ≡ Some lost
   pub line_is : line ≡ file_line report file.0
-  pub wrong : IsBalanced script report file left → ⊥
+  pub wrong : IsTold script report file lost → ⊥
 
 abbrev pub IsStopFault : Script → Report → ℕ → Type 0
 IsStopFault script report line = (StopFits script report → ⊥) × (line ≡ stop_line)

@@ -1,6 +1,5 @@
 -- The nine rules of a report, in their order, each by itself.
-use Rattle.std.specs.Prelude.{◌≡◌, ◌↔◌, ◌+◌, ℕ, Bool, cond, List, Some, IsBitSet, IsSome, count_by, length, slice_get, sum_by}
-use Rattle.std.specs.List.{zip}
+use Rattle.std.specs.Prelude.{◌≡◌, ◌↔◌, ℕ, Bool, true, cond, List, Some, IsBitSet, IsSome, count_by, length, slice_get}
 use Rattle.hwp_law.specs.hwp_geom.declared.Cpu.{Cpu}
 use Rattle.hwp_law.specs.hwp_geom.declared.FileNo.{FileNo}
 use Rattle.hwp_law.specs.hwp_geom.declared.Frame.{Frame}
@@ -12,6 +11,7 @@ use Rattle.hwp_law.specs.hwp_page.declared.PageState.{PageState}
 use Rattle.hwp_law.specs.hwp_script_read.declared.Command.{Command}
 use Rattle.hwp_law.specs.hwp_script_read.declared.Command.TheVariants as commands
 use Rattle.hwp_law.specs.hwp_script_read.declared.Script.{Script}
+use Rattle.hwp_law.specs.hwp_report_text.declared.Answer.{Answer}
 use Rattle.hwp_law.specs.hwp_report_text.declared.Answer.TheVariants as answers
 use Rattle.hwp_law.specs.hwp_report_text.declared.CpuLine.{CpuLine}
 use Rattle.hwp_law.specs.hwp_report_text.declared.CpuLine.TheVariants as lines
@@ -25,7 +25,7 @@ use Rattle.hwp_law.specs.Events.{AreEvents}
 use Rattle.hwp_law.specs.Frames.{IsPlaced, WasDone, poisoned_count}
 use Rattle.hwp_law.specs.Halts.{IsStopOf}
 use Rattle.hwp_law.specs.History.{AreOrdered}
-use Rattle.hwp_law.specs.Losses.{answered, lost_in, told}
+use Rattle.hwp_law.specs.Losses.{IsNumber, answered, is_lost, losses_such, tells_number}
 use Rattle.hwp_law.specs.Pairings.{AreRecorded}
 use Rattle.hwp_law.specs.Records.{IsFrameRecord, ends_poisoned}
 use Rattle.hwp_law.specs.PageHistory.{is_of}
@@ -68,12 +68,15 @@ pub record MarksFit (script : Script) (report : Report) : Type 0 where
 abbrev pub CountFits : Report → Type 0
 CountFits report = report.count ≡ poisoned_count report.frames
 
--- 7: what the answers told of each file and what is left are the losses in the histories of its pages
-abbrev pub IsBalanced : Script → Report → FileNo → ℕ → Type 0
-IsBalanced script report file left = sum_by (told file) (answered script report) + left ≡ sum_by (lost_in file) (zip script.layout.pages report.pages)
+-- 7: what the report says of each file is the number of its losses, and each number that a processor was told of it is right
+pub record IsTold (script : Script) (report : Report) (file : FileNo) (lost : ℕ) : Type 0 where
+  pub lost_is : lost ≡ losses_such is_lost script report file
+  pub numbers : (cpu : Cpu) (list : List Command) (rows : List CpuLine) → slice_get script.lists cpu.0 ≡ Some list → slice_get report.cpus cpu.0 ≡ Some rows
+      → (i : ℕ) (p : Command × Answer) → slice_get {X = Command × Answer} (answered list rows) i ≡ Some p
+      → tells_number file p.0 p.1 ≡ true → IsNumber script report file cpu (answered list rows) i
 
 abbrev pub LossesFit : Script → Report → Type 0
-LossesFit script report = (file : FileNo) (left : ℕ) → slice_get report.files file.0 ≡ Some left → IsBalanced script report file left
+LossesFit script report = (file : FileNo) (lost : ℕ) → slice_get report.files file.0 ≡ Some lost → IsTold script report file lost
 
 -- 8: the stop is none exactly where no answer is `stopped`, else that of a command which stopped the machine; and a processor
 -- stays stopped

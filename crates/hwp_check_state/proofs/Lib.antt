@@ -1,10 +1,14 @@
-mod Balances
-mod Unsynced
+mod FirstFound
+mod LostLaws
+mod ToldLaws
+mod LossRule
+mod LossForgeries
 mod Shapes
 mod FirstLaws
 mod TopLaws
 mod OwnLaws
 mod SightLaws
+mod SightSteps
 mod SeenRule
 mod StopScans
 mod StopLaws

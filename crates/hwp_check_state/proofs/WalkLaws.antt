@@ -10,6 +10,7 @@ use Rattle.hwp_check_rules.specs.hwp_geom.declared.Page.{Page}
 use Rattle.hwp_check_rules.specs.hwp_geom.declared.PageKind.{PageKind}
 use Rattle.hwp_check_rules.specs.hwp_geom.declared.TransDecl.{TransDecl}
 use Rattle.hwp_check_rules.specs.hwp_geom.Layout.{IsSound}
+use Rattle.hwp_check_rules.specs.hwp_geom.Limits.{translation_limit}
 use Rattle.hwp_check_rules.specs.hwp_page.Step.{Allowed, MapsWithin, after, opening_of}
 use Rattle.hwp_check_rules.specs.hwp_page.declared.Entry.{Entry}
 use Rattle.hwp_check_rules.specs.hwp_page.declared.PageState.{PageState}
@@ -224,7 +225,7 @@ pub maps-within : (layout : Layout) (page : Page) (state : PageState) (what : Wh
 maps-within layout page state (entries.Map slot) sound allowed =
     let found = some-there (slice_get layout.trans slot.0) (λ (t : TransDecl). t.page ≡ page) allowed.1 in
     let within : slot.0 < length layout.trans = slice_get_within layout.trans slot.0 found.0 found.1 in
-    let few : length layout.trans ≤ 512 = sound.trans in
+    let few : length layout.trans ≤ translation_limit = sound.trans in
     omega arith
 maps-within layout page state (entries.Load slot line met) sound allowed = record {}
 maps-within layout page state (entries.Store slot line met) sound allowed = record {}

@@ -1,6 +1,7 @@
 pub mod Sights
 pub mod Histories
-pub mod Balances
-pub mod Syncs
+pub mod Lost
+pub mod Told
 pub mod Frames
 pub mod Stopping
+pub mod Handles

@@ -1,4 +1,5 @@
 ghost use Rattle.std.specs.Prelude.{◌≡◌, ◌≤◌, ◌<◌, ◌^◌, false, Some, None, cond, length, map, option_map, IfOk, IfSome, MatchOption};
+ghost use Rattle.hwp_check_rules.specs.hwp_geom.Limits.{frame_limit, page_limit};
 ghost use Rattle.hwp_check_rules.specs.hwp_script_read.Valid.{IsValid};
 ghost use Rattle.hwp_check_rules.specs.hwp_law.PageHistory.{is_of};
 ghost use Rattle.hwp_check_rules.specs.Faults.{first_free, is_free, sayers};
@@ -198,7 +199,7 @@ fn is_right_frame(
 
 /// The first frame that is not right.
 fn first_frame(script: &Script, report: &Report, done: &[Command], cached: &[bool]) -> Option<u16>
-    requires { length report.now.frames ≤ 256 }
+    requires { length report.now.frames ≤ frame_limit }
     ensures { MatchOption result (AreRight script.now report.now done.now cached.now (length report.now.frames))
         (λ at. AreRight script.now report.now done.now cached.now at × (at < length report.now.frames) × (is_right_frame script.now report.now done.now cached.now at ≡ false)) }
 {
@@ -212,7 +213,7 @@ fn first_frame(script: &Script, report: &Report, done: &[Command], cached: &[boo
 
 /// Whether some page is cached that no frame says.
 fn is_some_unsaid(cached: &[bool], frames: &[FrameLine]) -> bool
-    requires { length cached.now ≤ 256 }
+    requires { length cached.now ≤ page_limit }
     ensures { result ≡ is_unsaid_from 0 cached.now frames.now }
 {
     for number in 0..cached.len() {
@@ -258,7 +259,7 @@ fn line_of(report: &Report, found: Option<u16>) -> Option<u64>
 /// The line of the first free frame, if a page is cached that no frame says.
 fn unsaid_line(report: &Report, cached: &[bool]) -> Option<u64>
     requires room { last_line report.now < 2 ^ 64 }
-    requires few { length cached.now ≤ 256 }
+    requires few { length cached.now ≤ page_limit }
     ensures { result ≡ cond (is_unsaid_from 0 cached.now report.now.frames) (Some (frame_line report.now (first_free 0 report.now.frames))) None }
 {
     let frames = report.frames.as_slice();

@@ -7,11 +7,13 @@ mod dones;
 mod frames;
 mod histories;
 mod losses;
+mod lost;
 mod seen;
 mod shape;
 mod sights;
 mod stop;
 mod stopping;
+mod told;
 
 pub use count::count_fault;
 pub use frames::frames_fault;

@@ -24,7 +24,7 @@ use Rattle.hwp_claim.specs.declared.fail.FailAt.TheVariants as at
 use Rattle.hwp_claim.specs.declared.fail.FailAnswer.{FailAnswer}
 use Rattle.hwp_claim.specs.declared.fail.FailAnswer.TheVariants as answers
 use Rattle.hwp_claim_frame.specs.hwp_page.declared.Situation.TheVariants as situations
-use Rattle.hwp_claim.specs.Fails.{Acts, AfterClaim, aborts_at, after_act, claims_at, class_at, cost_at, has_retired_at, pageless}
+use Rattle.hwp_claim.specs.Fails.{Acts, AfterClaim, aborts_at, after_act, claims_at, class_at, cost_at, has_retired_at, pageless, held_most}
 
 -- ---- a frame that isn't retired yet
 
@@ -95,7 +95,7 @@ act-aborts cycle a = which a.at
 -- ---- the frame is claimed
 
 pub record IsLeft (frame : Frame) (z : ClaimAt) (x : FailAt) : Type 0 where
-  pub cost : (w : Words) → cost_at x w ≤ claims.cost_with 571 z w
+  pub cost : (w : Words) → cost_at x w ≤ claims.cost_with held_most z w
   pub claim : claims_at frame x ≡ claims.claims_at frame z
   pub aborts : aborts_at x ≡ claims.aborts_at z
   pub class : 1 < claims.class_at z → 1 < class_at x
@@ -110,7 +110,7 @@ module _ (who : Who) (frame : Frame) (required : Option Thread) (c : Claim) (sam
 
   acts-on : (cycle : ℕ) (page : Page) (body : BodyValue) (x : FailAt) → Acts who frame required cycle page (record c { at = claim_at.Owned cycle page body }) x → IsLeft frame (claim_at.Owned cycle page body) x
   acts-on cycle page body x has = subst (IsLeft frame (claim_at.Owned cycle page body)) (sym has.next_is) (record {
-    cost = λ w. let few : cost_at (after_act cycle has.act) w ≤ acts.cost has.act w = act-cost cycle has.act w in let small : acts.cost has.act w ≤ 570 = act-small w has.act in omega (arith, few, small);
+    cost = λ w. let few : cost_at (after_act cycle has.act) w ≤ acts.cost has.act w = act-cost cycle has.act w in let small : acts.cost has.act w ≤ acts.act_most = act-small w has.act in omega (arith, few, small);
     claim = act-claim frame cycle has.act ∙ ap (claim-on frame cycle) (starts-on who page frame required has.body has.act.at has.starts);
     aborts = act-aborts cycle has.act;
     class = λ more. absurd (omega (arith, more));

@@ -49,7 +49,7 @@ use Rattle.hwp_claim_frame.proofs.ClaimKeeps.{Keeps, drops-now, owned-by, retire
 use Rattle.hwp_claim.specs.declared.fail.Fail.{Fail}
 use Rattle.hwp_claim.specs.declared.fail.FailAt.{FailAt}
 use Rattle.hwp_claim.specs.declared.fail.FailAt.TheVariants as at
-use Rattle.hwp_claim.specs.Fails.{ActsOn, FitsAt, FollowsAt, IsActing, IsClaiming, ShowsAt, aborts, aborts_at, after_act, bare, bare_at, claims_at, claims_of, class, class_at, cost, cost_at, has_retired_at, is_retired_at, plan, plan_at, put, put_at, task as fail-task}
+use Rattle.hwp_claim.specs.Fails.{ActsOn, FitsAt, FollowsAt, IsActing, IsClaiming, ShowsAt, aborts, aborts_at, after_act, bare, bare_at, claims_at, claims_of, class, class_at, cost, cost_at, has_retired_at, is_retired_at, plan, plan_at, put, put_at, task as fail-task, fail_most, held_most}
 use Rattle.hwp_claim.proofs.FailLeaves.{IsLeft, act-claim, act-cost, claim-on, cleared-on, left, read-on}
 use Rattle.hwp_claim.proofs.FailLaws.{both}
 
@@ -142,14 +142,14 @@ module _ {layout : Layout} {seat : ℕ} {a b : State} {s t : Fail} {turned : Tur
   -- ---- a turn that doesn't wait
 
   abbrev Falls : FailAt → FailAt → Type 0
-  Falls x y = (cost_at y now < cost_at x w) ⊎ ((failures_left now < failures_left w) × (cost_at y now ≤ 583))
+  Falls x y = (cost_at y now < cost_at x w) ⊎ ((failures_left now < failures_left w) × (cost_at y now ≤ held_most + 12))
 
   falls-at : (x : FailAt) → FitsAt layout (view_of a seat) s.who s.frame s.required s.hardware x → plan_at x ≡ Some made.step → Moves (put_at x) → ShowsAt (bare_at x) made.found made.got → FollowsAt s.who s.frame s.required (bare_at x) made.found made.got t.at turned → is_waits turned ≡ false → Falls x t.at
   falls-at (at.Claim c) has e move shows follows goes =
-      let ends : cost_at t.at now ≤ claims.cost_with 571 (next-claim c).at now = (left-of c has t.at follows).cost now in
-      elim (claim-falls (claim-made c has e move) 571 (omega arith) (sym (ap is_waits follows.1) ∙ goes)) [
-        | inl less ↦ inl (let lower : claims.cost_with 571 (next-claim c).at now < claims.cost_with 571 c.at w = less in omega (arith, ends, lower))
-        | inr fails ↦ inr (fails.0, let few : claims.cost_with 571 (next-claim c).at now ≤ 571 + 12 = fails.1 in omega (arith, ends, few))
+      let ends : cost_at t.at now ≤ claims.cost_with held_most (next-claim c).at now = (left-of c has t.at follows).cost now in
+      elim (claim-falls (claim-made c has e move) held_most (omega arith) (sym (ap is_waits follows.1) ∙ goes)) [
+        | inl less ↦ inl (let lower : claims.cost_with held_most (next-claim c).at now < claims.cost_with held_most c.at w = less in omega (arith, ends, lower))
+        | inr fails ↦ inr (fails.0, let few : claims.cost_with held_most (next-claim c).at now ≤ held_most + 12 = fails.1 in omega (arith, ends, few))
       ]
   falls-at (at.Act cycle c) has e move shows follows goes = inl (act-less cycle c has e shows t.at follows)
   falls-at (at.Over answer) has e move shows follows goes = absurd (none-some made.step e)
@@ -165,9 +165,9 @@ module _ {layout : Layout} {seat : ℕ} {a b : State} {s t : Fail} {turned : Tur
   waits-at : (x : FailAt) → FitsAt layout (view_of a seat) s.who s.frame s.required s.hardware x → plan_at x ≡ Some made.step → Moves (put_at x) → FollowsAt s.who s.frame s.required (bare_at x) made.found made.got t.at turned → is_waits turned ≡ true → Quiet (class_at x) layout a seat → Waits x t.at
   waits-at (at.Claim c) has e move follows waits quiet =
       let rest : IsLeft s.frame (next-claim c).at t.at = left-of c has t.at follows in
-      let ends : cost_at t.at now ≤ claims.cost_with 571 (next-claim c).at now = rest.cost now in
-      elim (claim-waits (claim-made c has e move) 571 (omega arith) (sym (ap is_waits follows.1) ∙ waits) quiet) [
-        | inl less ↦ inl (let lower : claims.cost_with 571 (next-claim c).at now < claims.cost_with 571 c.at w = less in omega (arith, ends, lower))
+      let ends : cost_at t.at now ≤ claims.cost_with held_most (next-claim c).at now = rest.cost now in
+      elim (claim-waits (claim-made c has e move) held_most (omega arith) (sym (ap is_waits follows.1) ∙ waits) quiet) [
+        | inl less ↦ inl (let lower : claims.cost_with held_most (next-claim c).at now < claims.cost_with held_most c.at w = less in omega (arith, ends, lower))
         | inr gives ↦ inr (rest.aborts ∙ gives.0, gives.1)
       ]
   waits-at (at.Act cycle c) has e move follows waits quiet = absurd (both_ways true (sym waits ∙ act-goes c made.found follows.after turned follows.follows) refl)
@@ -253,21 +253,21 @@ fail-class f = which f.at
     which (at.Act cycle c) = pressed (acts.class c) (act-ranked.classes c)
     which (at.Over answer) = (omega arith, omega arith)
 
-pub fail-small : (f : Fail) (w : Words) → cost f w ≤ 8871
+pub fail-small : (f : Fail) (w : Words) → cost f w ≤ fail_most
 fail-small f w = which f.at
   where
-    which : (x : FailAt) → cost_at x w ≤ 8871
-    which (at.Claim c) = let few : claims.cost_with 571 c.at w ≤ 571 + 8300 = claim-small 571 c.at w in omega (arith, few)
-    which (at.Act cycle c) = let few : acts.cost c w ≤ 570 = act-small w c in omega (arith, few)
+    which : (x : FailAt) → cost_at x w ≤ fail_most
+    which (at.Claim c) = let few : claims.cost_with held_most c.at w ≤ held_most + claims.claim_most = claim-small held_most c.at w in omega (arith, few)
+    which (at.Act cycle c) = let few : acts.cost c w ≤ acts.act_most = act-small w c in omega (arith, few)
     which (at.Over answer) = omega arith
 
 pub fail-ranked : IsRanked fail-task
 fail-ranked = record {
   classes = fail-class;
-  small = λ layout a seat s rule fits. let few : cost s (words_at layout a) ≤ 8871 = fail-small s (words_at layout a) in omega (arith, few);
+  small = λ layout a seat s rule fits. let few : cost s (words_at layout a) ≤ fail_most = fail-small s (words_at layout a) in omega (arith, few);
   falls = λ layout seat a b s t turn made goes. elim (fail-falls made goes) [
     | inl less ↦ inl less
-    | inr fails ↦ inr (failed fails.0 (let few : cost t (words_at layout b) ≤ 583 = fails.1 in omega (arith, few)))
+    | inr fails ↦ inr (failed fails.0 (let few : cost t (words_at layout b) ≤ held_most + 12 = fails.1 in omega (arith, few)))
   ];
   waits = λ layout seat a b s t turn made is quiet. fail-waits made is quiet;
   leaves = λ layout seat a b s t turn made gives. inr (fail-leaves made gives);

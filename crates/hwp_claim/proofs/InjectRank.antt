@@ -41,10 +41,10 @@ inject-class i = which i.at
     which at.Stopped = (omega arith, omega arith)
 
 -- the turns of a failure are few
-pub inject-below : (i : Inject) (w : Words) → cost i w ≤ 8871
+pub inject-below : (i : Inject) (w : Words) → cost i w ≤ fails.fail_most
 inject-below i w = which i.at
   where
-    which : (x : InjectAt) → cost_at x w ≤ 8871
+    which : (x : InjectAt) → cost_at x w ≤ fails.fail_most
     which at.LoadStop = omega arith
     which (at.Fail f) = fail-small f w
     which at.Stopped = omega arith
@@ -122,7 +122,7 @@ module _ {layout : Layout} {seat : ℕ} {a b : State} {s t : Inject} {turn : Tur
 pub inject-ranked : IsRanked inject-task
 inject-ranked = record {
   classes = inject-class;
-  small = λ layout a seat s rule fits. let few : cost s (words_at layout a) ≤ 8871 = inject-below s (words_at layout a) in omega (arith, few);
+  small = λ layout a seat s rule fits. let few : cost s (words_at layout a) ≤ fails.fail_most = inject-below s (words_at layout a) in omega (arith, few);
   falls = λ layout seat a b s t turn made goes. falls made goes;
   waits = λ layout seat a b s t turn made is quiet. waits-at made s.at t.at made.planned made.fits.at made.move made.follows.1 is quiet;
   leaves = λ layout seat a b s t turn made gives. leaves-at made s.at t.at made.planned made.fits.at made.move made.follows.1 gives;

@@ -1,5 +1,5 @@
--- Steps that set no policy, take no losses, neither mark nor count a frame, damage no line and don't stop the machine leave what a
--- view lists of these; and once its frame is claimed a failure makes only such.
+-- Steps that set no policy, neither mark nor count a frame, damage no line and don't stop the machine leave what a view lists of
+-- these; and once its frame is claimed a failure makes only such.
 use Rattle.std.proofs.Common.{◌≡◌, ℕ, ◌==◌, Bool, true, false, cond, Option, Some, None, refl, ap, ◌∙◌, subst}
 use Rattle.hwp_claim_frame.specs.hwp_geom.declared.Frame.{Frame}
 use Rattle.hwp_claim_frame.specs.hwp_geom.declared.Layout.{Layout}
@@ -43,11 +43,10 @@ use Rattle.hwp_claim_act.specs.Acts as acts
 use Rattle.hwp_claim_act.specs.Reads as reads
 use Rattle.hwp_claim_frame.specs.Done.{counts_owed}
 
--- the step sets no policy, takes no losses, neither marks nor counts a frame, damages no line and doesn't stop the machine
+-- the step sets no policy, neither marks nor counts a frame, damages no line and doesn't stop the machine
 abbrev pub IsQuiet : Step → Type 0
 IsQuiet (steps.Stop cpu) = ⊥
 IsQuiet (steps.SetPolicy thread policy settings) = ⊥
-IsQuiet (steps.ReportLost file) = ⊥
 IsQuiet (steps.Poison frame hardware) = ⊥
 IsQuiet (steps.Revive frame seen) = ⊥
 IsQuiet (steps.CountPoison hardware) = ⊥
@@ -65,56 +64,54 @@ pub record Alike (v x : View) : Type 0 where
   pub settings : x.settings ≡ v.settings
   pub stops : x.stops ≡ v.stops
   pub marks : x.marks ≡ v.marks
-  pub reported : x.reported ≡ v.reported
   pub owed : counts_owed x ≡ counts_owed v
   pub spoiled : x.spoiled ≡ v.spoiled
 
 same : (v : View) → Alike v v
-same v = record { settings = refl; stops = refl; marks = refl; reported = refl; owed = refl; spoiled = refl }
+same v = record { settings = refl; stops = refl; marks = refl; owed = refl; spoiled = refl }
 
 either : (b : Bool) (v x y : View) → Alike v x → Alike v y → Alike v (cond b x y)
 either true v x y g h = g
 either false v x y g h = h
 
 loads : (who : Who) (place : SharedWord) (found : ℕ) (v : View) → Alike v (loaded who place found v)
-loads who (places.Cache page) found v = record { settings = refl; stops = refl; marks = refl; reported = refl; owed = refl; spoiled = refl }
-loads who _ found v = record { settings = refl; stops = refl; marks = refl; reported = refl; owed = refl; spoiled = refl }
+loads who (places.Cache page) found v = record { settings = refl; stops = refl; marks = refl; owed = refl; spoiled = refl }
+loads who _ found v = record { settings = refl; stops = refl; marks = refl; owed = refl; spoiled = refl }
 
 takes-alike : (layout : Layout) (who : Who) (frame : Option Frame) (content : Option Log) (v x : View) → Alike v x → Alike v (taken layout who frame content x)
 takes-alike layout who frame None v x is = is
-takes-alike layout who frame (Some log) v x is = record { settings = is.settings; stops = is.stops; marks = is.marks; reported = is.reported; owed = is.owed; spoiled = is.spoiled }
+takes-alike layout who frame (Some log) v x is = record { settings = is.settings; stops = is.stops; marks = is.marks; owed = is.owed; spoiled = is.spoiled }
 
 lists-alike : (layout : Layout) (who : Who) (log : Log) (body : Option InHand) (v : View) → Alike v (listed_of layout who log body v)
 lists-alike layout who log None v = same v
-lists-alike layout who log (Some body) v = record { settings = refl; stops = refl; marks = refl; reported = refl; owed = refl; spoiled = refl }
+lists-alike layout who log (Some body) v = record { settings = refl; stops = refl; marks = refl; owed = refl; spoiled = refl }
 
 puts-alike : (layout : Layout) (who : Who) (content : Option Log) (v : View) → Alike v (put_home layout who content v)
 puts-alike layout who None v = same v
-puts-alike layout who (Some log) v = let is = lists-alike layout who log (body_of log.page v) v in record { settings = is.settings; stops = is.stops; marks = is.marks; reported = is.reported; owed = is.owed; spoiled = is.spoiled }
+puts-alike layout who (Some log) v = let is = lists-alike layout who log (body_of log.page v) v in record { settings = is.settings; stops = is.stops; marks = is.marks; owed = is.owed; spoiled = is.spoiled }
 
 by-quiet : (layout : Layout) (who : Who) (step : Step) (found : ℕ) (content : Option Log) (v : View) → IsQuiet step → Alike v (view_by layout who step found content v)
 by-quiet layout who (steps.Load place) found content v quiet = loads who place found v
-by-quiet layout who (steps.Reserve seen) found content v quiet = either (found == seen) v _ _ (record { settings = refl; stops = refl; marks = refl; reported = refl; owed = refl; spoiled = refl }) (record { settings = refl; stops = refl; marks = refl; reported = refl; owed = refl; spoiled = refl })
-by-quiet layout who (steps.TakeBit frame) found content v quiet = either (goes (steps.TakeBit frame) found) v _ _ (record { settings = refl; stops = refl; marks = refl; reported = refl; owed = refl; spoiled = refl }) (record { settings = refl; stops = refl; marks = refl; reported = refl; owed = refl; spoiled = refl })
-by-quiet layout who (steps.GetRef frame seen count) found content v quiet = either (found == seen) v _ _ (record { settings = refl; stops = refl; marks = refl; reported = refl; owed = refl; spoiled = refl }) (record { settings = refl; stops = refl; marks = refl; reported = refl; owed = refl; spoiled = refl })
-by-quiet layout who (steps.LockFrame frame) found content v quiet = either (goes (steps.LockFrame frame) found) v _ _ (takes-alike layout who (Some frame) content v _ (record { settings = refl; stops = refl; marks = refl; reported = refl; owed = refl; spoiled = refl })) (same v)
-by-quiet layout who (steps.UnlockFrame frame) found content v quiet = let is = puts-alike layout who content v in record { settings = is.settings; stops = is.stops; marks = is.marks; reported = is.reported; owed = is.owed; spoiled = is.spoiled }
+by-quiet layout who (steps.Reserve seen) found content v quiet = either (found == seen) v _ _ (record { settings = refl; stops = refl; marks = refl; owed = refl; spoiled = refl }) (record { settings = refl; stops = refl; marks = refl; owed = refl; spoiled = refl })
+by-quiet layout who (steps.TakeBit frame) found content v quiet = either (goes (steps.TakeBit frame) found) v _ _ (record { settings = refl; stops = refl; marks = refl; owed = refl; spoiled = refl }) (record { settings = refl; stops = refl; marks = refl; owed = refl; spoiled = refl })
+by-quiet layout who (steps.GetRef frame seen count) found content v quiet = either (found == seen) v _ _ (record { settings = refl; stops = refl; marks = refl; owed = refl; spoiled = refl }) (record { settings = refl; stops = refl; marks = refl; owed = refl; spoiled = refl })
+by-quiet layout who (steps.LockFrame frame) found content v quiet = either (goes (steps.LockFrame frame) found) v _ _ (takes-alike layout who (Some frame) content v _ (record { settings = refl; stops = refl; marks = refl; owed = refl; spoiled = refl })) (same v)
+by-quiet layout who (steps.UnlockFrame frame) found content v quiet = let is = puts-alike layout who content v in record { settings = is.settings; stops = is.stops; marks = is.marks; owed = is.owed; spoiled = is.spoiled }
 by-quiet layout who (steps.Revive frame seen) found content v quiet = absurd quiet
-by-quiet layout who (steps.ReportLost file) found content v quiet = absurd quiet
-by-quiet layout who (steps.LockPage page) found content v quiet = either (goes (steps.LockPage page) found) v _ _ (takes-alike layout who None content v _ (record { settings = refl; stops = refl; marks = refl; reported = refl; owed = refl; spoiled = refl })) (same v)
-by-quiet layout who (steps.UnlockPage page) found content v quiet = let is = puts-alike layout who content v in record { settings = is.settings; stops = is.stops; marks = is.marks; reported = is.reported; owed = is.owed; spoiled = is.spoiled }
+by-quiet layout who (steps.LockPage page) found content v quiet = either (goes (steps.LockPage page) found) v _ _ (takes-alike layout who None content v _ (record { settings = refl; stops = refl; marks = refl; owed = refl; spoiled = refl })) (same v)
+by-quiet layout who (steps.UnlockPage page) found content v quiet = let is = puts-alike layout who content v in record { settings = is.settings; stops = is.stops; marks = is.marks; owed = is.owed; spoiled = is.spoiled }
 by-quiet layout who (steps.Poison frame hardware) found content v quiet = absurd quiet
 by-quiet layout who (steps.Stop cpu) found content v quiet = absurd quiet
 by-quiet layout who (steps.Kill process page body) found content v quiet =
     let is = lists-alike layout who (log_of body.value) (body_of body.value.page v) v in
-    either (found == 0) v _ _ (record { settings = is.settings; stops = is.stops; marks = is.marks; reported = is.reported; owed = is.owed; spoiled = is.spoiled }) (record { settings = is.settings; stops = is.stops; marks = is.marks; reported = is.reported; owed = is.owed; spoiled = is.spoiled })
+    either (found == 0) v _ _ (record { settings = is.settings; stops = is.stops; marks = is.marks; owed = is.owed; spoiled = is.spoiled }) (record { settings = is.settings; stops = is.stops; marks = is.marks; owed = is.owed; spoiled = is.spoiled })
 by-quiet layout who (steps.SetPolicy thread policy settings) found content v quiet = absurd quiet
 by-quiet layout who (steps.CountPoison hardware) found content v quiet = absurd quiet
 by-quiet layout who steps.Uncount found content v quiet = absurd quiet
 by-quiet layout who (steps.Spoil frame line damage) found content v quiet = absurd quiet
 by-quiet layout who (steps.Lose file body) found content v quiet =
-    let is = lists-alike layout who (log_of body.value) (body_of body.value.page v) v in record { settings = is.settings; stops = is.stops; marks = is.marks; reported = is.reported; owed = is.owed; spoiled = is.spoiled }
-by-quiet layout who _ found content v quiet = record { settings = refl; stops = refl; marks = refl; reported = refl; owed = refl; spoiled = refl }
+    let is = lists-alike layout who (log_of body.value) (body_of body.value.page v) v in record { settings = is.settings; stops = is.stops; marks = is.marks; owed = is.owed; spoiled = is.spoiled }
+by-quiet layout who _ found content v quiet = record { settings = refl; stops = refl; marks = refl; owed = refl; spoiled = refl }
 
 -- what a view lists after such a step
 pub leaves : {layout : Layout} {who : Who} {step : Step} {put : Option Log} {old new : View} {found : ℕ} {got : Option BodyValue} → Steps layout who step put old new found got → IsQuiet step → Alike old new
@@ -124,7 +121,6 @@ leaves {layout} {who} {step} {put} {old} {new} {found} {got} made quiet =
       settings = ap (λ (v : View). v.settings) made.told.next ∙ is.settings;
       stops = ap (λ (v : View). v.stops) made.told.next ∙ is.stops;
       marks = ap (λ (v : View). v.marks) made.told.next ∙ is.marks;
-      reported = ap (λ (v : View). v.reported) made.told.next ∙ is.reported;
       owed = ap counts_owed made.told.next ∙ is.owed;
       spoiled = ap (λ (v : View). v.spoiled) made.told.next ∙ is.spoiled;
     }

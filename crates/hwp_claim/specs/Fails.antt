@@ -1,5 +1,5 @@
 -- A memory failure of a frame: the task's states, its steps and what they come to.
-use Rattle.std.specs.Prelude.{◌≡◌, ℕ, ◌<◌, Bool, true, false, cond, [], Option, Some, None, slice_get}
+use Rattle.std.specs.Prelude.{◌≡◌, ℕ, ◌+◌, ◌<◌, Bool, true, false, cond, [], Option, Some, None, slice_get}
 use Rattle.std.specs.declared.alloc.Global.{Global}
 use Rattle.hwp_claim_frame.specs.hwp_geom.declared.Frame.{Frame}
 use Rattle.hwp_claim_frame.specs.hwp_geom.declared.Layout.{Layout}
@@ -219,14 +219,21 @@ aborts_at _ = false
 abbrev pub aborts : Fail → Bool
 aborts f = aborts_at f.at
 
--- an action takes at most 570 turns
+-- the turns once the page is held: its action's
+abbrev pub held_most : ℕ
+held_most = acts.act_most + 1
+
 abbrev pub cost_at : FailAt → Words → ℕ
-cost_at (at.Claim c) words = claims.cost_with 571 c.at words
+cost_at (at.Claim c) words = claims.cost_with held_most c.at words
 cost_at (at.Act cycle a) words = acts.cost a words
 cost_at (at.Over answer) words = 0
 
 abbrev pub cost : Fail → Words → ℕ
 cost f words = cost_at f.at words
+
+-- it is no more than this
+abbrev pub fail_most : ℕ
+fail_most = held_most + claims.claim_most
 
 -- the task, as the laws of tasks read it
 abbrev pub task : Member Fail

@@ -14,7 +14,7 @@ use Rattle.hwp_evict.specs.hwp_core_rule.Lasting.{IsMild}
 use Rattle.hwp_evict.specs.hwp_core_rule.Words.{Words}
 use Rattle.hwp_evict.specs.hwp_core_task.declared.Turn.{Turn}
 use Rattle.hwp_evict.specs.hwp_core_task.Boards.{view_of}
-use Rattle.hwp_evict.specs.hwp_core_task.Ranks.{IsRanked, is_waits, words_at}
+use Rattle.hwp_evict.specs.hwp_core_task.Ranks.{IsRanked, is_waits, words_at, pass}
 use Rattle.hwp_evict.proofs.of_hwp_core_task.StepRanks.{rank-of, steps-on}
 use Rattle.hwp_evict.specs.hwp_core.declared.give_up.GiveUp.{GiveUp}
 use Rattle.hwp_evict.specs.hwp_core.GiveUps as give_ups
@@ -32,7 +32,7 @@ use Rattle.hwp_claim_act.specs.declared.failing.Entered.{Entered}
 use Rattle.hwp_claim_act.specs.declared.read_policies.ReadPolicies.{ReadPolicies}
 use Rattle.hwp_claim_act.specs.Abandons as abandons
 use Rattle.hwp_claim_act.specs.Acting.{Fits, FitsAt, task as act-task}
-use Rattle.hwp_claim_act.specs.Acts.{AfterRead, AfterReadAt, Enters, Follows, FollowsAt, Shows, ShowsAt, abandoned_at, after_abandon, after_clear, after_give_up, bare, bare_at, class, class_at, cost, cost_at, plan, plan_at}
+use Rattle.hwp_claim_act.specs.Acts.{AfterRead, AfterReadAt, Enters, Follows, FollowsAt, Shows, ShowsAt, abandoned_at, after_abandon, after_clear, after_give_up, bare, bare_at, class, class_at, cost, cost_at, plan, plan_at, act_most}
 use Rattle.hwp_claim_act.specs.Reads as reads
 use Rattle.hwp_claim_act.proofs.AbandonLaws.{abandon-classes, abandon-falls, abandon-mild, abandon-small}
 use Rattle.hwp_claim_act.proofs.ActLaws.{both}
@@ -50,14 +50,14 @@ clear-cost who page frame c entered w = which (is_none c.next)
 clear-cost-less : (who : Who) (page : Page) (frame : Frame) (c : Clear) (entered : Entered) (w : Words) (n : ℕ) → clears.cost c w < n → cost_at (after_clear who page frame c entered) w < n + 24
 clear-cost-less who page frame c entered w n less = let k = clear-cost who page frame c entered w in omega (arith, k, less)
 
-enters-cost : (who : Who) (page : Page) (frame : Frame) (required : Option Thread) (body : BodyValue) (r : ReadPolicies) (w : Words) (y : ActAt) → Enters who page frame required body r.seen.items y → cost_at y w ≤ 536
-enters-cost who page frame required body r w y is = subst (λ (x : ActAt). cost_at x w ≤ 536) (sym is.next_is) (let k = clear-cost who page frame is.clear is.entered w in let few = clear-small w is.clear in omega (arith, k, few))
+enters-cost : (who : Who) (page : Page) (frame : Frame) (required : Option Thread) (body : BodyValue) (r : ReadPolicies) (w : Words) (y : ActAt) → Enters who page frame required body r.seen.items y → cost_at y w ≤ pass + 16
+enters-cost who page frame required body r w y is = subst (λ (x : ActAt). cost_at x w ≤ pass + 16) (sym is.next_is) (let k = clear-cost who page frame is.clear is.entered w in let few = clear-small w is.clear in omega (arith, k, few))
 
-after-read-cost : (who : Who) (page : Page) (frame : Frame) (r : ReadPolicies) (w : Words) (n : ℕ) (y : ActAt) → reads.cost r < n → AfterRead who page frame r y → cost_at y w < n + 537
+after-read-cost : (who : Who) (page : Page) (frame : Frame) (r : ReadPolicies) (w : Words) (n : ℕ) (y : ActAt) → reads.cost r < n → AfterRead who page frame r y → cost_at y w < n + (pass + 17)
 after-read-cost who page frame r w n y less after = which r.next refl after
   where
-    which : (o : Option Thread) → r.next ≡ o → AfterReadAt who page frame r o y → cost_at y w < n + 537
-    which (Some thread) is after = subst (λ (x : ActAt). cost_at x w < n + 537) (sym after) (omega (arith, less))
+    which : (o : Option Thread) → r.next ≡ o → AfterReadAt who page frame r o y → cost_at y w < n + (pass + 17)
+    which (Some thread) is after = subst (λ (x : ActAt). cost_at x w < n + (pass + 17)) (sym after) (omega (arith, less))
     which None is after = let k = enters-cost who page frame r.required r.body r w y after in omega (arith, k)
 
 abandon-cost : (x : Abandon) (w : Words) → cost_at (after_abandon x) w ≤ abandons.cost x
@@ -93,10 +93,10 @@ act-falls layout view w now a step found next turn fits is shows follows = which
     which (at.GiveUp g) has e shows (is, same) = subst (λ (y : ActAt). cost_at y now < give_ups.cost g w) (sym is) (let k = give-up-cost (give_ups.next (give_ups.bare g) found) now in let less = give-up-falls w now g step found e in omega (arith, k, less))
     which (at.Over failed) has e shows follows = absurd (none-some step e)
 
-pub act-small : (w : Words) (a : Act) → cost a w ≤ 570
+pub act-small : (w : Words) (a : Act) → cost a w ≤ act_most
 act-small w a = which a.at
   where
-    which : (x : ActAt) → cost_at x w ≤ 570
+    which : (x : ActAt) → cost_at x w ≤ act_most
     which (at.Read r) = let few = reads-small r in omega (arith, few)
     which (at.Clear c losses failed body) = let few = clear-small w c in omega (arith, few)
     which (at.Abandon x) = let few = abandon-small x in omega (arith, few)

@@ -16,6 +16,7 @@ use Rattle.hwp_evict.specs.hwp_core.declared.give_up.GiveUp.{GiveUp}
 use Rattle.hwp_evict.specs.hwp_core.GiveUps as give_ups
 use Rattle.hwp_evict.specs.declared.clear.Clear.{Clear}
 use Rattle.hwp_evict.specs.Clears as clears
+use Rattle.hwp_evict.specs.hwp_core_task.Ranks.{pass}
 use Rattle.hwp_claim_act.specs.declared.abandon.Abandon.{Abandon}
 use Rattle.hwp_claim_act.specs.declared.abandon.AbandonAt.{AbandonAt}
 use Rattle.hwp_claim_act.specs.declared.abandon.AbandonAt.TheVariants as abandon_at
@@ -189,9 +190,9 @@ class_at (at.Over failed) = 4
 abbrev pub class : Act → ℕ
 class a = class_at a.at
 
--- the turns that are left: at most 512 translations are written, and 24 turns follow them
+-- the turns that are left: a page's translations are written, and 24 turns follow them
 abbrev pub cost_at : ActAt → Words → ℕ
-cost_at (at.Read r) words = reads.cost r + 537
+cost_at (at.Read r) words = reads.cost r + (pass + 17)
 cost_at (at.Clear c losses failed body) words = clears.cost c words + 24
 cost_at (at.Abandon a) words = abandons.cost a
 cost_at (at.GiveUp g) words = give_ups.cost g words
@@ -199,3 +200,7 @@ cost_at (at.Over failed) words = 0
 
 abbrev pub cost : Act → Words → ℕ
 cost a words = cost_at a.at words
+
+-- it is no more than this
+abbrev pub act_most : ℕ
+act_most = pass + 50

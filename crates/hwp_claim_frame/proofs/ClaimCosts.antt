@@ -20,7 +20,7 @@ use Rattle.hwp_core.specs.hwp_core_task.declared.Turn.{Turn}
 use Rattle.hwp_core.specs.hwp_core_task.declared.Turn.TheVariants.{Moved, Changed, NoMemory}
 use Rattle.hwp_core.specs.hwp_core_task.Boards.{view_of}
 use Rattle.hwp_core.specs.hwp_core_task.Calls.{logs, rec_of}
-use Rattle.hwp_core.specs.hwp_core_task.Ranks.{Made, Quiet, OtherHand, failures_left, is_waits, stale, words_at}
+use Rattle.hwp_core.specs.hwp_core_task.Ranks.{Made, Quiet, OtherHand, failures_left, is_waits, stale, words_at, stale_weight}
 use Rattle.hwp_core.proofs.of_hwp_core_task.Failures.{mild-leaves}
 use Rattle.hwp_core.proofs.of_hwp_core_task.StepRanks.{met, poison-fails, words-kept}
 use Rattle.hwp_core.specs.declared.unlock.Unlock.{Unlock}
@@ -42,7 +42,7 @@ use Rattle.hwp_core.specs.declared.release.ReleaseAt.{ReleaseAt}
 use Rattle.hwp_core.specs.declared.release.ReleaseAt.TheVariants as release_at
 use Rattle.hwp_claim_frame.specs.Grabs as grabs
 use Rattle.hwp_claim_frame.specs.Meets as meets
-use Rattle.hwp_claim_frame.specs.Claims.{plan, plan_at, put_at, bare, bare_at, stopped, poisoned, is_done, looked, after_grab, after_grab_by, after_meet, after_unlock, next, next_at, stop_turn, turn_at, FitsAt, class, class_at, aborts, aborts_at, cost, cost_with, task as claim-task}
+use Rattle.hwp_claim_frame.specs.Claims.{plan, plan_at, put_at, bare, bare_at, stopped, poisoned, is_done, looked, after_grab, after_grab_by, after_meet, after_unlock, next, next_at, stop_turn, turn_at, FitsAt, class, class_at, aborts, aborts_at, cost, cost_with, task as claim-task, claim_most}
 use Rattle.hwp_claim_frame.proofs.GrabCosts as grabbing
 use Rattle.hwp_claim_frame.proofs.GrabCosts.{grab-falls, grab-made, grab-leaves, grab-small, grab-waits, class-within}
 use Rattle.hwp_claim_frame.proofs.MeetCosts.{meet-class, meet-falls, meet-made, meet-mild, meet-small, never-waits}
@@ -121,7 +121,7 @@ module _ {layout : Layout} {seat : ℕ} {a b : State} {s t : Claim} {turned : Tu
   looked-word : Some (steps.Load (places.Frame s.frame)) ≡ Some made.step → slice_index (words_at layout b).frames s.frame.0 ≡ made.found
   looked-word e = ap (λ (w : Words). slice_index w.frames s.frame.0) (words-kept made (ap (λ (x : Step). word_after x made.found) (sym (same_Some (steps.Load (places.Frame s.frame)) made.step e)))) ∙ seen-word e
 
-  module _ (rest : ℕ) (few : rest + 11 < 4096) where
+  module _ (rest : ℕ) (few : rest + 11 < stale_weight) where
     abbrev Falls : ClaimAt → ClaimAt → Type 0
     Falls x y = (cost_with rest y (words_at layout b) < cost_with rest x (words_at layout a)) ⊎ ((failures_left (words_at layout b) < failures_left (words_at layout a)) × (cost_with rest y (words_at layout b) ≤ rest + 12))
 
@@ -246,16 +246,16 @@ claim-class c = which c.at
     which (at.Kernel cycle) = (omega arith, omega arith)
     which (at.Owned cycle page body) = (omega arith, omega arith)
 
-pub claim-small : (rest : ℕ) (x : ClaimAt) (w : Words) → cost_with rest x w ≤ rest + 8300
+pub claim-small : (rest : ℕ) (x : ClaimAt) (w : Words) → cost_with rest x w ≤ rest + claim_most
 claim-small rest x w = which x
   where
-    which : (x : ClaimAt) → cost_with rest x w ≤ rest + 8300
+    which : (x : ClaimAt) → cost_with rest x w ≤ rest + claim_most
     which at.Stop = omega arith
     which at.Poison = omega arith
     which (at.Count cycle) = omega arith
     which (at.Look cycle) = omega arith
-    which (at.Grab cycle g) = let small : grabs.cost_with 5 (rest + 11) g.frame g.at w ≤ 5 + (rest + 11) + 8196 = grab-small 5 (rest + 11) g w in omega (arith, small)
-    which (at.Meet cycle m) = let small : meets.cost_with (rest + 2) (rest + 11) m.frame m.at w ≤ rest + 11 + 4104 = meet-small (rest + 2) (rest + 11) (rest + 11) (omega arith) (omega arith) m.frame m.at w in omega (arith, small)
+    which (at.Grab cycle g) = let small : grabs.cost_with 5 (rest + 11) g.frame g.at w ≤ 5 + (rest + 11) + grabs.grab_most = grab-small 5 (rest + 11) g w in omega (arith, small)
+    which (at.Meet cycle m) = let small : meets.cost_with (rest + 2) (rest + 11) m.frame m.at w ≤ rest + 11 + meets.meet_most = meet-small (rest + 2) (rest + 11) (rest + 11) (omega arith) (omega arith) m.frame m.at w in omega (arith, small)
     which (at.Unlock cycle u) = let small : unlocks.cost u w ≤ 4 = unlock-small w u in omega (arith, small)
     which (at.Retire cycle) = omega arith
     which at.GaveUp = omega arith

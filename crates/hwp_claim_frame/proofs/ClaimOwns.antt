@@ -39,7 +39,7 @@ use Rattle.hwp_claim_frame.specs.declared.meet.MeetAt.TheVariants as meet_at
 use Rattle.hwp_claim_frame.specs.Grabs as grabs
 use Rattle.hwp_claim_frame.specs.Meets as meets
 use Rattle.hwp_claim_frame.specs.Meets.{has_ended, is_ended, owner_in}
-use Rattle.hwp_claim_frame.specs.Claims.{plan_at, bare_at, is_done, looked, after_grab, after_meet, next_at, FitsAt, class, claims, claims_at, cost, task as claim-task}
+use Rattle.hwp_claim_frame.specs.Claims.{plan_at, bare_at, is_done, looked, after_grab, after_meet, next_at, FitsAt, class, claims, claims_at, cost, task as claim-task, claim_most}
 use Rattle.hwp_claim_frame.proofs.GrabCosts as grab_costs
 use Rattle.hwp_claim_frame.proofs.MeetCosts.{meet-mild}
 use Rattle.hwp_claim_frame.proofs.PoisonLaws.{poison-owns}
@@ -216,7 +216,7 @@ module _ {layout : Layout} {seat : ℕ} {a b : State} {s t : Claim} {turned : Tu
 pub claim-ranked : IsRanked claim-task
 claim-ranked = record {
   classes = claim-class;
-  small = λ layout a seat s rule fits. let few : cost s (words_at layout a) ≤ 0 + 8300 = claim-small 0 s.at (words_at layout a) in omega (arith, few);
+  small = λ layout a seat s rule fits. let few : cost s (words_at layout a) ≤ 0 + claim_most = claim-small 0 s.at (words_at layout a) in omega (arith, few);
   falls = λ layout seat a b s t turn made goes. elim (claim-falls made 0 (omega arith) goes) [
     | inl less ↦ inl less
     | inr fails ↦ inr (failed fails.0 (let few : cost t (words_at layout b) ≤ 0 + 12 = fails.1 in omega (arith, few)))

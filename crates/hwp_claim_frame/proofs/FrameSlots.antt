@@ -22,6 +22,7 @@ use Rattle.hwp_core.specs.hwp_core_rule.Views.{locks_on}
 use Rattle.hwp_core.specs.hwp_core_rule.Words.{words_of, index}
 use Rattle.hwp_core.specs.hwp_core_rule.parts.Bodies.{IsAtHome, content_name}
 use Rattle.hwp_core.specs.hwp_core_rule.parts.Owners.{HoldsBoth}
+use Rattle.hwp_core.specs.hwp_geom.Limits.{page_limit}
 use Rattle.hwp_core.proofs.of_hwp_core_rule.PageWords.{same-page}
 use Rattle.hwp_core.proofs.of_hwp_core_rule.Lists.{at_map, map-was, term-le, same-number}
 use Rattle.hwp_core.proofs.of_hwp_core_rule.MetWords.{frame-word}
@@ -48,7 +49,7 @@ page-within layout s h frame found inside met page names = which (owner_of found
     which false some =
         let number : (owner_of found - 1) % 2 ^ 16 ≡ page.0 = ap (λ (p : Page). p.0) (same_Some (record { 0 = (owner_of found - 1) % 2 ^ 16 }) page (sym (ap (λ (c : Bool). cond c None (Some (record { 0 = (owner_of found - 1) % 2 ^ 16 }))) some) ∙ names)) in
         let other : owner_of found ≢ 0 = eqb-false (owner_of found) 0 some in
-        let pages : length layout.pages ≤ 256 = h.sound.pages in
+        let pages : length layout.pages ≤ page_limit = h.sound.pages in
         omega (arith, few)
 
 module _ (layout : Layout) (s : State) (h : Holds layout s) (frame : Frame) (found : ℕ) (inside : frame.0 < layout.frames) (met : found ≡ slice_index s.words (index layout (places.Frame frame))) (free : lock_of found ≡ 0) where
@@ -81,14 +82,14 @@ module _ (layout : Layout) (s : State) (h : Holds layout s) (frame : Frame) (fou
           let number : (owner_of found - 1) % 2 ^ 16 ≡ page.0 = eqb-true ((owner_of found - 1) % 2 ^ 16) page.0 (sym (ap (λ (c : Bool). is_page page (cond c None (Some (record { 0 = (owner_of found - 1) % 2 ^ 16 })))) some) ∙ is) in
           let other : owner_of found ≢ 0 = eqb-false (owner_of found) 0 some in
           let within : owner_of found - 1 < length layout.pages = owner-within (owner_of found - 1) (omega (arith, other)) in
-          let pages : length layout.pages ≤ 256 = h.sound.pages in
+          let pages : length layout.pages ≤ page_limit = h.sound.pages in
           omega (arith, other)
 
   pub owner-other : (page : Page) → is_owner page found ≡ false → owner_of found ≡ page.0 + 1 → ⊥
   owner-other page differs owner = both_ways (is_owner page found) differs (ap (λ (n : ℕ). is_page page (page_named n)) owner ∙ ap (is_page page) (page-named page small) ∙ same-number page.0 page.0 refl)
     where
       small : page.0 < 2 ^ 16
-      small = let within : page.0 < length layout.pages = owner-within page.0 owner in let pages : length layout.pages ≤ 256 = h.sound.pages in omega arith
+      small = let within : page.0 < length layout.pages = owner-within page.0 owner in let pages : length layout.pages ≤ page_limit = h.sound.pages in omega arith
 
   -- without a page, the word has no owner's number
   pub owner-none : owner_in found ≡ None → owner_of found ≡ 0

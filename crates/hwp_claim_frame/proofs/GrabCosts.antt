@@ -30,7 +30,7 @@ use Rattle.hwp_core.specs.hwp_core_task.declared.Turn.TheVariants.{Moved, Change
 use Rattle.hwp_core.specs.hwp_core_task.Boards.{view_of}
 use Rattle.hwp_core.specs.hwp_core_task.Calls.{rec_of}
 use Rattle.hwp_core.specs.hwp_core_task.Hands.{Hand, hand_of}
-use Rattle.hwp_core.specs.hwp_core_task.Ranks.{HasFrame, IsRanked, Made, OtherHand, is_waits, stale, words_at}
+use Rattle.hwp_core.specs.hwp_core_task.Ranks.{HasFrame, IsRanked, Made, OtherHand, is_waits, stale, words_at, stale_weight}
 use Rattle.hwp_core.specs.hwp_core_task.Turns.{Member}
 use Rattle.hwp_core.proofs.of_hwp_core_task.StepRanks.{met, pending-kept, words-after}
 use Rattle.hwp_core.proofs.FreeWords.{none-cleared}
@@ -38,7 +38,7 @@ use Rattle.hwp_core.proofs.TaskCosts.{met-own, stale-most}
 use Rattle.hwp_claim_frame.specs.declared.grab.Grab.{Grab}
 use Rattle.hwp_claim_frame.specs.declared.grab.GrabAt.{GrabAt}
 use Rattle.hwp_claim_frame.specs.declared.grab.GrabAt.TheVariants as at
-use Rattle.hwp_claim_frame.specs.Grabs.{at_available, has_bit, plan, plan_at, next, next_at, turn, turn_at, Fits, held_at, class, class_at, aborts, aborts_at, is_idle, cost, cost_with, task as grab-task}
+use Rattle.hwp_claim_frame.specs.Grabs.{at_available, has_bit, plan, plan_at, next, next_at, turn, turn_at, Fits, held_at, class, class_at, aborts, aborts_at, is_idle, cost, cost_with, task as grab-task, grab_most}
 
 -- ---- where a frame is
 
@@ -101,7 +101,7 @@ module _ (layout : Layout) (a : State) (rule : Holds layout a) (frame : Frame) (
       there = slice_get-get_or w.frames frame.0 0 (subst (λ (n : ℕ). frame.0 < n) (sym (shaped layout a rule).frames) inside)
 
   -- a frame that isn't free has references, or is in a hand
-  counted : free_bit w.frees frame.0 ≢ 1 → hands-in ≡ 0 → stale (is_idle frame w) ≡ 4096
+  counted : free_bit w.frees frame.0 ≢ 1 → hands-in ≡ 0 → stale (is_idle frame w) ≡ stale_weight
   counted not-free unhanded = ap stale (ne_eqb (count_of (slice_index w.frames frame.0)) 0 (λ e. let none : count_of (slice_index w.frames frame.0) ≡ 0 = e in let all = placed in omega (arith, none, all, not-free, unhanded)))
 
   -- no frame is free, where none is available and none reserved
@@ -121,7 +121,7 @@ now-own {step} {other} w now found is after = subst (λ (s : Step). now ≡ put 
 fresh : (w : Words) (found : ℕ) → w.available ≡ found → stale (w.available == found) ≡ 0
 fresh w found met = ap stale (same-number w.available found met)
 
-falls-on : (w now : Words) (g : Grab) (step : Step) (found rest back : ℕ) → back < 4096 → plan g ≡ Some step → read (place_of step) w ≡ found → now ≡ put (place_of step) (word_after step found) w → is_waits (turn g found) ≡ false
+falls-on : (w now : Words) (g : Grab) (step : Step) (found rest back : ℕ) → back < stale_weight → plan g ≡ Some step → read (place_of step) w ≡ found → now ≡ put (place_of step) (word_after step found) w → is_waits (turn g found) ≡ false
     → cost_with rest back g.frame (next_at g.frame g.at found) now < cost_with rest back g.frame g.at w
 falls-on w now g step found rest back few is met after goes = which g.at is goes
   where
@@ -139,7 +139,7 @@ falls-on w now g step found rest back few is met after goes = which g.at is goes
         same : stale (is_idle g.frame now) ≡ stale (is_idle g.frame w)
         same = ap (λ (u : Words). stale (is_idle g.frame u)) (now-own w now found e after)
 
-        number : (none : Bool) → stale (w.available == seen) ≡ 4096 → now.available ≡ found
+        number : (none : Bool) → stale (w.available == seen) ≡ stale_weight → now.available ≡ found
             → cost_with rest back g.frame (cond none at.LookAgain (at.Reserve found)) now < rest + 3 + stale (is_idle g.frame w) + stale (w.available == seen)
         number true costly left = omega (arith, few, costly)
         number false costly left = let fresh-now : stale (now.available == found) ≡ 0 = fresh now found left in let kept : stale (is_idle g.frame now) ≡ stale (is_idle g.frame w) = same in omega (arith, costly, fresh-now, kept)
@@ -178,7 +178,7 @@ module _ {S : Type 0} {m : Member S} {layout : Layout} {seat : ℕ} {a b : State
 -- ---- what a parent cites: whatever is left once the frame is grabbed, and whatever is left where its word is looked at again, as long
 -- as that is less than a test that fails counts
 
-module _ {layout : Layout} {seat : ℕ} {a b : State} {s t : Grab} {turned : Turn} (made : Made grab-task layout seat a b s t turned) (rest back : ℕ) (few : back < 4096) where
+module _ {layout : Layout} {seat : ℕ} {a b : State} {s t : Grab} {turned : Turn} (made : Made grab-task layout seat a b s t turned) (rest back : ℕ) (few : back < stale_weight) where
   abbrev before : ℕ
   before = cost_with rest back s.frame s.at (words_at layout a)
 
@@ -192,7 +192,7 @@ module _ {layout : Layout} {seat : ℕ} {a b : State} {s t : Grab} {turned : Tur
   grab-waits waits quiet = subst (λ (x : Grab). (cost_with rest back x.frame x.at (words_at layout b) < before) ⊎ ((aborts x ≡ true) × OtherHand a seat)) (sym made.follows.0)
       (which s.at made.planned made.fits.held (sym (ap is_waits made.follows.1) ∙ waits) quiet)
     where
-      has-references : free_bit (words_at layout a).frees s.frame.0 ≢ 1 → hands-in layout a made.rule s.frame made.fits.frame made.fits.users ≡ 0 → stale (is_idle s.frame (words_at layout a)) ≡ 4096
+      has-references : free_bit (words_at layout a).frees s.frame.0 ≢ 1 → hands-in layout a made.rule s.frame made.fits.frame made.fits.users ≡ 0 → stale (is_idle s.frame (words_at layout a)) ≡ stale_weight
       has-references = counted layout a made.rule s.frame made.fits.frame made.fits.users
 
       which : (x : GrabAt) → plan_at s.frame x ≡ Some made.step → hand_of (view_of a seat) ≡ held_at s.frame x → is_waits (turn_at s.frame x made.found) ≡ true → (2 ≤ class_at x → (i : ℕ) → i ≢ seat → HasFrame (view_of a i) → ⊥)
@@ -211,13 +211,13 @@ module _ {layout : Layout} {seat : ℕ} {a b : State} {s t : Grab} {turned : Tur
             | inr some ↦ let other = other-hand a seat s.frame.0 (ap (λ (h : Hand). h.hands) held) (omega (arith, some)) in absurd (quiet (omega arith) other.other other.differs (inr (inl other.has)))
           ]
 
-          costly : made.found ≡ 0 → stale (is_idle s.frame (words_at layout a)) ≡ 4096
+          costly : made.found ≡ 0 → stale (is_idle s.frame (words_at layout a)) ≡ stale_weight
           costly none = has-references (none-free layout a made.rule s.frame made.fits.frame made.fits.users (met-own (words_at layout a) made.found e (met made) ∙ none) unreserved) unhanded
 
           by : (none : Bool) → (made.found == 0) ≡ none → is_waits (cond none (Waits made.found) Moved) ≡ true
               → (cost_with rest back s.frame (cond none at.LookAgain (at.Reserve made.found)) (words_at layout b) < rest + 4 + stale (is_idle s.frame (words_at layout a)))
               ⊎ ((aborts_at (cond none at.LookAgain (at.Reserve made.found)) ≡ true) × OtherHand a seat)
-          by true is waits = let most : stale (is_idle s.frame (words_at layout a)) ≡ 4096 = costly (eqb-true made.found 0 is) in inl (omega (arith, few, most))
+          by true is waits = let most : stale (is_idle s.frame (words_at layout a)) ≡ stale_weight = costly (eqb-true made.found 0 is) in inl (omega (arith, few, most))
           by false is waits = absurd (both_ways true (sym waits) refl)
       which (at.Reserve seen) e held waits quiet = absurd (by (made.found == seen) waits)
         where
@@ -236,7 +236,7 @@ module _ {layout : Layout} {seat : ℕ} {a b : State} {s t : Grab} {turned : Tur
               → (cost_with rest back s.frame (cond went at.Adopt at.Unreserve) (words_at layout b) < rest + 2 + stale (is_idle s.frame (words_at layout a))) ⊎ ((aborts_at (cond went at.Adopt at.Unreserve) ≡ true) × OtherHand a seat)
           by true went waits = absurd (both_ways true (sym waits) refl)
           by false lost waits = elim (same-or (in_hand s.frame.0 (map (λ (v : View). v.hands) a.views)) 0) [
-            | inl none ↦ let most : stale (is_idle s.frame (words_at layout a)) ≡ 4096 = has-references (not-free lost) none in inl (omega (arith, few, most))
+            | inl none ↦ let most : stale (is_idle s.frame (words_at layout a)) ≡ stale_weight = has-references (not-free lost) none in inl (omega (arith, few, most))
             | inr some ↦ inr (refl, other-hand a seat s.frame.0 (ap (λ (h : Hand). h.hands) held) (omega (arith, some)))
           ]
       which at.Unreserve e held waits quiet = absurd (both_ways true (sym waits) refl)
@@ -244,16 +244,16 @@ module _ {layout : Layout} {seat : ℕ} {a b : State} {s t : Grab} {turned : Tur
       which at.LookAgain e held waits quiet = absurd (none-some made.step e)
       which (at.Grabbed word) e held waits quiet = absurd (none-some made.step e)
 
-pub grab-small : (rest back : ℕ) (g : Grab) (w : Words) → cost_with rest back g.frame g.at w ≤ rest + back + 8196
+pub grab-small : (rest back : ℕ) (g : Grab) (w : Words) → cost_with rest back g.frame g.at w ≤ rest + back + grab_most
 grab-small rest back g w = which g.at
   where
-    idle : stale (is_idle g.frame w) ≤ 4096
+    idle : stale (is_idle g.frame w) ≤ stale_weight
     idle = stale-most (is_idle g.frame w)
 
-    which : (x : GrabAt) → cost_with rest back g.frame x w ≤ rest + back + 8196
-    which at.LoadAvailable = let most : stale (is_idle g.frame w) ≤ 4096 = idle in omega (arith, most)
-    which (at.Reserve seen) = let most : stale (is_idle g.frame w) ≤ 4096 = idle in let more : stale (w.available == seen) ≤ 4096 = stale-most (w.available == seen) in omega (arith, most, more)
-    which at.TakeBit = let most : stale (is_idle g.frame w) ≤ 4096 = idle in omega (arith, most)
+    which : (x : GrabAt) → cost_with rest back g.frame x w ≤ rest + back + grab_most
+    which at.LoadAvailable = let most : stale (is_idle g.frame w) ≤ stale_weight = idle in omega (arith, most)
+    which (at.Reserve seen) = let most : stale (is_idle g.frame w) ≤ stale_weight = idle in let more : stale (w.available == seen) ≤ stale_weight = stale-most (w.available == seen) in omega (arith, most, more)
+    which at.TakeBit = let most : stale (is_idle g.frame w) ≤ stale_weight = idle in omega (arith, most)
     which at.Unreserve = omega arith
     which at.Adopt = omega arith
     which at.LookAgain = omega arith
@@ -302,7 +302,7 @@ mild s step is = which s.at is
 pub ranked : IsRanked grab-task
 ranked = record {
   classes = class-within;
-  small = λ layout a seat s rule fits. let few : cost s (words_at layout a) ≤ 8196 = grab-small 0 0 s (words_at layout a) in omega (arith, few);
+  small = λ layout a seat s rule fits. let few : cost s (words_at layout a) ≤ grab_most = grab-small 0 0 s (words_at layout a) in omega (arith, few);
   falls = λ layout seat a b s t turn made goes. inl (grab-falls made 0 0 (omega arith) goes);
   waits = λ layout seat a b s t turn made waits quiet. grab-waits made 0 0 (omega arith) waits quiet.frames;
   leaves = λ layout seat a b s t turn made aborts. inl (ap plan made.follows.0 ∙ ap (plan_at s.frame) (grab-leaves s made.found aborts));

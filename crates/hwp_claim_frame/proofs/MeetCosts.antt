@@ -28,7 +28,7 @@ use Rattle.hwp_core.specs.hwp_core_task.declared.Turn.TheVariants.{Moved, Change
 use Rattle.hwp_core.specs.hwp_core_task.Boards.{view_of}
 use Rattle.hwp_core.specs.hwp_core_task.Calls.{logs, rec_of}
 use Rattle.hwp_core.specs.hwp_core_task.Hands.{Hand}
-use Rattle.hwp_core.specs.hwp_core_task.Ranks.{Made, IsRanked, Quiet, is_waits, stale, words_at}
+use Rattle.hwp_core.specs.hwp_core_task.Ranks.{Made, IsRanked, Quiet, is_waits, stale, words_at, stale_weight}
 use Rattle.hwp_core.specs.hwp_core_task.Turns.{Member}
 use Rattle.hwp_core.proofs.of_hwp_core_task.StepRanks.{met, no-lock, no-page, rank-of, steps-on, words-after}
 use Rattle.hwp_core.specs.declared.release.Release.{Release}
@@ -40,7 +40,7 @@ use Rattle.hwp_core.proofs.TaskCosts.{met-own, release-class, release-falls, rel
 use Rattle.hwp_claim_frame.specs.declared.meet.Meet.{Meet}
 use Rattle.hwp_claim_frame.specs.declared.meet.MeetAt.{MeetAt}
 use Rattle.hwp_claim_frame.specs.declared.meet.MeetAt.TheVariants as at
-use Rattle.hwp_claim_frame.specs.Meets.{has_ended, is_owner, is_page, is_taken, owner_in, plan, plan_at, put as given, bare, bare_at, referenced, free_at, owned_at, released, next, next_at, ShowsAt, turn, turn_at, Fits, FitsAt, class, class_at, cost, cost_with, end_cost, word_in, task as meet-task}
+use Rattle.hwp_claim_frame.specs.Meets.{has_ended, is_owner, is_page, is_taken, owner_in, plan, plan_at, put as given, bare, bare_at, referenced, free_at, owned_at, released, next, next_at, ShowsAt, turn, turn_at, Fits, FitsAt, class, class_at, cost, cost_with, end_cost, word_in, task as meet-task, meet_most}
 use Rattle.hwp_claim_frame.proofs.MeetLaws.{both, paged-locks}
 
 released-cost : (rest again : ℕ) (frame : Frame) (ended : Bool) (r : Release) (w : Words) → cost_with rest again frame (released r ended) w ≡ end_cost rest again ended + releases.cost r w
@@ -97,7 +97,7 @@ module _ {S : Type 0} {m : Member S} {layout : Layout} {seat : ℕ} {a b : State
   }
 
 module _ {layout : Layout} {seat : ℕ} {a b : State} {s t : Meet} {turn : Turn} (made : Made meet-task layout seat a b s t turn) where
-  module _ (rest again : ℕ) (few : again ≤ rest + 4096) where
+  module _ (rest again : ℕ) (few : again ≤ rest + stale_weight) where
     -- the reference was got: the word is as it was, but for its count
     with-reference : (seen : ℕ) → Some (steps.GetRef s.frame seen 1) ≡ Some made.step → made.found ≡ seen → is_handled seen ≡ false → (o : Option Page) → owner_in seen ≡ o
         → cost_with rest again s.frame (referenced o) (words_at layout b) < rest + 8
@@ -123,13 +123,13 @@ module _ {layout : Layout} {seat : ℕ} {a b : State} {s t : Meet} {turn : Turn}
 
     free-cost : (e t : Bool) (w now : Words) → is_taken (word_in s.frame w) ≡ t → cost_with rest again s.frame (free_at made.got e t) now < rest + 5 + stale (not (is_taken (word_in s.frame w)))
     free-cost true t w now is = omega arith
-    free-cost false true w now is = let costly : stale (not (is_taken (word_in s.frame w))) ≡ 4096 = ap (λ (c : Bool). stale (not c)) is in omega (arith, few)
+    free-cost false true w now is = let costly : stale (not (is_taken (word_in s.frame w))) ≡ stale_weight = ap (λ (c : Bool). stale (not c)) is in omega (arith, few)
     free-cost false false w now is = omega arith
 
     owned-cost : (page : Page) (shelf got : Option BodyValue) (e o : Bool) (w now : Words) → is_owner page (word_in s.frame w) ≡ o → (e ≡ false → o ≡ true → is_some got ≡ true)
         → cost_with rest again s.frame (owned_at page shelf got e o) now < rest + 6 + stale (is_owner page (word_in s.frame w))
     owned-cost page shelf got true o w now is some = omega arith
-    owned-cost page shelf got false false w now is some = let costly : stale (is_owner page (word_in s.frame w)) ≡ 4096 = ap stale is in omega (arith, few)
+    owned-cost page shelf got false false w now is some = let costly : stale (is_owner page (word_in s.frame w)) ≡ stale_weight = ap stale is in omega (arith, few)
     owned-cost page shelf (Some body) false true w now is some = omega arith
     owned-cost page shelf None false true w now is some = absurd (both_ways true (sym (some refl refl)) refl)
 
@@ -141,7 +141,7 @@ module _ {layout : Layout} {seat : ℕ} {a b : State} {s t : Meet} {turn : Turn}
         by true same = let less : cost_with rest again s.frame (referenced (owner_in seen)) (words_at layout b) < rest + 8 = with-reference seen e (eqb-true made.found seen same) has.1.unhandled (owner_in seen) refl in omega arith
         by false other =
             let shown : word_in s.frame (words_at layout a) ≡ made.found = met-own (words_at layout a) made.found e (met made) in
-            let costly : stale (word_in s.frame (words_at layout a) == seen) ≡ 4096 = ap (λ (n : ℕ). stale (n == seen)) shown ∙ ap stale other in
+            let costly : stale (word_in s.frame (words_at layout a) == seen) ≡ stale_weight = ap (λ (n : ℕ). stale (n == seen)) shown ∙ ap stale other in
             omega (arith, few)
     falls-at at.LockFree e has shows goes = by (is_free made.found) goes
       where
@@ -232,14 +232,14 @@ meet-class m = which m.at
     which (at.Owned page body) = (omega arith, omega arith)
 
 -- the cost has a bound: `most` is one of what follows
-pub meet-small : (rest again most : ℕ) → rest ≤ most → again ≤ most → (frame : Frame) (x : MeetAt) (w : Words) → cost_with rest again frame x w ≤ most + 4104
+pub meet-small : (rest again most : ℕ) → rest ≤ most → again ≤ most → (frame : Frame) (x : MeetAt) (w : Words) → cost_with rest again frame x w ≤ most + meet_most
 meet-small rest again most few fewer frame x w = which x
   where
     ending : (ended : Bool) → end_cost rest again ended ≤ most
     ending true = few
     ending false = fewer
 
-    which : (x : MeetAt) → cost_with rest again frame x w ≤ most + 4104
+    which : (x : MeetAt) → cost_with rest again frame x w ≤ most + meet_most
     which (at.GetRef seen) = omega (arith, few, stale-most (word_in frame w == seen))
     which at.LockFree = omega (arith, few, stale-most (not (is_taken (word_in frame w))))
     which (at.LockPage page) = omega (arith, few, stale-most (is_owner page (word_in frame w)))
@@ -270,7 +270,7 @@ meet-mild s step is = which s.at is
     which (at.Owned page body) e = absurd (none-some step e)
 
 pub meet-ranked : IsRanked meet-task
-meet-ranked = rank-of meet-task (λ s. refl) meet-class (λ layout a seat s rule fits. let small : cost s (words_at layout a) ≤ 0 + 4104 = meet-small 0 0 0 (omega arith) (omega arith) s.frame s.at (words_at layout a) in omega arith)
+meet-ranked = rank-of meet-task (λ s. refl) meet-class (λ layout a seat s rule fits. let small : cost s (words_at layout a) ≤ 0 + meet_most = meet-small 0 0 0 (omega arith) (omega arith) s.frame s.at (words_at layout a) in omega arith)
     (λ layout seat a b s t turn made goes. meet-falls made 0 0 (omega arith) goes)
     (λ layout seat a b s t turn made waits quiet. absurd (never-waits made waits (class s) (omega arith) quiet))
     (λ s. refl) meet-mild

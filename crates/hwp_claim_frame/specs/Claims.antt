@@ -1,5 +1,5 @@
 -- A frame poisoned and taken from those that use it, or could: the task's states, its steps and what they come to.
-use Rattle.std.specs.Prelude.{◌≡◌, ◌⊎◌, ℕ, ◌+◌, ◌<◌, ◌==◌, ◌&&◌, ◌||◌, Bool, true, false, cond, min, List, [], ◌∷◌, ◌++◌, Option, Some, None, is_none, filter, slice_get}
+use Rattle.std.specs.Prelude.{◌≡◌, ◌⊎◌, ℕ, ◌+◌, ◌*◌, ◌<◌, ◌==◌, ◌&&◌, ◌||◌, Bool, true, false, cond, min, List, [], ◌∷◌, ◌++◌, Option, Some, None, is_none, filter, slice_get}
 use Rattle.std.specs.List.{sum_by}
 use Rattle.std.specs.Int.{from_bool}
 use Rattle.hwp_core.specs.hwp_geom.declared.Frame.{Frame}
@@ -26,6 +26,7 @@ use Rattle.hwp_core.specs.hwp_core_task.declared.Turn.TheVariants.{Moved, Change
 use Rattle.hwp_core.specs.hwp_core_task.Calls.{IsOnTurn}
 use Rattle.hwp_core.specs.hwp_core_task.Hands.{hand_of, empty}
 use Rattle.hwp_core.specs.hwp_core_task.Known.{Saw, SawStop}
+use Rattle.hwp_core.specs.hwp_core_task.Ranks.{stale_weight}
 use Rattle.hwp_core.specs.hwp_core_task.Turns.{Member}
 use Rattle.hwp_core.specs.declared.unlock.Unlock.{Unlock}
 use Rattle.hwp_core.specs.Unlocks as unlocks
@@ -363,6 +364,10 @@ cost_with rest _ words = 0
 
 abbrev pub cost : Claim → Words → ℕ
 cost c words = cost_with 0 c.at words
+
+-- over what follows once the page is held, it is no more than this
+abbrev pub claim_most : ℕ
+claim_most = 2 * stale_weight + 20
 
 -- the task, as the laws of tasks read it
 abbrev pub task : Member Claim

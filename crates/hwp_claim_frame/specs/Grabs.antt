@@ -1,5 +1,5 @@
 -- A frame taken out of the free ones: the task's states, its steps and what they come to.
-use Rattle.std.specs.Prelude.{◌≡◌, ℕ, ◌+◌, ◌-◌, ◌<◌, ◌==◌, Bool, true, false, cond, [], ◌∷◌, ◌++◌, Option, Some, None, slice_get, slice_index}
+use Rattle.std.specs.Prelude.{◌≡◌, ℕ, ◌+◌, ◌*◌, ◌-◌, ◌<◌, ◌==◌, Bool, true, false, cond, [], ◌∷◌, ◌++◌, Option, Some, None, slice_get, slice_index}
 use Rattle.hwp_core.specs.hwp_geom.declared.Frame.{Frame}
 use Rattle.hwp_core.specs.hwp_geom.declared.Layout.{Layout}
 use Rattle.hwp_core.specs.hwp_geom.declared.Who.{Who}
@@ -16,7 +16,7 @@ use Rattle.hwp_core.specs.hwp_core_task.declared.Turn.{Turn}
 use Rattle.hwp_core.specs.hwp_core_task.declared.Turn.TheVariants.{Moved, Changed, Waits}
 use Rattle.hwp_core.specs.hwp_core_task.Calls.{IsOnTurn}
 use Rattle.hwp_core.specs.hwp_core_task.Hands.{Hand, hand_of, empty}
-use Rattle.hwp_core.specs.hwp_core_task.Ranks.{stale}
+use Rattle.hwp_core.specs.hwp_core_task.Ranks.{stale, stale_weight}
 use Rattle.hwp_core.specs.hwp_core_task.Known.{SawAdopted}
 use Rattle.hwp_core.specs.hwp_core_task.Turns.{Member}
 use Rattle.hwp_core.specs.Releases.{adopted_lock}
@@ -164,6 +164,10 @@ cost_with rest back frame (at.Grabbed word) words = rest
 
 abbrev pub cost : Grab → Words → ℕ
 cost g words = cost_with 0 0 g.frame g.at words
+
+-- over what follows, it is no more than this
+abbrev pub grab_most : ℕ
+grab_most = 2 * stale_weight + 4
 
 -- the task, as the laws of tasks read it
 abbrev pub task : Member Grab

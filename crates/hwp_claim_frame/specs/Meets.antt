@@ -19,7 +19,7 @@ use Rattle.hwp_core.specs.hwp_core_task.declared.Turn.{Turn}
 use Rattle.hwp_core.specs.hwp_core_task.declared.Turn.TheVariants.{Moved, Changed, Waits}
 use Rattle.hwp_core.specs.hwp_core_task.Calls.{CanMake, IsOnTurn, logs}
 use Rattle.hwp_core.specs.hwp_core_task.Hands.{Hand, hand_of, hand_after, empty}
-use Rattle.hwp_core.specs.hwp_core_task.Ranks.{stale}
+use Rattle.hwp_core.specs.hwp_core_task.Ranks.{stale, stale_weight}
 use Rattle.hwp_core.specs.hwp_core_task.Known.{SawLog}
 use Rattle.hwp_core.specs.hwp_core_task.Turns.{Member}
 use Rattle.hwp_core.specs.declared.release.Release.{Release}
@@ -320,6 +320,10 @@ cost_with rest again frame (at.Owned page body) words = rest
 
 abbrev pub cost : Meet → Words → ℕ
 cost m words = cost_with 0 0 m.frame m.at words
+
+-- over what follows, it is no more than this
+abbrev pub meet_most : ℕ
+meet_most = stale_weight + 8
 
 -- the task, as the laws of tasks read it
 abbrev pub task : Member Meet

@@ -11,7 +11,7 @@ use Rattle.hwp_core_task.specs.hwp_core_rule.Steps.{place_of, word_after}
 use Rattle.hwp_core_task.specs.hwp_core_rule.Words.{Words, read}
 use Rattle.hwp_core_task.proofs.of_hwp_core_rule.Lists.{same-number}
 use Rattle.hwp_core_task.specs.declared.Turn.TheVariants.{Moved, Changed}
-use Rattle.hwp_core_task.specs.Ranks.{IsRanked, is_waits, stale, words_at}
+use Rattle.hwp_core_task.specs.Ranks.{IsRanked, is_waits, stale, stale_weight, words_at}
 use Rattle.hwp_core_task.proofs.StepRanks.{met, words-kept, rank-of}
 use Rattle.hwp_core.specs.declared.refer.Refer.{Refer}
 use Rattle.hwp_core.specs.declared.refer.ReferAt.{ReferAt}
@@ -38,16 +38,16 @@ refer-falls w now r step found is met kept = which r.at is
         by false other =
             let there : slice_index w.frames r.frame.0 ≡ found = met-own w found e met in
             let few : refers.cost_at r.frame (refer_at.Get found) now ≤ 1 = fresh r.frame found w now there (left-own w now found e kept (ap (λ (b : Bool). cond b ((seen + r.count * 16) % 2 ^ 64) found) other)) in
-            let costly : stale (slice_index w.frames r.frame.0 == seen) ≡ 4096 = ap (λ (n : ℕ). stale (n == seen)) there ∙ ap stale other in
+            let costly : stale (slice_index w.frames r.frame.0 == seen) ≡ stale_weight = ap (λ (n : ℕ). stale (n == seen)) there ∙ ap stale other in
             omega arith
     which refer_at.Over e = absurd (none-some step e)
 
-pub refer-small : (w : Words) (r : Refer) → refers.cost r w ≤ 4097
+pub refer-small : (w : Words) (r : Refer) → refers.cost r w ≤ stale_weight + 1
 refer-small w r = which r.at
   where
-    which : (x : ReferAt) → refers.cost_at r.frame x w ≤ 4097
+    which : (x : ReferAt) → refers.cost_at r.frame x w ≤ stale_weight + 1
     which refer_at.Load = omega arith
-    which (refer_at.Get seen) = let most : stale (slice_index w.frames r.frame.0 == seen) ≤ 4096 = stale-most (slice_index w.frames r.frame.0 == seen) in omega arith
+    which (refer_at.Get seen) = let most : stale (slice_index w.frames r.frame.0 == seen) ≤ stale_weight = stale-most (slice_index w.frames r.frame.0 == seen) in omega arith
     which refer_at.Over = omega arith
 
 pub refer-goes : (r : Refer) (found : ℕ) → is_waits (refers.turn r found) ≡ false
@@ -72,7 +72,7 @@ refer-mild s step is = which s.at is
     which refer_at.Over e = absurd (none-some step e)
 
 pub refer-ranked : IsRanked refers.task
-refer-ranked = rank-of refers.task (λ s. refl) (λ s. (omega arith, omega arith)) (λ layout a seat s rule fits. let few : refers.cost s (words_at layout a) ≤ 4097 = refer-small (words_at layout a) s in omega arith)
+refer-ranked = rank-of refers.task (λ s. refl) (λ s. (omega arith, omega arith)) (λ layout a seat s rule fits. let few : refers.cost s (words_at layout a) ≤ stale_weight + 1 = refer-small (words_at layout a) s in omega arith)
     (λ layout seat a b s t turn made goes. subst (λ (x : Refer). refers.cost x (words_at layout b) < refers.cost s (words_at layout a)) (sym made.follows.0)
     (refer-falls (words_at layout a) (words_at layout b) s made.step made.found made.planned (met made) (words-kept made)))
     (λ layout seat a b s t turn made is quiet. absurd (both_ways true (sym is ∙ ap is_waits made.follows.1 ∙ refer-goes s made.found) refl))

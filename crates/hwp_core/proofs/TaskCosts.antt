@@ -22,7 +22,7 @@ use Rattle.hwp_core_task.specs.declared.Turn.{Turn}
 use Rattle.hwp_core_task.specs.declared.Turn.TheVariants.{Moved, Changed, Waits}
 use Rattle.hwp_core_task.specs.Boards.{view_of}
 use Rattle.hwp_core_task.specs.Hands.{Hand}
-use Rattle.hwp_core_task.specs.Ranks.{Made, CostFalls, IsRanked, Quiet, is_waits, stale, words_at}
+use Rattle.hwp_core_task.specs.Ranks.{CostFalls, IsRanked, Made, Quiet, is_waits, stale, stale_weight, words_at}
 use Rattle.hwp_core_task.proofs.StepRanks.{met, words-kept, steps-on, no-page, no-lock, rank-of}
 use Rattle.hwp_core.specs.declared.hold.Hold.{Hold}
 use Rattle.hwp_core.specs.declared.hold.HoldAt.{HoldAt}
@@ -73,21 +73,21 @@ pin-falls w now p step found is met kept = which p.at is
         by false other =
             let there : slice_index w.frames p.frame.0 ≡ found = met-own w found e met in
             let few : pins.cost_at p.frame (pins.at_word found) now ≤ 1 = shown p.frame found w now there (left-own w now found e kept (ap (λ (b : Bool). cond b ((seen + 1 * 16) % 2 ^ 64) found) other)) in
-            let costly : stale (slice_index w.frames p.frame.0 == seen) ≡ 4096 = ap (λ (n : ℕ). stale (n == seen)) there ∙ ap stale other in
+            let costly : stale (slice_index w.frames p.frame.0 == seen) ≡ stale_weight = ap (λ (n : ℕ). stale (n == seen)) there ∙ ap stale other in
             omega arith
     which (pin_at.Held word) e = absurd (none-some step e)
     which (pin_at.Gone word) e = absurd (none-some step e)
 
-pub stale-most : (b : Bool) → stale b ≤ 4096
+pub stale-most : (b : Bool) → stale b ≤ stale_weight
 stale-most true = omega arith
 stale-most false = omega arith
 
-pub pin-small : (w : Words) (p : Pin) → pins.cost p w ≤ 4097
+pub pin-small : (w : Words) (p : Pin) → pins.cost p w ≤ stale_weight + 1
 pin-small w p = which p.at
   where
-    which : (x : PinAt) → pins.cost_at p.frame x w ≤ 4097
+    which : (x : PinAt) → pins.cost_at p.frame x w ≤ stale_weight + 1
     which pin_at.Load = omega arith
-    which (pin_at.Get seen) = let most : stale (slice_index w.frames p.frame.0 == seen) ≤ 4096 = stale-most (slice_index w.frames p.frame.0 == seen) in omega arith
+    which (pin_at.Get seen) = let most : stale (slice_index w.frames p.frame.0 == seen) ≤ stale_weight = stale-most (slice_index w.frames p.frame.0 == seen) in omega arith
     which (pin_at.Held word) = omega arith
     which (pin_at.Gone word) = omega arith
 
@@ -126,7 +126,7 @@ pin-lists s step is = which s.at is
     which (pin_at.Gone word) e = absurd (none-some step e)
 
 pub pin-ranked : IsRanked pins.task
-pin-ranked = rank-of pins.task (λ s. refl) (λ s. (omega arith, omega arith)) (λ layout a seat s rule fits. let few : pins.cost s (words_at layout a) ≤ 4097 = pin-small (words_at layout a) s in omega arith)
+pin-ranked = rank-of pins.task (λ s. refl) (λ s. (omega arith, omega arith)) (λ layout a seat s rule fits. let few : pins.cost s (words_at layout a) ≤ stale_weight + 1 = pin-small (words_at layout a) s in omega arith)
     (λ layout seat a b s t turn made goes. subst (λ (x : Pin). pins.cost x (words_at layout b) < pins.cost s (words_at layout a)) (sym made.follows.0)
     (pin-falls (words_at layout a) (words_at layout b) s made.step made.found made.planned (met made) (words-kept made)))
     (λ layout seat a b s t turn made is quiet. absurd (both_ways true (sym is ∙ ap is_waits made.follows.1 ∙ pin-goes s made.found) refl))
@@ -246,13 +246,13 @@ hold-falls w now h step found got is shows met kept goes = which h.at is shows g
         by false goes shows = absurd (both_ways true goes refl)
     which (hold_at.Held frame body) e shows goes = absurd (none-some step e)
 
-pub hold-small : (w : Words) (h : Hold) → holds.cost h w ≤ 4098
+pub hold-small : (w : Words) (h : Hold) → holds.cost h w ≤ stale_weight + 2
 hold-small w h = which h.at
   where
-    which : (x : HoldAt) → holds.cost_at x w ≤ 4098
+    which : (x : HoldAt) → holds.cost_at x w ≤ stale_weight + 2
     which hold_at.LockPage = omega arith
     which (hold_at.LoadCache body) = omega arith
-    which (hold_at.Pin p) = let most : pins.cost p w ≤ 4097 = pin-small w p in omega arith
+    which (hold_at.Pin p) = let most : pins.cost p w ≤ stale_weight + 1 = pin-small w p in omega arith
     which (hold_at.LockFrame frame) = omega arith
     which (hold_at.Held frame body) = omega arith
 
@@ -322,7 +322,7 @@ module _ {layout : Layout} {seat : ℕ} {a b : State} {s t : Hold} {turn : Turn}
       which (hold_at.Held frame body) e fits waits quiet = none-some made.step e
 
 pub hold-ranked : IsRanked holds.task
-hold-ranked = rank-of holds.task (λ s. refl) hold-class (λ layout a seat s rule fits. let few : holds.cost s (words_at layout a) ≤ 4098 = hold-small (words_at layout a) s in omega arith)
+hold-ranked = rank-of holds.task (λ s. refl) hold-class (λ layout a seat s rule fits. let few : holds.cost s (words_at layout a) ≤ stale_weight + 2 = hold-small (words_at layout a) s in omega arith)
     (λ layout seat a b s t turn made goes. held-cost-falls made goes) (λ layout seat a b s t turn made waits quiet. absurd (never-waits made waits quiet))
     (λ s. refl) hold-mild
 

@@ -32,7 +32,7 @@ use Rattle.hwp_core_rule.specs.parts.Damage.{DamageListed, is_spoil}
 use Rattle.hwp_core_rule.specs.parts.Entries.{EntriesListed, HasSeen, AreInOrder, weigh, Reaches}
 use Rattle.hwp_core_rule.specs.parts.Endings.{EndingsAgree, AreEnded, ShowsEnding}
 use Rattle.hwp_core_rule.specs.parts.Marks.{MarksAlternate, IsBefore, revivals_by}
-use Rattle.hwp_core_rule.specs.parts.Losses.{LossesBalance, Losing, IsPoisonLoss}
+use Rattle.hwp_core_rule.specs.parts.Losses.{LossesBalance, Losing, IsPoisonLoss, IsSeenLoss, made_of, owed_of}
 use Rattle.hwp_core_rule.specs.parts.Policies.{PoliciesListed, PolicyAgrees, IsSetByOwn, IsOf, settings_of, policy_after}
 use Rattle.hwp_core_rule.specs.parts.Exhaustion.{usable, is_marked}
 use Rattle.hwp_core_rule.specs.parts.Stops.{EndingsAndStopsStay}
@@ -50,7 +50,6 @@ use Rattle.hwp_core_rule.specs.declared.view.Sight.{Sight}
 use Rattle.hwp_core_rule.specs.declared.view.Length.{Length}
 use Rattle.hwp_core_rule.specs.declared.view.Spoiled.{Spoiled}
 use Rattle.hwp_core_rule.specs.declared.view.Setting.{Setting}
-use Rattle.hwp_core_rule.specs.declared.view.Reported.{Reported}
 use Rattle.hwp_core_rule.specs.declared.view.Part.{Part}
 use Rattle.hwp_page.specs.hwp_geom.declared.Cpu.{Cpu}
 use Rattle.hwp_page.specs.hwp_geom.declared.FileNo.{FileNo}
@@ -323,15 +322,16 @@ module _ (layout : Layout) (sound : IsSound layout) (w : Words) (o : AreOpening 
     shown = λ frame x there. unlisted (λ (v : View). v.sights) (λ (s : Sight). s.place ≡ places.Frame frame → IsBefore x s) (λ c. refl);
   }
 
-  losses-opened : LossesBalance layout w.losses (opening_homes layout) (map (λ (v : View). v.bodies) (opening_views layout)) (map losing_of (opening_views layout))
+  losses-opened : LossesBalance layout w.losses (opening_homes layout) (map (λ (v : View). v.bodies) (opening_views layout)) (map losing_of (opening_views layout)) (map (λ (v : View). v.sights) (opening_views layout))
   losses-opened = record {
     balance = λ file x there.
         let none : x ≡ 0 = is-zero w.losses layout.files file.0 x o.losses there in
-        let reported : sum_by (λ (v : Losing). sum_by (λ (r : Reported). cond (r.file.0 == file.0) r.count 0) v.reported) (map losing_of (opening_views layout)) ≡ 0 = no-sum losing_of (λ (v : Losing). sum_by (λ (r : Reported). cond (r.file.0 == file.0) r.count 0) v.reported) (λ c. refl) in
-        let owed : sum_by (λ (v : Losing). sum_by (λ (n : FileNo). from_bool (n.0 == file.0)) v.owed) (map losing_of (opening_views layout)) ≡ 0 = no-sum losing_of (λ (v : Losing). sum_by (λ (n : FileNo). from_bool (n.0 == file.0)) v.owed) (λ c. refl) in
+        let owed : sum_by (owed_of file) (map losing_of (opening_views layout)) ≡ 0 = no-sum losing_of (owed_of file) (λ c. refl) in
         let home : sum_by (of_home (losses_of layout file)) (opening_homes layout) ≡ 0 = homes-zero layout (losses_of layout file) (λ q. either-zero (is_same_file file (file_of layout (opening_log q).page))) in
         let hand : sum_all (λ (b : InHand). losses_of layout file b.log) (map (λ (v : View). v.bodies) (opening_views layout)) ≡ 0 = no-sum (λ (v : View). v.bodies) (sum_by (λ (b : InHand). losses_of layout file b.log)) (λ c. refl) in
         omega arith;
+    owing = λ file. WordsOpen.each-view losing_of (λ (v : Losing). owed_of file v ≤ made_of layout file v) layout.cpus (λ c less. omega arith);
+    shown = λ file x there. unlisted (λ (v : View). v.sights) (IsSeenLoss file x) (λ c. refl);
     declared = WordsOpen.each-view losing_of (λ (v : Losing). EachMember (λ (n : FileNo). n.0 < layout.files) v.owed) layout.cpus (λ c less. each-none (λ (n : FileNo). n.0 < layout.files));
     poisoned = WordsOpen.each-view losing_of IsPoisonLoss layout.cpus (λ c less. omega arith);
   }

@@ -198,13 +198,16 @@ module _ (layout : Layout) (w : Words) (homes : Homes) (views : List View) (seat
     endings-carried = keep (λ (v : View). v.sights) (λ l. EndingsAgree layout w.processes after (map (λ (v : View). v.bodies) (set views seat u)) l) views seat v u me refl
         (change (λ (v : View). v.bodies) (λ l. EndingsAgree layout w.processes after l (map (λ (v : View). v.sights) views)) views seat u endings-changed)
 
-    losses-carried : LossesBalance layout w.losses after (map (λ (v : View). v.bodies) (set views seat u)) (map losing_of (set views seat u))
-    losses-carried = keep losing_of (λ l. LossesBalance layout w.losses after (map (λ (v : View). v.bodies) (set views seat u)) l) views seat v u me refl
-        (change (λ (v : View). v.bodies) (λ l. LossesBalance layout w.losses after l (map losing_of views)) views seat u (record {
+    losses-carried : LossesBalance layout w.losses after (map (λ (v : View). v.bodies) (set views seat u)) (map losing_of (set views seat u)) (map (λ (v : View). v.sights) (set views seat u))
+    losses-carried = keep (λ (v : View). v.sights) (λ l. LossesBalance layout w.losses after (map (λ (v : View). v.bodies) (set views seat u)) (map losing_of (set views seat u)) l) views seat v u me refl
+        (keep losing_of (λ l. LossesBalance layout w.losses after (map (λ (v : View). v.bodies) (set views seat u)) l (map (λ (v : View). v.sights) views)) views seat v u me refl
+        (change (λ (v : View). v.bodies) (λ l. LossesBalance layout w.losses after l (map losing_of views) (map (λ (v : View). v.sights) views)) views seat u (record {
           balance = λ file p at. h.histories.losses.balance file p at ∙ sym (x.sums (losses_of layout file));
+          owing = h.histories.losses.owing;
+          shown = h.histories.losses.shown;
           declared = h.histories.losses.declared;
           poisoned = h.histories.losses.poisoned;
-        }))
+        })))
 
     stops-changed : EndingsAndStopsStay w.processes w.stop (set (all_bodies views) seat bodies) (map (λ (v : View). v.sights) views) (map (λ (v : View). v.stops) views)
     stops-changed = record {

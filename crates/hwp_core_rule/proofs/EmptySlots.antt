@@ -79,9 +79,11 @@ module _ (homes : Homes) (slot : ℕ) (was now : Option (Option Log)) (there : s
         bodies-each (λ (log : Log). s.word ≡ log.page.0 + 1 → SomeMember (λ (e : Entry). (is_ending layout process e.what ≡ true) × IsNotLater e.who s.stamp.who) log.entries) bodies (h.shown i list at j s is process e);
   }
 
-  pub slot-losses : (layout : Layout) (losses : List ℕ) (bodies : List (List InHand)) (views : List Losing) → LossesBalance layout losses homes bodies views → LossesBalance layout losses after bodies views
-  slot-losses layout losses bodies views h = record {
+  pub slot-losses : (layout : Layout) (losses : List ℕ) (bodies : List (List InHand)) (views : List Losing) (sights : List (List Sight)) → LossesBalance layout losses homes bodies views sights → LossesBalance layout losses after bodies views sights
+  slot-losses layout losses bodies views sights h = record {
     balance = λ file word there. h.balance file word there ∙ sym (bodies-sum (losses_of layout file) bodies);
+    owing = h.owing;
+    shown = h.shown;
     declared = h.declared;
     poisoned = h.poisoned;
   }
@@ -94,7 +96,7 @@ module _ (homes : Homes) (slot : ℕ) (was now : Option (Option Log)) (there : s
   slot-histories {layout} {processes} {losses} {views} h = record {
     entries = slot-entries (map (λ (v : View). v.bodies) views) (map (λ (v : View). (v.made, v.sights)) views) (map (λ (v : View). v.lengths) views) h.entries;
     endings = slot-endings layout processes (map (λ (v : View). v.bodies) views) (map (λ (v : View). v.sights) views) h.endings;
-    losses = slot-losses layout losses (map (λ (v : View). v.bodies) views) (map losing_of views) h.losses;
+    losses = slot-losses layout losses (map (λ (v : View). v.bodies) views) (map losing_of views) (map (λ (v : View). v.sights) views) h.losses;
   }
 
   pub slot-failures : {layout : Layout} {frames : List ℕ} {counter : ℕ} {bads weaks : List ℕ} {views : List View}

@@ -22,7 +22,6 @@ use Rattle.hwp_core_rule.specs.declared.view.Length.{Length}
 use Rattle.hwp_core_rule.specs.declared.view.Made.{Made}
 use Rattle.hwp_core_rule.specs.declared.view.Mark.{Mark}
 use Rattle.hwp_core_rule.specs.declared.view.PageLock.{PageLock}
-use Rattle.hwp_core_rule.specs.declared.view.Reported.{Reported}
 use Rattle.hwp_core_rule.specs.declared.view.Sight.{Sight}
 use Rattle.hwp_core_rule.specs.declared.view.Stamp.{Stamp}
 use Rattle.hwp_core_rule.specs.declared.view.View.{View}
@@ -38,13 +37,13 @@ use Rattle.hwp_core_rule.specs.parts.Endings.{EndingsAgree, AreEnded}
 use Rattle.hwp_core_rule.specs.parts.Entries.{EntriesListed, AreInOrder, weigh, weigh_from, HasSeen, Reaches}
 use Rattle.hwp_core_rule.specs.parts.Fits.{PageFits, Fits, KnowsWords, KnowsOwn}
 use Rattle.hwp_core_rule.specs.parts.Holdings.{AreOwn, IsPast}
-use Rattle.hwp_core_rule.specs.parts.Losses.{Losing, LossesBalance, IsPoisonLoss}
+use Rattle.hwp_core_rule.specs.parts.Losses.{Losing, LossesBalance, IsPoisonLoss, made_of, owed_of}
 use Rattle.hwp_core_rule.specs.parts.Stops.{EndingsAndStopsStay}
 use Rattle.hwp_core_rule.proofs.Lists.{change, keep, at_map, at_longer, sum-set, each-set, each-weaken, each-changed}
 use Rattle.hwp_core_rule.proofs.BodySlots.{all_bodies, held-bodies}
 use Rattle.hwp_core_rule.proofs.ListDrops.{sum-changed-one, each-changed-one}
 use Rattle.hwp_core_rule.proofs.MoreEntries.{each-append, seen-drop, weigh-append, made-weigh, made-each, or-left, fits-same, order-append}
-use Rattle.hwp_core_rule.proofs.OwedLosses.{made-of-file, owed-length, made-declared}
+use Rattle.hwp_core_rule.proofs.OwedLosses.{listed-of-file, made-of-file, owed-length, made-declared}
 use Rattle.hwp_core_rule.proofs.BodySlots
 use Rattle.hwp_core_rule.proofs.NotLater.{entries-not-later}
 use Rattle.hwp_core_rule.proofs.PartKeeps
@@ -209,19 +208,19 @@ module _ (layout : Layout) (w : Words) (homes : Homes) (views : List View) (seat
   owed-more : length (losses_made layout log.page more) ≡ losses_in more
   owed-more = owed-length layout log.page body.log (state_of layout log) more extends.page_is extends.leads
 
-  losses-listed : LossesBalance layout w.losses homes (set (all_bodies views) seat bodies) (set (map losing_of views) seat (losing_of u))
+  losses-listed : LossesBalance layout w.losses homes (set (all_bodies views) seat bodies) (set (map losing_of views) seat (losing_of u)) (map (λ (v : View). v.sights) views)
   losses-listed = record {
     balance = λ file x at.
-        let reported : Losing → ℕ = λ (v : Losing). sum_by (λ (r : Reported). cond (r.file.0 == file.0) r.count 0) v.reported in
-        let owed_of : Losing → ℕ = λ (v : Losing). sum_by (λ (n : FileNo). from_bool (n.0 == file.0)) v.owed in
-        let was : x + sum_by reported (map losing_of views) + sum_by owed_of (map losing_of views) ≡ sum_bodies (losses_of layout file) homes (all_bodies views) = h.histories.losses.balance file x at in
-        let reports : sum_by reported (set (map losing_of views) seat (losing_of u)) + reported (losing_of v) ≡ sum_by reported (map losing_of views) + reported (losing_of u) = sum-set reported (map losing_of views) seat (losing_of v) (losing_of u) my_losing in
-        let owes : sum_by owed_of (set (map losing_of views) seat (losing_of u)) + owed_of (losing_of v) ≡ sum_by owed_of (map losing_of views) + owed_of (losing_of u) = sum-set owed_of (map losing_of views) seat (losing_of v) (losing_of u) my_losing in
-        let same_reports : reported (losing_of u) ≡ reported (losing_of v) = refl in
-        let pushed : owed_of (losing_of u) ≡ owed_of (losing_of v) + sum_by (λ (n : FileNo). from_bool (n.0 == file.0)) (losses_made layout log.page more) = sum_by-append (λ (n : FileNo). from_bool (n.0 == file.0)) v.owed.losses (losses_made layout log.page more) in
-        let made_of : sum_by (λ (n : FileNo). from_bool (n.0 == file.0)) (losses_made layout log.page more) ≡ cond (is_same_file file (file_of layout log.page)) (losses_in more) 0 = made-of-file layout log.page file more in
+        let was : x + sum_by (owed_of file) (map losing_of views) ≡ sum_bodies (losses_of layout file) homes (all_bodies views) = h.histories.losses.balance file x at in
+        let owes : sum_by (owed_of file) (set (map losing_of views) seat (losing_of u)) + owed_of file (losing_of v) ≡ sum_by (owed_of file) (map losing_of views) + owed_of file (losing_of u) = sum-set (owed_of file) (map losing_of views) seat (losing_of v) (losing_of u) my_losing in
+        let pushed : owed_of file (losing_of u) ≡ owed_of file (losing_of v) + cond (is_same_file file (file_of layout log.page)) (losses_in more) 0 = owes-more file in
         let of_log : losses_of layout file log ≡ losses_of layout file body.log + cond (is_same_file file (file_of layout log.page)) (losses_in more) 0 = more-lost file in
         omega (arith, sums (losses_of layout file));
+    owing = λ file. each-set (λ (o : Losing). owed_of file o ≤ made_of layout file o) (map losing_of views) seat (losing_of u)
+        (let was : owed_of file (losing_of v) ≤ made_of layout file (losing_of v) = h.histories.losses.owing file seat (losing_of v) my_losing in
+        omega (arith, was, owes-more file, lists-more file))
+        (h.histories.losses.owing file);
+    shown = h.histories.losses.shown;
     declared = each-set (λ (o : Losing). EachMember (λ (n : FileNo). n.0 < layout.files) o.owed) (map losing_of views) seat (losing_of u)
         (each-append (λ (n : FileNo). n.0 < layout.files) v.owed.losses (losses_made layout log.page more) (h.histories.losses.declared seat (losing_of v) my_losing) (made-declared layout log.page more sound))
         h.histories.losses.declared;
@@ -230,6 +229,15 @@ module _ (layout : Layout) (w : Words) (homes : Homes) (views : List View) (seat
     where
       my_losing : slice_get (map losing_of views) seat ≡ Some (losing_of v)
       my_losing = at_map losing_of views seat v me
+
+      -- as many of the file are owed more as are listed more
+      owes-more : (file : FileNo) → owed_of file (losing_of u) ≡ owed_of file (losing_of v) + cond (is_same_file file (file_of layout log.page)) (losses_in more) 0
+      owes-more file = sum_by-append (λ (n : FileNo). from_bool (n.0 == file.0)) v.owed.losses (losses_made layout log.page more) ∙ ap (λ (n : ℕ). owed_of file (losing_of v) + n) (made-of-file layout log.page file more)
+
+      lists-more : (file : FileNo) → made_of layout file (losing_of u) ≡ made_of layout file (losing_of v) + cond (is_same_file file (file_of layout log.page)) (losses_in more) 0
+      lists-more file =
+          sum_by-append (λ (m : Made). cond (is_same_file file (file_of layout m.page)) (from_bool (is_loss m.entry.what)) 0) v.made (made_from (stamp_of who v) log.page body.frame (length body.log.entries) more)
+          ∙ ap (λ (n : ℕ). made_of layout file (losing_of v) + n) (listed-of-file layout file (stamp_of who v) log.page body.frame (length body.log.entries) more)
 
       all-lost : losses_in log.entries ≡ losses_in body.log.entries + losses_in more
       all-lost = ap losses_in extends.longer ∙ sum_by-append (λ (e : Entry). from_bool (is_loss e.what)) body.log.entries more
@@ -318,8 +326,9 @@ module _ (layout : Layout) (w : Words) (homes : Homes) (views : List View) (seat
           (change (λ (v : View). v.bodies) (λ l. EntriesListed homes l (set (map (λ (v : View). (v.made, v.sights)) views) seat (made, v.sights)) (map (λ (v : View). v.lengths) views)) views seat u entries-listed));
       endings = keep (λ (v : View). v.sights) (λ l. EndingsAgree layout processes homes (map (λ (v : View). v.bodies) (set views seat u)) l) views seat v u me refl
           (change (λ (v : View). v.bodies) (λ l. EndingsAgree layout processes homes l (map (λ (v : View). v.sights) views)) views seat u endings);
-      losses = change losing_of (λ l. LossesBalance layout w.losses homes (map (λ (v : View). v.bodies) (set views seat u)) l) views seat u
-          (change (λ (v : View). v.bodies) (λ l. LossesBalance layout w.losses homes l (set (map losing_of views) seat (losing_of u))) views seat u losses-listed);
+      losses = keep (λ (v : View). v.sights) (λ l. LossesBalance layout w.losses homes (map (λ (v : View). v.bodies) (set views seat u)) (map losing_of (set views seat u)) l) views seat v u me refl
+          (change losing_of (λ l. LossesBalance layout w.losses homes (map (λ (v : View). v.bodies) (set views seat u)) l (map (λ (v : View). v.sights) views)) views seat u
+          (change (λ (v : View). v.bodies) (λ l. LossesBalance layout w.losses homes l (set (map losing_of views) seat (losing_of u)) (map (λ (v : View). v.sights) views)) views seat u losses-listed));
     };
     failures = record {
       handled = h.failures.handled;

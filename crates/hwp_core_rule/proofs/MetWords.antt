@@ -10,6 +10,7 @@ use Rattle.hwp_page.specs.hwp_geom.declared.Who.{Who}
 use Rattle.hwp_page.specs.hwp_geom.declared.Frame.{Frame}
 use Rattle.hwp_page.specs.hwp_geom.declared.Layout.{Layout}
 use Rattle.hwp_page.specs.hwp_geom.declared.Page.{Page}
+use Rattle.hwp_page.specs.hwp_geom.Limits.{frame_limit}
 use Rattle.hwp_words.specs.Frames.{lock_of, count_of, owner_of, handled_of, is_locked, is_handled}
 use Rattle.hwp_core_rule.specs.declared.log.Log.{Log}
 use Rattle.hwp_core_rule.specs.declared.shared_word.SharedWord.TheVariants as places
@@ -157,7 +158,7 @@ module _ (layout : Layout) (s : State) (h : Holds layout s) where
           within = subst (λ (n : ℕ). own.frame < n) (shaped layout s h).frames (slice_get_within (words_of layout s.words).frames own.frame own.owner_word own.there)
 
           small : own.frame < 2 ^ 16
-          small = let few : layout.frames ≤ 256 = h.sound.frames in omega (arith, within)
+          small = let few : layout.frames ≤ frame_limit = h.sound.frames in omega (arith, within)
 
   -- the shelf of an unlocked page has the page's body, if any, and that fits a cache word of 0
   pub on-shelf : (page : Page) (found : ℕ) (log : Log) → page.0 < length layout.pages → found ≡ slice_index s.words (index layout (places.Page page)) → lock_of found ≡ 0

@@ -6,6 +6,7 @@ use Rattle.std.proofs.lemmas.Option.{none-some, same_Some, slice_get_within, get
 use Rattle.std.specs.Int.{from_bool}
 use Rattle.std.specs.List.{sum_by}
 use Rattle.hwp_page.specs.hwp_geom.declared.FileNo.{FileNo}
+use Rattle.hwp_page.specs.hwp_geom.declared.Frame.{Frame}
 use Rattle.hwp_page.specs.hwp_geom.declared.Layout.{Layout}
 use Rattle.hwp_page.specs.hwp_geom.declared.Page.{Page}
 use Rattle.hwp_page.specs.hwp_geom.declared.PageKind.{PageKind}
@@ -23,9 +24,11 @@ use Rattle.hwp_page.specs.History.{Leads, state_after}
 use Rattle.hwp_page.specs.Losses.{is_loss, is_same_file, file_behind, losses_in}
 use Rattle.hwp_page.specs.Step.{Allowed, after}
 use Rattle.hwp_core_rule.specs.declared.log.Log.{Log}
+use Rattle.hwp_core_rule.specs.declared.view.Made.{Made}
+use Rattle.hwp_core_rule.specs.declared.view.Stamp.{Stamp}
 use Rattle.hwp_core_rule.specs.Lists.{EachMember}
 use Rattle.hwp_core_rule.specs.Logs.{opening_at, state_of, file_of}
-use Rattle.hwp_core_rule.specs.Views.{loss_made, losses_made}
+use Rattle.hwp_core_rule.specs.Views.{loss_made, losses_made, made_from}
 use Rattle.hwp_core_rule.proofs.MoreEntries.{each-append}
 
 -- ---- the kind of a page stays
@@ -100,9 +103,13 @@ none-made : (file : Option FileNo) → loss_made file false ≡ []
 none-made None = refl
 none-made (Some file) = refl
 
-nothing-lost : (b : Bool) → ◌≡◌ {A = ℕ} 0 (cond b 0 0)
+pub nothing-lost : (b : Bool) → ◌≡◌ {A = ℕ} 0 (cond b 0 0)
 nothing-lost true = refl
 nothing-lost false = refl
+
+pub apart : (b : Bool) (x y : ℕ) → cond b (x + y) 0 ≡ cond b x 0 + cond b y 0
+apart true x y = refl
+apart false x y = refl
 
 -- of a file so many as the entries lost of it
 pub made-of-file : (layout : Layout) (page : Page) (file : FileNo) (es : List Entry)
@@ -123,10 +130,6 @@ made-of-file layout page file (e ∷ es) =
     same : Bool
     same = is_same_file file (file_of layout page)
 
-    apart : (b : Bool) (x y : ℕ) → cond b (x + y) 0 ≡ cond b x 0 + cond b y 0
-    apart true x y = refl
-    apart false x y = refl
-
     by-test : (b : Bool) → from_bool b ≡ cond b 1 0
     by-test true = refl
     by-test false = refl
@@ -138,6 +141,24 @@ made-of-file layout page file (e ∷ es) =
         let tested : from_bool (other.0 == file.0) ≡ cond (other.0 == file.0) 1 0 = by-test (other.0 == file.0) in
         omega arith
     one (Some other) false = nothing-lost (other.0 == file.0)
+
+-- and so many are listed of it
+pub listed-of-file : (layout : Layout) (file : FileNo) (stamp : Stamp) (page : Page) (frame : Option Frame) (place : ℕ) (es : List Entry)
+    → sum_by (λ (m : Made). cond (is_same_file file (file_of layout m.page)) (from_bool (is_loss m.entry.what)) 0) (made_from stamp page frame place es) ≡ cond (is_same_file file (file_of layout page)) (losses_in es) 0
+listed-of-file layout file stamp page frame place [] = nothing-lost (is_same_file file (file_of layout page))
+listed-of-file layout file stamp page frame place (e ∷ es) =
+    let rest : sum_by of_file (made_from stamp page frame (suc place) es) ≡ cond same (losses_in es) 0 = listed-of-file layout file stamp page frame (suc place) es in
+    let both : sum_by of_file (made_from stamp page frame place (e ∷ es)) ≡ cond same (from_bool (is_loss e.what)) 0 + sum_by of_file (made_from stamp page frame (suc place) es) =
+    sum_by-cons of_file (record { stamp = stamp; page = page; place = place; entry = e; frame = frame }) (made_from stamp page frame (suc place) es) in
+    let all : losses_in (e ∷ es) ≡ from_bool (is_loss e.what) + losses_in es = sum_by-cons (λ (e : Entry). from_bool (is_loss e.what)) e es in
+    let sums : cond same (losses_in (e ∷ es)) 0 ≡ cond same (from_bool (is_loss e.what)) 0 + cond same (losses_in es) 0 = ap (λ (n : ℕ). cond same n 0) all ∙ apart same (from_bool (is_loss e.what)) (losses_in es) in
+    omega (arith, rest, both, sums)
+  where
+    of_file : Made → ℕ
+    of_file m = cond (is_same_file file (file_of layout m.page)) (from_bool (is_loss m.entry.what)) 0
+
+    same : Bool
+    same = is_same_file file (file_of layout page)
 
 -- one for each loss, since each loss is of a file
 pub made-length : (layout : Layout) (page : Page) (s t : PageState) (es : List Entry) → s.kind ≡ (opening_at (slice_get layout.pages page.0)).kind → Leads layout page s es t

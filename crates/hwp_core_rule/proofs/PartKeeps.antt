@@ -100,8 +100,8 @@ module _ (views : List View) (seat : ℕ) (v u : View) (me : slice_get views sea
   pub kept-marks : {frames : List ℕ} → (u.marks) ≡ (v.marks) → (u.sights) ≡ (v.sights) → MarksAlternate frames (map (λ (v : View). v.marks) views) (map (λ (v : View). v.sights) views) → MarksAlternate frames (map (λ (v : View). v.marks) (set views seat u)) (map (λ (v : View). v.sights) (set views seat u))
   kept-marks {frames} e0 e1 h = keep (λ (v : View). v.sights) (λ l. MarksAlternate frames (map (λ (v : View). v.marks) (set views seat u)) l) views seat v u me e1 (keep (λ (v : View). v.marks) (λ l. MarksAlternate frames l (map (λ (v : View). v.sights) views)) views seat v u me e0 (h))
 
-  pub kept-losses : {layout : Layout} {losses : List ℕ} {homes : Homes} → (u.bodies) ≡ (v.bodies) → (losing_of u) ≡ (losing_of v) → LossesBalance layout losses homes (map (λ (v : View). v.bodies) views) (map (λ (v : View). losing_of v) views) → LossesBalance layout losses homes (map (λ (v : View). v.bodies) (set views seat u)) (map (λ (v : View). losing_of v) (set views seat u))
-  kept-losses {layout} {losses} {homes} e0 e1 h = keep (λ (v : View). losing_of v) (λ l. LossesBalance layout losses homes (map (λ (v : View). v.bodies) (set views seat u)) l) views seat v u me e1 (keep (λ (v : View). v.bodies) (λ l. LossesBalance layout losses homes l (map (λ (v : View). losing_of v) views)) views seat v u me e0 (h))
+  pub kept-losses : {layout : Layout} {losses : List ℕ} {homes : Homes} → (u.bodies) ≡ (v.bodies) → (losing_of u) ≡ (losing_of v) → (u.sights) ≡ (v.sights) → LossesBalance layout losses homes (map (λ (v : View). v.bodies) views) (map losing_of views) (map (λ (v : View). v.sights) views) → LossesBalance layout losses homes (map (λ (v : View). v.bodies) (set views seat u)) (map losing_of (set views seat u)) (map (λ (v : View). v.sights) (set views seat u))
+  kept-losses {layout} {losses} {homes} e0 e1 e2 h = keep (λ (v : View). v.sights) (λ l. LossesBalance layout losses homes (map (λ (v : View). v.bodies) (set views seat u)) (map losing_of (set views seat u)) l) views seat v u me e2 (keep losing_of (λ l. LossesBalance layout losses homes (map (λ (v : View). v.bodies) (set views seat u)) l (map (λ (v : View). v.sights) views)) views seat v u me e1 (keep (λ (v : View). v.bodies) (λ l. LossesBalance layout losses homes l (map losing_of views) (map (λ (v : View). v.sights) views)) views seat v u me e0 (h)))
 
   pub kept-policies : {threads : List ThreadDecl} {policies : List ℕ} → u.parts ≡ v.parts → u.settings ≡ v.settings → (u.sights) ≡ (v.sights) → PoliciesListed threads policies (map (λ (v : View). (v.parts, v.settings)) views) (map (λ (v : View). v.sights) views) → PoliciesListed threads policies (map (λ (v : View). (v.parts, v.settings)) (set views seat u)) (map (λ (v : View). v.sights) (set views seat u))
   kept-policies {threads} {policies} e0a e0b e1 h = keep (λ (v : View). v.sights) (λ l. PoliciesListed threads policies (map (λ (v : View). (v.parts, v.settings)) (set views seat u)) l) views seat v u me e1 (keep (λ (v : View). (v.parts, v.settings)) (λ l. PoliciesListed threads policies l (map (λ (v : View). v.sights) views)) views seat v u me (λ i. (e0a i, e0b i)) (h))
@@ -144,7 +144,7 @@ module _ (views : List View) (seat : ℕ) (v u : View) (me : slice_get views sea
   same-histories e h = record {
     entries = kept-entries (λ i. (e i).0) (λ i. (e i).3.made) (λ i. (e i).1) (λ i. (e i).2) h.entries;
     endings = kept-endings (λ i. (e i).0) (λ i. (e i).1) h.endings;
-    losses = kept-losses (λ i. (e i).0) (λ i. (e i).3) h.losses;
+    losses = kept-losses (λ i. (e i).0) (λ i. (e i).3) (λ i. (e i).1) h.losses;
   }
 
   pub same-failures : {layout : Layout} {frames : List ℕ} {counter : ℕ} {bads weaks : List ℕ} {homes : Homes} → failures_read u ≡ failures_read v

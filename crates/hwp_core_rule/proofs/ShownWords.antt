@@ -1,9 +1,10 @@
--- Sights of words as they stand are explained: damage, policies, the stop, the counter and ended processes.
+-- Sights of words as they stand are explained: damage, policies, losses, the stop, the counter and ended processes.
 use Rattle.std.proofs.Common.{◌≡◌, ℕ, ◌+◌, ◌<◌, ◌≤◌, ◌||◌, Bool, true, false, List, [], ◌∷◌, Some, map, length, slice_get, suc, refl, sym, ap, ◌∙◌, subst, arith}
 use Rattle.std.specs.Int.{from_bool, bit_at}
 use Rattle.std.specs.List.{sum_by, list_any}
 use Rattle.std.proofs.Math.Seq.{take-length}
 use Rattle.std.proofs.lemmas.Option.{same_Some}
+use Rattle.hwp_page.specs.hwp_geom.declared.FileNo.{FileNo}
 use Rattle.hwp_page.specs.hwp_geom.declared.Frame.{Frame}
 use Rattle.hwp_page.specs.hwp_geom.declared.Layout.{Layout}
 use Rattle.hwp_page.specs.hwp_geom.declared.Proc.{Proc}
@@ -40,6 +41,7 @@ module _ (layout : Layout) (w : Words) (homes : Homes) (views : List View) (stam
     policy = λ thread d standing declared at i y this of e. absurd (elsewhere layout w homes views s (places.Policy thread) 3 refl (λ n. omega arith) e);
     exhaustion = λ e. absurd (elsewhere layout w homes views s places.Available 3 refl (λ n. omega arith) e);
     ended = λ process standing at e. absurd (elsewhere layout w homes views s (places.Process process) 3 refl (λ n. omega arith) e);
+    loss = λ f standing at e. absurd (elsewhere layout w homes views s (places.Loss f) 3 refl (λ n. omega arith) e);
     stop = λ e. absurd (elsewhere layout w homes views s places.Stop 3 refl (λ n. omega arith) e);
   }
     where
@@ -59,6 +61,7 @@ module _ (layout : Layout) (w : Words) (homes : Homes) (views : List View) (stam
     policy = λ thread d standing declared at i y this of e. absurd (elsewhere layout w homes views s (places.Policy thread) 4 refl (λ n. omega arith) e);
     exhaustion = λ e. absurd (elsewhere layout w homes views s places.Available 4 refl (λ n. omega arith) e);
     ended = λ process standing at e. absurd (elsewhere layout w homes views s (places.Process process) 4 refl (λ n. omega arith) e);
+    loss = λ f standing at e. absurd (elsewhere layout w homes views s (places.Loss f) 4 refl (λ n. omega arith) e);
     stop = λ e. absurd (elsewhere layout w homes views s places.Stop 4 refl (λ n. omega arith) e);
   }
     where
@@ -78,6 +81,7 @@ module _ (layout : Layout) (w : Words) (homes : Homes) (views : List View) (stam
     policy = λ thread d standing declared at i y this of e. absurd (elsewhere layout w homes views s (places.Policy thread) 8 refl (λ n. omega arith) e);
     exhaustion = λ e. absurd (elsewhere layout w homes views s places.Available 8 refl (λ n. omega arith) e);
     ended = λ process standing at e. absurd (elsewhere layout w homes views s (places.Process process) 8 refl (λ n. omega arith) e);
+    loss = λ f standing at e. absurd (elsewhere layout w homes views s (places.Loss f) 8 refl (λ n. omega arith) e);
     stop = λ e named. refl;
   }
     where
@@ -98,11 +102,31 @@ module _ (layout : Layout) (w : Words) (homes : Homes) (views : List View) (stam
         (length (settings_of t y.1), omega arith, same ∙ now.now ∙ ap policy_after (sym (take-length (settings_of t y.1))));
     exhaustion = λ e. absurd (elsewhere layout w homes views s places.Available 7 refl (λ n. omega arith) e);
     ended = λ process standing at e. absurd (elsewhere layout w homes views s (places.Process process) 7 refl (λ n. omega arith) e);
+    loss = λ f standing at e. absurd (elsewhere layout w homes views s (places.Loss f) 7 refl (λ n. omega arith) e);
     stop = λ e. absurd (elsewhere layout w homes views s places.Stop 7 refl (λ n. omega arith) e);
   }
     where
       s : Sight
       s = record { stamp = stamp; place = places.Policy thread; word = word }
+
+  pub explained-loss : (file : FileNo) (word : ℕ) → slice_get w.losses file.0 ≡ Some word → IsExplained layout w homes views (record { stamp = stamp; place = places.Loss file; word = word })
+  explained-loss file word there = record {
+    counter = λ e. absurd (elsewhere layout w homes views s places.Counter 9 refl (λ n. omega arith) e);
+    bad = λ f standing at e. absurd (elsewhere layout w homes views s (places.Bad f) 9 refl (λ n. omega arith) e);
+    weak = λ f standing at e. absurd (elsewhere layout w homes views s (places.Weak f) 9 refl (λ n. omega arith) e);
+    ending = λ process e. absurd (elsewhere layout w homes views s (places.Process process) 9 refl (λ n. omega arith) e);
+    mark = λ f standing at e. absurd (elsewhere layout w homes views s (places.Frame f) 9 refl (λ n. omega arith) e);
+    policy = λ thread d standing declared at i y this of e. absurd (elsewhere layout w homes views s (places.Policy thread) 9 refl (λ n. omega arith) e);
+    exhaustion = λ e. absurd (elsewhere layout w homes views s places.Available 9 refl (λ n. omega arith) e);
+    loss = λ f standing at e.
+        let same : word ≡ standing = same_Some word standing (sym there ∙ ap (slice_get w.losses) (ap shown_number e) ∙ at) in
+        omega (arith, same);
+    ended = λ process standing at e. absurd (elsewhere layout w homes views s (places.Process process) 9 refl (λ n. omega arith) e);
+    stop = λ e. absurd (elsewhere layout w homes views s places.Stop 9 refl (λ n. omega arith) e);
+  }
+    where
+      s : Sight
+      s = record { stamp = stamp; place = places.Loss file; word = word }
 
 -- a list with a member that passes the test has it
 some-any : {A : Type 0} (test : A → Bool) (l : List A) → list_any test l ≡ true → SomeMember (λ (x : A). test x ≡ true) l
@@ -131,6 +155,7 @@ module _ (layout : Layout) (w : Words) (homes : Homes) (views : List View) (seat
     policy = λ thread d standing declared at i y this of e. absurd (elsewhere layout w homes views s (places.Policy thread) 5 refl (λ n. omega arith) e);
     exhaustion = λ e. absurd (elsewhere layout w homes views s places.Available 5 refl (λ n. omega arith) e);
     ended = λ process standing at e. absurd (elsewhere layout w homes views s (places.Process process) 5 refl (λ n. omega arith) e);
+    loss = λ f standing at e. absurd (elsewhere layout w homes views s (places.Loss f) 5 refl (λ n. omega arith) e);
     stop = λ e. absurd (elsewhere layout w homes views s places.Stop 5 refl (λ n. omega arith) e);
   }
     where
@@ -177,6 +202,7 @@ module _ (layout : Layout) (w : Words) (homes : Homes) (views : List View) (seat
     policy = λ thread d standing declared at i y this of e. absurd (elsewhere layout w homes views s (places.Policy thread) 6 refl (λ n. omega arith) e);
     exhaustion = λ e. absurd (elsewhere layout w homes views s places.Available 6 refl (λ n. omega arith) e);
     ended = λ p standing at e named. same_Some standing word (sym at ∙ same p e);
+    loss = λ f standing at e. absurd (elsewhere layout w homes views s (places.Loss f) 6 refl (λ n. omega arith) e);
     stop = λ e. absurd (elsewhere layout w homes views s places.Stop 6 refl (λ n. omega arith) e);
   }
     where

@@ -3,6 +3,7 @@ use Rattle.std.proofs.Common.{◌≡◌, ◌≢◌, ℕ, ◌+◌, ◌*◌, ◌<�
 use Rattle.std.specs.Int.{bit_at}
 use Rattle.std.specs.List.{sum_by}
 use Rattle.std.proofs.lemmas.Option.{same_Some}
+use Rattle.hwp_page.specs.hwp_geom.declared.FileNo.{FileNo}
 use Rattle.hwp_page.specs.hwp_geom.declared.Frame.{Frame}
 use Rattle.hwp_page.specs.hwp_geom.declared.Layout.{Layout}
 use Rattle.hwp_page.specs.hwp_geom.declared.Proc.{Proc}
@@ -22,7 +23,7 @@ use Rattle.hwp_core_rule.specs.declared.view.Sight.{Sight}
 use Rattle.hwp_core_rule.specs.declared.view.Stamp.{Stamp}
 use Rattle.hwp_core_rule.specs.declared.view.View.{View}
 use Rattle.hwp_core_rule.specs.Lists.{Homes, EachMember, EachListed}
-use Rattle.hwp_core_rule.specs.Rule.{FrameRule, count_debts_of}
+use Rattle.hwp_core_rule.specs.Rule.{FrameRule, count_debts_of, losing_of}
 use Rattle.hwp_core_rule.specs.Steps.{policy_at}
 use Rattle.hwp_core_rule.specs.Views.{sighted, stamp_of}
 use Rattle.hwp_core_rule.specs.Words.{Words, sum_below, read, put}
@@ -32,6 +33,7 @@ use Rattle.hwp_core_rule.specs.parts.Endings.{EndingsAgree, ShowsEnding}
 use Rattle.hwp_core_rule.specs.parts.Entries.{EntriesListed, HasMask, HasPolicy, HasSeen, Shows}
 use Rattle.hwp_core_rule.specs.parts.Exhaustion.{ExhaustionExplained, usable, is_marked}
 use Rattle.hwp_core_rule.specs.parts.Holdings.{AreOwn, IsPast}
+use Rattle.hwp_core_rule.specs.parts.Losses.{IsSeenLoss, LossesBalance}
 use Rattle.hwp_core_rule.specs.parts.Marks.{MarksAlternate, IsBefore}
 use Rattle.hwp_core_rule.specs.parts.Policies.{PoliciesListed, PolicyAgrees, IsOf, settings_of, policy_after}
 use Rattle.hwp_core_rule.specs.parts.Stops.{EndingsAndStopsStay}
@@ -54,6 +56,7 @@ pub record IsExplained (layout : Layout) (w : Words) (homes : Homes) (views : Li
       → (n : ℕ) × (n ≤ length (settings_of thread v.1)) × (s.word ≡ policy_after (take n (settings_of thread v.1)))) (map (λ (v : View). (v.parts, v.settings)) views)
   pub exhaustion : s.place ≡ places.Available → s.word ≡ 0
       → sum_below (usable layout) layout.frames ≤ sum_below (is_marked layout (map (λ (v : View). v.marks) views)) layout.frames + length layout.pages + 2 * layout.cpus
+  pub loss : (file : FileNo) (word : ℕ) → slice_get w.losses file.0 ≡ Some word → IsSeenLoss file word s
   pub ended : (process : Proc) (word : ℕ) → slice_get w.processes process.0 ≡ Some word → s.place ≡ places.Process process → s.word ≢ 0 → word ≡ s.word
   pub stop : s.place ≡ places.Stop → stopper_of s.word ≢ 0 → stopper_of w.stop ≡ stopper_of s.word
 
@@ -159,7 +162,15 @@ module _ (layout : Layout) (w : Words) (homes : Homes) (views : List View) (seat
               taken = h.histories.endings.taken;
               shown = each-sight (ShowsEnding layout homes (map (λ (v : View). v.bodies) views)) me x.ending h.histories.endings.shown;
             }));
-        losses = PartKeeps.kept-losses views seat v u me refl refl h.histories.losses;
+        losses = keep losing_of (λ l. LossesBalance layout w.losses homes (map (λ (v : View). v.bodies) (set views seat u)) l (map (λ (v : View). v.sights) (set views seat u))) views seat v u me refl
+            (keep (λ (v : View). v.bodies) (λ l. LossesBalance layout w.losses homes l (map losing_of views) (map (λ (v : View). v.sights) (set views seat u))) views seat v u me refl
+            (change (λ (v : View). v.sights) (LossesBalance layout w.losses homes (map (λ (v : View). v.bodies) views) (map losing_of views)) views seat u (record {
+              balance = h.histories.losses.balance;
+              owing = h.histories.losses.owing;
+              shown = λ file word there. each-sight (IsSeenLoss file word) me (x.loss file word there) (h.histories.losses.shown file word there);
+              declared = h.histories.losses.declared;
+              poisoned = h.histories.losses.poisoned;
+            })));
       };
       failures = record {
         handled = h.failures.handled;
@@ -237,7 +248,7 @@ shown_place (places.Weak frame) = 4
 shown_place places.Counter = 5
 shown_place (places.Process process) = 6
 shown_place (places.Policy thread) = 7
-shown_place (places.Loss file) = 0
+shown_place (places.Loss file) = 9
 shown_place places.Stop = 8
 
 abbrev pub shown_number : SharedWord → ℕ
@@ -246,13 +257,14 @@ shown_number (places.Bad frame) = frame.0
 shown_number (places.Weak frame) = frame.0
 shown_number (places.Process process) = process.0
 shown_number (places.Policy thread) = thread.0
+shown_number (places.Loss file) = file.0
 shown_number _ = 0
 
 module _ (layout : Layout) (w : Words) (homes : Homes) (views : List View) (s : Sight) where
   pub elsewhere : (place : SharedWord) (n : ℕ) → shown_place s.place ≡ n → n ≢ shown_place place → s.place ≡ place → ⊥
   elsewhere place n is differs e = differs (sym is ∙ ap shown_place e)
 
-  -- a sight of a word that no part reads in sights: of a translation, a cache word, a page's lock, a free word, a loss
+  -- a sight of a word that no part reads in sights: of a translation, a cache word, a page's lock, a free word
   pub explained-quiet : shown_place s.place ≡ 0 → IsExplained layout w homes views s
   explained-quiet is = record {
     counter = λ e. absurd (elsewhere places.Counter 0 is (λ n. omega arith) e);
@@ -262,6 +274,7 @@ module _ (layout : Layout) (w : Words) (homes : Homes) (views : List View) (s : 
     mark = λ frame word there e. absurd (elsewhere (places.Frame frame) 0 is (λ n. omega arith) e);
     policy = λ thread d word declared there i y this of e. absurd (elsewhere (places.Policy thread) 0 is (λ n. omega arith) e);
     exhaustion = λ e. absurd (elsewhere places.Available 0 is (λ n. omega arith) e);
+    loss = λ file word there e. absurd (elsewhere (places.Loss file) 0 is (λ n. omega arith) e);
     ended = λ process word there e. absurd (elsewhere (places.Process process) 0 is (λ n. omega arith) e);
     stop = λ e. absurd (elsewhere places.Stop 0 is (λ n. omega arith) e);
   }
@@ -276,6 +289,7 @@ module _ (layout : Layout) (w : Words) (homes : Homes) (views : List View) (s : 
     mark = λ f word there e. before word (subst (λ (n : ℕ). slice_get w.frames n ≡ Some word) (ap shown_number (sym e ∙ is)) there);
     policy = λ thread d word declared there i y this of e. absurd (elsewhere (places.Policy thread) 1 frames (λ n. omega arith) e);
     exhaustion = λ e. absurd (elsewhere places.Available 1 frames (λ n. omega arith) e);
+    loss = λ file word there e. absurd (elsewhere (places.Loss file) 1 frames (λ n. omega arith) e);
     ended = λ process word there e. absurd (elsewhere (places.Process process) 1 frames (λ n. omega arith) e);
     stop = λ e. absurd (elsewhere places.Stop 1 frames (λ n. omega arith) e);
   }
@@ -295,6 +309,7 @@ module _ (layout : Layout) (w : Words) (homes : Homes) (views : List View) (s : 
     mark = λ f word there e. absurd (elsewhere (places.Frame f) 2 available (λ n. omega arith) e);
     policy = λ thread d word declared there i y this of e. absurd (elsewhere (places.Policy thread) 2 available (λ n. omega arith) e);
     exhaustion = λ e. why;
+    loss = λ file word there e. absurd (elsewhere (places.Loss file) 2 available (λ n. omega arith) e);
     ended = λ process word there e. absurd (elsewhere (places.Process process) 2 available (λ n. omega arith) e);
     stop = λ e. absurd (elsewhere places.Stop 2 available (λ n. omega arith) e);
   }

@@ -76,7 +76,6 @@ opening_view c = record {
   lengths = [];
   spoiled = [];
   settings = [];
-  reported = [];
   stops = [];
 }
 

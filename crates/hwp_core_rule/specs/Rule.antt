@@ -36,7 +36,7 @@ abbrev pub holdings_of : View → Holdings
 holdings_of v = record { reserved = v.reserved; hands = v.hands; refs = v.refs }
 
 abbrev pub losing_of : View → Losing
-losing_of v = record { owed = v.owed.losses; reported = v.reported; made = v.made; marks = v.marks }
+losing_of v = record { owed = v.owed.losses; made = v.made; marks = v.marks }
 
 -- frames: their counts, the one place of each, their locks, the free bits, and how many frames a view holds
 pub record FrameParts (layout : Layout) (frames trans caches frees : List ℕ) (available : ℕ) (views : List View) : Type 0 where
@@ -58,7 +58,7 @@ pub record PageParts (layout : Layout) (frames trans cache_words pages : List �
 pub record HistoryParts (layout : Layout) (processes loss_words : List ℕ) (homes : Homes) (views : List View) : Type 0 where
   pub entries : EntriesListed homes (map (λ (v : View). v.bodies) views) (map (λ (v : View). (v.made, v.sights)) views) (map (λ (v : View). v.lengths) views)
   pub endings : EndingsAgree layout processes homes (map (λ (v : View). v.bodies) views) (map (λ (v : View). v.sights) views)
-  pub losses : LossesBalance layout loss_words homes (map (λ (v : View). v.bodies) views) (map losing_of views)
+  pub losses : LossesBalance layout loss_words homes (map (λ (v : View). v.bodies) views) (map losing_of views) (map (λ (v : View). v.sights) views)
 
 -- failures: handled frames, the counter, bad and weak lines, marks, and why no frame is free
 pub record FailureParts (layout : Layout) (frames : List ℕ) (counter_word : ℕ) (bads weaks : List ℕ) (homes : Homes) (views : List View) : Type 0 where

@@ -151,7 +151,7 @@ word_after steps.GiveUp found = bit_or found (2 ^ 63)
 word_after (steps.Kill process page body) found = exchanged 0 (page.0 + 1) found
 word_after (steps.SetPolicy thread policy settings) found = policy_at (settings + 1) policy
 word_after (steps.Lose file body) found = (found + 1) % 2 ^ 64
-word_after (steps.ReportLost file) found = 0
+word_after (steps.ReportLost file) found = found
 
 -- the step went through, at the word that it found: an exchange met the word that it expects, a lock was free, a bit was
 -- there, the poison was not

@@ -283,8 +283,7 @@ view_by layout who (steps.Kill process page body) found content v =
 view_by layout who (steps.SetPolicy thread policy settings) found content v =
     record v { settings = v.settings ++ (record { stamp = stamp_of who v; thread = thread; policy = policy }) ∷ [] }
 view_by layout who (steps.Lose file body) found content v = lost_by layout who file (log_of body.value) v
-view_by layout who (steps.ReportLost file) found content v =
-    record (sighted who (places.Loss file) found v) { reported = v.reported ++ (record { stamp = stamp_of who v; file = file; count = found }) ∷ [] }
+view_by layout who (steps.ReportLost file) found content v = sighted who (places.Loss file) found v
 
 -- what every step notes: the command
 abbrev pub noted : Who → View → View

@@ -29,6 +29,6 @@ pub use slot_move::SlotMove;
 pub use step::Step;
 pub use view::{
     Debts, FrameInHand, FrameLock, InHand, Length, Made, Mark, MarkKind, PageLock, Part, Ref,
-    Reported, Setting, Sight, Spoiled, Stamp, View,
+    Setting, Sight, Spoiled, Stamp, View,
 };
 pub use words::{frame_in, index};

@@ -121,7 +121,7 @@ pub enum Step {
         file: FileNo,
         body: Snapshot<Body>,
     },
-    /// The losses of a file are read and set to 0.
+    /// The losses of a file are read.
     ReportLost {
         file: FileNo,
     },

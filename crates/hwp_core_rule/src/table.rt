@@ -41,7 +41,7 @@ impl Step {
         ensures { result ≡ tables.word_after self.now found }
     {
         match self {
-            Step::Load { .. } => found,
+            Step::Load { .. } | Step::ReportLost { .. } => found,
             Step::Reserve { seen } => exchanged(*seen, seen.saturating_sub(1), found),
             Step::TakeBit { frame } => found & !free_mask(*frame),
             Step::GiveBit { frame } => found | free_mask(*frame),
@@ -70,7 +70,6 @@ impl Step {
                 settings,
                 ..
             } => policy_set(*policy, *settings),
-            Step::ReportLost { .. } => 0,
         }
     }
 
@@ -91,6 +90,7 @@ impl Step {
     }
 
     /// What the step does to a slot, at the word that it found.
+    #[inline(always)]
     pub fn slot_move(&self, layout: &Layout, found: u64) -> SlotMove
         ensures { result ≡ slot_move layout.now self.now found }
     {

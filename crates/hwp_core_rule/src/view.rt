@@ -133,14 +133,6 @@ pub struct Setting {
     pub policy: Policy,
 }
 
-/// Losses of a file that were read and set to 0.
-#[derive(Clone, Copy)]
-pub struct Reported {
-    pub stamp: Stamp,
-    pub file: FileNo,
-    pub count: u64,
-}
-
 /// What a seat knows: its processors, what it holds and owes, and all that its steps did and showed.
 #[derive(Drop)]
 pub struct View {
@@ -160,7 +152,6 @@ pub struct View {
     pub lengths: List<Length>,
     pub spoiled: List<Spoiled>,
     pub settings: List<Setting>,
-    pub reported: List<Reported>,
     /// The commands that stopped the machine.
     pub stops: List<Who>,
 }

@@ -8,6 +8,7 @@ use hwp_page::{Frame, Layout};
 use hwp_words::CacheWord;
 
 /// The place of a word in the list of all words.
+#[inline(always)]
 pub fn index(layout: &Layout, place: SharedWord) -> usize
     requires sound { IsSound layout.now }
     ensures value { result ≡ index layout.now place }

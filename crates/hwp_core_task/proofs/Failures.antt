@@ -10,6 +10,7 @@ use Rattle.hwp_core_rule.specs.hwp_geom.declared.Damage.TheVariants as damages
 use Rattle.hwp_core_rule.specs.hwp_geom.declared.Frame.{Frame}
 use Rattle.hwp_core_rule.specs.hwp_geom.declared.Layout.{Layout}
 use Rattle.hwp_core_rule.specs.hwp_geom.declared.Who.{Who}
+use Rattle.hwp_core_rule.specs.hwp_geom.Limits.{frame_limit}
 use Rattle.hwp_core_rule.specs.hwp_words.Frames.{lock_of, poison_of, handled_of, cycle_of, is_poisoned, is_kernel, handled_bit}
 use Rattle.hwp_core_rule.proofs.of_hwp_words.FieldLaws.{field-xor, field-xor_other}
 use Rattle.hwp_core_rule.proofs.of_hwp_words.FrameSteps.{fields-lock, fields-unlock, fields-poison}
@@ -39,7 +40,7 @@ use Rattle.hwp_core_rule.proofs.Lists.{same-or, keep, at_map}
 use Rattle.hwp_core_rule.proofs.MetWords.{hand-bare}
 use Rattle.hwp_core_rule.proofs.MoveKeeps.{shaped}
 use Rattle.hwp_core_rule.proofs.WordsByKind.{same-put, words-read, words-put}
-use Rattle.hwp_core_task.specs.Ranks.{Pending, failures_left, words_at}
+use Rattle.hwp_core_task.specs.Ranks.{Pending, failure_room, failures_left, words_at}
 
 -- ---- the marks
 
@@ -261,11 +262,11 @@ sum-most (x ∷ xs) =
     omega (arith, rest, here)
 
 -- on a sound layout there are not many
-pub failures-few : (layout : Layout) (s : State) → Holds layout s → failures_left (words_at layout s) ≤ 512
+pub failures-few : (layout : Layout) (s : State) → Holds layout s → failures_left (words_at layout s) ≤ failure_room
 failures-few layout s rule =
     let most : failures_left (words_at layout s) ≤ 2 * length (words_at layout s).frames = sum-most (words_at layout s).frames in
     let all : length (words_at layout s).frames ≡ layout.frames = (shaped layout s rule).frames in
-    let few : layout.frames ≤ 256 = rule.sound.frames in
+    let few : layout.frames ≤ frame_limit = rule.sound.frames in
     omega (arith, most, all, few)
 
 -- ---- a step on a board

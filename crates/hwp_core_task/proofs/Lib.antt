@@ -6,6 +6,7 @@ pub mod Revivals
 pub mod SightKeeps
 pub mod MadeEntries
 pub mod OwedLosses
+pub mod LossCovers
 pub use Rattle.hwp_core_rule.proofs as of_hwp_core_rule
 pub use Rattle.hwp_core_rule.proofs.of_hwp_geom as of_hwp_geom
 pub use Rattle.hwp_core_rule.proofs.of_hwp_kill as of_hwp_kill

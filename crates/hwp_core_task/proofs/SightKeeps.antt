@@ -34,7 +34,7 @@ use Rattle.hwp_core_rule.proofs.Lists.{at_map, some-push, some-last}
 use Rattle.hwp_core_rule.proofs.MetWords.{free-word, on-shelf}
 use Rattle.hwp_core_task.specs.Calls.{Steps}
 use Rattle.hwp_core_task.proofs.StepLeaves.{brought, content_of, was-home}
-use Rattle.hwp_core_task.specs.Known.{IsAdoption, IsLook, IsMet, IsShown, Saw, SawAdopted, SawBadOf, SawLog, SawStop}
+use Rattle.hwp_core_task.specs.Known.{HasSeenLoss, IsAdoption, IsLook, IsMet, IsShown, Saw, SawAdopted, SawBadOf, SawLog, SawStop}
 use Rattle.hwp_core_task.specs.Pages.{SawState}
 
 -- every sight and every history that was seen stays
@@ -128,6 +128,9 @@ module _ {layout : Layout} {who : Who} {step : Step} {put : Option Log} {old new
   pub saw-stays : {by : Who} {place : SharedWord} {word : ℕ} → Saw old by place word → Saw new by place word
   saw-stays {by} {place} {word} saw = grows.sights (IsShown by place word) saw
 
+  pub seen-loss-stays : {file : FileNo} {number : ℕ} → HasSeenLoss old file number → HasSeenLoss new file number
+  seen-loss-stays {file} {number} seen = grows.sights (λ (s : Sight). (s.place ≡ places.Loss file) × (s.word ≡ number)) seen
+
   pub saw-adopted-stays : {by : Who} {frame : Frame} {word : ℕ} → SawAdopted old by frame word → SawAdopted new by frame word
   saw-adopted-stays {by} {frame} {word} saw = grows.sights (IsAdoption by frame word) saw
 
@@ -170,7 +173,7 @@ module _ {layout : Layout} {who : Who} {put : Option Log} {old new : View} {foun
   pub saw-get-ref : {frame : Frame} {seen count : ℕ} → Steps layout who (steps.GetRef frame seen count) put old new found got → (found == seen) ≡ false → Saw new who (places.Frame frame) found
   saw-get-ref {frame} {seen} {count} made other = last-shown who (places.Frame frame) found (noted who old) new (ap (λ (v : View). v.sights) made.told.next ∙ chose (found == seen) false _ _ other)
 
-  -- so do an adoption, under the lock that it takes, and the report of a file's losses
+  -- so do an adoption, under the lock that it takes, and the look at a file's losses
   pub saw-adopt : {frame : Frame} → Steps layout who (steps.Adopt frame) put old new found got → length old.locks < 2 → SawAdopted new who frame found
   saw-adopt {frame} made few = subst (SomeMember (IsAdoption who frame found)) (sym (ap (λ (v : View). v.sights) made.told.next))
       (some-last (IsAdoption who frame found) old.sights (record { stamp = stamp_of who (adopting frame found (noted who old)); place = places.Frame frame; word = found }) ((refl, refl, refl), named old.locks few))

@@ -1,12 +1,17 @@
 -- What a processor knows of one of its commands: the words that its steps showed, the histories that it saw, and the entries
 -- that it made.
-use Rattle.std.specs.Prelude.{◌≡◌, ◌⊎◌, ℕ, ◌+◌, ◌==◌, ◌&&◌, Bool, true, false, List, [], ◌∷◌, ◌++◌, Some, filter}
+use Rattle.std.specs.Prelude.{◌≡◌, ◌⊎◌, ℕ, ◌+◌, ◌≤◌, ◌==◌, nat_lt, ◌&&◌, Bool, true, false, cond, List, [], ◌∷◌, ◌++◌, Some, filter}
+use Rattle.std.specs.Int.{from_bool}
+use Rattle.std.specs.List.{sum_by}
+use Rattle.hwp_core_rule.specs.hwp_geom.declared.FileNo.{FileNo}
 use Rattle.hwp_core_rule.specs.hwp_geom.declared.Frame.{Frame}
+use Rattle.hwp_core_rule.specs.hwp_geom.declared.Layout.{Layout}
 use Rattle.hwp_core_rule.specs.hwp_geom.declared.Page.{Page}
 use Rattle.hwp_core_rule.specs.hwp_geom.declared.VSlot.{VSlot}
 use Rattle.hwp_core_rule.specs.hwp_geom.declared.Who.{Who}
 use Rattle.hwp_core_rule.specs.hwp_page.declared.What.{What}
 use Rattle.hwp_core_rule.specs.hwp_page.declared.What.TheVariants as entries
+use Rattle.hwp_core_rule.specs.hwp_page.Losses.{is_loss, is_same_file}
 use Rattle.hwp_core_rule.specs.hwp_words.Stops.{is_stopped}
 use Rattle.hwp_core_rule.specs.declared.Length.{Length}
 use Rattle.hwp_core_rule.specs.declared.Log.{Log}
@@ -16,6 +21,7 @@ use Rattle.hwp_core_rule.specs.declared.SharedWord.TheVariants as places
 use Rattle.hwp_core_rule.specs.declared.Sight.{Sight}
 use Rattle.hwp_core_rule.specs.declared.View.{View}
 use Rattle.hwp_core_rule.specs.Lists.{EachMember, SomeMember}
+use Rattle.hwp_core_rule.specs.Logs.{file_of}
 
 -- a step of the command showed the word at the place
 abbrev pub IsShown : Who → SharedWord → ℕ → Sight → Type 0
@@ -23,6 +29,19 @@ IsShown who place word s = (s.stamp.who ≡ who) × (s.place ≡ place) × (s.wo
 
 abbrev pub Saw : View → Who → SharedWord → ℕ → Type 0
 Saw view who place word = SomeMember (IsShown who place word) view.sights
+
+-- the losses of the file that the view lists of commands before this one
+abbrev pub earlier_losses : Layout → FileNo → Who → View → ℕ
+earlier_losses layout file who view =
+    sum_by (λ (m : Made). cond (is_same_file file (file_of layout m.page)) (from_bool (is_loss m.entry.what && nat_lt m.entry.who.seq who.seq)) 0) view.made
+
+-- they are at most this
+abbrev pub Covers : Layout → View → Who → FileNo → ℕ → Type 0
+Covers layout view who file n = earlier_losses layout file who view ≤ n
+
+-- a step of the processor showed the file's loss word at this number
+abbrev pub HasSeenLoss : View → FileNo → ℕ → Type 0
+HasSeenLoss view file number = SomeMember (λ (s : Sight). (s.place ≡ places.Loss file) × (s.word ≡ number)) view.sights
 
 -- a step of the command showed the word of a frame whose lock its seat has since; where the word is unlocked, the step adopted the
 -- frame

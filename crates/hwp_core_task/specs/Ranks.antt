@@ -1,5 +1,5 @@
 -- The law by which tasks come to an end: each turn lowers a task's cost, or waits for what another processor holds.
-use Rattle.std.specs.Prelude.{◌≡◌, ◌≢◌, ℕ, ◌+◌, ◌-◌, ◌*◌, ◌<◌, ◌≤◌, ◌⊎◌, Bool, true, false, cond, [], Option, Some, None, slice_index}
+use Rattle.std.specs.Prelude.{◌≡◌, ◌≢◌, ℕ, ◌+◌, ◌-◌, ◌*◌, ◌^◌, ◌<◌, ◌≤◌, ◌⊎◌, Bool, true, false, cond, [], Option, Some, None, slice_index}
 use Rattle.std.specs.List.{sum_by}
 use Rattle.hwp_core_rule.specs.hwp_geom.declared.Frame.{Frame}
 use Rattle.hwp_core_rule.specs.hwp_geom.declared.Layout.{Layout}
@@ -28,13 +28,51 @@ abbrev pub is_refused : Turn → Bool
 is_refused turns.NoMemory = true
 is_refused turn = false
 
+-- Room for larger machines than today's: no more translations than this, of whatever page
+abbrev pub translation_room : ℕ
+translation_room = 4096
+
+-- no more words of the free frames' bits
+abbrev pub free_room : ℕ
+free_room = 64
+
+-- each frame may fail once, and be seen to once
+abbrev pub failure_room : ℕ
+failure_room = 8192
+
+abbrev pub cpu_room : ℕ
+cpu_room = 16
+
+-- the turns of a pass over a page's translations, with those that end it
+abbrev pub pass : ℕ
+pass = translation_room + 8
+
+-- what a test that fails adds to a cost: more than all turns that it can bring again
+abbrev pub stale_weight : ℕ
+stale_weight = 65536
+
+abbrev pub stale : Bool → ℕ
+stale test = cond test 0 stale_weight
+
+-- a frame is taken in no more turns, with the weights of the two words that may have changed
+abbrev pub take_most : ℕ
+take_most = 2 * stale_weight + free_room + 8
+
+-- and an access begins again and makes a fault
+abbrev pub again_most : ℕ
+again_most = stale_weight + free_room + 20
+
+-- and an access with all that may have changed
+abbrev pub access_most : ℕ
+access_most = 3 * stale_weight + free_room + 15
+
+-- more than all turns of a command, with what a frame's poison that is taken back adds to them
+abbrev pub command_weight : ℕ
+command_weight = 2 ^ 36
+
 -- more than all costs
 abbrev pub top : ℕ
-top = 2147483648
-
--- what a test that fails adds to a cost: more than all turns of a task together
-abbrev pub stale : Bool → ℕ
-stale test = cond test 0 4096
+top = 2 ^ 49
 
 -- the view has a frame's lock, a frame in hand or a reservation; a frame in hand; a page's lock
 abbrev pub HasFrame : View → Type 0
@@ -87,7 +125,7 @@ failures_left w = sum_by (λ (f : ℕ). (1 - poison_of f) + (1 - handled_of f)) 
 
 -- by what a turn that poisons a frame, or makes one handled, may raise its task's cost
 abbrev pub failure_weight : ℕ
-failure_weight = 32768
+failure_weight = 1048576
 
 -- the turn poisoned a frame or made one handled; its task may have begun again, at a cost that has a bound
 pub record HasFailed {S : Type 0} (m : Member S) (layout : Layout) (a b : State) (before after : S) : Type 0 where

@@ -3,6 +3,7 @@ use Rattle.std.proofs.Common.{◌≡◌, ℕ, ◌+◌, ◌<◌, ◌≤◌, ◌�
 use Rattle.std.proofs.lemmas.List.{length-append}
 use Rattle.std.proofs.lemmas.Option.{same_Some, slice_get_within}
 use Rattle.hwp_cpu_row.specs.hwp_geom.declared.Cpu.{Cpu}
+use Rattle.hwp_cpu_row.specs.hwp_geom.declared.FileNo.{FileNo}
 use Rattle.hwp_cpu_row.specs.hwp_geom.declared.Layout.{Layout}
 use Rattle.hwp_cpu_row.specs.hwp_geom.declared.Who.{Who}
 use Rattle.hwp_cpu_row.specs.hwp_geom.Limits.{command_limit}
@@ -13,7 +14,6 @@ use Rattle.hwp_cpu_row.specs.hwp_report_text.declared.Answer.TheVariants as answ
 use Rattle.hwp_cpu_row.specs.hwp_core_rule.declared.Debts.{Debts}
 use Rattle.hwp_cpu_row.specs.hwp_core_rule.declared.Mark.{Mark}
 use Rattle.hwp_cpu_row.specs.hwp_core_rule.declared.Part.{Part}
-use Rattle.hwp_cpu_row.specs.hwp_core_rule.declared.Reported.{Reported}
 use Rattle.hwp_cpu_row.specs.hwp_core_rule.declared.Setting.{Setting}
 use Rattle.hwp_cpu_row.specs.hwp_core_rule.declared.View.{View}
 use Rattle.hwp_cpu_row.specs.hwp_core_rule.Lists.{EachMember, SomeMember}
@@ -25,10 +25,12 @@ use Rattle.hwp_cpu_row.specs.hwp_core_task.Known.{HasMadeNone}
 use Rattle.hwp_cpu_row.proofs.of_hwp_core_task.MadeEntries.{made-none}
 use Rattle.hwp_cpu_row.specs.declared.Row.{Row}
 use Rattle.hwp_cpu_row.specs.hwp_banks.Banks.{Banks, empty_banks}
+use Rattle.hwp_cpu_row.specs.declared.Local.{Local}
 use Rattle.hwp_cpu_command.specs.declared.job.Job.{Job}
 use Rattle.hwp_cpu_command.specs.Begins.{Begins}
+use Rattle.hwp_cpu_command.specs.FileHandles.{HasHandle, handles_after, local_after, local_left}
 use Rattle.hwp_cpu_command.specs.Jobs as jobs
-use Rattle.hwp_cpu_command.specs.Jobs.{banks_after, banks_before, left_in}
+use Rattle.hwp_cpu_command.specs.Jobs.{banks_before}
 use Rattle.hwp_cpu_command.specs.Runs.{Runs}
 use Rattle.hwp_cpu_command.specs.Stays.{EndsStopped, IsAtStop, IsHalted, KnowsPolicies, Stepped}
 use Rattle.hwp_cpu_command.proofs.JobEnds.{ends}
@@ -36,16 +38,20 @@ use Rattle.hwp_cpu_command_laws.proofs.CommandRuns.{before-begins, begins-fits, 
 use Rattle.hwp_cpu_command_laws.proofs.PolicyKeeps.{counted, left, policies-end, policies-next}
 use Rattle.hwp_cpu_command_laws.proofs.CommandStops.{begins-stop, has-stopped, only-stopped, stopped-halts}
 use Rattle.hwp_cpu_causes.specs.hwp_law_holds.Accounts.{IsNote}
+use Rattle.hwp_cpu_causes.specs.hwp_law_holds.Handles.{number_at}
 use Rattle.hwp_cpu_causes.specs.hwp_law_holds.Rows.{notes_from}
 use Rattle.hwp_cpu_causes.specs.hwp_law_holds.Served.{IsOneOf, IsOwnSpoil, IsOwnStop, IsRowServed, SawRunning}
 use Rattle.hwp_cpu_causes.proofs.of_hwp_law_holds.CommandKeeps.{made-none-later}
+use Rattle.hwp_cpu_causes.proofs.of_hwp_law_holds.Handles.{number-last, numbers-more}
 use Rattle.hwp_cpu_causes.proofs.of_hwp_law_holds.lines.ScrubBank.{banks-free, empty-free}
+use Rattle.hwp_cpu_causes.proofs.HandleNumbers.{IsNumbered, numbered, tells-inside}
 use Rattle.hwp_cpu_causes.proofs.RowServed.{row-served}
 use Rattle.hwp_cpu.specs.Processors.{BeginsAt, at_number, left_of}
-use Rattle.hwp_cpu.specs.Serving.{FitsAt, HasAccount, HasStopped, HasStoppedIt, IsDone, IsListed, IsRunning, Serves}
+use Rattle.hwp_cpu.specs.Serving.{AreNumbered, FitsAt, HasAccount, HasStopped, HasStoppedIt, IsDone, IsListed, IsRunning, Serves}
 use Rattle.hwp_cpu.proofs.ProcessorKeeps.{can, carried, other, own}
 use Rattle.hwp_cpu.proofs.EachKind.{can-stop, on-turn}
 use Rattle.hwp_cpu.proofs.ProcessorNotes.{account-starts, failed-end, noted-end, noted-starts, owes-nothing, spoils-end, unmarked-starts}
+use Rattle.hwp_cpu.proofs.KnownHandles.{handle-known, handles-many}
 use Rattle.hwp_cpu.proofs.Revivals.{revival-left}
 use Rattle.hwp_cpu.proofs.Rows.{at_front, past-end, rows-more, stays-more, stop-more, stopped-was}
 
@@ -65,7 +71,7 @@ next-turn view cpu n none on = record {
 -- ---- a command that stops the machine
 
 -- it is answered `stopped`, as the first of its processor
-module _ (layout : Layout) (view : View) (cpu : Cpu) (list : List Command) (rows : List Row) (banks : Banks) (k : Job) (a : Answer) (run : IsRunning layout view cpu list rows banks k) (has : jobs.answer k ≡ Some a) where
+module _ (layout : Layout) (view : View) (cpu : Cpu) (list : List Command) (rows : List Row) (local : Local) (k : Job) (a : Answer) (run : IsRunning layout view cpu list rows local k) (has : jobs.answer k ≡ Some a) where
   own-stop : (who : Who) → HasStoppedIt rows k who → IsOwnStop layout cpu list (rows ++ jobs.row_of k a ∷ []) who
   own-stop who it = subst (IsOwnStop layout cpu list (rows ++ jobs.row_of k a ∷ [])) (sym named) (record {
     cpu_is = refl;
@@ -85,7 +91,7 @@ module _ (layout : Layout) (view : View) (cpu : Cpu) (list : List Command) (rows
 
 -- ---- the answer
 
-module _ (layout : Layout) (old new : View) (cpu : Cpu) (list : List Command) (rows : List Row) (banks : Banks) (j k : Job) (run : IsRunning layout old cpu list rows banks j) (made : Stepped layout old new j k)
+module _ (layout : Layout) (old new : View) (cpu : Cpu) (list : List Command) (rows : List Row) (local : Local) (j k : Job) (run : IsRunning layout old cpu list rows local j) (made : Stepped layout old new j k)
     (a : Answer) (has : jobs.answer k ≡ Some a) (few : length list ≤ command_limit) where
   abbrev n : ℕ
   n = length rows
@@ -96,12 +102,12 @@ module _ (layout : Layout) (old new : View) (cpu : Cpu) (list : List Command) (r
   abbrev longer : List Row
   longer = rows ++ row ∷ []
 
-  -- what the command leaves in the banks
-  abbrev after : Banks
-  after = banks_after k banks
+  -- what the command leaves to the next one
+  abbrev after : Local
+  after = local_after k local
 
-  now : IsRunning layout new cpu list rows banks k
-  now = carried layout old new cpu list rows banks j k run made
+  now : IsRunning layout new cpu list rows local k
+  now = carried layout old new cpu list rows local j k run made
 
   named : jobs.who k ≡ at_number cpu n
   named = runs-who layout (at_number cpu n) now.command k now.runs
@@ -114,9 +120,9 @@ module _ (layout : Layout) (old new : View) (cpu : Cpu) (list : List Command) (r
   running (inl ends) = inl (only-stopped k ends has)
   running (inr saw) = inr saw
 
-  served : IsRowServed layout list new (at_number cpu n) now.command (banks_before k banks) row after
-  served = row-served layout list new (at_number cpu n) now.command k banks now.runs now.fits has (λ thread replied. counted now.policies thread replied)
-      (running now.looked) now.account.marked (failed-end layout new (at_number cpu n) k a now.fits has named now.account) now.account.taken now.account.set
+  served : IsRowServed layout list new (at_number cpu n) now.command (banks_before k local.banks) row after.banks
+  served = row-served layout list new (at_number cpu n) now.command k local.banks now.runs now.fits has (λ thread replied. counted now.policies thread replied)
+      (running now.looked) now.account.marked (failed-end layout new (at_number cpu n) k a now.fits has named now.account) now.account.set local.handles now.handle
 
   unowing : new.owed ≡ no_debts
   unowing = owes-nothing layout new (at_number cpu n) k a now.fits has named now.account
@@ -127,11 +133,24 @@ module _ (layout : Layout) (old new : View) (cpu : Cpu) (list : List Command) (r
   spoiling : EachMember (IsOwnSpoil cpu list longer) new.spoiled
   spoiling i s there = spoils-end layout cpu list rows now.command k a s now.there now.runs has (now.spoiled i s there)
 
-  serves : Serves layout new cpu list longer after
+  -- each handle has the number that the answer gives it
+  numbering : (file : FileNo) → file.0 < layout.files → IsNumbered layout new (at_number cpu n) now.command a file (number_at file list rows n) after.handles
+  numbering file inside = numbered layout new (at_number cpu n) k now.fits has local.handles file (number_at file list rows n) (now.serves.handles_are.each file inside) now.command now.runs now.handle
+
+  handles_are : AreNumbered layout list longer after.handles
+  handles_are = record {
+    many = handles-many k local.handles ∙ now.serves.handles_are.many;
+    each = λ file inside. (numbering file inside).has ∙ ap (λ (m : ℕ). Some m) (sym (number-last file list rows now.command row now.there)) ∙ ap (λ (m : ℕ). Some (number_at file list longer m)) (sym number);
+  }
+
+  serves : Serves layout new cpu list longer after.banks after.handles
   serves = record {
-    rows_are = rows-more layout list new cpu 0 empty_banks list rows (banks_before k banks) n now.command row after (omega arith) now.serves.rows_are now.there served;
+    rows_are = rows-more layout list new cpu 0 empty_banks list rows (banks_before k local.banks) n now.command row after.banks (omega arith) now.serves.rows_are now.there served;
     stays = stays-more rows row now.serves.stays (λ some. only-stopped k (now.stopped some) has);
     halted = λ some. by (stopped-was rows row some);
+    numbers = numbers-more layout new cpu list rows now.command row now.there now.serves.numbers
+        (λ file told. (numbering file (tells-inside layout (at_number cpu n) now.command k a file now.runs told)).knows told);
+    handles_are = handles_are;
   }
     where
       by : HasStopped rows ⊎ (a ≡ answers.Stopped) → IsHalted new
@@ -143,14 +162,14 @@ module _ (layout : Layout) (old new : View) (cpu : Cpu) (list : List Command) (r
     where
       which : IsOwnStop layout cpu list rows who ⊎ HasStoppedIt rows k who → IsOwnStop layout cpu list longer who
       which (inl early) = stop-more layout cpu list rows row who early
-      which (inr it) = own-stop layout new cpu list rows banks k a now has who it
+      which (inr it) = own-stop layout new cpu list rows local k a now has who it
 
   -- no later command has made an entry
   later-none : (q : ℕ) → n < q → HasMadeNone new (at_number cpu q)
-  later-none q less = made-none-later (can layout old new cpu list rows banks j k run made) made.made (at_number cpu q) (other layout old new cpu list rows banks j k run made q (λ same. absurd (omega arith))) (made-none made.made (at_number cpu q) n less later)
+  later-none q less = made-none-later (can layout old new cpu list rows local j k run made) made.made (at_number cpu q) (other layout old new cpu list rows local j k run made q (λ same. absurd (omega arith))) (made-none made.made (at_number cpu q) n less later)
     where
       later : IsLater old (at_number cpu q) n
-      later = (subst (IsOnTurn old) (own layout old new cpu list rows banks j k run made) (on-turn layout old j run.fits)).later
+      later = (subst (IsOnTurn old) (own layout old new cpu list rows local j k run made) (on-turn layout old j run.fits)).later
 
   nothing : hand_of new ≡ empty
   nothing = (ends layout new k now.fits has).0
@@ -176,13 +195,14 @@ module _ (layout : Layout) (old new : View) (cpu : Cpu) (list : List Command) (r
           let at : length longer ≡ n + 1 = number in
           omega arith
 
-  begun : (command : Command) (b : Job) → slice_get list (n + 1) ≡ Some command → Begins layout (at_number cpu (n + 1)) command after b → IsRunning layout new cpu list longer (left_in b after) b
-  begun command b there begins = record {
-    serves = subst (Serves layout new cpu list longer) (sym (before-begins layout (at_number cpu (n + 1)) command after b begins)) serves;
+  begun : (command : Command) (b : Job) → slice_get list (n + 1) ≡ Some command → Begins layout (at_number cpu (n + 1)) command after.banks b → HasHandle after.handles b → IsRunning layout new cpu list longer (local_left b after) b
+  begun command b there begins has_handle = record {
+    serves = subst (λ (l : Banks). Serves layout new cpu list longer l after.handles) (sym (before-begins layout (at_number cpu (n + 1)) command after.banks b begins)) serves;
     command = command;
     there = subst (λ (i : ℕ). slice_get list i ≡ Some command) (sym number) there;
-    runs = subst (λ (i : ℕ). Runs layout (at_number cpu i) command b) (sym number) (begins-runs layout (at_number cpu (n + 1)) command after b begins);
-    fits = begins-fits layout new (at_number cpu (n + 1)) command after b begins (banks-free layout list new cpu 0 empty_banks list longer after serves.rows_are empty-free) (record {
+    runs = subst (λ (i : ℕ). Runs layout (at_number cpu i) command b) (sym number) (begins-runs layout (at_number cpu (n + 1)) command after.banks b begins);
+    handle = has_handle;
+    fits = begins-fits layout new (at_number cpu (n + 1)) command after.banks b begins (banks-free layout list new cpu 0 empty_banks list longer after.banks serves.rows_are empty-free) (record {
       on_turn = next-turn new cpu n (ap (λ (h : Hand). h.bodies) nothing) (subst (IsOnTurn new) named (on-turn layout new k now.fits));
       hand_is = nothing;
       paid = ap (λ (d : Debts). d.losses) unowing;
@@ -190,19 +210,19 @@ module _ (layout : Layout) (old new : View) (cpu : Cpu) (list : List Command) (r
       unmarked = unmarked-starts new cpu (n + 1) now.listed;
       left = left know start (let within : n + 1 < length list = slice_get_within list (n + 1) command there in omega (arith, few, within));
       revivals = revival-left new cpu longer noting (let within : n + 1 < length list = slice_get_within list (n + 1) command there in omega (arith, few, within, number));
-    });
+    }) (handle-known layout new cpu list longer after.handles b serves.numbers serves.handles_are (let within : n + 1 < length list = slice_get_within list (n + 1) command there in omega (arith, within, number)) has_handle);
     policies = subst (λ (i : ℕ). KnowsPolicies layout list new (at_number cpu i) b) (sym number) know;
     stopped = λ some. inl start;
     looked = inl (inl start);
     stops = λ i who at. inl (stops i who at);
-    listed = subst (λ (i : ℕ). IsListed new cpu (i + 1)) (sym number) (record { marked = later (λ (m : Mark). m.stamp.who) new.marks now.listed.marked; taken = later (λ (r : Reported). r.stamp.who) new.reported now.listed.taken; set = later (λ (g : Setting). g.stamp.who) new.settings now.listed.set });
+    listed = subst (λ (i : ℕ). IsListed new cpu (i + 1)) (sym number) (record { marked = later (λ (m : Mark). m.stamp.who) new.marks now.listed.marked; set = later (λ (g : Setting). g.stamp.who) new.settings now.listed.set });
     account = subst (λ (i : ℕ). HasAccount new (at_number cpu i) b) (sym number) (account-starts new cpu (n + 1) b now.listed (later-none (n + 1) (omega arith)) unowing start);
     noted = noted-starts new cpu longer b (subst (IsListed new cpu) (sym number) now.listed) start noting;
     spoiled = λ i s at. inl (spoiling i s at);
   }
     where
       start : IsAtStop b
-      start = begins-stop layout (at_number cpu (n + 1)) command after b begins
+      start = begins-stop layout (at_number cpu (n + 1)) command after.banks b begins
 
       -- what is of the commands so far is of them and the next one
       later : {A : Type 0} (by : A → Who) (l : List A) → EachMember (λ (x : A). IsOneOf cpu (n + 1) (by x)) l → EachMember (λ (x : A). IsOneOf cpu (n + 1 + 1) (by x)) l
@@ -216,7 +236,7 @@ module _ (layout : Layout) (old new : View) (cpu : Cpu) (list : List Command) (r
   settled b begins = which (slice_get list (n + 1)) refl b begins
     where
       which : (o : Option Command) → slice_get list (n + 1) ≡ o → (x : Option Job) → BeginsAt layout (at_number cpu (n + 1)) o after x → FitsAt layout new cpu list longer (left_of x after) x
-      which (Some command) there (Some x) at = begun command x there at
+      which (Some command) there (Some x) at = begun command x there at.0 at.1
       which None there None at = done there
       which (Some command) there None at = absurd at
       which None there (Some x) at = absurd at

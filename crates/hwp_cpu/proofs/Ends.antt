@@ -10,7 +10,7 @@ use Rattle.hwp_cpu_row.specs.hwp_page.History.{BodyValue}
 use Rattle.hwp_cpu_row.specs.hwp_script_lines.declared.Command.{Command}
 use Rattle.hwp_cpu_row.specs.hwp_report_text.declared.Answer.{Answer}
 use Rattle.hwp_cpu_row.specs.declared.Row.{Row}
-use Rattle.hwp_cpu_row.specs.hwp_banks.Banks.{Banks}
+use Rattle.hwp_cpu_row.specs.declared.Local.{Local}
 use Rattle.hwp_cpu_row.specs.hwp_core_rule.declared.State.{State}
 use Rattle.hwp_cpu_row.specs.hwp_core_rule.declared.View.{View}
 use Rattle.hwp_cpu_row.specs.hwp_core_rule.Opening.{below, opening, opening_view}
@@ -43,16 +43,16 @@ pub opening-fits : (layout : Layout) (cpu : Cpu) (list : List Command) (p : Proc
 opening-fits layout cpu list p at = subst (λ (v : View). Fits layout v p) (sym (opening-view layout cpu.0)) (record {
   ready = at.ready;
   layout_is = at.layout_is;
-  at = subst (λ (c : Cpu). FitsAt layout (opening_view cpu.0) c p.commands p.rows.items p.banks p.job) (sym at.cpu_is)
-      (subst (λ (l : List Command). FitsAt layout (opening_view cpu.0) cpu l p.rows.items p.banks p.job) (sym at.commands_are)
-      (subst (λ (l : List Row). FitsAt layout (opening_view cpu.0) cpu list l p.banks p.job) (sym at.no_row)
-      (subst (λ (b : Banks). FitsAt layout (opening_view cpu.0) cpu list [] b p.job) (sym at.banks_are)
+  at = subst (λ (c : Cpu). FitsAt layout (opening_view cpu.0) c p.commands p.rows.items p.local p.job) (sym at.cpu_is)
+      (subst (λ (l : List Command). FitsAt layout (opening_view cpu.0) cpu l p.rows.items p.local p.job) (sym at.commands_are)
+      (subst (λ (l : List Row). FitsAt layout (opening_view cpu.0) cpu list l p.local p.job) (sym at.no_row)
+      (subst (λ (l : Local). FitsAt layout (opening_view cpu.0) cpu list [] l p.job) (sym at.local_is)
       (begun layout cpu list (subst (λ (l : List Command). length l ≤ command_limit) at.commands_are at.ready.commands.few) p.job at.begins))));
 })
 
 -- its commands are those of the processor
 fits-own : (layout : Layout) (view : View) (p : Processor) → Fits layout view p → (who p).cpu ≡ p.cpu
-fits-own layout view p fits = own-cpu layout view p.cpu p.commands p.rows.items p.banks p.job fits.at
+fits-own layout view p fits = own-cpu layout view p.cpu p.commands p.rows.items p.local p.job fits.at
 
 pub opening-own : (layout : Layout) (cpu : Cpu) (list : List Command) (p : Processor) → AtBeginning layout cpu list p → (who p).cpu ≡ cpu
 opening-own layout cpu list p at = fits-own layout (view_of (opening layout) cpu.0) p (opening-fits layout cpu list p at) ∙ at.cpu_is
@@ -75,4 +75,4 @@ next-keeps layout p after found got turn next = which (option_map jobs.bare p.jo
 pub served-of : (layout : Layout) (last : State) (seat : Cpu → ℕ) → Holds layout last → AreSeated layout last seat → (p : Processor) → p.cpu.0 < layout.cpus
     → Fits layout (view_of last (seat p.cpu)) p → p.job ≡ None → IsServed layout (view_of last (seat p.cpu)) p.cpu p.commands p.rows.items
 served-of layout last seat holds seated p inside fits none =
-    served layout last seat holds seated p.cpu inside p.commands p.rows.items p.banks (subst (FitsAt layout (view_of last (seat p.cpu)) p.cpu p.commands p.rows.items p.banks) none fits.at)
+    served layout last seat holds seated p.cpu inside p.commands p.rows.items p.local (subst (FitsAt layout (view_of last (seat p.cpu)) p.cpu p.commands p.rows.items p.local) none fits.at)

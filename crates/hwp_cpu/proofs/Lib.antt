@@ -1,4 +1,5 @@
 pub mod Rows
+pub mod KnownHandles
 pub mod EachKind
 pub mod ProcessorNotes
 pub mod Revivals

@@ -15,12 +15,12 @@ use Rattle.hwp_cpu_row.specs.hwp_core_rule.Rule.{Holds}
 use Rattle.hwp_cpu_row.specs.hwp_core_task.declared.Turn.{Turn}
 use Rattle.hwp_cpu_row.specs.hwp_core_task.Boards.{view_of}
 use Rattle.hwp_cpu_row.specs.hwp_core_task.Calls.{logs, rec_of}
-use Rattle.hwp_cpu_row.specs.hwp_core_task.Ranks.{Made, CostFalls, HasFailed, IsRanked, OtherHand, PaysRevival, Pending, Quiet, failure_weight, failures_left, is_refused, is_waits, top, words_at}
+use Rattle.hwp_cpu_row.specs.hwp_core_task.Ranks.{Made, CostFalls, HasFailed, IsRanked, OtherHand, PaysRevival, Pending, Quiet, failure_weight, failures_left, is_refused, is_waits, top, words_at, command_weight}
 use Rattle.hwp_cpu_row.specs.declared.Row.{Row}
-use Rattle.hwp_cpu_row.specs.hwp_banks.Banks.{Banks}
+use Rattle.hwp_cpu_row.specs.declared.Local.{Local}
 use Rattle.hwp_cpu_command.specs.declared.job.Job.{Job}
 use Rattle.hwp_cpu_command.specs.Jobs as jobs
-use Rattle.hwp_cpu_command.specs.Jobs.{banks_after}
+use Rattle.hwp_cpu_command.specs.FileHandles.{local_after}
 use Rattle.hwp_cpu_command.proofs.JobLaws as jobbing
 use Rattle.hwp_cpu_command_laws.proofs.Below.{begins-below, job-below}
 use Rattle.hwp_cpu_command_laws.proofs.CommandRuns.{has-begun}
@@ -31,11 +31,11 @@ use Rattle.hwp_cpu.specs.Serving.{Fits, FitsAt, IsRunning, task}
 -- ---- one command
 
 -- one that begins has few turns, holds nothing and claims nothing
-begun-idle : (layout : Layout) (a : State) → Holds layout a → (by : Who) (c : Option Command) (banks : Banks) (x : Option Job) → BeginsAt layout by c banks x → (cost_of x (words_at layout a) < 131072) × (class_of x ≡ 4) × (claims_of x ≡ None)
-begun-idle layout a rule by (Some command) banks (Some j) begins = let idle = (has-begun layout by command banks j begins).idle in (begins-below layout a by command banks j rule begins, idle.0, idle.1)
-begun-idle layout a rule by None banks None begins = (omega arith, refl, refl)
-begun-idle layout a rule by (Some command) banks None begins = absurd begins
-begun-idle layout a rule by None banks (Some j) begins = absurd begins
+begun-idle : (layout : Layout) (a : State) → Holds layout a → (by : Who) (c : Option Command) (local : Local) (x : Option Job) → BeginsAt layout by c local x → (cost_of x (words_at layout a) < command_weight) × (class_of x ≡ 4) × (claims_of x ≡ None)
+begun-idle layout a rule by (Some command) local (Some j) begins = let idle = (has-begun layout by command local.banks j begins.0).idle in (begins-below layout a by command local.banks j rule begins.0, idle.0, idle.1)
+begun-idle layout a rule by None local None begins = (omega arith, refl, refl)
+begun-idle layout a rule by (Some command) local None begins = absurd begins
+begun-idle layout a rule by None local (Some j) begins = absurd begins
 
 -- ---- a turn
 
@@ -52,34 +52,34 @@ module _ {layout : Layout} {seat : ℕ} {a b : State} {p q : Processor} {turn : 
   Pays before = (failures_left (words_at layout b) ≤ failures_left (words_at layout a)) ⊎ (cost q (words_at layout b) + failure_weight * failures_left (words_at layout b) < before + failure_weight * failures_left (words_at layout a))
 
   -- where the command that ran was answered, the next one is at its beginning, or all are over
-  answered-idle : (k : Job) (answer : Answer) → IsAnswered (bare p) k answer q → (cost_of q.job (words_at layout b) < 131072) × (class q ≡ 4) × (claims q ≡ None)
-  answered-idle k answer answered = begun-idle layout b made.kept (at_number p.cpu (length rows + 1)) (slice_get p.commands (length rows + 1)) (banks_after k p.banks) q.job
-      (subst (λ (l : Layout). BeginsAt l (at_number p.cpu (length rows + 1)) (slice_get p.commands (length rows + 1)) (banks_after k p.banks) q.job) made.fits.layout_is answered.begins)
+  answered-idle : (k : Job) (answer : Answer) → IsAnswered (bare p) k answer q → (cost_of q.job (words_at layout b) < command_weight) × (class q ≡ 4) × (claims q ≡ None)
+  answered-idle k answer answered = begun-idle layout b made.kept (at_number p.cpu (length rows + 1)) (slice_get p.commands (length rows + 1)) (local_after k p.local) q.job
+      (subst (λ (l : Layout). BeginsAt l (at_number p.cpu (length rows + 1)) (slice_get p.commands (length rows + 1)) (local_after k p.local) q.job) made.fits.layout_is answered.begins)
 
   -- and this is left
-  answered-falls : (j k : Job) (answer : Answer) → IsRunning layout (view_of a seat) p.cpu p.commands rows p.banks j → IsAnswered (bare p) k answer q → cost q (words_at layout b) < 131072 * (length p.commands - length rows)
+  answered-falls : (j k : Job) (answer : Answer) → IsRunning layout (view_of a seat) p.cpu p.commands rows p.local j → IsAnswered (bare p) k answer q → cost q (words_at layout b) < command_weight * (length p.commands - length rows)
   answered-falls j k answer at answered =
       let within : length rows < length p.commands = slice_get_within p.commands (length rows) at.command at.there in
       let count : length q.commands ≡ length p.commands = ap length answered.commands_are in
       let one : length q.rows.items ≡ length rows + 1 = ap length answered.rows_are ∙ length-append rows (jobs.row_of k answer ∷ []) in
-      let few : cost_of q.job (words_at layout b) < 131072 = (answered-idle k answer answered).0 in
+      let few : cost_of q.job (words_at layout b) < command_weight = (answered-idle k answer answered).0 in
       omega (arith, within, count, one, few)
 
-  module _ (j : Job) (at : IsRunning layout (view_of a seat) p.cpu p.commands rows p.banks j) (planned : jobs.plan j ≡ Some made.step)
+  module _ (j : Job) (at : IsRunning layout (view_of a seat) p.cpu p.commands rows p.local j) (planned : jobs.plan j ≡ Some made.step)
       (move : Move layout seat (rec_of layout (jobs.who j) made.step (logs (jobs.put j)) made.found made.got) a b) where
     -- the turn of the command that runs
     of-job : (k : Job) (t : Turn) → jobs.Next layout (jobs.bare j) made.found made.got k t → Made jobs.task layout seat a b j k t
     of-job k t next = record { step = made.step; found = made.found; got = made.got; rule = made.rule; kept = made.kept; fits = at.fits; planned = planned; move = move; brings = made.brings; follows = next }
 
     falls-on : (k : Job) (t : Turn) → jobs.Next layout (jobs.bare j) made.found made.got k t → (o : Option Answer) → Follows (bare p) k o t q turn → is_waits turn ≡ false
-        → Lowers (131072 * (length p.commands - length rows) + jobs.cost j (words_at layout a))
+        → Lowers (command_weight * (length p.commands - length rows) + jobs.cost j (words_at layout a))
     falls-on k t next None (after_is, turn_is) goes = elim (jobbing.ranked.falls layout seat a b j k t (of-job k t next) (sym (ap is_waits turn_is) ∙ goes)) [
-      | inl less ↦ inl (subst (λ (x : Processor). cost x (words_at layout b) < 131072 * (length p.commands - length rows) + jobs.cost j (words_at layout a)) (sym after_is) (omega (arith, less)))
-      | inr fails ↦ inr (fails.fewer, subst (λ (x : Processor). cost x (words_at layout b) < 131072 * (length p.commands - length rows) + jobs.cost j (words_at layout a) + failure_weight) (sym after_is) (omega (arith, fails.bounded)))
+      | inl less ↦ inl (subst (λ (x : Processor). cost x (words_at layout b) < command_weight * (length p.commands - length rows) + jobs.cost j (words_at layout a)) (sym after_is) (omega (arith, less)))
+      | inr fails ↦ inr (fails.fewer, subst (λ (x : Processor). cost x (words_at layout b) < command_weight * (length p.commands - length rows) + jobs.cost j (words_at layout a) + failure_weight) (sym after_is) (omega (arith, fails.bounded)))
     ]
-    falls-on k t next (Some answer) (answered, turn_is) goes = inl (let less : cost q (words_at layout b) < 131072 * (length p.commands - length rows) = answered-falls j k answer at answered in omega (arith, less))
+    falls-on k t next (Some answer) (answered, turn_is) goes = inl (let less : cost q (words_at layout b) < command_weight * (length p.commands - length rows) = answered-falls j k answer at answered in omega (arith, less))
 
-    pays-on : (k : Job) (t : Turn) → jobs.Next layout (jobs.bare j) made.found made.got k t → (o : Option Answer) → Follows (bare p) k o t q turn → Pays (131072 * (length p.commands - length rows) + jobs.cost j (words_at layout a))
+    pays-on : (k : Job) (t : Turn) → jobs.Next layout (jobs.bare j) made.found made.got k t → (o : Option Answer) → Follows (bare p) k o t q turn → Pays (command_weight * (length p.commands - length rows) + jobs.cost j (words_at layout a))
     pays-on k t next o follows = elim (jobbing.pays layout seat a b j k t (of-job k t next)) [
       | inl stay ↦ inl stay
       | inr paid ↦ inr (less o follows paid)
@@ -87,16 +87,16 @@ module _ {layout : Layout} {seat : ℕ} {a b : State} {p q : Processor} {turn : 
       where
         less : (o : Option Answer) → Follows (bare p) k o t q turn
             → jobs.cost k (words_at layout b) + failure_weight * failures_left (words_at layout b) < jobs.cost j (words_at layout a) + failure_weight * failures_left (words_at layout a)
-            → cost q (words_at layout b) + failure_weight * failures_left (words_at layout b) < 131072 * (length p.commands - length rows) + jobs.cost j (words_at layout a) + failure_weight * failures_left (words_at layout a)
-        less None (after_is, turn_is) paid = subst (λ (x : Processor). cost x (words_at layout b) + failure_weight * failures_left (words_at layout b) < 131072 * (length p.commands - length rows) + jobs.cost j (words_at layout a) + failure_weight * failures_left (words_at layout a)) (sym after_is) (omega (arith, paid))
+            → cost q (words_at layout b) + failure_weight * failures_left (words_at layout b) < command_weight * (length p.commands - length rows) + jobs.cost j (words_at layout a) + failure_weight * failures_left (words_at layout a)
+        less None (after_is, turn_is) paid = subst (λ (x : Processor). cost x (words_at layout b) + failure_weight * failures_left (words_at layout b) < command_weight * (length p.commands - length rows) + jobs.cost j (words_at layout a) + failure_weight * failures_left (words_at layout a)) (sym after_is) (omega (arith, paid))
         less (Some answer) (answered, turn_is) paid =
-            let below : cost q (words_at layout b) < 131072 * (length p.commands - length rows) = answered-falls j k answer at answered in
+            let below : cost q (words_at layout b) < command_weight * (length p.commands - length rows) = answered-falls j k answer at answered in
             omega (arith, below, paid)
 
     waits-on : (k : Job) (t : Turn) → jobs.Next layout (jobs.bare j) made.found made.got k t → (o : Option Answer) → Follows (bare p) k o t q turn → is_waits turn ≡ true → Quiet (jobs.class j) layout a seat
-        → (cost q (words_at layout b) < 131072 * (length p.commands - length rows) + jobs.cost j (words_at layout a)) ⊎ ((aborts q ≡ true) × OtherHand a seat)
+        → (cost q (words_at layout b) < command_weight * (length p.commands - length rows) + jobs.cost j (words_at layout a)) ⊎ ((aborts q ≡ true) × OtherHand a seat)
     waits-on k t next None (after_is, turn_is) is quiet = elim (jobbing.ranked.waits layout seat a b j k t (of-job k t next) (sym (ap is_waits turn_is) ∙ is) quiet) [
-      | inl less ↦ inl (subst (λ (x : Processor). cost x (words_at layout b) < 131072 * (length p.commands - length rows) + jobs.cost j (words_at layout a)) (sym after_is) (omega (arith, less)))
+      | inl less ↦ inl (subst (λ (x : Processor). cost x (words_at layout b) < command_weight * (length p.commands - length rows) + jobs.cost j (words_at layout a)) (sym after_is) (omega (arith, less)))
       | inr gives ↦ inr (ap aborts after_is ∙ gives.0, gives.1)
     ]
     waits-on k t next (Some answer) (answered, turn_is) is quiet = absurd (both_ways true (sym is ∙ ap is_waits turn_is) refl)
@@ -119,18 +119,18 @@ falls layout seat a b p q turn made goes = elim (which p.job made.fits.at made.p
   | inr fails ↦ inr (record { fewer = fails.0; bounded = fails.1 })
 ]
   where
-    which : (x : Option Job) → FitsAt layout (view_of a seat) p.cpu p.commands p.rows.items p.banks x → plan_of x ≡ Some made.step
+    which : (x : Option Job) → FitsAt layout (view_of a seat) p.cpu p.commands p.rows.items p.local x → plan_of x ≡ Some made.step
         → Move layout seat (rec_of layout (who_of p.cpu x) made.step (logs (put_of x)) made.found made.got) a b → NextOf layout (bare p) (option_map jobs.bare x) made.found made.got q turn
-        → Lowers made (131072 * (length p.commands - length p.rows.items) + cost_of x (words_at layout a))
+        → Lowers made (command_weight * (length p.commands - length p.rows.items) + cost_of x (words_at layout a))
     which (Some j) at planned move next = falls-on made j at planned move next.0 next.1 next.2 (jobs.answer next.0) next.3 goes
     which None at planned move next = absurd (none-some made.step planned)
 
 waits : (layout : Layout) (seat : ℕ) (a b : State) (p q : Processor) (turn : Turn) → Made task layout seat a b p q turn → is_waits turn ≡ true → Quiet (class p) layout a seat → CostFalls task layout a b p q ⊎ ((aborts q ≡ true) × OtherHand a seat)
 waits layout seat a b p q turn made is quiet = which p.job made.fits.at made.planned made.move made.follows quiet
   where
-    which : (x : Option Job) → FitsAt layout (view_of a seat) p.cpu p.commands p.rows.items p.banks x → plan_of x ≡ Some made.step
+    which : (x : Option Job) → FitsAt layout (view_of a seat) p.cpu p.commands p.rows.items p.local x → plan_of x ≡ Some made.step
         → Move layout seat (rec_of layout (who_of p.cpu x) made.step (logs (put_of x)) made.found made.got) a b → NextOf layout (bare p) (option_map jobs.bare x) made.found made.got q turn
-        → Quiet (class_of x) layout a seat → (cost q (words_at layout b) < 131072 * (length p.commands - length p.rows.items) + cost_of x (words_at layout a)) ⊎ ((aborts q ≡ true) × OtherHand a seat)
+        → Quiet (class_of x) layout a seat → (cost q (words_at layout b) < command_weight * (length p.commands - length p.rows.items) + cost_of x (words_at layout a)) ⊎ ((aborts q ≡ true) × OtherHand a seat)
     which (Some j) at planned move next others = waits-on made j at planned move next.0 next.1 next.2 (jobs.answer next.0) next.3 is others
     which None at planned move next others = absurd (none-some made.step planned)
 
@@ -138,9 +138,9 @@ waits layout seat a b p q turn made is quiet = which p.job made.fits.at made.pla
 pub pays : PaysRevival task
 pays layout seat a b p q turn made = which p.job made.fits.at made.planned made.move made.follows
   where
-    which : (x : Option Job) → FitsAt layout (view_of a seat) p.cpu p.commands p.rows.items p.banks x → plan_of x ≡ Some made.step
+    which : (x : Option Job) → FitsAt layout (view_of a seat) p.cpu p.commands p.rows.items p.local x → plan_of x ≡ Some made.step
         → Move layout seat (rec_of layout (who_of p.cpu x) made.step (logs (put_of x)) made.found made.got) a b → NextOf layout (bare p) (option_map jobs.bare x) made.found made.got q turn
-        → Pays made (131072 * (length p.commands - length p.rows.items) + cost_of x (words_at layout a))
+        → Pays made (command_weight * (length p.commands - length p.rows.items) + cost_of x (words_at layout a))
     which (Some j) at planned move next = pays-on made j at planned move next.0 next.1 next.2 (jobs.answer next.0) next.3
     which None at planned move next = absurd (none-some made.step planned)
 
@@ -154,17 +154,17 @@ classes p = which p.job
 small : (layout : Layout) (a : State) (seat : ℕ) (p : Processor) → Holds layout a → Fits layout (view_of a seat) p → cost p (words_at layout a) < top
 small layout a seat p rule fits =
     let few : length p.commands ≤ command_limit = fits.ready.commands.few in
-    let below : cost_of p.job (words_at layout a) < 131072 = which p.job fits.at in
+    let below : cost_of p.job (words_at layout a) < command_weight = which p.job fits.at in
     omega (arith, few, below)
   where
-    which : (x : Option Job) → FitsAt layout (view_of a seat) p.cpu p.commands p.rows.items p.banks x → cost_of x (words_at layout a) < 131072
+    which : (x : Option Job) → FitsAt layout (view_of a seat) p.cpu p.commands p.rows.items p.local x → cost_of x (words_at layout a) < command_weight
     which (Some j) at = job-below layout a (view_of a seat) j rule at.fits
     which None at = omega arith
 
 leaves : (layout : Layout) (seat : ℕ) (a b : State) (p q : Processor) (turn : Turn) → Made task layout seat a b p q turn → aborts p ≡ true → (plan q ≡ None) ⊎ (1 < class q)
 leaves layout seat a b p q turn made gives = which p.job made.fits.at made.planned made.move made.follows gives
   where
-    which : (x : Option Job) → FitsAt layout (view_of a seat) p.cpu p.commands p.rows.items p.banks x → plan_of x ≡ Some made.step
+    which : (x : Option Job) → FitsAt layout (view_of a seat) p.cpu p.commands p.rows.items p.local x → plan_of x ≡ Some made.step
         → Move layout seat (rec_of layout (who_of p.cpu x) made.step (logs (put_of x)) made.found made.got) a b → NextOf layout (bare p) (option_map jobs.bare x) made.found made.got q turn
         → aborts_of x ≡ true → (plan q ≡ None) ⊎ (1 < class q)
     which (Some j) at planned move next gives_up = leaves-on made j at planned move next.0 next.1 next.2 (jobs.answer next.0) next.3 gives_up
@@ -174,7 +174,7 @@ owns : (layout : Layout) (seat : ℕ) (a b : State) (p q : Processor) (turn : Tu
     → (claims q ≡ Some (frame, cycle)) ⊎ (Pending (words_at layout a) frame cycle × (claims p ≢ Some (frame, cycle)))
 owns layout seat a b p q turn frame cycle made going pending = which p.job made.fits.at made.planned made.move made.follows
   where
-    which : (x : Option Job) → FitsAt layout (view_of a seat) p.cpu p.commands p.rows.items p.banks x → plan_of x ≡ Some made.step
+    which : (x : Option Job) → FitsAt layout (view_of a seat) p.cpu p.commands p.rows.items p.local x → plan_of x ≡ Some made.step
         → Move layout seat (rec_of layout (who_of p.cpu x) made.step (logs (put_of x)) made.found made.got) a b → NextOf layout (bare p) (option_map jobs.bare x) made.found made.got q turn
         → (claims q ≡ Some (frame, cycle)) ⊎ (Pending (words_at layout a) frame cycle × (claims_of x ≢ Some (frame, cycle)))
     which (Some j) at planned move next = owns-on made j at planned move next.0 next.1 next.2 (jobs.answer next.0) refl next.3 going frame cycle pending

@@ -14,7 +14,8 @@ use Rattle.hwp_cpu_row.proofs.of_hwp_core_rule.Lists.{at_push}
 use Rattle.hwp_cpu_row.specs.hwp_core_task.Calls.{CanMake}
 use Rattle.hwp_cpu_row.specs.hwp_core_task.Known.{Saw}
 use Rattle.hwp_cpu_row.specs.declared.Row.{Row}
-use Rattle.hwp_cpu_row.specs.hwp_banks.Banks.{Banks, empty_banks}
+use Rattle.hwp_cpu_row.specs.declared.Local.{Local}
+use Rattle.hwp_cpu_row.specs.hwp_banks.Banks.{empty_banks}
 use Rattle.hwp_cpu_command.specs.hwp_words.Stops.{is_stopped}
 use Rattle.hwp_cpu_command.specs.declared.job.Job.{Job}
 use Rattle.hwp_cpu_command.specs.Jobs as jobs
@@ -24,10 +25,12 @@ use Rattle.hwp_cpu_command.specs.Stays.{EndsStopped, Stepped, StopsItself}
 use Rattle.hwp_cpu_command.proofs.JobLaws as jobbing
 use Rattle.hwp_cpu_command.proofs.JobEnds.{answered-over}
 use Rattle.hwp_cpu_command_laws.proofs.CommandRuns.{before-stays, runs-on, runs-who}
+use Rattle.hwp_cpu_command_laws.proofs.HandleKeeps.{handle-stays}
 use Rattle.hwp_cpu_command_laws.proofs.PolicyKeeps.{policies-stay}
 use Rattle.hwp_cpu_command_laws.proofs.CommandStops.{halted-stays, has-stopped, looks-first, no-own-stop, stops-after}
 use Rattle.hwp_cpu_causes.specs.hwp_law_holds.Served.{AreRowsServed, IsOwnStop, SawRunning}
 use Rattle.hwp_cpu_causes.proofs.of_hwp_law_holds.CommandKeeps.{row-stays, saw-running-stays}
+use Rattle.hwp_cpu_causes.proofs.of_hwp_law_holds.Handles.{numbers-stay}
 use Rattle.hwp_cpu.specs.Processors.{at_number}
 use Rattle.hwp_cpu.specs.Serving.{HasStoppedIt, IsRunning, Serves}
 use Rattle.hwp_cpu.proofs.ProcessorNotes.{account-on, listed-on, noted-on, spoils-on}
@@ -37,7 +40,7 @@ use Rattle.hwp_cpu.proofs.Rows.{rows-stay}
 over : (rows : List Row) (who : Who) (j : Job) (step : Step) → HasStoppedIt rows j who → jobs.plan j ≡ Some step → ⊥
 over rows who j step it is = none-some step (sym (answered-over j (has-stopped j it.has)) ∙ is)
 
-module _ (layout : Layout) (old new : View) (cpu : Cpu) (list : List Command) (rows : List Row) (banks : Banks) (j k : Job) (run : IsRunning layout old cpu list rows banks j) (made : Stepped layout old new j k) where
+module _ (layout : Layout) (old new : View) (cpu : Cpu) (list : List Command) (rows : List Row) (local : Local) (j k : Job) (run : IsRunning layout old cpu list rows local j) (made : Stepped layout old new j k) where
   pub can : CanMake layout (jobs.who j) made.step (jobs.put j) old
   can = jobbing.can layout old j made.step made.fits made.planned
 
@@ -52,15 +55,17 @@ module _ (layout : Layout) (old new : View) (cpu : Cpu) (list : List Command) (r
   other n differs same = differs (ap (λ (w : Who). w.seq) (same ∙ own))
 
   -- what the banks held before the command is as it was
-  before : banks_before k banks ≡ banks_before j banks
-  before = before-stays layout j k made.found made.got made.turn made.follows banks
+  before : banks_before k local.banks ≡ banks_before j local.banks
+  before = before-stays layout j k made.found made.got made.turn made.follows local.banks
 
-  serves : Serves layout new cpu list rows (banks_before k banks)
+  serves : Serves layout new cpu list rows (banks_before k local.banks) local.handles
   serves = record {
     rows_are = subst (AreRowsServed layout list new cpu 0 empty_banks list rows) (sym before) (rows-stay layout list old new cpu (length rows)
-        (λ n c b row d less served. row-stays can made.made (at_number cpu n) (other n (λ same. absurd (omega arith))) list c b row d served) 0 empty_banks list rows (banks_before j banks) (omega arith) run.serves.rows_are);
+        (λ n c b row d less served. row-stays can made.made (at_number cpu n) (other n (λ same. absurd (omega arith))) list c b row d served) 0 empty_banks list rows (banks_before j local.banks) (omega arith) run.serves.rows_are);
     stays = run.serves.stays;
     halted = λ some. (halted-stays made (run.serves.halted some) (run.stopped some)).0;
+    numbers = numbers-stay can made.made cpu list rows (let same : (jobs.who j).seq ≡ length rows = ap (λ (w : Who). w.seq) own in omega (arith, same)) run.serves.numbers;
+    handles_are = run.serves.handles_are;
   }
 
   -- the step shows whether the machine has stopped, where the command had yet to look
@@ -96,12 +101,13 @@ module _ (layout : Layout) (old new : View) (cpu : Cpu) (list : List Command) (r
       which (inl same) = early (run.stops i who (sym (ap (λ (l : List Who). slice_get l i) same) ∙ there))
       which (inr itself) = by-it itself (at_push old.stops (jobs.who j) who i (sym (ap (λ (l : List Who). slice_get l i) itself.stops_are) ∙ there))
 
-  pub carried : IsRunning layout new cpu list rows banks k
+  pub carried : IsRunning layout new cpu list rows local k
   carried = record {
     serves = serves;
     command = run.command;
     there = run.there;
     runs = runs-still;
+    handle = handle-stays layout local.handles j k made.found made.got made.turn made.follows run.handle;
     fits = ((jobbing.stays layout old new j made.step made.found made.got made.fits made.planned made.made).1 k made.turn made.follows).0;
     policies = policies-stay made list (at_number cpu (length rows)) run.policies;
     stopped = λ some. (halted-stays made (run.serves.halted some) (run.stopped some)).1;

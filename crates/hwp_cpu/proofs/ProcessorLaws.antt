@@ -15,12 +15,12 @@ use Rattle.hwp_cpu_row.specs.hwp_core_task.declared.Turn.{Turn}
 use Rattle.hwp_cpu_row.specs.hwp_core_task.Calls.{CanMake, Steps, logs}
 use Rattle.hwp_cpu_command.specs.declared.job.Job.{Job}
 use Rattle.hwp_cpu_command.specs.Jobs as jobs
-use Rattle.hwp_cpu_command.specs.Jobs.{banks_after}
+use Rattle.hwp_cpu_command.specs.FileHandles.{local_after}
 use Rattle.hwp_cpu_command.specs.Stays.{Stepped}
 use Rattle.hwp_cpu_command.proofs.JobLaws as jobbing
 use Rattle.hwp_cpu_command_laws.proofs.CommandRuns.{runs-who}
 use Rattle.hwp_cpu_row.specs.declared.Row.{Row}
-use Rattle.hwp_cpu_row.specs.hwp_banks.Banks.{Banks}
+use Rattle.hwp_cpu_row.specs.declared.Local.{Local}
 use Rattle.hwp_cpu.specs.declared.processor.Processor.{Processor}
 use Rattle.hwp_cpu.specs.Processors.{AreCommands, BeginsAt, Follows, IsAnswered, IsReady, Next, NextOf, Shows, ShowsOf, at_number, bare, left_of, plan, plan_of, put, put_of, who, who_of}
 use Rattle.hwp_cpu.specs.Serving.{Fits, FitsAt, IsRunning}
@@ -30,14 +30,14 @@ use Rattle.hwp_cpu.proofs.ProcessorKeeps.{carried}
 pub can : (layout : Layout) (view : View) (p : Processor) (step : Step) → Fits layout view p → plan p ≡ Some step → CanMake layout (who p) step (put p) view
 can layout view p step fits is = which p.job fits.at is
   where
-    which : (x : Option Job) → FitsAt layout view p.cpu p.commands p.rows.items p.banks x → plan_of x ≡ Some step → CanMake layout (who_of p.cpu x) step (put_of x) view
+    which : (x : Option Job) → FitsAt layout view p.cpu p.commands p.rows.items p.local x → plan_of x ≡ Some step → CanMake layout (who_of p.cpu x) step (put_of x) view
     which (Some j) at e = jobbing.can layout view j step at.fits e
     which None at e = absurd (none-some step e)
 
 -- the command is one of the processor
-pub own-cpu : (layout : Layout) (view : View) (cpu : Cpu) (list : List Command) (rows : List Row) (banks : Banks) (x : Option Job) → FitsAt layout view cpu list rows banks x → (who_of cpu x).cpu ≡ cpu
-own-cpu layout view cpu list rows banks (Some j) at = ap (λ (w : Who). w.cpu) (runs-who layout (at_number cpu (length rows)) at.command j at.runs)
-own-cpu layout view cpu list rows banks None at = refl
+pub own-cpu : (layout : Layout) (view : View) (cpu : Cpu) (list : List Command) (rows : List Row) (local : Local) (x : Option Job) → FitsAt layout view cpu list rows local x → (who_of cpu x).cpu ≡ cpu
+own-cpu layout view cpu list rows local (Some j) at = ap (λ (w : Who). w.cpu) (runs-who layout (at_number cpu (length rows)) at.command j at.runs)
+own-cpu layout view cpu list rows local None at = refl
 
 -- a processor that can run its commands can run them after an answer
 ready-after : (p after : Processor) (j : Job) (a : Answer) → IsReady p → IsAnswered p j a after → IsReady after
@@ -49,7 +49,7 @@ ready-after p after j a ready answered = record {
 }
 
 module _ (layout : Layout) (old new : View) (p : Processor) (step : Step) (found : ℕ) (got : Option BodyValue) (ready : IsReady p) (same : arc_value p.layout ≡ layout) (j : Job)
-    (at : IsRunning layout old p.cpu p.commands p.rows.items p.banks j) (is : jobs.plan j ≡ Some step) (made : Steps layout (jobs.who j) step (logs (jobs.put j)) old new found got) where
+    (at : IsRunning layout old p.cpu p.commands p.rows.items p.local j) (is : jobs.plan j ≡ Some step) (made : Steps layout (jobs.who j) step (logs (jobs.put j)) old new found got) where
   abbrev rows : List Row
   rows = p.rows.items
 
@@ -61,12 +61,12 @@ module _ (layout : Layout) (old new : View) (p : Processor) (step : Step) (found
       → Fits layout new after × ((who after).cpu ≡ (jobs.who j).cpu)
   follows k t next None has after turn (after_is, turn_is) =
       subst (λ (q : Processor). Fits layout new q × ((who q).cpu ≡ (jobs.who j).cpu)) (sym after_is) (
-        record { ready = record { sound = ready.sound; commands = ready.commands; room = ready.room }; layout_is = same; at = carried layout old new p.cpu p.commands rows p.banks j k at (stepped k t next) },
+        record { ready = record { sound = ready.sound; commands = ready.commands; room = ready.room }; layout_is = same; at = carried layout old new p.cpu p.commands rows p.local j k at (stepped k t next) },
         ((jobbing.stays layout old new j step found got at.fits is made).1 k t next).1,
       )
   follows k t next (Some a) has after turn (answered, turn_is) = (
     record { ready = ready-after p after k a ready those; layout_is = answered.layout_is ∙ same; at = there },
-    own-cpu layout new after.cpu after.commands after.rows.items after.banks after.job there ∙ answered.cpu_is ∙ sym (own-cpu layout old p.cpu p.commands rows p.banks (Some j) at),
+    own-cpu layout new after.cpu after.commands after.rows.items after.local after.job there ∙ answered.cpu_is ∙ sym (own-cpu layout old p.cpu p.commands rows p.local (Some j) at),
   )
     where
       those : IsAnswered p k a after
@@ -77,18 +77,18 @@ module _ (layout : Layout) (old new : View) (p : Processor) (step : Step) (found
         rows_are = answered.rows_are;
         room = answered.room;
         begins = answered.begins;
-        banks_are = answered.banks_are;
+        local_is = answered.local_is;
       }
 
-      here : FitsAt layout new p.cpu p.commands (rows ++ jobs.row_of k a ∷ []) (left_of after.job (banks_after k p.banks)) after.job
-      here = settled layout old new p.cpu p.commands rows p.banks j k at (stepped k t next) a has ready.commands.few after.job
-          (subst (λ (l : Layout). BeginsAt l (at_number p.cpu (length rows + 1)) (slice_get p.commands (length rows + 1)) (banks_after k p.banks) after.job) same answered.begins)
+      here : FitsAt layout new p.cpu p.commands (rows ++ jobs.row_of k a ∷ []) (left_of after.job (local_after k p.local)) after.job
+      here = settled layout old new p.cpu p.commands rows p.local j k at (stepped k t next) a has ready.commands.few after.job
+          (subst (λ (l : Layout). BeginsAt l (at_number p.cpu (length rows + 1)) (slice_get p.commands (length rows + 1)) (local_after k p.local) after.job) same answered.begins)
 
-      there : FitsAt layout new after.cpu after.commands after.rows.items after.banks after.job
-      there = subst (λ (c : Cpu). FitsAt layout new c after.commands after.rows.items after.banks after.job) (sym answered.cpu_is)
-          (subst (λ (l : List Command). FitsAt layout new p.cpu l after.rows.items after.banks after.job) (sym answered.commands_are)
-          (subst (λ (l : List Row). FitsAt layout new p.cpu p.commands l after.banks after.job) (sym answered.rows_are)
-          (subst (λ (b : Banks). FitsAt layout new p.cpu p.commands (rows ++ jobs.row_of k a ∷ []) b after.job) (sym answered.banks_are) here)))
+      there : FitsAt layout new after.cpu after.commands after.rows.items after.local after.job
+      there = subst (λ (c : Cpu). FitsAt layout new c after.commands after.rows.items after.local after.job) (sym answered.cpu_is)
+          (subst (λ (l : List Command). FitsAt layout new p.cpu l after.rows.items after.local after.job) (sym answered.commands_are)
+          (subst (λ (l : List Row). FitsAt layout new p.cpu p.commands l after.local after.job) (sym answered.rows_are)
+          (subst (λ (l : Local). FitsAt layout new p.cpu p.commands (rows ++ jobs.row_of k a ∷ []) l after.job) (sym answered.local_is) here)))
 
   running : ShowsOf (bare p) (Some (jobs.bare j)) found got
       × ((after : Processor) (turn : Turn) → NextOf layout (bare p) (Some (jobs.bare j)) found got after turn → Fits layout new after × ((who after).cpu ≡ (jobs.who j).cpu))
@@ -101,7 +101,7 @@ pub stays : (layout : Layout) (old new : View) (p : Processor) (step : Step) (fo
     → Shows (bare p) found got × ((after : Processor) (turn : Turn) → Next layout (bare p) found got after turn → Fits layout new after × ((who after).cpu ≡ (who p).cpu))
 stays layout old new p step found got fits is made = which p.job fits.at is made
   where
-    which : (x : Option Job) → FitsAt layout old p.cpu p.commands p.rows.items p.banks x → plan_of x ≡ Some step → Steps layout (who_of p.cpu x) step (logs (put_of x)) old new found got
+    which : (x : Option Job) → FitsAt layout old p.cpu p.commands p.rows.items p.local x → plan_of x ≡ Some step → Steps layout (who_of p.cpu x) step (logs (put_of x)) old new found got
         → ShowsOf (bare p) (option_map jobs.bare x) found got
         × ((after : Processor) (turn : Turn) → NextOf layout (bare p) (option_map jobs.bare x) found got after turn → Fits layout new after × ((who after).cpu ≡ (who_of p.cpu x).cpu))
     which (Some j) at e m = running layout old new p step found got fits.ready fits.layout_is j at e m

@@ -20,7 +20,6 @@ use Rattle.hwp_cpu_row.specs.hwp_page.Situations.{outcome_of}
 use Rattle.hwp_cpu_row.specs.hwp_core_rule.declared.Made.{Made}
 use Rattle.hwp_cpu_row.specs.hwp_core_rule.declared.Mark.{Mark}
 use Rattle.hwp_cpu_row.specs.hwp_core_rule.declared.MarkKind.TheVariants as mark_kinds
-use Rattle.hwp_cpu_row.specs.hwp_core_rule.declared.Reported.{Reported}
 use Rattle.hwp_cpu_row.specs.hwp_core_rule.declared.Setting.{Setting}
 use Rattle.hwp_cpu_row.specs.hwp_core_rule.declared.Spoiled.{Spoiled}
 use Rattle.hwp_cpu_row.specs.hwp_core_rule.declared.View.{View}
@@ -48,19 +47,19 @@ use Rattle.hwp_cpu_row.specs.hwp_cpu_check.Done.{marked_in}
 use Rattle.hwp_cpu_row.specs.hwp_cpu_check.Told.{frame_of}
 use Rattle.hwp_cpu_command.specs.hwp_cpu_access.Done.{FailuresGrow}
 use Rattle.hwp_cpu_command.specs.declared.Job.{Job}
-use Rattle.hwp_cpu_command.specs.Done.{HasDone, failed_now, marked_now, policies_now, taken_now}
+use Rattle.hwp_cpu_command.specs.Done.{HasDone, failed_now, marked_now, policies_now}
 use Rattle.hwp_cpu_command.specs.Jobs as jobs
 use Rattle.hwp_cpu_command.specs.Runs.{Runs}
 use Rattle.hwp_cpu_command.specs.Stays.{HasSpoiled, IsAtStop, Stepped}
 use Rattle.hwp_cpu_command.proofs.JobEnds.{answered-over, paid-at-end}
-use Rattle.hwp_cpu_command_laws.proofs.CommandDeeds.{done, failures-at-end, grown, none-listed, unfailed-at-start, unmarked-at-start, unowed-at-end, unowed-at-start, unset-policies-at-start, untaken-at-start}
+use Rattle.hwp_cpu_command_laws.proofs.CommandDeeds.{done, failures-at-end, grown, none-listed, unfailed-at-start, unmarked-at-start, unowed-at-end, unowed-at-start, unset-policies-at-start}
 use Rattle.hwp_cpu_command_laws.proofs.CommandRuns.{can-fail-stays}
 use Rattle.hwp_cpu_command_laws.proofs.CommandStops.{has-spoiled, spoils-after}
 use Rattle.hwp_cpu_causes.specs.hwp_law_holds.Accounts.{IsHow, IsNote, failures, is_same, marking_by, markings_in, own_marking}
 use Rattle.hwp_cpu_causes.specs.hwp_law_holds.Owed.{OwesOwn, loss_of, losses_by}
 use Rattle.hwp_cpu_causes.specs.hwp_law_holds.Rows.{Note, note_by, note_of, notes_from, own_note, row_notes, told_note}
 use Rattle.hwp_cpu_causes.specs.hwp_law_holds.Served.{IsOneOf, IsOwnSpoil, spoiling}
-use Rattle.hwp_cpu_causes.proofs.of_hwp_law_holds.AccountKeeps.{marks-own, reported-own, settings-own}
+use Rattle.hwp_cpu_causes.proofs.of_hwp_law_holds.AccountKeeps.{marks-own, settings-own}
 use Rattle.hwp_cpu_causes.proofs.of_hwp_law_holds.PoisonMarks.{same-who}
 use Rattle.hwp_cpu_causes.proofs.of_hwp_law_holds.Picked.{picked-has}
 use Rattle.hwp_cpu_causes.proofs.of_hwp_law_holds.losses.LossesOwed.{owes-own}
@@ -80,7 +79,6 @@ module _ {layout : Layout} {old new : View} {cpu : Cpu} {n : ℕ} {j k : Job} (s
   pub listed-on : IsListed old cpu (n + 1) → IsListed new cpu (n + 1)
   listed-on was = record {
     marked = marks-own s.made (IsOneOf cpu (n + 1)) one was.marked;
-    taken = reported-own s.made (IsOneOf cpu (n + 1)) one was.taken;
     set = settings-own s.made (IsOneOf cpu (n + 1)) one was.set;
   }
     where
@@ -94,7 +92,6 @@ module _ {layout : Layout} {old new : View} {cpu : Cpu} {n : ℕ} {j k : Job} (s
   account-on was = record {
     marked = grown (λ (m : Mark). m.stamp.who) marking_of (is_same (at_number cpu n)) old.marks new.marks (at_number cpu n) (marked_now j) (marked_now k) (same-self (at_number cpu n) (at_number cpu n) refl) did.marked was.marked;
     failed = λ fails. failed-grown (did.failed fails) (was.failed (sym (can-fail-stays layout j k s.found s.got s.turn s.follows) ∙ fails));
-    taken = grown (λ (r : Reported). r.stamp.who) (λ (r : Reported). (r.file, r.count)) (is_same (at_number cpu n)) old.reported new.reported (at_number cpu n) (taken_now j) (taken_now k) (same-self (at_number cpu n) (at_number cpu n) refl) did.taken was.taken;
     set = grown (λ (x : Setting). x.stamp.who) (λ (x : Setting). (x.thread, x.policy)) (is_same (at_number cpu n)) old.settings new.settings (at_number cpu n) (policies_now j) (policies_now k) (same-self (at_number cpu n) (at_number cpu n) refl) did.set was.set;
     counted = did.counted was.counted;
     losses = subst (λ (w : Who). OwesOwn w new) own (owes-own (jobs.who j) can s.made (subst (λ (w : Who). OwesOwn w old) (sym own) was.losses));
@@ -279,7 +276,6 @@ pub account-starts : (view : View) (cpu : Cpu) (n : ℕ) (j : Job) → IsListed 
 account-starts view cpu n j listed made owed start = record {
   marked = none-listed (λ (m : Mark). m.stamp.who) marking_of (is_same (at_number cpu n)) view.marks (λ i m at. later-one cpu n m.stamp.who (listed.marked i m at)) ∙ sym (unmarked-at-start j start);
   failed = λ fails. ap (filter_map abandoned.failed_in) made ∙ sym (unfailed-at-start j start);
-  taken = none-listed (λ (r : Reported). r.stamp.who) (λ (r : Reported). (r.file, r.count)) (is_same (at_number cpu n)) view.reported (λ i r at. later-one cpu n r.stamp.who (listed.taken i r at)) ∙ sym (untaken-at-start j start);
   set = none-listed (λ (x : Setting). x.stamp.who) (λ (x : Setting). (x.thread, x.policy)) (is_same (at_number cpu n)) view.settings (λ i x at. later-one cpu n x.stamp.who (listed.set i x at)) ∙ sym (unset-policies-at-start j start);
   counted = ap (λ d. d.counts + d.hardware + d.uncounts) owed ∙ sym (unowed-at-start j start);
   losses = let none : length view.owed.losses ≡ 0 = ap (λ d. length d.losses) owed in omega (arith, none);

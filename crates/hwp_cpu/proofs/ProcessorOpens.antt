@@ -11,17 +11,22 @@ use Rattle.hwp_cpu_row.specs.hwp_core_rule.Opening.{opening_view}
 use Rattle.hwp_cpu_row.specs.hwp_core_task.Calls.{IsOnTurn}
 use Rattle.hwp_cpu_command.specs.declared.job.Job.{Job}
 use Rattle.hwp_cpu_command.specs.Begins.{Begins}
+use Rattle.hwp_cpu_command.specs.FileHandles.{HasHandle, local_left}
 use Rattle.hwp_cpu_command.specs.Jobs.{banks_before, left_in}
 use Rattle.hwp_cpu_command.specs.Stays.{IsAtStop, KnowsPolicies}
 use Rattle.hwp_cpu_command_laws.proofs.CommandRuns.{before-begins, begins-fits, begins-runs}
 use Rattle.hwp_cpu_command_laws.proofs.PolicyKeeps.{left, policies-first}
 use Rattle.hwp_cpu_command_laws.proofs.CommandStops.{begins-stop}
 use Rattle.hwp_cpu_row.specs.hwp_banks.Banks.{Banks, empty_banks}
+use Rattle.hwp_cpu_row.specs.declared.Local.{Local}
+use Rattle.hwp_cpu_row.specs.Locals.{first_local}
 use Rattle.hwp_cpu_row.specs.hwp_law.Policies.{settings}
 use Rattle.hwp_cpu_causes.specs.hwp_law_holds.Served.{AreRowsServed}
+use Rattle.hwp_cpu_causes.proofs.of_hwp_law_holds.Handles.{numbers-begin}
 use Rattle.hwp_cpu_causes.proofs.of_hwp_law_holds.lines.ScrubBank.{empty-free}
 use Rattle.hwp_cpu.specs.Processors.{BeginsAt, at_number, left_of}
 use Rattle.hwp_cpu.specs.Serving.{FitsAt, IsDone, IsListed, IsRunning, Serves}
+use Rattle.hwp_cpu.proofs.KnownHandles.{handle-known, numbers-first}
 use Rattle.hwp_cpu.proofs.Rows.{past-end}
 use Rattle.hwp_cpu.proofs.ProcessorNotes.{account-starts, noted-starts}
 use Rattle.hwp_cpu.proofs.Revivals.{revival-left}
@@ -43,27 +48,34 @@ module _ (layout : Layout) (cpu : Cpu) (list : List Command) (few : length list 
 
   -- nothing is listed
   listed : (n : ℕ) → IsListed view cpu n
-  listed n = record { marked = λ i m at. absurd (none-some m at); taken = λ i r at. absurd (none-some r at); set = λ i s at. absurd (none-some s at) }
+  listed n = record { marked = λ i m at. absurd (none-some m at); set = λ i s at. absurd (none-some s at) }
 
-  -- none is answered, so the banks are as at first
-  serves : (banks : Banks) → banks ≡ empty_banks → Serves layout view cpu list [] banks
+  abbrev at-first : Local
+  at-first = first_local layout.files
+
+  -- none is answered, so the banks and the handles are as at first
+  serves : (banks : Banks) → banks ≡ empty_banks → Serves layout view cpu list [] banks at-first.handles
   serves banks none = record {
     rows_are = by list;
     stays = λ i j row later less first second stopped. absurd (none-some _ first);
     halted = λ some. absurd (none-some _ some.2);
+    numbers = numbers-begin layout view cpu list;
+    handles_are = numbers-first layout list;
   }
     where
       by : (l : List Command) → AreRowsServed layout list view cpu 0 empty_banks l [] banks
       by [] = none
       by (c ∷ cs) = none
 
-  running : (command : Command) (j : Job) → slice_get list 0 ≡ Some command → Begins layout (at_number cpu 0) command empty_banks j → IsRunning layout view cpu list [] (left_in j empty_banks) j
-  running command j there begins = record {
+  running : (command : Command) (j : Job) → slice_get list 0 ≡ Some command → Begins layout (at_number cpu 0) command empty_banks j → HasHandle at-first.handles j → IsRunning layout view cpu list [] (local_left j at-first) j
+  running command j there begins has = record {
     serves = serves (banks_before j (left_in j empty_banks)) (before-begins layout (at_number cpu 0) command empty_banks j begins);
     command = command;
     there = there;
     runs = begins-runs layout (at_number cpu 0) command empty_banks j begins;
-    fits = begins-fits layout view (at_number cpu 0) command empty_banks j begins empty-free (record { on_turn = first-turn; hand_is = refl; paid = refl; made = refl; unmarked = refl; left = left know start (let within : 0 < length list = slice_get_within list 0 command there in omega (arith, few, within)); revivals = revival-left view cpu [] tt (omega arith) });
+    handle = has;
+    fits = begins-fits layout view (at_number cpu 0) command empty_banks j begins empty-free (record { on_turn = first-turn; hand_is = refl; paid = refl; made = refl; unmarked = refl; left = left know start (let within : 0 < length list = slice_get_within list 0 command there in omega (arith, few, within)); revivals = revival-left view cpu [] tt (omega arith) })
+        (handle-known layout view cpu list [] at-first.handles j (numbers-begin layout view cpu list) (numbers-first layout list) (omega arith) has);
     policies = know;
     stopped = λ some. inl start;
     looked = inl (inl start);
@@ -80,7 +92,7 @@ module _ (layout : Layout) (cpu : Cpu) (list : List Command) (few : length list 
       know : KnowsPolicies layout list view (at_number cpu 0) j
       know = policies-first layout list view (at_number cpu 0) j refl refl start
 
-  done : slice_get list 0 ≡ None → IsDone layout view cpu list [] empty_banks
+  done : slice_get list 0 ≡ None → IsDone layout view cpu list [] at-first
   done none = record {
     serves = serves empty_banks refl;
     all = sym (let most : length list ≤ 0 = past-end list 0 none in omega arith);
@@ -94,11 +106,11 @@ module _ (layout : Layout) (cpu : Cpu) (list : List Command) (few : length list 
     policies = λ thread. (settings thread list, refl);
   }
 
-  pub begun : (x : Option Job) → BeginsAt layout (at_number cpu 0) (slice_get list 0) empty_banks x → FitsAt layout view cpu list [] (left_of x empty_banks) x
+  pub begun : (x : Option Job) → BeginsAt layout (at_number cpu 0) (slice_get list 0) at-first x → FitsAt layout view cpu list [] (left_of x at-first) x
   begun x begins = which (slice_get list 0) refl x begins
     where
-      which : (o : Option Command) → slice_get list 0 ≡ o → (y : Option Job) → BeginsAt layout (at_number cpu 0) o empty_banks y → FitsAt layout view cpu list [] (left_of y empty_banks) y
-      which (Some command) there (Some j) at = running command j there at
+      which : (o : Option Command) → slice_get list 0 ≡ o → (y : Option Job) → BeginsAt layout (at_number cpu 0) o at-first y → FitsAt layout view cpu list [] (left_of y at-first) y
+      which (Some command) there (Some j) at = running command j there at.0 at.1
       which None there None at = done there
       which (Some command) there None at = absurd at
       which None there (Some j) at = absurd at

@@ -6,7 +6,7 @@ use Rattle.hwp_cpu_row.specs.hwp_geom.declared.Cpu.{Cpu}
 use Rattle.hwp_cpu_row.specs.hwp_geom.declared.Layout.{Layout}
 use Rattle.hwp_cpu_row.specs.hwp_script_lines.declared.Command.{Command}
 use Rattle.hwp_cpu_row.specs.declared.Row.{Row}
-use Rattle.hwp_cpu_row.specs.hwp_banks.Banks.{Banks}
+use Rattle.hwp_cpu_row.specs.declared.Local.{Local}
 use Rattle.hwp_cpu_row.specs.hwp_core_rule.declared.Made.{Made}
 use Rattle.hwp_cpu_row.specs.hwp_core_rule.declared.Part.{Part}
 use Rattle.hwp_cpu_row.specs.hwp_core_rule.declared.State.{State}
@@ -54,20 +54,20 @@ module _ (layout : Layout) (last : State) (seat : Cpu → ℕ) (holds : Holds la
       which (inl less) = less
       which (inr past) = absurd (of-deeds (λ (x : Made). ⊥) view (at_number cpu m.entry.who.seq) i m (subst (EachMember (λ (x : Made). ⊥)) (sym (none m.entry.who.seq past)) (λ j x e. none-some x e)) at by)
 
-  pub served : (list : List Command) (rows : List Row) (banks : Banks) → IsDone layout view cpu list rows banks → IsServed layout view cpu list rows
-  served list rows banks done = record {
+  pub served : (list : List Command) (rows : List Row) (local : Local) → IsDone layout view cpu list rows local → IsServed layout view cpu list rows
+  served list rows local done = record {
     count = done.all;
-    banks = banks;
+    banks = local.banks;
     rows_are = done.serves.rows_are;
     made = begun (length list) done.made;
     marked = done.listed.marked;
-    taken = done.listed.taken;
     set = done.listed.set;
     policies = done.policies;
     stops = done.stops;
     noted = done.noted;
     spoiled = done.spoiled;
     stays = done.serves.stays;
+    numbers = done.serves.numbers;
     nothing = record {
       refs = ap (λ (h : Hand). h.refs) done.hand_is;
       locks = ap (λ (h : Hand). h.locks) done.hand_is;

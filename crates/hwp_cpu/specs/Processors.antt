@@ -16,11 +16,14 @@ use Rattle.hwp_cpu_row.specs.hwp_core_rule.declared.Step.{Step}
 use Rattle.hwp_cpu_row.specs.hwp_core_rule.Words.{Words}
 use Rattle.hwp_cpu_row.specs.hwp_core_task.declared.Turn.{Turn}
 use Rattle.hwp_cpu_row.specs.hwp_core_task.declared.Turn.TheVariants as turns
+use Rattle.hwp_cpu_row.specs.hwp_core_task.Ranks.{command_weight}
 use Rattle.hwp_cpu_command.specs.declared.Job.{Job}
 use Rattle.hwp_cpu_command.specs.Begins.{Begins}
 use Rattle.hwp_cpu_command.specs.Jobs as jobs
-use Rattle.hwp_cpu_command.specs.Jobs.{banks_after, left_in, row_of}
-use Rattle.hwp_cpu_row.specs.hwp_banks.Banks.{Banks, empty_banks}
+use Rattle.hwp_cpu_command.specs.Jobs.{row_of}
+use Rattle.hwp_cpu_command.specs.FileHandles.{HasHandle, local_after, local_left}
+use Rattle.hwp_cpu_row.specs.declared.Local.{Local}
+use Rattle.hwp_cpu_row.specs.Locals.{first_local}
 use Rattle.hwp_cpu.specs.declared.processor.Processor.{Processor}
 
 -- the command of this number of the processor
@@ -38,26 +41,28 @@ pub record IsReady (p : Processor) : Type 0 where
   pub commands : AreCommands (arc_value p.layout) p.cpu p.commands
   pub room : length p.commands ≤ vec_capacity p.rows
 
--- the command is at its beginning, where the banks of the processor hold this; past the last command none runs
-abbrev pub BeginsAt : Layout → Who → Option Command → Banks → Option Job → Type 0
-BeginsAt layout who (Some command) banks (Some j) = Begins layout who command banks j
-BeginsAt layout who None banks None = Unit {0}
-BeginsAt layout who _ banks _ = ⊥
+-- the command is at its beginning, of a processor that carries this: it begins with what the banks hold, and with the number of its
+-- file's handle; past the last command none runs
+abbrev pub BeginsAt : Layout → Who → Option Command → Local → Option Job → Type 0
+BeginsAt layout who (Some command) local (Some j) = Begins layout who command local.banks j × HasHandle local.handles j
+BeginsAt layout who None local None = Unit {0}
+BeginsAt layout who _ local _ = ⊥
 
--- what the banks hold when it has begun: some commands take that
-abbrev pub left_of : Option Job → Banks → Banks
-left_of (Some j) banks = left_in j banks
-left_of None banks = banks
+-- what the processor keeps when it has begun: some commands take what the banks hold
+abbrev pub left_of : Option Job → Local → Local
+left_of (Some j) local = local_left j local
+left_of None local = local
 
--- the processor is at the beginning of its first command, and has answered none; its banks held nothing
+-- the processor is at the beginning of its first command, and has answered none; its banks held nothing, and the numbers of its handles
+-- were 0
 pub record AtBeginning (layout : Layout) (cpu : Cpu) (list : List Command) (p : Processor) : Type 0 where
   pub layout_is : arc_value p.layout ≡ layout
   pub cpu_is : p.cpu ≡ cpu
   pub commands_are : p.commands ≡ list
   pub ready : IsReady p
   pub no_row : p.rows.items ≡ []
-  pub begins : BeginsAt layout (at_number cpu 0) (slice_get list 0) empty_banks p.job
-  pub banks_are : p.banks ≡ left_of p.job empty_banks
+  pub begins : BeginsAt layout (at_number cpu 0) (slice_get list 0) (first_local layout.files) p.job
+  pub local_is : p.local ≡ left_of p.job (first_local layout.files)
 
 -- ---- the command that runs
 
@@ -113,7 +118,7 @@ aborts p = aborts_of p.job
 
 -- each command that isn't answered costs more than all turns of one, and the one that runs its turns beside
 abbrev pub cost : Processor → Words → ℕ
-cost p words = 131072 * (length p.commands - length p.rows.items) + cost_of p.job words
+cost p words = command_weight * (length p.commands - length p.rows.items) + cost_of p.job words
 
 -- ---- what a turn comes to
 
@@ -125,15 +130,15 @@ ShowsOf p None found got = Unit {0}
 abbrev pub Shows : Processor → ℕ → Option BodyValue → Type 0
 Shows p found got = ShowsOf p p.job found got
 
--- the command that ran is answered so, its row is the last one, and the next command begins with what it left in the banks
+-- the command that ran is answered so, its row is the last one, and the next command begins with what it left
 pub record IsAnswered (p : Processor) (j : Job) (answer : Answer) (after : Processor) : Type 0 where
   pub layout_is : arc_value after.layout ≡ arc_value p.layout
   pub cpu_is : after.cpu ≡ p.cpu
   pub commands_are : after.commands ≡ p.commands
   pub rows_are : after.rows.items ≡ p.rows.items ++ row_of j answer ∷ []
   pub room : vec_capacity after.rows ≡ vec_capacity p.rows
-  pub begins : BeginsAt (arc_value p.layout) (at_number p.cpu (length p.rows.items + 1)) (slice_get p.commands (length p.rows.items + 1)) (banks_after j p.banks) after.job
-  pub banks_are : after.banks ≡ left_of after.job (banks_after j p.banks)
+  pub begins : BeginsAt (arc_value p.layout) (at_number p.cpu (length p.rows.items + 1)) (slice_get p.commands (length p.rows.items + 1)) (local_after j p.local) after.job
+  pub local_is : after.local ≡ left_of after.job (local_after j p.local)
 
 -- the turn is that of the command, until the command has its answer
 abbrev pub Follows : Processor → Job → Option Answer → Turn → Processor → Turn → Type 0

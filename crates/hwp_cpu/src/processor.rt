@@ -5,8 +5,8 @@ ghost use Rattle.hwp_cpu.specs.Processors.{AreCommands, AtBeginning, BeginsAt, I
 
 use hwp_cpu_command::Job;
 use hwp_cpu_row::{
-    Answer, BANKS, Bank, Body, Command, Cpu, Layout, List, OutOfMemory, Ranked, Row, Scheduled,
-    Step, Task, Turn, Who, no_events,
+    Answer, Body, Command, Cpu, Layout, List, Local, OutOfMemory, Ranked, Row, Scheduled, Step,
+    Task, Turn, Who,
 };
 use std::alloc::{AllocError, Global};
 use std::mem;
@@ -21,14 +21,14 @@ pub struct Processor {
     commands: List<Command>,
     /// Rows of the answered commands; capacity is reserved for all of them.
     rows: Vec<Row>,
-    /// What the banks hold, but for those of a command that runs and has taken what they held.
-    banks: [Bank; BANKS],
+    /// What it carries from one command to the next.
+    local: Local,
     /// The command that runs, whose number is that of the rows; none where all are answered.
     job: Option<Job>,
 }
 
 impl Processor {
-    /// The processor at the beginning of its first command; its banks hold nothing.
+    /// The processor at the beginning of its first command; its banks hold nothing, and the number of each of its handles is 0.
     pub fn new(
         alloc: Global,
         layout: &Arc<Layout, Global>,
@@ -42,15 +42,15 @@ impl Processor {
         let layout = layout.clone()?;
         let list = List::from_vec(Vec::from_slice(alloc, commands)?);
         let rows = Vec::with_capacity(alloc, commands.len())?;
-        let mut banks = no_events();
-        let job = begin(alloc, &layout, cpu, commands, 0, &mut banks);
+        let mut local = Local::new(alloc, layout.files)?;
+        let job = begin(alloc, &layout, cpu, commands, 0, &mut local);
         Ok(Processor {
             alloc,
             layout,
             cpu,
             commands: list,
             rows,
-            banks,
+            local,
             job,
         })
     }
@@ -80,7 +80,7 @@ impl Processor {
         Ok(List::from_vec(rows))
     }
 
-    /// The command that runs is answered so: its row is kept, and the next one begins with what it left in the banks.
+    /// The command that runs is answered so: its row is kept, and the next one begins with what it left.
     fn answer(&mut self, answer: Answer)
         requires ready { IsReady self.old }
         requires running { IsSome self.old.job }
@@ -90,7 +90,7 @@ impl Processor {
         let Some(job) = self.job.take() else {
             return;
         };
-        let row = job.finish(self.alloc, answer, &mut self.banks);
+        let row = job.finish(self.alloc, answer, &mut self.local);
         let number = self.rows.len();
         self.rows.push_reserved(row);
         let commands = self.commands.as_slice();
@@ -100,27 +100,28 @@ impl Processor {
             self.cpu,
             commands,
             number + 1,
-            &mut self.banks,
+            &mut self.local,
         );
         // in one call, and not part by part
         drop(mem::replace(&mut self.job, next));
     }
 }
 
-/// The command of this number at its beginning; `None` past the last. It takes what the banks hold, if it can add to that.
+/// The command of this number at its beginning; `None` past the last. It takes what the banks hold, if it can add to that, and gets
+/// the number of its file's handle.
 fn begin(
     alloc: Global,
     layout: &Layout,
     cpu: Cpu,
     commands: &[Command],
     number: usize,
-    banks: &mut [Bank; BANKS],
+    local: &mut Local,
 ) -> Option<Job>
     requires sound { IsSound layout.now }
     requires commands { AreCommands layout.now cpu commands.now }
     requires inside { number ≤ length commands.now }
-    ensures begins { BeginsAt layout.now (at_number cpu number) (slice_get commands.now number) banks.old result }
-    ensures banks { banks.new ≡ left_of result banks.old }
+    ensures begins { BeginsAt layout.now (at_number cpu number) (slice_get commands.now number) local.old result }
+    ensures local { local.new ≡ left_of result local.old }
 {
     let Some(command) = commands.get(number) else {
         return None;
@@ -129,7 +130,7 @@ fn begin(
         cpu,
         seq: number as u32,
     };
-    Some(Job::new(alloc, layout, who, *command, banks))
+    Some(Job::new(alloc, layout, who, *command, local))
 }
 
 impl Task for Processor {

@@ -90,7 +90,7 @@ module _ {layout : Layout} {seat : ℕ} {a b : State} {h g : Handler} {turn : Tu
     hardware = c.hardware;
     planned = ap (λ (x : Frame). Some (steps.Poison x c.hardware)) (sym own) ∙ e;
     goes = ap is_waits (turn_is ∙ ap (λ (x : ClaimAt). frame_claims.turn_at (frame_claims.bare_at x) made.found) is);
-    some = let one : frame_claims.cost_with 571 c.at w ≡ 1 = ap (λ (x : ClaimAt). frame_claims.cost_with 571 x w) is in omega (arith, one);
+    some = let one : frame_claims.cost_with fails.held_most c.at w ≡ 1 = ap (λ (x : ClaimAt). frame_claims.cost_with fails.held_most x w) is in omega (arith, one);
     already = λ poisoned. subst (λ (o : Option ClaimAnswer). fails.AfterClaimBy f.who f.frame f.required (frame_claims.next (frame_claims.bare c) made.found made.got) o y)
         (ap (λ (x : ClaimAt). frame_claims.answer_at (frame_claims.next_at c.who c.frame (frame_claims.bare_at x) made.found made.got)) is ∙ ap (λ (p : Bool). frame_claims.answer_at (cond p claim_at.Already (claim_at.Count (cycle_of made.found)))) poisoned)
         follows;

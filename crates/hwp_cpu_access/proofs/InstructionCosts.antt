@@ -12,12 +12,13 @@ use Rattle.hwp_fault.specs.hwp_core_rule.declared.View.{View}
 use Rattle.hwp_fault.specs.hwp_core_rule.Rule.{Holds}
 use Rattle.hwp_fault.specs.hwp_core_rule.Words.{Words, free_words}
 use Rattle.hwp_fault.proofs.of_hwp_core_rule.MoveKeeps.{shaped}
-use Rattle.hwp_fault.specs.hwp_core_task.Ranks.{words_at}
+use Rattle.hwp_fault.specs.hwp_core_task.Ranks.{words_at, access_most, again_most, failure_weight, free_room}
 use Rattle.hwp_fault.specs.declared.AccessAnswer.TheVariants as access_answers
 use Rattle.hwp_fault.specs.declared.access.AccessAt.{AccessAt}
 use Rattle.hwp_fault.specs.declared.access.AccessAt.TheVariants as access_at
 use Rattle.hwp_fault.specs.Accesses as accesses
 use Rattle.hwp_fault.specs.Faults as faults
+use Rattle.hwp_fault.specs.hwp_geom.Limits.{frame_limit}
 use Rattle.hwp_fault.proofs.AccessCosts.{access-small, again-few}
 use Rattle.hwp_cpu_check.specs.hwp_claim.Fails as fails
 use Rattle.hwp_cpu_check.proofs.of_hwp_claim.FailRank.{fail-small}
@@ -40,10 +41,10 @@ use Rattle.hwp_cpu_access.specs.declared.instruction.InstructionAt.TheVariants a
 use Rattle.hwp_cpu_access.proofs.FailureWords.{ended-most, past-most}
 
 -- the words of free frames of a board
-pub few-frees : (layout : Layout) (s : State) → Holds layout s → length (words_at layout s).frees ≤ 4
+pub few-frees : (layout : Layout) (s : State) → Holds layout s → length (words_at layout s).frees ≤ free_room
 few-frees layout s h =
     let all : length (words_at layout s).frees ≡ free_words layout = (shaped layout s h).frees in
-    let few : layout.frames ≤ 256 = h.sound.frames in
+    let few : layout.frames ≤ frame_limit = h.sound.frames in
     omega arith
 
 -- ---- costs are small
@@ -91,12 +92,12 @@ rest-most frame q (handler_at.Fail f) w = which (is_alone frame q f)
     which true = let most : past_cost (word_of frame w) ≤ anew = past-most (word_of frame w) in omega (arith, most)
     which false = omega arith
 
-handler-few : (h : Handler) (w : Words) → length h.events.left ≤ bank_count → handlers.cost h w ≤ 8874
+handler-few : (h : Handler) (w : Words) → length h.events.left ≤ bank_count → handlers.cost h w ≤ handlers.handler_most
 handler-few h w few = which h.at
   where
-    which : (x : HandlerAt) → handlers.cost_with (length h.events.left) x w ≤ 8874
+    which : (x : HandlerAt) → handlers.cost_with (length h.events.left) x w ≤ handlers.handler_most
     which handler_at.Stop = omega arith
-    which (handler_at.Fail f) = let small : fails.cost f w ≤ 8871 = fail-small f w in omega (arith, few, small)
+    which (handler_at.Fail f) = let small : fails.cost f w ≤ fails.fail_most = fail-small f w in omega (arith, few, small)
     which handler_at.GaveUp = omega arith
     which (handler_at.Over stopped) = omega arith
 
@@ -104,15 +105,15 @@ pub left-few : (h : Handler) → length (events_of h.events) ≤ bank_count → 
 left-few h few = let all : length (events_of h.events) ≡ length (map (λ (t : EventOutcome). t.held) h.events.told) + length h.events.left = length-append (map (λ (t : EventOutcome). t.held) h.events.told) h.events.left in omega (arith, all, few)
 
 -- an instruction costs less than the weight of a failure
-pub instruction-below : (layout : Layout) (a : State) (view : View) (i : Instruction) → Holds layout a → Fits layout view i → cost i (words_at layout a) < 32768
+pub instruction-below : (layout : Layout) (a : State) (view : View) (i : Instruction) → Holds layout a → Fits layout view i → cost i (words_at layout a) < failure_weight
 instruction-below layout a view i rule fits = which i.at fits.at
   where
     w : Words
     w = words_at layout a
 
-    which : (x : InstructionAt) → FitsAt layout view i fits.checks x → cost_at i.banks x w < 32768
-    which (at.Access b) has = let one : accesses.cost b w ≤ 12307 = access-small w b (few-frees layout a rule) in let two : held_cost i.banks ≤ anew_after_wait = held-most i.banks in let three : check_cost b.at w ≤ 5 + anew = check-most b.at w in omega (arith, one, two, three)
-    which (at.Handle frame h) has = let one : handlers.cost h w ≤ 8874 = handler-few h w (left-few h has.has.handler.found.few) in let two : rest_at frame h.events h.at w ≤ anew_after_wait = rest-most frame h.events h.at w in omega (arith, one, two)
+    which : (x : InstructionAt) → FitsAt layout view i fits.checks x → cost_at i.banks x w < failure_weight
+    which (at.Access b) has = let one : accesses.cost b w ≤ access_most = access-small w b (few-frees layout a rule) in let two : held_cost i.banks ≤ anew_after_wait = held-most i.banks in let three : check_cost b.at w ≤ 5 + anew = check-most b.at w in omega (arith, one, two, three)
+    which (at.Handle frame h) has = let one : handlers.cost h w ≤ handlers.handler_most = handler-few h w (left-few h has.has.handler.found.few) in let two : rest_at frame h.events h.at w ≤ anew_after_wait = rest-most frame h.events h.at w in omega (arith, one, two)
     which (at.LoadFrame frame) has = let most : ended_cost (word_of frame w) ≤ anew = ended-most (word_of frame w) in omega (arith, most)
     which (at.LoadStop frame) has = let most : ended_cost (word_of frame w) ≤ anew = ended-most (word_of frame w) in omega (arith, most)
     which at.GiveUp has = omega arith
@@ -120,22 +121,22 @@ instruction-below layout a view i rule fits = which i.at fits.at
 
 -- ---- what follows a machine check
 
-pub again-cost : (i : Instruction) (w : Words) → length w.frees ≤ 4 → accesses.cost (accesses.again i.request) w ≤ 4121
-again-cost i w few = let most : faults.again i.request.slot w ≤ 4120 = again-few i.request.slot w few in omega (arith, most)
+pub again-cost : (i : Instruction) (w : Words) → length w.frees ≤ free_room → accesses.cost (accesses.again i.request) w ≤ again_most + 1
+again-cost i w few = let most : faults.again i.request.slot w ≤ again_most = again-few i.request.slot w few in omega (arith, most)
 
 -- where it didn't stop the machine, with empty banks
-check-cost-after : (i : Instruction) (frame : Frame) (h : Handler) (w : Words) → i.banks ≡ empty_banks → length w.frees ≤ 4 → cost_at i.banks (after_check i frame h) w ≤ anew_after_wait
+check-cost-after : (i : Instruction) (frame : Frame) (h : Handler) (w : Words) → i.banks ≡ empty_banks → length w.frees ≤ free_room → cost_at i.banks (after_check i frame h) w ≤ anew_after_wait
 check-cost-after i frame h w none few = which (first_signal h.events.told) (was_poisoned frame h.events.told)
   where
     which : (o : Option At) (b : Bool) → cost_at i.banks (unwrap_or (option_map (λ (place : At). at.Over (Some (answers.Sigbus place))) o) (cond b (at.LoadFrame frame) (restarted i))) w ≤ anew_after_wait
     which (Some place) b = omega arith
     which None true = let most : ended_cost (word_of frame w) ≤ anew = ended-most (word_of frame w) in omega (arith, most)
     which None false =
-        let most : accesses.cost (accesses.again i.request) w ≤ 4121 = again-cost i w few in
+        let most : accesses.cost (accesses.again i.request) w ≤ again_most + 1 = again-cost i w few in
         let bare_is : held_cost i.banks ≡ 0 = ap held_cost none in
         omega (arith, most, bare_is)
 
-pub after-cost : (i : Instruction) (frame : Frame) (h : Handler) (w : Words) → i.banks ≡ empty_banks → length w.frees ≤ 4 → cost (after_handler i frame h) w ≤ handlers.cost h w + anew_after_wait
+pub after-cost : (i : Instruction) (frame : Frame) (h : Handler) (w : Words) → i.banks ≡ empty_banks → length w.frees ≤ free_room → cost (after_handler i frame h) w ≤ handlers.cost h w + anew_after_wait
 after-cost i frame h w none few = which h.at refl
   where
     going : cost (record i { at = at.Handle frame h }) w ≤ handlers.cost h w + anew_after_wait

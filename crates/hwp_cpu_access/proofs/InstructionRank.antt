@@ -27,7 +27,7 @@ use Rattle.hwp_fault.specs.hwp_core_task.declared.Turn.TheVariants.{Moved, Waits
 use Rattle.hwp_fault.specs.hwp_core_task.Boards.{view_of}
 use Rattle.hwp_fault.specs.hwp_core_task.Calls.{logs, rec_of}
 use Rattle.hwp_fault.specs.hwp_core_task.Classes.{TellsClass}
-use Rattle.hwp_fault.specs.hwp_core_task.Ranks.{CostFalls, HasFailed, HasFrame, HasPage, IsRanked, Made, OtherHand, Pending, Quiet, is_refused, is_waits, words_at}
+use Rattle.hwp_fault.specs.hwp_core_task.Ranks.{CostFalls, HasFailed, HasFrame, HasPage, IsRanked, Made, OtherHand, Pending, Quiet, is_refused, is_waits, words_at, again_most, failure_weight, free_room}
 use Rattle.hwp_fault.proofs.of_hwp_core_task.Failures.{mild-leaves}
 use Rattle.hwp_fault.proofs.of_hwp_core_task.StepRanks.{failed, met, pending-kept, steps-on, words-kept}
 use Rattle.hwp_fault.proofs.of_hwp_core.TaskCosts.{left-own, met-own}
@@ -76,7 +76,7 @@ use Rattle.hwp_cpu_access.proofs.OwnEvents.{IsBriefly, own-briefly}
 -- ---- a machine check that begins
 
 -- where other events are held, they pay for what follows; where none is, the machine's own event is the only one
-begins-cost : (layout : Layout) (i after : Instruction) (frame : Frame) (w : Words) → IsOfAccess i.origin → i.request.line < line_limit → frame.0 < layout.frames → length i.banks ≡ bank_count → length w.frees ≤ 4 → BeginsCheck layout i frame after
+begins-cost : (layout : Layout) (i after : Instruction) (frame : Frame) (w : Words) → IsOfAccess i.origin → i.request.line < line_limit → frame.0 < layout.frames → length i.banks ≡ bank_count → length w.frees ≤ free_room → BeginsCheck layout i frame after
     → cost after w ≤ held_cost i.banks + (5 + past_cost (word_of frame w))
 begins-cost layout i after frame w of_access line inside three few (inl refused) = let one : cost after w ≡ 1 = ap (λ (x : Instruction). cost x w) refused in omega (arith, one)
 begins-cost layout i after frame w of_access line inside three few (inr (spare, room, next)) = which (list_any (λ (b : Option Event). is_some b) i.banks) refl
@@ -183,7 +183,7 @@ module _ {layout : Layout} {seat : ℕ} {a b : State} {s t : Instruction} {turn 
     follows = follows;
   }
 
-  few : length now.frees ≤ 4
+  few : length now.frees ≤ free_room
   few = few-frees layout b made.kept
 
   -- a load leaves all words
@@ -238,7 +238,7 @@ module _ {layout : Layout} {seat : ℕ} {a b : State} {s t : Instruction} {turn 
       which false is =
           let same : cost t now ≡ accesses.cost (accesses.again s.request) now + held_cost s.banks + 0 = ap (λ (i : Instruction). cost i now) next ∙ ap (λ (c : Bool). cost_at s.banks (cond c (at.LoadStop frame) (restarted s)) now) is in
           let free : held_cost s.banks ≡ 0 = ap held_cost none in
-          let most : accesses.cost (accesses.again s.request) now ≤ 4121 = again-cost s now few in
+          let most : accesses.cost (accesses.again s.request) now ≤ again_most + 1 = again-cost s now few in
           let paid : ended_cost (word_of frame w) ≡ anew = ap ended_cost found_is ∙ ap (λ (c : Bool). cond c 0 anew) is in
           omega (arith, same, free, most, paid)
 
@@ -389,7 +389,7 @@ instruction-class i = which i.at
 pub instruction-ranked : IsRanked instruction-task
 instruction-ranked = record {
   classes = instruction-class;
-  small = λ layout a seat s rule fits. let below : cost s (words_at layout a) < 32768 = instruction-below layout a (view_of a seat) s rule fits in omega (arith, below);
+  small = λ layout a seat s rule fits. let below : cost s (words_at layout a) < failure_weight = instruction-below layout a (view_of a seat) s rule fits in omega (arith, below);
   falls = λ layout seat a b s t turn made goes. falls made goes;
   waits = λ layout seat a b s t turn made is quiet. waits-at made s.at refl made.planned made.fits.at made.move made.follows is quiet;
   leaves = λ layout seat a b s t turn made gives. leaves-at made s.at made.planned made.fits.at made.move made.follows gives;

@@ -10,6 +10,7 @@ use Rattle.hwp_fault.specs.declared.AccessAnswer.TheVariants as access_answers
 use Rattle.hwp_fault.specs.declared.access.AccessAt.{AccessAt}
 use Rattle.hwp_fault.specs.declared.access.AccessAt.TheVariants as access_at
 use Rattle.hwp_fault.specs.Accesses as accesses
+use Rattle.hwp_fault.specs.hwp_core_task.Ranks.{again_most}
 use Rattle.hwp_cpu_check.specs.hwp_claim.declared.Fail.{Fail}
 use Rattle.hwp_cpu_check.specs.hwp_claim.Done.{marked_at}
 use Rattle.hwp_cpu_check.specs.hwp_banks.Banks.{Banks}
@@ -46,10 +47,10 @@ aborts i = aborts_at i.at
 
 -- more than the turns of an access that begins again; and with the wait before it
 abbrev pub anew : ℕ
-anew = 4122
+anew = again_most + 2
 
 abbrev pub anew_after_wait : ℕ
-anew_after_wait = 4124
+anew_after_wait = anew + 2
 
 -- the frame's failure has ended, or there is none: that pays for the access that begins again
 abbrev pub ended_cost : ℕ → ℕ

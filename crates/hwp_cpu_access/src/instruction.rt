@@ -204,12 +204,14 @@ impl Instruction {
         }
     }
 
+    #[inline(always)]
     fn set(&mut self, at: InstructionAt)
         ensures { self.new ≡ record self.old { at = at } }
     {
         self.at = at;
     }
 
+    #[inline(always)]
     fn end(&mut self, answer: InstructionAnswer)
         ensures { self.new ≡ answered self.old answer }
     {
@@ -271,6 +273,7 @@ fn first(request: &Request) -> InstructionAt
     }
 }
 
+#[inline(always)]
 fn over(answer: InstructionAnswer) -> InstructionAt
     ensures { result ≡ over answer }
 {

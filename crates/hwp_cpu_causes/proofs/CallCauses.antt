@@ -1,6 +1,6 @@
 -- Why a command that makes no entry is answered so: of a file's losses, of an event that is logged, of damage to a line, and of a
 -- thread's policy.
-use Rattle.std.proofs.Common.{◌≡◌, ℕ, ◌<◌, eq-eqb, Bool, cond, List, [], ◌∷◌, ◌++◌, Option, Some, map, take, refl, sym, ap, ◌∙◌, subst, inl, inr}
+use Rattle.std.proofs.Common.{◌≡◌, ℕ, ◌<◌, eq-eqb, Bool, false, cond, List, [], ◌∷◌, ◌++◌, Option, Some, map, take, refl, sym, ap, ◌∙◌, subst, inl, inr}
 use Rattle.std.specs.List.{fold}
 use Rattle.std.specs.Option.{option_map}
 use Rattle.std.proofs.lemmas.List.{append-nil, map-append, same_from_push}
@@ -55,6 +55,7 @@ use Rattle.hwp_cpu_command.specs.hwp_cpu_control.Spoils as spoils
 use Rattle.hwp_law_holds.specs.hwp_evict.declared.Fsync.{Fsync}
 use Rattle.hwp_law_holds.specs.hwp_evict.declared.FsyncAnswer.{FsyncAnswer}
 use Rattle.hwp_law_holds.specs.hwp_evict.declared.FsyncAnswer.TheVariants as fsync_answers
+use Rattle.hwp_law_holds.specs.hwp_evict.declared.fsync.FsyncAt.TheVariants as fsync_at
 use Rattle.hwp_law_holds.specs.hwp_evict.Fsyncs as fsyncs
 use Rattle.hwp_law_holds.specs.hwp_cpu_check.declared.EventOutcome.{EventOutcome}
 use Rattle.hwp_cpu_command.specs.hwp_cpu_raise.declared.Log.{Log}
@@ -64,6 +65,7 @@ use Rattle.hwp_cpu_command.specs.declared.Job.{Job}
 use Rattle.hwp_cpu_command.specs.declared.Job.TheVariants as jobs
 use Rattle.hwp_cpu_command.specs.Answers.{fsync_answer, nested_answer, prctl_answer, read_stop_answer, spoil_answer}
 use Rattle.hwp_cpu_command.specs.Begins.{BeginsLog, BeginsPrctl, BeginsSpoil}
+use Rattle.hwp_cpu_command.specs.FileHandles.{HasHandle, IsUnopened}
 use Rattle.hwp_cpu_command.specs.Jobs.{Fits, answer}
 use Rattle.hwp_cpu_command.specs.Runs.{anew}
 use Rattle.hwp_cpu_command.specs.Settings.{HasReplied, IsCounted, policies_in, set_at}
@@ -75,12 +77,13 @@ use Rattle.hwp_cpu_causes.proofs.StopCauses.{found-stopped}
 
 -- ---- the losses of a file
 
-pub fsync-caused : (layout : Layout) (list : List Command) (view : View) (told : List EventOutcome) (did : Option FrameChange) {who : Who} {file : FileNo} (j : Job) {a : Answer} → anew j ≡ jobs.Fsync (fsyncs.begin who file) → Fits layout view j → answer j ≡ Some a → IsAnswerCaused layout list view who (commands.Fsync file) told did a
-fsync-caused layout list view told did {who} {file} j {a} runs fits is =
+pub fsync-caused : (layout : Layout) (list : List Command) (view : View) (told : List EventOutcome) (did : Option FrameChange) {who : Who} {file : FileNo} {handle : ℕ} (j : Job) {a : Answer} → anew j ≡ jobs.Fsync (fsyncs.begin who file handle false) → Fits layout view j → answer j ≡ Some a → (handles : List ℕ) → HasHandle handles j
+    → IsAnswerCaused layout list view who (commands.Fsync file) told did a
+fsync-caused layout list view told did {who} {file} {handle} j {a} runs fits is handles has =
     subst (λ (f : Fsync). IsAnswerCaused layout list view f.who (commands.Fsync f.file) told did a) task.2
-    (subst (IsAnswerCaused layout list view task.0.who (commands.Fsync task.0.file) told did) own.2 (by own.0 (subst (fsyncs.FitsAt view task.0.who task.0.file) (fsync-over task.0 own.1) fit.at)))
+    (subst (IsAnswerCaused layout list view task.0.who (commands.Fsync task.0.file) told did) own.2 (by own.0 (subst (fsyncs.FitsAt layout view task.0.who task.0.file task.0.handle) over fit.at) (subst IsUnopened over unopened)))
   where
-    task : (f : Fsync) × (j ≡ jobs.Fsync f) × (fsyncs.begin f.who f.file ≡ fsyncs.begin who file)
+    task : (f : Fsync) × (j ≡ jobs.Fsync f) × (fsyncs.begin f.who f.file f.handle f.opens ≡ fsyncs.begin who file handle false)
     task = of-fsync j runs
 
     own : (x : FsyncAnswer) × (fsyncs.answer task.0 ≡ Some x) × (fsync_answer x ≡ a)
@@ -89,10 +92,18 @@ fsync-caused layout list view told did {who} {file} j {a} runs fits is =
     fit : fsyncs.Fits layout view task.0
     fit = subst (Fits layout view) task.1 fits
 
-    by : (x : FsyncAnswer) → fsyncs.IsCaused view task.0.who task.0.file x → IsAnswerCaused layout list view task.0.who (commands.Fsync task.0.file) told did (fsync_answer x)
-    by fsync_answers.Stopped has = found-stopped layout (commands.Fsync task.0.file) view task.0.who (inl has) fit.made_none
-    by fsync_answers.Done has = (fit.made_none, has)
-    by (fsync_answers.Eio lost) has = (fit.made_none, has.0, has.1)
+    over : task.0.at ≡ fsync_at.Over own.0 (fsyncs.number task.0)
+    over = fsync-over task.0 own.1
+
+    unopened : IsUnopened task.0.at
+    unopened = (subst (HasHandle handles) task.1 has).2
+
+    by : (x : FsyncAnswer) → fsyncs.IsCaused layout view task.0.who task.0.file task.0.handle (fsyncs.number task.0) x → IsUnopened (fsync_at.Over x (fsyncs.number task.0))
+        → IsAnswerCaused layout list view task.0.who (commands.Fsync task.0.file) told did (fsync_answer x)
+    by fsync_answers.Stopped caused none = found-stopped layout (commands.Fsync task.0.file) view task.0.who (inl caused.0) fit.made_none
+    by fsync_answers.Done caused none = fit.made_none
+    by (fsync_answers.Eio more) caused none = (fit.made_none, caused.0)
+    by (fsync_answers.Opened lost) caused none = absurd none
 
 -- ---- commands of machine checks
 

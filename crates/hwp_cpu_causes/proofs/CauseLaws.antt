@@ -1,5 +1,5 @@
 -- A command that is answered is answered for a reason.
-use Rattle.std.proofs.Common.{◌≡◌, List, Some}
+use Rattle.std.proofs.Common.{◌≡◌, ℕ, List, Some}
 use Rattle.hwp_law_holds.specs.hwp_geom.declared.Layout.{Layout}
 use Rattle.hwp_law_holds.specs.hwp_geom.declared.Thread.{Thread}
 use Rattle.hwp_law_holds.specs.hwp_geom.declared.Who.{Who}
@@ -8,6 +8,7 @@ use Rattle.hwp_law_holds.specs.hwp_script_lines.declared.Command.{Command}
 use Rattle.hwp_law_holds.specs.hwp_script_lines.declared.Command.TheVariants as commands
 use Rattle.hwp_law_holds.specs.hwp_report_text.declared.Answer.{Answer}
 use Rattle.hwp_cpu_command.specs.declared.Job.{Job}
+use Rattle.hwp_cpu_command.specs.FileHandles.{HasHandle}
 use Rattle.hwp_cpu_command.specs.Jobs.{Fits, answer, own_of, row_of, told_of}
 use Rattle.hwp_cpu_command.specs.Runs.{Runs}
 use Rattle.hwp_cpu_command.specs.Settings.{HasReplied, IsCounted}
@@ -22,24 +23,24 @@ use Rattle.hwp_cpu_causes.proofs.ScrubCauses.{knows-scrub, scrub-caused}
 use Rattle.hwp_cpu_causes.proofs.UnpoisonCauses.{knows-unpoison, unpoison-caused}
 
 pub caused : (layout : Layout) (list : List Command) (view : View) (who : Who) (command : Command) (j : Job) {a : Answer} → Runs layout who command j → Fits layout view j → answer j ≡ Some a
-    → ((thread : Thread) → HasReplied j thread → IsCounted list view who j thread) → IsCaused layout list view who command (row_of j a)
-caused layout list view who (commands.Load thread slot line) j runs fits is counted = load-caused list (own_of j) (knows-access j runs fits is)
-caused layout list view who (commands.Fetch thread slot line) j runs fits is counted = fetch-caused list (own_of j) (knows-access j runs fits is)
-caused layout list view who (commands.KLoad thread slot line) j runs fits is counted = kload-caused list (own_of j) (knows-access j runs fits is)
-caused layout list view who (commands.Store thread slot line word) j runs fits is counted = store-caused list (own_of j) (knows-access j runs fits is)
-caused layout list view who (commands.Free slot) j runs fits is counted = free-caused list (told_of j) (own_of j) runs.1.kind (knows-eviction j runs.1 fits is)
-caused layout list view who (commands.Drop page) j runs fits is counted = drop-caused list (told_of j) (own_of j) (knows-eviction j runs fits is)
-caused layout list view who (commands.Sync page) j runs fits is counted = sync-caused list (told_of j) (own_of j) (knows-eviction j runs fits is)
-caused layout list view who (commands.Out page) j runs fits is counted = out-caused list (told_of j) (own_of j) (knows-eviction j runs fits is)
-caused layout list view who (commands.Fsync file) j runs fits is counted = fsync-caused layout list view (told_of j) (own_of j) j runs.1 fits is
-caused layout list view who (commands.Prctl thread args) j runs fits is counted = prctl-caused list view (told_of j) (own_of j) j runs fits is counted
-caused layout list view who (commands.Bad frame line) j runs fits is counted = spoil-caused layout list view (told_of j) (own_of j) j runs fits is
-caused layout list view who (commands.Weak frame line) j runs fits is counted = spoil-caused layout list view (told_of j) (own_of j) j runs fits is
-caused layout list view who (commands.Scrub first last) j runs fits is counted = scrub-caused (knows-scrub j runs fits is) list (own_of j)
-caused layout list view who (commands.Log status addr misc) j runs fits is counted = log-caused layout list view (told_of j) (own_of j) j runs fits is
-caused layout list view who (commands.RaiseUser thread ripv eipv) j runs fits is counted = user-caused list ripv eipv (own_of j) (knows-user-raise j runs fits is)
-caused layout list view who (commands.RaiseKernel ripv eipv) j runs fits is counted = kernel-caused list ripv eipv (own_of j) (knows-kernel-raise j runs fits is)
-caused layout list view who commands.RaiseNested j runs fits is counted = nested-caused layout list view (told_of j) (own_of j) j runs fits is
-caused layout list view who (commands.Inject frame) j runs fits is counted = inject-caused list (told_of j) j (knows-failure j runs fits is)
-caused layout list view who (commands.Soft frame) j runs fits is counted = soft-caused list (told_of j) j (knows-soft j runs fits is)
-caused layout list view who (commands.Unpoison frame) j runs fits is counted = unpoison-caused list (told_of j) j (knows-unpoison j runs fits is)
+    → ((thread : Thread) → HasReplied j thread → IsCounted list view who j thread) → (handles : List ℕ) → HasHandle handles j → IsCaused layout list view who command (row_of j a)
+caused layout list view who (commands.Load thread slot line) j runs fits is counted handles has = load-caused list (own_of j) (knows-access j runs fits is)
+caused layout list view who (commands.Fetch thread slot line) j runs fits is counted handles has = fetch-caused list (own_of j) (knows-access j runs fits is)
+caused layout list view who (commands.KLoad thread slot line) j runs fits is counted handles has = kload-caused list (own_of j) (knows-access j runs fits is)
+caused layout list view who (commands.Store thread slot line word) j runs fits is counted handles has = store-caused list (own_of j) (knows-access j runs fits is)
+caused layout list view who (commands.Free slot) j runs fits is counted handles has = free-caused list (told_of j) (own_of j) runs.1.kind (knows-eviction j runs.1 fits is)
+caused layout list view who (commands.Drop page) j runs fits is counted handles has = drop-caused list (told_of j) (own_of j) (knows-eviction j runs fits is)
+caused layout list view who (commands.Sync page) j runs fits is counted handles has = sync-caused list (told_of j) (own_of j) (knows-eviction j runs fits is)
+caused layout list view who (commands.Out page) j runs fits is counted handles has = out-caused list (told_of j) (own_of j) (knows-eviction j runs fits is)
+caused layout list view who (commands.Fsync file) j runs fits is counted handles has = fsync-caused layout list view (told_of j) (own_of j) j runs.2 fits is handles has
+caused layout list view who (commands.Prctl thread args) j runs fits is counted handles has = prctl-caused list view (told_of j) (own_of j) j runs fits is counted
+caused layout list view who (commands.Bad frame line) j runs fits is counted handles has = spoil-caused layout list view (told_of j) (own_of j) j runs fits is
+caused layout list view who (commands.Weak frame line) j runs fits is counted handles has = spoil-caused layout list view (told_of j) (own_of j) j runs fits is
+caused layout list view who (commands.Scrub first last) j runs fits is counted handles has = scrub-caused (knows-scrub j runs fits is) list (own_of j)
+caused layout list view who (commands.Log status addr misc) j runs fits is counted handles has = log-caused layout list view (told_of j) (own_of j) j runs fits is
+caused layout list view who (commands.RaiseUser thread ripv eipv) j runs fits is counted handles has = user-caused list ripv eipv (own_of j) (knows-user-raise j runs fits is)
+caused layout list view who (commands.RaiseKernel ripv eipv) j runs fits is counted handles has = kernel-caused list ripv eipv (own_of j) (knows-kernel-raise j runs fits is)
+caused layout list view who commands.RaiseNested j runs fits is counted handles has = nested-caused layout list view (told_of j) (own_of j) j runs fits is
+caused layout list view who (commands.Inject frame) j runs fits is counted handles has = inject-caused list (told_of j) j (knows-failure j runs fits is)
+caused layout list view who (commands.Soft frame) j runs fits is counted handles has = soft-caused list (told_of j) j (knows-soft j runs fits is)
+caused layout list view who (commands.Unpoison frame) j runs fits is counted handles has = unpoison-caused list (told_of j) j (knows-unpoison j runs fits is)

@@ -10,6 +10,7 @@ mod StopCauses
 mod CauseLaws
 mod RowAccounts
 mod CommandTells
+pub mod HandleNumbers
 pub mod RowServed
 pub use Rattle.hwp_law_holds.proofs as of_hwp_law_holds
 pub use Rattle.hwp_law_holds.proofs.of_hwp_law_run as of_hwp_law_run

@@ -29,11 +29,6 @@ use Rattle.hwp_cpu_command.specs.hwp_cpu_control.declared.prctl.PrctlAt.{PrctlAt
 use Rattle.hwp_cpu_command.specs.hwp_cpu_control.declared.prctl.PrctlAt.TheVariants as prctl_at
 use Rattle.hwp_cpu_command.specs.hwp_cpu_control.Prctls as prctls
 use Rattle.hwp_cpu_command.proofs.of_hwp_cpu_control.PrctlReplies.{set-says}
-use Rattle.hwp_law_holds.specs.hwp_evict.declared.Fsync.{Fsync}
-use Rattle.hwp_law_holds.specs.hwp_evict.declared.FsyncAnswer.{FsyncAnswer}
-use Rattle.hwp_law_holds.specs.hwp_evict.declared.FsyncAnswer.TheVariants as fsync_answers
-use Rattle.hwp_law_holds.specs.hwp_evict.declared.fsync.FsyncAt.TheVariants as fsync_at
-use Rattle.hwp_law_holds.specs.hwp_evict.Fsyncs as fsyncs
 use Rattle.hwp_law_holds.specs.hwp_claim.declared.fail.FailAt.{FailAt}
 use Rattle.hwp_law_holds.specs.hwp_claim.declared.fail.FailAt.TheVariants as fail_at
 use Rattle.hwp_law_holds.specs.hwp_claim.declared.FailAnswer.{FailAnswer}
@@ -74,7 +69,7 @@ use Rattle.hwp_law_holds.specs.hwp_cpu_row.declared.FrameChange.{FrameChange}
 use Rattle.hwp_cpu_command.specs.declared.Job.{Job}
 use Rattle.hwp_cpu_command.specs.declared.Job.TheVariants as jobs
 use Rattle.hwp_cpu_command.specs.Answers.{fail_answer, fsync_answer, prctl_answer, soft_answer, unpoison_answer}
-use Rattle.hwp_cpu_command.specs.Done.{failed_at, failed_now, marked_now, policies_now, taken_at, taken_now}
+use Rattle.hwp_cpu_command.specs.Done.{failed_at, failed_now, marked_now, policies_now}
 use Rattle.hwp_cpu_command.specs.Jobs.{Fits, answer, offlined_by, own_by, own_of, revived_by, row_of, told_of}
 use Rattle.hwp_cpu_command.specs.Runs.{Runs, anew}
 use Rattle.hwp_cpu_command.specs.Settings.{set_at}
@@ -87,24 +82,7 @@ use Rattle.hwp_cpu_causes.proofs.OfflineCauses.{KnowsSoft, knows-soft}
 use Rattle.hwp_cpu_causes.proofs.RaiseCauses.{KnowsRaise, knows-kernel-raise, knows-user-raise}
 use Rattle.hwp_cpu_causes.proofs.ScrubCauses.{KnowsScrub, knows-scrub}
 use Rattle.hwp_cpu_causes.proofs.UnpoisonCauses.{KnowsUnpoison, knows-unpoison}
-use Rattle.hwp_law_holds.specs.Accounts.{IsOwn, failures_in, markings_in, own_failure, own_marking, set_by, set_for, taken_by}
-
--- ---- the losses of a file
-
-fsync-taken : {who : Who} {file : FileNo} (j : Job) {a : Answer} → anew j ≡ jobs.Fsync (fsyncs.begin who file) → answer j ≡ Some a → taken_now j ≡ taken_by (commands.Fsync file) a
-fsync-taken {who} {file} j {a} runs is =
-    ap taken_now task.1 ∙ ap (taken_at task.0.file) (fsync-over task.0 own.1) ∙ by own.0 ∙ ap (λ (f : FileNo). taken_by (commands.Fsync f) (fsync_answer own.0)) (ap (λ (f : Fsync). f.file) task.2) ∙ ap (taken_by (commands.Fsync file)) own.2
-  where
-    task : (f : Fsync) × (j ≡ jobs.Fsync f) × (fsyncs.begin f.who f.file ≡ fsyncs.begin who file)
-    task = of-fsync j runs
-
-    own : (x : FsyncAnswer) × (fsyncs.answer task.0 ≡ Some x) × (fsync_answer x ≡ a)
-    own = mapped fsync_answer (fsyncs.answer task.0) (sym (ap answer task.1) ∙ is)
-
-    by : (x : FsyncAnswer) → taken_at task.0.file (fsync_at.Over x) ≡ taken_by (commands.Fsync task.0.file) (fsync_answer x)
-    by fsync_answers.Stopped = refl
-    by fsync_answers.Done = refl
-    by (fsync_answers.Eio lost) = refl
+use Rattle.hwp_law_holds.specs.Accounts.{IsOwn, failures_in, markings_in, own_failure, own_marking, set_by, set_for}
 
 -- ---- the policy of a thread
 
@@ -218,7 +196,6 @@ module _ (frame : Frame) where
 pub record DoesSo (command : Command) (j : Job) (a : Answer) : Type 0 where
   pub marked : marked_now j ≡ markings_in (row_of j a)
   pub failed : failed_now j ≡ failures_in command (row_of j a)
-  pub taken : taken_now j ≡ taken_by command a
   pub set : policies_now j ≡ set_by command a
   pub own : IsOwn command a (own_of j)
 
@@ -226,7 +203,6 @@ inject-does : {layout : Layout} {view : View} {who : Who} {frame : Frame} {j : J
 inject-does {frame = frame} {j} {a} k = subst (λ (q : Job). DoesSo (commands.Inject frame) q a) (sym k.job_is) (subst (DoesSo (commands.Inject frame) (jobs.Inject k.inject)) k.answer_is (subst (λ (f : Frame). DoesSo (commands.Inject f) (jobs.Inject k.inject) (fail_answer k.own)) k.frame_is (record {
   marked = k.ended.marked ∙ marked-so k.inject.frame k.own ∙ ap (λ (o : Option FailAnswer). cons_option (own_marking (own_by k.inject.frame o)) []) (sym k.said);
   failed = inject-failed k.inject k.said ∙ failed-so k.inject.frame k.own ∙ ap (λ (o : Option FailAnswer). cons_option (own_failure (own_by k.inject.frame o)) []) (sym k.said);
-  taken = refl;
   set = refl;
   own = subst (λ (o : Option FailAnswer). IsOwn (commands.Inject k.inject.frame) (fail_answer k.own) (own_by k.inject.frame o)) (sym k.said) (own-so k.inject.frame k.own);
 })))
@@ -235,7 +211,6 @@ soft-does : {layout : Layout} {view : View} {who : Who} {frame : Frame} {j : Job
 soft-does {frame = frame} {j} {a} k = subst (λ (q : Job). DoesSo (commands.Soft frame) q a) (sym k.job_is) (subst (DoesSo (commands.Soft frame) (jobs.Soft k.task)) k.answer_is (subst (λ (s : Soft). DoesSo (commands.Soft s.frame) (jobs.Soft k.task) (soft_answer k.own)) k.begun (record {
   marked = ap (marked_at k.task.frame) (soft-over k.task k.said) ∙ poisoned-so k.task.frame k.own ∙ ap (λ (o : Option SoftAnswer). cons_option (own_marking (option_and_then (offlined_by k.task.frame) o)) []) (sym k.said);
   failed = unfailed-so k.task.frame k.own ∙ ap (λ (o : Option SoftAnswer). cons_option (own_failure (option_and_then (offlined_by k.task.frame) o)) []) (sym k.said);
-  taken = refl;
   set = refl;
   own = subst (λ (o : Option SoftAnswer). IsOwn (commands.Soft k.task.frame) (soft_answer k.own) (option_and_then (offlined_by k.task.frame) o)) (sym k.said) (offlined-so k.task.frame k.own);
 })))
@@ -244,19 +219,17 @@ unpoison-does : {layout : Layout} {view : View} {who : Who} {frame : Frame} {j :
 unpoison-does {frame = frame} {j} {a} k = subst (λ (q : Job). DoesSo (commands.Unpoison frame) q a) (sym k.job_is) (subst (DoesSo (commands.Unpoison frame) (jobs.Unpoison k.task)) k.answer_is (subst (λ (u : Unpoison). DoesSo (commands.Unpoison u.frame) (jobs.Unpoison k.task) (unpoison_answer k.own)) k.begun (record {
   marked = ap (unpoison_done.marked_at k.task.frame) (unpoison-over k.task k.said) ∙ revived-so k.task.frame k.own ∙ ap (λ (o : Option UnpoisonAnswer). cons_option (own_marking (option_and_then (revived_by k.task.frame) o)) []) (sym k.said);
   failed = sound-so k.task.frame k.own ∙ ap (λ (o : Option UnpoisonAnswer). cons_option (own_failure (option_and_then (revived_by k.task.frame) o)) []) (sym k.said);
-  taken = refl;
   set = refl;
   own = subst (λ (o : Option UnpoisonAnswer). IsOwn (commands.Unpoison k.task.frame) (unpoison_answer k.own) (option_and_then (revived_by k.task.frame) o)) (sym k.said) (unpoisoned-so k.task.frame k.own);
 })))
 
 -- a command whose machine checks have done it all: its task, once it is over, has done what its lines tell
 access-does : {layout : Layout} {view : View} {who : Who} {thread : Thread} {slot : VSlot} {line : ℕ} {kind : AccessKind} {origin : Origin} {mode : Mode} {j : Job} {a : Answer} (command : Command)
-    → current_thread command ≡ Some thread → taken_by command a ≡ [] → set_by command a ≡ [] → IsOwn command a None → KnowsAccess layout view who thread slot line kind origin mode j a → DoesSo command j a
-access-does {thread = thread} {a = a} command of taken set own k = subst (λ (q : Job). DoesSo command q a) (sym k.job_is) (record {
+    → current_thread command ≡ Some thread → set_by command a ≡ [] → IsOwn command a None → KnowsAccess layout view who thread slot line kind origin mode j a → DoesSo command j a
+access-does {thread = thread} {a = a} command of set own k = subst (λ (q : Job). DoesSo command q a) (sym k.job_is) (record {
   marked = ap (λ (x : InstructionAt). filter_map marked_in k.task.lines.told ++ instruction_done.marked_at x) over;
   failed = ap (λ (x : InstructionAt). filter_map (failed_in (Some k.task.request.thread)) k.task.lines.told ++ instruction_done.failed_at x) over
       ∙ ap (λ (t : Option Thread). filter_map (failed_in t) k.task.lines.told ++ []) (ap (λ (r : Request). Some r.thread) k.request_is ∙ sym of);
-  taken = sym taken;
   set = sym set;
   own = own;
 })
@@ -265,12 +238,11 @@ access-does {thread = thread} {a = a} command of taken set own k = subst (λ (q 
     over = instruction-over k.task k.said
 
 raise-does : {layout : Layout} {view : View} {who : Who} {raiser : Option Raiser} {mcg : McgBits} {j : Job} {a : Answer} (command : Command)
-    → current_thread command ≡ thread_of raiser → taken_by command a ≡ [] → set_by command a ≡ [] → IsOwn command a None → KnowsRaise layout view who raiser mcg j a → DoesSo command j a
-raise-does {raiser = raiser} {a = a} command of taken set own k = subst (λ (q : Job). DoesSo command q a) (sym k.job_is) (record {
+    → current_thread command ≡ thread_of raiser → set_by command a ≡ [] → IsOwn command a None → KnowsRaise layout view who raiser mcg j a → DoesSo command j a
+raise-does {raiser = raiser} {a = a} command of set own k = subst (λ (q : Job). DoesSo command q a) (sym k.job_is) (record {
   marked = ap (λ (x : RaiseAt). filter_map marked_in k.task.lines.told ++ raise_done.marked_at x) over;
   failed = ap (λ (x : RaiseAt). filter_map (failed_in (thread_of k.task.raiser)) k.task.lines.told ++ raise_done.failed_at x) over
       ∙ ap (λ (t : Option Thread). filter_map (failed_in t) k.task.lines.told ++ []) (ap (λ (r : Raise). thread_of r.raiser) k.begun ∙ sym of);
-  taken = sym taken;
   set = sym set;
   own = own;
 })
@@ -282,7 +254,6 @@ scrub-does : {layout : Layout} {view : View} {who : Who} {first last : Frame} {j
 scrub-does {first = first} {last} {a = a} k = subst (λ (q : Job). DoesSo (commands.Scrub first last) q a) (sym k.job_is) (record {
   marked = ap (λ (x : ScrubAt). filter_map marked_in k.task.lines.told ++ scrub_done.marked_at x) over;
   failed = ap (λ (x : ScrubAt). filter_map (failed_in None) k.task.lines.told ++ scrub_done.failed_at x) over;
-  taken = refl;
   set = refl;
   own = tt;
 })
@@ -291,33 +262,32 @@ scrub-does {first = first} {last} {a = a} k = subst (λ (q : Job). DoesSo (comma
     over = scrub-over k.task k.said
 
 -- a command of which no memory fails
-by-kind : {command : Command} {j k : Job} {a : Answer} → j ≡ k → (told_of k ≡ []) × (own_of k ≡ None) × (marked_now k ≡ []) × (failed_now k ≡ []) → taken_now j ≡ taken_by command a → policies_now j ≡ set_by command a → IsOwn command a None → DoesSo command j a
-by-kind {command} {j} {k} {a} is none taken set own = record {
+by-kind : {command : Command} {j k : Job} {a : Answer} → j ≡ k → (told_of k ≡ []) × (own_of k ≡ None) × (marked_now k ≡ []) × (failed_now k ≡ []) → policies_now j ≡ set_by command a → IsOwn command a None → DoesSo command j a
+by-kind {command} {j} {k} {a} is none set own = record {
   marked = ap marked_now is ∙ none.2 ∙ sym (ap (λ (q : Job). markings_in (row_of q a)) is ∙ ap (λ (told : List EventOutcome). filter_map marked_in told ++ cons_option (own_marking (own_of k)) []) none.0 ∙ ap (λ (o : Option FrameChange). cons_option (own_marking o) []) none.1);
   failed = ap failed_now is ∙ none.3 ∙ sym (ap (λ (q : Job). failures_in command (row_of q a)) is ∙ ap (λ (told : List EventOutcome). filter_map (failed_in (current_thread command)) told ++ cons_option (own_failure (own_of k)) []) none.0 ∙ ap (λ (o : Option FrameChange). cons_option (own_failure o) []) none.1);
-  taken = taken;
   set = set;
   own = subst (IsOwn command a) (sym (ap own_of is ∙ none.1)) own;
 }
 
 pub does : (layout : Layout) (view : View) (who : Who) (command : Command) (j : Job) {a : Answer} → Runs layout who command j → Fits layout view j → answer j ≡ Some a → DoesSo command j a
-does layout view who (commands.Load thread slot line) j runs fits is = access-does (commands.Load thread slot line) refl refl refl tt (knows-access j runs fits is)
-does layout view who (commands.Fetch thread slot line) j runs fits is = access-does (commands.Fetch thread slot line) refl refl refl tt (knows-access j runs fits is)
-does layout view who (commands.KLoad thread slot line) j runs fits is = access-does (commands.KLoad thread slot line) refl refl refl tt (knows-access j runs fits is)
-does layout view who (commands.Store thread slot line word) j runs fits is = access-does (commands.Store thread slot line word) refl refl refl tt (knows-access j runs fits is)
-does layout view who (commands.Free slot) j runs fits is = let task = (of-evict j runs.1.job_is).1 in by-kind task (refl, refl, refl, refl) (ap taken_now task) (ap policies_now task) tt
-does layout view who (commands.Drop page) j runs fits is = let task = (of-evict j runs.job_is).1 in by-kind task (refl, refl, refl, refl) (ap taken_now task) (ap policies_now task) tt
-does layout view who (commands.Sync page) j runs fits is = let task = (of-evict j runs.job_is).1 in by-kind task (refl, refl, refl, refl) (ap taken_now task) (ap policies_now task) tt
-does layout view who (commands.Out page) j runs fits is = let task = (of-evict j runs.job_is).1 in by-kind task (refl, refl, refl, refl) (ap taken_now task) (ap policies_now task) tt
-does layout view who (commands.Fsync file) j runs fits is = let task = (of-fsync j runs.1).1 in by-kind task (refl, refl, refl, refl) (fsync-taken j runs.1 is) (ap policies_now task) tt
-does layout view who (commands.Prctl thread args) j runs fits is = let task = (of-prctl j runs.job_is).1 in by-kind task (refl, refl, refl, refl) (ap taken_now task) (prctl-set (knows-prctl j runs fits is)) tt
-does layout view who (commands.Bad frame line) j runs fits is = let task = (of-spoil j runs.job_is).1 in by-kind task (refl, refl, refl, refl) (ap taken_now task) (ap policies_now task) tt
-does layout view who (commands.Weak frame line) j runs fits is = let task = (of-spoil j runs.job_is).1 in by-kind task (refl, refl, refl, refl) (ap taken_now task) (ap policies_now task) tt
+does layout view who (commands.Load thread slot line) j runs fits is = access-does (commands.Load thread slot line) refl refl tt (knows-access j runs fits is)
+does layout view who (commands.Fetch thread slot line) j runs fits is = access-does (commands.Fetch thread slot line) refl refl tt (knows-access j runs fits is)
+does layout view who (commands.KLoad thread slot line) j runs fits is = access-does (commands.KLoad thread slot line) refl refl tt (knows-access j runs fits is)
+does layout view who (commands.Store thread slot line word) j runs fits is = access-does (commands.Store thread slot line word) refl refl tt (knows-access j runs fits is)
+does layout view who (commands.Free slot) j runs fits is = let task = (of-evict j runs.1.job_is).1 in by-kind task (refl, refl, refl, refl) (ap policies_now task) tt
+does layout view who (commands.Drop page) j runs fits is = let task = (of-evict j runs.job_is).1 in by-kind task (refl, refl, refl, refl) (ap policies_now task) tt
+does layout view who (commands.Sync page) j runs fits is = let task = (of-evict j runs.job_is).1 in by-kind task (refl, refl, refl, refl) (ap policies_now task) tt
+does layout view who (commands.Out page) j runs fits is = let task = (of-evict j runs.job_is).1 in by-kind task (refl, refl, refl, refl) (ap policies_now task) tt
+does layout view who (commands.Fsync file) j runs fits is = let task = (of-fsync j runs.2).1 in by-kind task (refl, refl, refl, refl) (ap policies_now task) tt
+does layout view who (commands.Prctl thread args) j runs fits is = let task = (of-prctl j runs.job_is).1 in by-kind task (refl, refl, refl, refl) (prctl-set (knows-prctl j runs fits is)) tt
+does layout view who (commands.Bad frame line) j runs fits is = let task = (of-spoil j runs.job_is).1 in by-kind task (refl, refl, refl, refl) (ap policies_now task) tt
+does layout view who (commands.Weak frame line) j runs fits is = let task = (of-spoil j runs.job_is).1 in by-kind task (refl, refl, refl, refl) (ap policies_now task) tt
 does layout view who (commands.Scrub first last) j runs fits is = scrub-does (knows-scrub j runs fits is)
-does layout view who (commands.Log status addr misc) j runs fits is = let task = (of-log j runs.job_is).1 in by-kind task (refl, refl, refl, refl) (ap taken_now task) (ap policies_now task) tt
-does layout view who (commands.RaiseUser thread ripv eipv) j runs fits is = raise-does (commands.RaiseUser thread ripv eipv) refl refl refl tt (knows-user-raise j runs fits is).knows
-does layout view who (commands.RaiseKernel ripv eipv) j runs fits is = raise-does (commands.RaiseKernel ripv eipv) refl refl refl tt (knows-kernel-raise j runs fits is)
-does layout view who commands.RaiseNested j runs fits is = let task = (of-nested j runs).1 in by-kind task (refl, refl, refl, refl) (ap taken_now task) (ap policies_now task) tt
+does layout view who (commands.Log status addr misc) j runs fits is = let task = (of-log j runs.job_is).1 in by-kind task (refl, refl, refl, refl) (ap policies_now task) tt
+does layout view who (commands.RaiseUser thread ripv eipv) j runs fits is = raise-does (commands.RaiseUser thread ripv eipv) refl refl tt (knows-user-raise j runs fits is).knows
+does layout view who (commands.RaiseKernel ripv eipv) j runs fits is = raise-does (commands.RaiseKernel ripv eipv) refl refl tt (knows-kernel-raise j runs fits is)
+does layout view who commands.RaiseNested j runs fits is = let task = (of-nested j runs).1 in by-kind task (refl, refl, refl, refl) (ap policies_now task) tt
 does layout view who (commands.Inject frame) j runs fits is = inject-does (knows-failure j runs fits is)
 does layout view who (commands.Soft frame) j runs fits is = soft-does (knows-soft j runs fits is)
 does layout view who (commands.Unpoison frame) j runs fits is = unpoison-does (knows-unpoison j runs fits is)

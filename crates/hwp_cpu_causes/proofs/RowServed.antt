@@ -1,5 +1,5 @@
 -- A command that is answered has served its row.
-use Rattle.std.proofs.Common.{◌≡◌, ◌⊎◌, List, Some, ◌∙◌}
+use Rattle.std.proofs.Common.{◌≡◌, ◌⊎◌, ℕ, List, Some, ◌∙◌}
 use Rattle.hwp_law_holds.specs.hwp_geom.declared.Layout.{Layout}
 use Rattle.hwp_law_holds.specs.hwp_geom.declared.Thread.{Thread}
 use Rattle.hwp_law_holds.specs.hwp_geom.declared.Who.{Who}
@@ -9,11 +9,12 @@ use Rattle.hwp_law_holds.specs.hwp_report_text.declared.Answer.{Answer}
 use Rattle.hwp_law_holds.specs.hwp_report_text.declared.Answer.TheVariants as answers
 use Rattle.hwp_law_holds.specs.hwp_banks.Banks.{Banks}
 use Rattle.hwp_cpu_command.specs.declared.Job.{Job}
-use Rattle.hwp_cpu_command.specs.Done.{failed_now, marked_now, policies_now, taken_now}
+use Rattle.hwp_cpu_command.specs.Done.{failed_now, marked_now, policies_now}
+use Rattle.hwp_cpu_command.specs.FileHandles.{HasHandle}
 use Rattle.hwp_cpu_command.specs.Jobs.{Fits, answer, banks_after, banks_before, row_of}
 use Rattle.hwp_cpu_command.specs.Runs.{Runs}
 use Rattle.hwp_cpu_command.specs.Settings.{HasReplied, IsCounted}
-use Rattle.hwp_law_holds.specs.Accounts.{failures, losses_taken, markings, policies_set}
+use Rattle.hwp_law_holds.specs.Accounts.{failures, markings, policies_set}
 use Rattle.hwp_law_holds.specs.Served.{IsRowServed, SawRunning}
 use Rattle.hwp_cpu_causes.proofs.RowAccounts.{does}
 use Rattle.hwp_cpu_causes.proofs.CauseLaws.{caused}
@@ -23,14 +24,14 @@ use Rattle.hwp_cpu_causes.proofs.CommandTells.{tells}
 -- that it gives is served
 pub row-served : (layout : Layout) (list : List Command) (view : View) (who : Who) (command : Command) (j : Job) {a : Answer} (kept : Banks) → Runs layout who command j → Fits layout view j → answer j ≡ Some a
     → ((thread : Thread) → HasReplied j thread → IsCounted list view who j thread) → (a ≡ answers.Stopped) ⊎ SawRunning view who
-    → markings who view ≡ marked_now j → failures who view ≡ failed_now j → losses_taken who view ≡ taken_now j → policies_set who view ≡ policies_now j
-    → IsRowServed layout list view who command (banks_before j kept) (row_of j a) (banks_after j kept)
-row-served layout list view who command j kept runs fits is counted running marked failed taken set =
+    → markings who view ≡ marked_now j → failures who view ≡ failed_now j → policies_set who view ≡ policies_now j
+    → (handles : List ℕ) → HasHandle handles j → IsRowServed layout list view who command (banks_before j kept) (row_of j a) (banks_after j kept)
+row-served layout list view who command j kept runs fits is counted running marked failed set handles has =
     let so = does layout view who command j runs fits is in
     let right = tells layout view who command j kept runs fits is in
     record {
-      caused = caused layout list view who command j runs fits is counted;
-      accounted = record { marked = marked ∙ so.marked; failed = failed ∙ so.failed; taken = taken ∙ so.taken; set = set ∙ so.set; own = so.own };
+      caused = caused layout list view who command j runs fits is counted handles has;
+      accounted = record { marked = marked ∙ so.marked; failed = failed ∙ so.failed; set = set ∙ so.set; own = so.own };
       told = right.told;
       heeded = right.heeded;
       running = running;

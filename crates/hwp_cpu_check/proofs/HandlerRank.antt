@@ -56,7 +56,7 @@ handler-small layout a seat h rule fits =
   where
     which : (x : HandlerAt) → length h.events.left ≤ 3 → cost_with (length h.events.left) x (words_at layout a) < top
     which at.Stop few = omega arith
-    which (at.Fail f) few = let small : fails.cost f (words_at layout a) ≤ 8871 = fail-small f (words_at layout a) in omega (arith, few, small)
+    which (at.Fail f) few = let small : fails.cost f (words_at layout a) ≤ fails.fail_most = fail-small f (words_at layout a) in omega (arith, few, small)
     which at.GaveUp few = omega arith
     which (at.Over stopped) few = omega arith
 

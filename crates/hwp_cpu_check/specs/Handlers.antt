@@ -15,6 +15,7 @@ use Rattle.hwp_claim_frame.specs.hwp_core_task.declared.Turn.TheVariants.{Moved}
 use Rattle.hwp_claim_frame.specs.Claims.{stop_turn}
 use Rattle.hwp_law.specs.hwp_report_text.declared.Acted.{Acted}
 use Rattle.hwp_banks.specs.Banks.{Banks}
+use Rattle.hwp_banks.specs.Events.{bank_count}
 use Rattle.hwp_law.specs.hwp_severity.Handling.{has_stop}
 use Rattle.hwp_law.specs.hwp_severity.declared.Arrival.{Arrival}
 use Rattle.hwp_claim.specs.declared.fail.Fail.{Fail}
@@ -168,3 +169,7 @@ cost_with left (at.Over stopped) words = 0
 
 abbrev pub cost : Handler → Words → ℕ
 cost h words = cost_with (length h.events.left) h.at words
+
+-- it is no more than this: a failure of a line, and the other banks' events
+abbrev pub handler_most : ℕ
+handler_most = fails.fail_most + bank_count

@@ -108,11 +108,12 @@ evict-over e {x} is = which e.at is
     which (evict_at.Over other) some = ap evict_at.Over (same_Some other x some)
     which _ none = absurd (none-some x none)
 
-pub fsync-over : (f : Fsync) {x : FsyncAnswer} → fsyncs.answer f ≡ Some x → f.at ≡ fsync_at.Over x
+-- with the number that its handle has then
+pub fsync-over : (f : Fsync) {x : FsyncAnswer} → fsyncs.answer f ≡ Some x → f.at ≡ fsync_at.Over x (fsyncs.number f)
 fsync-over f {x} is = which f.at is
   where
-    which : (y : FsyncAt) → fsyncs.answer_at y ≡ Some x → y ≡ fsync_at.Over x
-    which (fsync_at.Over other) some = ap fsync_at.Over (same_Some other x some)
+    which : (y : FsyncAt) → fsyncs.answer_at y ≡ Some x → y ≡ fsync_at.Over x (fsyncs.number_at f.handle y)
+    which (fsync_at.Over other number) some = ap (λ (a : FsyncAnswer). fsync_at.Over a number) (same_Some other x some)
     which _ none = absurd (none-some x none)
 
 pub prctl-over : (p : Prctl) {x : PrctlAnswer} → prctls.answer p ≡ Some x → p.at ≡ prctl_at.Over x

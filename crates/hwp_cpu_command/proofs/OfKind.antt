@@ -104,7 +104,7 @@ pub of-evict : (j : Job) {x : Evict} → anew j ≡ jobs.Evict x → (e : Evict)
 of-evict (jobs.Evict e) {x} is = (e, refl, ap (evict_in x) is)
 of-evict _ is = absurd (differ is refl)
 
-pub of-fsync : (j : Job) {x : Fsync} → anew j ≡ jobs.Fsync x → (f : Fsync) × (j ≡ jobs.Fsync f) × (fsyncs.begin f.who f.file ≡ x)
+pub of-fsync : (j : Job) {x : Fsync} → anew j ≡ jobs.Fsync x → (f : Fsync) × (j ≡ jobs.Fsync f) × (fsyncs.begin f.who f.file f.handle f.opens ≡ x)
 of-fsync (jobs.Fsync f) {x} is = (f, refl, ap (fsync_in x) is)
 of-fsync _ is = absurd (differ is refl)
 

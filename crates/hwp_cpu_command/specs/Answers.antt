@@ -57,6 +57,7 @@ abbrev pub fsync_answer : FsyncAnswer → Answer
 fsync_answer fsync.Stopped = answers.Stopped
 fsync_answer fsync.Done = answers.Done
 fsync_answer (fsync.Eio lost) = answers.Eio lost
+fsync_answer (fsync.Opened lost) = answers.Opened lost
 
 abbrev pub prctl_answer : PrctlAnswer → Answer
 prctl_answer (prctl.Replied reply) = reply_answer reply

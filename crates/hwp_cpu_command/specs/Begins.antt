@@ -1,6 +1,6 @@
 -- The task that a command begins as.
 use Rattle.std.specs.declared.alloc.Global.{Global}
-use Rattle.std.specs.Prelude.{◌≡◌, ℕ, ◌<◌, Some, None, length, slice_get}
+use Rattle.std.specs.Prelude.{◌≡◌, ℕ, ◌<◌, false, Some, None, length, slice_get}
 use Rattle.hwp_cpu_control.specs.hwp_geom.declared.Damage.{Damage}
 use Rattle.hwp_cpu_control.specs.hwp_geom.declared.Damage.TheVariants as damages
 use Rattle.hwp_cpu_control.specs.hwp_geom.declared.Frame.{Frame}
@@ -156,7 +156,7 @@ Begins layout who (commands.Free slot) banks j = (page : Page) × BeginsEviction
 Begins layout who (commands.Drop page) banks j = BeginsEviction layout who page evictions.Drop j
 Begins layout who (commands.Sync page) banks j = BeginsEviction layout who page evictions.Sync j
 Begins layout who (commands.Out page) banks j = BeginsEviction layout who page evictions.Out j
-Begins layout who (commands.Fsync file) banks j = (file.0 < layout.files) × (j ≡ jobs.Fsync (fsyncs.begin who file))
+Begins layout who (commands.Fsync file) banks j = (file.0 < layout.files) × (handle : ℕ) × (j ≡ jobs.Fsync (fsyncs.begin who file handle false))
 Begins layout who (commands.Prctl thread args) banks j = BeginsPrctl layout who thread args j
 Begins layout who (commands.Bad frame line) banks j = BeginsSpoil layout who frame line damages.Bad j
 Begins layout who (commands.Weak frame line) banks j = BeginsSpoil layout who frame line damages.Weak j

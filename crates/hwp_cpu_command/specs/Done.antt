@@ -1,20 +1,15 @@
--- What a command has done so far beside what it answers: the frames that it marked, the failures that its entries tell, the losses
--- that it took, and the policy that it set.
+-- What a command has done so far beside what it answers: the frames that it marked, the failures that its entries tell, and the
+-- policy that it set.
 use Rattle.std.specs.Prelude.{◌≡◌, ℕ, Bool, true, false, List, [], ◌∷◌, None, map}
-use Rattle.hwp_cpu_control.specs.hwp_geom.declared.FileNo.{FileNo}
 use Rattle.hwp_cpu_control.specs.hwp_geom.declared.Frame.{Frame}
 use Rattle.hwp_cpu_control.specs.hwp_geom.declared.Thread.{Thread}
 use Rattle.hwp_cpu_control.specs.hwp_geom.declared.Who.{Who}
 use Rattle.hwp_cpu_control.specs.hwp_kill.declared.Policy.{Policy}
 use Rattle.hwp_cpu_control.specs.hwp_core_rule.declared.Mark.{Mark}
-use Rattle.hwp_cpu_control.specs.hwp_core_rule.declared.Reported.{Reported}
 use Rattle.hwp_cpu_control.specs.hwp_core_rule.declared.Setting.{Setting}
 use Rattle.hwp_cpu_control.specs.hwp_core_rule.declared.View.{View}
 use Rattle.hwp_soft.specs.hwp_claim_act.declared.Failed.{Failed}
 use Rattle.hwp_soft.specs.hwp_claim_frame.Done.{Grows, Marking, counts_owed, marking_of}
-use Rattle.hwp_evict.specs.declared.FsyncAnswer.TheVariants as fsync_answers
-use Rattle.hwp_evict.specs.declared.fsync.FsyncAt.{FsyncAt}
-use Rattle.hwp_evict.specs.declared.fsync.FsyncAt.TheVariants as fsync_at
 use Rattle.hwp_soft.specs.hwp_claim.declared.inject.InjectAt.{InjectAt}
 use Rattle.hwp_soft.specs.hwp_claim.declared.inject.InjectAt.TheVariants as inject_at
 use Rattle.hwp_soft.specs.hwp_claim.Done as fail_done
@@ -62,16 +57,6 @@ can_fail (jobs.Scrub s) = true
 can_fail (jobs.Inject i) = true
 can_fail _ = false
 
--- the losses that it has taken, with their file
-abbrev pub taken_at : FileNo → FsyncAt → List (FileNo × ℕ)
-taken_at file (fsync_at.Over fsync_answers.Done) = (file, 0) ∷ []
-taken_at file (fsync_at.Over (fsync_answers.Eio lost)) = (file, lost) ∷ []
-taken_at file _ = []
-
-abbrev pub taken_now : Job → List (FileNo × ℕ)
-taken_now (jobs.Fsync f) = taken_at f.file f.at
-taken_now _ = []
-
 -- the policy that it has set, with its thread
 abbrev pub policies_now : Job → List (Thread × Policy)
 policies_now (jobs.Prctl p) = map (λ (policy : Policy). (p.thread, policy)) (set_at p.at)
@@ -99,6 +84,5 @@ HasCounted j view = counts_owed view ≡ owed_now j
 pub record HasDone (old new : View) (who : Who) (j after : Job) : Type 0 where
   pub marked : Grows (λ (m : Mark). m.stamp.who) marking_of old.marks new.marks who (marked_now j) (marked_now after)
   pub failed : can_fail after ≡ true → FailuresGrow (failures_by who old) (failures_by who new) (failed_now j) (failed_now after)
-  pub taken : Grows (λ (r : Reported). r.stamp.who) (λ (r : Reported). (r.file, r.count)) old.reported new.reported who (taken_now j) (taken_now after)
   pub set : Grows (λ (s : Setting). s.stamp.who) (λ (s : Setting). (s.thread, s.policy)) old.settings new.settings who (policies_now j) (policies_now after)
   pub counted : HasCounted j old → HasCounted after new

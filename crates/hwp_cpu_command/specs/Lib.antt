@@ -1,5 +1,6 @@
 pub mod Answers
 pub mod Jobs
+pub mod FileHandles
 pub mod Begins
 pub mod Runs
 pub mod Settings

@@ -32,7 +32,7 @@ use Rattle.hwp_cpu_command.specs.Jobs.{banks_before}
 abbrev pub anew : Job → Job
 anew (jobs.Instruction i) = jobs.Instruction (instructions.begin i.alloc i.request i.origin i.mode i.before.value)
 anew (jobs.Evict e) = jobs.Evict (evicts.begin e.who e.page e.what)
-anew (jobs.Fsync f) = jobs.Fsync (fsyncs.begin f.who f.file)
+anew (jobs.Fsync f) = jobs.Fsync (fsyncs.begin f.who f.file f.handle f.opens)
 anew (jobs.Prctl p) = jobs.Prctl (prctls.begin p.who p.thread p.process p.arguments)
 anew (jobs.Log l) = jobs.Log (logs.begin l.read.who l.event l.before.value)
 anew (jobs.Raise r) = jobs.Raise (raises.begin r.alloc r.who r.raiser r.mcg r.before.value)

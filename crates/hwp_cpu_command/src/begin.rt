@@ -1,4 +1,4 @@
-ghost use Rattle.std.specs.Prelude.{◌≡◌, ◌<◌, None, length};
+ghost use Rattle.std.specs.Prelude.{◌≡◌, ◌<◌, None, false, length};
 ghost use Rattle.hwp_cpu_control.specs.hwp_geom.Layout.{IsSound};
 ghost use Rattle.hwp_cpu_control.specs.hwp_geom.Limits.{line_limit};
 ghost use Rattle.hwp_cpu_control.specs.hwp_page.Step.{IsOf};
@@ -6,11 +6,14 @@ ghost use Rattle.hwp_fault.specs.Accesses.{IsDeclared};
 ghost use Rattle.hwp_cpu_row.specs.hwp_script_read.Valid.{IsAccess, IsCommandOf, IsThreadOf};
 ghost use Rattle.hwp_cpu_row.specs.hwp_banks.Banks.{empty_banks};
 ghost use Rattle.hwp_cpu_row.specs.hwp_banks.Banks.{raw_event};
+ghost use Rattle.hwp_cpu_row.specs.Locals.{number_in};
 ghost use Rattle.hwp_cpu_row.specs.hwp_law.Policies.{arguments};
 ghost use Rattle.hwp_cpu_control.specs.Spoils as spoils;
+ghost use Rattle.hwp_evict.specs.Fsyncs as fsyncs;
 ghost use Rattle.hwp_cpu_raise.specs.Logs as logs;
 ghost use Rattle.hwp_cpu_raise.specs.Raises as raises;
 ghost use Rattle.hwp_cpu_command.specs.Begins.{Begins, BeginsAccess, BeginsPrctl, BeginsRaiseUser, begun_access, request_of};
+ghost use Rattle.hwp_cpu_command.specs.FileHandles.{HasHandle, local_left};
 ghost use Rattle.hwp_cpu_command.specs.Jobs.{left_in};
 ghost use Rattle.hwp_cpu_command.specs.declared.job.Job.TheVariants as jobs;
 
@@ -19,9 +22,12 @@ use hwp_cpu_access::Instruction;
 use hwp_cpu_control::{Nested, Prctl, Spoil};
 use hwp_cpu_raise::{Log, Raise, Raiser};
 use hwp_cpu_row::{
-    BANKS, Bank, Command, Event, Inject, McgBits, Origin, PrctlArgs, Status, no_events,
+    BANKS, Bank, Command, Event, Handles, Inject, Local, McgBits, Origin, PrctlArgs, Status,
+    no_events,
 };
-use hwp_evict::{Damage, Evict, Frame, Fsync, Layout, Line, Mode, Page, Thread, VSlot, Who};
+use hwp_evict::{
+    Damage, Evict, FileNo, Frame, Fsync, Layout, Line, Mode, Page, Thread, VSlot, Who,
+};
 use hwp_fault::{AccessKind, Request};
 use hwp_scrub::Scrub;
 use hwp_soft::{Soft, Unpoison};
@@ -29,62 +35,81 @@ use std::alloc::Global;
 use std::mem;
 
 impl Job {
-    /// The command at its beginning. One that can log or raise an event takes what the banks of its processor hold.
-    pub fn new(
-        alloc: Global,
-        layout: &Layout,
-        who: Who,
-        command: Command,
-        banks: &mut [Bank; BANKS],
-    ) -> Job
+    /// The command at its beginning. One that can log or raise an event takes what the banks of its processor hold, and an `fsync`
+    /// gets the number of the processor's handle of the file.
+    pub fn new(alloc: Global, layout: &Layout, who: Who, command: Command, local: &mut Local) -> Job
         requires sound { IsSound layout.now }
         requires of { IsCommandOf layout.now who.cpu.0 command }
-        ensures begins { Begins layout.now who command banks.old result }
-        ensures banks { banks.new ≡ left_in result banks.old }
+        ensures begins { Begins layout.now who command local.old.banks result }
+        ensures handle { HasHandle local.old.handles result }
+        ensures local { local.new ≡ local_left result local.old }
     {
-        match command {
-            Command::Load { thread, slot, line } => {
-                access(alloc, layout, who, thread, slot, line, LOAD, banks)
-            }
-            Command::Fetch { thread, slot, line } => {
-                access(alloc, layout, who, thread, slot, line, FETCH, banks)
-            }
-            Command::KLoad { thread, slot, line } => {
-                access(alloc, layout, who, thread, slot, line, KERNEL_LOAD, banks)
-            }
-            Command::Store {
-                thread,
-                slot,
-                line,
-                word,
-            } => {
-                let kind = AccessKind::Store { word };
-                let store = Manner { kind, ..LOAD };
-                access(alloc, layout, who, thread, slot, line, store, banks)
-            }
-            Command::Free { slot } => {
-                Job::Evict(Evict::free_slot(who, slot, page_of(layout, slot)))
-            }
-            Command::Drop { page } => Job::Evict(Evict::drop_page(who, page)),
-            Command::Sync { page } => Job::Evict(Evict::sync_page(who, page)),
-            Command::Out { page } => Job::Evict(Evict::out_page(who, page)),
-            Command::Fsync { file } => Job::Fsync(Fsync::new(who, file)),
-            Command::Prctl { thread, args } => call(layout, who, thread, args),
-            Command::Bad { frame, line } => spoil_line(who, frame, line, Damage::Bad),
-            Command::Weak { frame, line } => spoil_line(who, frame, line, Damage::Weak),
-            Command::Scrub { first, last } => {
-                Job::Scrub(Scrub::new(alloc, who, first, last, taken(banks)))
-            }
-            Command::Log { status, addr, misc } => log_event(who, status, addr, misc, banks),
-            Command::RaiseUser { thread, ripv, eipv } => {
-                raise_user(alloc, layout, who, thread, McgBits { ripv, eipv }, banks)
-            }
-            Command::RaiseKernel { ripv, eipv } => raise_kernel(alloc, who, ripv, eipv, banks),
-            Command::RaiseNested => Job::Nested(Nested::new(who)),
-            Command::Inject { frame } => Job::Inject(Inject::new(alloc, who, frame)),
-            Command::Soft { frame } => Job::Soft(Soft::new(who, frame)),
-            Command::Unpoison { frame } => Job::Unpoison(Unpoison::new(who, frame)),
+        begin(
+            alloc,
+            layout,
+            who,
+            command,
+            &mut local.banks,
+            &local.handles,
+        )
+    }
+}
+
+/// The command at its beginning, of a processor with these banks and handles.
+fn begin(
+    alloc: Global,
+    layout: &Layout,
+    who: Who,
+    command: Command,
+    banks: &mut [Bank; BANKS],
+    handles: &Handles,
+) -> Job
+    requires sound { IsSound layout.now }
+    requires of { IsCommandOf layout.now who.cpu.0 command }
+    ensures begins { Begins layout.now who command banks.old result }
+    ensures handle { HasHandle handles.now result }
+    ensures banks { banks.new ≡ left_in result banks.old }
+{
+    match command {
+        Command::Load { thread, slot, line } => {
+            access(alloc, layout, who, thread, slot, line, LOAD, banks)
         }
+        Command::Fetch { thread, slot, line } => {
+            access(alloc, layout, who, thread, slot, line, FETCH, banks)
+        }
+        Command::KLoad { thread, slot, line } => {
+            access(alloc, layout, who, thread, slot, line, KERNEL_LOAD, banks)
+        }
+        Command::Store {
+            thread,
+            slot,
+            line,
+            word,
+        } => {
+            let kind = AccessKind::Store { word };
+            let store = Manner { kind, ..LOAD };
+            access(alloc, layout, who, thread, slot, line, store, banks)
+        }
+        Command::Free { slot } => { Job::Evict(Evict::free_slot(who, slot, page_of(layout, slot))) }
+        Command::Drop { page } => Job::Evict(Evict::drop_page(who, page)),
+        Command::Sync { page } => Job::Evict(Evict::sync_page(who, page)),
+        Command::Out { page } => Job::Evict(Evict::out_page(who, page)),
+        Command::Fsync { file } => fsync(who, file, handles),
+        Command::Prctl { thread, args } => call(layout, who, thread, args),
+        Command::Bad { frame, line } => spoil_line(who, frame, line, Damage::Bad),
+        Command::Weak { frame, line } => spoil_line(who, frame, line, Damage::Weak),
+        Command::Scrub { first, last } => {
+            Job::Scrub(Scrub::new(alloc, who, first, last, taken(banks)))
+        }
+        Command::Log { status, addr, misc } => log_event(who, status, addr, misc, banks),
+        Command::RaiseUser { thread, ripv, eipv } => {
+            raise_user(alloc, layout, who, thread, McgBits { ripv, eipv }, banks)
+        }
+        Command::RaiseKernel { ripv, eipv } => raise_kernel(alloc, who, ripv, eipv, banks),
+        Command::RaiseNested => Job::Nested(Nested::new(who)),
+        Command::Inject { frame } => Job::Inject(Inject::new(alloc, who, frame)),
+        Command::Soft { frame } => Job::Soft(Soft::new(who, frame)),
+        Command::Unpoison { frame } => Job::Unpoison(Unpoison::new(who, frame)),
     }
 }
 
@@ -94,6 +119,13 @@ fn taken(banks: &mut [Bank; BANKS]) -> [Bank; BANKS]
     ensures empty { banks.new ≡ empty_banks }
 {
     mem::replace(banks, no_events())
+}
+
+/// The losses of a file that the processor's handle of it hasn't seen.
+fn fsync(who: Who, file: FileNo, handles: &Handles) -> Job
+    ensures { result ≡ jobs.Fsync (fsyncs.begin who file (number_in handles.now file) false) }
+{
+    Job::Fsync(Fsync::new(who, file, handles.number(file), false))
 }
 
 /// The page that a translation leads to.

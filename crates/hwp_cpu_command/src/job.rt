@@ -5,7 +5,7 @@ use hwp_cpu_control::{
     Nested, NestedAnswer, Prctl, PrctlAnswer, ReadStopAnswer, Spoil, SpoilAnswer,
 };
 use hwp_cpu_raise::{Log, Raise, RaiseAnswer};
-use hwp_cpu_row::{Answer, BANKS, Bank, EventOutcome, FailAnswer, FrameChange, Inject, Row};
+use hwp_cpu_row::{Answer, EventOutcome, FailAnswer, FrameChange, Inject, Local, Row};
 use hwp_evict::{
     At, Body, Evict, EvictAnswer, Frame, Fsync, FsyncAnswer, Layout, List, Outcome, Ranked,
     Refusal, Reply, Scheduled, Step, Task, Turn, Who,
@@ -21,7 +21,7 @@ pub enum Job {
     Instruction(Instruction),
     /// A command by which a page, or a part of it, leaves its frame.
     Evict(Evict),
-    /// The losses of a file are taken.
+    /// The losses of a file are told that the processor's handle hasn't seen.
     Fsync(Fsync),
     /// A call of prctl(2).
     Prctl(Prctl),
@@ -44,7 +44,8 @@ pub enum Job {
 }
 
 impl Job {
-    ghost use Rattle.hwp_cpu_command.specs.Jobs.{answer, banks_after, row_of};
+    ghost use Rattle.hwp_cpu_command.specs.FileHandles.{local_after};
+    ghost use Rattle.hwp_cpu_command.specs.Jobs.{answer, row_of};
 
     /// What the command answers; `None` until it is over, and where it gave up because memory ran out.
     pub fn answer(&self) -> Option<Answer>
@@ -76,17 +77,22 @@ impl Job {
         }
     }
 
-    /// The row of a command that is over, with this answer. The banks get back what the command took from them, and has left.
-    pub fn finish(self, alloc: Global, answer: Answer, banks: &mut [Bank; BANKS]) -> Row
+    /// The row of a command that is over, with this answer. The banks get back what the command took from them, and has left, and the
+    /// handle of a file gets the number that the command saw.
+    pub fn finish(self, alloc: Global, answer: Answer, local: &mut Local) -> Row
         ensures row { result ≡ row_of self answer }
-        ensures banks { banks.new ≡ banks_after self banks.old }
+        ensures local { local.new ≡ local_after self local.old }
     {
         match self {
-            Job::Instruction(instruction) => row(instruction.finish(banks), None, answer),
-            Job::Raise(raise) => row(raise.finish(banks), None, answer),
-            Job::Scrub(scrub) => row(scrub.finish(banks), None, answer),
+            Job::Instruction(instruction) => row(
+                instruction.finish(&mut local.banks),
+                None,
+                answer,
+            ),
+            Job::Raise(raise) => row(raise.finish(&mut local.banks), None, answer),
+            Job::Scrub(scrub) => row(scrub.finish(&mut local.banks), None, answer),
             Job::Log(log) => {
-                log.finish(banks);
+                log.finish(&mut local.banks);
                 row(List::new(alloc), None, answer)
             }
             Job::Inject(inject) => {
@@ -105,7 +111,10 @@ impl Job {
                 row(List::new(alloc), own, answer)
             }
             Job::Evict(evict) => answered(alloc, evict, answer),
-            Job::Fsync(fsync) => answered(alloc, fsync, answer),
+            Job::Fsync(fsync) => {
+                local.handles.set(fsync.file(), fsync.number());
+                answered(alloc, fsync, answer)
+            }
             Job::Prctl(prctl) => answered(alloc, prctl, answer),
             Job::Spoil(spoil) => answered(alloc, spoil, answer),
             Job::Nested(nested) => answered(alloc, nested, answer),
@@ -178,6 +187,7 @@ fn fsync_answer(answer: FsyncAnswer) -> Answer
         FsyncAnswer::Stopped => Answer::Stopped,
         FsyncAnswer::Done => Answer::Done,
         FsyncAnswer::Eio(lost) => Answer::Eio(lost),
+        FsyncAnswer::Opened(lost) => Answer::Opened(lost),
     }
 }
 

@@ -1,5 +1,5 @@
 -- The turns of a command are few.
-use Rattle.std.proofs.Common.{◌≡◌, ℕ, ◌<◌, ◌≤◌, length, sym, subst, arith}
+use Rattle.std.proofs.Common.{◌≡◌, ℕ, ◌+◌, ◌<◌, ◌≤◌, false, length, sym, subst, arith}
 use Rattle.hwp_cpu_command.specs.hwp_geom.declared.Layout.{Layout}
 use Rattle.hwp_cpu_command.specs.hwp_geom.declared.Mode.{Mode}
 use Rattle.hwp_cpu_command.specs.hwp_geom.declared.Thread.{Thread}
@@ -13,7 +13,7 @@ use Rattle.hwp_cpu_command.specs.hwp_core_rule.declared.State.{State}
 use Rattle.hwp_cpu_command.specs.hwp_core_rule.declared.View.{View}
 use Rattle.hwp_cpu_command.specs.hwp_core_rule.Rule.{Holds}
 use Rattle.hwp_cpu_command.specs.hwp_core_rule.Words.{Words}
-use Rattle.hwp_cpu_command.specs.hwp_core_task.Ranks.{words_at}
+use Rattle.hwp_cpu_command.specs.hwp_core_task.Ranks.{words_at, again_most, command_weight, failure_weight, free_room}
 use Rattle.hwp_cpu_command.proofs.of_hwp_cpu_control.PrctlLaws as calling
 use Rattle.hwp_cpu_command.proofs.of_hwp_cpu_control.NestedLaws as nesting
 use Rattle.hwp_cpu_command.proofs.of_hwp_cpu_control.ReadStopLaws as reading
@@ -53,37 +53,38 @@ use Rattle.hwp_cpu_command.specs.declared.job.Job.{Job}
 use Rattle.hwp_cpu_command.specs.declared.job.Job.TheVariants as jobs
 use Rattle.hwp_cpu_command.specs.Begins.{Begins, BeginsAccess, request_of}
 use Rattle.hwp_cpu_command.specs.Jobs.{Fits, cost}
+use Rattle.hwp_cpu_command.specs.hwp_geom.Limits.{frame_limit}
 
 -- ---- a machine check
 
-fail-few : (f : Fail) (w : Words) → fails.cost f w ≤ 8871
+fail-few : (f : Fail) (w : Words) → fails.cost f w ≤ fails.fail_most
 fail-few f w = inject-below (record { alloc = f.alloc; who = f.who; frame = f.frame; at = inject_at.Fail f }) w
 
-handler-few : (h : Handler) (w : Words) → length h.events.left ≤ bank_count → handlers.cost h w ≤ 8874
+handler-few : (h : Handler) (w : Words) → length h.events.left ≤ bank_count → handlers.cost h w ≤ handlers.handler_most
 handler-few h w few = which h.at
   where
-    which : (x : HandlerAt) → handlers.cost_with (length h.events.left) x w ≤ 8874
+    which : (x : HandlerAt) → handlers.cost_with (length h.events.left) x w ≤ handlers.handler_most
     which handler_at.Stop = omega arith
-    which (handler_at.Fail f) = let most : fails.cost f w ≤ 8871 = fail-few f w in omega (arith, few, most)
+    which (handler_at.Fail f) = let most : fails.cost f w ≤ fails.fail_most = fail-few f w in omega (arith, few, most)
     which handler_at.GaveUp = omega arith
     which (handler_at.Over stopped) = omega arith
 
-raise-below : (layout : Layout) (view : View) (r : Raise) (w : Words) → raise_fits.Fits layout view r → raise_costs.cost r w < 32768
+raise-below : (layout : Layout) (view : View) (r : Raise) (w : Words) → raise_fits.Fits layout view r → raise_costs.cost r w < failure_weight
 raise-below layout view r w fits = which r.at fits.at
   where
-    which : (x : RaiseAt) → raise_fits.FitsAt layout view r x → raise_costs.cost_at x w < 32768
+    which : (x : RaiseAt) → raise_fits.FitsAt layout view r x → raise_costs.cost_at x w < failure_weight
     which raise_at.LoadStop has = omega arith
     which (raise_at.LoadProcess raiser) has = omega arith
-    which (raise_at.Handle h) has = let most : handlers.cost h w ≤ 8874 = handler-few h w (left-few h has.0.handler.found.few) in omega (arith, most)
+    which (raise_at.Handle h) has = let most : handlers.cost h w ≤ handlers.handler_most = handler-few h w (left-few h has.0.handler.found.few) in omega (arith, most)
     which raise_at.GiveUp has = omega arith
     which (raise_at.Over answer) has = omega arith
 
 -- ---- a command that runs
 
-wider : {n : ℕ} → n < 32768 → n < 131072
-wider {n} less = let few : n < 32768 = less in omega (arith, few)
+wider : {n : ℕ} → n < failure_weight → n < command_weight
+wider {n} less = let few : n < failure_weight = less in omega (arith, few)
 
-pub job-below : (layout : Layout) (a : State) (view : View) (j : Job) → Holds layout a → Fits layout view j → cost j (words_at layout a) < 131072
+pub job-below : (layout : Layout) (a : State) (view : View) (j : Job) → Holds layout a → Fits layout view j → cost j (words_at layout a) < command_weight
 job-below layout a view (jobs.Instruction i) rule fits = wider (instruction-below layout a view i rule fits)
 job-below layout a view (jobs.Evict e) rule fits = wider (evict-below (words_at layout a) e)
 job-below layout a view (jobs.Fsync f) rule fits = let most = fsync-below f (words_at layout a) in omega (arith, most)
@@ -94,30 +95,30 @@ job-below layout a view (jobs.Scrub c) rule fits = wider (scrub-below layout vie
 job-below layout a view (jobs.Spoil s) rule fits = let most = spoiling.small s in omega (arith, most)
 job-below layout a view (jobs.Nested n) rule fits = let most = nesting.small n in omega (arith, most)
 job-below layout a view (jobs.Inject i) rule fits = let most = inject-below i (words_at layout a) in omega (arith, most)
-job-below layout a view (jobs.Soft s) rule fits = let most : softs.cost s (words_at layout a) ≤ 9380 = soft-small layout a s rule in omega (arith, most)
-job-below layout a view (jobs.Unpoison u) rule fits = let most : unpoisons.cost u (words_at layout a) ≤ 69640 = unpoison-small u (words_at layout a) in omega (arith, most)
+job-below layout a view (jobs.Soft s) rule fits = let most : softs.cost s (words_at layout a) ≤ softs.soft_most = soft-small layout a s rule in omega (arith, most)
+job-below layout a view (jobs.Unpoison u) rule fits = let most : unpoisons.cost u (words_at layout a) ≤ unpoisons.unpoison_most = unpoison-small u (words_at layout a) in omega (arith, most)
 
 -- ---- and one that begins
 
-access-begins : {layout : Layout} {by : Who} {thread : Thread} {slot : VSlot} {line : ℕ} {kind : AccessKind} {origin : Origin} {mode : Mode} {banks : Banks} {j : Job} (w : Words) → length w.frees ≤ 4 → BeginsAccess layout by thread slot line kind origin mode banks j → cost j w < 131072
-access-begins {layout} {by} {thread} {slot} {line} {kind} {origin} {mode} {banks} {j} w few begun = subst (λ (x : Job). cost x w < 131072) (sym begun.job_is)
-    (let most : accesses.cost (accesses.again i.request) w ≤ 4121 = again-cost i w few in
+access-begins : {layout : Layout} {by : Who} {thread : Thread} {slot : VSlot} {line : ℕ} {kind : AccessKind} {origin : Origin} {mode : Mode} {banks : Banks} {j : Job} (w : Words) → length w.frees ≤ free_room → BeginsAccess layout by thread slot line kind origin mode banks j → cost j w < command_weight
+access-begins {layout} {by} {thread} {slot} {line} {kind} {origin} {mode} {banks} {j} w few begun = subst (λ (x : Job). cost x w < command_weight) (sym begun.job_is)
+    (let most : accesses.cost (accesses.again i.request) w ≤ again_most + 1 = again-cost i w few in
     let held : instruction_costs.held_cost banks ≤ instruction_costs.anew_after_wait = held-most banks in
     omega (arith, most, held))
   where
     i : Instruction
     i = instructions.begin begun.alloc (request_of by thread slot line kind begun.page begun.process) origin mode banks
 
-pub begins-below : (layout : Layout) (a : State) (by : Who) (command : Command) (banks : Banks) (j : Job) → Holds layout a → Begins layout by command banks j → cost j (words_at layout a) < 131072
+pub begins-below : (layout : Layout) (a : State) (by : Who) (command : Command) (banks : Banks) (j : Job) → Holds layout a → Begins layout by command banks j → cost j (words_at layout a) < command_weight
 begins-below layout a by command banks j rule begun = which command begun
   where
     w : Words
     w = words_at layout a
 
-    below : {x : Job} → j ≡ x → cost x w < 131072 → cost j w < 131072
-    below is less = subst (λ (x : Job). cost x w < 131072) (sym is) less
+    below : {x : Job} → j ≡ x → cost x w < command_weight → cost j w < command_weight
+    below is less = subst (λ (x : Job). cost x w < command_weight) (sym is) less
 
-    which : (c : Command) → Begins layout by c banks j → cost j w < 131072
+    which : (c : Command) → Begins layout by c banks j → cost j w < command_weight
     which (commands.Load thread slot line) b = access-begins w (few-frees layout a rule) b
     which (commands.Fetch thread slot line) b = access-begins w (few-frees layout a rule) b
     which (commands.KLoad thread slot line) b = access-begins w (few-frees layout a rule) b
@@ -126,11 +127,11 @@ begins-below layout a by command banks j rule begun = which command begun
     which (commands.Drop page) b = below b.job_is (wider (evict-below w (evicts.begin by page evictions.Drop)))
     which (commands.Sync page) b = below b.job_is (wider (evict-below w (evicts.begin by page evictions.Sync)))
     which (commands.Out page) b = below b.job_is (wider (evict-below w (evicts.begin by page evictions.Out)))
-    which (commands.Fsync file) b = below b.1 (let most = fsync-below (fsyncs.begin by file) w in omega (arith, most))
+    which (commands.Fsync file) b = below b.2 (let most = fsync-below (fsyncs.begin by file b.1 false) w in omega (arith, most))
     which (commands.Prctl thread args) b = below b.job_is (omega arith)
     which (commands.Bad frame line) b = below b.job_is (omega arith)
     which (commands.Weak frame line) b = below b.job_is (omega arith)
-    which (commands.Scrub first last) b = below b.job_is (let frames : layout.frames ≤ 256 = b.sound.frames in let within : last.0 < layout.frames = b.frames.within in omega (arith, frames, within))
+    which (commands.Scrub first last) b = below b.job_is (let frames : layout.frames ≤ frame_limit = b.sound.frames in let within : last.0 < layout.frames = b.frames.within in omega (arith, frames, within))
     which (commands.Log status addr misc) b = below b.job_is (omega arith)
     which (commands.RaiseUser thread ripv eipv) b = below b.job_is (omega arith)
     which (commands.RaiseKernel ripv eipv) b = below b.job_is (omega arith)

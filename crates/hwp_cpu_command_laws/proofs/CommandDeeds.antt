@@ -97,7 +97,7 @@ use Rattle.hwp_cpu_command.proofs.of_hwp_soft_unpoison.UnpoisonAdds.{unpoison-ad
 use Rattle.hwp_cpu_command.specs.declared.job.Job.{Job}
 use Rattle.hwp_cpu_command.specs.declared.job.Job.TheVariants as jobs
 use Rattle.hwp_cpu_command.specs.Answers.{fail_answer}
-use Rattle.hwp_cpu_command.specs.Done.{HasDone, can_fail, failed_at, failed_now, marked_at, marked_now, owed_at, owed_now, policies_now, taken_at, taken_now}
+use Rattle.hwp_cpu_command.specs.Done.{HasDone, can_fail, failed_at, failed_now, marked_at, marked_now, owed_at, owed_now, policies_now}
 use Rattle.hwp_cpu_command.specs.Jobs.{Fits, answer, who}
 use Rattle.hwp_cpu_command.specs.Settings.{set_at}
 use Rattle.hwp_cpu_command.specs.Stays.{IsAtStop, Stepped}
@@ -118,11 +118,10 @@ unfailed cannot can = absurd (true≢false (sym can ∙ cannot))
 
 module _ {layout : Layout} {old new : View} {j after : Job} (s : Stepped layout old new j after) where
   -- a step after which the view lists the same
-  nothing : Alike old new → IsBlank j → IsBlank after → taken_now after ≡ taken_now j → policies_now after ≡ policies_now j → HasDone old new (who j) j after
-  nothing same before blank taken set = record {
+  nothing : Alike old new → IsBlank j → IsBlank after → policies_now after ≡ policies_now j → HasDone old new (who j) j after
+  nothing same before blank set = record {
     marked = inl (same.marks, blank.1 ∙ sym before.1);
     failed = unfailed blank.0;
-    taken = inl (same.reported, taken);
     set = inl (same.settings, set);
     counted = λ has. same.owed ∙ has ∙ before.2 ∙ sym blank.2;
   }
@@ -130,42 +129,25 @@ module _ {layout : Layout} {old new : View} {j after : Job} (s : Stepped layout 
 -- the losses of a file
 module _ {layout : Layout} {old new : View} {f : Fsync} {after : Job} (s : Stepped layout old new (jobs.Fsync f) after) where
   fsync-done : HasDone old new f.who (jobs.Fsync f) after
-  fsync-done = which f.at refl s.planned
+  fsync-done = which f.at s.planned
     where
-      by-stop : (b : Bool) → taken_at f.file (cond b (fsync_at.Over fsync_answers.Stopped) fsync_at.Report) ≡ []
-      by-stop true = refl
-      by-stop false = refl
-
-      by-count : (b : Bool) → (s.found == 0) ≡ b → taken_at f.file (fsync_at.Over (cond b fsync_answers.Done (fsync_answers.Eio s.found))) ≡ (f.file, s.found) ∷ []
-      by-count true is = ap (λ (n : ℕ). (f.file, n) ∷ []) (sym (eqb-true s.found 0 is))
-      by-count false is = refl
-
       none : policies_now after ≡ []
       none = ap policies_now s.follows.0
 
       blank : IsBlank after
       blank = subst IsBlank (sym s.follows.0) (refl, refl, refl)
 
-      now : (x : FsyncAt) → f.at ≡ x → taken_now after ≡ taken_at f.file (fsyncs.next_at x s.found)
-      now x at = ap taken_now s.follows.0 ∙ ap (λ (y : FsyncAt). taken_at f.file (fsyncs.next_at y s.found)) at
-
-      which : (x : FsyncAt) → f.at ≡ x → fsyncs.plan_at f.file x ≡ Some s.step → HasDone old new f.who (jobs.Fsync f) after
-      which fsync_at.LoadStop at e = nothing s (leaves s.made (quiet-step {o = Some (steps.Load places.Stop)} tt e)) (refl, refl, refl) blank (now fsync_at.LoadStop at ∙ by-stop (is_stopped s.found) ∙ sym (ap (taken_at f.file) at)) none
-      which fsync_at.Report at e =
+      which : (x : FsyncAt) → fsyncs.plan_at f.file x ≡ Some s.step → HasDone old new f.who (jobs.Fsync f) after
+      which fsync_at.LoadStop e = nothing s (leaves s.made (quiet-step {o = Some (steps.Load places.Stop)} tt e)) (refl, refl, refl) blank none
+      which fsync_at.Report e =
           let own = steps-planned {other = steps.ReportLost f.file} e s.made in
           record {
             marked = inl (ap (λ (v : View). v.marks) own.told.next, blank.1);
             failed = unfailed blank.0;
-            taken = inr (
-              record { stamp = stamp_of f.who (noted f.who old); file = f.file; count = s.found },
-              ap (λ (v : View). v.reported) own.told.next,
-              refl,
-              now fsync_at.Report at ∙ by-count (s.found == 0) refl ∙ ap (λ (l : List (FileNo × ℕ)). l ++ (f.file, s.found) ∷ []) (sym (ap (taken_at f.file) at)),
-            );
             set = inl (ap (λ (v : View). v.settings) own.told.next, none);
             counted = λ has. ap counts_owed own.told.next ∙ has ∙ sym blank.2;
           }
-      which (fsync_at.Over answer) at e = absurd (none-some s.step e)
+      which (fsync_at.Over answer number) e = absurd (none-some s.step e)
 
 -- the policy of a thread
 module _ {layout : Layout} {old new : View} {p : Prctl} {after : Job} (s : Stepped layout old new (jobs.Prctl p) after) where
@@ -175,9 +157,6 @@ module _ {layout : Layout} {old new : View} {p : Prctl} {after : Job} (s : Stepp
   prctl-done : HasDone old new p.who (jobs.Prctl p) after
   prctl-done = which p.at refl s.planned
     where
-      none : taken_now after ≡ []
-      none = ap taken_now s.follows.0
-
       blank : IsBlank after
       blank = subst IsBlank (sym s.follows.0) (refl, refl, refl)
 
@@ -188,16 +167,15 @@ module _ {layout : Layout} {old new : View} {p : Prctl} {after : Job} (s : Stepp
       unset x at before next = now x at ∙ ap (λ (l : List Policy). map (λ (policy : Policy). (p.thread, policy)) l) (next ∙ sym (ap set_at at ∙ before))
 
       which : (x : PrctlAt) → p.at ≡ x → prctls.plan_at p.thread p.process x ≡ Some s.step → HasDone old new p.who (jobs.Prctl p) after
-      which prctl_at.LoadStop at e = nothing s (leaves s.made (quiet-step {o = Some (steps.Load places.Stop)} tt e)) (refl, refl, refl) blank none (unset prctl_at.LoadStop at refl (stopped p s.found (is_stopped s.found)))
-      which prctl_at.LoadProcess at e = nothing s (leaves s.made (quiet-step {o = Some (steps.Load (places.Process p.process))} tt e)) (refl, refl, refl) blank none (unset prctl_at.LoadProcess at refl (ended p s.found (page_named s.found)))
-      which prctl_at.LoadPolicy at e = nothing s (leaves s.made (quiet-step {o = Some (steps.Load (places.Policy p.thread))} tt e)) (refl, refl, refl) blank none
+      which prctl_at.LoadStop at e = nothing s (leaves s.made (quiet-step {o = Some (steps.Load places.Stop)} tt e)) (refl, refl, refl) blank (unset prctl_at.LoadStop at refl (stopped p s.found (is_stopped s.found)))
+      which prctl_at.LoadProcess at e = nothing s (leaves s.made (quiet-step {o = Some (steps.Load (places.Process p.process))} tt e)) (refl, refl, refl) blank (unset prctl_at.LoadProcess at refl (ended p s.found (page_named s.found)))
+      which prctl_at.LoadPolicy at e = nothing s (leaves s.made (quiet-step {o = Some (steps.Load (places.Policy p.thread))} tt e)) (refl, refl, refl) blank
           (unset prctl_at.LoadPolicy at refl (replied p s.found (words.settings_of s.found) (reply (words.policy_of s.found) p.arguments)))
       which (prctl_at.SetPolicy policy settings) at e =
           let own = steps-planned {other = steps.SetPolicy p.thread policy settings} e s.made in
           record {
             marked = inl (ap (λ (v : View). v.marks) own.told.next, blank.1);
             failed = unfailed blank.0;
-            taken = inl (ap (λ (v : View). v.reported) own.told.next, none);
             set = inr (
               record { stamp = stamp_of p.who (noted p.who old); thread = p.thread; policy = policy },
               ap (λ (v : View). v.settings) own.told.next,
@@ -217,13 +195,12 @@ module _ {layout : Layout} {old new : View} {n : Nested} {after : Job} (s : Step
       blank = subst IsBlank (sym s.follows.0) (refl, refl, refl)
 
       which : (x : NestedAt) → nesteds.plan_at n.who x ≡ Some s.step → HasDone old new n.who (jobs.Nested n) after
-      which nested_at.LoadStop e = nothing s (leaves s.made (quiet-step {o = Some (steps.Load places.Stop)} tt e)) (refl, refl, refl) blank (ap taken_now s.follows.0) (ap policies_now s.follows.0)
+      which nested_at.LoadStop e = nothing s (leaves s.made (quiet-step {o = Some (steps.Load places.Stop)} tt e)) (refl, refl, refl) blank (ap policies_now s.follows.0)
       which nested_at.Stop e =
           let own = steps-planned {other = steps.Stop n.who.cpu} e s.made in
           record {
             marked = inl (stop-leaves own (λ (v : View). v.marks) refl refl, blank.1);
             failed = unfailed blank.0;
-            taken = inl (stop-leaves own (λ (v : View). v.reported) refl refl, ap taken_now s.follows.0);
             set = inl (stop-leaves own (λ (v : View). v.settings) refl refl, ap policies_now s.follows.0);
             counted = λ has. stop-leaves own counts_owed refl refl ∙ has ∙ sym blank.2;
           }
@@ -237,13 +214,12 @@ module _ {layout : Layout} {old new : View} {p : Spoil} {after : Job} (s : Stepp
       blank = subst IsBlank (sym s.follows.0) (refl, refl, refl)
 
       which : (x : SpoilAt) → spoils.plan_at p.frame p.line p.damage x ≡ Some s.step → HasDone old new p.who (jobs.Spoil p) after
-      which spoil_at.LoadStop e = nothing s (leaves s.made (quiet-step {o = Some (steps.Load places.Stop)} tt e)) (refl, refl, refl) blank (ap taken_now s.follows.0) (ap policies_now s.follows.0)
+      which spoil_at.LoadStop e = nothing s (leaves s.made (quiet-step {o = Some (steps.Load places.Stop)} tt e)) (refl, refl, refl) blank (ap policies_now s.follows.0)
       which spoil_at.Spoil e =
           let own = steps-planned {other = steps.Spoil p.frame p.line p.damage} e s.made in
           record {
             marked = inl (ap (λ (v : View). v.marks) own.told.next, blank.1);
             failed = unfailed blank.0;
-            taken = inl (ap (λ (v : View). v.reported) own.told.next, ap taken_now s.follows.0);
             set = inl (ap (λ (v : View). v.settings) own.told.next, ap policies_now s.follows.0);
             counted = λ has. ap counts_owed own.told.next ∙ has ∙ sym blank.2;
           }
@@ -257,11 +233,10 @@ record Adds (old new : View) (j after : Job) : Type 0 where
   failed : FailuresGrow (failures_by (who j) old) (failures_by (who j) new) (failed_now j) (failed_now after)
   counted : counts_owed new + owed_now j ≡ counts_owed old + owed_now after
 
-adds-done : {old new : View} {j after : Job} → Adds old new j after → Rest old new → taken_now after ≡ taken_now j → policies_now after ≡ policies_now j → HasDone old new (who j) j after
-adds-done {old} {new} {j} {after} adds rest taken set = record {
+adds-done : {old new : View} {j after : Job} → Adds old new j after → Rest old new → policies_now after ≡ policies_now j → HasDone old new (who j) j after
+adds-done {old} {new} {j} {after} adds rest set = record {
   marked = adds.marked;
   failed = λ can. adds.failed;
-  taken = inl (rest.reported, taken);
   set = inl (rest.settings, set);
   counted = λ has. let sum = adds.counted in omega (arith, sum, has);
 }
@@ -270,19 +245,19 @@ module _ {layout : Layout} {old new : View} {i : Instruction} {after : Job} (s :
   instruction-done : HasDone old new i.request.who (jobs.Instruction i) after
   instruction-done = subst (HasDone old new i.request.who (jobs.Instruction i)) (sym s.follows.1)
       (let adds = instruction-adds layout old new i s.step s.found s.got s.fits s.planned s.made s.follows.0 s.turn s.follows.2 in
-      adds-done (record { marked = adds.marked; failed = adds.failed; counted = adds.counted }) (instruction-left s).rest refl refl)
+      adds-done (record { marked = adds.marked; failed = adds.failed; counted = adds.counted }) (instruction-left s).rest refl)
 
 module _ {layout : Layout} {old new : View} {r : Raise} {after : Job} (s : Stepped layout old new (jobs.Raise r) after) where
   raise-done-so : HasDone old new r.who (jobs.Raise r) after
   raise-done-so = subst (HasDone old new r.who (jobs.Raise r)) (sym s.follows.1)
       (let adds = raise-adds layout old new r s.step s.found s.got s.fits s.planned s.made s.follows.0 s.turn s.follows.2 in
-      adds-done (record { marked = adds.marked; failed = failures-grow r.who old new adds.failed; counted = adds.counted }) (raise-left s).rest refl refl)
+      adds-done (record { marked = adds.marked; failed = failures-grow r.who old new adds.failed; counted = adds.counted }) (raise-left s).rest refl)
 
 module _ {layout : Layout} {old new : View} {c : Scrub} {after : Job} (s : Stepped layout old new (jobs.Scrub c) after) where
   scrub-done-so : HasDone old new c.who (jobs.Scrub c) after
   scrub-done-so = subst (HasDone old new c.who (jobs.Scrub c)) (sym s.follows.1)
       (let adds = scrub-adds layout old new c s.step s.found s.got s.fits s.planned s.made s.follows.0 s.turn s.follows.2 in
-      adds-done (record { marked = adds.marked; failed = failures-grow c.who old new adds.failed; counted = adds.counted }) (scrub-left s).rest refl refl)
+      adds-done (record { marked = adds.marked; failed = failures-grow c.who old new adds.failed; counted = adds.counted }) (scrub-left s).rest refl)
 
 module _ {layout : Layout} {old new : View} {i : Inject} {after : Job} (s : Stepped layout old new (jobs.Inject i) after) where
   abbrev injected : Inject
@@ -333,7 +308,7 @@ module _ {layout : Layout} {old new : View} {i : Inject} {after : Job} (s : Step
     marked = subst (λ (n : Frame). Grows (λ (m : Mark). m.stamp.who) marking_of old.marks new.marks i.who (marked_at i.frame i.at) (marked_at n injected.at)) (sym frame-is) inject-adds.0;
     failed = failures-grow i.who old new inject-adds.1;
     counted = inject-adds.2;
-  }) (inject-left s).rest refl refl)
+  }) (inject-left s).rest refl)
 
 -- ---- a frame that is taken out of use
 
@@ -345,7 +320,6 @@ module _ {layout : Layout} {old new : View} {o : Soft} {after : Job} (s : Steppe
   soft-done-so = subst (HasDone old new o.who (jobs.Soft o)) (sym s.follows.1) (record {
     marked = subst (λ (n : Frame). Grows (λ (m : Mark). m.stamp.who) marking_of old.marks new.marks o.who (soft_done.marked_at o.frame o.at) (soft_done.marked_at n softened.at)) (sym (ap (λ (k : Soft). k.frame) s.follows.2.0)) adds.marked;
     failed = unfailed refl;
-    taken = inl (left.rest.reported, refl);
     set = inl (left.rest.settings, refl);
     counted = counted;
   })
@@ -366,7 +340,6 @@ module _ {layout : Layout} {old new : View} {u : Unpoison} {after : Job} (s : St
   unpoison-done-so = subst (HasDone old new u.who (jobs.Unpoison u)) (sym s.follows.0) (record {
     marked = adds.marked;
     failed = unfailed refl;
-    taken = inl (left.rest.reported, refl);
     set = inl (left.rest.settings, refl);
     counted = counted;
   })
@@ -382,10 +355,10 @@ module _ {layout : Layout} {old new : View} {u : Unpoison} {after : Job} (s : St
 
 pub done : {layout : Layout} {old new : View} {j after : Job} → Stepped layout old new j after → HasDone old new (who j) j after
 done {j = jobs.Instruction i} s = instruction-done s
-done {j = jobs.Evict e} s = nothing s (leaves s.made (quiet-step (evict e.at) s.planned)) (refl, refl, refl) (subst IsBlank (sym s.follows.1) (refl, refl, refl)) (ap taken_now s.follows.1) (ap policies_now s.follows.1)
+done {j = jobs.Evict e} s = nothing s (leaves s.made (quiet-step (evict e.at) s.planned)) (refl, refl, refl) (subst IsBlank (sym s.follows.1) (refl, refl, refl)) (ap policies_now s.follows.1)
 done {j = jobs.Fsync f} s = fsync-done s
 done {j = jobs.Prctl p} s = prctl-done s
-done {j = jobs.Log l} s = nothing s (leaves s.made (quiet-step (read l.read.at) s.planned)) (refl, refl, refl) (subst IsBlank (sym s.follows.0) (refl, refl, refl)) (ap taken_now s.follows.0) (ap policies_now s.follows.0)
+done {j = jobs.Log l} s = nothing s (leaves s.made (quiet-step (read l.read.at) s.planned)) (refl, refl, refl) (subst IsBlank (sym s.follows.0) (refl, refl, refl)) (ap policies_now s.follows.0)
 done {j = jobs.Raise r} s = raise-done-so s
 done {j = jobs.Scrub c} s = scrub-done-so s
 done {j = jobs.Spoil p} s = spoil-done s
@@ -395,10 +368,6 @@ done {j = jobs.Soft o} s = soft-done-so s
 done {j = jobs.Unpoison u} s = unpoison-done-so s
 
 -- ---- at its beginning a command has done nothing
-
-pub untaken-at-start : (j : Job) → IsAtStop j → taken_now j ≡ []
-untaken-at-start (jobs.Fsync f) start = ap (taken_at f.file) start
-untaken-at-start _ start = refl
 
 pub unset-policies-at-start : (j : Job) → IsAtStop j → policies_now j ≡ []
 unset-policies-at-start (jobs.Prctl p) start = ap (λ (x : PrctlAt). map (λ (policy : Policy). (p.thread, policy)) (set_at x)) start

@@ -57,6 +57,7 @@ use Rattle.hwp_cpu_command.specs.declared.job.Job.TheVariants as jobs
 use Rattle.hwp_cpu_command.specs.Begins.{Begins, BeginsAccess, BeginsEviction, BeginsInject, BeginsLog, BeginsPrctl, BeginsRaiseKernel, BeginsRaiseUser, BeginsScrub, BeginsSoft, BeginsSpoil, BeginsUnpoison, request_of}
 use Rattle.hwp_cpu_command.specs.Done.{can_fail}
 use Rattle.hwp_cpu_command.specs.Jobs.{Fits, Next, banks_before, bare, claims, class, left_in, who}
+use Rattle.hwp_cpu_command.specs.FileHandles.{KnowsHandle}
 use Rattle.hwp_cpu_command.specs.Runs.{AtRest, Runs, anew}
 use Rattle.hwp_cpu_command.specs.Stays.{IsAtStop}
 
@@ -261,7 +262,7 @@ has-begun layout by command banks j begun = which command begun
     which (commands.Drop page) b = from (commands.Drop page) _ b.job_is (λ r. record { runs = r; who_is = refl; start = refl; before = refl; idle = (refl, refl); call = refl }) b
     which (commands.Sync page) b = from (commands.Sync page) _ b.job_is (λ r. record { runs = r; who_is = refl; start = refl; before = refl; idle = (refl, refl); call = refl }) b
     which (commands.Out page) b = from (commands.Out page) _ b.job_is (λ r. record { runs = r; who_is = refl; start = refl; before = refl; idle = (refl, refl); call = refl }) b
-    which (commands.Fsync file) b = from (commands.Fsync file) _ b.1 (λ r. record { runs = r; who_is = refl; start = refl; before = refl; idle = (refl, refl); call = refl }) b
+    which (commands.Fsync file) b = from (commands.Fsync file) _ b.2 (λ r. record { runs = r; who_is = refl; start = refl; before = refl; idle = (refl, refl); call = refl }) b
     which (commands.Prctl thread args) b = from (commands.Prctl thread args) _ b.job_is (λ r. record { runs = r; who_is = refl; start = refl; before = refl; idle = (refl, refl); call = refl }) b
     which (commands.Bad frame line) b = from (commands.Bad frame line) _ b.job_is (λ r. record { runs = r; who_is = refl; start = refl; before = refl; idle = (refl, refl); call = refl }) b
     which (commands.Weak frame line) b = from (commands.Weak frame line) _ b.job_is (λ r. record { runs = r; who_is = refl; start = refl; before = refl; idle = (refl, refl); call = refl }) b
@@ -353,24 +354,32 @@ module _ {layout : Layout} {view : View} {who : Who} (rest : AtRest view who) {j
   unpoison-fits : {frame : Frame} → BeginsUnpoison layout who frame j → Fits layout view j
   unpoison-fits begun = subst (Fits layout view) (sym begun.job_is) (record { on_turn = rest.on_turn; hand_is = rest.hand_is; made = rest.made; frame = begun.within; at = rest.revivals })
 
-pub begins-fits : (layout : Layout) (view : View) (who : Who) (command : Command) (banks : Banks) (j : Job) → Begins layout who command banks j → AreBanks banks → AtRest view who → Fits layout view j
-begins-fits layout view by (commands.Load thread slot line) banks j begun free rest = access-fits rest tt begun
-begins-fits layout view by (commands.Fetch thread slot line) banks j begun free rest = access-fits rest tt begun
-begins-fits layout view by (commands.KLoad thread slot line) banks j begun free rest = access-fits rest tt begun
-begins-fits layout view by (commands.Store thread slot line word) banks j begun free rest = access-fits rest tt begun
-begins-fits layout view by (commands.Free slot) banks j begun free rest = eviction-fits rest begun.1
-begins-fits layout view by (commands.Drop page) banks j begun free rest = eviction-fits rest begun
-begins-fits layout view by (commands.Sync page) banks j begun free rest = eviction-fits rest begun
-begins-fits layout view by (commands.Out page) banks j begun free rest = eviction-fits rest begun
-begins-fits layout view by (commands.Fsync file) banks j begun free rest = subst (Fits layout view) (sym begun.1) (record { on_turn = rest.on_turn; hand_is = rest.hand_is; file = begun.0; made_none = rest.made; at = tt })
-begins-fits layout view by (commands.Prctl thread args) banks j begun free rest = prctl-fits rest begun
-begins-fits layout view by (commands.Bad frame line) banks j begun free rest = spoil-fits rest begun
-begins-fits layout view by (commands.Weak frame line) banks j begun free rest = spoil-fits rest begun
-begins-fits layout view by (commands.Scrub first last) banks j begun free rest = scrub-fits rest begun free
-begins-fits layout view by (commands.Log status addr misc) banks j begun free rest = log-fits rest begun
-begins-fits layout view by (commands.RaiseUser thread ripv eipv) banks j begun free rest = raise-user-fits rest begun
-begins-fits layout view by (commands.RaiseKernel ripv eipv) banks j begun free rest = raise-kernel-fits rest begun
-begins-fits layout view by (commands.Inject frame) banks j begun free rest = inject-fits rest begun
-begins-fits layout view by (commands.Soft frame) banks j begun free rest = soft-fits rest begun
-begins-fits layout view by commands.RaiseNested banks j begun free rest = subst (Fits layout view) (sym begun) (record { on_turn = rest.on_turn; hand_is = rest.hand_is; made = rest.made; at = tt })
-begins-fits layout view by (commands.Unpoison frame) banks j begun free rest = unpoison-fits rest begun
+pub begins-fits : (layout : Layout) (view : View) (who : Who) (command : Command) (banks : Banks) (j : Job) → Begins layout who command banks j → AreBanks banks → AtRest view who → KnowsHandle view j → Fits layout view j
+begins-fits layout view by (commands.Load thread slot line) banks j begun free rest known = access-fits rest tt begun
+begins-fits layout view by (commands.Fetch thread slot line) banks j begun free rest known = access-fits rest tt begun
+begins-fits layout view by (commands.KLoad thread slot line) banks j begun free rest known = access-fits rest tt begun
+begins-fits layout view by (commands.Store thread slot line word) banks j begun free rest known = access-fits rest tt begun
+begins-fits layout view by (commands.Free slot) banks j begun free rest known = eviction-fits rest begun.1
+begins-fits layout view by (commands.Drop page) banks j begun free rest known = eviction-fits rest begun
+begins-fits layout view by (commands.Sync page) banks j begun free rest known = eviction-fits rest begun
+begins-fits layout view by (commands.Out page) banks j begun free rest known = eviction-fits rest begun
+begins-fits layout view by (commands.Fsync file) banks j begun free rest known = subst (Fits layout view) (sym begun.2) (record {
+  on_turn = rest.on_turn;
+  file = begun.0;
+  hand_is = rest.hand_is;
+  paid = rest.paid;
+  made_none = rest.made;
+  handle = subst (KnowsHandle view) begun.2 known;
+  at = tt;
+})
+begins-fits layout view by (commands.Prctl thread args) banks j begun free rest known = prctl-fits rest begun
+begins-fits layout view by (commands.Bad frame line) banks j begun free rest known = spoil-fits rest begun
+begins-fits layout view by (commands.Weak frame line) banks j begun free rest known = spoil-fits rest begun
+begins-fits layout view by (commands.Scrub first last) banks j begun free rest known = scrub-fits rest begun free
+begins-fits layout view by (commands.Log status addr misc) banks j begun free rest known = log-fits rest begun
+begins-fits layout view by (commands.RaiseUser thread ripv eipv) banks j begun free rest known = raise-user-fits rest begun
+begins-fits layout view by (commands.RaiseKernel ripv eipv) banks j begun free rest known = raise-kernel-fits rest begun
+begins-fits layout view by (commands.Inject frame) banks j begun free rest known = inject-fits rest begun
+begins-fits layout view by (commands.Soft frame) banks j begun free rest known = soft-fits rest begun
+begins-fits layout view by commands.RaiseNested banks j begun free rest known = subst (Fits layout view) (sym begun) (record { on_turn = rest.on_turn; hand_is = rest.hand_is; made = rest.made; at = tt })
+begins-fits layout view by (commands.Unpoison frame) banks j begun free rest known = unpoison-fits rest begun

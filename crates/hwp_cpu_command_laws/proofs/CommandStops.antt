@@ -239,11 +239,11 @@ pub stops-after : {layout : Layout} {old new : View} {j after : Job} → Stepped
 stops-after {j = jobs.Instruction i} s = (instruction-left s).stops
 stops-after {j = jobs.Evict e} s = (evict-left s).stops
 stops-after {j = jobs.Fsync f} s = inl (fsync-left s).2
-stops-after {j = jobs.Prctl p} s = inl (prctl-left s).2
+stops-after {j = jobs.Prctl p} s = inl (prctl-left s).1
 stops-after {j = jobs.Log l} s = (log-left s).stops
 stops-after {j = jobs.Raise r} s = (raise-left s).stops
 stops-after {j = jobs.Scrub c} s = (scrub-left s).stops
-stops-after {j = jobs.Spoil p} s = inl (spoil-left s).2
+stops-after {j = jobs.Spoil p} s = inl (spoil-left s).1
 stops-after {j = jobs.Nested n} s = (nested-left s).stops
 stops-after {j = jobs.Inject i} s = (inject-left s).stops
 stops-after {j = jobs.Soft o} s = (soft-left s).stops
@@ -254,7 +254,7 @@ pub spoils-after : {layout : Layout} {old new : View} {j after : Job} → Steppe
 spoils-after {j = jobs.Instruction i} s = inl (instruction-left s).rest.spoiled
 spoils-after {j = jobs.Evict e} s = inl (evict-left s).rest.spoiled
 spoils-after {j = jobs.Fsync f} s = inl (fsync-left s).1
-spoils-after {j = jobs.Prctl p} s = inl (prctl-left s).1
+spoils-after {j = jobs.Prctl p} s = inl (prctl-left s).0
 spoils-after {j = jobs.Log l} s = inl (log-left s).rest.spoiled
 spoils-after {j = jobs.Raise r} s = inl (raise-left s).rest.spoiled
 spoils-after {j = jobs.Scrub c} s = inl (scrub-left s).rest.spoiled
@@ -326,8 +326,8 @@ looks {layout} {old} {new} (jobs.Evict e) after s word start =
     ap answer s.follows.1 ∙ ap (λ (x : EvictAt). option_map evict_answer (evicts.answer_at x)) at.0
     ∙ ap (λ (b : Bool). option_map evict_answer (evicts.answer_at (cond b (evict_at.Over evict_answers.Stopped) (evict_at.Hold (holds.begin e.who e.page))))) word
 looks (jobs.Fsync f) after s word start =
-    ap answer s.follows.0 ∙ ap (λ (x : FsyncAt). option_map fsync_answer (fsyncs.answer_at (fsyncs.next_at x s.found))) start
-    ∙ ap (λ (b : Bool). option_map fsync_answer (fsyncs.answer_at (cond b (fsync_at.Over fsync_answers.Stopped) fsync_at.Report))) word
+    ap answer s.follows.0 ∙ ap (λ (x : FsyncAt). option_map fsync_answer (fsyncs.answer_at (fsyncs.next_at f.handle f.opens x s.found))) start
+    ∙ ap (λ (b : Bool). option_map fsync_answer (fsyncs.answer_at (cond b (fsync_at.Over fsync_answers.Stopped f.handle) fsync_at.Report))) word
 looks (jobs.Prctl p) after s word start =
     ap answer s.follows.0 ∙ ap (λ (x : PrctlAt). option_map prctl_answer (prctls.answer_at (prctls.next_at p.arguments x s.found))) start
     ∙ ap (λ (b : Bool). option_map prctl_answer (prctls.answer_at (cond b (prctl_at.Over prctl_answers.Stopped) prctl_at.LoadProcess))) word
@@ -434,10 +434,11 @@ module _ (layout : Layout) (view : View) where
   evict-halts e (evict_at.Over (evict_answers.Refused refusal at)) fits is = absurd (other _ (refused refusal at) is)
   evict-halts e _ fits is = absurd (none-some _ is)
 
-  fsync-halts : (f : Fsync) (x : FsyncAt) → fsyncs.FitsAt view f.who f.file x → option_map fsync_answer (fsyncs.answer_at x) ≡ Some answers.Stopped → IsHalted view
-  fsync-halts f (fsync_at.Over fsync_answers.Stopped) fits is = halts fits
-  fsync-halts f (fsync_at.Over fsync_answers.Done) fits is = absurd (other _ refl is)
-  fsync-halts f (fsync_at.Over (fsync_answers.Eio lost)) fits is = absurd (other _ refl is)
+  fsync-halts : (f : Fsync) (x : FsyncAt) → fsyncs.FitsAt layout view f.who f.file f.handle x → option_map fsync_answer (fsyncs.answer_at x) ≡ Some answers.Stopped → IsHalted view
+  fsync-halts f (fsync_at.Over fsync_answers.Stopped number) fits is = halts fits.0
+  fsync-halts f (fsync_at.Over fsync_answers.Done number) fits is = absurd (other _ refl is)
+  fsync-halts f (fsync_at.Over (fsync_answers.Eio lost) number) fits is = absurd (other _ refl is)
+  fsync-halts f (fsync_at.Over (fsync_answers.Opened lost) number) fits is = absurd (other _ refl is)
   fsync-halts f _ fits is = absurd (none-some _ is)
 
   prctl-halts : (p : Prctl) (x : PrctlAt) → prctls.FitsAt view p.who p.thread p.process p.arguments x → option_map prctl_answer (prctls.answer_at x) ≡ Some answers.Stopped → IsHalted view

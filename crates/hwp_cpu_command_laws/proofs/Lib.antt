@@ -8,3 +8,4 @@ pub mod BarredThreads
 pub mod PolicyKeeps
 pub mod CommandDeeds
 pub mod Below
+pub mod HandleKeeps

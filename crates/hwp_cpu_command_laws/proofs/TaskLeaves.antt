@@ -51,14 +51,13 @@ use Rattle.hwp_cpu_command.specs.hwp_soft_unpoison.declared.unpoison.UnpoisonAt.
 use Rattle.hwp_cpu_command.specs.hwp_soft_unpoison.Unpoisons as unpoisons
 use Rattle.hwp_cpu_command_laws.proofs.Quiet.{claim, seize}
 
--- the policies set, the losses taken and the damage stay as they were
+-- the policies set and the damage stay as they were
 pub record Rest (v x : View) : Type 0 where
   pub settings : x.settings ≡ v.settings
-  pub reported : x.reported ≡ v.reported
   pub spoiled : x.spoiled ≡ v.spoiled
 
 pub quiet-rest : {v x : View} → Alike v x → Rest v x
-quiet-rest same = record { settings = same.settings; reported = same.reported; spoiled = same.spoiled }
+quiet-rest same = record { settings = same.settings; spoiled = same.spoiled }
 
 -- ---- steps of a memory failure
 
@@ -87,9 +86,9 @@ pub plain-left : {layout : Layout} {who : Who} (step : Step) {put : Option Log} 
 plain-left {who = who} (steps.Poison frame hardware) {old = old} {found = found} made plain = subst (Left old) (sym made.told.next) (which (goes (steps.Poison frame hardware) found))
   where
     which : (b : Bool) → Left old (poison_listed frame (cond b (record (marked who frame found (mark_kinds.Poisoned hardware) (noted who old)) { owed = owing_count hardware old.owed }) (sighted who (places.Frame frame) found (noted who old))))
-    which true = record { rest = record { settings = refl; reported = refl; spoiled = refl }; stops = refl }
-    which false = record { rest = record { settings = refl; reported = refl; spoiled = refl }; stops = refl }
-plain-left (steps.CountPoison hardware) {old = old} made plain = subst (Left old) (sym made.told.next) (record { rest = record { settings = refl; reported = refl; spoiled = refl }; stops = refl })
+    which true = record { rest = record { settings = refl; spoiled = refl }; stops = refl }
+    which false = record { rest = record { settings = refl; spoiled = refl }; stops = refl }
+plain-left (steps.CountPoison hardware) {old = old} made plain = subst (Left old) (sym made.told.next) (record { rest = record { settings = refl; spoiled = refl }; stops = refl })
 plain-left step made plain = let same = leaves made plain in record { rest = quiet-rest same; stops = same.stops }
 
 -- a failure on a machine that recovers makes only such steps
@@ -162,11 +161,11 @@ unpoison-leaves {layout} {who} {step} {old} {new} {found} {got} u is made = whic
     plainly e plain = plain-left step made (subst PlansPlain e plain)
 
     exchanged : (frame : Frame) (went : Bool) → Left old (cond went (revived_by who frame found (noted who old)) (sighted who (places.Frame frame) found (noted who old)))
-    exchanged frame true = record { rest = record { settings = refl; reported = refl; spoiled = refl }; stops = refl }
-    exchanged frame false = record { rest = record { settings = refl; reported = refl; spoiled = refl }; stops = refl }
+    exchanged frame true = record { rest = record { settings = refl; spoiled = refl }; stops = refl }
+    exchanged frame false = record { rest = record { settings = refl; spoiled = refl }; stops = refl }
 
     uncounted : Steps layout who steps.Uncount None old new found got → Left old new
-    uncounted own = subst (Left old) (sym own.told.next) (record { rest = record { settings = refl; reported = refl; spoiled = refl }; stops = refl })
+    uncounted own = subst (Left old) (sym own.told.next) (record { rest = record { settings = refl; spoiled = refl }; stops = refl })
 
     which : (x : UnpoisonAt) → unpoisons.plan_at u.frame x ≡ Some step → Left old new
     which unpoison_at.LoadStop e = plainly e tt
@@ -185,7 +184,6 @@ unpoison-leaves {layout} {who} {step} {old} {new} {found} {got} u is made = whic
 pub stop-rest : {layout : Layout} {who : Who} {old new : View} {found : ℕ} {got : Option BodyValue} → Steps layout who (steps.Stop who.cpu) None old new found got → Rest old new
 stop-rest made = record {
   settings = stop-leaves made (λ (v : View). v.settings) refl refl;
-  reported = stop-leaves made (λ (v : View). v.reported) refl refl;
   spoiled = stop-leaves made (λ (v : View). v.spoiled) refl refl;
 }
 

@@ -9,7 +9,7 @@ use Rattle.hwp_core_task.specs.hwp_geom.declared.Proc.{Proc}
 use Rattle.hwp_core_task.specs.hwp_geom.declared.Thread.{Thread}
 use Rattle.hwp_core_task.specs.hwp_geom.declared.ThreadDecl.{ThreadDecl}
 use Rattle.hwp_core_task.specs.hwp_geom.declared.Who.{Who}
-use Rattle.hwp_core_task.specs.hwp_geom.Limits.{command_limit}
+use Rattle.hwp_core_task.specs.hwp_geom.Limits.{command_limit, page_limit}
 use Rattle.hwp_core_task.specs.hwp_kill.declared.Policy.{Policy}
 use Rattle.hwp_core_task.specs.hwp_kill.declared.Policy.TheVariants as policy_names
 use Rattle.hwp_core_task.specs.hwp_kill.declared.Reply.{Reply}
@@ -56,12 +56,12 @@ use Rattle.hwp_cpu_control.proofs.EmptyHands.{no-frame, no-page, saw-stop}
 
 module _ (layout : Layout) (s : State) (h : Holds layout s) where
   -- the word of a process is 0 or names a page of the layout
-  pub ended-by : (process : Proc) (found : ℕ) → process.0 < layout.procs → found ≡ slice_index s.words (index layout (places.Process process)) → found ≤ 256
+  pub ended-by : (process : Proc) (found : ℕ) → process.0 < layout.procs → found ≡ slice_index s.words (index layout (places.Process process)) → found ≤ page_limit
   ended-by process found inside met =
       let named : slice_index (words_of layout s.words).processes process.0 ≤ length layout.pages =
       h.rule.histories.endings.named process.0 (slice_index (words_of layout s.words).processes process.0) (word-there (words_of layout s.words).processes process.0 layout.procs (shaped layout s h).processes inside) in
       let same : found ≡ slice_index (words_of layout s.words).processes process.0 = met ∙ sym (words-read layout s.words (places.Process process) inside) in
-      let few : length layout.pages ≤ 256 = h.sound.pages in
+      let few : length layout.pages ≤ page_limit = h.sound.pages in
       omega arith
 
   -- the word of a thread's policy says what its processor's view lists
@@ -75,7 +75,7 @@ module _ (layout : Layout) (s : State) (h : Holds layout s) where
       (at_map (λ (v : View). (v.parts, v.settings)) s.views seat view me) (on.turn.part.0, on.turn.part.1, on.turn.part.2, on.turn.part.3.0 ∙ sym own))
 
 -- a policy word gives back its number of settings and its policy
-settings-back : (n : ℕ) (p : Policy) → n ≤ 4096 → words.settings_of (policy_at n p) ≡ n
+settings-back : (n : ℕ) (p : Policy) → n ≤ command_limit → words.settings_of (policy_at n p) ≡ n
 settings-back n policy_names.Late few = omega arith
 settings-back n policy_names.Early few = omega arith
 settings-back n policy_names.Default few = omega arith
@@ -85,13 +85,13 @@ policy-back n policy_names.Late = let low : policy_at n policy_names.Late / 2 ^ 
 policy-back n policy_names.Early = let low : policy_at n policy_names.Early / 2 ^ 0 % 2 ^ 2 ≡ 1 = omega arith in ap words.policy_coded low
 policy-back n policy_names.Default = let low : policy_at n policy_names.Default / 2 ^ 0 % 2 ^ 2 ≡ 2 = omega arith in ap words.policy_coded low
 
-small-word : (n : ℕ) (p : Policy) → n ≤ 4096 → policy_at n p < 2 ^ 34
+small-word : (n : ℕ) (p : Policy) → n ≤ command_limit → policy_at n p < 2 ^ 34
 small-word n policy_names.Late few = omega arith
 small-word n policy_names.Early few = omega arith
 small-word n policy_names.Default few = omega arith
 
 -- the page that a process word names
-pub page-back : (found : ℕ) (page : Page) → found ≤ 256 → page_named found ≡ Some page → found ≡ page.0 + 1
+pub page-back : (found : ℕ) (page : Page) → found ≤ page_limit → page_named found ≡ Some page → found ≡ page.0 + 1
 page-back found page few is = which (found == 0) refl
   where
     which : (b : Bool) → (found == 0) ≡ b → found ≡ page.0 + 1
@@ -191,7 +191,7 @@ both layout old new p step found got fits is made = which p.at fits.at is
         own : Steps layout p.who (steps.Load (places.Process p.process)) None old new found got
         own = steps-planned e made
 
-        few : found ≤ 256
+        few : found ≤ page_limit
         few = ended-by layout own.told.board own.told.rule p.process found fits.process own.told.met
 
         by : (o : Option Page) → page_named found ≡ o → FitsAt new p.who p.thread p.process p.arguments (after_process o)

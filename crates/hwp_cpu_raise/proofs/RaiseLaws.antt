@@ -6,6 +6,7 @@ use Rattle.hwp_cpu_control.specs.hwp_geom.declared.Page.{Page}
 use Rattle.hwp_cpu_control.specs.hwp_geom.declared.Thread.{Thread}
 use Rattle.hwp_cpu_control.specs.hwp_geom.declared.Who.{Who}
 use Rattle.hwp_cpu_control.specs.hwp_geom.Layout.{IsSound}
+use Rattle.hwp_cpu_control.specs.hwp_geom.Limits.{page_limit}
 use Rattle.hwp_cpu_check.specs.hwp_banks.Events.{bank_count}
 use Rattle.hwp_cpu_control.specs.hwp_page.History.{BodyValue}
 use Rattle.hwp_cpu_control.specs.hwp_words.Names.{page_named}
@@ -209,7 +210,7 @@ module _ (layout : Layout) (old new : View) (r : Raise) (step : Step) (found : �
       now : IsUnbegun new r
       now = unbegun-stays tt own (hand-planned made e has.rest.hand_is) has
 
-      few : found ≤ 256
+      few : found ≤ page_limit
       few = ended-by layout own.told.board own.told.rule raiser.process found (subst (IsRaiser layout) of fits.raiser).process own.told.met
 
       which : (o : Option Page) → page_named found ≡ o → (after : Raise) → AfterProcessBy layout r o after → Fits layout new after

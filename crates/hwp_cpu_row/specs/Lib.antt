@@ -1,3 +1,4 @@
+pub mod Locals
 pub use Rattle.hwp_cpu_check.specs.hwp_banks as hwp_banks
 pub use Rattle.hwp_cpu_check.specs.hwp_claim as hwp_claim
 pub use Rattle.hwp_cpu_check.specs.hwp_claim_act as hwp_claim_act

@@ -1,6 +1,8 @@
-//! What a command came to, from which its lines of the report and the notes of frames are made.
+//! What a command came to, from which its lines of the report and the notes of frames are made, and what its processor carries to
+//! the next one.
 #![tactic(auto)]
 
+mod local;
 mod row;
 
 pub use hwp_cpu_check::{
@@ -12,4 +14,5 @@ pub use hwp_cpu_check::{
     Turn, Whereabouts, Who, handle, index, is_text, kind_name, no_events, policy_word, print,
     read_number,
 };
+pub use local::{Handles, Local};
 pub use row::{FrameChange, Row};

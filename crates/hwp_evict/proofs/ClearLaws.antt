@@ -30,7 +30,7 @@ use Rattle.hwp_core.specs.hwp_core_task.declared.Turn.{Turn}
 use Rattle.hwp_core.specs.hwp_core_task.declared.Turn.TheVariants.{Moved}
 use Rattle.hwp_core.specs.hwp_core_task.Calls.{CanMake, Steps}
 use Rattle.hwp_core.specs.hwp_core_task.Hands.{Hand, hand_of}
-use Rattle.hwp_core.specs.hwp_core_task.Ranks.{IsRanked, is_waits, words_at}
+use Rattle.hwp_core.specs.hwp_core_task.Ranks.{IsRanked, is_waits, translation_room, words_at}
 use Rattle.hwp_core.specs.hwp_core_task.Boards.{view_of}
 use Rattle.hwp_core.proofs.of_hwp_core_task.StepRanks.{rank-of, steps-on}
 use Rattle.hwp_core.proofs.of_hwp_core_task.StepLeaves.{on-turn-after, hand-planned, steps-planned, can-make}
@@ -251,10 +251,10 @@ clears-fall c next w now {step} is follows shows = which c.next is follows shows
     which None e follows shows = absurd (none-some step e)
     which (Some slot) e follows shows = by slot next.next shows.0 follows.1
 
-pub clear-small : (w : Words) (c : Clear) → cost c w ≤ 512
+pub clear-small : (w : Words) (c : Clear) → cost c w ≤ translation_room
 clear-small w c = which c.next
   where
-    which : (n : Option VSlot) → cost_at n ≤ 512
+    which : (n : Option VSlot) → cost_at n ≤ translation_room
     which None = omega arith
     which (Some slot) = omega arith
 

@@ -26,7 +26,7 @@ use Rattle.hwp_core.specs.hwp_core_task.Boards.{view_of}
 use Rattle.hwp_core.specs.hwp_core_task.Calls.{rec_of}
 use Rattle.hwp_core.specs.hwp_core_task.Hands.{hand_of, empty}
 use Rattle.hwp_core.specs.hwp_core_task.Classes.{TellsClass}
-use Rattle.hwp_core.specs.hwp_core_task.Ranks.{Made, CostFalls, IsRanked, OtherHand, Quiet, HasFrame, HasPage, is_waits, words_at}
+use Rattle.hwp_core.specs.hwp_core_task.Ranks.{CostFalls, HasFrame, HasPage, IsRanked, Made, OtherHand, Quiet, failure_weight, is_waits, pass, stale_weight, translation_room, words_at}
 use Rattle.hwp_core.proofs.of_hwp_core_task.StepRanks.{met, words-kept, steps-on, rank-of}
 use Rattle.hwp_core.specs.declared.give_up.GiveUp.{GiveUp}
 use Rattle.hwp_core.specs.declared.give_up.GiveUpAt.{GiveUpAt}
@@ -73,49 +73,49 @@ clear-cost who page c body done w = which (is_none c.next)
     which true = omega arith
     which false = omega arith
 
-out-cost : (who : Who) (page : Page) (what : Eviction) (frame : Frame) (maps : set.FinSet nat_cmp) (body : BodyValue) (done : At) (w : Words) (y : EvictAt) → GoesOut who page what frame maps body done y → cost_at y w ≤ 520
-out-cost who page (evictions.Free slot) frame maps body done w y is = subst (λ (x : EvictAt). cost_at x w ≤ 520) (sym is) (omega arith)
-out-cost who page evictions.Sync frame maps body done w y is = subst (λ (x : EvictAt). cost_at x w ≤ 520) (sym is) (let few : _ = begun-cost who page (Some frame) 1 body w in omega (arith, few))
-out-cost who page evictions.Drop frame maps body done w y is = subst (λ (x : EvictAt). cost_at x w ≤ 520) (sym is) (omega arith)
-out-cost who page evictions.Out frame maps body done w y is = subst (λ (x : EvictAt). cost_at x w ≤ 520) (sym is.next_is)
+out-cost : (who : Who) (page : Page) (what : Eviction) (frame : Frame) (maps : set.FinSet nat_cmp) (body : BodyValue) (done : At) (w : Words) (y : EvictAt) → GoesOut who page what frame maps body done y → cost_at y w ≤ pass
+out-cost who page (evictions.Free slot) frame maps body done w y is = subst (λ (x : EvictAt). cost_at x w ≤ pass) (sym is) (omega arith)
+out-cost who page evictions.Sync frame maps body done w y is = subst (λ (x : EvictAt). cost_at x w ≤ pass) (sym is) (let few : _ = begun-cost who page (Some frame) 1 body w in omega (arith, few))
+out-cost who page evictions.Drop frame maps body done w y is = subst (λ (x : EvictAt). cost_at x w ≤ pass) (sym is) (omega arith)
+out-cost who page evictions.Out frame maps body done w y is = subst (λ (x : EvictAt). cost_at x w ≤ pass) (sym is.next_is)
     (let few : _ = clear-cost who page is.clear body done w in let small : _ = clear-small w is.clear in omega (arith, few, small))
 
 refused-cost : (who : Who) (page : Page) (frame : Option Frame) (body : BodyValue) (refusal : Refusal) (w : Words) → cost_at (refused who page frame body refusal) w ≤ 7
 refused-cost who page frame body refusal w = let few : _ = begun-cost who page frame 1 body w in omega (arith, few)
 
-enters-cost : (who : Who) (page : Page) (what : Eviction) (frame : Frame) (body : BodyValue) (w : Words) (y : EvictAt) → Enters who page what frame body y → cost_at y w ≤ 520
-enters-cost who page what frame body w y (inl is) = subst (λ (x : EvictAt). cost_at x w ≤ 520) (sym is) (let few : _ = give-up-small w (give_ups.with_page who page (Some frame) 1 body) in omega (arith, few))
+enters-cost : (who : Who) (page : Page) (what : Eviction) (frame : Frame) (body : BodyValue) (w : Words) (y : EvictAt) → Enters who page what frame body y → cost_at y w ≤ pass
+enters-cost who page what frame body w y (inl is) = subst (λ (x : EvictAt). cost_at x w ≤ pass) (sym is) (let few : _ = give-up-small w (give_ups.with_page who page (Some frame) 1 body) in omega (arith, few))
 enters-cost who page what frame body w y (inr is) = out-cost who page what frame body.state.maps is.now (place page body) w y is.next_is
 
-held-cost : (who : Who) (page : Page) (what : Eviction) (frame : Option Frame) (body : BodyValue) (w : Words) (y : EvictAt) → AfterHeld who page what frame body y → cost_at y w ≤ 521
-held-cost who page what None body w y is = subst (λ (x : EvictAt). cost_at x w ≤ 521) (sym is) (let few : _ = refused-cost who page None body (absence what) w in omega (arith, few))
-held-cost who page what (Some frame) body w y (inr is) = subst (λ (x : EvictAt). cost_at x w ≤ 521) (sym is.next_is) (let few : _ = refused-cost who page (Some frame) body is.refusal w in omega (arith, few))
+held-cost : (who : Who) (page : Page) (what : Eviction) (frame : Option Frame) (body : BodyValue) (w : Words) (y : EvictAt) → AfterHeld who page what frame body y → cost_at y w ≤ pass + 1
+held-cost who page what None body w y is = subst (λ (x : EvictAt). cost_at x w ≤ pass + 1) (sym is) (let few : _ = refused-cost who page None body (absence what) w in omega (arith, few))
+held-cost who page what (Some frame) body w y (inr is) = subst (λ (x : EvictAt). cost_at x w ≤ pass + 1) (sym is.next_is) (let few : _ = refused-cost who page (Some frame) body is.refusal w in omega (arith, few))
 held-cost who page what (Some frame) body w y (inl (passes, goes)) = which (copies what) goes
   where
-    which : (b : Bool) → MatchBool b (y ≡ at.LoadBad frame body) (Enters who page what frame body y) → cost_at y w ≤ 521
-    which true is = subst (λ (x : EvictAt). cost_at x w ≤ 521) (sym is) (omega arith)
+    which : (b : Bool) → MatchBool b (y ≡ at.LoadBad frame body) (Enters who page what frame body y) → cost_at y w ≤ pass + 1
+    which true is = subst (λ (x : EvictAt). cost_at x w ≤ pass + 1) (sym is) (omega arith)
     which false is = let few : _ = enters-cost who page what frame body w y is in omega (arith, few)
 
 -- what follows a step of the hold costs at most so much more than the hold
-hold-cost : (who : Who) (page : Page) (what : Eviction) (h : Hold) (w : Words) (y : EvictAt) → AfterHold who page what h y → cost_at y w ≤ holds.cost h w + 522
+hold-cost : (who : Who) (page : Page) (what : Eviction) (h : Hold) (w : Words) (y : EvictAt) → AfterHold who page what h y → cost_at y w ≤ holds.cost h w + (pass + 2)
 hold-cost who page what h w y follows = which h.at follows
   where
-    still : (x : HoldAt) → y ≡ at.Hold (record h { at = x }) → cost_at y w ≤ holds.cost_at x w + 522
-    still x is = subst (λ (z : EvictAt). cost_at z w ≤ holds.cost_at x w + 522) (sym is) (omega arith)
+    still : (x : HoldAt) → y ≡ at.Hold (record h { at = x }) → cost_at y w ≤ holds.cost_at x w + (pass + 2)
+    still x is = subst (λ (z : EvictAt). cost_at z w ≤ holds.cost_at x w + (pass + 2)) (sym is) (omega arith)
 
-    which : (x : HoldAt) → AfterHoldAt who page what (record h { at = x }) x y → cost_at y w ≤ holds.cost_at x w + 522
+    which : (x : HoldAt) → AfterHoldAt who page what (record h { at = x }) x y → cost_at y w ≤ holds.cost_at x w + (pass + 2)
     which hold_at.LockPage is = still hold_at.LockPage is
     which (hold_at.LoadCache body) is = still (hold_at.LoadCache body) is
     which (hold_at.Pin p) is = still (hold_at.Pin p) is
     which (hold_at.LockFrame frame) is = still (hold_at.LockFrame frame) is
     which (hold_at.Held frame body) is = let few : _ = held-cost who page what frame body w y is in omega (arith, few)
 
-bad-cost : (who : Who) (page : Page) (what : Eviction) (frame : Frame) (body : BodyValue) (found : ℕ) (w : Words) (y : EvictAt) → AfterBad who page what frame body found y → cost_at y w ≤ 520
+bad-cost : (who : Who) (page : Page) (what : Eviction) (frame : Frame) (body : BodyValue) (found : ℕ) (w : Words) (y : EvictAt) → AfterBad who page what frame body found y → cost_at y w ≤ pass
 bad-cost who page what frame body found w y is = which (found == 0) is
   where
-    which : (b : Bool) → MatchBool b (Enters who page what frame body y) (y ≡ refused who page (Some frame) body (refusals.BadLines (record { 0 = found }))) → cost_at y w ≤ 520
+    which : (b : Bool) → MatchBool b (Enters who page what frame body y) (y ≡ refused who page (Some frame) body (refusals.BadLines (record { 0 = found }))) → cost_at y w ≤ pass
     which true is = enters-cost who page what frame body w y is
-    which false is = subst (λ (x : EvictAt). cost_at x w ≤ 520) (sym is) (let few : _ = refused-cost who page (Some frame) body (refusals.BadLines (record { 0 = found })) w in omega (arith, few))
+    which false is = subst (λ (x : EvictAt). cost_at x w ≤ pass) (sym is) (let few : _ = refused-cost who page (Some frame) body (refusals.BadLines (record { 0 = found })) w in omega (arith, few))
 
 unhold-cost : (u : Unhold) (answer : EvictAnswer) (w : Words) → cost_at (after_unhold u answer) w ≤ unholds.cost u w
 unhold-cost u answer w = which (is_none (unholds.plan u))
@@ -131,10 +131,10 @@ vacate-cost v done w = which (is_none (vacates.plan v))
     which true = omega arith
     which false = omega arith
 
-stop-cost : (who : Who) (page : Page) (found : ℕ) (w : Words) → cost_at (after_stop who page found) w < 528
+stop-cost : (who : Who) (page : Page) (found : ℕ) (w : Words) → cost_at (after_stop who page found) w < pass + 8
 stop-cost who page found w = which (is_stopped found)
   where
-    which : (b : Bool) → cost_at (cond b (at.Over answers.Stopped) (at.Hold (holds.begin who page))) w < 528
+    which : (b : Bool) → cost_at (cond b (at.Over answers.Stopped) (at.Hold (holds.begin who page))) w < pass + 8
     which true = omega arith
     which false = omega arith
 
@@ -148,12 +148,12 @@ evict-falls w now e step found got after turn is shows met kept follows goes = w
     y = after.at
 
     which : (x : EvictAt) → plan_at x ≡ Some step → ShowsAt e.what (bare_at x) found got → FollowsAt e.who e.page e.what (bare_at x) found got after.at turn → cost_at after.at now < cost_at x w
-    which at.LoadStop p shows follows = subst (λ (z : EvictAt). cost_at z now < 528) (sym follows.0) (stop-cost e.who e.page found now)
+    which at.LoadStop p shows follows = subst (λ (z : EvictAt). cost_at z now < pass + 8) (sym follows.0) (stop-cost e.who e.page found now)
     which (at.Hold h) p shows follows =
         let less : holds.cost (holds.next h found got) now < holds.cost h w = hold-falls w now h step found got p shows.0 met kept (sym (ap is_waits follows.1) ∙ goes) in
-        let more : cost_at after.at now ≤ holds.cost (holds.next h found got) now + 522 = hold-cost e.who e.page e.what (holds.next h found got) now after.at follows.0 in
+        let more : cost_at after.at now ≤ holds.cost (holds.next h found got) now + (pass + 2) = hold-cost e.who e.page e.what (holds.next h found got) now after.at follows.0 in
         omega (arith, less, more)
-    which (at.LoadBad frame body) p shows follows = let few : cost_at after.at now ≤ 520 = bad-cost e.who e.page e.what frame body found now after.at follows.0 in omega (arith, few)
+    which (at.LoadBad frame body) p shows follows = let few : cost_at after.at now ≤ pass = bad-cost e.who e.page e.what frame body found now after.at follows.0 in omega (arith, few)
     which (at.SetPte slot frame body done) p shows follows = subst (λ (z : EvictAt). cost_at z now < 6) (sym follows.0) (let few : _ = begun-cost e.who e.page (Some frame) 2 body now in omega (arith, few))
     which (at.Clear c body done) p shows follows = subst (λ (z : EvictAt). cost_at z now < clears.cost c w + 8) (sym follows.0.next_is)
         (let less : clears.cost follows.0.after now < clears.cost c w = clears-fall c follows.0.after w now p follows.0.follows shows in
@@ -168,15 +168,15 @@ evict-falls w now e step found got after turn is shows met kept follows goes = w
     which (at.Over answer) p shows follows = absurd (none-some step p)
 
 -- every cost is small
-pub evict-below : (w : Words) (e : Evict) → cost e w < 32768
+pub evict-below : (w : Words) (e : Evict) → cost e w < failure_weight
 evict-below w e = which e.at
   where
-    which : (x : EvictAt) → cost_at x w < 32768
+    which : (x : EvictAt) → cost_at x w < failure_weight
     which at.LoadStop = omega arith
-    which (at.Hold h) = let few : holds.cost h w ≤ 4098 = hold-small w h in omega (arith, few)
+    which (at.Hold h) = let few : holds.cost h w ≤ stale_weight + 2 = hold-small w h in omega (arith, few)
     which (at.LoadBad frame body) = omega arith
     which (at.SetPte slot frame body done) = omega arith
-    which (at.Clear c body done) = let few : clears.cost c w ≤ 512 = clear-small w c in omega (arith, few)
+    which (at.Clear c body done) = let few : clears.cost c w ≤ translation_room = clear-small w c in omega (arith, few)
     which (at.Vacate v done) = let few : vacates.cost v w ≤ 7 = vacate-small w v in omega (arith, few)
     which (at.Unhold u answer) = let few : unholds.cost u w ≤ 5 = unhold-small w u in omega (arith, few)
     which (at.GiveUp g) = let few : give_ups.cost g w ≤ 6 = give-up-small w g in omega (arith, few)
@@ -234,7 +234,7 @@ module _ {layout : Layout} {seat : ℕ} {a b : State} {s t : Evict} {turn : Turn
         follows = (refl, m.follows.1.1);
       }) is quiet)
         where
-          by : (holds.cost (holds.next h m.found m.got) (words_at layout b) < holds.cost h (words_at layout a)) ⊎ ((false ≡ true) × OtherHand a seat) → cost_at t.at (words_at layout b) < holds.cost h (words_at layout a) + 522
+          by : (holds.cost (holds.next h m.found m.got) (words_at layout b) < holds.cost h (words_at layout a)) ⊎ ((false ≡ true) × OtherHand a seat) → cost_at t.at (words_at layout b) < holds.cost h (words_at layout a) + (pass + 2)
           by (inl less) = let more : _ = hold-cost s.who s.page s.what (holds.next h m.found m.got) (words_at layout b) t.at m.follows.1.0 in omega (arith, less, more)
           by (inr aborts) = absurd (both_ways true (sym aborts.0) refl)
       which (at.LoadBad frame body) m quiet = never m.follows.1.1 refl

@@ -29,6 +29,7 @@ use Rattle.hwp_core.specs.hwp_core_task.Calls.{IsOnTurn}
 use Rattle.hwp_core.specs.hwp_core_task.Hands.{hand_of, empty, body_in}
 use Rattle.hwp_core.specs.hwp_core_task.Known.{HasMadeNone, SawLog}
 use Rattle.hwp_core.specs.hwp_core_task.Turns.{Member}
+use Rattle.hwp_core.specs.hwp_core_task.Ranks.{pass}
 use Rattle.hwp_core.specs.declared.give_up.GiveUp.{GiveUp}
 use Rattle.hwp_core.specs.declared.hold.Hold.{Hold}
 use Rattle.hwp_core.specs.declared.hold.HoldAt.{HoldAt}
@@ -362,9 +363,9 @@ class e = class_at e.at
 
 -- the turns that are left, where no word changes
 abbrev pub cost_at : EvictAt → Words → ℕ
-cost_at at.LoadStop words = 528
-cost_at (at.Hold h) words = holds.cost h words + 522
-cost_at (at.LoadBad frame body) words = 521
+cost_at at.LoadStop words = pass + 8
+cost_at (at.Hold h) words = holds.cost h words + (pass + 2)
+cost_at (at.LoadBad frame body) words = pass + 1
 cost_at (at.SetPte slot frame body done) words = 6
 cost_at (at.Clear c body done) words = clears.cost c words + 8
 cost_at (at.Vacate v done) words = vacates.cost v words

@@ -1,5 +1,6 @@
--- The losses of a file taken: the task's states, its steps and what they come to.
-use Rattle.std.specs.Prelude.{◌≡◌, ℕ, ◌<◌, ◌==◌, false, cond, Option, Some, None}
+-- The losses of a file that a handle hasn't seen: the task's states, its steps and what they come to. A handle is the pair of a
+-- processor and a file, and its number the losses of the file that it has seen.
+use Rattle.std.specs.Prelude.{◌≡◌, ◌⊎◌, ℕ, ◌+◌, ◌-◌, ◌<◌, ◌==◌, Bool, false, cond, [], Option, Some, None}
 use Rattle.hwp_core.specs.hwp_geom.declared.FileNo.{FileNo}
 use Rattle.hwp_core.specs.hwp_geom.declared.Layout.{Layout}
 use Rattle.hwp_core.specs.hwp_geom.declared.Who.{Who}
@@ -13,7 +14,7 @@ use Rattle.hwp_core.specs.hwp_core_task.declared.Turn.TheVariants.{Moved, Answer
 use Rattle.hwp_core.specs.hwp_core_task.Calls.{IsOnTurn}
 use Rattle.hwp_core.specs.hwp_core_task.Hands.{hand_of, empty}
 use Rattle.hwp_core.specs.hwp_words.Stops.{is_stopped}
-use Rattle.hwp_core.specs.hwp_core_task.Known.{Saw, SawStop, HasMadeNone}
+use Rattle.hwp_core.specs.hwp_core_task.Known.{Covers, HasSeenLoss, Saw, SawStop, HasMadeNone}
 use Rattle.hwp_core.specs.hwp_core_task.Turns.{Member}
 use Rattle.hwp_evict.specs.declared.fsync.Fsync.{Fsync}
 use Rattle.hwp_evict.specs.declared.fsync.FsyncAt.{FsyncAt}
@@ -21,69 +22,85 @@ use Rattle.hwp_evict.specs.declared.fsync.FsyncAt.TheVariants as at
 use Rattle.hwp_evict.specs.declared.fsync.FsyncAnswer.{FsyncAnswer}
 use Rattle.hwp_evict.specs.declared.fsync.FsyncAnswer.TheVariants as answers
 
-abbrev pub begin : Who → FileNo → Fsync
-begin who file = record { who = who; file = file; at = at.LoadStop }
+abbrev pub begin : Who → FileNo → ℕ → Bool → Fsync
+begin who file handle opens = record { who = who; file = file; handle = handle; opens = opens; at = at.LoadStop }
 
 abbrev pub plan_at : FileNo → FsyncAt → Option Step
 plan_at file at.LoadStop = Some (steps.Load places.Stop)
 plan_at file at.Report = Some (steps.ReportLost file)
-plan_at file (at.Over answer) = None
+plan_at file (at.Over answer number) = None
 
 abbrev pub plan : Fsync → Option Step
 plan f = plan_at f.file f.at
 
-abbrev pub after_stop : ℕ → FsyncAt
-after_stop word = cond (is_stopped word) (at.Over answers.Stopped) at.Report
+abbrev pub after_stop : ℕ → ℕ → FsyncAt
+after_stop handle word = cond (is_stopped word) (at.Over answers.Stopped handle) at.Report
 
-abbrev pub after_report : ℕ → FsyncAt
-after_report word = at.Over (cond (word == 0) answers.Done (answers.Eio word))
+-- what a handle with this number is told where so much has been lost: what came since, or all where it opens
+abbrev pub reported : ℕ → Bool → ℕ → FsyncAnswer
+reported handle opens word = cond opens (answers.Opened word) (cond (word == handle) answers.Done (answers.Eio (word - handle)))
 
-abbrev pub next_at : FsyncAt → ℕ → FsyncAt
-next_at at.LoadStop found = after_stop found
-next_at at.Report found = after_report found
-next_at (at.Over answer) found = at.Over answer
+abbrev pub after_report : ℕ → Bool → ℕ → FsyncAt
+after_report handle opens word = at.Over (reported handle opens word) word
+
+abbrev pub next_at : ℕ → Bool → FsyncAt → ℕ → FsyncAt
+next_at handle opens at.LoadStop found = after_stop handle found
+next_at handle opens at.Report found = after_report handle opens found
+next_at handle opens (at.Over answer number) found = at.Over answer number
 
 abbrev pub next : Fsync → ℕ → Fsync
-next f found = record f { at = next_at f.at found }
+next f found = record f { at = next_at f.handle f.opens f.at found }
 
 abbrev pub turn_at : FsyncAt → ℕ → Turn
 turn_at at.LoadStop found = cond (is_stopped found) Answered Moved
 turn_at at.Report found = Answered
-turn_at (at.Over answer) found = Moved
+turn_at (at.Over answer number) found = Moved
 
 abbrev pub turn : Fsync → ℕ → Turn
 turn f found = turn_at f.at found
 
 abbrev pub answer_at : FsyncAt → Option FsyncAnswer
-answer_at (at.Over answer) = Some answer
+answer_at (at.Over answer number) = Some answer
 answer_at _ = None
 
 abbrev pub answer : Fsync → Option FsyncAnswer
 answer f = answer_at f.at
 
--- why the command answers so: what a step of it showed
-abbrev pub IsCaused : View → Who → FileNo → FsyncAnswer → Type 0
-IsCaused view who file answers.Stopped = SawStop view who
-IsCaused view who file answers.Done = Saw view who (places.Loss file) 0
-IsCaused view who file (answers.Eio lost) = (0 < lost) × Saw view who (places.Loss file) lost
+-- the number of the handle: when the task is over what it has seen, and until then what it had seen before
+abbrev pub number_at : ℕ → FsyncAt → ℕ
+number_at handle (at.Over answer number) = number
+number_at handle _ = handle
 
-abbrev pub FitsAt : View → Who → FileNo → FsyncAt → Type 0
-FitsAt view who file (at.Over answer) = IsCaused view who file answer
-FitsAt view who file _ = Unit {0}
+abbrev pub number : Fsync → ℕ
+number f = number_at f.handle f.at
 
--- nothing is held, and the command makes no entry
+-- why the command answers so, where its handle had the number `handle` and has `number` then: a step of it showed the loss word at that
+-- number, which the earlier losses of the processor don't exceed
+abbrev pub IsCaused : Layout → View → Who → FileNo → ℕ → ℕ → FsyncAnswer → Type 0
+IsCaused layout view who file handle number answers.Stopped = SawStop view who × (number ≡ handle)
+IsCaused layout view who file handle number answers.Done = (number ≡ handle) × Saw view who (places.Loss file) number × Covers layout view who file number
+IsCaused layout view who file handle number (answers.Eio more) = (0 < more) × (number ≡ handle + more) × Saw view who (places.Loss file) number × Covers layout view who file number
+IsCaused layout view who file handle number (answers.Opened word) = (number ≡ word) × Saw view who (places.Loss file) number × Covers layout view who file number
+
+abbrev pub FitsAt : Layout → View → Who → FileNo → ℕ → FsyncAt → Type 0
+FitsAt layout view who file handle (at.Over answer number) = IsCaused layout view who file handle number answer
+FitsAt layout view who file handle _ = Unit {0}
+
+-- nothing is held, no loss is owed, and the command makes no entry; the handle's number is 0 or was seen
 pub record Fits (layout : Layout) (view : View) (f : Fsync) : Type 0 where
   pub on_turn : IsOnTurn view f.who
   pub file : f.file.0 < layout.files
   pub hand_is : hand_of view ≡ empty
+  pub paid : view.owed.losses ≡ []
   pub made_none : HasMadeNone view f.who
-  pub at : FitsAt view f.who f.file f.at
+  pub handle : (f.handle ≡ 0) ⊎ HasSeenLoss view f.file f.handle
+  pub at : FitsAt layout view f.who f.file f.handle f.at
 
 -- the turns that are left
 abbrev pub cost_at : FsyncAt → ℕ
 cost_at at.LoadStop = 5
 cost_at at.Report = 1
-cost_at (at.Over answer) = 0
+cost_at (at.Over answer number) = 0
 
 abbrev pub cost : Fsync → Words → ℕ
 cost f words = cost_at f.at

@@ -1,15 +1,19 @@
 ghost use Rattle.std.specs.Prelude.{◌≡◌, is_some, is_none};
-ghost use Rattle.hwp_evict.specs.Fsyncs.{begin, plan, answer, after_stop, after_report};
+ghost use Rattle.hwp_evict.specs.Fsyncs.{begin, plan, answer, number, after_stop, after_report, reported};
 
 use hwp_core::{
     Body, FileNo, Layout, Ranked, Scheduled, SharedWord, Step, Task, Turn, Who, is_stopped,
 };
 
-/// Takes the number of losses of a file since they were taken last (Linux errseq_t, of which this is a simple form).
+/// Tells how much of a file was lost since a handle saw its loss word last. A handle is the pair of a processor and a file, and its
+/// number the losses that it has seen (Linux errseq_t, of which each open file keeps a sample; this is a simple form). A handle that
+/// opens is told all losses.
 #[derive(Clone, Copy)]
 pub struct Fsync {
     who: Who,
     file: FileNo,
+    handle: u64,
+    opens: bool,
     at: FsyncAt,
 }
 
@@ -17,7 +21,7 @@ pub struct Fsync {
 enum FsyncAt {
     LoadStop,
     Report,
-    Over { answer: FsyncAnswer },
+    Over { answer: FsyncAnswer, number: u64 },
 }
 
 /// What an `Fsync` came to (this project's rule).
@@ -25,22 +29,33 @@ enum FsyncAt {
 pub enum FsyncAnswer {
     /// The machine has stopped.
     Stopped,
-    /// Nothing of the file was lost.
+    /// Nothing of the file was lost since.
     Done,
-    /// So much was lost, at least once.
+    /// So much was lost since, at least once.
     Eio(u64),
+    /// The handle was opened, and so much of the file had been lost.
+    Opened(u64),
 }
 
 impl Fsync {
-    /// The command takes the losses of the file.
-    pub fn new(who: Who, file: FileNo) -> Fsync
-        ensures { result ≡ begin who file }
+    /// The command asks for the losses of the file that its handle, which has this number, hasn't seen; or opens the handle.
+    pub fn new(who: Who, file: FileNo, handle: u64, opens: bool) -> Fsync
+        ensures { result ≡ begin who file handle opens }
     {
         Fsync {
             who,
             file,
+            handle,
+            opens,
             at: FsyncAt::LoadStop,
         }
+    }
+
+    /// The file.
+    pub fn file(&self) -> FileNo
+        ensures { result ≡ self.now.file }
+    {
+        self.file
     }
 
     /// What the task came to; `None` until it is over.
@@ -50,32 +65,54 @@ impl Fsync {
     {
         match self.at {
             FsyncAt::LoadStop | FsyncAt::Report => None,
-            FsyncAt::Over { answer } => Some(answer),
+            FsyncAt::Over { answer, .. } => Some(answer),
         }
     }
 
-    fn after_stop(word: u64) -> FsyncAt
-        ensures { result ≡ after_stop word }
+    /// The handle's number: the losses that it has seen when the task is over, and until then, or where the machine has stopped,
+    /// those that it had seen before.
+    pub fn number(&self) -> u64
+        ensures { result ≡ number self.now }
+    {
+        match self.at {
+            FsyncAt::LoadStop | FsyncAt::Report => self.handle,
+            FsyncAt::Over { number, .. } => number,
+        }
+    }
+
+    fn after_stop(handle: u64, word: u64) -> FsyncAt
+        ensures { result ≡ after_stop handle word }
     {
         if is_stopped(word) {
             FsyncAt::Over {
                 answer: FsyncAnswer::Stopped,
+                number: handle,
             }
         } else {
             FsyncAt::Report
         }
     }
 
-    fn after_report(word: u64) -> FsyncAt
-        ensures { result ≡ after_report word }
+    fn after_report(handle: u64, opens: bool, word: u64) -> FsyncAt
+        ensures { result ≡ after_report handle opens word }
     {
         FsyncAt::Over {
-            answer: if word == 0 {
-                FsyncAnswer::Done
-            } else {
-                FsyncAnswer::Eio(word)
-            },
+            answer: reported(handle, opens, word),
+            number: word,
         }
+    }
+}
+
+/// What a handle with this number is told where so much has been lost.
+fn reported(handle: u64, opens: bool, word: u64) -> FsyncAnswer
+    ensures { result ≡ reported handle opens word }
+{
+    if opens {
+        FsyncAnswer::Opened(word)
+    } else if word == handle {
+        FsyncAnswer::Done
+    } else {
+        FsyncAnswer::Eio(word.saturating_sub(handle))
     }
 }
 
@@ -105,7 +142,7 @@ impl Task for Fsync {
     fn settle(&mut self, _layout: &Layout, found: u64, _body: Option<Body>) -> Turn {
         match self.at {
             FsyncAt::LoadStop => {
-                self.at = Fsync::after_stop(found);
+                self.at = Fsync::after_stop(self.handle, found);
                 if is_stopped(found) {
                     Turn::Answered
                 } else {
@@ -113,7 +150,7 @@ impl Task for Fsync {
                 }
             }
             FsyncAt::Report => {
-                self.at = Fsync::after_report(found);
+                self.at = Fsync::after_report(self.handle, self.opens, found);
                 Turn::Answered
             }
             FsyncAt::Over { .. } => Turn::Moved,

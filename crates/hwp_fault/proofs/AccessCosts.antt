@@ -1,5 +1,5 @@
 -- Each turn of an access lowers its cost, and its class tells what it holds.
-use Rattle.std.proofs.Common.{◌≡◌, ◌≢◌, ℕ, ◌+◌, ◌/◌, ◌<◌, ◌≤◌, ◌==◌, ◌||◌, ◌⊎◌, inl, inr, Bool, true, false, cond, [], Option, Some, None, is_none, is_some, length, slice_get, slice_index, refl, sym, ap, ◌∙◌, subst, arith}
+use Rattle.std.proofs.Common.{◌≡◌, ◌≢◌, ℕ, ◌+◌, ◌*◌, ◌/◌, ◌<◌, ◌≤◌, ◌==◌, ◌||◌, ◌⊎◌, inl, inr, Bool, true, false, cond, [], Option, Some, None, is_none, is_some, length, slice_get, slice_index, refl, sym, ap, ◌∙◌, subst, arith}
 use Rattle.std.proofs.lemmas.Bool.{both_ways, eqb-true, ne_eqb}
 use Rattle.std.proofs.lemmas.List.{length-set}
 use Rattle.std.proofs.lemmas.Option.{none-some, same_Some, slice_get-get_or}
@@ -8,6 +8,7 @@ use Rattle.hwp_page.specs.hwp_geom.declared.Layout.{Layout}
 use Rattle.hwp_page.specs.hwp_geom.declared.Page.{Page}
 use Rattle.hwp_page.specs.hwp_geom.declared.VSlot.{VSlot}
 use Rattle.hwp_page.specs.hwp_geom.declared.Who.{Who}
+use Rattle.hwp_page.specs.hwp_geom.Limits.{frame_limit}
 use Rattle.hwp_page.specs.History.{BodyValue}
 use Rattle.hwp_core.specs.hwp_words.Frames.{is_locked, lock_of, count_of, is_handled}
 use Rattle.hwp_core.specs.hwp_words.Names.{page_named}
@@ -33,7 +34,7 @@ use Rattle.hwp_core.specs.hwp_core_task.Boards.{view_of}
 use Rattle.hwp_core.specs.hwp_core_task.Calls.{logs, rec_of}
 use Rattle.hwp_core.specs.hwp_core_task.Classes.{TellsClass}
 use Rattle.hwp_core.specs.hwp_core_task.Hands.{Hand, hand_of}
-use Rattle.hwp_core.specs.hwp_core_task.Ranks.{Made, CostFalls, HasFailed, IsRanked, Quiet, OtherHand, HasFrame, HasPage, failures_left, is_waits, stale, words_at}
+use Rattle.hwp_core.specs.hwp_core_task.Ranks.{CostFalls, HasFailed, HasFrame, HasPage, IsRanked, Made, OtherHand, Quiet, access_most, again_most, failure_weight, failures_left, free_room, is_waits, stale, stale_weight, words_at}
 use Rattle.hwp_core.proofs.of_hwp_core_task.StepRanks.{met, words-after, words-kept, no-lock, failed, rank-failing}
 use Rattle.hwp_core.specs.declared.GiveUp.{GiveUp}
 use Rattle.hwp_core.specs.declared.give_up.GiveUpAt.{GiveUpAt}
@@ -76,38 +77,38 @@ use Rattle.hwp_fault.proofs.TranslationWords.{named-referenced}
 -- ---- costs
 
 -- what is left of an access that starts over, with few words of free frames
-pub again-few : (slot : VSlot) (w : Words) → length w.frees ≤ 4 → faults.again slot w ≤ 4120
-again-few slot w few = let most : stale (is_some (frame_in (slice_index w.trans slot.0))) ≤ 4096 = stale-most (is_some (frame_in (slice_index w.trans slot.0))) in omega arith
+pub again-few : (slot : VSlot) (w : Words) → length w.frees ≤ free_room → faults.again slot w ≤ again_most
+again-few slot w few = let most : stale (is_some (frame_in (slice_index w.trans slot.0))) ≤ stale_weight = stale-most (is_some (frame_in (slice_index w.trans slot.0))) in omega arith
 
-moved-few : (slot : VSlot) (frame : Frame) (w : Words) → moved_away slot frame w ≤ 8192
+moved-few : (slot : VSlot) (frame : Frame) (w : Words) → moved_away slot frame w ≤ 2 * stale_weight
 moved-few slot frame w =
-    let most : stale (is_some (frame_in (slice_index w.trans slot.0))) ≤ 4096 = stale-most (is_some (frame_in (slice_index w.trans slot.0))) in
-    let too : stale (leads_to frame (slice_index w.trans slot.0)) ≤ 4096 = stale-most (leads_to frame (slice_index w.trans slot.0)) in
+    let most : stale (is_some (frame_in (slice_index w.trans slot.0))) ≤ stale_weight = stale-most (is_some (frame_in (slice_index w.trans slot.0))) in
+    let too : stale (leads_to frame (slice_index w.trans slot.0)) ≤ stale_weight = stale-most (leads_to frame (slice_index w.trans slot.0)) in
     omega arith
 
 -- each cost is small, where the words of free frames are at most four
-pub access-small : (w : Words) (a : Access) → length w.frees ≤ 4 → cost a w ≤ 12307
+pub access-small : (w : Words) (a : Access) → length w.frees ≤ free_room → cost a w ≤ access_most
 access-small w a few = which a.at
   where
-    then-few : (then : Option AccessAnswer) → then_cost a.request.slot then w ≤ 4120
+    then-few : (then : Option AccessAnswer) → then_cost a.request.slot then w ≤ again_most
     then-few None = again-few a.request.slot w few
     then-few (Some answer) = omega arith
 
-    which : (x : AccessAt) → cost_at a.request.slot x w ≤ 12307
-    which at.LoadStop = let most : faults.again a.request.slot w ≤ 4120 = again-few a.request.slot w few in omega arith
-    which at.LoadProcess = let most : faults.again a.request.slot w ≤ 4120 = again-few a.request.slot w few in omega arith
-    which at.LoadTranslation = let most : faults.again a.request.slot w ≤ 4120 = again-few a.request.slot w few in omega arith
-    which (at.Pin p) = let most : pins.cost p w ≤ 4097 = pin-small w p in let too : moved_away a.request.slot p.frame w ≤ 8192 = moved-few a.request.slot p.frame w in omega arith
-    which (at.LockFrame frame) = let too : moved_away a.request.slot frame w ≤ 8192 = moved-few a.request.slot frame w in omega arith
-    which (at.LoadAgain frame body) = let too : moved_away a.request.slot frame w ≤ 8192 = moved-few a.request.slot frame w in omega arith
+    which : (x : AccessAt) → cost_at a.request.slot x w ≤ access_most
+    which at.LoadStop = let most : faults.again a.request.slot w ≤ again_most = again-few a.request.slot w few in omega arith
+    which at.LoadProcess = let most : faults.again a.request.slot w ≤ again_most = again-few a.request.slot w few in omega arith
+    which at.LoadTranslation = let most : faults.again a.request.slot w ≤ again_most = again-few a.request.slot w few in omega arith
+    which (at.Pin p) = let most : pins.cost p w ≤ stale_weight + 1 = pin-small w p in let too : moved_away a.request.slot p.frame w ≤ 2 * stale_weight = moved-few a.request.slot p.frame w in omega arith
+    which (at.LockFrame frame) = let too : moved_away a.request.slot frame w ≤ 2 * stale_weight = moved-few a.request.slot frame w in omega arith
+    which (at.LoadAgain frame body) = let too : moved_away a.request.slot frame w ≤ 2 * stale_weight = moved-few a.request.slot frame w in omega arith
     which (at.LoadBad frame body) = omega arith
-    which (at.Unlock u then) = let most : unlocks.cost u w ≤ 4 = unlock-small w u in let rest : then_cost a.request.slot then w ≤ 4120 = then-few then in omega (arith, most, rest)
+    which (at.Unlock u then) = let most : unlocks.cost u w ≤ 4 = unlock-small w u in let rest : then_cost a.request.slot then w ≤ again_most = then-few then in omega (arith, most, rest)
     which (at.Fault f) = fault-small w f few
     which (at.GiveUp g) = let most : give_ups.cost g w ≤ 6 = give-up-small w g in omega (arith, most)
     which (at.Over answer) = omega arith
 
-pub access-below : (w : Words) (a : Access) → length w.frees ≤ 4 → cost a w < 32768
-access-below w a few = let some : cost a w ≤ 12307 = access-small w a few in omega (arith, some)
+pub access-below : (w : Words) (a : Access) → length w.frees ≤ free_room → cost a w < failure_weight
+access-below w a few = let some : cost a w ≤ access_most = access-small w a few in omega (arith, some)
 
 pub access-class : (a : Access) → (1 ≤ class a) × (class a ≤ 4)
 access-class a = which a.at
@@ -126,10 +127,10 @@ access-class a = which a.at
     which (at.Over answer) = (omega arith, omega arith)
 
 -- the words of free frames of a board
-few-frees : (layout : Layout) (s : State) → Holds layout s → length (words_at layout s).frees ≤ 4
+few-frees : (layout : Layout) (s : State) → Holds layout s → length (words_at layout s).frees ≤ free_room
 few-frees layout s h =
     let all : length (words_at layout s).frees ≡ free_words layout = (shaped layout s h).frees in
-    let few : layout.frames ≤ 256 = h.sound.frames in
+    let few : layout.frames ≤ frame_limit = h.sound.frames in
     omega arith
 
 -- ---- words that a step leaves
@@ -208,7 +209,7 @@ module _ {layout : Layout} {seat : ℕ} {a b : State} {s t : Access} {turn : Tur
   abbrev r : Request
   r = s.request
 
-  few : length w.frees ≤ 4
+  few : length w.frees ≤ free_room
   few = few-frees layout a made.rule
 
   -- a load leaves all words
@@ -254,7 +255,7 @@ module _ {layout : Layout} {seat : ℕ} {a b : State} {s t : Access} {turn : Tur
   after-pte is = which (frame_in made.found) (ap frame_in is)
     where
       which : (f : Option Frame) → frame_in (slice_index w.trans r.slot.0) ≡ f → cost_at r.slot (leading r f) w < faults.again r.slot w
-      which None none = let owed : stale (is_some (frame_in (slice_index w.trans r.slot.0))) ≡ 4096 = ap (λ (g : Option Frame). stale (is_some g)) none in omega (arith, owed)
+      which None none = let owed : stale (is_some (frame_in (slice_index w.trans r.slot.0))) ≡ stale_weight = ap (λ (g : Option Frame). stale (is_some g)) none in omega (arith, owed)
       which (Some frame) some =
           let met : stale (is_some (frame_in (slice_index w.trans r.slot.0))) ≡ 0 = ap (λ (g : Option Frame). stale (is_some g)) some in
           let here : stale (leads_to frame (slice_index w.trans r.slot.0)) ≡ 0 = ap (λ (g : Option Frame). stale (is_frame frame g)) some ∙ ap stale (same-number frame.0 frame.0 refl) in
@@ -304,7 +305,7 @@ module _ {layout : Layout} {seat : ℕ} {a b : State} {s t : Access} {turn : Tur
       which (pin_at.Get seen) gone less = omega (arith, less)
       which (pin_at.Held word) gone less = omega (arith, less)
       which (pin_at.Gone word) gone less =
-          let away : stale (leads_to p.frame (slice_index w.trans r.slot.0)) ≡ 4096 = ap stale (gone-away p.frame inside met-here gone) in
+          let away : stale (leads_to p.frame (slice_index w.trans r.slot.0)) ≡ stale_weight = ap stale (gone-away p.frame inside met-here gone) in
           omega (arith, less, away, few)
 
   -- the frame's lock
@@ -336,7 +337,7 @@ module _ {layout : Layout} {seat : ℕ} {a b : State} {s t : Access} {turn : Tur
       which true leads None next = absurd next
       which true leads (Some x) next = ready x y next
       which false leads b next = subst (λ (x : AccessAt). cost_at r.slot x w < 11 + moved_away r.slot frame w) (sym next)
-          (let away : stale (leads_to frame (slice_index w.trans r.slot.0)) ≡ 4096 = ap stale leads in omega (arith, away, few))
+          (let away : stale (leads_to frame (slice_index w.trans r.slot.0)) ≡ stale_weight = ap stale leads in omega (arith, away, few))
 
   -- the frame let go
   after-unlock : (u : Unlock) (then : Option AccessAnswer) → unlocks.plan u ≡ Some made.step → cost_at r.slot (unlocked (unlocks.next (unlocks.bare u) made.found) then) now < unlocks.cost u w + then_cost r.slot then w
@@ -453,7 +454,7 @@ access-mild a step is = which a.at is
     which (at.Over answer) e = absurd (none-some step e)
 
 pub access-ranked : IsRanked access-task
-access-ranked = rank-failing access-task (λ s. refl) access-class (λ layout a seat s rule fits. let few : cost s (words_at layout a) < 32768 = access-below (words_at layout a) s (few-frees layout a rule) in omega arith)
+access-ranked = rank-failing access-task (λ s. refl) access-class (λ layout a seat s rule fits. let few : cost s (words_at layout a) < failure_weight = access-below (words_at layout a) s (few-frees layout a rule) in omega arith)
     (λ layout seat a b s t turn made goes. cost-falls made goes)
     (λ layout seat a b s t turn made waits quiet. cost-waits made waits quiet)
     (λ s. refl) access-mild

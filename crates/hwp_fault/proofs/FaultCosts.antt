@@ -7,6 +7,7 @@ use Rattle.hwp_page.specs.hwp_geom.declared.Layout.{Layout}
 use Rattle.hwp_page.specs.hwp_geom.declared.Page.{Page}
 use Rattle.hwp_page.specs.hwp_geom.declared.VSlot.{VSlot}
 use Rattle.hwp_page.specs.hwp_geom.declared.Who.{Who}
+use Rattle.hwp_page.specs.hwp_geom.Limits.{frame_limit}
 use Rattle.hwp_page.specs.Endings.{ends}
 use Rattle.hwp_page.specs.History.{BodyValue}
 use Rattle.hwp_page.specs.Step.{IsOf}
@@ -30,7 +31,7 @@ use Rattle.hwp_core.proofs.of_hwp_core_rule.MoveKeeps.{shaped}
 use Rattle.hwp_core.specs.hwp_core_task.declared.Turn.{Turn}
 use Rattle.hwp_core.specs.hwp_core_task.Boards.{view_of}
 use Rattle.hwp_core.specs.hwp_core_task.Calls.{logs, rec_of}
-use Rattle.hwp_core.specs.hwp_core_task.Ranks.{Made, CostFalls, HasFailed, IsRanked, Quiet, failures_left, is_waits, stale, words_at}
+use Rattle.hwp_core.specs.hwp_core_task.Ranks.{CostFalls, HasFailed, IsRanked, Made, Quiet, access_most, again_most, failures_left, free_room, is_waits, stale, stale_weight, take_most, words_at}
 use Rattle.hwp_core.specs.hwp_core_task.Turns.{Member}
 use Rattle.hwp_core.proofs.of_hwp_core_task.StepRanks.{me, met, words-after, words-kept, failed, rank-failing}
 use Rattle.hwp_fault_fill.specs.declared.Fill.{Fill}
@@ -72,7 +73,7 @@ use Rattle.hwp_fault.specs.declared.map_in.MapInAt.{MapInAt}
 use Rattle.hwp_fault.specs.declared.map_in.MapInAt.TheVariants as map_in_at
 use Rattle.hwp_fault.specs.declared.touch.Touch.{Touch}
 use Rattle.hwp_fault.specs.MapIns as map_ins
-use Rattle.hwp_fault.specs.Faults.{plan, plan_at, put, put_at, bare, bare_at, let_go, refuse, with_room, after_hold, after_pte, after_fill, after_map_in, after_unhold, after_give_up, next_at, turn_at, FitsAt, class, class_at, again, owed, rest, cost, cost_at, task as fault-task}
+use Rattle.hwp_fault.specs.Faults.{plan, plan_at, put, put_at, bare, bare_at, let_go, refuse, with_room, after_hold, after_pte, after_fill, after_map_in, after_unhold, after_give_up, next_at, turn_at, FitsAt, class, class_at, again, owed, rest, cost, cost_at, task as fault-task, owed}
 use Rattle.hwp_fault.specs.Touches.{as_snapshot, refused}
 use Rattle.hwp_fault.proofs.TranslationLoads.{pte-met, reads-frame, reads-poison}
 use Rattle.hwp_fault.proofs.MapInCosts.{map-in-mild, map-in-ranked, map-in-small}
@@ -156,10 +157,10 @@ again-led slot w frame small is =
     let none : stale (is_some (frame_in (slice_index w.trans slot.0))) ≡ 0 = ap (λ (n : ℕ). stale (is_some (frame_in n))) is ∙ ap (λ (o : Option Frame). stale (is_some o)) (frame-named frame small) in
     omega arith
 
-few-words : (layout : Layout) (a : State) → Holds layout a → (length (words_at layout a).frees ≡ free_words layout) × (length (words_at layout a).frees ≤ 4)
+few-words : (layout : Layout) (a : State) → Holds layout a → (length (words_at layout a).frees ≡ free_words layout) × (length (words_at layout a).frees ≤ free_room)
 few-words layout a rule =
     let all : length (words_at layout a).frees ≡ free_words layout = (shaped layout a rule).frees in
-    let few : layout.frames ≤ 256 = rule.sound.frames in
+    let few : layout.frames ≤ frame_limit = rule.sound.frames in
     (all, omega (arith, all, few))
 
 -- ---- what the states cost
@@ -168,12 +169,12 @@ unhold-begins : (who : Who) (page : Page) (frame : Option Frame) (body : BodyVal
 unhold-begins who page None body w = omega arith
 unhold-begins who page (Some frame) body w = omega arith
 
-room-cost : (who : Who) (page : Page) (slot : VSlot) (frame : Option Frame) (body : BodyValue) (spare : Option ℕ) (w : Words) → cost_at slot (with_room who page slot frame body spare) w ≤ length w.frees + 13 + 4096
+room-cost : (who : Who) (page : Page) (slot : VSlot) (frame : Option Frame) (body : BodyValue) (spare : Option ℕ) (w : Words) → cost_at slot (with_room who page slot frame body spare) w ≤ length w.frees + 13 + owed
 room-cost who page slot frame body None w = let few : unholds.cost (unholds.begin who page frame 1 body) w ≤ 5 = unhold-begins who page frame body w in omega (arith, few)
 room-cost who page slot None body (Some n) w = omega arith
 room-cost who page slot (Some frame) body (Some n) w = omega arith
 
-frame-room-cost : (who : Who) (page : Page) (slot : VSlot) (frame : Frame) (body : BodyValue) (spare : Option ℕ) (w : Words) → cost_at slot (with_room who page slot (Some frame) body spare) w ≤ 3 + 4096
+frame-room-cost : (who : Who) (page : Page) (slot : VSlot) (frame : Frame) (body : BodyValue) (spare : Option ℕ) (w : Words) → cost_at slot (with_room who page slot (Some frame) body spare) w ≤ 3 + owed
 frame-room-cost who page slot frame body None w = omega arith
 frame-room-cost who page slot frame body (Some n) w = omega arith
 
@@ -186,10 +187,10 @@ refuse-cost layout who page slot touch frame body (Some n) w = by (ends layout t
     by true = omega arith
     by false = let few : unholds.cost (unholds.begin who page frame 1 (refused who slot touch (record body { spare = n }))) w ≤ 5 = unhold-begins who page frame (refused who slot touch (record body { spare = n })) w in omega (arith, few)
 
-empty-cost : (layout : Layout) (who : Who) (page : Page) (slot : VSlot) (touch : Touch) (frame : Option Frame) (body : BodyValue) (spare : Option ℕ) (w : Words) → cost_at slot (after_pte layout who page slot touch frame body ptes.Empty spare) w ≤ length w.frees + 13 + 4096
+empty-cost : (layout : Layout) (who : Who) (page : Page) (slot : VSlot) (touch : Touch) (frame : Option Frame) (body : BodyValue) (spare : Option ℕ) (w : Words) → cost_at slot (after_pte layout who page slot touch frame body ptes.Empty spare) w ≤ length w.frees + 13 + owed
 empty-cost layout who page slot touch frame body spare w = by body.state.lost
   where
-    by : (lost : Bool) → cost_at slot (cond lost (refuse layout who page slot touch frame body spare) (with_room who page slot frame body spare)) w ≤ length w.frees + 13 + 4096
+    by : (lost : Bool) → cost_at slot (cond lost (refuse layout who page slot touch frame body spare) (with_room who page slot frame body spare)) w ≤ length w.frees + 13 + owed
     by true = let few : cost_at slot (refuse layout who page slot touch frame body spare) w ≤ 6 = refuse-cost layout who page slot touch frame body spare w in omega (arith, few)
     by false = room-cost who page slot frame body spare w
 
@@ -203,16 +204,16 @@ hold-cost slot h w = which h.at
     which (hold_at.LockFrame frame) = refl
     which (hold_at.Held frame body) = omega arith
 
-fill-cost : (who : Who) (page : Page) (slot : VSlot) (g : Fill) (spare : Option ℕ) (w : Words) → cost_at slot (after_fill who page slot g spare) w ≤ fills.cost g w + 3 + 4096
+fill-cost : (who : Who) (page : Page) (slot : VSlot) (g : Fill) (spare : Option ℕ) (w : Words) → cost_at slot (after_fill who page slot g spare) w ≤ fills.cost g w + 3 + owed
 fill-cost who page slot g spare w = which g.at
   where
-    which : (x : FillAt) → cost_at slot (after_fill who page slot (record g { at = x }) spare) w ≤ fills.cost (record g { at = x }) w + 3 + 4096
+    which : (x : FillAt) → cost_at slot (after_fill who page slot (record g { at = x }) spare) w ≤ fills.cost (record g { at = x }) w + 3 + owed
     which (fill_at.Take t) = omega arith
     which (fill_at.SetOwner frame) = omega arith
     which (fill_at.Refer r) = omega arith
     which (fill_at.SetCache frame) = omega arith
     which (fill_at.Over None) = omega arith
-    which (fill_at.Over (Some frame)) = let few : cost_at slot (with_room who page slot (Some frame) g.body spare) w ≤ 3 + 4096 = frame-room-cost who page slot frame g.body spare w in omega (arith, few)
+    which (fill_at.Over (Some frame)) = let few : cost_at slot (with_room who page slot (Some frame) g.body spare) w ≤ 3 + owed = frame-room-cost who page slot frame g.body spare w in omega (arith, few)
 
 unhold-cost : (slot : VSlot) (u : Unhold) (answer : FaultAnswer) (w : Words) → cost_at slot (after_unhold u answer) w ≤ unholds.cost u w + rest slot answer w
 unhold-cost slot u answer w = by (is_none (unholds.plan u))
@@ -240,7 +241,7 @@ module _ {layout : Layout} {seat : ℕ} {a b : State} {f t : Fault} {turned : Tu
   same-number-of : length now.frees ≡ length w.frees
   same-number-of = (few-words layout b made.kept).0 ∙ sym (few-words layout a made.rule).0
 
-  few : length now.frees ≤ 4
+  few : length now.frees ≤ free_room
   few = (few-words layout b made.kept).1
 
   move-by : (put : Option BodyValue) (who : Who) → who ≡ f.who → Move layout seat (rec_of layout f.who made.step (logs put) made.found made.got) a b → Move layout seat (rec_of layout who made.step (logs put) made.found made.got) a b
@@ -251,7 +252,7 @@ module _ {layout : Layout} {seat : ℕ} {a b : State} {f t : Fault} {turned : Tu
       → cost_at f.slot (after_pte layout f.who f.page f.slot f.touch frame body (pte_reading made.found) spare) now < length w.frees + 14 + owed
   pte-falls frame body spare has e = elim (pte-met f.slot has.held made.fits.slot a made.rule seat (me made) made.found at-met) [
     | inl nowhere ↦ subst (λ (p : Pte). cost_at f.slot (after_pte layout f.who f.page f.slot f.touch frame body p spare) now < length w.frees + 14 + owed) (sym (ap pte_reading nowhere.zero))
-        (let less : cost_at f.slot (after_pte layout f.who f.page f.slot f.touch frame body ptes.Empty spare) now ≤ length now.frees + 13 + 4096 = empty-cost layout f.who f.page f.slot f.touch frame body spare now in omega (arith, less, same-number-of))
+        (let less : cost_at f.slot (after_pte layout f.who f.page f.slot f.touch frame body ptes.Empty spare) now ≤ length now.frees + 13 + owed = empty-cost layout f.who f.page f.slot f.touch frame body spare now in omega (arith, less, same-number-of))
     | inr (inl barred) ↦ subst (λ (p : Pte). cost_at f.slot (after_pte layout f.who f.page f.slot f.touch frame body p spare) now < length w.frees + 14 + owed) (sym (ap pte_reading barred.poison ∙ reads-poison))
         (let less : cost_at f.slot (refuse layout f.who f.page f.slot f.touch frame body spare) now ≤ 6 = refuse-cost layout f.who f.page f.slot f.touch frame body spare now in omega (arith, less))
     | inr (inr leads) ↦ subst (λ (p : Pte). cost_at f.slot (after_pte layout f.who f.page f.slot f.touch frame body p spare) now < length w.frees + 14 + owed) (sym (ap pte_reading leads.named ∙ reads-frame leads.frame leads.small))
@@ -294,7 +295,7 @@ module _ {layout : Layout} {seat : ℕ} {a b : State} {f t : Fault} {turned : Tu
         which (refer_at.Get seen) less = omega (arith, less)
         which refer_at.Over less = omega (arith, less)
     map-cost map_in_at.SetPte e fit less =
-        let small : m.frame.0 < 2 ^ 16 = (let some : layout.frames ≤ 256 = made.rule.sound.frames in let inside : m.frame.0 < layout.frames = fit.ready.held.within in omega (arith, some, inside)) in
+        let small : m.frame.0 < 2 ^ 16 = (let some : layout.frames ≤ frame_limit = made.rule.sound.frames in let inside : m.frame.0 < layout.frames = fit.ready.held.within in omega (arith, some, inside)) in
         let over : again f.slot now ≡ length now.frees + 20 = again-led f.slot now m.frame small (subst (λ (s : VSlot). slice_index now.trans s.0 ≡ m.frame.0 + 1) has.slot_is (written e)) in
         omega (arith, over, few)
     map-cost map_in_at.Over e fit less = absurd (none-some made.step e)
@@ -342,7 +343,7 @@ module _ {layout : Layout} {seat : ℕ} {a b : State} {f t : Fault} {turned : Tu
         brings = made.brings;
         follows = (refl, refl);
       }) lowers in
-      let more : cost_at f.slot (after_fill f.who f.page f.slot (fills.next layout g made.found) spare) now ≤ fills.cost (fills.next layout g made.found) now + 3 + 4096 = fill-cost f.who f.page f.slot (fills.next layout g made.found) spare now in
+      let more : cost_at f.slot (after_fill f.who f.page f.slot (fills.next layout g made.found) spare) now ≤ fills.cost (fills.next layout g made.found) now + 3 + owed = fill-cost f.who f.page f.slot (fills.next layout g made.found) spare now in
       whole part (λ (less : fills.cost (fills.next layout g made.found) now < fills.cost g w). omega (arith, less, more))
   which-falls (at.MapIn m) spare has e move lowers =
       let part : Lowered (turn_at (bare_at (at.MapIn m)) made.found) layout a b (map_ins.cost (map_ins.next m made.found) now) (map_ins.cost m w) = part-falls map-in-ranked refl (record {
@@ -398,49 +399,49 @@ module _ {layout : Layout} {seat : ℕ} {a b : State} {f t : Fault} {turned : Tu
 
 -- ---- costs are small
 
-take-few : (t : Take) (w : Words) → length w.frees ≤ 4 → takes.cost t w ≤ 8204
+take-few : (t : Take) (w : Words) → length w.frees ≤ free_room → takes.cost t w ≤ take_most
 take-few t w few = which t.at
   where
-    which : (x : TakeAt) → takes.cost_at (length w.frees) x w ≤ 8204
+    which : (x : TakeAt) → takes.cost_at (length w.frees) x w ≤ take_most
     which take_at.LoadAvailable = omega (arith, few)
-    which (take_at.Reserve seen) = let most : stale (w.available == seen) ≤ 4096 = stale-most (w.available == seen) in omega (arith, few, most)
-    which (take_at.LoadFree number) = let most : stale (not (takes.are_empty number w)) ≤ 4096 = stale-most (not (takes.are_empty number w)) in omega (arith, few, most)
+    which (take_at.Reserve seen) = let most : stale (w.available == seen) ≤ stale_weight = stale-most (w.available == seen) in omega (arith, few, most)
+    which (take_at.LoadFree number) = let most : stale (not (takes.are_empty number w)) ≤ stale_weight = stale-most (not (takes.are_empty number w)) in omega (arith, few, most)
     which (take_at.TakeBit frame) =
-        let one : stale (free_bit w.frees frame.0 == 1) ≤ 4096 = stale-most (free_bit w.frees frame.0 == 1) in
-        let two : stale (not (takes.are_empty (frame.0 / 64) w)) ≤ 4096 = stale-most (not (takes.are_empty (frame.0 / 64) w)) in
+        let one : stale (free_bit w.frees frame.0 == 1) ≤ stale_weight = stale-most (free_bit w.frees frame.0 == 1) in
+        let two : stale (not (takes.are_empty (frame.0 / 64) w)) ≤ stale_weight = stale-most (not (takes.are_empty (frame.0 / 64) w)) in
         omega (arith, one, two)
     which (take_at.Adopt frame) = omega arith
     which (take_at.Retire frame) = omega arith
     which (take_at.Over frame) = omega arith
 
-fill-few : (g : Fill) (w : Words) → length w.frees ≤ 4 → fills.cost g w ≤ 8208
+fill-few : (g : Fill) (w : Words) → length w.frees ≤ free_room → fills.cost g w ≤ take_most + 4
 fill-few g w few = which g.at
   where
-    which : (x : FillAt) → fills.cost_at x w ≤ 8208
-    which (fill_at.Take t) = let most : takes.cost t w ≤ 8204 = take-few t w few in omega (arith, most)
+    which : (x : FillAt) → fills.cost_at x w ≤ take_most + 4
+    which (fill_at.Take t) = let most : takes.cost t w ≤ take_most = take-few t w few in omega (arith, most)
     which (fill_at.SetOwner frame) = omega arith
-    which (fill_at.Refer r) = let most : refers.cost r w ≤ 4097 = refer-small w r in omega (arith, most)
+    which (fill_at.Refer r) = let most : refers.cost r w ≤ stale_weight + 1 = refer-small w r in omega (arith, most)
     which (fill_at.SetCache frame) = omega arith
     which (fill_at.Over frame) = omega arith
 
-rest-few : (slot : VSlot) (answer : FaultAnswer) (w : Words) → length w.frees ≤ 4 → rest slot answer w ≤ 4120
-rest-few slot answers.Again w few = let some : stale (is_some (frame_in (slice_index w.trans slot.0))) ≤ 4096 = stale-most (is_some (frame_in (slice_index w.trans slot.0))) in omega (arith, few, some)
+rest-few : (slot : VSlot) (answer : FaultAnswer) (w : Words) → length w.frees ≤ free_room → rest slot answer w ≤ again_most
+rest-few slot answers.Again w few = let some : stale (is_some (frame_in (slice_index w.trans slot.0))) ≤ stale_weight = stale-most (is_some (frame_in (slice_index w.trans slot.0))) in omega (arith, few, some)
 rest-few slot (answers.NoFrame place) w few = omega arith
 rest-few slot (answers.Sigbus place) w few = omega arith
 
-pub fault-small : (w : Words) (f : Fault) → length w.frees ≤ 4 → cost f w ≤ 12307
+pub fault-small : (w : Words) (f : Fault) → length w.frees ≤ free_room → cost f w ≤ access_most
 fault-small w f few = which f.at
   where
-    which : (x : FaultAt) → cost_at f.slot x w ≤ 12307
-    which (at.Hold h) = let some : holds.cost h w ≤ 4098 = hold-small w h in omega (arith, few, some)
+    which : (x : FaultAt) → cost_at f.slot x w ≤ access_most
+    which (at.Hold h) = let some : holds.cost h w ≤ stale_weight + 2 = hold-small w h in omega (arith, few, some)
     which (at.LoadPte frame body) = omega (arith, few)
     which (at.Kill frame body place) = omega arith
-    which (at.Fill g) = let some : fills.cost g w ≤ 8208 = fill-few g w few in omega (arith, some)
-    which (at.MapIn m) = let some : map_ins.cost m w ≤ 4098 = map-in-small w m in omega (arith, some)
-    which (at.Unhold u answer) = let some : unholds.cost u w ≤ 5 = unhold-small w u in let more : rest f.slot answer w ≤ 4120 = rest-few f.slot answer w few in omega (arith, some, more)
+    which (at.Fill g) = let some : fills.cost g w ≤ take_most + 4 = fill-few g w few in omega (arith, some)
+    which (at.MapIn m) = let some : map_ins.cost m w ≤ stale_weight + 2 = map-in-small w m in omega (arith, some)
+    which (at.Unhold u answer) = let some : unholds.cost u w ≤ 5 = unhold-small w u in let more : rest f.slot answer w ≤ again_most = rest-few f.slot answer w few in omega (arith, some, more)
     which (at.GiveUp g) = let some : give_ups.cost g w ≤ 6 = give-up-small w g in omega (arith, some)
     which (at.Over None) = omega arith
-    which (at.Over (Some answer)) = let more : rest f.slot answer w ≤ 4120 = rest-few f.slot answer w few in omega (arith, more)
+    which (at.Over (Some answer)) = let more : rest f.slot answer w ≤ again_most = rest-few f.slot answer w few in omega (arith, more)
 
 pub fault-class : (f : Fault) → (1 ≤ class f) × (class f ≤ 4)
 fault-class f = which f.at
@@ -461,7 +462,7 @@ module _ {layout : Layout} {seat : ℕ} {a b : State} {f t : Fault} {turned : Tu
   fault-goes : is_waits turned ≡ false → CostFalls fault-task layout a b f t ⊎ HasFailed fault-task layout a b f t
   fault-goes goes = elim (fault-falls made (inl goes)) [
     | inl less ↦ inl less
-    | inr fails ↦ inr (failed fails.1 (let some : cost t (words_at layout b) ≤ 12307 = fault-small (words_at layout b) t (few-words layout b made.kept).1 in omega (arith, some)))
+    | inr fails ↦ inr (failed fails.1 (let some : cost t (words_at layout b) ≤ access_most = fault-small (words_at layout b) t (few-words layout b made.kept).1 in omega (arith, some)))
   ]
 
   fault-waits : is_waits turned ≡ true → Quiet (class f) layout a seat → CostFalls fault-task layout a b f t
@@ -485,6 +486,6 @@ fault-mild f step is = which f.at is
     which (at.Over answer) e = absurd (none-some step e)
 
 pub fault-ranked : IsRanked fault-task
-fault-ranked = rank-failing fault-task (λ s. refl) fault-class (λ layout a seat s rule fits. let some : cost s (words_at layout a) ≤ 12307 = fault-small (words_at layout a) s (few-words layout a rule).1 in omega (arith, some))
+fault-ranked = rank-failing fault-task (λ s. refl) fault-class (λ layout a seat s rule fits. let some : cost s (words_at layout a) ≤ access_most = fault-small (words_at layout a) s (few-words layout a rule).1 in omega (arith, some))
     (λ layout seat a b s t turned made goes. fault-goes made goes) (λ layout seat a b s t turned made is quiet. fault-waits made is quiet)
     (λ s. refl) fault-mild

@@ -8,7 +8,7 @@ use Rattle.hwp_core.specs.hwp_core_rule.declared.Step.TheVariants as steps
 use Rattle.hwp_core.specs.hwp_core_rule.Lasting.{IsMild}
 use Rattle.hwp_core.specs.hwp_core_rule.Steps.{place_of, word_after}
 use Rattle.hwp_core.specs.hwp_core_rule.Words.{Words, read}
-use Rattle.hwp_core.specs.hwp_core_task.Ranks.{IsRanked, is_waits, words_at}
+use Rattle.hwp_core.specs.hwp_core_task.Ranks.{IsRanked, is_waits, stale_weight, words_at}
 use Rattle.hwp_core.proofs.of_hwp_core_task.StepRanks.{met, words-kept, rank-of}
 use Rattle.hwp_core.specs.declared.Refer.{Refer}
 use Rattle.hwp_core.specs.declared.refer.ReferAt.{ReferAt}
@@ -40,11 +40,11 @@ map-in-falls w now m step found is met kept = which m.at is
     which at.SetPte e = omega arith
     which at.Over e = absurd (none-some step e)
 
-pub map-in-small : (w : Words) (m : MapIn) → cost m w ≤ 4098
+pub map-in-small : (w : Words) (m : MapIn) → cost m w ≤ stale_weight + 2
 map-in-small w m = which m.at
   where
-    which : (x : MapInAt) → cost_at x w ≤ 4098
-    which (at.Refer r) = let few : refers.cost r w ≤ 4097 = refer-small w r in omega (arith, few)
+    which : (x : MapInAt) → cost_at x w ≤ stale_weight + 2
+    which (at.Refer r) = let few : refers.cost r w ≤ stale_weight + 1 = refer-small w r in omega (arith, few)
     which at.SetPte = omega arith
     which at.Over = omega arith
 
@@ -67,7 +67,7 @@ map-in-mild m step is = which m.at is
     which at.Over e = absurd (none-some step e)
 
 pub map-in-ranked : IsRanked map-in-task
-map-in-ranked = rank-of map-in-task (λ s. refl) (λ s. (omega arith, omega arith)) (λ layout a seat s rule fits. let few : cost s (words_at layout a) ≤ 4098 = map-in-small (words_at layout a) s in omega arith)
+map-in-ranked = rank-of map-in-task (λ s. refl) (λ s. (omega arith, omega arith)) (λ layout a seat s rule fits. let few : cost s (words_at layout a) ≤ stale_weight + 2 = map-in-small (words_at layout a) s in omega arith)
     (λ layout seat a b s t turned made goes. subst (λ (x : MapIn). cost x (words_at layout b) < cost s (words_at layout a)) (sym made.follows.0)
     (map-in-falls (words_at layout a) (words_at layout b) s made.step made.found made.planned (met made) (words-kept made)))
     (λ layout seat a b s t turned made is quiet. absurd (both_ways true (sym is ∙ ap is_waits made.follows.1 ∙ map-in-goes s made.found) refl))

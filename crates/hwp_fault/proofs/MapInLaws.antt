@@ -11,6 +11,7 @@ use Rattle.hwp_page.specs.hwp_geom.declared.Page.{Page}
 use Rattle.hwp_page.specs.hwp_geom.declared.TransDecl.{TransDecl}
 use Rattle.hwp_page.specs.hwp_geom.declared.VSlot.{VSlot}
 use Rattle.hwp_page.specs.hwp_geom.declared.Who.{Who}
+use Rattle.hwp_page.specs.hwp_geom.Limits.{frame_limit}
 use Rattle.hwp_page.specs.declared.PageState.{PageState}
 use Rattle.hwp_page.specs.declared.What.TheVariants as entries
 use Rattle.hwp_page.specs.History.{BodyValue}
@@ -233,7 +234,7 @@ module _ {layout : Layout} {old new : View} {who : Who} {page : Page} {slot : VS
     zero = met-empty has.ready made.told.board made.told.rule made.told.seat made.told.me found made.told.met
 
     named : frame_in (frame.0 + 1) ≡ Some frame
-    named = frame-named frame (let few : layout.frames ≤ 256 = made.told.rule.sound.frames in let inside : frame.0 < layout.frames = was.within in omega (arith, few, inside))
+    named = frame-named frame (let few : layout.frames ≤ frame_limit = made.told.rule.sound.frames in let inside : frame.0 < layout.frames = was.within in omega (arith, few, inside))
 
     at-word : pte_word (ptes.At frame) ≡ frame.0 + 1
     at-word = omega arith

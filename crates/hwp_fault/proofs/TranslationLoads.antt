@@ -10,6 +10,7 @@ use Rattle.hwp_page.specs.hwp_geom.declared.Layout.{Layout}
 use Rattle.hwp_page.specs.hwp_geom.declared.Page.{Page}
 use Rattle.hwp_page.specs.hwp_geom.declared.TransDecl.{TransDecl}
 use Rattle.hwp_page.specs.hwp_geom.declared.VSlot.{VSlot}
+use Rattle.hwp_page.specs.hwp_geom.Limits.{frame_limit}
 use Rattle.hwp_page.specs.declared.PageState.{PageState}
 use Rattle.hwp_page.specs.History.{BodyValue, IsReplay}
 use Rattle.hwp_page.specs.Step.{IsOf}
@@ -143,6 +144,6 @@ module _ (slot : VSlot) {layout : Layout} {view : View} {page : Page} {frame : O
         which false is = unused is (sets.contains (state_of layout (log_of body)).bar slot.0) refl
         which true is = let cached = used-cached has slot is in inr (inr (record {
           frame = cached.0;
-          small = let few : layout.frames ≤ 256 = rule.sound.frames in let within : cached.0.0 < layout.frames = has.within cached.0 cached.1 in omega (arith, few, within);
+          small = let few : layout.frames ≤ frame_limit = rule.sound.frames in let within : cached.0.0 < layout.frames = has.within cached.0 cached.1 in omega (arith, few, within);
           named = fits-as true is ∙ ap frame_name cached.1;
         }))

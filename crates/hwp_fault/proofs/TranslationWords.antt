@@ -13,6 +13,7 @@ use Rattle.hwp_page.specs.hwp_geom.declared.Page.{Page}
 use Rattle.hwp_page.specs.hwp_geom.declared.Proc.{Proc}
 use Rattle.hwp_page.specs.hwp_geom.declared.TransDecl.{TransDecl}
 use Rattle.hwp_page.specs.hwp_geom.declared.VSlot.{VSlot}
+use Rattle.hwp_page.specs.hwp_geom.Limits.{frame_limit, page_limit}
 use Rattle.hwp_core.specs.hwp_words.declared.Pte.TheVariants as ptes
 use Rattle.hwp_core.specs.hwp_words.Frames.{count_of, owner_of, handled_of, is_handled, lock_of}
 use Rattle.hwp_core.specs.hwp_words.Names.{page_named}
@@ -71,7 +72,7 @@ module _ (layout : Layout) (s : State) (h : Holds layout s) where
       which true none = absurd (none-some page (sym (ap (λ (c : Bool). cond c None (Some (record { 0 = (found - 1) % 2 ^ 16 }))) none) ∙ names))
       which false some =
           let number : (found - 1) % 2 ^ 16 ≡ page.0 = ap (λ (p : Page). p.0) (same_Some (record { 0 = (found - 1) % 2 ^ 16 }) page (sym (ap (λ (c : Bool). cond c None (Some (record { 0 = (found - 1) % 2 ^ 16 }))) some) ∙ names)) in
-          let pages : length layout.pages ≤ 256 = h.sound.pages in
+          let pages : length layout.pages ≤ page_limit = h.sound.pages in
           let other : found ≢ 0 = λ e. both_ways (found == 0) some (same-number found 0 e) in
           omega (arith, few)
 
@@ -97,7 +98,7 @@ module _ (layout : Layout) (s : State) (h : Holds layout s) where
             within = subst (λ (n : ℕ). own.frame < n) (shaped layout s h).frames (slice_get_within (words_of layout s.words).frames own.frame own.owner_word own.there)
 
             small : own.frame < 2 ^ 16
-            small = let few : layout.frames ≤ 256 = h.sound.frames in omega (arith, within)
+            small = let few : layout.frames ≤ frame_limit = h.sound.frames in omega (arith, within)
 
             same : own.frame ≡ frame.0
             same = ap (λ (f : Frame). f.0) (same_Some (record { 0 = own.frame }) frame (sym (frame-named (record { 0 = own.frame }) small) ∙ sym (ap frame_in own.named) ∙ names))

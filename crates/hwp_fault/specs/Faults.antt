@@ -29,7 +29,7 @@ use Rattle.hwp_core.specs.hwp_core_task.declared.Turn.{Turn}
 use Rattle.hwp_core.specs.hwp_core_task.declared.Turn.TheVariants.{Moved}
 use Rattle.hwp_core.specs.hwp_core_task.Calls.{IsOnTurn}
 use Rattle.hwp_core.specs.hwp_core_task.Hands.{hand_of, empty}
-use Rattle.hwp_core.specs.hwp_core_task.Ranks.{stale}
+use Rattle.hwp_core.specs.hwp_core_task.Ranks.{stale, stale_weight}
 use Rattle.hwp_core.specs.hwp_core_task.Known.{Saw, SawLog, HasOnly, HasMade, Precedes}
 use Rattle.hwp_core.specs.hwp_core_task.Pages.{SawState}
 use Rattle.hwp_core.specs.hwp_core_task.Turns.{Member}
@@ -412,7 +412,7 @@ again slot words = length words.frees + 20 + stale (is_some (frame_in (slice_ind
 -- until the translation leads to a frame, or is seen to: the word that was loaded before has changed since, or this fault
 -- brings it into use
 abbrev pub owed : ℕ
-owed = 4096
+owed = stale_weight
 
 abbrev pub rest : VSlot → FaultAnswer → Words → ℕ
 rest slot answers.Again words = again slot words

@@ -13,7 +13,7 @@ use Rattle.hwp_core.specs.hwp_core_rule.Steps.{place_of, word_after}
 use Rattle.hwp_core.specs.hwp_core_rule.Words.{Words, read}
 use Rattle.hwp_core.specs.hwp_core_task.declared.Turn.{Turn}
 use Rattle.hwp_core.specs.hwp_core_task.Boards.{view_of}
-use Rattle.hwp_core.specs.hwp_core_task.Ranks.{Made, CostFalls, HasFailed, IsRanked, is_waits, words_at}
+use Rattle.hwp_core.specs.hwp_core_task.Ranks.{CostFalls, HasFailed, IsRanked, Made, is_waits, stale_weight, take_most, words_at}
 use Rattle.hwp_core.proofs.of_hwp_core_task.StepRanks.{met, words-after, words-kept, retire-fails, failed, rank-failing}
 use Rattle.hwp_core.specs.declared.refer.Refer.{Refer}
 use Rattle.hwp_core.specs.declared.refer.ReferAt.{ReferAt}
@@ -77,13 +77,13 @@ fill-falls layout a seat view now f step found on words met kept fits is = which
     which (fill_at.SetCache frame) e has = inl (omega arith)
     which (fill_at.Over frame) e has = absurd (none-some step e)
 
-fill-small : (layout : Layout) (a : State) (f : Fill) → Holds layout a → fills.cost f (words_at layout a) ≤ 8208
+fill-small : (layout : Layout) (a : State) (f : Fill) → Holds layout a → fills.cost f (words_at layout a) ≤ take_most + 4
 fill-small layout a f rule = which f.at
   where
-    which : (x : FillAt) → fills.cost_at x (words_at layout a) ≤ 8208
-    which (fill_at.Take t) = let few : takes.cost t (words_at layout a) ≤ 8204 = taking.small layout a t rule in omega (arith, few)
+    which : (x : FillAt) → fills.cost_at x (words_at layout a) ≤ take_most + 4
+    which (fill_at.Take t) = let few : takes.cost t (words_at layout a) ≤ take_most = taking.small layout a t rule in omega (arith, few)
     which (fill_at.SetOwner frame) = omega arith
-    which (fill_at.Refer r) = let few : refers.cost r (words_at layout a) ≤ 4097 = refer-small (words_at layout a) r in omega (arith, few)
+    which (fill_at.Refer r) = let few : refers.cost r (words_at layout a) ≤ stale_weight + 1 = refer-small (words_at layout a) r in omega (arith, few)
     which (fill_at.SetCache frame) = omega arith
     which (fill_at.Over frame) = omega arith
 
@@ -126,10 +126,10 @@ fill-mild s step is = which s.at is
 module _ {layout : Layout} {seat : ℕ} {a b : State} {s t : Fill} {turn : Turn} (made : Made fills.task layout seat a b s t turn) where
   fill-lowers : (fills.cost (fills.next layout s made.found) (words_at layout b) < fills.cost s (words_at layout a)) ⊎ taking.Retires made.step → CostFalls fills.task layout a b s t ⊎ HasFailed fills.task layout a b s t
   fill-lowers (inl less) = inl (subst (λ (x : Fill). fills.cost x (words_at layout b) < fills.cost s (words_at layout a)) (sym made.follows.0) less)
-  fill-lowers (inr retires) = inr (failed (retire-fails made retires.0 retires.1) (let few : fills.cost t (words_at layout b) ≤ 8208 = fill-small layout b t made.kept in omega (arith, few)))
+  fill-lowers (inr retires) = inr (failed (retire-fails made retires.0 retires.1) (let few : fills.cost t (words_at layout b) ≤ take_most + 4 = fill-small layout b t made.kept in omega (arith, few)))
 
 pub fill-ranked : IsRanked fills.task
-fill-ranked = rank-failing fills.task (λ s. refl) fill-class (λ layout a seat s rule fits. let few : fills.cost s (words_at layout a) ≤ 8208 = fill-small layout a s rule in omega arith)
+fill-ranked = rank-failing fills.task (λ s. refl) fill-class (λ layout a seat s rule fits. let few : fills.cost s (words_at layout a) ≤ take_most + 4 = fill-small layout a s rule in omega arith)
     (λ layout seat a b s t turn made goes. fill-lowers made (fill-falls layout a seat (view_of a seat) (words_at layout b) s made.step made.found (is-met made) (words-after made) (met made) (words-kept made) made.fits made.planned))
     (λ layout seat a b s t turn made is quiet. absurd (both_ways true (sym is ∙ ap is_waits made.follows.1 ∙ fill-goes s made.found) refl))
     (λ s. refl) fill-mild

@@ -4,6 +4,7 @@ use Rattle.std.proofs.lemmas.Bool.{both_ways, eqb-true, eqb-false, ne_eqb, ltb-f
 use Rattle.std.proofs.lemmas.Option.{none-some, same_Some}
 use Rattle.hwp_core.specs.hwp_geom.declared.Frame.{Frame}
 use Rattle.hwp_core.specs.hwp_geom.declared.Layout.{Layout}
+use Rattle.hwp_core.specs.hwp_geom.Limits.{frame_limit}
 use Rattle.hwp_core.specs.hwp_words.Frames.{is_poisoned}
 use Rattle.hwp_core.specs.hwp_core_rule.declared.SharedWord.TheVariants as places
 use Rattle.hwp_core.specs.hwp_core_rule.declared.State.{State}
@@ -17,7 +18,7 @@ use Rattle.hwp_core.proofs.of_hwp_core_rule.Lists.{same-number}
 use Rattle.hwp_core.specs.hwp_core_task.declared.Turn.{Turn}
 use Rattle.hwp_core.specs.hwp_core_task.declared.Turn.TheVariants.{Moved, Changed}
 use Rattle.hwp_core.specs.hwp_core_task.Boards.{view_of}
-use Rattle.hwp_core.specs.hwp_core_task.Ranks.{Made, CostFalls, HasFailed, IsRanked, is_waits, stale, words_at}
+use Rattle.hwp_core.specs.hwp_core_task.Ranks.{CostFalls, HasFailed, IsRanked, Made, free_room, is_waits, stale, stale_weight, take_most, words_at}
 use Rattle.hwp_core.proofs.of_hwp_core_task.StepRanks.{words-after, retire-fails, failed, rank-failing}
 use Rattle.hwp_core.proofs.FreeWords.{all_zero, frees-length, some-free, some-reserved, shown, lowest-shown, none-cleared, zero-on, not-zero, zero-past}
 use Rattle.hwp_core.proofs.TaskCosts.{stale-most}
@@ -47,10 +48,10 @@ module _ (layout : Layout) (a : State) (seat : ℕ) (view : View) (found : ℕ) 
   abbrev n : ℕ
   n = length w.frees
 
-  few-words : Holds layout a → (n ≡ free_words layout) × (n ≤ 4)
+  few-words : Holds layout a → (n ≡ free_words layout) × (n ≤ free_room)
   few-words rule =
       let all : n ≡ free_words layout = frees-length layout a rule in
-      let few : layout.frames ≤ 256 = rule.sound.frames in
+      let few : layout.frames ≤ frame_limit = rule.sound.frames in
       (all, omega (arith, all, few))
 
   available-falls : IsMet layout a seat view (steps.Load places.Available) found → cost_at (length (words_then layout a (steps.Load places.Available) found).frees) (at_available found) (words_then layout a (steps.Load places.Available) found) < n + 6
@@ -68,7 +69,7 @@ module _ (layout : Layout) (a : State) (seat : ℕ) (view : View) (found : ℕ) 
           let fresh : stale (not (all_zero w.frees)) ≡ 0 = ap (λ (b : Bool). stale (not b)) left in
           omega arith
       by false other =
-          let costly : stale (w.available == seen) ≡ 4096 = ap (λ (m : ℕ). stale (m == seen)) (read-met on) ∙ ap stale other in
+          let costly : stale (w.available == seen) ≡ stale_weight = ap (λ (m : ℕ). stale (m == seen)) (read-met on) ∙ ap stale other in
           kept _ w (at_available found) (n + 5 + stale (w.available == seen)) (words-stay on (ap (λ (b : Bool). cond b (seen - 1) found) other))
           (let few : cost_at n (at_available found) w ≤ n + 5 = number-cost w found (found == 0) (read-met on) in omega arith)
 
@@ -77,7 +78,7 @@ module _ (layout : Layout) (a : State) (seat : ℕ) (view : View) (found : ℕ) 
       (words_then layout a (steps.Load (places.Free number)) found) < n - number + 3 + stale (not (are_empty number w))
   scan-falls number inside some on = kept _ w (cond (found == 0) (take_at.LoadFree (after_word layout number)) (take_at.TakeBit (lowest_free number found))) _ (words-stay on refl) (by (found == 0) refl)
     where
-      few : (n ≡ free_words layout) × (n ≤ 4)
+      few : (n ≡ free_words layout) × (n ≤ free_room)
       few = few-words on.rule
 
       here : slice_index w.frees number ≡ found
@@ -98,8 +99,8 @@ module _ (layout : Layout) (a : State) (seat : ℕ) (view : View) (found : ℕ) 
           let all : n ≡ free_words layout = few.0 in
           let end : free_words layout ≤ number + 1 = ltb-false (number + 1) (free_words layout) last in
           let none : are_empty (number + 1) w ≡ true = zero-past w.frees (number + 1) (omega (arith, all, end)) in
-          let costly : stale (not (are_empty number w)) ≡ 4096 = ap (λ (b : Bool). stale (not b)) (past ∙ none) in
-          let small : n ≤ 4 = few.1 in
+          let costly : stale (not (are_empty number w)) ≡ stale_weight = ap (λ (b : Bool). stale (not b)) (past ∙ none) in
+          let small : n ≤ free_room = few.1 in
           omega (arith, fresh, costly, small)
 
       by : (none : Bool) → (found == 0) ≡ none → cost_at n (cond none (take_at.LoadFree (after_word layout number)) (take_at.TakeBit (lowest_free number found))) w < n - number + 3 + stale (not (are_empty number w))
@@ -122,8 +123,8 @@ module _ (layout : Layout) (a : State) (seat : ℕ) (view : View) (found : ℕ) 
       by true went = omega arith
       by false lost =
           let none = none-cleared layout a on.rule frame found inside on.met on.fits lost in
-          let costly : stale (free_bit w.frees frame.0 == 1) ≡ 4096 = ap stale (ne_eqb (free_bit w.frees frame.0) 1 none.0) in
-          let small : n ≤ 4 = (few-words on.rule).1 in
+          let costly : stale (free_bit w.frees frame.0 == 1) ≡ stale_weight = ap stale (ne_eqb (free_bit w.frees frame.0) 1 none.0) in
+          let small : n ≤ free_room = (few-words on.rule).1 in
           kept _ w (take_at.LoadFree (frame.0 / 64)) (3 + stale (free_bit w.frees frame.0 == 1) + stale (not (are_empty (frame.0 / 64) w))) none.1 (omega (arith, costly, small))
 
   adopted-falls : (frame : Frame) (poisoned : Bool) (now : Words) → cost_at (length now.frees) (cond poisoned (take_at.Retire frame) (take_at.Over (Some frame))) now < 2
@@ -149,19 +150,19 @@ module _ (layout : Layout) (a : State) (seat : ℕ) (view : View) (found : ℕ) 
       which (take_at.Over frame) fit e = absurd (none-some step e)
 
 -- costs are small
-pub small : (layout : Layout) (a : State) (t : Take) → Holds layout a → cost t (words_at layout a) ≤ 8204
+pub small : (layout : Layout) (a : State) (t : Take) → Holds layout a → cost t (words_at layout a) ≤ take_most
 small layout a t rule = which t.at
   where
-    few : length (words_at layout a).frees ≤ 4
-    few = let all : length (words_at layout a).frees ≡ free_words layout = frees-length layout a rule in let most : layout.frames ≤ 256 = rule.sound.frames in omega (arith, all, most)
+    few : length (words_at layout a).frees ≤ free_room
+    few = let all : length (words_at layout a).frees ≡ free_words layout = frees-length layout a rule in let most : layout.frames ≤ frame_limit = rule.sound.frames in omega (arith, all, most)
 
-    which : (x : TakeAt) → cost_at (length (words_at layout a).frees) x (words_at layout a) ≤ 8204
+    which : (x : TakeAt) → cost_at (length (words_at layout a).frees) x (words_at layout a) ≤ take_most
     which take_at.LoadAvailable = omega (arith, few)
-    which (take_at.Reserve seen) = let most : stale ((words_at layout a).available == seen) ≤ 4096 = stale-most ((words_at layout a).available == seen) in omega (arith, few, most)
-    which (take_at.LoadFree number) = let most : stale (not (are_empty number (words_at layout a))) ≤ 4096 = stale-most (not (are_empty number (words_at layout a))) in omega (arith, few, most)
+    which (take_at.Reserve seen) = let most : stale ((words_at layout a).available == seen) ≤ stale_weight = stale-most ((words_at layout a).available == seen) in omega (arith, few, most)
+    which (take_at.LoadFree number) = let most : stale (not (are_empty number (words_at layout a))) ≤ stale_weight = stale-most (not (are_empty number (words_at layout a))) in omega (arith, few, most)
     which (take_at.TakeBit frame) =
-        let one : stale (free_bit (words_at layout a).frees frame.0 == 1) ≤ 4096 = stale-most (free_bit (words_at layout a).frees frame.0 == 1) in
-        let two : stale (not (are_empty (frame.0 / 64) (words_at layout a))) ≤ 4096 = stale-most (not (are_empty (frame.0 / 64) (words_at layout a))) in
+        let one : stale (free_bit (words_at layout a).frees frame.0 == 1) ≤ stale_weight = stale-most (free_bit (words_at layout a).frees frame.0 == 1) in
+        let two : stale (not (are_empty (frame.0 / 64) (words_at layout a))) ≤ stale_weight = stale-most (not (are_empty (frame.0 / 64) (words_at layout a))) in
         omega (arith, one, two)
     which (take_at.Adopt frame) = omega arith
     which (take_at.Retire frame) = omega arith
@@ -214,10 +215,10 @@ module _ {layout : Layout} {seat : ℕ} {a b : State} {s t : Take} {turned : Tur
   lowers : (cost (next layout s made.found) (words_then layout a made.step made.found) < cost s (words_at layout a)) ⊎ Retires made.step → CostFalls take-task layout a b s t ⊎ HasFailed take-task layout a b s t
   lowers (inl less) = inl (subst (λ (x : Take). cost x (words_at layout b) < cost s (words_at layout a)) (sym made.follows.0)
       (subst (λ (w : Words). cost (next layout s made.found) w < cost s (words_at layout a)) (sym (words-after made)) less))
-  lowers (inr retires) = inr (failed (retire-fails made retires.0 retires.1) (let few : cost t (words_at layout b) ≤ 8204 = small layout b t made.kept in omega (arith, few)))
+  lowers (inr retires) = inr (failed (retire-fails made retires.0 retires.1) (let few : cost t (words_at layout b) ≤ take_most = small layout b t made.kept in omega (arith, few)))
 
 pub ranked : IsRanked take-task
-ranked = rank-failing take-task (λ s. refl) class-within (λ layout a seat s rule fits. let few : cost s (words_at layout a) ≤ 8204 = small layout a s rule in omega arith)
+ranked = rank-failing take-task (λ s. refl) class-within (λ layout a seat s rule fits. let few : cost s (words_at layout a) ≤ take_most = small layout a s rule in omega arith)
     (λ layout seat a b s t turned made goes. lowers made (falls layout a seat (view_of a seat) made.found s made.step (is-met made) made.fits made.planned))
     (λ layout seat a b s t turned made is quiet. absurd (both_ways true (sym is ∙ ap is_waits made.follows.1 ∙ goes-on s made.found) refl))
     (λ s. refl) mild

@@ -5,6 +5,7 @@ use Rattle.std.proofs.lemmas.Option.{none-some, same_Some}
 use Rattle.hwp_core.specs.hwp_geom.declared.Frame.{Frame}
 use Rattle.hwp_core.specs.hwp_geom.declared.Layout.{Layout}
 use Rattle.hwp_core.specs.hwp_geom.declared.Who.{Who}
+use Rattle.hwp_core.specs.hwp_geom.Limits.{frame_limit}
 use Rattle.hwp_core.specs.hwp_page.History.{BodyValue}
 use Rattle.hwp_core.specs.hwp_words.Frames.{is_handled, is_poisoned, owner_of}
 use Rattle.hwp_core.specs.hwp_core_rule.declared.FrameInHand.{FrameInHand}
@@ -203,7 +204,7 @@ module _ {layout : Layout} {old new : View} {step : Step} {found : ℕ} {got : O
       own = steps-planned e made
 
       small : number < 2 ^ 10
-      small = let few : layout.frames ≤ 256 = own.told.rule.sound.frames in let inside : number < free_words layout = fit.0 in omega (arith, few, inside)
+      small = let few : layout.frames ≤ frame_limit = own.told.rule.sound.frames in let inside : number < free_words layout = fit.0 in omega (arith, few, inside)
 
       room : (0 < new.reserved) × HasLockRoom new
       room = (subst (λ (h : Hand). 0 < h.reserved) (sym hand) fit.1.0, subst LockRoomIn (sym hand) fit.1.1)

@@ -1,11 +1,10 @@
--- What a command poisoned, took and set, by its row, stays so over each step of another command.
+-- What a command poisoned and set, by its row, stays so over each step of another command.
 use Rattle.std.proofs.Common.{◌≡◌, ◌≢◌, ℕ, inl, inr, Bool, false, cond, List, [], ◌∷◌, ◌++◌, Option, filter, filter_map, map, sym, ap, ◌∙◌, subst}
 use Rattle.hwp_law_run.specs.hwp_geom.declared.Layout.{Layout}
 use Rattle.hwp_law_run.specs.hwp_geom.declared.Who.{Who}
 use Rattle.hwp_law_run.specs.hwp_page.History.{BodyValue}
 use Rattle.hwp_law_run.specs.hwp_core_rule.declared.Log.{Log}
 use Rattle.hwp_law_run.specs.hwp_core_rule.declared.Mark.{Mark}
-use Rattle.hwp_law_run.specs.hwp_core_rule.declared.Reported.{Reported}
 use Rattle.hwp_law_run.specs.hwp_core_rule.declared.Setting.{Setting}
 use Rattle.hwp_law_run.specs.hwp_core_rule.declared.Step.{Step}
 use Rattle.hwp_law_run.specs.hwp_core_rule.declared.View.{View}
@@ -51,18 +50,12 @@ module _ {layout : Layout} {by : Who} {step : Step} {put : Option Log} {old new 
   more-marks : OneMore (λ (m : Mark). m.stamp.who ≡ by) old.marks new.marks
   more-marks = subst (λ (v : View). OneMore (λ (m : Mark). m.stamp.who ≡ by) old.marks v.marks) (sym made.told.next) adds.marks
 
-  more-reported : OneMore (λ (r : Reported). r.stamp.who ≡ by) old.reported new.reported
-  more-reported = subst (λ (v : View). OneMore (λ (r : Reported). r.stamp.who ≡ by) old.reported v.reported) (sym made.told.next) adds.reported
-
   more-settings : OneMore (λ (s : Setting). (s.stamp.who ≡ by) × (new.sights ≡ old.sights)) old.settings new.settings
   more-settings = subst (λ (v : View). OneMore (λ (s : Setting). (s.stamp.who ≡ by) × (v.sights ≡ old.sights)) old.settings v.settings) (sym made.told.next) adds.settings
 
   -- what a step lists is of its command
   pub marks-own : (P : Who → Type 0) → P by → EachMember (λ (m : Mark). P m.stamp.who) old.marks → EachMember (λ (m : Mark). P m.stamp.who) new.marks
   marks-own P now each = more-so (λ (m : Mark). P m.stamp.who) _ (λ m own. subst P (sym own) now) old.marks new.marks more-marks each
-
-  pub reported-own : (P : Who → Type 0) → P by → EachMember (λ (r : Reported). P r.stamp.who) old.reported → EachMember (λ (r : Reported). P r.stamp.who) new.reported
-  reported-own P now each = more-so (λ (r : Reported). P r.stamp.who) _ (λ r own. subst P (sym own) now) old.reported new.reported more-reported each
 
   pub settings-own : (P : Who → Type 0) → P by → EachMember (λ (s : Setting). P s.stamp.who) old.settings → EachMember (λ (s : Setting). P s.stamp.who) new.settings
   settings-own P now each = more-so (λ (s : Setting). P s.stamp.who) _ (λ s own. subst P (sym own.0) now) old.settings new.settings more-settings each
@@ -75,7 +68,6 @@ module _ {layout : Layout} {by : Who} {step : Step} {put : Option Log} {old new 
   account-stays who other same command row was = record {
     marked = ap (map marking_of) (marks-stay who other) ∙ was.marked;
     failed = ap (filter_map failed_in) same ∙ was.failed;
-    taken = ap (map (λ (r : Reported). (r.file, r.count))) (kept (λ (r : Reported). r.stamp.who) _ who by other (λ r own. own) old.reported new.reported more-reported) ∙ was.taken;
     set = ap (map (λ (s : Setting). (s.thread, s.policy))) (kept (λ (s : Setting). s.stamp.who) _ who by other (λ s own. own.0) old.settings new.settings more-settings) ∙ was.set;
     own = was.own;
   }

@@ -1,5 +1,5 @@
 -- Each answer of a run rests on what its own command was shown.
-use Rattle.std.proofs.Common.{◌≡◌, ◌⊎◌, ℕ, ◌<◌, Bool, true, false, cond, nat_le, List, Option, Some, None, map, slice_get, option_and_then, sym, ap, ◌∙◌, subst, refl, true≢false}
+use Rattle.std.proofs.Common.{◌≡◌, ◌⊎◌, ℕ, ◌+◌, ◌<◌, Bool, true, false, cond, nat_le, List, Option, Some, None, map, slice_get, take, option_and_then, sym, ap, ◌∙◌, subst, refl, true≢false}
 use Rattle.std.proofs.lemmas.Option.{none-some, same_Some}
 use Rattle.hwp_law_run.specs.hwp_geom.declared.Cpu.{Cpu}
 use Rattle.hwp_law_run.specs.hwp_geom.declared.Layout.{Layout}
@@ -12,6 +12,7 @@ use Rattle.hwp_law_run.specs.hwp_page.declared.Outcome.TheVariants as outcomes
 use Rattle.hwp_law_run.specs.hwp_page.Situations.{outcome_of}
 use Rattle.hwp_law_run.specs.hwp_severity.declared.Severity.{Severity}
 use Rattle.hwp_law_run.specs.hwp_severity.declared.Severity.TheVariants as severities
+use Rattle.hwp_law_run.specs.hwp_core_rule.declared.SharedWord.TheVariants as places
 use Rattle.hwp_law_run.specs.hwp_core_rule.declared.State.{State}
 use Rattle.hwp_law_run.specs.hwp_core_rule.declared.View.{View}
 use Rattle.hwp_law_run.specs.hwp_core_rule.Lists.{EachMember}
@@ -29,6 +30,7 @@ use Rattle.hwp_law_run.specs.hwp_report_text.declared.Report.{Report}
 use Rattle.hwp_law_run.specs.hwp_banks.Banks.{Banks}
 use Rattle.hwp_law_run.specs.hwp_law.Commands.{current_thread, process_at, process_of_thread, thread_of}
 use Rattle.hwp_law_run.specs.hwp_law.Lines.{answer_of, events_of}
+use Rattle.hwp_law_run.specs.hwp_law.Losses.{answered, numbers_after}
 use Rattle.hwp_law_run.specs.hwp_law.Places.{command_at}
 use Rattle.hwp_law_run.specs.hwp_law.Records.{outcome_act}
 use Rattle.hwp_soft.specs.hwp_claim.declared.Found.{Found}
@@ -52,7 +54,8 @@ use Rattle.hwp_law_holds.proofs.RowLines.{answer-told, events-by-row, events-tol
 use Rattle.hwp_law_holds.proofs.lines.OfRows.{row-of}
 use Rattle.hwp_law_holds.proofs.lines.ScrubShown.{bad-shown, looked-at, weak-shown}
 use Rattle.hwp_law_holds.proofs.RowTold.{IsToldRight, told-so}
-use Rattle.hwp_law_holds.proofs.Shown.{already-shown, answer-shown, goes-shown, runs-shown}
+use Rattle.hwp_law_holds.proofs.Shown.{already-shown, answer-shown, goes-shown, runs-shown, word-shown}
+use Rattle.hwp_law_holds.proofs.losses.NumbersTold.{number-known}
 
 -- the list of a processor that has such a command
 record HasCommand (script : Script) (who : Who) (command : Command) : Type 0 where
@@ -178,7 +181,7 @@ module _ (script : Script) (seat : Cpu → ℕ) (turns : List Played) (last : St
       (each-weaken (IsToldRight script.layout view who (current_thread r.of.command)) (λ (t : EventOutcome). AlreadyShown script.layout turns who (event_at who.seq t)) row.told
       (λ t is. already-shown script turns view (said who.cpu r.of.inside) who r.of.list t who.seq (saw-already script.layout view who (current_thread r.of.command) t is)) right)
 
-  -- each answer, and each event line, rests on what its command was shown
+  -- each answer, each event line, and each number of a handle rests on what its command was shown
   pub report-shown : IsShown script report turns
   report-shown = record {
     answers = λ who command answer at is.
@@ -192,6 +195,10 @@ module _ (script : Script) (seat : Cpu → ℕ) (turns : List Played) (last : St
         let a = answers-of who command answer at is in
         runs-shown script.layout turns (view_of last (seat who.cpu)) (said who.cpu a.inside) who answer (subst (λ (x : Answer). (x ≡ answers.Stopped) ⊎ SawRunning (view_of last (seat who.cpu)) who) a.answer_is a.served.running);
     events = λ who. subst (EachMember (AlreadyShown script.layout turns who)) (sym (events-by-row script seat last report (ended script seat turns last report run) who)) (events-shown who (row_at (ended script seat turns last report run).rows who) refl);
+    handles = λ cpu list rows list_is rows_is file i p there tells.
+        let known = number-known script seat last report (ended script seat turns last report run) cpu list rows list_is rows_is file i p there tells in
+        word-shown script.layout turns (view_of last (seat cpu)) (said cpu known.0) (record { cpu = cpu; seq = i }) (λ (word : ℕ). word ≡ numbers_after file 0 (take (i + 1) (answered list rows))) (places.Loss file)
+        (numbers_after file 0 (take (i + 1) (answered list rows))) refl known.1.0;
   }
 
   -- and so does each line of a scrub

@@ -218,7 +218,7 @@ module _ (script : Script) (seat : Cpu → ℕ) (last : State) (report : Report)
   law-caused who list list_is (commands.Out page) told own (answers.NotResident bt) at facts caused = (caused.0, had caused.1.saw)
   law-caused who list list_is (commands.Out page) told own (answers.BadLines mask bt) at facts caused = (caused.0, bad-lines who page mask bt caused.1 caused.2)
   law-caused who list list_is (commands.Fsync file) told own answers.Done at facts caused = tt
-  law-caused who list list_is (commands.Fsync file) told own (answers.Eio lost) at facts caused = caused.1
+  law-caused who list list_is (commands.Fsync file) told own (answers.Eio more) at facts caused = caused.1
   law-caused who list list_is (commands.Prctl thread args) told own (answers.Gone page) at facts caused = is-gone script seat last report end cpu inside who (commands.Prctl thread args) thread page at refl caused.0
   law-caused who list list_is (commands.Prctl thread args) told own (answers.Sigbus bt) at facts (inl caused) = caused.replied ∙ replied who list list_is thread args
   law-caused who list list_is (commands.Prctl thread args) told own (answers.Sigbus bt) at facts (inr was) = absurd was

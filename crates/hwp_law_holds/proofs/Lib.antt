@@ -21,6 +21,7 @@ pub mod Sums
 pub mod HomePages
 pub mod Lawful
 pub mod AccountKeeps
+pub mod Handles
 pub mod CheckTells
 pub mod Settled
 pub mod Seats

@@ -252,7 +252,7 @@ module _ (layout : Layout) (list : List Command) (view : View) (who : Who) where
   table-place (commands.Out page) (answers.DoneAt bt) caused at is = made-one bt (made-at caused.1.made) at is
   table-place (commands.Out page) (answers.NotResident bt) caused at is = saw-one bt (saw-at caused.1.saw) at is
   table-place (commands.Fsync file) answers.Done caused at is = absurd (none-some at is)
-  table-place (commands.Fsync file) (answers.Eio lost) caused at is = absurd (none-some at is)
+  table-place (commands.Fsync file) (answers.Eio more) caused at is = absurd (none-some at is)
   table-place (commands.Prctl thread args) (answers.Gone page) caused at is = absurd (none-some at is)
   table-place (commands.Prctl thread args) answer caused at is = absurd (replied (reply (last_policy (settings thread (take who.seq list))) (arguments args)) (sym (ap place_named caused.replied) ∙ is))
     where
@@ -345,7 +345,7 @@ module _ (layout : Layout) (list : List Command) (view : View) (who : Who) where
   table-state command (answers.Gone page) caused at is = absurd (none-some at is)
   table-state command (answers.DoneAt bt) caused at is = absurd (none-some at is)
   table-state command answers.Done caused at is = absurd (none-some at is)
-  table-state command (answers.Eio lost) caused at is = absurd (none-some at is)
+  table-state command (answers.Eio more) caused at is = absurd (none-some at is)
   table-state command answer caused at is = absurd caused
 
   offline-state : (frame : Frame) (own : Option FrameChange) (answer : Answer) → IsOfflineCaused layout view who frame own answer → (at : At) → state_named answer ≡ Some at → SawAt view who at

@@ -222,8 +222,8 @@ module _ (script : Script) (turns : List Played) (view : View) (said : Said (tol
   table-shown (commands.Out page) (answers.DoneAt entry) at caused = tt
   table-shown (commands.Out page) (answers.NotResident place) at caused = length-shown script.layout turns view said who caused.1.saw
   table-shown (commands.Out page) (answers.BadLines mask place) at caused = bad-shown place page mask caused.0 caused.1 caused.2
-  table-shown (commands.Fsync file) answers.Done at caused = word-shown script.layout turns view said who (λ (word : ℕ). word ≡ 0) (places.Loss file) 0 refl caused.1
-  table-shown (commands.Fsync file) (answers.Eio lost) at caused = word-shown script.layout turns view said who (λ (word : ℕ). word ≡ lost) (places.Loss file) lost refl caused.2
+  table-shown (commands.Fsync file) answers.Done at caused = tt
+  table-shown (commands.Fsync file) (answers.Eio more) at caused = tt
   table-shown (commands.Prctl thread args) (answers.Gone page) at caused = gone-shown (commands.Prctl thread args) thread page at refl caused.0
   table-shown (commands.Prctl thread args) answer at caused =
       subst (AnswerShown script turns who (commands.Prctl thread args)) (sym caused.replied) (replied-shown thread args (reply (last_policy (settings thread (take who.seq list))) (arguments args)))

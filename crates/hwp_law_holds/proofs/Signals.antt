@@ -35,6 +35,7 @@ module _ (script : Script) (report : Report) (lawful : IsLawful script report) w
       }
 
   -- Each failure has the situation of its page's state, and the signals of the kill table for policies that the threads had; the
-  -- losses told and left are those of the histories; and the count is that of the frames that end poisoned.
+  -- losses are those of the histories, and the numbers of handles agree with them; and the count is that of the frames that end
+  -- poisoned.
   pub signals-as-model : AreFailuresAsModel script report
-  signals-as-model = record { failures = failure; losses = lawful.losses.balance; poisoned = lawful.frames.count }
+  signals-as-model = record { failures = failure; losses = lawful.losses; poisoned = lawful.frames.count }

@@ -1,4 +1,3 @@
 pub mod LossesOwed
-pub mod LossesReported
-pub mod LossesTold
+pub mod NumbersTold
 pub mod LossesAgree

@@ -1,8 +1,7 @@
--- What a command did beside what its answer tells: the frames that it poisoned, the failures that its entries tell, the losses that it
--- took, and the policy that it set.
-use Rattle.std.specs.Prelude.{◌≡◌, ℕ, ◌==◌, ◌&&◌, Bool, true, false, List, [], ◌∷◌, ◌++◌, Option, None, Some, option_map, option_and_then, filter, filter_map, map}
+-- What a command did beside what its answer tells: the frames that it poisoned, the failures that its entries tell, and the policy
+-- that it set.
+use Rattle.std.specs.Prelude.{◌≡◌, ◌==◌, ◌&&◌, Bool, true, false, List, [], ◌∷◌, ◌++◌, Option, None, Some, option_map, option_and_then, filter, filter_map, map}
 use Rattle.std.specs.List.{cons_option}
-use Rattle.hwp_law_run.specs.hwp_geom.declared.FileNo.{FileNo}
 use Rattle.hwp_law_run.specs.hwp_geom.declared.Thread.{Thread}
 use Rattle.hwp_law_run.specs.hwp_geom.declared.Who.{Who}
 use Rattle.hwp_law_run.specs.hwp_kill.declared.Policy.{Policy}
@@ -11,7 +10,6 @@ use Rattle.hwp_law_run.specs.hwp_page.Situations.{outcome_of}
 use Rattle.hwp_law_run.specs.hwp_core_rule.declared.Mark.{Mark}
 use Rattle.hwp_law_run.specs.hwp_core_rule.declared.MarkKind.{MarkKind}
 use Rattle.hwp_law_run.specs.hwp_core_rule.declared.MarkKind.TheVariants as mark_kinds
-use Rattle.hwp_law_run.specs.hwp_core_rule.declared.Reported.{Reported}
 use Rattle.hwp_law_run.specs.hwp_core_rule.declared.Setting.{Setting}
 use Rattle.hwp_law_run.specs.hwp_core_rule.declared.View.{View}
 use Rattle.hwp_law_run.specs.hwp_core_task.Known.{deeds}
@@ -47,10 +45,6 @@ markings who view = map marking_of (filter (λ (m : Mark). is_same who m.stamp.w
 abbrev pub failures : Who → View → List Failed
 failures who view = filter_map abandoned.failed_in (deeds who view)
 
--- the losses that it lists as taken by the command, each with its file
-abbrev pub losses_taken : Who → View → List (FileNo × ℕ)
-losses_taken who view = map (λ (r : Reported). (r.file, r.count)) (filter (λ (r : Reported). is_same who r.stamp.who) view.reported)
-
 -- the policies that it lists as set by the command, each with its thread
 abbrev pub policies_set : Who → View → List (Thread × Policy)
 policies_set who view = map (λ (s : Setting). (s.thread, s.policy)) (filter (λ (s : Setting). is_same who s.stamp.who) view.settings)
@@ -81,12 +75,6 @@ own_failure own = failed_by None (option_and_then found_in own)
 abbrev pub failures_in : Command → Row → List Failed
 failures_in command row = filter_map (failed_in (current_thread command)) row.told ++ cons_option (own_failure row.own) []
 
--- the losses that a command took, by its answer
-abbrev pub taken_by : Command → Answer → List (FileNo × ℕ)
-taken_by (commands.Fsync file) (answers.Eio lost) = (file, lost) ∷ []
-taken_by (commands.Fsync file) answers.Done = (file, 0) ∷ []
-taken_by _ _ = []
-
 -- the policy that a command set, by its answer
 abbrev pub set_for : Thread → Option Policy → List (Thread × Policy)
 set_for thread None = []
@@ -114,7 +102,6 @@ IsOwn command answer (Some own) = ⊥
 pub record IsAccounted (view : View) (who : Who) (command : Command) (row : Row) : Type 0 where
   pub marked : markings who view ≡ markings_in row
   pub failed : failures who view ≡ failures_in command row
-  pub taken : losses_taken who view ≡ taken_by command row.answer
   pub set : policies_set who view ≡ set_by command row.answer
   pub own : IsOwn command row.answer row.own
 

@@ -1,5 +1,6 @@
 pub mod Causes
 pub mod Accounts
+pub mod Handles
 pub mod Told
 pub mod Rows
 pub mod Served

@@ -10,7 +10,6 @@ use Rattle.hwp_law_run.specs.hwp_geom.declared.Who.{Who}
 use Rattle.hwp_law_run.specs.hwp_geom.Pairs.{Pairs}
 use Rattle.hwp_law_run.specs.hwp_core_rule.declared.Made.{Made}
 use Rattle.hwp_law_run.specs.hwp_core_rule.declared.Mark.{Mark}
-use Rattle.hwp_law_run.specs.hwp_core_rule.declared.Reported.{Reported}
 use Rattle.hwp_law_run.specs.hwp_core_rule.declared.Setting.{Setting}
 use Rattle.hwp_law_run.specs.hwp_core_rule.declared.SharedWord.TheVariants as places
 use Rattle.hwp_law_run.specs.hwp_core_rule.declared.Spoiled.{Spoiled}
@@ -30,6 +29,7 @@ use Rattle.hwp_cpu_row.specs.hwp_cpu_check.declared.EventOutcome.{EventOutcome}
 use Rattle.hwp_cpu_row.specs.hwp_cpu_check.Told.{halts}
 use Rattle.hwp_law_holds.specs.Accounts.{IsAccounted, IsNote}
 use Rattle.hwp_law_holds.specs.Causes.{IsCaused}
+use Rattle.hwp_law_holds.specs.Handles.{KnowsNumbers}
 use Rattle.hwp_law_holds.specs.Rows.{notes_from}
 use Rattle.hwp_law_holds.specs.Told.{IsRowTold}
 
@@ -104,18 +104,19 @@ pub record IsOwnSpoil (cpu : Cpu) (list : List Command) (rows : List Row) (s : S
 
 -- The processor's commands are answered, all of them, each with its cause, its events told and its banks empty at first; all that it
 -- made and did is of them, and the policies of each thread are set in their order; its marks are noted, each with what its failure
--- found; after a first `stopped` it answered nothing else; the lines that it spoiled are those of its commands; and it holds nothing.
+-- found; after a first `stopped` it answered nothing else; the lines that it spoiled are those of its commands; the numbers of its
+-- handles are those that it was shown; and it holds nothing.
 pub record IsServed (layout : Layout) (view : View) (cpu : Cpu) (list : List Command) (rows : List Row) : Type 0 where
   pub count : length rows ≡ length list
   pub banks : Banks
   pub rows_are : AreRowsServed layout list view cpu 0 empty_banks list rows banks
   pub made : EachMember (IsBegun cpu (length list)) view.made
   pub marked : EachMember (λ (m : Mark). IsOneOf cpu (length list) m.stamp.who) view.marks
-  pub taken : EachMember (λ (r : Reported). IsOneOf cpu (length list) r.stamp.who) view.reported
   pub set : EachMember (λ (s : Setting). IsOneOf cpu (length list) s.stamp.who) view.settings
   pub policies : (thread : Thread) → StartsWith (map (λ (s : Setting). s.policy) (settings_of thread view.settings)) (settings thread list)
   pub stops : EachMember (IsOwnStop layout cpu list rows) view.stops
   pub noted : Pairs IsNote (notes_from cpu 0 rows) view.marks
   pub spoiled : EachMember (IsOwnSpoil cpu list rows) view.spoiled
   pub stays : StaysStopped rows
+  pub numbers : KnowsNumbers layout view cpu list rows
   pub nothing : HoldsNothing view

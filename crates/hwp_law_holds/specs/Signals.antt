@@ -1,7 +1,5 @@
 -- What the report of a run says of failures, as its reader wants it.
-use Rattle.std.specs.Prelude.{◌≡◌, ℕ, ◌+◌, true, List, Option, Some, sum_by, count_by, slice_get, Contains}
-use Rattle.std.specs.List.{zip}
-use Rattle.hwp_law_run.specs.hwp_geom.declared.FileNo.{FileNo}
+use Rattle.std.specs.Prelude.{◌≡◌, true, List, Option, Some, count_by, Contains}
 use Rattle.hwp_law_run.specs.hwp_geom.declared.Thread.{Thread}
 use Rattle.hwp_law_run.specs.hwp_kill.declared.Seen.{Seen}
 use Rattle.hwp_law_run.specs.hwp_kill.declared.Signal.{Signal}
@@ -17,7 +15,7 @@ use Rattle.hwp_law_run.specs.hwp_page.Step.{IsSeenList}
 use Rattle.hwp_law_run.specs.hwp_script_read.declared.Script.{Script}
 use Rattle.hwp_law_run.specs.hwp_report_text.declared.FrameLine.{FrameLine}
 use Rattle.hwp_law_run.specs.hwp_report_text.declared.Report.{Report}
-use Rattle.hwp_law_run.specs.hwp_law.Losses.{answered, lost_in, told}
+use Rattle.hwp_law_run.specs.hwp_law.Losses.{LossesAgree}
 use Rattle.hwp_law_run.specs.hwp_law.Places.{entry_at}
 use Rattle.hwp_law_run.specs.hwp_law.Records.{ends_poisoned}
 use Rattle.hwp_law_run.specs.hwp_law.SeenPolicies.{IsPolicySeen}
@@ -33,9 +31,9 @@ pub record IsFailureAsModel (script : Script) (report : Report) (at : At) (situa
   pub signalled : HadState script.layout report.pages at (λ (s : PageState). Killed script.layout s.maps (is_signalling situation) required seen signals)
   pub had : (one : Seen) → Contains seen one → IsPolicySeen script one
 
--- Each failure is as the model has it. What mapping errors told of a file, and what is left to tell, are the losses in the histories
--- of its pages. The report counts the frames whose record ends poisoned.
+-- Each failure is as the model has it. What the report says is lost of a file are the losses in the histories of its pages, and the
+-- numbers of handles agree with them. The report counts the frames whose record ends poisoned.
 pub record AreFailuresAsModel (script : Script) (report : Report) : Type 0 where
   pub failures : (at : At) (e : Entry) (situation : Situation) (required : Option Thread) (seen : List Seen) (signals : List Signal) → entry_at report.pages at ≡ Some e → e.what ≡ Fail situation required seen signals → IsFailureAsModel script report at situation required seen signals
-  pub losses : (file : FileNo) (left : ℕ) → slice_get report.files file.0 ≡ Some left → sum_by (told file) (answered script report) + left ≡ sum_by (lost_in file) (zip script.layout.pages report.pages)
+  pub losses : LossesAgree script report
   pub poisoned : report.count ≡ count_by (λ (l : FrameLine). ends_poisoned l.marks) report.frames

@@ -6,6 +6,7 @@ use Rattle.std.proofs.lemmas.List.Sums.{sum_by-cons}
 use Rattle.std.proofs.lemmas.Option.{none-some, same_Some, slice_get_within}
 use Rattle.hwp_law.specs.hwp_geom.declared.Layout.{Layout}
 use Rattle.hwp_law.specs.hwp_geom.declared.Page.{Page}
+use Rattle.hwp_law.specs.hwp_geom.Limits.{page_limit}
 use Rattle.hwp_plain_order.specs.hwp_words.Frames.{handled_of, is_handled, is_kernel, owner_of}
 use Rattle.hwp_plain_order.specs.hwp_words.Names.{page_named}
 use Rattle.hwp_plain_order.specs.hwp_core_rule.declared.Log.{Log}
@@ -66,7 +67,7 @@ module _ (layout : Layout) (s : State) (h : Holds layout s) (unlocked : EachMemb
   shape : IsShaped layout (words_of layout s.words) s.homes
   shape = shaped layout s h
 
-  pages_few : length layout.pages ≤ 256
+  pages_few : length layout.pages ≤ page_limit
   pages_few = h.sound.pages
 
   -- an owned frame is named by the cache word of its page

@@ -1,5 +1,7 @@
 -- The words and lengths that answers rest on: each stands at a step of its own command.
-use Rattle.std.specs.Prelude.{◌≡◌, ◌≢◌, ◌⊎◌, ℕ, ◌+◌, ◌<◌, Bool, true, false, List, Some, IsSomeAnd, length}
+use Rattle.std.specs.Prelude.{◌≡◌, ◌≢◌, ◌⊎◌, ℕ, ◌+◌, ◌<◌, Bool, true, false, List, Some, IsSomeAnd, length, slice_get, take}
+use Rattle.hwp_law.specs.hwp_geom.declared.Cpu.{Cpu}
+use Rattle.hwp_law.specs.hwp_geom.declared.FileNo.{FileNo}
 use Rattle.hwp_law.specs.hwp_geom.declared.Frame.{Frame}
 use Rattle.hwp_law.specs.hwp_geom.declared.Layout.{Layout}
 use Rattle.hwp_law.specs.hwp_geom.declared.Page.{Page}
@@ -27,10 +29,12 @@ use Rattle.hwp_law.specs.hwp_script_read.declared.Script.{Script}
 use Rattle.hwp_law.specs.hwp_report_text.declared.Acted.TheVariants as acts
 use Rattle.hwp_law.specs.hwp_report_text.declared.Answer.{Answer}
 use Rattle.hwp_law.specs.hwp_report_text.declared.Answer.TheVariants as answers
+use Rattle.hwp_law.specs.hwp_report_text.declared.CpuLine.{CpuLine}
 use Rattle.hwp_law.specs.hwp_report_text.declared.EventLine.{EventLine}
 use Rattle.hwp_law.specs.hwp_report_text.declared.Report.{Report}
 use Rattle.hwp_law.specs.Commands.{process_at}
 use Rattle.hwp_law.specs.Lines.{answer_of, events_of}
+use Rattle.hwp_law.specs.Losses.{answered, numbers_after, tells_number}
 use Rattle.hwp_law.specs.Places.{command_at}
 use Rattle.hwp_law.specs.Runs.{slot_of}
 use Rattle.hwp_law_run.specs.Turns.{Finds, FindsBad, SawPage, TurnBy}
@@ -109,8 +113,6 @@ CommandAnswerShown layout turns who (commands.Inject frame) answer = FrameAnswer
 CommandAnswerShown layout turns who (commands.Soft frame) answer = FrameAnswerShown layout turns who frame answer
 CommandAnswerShown layout turns who (commands.Unpoison frame) answers.Done = RevivalShown layout turns who frame
 CommandAnswerShown layout turns who (commands.Unpoison frame) answer = FrameAnswerShown layout turns who frame answer
-CommandAnswerShown layout turns who (commands.Fsync file) (answers.Eio lost) = Finds layout turns who (places.Loss file) (λ (word : ℕ). word ≡ lost)
-CommandAnswerShown layout turns who (commands.Fsync file) answers.Done = Finds layout turns who (places.Loss file) (λ (word : ℕ). word ≡ 0)
 CommandAnswerShown layout turns who command answer = Unit {0}
 
 -- the words and lengths that an answer rests on were shown to its command
@@ -140,9 +142,20 @@ RunningShown layout turns who answer = Finds layout turns who places.Stop (λ (w
 abbrev pub AlreadyShown : Layout → List Played → Who → EventLine → Type 0
 AlreadyShown layout turns who line = line.acted ≡ acts.Already → PoisonShown layout turns who (record { 0 = frame_at line.addr }) true
 
--- each answer, and each event line, rests on what its command was shown
+-- a step of the processor's i-th command found the loss word of the file at the number that the handle of the file has after it
+abbrev pub NumberShown : Layout → List Played → FileNo → Cpu → List (Command × Answer) → ℕ → Type 0
+NumberShown layout turns file cpu pairs i =
+    Finds layout turns (record { cpu = cpu; seq = i }) (places.Loss file) (λ (word : ℕ). word ≡ numbers_after file 0 (take (i + 1) pairs))
+
+-- it did, for each answer of the processor that tells the number of a handle
+abbrev pub NumbersShown : Layout → List Played → Cpu → List Command → List CpuLine → Type 0
+NumbersShown layout turns cpu list rows =
+    (file : FileNo) (i : ℕ) (p : Command × Answer) → slice_get {X = Command × Answer} (answered list rows) i ≡ Some p → tells_number file p.0 p.1 ≡ true → NumberShown layout turns file cpu (answered list rows) i
+
+-- each answer, each event line, and each number of a handle rests on what its command was shown
 pub record IsShown (script : Script) (report : Report) (turns : List Played) : Type 0 where
   pub answers : (who : Who) (command : Command) (answer : Answer) → command_at script who ≡ Some command → answer_of report who ≡ Some answer → AnswerShown script turns who command answer
   pub going : (who : Who) (process : Proc) (answer : Answer) → process_at script who ≡ Some process → answer_of report who ≡ Some answer → GoesOn script.layout turns who process answer
   pub running : (who : Who) (command : Command) (answer : Answer) → command_at script who ≡ Some command → answer_of report who ≡ Some answer → RunningShown script.layout turns who answer
   pub events : (who : Who) → EachMember (AlreadyShown script.layout turns who) (events_of report who)
+  pub handles : (cpu : Cpu) (list : List Command) (rows : List CpuLine) → slice_get script.lists cpu.0 ≡ Some list → slice_get report.cpus cpu.0 ≡ Some rows → NumbersShown script.layout turns cpu list rows

@@ -1,4 +1,5 @@
 mod BoardOpens
+mod CacheRange
 mod AtHome
 mod Carried
 pub mod TrailViews

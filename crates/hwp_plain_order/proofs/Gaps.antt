@@ -2,6 +2,7 @@
 use Rattle.std.proofs.Common.{◌≡◌, ◌≢◌, ℕ, zero, suc, ◌+◌, ◌<◌, ◌≤◌, ◌==◌, ◌⊎◌, inl, inr, Bool, true, false, cond, List, [], ◌∷◌, length, get_or, set, refl, ap, ◌∙◌, arith}
 use Rattle.std.proofs.lemmas.Bool.{eqb-true, eq-eqb}
 use Rattle.std.proofs.lemmas.List.{get_or-set_same, length-set}
+use Rattle.hwp_core_task.specs.Ranks.{cpu_room}
 use Rattle.hwp_plain_order.specs.Order.{IsChosen}
 use Rattle.hwp_plain_order.specs.Rank.{gap, gaps, phi, has_one, yields, ceiling, number_of}
 
@@ -15,7 +16,7 @@ pub phi-stays : (ls : List ℕ) (p y : ℕ) → p < length ls → phi (set ls p 
 phi-stays ls p y h = omega (arith, gaps-set 0 ls p y h, gaps-set 0 ls p 5 h, gaps-set 0 (set ls p y) p 5 (rw length-set h), get_or-set_same ls p y 5 h)
 
 -- where another is chosen after the turn, the gaps of all but the chosen one fall
-pub phi-falls : (ls : List ℕ) (p y q : ℕ) → p < length ls → length ls ≤ 8 → q ≢ p → IsChosen (set ls p y) q → phi (set ls p y) q < phi ls p
+pub phi-falls : (ls : List ℕ) (p y q : ℕ) → p < length ls → length ls ≤ cpu_room → q ≢ p → IsChosen (set ls p y) q → phi (set ls p y) q < phi ls p
 phi-falls ls p y q h few ne next = from-least (next.least p (rw length-set h))
   where
     same : length (set ls p y) ≡ length ls

@@ -5,12 +5,13 @@ use Rattle.std.proofs.lemmas.List.{get_or-set_other, length-set, length-map, map
 use Rattle.hwp_script_read.specs.hwp_geom.declared.Cpu.{Cpu}
 use Rattle.hwp_script_read.specs.hwp_geom.declared.Frame.{Frame}
 use Rattle.hwp_script_read.specs.hwp_geom.declared.Layout.{Layout}
+use Rattle.hwp_script_read.specs.hwp_geom.Limits.{cpu_limit}
 use Rattle.hwp_core_task.specs.hwp_core_rule.declared.View.{View}
 use Rattle.hwp_core_task.specs.hwp_core_rule.Rule.{Holds}
 use Rattle.hwp_core_task.specs.declared.Turn.{Turn}
 use Rattle.hwp_core_task.specs.declared.Turn.TheVariants as turns
 use Rattle.hwp_core_task.specs.Boards.{Played, view_of, AreSeated}
-use Rattle.hwp_core_task.specs.Ranks.{CostFalls, HasFailed, OtherHand, Pending, failures_left, is_refused, is_waits, top, words_at}
+use Rattle.hwp_core_task.specs.Ranks.{CostFalls, HasFailed, OtherHand, Pending, cpu_room, failure_room, failures_left, is_refused, is_waits, top, words_at}
 use Rattle.hwp_core_task.specs.Turns.{Member}
 use Rattle.hwp_core_task.specs.Classes.{IsScheduled}
 use Rattle.hwp_core_task.proofs.Failures.{failures-few}
@@ -118,7 +119,7 @@ module _ {S : Type 0} (m : Member S) (a b : Running S) (p : ℕ) (played : Playe
 -- needs are below the ceiling
 need-small : {S : Type 0} (m : Member S) (a : Running S) (p : ℕ) → IsScheduled m → Ready m a → p < length a.tasks → need_at m a.tasks (words_in a) p < ceiling
 need-small {S} m a p law ready h =
-    let few : failures_left (words_at a.layout a.state) ≤ 512 = failures-few a.layout a.state ready.rule in
+    let few : failures_left (words_at a.layout a.state) ≤ failure_room = failures-few a.layout a.state ready.rule in
     let below : m.cost u.0 (words_at a.layout a.state) < top = law.ranked.small a.layout a.state (seat_of a p) u.0 ready.rule (ready.crew.fits p u.0 u.1) in
     omega (arith, value-at (λ (x : S). m.cost x (words_in a)) a.tasks p u.0 0 u.1, few, below)
   where
@@ -146,8 +147,8 @@ turn-lowers {S} m a b p played q ready ready-b chosen turn next = by q (subst (�
     h : p < length ls
     h = chosen.within
 
-    few : length ls ≤ 8
-    few = rw length-map (few-tasks a.layout (length a.tasks) ready.rule.sound ready.crew.count)
+    few : length ls ≤ cpu_room
+    few = let most : length a.tasks ≤ cpu_limit = few-tasks a.layout (length a.tasks) ready.rule.sound ready.crew.count in omega (arith, most, length-map a.tasks (level m))
 
     small : (i : ℕ) → i < length a.tasks → need_at m b.tasks (words_in b) i < ceiling
     small i g = need-small m b i law ready-b (omega (arith, g, same_length m a b p played ready turn))

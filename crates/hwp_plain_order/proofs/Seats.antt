@@ -5,6 +5,7 @@ use Rattle.std.proofs.lemmas.List.{get_or_past}
 use Rattle.std.proofs.lemmas.Option.{slice_get-get_or}
 use Rattle.hwp_script_read.specs.hwp_geom.declared.Layout.{Layout}
 use Rattle.hwp_script_read.specs.hwp_geom.Layout.{IsSound}
+use Rattle.hwp_script_read.specs.hwp_geom.Limits.{cpu_limit}
 use Rattle.hwp_core_task.specs.hwp_core_rule.declared.Part.{Part}
 use Rattle.hwp_core_task.specs.hwp_core_rule.declared.View.{View}
 use Rattle.hwp_core_task.specs.hwp_core_rule.Lists.{SomeMember}
@@ -65,5 +66,5 @@ seat-held {S} m a i ready held = which (cases_lt i (length a.state.views))
     which (inl within) = own-of (slice_get-get_or a.state.views i (opening_view i) within) v.parts refl
     which (inr past) = absurd (held (subst HoldsNothing (sym (get_or_past a.state.views i (opening_view i) past)) (blank i)))
 
-pub few-tasks : (layout : Layout) (n : ℕ) → IsSound layout → n ≡ layout.cpus → n ≤ 8
-few-tasks layout n sound count = let cpus : layout.cpus ≤ 8 = sound.cpus in omega (arith, count)
+pub few-tasks : (layout : Layout) (n : ℕ) → IsSound layout → n ≡ layout.cpus → n ≤ cpu_limit
+few-tasks layout n sound count = let cpus : layout.cpus ≤ cpu_limit = sound.cpus in omega (arith, count)

@@ -18,7 +18,7 @@ use Rattle.hwp_core_task.specs.Ranks.{is_waits}
 use Rattle.hwp_core_task.specs.Turns.{Member}
 use Rattle.hwp_plain_order.specs.Order.{Running, running, IsAt, IsNoMemory, IsOver, IsRefused, EndsCommand, EndsWord, told_of, level_by, level, levels, IsChosen, cpu_of, seat_of}
 use Rattle.hwp_plain_order.specs.Rank.{words_in, rank, need_at}
-use Rattle.hwp_plain_order.specs.Ready.{InPlay, IsNext, Ready, TurnTold}
+use Rattle.hwp_plain_order.specs.Ready.{Goes, InPlay, IsNext, Ready, TurnTold}
 use Rattle.hwp_plain_order.proofs.Seats.{few-tasks}
 use Rattle.hwp_plain_order.proofs.Chosen.{value-at, IsAt-set, IsAt-same, task-over}
 use Rattle.hwp_plain_order.proofs.RankFalls.{ready-after, turn-lowers, need-falls}
@@ -34,14 +34,25 @@ going-plan m s going over = omega (arith, ap (λ o. level_by o (m.class s)) over
 pub read-again : {S : Type 0} (tasks : List S) (p : ℕ) (d : S) → d ≡ get_or tasks p d → get_or tasks p d ≡ get_or tasks p (get_or tasks p d)
 read-again tasks p d is = ap (get_or tasks p) is
 
-module _ {S : Type 0} (m : Member S) (ls : List ℕ) (layout layout2 : Layout) (seat seat2 : Cpu → ℕ) (tasks : List S) (a b : State) (was now : List Played) (p : ℕ) (s t : S) (result : Turn × Option Kind)
-    (play : InPlay m ls (running layout seat tasks a)) (h : p < length tasks) (going : get_or ls p 5 < 5) (is : s ≡ get_or tasks p s)
+-- a task that isn't over, by the array
+pub array-goes : {S : Type 0} (m : Member S) (ls : List ℕ) (a : Running S) (p : ℕ) → InPlay m ls a → get_or ls p 5 < 5 → Goes m a.tasks p
+array-goes m ls a p play going s at = going-plan m s (subst (λ (k : ℕ). k < 5) (array-level m ls a p s play at) going)
+
+-- the same, and that it is over, by what the task itself tells
+pub task-goes : {S : Type 0} (m : Member S) (tasks : List S) (p : ℕ) (s : S) → p < length tasks → s ≡ get_or tasks p s → m.plan s ≢ None → Goes m tasks p
+task-goes m tasks p s h is goes t at over = goes (ap m.plan (IsAt-same tasks p s t (record { within = h; is = sym is }) at) ∙ over)
+
+pub task-done : {S : Type 0} (m : Member S) (tasks : List S) (p : ℕ) (s : S) → p < length tasks → s ≡ get_or tasks p s → m.plan s ≡ None → IsOver m tasks p
+task-done m tasks p s h is over t at = ap m.plan (IsAt-same tasks p t s at (record { within = h; is = sym is })) ∙ over
+
+module _ {S : Type 0} (m : Member S) (layout layout2 : Layout) (seat seat2 : Cpu → ℕ) (tasks : List S) (a b : State) (was now : List Played) (p : ℕ) (s t : S) (result : Turn × Option Kind)
+    (ready : Ready m (running layout seat tasks a)) (h : p < length tasks) (goes : Goes m tasks p) (is : s ≡ get_or tasks p s)
     (taken : TakesTurn m layout (seat (cpu_of p)) a b was now s t result) where
   at : IsAt tasks p s
   at = record { within = h; is = sym is }
 
   going-on : m.plan s ≢ None
-  going-on = going-plan m s (subst (λ (k : ℕ). k < 5) (array-level m ls (running layout seat tasks a) p s play at) going)
+  going-on = goes s at
 
   -- a turn of a task that isn't over, and that wasn't refused memory, makes a step
   pub turn-told : (layout2 ≡ layout) × (seat2 ≡ seat) → Holds layout2 b → (IsNoMemory result.0 → ⊥) → TurnTold m (running layout seat tasks a) p was now result (running layout2 seat2 (set tasks p t) b)
@@ -65,9 +76,9 @@ module _ {S : Type 0} (m : Member S) (ls : List ℕ) (layout layout2 : Layout) (
             step = step;
             found = made.found;
             got = made.got;
-            rule = play.ready.rule;
+            rule = ready.rule;
             kept = subst (λ (l : Layout). Holds l b) same.0 rule;
-            fits = play.ready.crew.fits p s at;
+            fits = ready.crew.fits p s at;
             planned = planned;
             move = made.move;
             brings = made.brings;
@@ -84,37 +95,46 @@ module _ {S : Type 0} (m : Member S) (ls : List ℕ) (layout layout2 : Layout) (
       by None over made = absurd (going-on over)
       by (Some step) planned made = subst IsRefused (sym made.logged) refused
 
--- and the scheduler goes on
-pub play-after : {S : Type 0} (m : Member S) (ls : List ℕ) (a b : Running S) (p y : ℕ) (t u : S) (was now : List Played) (told : Turn × Option Kind)
-    → InPlay m ls a → p < length a.tasks → TurnTold m a p was now told b → AreSeated b.layout b.state b.seat → (m.who t).cpu ≡ cpu_of p
+-- and the tasks go on
+pub ready-told : {S : Type 0} (m : Member S) (a b : Running S) (p : ℕ) (t : S) (was now : List Played) (told : Turn × Option Kind)
+    → Ready m a → p < length a.tasks → TurnTold m a p was now told b → AreSeated b.layout b.state b.seat → (m.who t).cpu ≡ cpu_of p
     → m.fits b.layout (view_of b.state (seat_of b p)) t → ((s : ℕ) → s ≢ seat_of a p → view_of b.state s ≡ view_of a.state s)
-    → b.tasks ≡ set a.tasks p t → u ≡ get_or (set a.tasks p t) p u → y ≡ level m u → InPlay m (set ls p y) b
-play-after {S} m ls a b p y t u was now told play h made seats own fits others changed there value = record {
-  ready = ready-after m a b p made.played play.ready made.turn seats mine others;
-  eight = length-set ls p y ∙ play.eight;
-  are = ap (λ (ts : List S). take (length ts) (set ls p y)) changed ∙ ap (λ (n : ℕ). take n (set ls p y)) (length-set a.tasks p t)
-      ∙ (take-set-lt (length a.tasks) ls p y h ∙ (ap (λ (l : List ℕ). set l p y) play.are ∙ (ap (λ (k : ℕ). set (levels m a.tasks) p k) y-is
-      ∙ (sym (map-set (level m) a.tasks p t) ∙ ap (levels m) (sym changed)))));
-}
+    → b.tasks ≡ set a.tasks p t → Ready m b
+ready-told {S} m a b p t was now told ready h made seats own fits others changed = ready-after m a b p made.played ready made.turn seats mine others
   where
     after : IsAt (set a.tasks p t) p t
     after = IsAt-set a.tasks p t h
-
-    y-is : y ≡ level m t
-    y-is = value ∙ ap (level m) (IsAt-same (set a.tasks p t) p u t (record { within = after.within; is = sym there }) after)
 
     mine : (x : S) → IsAt b.tasks p x → ((m.who x).cpu ≡ cpu_of p) × m.fits b.layout (view_of b.state (seat_of b p)) x
     mine x at = subst (λ (z : S). ((m.who z).cpu ≡ cpu_of p) × m.fits b.layout (view_of b.state (seat_of b p)) z)
         (IsAt-same (set a.tasks p t) p t x after (subst (λ (ts : List S). IsAt ts p x) changed at)) (own, fits)
 
+-- with the array of levels, in which the one task's is new
+pub play-after : {S : Type 0} (m : Member S) (ls : List ℕ) (a b : Running S) (p y : ℕ) (u : S) (was now : List Played) (told : Turn × Option Kind)
+    → InPlay m ls a → p < length a.tasks → TurnTold m a p was now told b → Ready m b → u ≡ get_or b.tasks p u → y ≡ level m u → InPlay m (set ls p y) b
+play-after {S} m ls a b p y u was now told play h made ready there value = record {
+  ready = ready;
+  places = length-set ls p y ∙ play.places;
+  are = ap (λ (ts : List S). take (length ts) (set ls p y)) changed ∙ ap (λ (n : ℕ). take n (set ls p y)) (length-set a.tasks p t)
+      ∙ (take-set-lt (length a.tasks) ls p y h ∙ (ap (λ (l : List ℕ). set l p y) play.are ∙ (ap (λ (k : ℕ). set (levels m a.tasks) p k) y-is
+      ∙ (sym (map-set (level m) a.tasks p t) ∙ ap (levels m) (sym changed)))));
+}
+  where
+    t : S
+    t = made.turn.after
+
+    changed : b.tasks ≡ set a.tasks p t
+    changed = ap (λ (r : Running S). r.tasks) made.turn.next
+
+    after : IsAt b.tasks p t
+    after = subst (λ (ts : List S). IsAt ts p t) (sym changed) (IsAt-set a.tasks p t h)
+
+    y-is : y ≡ level m t
+    y-is = value ∙ ap (level m) (IsAt-same b.tasks p u t (record { within = after.within; is = sym there }) after)
+
 -- who comes next, by the array
 pub next-of : {S : Type 0} (m : Member S) (ls : List ℕ) (a : Running S) (q : Option ℕ) → InPlay m ls a → IsNext (take (length a.tasks) ls) q → IsNext (levels m a.tasks) q
 next-of m ls a q play next = subst (λ (l : List ℕ). IsNext l q) play.are next
-
--- a processor is over, by the array
-pub array-over : {S : Type 0} (m : Member S) (ls : List ℕ) (a : Running S) (p : ℕ) → InPlay m ls a → p < length a.tasks → 5 ≤ get_or ls p 0 → IsOver m a.tasks p
-array-over m ls a p play h over = task-over m a.tasks p (play.ready.law (omega (arith, h)))
-    (omega (arith, over, get_or_default ls p 0 5 (omega (arith, h, play.eight, few-tasks a.layout (length a.tasks) play.ready.rule.sound play.ready.crew.count)), get_or-take (length a.tasks) ls p 5 h, ap (λ (l : List ℕ). get_or l p 5) play.are))
 
 -- the chosen one's turn lowers the rank
 pub told-lowers : {S : Type 0} (m : Member S) (a b : Running S) (p : ℕ) (was now : List Played) (told : Turn × Option Kind) (q : Option ℕ)

@@ -1,16 +1,16 @@
 -- The rank of running tasks: what each turn of the finishing order lowers.
 use Rattle.std.specs.Prelude.{ℕ, ◌+◌, ◌-◌, ◌*◌, ◌==◌, Bool, true, false, cond, List, [], ◌∷◌, map, get_or, set, Option, Some, None}
 use Rattle.hwp_core_task.specs.hwp_core_rule.Words.{Words}
-use Rattle.hwp_core_task.specs.Ranks.{failure_weight, failures_left, words_at}
+use Rattle.hwp_core_task.specs.Ranks.{cpu_room, failure_weight, failures_left, top, words_at}
 use Rattle.hwp_core_task.specs.Turns.{Member}
 use Rattle.hwp_plain_order.specs.Order.{Running, levels}
 
 abbrev pub words_in : {S : Type 0} → Running S → Words
 words_in a = words_at a.layout a.state
 
--- how far a processor is from the end of its class, with eight processors at most
+-- how far a processor is from the end of its class, with as many processors as there is room for
 abbrev pub gap : ℕ → ℕ → ℕ
-gap cpu level = 40 - (8 * level + cpu)
+gap cpu level = 5 * cpu_room - (cpu_room * level + cpu)
 
 -- the sum of the gaps, the first being of this processor
 abbrev pub gaps : ℕ → List ℕ → ℕ
@@ -42,7 +42,7 @@ need_at m tasks words cpu = cost_at m tasks words cpu + failure_weight * failure
 
 -- more than all needs
 abbrev pub ceiling : ℕ
-ceiling = 4294967296
+ceiling = 2 * top
 
 abbrev pub number_of : ℕ → ℕ → ℕ → ℕ
 number_of phi yield need = (2 * phi + yield) * ceiling + need

@@ -1,7 +1,8 @@
 -- What a scheduler asks of tasks and board, and what it keeps between turns.
-use Rattle.std.specs.Prelude.{◌≡◌, ℕ, ◌<◌, ◌≤◌, List, ◌∷◌, length, take, get_or, Option, Some, None}
+use Rattle.std.specs.Prelude.{◌≡◌, ◌≢◌, ℕ, ◌<◌, ◌≤◌, List, ◌∷◌, length, take, get_or, Option, Some, None}
 use Rattle.hwp_script_read.specs.hwp_geom.declared.Frame.{Frame}
 use Rattle.hwp_script_read.specs.hwp_geom.declared.Kind.{Kind}
+use Rattle.hwp_script_read.specs.hwp_geom.Limits.{cpu_limit}
 use Rattle.hwp_core_task.specs.hwp_core_rule.Rule.{Holds}
 use Rattle.hwp_core_task.specs.declared.Turn.{Turn}
 use Rattle.hwp_core_task.specs.Boards.{Played, view_of, AreSeated}
@@ -33,10 +34,14 @@ pub record Ready {S : Type 0} (m : Member S) (a : Running S) : Type 0 where
   pub seats : AreSeated a.layout a.state a.seat
   pub crew : IsCrew m a
 
--- what the scheduler keeps between turns, with its array of levels
+-- the task of the processor isn't over
+abbrev pub Goes : {S : Type 0} → Member S → List S → ℕ → Type 0
+Goes {S} m tasks cpu = (s : S) → IsAt tasks cpu s → m.plan s ≢ None
+
+-- what the scheduler keeps between turns of the finishing order, with its array of levels
 pub record InPlay {S : Type 0} (m : Member S) (ls : List ℕ) (a : Running S) : Type 0 where
   pub ready : Ready m a
-  pub eight : length ls ≡ 8
+  pub places : length ls ≡ cpu_limit
   pub are : take (length a.tasks) ls ≡ levels m a.tasks
 
 -- a turn as the board logs it and as it tells it

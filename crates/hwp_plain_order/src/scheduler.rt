@@ -1,8 +1,9 @@
 ghost use Rattle.std.specs.Prelude.{◌≡◌, ℕ, ◌<◌, ◌≤◌, ◌↔◌, List, length, take, get_or, All, IfOk, OnOk, OnErr, IsTrue};
+ghost use Rattle.hwp_script_read.specs.hwp_geom.Limits.{cpu_limit};
 ghost use Rattle.hwp_script_read.specs.declared.Go.{Go as GoOf};
 ghost use Rattle.hwp_core_task.specs.Classes.{IsScheduled};
 ghost use Rattle.hwp_plain_order.specs.Order.{running, level, levels, IsNoMemory, EndsWord, Word, Finishing, InOrder, Grows, IsRefused, AreOver};
-ghost use Rattle.hwp_plain_order.specs.Ready.{IsCrew, InPlay, TurnTold, IsNext};
+ghost use Rattle.hwp_plain_order.specs.Ready.{IsCrew, InPlay, Ready, Goes, TurnTold, IsNext};
 
 use hwp_core_task::{Board, Scheduled, Turn};
 use hwp_script_read::{Cpu, Go, Kind, MAX_CPUS, OutOfMemory, Until};
@@ -23,8 +24,8 @@ fn level_of<T: Scheduled>(task: &T) -> u8
 
 /// The levels of the tasks, and `OVER` in the places that are left.
 fn levels_of<T: Scheduled>(tasks: &[T]) -> [u8; PLACES]
-    requires few { length tasks.now ≤ 8 }
-    ensures { (length result ≡ 8) × (take (length tasks.now) result ≡ levels T.task tasks.now) }
+    requires few { length tasks.now ≤ cpu_limit }
+    ensures { (length result ≡ cpu_limit) × (take (length tasks.now) result ≡ levels T.task tasks.now) }
 {
     let mut levels = [OVER; PLACES];
     for (i, task) in tasks.iter().enumerate() {
@@ -79,6 +80,29 @@ fn is_refused(turn: Turn) -> bool
 }
 
 /// A turn of a processor that isn't over.
+#[inline(always)]
+fn take_turn<B: Board, T: Scheduled>(
+    board: &mut B,
+    tasks: &mut [T],
+    cpu: Cpu,
+) -> Result<(Turn, Option<Kind>), OutOfMemory>
+    requires ready { Ready T.task (running (B.layout board.old) (B.seat board.old) tasks.old (B.state board.old)) }
+    requires cpu { cpu.0 < length tasks.old }
+    requires goes { Goes T.task tasks.old cpu.0 }
+    ensures ready { OnOk result (Ready T.task (running (B.layout board.new) (B.seat board.new) tasks.new (B.state board.new))) }
+    ensures count { length tasks.new ≡ length tasks.old }
+    ensures turn { IfOk result (λ told. TurnTold T.task (running (B.layout board.old) (B.seat board.old) tasks.old (B.state board.old)) cpu.0 (B.log board.old) (B.log board.new) told (running (B.layout board.new) (B.seat board.new) tasks.new (B.state board.new))) }
+    ensures refused { OnErr result (IsRefused (B.log board.new)) }
+{
+    let (turn, kind) = board.advance(cpu, &mut tasks[cpu.0 as usize]);
+    board.keeps();
+    if is_refused(turn) {
+        return Err(AllocError);
+    }
+    Ok((turn, kind))
+}
+
+/// A turn of a processor that isn't over, and the array of levels as it is after it.
 fn make_turn<B: Board, T: Scheduled>(
     board: &mut B,
     tasks: &mut [T],
@@ -93,32 +117,27 @@ fn make_turn<B: Board, T: Scheduled>(
     ensures turn { IfOk result (λ told. TurnTold T.task (running (B.layout board.old) (B.seat board.old) tasks.old (B.state board.old)) cpu (B.log board.old) (B.log board.new) told (running (B.layout board.new) (B.seat board.new) tasks.new (B.state board.new))) }
     ensures refused { OnErr result (IsRefused (B.log board.new)) }
 {
-    let (turn, kind) = board.advance(Cpu(cpu as u8), &mut tasks[cpu]);
-    board.keeps();
-    if is_refused(turn) {
-        return Err(AllocError);
-    }
+    let told = take_turn(board, tasks, Cpu(cpu as u8))?;
     levels[cpu] = level_of(&tasks[cpu]);
-    Ok((turn, kind))
+    Ok(told)
 }
 
 /// The turns of a word of the schedule.
 fn play_word<B: Board, T: Scheduled>(
     board: &mut B,
     tasks: &mut [T],
-    levels: &mut [u8; PLACES],
     go: &Go,
 ) -> Result<(), OutOfMemory>
-    requires play { InPlay T.task levels.old (running (B.layout board.old) (B.seat board.old) tasks.old (B.state board.old)) }
+    requires ready { Ready T.task (running (B.layout board.old) (B.seat board.old) tasks.old (B.state board.old)) }
     requires cpu { go.now.cpu.0 < length tasks.old }
-    ensures play { OnOk result (InPlay T.task levels.new (running (B.layout board.new) (B.seat board.new) tasks.new (B.state board.new))) }
+    ensures ready { OnOk result (Ready T.task (running (B.layout board.new) (B.seat board.new) tasks.new (B.state board.new))) }
     ensures count { length tasks.new ≡ length tasks.old }
     ensures word { OnOk result (Grows (B.log board.old) (B.log board.new) (λ ps. Word T.task go.now (running (B.layout board.old) (B.seat board.old) tasks.old (B.state board.old)) ps (running (B.layout board.new) (B.seat board.new) tasks.new (B.state board.new)))) }
     ensures refused { OnErr result (IsRefused (B.log board.new)) }
 {
     let cpu = usize::from(go.cpu.0);
-    while levels[cpu] < OVER {
-        let (turn, kind) = make_turn(board, tasks, levels, cpu)?;
+    while !tasks[cpu].is_over() {
+        let (turn, kind) = take_turn(board, tasks, go.cpu)?;
         if is_end(go.until, turn, kind) {
             return Ok(());
         }
@@ -165,10 +184,10 @@ pub fn step_all<B: Board, T: Scheduled>(
 {
     board.keeps();
     keep_law(tasks);
-    let mut levels = levels_of(tasks);
     for word in go {
-        play_word(board, tasks, &mut levels, word)?;
+        play_word(board, tasks, word)?;
     }
+    let mut levels = levels_of(tasks);
     finish(board, tasks, &mut levels)?;
     Ok(())
 }

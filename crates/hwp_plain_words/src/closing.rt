@@ -1,4 +1,5 @@
 ghost use Rattle.std.specs.Prelude.{◌≡◌, ◌≤◌, Some, None, map, length, slice_get, slice_set, IfOk};
+ghost use Rattle.hwp_core_task.specs.hwp_geom.Limits.{frame_limit, page_limit};
 ghost use Rattle.hwp_core_task.specs.hwp_core_rule.declared.Log.{Log};
 ghost use Rattle.hwp_plain_words.specs.Openings.{home_with};
 ghost use Rattle.hwp_plain_words.specs.Ends.{slot_by, AreLed, AreHistories};
@@ -14,8 +15,8 @@ pub fn histories(
     frames: usize,
     caches: &[u64],
 ) -> Result<List<List<Entry>>, OutOfMemory>
-    requires few { frames ≤ 256 }
-    requires caches { length caches.now ≤ 256 }
+    requires few { frames ≤ frame_limit }
+    requires caches { length caches.now ≤ page_limit }
     requires led { AreLed frames caches.now (map home_with bodies.items) }
     ensures count { IfOk result (λ pages. length pages ≡ length caches.now) }
     ensures pages { IfOk result (λ pages. AreHistories (map home_with bodies.items) pages) }
@@ -31,8 +32,8 @@ pub fn histories(
 
 /// The slot of the body of a page that has this cache word.
 fn slot_by(frames: usize, cache: u64, page: usize) -> usize
-    requires few { frames ≤ 256 }
-    requires page { page ≤ 256 }
+    requires few { frames ≤ frame_limit }
+    requires page { page ≤ page_limit }
     ensures { result ≡ slot_by frames cache page }
 {
     if cache == 0 {

@@ -1,5 +1,6 @@
 ghost use Rattle.std.specs.Prelude.{◌≡◌, ◌*◌, ◌<◌, ◌≤◌, ◌++◌, map, length, take, drop, replicate, OnOk, IfOk};
 ghost use Rattle.hwp_core_task.specs.hwp_geom.Layout.{IsSound};
+ghost use Rattle.hwp_core_task.specs.hwp_geom.Limits.{frame_limit, translation_limit};
 ghost use Rattle.hwp_core_task.specs.hwp_core_rule.Opening.{below, opening_frame, free_bits, opening_free, opening_words};
 ghost use Rattle.hwp_core_task.specs.hwp_core_rule.Words.{free_words};
 ghost use Rattle.hwp_plain_words.specs.Openings.{usable_in};
@@ -31,7 +32,7 @@ pub fn opening_words(alloc: Global, layout: &Layout) -> Result<Vec<u64>, OutOfMe
 
 /// So many equal words more.
 fn fill(words: &mut Vec<u64>, count: usize, word: u64) -> Result<(), OutOfMemory>
-    requires { count ≤ 512 }
+    requires { count ≤ translation_limit }
     ensures { OnOk result (words.new.items ≡ words.old.items ++ replicate count word) }
 {
     words.resize(words.len() + count, word)
@@ -87,7 +88,7 @@ fn bits_of(kernel: &[bool]) -> u64
 
 /// How many frames are not the kernel's.
 fn available(kernel: &[bool]) -> u64
-    requires { length kernel.now ≤ 256 }
+    requires { length kernel.now ≤ frame_limit }
     ensures { result ≡ usable_in kernel.now }
 {
     let mut count = 0;

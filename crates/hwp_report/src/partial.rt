@@ -18,7 +18,7 @@ pub(crate) struct Front {
     pub stop: Option<Stop>,
     /// The number of poisoned frames.
     pub count: u64,
-    /// The losses of each file that no `fsync` has told yet.
+    /// The losses of each file.
     pub files: List<u64>,
 }
 

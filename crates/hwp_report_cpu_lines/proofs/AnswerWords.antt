@@ -28,16 +28,17 @@ short_listed short.NotPoisoned = record { place = 10; fits = omega arith; is = r
 short_listed short.HardwareSeen = record { place = 11; fits = omega arith; is = refl }
 
 abbrev pub all_counted : List Counted
-all_counted = counted.Gone ∷ counted.Eio ∷ counted.Is ∷ counted.HasBad ∷ counted.InUse ∷ counted.Scrubbed ∷ counted.Raised ∷ []
+all_counted = counted.Gone ∷ counted.Eio ∷ counted.Opened ∷ counted.Is ∷ counted.HasBad ∷ counted.InUse ∷ counted.Scrubbed ∷ counted.Raised ∷ []
 
 pub counted_listed : (x : Counted) → IsListed all_counted counted.Gone x
 counted_listed counted.Gone = record { place = 0; fits = omega arith; is = refl }
 counted_listed counted.Eio = record { place = 1; fits = omega arith; is = refl }
-counted_listed counted.Is = record { place = 2; fits = omega arith; is = refl }
-counted_listed counted.HasBad = record { place = 3; fits = omega arith; is = refl }
-counted_listed counted.InUse = record { place = 4; fits = omega arith; is = refl }
-counted_listed counted.Scrubbed = record { place = 5; fits = omega arith; is = refl }
-counted_listed counted.Raised = record { place = 6; fits = omega arith; is = refl }
+counted_listed counted.Opened = record { place = 2; fits = omega arith; is = refl }
+counted_listed counted.Is = record { place = 3; fits = omega arith; is = refl }
+counted_listed counted.HasBad = record { place = 4; fits = omega arith; is = refl }
+counted_listed counted.InUse = record { place = 5; fits = omega arith; is = refl }
+counted_listed counted.Scrubbed = record { place = 6; fits = omega arith; is = refl }
+counted_listed counted.Raised = record { place = 7; fits = omega arith; is = refl }
 
 abbrev pub all_placed : List Placed
 all_placed = placed.Stored ∷ placed.Sigbus ∷ placed.Done ∷ placed.NotResident ∷ placed.NotMapped ∷ placed.Dirty ∷ placed.Mapped ∷ []

@@ -90,6 +90,7 @@ no_place word page entry none answer fits e = absurd (omega (arith, ap length e)
 pub no_counted : (word value : List ℕ) → ((kind : Counted) → word ≡ counted_text kind → ⊥) → (answer : Answer) → word ∷ value ∷ [] ≡ answer_words answer → ⊥
 no_counted word value none (answers.Gone page) e = none counted.Gone (word_at 0 e)
 no_counted word value none (answers.Eio n) e = none counted.Eio (word_at 0 e)
+no_counted word value none (answers.Opened n) e = none counted.Opened (word_at 0 e)
 no_counted word value none (answers.Is n) e = none counted.Is (word_at 0 e)
 no_counted word value none (answers.HasBad mask) e = none counted.HasBad (word_at 0 e)
 no_counted word value none (answers.InUse n) e = none counted.InUse (word_at 0 e)

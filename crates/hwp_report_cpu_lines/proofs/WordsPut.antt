@@ -41,6 +41,7 @@ put_answer (answers.Dirty at) h = then (fixed _ _ refl) (put_place at h)
 put_answer (answers.Mapped at) h = then (fixed _ _ refl) (put_place at h)
 put_answer (answers.BadLines mask at) h = then (fixed _ _ refl) (then (put_mask h.0) (put_place at h.1))
 put_answer (answers.Eio lost) h = then (fixed _ _ refl) (then (put_u64 h) nothing)
+put_answer (answers.Opened lost) h = then (fixed _ _ refl) (then (put_u64 h) nothing)
 put_answer (answers.Is policy) h = then (fixed _ _ refl) (then (put_u64 h) nothing)
 put_answer answers.Einval h = then (fixed _ _ refl) nothing
 put_answer answers.Recovered h = then (fixed _ _ refl) nothing

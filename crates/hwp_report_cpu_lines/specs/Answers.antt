@@ -28,6 +28,7 @@ short_text short.HardwareSeen = codes "hardwareseen"
 abbrev pub counted_text : Counted → List ℕ
 counted_text counted.Gone = codes "gone"
 counted_text counted.Eio = codes "eio"
+counted_text counted.Opened = codes "opened"
 counted_text counted.Is = codes "is"
 counted_text counted.HasBad = codes "hasbad"
 counted_text counted.InUse = codes "inuse"

@@ -32,6 +32,7 @@ AnswerFits (answers.Dirty at) = AtFits at
 AnswerFits (answers.Mapped at) = AtFits at
 AnswerFits (answers.BadLines mask at) = (mask.0 < 2 ^ 64) × AtFits at
 AnswerFits (answers.Eio lost) = lost < 2 ^ 64
+AnswerFits (answers.Opened lost) = lost < 2 ^ 64
 AnswerFits (answers.Is policy) = policy < 2 ^ 64
 AnswerFits (answers.Moved frame at) = (frame.0 < 2 ^ 16) × AtFits at
 AnswerFits (answers.HasBad mask) = mask.0 < 2 ^ 64

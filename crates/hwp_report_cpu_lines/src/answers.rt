@@ -56,6 +56,7 @@ fn read_counted_answer(word: &[u8], value: &[u8]) -> Option<Answer>
     match kind {
         Counted::Gone => Some(Answer::Gone(Page(read_u16(value)?))),
         Counted::Eio => Some(Answer::Eio(read_number(value)?)),
+        Counted::Opened => Some(Answer::Opened(read_number(value)?)),
         Counted::Is => Some(Answer::Is(read_number(value)?)),
         Counted::HasBad => Some(Answer::HasBad(Mask(read_hex(value)?))),
         Counted::InUse => Some(Answer::InUse(read_number(value)?)),

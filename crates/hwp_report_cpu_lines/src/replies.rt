@@ -25,6 +25,7 @@ pub(crate) enum Short {
 pub(crate) enum Counted {
     Gone,
     Eio,
+    Opened,
     Is,
     HasBad,
     InUse,
@@ -69,9 +70,10 @@ const SHORT: [Short; 12] = [
 ];
 
 /// The words of answers that a number follows.
-const COUNTED: [Counted; 7] = [
+const COUNTED: [Counted; 8] = [
     Counted::Gone,
     Counted::Eio,
+    Counted::Opened,
     Counted::Is,
     Counted::HasBad,
     Counted::InUse,
@@ -121,6 +123,7 @@ impl HasWord for Counted {
         match self {
             Counted::Gone => "gone",
             Counted::Eio => "eio",
+            Counted::Opened => "opened",
             Counted::Is => "is",
             Counted::HasBad => "hasbad",
             Counted::InUse => "inuse",

@@ -10,7 +10,7 @@ pub enum ReportLine {
     Stop(Option<Stop>),
     /// `count N`: the number of poisoned frames.
     Count(u64),
-    /// `file N lost L`: a file, and its losses that no `fsync` has told yet.
+    /// `file N lost L`: a file, and its losses.
     File {
         number: u64,
         lost: u64,

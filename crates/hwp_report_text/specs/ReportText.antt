@@ -164,6 +164,7 @@ answer_words (answers.Dirty at) = placed (codes "dirty") at
 answer_words (answers.Mapped at) = placed (codes "mapped") at
 answer_words (answers.BadLines mask at) = codes "badlines" ∷ hex mask.0 ∷ decimal at.page.0 ∷ decimal at.entry ∷ []
 answer_words (answers.Eio lost) = codes "eio" ∷ decimal lost ∷ []
+answer_words (answers.Opened lost) = codes "opened" ∷ decimal lost ∷ []
 answer_words (answers.Is policy) = codes "is" ∷ decimal policy ∷ []
 answer_words answers.Einval = codes "einval" ∷ []
 answer_words answers.Recovered = codes "recovered" ∷ []

@@ -79,6 +79,8 @@ pub enum Answer {
     BadLines(Mask, At),
     /// This many losses had come to the file since the last time.
     Eio(u64),
+    /// The file is open, and had come to this many losses.
+    Opened(u64),
     /// The policy has this number (prctl(2)).
     Is(u64),
     /// The arguments were none that prctl(2) takes.

@@ -34,7 +34,7 @@ pub struct Report {
     pub stop: Option<Stop>,
     /// The number of poisoned frames.
     pub count: u64,
-    /// For each file, the number of losses that no `fsync` has told yet.
+    /// For each file, the number of its losses.
     pub files: List<u64>,
     /// A line for each frame.
     pub frames: List<FrameLine>,

@@ -52,22 +52,22 @@ fn draw_list(
     requires cpu { cpu < 4 }
     ensures { IfOk result (λ drawn. (drawn, rng.new) ≡ many (command cpu) count rng.old) }
 {
-    let mut list = List::new(alloc);
+    let mut list = Vec::with_capacity(alloc, usize::from(count))?;
     for _number in 0..count {
-        list.push(draw_command(cpu, rng))?;
+        list.push_reserved(draw_command(cpu, rng));
     }
-    Ok(list)
+    Ok(List::from_vec(list))
 }
 
 /// So many words of schedule.
 fn draw_schedule(alloc: Global, count: u16, rng: &mut Lcg64Xsh32) -> Result<List<Go>, OutOfMemory>
     ensures { IfOk result (λ drawn. (drawn, rng.new) ≡ many go count rng.old) }
 {
-    let mut words = List::new(alloc);
+    let mut words = Vec::with_capacity(alloc, usize::from(count))?;
     for _number in 0..count {
-        words.push(draw_go(rng))?;
+        words.push_reserved(draw_go(rng));
     }
-    Ok(words)
+    Ok(List::from_vec(words))
 }
 
 /// A word of schedule: one turn of a processor.

@@ -6,6 +6,7 @@ pub mod CommandLaws
 pub mod NumberLaws
 pub mod KeywordLaws
 pub mod TurnLaws
+pub mod ShortTurns
 pub mod SentenceLaws
 pub mod LineUnique
 pub mod Shapes

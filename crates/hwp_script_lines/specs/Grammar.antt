@@ -121,6 +121,12 @@ pieces_of cpu untils.One = decimal cpu ∷ []
 pieces_of cpu untils.Command = (decimal cpu ++ codes ".") ∷ []
 pieces_of cpu (untils.After kind) = decimal cpu ∷ kind_text kind ∷ []
 
+-- what stands behind the number in a word of a schedule
+abbrev pub behind_number : Until → List ℕ
+behind_number untils.One = []
+behind_number untils.Command = codes "."
+behind_number (untils.After kind) = codes "@" ++ kind_text kind
+
 -- the pieces are those of a word of a schedule
 pub record AreTurnPieces (pieces : List (List ℕ)) (turn : Go) : Type 0 where
   pub fits : turn.cpu.0 < cpu_limit

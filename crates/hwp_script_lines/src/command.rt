@@ -54,7 +54,7 @@ pub enum Command {
     Out {
         page: Page,
     },
-    /// Takes the number of losses of a file, as fsync(2) reports an error once.
+    /// Tells the losses of a file that its processor hasn't been told of, as fsync(2) reports an error once for each open file.
     Fsync {
         file: FileNo,
     },

@@ -1,6 +1,7 @@
-ghost use Rattle.std.specs.Prelude.{◌≡◌, ◌<◌, ◌++◌, ℕ, List as Items, [], ◌∷◌, length, map, codes, IfOk, MatchResult, MatchOption};
+ghost use Rattle.std.specs.Prelude.{◌≡◌, ◌<◌, ◌+◌, ◌++◌, ℕ, List as Items, [], ◌∷◌, length, map, codes, IfOk, IfSome, MatchResult, MatchOption};
+ghost use Rattle.hwp_geom.specs.Limits.{cpu_limit};
 ghost use Rattle.hwp_geom.specs.Pairs.{Pairs};
-ghost use Rattle.hwp_script_lines.specs.Grammar.{AreTurnPieces, IsTurn, pieces_of, schedule_keyword};
+ghost use Rattle.hwp_script_lines.specs.Grammar.{AreTurnPieces, IsTurn, behind_number, pieces_of, schedule_keyword};
 ghost use Rattle.hwp_script_lines.specs.Misfits.{AreTurnMisfit, IsTurnMisfit, IsSentenceMisfit};
 
 use crate::command::{Go, Until};
@@ -75,10 +76,57 @@ fn read_pieces(pieces: &[&[u8]]) -> Result<Go, Misfit>
     }
 }
 
+/// The number of a processor that a digit writes.
+fn cpu_of(digit: u8) -> Option<u8>
+    ensures { IfSome result (λ cpu. (cpu < cpu_limit) × (digit ≡ 48 + cpu)) }
+{
+    match digit {
+        b'0'..=b'7' => Some(digit - b'0'),
+        _ => None,
+    }
+}
+
+/// How long a processor goes on, by what stands behind its number in a word of the schedule.
+fn until_of(rest: &[u8]) -> Option<Until>
+    ensures { IfSome result (λ until. rest.now ≡ behind_number until) }
+{
+    match rest {
+        [] => Some(Until::One),
+        [b'.'] => Some(Until::Command),
+        [b'@', kind @ ..] => match read_kind(kind) {
+            Some(kind) => Some(Until::After(kind)),
+            None => None,
+        },
+        _ => None,
+    }
+}
+
+/// The schedule word that a word is, at once and without memory, as each one is read that is right; `None` says nothing.
+fn short_turn(word: &[u8]) -> Option<Go>
+    ensures { IfSome result (IsTurn word.now) }
+{
+    let [digit, rest @ ..] = word else {
+        return None;
+    };
+    let Some(cpu) = cpu_of(*digit) else {
+        return None;
+    };
+    let Some(until) = until_of(rest) else {
+        return None;
+    };
+    Some(Go {
+        cpu: Cpu(cpu),
+        until,
+    })
+}
+
 /// The schedule word that a word is.
 fn read_turn(alloc: Global, word: &[u8]) -> Result<Result<Go, Misfit>, OutOfMemory>
     ensures { IfOk result (λ read. MatchResult read (IsTurn word.now) (IsTurnMisfit word.now)) }
 {
+    if let Some(turn) = short_turn(word) {
+        return Ok(Ok(turn));
+    }
     let pieces = parts(alloc, word, b'@')?;
     Ok(read_pieces(pieces.as_slice()))
 }

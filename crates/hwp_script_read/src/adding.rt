@@ -9,6 +9,7 @@ use crate::context::Summary;
 use hwp_geom::{Cpu, FileNo, List, OutOfMemory, Page, PageKind, Proc, ThreadDecl, TransDecl};
 use hwp_script_lines::{Backing, Command, Go, ScriptLine};
 use std::alloc::Global;
+use std::mem;
 
 /// So many frames, of which none is the kernel's.
 fn no_marks(alloc: Global, frames: u64) -> Result<Vec<bool>, OutOfMemory>
@@ -40,12 +41,12 @@ fn page_kind(backing: Backing) -> PageKind
 }
 
 /// Adds words to a schedule.
-fn push_words(go: &mut List<Go>, words: &[Go]) -> Result<(), OutOfMemory>
+fn push_words(alloc: Global, go: &mut List<Go>, words: &[Go]) -> Result<(), OutOfMemory>
     ensures { OnOk result (go.new ≡ go.old ++ words.now) }
 {
-    for word in words {
-        go.push(*word)?;
-    }
+    let mut longer = mem::replace(go, List::new(alloc)).into_vec();
+    longer.extend_from_slice(words)?;
+    *go = List::from_vec(longer);
     Ok(())
 }
 
@@ -234,14 +235,19 @@ impl Summary {
     }
 
     #[tactic(auto, using(crate::proofs::CleanLaws::clean_schedule))]
-    fn add_schedule(&mut self, above: &[ScriptLine], words: &[Go]) -> Result<(), OutOfMemory>
+    fn add_schedule(
+        &mut self,
+        above: &[ScriptLine],
+        alloc: Global,
+        words: &[Go],
+    ) -> Result<(), OutOfMemory>
         requires sums { Sums above.now self.old }
         requires clean { IsClean above.now (ScriptLine.Schedule words.now) }
         ensures { OnOk result (Sums (above.now ++ ScriptLine.Schedule words.now ∷ []) self.new) }
     {
         self.group = 12;
         self.place = None;
-        push_words(&mut self.go, words)?;
+        push_words(alloc, &mut self.go, words)?;
         Ok(())
     }
 
@@ -289,7 +295,7 @@ impl Summary {
             } => return self.add_trans(above, *slot, *process, *page),
             ScriptLine::Cpu(cpu) => return self.add_cpu(above, *cpu),
             ScriptLine::Command(command) => return self.add_command(above, command),
-            ScriptLine::Schedule(words) => return self.add_schedule(above, words.as_slice()),
+            ScriptLine::Schedule(words) => return self.add_schedule(above, alloc, words.as_slice()),
             ScriptLine::End => self.add_end(above),
         }
         Ok(())

@@ -37,6 +37,7 @@ use Rattle.hwp_cpu_check.specs.Events.{held_in}
 use Rattle.hwp_cpu_check.specs.Fits as handler_fits
 use Rattle.hwp_cpu_check.specs.Fits.{events_of}
 use Rattle.hwp_cpu_check.specs.Handlers as handlers
+use Rattle.hwp_cpu_check.specs.hwp_geom.Limits.{frame_limit}
 use Rattle.hwp_cpu_check.proofs.BankGrades.{found-in}
 use Rattle.hwp_cpu_check.proofs.HandlerRank.{handler-lasting, handler-ranked, handler-tells}
 use Rattle.hwp_cpu_check.proofs.EventTells.{tell-cost, tell-idle}
@@ -63,32 +64,32 @@ scrub-class s = which s.at
 
 -- ---- a scrub costs less than the weight of a failure
 
-handler-few : (h : Handler) (w : Words) → length (events_of h.events) ≤ bank_count → handlers.cost h w ≤ 8874
+handler-few : (h : Handler) (w : Words) → length (events_of h.events) ≤ bank_count → handlers.cost h w ≤ handlers.handler_most
 handler-few h w few =
     let all : length (events_of h.events) ≡ length (map (λ (t : EventOutcome). t.held) h.events.told) + length h.events.left = length-append (map (λ (t : EventOutcome). t.held) h.events.told) h.events.left in which h.at (omega (arith, all, few))
   where
-    which : (x : HandlerAt) → length h.events.left ≤ 3 → handlers.cost_with (length h.events.left) x w ≤ 8874
+    which : (x : HandlerAt) → length h.events.left ≤ 3 → handlers.cost_with (length h.events.left) x w ≤ handlers.handler_most
     which handler_at.Stop left = omega arith
-    which (handler_at.Fail f) left = let small : fails.cost f w ≤ 8871 = fail-small f w in omega (arith, left, small)
+    which (handler_at.Fail f) left = let small : fails.cost f w ≤ fails.fail_most = fail-small f w in omega (arith, left, small)
     which handler_at.GaveUp left = omega arith
     which (handler_at.Over stopped) left = omega arith
 
-pub scrub-below : (layout : Layout) (view : View) (s : Scrub) (w : Words) → Fits layout view s → cost s w < 32768
+pub scrub-below : (layout : Layout) (view : View) (s : Scrub) (w : Words) → Fits layout view s → cost s w < failure_weight
 scrub-below layout view s w fits = which s.at fits.at
   where
-    last-few : s.last.0 < 256
-    last-few = let frames : layout.frames ≤ 256 = fits.sound.frames in let within : s.last.0 < layout.frames = fits.frames.within in omega (arith, frames, within)
+    last-few : s.last.0 < frame_limit
+    last-few = let frames : layout.frames ≤ frame_limit = fits.sound.frames in let within : s.last.0 < layout.frames = fits.frames.within in omega (arith, frames, within)
 
-    which : (x : ScrubAt) → FitsAt layout view s x → cost_at s.first s.last x w < 32768
+    which : (x : ScrubAt) → FitsAt layout view s x → cost_at s.first s.last x w < failure_weight
     which at.LoadStop has = omega (arith, last-few)
     which (at.LoadBad frame) has = omega (arith, last-few)
-    which (at.Handle frame h) has = let few : handlers.cost h w ≤ 8874 = handler-few h w has.0.handler.found.few in omega (arith, last-few, few)
+    which (at.Handle frame h) has = let few : handlers.cost h w ≤ handlers.handler_most = handler-few h w has.0.handler.found.few in omega (arith, last-few, few)
     which (at.LoadWeak frame) has = omega (arith, last-few)
     which at.GiveUp has = omega arith
     which (at.Over answer) has = omega arith
 
 scrub-small : (layout : Layout) (a : State) (seat : ℕ) (s : Scrub) → Holds layout a → Fits layout (view_of a seat) s → cost s (words_at layout a) < top
-scrub-small layout a seat s rule fits = let below : cost s (words_at layout a) < 32768 = scrub-below layout (view_of a seat) s (words_at layout a) fits in omega (arith, below)
+scrub-small layout a seat s rule fits = let below : cost s (words_at layout a) < failure_weight = scrub-below layout (view_of a seat) s (words_at layout a) fits in omega (arith, below)
 
 -- ---- what a machine check goes on as
 

@@ -23,7 +23,7 @@ use Rattle.hwp_evict.specs.hwp_core_task.declared.Turn.TheVariants.{Moved}
 use Rattle.hwp_evict.specs.hwp_core_task.Boards.{view_of}
 use Rattle.hwp_evict.specs.hwp_core_task.Calls.{logs, rec_of}
 use Rattle.hwp_evict.specs.hwp_core_task.Hands.{Hand}
-use Rattle.hwp_evict.specs.hwp_core_task.Ranks.{IsRanked, Made, OtherHand, Pending, Quiet, failures_left, is_waits, words_at}
+use Rattle.hwp_evict.specs.hwp_core_task.Ranks.{IsRanked, Made, OtherHand, Pending, Quiet, failures_left, is_waits, words_at, free_room, take_most}
 use Rattle.hwp_evict.proofs.of_hwp_core_task.StepRanks.{failed, met, pending-kept, retire-fails, steps-on, words-after, words-kept}
 use Rattle.hwp_evict.specs.hwp_core.declared.give_up.GiveUp.{GiveUp}
 use Rattle.hwp_evict.specs.hwp_core.declared.refer.Refer.{Refer}
@@ -41,6 +41,7 @@ use Rattle.hwp_evict.specs.hwp_core.Refers as refers
 use Rattle.hwp_evict.specs.hwp_core.Releases as releases
 use Rattle.hwp_fault_fill.specs.Takes as takes
 use Rattle.hwp_evict.specs.hwp_core.Unholds as unholds
+use Rattle.hwp_evict.specs.hwp_geom.Limits.{frame_limit}
 use Rattle.hwp_evict.proofs.of_hwp_core.GiveUpCosts.{give-up-falls, give-up-goes, give-up-mild, give-up-ranked, give-up-small}
 use Rattle.hwp_evict.proofs.of_hwp_core.FreeWords.{frees-length}
 use Rattle.hwp_fault_fill.proofs.StepWords.{is-met, words_then}
@@ -82,16 +83,16 @@ use Rattle.hwp_soft.specs.declared.soft.SoftAnswer.TheVariants as answers
 use Rattle.hwp_soft.specs.declared.soft.SoftAt.{SoftAt}
 use Rattle.hwp_soft.specs.declared.soft.SoftAt.TheVariants as at
 use Rattle.hwp_soft.specs.Offline.{Fits, FitsAt, IsDiscarding, IsRelocating, IsSeizing, task as soft-task}
-use Rattle.hwp_soft.specs.Softs.{Follows, FollowsAt, Moves, ShowsAt, TakesOne, aborts, aborts_at, after_discard, after_relocate, after_release, after_seize, after_take, after_unhold, bare, bare_at, claim_of, claims, claims_at, class, class_at, cost, cost_at, ended, given_up, let_go, plan, plan_at, put, put_at}
+use Rattle.hwp_soft.specs.Softs.{Follows, FollowsAt, Moves, ShowsAt, TakesOne, aborts, aborts_at, after_discard, after_relocate, after_release, after_seize, after_take, after_unhold, bare, bare_at, claim_of, claims, claims_at, class, class_at, cost, cost_at, ended, given_up, let_go, plan, plan_at, put, put_at, move_most, seized_most, soft_most}
 use Rattle.hwp_soft.proofs.SoftFits.{both}
 
 -- ---- what is left once a part is over
 
 module _ (who : Who) (frame : Frame) where
-  seize-ends : (z : Seize) (w : Words) → cost_at (after_seize who frame z) w ≤ seizes.cost_with 540 z.at w
+  seize-ends : (z : Seize) (w : Words) → cost_at (after_seize who frame z) w ≤ seizes.cost_with seized_most z.at w
   seize-ends z w = which z.at
     where
-      which : (x : SeizeAt) → cost_at (after_seize who frame (record z { at = x })) w ≤ seizes.cost_with 540 x w
+      which : (x : SeizeAt) → cost_at (after_seize who frame (record z { at = x })) w ≤ seizes.cost_with seized_most x w
       which seize_at.Look = omega arith
       which (seize_at.Grab g) = omega arith
       which (seize_at.Meet m) = omega arith
@@ -161,10 +162,10 @@ module _ (who : Who) (frame : Frame) where
         which seize_at.Free waits = absurd (both_ways true (sym waits) refl)
         which (seize_at.Owned page body) waits = absurd (both_ways true (sym waits) refl)
 
-  take-ends : (page : Page) (body : BodyValue) (t : Take) (w : Words) → cost_at (after_take who frame page body t) w ≤ takes.cost t w + 526
+  take-ends : (page : Page) (body : BodyValue) (t : Take) (w : Words) → cost_at (after_take who frame page body t) w ≤ takes.cost t w + move_most
   take-ends page body t w = which t.at
     where
-      which : (x : TakeAt) → cost_at (after_take who frame page body (record t { at = x })) w ≤ takes.cost (record t { at = x }) w + 526
+      which : (x : TakeAt) → cost_at (after_take who frame page body (record t { at = x })) w ≤ takes.cost (record t { at = x }) w + move_most
       which take_at.LoadAvailable = omega arith
       which (take_at.Reserve seen) = omega arith
       which (take_at.LoadFree number) = omega arith
@@ -333,21 +334,21 @@ module _ {layout : Layout} {seat : ℕ} {a b : State} {s t : Soft} {turned : Tur
       which true waits = absurd (both_ways true (sym waits ∙ ap is_waits (sym (on waits)) ∙ ap is_waits (sym is) ∙ goes) refl)
       which false none = none
 
-  stopped : (c : Bool) → cost_at (cond c (at.Over answers.Stopped) (at.Seize (seizes.begin s.who s.frame))) now < 550
+  stopped : (c : Bool) → cost_at (cond c (at.Over answers.Stopped) (at.Seize (seizes.begin s.who s.frame))) now < (seized_most + 10)
   stopped true = omega arith
   stopped false = omega arith
 
-  few-words : length now.frees ≤ 4
-  few-words = let all : length now.frees ≡ free_words layout = frees-length layout b made.kept in let most : layout.frames ≤ 256 = made.kept.sound.frames in omega (arith, all, most)
+  few-words : length now.frees ≤ free_room
+  few-words = let all : length now.frees ≡ free_words layout = frees-length layout b made.kept in let most : layout.frames ≤ frame_limit = made.kept.sound.frames in omega (arith, all, most)
 
-  bad-less : (page : Page) (body : BodyValue) (y : SoftAt) (c : Bool) → MatchBool c ((y ≡ given_up s.who s.frame page body) ⊎ TakesOne s.who page body y) (y ≡ let_go s.who s.frame page body (answers.HasBad (record { 0 = made.found }))) → cost_at y now < 540
-  bad-less page body y true (inl is) = below (given_up s.who s.frame page body) 540 is (omega arith)
-  bad-less page body y true (inr is) = subst (λ (z : SoftAt). cost_at z now < 540) (sym is.next_is) (let few : length now.frees ≤ 4 = few-words in omega (arith, few))
-  bad-less page body y false is = below (let_go s.who s.frame page body (answers.HasBad (record { 0 = made.found }))) 540 is (omega arith)
+  bad-less : (page : Page) (body : BodyValue) (y : SoftAt) (c : Bool) → MatchBool c ((y ≡ given_up s.who s.frame page body) ⊎ TakesOne s.who page body y) (y ≡ let_go s.who s.frame page body (answers.HasBad (record { 0 = made.found }))) → cost_at y now < seized_most
+  bad-less page body y true (inl is) = below (given_up s.who s.frame page body) seized_most is (omega arith)
+  bad-less page body y true (inr is) = subst (λ (z : SoftAt). cost_at z now < seized_most) (sym is.next_is) (let few : length now.frees ≤ free_room = few-words in omega (arith, few))
+  bad-less page body y false is = below (let_go s.who s.frame page body (answers.HasBad (record { 0 = made.found }))) seized_most is (omega arith)
 
-  poison-less : (page : Page) (body : BodyValue) (to : Frame) (y : SoftAt) (c : Bool) → MatchBool c (y ≡ at.UnlockSpare page body to) (Moves s.who s.frame page body to (cycle_of made.found) y) → cost_at y now < 526
-  poison-less page body to y true is = below (at.UnlockSpare page body to) 526 is (omega arith)
-  poison-less page body to y false is = subst (λ (z : SoftAt). cost_at z now < 526) (sym is.next_is) (subst (λ (r : Relocate). relocations.cost r now < 526) (sym is.begun.is) (omega arith))
+  poison-less : (page : Page) (body : BodyValue) (to : Frame) (y : SoftAt) (c : Bool) → MatchBool c (y ≡ at.UnlockSpare page body to) (Moves s.who s.frame page body to (cycle_of made.found) y) → cost_at y now < move_most
+  poison-less page body to y true is = below (at.UnlockSpare page body to) move_most is (omega arith)
+  poison-less page body to y false is = subst (λ (z : SoftAt). cost_at z now < move_most) (sym is.next_is) (subst (λ (r : Relocate). relocations.cost r now < move_most) (sym is.begun.is) (omega arith))
 
   abbrev Falls : SoftAt → SoftAt → Type 0
   Falls x y = (cost_at y now < cost_at x w) ⊎ (failures_left now < failures_left w)
@@ -356,17 +357,17 @@ module _ {layout : Layout} {seat : ℕ} {a b : State} {s t : Soft} {turned : Tur
       → (takes.cost (takes.next layout p made.found) (words_then layout a made.step made.found) < takes.cost p w) ⊎ taking.Retires made.step → Falls (at.Take page body p) y
   take-lowers page body p y is (inl falls) =
       let less : takes.cost (takes.next layout p made.found) now < takes.cost p w = subst (λ (x : Words). takes.cost (takes.next layout p made.found) x < takes.cost p w) (sym (words-after made)) falls in
-      let ends : cost_at (after_take s.who s.frame page body (takes.next layout p made.found)) now ≤ takes.cost (takes.next layout p made.found) now + 526 = take-ends s.who s.frame page body (takes.next layout p made.found) now in
-      inl (below (after_take s.who s.frame page body (takes.next layout p made.found)) (takes.cost p w + 526) is (omega (arith, less, ends)))
+      let ends : cost_at (after_take s.who s.frame page body (takes.next layout p made.found)) now ≤ takes.cost (takes.next layout p made.found) now + move_most = take-ends s.who s.frame page body (takes.next layout p made.found) now in
+      inl (below (after_take s.who s.frame page body (takes.next layout p made.found)) (takes.cost p w + move_most) is (omega (arith, less, ends)))
   take-lowers page body p y is (inr retires) = inr (retire-fails made retires.0 retires.1)
 
   falls-at : (x : SoftAt) → FitsAt layout (view_of a seat) s.who s.frame x → plan_at s.frame x ≡ Some made.step → Moves-by (put_at x) → ShowsAt (bare_at x) made.found made.got → FollowsAt layout s.who s.frame (bare_at x) made.found made.got t.at turned → is_waits turned ≡ false → Falls x t.at
-  falls-at at.LoadStop has e move shows follows goes = inl (below (cond (is_stopped made.found) (at.Over answers.Stopped) (at.Seize (seizes.begin s.who s.frame))) 550 follows.0 (stopped (is_stopped made.found)))
+  falls-at at.LoadStop has e move shows follows goes = inl (below (cond (is_stopped made.found) (at.Over answers.Stopped) (at.Seize (seizes.begin s.who s.frame))) (seized_most + 10) follows.0 (stopped (is_stopped made.found)))
   falls-at (at.Seize z) has e move shows follows goes =
-      let less : seizes.cost_with 540 (next-seize z).at now < seizes.cost_with 540 z.at w
-      = seize-falls (seize-made z has.0 e move) 540 (omega arith) (part-goes (seizes.turn (seizes.bare z) made.found) (after_seize s.who s.frame (next-seize z)) (λ waits. seize-on s.who s.frame z (seizes.turn (seizes.bare z) made.found) made.found made.got waits) follows.1 goes) in
-      let ends : cost_at (after_seize s.who s.frame (next-seize z)) now ≤ seizes.cost_with 540 (next-seize z).at now = seize-ends s.who s.frame (next-seize z) now in
-      inl (below (after_seize s.who s.frame (next-seize z)) (seizes.cost_with 540 z.at w) follows.0 (omega (arith, less, ends)))
+      let less : seizes.cost_with seized_most (next-seize z).at now < seizes.cost_with seized_most z.at w
+      = seize-falls (seize-made z has.0 e move) seized_most (omega arith) (part-goes (seizes.turn (seizes.bare z) made.found) (after_seize s.who s.frame (next-seize z)) (λ waits. seize-on s.who s.frame z (seizes.turn (seizes.bare z) made.found) made.found made.got waits) follows.1 goes) in
+      let ends : cost_at (after_seize s.who s.frame (next-seize z)) now ≤ seizes.cost_with seized_most (next-seize z).at now = seize-ends s.who s.frame (next-seize z) now in
+      inl (below (after_seize s.who s.frame (next-seize z)) (seizes.cost_with seized_most z.at w) follows.0 (omega (arith, less, ends)))
   falls-at (at.Discard d) has e move shows follows goes =
       let less : discards.cost (next-discard d) now < discards.cost d w = discard-falls w now d made.step made.found e in
       let ends : cost_at (after_discard (next-discard d)) now ≤ discards.cost (next-discard d) now = discard-ends (next-discard d) now in
@@ -401,9 +402,9 @@ module _ {layout : Layout} {seat : ℕ} {a b : State} {s t : Soft} {turned : Tur
   waits-at : (x : SoftAt) → FitsAt layout (view_of a seat) s.who s.frame x → plan_at s.frame x ≡ Some made.step → Moves-by (put_at x) → FollowsAt layout s.who s.frame (bare_at x) made.found made.got t.at turned → is_waits turned ≡ true → Quiet (class_at x) layout a seat → Waits x t.at
   waits-at at.LoadStop has e move follows waits quiet = absurd (never (cond (is_stopped made.found) (at.Over answers.Stopped) (at.Seize (seizes.begin s.who s.frame))) follows.1 waits)
   waits-at (at.Seize z) has e move follows waits quiet =
-      let ends : cost_at (after_seize s.who s.frame (next-seize z)) now ≤ seizes.cost_with 540 (next-seize z).at now = seize-ends s.who s.frame (next-seize z) now in
-      elim (seize-waits (seize-made z has.0 e move) 540 (omega arith) (ended-waits (after_seize s.who s.frame (next-seize z)) (seizes.turn (seizes.bare z) made.found) (sym (ap is_waits follows.1) ∙ waits)) quiet) [
-        | inl less ↦ inl (below (after_seize s.who s.frame (next-seize z)) (seizes.cost_with 540 z.at w) follows.0 (let lower : seizes.cost_with 540 (next-seize z).at now < seizes.cost_with 540 z.at w = less in omega (arith, lower, ends)))
+      let ends : cost_at (after_seize s.who s.frame (next-seize z)) now ≤ seizes.cost_with seized_most (next-seize z).at now = seize-ends s.who s.frame (next-seize z) now in
+      elim (seize-waits (seize-made z has.0 e move) seized_most (omega arith) (ended-waits (after_seize s.who s.frame (next-seize z)) (seizes.turn (seizes.bare z) made.found) (sym (ap is_waits follows.1) ∙ waits)) quiet) [
+        | inl less ↦ inl (below (after_seize s.who s.frame (next-seize z)) (seizes.cost_with seized_most z.at w) follows.0 (let lower : seizes.cost_with seized_most (next-seize z).at now < seizes.cost_with seized_most z.at w = less in omega (arith, lower, ends)))
         | inr gives ↦ inr (ap aborts_at follows.0 ∙ seize-aborts s.who s.frame (next-seize z) gives.0, gives.1)
       ]
   waits-at (at.Discard d) has e move follows waits quiet = absurd (never (after_discard (next-discard d)) follows.1 waits)
@@ -530,19 +531,19 @@ soft-class s = which s.at
     which (at.GiveUp g) = give-up-ranked.classes g
     which (at.Over answer) = (omega arith, omega arith)
 
-pub soft-small : (layout : Layout) (a : State) (s : Soft) → Holds layout a → cost s (words_at layout a) ≤ 9380
+pub soft-small : (layout : Layout) (a : State) (s : Soft) → Holds layout a → cost s (words_at layout a) ≤ soft_most
 soft-small layout a s rule = which s.at
   where
-    which : (x : SoftAt) → cost_at x (words_at layout a) ≤ 9380
+    which : (x : SoftAt) → cost_at x (words_at layout a) ≤ soft_most
     which at.LoadStop = omega arith
-    which (at.Seize z) = let few : seizes.cost_with 540 z.at (words_at layout a) ≤ 540 + 540 + 8300 = seize-small 540 z.at (words_at layout a) in omega (arith, few)
+    which (at.Seize z) = let few : seizes.cost_with seized_most z.at (words_at layout a) ≤ seized_most + seized_most + seizes.seize_most = seize-small seized_most z.at (words_at layout a) in omega (arith, few)
     which (at.Discard d) = let few : discards.cost d (words_at layout a) ≤ 5 = discard-small (words_at layout a) d in omega (arith, few)
     which (at.LoadBad page body) = omega arith
-    which (at.Take page body p) = let few : takes.cost p (words_at layout a) ≤ 8204 = taking.small layout a p rule in omega (arith, few)
+    which (at.Take page body p) = let few : takes.cost p (words_at layout a) ≤ take_most = taking.small layout a p rule in omega (arith, few)
     which (at.Poison page body to) = omega arith
     which (at.UnlockSpare page body to) = omega arith
     which (at.ReleaseSpare page body r) = let few : releases.cost r (words_at layout a) ≤ 3 = release-small (words_at layout a) r in omega (arith, few)
-    which (at.Relocate r answer) = let few : relocations.cost r (words_at layout a) ≤ 4618 = relocate-small (words_at layout a) r in omega (arith, few)
+    which (at.Relocate r answer) = let few : relocations.cost r (words_at layout a) ≤ relocations.relocate_most = relocate-small (words_at layout a) r in omega (arith, few)
     which (at.Unhold u answer) = let few : unholds.cost u (words_at layout a) ≤ 5 = unhold-small (words_at layout a) u in omega (arith, few)
     which (at.GiveUp g) = let few : give_ups.cost g (words_at layout a) ≤ 6 = give-up-small (words_at layout a) g in omega (arith, few)
     which (at.Over answer) = omega arith
@@ -550,10 +551,10 @@ soft-small layout a s rule = which s.at
 pub soft-ranked : IsRanked soft-task
 soft-ranked = record {
   classes = soft-class;
-  small = λ layout a seat s rule fits. let few : cost s (words_at layout a) ≤ 9380 = soft-small layout a s rule in omega (arith, few);
+  small = λ layout a seat s rule fits. let few : cost s (words_at layout a) ≤ soft_most = soft-small layout a s rule in omega (arith, few);
   falls = λ layout seat a b s t turn made goes. elim (soft-falls made goes) [
     | inl less ↦ inl less
-    | inr fails ↦ inr (failed fails (let few : cost t (words_at layout b) ≤ 9380 = soft-small layout b t made.kept in omega (arith, few)))
+    | inr fails ↦ inr (failed fails (let few : cost t (words_at layout b) ≤ soft_most = soft-small layout b t made.kept in omega (arith, few)))
   ];
   waits = λ layout seat a b s t turn made is quiet. soft-waits made is quiet;
   leaves = λ layout seat a b s t turn made gives. inr (soft-leaves made gives);

@@ -1,5 +1,5 @@
 -- A frame taken out of use while its content is good: the task's states, its steps and what they come to.
-use Rattle.std.specs.Prelude.{◌≡◌, ◌⊎◌, ℕ, ◌+◌, ◌-◌, ◌<◌, ◌==◌, Bool, true, false, cond, [], ◌∷◌, ◌++◌, Option, Some, None, is_none, length, MatchBool}
+use Rattle.std.specs.Prelude.{◌≡◌, ◌⊎◌, ℕ, ◌+◌, ◌*◌, ◌-◌, ◌<◌, ◌==◌, Bool, true, false, cond, [], ◌∷◌, ◌++◌, Option, Some, None, is_none, length, MatchBool}
 use Rattle.hwp_evict.specs.hwp_geom.declared.Frame.{Frame}
 use Rattle.hwp_evict.specs.hwp_geom.declared.Layout.{Layout}
 use Rattle.hwp_evict.specs.hwp_geom.declared.Page.{Page}
@@ -16,6 +16,7 @@ use Rattle.hwp_evict.specs.hwp_core_rule.declared.Step.TheVariants as steps
 use Rattle.hwp_evict.specs.hwp_core_rule.Words.{Words}
 use Rattle.hwp_evict.specs.hwp_core_task.declared.Turn.{Turn}
 use Rattle.hwp_evict.specs.hwp_core_task.declared.Turn.TheVariants.{Moved, Answered}
+use Rattle.hwp_evict.specs.hwp_core_task.Ranks.{free_room, pass}
 use Rattle.hwp_evict.specs.hwp_core.declared.release.Release.{Release}
 use Rattle.hwp_fault_fill.specs.declared.take.Take.{Take}
 use Rattle.hwp_fault_fill.specs.declared.take.TakeAnswer.{TakeAnswer}
@@ -286,14 +287,22 @@ aborts_at _ = false
 abbrev pub aborts : Soft → Bool
 aborts s = aborts_at s.at
 
+-- the turns once a frame is taken for the page: it moves there
+abbrev pub move_most : ℕ
+move_most = pass + 6
+
+-- and once the frame is seized: one is taken for its page
+abbrev pub seized_most : ℕ
+seized_most = move_most + free_room + 14
+
 -- the turns that are left, where no word changes
 abbrev pub cost_at : SoftAt → Words → ℕ
-cost_at at.LoadStop words = 550
-cost_at (at.Seize s) words = seizes.cost_with 540 s.at words
+cost_at at.LoadStop words = seized_most + 10
+cost_at (at.Seize s) words = seizes.cost_with seized_most s.at words
 cost_at (at.Discard d) words = discards.cost d words
-cost_at (at.LoadBad page body) words = 540
-cost_at (at.Take page body t) words = takes.cost t words + 526
-cost_at (at.Poison page body to) words = 526
+cost_at (at.LoadBad page body) words = seized_most
+cost_at (at.Take page body t) words = takes.cost t words + move_most
+cost_at (at.Poison page body to) words = move_most
 cost_at (at.UnlockSpare page body to) words = 9
 cost_at (at.ReleaseSpare page body r) words = releases.cost r words + 5
 cost_at (at.Relocate r answer) words = relocations.cost r words
@@ -303,3 +312,7 @@ cost_at (at.Over answer) words = 0
 
 abbrev pub cost : Soft → Words → ℕ
 cost s words = cost_at s.at words
+
+-- it is no more than this
+abbrev pub soft_most : ℕ
+soft_most = 2 * seized_most + seizes.seize_most

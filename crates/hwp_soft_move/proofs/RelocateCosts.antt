@@ -14,7 +14,7 @@ use Rattle.hwp_claim_frame.specs.hwp_core_rule.Steps.{place_of, word_after}
 use Rattle.hwp_claim_frame.specs.hwp_core_rule.Words.{Words, read}
 use Rattle.hwp_claim_frame.specs.hwp_core_task.declared.Turn.{Turn}
 use Rattle.hwp_claim_frame.specs.hwp_core_task.Boards.{view_of}
-use Rattle.hwp_claim_frame.specs.hwp_core_task.Ranks.{IsRanked, is_waits, words_at}
+use Rattle.hwp_claim_frame.specs.hwp_core_task.Ranks.{IsRanked, is_waits, words_at, pass, stale_weight, translation_room}
 use Rattle.hwp_claim_frame.proofs.of_hwp_core_task.StepRanks.{met, rank-of, steps-on, words-kept}
 use Rattle.hwp_claim_frame.specs.hwp_core.declared.refer.Refer.{Refer}
 use Rattle.hwp_claim_frame.specs.hwp_core.declared.refer.ReferAt.{ReferAt}
@@ -32,7 +32,7 @@ use Rattle.hwp_soft_move.specs.declared.relocate.RelocateAt.{RelocateAt}
 use Rattle.hwp_soft_move.specs.declared.relocate.RelocateAt.TheVariants as at
 use Rattle.hwp_soft_move.specs.declared.relocate.Transfer.{Transfer}
 use Rattle.hwp_soft_move.specs.declared.remap.Remap.{Remap}
-use Rattle.hwp_soft_move.specs.Relocations.{plan, plan_at, bare, after_remap, after_release, AfterReferAt, FollowsAt, Follows, Shows, ShowsAt, class, class_at, cost, cost_at}
+use Rattle.hwp_soft_move.specs.Relocations.{plan, plan_at, bare, after_remap, after_release, AfterReferAt, FollowsAt, Follows, Shows, ShowsAt, class, class_at, cost, cost_at, relocate_most}
 use Rattle.hwp_soft_move.specs.Relocating.{Fits, FitsAt, task as relocate-task}
 use Rattle.hwp_soft_move.specs.Remaps as remaps
 use Rattle.hwp_soft_move.proofs.RelocateLaws.{both}
@@ -56,11 +56,11 @@ release-cost l w = which l.at
     which (release_at.Retire word) = omega arith
     which (release_at.Back word) = omega arith
 
--- once the references are taken, at most 512 translations are written
-refer-cost : (t : Transfer) (maps : set.FinSet nat_cmp) (f : Refer) (y : ReferAt) (x : RelocateAt) (w : Words) → AfterReferAt t maps (record f { at = y }) y x → cost_at x w ≤ refers.cost_at f.frame y w + 521
-refer-cost t maps f refer_at.Load x w is = subst (λ (z : RelocateAt). cost_at z w ≤ 2 + 521) (sym is) (omega arith)
-refer-cost t maps f (refer_at.Get seen) x w is = subst (λ (z : RelocateAt). cost_at z w ≤ refers.cost_at f.frame (refer_at.Get seen) w + 521) (sym is) (omega arith)
-refer-cost t maps f refer_at.Over x w is = subst (λ (z : RelocateAt). cost_at z w ≤ 521) (sym is.next_is) (let k = remap-cost is.remap w in let few = remap-small w is.remap in omega (arith, k, few))
+-- once the references are taken, a page's translations are written
+refer-cost : (t : Transfer) (maps : set.FinSet nat_cmp) (f : Refer) (y : ReferAt) (x : RelocateAt) (w : Words) → AfterReferAt t maps (record f { at = y }) y x → cost_at x w ≤ refers.cost_at f.frame y w + (pass + 1)
+refer-cost t maps f refer_at.Load x w is = subst (λ (z : RelocateAt). cost_at z w ≤ 2 + (pass + 1)) (sym is) (omega arith)
+refer-cost t maps f (refer_at.Get seen) x w is = subst (λ (z : RelocateAt). cost_at z w ≤ refers.cost_at f.frame (refer_at.Get seen) w + (pass + 1)) (sym is) (omega arith)
+refer-cost t maps f refer_at.Over x w is = subst (λ (z : RelocateAt). cost_at z w ≤ pass + 1) (sym is.next_is) (let k = remap-cost is.remap w in let few = remap-small w is.remap in omega (arith, k, few))
 
 pub relocate-falls : (w now : Words) (r : Relocate) (step : Step) (found : ℕ) (next : Relocate) (turn : Turn) → plan r ≡ Some step → Shows (bare r) → Follows (bare r) found next turn → read (place_of step) w ≡ found → (word_after step found ≡ found → now ≡ w) → cost next now < cost r w
 relocate-falls w now r step found next turn is shows follows shown kept = which r.at is shows follows.1
@@ -69,11 +69,11 @@ relocate-falls w now r step found next turn is shows follows shown kept = which 
     exactly x n is less = subst (λ (y : RelocateAt). cost_at y now < n) (sym is) less
 
     which : (x : RelocateAt) → plan_at r.transfer x ≡ Some step → ShowsAt x → FollowsAt r.transfer r.maps x found next.at turn → cost_at next.at now < cost_at x w
-    which at.Count e shows f = exactly at.SetOwner 525 f.0 (omega arith)
-    which at.SetOwner e shows f = exactly (at.Refer (refers.begin r.transfer.who r.transfer.to (r.transfer.count - 1))) 524 f.0 (omega arith)
+    which at.Count e shows f = exactly at.SetOwner (pass + 5) f.0 (omega arith)
+    which at.SetOwner e shows f = exactly (at.Refer (refers.begin r.transfer.who r.transfer.to (r.transfer.count - 1))) (pass + 4) f.0 (omega arith)
     which (at.Refer g) e shows f =
         let less : refers.cost (refers.next g found) now < refers.cost g w = refer-falls w now g step found e shown kept in
-        let most : cost_at next.at now ≤ refers.cost (refers.next g found) now + 521 = refer-cost r.transfer r.maps g (refers.next g found).at next.at now f.0 in
+        let most : cost_at next.at now ≤ refers.cost (refers.next g found) now + (pass + 1) = refer-cost r.transfer r.maps g (refers.next g found).at next.at now f.0 in
         omega (arith, less, most)
     which (at.Remap m) e shows f =
         let less : remaps.cost f.0.after now < remaps.cost m w = remaps-fall m f.0.after w now e f.0.follows shows in
@@ -91,14 +91,14 @@ relocate-falls w now r step found next turn is shows follows shown kept = which 
     which at.UnlockPage e shows f = exactly at.Over 1 f.0 (omega arith)
     which at.Over e shows f = absurd (none-some step e)
 
-pub relocate-small : (w : Words) (r : Relocate) → cost r w ≤ 4618
+pub relocate-small : (w : Words) (r : Relocate) → cost r w ≤ relocate_most
 relocate-small w r = which r.at
   where
-    which : (x : RelocateAt) → cost_at x w ≤ 4618
+    which : (x : RelocateAt) → cost_at x w ≤ relocate_most
     which at.Count = omega arith
     which at.SetOwner = omega arith
-    which (at.Refer f) = let few : refers.cost f w ≤ 4097 = refer-small w f in omega (arith, few)
-    which (at.Remap m) = let few : remaps.cost m w ≤ 512 = remap-small w m in omega (arith, few)
+    which (at.Refer f) = let few : refers.cost f w ≤ stale_weight + 1 = refer-small w f in omega (arith, few)
+    which (at.Remap m) = let few : remaps.cost m w ≤ translation_room = remap-small w m in omega (arith, few)
     which at.SetCache = omega arith
     which at.ClearOwner = omega arith
     which at.UnlockFrame = omega arith

@@ -30,7 +30,7 @@ use Rattle.hwp_claim_frame.specs.hwp_core_task.declared.Turn.{Turn}
 use Rattle.hwp_claim_frame.specs.hwp_core_task.declared.Turn.TheVariants.{Moved}
 use Rattle.hwp_claim_frame.specs.hwp_core_task.Calls.{CanMake, Steps}
 use Rattle.hwp_claim_frame.specs.hwp_core_task.Hands.{Hand, hand_of}
-use Rattle.hwp_claim_frame.specs.hwp_core_task.Ranks.{IsRanked, is_waits, words_at}
+use Rattle.hwp_claim_frame.specs.hwp_core_task.Ranks.{IsRanked, is_waits, words_at, translation_room}
 use Rattle.hwp_claim_frame.specs.hwp_core_task.Boards.{view_of}
 use Rattle.hwp_claim_frame.proofs.of_hwp_core_task.StepRanks.{rank-of, steps-on}
 use Rattle.hwp_claim_frame.proofs.of_hwp_core_task.StepLeaves.{on-turn-after, hand-planned, steps-planned, can-make}
@@ -244,10 +244,10 @@ remaps-fall r next w now {step} is follows shows = which r.next is follows shows
     which None e follows shows = absurd (none-some step e)
     which (Some slot) e follows shows = by slot next.next shows follows.1
 
-pub remap-small : (w : Words) (r : Remap) → cost r w ≤ 512
+pub remap-small : (w : Words) (r : Remap) → cost r w ≤ translation_room
 remap-small w r = which r.next
   where
-    which : (n : Option VSlot) → cost_at n ≤ 512
+    which : (n : Option VSlot) → cost_at n ≤ translation_room
     which None = omega arith
     which (Some slot) = omega arith
 

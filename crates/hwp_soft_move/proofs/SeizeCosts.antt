@@ -17,7 +17,7 @@ use Rattle.hwp_claim_frame.proofs.of_hwp_core_rule.Lists.{same-number}
 use Rattle.hwp_claim_frame.specs.hwp_core_task.declared.Turn.{Turn}
 use Rattle.hwp_claim_frame.specs.hwp_core_task.Boards.{view_of}
 use Rattle.hwp_claim_frame.specs.hwp_core_task.Calls.{logs, rec_of}
-use Rattle.hwp_claim_frame.specs.hwp_core_task.Ranks.{IsRanked, Made, Quiet, OtherHand, is_waits, stale, words_at}
+use Rattle.hwp_claim_frame.specs.hwp_core_task.Ranks.{IsRanked, Made, Quiet, OtherHand, is_waits, stale, words_at, stale_weight}
 use Rattle.hwp_claim_frame.proofs.of_hwp_core_task.StepRanks.{met, pending-kept, words-kept}
 use Rattle.hwp_claim_frame.specs.hwp_core.declared.release.ReleaseAt.{ReleaseAt}
 use Rattle.hwp_claim_frame.specs.hwp_core.declared.release.ReleaseAt.TheVariants as release_at
@@ -36,7 +36,7 @@ use Rattle.hwp_claim_frame.proofs.MeetCosts.{meet-class, meet-falls, meet-made, 
 use Rattle.hwp_soft_move.specs.declared.seize.Seize.{Seize}
 use Rattle.hwp_soft_move.specs.declared.seize.SeizeAt.{SeizeAt}
 use Rattle.hwp_soft_move.specs.declared.seize.SeizeAt.TheVariants as at
-use Rattle.hwp_soft_move.specs.Seizes.{plan, plan_at, put_at, bare, bare_at, looked, after_grab, after_grab_by, after_meet, next, next_at, turn, turn_at, FitsAt, class, class_at, aborts, aborts_at, cost, cost_with, task as seize-task}
+use Rattle.hwp_soft_move.specs.Seizes.{plan, plan_at, put_at, bare, bare_at, looked, after_grab, after_grab_by, after_meet, next, next_at, turn, turn_at, FitsAt, class, class_at, aborts, aborts_at, cost, cost_with, task as seize-task, seize_most}
 use Rattle.hwp_soft_move.proofs.SeizeLaws.{lasts-on}
 
 -- ---- what is left once a part is over
@@ -83,7 +83,7 @@ module _ {layout : Layout} {seat : ℕ} {a b : State} {s t : Seize} {turned : Tu
   looked-word : Some (steps.Load (places.Frame s.frame)) ≡ Some made.step → slice_index (words_at layout b).frames s.frame.0 ≡ made.found
   looked-word e = ap (λ (w : Words). slice_index w.frames s.frame.0) (words-kept made (ap (λ (x : Step). word_after x made.found) (sym (same_Some (steps.Load (places.Frame s.frame)) made.step e)))) ∙ met-own (words_at layout a) made.found e (met made)
 
-  module _ (rest : ℕ) (few : rest + 9 < 4096) where
+  module _ (rest : ℕ) (few : rest + 9 < stale_weight) where
     look-ends : Some (steps.Load (places.Frame s.frame)) ≡ Some made.step → cost_with rest (looked s.who s.frame made.found) (words_at layout b) < rest + 9
     look-ends e = by (is_kernel made.found) (is_poisoned made.found)
       where
@@ -167,13 +167,13 @@ seize-class s = which s.at
     which at.Free = (omega arith, omega arith)
     which (at.Owned page body) = (omega arith, omega arith)
 
-pub seize-small : (rest : ℕ) (x : SeizeAt) (w : Words) → cost_with rest x w ≤ rest + rest + 8300
+pub seize-small : (rest : ℕ) (x : SeizeAt) (w : Words) → cost_with rest x w ≤ rest + rest + seize_most
 seize-small rest x w = which x
   where
-    which : (x : SeizeAt) → cost_with rest x w ≤ rest + rest + 8300
+    which : (x : SeizeAt) → cost_with rest x w ≤ rest + rest + seize_most
     which at.Look = omega arith
-    which (at.Grab g) = let small : grabs.cost_with rest (rest + 9) g.frame g.at w ≤ rest + (rest + 9) + 8196 = grab-small rest (rest + 9) g w in omega (arith, small)
-    which (at.Meet m) = let small : meets.cost_with rest (rest + 9) m.frame m.at w ≤ rest + 9 + 4104 = meet-small rest (rest + 9) (rest + 9) (omega arith) (omega arith) m.frame m.at w in omega (arith, small)
+    which (at.Grab g) = let small : grabs.cost_with rest (rest + 9) g.frame g.at w ≤ rest + (rest + 9) + grabs.grab_most = grab-small rest (rest + 9) g w in omega (arith, small)
+    which (at.Meet m) = let small : meets.cost_with rest (rest + 9) m.frame m.at w ≤ rest + 9 + meets.meet_most = meet-small rest (rest + 9) (rest + 9) (omega arith) (omega arith) m.frame m.at w in omega (arith, small)
     which at.Kernel = omega arith
     which at.Already = omega arith
     which at.Grabbed = omega arith
@@ -211,7 +211,7 @@ seize-mild s step is = which s.at is
 pub seize-ranked : IsRanked seize-task
 seize-ranked = record {
   classes = seize-class;
-  small = λ layout a seat s rule fits. let few : cost s (words_at layout a) ≤ 0 + 0 + 8300 = seize-small 0 s.at (words_at layout a) in omega (arith, few);
+  small = λ layout a seat s rule fits. let few : cost s (words_at layout a) ≤ 0 + 0 + seize_most = seize-small 0 s.at (words_at layout a) in omega (arith, few);
   falls = λ layout seat a b s t turn made goes. inl (seize-falls made 0 (omega arith) goes);
   waits = λ layout seat a b s t turn made is quiet. seize-waits made 0 (omega arith) is quiet;
   leaves = λ layout seat a b s t turn made aborts. inr (subst (λ (x : Seize). 1 < class x) (sym made.follows.0) (let four : class (next (bare s) made.found made.got) ≡ 4 = seize-leaves s made.found made.got aborts in omega (arith, four)));

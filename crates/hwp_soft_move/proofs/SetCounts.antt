@@ -5,12 +5,13 @@ use Rattle.std.specs.FinSet as set
 use Rattle.std.specs.Ordering.{nat_cmp}
 use Rattle.hwp_claim_frame.specs.hwp_geom.declared.VSlot.{VSlot}
 use Rattle.hwp_claim_frame.specs.hwp_kill.Lowest.{HasNoneFrom, IsLowestFrom}
+use Rattle.hwp_claim_frame.specs.hwp_kill.Limits.{slot_limit}
 use Rattle.hwp_evict.specs.Clears.{IsNextFrom}
 use Rattle.hwp_soft_move.specs.Remaps.{CountsOn, IsCount}
 
 -- so many members below `at` were counted: whatever number follows, all are the sum
 pub record Counted (slots : set.FinSet nat_cmp) (count at : ℕ) : Type 0 where
-  pub within : at ≤ 512
+  pub within : at ≤ slot_limit
   pub few : count ≤ at
   pub goes : (next : Option VSlot) (n : ℕ) → IsNextFrom slots at next → CountsOn slots next n → IsCount slots (count + n)
 
@@ -21,7 +22,7 @@ counted-none slots = record {
   goes = λ next n low counts. subst (IsCount slots) (let same : n ≡ 0 + n = omega arith in same) (next, low, counts);
 }
 
-pub counted-next : {slots : set.FinSet nat_cmp} {count at : ℕ} (found : VSlot) → Counted slots count at → IsLowestFrom slots at found.0 → found.0 < 512 → Counted slots (count + 1) (found.0 + 1)
+pub counted-next : {slots : set.FinSet nat_cmp} {count at : ℕ} (found : VSlot) → Counted slots count at → IsLowestFrom slots at found.0 → found.0 < slot_limit → Counted slots (count + 1) (found.0 + 1)
 counted-next {slots} {count} {at} found so_far low inside = record {
   within = omega (arith, inside);
   few = let above : at ≤ found.0 = low.not_below in omega (arith, so_far.few, above);

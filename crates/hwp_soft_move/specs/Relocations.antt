@@ -12,6 +12,7 @@ use Rattle.hwp_claim_frame.specs.hwp_core_rule.declared.Step.TheVariants as step
 use Rattle.hwp_claim_frame.specs.hwp_core_rule.Words.{Words}
 use Rattle.hwp_claim_frame.specs.hwp_core_task.declared.Turn.{Turn}
 use Rattle.hwp_claim_frame.specs.hwp_core_task.declared.Turn.TheVariants.{Moved}
+use Rattle.hwp_claim_frame.specs.hwp_core_task.Ranks.{pass, stale_weight}
 use Rattle.hwp_claim_frame.specs.hwp_core.declared.refer.Refer.{Refer}
 use Rattle.hwp_claim_frame.specs.hwp_core.declared.refer.ReferAt.{ReferAt}
 use Rattle.hwp_claim_frame.specs.hwp_core.declared.refer.ReferAt.TheVariants as refer_at
@@ -129,11 +130,11 @@ class_at _ = 1
 abbrev pub class : Relocate → ℕ
 class r = class_at r.at
 
--- the turns that are left, where no word changes: at most 512 translations are written
+-- the turns that are left, where no word changes: a page's translations are written
 abbrev pub cost_at : RelocateAt → Words → ℕ
-cost_at at.Count words = 525
-cost_at at.SetOwner words = 524
-cost_at (at.Refer r) words = refers.cost r words + 521
+cost_at at.Count words = pass + 5
+cost_at at.SetOwner words = pass + 4
+cost_at (at.Refer r) words = refers.cost r words + (pass + 1)
 cost_at (at.Remap r) words = remaps.cost r words + 9
 cost_at at.SetCache words = 9
 cost_at at.ClearOwner words = 8
@@ -146,3 +147,7 @@ cost_at at.Over words = 0
 
 abbrev pub cost : Relocate → Words → ℕ
 cost r words = cost_at r.at words
+
+-- it is no more than this
+abbrev pub relocate_most : ℕ
+relocate_most = stale_weight + pass + 2

@@ -1,5 +1,5 @@
 -- A good frame taken from those that use it, or could: the task's states, its steps and what they come to.
-use Rattle.std.specs.Prelude.{◌≡◌, ℕ, ◌+◌, ◌<◌, ◌==◌, Bool, true, false, cond, Option, Some, None, is_none, slice_get}
+use Rattle.std.specs.Prelude.{◌≡◌, ℕ, ◌+◌, ◌*◌, ◌<◌, ◌==◌, Bool, true, false, cond, Option, Some, None, is_none, slice_get}
 use Rattle.hwp_claim_frame.specs.hwp_geom.declared.Frame.{Frame}
 use Rattle.hwp_claim_frame.specs.hwp_geom.declared.Layout.{Layout}
 use Rattle.hwp_claim_frame.specs.hwp_geom.declared.Page.{Page}
@@ -29,6 +29,7 @@ use Rattle.hwp_claim_frame.specs.Claims.{IsGrabbing, SawPoison, has_ended_at}
 use Rattle.hwp_claim_frame.specs.Grabs as grabs
 use Rattle.hwp_claim_frame.specs.Meets as meets
 use Rattle.hwp_claim_frame.specs.Meets.{HoldsFree, HoldsMet}
+use Rattle.hwp_claim_frame.specs.hwp_core_task.Ranks.{stale_weight}
 use Rattle.hwp_soft_move.specs.declared.seize.Seize.{Seize}
 use Rattle.hwp_soft_move.specs.declared.seize.SeizeAt.{SeizeAt}
 use Rattle.hwp_soft_move.specs.declared.seize.SeizeAt.TheVariants as at
@@ -222,6 +223,10 @@ cost_with rest _ words = rest
 
 abbrev pub cost : Seize → Words → ℕ
 cost s words = cost_with 0 s.at words
+
+-- over what follows, it is no more than this
+abbrev pub seize_most : ℕ
+seize_most = 2 * stale_weight + 13
 
 -- the task, as the laws of tasks read it
 abbrev pub task : Member Seize

@@ -19,7 +19,7 @@ use Rattle.hwp_claim_frame.specs.hwp_core_task.declared.Turn.{Turn}
 use Rattle.hwp_claim_frame.specs.hwp_core_task.declared.Turn.TheVariants.{Moved, Changed}
 use Rattle.hwp_claim_frame.specs.hwp_core_task.Classes.{TellsClass}
 use Rattle.hwp_claim_frame.specs.hwp_core_task.Hands.{Hand, hand_of, empty}
-use Rattle.hwp_claim_frame.specs.hwp_core_task.Ranks.{Made, CostFalls, HasFrame, IsRanked, PaysRevival, Pending, failure_weight, failures_left, is_waits, stale, words_at}
+use Rattle.hwp_claim_frame.specs.hwp_core_task.Ranks.{Made, CostFalls, HasFrame, IsRanked, PaysRevival, Pending, failure_weight, failures_left, is_waits, stale, words_at, stale_weight}
 use Rattle.hwp_claim_frame.proofs.of_hwp_core_task.StepRanks.{failures-kept, met, pending-kept, words-kept}
 use Rattle.hwp_claim_frame.proofs.of_hwp_core_task.Revivals.{revive-misses, revive-pending, revive-rises}
 use Rattle.hwp_claim_frame.proofs.of_hwp_core.TaskCosts.{left-own, met-own, stale-most}
@@ -27,7 +27,7 @@ use Rattle.hwp_soft_unpoison.specs.declared.unpoison.Unpoison.{Unpoison}
 use Rattle.hwp_soft_unpoison.specs.declared.unpoison.UnpoisonAt.{UnpoisonAt}
 use Rattle.hwp_soft_unpoison.specs.declared.unpoison.UnpoisonAt.TheVariants as at
 use Rattle.hwp_soft_unpoison.specs.declared.unpoison.UnpoisonAnswer.TheVariants as answers
-use Rattle.hwp_soft_unpoison.specs.Unpoisons.{plan, plan_at, next, next_at, turn, turn_at, class, class_at, cost, cost_at, hand_at, is_revivable, premium, stale_word, Fits, task}
+use Rattle.hwp_soft_unpoison.specs.Unpoisons.{plan, plan_at, next, next_at, turn, turn_at, class, class_at, cost, cost_at, hand_at, is_revivable, premium, stale_word, Fits, task, unpoison_most}
 
 -- ---- the cost falls
 
@@ -55,7 +55,7 @@ module _ (frame : Frame) where
 
   exchanged-less : (w now : Words) (seen found : ℕ) (b : Bool) → slice_index w.frames frame.0 ≡ found → (found == seen) ≡ b → cost_at frame (cond b (at.Uncount (cycle_of found)) at.LoadFrame) now < premium + 4 + stale_word frame seen w
   exchanged-less w now seen found true there is = omega arith
-  exchanged-less w now seen found false there other = let costly : stale_word frame seen w ≡ 4096 = ap (λ (n : ℕ). stale (n == seen)) there ∙ ap stale other in omega (arith, costly)
+  exchanged-less w now seen found false there other = let costly : stale_word frame seen w ≡ stale_weight = ap (λ (n : ℕ). stale (n == seen)) there ∙ ap stale other in omega (arith, costly)
 
   -- of a step that leaves all words
   left : (w now : Words) (x : UnpoisonAt) (bound : ℕ) → now ≡ w → cost_at frame x w < bound → cost_at frame x now < bound
@@ -76,13 +76,13 @@ falls w now u step found is met kept = which u.at is
     which (at.Over answer) e = absurd (none-some step e)
 
 -- costs are small
-pub small : (u : Unpoison) (words : Words) → cost u words ≤ 69640
+pub small : (u : Unpoison) (words : Words) → cost u words ≤ unpoison_most
 small u words = which u.at
   where
-    with-stale : (seen n : ℕ) → n ≤ 8 → premium + n + stale_word u.frame seen words ≤ 69640
-    with-stale seen n few = let most : stale_word u.frame seen words ≤ 4096 = stale-most (slice_index words.frames u.frame.0 == seen) in omega (arith, most, few)
+    with-stale : (seen n : ℕ) → n ≤ 8 → premium + n + stale_word u.frame seen words ≤ unpoison_most
+    with-stale seen n few = let most : stale_word u.frame seen words ≤ stale_weight = stale-most (slice_index words.frames u.frame.0 == seen) in omega (arith, most, few)
 
-    which : (x : UnpoisonAt) → cost_at u.frame x words ≤ 69640
+    which : (x : UnpoisonAt) → cost_at u.frame x words ≤ unpoison_most
     which at.LoadStop = omega arith
     which at.LoadFrame = omega arith
     which (at.LoadCount seen) = with-stale seen 6 (omega arith)
@@ -241,7 +241,7 @@ pays layout seat a b s t turned made = paid made
 pub ranked : IsRanked task
 ranked = record {
   classes = class-within;
-  small = λ layout a seat s rule fits. let few : cost s (words_at layout a) ≤ 69640 = small s (words_at layout a) in omega (arith, few);
+  small = λ layout a seat s rule fits. let few : cost s (words_at layout a) ≤ unpoison_most = small s (words_at layout a) in omega (arith, few);
   falls = λ layout seat a b s t turned made goes. inl (lowers made);
   waits = λ layout seat a b s t turned made is quiet. absurd (never-waits made is);
   leaves = λ layout seat a b s t turned made aborts. absurd (both_ways true (sym aborts) refl);

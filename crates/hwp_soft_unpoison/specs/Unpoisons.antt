@@ -1,5 +1,5 @@
 -- A frame's poison taken back: the task's states, its steps and what they come to.
-use Rattle.std.specs.Prelude.{◌≡◌, ◌≢◌, ℕ, ◌+◌, ◌<◌, ◌==◌, ◌&&◌, Bool, true, false, not, cond, [], ◌∷◌, Option, Some, None, slice_index}
+use Rattle.std.specs.Prelude.{◌≡◌, ◌≢◌, ℕ, ◌+◌, ◌*◌, ◌<◌, ◌==◌, ◌&&◌, Bool, true, false, not, cond, [], ◌∷◌, Option, Some, None, slice_index}
 use Rattle.hwp_claim_frame.specs.hwp_geom.declared.Cpu.{Cpu}
 use Rattle.hwp_claim_frame.specs.hwp_geom.declared.Frame.{Frame}
 use Rattle.hwp_claim_frame.specs.hwp_geom.declared.Layout.{Layout}
@@ -22,7 +22,7 @@ use Rattle.hwp_claim_frame.specs.hwp_core_task.declared.Turn.{Turn}
 use Rattle.hwp_claim_frame.specs.hwp_core_task.declared.Turn.TheVariants.{Moved, Changed}
 use Rattle.hwp_claim_frame.specs.hwp_core_task.Calls.{IsOnTurn}
 use Rattle.hwp_claim_frame.specs.hwp_core_task.Hands.{Hand, hand_of, empty}
-use Rattle.hwp_claim_frame.specs.hwp_core_task.Ranks.{stale}
+use Rattle.hwp_claim_frame.specs.hwp_core_task.Ranks.{stale, failure_weight, stale_weight}
 use Rattle.hwp_claim_frame.specs.hwp_core_task.Known.{HasMadeNone, Saw, SawStop}
 use Rattle.hwp_claim_frame.specs.hwp_core_task.Turns.{Member}
 use Rattle.hwp_soft_unpoison.specs.declared.unpoison.Unpoison.{Unpoison}
@@ -201,7 +201,7 @@ class u = class_at u.at
 
 -- the weight of the two failures that a frame may have once more when its poison is taken back
 abbrev pub premium : ℕ
-premium = 65536
+premium = 2 * failure_weight
 
 -- the frame's word is no longer the one that was seen
 abbrev pub stale_word : Frame → ℕ → Words → ℕ
@@ -221,6 +221,10 @@ cost_at frame (at.Over answer) words = 0
 
 abbrev pub cost : Unpoison → Words → ℕ
 cost u words = cost_at u.frame u.at words
+
+-- it is no more than this
+abbrev pub unpoison_most : ℕ
+unpoison_most = premium + stale_weight + 8
 
 -- the task, as the laws of tasks read it
 abbrev pub task : Member Unpoison

@@ -25,7 +25,7 @@ pub(crate) fn operation_of(step: &Step) -> Operation
     ensures { (n : ℕ) → tables.word_after step.now n ≡ applied result n }
 {
     match step {
-        Step::Load { .. } => Operation::Load,
+        Step::Load { .. } | Step::ReportLost { .. } => Operation::Load,
         Step::Reserve { seen } => Operation::Exchange(*seen, seen.saturating_sub(1)),
         Step::TakeBit { frame } => Operation::And(!free_mask(*frame)),
         Step::GiveBit { frame } => Operation::Or(free_mask(*frame)),
@@ -58,7 +58,6 @@ pub(crate) fn operation_of(step: &Step) -> Operation
             let policy = *policy;
             Operation::Swap(PolicyWord { policy, settings }.pack())
         }
-        Step::ReportLost { .. } => Operation::Swap(0),
     }
 }
 

@@ -1,4 +1,4 @@
-//! Two commands on one frame, under every order of their first twelve turns: the reports that they can come to.
+//! Two commands on one frame, or on one file, under every order of twelve turns: the reports that they can come to.
 
 use crate::judging::{are_legal, scheduled};
 use crate::stepping::report_of;
@@ -113,6 +113,26 @@ cpu 0 2\n0 stored 0 2\n1 recovered\ncpu 1 1\n0 done\nend\n",
     ],
 };
 
+/// Its page is a dirty one of a file, which both ask for losses, twice. The failure has still to take the page out.
+const ASKED: Meeting = Meeting {
+    front: "hwp 1\ncpus 2\nframes 2\nfile 0\nproc 0\nthread 0 0 0 handler\npage 0 file 0 fill 9\ntrans 0 0 0\ncpu 0\nstore 0 0 0 5\n\
+inject 0\nfsync 0\nfsync 0\ncpu 1\nfsync 0\nfsync 0\nschedule 0. 0@set_pte",
+    ends: &[
+        // processor 1 asks twice before the loss is counted
+        "hwp-report 1\nstop none\ncount 1\nfile 0 lost 1\nframe 0 handled bad 0 weak 0\npoisoned 0 0 1 sw filedirty recovered\n\
+frame 1 free bad 0 weak 0\npage 0 4\nin 0 0\nmap 0 0 0\nstore 0 0 0 0 0 5\nfail 0 1 filedirty opt - 1 0\nseen 0 default 0\n\
+cpu 0 4\n0 stored 0 2\n1 recovered\n2 eio 1\n3 done\ncpu 1 2\n0 done\n1 done\nend\n",
+        // once before, and once behind it
+        "hwp-report 1\nstop none\ncount 1\nfile 0 lost 1\nframe 0 handled bad 0 weak 0\npoisoned 0 0 1 sw filedirty recovered\n\
+frame 1 free bad 0 weak 0\npage 0 4\nin 0 0\nmap 0 0 0\nstore 0 0 0 0 0 5\nfail 0 1 filedirty opt - 1 0\nseen 0 default 0\n\
+cpu 0 4\n0 stored 0 2\n1 recovered\n2 eio 1\n3 done\ncpu 1 2\n0 done\n1 eio 1\nend\n",
+        // twice behind it
+        "hwp-report 1\nstop none\ncount 1\nfile 0 lost 1\nframe 0 handled bad 0 weak 0\npoisoned 0 0 1 sw filedirty recovered\n\
+frame 1 free bad 0 weak 0\npage 0 4\nin 0 0\nmap 0 0 0\nstore 0 0 0 0 0 5\nfail 0 1 filedirty opt - 1 0\nseen 0 default 0\n\
+cpu 0 4\n0 stored 0 2\n1 recovered\n2 eio 1\n3 done\ncpu 1 2\n0 eio 1\n1 done\nend\n",
+    ],
+};
+
 /// The texts that are other ones than the report.
 fn others(
     rt: &impl Abort,
@@ -172,4 +192,9 @@ fn a_frame_is_taken_back_before_it_fails_again_or_after(rt: HostRuntime) {
 #[test]
 fn a_frame_is_taken_back_once_its_failure_is_over(rt: HostRuntime) {
     comes_to_its_ends(&rt, rt.alloc(), &FAILED_IN_USE);
+}
+
+#[test]
+fn each_processor_is_told_of_a_loss_once(rt: HostRuntime) {
+    comes_to_its_ends(&rt, rt.alloc(), &ASKED);
 }

@@ -16,7 +16,7 @@ const MARKED: &str =
     "hwp-report 1\nstop 0 0 panic 255\ncount 3\nframe 0 handled bad 20 weak 0\npoisoned 0 0 0 sw free recovered\nunpoisoned 0 1 1\npoisoned 1 0 6 hw anononly ignored\nframe 1 handled bad 0 weak 0\npoisoned 4095 0 2 soft moved recovered\npoisoned 4096 0 3 soft free recovered\npoisoned 4097 0 4 hw swapdirty delayed\nend\n";
 
 const ANSWERED: &str =
-    "hwp-report 1\nstop 0 2 severity S8 1 fd800000000000c0 1 0 user\ncount 0\ncpu 0 4\n2 event 0 fd800000000000c0 1040 86 S9 recovered\n2 event 1 fd800000000000c0 1040 86 S8 stop\n2 event 2 fd800000000000c0 1040 86 S1 none\n2 event 0 fd800000000000c0 1040 86 S255 held\ncpu 1 26\n0 sigbus 255 10\n1 gone 255\n2 stopped\n3 done\n4 done 255 10\n5 notresident 255 10\n6 notmapped 255 10\n7 dirty 255 10\n8 mapped 255 10\n9 badlines 2a 255 10\n10 eio 10\n11 is 2\n12 einval\n13 recovered\n14 delayed\n15 ignored\n16 already\n17 moved 1 255 10\n18 takenfree\n19 kernel\n20 hasbad a\n21 notpoisoned\n22 hardwareseen\n23 inuse 10\n24 scrubbed 10\n25 raised 3\nend\n";
+    "hwp-report 1\nstop 0 2 severity S8 1 fd800000000000c0 1 0 user\ncount 0\ncpu 0 4\n2 event 0 fd800000000000c0 1040 86 S9 recovered\n2 event 1 fd800000000000c0 1040 86 S8 stop\n2 event 2 fd800000000000c0 1040 86 S1 none\n2 event 0 fd800000000000c0 1040 86 S255 held\ncpu 1 27\n0 sigbus 255 10\n1 gone 255\n2 stopped\n3 done\n4 done 255 10\n5 notresident 255 10\n6 notmapped 255 10\n7 dirty 255 10\n8 mapped 255 10\n9 badlines 2a 255 10\n10 eio 10\n11 is 2\n12 einval\n13 recovered\n14 delayed\n15 ignored\n16 already\n17 moved 1 255 10\n18 takenfree\n19 kernel\n20 hasbad a\n21 notpoisoned\n22 hardwareseen\n23 inuse 10\n24 scrubbed 10\n25 raised 3\n26 opened 10\nend\n";
 
 /// The report that a text is read as is printed as the text.
 fn is_read(rt: &impl Abort, alloc: Global, text: &str) {
@@ -75,6 +75,14 @@ const FAULTS: &[(&[u8], u64)] = &[
     (
         b"hwp-report 1\nstop none\ncount 0\npage 0 18446744073709551616\nend\n",
         4,
+    ),
+    (
+        b"hwp-report 1\nstop none\ncount 0\ncpu 0 1\n0 opened 01\nend\n",
+        5,
+    ),
+    (
+        b"hwp-report 1\nstop none\ncount 0\ncpu 0 1\n0 opened 1 0 2\nend\n",
+        5,
     ),
     (
         b"hwp-report 1\nstop none\ncount 0\npage 0 1\nfail 0 0 free opt - 0 17\n",

@@ -269,7 +269,7 @@ cpu 0 12
 2 event 0 fd800000000000c0 1040 86 S12 outside
 2 event 0 fd800000000000c0 1040 86 S12 panic
 2 event 0 fd800000000000c0 1040 86 S12 held
-cpu 1 26
+cpu 1 27
 0 sigbus 255 10
 1 gone 255
 2 stopped
@@ -296,6 +296,7 @@ cpu 1 26
 23 inuse 10
 24 scrubbed 10
 25 raised 3
+26 opened 10
 end
 ";
 
@@ -304,7 +305,7 @@ const PLACE: At = At {
     entry: 10,
 };
 
-const ANSWERS: [Answer; 26] = [
+const ANSWERS: [Answer; 27] = [
     Answer::Sigbus(PLACE),
     Answer::Gone(Page(255)),
     Answer::Stopped,
@@ -331,6 +332,7 @@ const ANSWERS: [Answer; 26] = [
     Answer::InUse(10),
     Answer::Scrubbed(10),
     Answer::Raised(3),
+    Answer::Opened(10),
 ];
 
 /// The bank, the row of the severity table, and what was done.

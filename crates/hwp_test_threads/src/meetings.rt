@@ -72,6 +72,38 @@ cpu 7 1
 end
 ";
 
+/// A page of a file is lost, which both processors have open.
+const LOSS: &str = "\
+hwp 1\ncpus 2\nframes 3\nfile 0\nproc 0\nthread 0 0 0 handler\npage 0 file 0 fill 9\ntrans 0 0 0\ncpu 0\nstore 0 0 0 4\ninject 0\n\
+fsync 0\nfsync 0\ncpu 1\nfsync 0\nfsync 0\nend\n";
+
+/// Each is told once.
+const TOLD: &str = "\
+hwp-report 1
+stop none
+count 1
+file 0 lost 1
+frame 0 handled bad 0 weak 0
+poisoned 0 0 1 sw filedirty recovered
+frame 1 free bad 0 weak 0
+frame 2 free bad 0 weak 0
+page 0 4
+in 0 0
+map 0 0 0
+store 0 0 0 0 0 4
+fail 0 1 filedirty opt - 1 0
+seen 0 default 0
+cpu 0 4
+0 stored 0 2
+1 recovered
+2 eio 1
+3 done
+cpu 1 2
+0 eio 1
+1 done
+end
+";
+
 #[test]
 fn one_answers_while_the_other_is_inside_its_command(rt: HostRuntime) {
     let stored = bit(0, 0, Point::Answered);
@@ -113,4 +145,18 @@ fn eight_are_inside_their_commands_at_once(rt: HostRuntime) {
     // Both points of one command of each.
     assert!(rt; (gate.is_missed(), gate.came()) == (false, 0x0303_0303_0303_0303));
     leaves(&rt, &left, true, 0, EIGHT_DONE, "");
+}
+
+#[test]
+fn each_thread_is_told_of_a_loss_once(rt: HostRuntime) {
+    // Processor 1 asks once the failure is answered, and has begun before.
+    let holds = [Hold {
+        at: bit(1, 0, Point::Begun),
+        until: bit(0, 1, Point::Answered),
+    }];
+    let gate = Meeting::new(&holds);
+    let left = call(&rt, rt.alloc(), "run", LOSS, &[], (4096, &[]), &gate);
+    // Both points of four commands of processor 0, and of two of processor 1.
+    assert!(rt; (gate.is_missed(), gate.came()) == (false, 0xfff));
+    leaves(&rt, &left, true, 0, TOLD, "");
 }

@@ -40,7 +40,7 @@ pub fn report(
     })
 }
 
-/// For each file, the losses that no `fsync` has told yet.
+/// For each file, how many losses there were.
 fn file_losses(alloc: Global, layout: &Layout, words: &[u64]) -> Result<List<u64>, OutOfMemory>
     requires whole { AreWordsOf layout.now words.now }
     ensures { IfOk result (λ files. files ≡ (words_of layout.now words.now).losses) }

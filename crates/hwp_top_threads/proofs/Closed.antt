@@ -36,7 +36,7 @@ use Rattle.hwp_top_turns.proofs.ProcessorServes.{finished-over}
 -- a processor that is finished holds nothing
 holds-none : (layout : Layout) (view : View) (p : Processor) → Fits layout view p → p.job ≡ None → HoldsNothing view
 holds-none layout view p fits none =
-    let done : IsDone layout view p.cpu p.commands p.rows.items p.banks = subst (FitsAt layout view p.cpu p.commands p.rows.items p.banks) none fits.at in
+    let done : IsDone layout view p.cpu p.commands p.rows.items p.local = subst (FitsAt layout view p.cpu p.commands p.rows.items p.local) none fits.at in
     record {
       refs = ap (λ (h : Hand). h.refs) done.hand_is;
       locks = ap (λ (h : Hand). h.locks) done.hand_is;

@@ -6,6 +6,7 @@ use Rattle.std.proofs.Crossing.{crosses}
 use Rattle.hwp_threads.specs.hwp_geom.contracts.list.List as List
 use Rattle.hwp_threads.specs.hwp_geom.contracts.layout.Layout as Layout
 use Rattle.hwp_top_turns.specs.hwp_script_lines.contracts.command.Command as Command
+use Rattle.hwp_top_turns.specs.hwp_cpu_row.contracts.local.Local as Local
 use Rattle.hwp_top_turns.specs.hwp_cpu_row.contracts.row.Row as Row
 use Rattle.hwp_threads.specs.hwp_page.contracts.entry.Entry as Entry
 use Rattle.hwp_threads.specs.hwp_page.contracts.body.Body as Body
@@ -51,6 +52,9 @@ command-send = search (sendable, crosses) depth 100 fits 20000
 
 row-send : IsSend Row.the_field.row
 row-send = search (list-send, sendable, crosses) depth 100 fits 20000
+
+local-send : IsSend Local.the_field.row
+local-send = search (sendable, crosses) depth 100 fits 20000
 
 entry-send : IsSend Entry.the_field.row
 entry-send = search (list-send, sendable, crosses) depth 100 fits 20000
@@ -128,7 +132,7 @@ job-send : IsSend Job.the_field.row
 job-send = search (instruction-send, evict-send, fsync-send, prctl-send, log-send, raise-send, scrub-send, spoil-send, nested-send, inject-send, soft-send, unpoison-send, sendable, crosses) depth 100 fits 20000
 
 processor-send : IsSend Processor.the_field.row
-processor-send = search (layout-send, list-send, command-send, row-send, job-send, layout-sync, sendable, crosses) depth 100 fits 20000
+processor-send = search (layout-send, list-send, command-send, row-send, local-send, job-send, layout-sync, sendable, crosses) depth 100 fits 20000
 
 -- A PROCESSOR may go to another thread
 pub processor-sent : IsSend Processor.the_row

@@ -10,7 +10,7 @@ use Rattle.hwp_table_words.specs.hwp_geom.declared.Layout.{Layout}
 use Rattle.hwp_table_words.specs.hwp_geom.declared.Thread.{Thread}
 use Rattle.hwp_table_words.specs.hwp_geom.declared.Who.{Who}
 use Rattle.hwp_table_words.specs.hwp_geom.Pairs.{Pairs}
-use Rattle.hwp_table_words.specs.hwp_geom.Limits.{command_limit, cpu_limit}
+use Rattle.hwp_table_words.specs.hwp_geom.Limits.{command_limit, cpu_limit, frame_limit}
 use Rattle.hwp_top_report.specs.hwp_severity.declared.Severity.{Severity}
 use Rattle.hwp_top_report.specs.hwp_severity.declared.Severity.TheVariants as severities
 use Rattle.hwp_table_words.specs.hwp_core_rule.declared.State.{State}
@@ -151,7 +151,7 @@ module _ (script : Script) (seat : Cpu → ℕ) (last : State) (rows : List (Lis
           omega (arith, most, is, count)
 
       small : script.layout.frames ≤ 2 ^ 16
-      small = let few : script.layout.frames ≤ 256 = holds.sound.frames in omega (arith, few)
+      small = let few : script.layout.frames ≤ frame_limit = holds.sound.frames in omega (arith, few)
 
       named : (k : ℕ) (row : Row) → slice_get own k ≡ Some row → (j : ℕ) (t : EventOutcome) → slice_get row.told j ≡ Some t → IsNamed t
       named k row at j t told =

@@ -175,11 +175,11 @@ impl DamageWord {
     }
 }
 
-/// The word of a file: what fsync(2) has not yet reported (the `errseq_t` of a Linux mapping; the form is this project's
-/// rule).
+/// The word of a file: how many of its dirty pages were lost so far, of which fsync(2) tells what is new to its processor (as the
+/// `errseq_t` of a Linux mapping; the form is this project's rule).
 #[derive(Clone, Copy, PartialEq, Eq)]
 pub struct LossWord {
-    /// The whole word: the dirty pages lost since the last fsync.
+    /// The whole word: the dirty pages lost so far. It never falls.
     pub lost: u64,
 }
 

@@ -5,6 +5,7 @@ use Rattle.std.specs.List.{sum_by}
 use Rattle.std.proofs.lemmas.Option.{same_Some, slice_get_within, slice_get-get_or, slice_get_cases}
 use Rattle.hwp_page.specs.hwp_geom.declared.Layout.{Layout}
 use Rattle.hwp_page.specs.hwp_geom.Layout.{IsSound}
+use Rattle.hwp_page.specs.hwp_geom.Limits.{frame_limit}
 use Rattle.hwp_words.specs.Frames.{count_of, owner_of, poison_of, handled_of, cycle_of}
 use Rattle.hwp_core_rule.specs.declared.view.FrameLock.{FrameLock}
 use Rattle.hwp_core_rule.specs.declared.view.Mark.{Mark}
@@ -101,7 +102,7 @@ module _ (layout : Layout) (w : Words) (homes : Homes) (views : List View) (soun
     by-translation before above =
         let one : SomeMember (λ (x : ℕ). 0 < from_bool (x == f + 1)) w.trans = some-term (λ (x : ℕ). from_bool (x == f + 1)) w.trans above in
         let names : one.1 ≡ f + 1 = is-equal one.1 (f + 1) (one.1 == f + 1) refl one.3 in
-        let frames : layout.frames ≤ 256 = sound.frames in
+        let frames : layout.frames ≤ frame_limit = sound.frames in
         elim (slice_get_cases layout.trans one.0).1 [
           | inl found ↦ elim (h.pages.translations.owned one.0 one.1 found.0 one.2 found.2) [
             | inl none ↦ let none : one.1 ≡ 0 = none in absurd (omega arith)

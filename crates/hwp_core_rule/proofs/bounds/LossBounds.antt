@@ -1,8 +1,10 @@
--- All loss words together are at most the poisonings that the views list.
+-- All loss words together are at most the poisonings that the views list; and the losses of a file that one view lists are at most
+-- the file's loss word and those that it owes.
 use Rattle.std.proofs.Common.{◌≡◌, ℕ, zero, suc, ◌+◌, ◌<◌, ◌≤◌, ◌==◌, eq-eqb, ne_eqb, Bool, cond, List, [], ◌∷◌, Option, Some, None, map, length, slice_get, slice_index, inl, inr, refl, sym, ap, ◌∙◌, arith}
 use Rattle.std.specs.Int.{from_bool}
 use Rattle.std.specs.List.{sum_by}
 use Rattle.std.proofs.lemmas.List.Sums.{sum_by-cons}
+use Rattle.std.proofs.lemmas.Option.{none-some, same_Some}
 use Rattle.hwp_page.specs.hwp_geom.declared.FileNo.{FileNo}
 use Rattle.hwp_page.specs.hwp_geom.declared.Layout.{Layout}
 use Rattle.hwp_page.specs.hwp_geom.declared.Page.{Page}
@@ -12,18 +14,19 @@ use Rattle.hwp_core_rule.specs.declared.log.Log.{Log}
 use Rattle.hwp_core_rule.specs.declared.view.InHand.{InHand}
 use Rattle.hwp_core_rule.specs.declared.view.Made.{Made}
 use Rattle.hwp_core_rule.specs.declared.view.Mark.{Mark}
-use Rattle.hwp_core_rule.specs.declared.view.Reported.{Reported}
 use Rattle.hwp_core_rule.specs.declared.view.Sight.{Sight}
 use Rattle.hwp_core_rule.specs.declared.view.View.{View}
-use Rattle.hwp_core_rule.specs.Lists.{Homes, of_home, sum_all, sum_bodies}
+use Rattle.hwp_core_rule.specs.Lists.{EachMember, Homes, of_home, sum_all, sum_bodies}
 use Rattle.hwp_core_rule.specs.Logs.{losses_of, file_of}
 use Rattle.hwp_core_rule.specs.Rule.{FrameRule, losing_of}
 use Rattle.hwp_core_rule.specs.Words.{Words, sum_below}
 use Rattle.hwp_core_rule.specs.parts.Counter.{is_poisoning}
 use Rattle.hwp_core_rule.specs.parts.Entries.{weigh, weigh_from}
-use Rattle.hwp_core_rule.specs.parts.Losses.{Losing}
+use Rattle.hwp_core_rule.specs.parts.Losses.{Losing, made_of}
+use Rattle.hwp_core_rule.specs.parts.Losses as parts
 use Rattle.hwp_core_rule.proofs.CountsBelow.{below-le, below-add, below-zero, below-swap, sum-le, sum-ones, sum-add}
 use Rattle.hwp_core_rule.proofs.Lists.{same-or, at_map, sum-map}
+use Rattle.hwp_core_rule.proofs.OwedLosses.{apart, nothing-lost}
 use Rattle.hwp_core_rule.proofs.WordsByKind.{word-there}
 
 -- what falls on one number is counted once at most, and once where the number is below n
@@ -138,7 +141,7 @@ module _ (layout : Layout) (w : Words) (homes : Homes) (views : List View) (wide
 
   word-le : (f : ℕ) → f < n → slice_index w.losses f + sum_by (owed_of f) views ≤ sum_bodies (of_file f) homes bodies
   word-le f less =
-      let balance : slice_index w.losses f + sum_by (λ (v : Losing). sum_by (λ (r : Reported). cond (r.file.0 == f) r.count 0) v.reported) (map losing_of views) + sum_by (λ (v : Losing). sum_by (λ (o : FileNo). from_bool (o.0 == f)) v.owed) (map losing_of views)
+      let balance : slice_index w.losses f + sum_by (λ (v : Losing). sum_by (λ (o : FileNo). from_bool (o.0 == f)) v.owed) (map losing_of views)
       ≡ sum_bodies (of_file f) homes bodies = h.histories.losses.balance (record { 0 = f }) (slice_index w.losses f) (word-there w.losses f n wide less) in
       let owed : sum_by (λ (v : Losing). sum_by (λ (o : FileNo). from_bool (o.0 == f)) v.owed) (map losing_of views) ≡ sum_by (owed_of f) views = sum-map (λ (v : Losing). sum_by (λ (o : FileNo). from_bool (o.0 == f)) v.owed) losing_of views in
       omega arith
@@ -155,3 +158,55 @@ module _ (layout : Layout) (w : Words) (homes : Homes) (views : List View) (wide
       let both : sum_by (λ (v : View). length v.owed.losses + sum_by (λ (m : Mark). from_bool (is_poisoning m.kind)) v.marks) views ≡ sum_by (λ (v : View). length v.owed.losses) views + sum_by (λ (v : View). sum_by (λ (m : Mark). from_bool (is_poisoning m.kind)) v.marks) views =
       sum-add (λ (v : View). length v.owed.losses) (λ (v : View). sum_by (λ (m : Mark). from_bool (is_poisoning m.kind)) v.marks) views in
       omega (arith, in-homes, in-hands, all-owed)
+
+-- what one member has of the greater sum is more than what it has of the smaller one by no more than the sums are apart
+one-apart : {A : Type 0} (f g : A → ℕ) (l : List A) (i : ℕ) (x : A) → EachMember (λ (y : A). f y ≤ g y) l → slice_get l i ≡ Some x → sum_by f l + g x ≤ sum_by g l + f x
+one-apart f g [] i x each there = absurd (none-some x there)
+one-apart f g (y ∷ ys) zero x each there =
+    let of_f : f y ≡ f x = ap f (same_Some y x there) in
+    let of_g : g y ≡ g x = ap g (same_Some y x there) in
+    let rest : sum_by f ys ≤ sum_by g ys = sum-le f g ys (λ i z e. each (suc i) z e) in
+    let all_f : sum_by f (y ∷ ys) ≡ f y + sum_by f ys = sum_by-cons f y ys in
+    let all_g : sum_by g (y ∷ ys) ≡ g y + sum_by g ys = sum_by-cons g y ys in
+    omega (arith, of_f, of_g, rest, all_f, all_g)
+one-apart f g (y ∷ ys) (suc i) x each there =
+    let first : f y ≤ g y = each zero y refl in
+    let rest : sum_by f ys + g x ≤ sum_by g ys + f x = one-apart f g ys i x (λ j z e. each (suc j) z e) there in
+    let all_f : sum_by f (y ∷ ys) ≡ f y + sum_by f ys = sum_by-cons f y ys in
+    let all_g : sum_by g (y ∷ ys) ≡ g y + sum_by g ys = sum_by-cons g y ys in
+    omega (arith, first, rest, all_f, all_g)
+
+module _ (layout : Layout) (w : Words) (homes : Homes) (views : List View) (h : FrameRule layout w homes views) (file : FileNo) where
+  abbrev is_lost_of : Page → ℕ → Entry → ℕ
+  is_lost_of page place e = cond (is_same_file file (file_of layout page)) (from_bool (is_loss e.what)) 0
+
+  weigh-lost-of : (log : Log) → weigh is_lost_of log ≡ losses_of layout file log
+  weigh-lost-of log = from 0 log.entries
+    where
+      same : Bool
+      same = is_same_file file (file_of layout log.page)
+
+      from : (place : ℕ) (es : List Entry) → weigh_from is_lost_of log.page place es ≡ cond same (losses_in es) 0
+      from place [] = nothing-lost same
+      from place (e ∷ es) =
+          let rest : weigh_from is_lost_of log.page (suc place) es ≡ cond same (losses_in es) 0 = from (suc place) es in
+          let all : losses_in (e ∷ es) ≡ from_bool (is_loss e.what) + losses_in es = sum_by-cons (λ (e : Entry). from_bool (is_loss e.what)) e es in
+          let sums : cond same (losses_in (e ∷ es)) 0 ≡ cond same (from_bool (is_loss e.what)) 0 + cond same (losses_in es) 0 = ap (λ (n : ℕ). cond same n 0) all ∙ apart same (from_bool (is_loss e.what)) (losses_in es) in
+          omega (arith, rest, sums)
+
+  -- the views list all losses of the file
+  all-made-of : sum_bodies (losses_of layout file) homes (map (λ (v : View). v.bodies) views) ≡ sum_by (made_of layout file) (map losing_of views)
+  all-made-of =
+      ap (λ (g : Log → ℕ). sum_bodies g homes (map (λ (v : View). v.bodies) views)) (λ i log. sym (weigh-lost-of log) i)
+      ∙ h.histories.entries.balance is_lost_of
+      ∙ sum-map (λ (x : List Made × List Sight). sum_by (λ (m : Made). is_lost_of m.page m.place m.entry) x.0) (λ (v : View). (v.made, v.sights)) views
+      ∙ sym (sum-map (made_of layout file) losing_of views)
+
+  -- the losses of the file that a view lists are at most the word and those that it owes
+  pub own-losses : (seat : ℕ) (v : View) (word : ℕ) → slice_get views seat ≡ Some v → slice_get w.losses file.0 ≡ Some word → made_of layout file (losing_of v) ≤ word + parts.owed_of file (losing_of v)
+  own-losses seat v word me standing =
+      let balance : word + sum_by (parts.owed_of file) (map losing_of views) ≡ sum_bodies (losses_of layout file) homes (map (λ (v : View). v.bodies) views) = h.histories.losses.balance file word standing in
+      let made : sum_bodies (losses_of layout file) homes (map (λ (v : View). v.bodies) views) ≡ sum_by (made_of layout file) (map losing_of views) = all-made-of in
+      let one : sum_by (parts.owed_of file) (map losing_of views) + made_of layout file (losing_of v) ≤ sum_by (made_of layout file) (map losing_of views) + parts.owed_of file (losing_of v) =
+      one-apart (parts.owed_of file) (made_of layout file) (map losing_of views) seat (losing_of v) (h.histories.losses.owing file) (at_map losing_of views seat v me) in
+      omega (arith, balance, made, one)

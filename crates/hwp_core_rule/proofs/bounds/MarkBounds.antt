@@ -5,6 +5,7 @@ use Rattle.std.specs.Int.{from_bool}
 use Rattle.std.specs.List.{sum_by}
 use Rattle.hwp_page.specs.hwp_geom.declared.Layout.{Layout}
 use Rattle.hwp_page.specs.hwp_geom.Layout.{IsSound}
+use Rattle.hwp_page.specs.hwp_geom.Limits.{cpu_limit, frame_limit}
 use Rattle.hwp_words.specs.Counters.{hardware_of, biased_poisoned_of}
 use Rattle.hwp_words.specs.Frames.{poison_of, cycle_of}
 use Rattle.hwp_core_rule.specs.declared.view.Mark.{Mark}
@@ -21,6 +22,10 @@ use Rattle.hwp_core_rule.proofs.Lists.{same-or, same-number, sum-map}
 use Rattle.hwp_core_rule.proofs.steps.MarkSteps.{due}
 use Rattle.hwp_core_rule.proofs.WordsByKind.{word-there}
 use Rattle.hwp_core_rule.proofs.bounds.CycleBounds.{cycles-few}
+
+-- a mark of one kind at most of each frame and each of its cycles
+abbrev pub mark_limit : ℕ
+mark_limit = frame_limit * (cpu_limit * 4096 + 1)
 
 -- marks of one kind, of n frames and k cycles, one at most of each frame and cycle
 module _ (is : MarkKind → Bool) (marks : List (List Mark)) (n k : ℕ) where
@@ -101,12 +106,12 @@ module _ (layout : Layout) (w : Words) (homes : Homes) (views : List View) (soun
       let few : cycle_of (slice_index w.frames m.frame.0) ≤ layout.cpus * 4096 = cycles-few layout w homes views h m.frame.0 (slice_index w.frames m.frame.0) (there m.frame.0 inside) in
       (inside, omega (arith, past, few))
 
-  all-few : (is : MarkKind → Bool) → ((f c : ℕ) → f < layout.frames → sum_all (of is marks layout.frames last f c) marks ≤ most c (slice_index w.frames f)) → sum_all (λ (m : Mark). from_bool (is m.kind)) marks ≤ 256 * 32769
+  all-few : (is : MarkKind → Bool) → ((f c : ℕ) → f < layout.frames → sum_all (of is marks layout.frames last f c) marks ≤ most c (slice_index w.frames f)) → sum_all (λ (m : Mark). from_bool (is m.kind)) marks ≤ mark_limit
   all-few is listed =
-      let frames : layout.frames ≤ 256 = sound.frames in
-      let cpus : layout.cpus ≤ 8 = sound.cpus in
-      let cycles : last ≤ 32769 = omega (arith, cpus) in
-      let product : layout.frames * last ≤ 256 * 32769 = mul-le-mul frames cycles in
+      let frames : layout.frames ≤ frame_limit = sound.frames in
+      let cpus : layout.cpus ≤ cpu_limit = sound.cpus in
+      let cycles : last ≤ cpu_limit * 4096 + 1 = omega (arith, cpus) in
+      let product : layout.frames * last ≤ mark_limit = mul-le-mul frames cycles in
       let few : sum_all (λ (m : Mark). from_bool (is m.kind)) marks ≤ layout.frames * last = kind-few is marks layout.frames last (of-one is listed) (λ f c less. within f c less) in
       omega (arith, product, few)
     where
@@ -115,10 +120,10 @@ module _ (layout : Layout) (w : Words) (homes : Homes) (views : List View) (soun
           let some : sum_all (of is marks layout.frames last f c) marks ≤ most c (slice_index w.frames f) = listed f c less in
           omega (arith, some, due-one c (slice_index w.frames f))
 
-  pub poisonings-few : sum_all (λ (m : Mark). from_bool (is_poisoning m.kind)) marks ≤ 256 * 32769
+  pub poisonings-few : sum_all (λ (m : Mark). from_bool (is_poisoning m.kind)) marks ≤ mark_limit
   poisonings-few = all-few is_poisoning (λ f c less. let are : poisonings f c marks ≡ most c (slice_index w.frames f) = h.failures.marks.poisoned f (slice_index w.frames f) c (there f less) in omega (arith, are))
 
-  pub revivals-few : sum_all (λ (m : Mark). from_bool (is_revival m.kind)) marks ≤ 256 * 32769
+  pub revivals-few : sum_all (λ (m : Mark). from_bool (is_revival m.kind)) marks ≤ mark_limit
   revivals-few = all-few is_revival (λ f c less.
       let are : revivals f c marks ≡ from_bool (nat_lt c (cycle_of (slice_index w.frames f))) = h.failures.marks.revived f (slice_index w.frames f) c (there f less) in
       let due_then : from_bool (nat_lt c (cycle_of (slice_index w.frames f))) ≤ most c (slice_index w.frames f) = before (nat_lt c (cycle_of (slice_index w.frames f))) (cond (c == cycle_of (slice_index w.frames f)) (poison_of (slice_index w.frames f)) 0) in
@@ -133,13 +138,13 @@ module _ (layout : Layout) (w : Words) (homes : Homes) (views : List View) (soun
   all-marks : (f : Mark → ℕ) → sum_by (λ (d : CountDebts). sum_by f d.marks) debts ≡ sum_all f marks
   all-marks f = sum-map (λ (d : CountDebts). sum_by f d.marks) count_debts_of views ∙ sym (sum-map (sum_by f) (λ (v : View). v.marks) views)
 
-  pub counts-few : sum_by (λ (d : CountDebts). d.counts + d.hardware) debts ≤ 256 * 32769
+  pub counts-few : sum_by (λ (d : CountDebts). d.counts + d.hardware) debts ≤ mark_limit
   counts-few =
       let covered : sum_by (λ (d : CountDebts). d.counts + d.hardware) debts ≤ sum_by (λ (d : CountDebts). sum_by (λ (m : Mark). from_bool (is_poisoning m.kind)) d.marks) debts =
       sum-le (λ (d : CountDebts). d.counts + d.hardware) (λ (d : CountDebts). sum_by (λ (m : Mark). from_bool (is_poisoning m.kind)) d.marks) debts (λ i d at. (h.failures.counter.covered i d at).counts) in
       omega (arith, covered, all-marks (λ (m : Mark). from_bool (is_poisoning m.kind)), poisonings-few)
 
-  pub uncounts-few : sum_by (λ (d : CountDebts). d.uncounts) debts ≤ 256 * 32769
+  pub uncounts-few : sum_by (λ (d : CountDebts). d.uncounts) debts ≤ mark_limit
   uncounts-few =
       let covered : sum_by (λ (d : CountDebts). d.uncounts) debts ≤ sum_by (λ (d : CountDebts). sum_by (λ (m : Mark). from_bool (is_revival m.kind)) d.marks) debts =
       sum-le (λ (d : CountDebts). d.uncounts) (λ (d : CountDebts). sum_by (λ (m : Mark). from_bool (is_revival m.kind)) d.marks) debts (λ i d at. (h.failures.counter.covered i d at).uncounts) in
@@ -152,7 +157,7 @@ module _ (layout : Layout) (w : Words) (homes : Homes) (views : List View) (soun
 
   -- ---- the counter
 
-  pub hardware-few : hardware_of w.counter ≤ 256 * 32769
+  pub hardware-few : hardware_of w.counter ≤ mark_limit
   hardware-few =
       let balance : hardware_of w.counter + sum_by (λ (d : CountDebts). d.hardware) debts ≡ sum_by (λ (d : CountDebts). sum_by (λ (m : Mark). from_bool (is_by_hardware m.kind)) d.marks) debts = h.failures.counter.hardware in
       let fewer : sum_all (λ (m : Mark). from_bool (is_by_hardware m.kind)) marks ≤ sum_all (λ (m : Mark). from_bool (is_poisoning m.kind)) marks =
@@ -160,10 +165,10 @@ module _ (layout : Layout) (w : Words) (homes : Homes) (views : List View) (soun
       omega (arith, balance, all-marks (λ (m : Mark). from_bool (is_by_hardware m.kind)), fewer, poisonings-few)
 
   -- the poisoned frames that are counted: not far from none
-  pub poisoned-near : (biased_poisoned_of w.counter ≤ 2 ^ 31 + 256 + 256 * 32769) × (2 ^ 31 ≤ biased_poisoned_of w.counter + 256 * 32769)
+  pub poisoned-near : (biased_poisoned_of w.counter ≤ 2 ^ 31 + frame_limit + mark_limit) × (2 ^ 31 ≤ biased_poisoned_of w.counter + mark_limit)
   poisoned-near =
       let balance : biased_poisoned_of w.counter + sum_by (λ (d : CountDebts). d.counts + d.hardware) debts ≡ 2 ^ 31 + sum_by poison_of w.frames + sum_by (λ (d : CountDebts). d.uncounts) debts = h.failures.counter.poisoned in
       let poisoned : sum_by poison_of w.frames ≤ sum_by (λ (x : ℕ). 1) w.frames = sum-le poison_of (λ (x : ℕ). 1) w.frames (λ i x at. omega arith) in
       let ones : sum_by (λ (x : ℕ). 1) w.frames ≡ length w.frames = sum-ones w.frames in
-      let frames : layout.frames ≤ 256 = sound.frames in
+      let frames : layout.frames ≤ frame_limit = sound.frames in
       (omega (arith, balance, poisoned, ones, frames, wide, uncounts-few), omega (arith, balance, counts-few))

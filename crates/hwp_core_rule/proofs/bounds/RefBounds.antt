@@ -6,6 +6,7 @@ use Rattle.std.specs.Int.{from_bool}
 use Rattle.std.specs.List.{sum_by}
 use Rattle.hwp_page.specs.hwp_geom.declared.Layout.{Layout}
 use Rattle.hwp_page.specs.hwp_geom.Layout.{IsSound}
+use Rattle.hwp_page.specs.hwp_geom.Limits.{cpu_limit, page_limit, translation_limit}
 use Rattle.hwp_words.specs.Frames.{count_of, handled_of}
 use Rattle.hwp_core_rule.specs.declared.view.Part.{Part}
 use Rattle.hwp_core_rule.specs.declared.view.View.{View}
@@ -124,13 +125,13 @@ count-fits layout w homes views sound shaped h held f word n there few =
     let balance : count_of word ≡ named f w.trans + named f w.caches + sum_by (refs_on f) (map (λ (v : View). v.refs) views) + handled_of word = h.frames.counts.balance f word there in
     let parts : sum_by (λ (l : List Part). length l) (map (λ (v : View). v.parts) views) ≡ layout.cpus = parts-number layout (map (λ (v : View). v.parts) views) h.processors.processors in
     let refs : sum_by (refs_on f) (map (λ (v : View). v.refs) views) ≤ sum_by (λ (l : List Part). length l) (map (λ (v : View). v.parts) views) * (length layout.trans + 2) = all-refs-at_most layout f views h.frames.holdings.bounded held.nothing in
-    let cpus : layout.cpus ≤ 8 = sound.cpus in
-    let trans : length layout.trans ≤ 512 = sound.trans in
-    let pages : length layout.pages ≤ 256 = sound.pages in
+    let cpus : layout.cpus ≤ cpu_limit = sound.cpus in
+    let trans : length layout.trans ≤ translation_limit = sound.trans in
+    let pages : length layout.pages ≤ page_limit = sound.pages in
     let names : named f w.trans ≤ length layout.trans = subst (λ (n : ℕ). named f w.trans ≤ n) shaped.trans (named-at_most f w.trans) in
     let caches : named f w.caches ≤ length layout.pages = subst (λ (n : ℕ). named f w.caches ≤ n) shaped.caches (named-at_most f w.caches) in
     let handled : handled_of word < 2 = omega arith in
-    let few_cpus : sum_by (λ (l : List Part). length l) (map (λ (v : View). v.parts) views) ≤ 8 = omega arith in
-    let wide : length layout.trans + 2 ≤ 514 = omega arith in
-    let product : sum_by (λ (l : List Part). length l) (map (λ (v : View). v.parts) views) * (length layout.trans + 2) ≤ 8 * 514 = mul-le-mul few_cpus wide in
+    let few_cpus : sum_by (λ (l : List Part). length l) (map (λ (v : View). v.parts) views) ≤ cpu_limit = omega arith in
+    let wide : length layout.trans + 2 ≤ translation_limit + 2 = omega arith in
+    let product : sum_by (λ (l : List Part). length l) (map (λ (v : View). v.parts) views) * (length layout.trans + 2) ≤ cpu_limit * (translation_limit + 2) = mul-le-mul few_cpus wide in
     omega arith

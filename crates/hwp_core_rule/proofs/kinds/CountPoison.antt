@@ -14,7 +14,7 @@ use Rattle.hwp_core_rule.specs.Lists.{Homes, SomeMember}
 use Rattle.hwp_core_rule.specs.Rule.{FrameRule, count_debts_of}
 use Rattle.hwp_core_rule.specs.Words.{Words}
 use Rattle.hwp_core_rule.specs.parts.Counter.{CounterAgrees, CountDebts, IsCovered, is_by_hardware}
-use Rattle.hwp_core_rule.proofs.bounds.MarkBounds.{hardware-few, poisoned-near}
+use Rattle.hwp_core_rule.proofs.bounds.MarkBounds.{mark_limit, hardware-few, poisoned-near}
 use Rattle.hwp_core_rule.proofs.Keeps.{Keeps}
 use Rattle.hwp_core_rule.proofs.PartKeeps
 use Rattle.hwp_core_rule.proofs.Lists.{change, keep, at_map, each-set, some-set, sum-set}
@@ -109,7 +109,7 @@ keeps-uncount layout w homes views seat v who content given =
     some : 0 < v.owed.uncounts
     some = given.asks
 
-    near : 2 ^ 31 ≤ biased_poisoned_of w.counter + 256 * 32769
+    near : 2 ^ 31 ≤ biased_poisoned_of w.counter + mark_limit
     near = (poisoned-near layout w homes views given.sound given.shaped.frames given.rule).1
 
     are : CountsAre ((w.counter + (2 ^ 64 - 1)) % 2 ^ 64) (hardware_of w.counter) (biased_poisoned_of w.counter - 1)

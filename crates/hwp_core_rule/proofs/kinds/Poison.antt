@@ -279,8 +279,9 @@ module _ (layout : Layout) (w : Words) (homes : Homes) (views : List View) (seat
     histories = record {
       entries = PartKeeps.kept-entries views seat v u me refl refl refl refl h.histories.entries;
       endings = PartKeeps.kept-endings views seat v u me refl refl h.histories.endings;
-      losses = keep (λ (v : View). v.bodies) (λ l. LossesBalance layout w.losses homes l (map losing_of (set views seat u))) views seat v u me refl
-          (change losing_of (LossesBalance layout w.losses homes (map (λ (v : View). v.bodies) views)) views seat u (MarkSteps.losses-marked layout w homes views seat v mark me h));
+      losses = keep (λ (v : View). v.sights) (λ l. LossesBalance layout w.losses homes (map (λ (v : View). v.bodies) (set views seat u)) (map losing_of (set views seat u)) l) views seat v u me refl
+          (keep (λ (v : View). v.bodies) (λ l. LossesBalance layout w.losses homes l (map losing_of (set views seat u)) (map (λ (v : View). v.sights) views)) views seat v u me refl
+          (change losing_of (λ l. LossesBalance layout w.losses homes (map (λ (v : View). v.bodies) views) l (map (λ (v : View). v.sights) views)) views seat u (MarkSteps.losses-marked layout w homes views seat v mark me h)));
     };
     failures = record {
       handled = handled-poisoned;

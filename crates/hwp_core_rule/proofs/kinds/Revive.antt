@@ -11,7 +11,7 @@ use Rattle.hwp_page.specs.hwp_geom.declared.Cpu.{Cpu}
 use Rattle.hwp_page.specs.hwp_geom.declared.Frame.{Frame}
 use Rattle.hwp_page.specs.hwp_geom.declared.Layout.{Layout}
 use Rattle.hwp_page.specs.hwp_geom.declared.Who.{Who}
-use Rattle.hwp_page.specs.hwp_geom.Limits.{command_limit}
+use Rattle.hwp_page.specs.hwp_geom.Limits.{command_limit, cpu_limit}
 use Rattle.hwp_words.specs.Counters.{biased_poisoned_of, hardware_of}
 use Rattle.hwp_words.specs.Frames.{lock_of, poison_of, handled_of, kernel_of, count_of, owner_of, cycle_of, is_kernel}
 use Rattle.hwp_words.proofs.FrameSteps.{FieldsAre, fields-revived}
@@ -301,8 +301,9 @@ module _ (layout : Layout) (w : Words) (homes : Homes) (views : List View) (seat
     histories = record {
       entries = PartKeeps.kept-entries views seat v u me refl refl refl refl h.histories.entries;
       endings = PartKeeps.kept-endings views seat v u me refl refl h.histories.endings;
-      losses = keep (λ (v : View). v.bodies) (λ l. LossesBalance layout w.losses homes l (map losing_of (set views seat u))) views seat v u me refl
-          (change losing_of (LossesBalance layout w.losses homes (map (λ (v : View). v.bodies) views)) views seat u (MarkSteps.losses-marked layout w homes views seat v mark me h));
+      losses = keep (λ (v : View). v.sights) (λ l. LossesBalance layout w.losses homes (map (λ (v : View). v.bodies) (set views seat u)) (map losing_of (set views seat u)) l) views seat v u me refl
+          (keep (λ (v : View). v.bodies) (λ l. LossesBalance layout w.losses homes l (map losing_of (set views seat u)) (map (λ (v : View). v.sights) views)) views seat v u me refl
+          (change losing_of (λ l. LossesBalance layout w.losses homes (map (λ (v : View). v.bodies) views) l (map (λ (v : View). v.sights) views)) views seat u (MarkSteps.losses-marked layout w homes views seat v mark me h)));
     };
     failures = record {
       handled = handled;
@@ -334,7 +335,7 @@ keeps-revive frame seen layout w homes views seat v who content given = which (w
     room : cycle_of (get_or w.frames frame.0 0) + 1 < 2 ^ 20
     room =
         let few : cycle_of (get_or w.frames frame.0 0) ≤ layout.cpus * 4096 = cycles-few layout w homes views given.rule frame.0 (get_or w.frames frame.0 0) there in
-        let cpus : layout.cpus ≤ 8 = given.sound.cpus in
+        let cpus : layout.cpus ≤ cpu_limit = given.sound.cpus in
         omega arith
 
     goes : word ≡ seen → FrameRule layout (record w { frames = set w.frames frame.0 (revived seen) }) homes (set views seat (revived_by who frame word v))

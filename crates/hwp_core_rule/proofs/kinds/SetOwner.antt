@@ -7,6 +7,7 @@ use Rattle.hwp_page.specs.hwp_geom.declared.Frame.{Frame}
 use Rattle.hwp_page.specs.hwp_geom.declared.Layout.{Layout}
 use Rattle.hwp_page.specs.hwp_geom.declared.Page.{Page}
 use Rattle.hwp_page.specs.hwp_geom.declared.TransDecl.{TransDecl}
+use Rattle.hwp_page.specs.hwp_geom.Limits.{page_limit}
 use Rattle.hwp_words.specs.Frames.{lock_of, poison_of, handled_of, kernel_of, count_of, owner_of, cycle_of, is_handled}
 use Rattle.hwp_words.proofs.FrameSteps.{FieldsAre, fields-set_owner}
 use Rattle.hwp_core_rule.specs.declared.view.FrameLock.{FrameLock}
@@ -166,7 +167,7 @@ keeps-owned frame page layout w homes views seat v who content given =
 
     are : FieldsAre now (lock_of word) (poison_of word) (handled_of word) (kernel_of word) (count_of word) (page.0 + 1) (cycle_of word)
     are =
-        let few : length layout.pages ≤ 256 = given.sound.pages in
+        let few : length layout.pages ≤ page_limit = given.sound.pages in
         let inside : page.0 < length layout.pages = given.asks.0 in
         fields-set_owner word ((page.0 + 1) * 2 ^ 24) 0 (page.0 + 1) (ap (λ (n : ℕ). n * 2 ^ 24) (sym (xor_zero_l (page.0 + 1)))) unowned (omega arith)
 

@@ -5,6 +5,7 @@ use Rattle.std.proofs.lemmas.List.{length-append}
 use prog.Atomic.{either}
 use Rattle.hwp_page.specs.hwp_geom.declared.Cpu.{Cpu}
 use Rattle.hwp_page.specs.hwp_geom.declared.Who.{Who}
+use Rattle.hwp_page.specs.hwp_geom.Limits.{cpu_limit}
 use Rattle.hwp_words.specs.Stops.{stopper_of}
 use Rattle.hwp_words.proofs.OtherSteps.{stopper_of-stop}
 use Rattle.hwp_core_rule.specs.declared.view.InHand.{InHand}
@@ -54,7 +55,7 @@ keeps-stop cpu layout w homes views seat v who content given = arm (w.stop == 0)
     names =
         let declared : given.past.1.cpu.0 < layout.cpus = h.processors.processors.declared seat v.parts (at_map (λ (v : View). v.parts) views seat v me) given.past.0 given.past.1 given.past.2 in
         let mine : given.past.1.cpu.0 ≡ who.cpu.0 = ap (λ (c : Cpu). c.0) given.past.3.0 in
-        let few : layout.cpus ≤ 8 = given.sound.cpus in
+        let few : layout.cpus ≤ cpu_limit = given.sound.cpus in
         let asked : cpu.0 ≡ who.cpu.0 = ap (λ (c : Cpu). c.0) given.asks in
         let name : stopper_of (cpu.0 + 1) ≡ cpu.0 + 1 = (stopper_of-stop cpu.0 (omega arith)).0 in
         name ∙ ap (λ (n : ℕ). n + 1) asked

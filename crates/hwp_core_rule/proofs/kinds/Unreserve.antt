@@ -1,6 +1,7 @@
 -- A reservation given back keeps the frame rule.
 use Rattle.std.proofs.Common.{◌≡◌, ℕ, zero, suc, ◌+◌, ◌-◌, ◌<◌, ◌≤◌, ◌%◌, ◌^◌, List, Some, map, set, slice_get, arith}
 use Rattle.std.specs.List.{sum_by}
+use Rattle.hwp_page.specs.hwp_geom.Limits.{frame_limit}
 use Rattle.hwp_core_rule.specs.declared.view.View.{View}
 use Rattle.hwp_core_rule.specs.Rule.{FrameRule}
 use Rattle.hwp_core_rule.specs.Words.{free_bit, sum_below}
@@ -34,6 +35,6 @@ keeps-unreserve layout w homes views seat v who content given =
         let total : sum_by (λ (n : ℕ). n) (set reserved seat (v.reserved - 1)) + v.reserved ≡ sum_by (λ (n : ℕ). n) reserved + (v.reserved - 1) = sum-set (λ (n : ℕ). n) reserved seat v.reserved (v.reserved - 1) there in
         let number : sum_below (free_bit w.frees) layout.frames ≡ w.available + sum_by (λ (n : ℕ). n) reserved = h.frames.free.number in
         let few : sum_below (free_bit w.frees) layout.frames ≤ layout.frames = bits-below (free_bit w.frees) layout.frames (λ f. omega arith) in
-        let frames : layout.frames ≤ 256 = given.sound.frames in
+        let frames : layout.frames ≤ frame_limit = given.sound.frames in
         let mine : v.reserved ≤ sum_by (λ (n : ℕ). n) reserved = term-le (λ (n : ℕ). n) reserved seat v.reserved there in
         record { number = omega arith; within = h.frames.free.within }

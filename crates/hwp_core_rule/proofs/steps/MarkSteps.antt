@@ -10,7 +10,6 @@ use Rattle.hwp_page.specs.Orders.{IsNotLater}
 use Rattle.hwp_words.specs.Counters.{hardware_of}
 use Rattle.hwp_core_rule.specs.declared.view.Made.{Made}
 use Rattle.hwp_core_rule.specs.declared.view.Mark.{Mark}
-use Rattle.hwp_core_rule.specs.declared.view.Reported.{Reported}
 use Rattle.hwp_core_rule.specs.declared.view.Sight.{Sight}
 use Rattle.hwp_core_rule.specs.declared.view.View.{View}
 use Rattle.hwp_core_rule.specs.Lists.{Homes, EachMember, EachListed, SomeMember, sum_all, sum_bodies}
@@ -20,7 +19,7 @@ use Rattle.hwp_core_rule.specs.Words.{Words, sum_below}
 use Rattle.hwp_core_rule.specs.parts.Counter.{CountDebts, SomeHardware, is_by_hardware, is_poisoning}
 use Rattle.hwp_core_rule.specs.parts.Exhaustion.{ExhaustionExplained, usable, is_marked}
 use Rattle.hwp_core_rule.specs.parts.Holdings.{AreOwn, IsPast}
-use Rattle.hwp_core_rule.specs.parts.Losses.{Losing, LossesBalance, IsPoisonLoss}
+use Rattle.hwp_core_rule.specs.parts.Losses.{Losing, LossesBalance, IsPoisonLoss, made_of, owed_of}
 use Rattle.hwp_core_rule.proofs.CountsBelow.{below-le}
 use Rattle.hwp_core_rule.proofs.PartKeeps
 use Rattle.hwp_core_rule.proofs.Lists.{at_map, set_here, sum-set, each-set, each-push, some-set, some-push}
@@ -32,13 +31,6 @@ due c cycle poison = cond (nat_lt c cycle) 1 (cond (c == cycle) poison 0)
 
 abbrev pub by_hardware : Mark → ℕ
 by_hardware m = from_bool (is_by_hardware m.kind)
-
--- what the view reported of the file, and what it owes
-abbrev pub reported_of : FileNo → Losing → ℕ
-reported_of file v = sum_by (λ (r : Reported). cond (r.file.0 == file.0) r.count 0) v.reported
-
-abbrev pub owed_of : FileNo → Losing → ℕ
-owed_of file v = sum_by (λ (n : FileNo). from_bool (n.0 == file.0)) v.owed
 
 module _ (layout : Layout) (w : Words) (homes : Homes) (views : List View) (seat : ℕ) (v : View) (mark : Mark) (me : slice_get views seat ≡ Some v) (h : FrameRule layout w homes views) where
   abbrev now : List Mark
@@ -71,13 +63,14 @@ module _ (layout : Layout) (w : Words) (homes : Homes) (views : List View) (seat
   abbrev losings : List Losing
   losings = map losing_of views
 
-  pub losses-marked : LossesBalance layout w.losses homes (map (λ (v : View). v.bodies) views) (set losings seat losing)
+  pub losses-marked : LossesBalance layout w.losses homes (map (λ (v : View). v.bodies) views) (set losings seat losing) (map (λ (v : View). v.sights) views)
   losses-marked = record {
     balance = λ file x at.
-        let reported : sum_by (reported_of file) (set losings seat losing) + reported_of file (losing_of v) ≡ sum_by (reported_of file) losings + reported_of file (losing_of v) = sum-set (reported_of file) losings seat (losing_of v) losing mine in
         let owed : sum_by (owed_of file) (set losings seat losing) + owed_of file (losing_of v) ≡ sum_by (owed_of file) losings + owed_of file (losing_of v) = sum-set (owed_of file) losings seat (losing_of v) losing mine in
-        let was : x + sum_by (reported_of file) losings + sum_by (owed_of file) losings ≡ sum_bodies (losses_of layout file) homes (map (λ (v : View). v.bodies) views) = h.histories.losses.balance file x at in
-        omega (arith, reported, owed, was);
+        let was : x + sum_by (owed_of file) losings ≡ sum_bodies (losses_of layout file) homes (map (λ (v : View). v.bodies) views) = h.histories.losses.balance file x at in
+        omega (arith, owed, was);
+    owing = λ file. each-set (λ (o : Losing). owed_of file o ≤ made_of layout file o) losings seat losing (h.histories.losses.owing file seat (losing_of v) mine) (h.histories.losses.owing file);
+    shown = h.histories.losses.shown;
     declared = each-set (λ (o : Losing). EachMember (λ (n : FileNo). n.0 < layout.files) o.owed) losings seat losing (h.histories.losses.declared seat (losing_of v) mine) h.histories.losses.declared;
     poisoned = each-set IsPoisonLoss losings seat losing covered h.histories.losses.poisoned;
   }

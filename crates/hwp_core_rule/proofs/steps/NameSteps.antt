@@ -10,6 +10,7 @@ use Rattle.hwp_page.specs.hwp_geom.declared.Layout.{Layout}
 use Rattle.hwp_page.specs.hwp_geom.declared.Page.{Page}
 use Rattle.hwp_page.specs.hwp_geom.declared.TransDecl.{TransDecl}
 use Rattle.hwp_page.specs.hwp_geom.Layout.{IsSound}
+use Rattle.hwp_page.specs.hwp_geom.Limits.{frame_limit}
 use Rattle.hwp_words.specs.Frames.{count_of, lock_of, handled_of}
 use Rattle.hwp_words.specs.Names.{frame_name, frame_named}
 use Rattle.hwp_words.specs.Translations.{pte_word}
@@ -149,7 +150,7 @@ module _ (layout : Layout) (w : Words) (homes : Homes) (views : List View) (seat
   page-knows = h.pages.fits.known seat (v.pages, v.bodies) my_fit 0 has.lock.lock has.lock.listed
 
   pub frames-few : length w.frames ≤ 2 ^ 16
-  frames-few = let limit : layout.frames ≤ 256 = sound.frames in subst (λ (n : ℕ). n ≤ 2 ^ 16) (sym shaped.frames) (omega arith)
+  frames-few = let limit : layout.frames ≤ frame_limit = sound.frames in subst (λ (n : ℕ). n ≤ 2 ^ 16) (sym shaped.frames) (omega arith)
 
   pub my-locks : EachMember (IsLocked w.frames v.refs) v.locks
   my-locks = h.frames.frame_locks.known seat (v.refs, v.locks) (at_map (λ (v : View). (v.refs, v.locks)) views seat v me)

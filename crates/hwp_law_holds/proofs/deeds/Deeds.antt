@@ -202,8 +202,8 @@ module _ (layout : Layout) (list : List Command) (view : View) (who : Who) where
   table-deeds (commands.Out page) (answers.DoneAt at) need caused = one _ need _ at _ tt caused.0 refl caused.1.made
   table-deeds (commands.Out page) (answers.NotResident at) need caused = none view who _ caused.1.made
   table-deeds (commands.Out page) (answers.BadLines mask at) need caused = none view who _ caused.1.made
-  table-deeds (commands.Fsync file) answers.Done need caused = none view who _ caused.0
-  table-deeds (commands.Fsync file) (answers.Eio lost) need caused = none view who _ caused.0
+  table-deeds (commands.Fsync file) answers.Done need caused = none view who _ caused
+  table-deeds (commands.Fsync file) (answers.Eio more) need caused = none view who _ caused.0
   table-deeds (commands.Prctl thread args) (answers.Gone page) need caused = none view who _ caused.1
   table-deeds (commands.Prctl thread args) answer need caused = none view who _ caused.made
   table-deeds (commands.Log status addr misc) answers.Done need caused = none view who _ caused

@@ -6,6 +6,7 @@ use Rattle.hwp_law_run.specs.hwp_geom.declared.Cpu.{Cpu}
 use Rattle.hwp_law_run.specs.hwp_geom.declared.Damage.TheVariants as damages
 use Rattle.hwp_law_run.specs.hwp_geom.declared.Frame.{Frame}
 use Rattle.hwp_law_run.specs.hwp_geom.declared.Page.{Page}
+use Rattle.hwp_law_run.specs.hwp_geom.Limits.{page_limit}
 use Rattle.hwp_law_run.specs.hwp_words.Frames.{cycle_of, handled_of, is_handled, is_kernel, is_poisoned, owner_of, poison_of}
 use Rattle.hwp_law_run.specs.hwp_words.Names.{page_named}
 use Rattle.hwp_law_run.specs.hwp_core_rule.declared.State.{State}
@@ -72,7 +73,7 @@ module _ (script : Script) (seat : Cpu → ℕ) (turns : List Played) (last : St
           where
             owner-page : (q : ℕ) → q < length script.layout.pages → page_named (suc q) ≡ Some (record { 0 = q })
             owner-page q within =
-                let few : length script.layout.pages ≤ 256 = end.board.holds.sound.pages in
+                let few : length script.layout.pages ≤ page_limit = end.board.holds.sound.pages in
                 ap (λ (b : Bool). cond b None (Some (record { 0 = (suc q - 1) % 2 ^ 16 }))) (ne_eqb (suc q) 0 (λ none. let no : suc q ≡ 0 = none in omega arith))
                 ∙ ap (λ (n : ℕ). Some (record { 0 = n })) (let is : (suc q - 1) % 2 ^ 16 ≡ q = omega arith in is)
 

@@ -63,6 +63,7 @@ fn put_answer(out: &mut String, seq: u32, answer: Answer) -> Result<(), OutOfMem
         Answer::Mapped(at) => put_place(out, seq, "mapped", at),
         Answer::BadLines(mask, at) => put_bad_lines(out, seq, mask, at),
         Answer::Eio(lost) => put_number(out, seq, "eio", lost),
+        Answer::Opened(lost) => put_number(out, seq, "opened", lost),
         Answer::Is(policy) => put_number(out, seq, "is", policy),
         Answer::Einval => put_word(out, seq, "einval"),
         Answer::Recovered => put_word(out, seq, "recovered"),

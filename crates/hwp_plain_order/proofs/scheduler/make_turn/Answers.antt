@@ -1,21 +1,12 @@
-use Rattle.std.proofs.Common.{get_or, set, refl}
-use Rattle.std.proofs.lemmas.Bool.{both_ways}
+use Rattle.std.proofs.Common.{get_or}
 use Rattle.hwp_plain_order.specs.Order.{running}
-use Rattle.hwp_plain_order.proofs.Turns.{turn-told, turn-refused, play-after, read-again}
+use Rattle.hwp_plain_order.proofs.Turns.{array-goes, play-after, read-again}
 use Rattle.hwp_plain_order.proofs.scheduler.make_turn.Goals as goal
 
-pub returns-clause-turn : goal.returns-clause-turn
-returns-clause-turn g c = turn-told g.T.Task.task c.args.levels.now (g.B.Board.layout c.args.board.now) (g.B.Board.layout c.advance-turn.new.self) (g.B.Board.seat c.args.board.now) (g.B.Board.seat c.advance-turn.new.self) c.args.tasks.now (g.B.Board.state c.args.board.now) (g.B.Board.state c.advance-turn.new.self) (g.B.Board.log c.args.board.now) (g.B.Board.log c.advance-turn.new.self) c.args.cpu (get_or c.args.tasks.now c.args.cpu c.index-tasks-cpu.result) c.advance-turn.new.task c.advance-turn.result
-    c.requires.play c.requires.cpu c.requires.going (read-again c.args.tasks.now c.args.cpu c.index-tasks-cpu.result c.index-tasks-cpu.is) c.advance-turn.ensures.turn
-    c.advance-turn.ensures.same c.advance-turn.ensures.rule (λ h. both_ways c.is_refused.result c.if-is_refused.false (c.is_refused.ensures.1 h))
+pub take_turn-requires-clause-goes : goal.take_turn-requires-clause-goes
+take_turn-requires-clause-goes g c = array-goes g.T.Task.task c.args.levels.now (running (g.B.Board.layout c.args.board.now) (g.B.Board.seat c.args.board.now) c.args.tasks.now (g.B.Board.state c.args.board.now)) c.args.cpu c.requires.play c.requires.going
 
 pub returns-clause-play : goal.returns-clause-play
 returns-clause-play g c = play-after g.T.Task.task c.args.levels.now (running (g.B.Board.layout c.args.board.now) (g.B.Board.seat c.args.board.now) c.args.tasks.now (g.B.Board.state c.args.board.now))
-    (running (g.B.Board.layout c.advance-turn.new.self) (g.B.Board.seat c.advance-turn.new.self) (set c.args.tasks.now c.args.cpu c.advance-turn.new.task) (g.B.Board.state c.advance-turn.new.self)) c.args.cpu c.level_of.result c.advance-turn.new.task (get_or (set c.args.tasks.now c.args.cpu c.advance-turn.new.task) c.args.cpu c.index-tasks-cpu-2.result)
-    (g.B.Board.log c.args.board.now) (g.B.Board.log c.advance-turn.new.self) c.advance-turn.result c.requires.play c.requires.cpu (returns-clause-turn g c) c.keeps.ensures.seats c.advance-turn.ensures.own c.advance-turn.ensures.fits c.advance-turn.ensures.others
-    refl (read-again (set c.args.tasks.now c.args.cpu c.advance-turn.new.task) c.args.cpu c.index-tasks-cpu-2.result c.index-tasks-cpu-2.is) c.level_of.ensures
-
-pub returns-then-is_refused-clause-refused : goal.returns-then-is_refused-clause-refused
-returns-then-is_refused-clause-refused g c = turn-refused g.T.Task.task c.args.levels.now (g.B.Board.layout c.args.board.now) (g.B.Board.layout c.advance-turn.new.self) (g.B.Board.seat c.args.board.now) (g.B.Board.seat c.advance-turn.new.self) c.args.tasks.now (g.B.Board.state c.args.board.now) (g.B.Board.state c.advance-turn.new.self) (g.B.Board.log c.args.board.now) (g.B.Board.log c.advance-turn.new.self) c.args.cpu (get_or c.args.tasks.now c.args.cpu c.index-tasks-cpu.result) c.advance-turn.new.task c.advance-turn.result
-    c.requires.play c.requires.cpu c.requires.going (read-again c.args.tasks.now c.args.cpu c.index-tasks-cpu.result c.index-tasks-cpu.is) c.advance-turn.ensures.turn
-    (c.is_refused.ensures.0 c.if-is_refused.true)
+    (running (g.B.Board.layout c.take_turn.new.board) (g.B.Board.seat c.take_turn.new.board) c.take_turn.new.tasks (g.B.Board.state c.take_turn.new.board)) c.args.cpu c.level_of.result (get_or c.take_turn.new.tasks c.args.cpu c.index-tasks-cpu.result)
+    (g.B.Board.log c.args.board.now) (g.B.Board.log c.take_turn.new.board) c.in_ok-told.told c.requires.play c.requires.cpu c.in_ok-told.ensures.turn c.in_ok-told.ensures.ready (read-again c.take_turn.new.tasks c.args.cpu c.index-tasks-cpu.result c.index-tasks-cpu.is) c.level_of.ensures

@@ -5,22 +5,21 @@ use Rattle.hwp_plain_order.proofs.ScheduleTells.{schedule-start, schedule-next, 
 use Rattle.hwp_plain_order.proofs.scheduler.step_all.Goals as goal
 
 pub levels_of-levels-requires : goal.levels_of-levels-requires
-levels_of-levels-requires g c = record { few = few-tasks _ _ c.keeps.ensures.rule.sound c.requires.crew.count }
+levels_of-levels-requires g c = record { few = few-tasks _ _ c.loop-word.invariant.ready.rule.sound c.loop-word.invariant.ready.crew.count }
+
+pub finish-requires : goal.finish-requires
+finish-requires g c = record { play = record { ready = c.loop-word.invariant.ready; places = c.levels_of-levels.ensures.0; are = c.levels_of-levels.ensures.1 } }
 
 pub loop-word-init : goal.loop-word-init
 loop-word-init g c = record {
-  play = record {
-    ready = record { law = c.keep_law.ensures; rule = c.keeps.ensures.rule; seats = c.keeps.ensures.seats; crew = c.requires.crew };
-    eight = c.levels_of-levels.ensures.0;
-    are = c.levels_of-levels.ensures.1;
-  };
+  ready = record { law = c.keep_law.ensures; rule = c.keeps.ensures.rule; seats = c.keeps.ensures.seats; crew = c.requires.crew };
   count = refl;
   so_far = schedule-start g.T.Task.task (running (g.B.Board.layout c.args.board.now) (g.B.Board.seat c.args.board.now) c.args.tasks.now (g.B.Board.state c.args.board.now)) (g.B.Board.log c.args.board.now);
 }
 
 pub loop-word-preserved : goal.loop-word-preserved
 loop-word-preserved g c = record {
-  play = c.in_ok-play_word.ensures.play;
+  ready = c.in_ok-play_word.ensures.ready;
   count = c.play_word.ensures.count ∙ c.loop-word.invariant.count;
   so_far = schedule-next g.T.Task.task (running (g.B.Board.layout c.args.board.now) (g.B.Board.seat c.args.board.now) c.args.tasks.now (g.B.Board.state c.args.board.now)) (g.B.Board.log c.args.board.now) (running (g.B.Board.layout c.loop-word.board) (g.B.Board.seat c.loop-word.board) c.loop-word.tasks (g.B.Board.state c.loop-word.board)) (g.B.Board.log c.loop-word.board) c.args.go.now c.loop-word.word-index _ (running (g.B.Board.layout c.play_word.new.board) (g.B.Board.seat c.play_word.new.board) c.play_word.new.tasks (g.B.Board.state c.play_word.new.board)) (g.B.Board.log c.play_word.new.board)
       c.loop-word-test.true c.loop-word.invariant.so_far c.in_ok-play_word.ensures.word;

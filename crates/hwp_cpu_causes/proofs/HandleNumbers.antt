@@ -1,0 +1,158 @@
+-- When a command is answered, each handle of its processor has the number that the answer gives it, and where the answer tells the
+-- number a step of the command showed it.
+use Rattle.std.proofs.Common.{◌≡◌, ℕ, ◌+◌, ◌<◌, ◌==◌, eq-eqb, Bool, true, false, cond, List, Some, slice_get, slice_set, unwrap_or, refl, sym, ap, ◌∙◌, subst, arith}
+use Rattle.std.proofs.lemmas.Bool.{both_ways, eqb-true}
+use Rattle.hwp_law_holds.specs.hwp_geom.declared.FileNo.{FileNo}
+use Rattle.hwp_law_holds.specs.hwp_geom.declared.Layout.{Layout}
+use Rattle.hwp_law_holds.specs.hwp_geom.declared.Who.{Who}
+use Rattle.hwp_law_holds.specs.hwp_core_rule.declared.View.{View}
+use Rattle.hwp_law_holds.proofs.of_hwp_core_rule.Lists.{set_else, set_here}
+use Rattle.hwp_law_holds.specs.hwp_script_lines.declared.Command.{Command}
+use Rattle.hwp_law_holds.specs.hwp_script_lines.declared.Command.TheVariants as commands
+use Rattle.hwp_law_holds.specs.hwp_report_text.declared.Answer.{Answer}
+use Rattle.hwp_law_holds.specs.hwp_report_text.declared.Answer.TheVariants as answers
+use Rattle.hwp_law_holds.specs.hwp_law.Losses.{number_by, tells_number}
+use Rattle.hwp_law_holds.specs.hwp_evict.declared.Fsync.{Fsync}
+use Rattle.hwp_law_holds.specs.hwp_evict.declared.FsyncAnswer.{FsyncAnswer}
+use Rattle.hwp_law_holds.specs.hwp_evict.declared.FsyncAnswer.TheVariants as fsync_answers
+use Rattle.hwp_law_holds.specs.hwp_evict.declared.fsync.FsyncAt.TheVariants as fsync_at
+use Rattle.hwp_law_holds.specs.hwp_evict.Fsyncs as fsyncs
+use Rattle.hwp_law_holds.specs.hwp_cpu_row.Locals.{number_in}
+use Rattle.hwp_law_holds.specs.Handles.{KnowsNumber}
+use Rattle.hwp_cpu_command.specs.declared.Job.{Job}
+use Rattle.hwp_cpu_command.specs.declared.Job.TheVariants as jobs
+use Rattle.hwp_cpu_command.specs.Answers.{fsync_answer}
+use Rattle.hwp_cpu_command.specs.FileHandles.{HasHandle, IsUnopened, handles_after}
+use Rattle.hwp_cpu_command.specs.Jobs.{Fits, answer}
+use Rattle.hwp_cpu_command.specs.Runs.{Runs}
+use Rattle.hwp_cpu_command.proofs.JobEnds.{fsync-over, mapped}
+use Rattle.hwp_cpu_command.proofs.OfKind.{of-evict, of-fsync, of-inject, of-instruction, of-log, of-nested, of-prctl, of-raise, of-scrub, of-soft, of-spoil, of-unpoison}
+
+-- a handle that had the number m has the number that the answer gives it; where the answer tells it, it was shown
+pub record IsNumbered (layout : Layout) (view : View) (who : Who) (command : Command) (a : Answer) (file : FileNo) (m : ℕ) (after : List ℕ) : Type 0 where
+  pub has : slice_get after file.0 ≡ Some (number_by file m command a)
+  pub knows : tells_number file command a ≡ true → KnowsNumber layout view who file (number_by file m command a)
+
+-- ---- the answer of an `fsync`
+
+module _ (layout : Layout) (view : View) (handles : List ℕ) (f : Fsync) where
+  -- the file that it names
+  number-own : (x : FsyncAnswer) → fsyncs.IsCaused layout view f.who f.file f.handle (fsyncs.number f) x → IsUnopened (fsync_at.Over x (fsyncs.number f)) → number_by f.file f.handle (commands.Fsync f.file) (fsync_answer x) ≡ fsyncs.number f
+  number-own fsync_answers.Stopped caused none = sym caused.1
+  number-own fsync_answers.Done caused none = sym caused.0
+  number-own (fsync_answers.Eio more) caused none = ap (λ (b : Bool). f.handle + cond b more 0) (eq-eqb f.file.0 f.file.0 refl) ∙ sym caused.1
+  number-own (fsync_answers.Opened lost) caused none = absurd none
+
+  knows-own : (x : FsyncAnswer) → fsyncs.IsCaused layout view f.who f.file f.handle (fsyncs.number f) x → IsUnopened (fsync_at.Over x (fsyncs.number f)) → tells_number f.file (commands.Fsync f.file) (fsync_answer x) ≡ true
+      → KnowsNumber layout view f.who f.file (fsyncs.number f)
+  knows-own fsync_answers.Stopped caused none told = absurd (both_ways false refl told)
+  knows-own fsync_answers.Done caused none told = (caused.1, caused.2)
+  knows-own (fsync_answers.Eio more) caused none told = (caused.2, caused.3)
+  knows-own (fsync_answers.Opened lost) caused none told = absurd none
+
+  own-file : (x : FsyncAnswer) → fsyncs.IsCaused layout view f.who f.file f.handle (fsyncs.number f) x → IsUnopened (fsync_at.Over x (fsyncs.number f)) → slice_get handles f.file.0 ≡ Some f.handle
+      → IsNumbered layout view f.who (commands.Fsync f.file) (fsync_answer x) f.file f.handle (slice_set handles f.file.0 (fsyncs.number f))
+  own-file x caused none there = record {
+    has = set_here handles f.file.0 (fsyncs.number f) f.handle there ∙ ap (λ (n : ℕ). Some n) (sym (number-own x caused none));
+    knows = λ told. subst (KnowsNumber layout view f.who f.file) (sym (number-own x caused none)) (knows-own x caused none told);
+  }
+
+  -- another file
+  module _ (file : FileNo) (m : ℕ) (other : (f.file.0 == file.0) ≡ false) where
+    number-other : (x : FsyncAnswer) → number_by file m (commands.Fsync f.file) (fsync_answer x) ≡ m
+    number-other fsync_answers.Stopped = refl
+    number-other fsync_answers.Done = refl
+    number-other (fsync_answers.Eio more) = let none : cond (f.file.0 == file.0) more 0 ≡ 0 = ap (λ (b : Bool). cond b more 0) other in omega (arith, none)
+    number-other (fsync_answers.Opened lost) = refl
+
+    untold : (x : FsyncAnswer) → tells_number file (commands.Fsync f.file) (fsync_answer x) ≡ false
+    untold fsync_answers.Stopped = refl
+    untold fsync_answers.Done = other
+    untold (fsync_answers.Eio more) = other
+    untold (fsync_answers.Opened lost) = refl
+
+    other-file : (x : FsyncAnswer) → slice_get handles file.0 ≡ Some m → IsNumbered layout view f.who (commands.Fsync f.file) (fsync_answer x) file m (slice_set handles f.file.0 (fsyncs.number f))
+    other-file x there = record {
+      has = set_else handles f.file.0 file.0 (fsyncs.number f) (λ same. both_ways (f.file.0 == file.0) other (eq-eqb f.file.0 file.0 (sym same))) ∙ there ∙ ap (λ (n : ℕ). Some n) (sym (number-other x));
+      knows = λ told. absurd (both_ways (tells_number file (commands.Fsync f.file) (fsync_answer x)) (untold x) told);
+    }
+
+  each-file : (x : FsyncAnswer) → fsyncs.IsCaused layout view f.who f.file f.handle (fsyncs.number f) x → IsUnopened (fsync_at.Over x (fsyncs.number f)) → f.handle ≡ number_in handles f.file → (file : FileNo) (m : ℕ) → slice_get handles file.0 ≡ Some m
+      → IsNumbered layout view f.who (commands.Fsync f.file) (fsync_answer x) file m (slice_set handles f.file.0 (fsyncs.number f))
+  each-file x caused none handle file m there = which (f.file.0 == file.0) refl
+    where
+      own : f.file ≡ file → IsNumbered layout view f.who (commands.Fsync f.file) (fsync_answer x) file m (slice_set handles f.file.0 (fsyncs.number f))
+      own same =
+          let here : slice_get handles f.file.0 ≡ Some m = ap (λ (n : FileNo). slice_get handles n.0) same ∙ there in
+          let is : f.handle ≡ m = handle ∙ ap (λ o. unwrap_or o 0) here in
+          subst (λ (n : FileNo). IsNumbered layout view f.who (commands.Fsync f.file) (fsync_answer x) n m (slice_set handles f.file.0 (fsyncs.number f))) same
+          (subst (λ (k : ℕ). IsNumbered layout view f.who (commands.Fsync f.file) (fsync_answer x) f.file k (slice_set handles f.file.0 (fsyncs.number f))) is
+          (own-file x caused none (here ∙ ap (λ (k : ℕ). Some k) (sym is))))
+
+      which : (b : Bool) → (f.file.0 == file.0) ≡ b → IsNumbered layout view f.who (commands.Fsync f.file) (fsync_answer x) file m (slice_set handles f.file.0 (fsyncs.number f))
+      which true is = own (λ t. record { 0 = eqb-true f.file.0 file.0 is t })
+      which false is = other-file file m is x there
+
+-- a command that tells a number is of a file of the layout
+tells-file : (file other : FileNo) (a : Answer) → tells_number file (commands.Fsync other) a ≡ true → other.0 ≡ file.0
+tells-file file other answers.Done is = eqb-true other.0 file.0 is
+tells-file file other (answers.Eio more) is = eqb-true other.0 file.0 is
+tells-file file other _ is = absurd (both_ways false refl is)
+
+pub tells-inside : (layout : Layout) (who : Who) (command : Command) (j : Job) (a : Answer) (file : FileNo) → Runs layout who command j → tells_number file command a ≡ true → file.0 < layout.files
+tells-inside layout who (commands.Fsync other) j a file runs is = subst (λ (n : ℕ). n < layout.files) (tells-file file other a is) runs.0
+tells-inside layout who command j a file runs is = absurd (both_ways false refl is)
+
+-- ---- each command
+
+module _ (layout : Layout) (view : View) (who : Who) (j : Job) {a : Answer} (fits : Fits layout view j) (is : answer j ≡ Some a) (handles : List ℕ) (file : FileNo) (m : ℕ) (there : slice_get handles file.0 ≡ Some m) where
+  -- one that is no `fsync` leaves the handles
+  leaves : (command : Command) {k : Job} → j ≡ k → handles_after k handles ≡ handles → number_by file m command a ≡ m → tells_number file command a ≡ false → IsNumbered layout view who command a file m (handles_after j handles)
+  leaves command same kept number untold = record {
+    has = ap (λ (l : List ℕ). slice_get l file.0) (ap (λ (q : Job). handles_after q handles) same ∙ kept) ∙ there ∙ ap (λ (n : ℕ). Some n) (sym number);
+    knows = λ told. absurd (both_ways (tells_number file command a) untold told);
+  }
+
+  told-by : (other : FileNo) → Runs layout who (commands.Fsync other) j → HasHandle handles j → IsNumbered layout view who (commands.Fsync other) a file m (handles_after j handles)
+  told-by other runs has =
+      subst (λ (f : Fsync). IsNumbered layout view f.who (commands.Fsync f.file) a file m (handles_after j handles)) task.2
+      (subst (λ (q : Job). IsNumbered layout view task.0.who (commands.Fsync task.0.file) a file m (handles_after q handles)) (sym task.1)
+      (subst (λ (x : Answer). IsNumbered layout view task.0.who (commands.Fsync task.0.file) x file m (slice_set handles task.0.file.0 (fsyncs.number task.0))) own.2
+      (each-file layout view handles task.0 own.0 (subst (fsyncs.FitsAt layout view task.0.who task.0.file task.0.handle) over fit.at) (subst IsUnopened over known.2) known.0 file m there)))
+    where
+      task : (f : Fsync) × (j ≡ jobs.Fsync f) × (fsyncs.begin f.who f.file f.handle f.opens ≡ fsyncs.begin who other runs.1 false)
+      task = of-fsync j runs.2
+
+      own : (x : FsyncAnswer) × (fsyncs.answer task.0 ≡ Some x) × (fsync_answer x ≡ a)
+      own = mapped fsync_answer (fsyncs.answer task.0) (sym (ap answer task.1) ∙ is)
+
+      fit : fsyncs.Fits layout view task.0
+      fit = subst (Fits layout view) task.1 fits
+
+      over : task.0.at ≡ fsync_at.Over own.0 (fsyncs.number task.0)
+      over = fsync-over task.0 own.1
+
+      known : HasHandle handles (jobs.Fsync task.0)
+      known = subst (HasHandle handles) task.1 has
+
+  pub numbered : (command : Command) → Runs layout who command j → HasHandle handles j → IsNumbered layout view who command a file m (handles_after j handles)
+  numbered (commands.Fsync other) runs has = told-by other runs has
+  numbered (commands.Load thread slot line) runs has = leaves (commands.Load thread slot line) (of-instruction j runs.job_is).1 refl refl refl
+  numbered (commands.Fetch thread slot line) runs has = leaves (commands.Fetch thread slot line) (of-instruction j runs.job_is).1 refl refl refl
+  numbered (commands.KLoad thread slot line) runs has = leaves (commands.KLoad thread slot line) (of-instruction j runs.job_is).1 refl refl refl
+  numbered (commands.Store thread slot line word) runs has = leaves (commands.Store thread slot line word) (of-instruction j runs.job_is).1 refl refl refl
+  numbered (commands.Free slot) runs has = leaves (commands.Free slot) (of-evict j runs.1.job_is).1 refl refl refl
+  numbered (commands.Drop page) runs has = leaves (commands.Drop page) (of-evict j runs.job_is).1 refl refl refl
+  numbered (commands.Sync page) runs has = leaves (commands.Sync page) (of-evict j runs.job_is).1 refl refl refl
+  numbered (commands.Out page) runs has = leaves (commands.Out page) (of-evict j runs.job_is).1 refl refl refl
+  numbered (commands.Prctl thread args) runs has = leaves (commands.Prctl thread args) (of-prctl j runs.job_is).1 refl refl refl
+  numbered (commands.Bad frame line) runs has = leaves (commands.Bad frame line) (of-spoil j runs.job_is).1 refl refl refl
+  numbered (commands.Weak frame line) runs has = leaves (commands.Weak frame line) (of-spoil j runs.job_is).1 refl refl refl
+  numbered (commands.Scrub first last) runs has = leaves (commands.Scrub first last) (of-scrub j runs.job_is).1 refl refl refl
+  numbered (commands.Log status addr misc) runs has = leaves (commands.Log status addr misc) (of-log j runs.job_is).1 refl refl refl
+  numbered (commands.RaiseUser thread ripv eipv) runs has = leaves (commands.RaiseUser thread ripv eipv) (of-raise j runs.job_is).1 refl refl refl
+  numbered (commands.RaiseKernel ripv eipv) runs has = leaves (commands.RaiseKernel ripv eipv) (of-raise j runs.job_is).1 refl refl refl
+  numbered commands.RaiseNested runs has = leaves commands.RaiseNested (of-nested j runs).1 refl refl refl
+  numbered (commands.Inject frame) runs has = leaves (commands.Inject frame) (of-inject j runs.job_is).1 refl refl refl
+  numbered (commands.Soft frame) runs has = leaves (commands.Soft frame) (of-soft j runs.job_is).1 refl refl refl
+  numbered (commands.Unpoison frame) runs has = leaves (commands.Unpoison frame) (of-unpoison j runs.job_is).1 refl refl refl

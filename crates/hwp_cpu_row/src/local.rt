@@ -1,0 +1,69 @@
+ghost use Rattle.std.specs.Prelude.{◌≡◌, replicate, slice_set, IfOk};
+ghost use Rattle.hwp_cpu_row.specs.Locals.{first_local, number_in};
+
+use hwp_cpu_check::{BANKS, Bank, FileNo, OutOfMemory, no_events};
+use std::alloc::Global;
+use std::marker::Model;
+
+/// The numbers of a processor's handles. A handle is the pair of a processor and a file (this project's rule), and its number says how
+/// many losses of the file the processor has seen; it is 0 at first. Clauses see the list of the numbers, one for each file.
+#[derive(Drop)]
+pub struct Handles {
+    numbers: Vec<u64>,
+}
+
+impl Model for Handles {
+    ghost use Rattle.std.specs.Prelude.{ℕ, List};
+
+    ghost Value = { List ℕ };
+
+    ghost view = { λ h. h.numbers.items };
+}
+
+impl Handles {
+    /// The handles of so many files, each with the number 0.
+    pub fn new(alloc: Global, files: u8) -> Result<Handles, OutOfMemory>
+        ensures { IfOk result (λ h. h ≡ replicate files 0) }
+    {
+        Ok(Handles {
+            numbers: vec![in alloc; 0; usize::from(files)]?,
+        })
+    }
+
+    /// The number of the file's handle; 0 where there is none.
+    pub fn number(&self, file: FileNo) -> u64
+        ensures { result ≡ number_in self.now file }
+    {
+        self.numbers.get(usize::from(file.0)).copied().unwrap_or(0)
+    }
+
+    /// Gives the file's handle this number, if there is one.
+    pub fn set(&mut self, file: FileNo, number: u64)
+        ensures { self.new ≡ slice_set self.old file.0 number }
+    {
+        let at = usize::from(file.0);
+        if at < self.numbers.len() {
+            self.numbers[at] = number;
+        }
+    }
+}
+
+/// What a processor carries from one command to the next (this project's rule).
+#[derive(Drop)]
+pub struct Local {
+    /// What its banks hold, but for those of a command that runs and has taken what they held.
+    pub banks: [Bank; BANKS],
+    pub handles: Handles,
+}
+
+impl Local {
+    /// Nothing is in the banks, and the handle of each of so many files has the number 0.
+    pub fn new(alloc: Global, files: u8) -> Result<Local, OutOfMemory>
+        ensures { IfOk result (λ l. l ≡ first_local files) }
+    {
+        Ok(Local {
+            banks: no_events(),
+            handles: Handles::new(alloc, files)?,
+        })
+    }
+}

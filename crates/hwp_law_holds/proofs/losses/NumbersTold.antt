@@ -1,0 +1,59 @@
+-- The number of a handle that an answer of the report tells is one that its processor's seat knows.
+use Rattle.std.proofs.Common.{◌≡◌, ℕ, zero, suc, ◌+◌, ◌<◌, true, List, [], ◌∷◌, Some, filter_map, map, slice_get, take, refl, sym, ap, ◌∙◌, subst}
+use Rattle.std.specs.List.{zip}
+use Rattle.std.proofs.lemmas.Option.{none-some, same_Some}
+use Rattle.hwp_law_run.specs.hwp_geom.declared.Cpu.{Cpu}
+use Rattle.hwp_law_run.specs.hwp_geom.declared.FileNo.{FileNo}
+use Rattle.hwp_law_run.specs.hwp_geom.declared.Layout.{Layout}
+use Rattle.hwp_law_run.specs.hwp_core_rule.declared.State.{State}
+use Rattle.hwp_law_run.specs.hwp_core_rule.declared.View.{View}
+use Rattle.hwp_law_run.proofs.of_hwp_core_rule.Lists.{map-was}
+use Rattle.hwp_law_run.specs.hwp_core_task.Boards.{view_of}
+use Rattle.hwp_law_run.specs.hwp_script_read.declared.Command.{Command}
+use Rattle.hwp_law_run.specs.hwp_script_read.declared.Script.{Script}
+use Rattle.hwp_law_run.specs.hwp_report_text.declared.Answer.{Answer}
+use Rattle.hwp_law_run.specs.hwp_report_text.declared.CpuLine.{CpuLine}
+use Rattle.hwp_law_run.specs.hwp_report_text.declared.Report.{Report}
+use Rattle.hwp_law_run.specs.hwp_law.Lines.{AnswerLine, answer_in}
+use Rattle.hwp_law_run.specs.hwp_law.Losses.{answered, numbers_after, tells_number}
+use Rattle.hwp_cpu_row.specs.declared.Row.{Row}
+use Rattle.hwp_law_holds.specs.Handles.{KnowsNumber, KnowsNumbers, answers_by}
+use Rattle.hwp_law_holds.specs.Rows.{lines_from}
+use Rattle.hwp_law_holds.proofs.RowLines.{answers-split}
+use Rattle.hwp_law_holds.proofs.RunEnds.{IsEnd, rows-of-lines}
+
+-- a pair of two lists is of members at one place
+pub zip-at : {A B : Type 0} (xs : List A) (ys : List B) (i : ℕ) (p : A × B) → slice_get {X = A × B} (zip xs ys) i ≡ Some p → (slice_get xs i ≡ Some p.0) × (slice_get ys i ≡ Some p.1)
+zip-at [] ys i p there = absurd (none-some p there)
+zip-at (x ∷ xs) [] i p there = absurd (none-some p there)
+zip-at {A} {B} (x ∷ xs) (y ∷ ys) zero p there = let same : (x, y) ≡ p = same_Some (x, y) p there in (ap (λ (q : A × B). Some q.0) same, ap (λ (q : A × B). Some q.1) same)
+zip-at (x ∷ xs) (y ∷ ys) (suc i) p there = zip-at xs ys i p there
+
+-- the answers in the lines of rows are those of the rows
+pub answers-of-rows : (n : ℕ) (rows : List Row) → map (λ (l : AnswerLine). l.answer) (filter_map answer_in (lines_from n rows)) ≡ map (λ (r : Row). r.answer) rows
+answers-of-rows n [] = refl
+answers-of-rows n (row ∷ rows) =
+    ap (map (λ (l : AnswerLine). l.answer)) (answers-split n row rows)
+    ∙ ap (λ (l : List Answer). row.answer ∷ l) (answers-of-rows (n + 1) rows)
+
+-- a pair of a command and its row's answer is of such
+known-by-rows : (layout : Layout) (view : View) (cpu : Cpu) (list : List Command) (rows : List Row) → KnowsNumbers layout view cpu list rows → (file : FileNo) (i : ℕ) (p : Command × Answer) → slice_get {X = Command × Answer} (answers_by list rows) i ≡ Some p → tells_number file p.0 p.1 ≡ true
+    → KnowsNumber layout view (record { cpu = cpu; seq = i }) file (numbers_after file 0 (take (i + 1) (answers_by list rows)))
+known-by-rows layout view cpu list rows knows file i p there tells =
+    let at = zip-at list (map (λ (r : Row). r.answer) rows) i p there in
+    let row = map-was (λ (r : Row). r.answer) rows i p.1 at.1 in
+    knows file i p.0 row.0 at.0 row.1 (ap (tells_number file p.0) row.2 ∙ tells)
+
+module _ (script : Script) (seat : Cpu → ℕ) (last : State) (report : Report) (end : IsEnd script seat last report) where
+  pub number-known : (cpu : Cpu) (list : List Command) (lines : List CpuLine) → slice_get script.lists cpu.0 ≡ Some list → slice_get report.cpus cpu.0 ≡ Some lines
+      → (file : FileNo) (i : ℕ) (p : Command × Answer) → slice_get {X = Command × Answer} (answered list lines) i ≡ Some p → tells_number file p.0 p.1 ≡ true
+      → (cpu.0 < script.layout.cpus) × KnowsNumber script.layout (view_of last (seat cpu)) (record { cpu = cpu; seq = i }) file (numbers_after file 0 (take (i + 1) (answered list lines)))
+  number-known cpu list lines list_is lines_is file i p there tells =
+      let has = rows-of-lines script seat last report end cpu lines lines_is in
+      let same : has.list ≡ list = same_Some has.list list (sym has.list_is ∙ list_is) in
+      let pairs : answers_by list has.own ≡ answered list lines = ap (λ (l : List Answer). zip list l) (sym (ap (λ (l : List CpuLine). map (λ (x : AnswerLine). x.answer) (filter_map answer_in l)) has.lines_are ∙ answers-of-rows 0 has.own)) in
+      let knows : KnowsNumbers script.layout (view_of last (seat cpu)) cpu list has.own = subst (λ (l : List Command). KnowsNumbers script.layout (view_of last (seat cpu)) cpu l has.own) same has.served.numbers in (
+        has.inside,
+        subst (λ (l : List (Command × Answer)). slice_get {X = Command × Answer} l i ≡ Some p → KnowsNumber script.layout (view_of last (seat cpu)) (record { cpu = cpu; seq = i }) file (numbers_after file 0 (take (i + 1) l))) pairs
+            (λ at. known-by-rows script.layout (view_of last (seat cpu)) cpu list has.own knows file i p at tells) there,
+      )
