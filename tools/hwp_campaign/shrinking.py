@@ -113,7 +113,7 @@ def fewer(items: Tuple[Part, ...], holds: Callable[[Tuple[Part, ...]], bool]) ->
 
 
 def smaller_machines(script: Script) -> Iterator[Script]:
-    """The script with one declaration less, or with fewer frames."""
+    """The script with one declaration less, with a page that isn't locked any more, or with fewer frames."""
     for kind in KINDS:
         count = sum(line[0] == kind for line in script.heads)
         if kind == "cpu":
@@ -126,6 +126,8 @@ def smaller_machines(script: Script) -> Iterator[Script]:
         before, behind = script.heads[:at], script.heads[at + 1 :]
         if line[0] in ("kernel", "recovery", "early"):
             yield Script(before + behind, script.commands, script.words)
+        elif line[0] == "page" and line[-1] == "locked":
+            yield Script((*before, line[:-1], *behind), script.commands, script.words)
         elif line[0] == "frames":
             for count in sorted({1, int(line[1]) // 2, int(line[1]) - 1}):
                 if 0 < count < int(line[1]):

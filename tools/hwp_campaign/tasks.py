@@ -9,7 +9,7 @@ from typing import Dict, List, NamedTuple, Tuple
 
 # How many words behind the answers of a kind name a page and an entry, or a page: these are no part of the outcome, since they also
 # tell which commands came before.
-PLACES = {"value": 2, "stored": 2, "sigbus": 2, "moved": 2, "badlines": 2, "dirty": 2, "mapped": 2, "notresident": 2, "notmapped": 2, "gone": 1}
+PLACES = {"value": 2, "stored": 2, "sigbus": 2, "moved": 2, "badlines": 2, "dirty": 2, "mapped": 2, "locked": 2, "notresident": 2, "notmapped": 2, "gone": 1}
 
 Outcome = Tuple[Tuple[str, str], ...]
 

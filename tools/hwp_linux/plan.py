@@ -7,7 +7,7 @@ from typing import Iterator, NamedTuple, Optional
 from hwp_view.report import Entry, Line, Report
 from hwp_view.script import Command, Script
 
-SIGNALLED = ("filedirty", "anononly")
+SIGNALLED = ("filedirty", "anononly", "lockedfile", "lockedanon")
 
 
 class NoForm(Exception):

@@ -7,7 +7,7 @@ from typing import Callable, NamedTuple, Optional
 
 from hwp_view.script import Script
 
-from .plan import Event, Signal, Step, World
+from .plan import SIGNALLED, Event, Signal, Step, World
 from .twin import ACTED, OF_FILE, PRIVATE, SHARED, Seen
 
 OVERFLOW, ADDRESSED = 1 << 62, 1 << 58 | 1 << 59
@@ -35,6 +35,8 @@ class Memory:
     ended: dict[int, str] = field(default_factory=dict)
     alive: dict[int, str] = field(default_factory=dict)
     policies: dict[int, str] = field(default_factory=dict)
+    losses: set[int] = field(default_factory=set)
+    opened: set[tuple[int, int]] = field(default_factory=set)
     is_hardware: bool = False
     is_over: bool = False
 
@@ -89,7 +91,7 @@ def never_stored(case: Case, one: Difference) -> bool:
     """A page of anonymous memory that was only read has nothing to lose on Linux: private memory is the one zero page of all then,
     which belongs to the kernel, and shared memory is a clean page."""
     page, memory = case.page, case.memory
-    lost = [page for page in case.failed("anononly") if not case.world.pages[page].is_stored]
+    lost = [page for page in case.failed("anononly") + case.failed("lockedanon") if not case.world.pages[page].is_stored]
     if lost:
         memory.still.update((frame, "never stored") for frame, (_, page) in case.step.failed.items() if page in lost)
         is_kernel = one.signal is not None and one.signal.code == "kernel"
@@ -135,7 +137,7 @@ def swapped_in_by_store(case: Case, one: Difference) -> bool:
 
 def untouched_mapping(case: Case, one: Difference) -> bool:
     """Linux signals an early process that has a page mapped which it never touched."""
-    pages = [page for situation in ("filedirty", "anononly") for page in case.failed(situation) if case.kinds[page] != PRIVATE]
+    pages = [page for situation in SIGNALLED for page in case.failed(situation) if case.kinds[page] != PRIVATE]
     used = {translation for page in pages for translation in case.world.pages[page].used}
     touching = {case.script.translations[translation].process for translation in used}
     process = one.number if one.about == "end" else case.process(one.signal.thread) if one.signal is not None else -1
@@ -283,6 +285,24 @@ def soft_of_unmapped_page(case: Case, one: Difference) -> bool:
     return (case.verb, one.hwp, one.linux) == ("soft", "moved", "invalidated") and page is not None and case.kinds[page] == OF_FILE
 
 
+def locked_page_told(case: Case, one: Difference) -> bool:
+    """Every process that uses a locked page is told of its loss; Linux tells those that asked for it."""
+    pages = case.failed("lockedfile") + case.failed("lockedanon")
+    if one.about == "missing" and one.signal is not None and one.signal.code == "ao" and case.leads(one.signal, pages):
+        return not is_early(case, one.signal.thread)
+    leading = {t.process for t in case.script.translations if t.page in pages}
+    return (one.about, one.linux) == ("end", "goes on") and one.number in leading
+
+
+def opened_before_told(case: Case, one: Difference) -> bool:
+    """Who opens a file is told of its last loss where nobody was told of that before; hwp tells only of what is lost from then on."""
+    handle = (case.step.command.cpu, case.step.command.numbers[0])
+    is_told = (case.verb, one.hwp, one.linux) == ("fsync", "done", "eio") and handle in case.memory.opened
+    if is_told:
+        case.memory.opened.discard(handle)
+    return is_told
+
+
 def other_policy(case: Case, one: Difference) -> Optional[str]:
     """A thread that has another policy on Linux: the rule that was the reason."""
     if case.verb == "prctl":
@@ -337,6 +357,8 @@ RULES: dict[str, Callable[[Case, Difference], bool]] = {
     "not restartable": not_restartable,
     "unusable address": unusable_address,
     "soft offline of an unmapped page": soft_of_unmapped_page,
+    "locked page, told": locked_page_told,
+    "opened before anybody was told": opened_before_told,
 }
 FOLLOWS: tuple[Callable[[Case, Difference], Optional[str]], ...] = (kept, lost_there, still_poisoned, ended_there, other_policy)
 
@@ -356,6 +378,18 @@ def note(case: Case) -> None:
     for number, (situation, page) in case.step.failed.items():
         if page is not None and (situation == "swapdirty" or case.kinds[page] == SHARED):
             memory.still.setdefault(number, "page in a cache")
+    note_losses(case)
+
+
+def note_losses(case: Case) -> None:
+    """Notes the files of which a loss is told to nobody yet, and who opens one of them."""
+    memory, command = case.memory, case.step.command
+    lost = case.failed("filedirty") + case.failed("lockedfile")
+    memory.losses.update(behind for page in lost if (behind := case.script.pages[page].file) is not None)
+    if case.verb == "open" and command.numbers[0] in memory.losses:
+        memory.opened.add((command.cpu, command.numbers[0]))
+    elif case.verb == "fsync" and case.seen.word == "eio":
+        memory.losses.discard(command.numbers[0])
 
 
 def note_rule(case: Case, one: Difference, rule: str) -> None:

@@ -26,6 +26,7 @@ REFUSED = {
     "notresident": "the page is in no frame",
     "dirty": "the page is dirty",
     "mapped": "the page is in use",
+    "locked": "the page is locked",
     "noframe": "no frame is free",
 }
 NO_FORM = {
@@ -96,7 +97,7 @@ class Twin:
         for number in range(script.files):
             self.order(f"file {number}")
         for number, page in enumerate(script.pages):
-            self.order(f"page {number} {self.kinds[number]} {page.file or 0} {page.fill}")
+            self.order(f"page {number} {self.kinds[number]} {page.file or 0} {page.fill}{' 1' if page.locked else ''}")
         self.order(f"settle {script.cpus}")
         for number, thread in enumerate(script.threads):
             self.order(f"thread {number} {thread.process} {int(thread.handler)}")
@@ -262,6 +263,11 @@ class Twin:
         """fsync: the descriptor of the command's processor tells its error, and writes nothing back."""
         came = self.order(f"fsync {step.command.numbers[0]} {step.command.cpu}")
         return "eio" if came == f"error {errno.EIO}" else _done(came)
+
+    def make_open(self, step: Step, world: World, seen: Seen) -> Optional[str]:
+        """open: the descriptor of the command's processor is given back, and the file opened anew."""
+        came = self.order(f"open {step.command.numbers[0]} {step.command.cpu}")
+        return "opened" if came.startswith("did") else came
 
     def make_prctl(self, step: Step, world: World, seen: Seen) -> Optional[str]:
         """prctl: the call, as it stands."""

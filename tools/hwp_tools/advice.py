@@ -7,7 +7,7 @@ from typing import Callable, NamedTuple, Optional, Sequence
 
 from hwp_view.forms import HIGHEST, fitted, ranges, shown
 from hwp_view.script import COMMAND_GROUP, COMMANDS, END_GROUP, GROUPS, KINDS, LIMITS, NUMBERED, SCHEDULE_GROUP, SCRIPT_LIMIT
-from hwp_view.script import SHAPES, Refused
+from hwp_view.script import SHAPES, Refused, is_newer
 
 from .line_forms import FORMS, GROUPS_TOLD, first_misfit
 
@@ -79,20 +79,20 @@ def advice(here: At) -> Advice:
 
 
 def _header(here: At) -> Advice:
-    line, form = here.line, "write `hwp 1` alone, as the first line"
+    line, form = here.line, "write `hwp 1` or `hwp 2` alone, as the first line"
     if not here.words:
         return Advice(0, "the script has no line", form)
     if line.startswith("\xef\xbb\xbf"):
         return Advice(0, "a byte order mark stands before the first word", "save the file as UTF-8 without a byte order mark")
     if line.endswith("\r"):
         return Advice(len(line) - 1, "the line ends with a carriage return", LINE_ENDS)
-    if here.words[:2] == ["hwp", "1"]:
-        return Advice(here.starts[2], f"{shown(here.words[2])} stands behind `hwp 1`", form)
+    if here.words[:2] in (["hwp", "1"], ["hwp", "2"]):
+        return Advice(here.starts[2], f"{shown(here.words[2])} stands behind `hwp {here.words[1]}`", form)
     return Advice(here.starts[0], f"the first line is {shown(line)}", form)
 
 
 def _unknown(here: At) -> Optional[Advice]:
-    return _odd_byte(here) or _comment(here) or _unknown_first(here) or _unknown_turn(here) or _misfit(here)
+    return _odd_byte(here) or _comment(here) or _unknown_first(here) or _unknown_turn(here) or _newer(here) or _misfit(here)
 
 
 def _odd_byte(here: At) -> Optional[Advice]:
@@ -142,6 +142,12 @@ def _unknown_turn(here: At) -> Optional[Advice]:
     return Advice(start + len(pieces[0]) + 1, f"{shown(pieces[1])} is no kind of step", f"the kinds are {kinds}")
 
 
+def _newer(here: At) -> Optional[Advice]:
+    if not is_newer(here.words) or here.refused.above.version > 1 or fitted(SHAPES[here.words[0]], here.words[1:]) is None:
+        return None
+    return Advice(here.starts[here.refused.word], here.refused.text, "write `hwp 2` as the first line")
+
+
 def _misfit(here: At) -> Advice:
     place = first_misfit(here.words)
     if place >= len(here.words):
@@ -177,7 +183,7 @@ def _number(word: str) -> str:
 
 def _over(here: At) -> Optional[Advice]:
     numbers = [int(word) for word in here.words[1:] if here.words[0] == "scrub"]
-    if numbers and max(numbers) <= LIMITS["frame"][1]:
+    if numbers and max(numbers) <= LIMITS[here.refused.above.version]["frame"][1]:
         return Advice(here.starts[1], here.refused.text, f"write the lower frame first: `scrub {numbers[1]} {numbers[0]}`")
     if here.refused.word == 0:
         return Advice(here.starts[0], here.refused.text, "write a shorter script")
@@ -223,7 +229,7 @@ def _declaring(here: At, slot: str, number: int) -> int:
     declares = DECLARED_BY.get(slot, slot)
     for below, line in enumerate(here.lines[here.refused.line :], here.refused.line + 1):
         words = words_of(line)
-        if len(words) > 1 and words[0] == declares and words[1].isdecimal() and len(words[1]) < 4:
+        if len(words) > 1 and words[0] == declares and words[1].isdecimal() and len(words[1]) < 5:
             if int(words[1]) > number if slot in DECLARED_BY else int(words[1]) == number:
                 return below
     return 0
@@ -249,7 +255,7 @@ def _wrong_place(here: At) -> Optional[Advice]:
         if words and _group(words) > own:
             return _below(here, number, words)
     if above.cpus == 0 or (above.frames == 0 and first != "frames"):
-        return Advice(here.starts[0], here.refused.text, "write `cpus N` and then `frames N` behind `hwp 1`")
+        return Advice(here.starts[0], here.refused.text, "write `cpus N` and then `frames N` behind the first line")
     if first in NUMBERED:
         return Advice(here.starts[1], here.refused.text, f"write `{first} {above.declared(first)}`: numbers rise from 0 without a gap")
     if here.refused.word == 0:

@@ -143,10 +143,14 @@ class Picture:
             yield self.name("process_sort_index", group, 0, {"sort_index": group})
         for track in sorted(self.tracks):
             one = {PROCESSORS: "processor", PAGES: "page", FRAMES: "frame"}[track.group]
-            behind = self.script.pages[track.number].file if track.group == PAGES else None
-            own = "" if track.group != PAGES else " (anonymous)" if behind is None else f" (file {behind})"
+            own = self.behind(track.number) if track.group == PAGES else ""
             yield self.name("thread_name", track.group, track.number, {"name": f"{one} {track.number}{own}"})
             yield self.name("thread_sort_index", track.group, track.number, {"sort_index": track.number})
+
+    def behind(self, number: int) -> str:
+        """What stands behind a page, and whether it is locked."""
+        page = self.script.pages[number]
+        return f" ({'anonymous' if page.file is None else f'file {page.file}'}{', locked' if page.locked else ''})"
 
     @staticmethod
     def name(name: str, group: int, number: int, args: Json) -> Json:

@@ -7,7 +7,7 @@ from typing import Iterable, Iterator, NamedTuple, Optional, Sequence
 
 from hwp_view.forms import Malformed, lines_of_mask, shown
 from hwp_view.report import ANSWERS, Line, Report
-from hwp_view.script import Command, Script
+from hwp_view.script import Command, Page, Script
 from hwp_view.trace import WORDS, Fields, Turn, read_value, turn_text, value_text
 
 Json = dict[str, object]
@@ -137,9 +137,15 @@ def line_of(told: Json) -> str:
     raise Malformed(f"no record {shown(kind)} has these fields")
 
 
+def _declared(page: Page) -> Json:
+    """What the script says of a page."""
+    behind: Json = {"anonymous": True} if page.file is None else {"file": page.file, "fill": str(page.fill)}
+    return {**behind, "locked": True} if page.locked else behind
+
+
 def report_records(script: Script, report: Report) -> Iterator[Json]:
     """The records of a report."""
-    yield {"record": "report", "version": 1}
+    yield {"record": "report", "version": script.version}
     yield _named(script, "stop", report.stop)
     yield record("count", report.poisoned.words)
     yield from (record("file", line.words) for line in report.files)
@@ -148,9 +154,7 @@ def report_records(script: Script, report: Report) -> Iterator[Json]:
         for mark in frame.marks:
             yield {**_named(script, mark.words[0], mark), "frame": number}
     for page, history in enumerate(report.pages):
-        behind: Json = {"file": script.pages[page].file, "fill": str(script.pages[page].fill)}
-        anonymous = script.pages[page].file is None
-        yield {"record": "page", "page": page, "entries": len(history), **({"anonymous": True} if anonymous else behind)}
+        yield {"record": "page", "page": page, "entries": len(history), **_declared(script.pages[page])}
         for at, entry in enumerate(history):
             place: Json = {"page": page, "at": at}
             yield {**_named(script, "entry", entry.line), **place}

@@ -16,7 +16,7 @@ that it tells of, the entry that it names, and what the broken rule asks. One of
 STATUSES = """status: 0 the report is legal. 1: it isn't. 2: the arguments are others. 3: the script is refused, or there is more than
 17 MiB of both. 4: a read failed. 5: a write failed. 6: out of memory. 70: the program hwp could not be run."""
 RULES = {
-    1: "The text must be a report with as many files, frames, pages and processors as the script has. The line named is the "
+    1: "The text must be a report of the script's version with as many files, frames, pages and processors as the script has. The line named is the "
     "first that doesn't follow those before it, or doesn't fit the script.",
     2: "Each page's history must be legal from its opening, the command numbers of one processor may not fall in it, and each "
     "entry must be one that its command makes, with that command's numbers. The line named is the entry; of a failure its "
@@ -31,9 +31,9 @@ RULES = {
     "`frame` line if one is missing; the first entry of a failure if the number of those that a thread needed is another than "
     "that of the events of row S9.",
     6: "The count must be that of the frames whose last record is `poisoned`. The line named is the `count` line.",
-    7: "The number of each file must be that of its dirty pages that failed. What `fsync` told a processor of a file, all its `eio` "
-    "numbers together, may never be more; and where it answers `done` or `eio`, it must be at least what earlier commands of that "
-    "processor lost. The line named is the `file` line.",
+    7: "The number of each file must be that of its dirty pages that failed. A processor's number of a file is 0 at first; `eio` adds "
+    "its number, and `opened` takes its place. It may never fall, nor be more than that of the file; and where `fsync` answers `done` or "
+    "`eio`, or `open` answers, it must be at least what earlier commands of that processor lost. The line named is the `file` line.",
     8: "The stop record must be there if and only if an answer is `stopped`, and must have its cause; after a processor's first "
     "`stopped` all its answers must be `stopped`. The line named is the `stop` line.",
     9: "A page must be cached if and only if one frame says it; the other places, and the bad and weak lines of frames, must be "

@@ -27,16 +27,20 @@ def _form(letters: str, *texts: str) -> Form:
 
 
 FORMS = {
-    "hwp": _form("once, as the first line", "hwp 1"),
-    "cpus": _form("with N from 1 to 8", "cpus N"),
-    "frames": _form("with N from 1 to 256", "frames N"),
+    "hwp": _form("once, as the first line", "hwp 1", "hwp 2"),
+    "cpus": _form("with N from 1 to 8, or to 16 behind `hwp 2`", "cpus N"),
+    "frames": _form("with N from 1 to 256, or to 4096 behind `hwp 2`", "frames N"),
     "kernel": _form(FRAME, "kernel F"),
     "recovery": _form(FLAG, "recovery B"),
     "early": _form(FLAG, "early B"),
     "file": _form("with the number N of the file, from 0 on", "file N"),
     "proc": _form("with the number P of the process, from 0 on", "proc P"),
     "thread": _form("with a thread T of process P on processor C", "thread T P C handler", "thread T P C nohandler"),
-    "page": _form("with a page Q, or one of file N whose words are all X", "page Q anon", "page Q file N fill X"),
+    "page": _form(
+        "with a page Q, or one of file N whose words are all X; behind `hwp 2` also with `locked` at the end",
+        "page Q anon",
+        "page Q file N fill X",
+    ),
     "trans": _form("with a translation V of process P to page Q", "trans V P Q"),
     "cpu": _form("with a processor C, whose commands follow", "cpu C"),
     "schedule": _form("with one or more words C, C. or C@KIND, spaces between them", "schedule W W W"),
@@ -50,6 +54,7 @@ FORMS = {
     "sync": _form("with a page Q of a file", "sync Q"),
     "out": _form("with an anonymous page Q", "out Q"),
     "fsync": _form("with a file N", "fsync N"),
+    "open": _form("with a file N, behind `hwp 2`", "open N"),
     "prctl": _form("with a thread T: as in `prctl 0 33 1 1 0 0`", "prctl T A B C D E"),
     "bad": _form("with a frame F and a line L from 0 to 63", "bad F L"),
     "weak": _form("with a frame F and a line L from 0 to 63", "weak F L"),

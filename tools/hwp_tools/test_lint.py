@@ -49,13 +49,14 @@ end
 # A line of BASE, what a user wrote there (None: the line is missing), the line and the column that are named, the reason, and what
 # the message says among other things.
 MISTAKES: list[tuple[int, Optional[str], int, int, str, str]] = [
-    (1, None, 1, 1, "BadHeader", "`hwp 1` alone"),
-    (1, "hwp 2", 1, 1, "BadHeader", "`hwp 1` alone"),
+    (1, None, 1, 1, "BadHeader", "`hwp 1` or `hwp 2` alone"),
+    (1, "hwp 3", 1, 1, "BadHeader", "`hwp 1` or `hwp 2` alone"),
     (1, "hwp 1 # a race", 1, 7, "BadHeader", "stands behind `hwp 1`"),
     (1, "\xef\xbb\xbfhwp 1", 1, 1, "BadHeader", "byte order mark"),
     (1, "hwp 1\r", 1, 6, "BadHeader", "plain line feeds"),
     (2, "cpus 2\r", 2, 7, "UnknownWord", "plain line feeds"),
     (2, "hwp 1", 2, 1, "UnknownWord", "leave this line out"),
+    (2, "hwp 2", 2, 1, "UnknownWord", "leave this line out"),
     (2, "CPUS 2", 2, 1, "UnknownWord", "write `cpus N`"),
     (2, "cpu 2", 2, 5, "Undeclared", "none is declared; declare it above, by `cpus N`"),
     (2, "cpus two", 2, 6, "BadNumber", "write `cpus N`"),
@@ -77,6 +78,10 @@ MISTAKES: list[tuple[int, Optional[str], int, int, str, str]] = [
     (13, "page 1 file 0", 13, 14, "UnknownWord", "`page Q file N fill X`"),
     (13, "page 1 file 0 fill 0x9", 13, 20, "BadNumber", "in decimal: `9`"),
     (13, "page 2 file 0 fill 9", 13, 6, "WrongPlace", "write `page 1`"),
+    (12, "page 0 anon locked", 12, 13, "UnknownWord", "write `hwp 2` as the first line"),
+    (12, "page 0 anon locked locked", 12, 20, "UnknownWord", "'locked' may not stand here"),
+    (13, "page 1 file 0 fill locked", 13, 20, "BadNumber", "write `page Q anon`"),
+    (13, "page x file 0 fill 9 locked", 13, 22, "UnknownWord", "write `hwp 2` as the first line"),
     (15, "trans 1 1 2", 15, 11, "Undeclared", "by `page Q anon`"),
     (15, "trans 1 1 1\nproc 2", 16, 1, "WrongPlace", "stands below `thread` (line 10)"),
     (16, None, 16, 1, "WrongPlace", "write `cpu C`"),
@@ -109,6 +114,9 @@ MISTAKES: list[tuple[int, Optional[str], int, int, str, str]] = [
     (25, "cpu 0", 25, 1, "Twice", "stands in line 16"),
     (27, "sync 0", 27, 6, "Undeclared", "write `out 0`"),
     (28, "fsync 1", 28, 7, "Undeclared", "by `file N`"),
+    (28, "open 0", 28, 1, "UnknownWord", "write `hwp 2` as the first line"),
+    (28, "open x", 28, 1, "UnknownWord", "write `hwp 2` as the first line"),
+    (28, "open", 28, 5, "UnknownWord", "write `open N`"),
     (29, "raise kernel 2 1", 29, 14, "OverLimit", "0 to 1"),
     (31, "schedule", 31, 9, "UnknownWord", "no word stands behind `schedule`"),
     (31, "schedule 0@lock_fram", 31, 12, "UnknownWord", "write `0@lock_frame`"),
@@ -124,6 +132,22 @@ MISTAKES: list[tuple[int, Optional[str], int, int, str, str]] = [
     (32, "end\nend", 33, 1, "WrongPlace", "stands below `end` (line 32)"),
     (32, "end\nschedule 0", 33, 1, "WrongPlace", "write `end` as the last line"),
 ]
+# The same of BASE in version 2.
+NEWER_MISTAKES: list[tuple[int, Optional[str], int, int, str, str]] = [
+    (2, "hwp 2", 2, 1, "UnknownWord", "leave this line out"),
+    (2, "cpus 17", 2, 6, "OverLimit", "1 to 16"),
+    (3, "frames 4097", 3, 8, "OverLimit", "1 to 4096"),
+    (12, "page 0 anon locked locked", 12, 20, "UnknownWord", "'locked' may not stand here"),
+    (13, "page 1 file 0 fill locked", 13, 20, "BadNumber", "write `page Q anon`"),
+    (13, "page 1 locked file 0 fill 9", 13, 8, "UnknownWord", "'locked' may not stand here"),
+    (20, "inject 4096", 20, 8, "OverLimit", "0 to 4095"),
+    (20, "inject 300", 20, 8, "Undeclared", "declared are 0 to 3"),
+    (28, "open 1", 28, 6, "Undeclared", "by `file N`"),
+    (28, "open 16", 28, 6, "OverLimit", "0 to 15"),
+    (28, "open", 28, 5, "UnknownWord", "words are missing"),
+    (31, "schedule 0 16", 31, 12, "OverLimit", "0 to 15"),
+    (31, "schedule 0 8", 31, 12, "Undeclared", "declared are 0, 1"),
+]
 # The tables of refused scripts in the tests of the program's reader: what is put in place of what, or which line is another, the line
 # that is named, and the reason.
 READER_TESTS = HOME / "crates" / "hwp_test_texts" / "src" / "scripts.rt"
@@ -132,9 +156,9 @@ SWAP = re.compile(r'\(\s*(\d+),\s*b("(?:[^"\\]|\\.)*"),\s*Some\(\((\d+), Why::(\
 CONSTANT = re.compile(r'const (\w+): &str =\s*("(?:[^"\\]|\\.)*");')
 
 
-def changed(number: int, text: Optional[str]) -> bytes:
-    """BASE with another text in place of a line."""
-    lines: list[Optional[str]] = list(BASE.splitlines())
+def changed(number: int, text: Optional[str], base: str = BASE) -> bytes:
+    """A script with another text in place of a line."""
+    lines: list[Optional[str]] = list(base.splitlines())
     lines[number - 1] = text
     return "".join(f"{line}\n" for line in lines if line is not None).encode("latin-1")
 
@@ -143,17 +167,20 @@ class Lint(unittest.TestCase):
     """What is said of scripts, and of none that is as it should be."""
 
     def test_typical_mistakes_are_told_with_what_to_write(self) -> None:
-        self.assertGreaterEqual(len(MISTAKES), 39)
-        for number, text, line, column, why, says in MISTAKES:
-            with self.subTest(number=number, text=text):
-                fault = fault_of(changed(number, text))
+        newer = BASE.replace("hwp 1", "hwp 2")
+        mistakes = [(BASE, *mistake) for mistake in MISTAKES] + [(newer, *mistake) for mistake in NEWER_MISTAKES]
+        for base, number, text, line, column, why, says in mistakes:
+            with self.subTest(base=base[:5], number=number, text=text):
+                fault = fault_of(changed(number, text, base))
                 assert fault is not None
                 self.assertEqual((fault.line, fault.column, fault.why), (line, column, why), fault.text)
                 self.assertIn(says, fault.text)
                 self.assertTrue(fault.text.isascii() and fault.text.isprintable(), fault.text)
 
     def test_limits_of_a_script_are_told(self) -> None:
-        self.assertIsNone(fault_of(BASE.encode()))
+        for head, page, ask in (("hwp 1", "anon", "fsync"), ("hwp 2", "anon", "fsync"), ("hwp 2", "anon locked", "open")):
+            script = BASE.replace("hwp 1", head).replace("page 0 anon", f"page 0 {page}").replace("fsync 0", f"{ask} 0")
+            self.assertIsNone(fault_of(script.encode()))
         for data, line, why in (
             (b"", 1, "BadHeader"),
             (b"# nothing\n\n", 1, "BadHeader"),

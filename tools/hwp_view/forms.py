@@ -15,7 +15,7 @@ REGISTER = re.compile(r"0|0x[0-9a-fA-F]{1,16}")
 ROW = re.compile(r"S(0|[1-9][0-9]{0,2})")
 
 CHOICES: dict[str, frozenset[str]] = {
-    "situation": frozenset("free kernel fileclean filedirty anononly swapclean swapdirty".split()),
+    "situation": frozenset("free kernel fileclean filedirty anononly swapclean swapdirty lockedclean lockedfile lockedanon".split()),
     "result": frozenset("recovered delayed ignored".split()),
     "outcome": frozenset("none keep deferred logged recovered delayed ignored already outside stop panic held".split()),
     "policy": frozenset("late early default".split()),

@@ -224,6 +224,8 @@ class Lanes:
         declared = self.run.script.pages[page]
         title = f"Page {page}"
         parts = ["anonymous" if declared.file is None else f"of file {declared.file}, filled with {declared.fill}"]
+        if declared.locked:
+            parts.append("locked")
         slots = self.slots[page]
         if slots:
             more = f" and {len(slots) - MOST_SLOTS} more" if len(slots) > MOST_SLOTS else ""

@@ -24,6 +24,7 @@ ANSWERS = {
     "notmapped": "the translation was not in use",
     "dirty": "stored to, or never written anywhere",
     "mapped": "a translation was in use",
+    "locked": "a locked page stays in its frame",
     "einval": "these arguments are not taken",
     "already": "its poison bit was set already",
     "kernel": "the frame is the kernel's",
@@ -43,15 +44,19 @@ SITUATIONS = {
     "anononly": "anonymous page, its only copy lost",
     "swapclean": "page with a good copy in swap",
     "swapdirty": "page newer than its copy in swap, now lost",
+    "lockedclean": "locked page, clean, of a file",
+    "lockedfile": "locked page, dirty, of a file, now lost",
+    "lockedanon": "locked anonymous page, now lost",
     "moved": "its page moved to another frame",
 }
 CAUSES = {"hw": "by hardware", "sw": "by software", "soft": "by soft offline"}
 COMMANDS = {
     "free": "translation {trans} to page {page} goes out of use",
-    "drop": "the frame of page {page} is freed, if the page is clean and unused",
+    "drop": "the frame of page {page} is freed, if the page is clean, unused and not locked",
     "sync": "page {page} is written back to its file",
     "out": "page {page} is swapped out",
     "fsync": "asks what file {file} lost since this processor asked last",
+    "open": "opens file {file}: what it lost before isn't told to this processor any more",
     "load": "thread {thread} loads line {line} of page {page}",
     "kload": "the kernel loads line {line} of page {page} for thread {thread}",
     "fetch": "thread {thread} fetches an instruction at line {line} of page {page}",

@@ -47,6 +47,7 @@ ANSWERS = {
     "notmapped": ["page entry"],
     "dirty": ["page entry"],
     "mapped": ["page entry"],
+    "locked": ["page entry"],
     "badlines": ["mask page entry"],
     "eio": ["word"],
     "opened": ["word"],
@@ -222,7 +223,8 @@ class _Reader:
     def report(self) -> Report:
         """Reads the whole report."""
         script = self.script
-        self.take(["'hwp-report '1"], "`hwp-report 1`")
+        version = script.version
+        self.take([f"'hwp-report '{version}"], f"`hwp-report {version}`, the version of the script,")
         stop = self.take(STOPS, "the `stop` line")
         poisoned = self.take(["'count word"], "the `count` line")
         file_shape = ["'file file 'lost word"]

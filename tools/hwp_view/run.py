@@ -9,7 +9,7 @@ from .report import Line, Report
 from .script import Command, Script
 
 NAMES_ENTRY = frozenset("value stored sigbus done moved".split())
-AFTER_ENTRIES = frozenset("notresident notmapped dirty mapped badlines".split())
+AFTER_ENTRIES = frozenset("notresident notmapped dirty mapped locked badlines".split())
 Place = tuple[int, int]
 
 

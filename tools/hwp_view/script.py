@@ -19,7 +19,7 @@ SETTINGS = {
     "file": "file",
     "proc": "proc",
     "thread": "thread proc cpu 'handler|thread proc cpu 'nohandler",
-    "page": "page 'anon|page 'file file 'fill word",
+    "page": "page 'anon|page 'file file 'fill word|page 'anon 'locked|page 'file file 'fill word 'locked",
     "trans": "trans proc page",
     "cpu": "cpu",
     "end": "",
@@ -34,6 +34,7 @@ COMMANDS = {
     "sync": "page",
     "out": "page",
     "fsync": "file",
+    "open": "file",
     "prctl": "thread word word word word word",
     "bad": "frame line",
     "weak": "frame line",
@@ -45,7 +46,7 @@ COMMANDS = {
     "unpoison": "frame",
 }
 SHAPES = {first: shapes.split("|") for first, shapes in {**SETTINGS, **COMMANDS}.items()}
-LIMITS = {
+OLD_LIMITS = {
     "cpus": (1, 8),
     "frames": (1, 256),
     "frame": (0, 255),
@@ -60,6 +61,8 @@ LIMITS = {
     "word": (0, HIGHEST),
     "register": (0, HIGHEST),
 }
+NEW_LIMITS = {**OLD_LIMITS, "cpus": (1, 16), "frames": (1, 4096), "frame": (0, 4095), "cpu": (0, 15), "page": (0, 4095), "trans": (0, 4095)}
+LIMITS = {1: OLD_LIMITS, 2: NEW_LIMITS}
 GROUPS = {
     name: n for n, name in enumerate("cpus frames kernel recovery early file proc thread page trans cpu".split(), 1)
 }
@@ -82,10 +85,11 @@ class Thread(NamedTuple):
 
 
 class Page(NamedTuple):
-    """A page: of the file of this number, whose words are all `fill` there, or of anonymous memory."""
+    """A page: of the file of this number, whose words are all `fill` there, or of anonymous memory; and whether it is locked."""
 
     file: Optional[int]
     fill: int
+    locked: bool = False
 
 
 class Translation(NamedTuple):
@@ -124,6 +128,7 @@ class Command(NamedTuple):
 class Script:
     """A fault script."""
 
+    version: int = 1
     cpus: int = 0
     frames: int = 0
     kernel: set[int] = field(default_factory=set)
@@ -190,6 +195,9 @@ class _Reader:
             self.read_schedule(words[1:])
             return
         found = fitted(SHAPES[first], words[1:]) if first in SHAPES else None
+        if found is not None and is_newer(words) and self.script.version == 1:
+            place = 0 if first == "open" else len(words) - 1
+            self.refuse("UnknownWord", f"{shown(words[place])} is a word of version 2", place)
         if found is None:
             self.refuse("UnknownWord", f"no line of a script has these words: {shown(text)}")
         numbers = self.numbers(found)
@@ -213,7 +221,7 @@ class _Reader:
     def check_ranges(self, first: str, found: Fitted, numbers: tuple[int, ...]) -> None:
         """OverLimit: a number outside its range, or one command too many."""
         for slot, number, place in zip(found.slots, numbers, found.places):
-            low, high = LIMITS[slot]
+            low, high = LIMITS[self.script.version][slot]
             if not low <= number <= high:
                 self.refuse("OverLimit", f"{number} is outside its range, {low} to {high}", place + 1)
         if first == "scrub" and numbers[0] > numbers[1]:
@@ -282,7 +290,8 @@ class _Reader:
         elif first == "thread":
             script.threads.append(Thread(numbers[1], numbers[2], words[-1] == "handler"))
         elif first == "page":
-            script.pages.append(Page(numbers[1], numbers[2]) if len(numbers) == 3 else Page(None, 0))
+            is_locked = words[-1] == "locked"
+            script.pages.append(Page(numbers[1], numbers[2], is_locked) if len(numbers) == 3 else Page(None, 0, is_locked))
         elif first == "trans":
             script.translations.append(Translation(numbers[1], numbers[2]))
         elif first == "cpu":
@@ -313,8 +322,9 @@ class _Reader:
             numbers.append(number)
         highest = max(numbers)
         named = numbers.index(highest) + 1
-        if highest > LIMITS["cpu"][1]:
-            self.refuse("OverLimit", f"processor {highest} is outside its range, 0 to {LIMITS['cpu'][1]}", named)
+        most = LIMITS[self.script.version]["cpu"][1]
+        if highest > most:
+            self.refuse("OverLimit", f"processor {highest} is outside its range, 0 to {most}", named)
         if len(self.script.schedule) + len(words) > SCHEDULE_LIMIT:
             self.refuse("OverLimit", f"more than {SCHEDULE_LIMIT} words of the schedule")
         if highest >= self.script.cpus:
@@ -322,6 +332,11 @@ class _Reader:
         self.check_place("schedule", Fitted((), (), ()), ())
         self.highest, self.place = SCHEDULE_GROUP, None
         self.script.schedule += words
+
+
+def is_newer(words: list[str]) -> bool:
+    """Whether the words of a line have a shape of version 2 alone."""
+    return words[0] == "open" or (words[0] == "page" and len(words) in (4, 7))
 
 
 def _has_turn_shape(word: str) -> bool:
@@ -356,13 +371,15 @@ def read_script(data: bytes) -> Script:
         if not words:
             continue
         reader.line = number
-        if not last and words != ["hwp", "1"]:
-            reader.refuse("BadHeader", "the first line that isn't skipped must be `hwp 1`")
         if last:
             reader.read(words)
+        elif words in (["hwp", "1"], ["hwp", "2"]):
+            reader.script.version = int(words[1])
+        else:
+            reader.refuse("BadHeader", "the first line that isn't skipped must be `hwp 1` or `hwp 2`")
         last = words
     if not last:
-        reader.refuse("BadHeader", "there is no line `hwp 1`")
+        reader.refuse("BadHeader", "there is no line `hwp 1` or `hwp 2`")
     if last != ["end"]:
         reader.refuse("NoEnd", "the last line must be `end`")
     reader.script.opening = _opening_comment(lines)

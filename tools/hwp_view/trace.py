@@ -43,7 +43,7 @@ VALUES = {
     "stop": ["none|nomemory ?", "cpu cpu|nomemory ?"],
 }
 BARE = frozenset("mask number signed".split())
-SETS = 4
+FRAMES_OF_A_SET = 64
 ENDS = frozenset("moved waits changed answered".split())
 LINE = re.compile(r"(\S+) (\S+) (\S+) (\S+) ([a-z]+(?: \S+)?) : (.+?)(?: -> (.+?))? : (\S+)")
 
@@ -160,7 +160,7 @@ class _Reader:
 
     def check(self, slot: str, number: int) -> None:
         """Refuses a number of what the script doesn't have."""
-        if number >= (SETS if slot == "set" else self.script.declared(slot)):
+        if number >= (-(-self.script.frames // FRAMES_OF_A_SET) if slot == "set" else self.script.declared(slot)):
             self.refuse(f"the script has no {CALLED.get(slot, slot)} {number}")
 
     def value(self, word: str, text: str) -> Fields:

@@ -207,13 +207,14 @@ static void make_file(const unsigned long *n) {
         answer("did");
 }
 
-/* page Q KIND FILE FILL: kind 0 is private memory, 1 shared memory, 2 a page of a file. */
+/* page Q KIND FILE FILL LOCKED: kind 0 is private memory, 1 shared memory, 2 a page of a file. */
 static void make_page(const unsigned long *n) {
     unsigned long words[PAGE_BYTES / 8];
     struct source *source = &sources[n[0]];
     source->descriptor = n[1] == 0 ? -1 : n[1] == 1 ? (int)syscall(SYS_memfd_create, "page", 0) : files[n[2]][PROCESSORS];
     source->place = n[1] == 2 ? (off_t)(n[0] * PAGE_BYTES) : 0;
     source->is_file = n[1] == 2;
+    source->is_locked = n[4] != 0;
     for (int i = 0; i < PAGE_BYTES / 8; i++)
         words[i] = n[3];
     int is_wrong = n[1] == 1 ? ftruncate(source->descriptor, PAGE_BYTES) != 0
@@ -270,6 +271,17 @@ static void sync_page(const unsigned long *n) {
 static void tell_losses(const unsigned long *n) {
     int came = sync_file_range(files[n[0]][n[1]], 0, 0, SYNC_FILE_RANGE_WAIT_BEFORE);
     unsigned long error = came == 0 ? 0 : (unsigned long)errno;
+    tell();
+    answer_number(error == 0 ? "did" : "error", error);
+}
+
+/* open N C: the processor gives its descriptor back, and opens the file anew. */
+static void open_anew(const unsigned long *n) {
+    char path[32];
+    snprintf(path, sizeof path, "/files/%lu", n[0]);
+    close(files[n[0]][n[1]]);
+    int file = files[n[0]][n[1]] = open(path, O_RDWR);
+    unsigned long error = file >= 0 ? 0 : (unsigned long)errno;
     tell();
     answer_number(error == 0 ? "did" : "error", error);
 }
@@ -382,6 +394,8 @@ static void run(const char *order, const unsigned long *n) {
         sync_page(n);
     else if (!strcmp(order, "fsync"))
         tell_losses(n);
+    else if (!strcmp(order, "open"))
+        open_anew(n);
     else if (!strcmp(order, "inject"))
         have_failed(INJECT, "%lu", n[0]);
     else if (!strcmp(order, "unpoison"))

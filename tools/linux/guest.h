@@ -49,7 +49,7 @@ struct shared {
 struct source {
     int descriptor;
     off_t place;
-    int is_file;
+    int is_file, is_locked;
 };
 
 extern struct shared *shared;

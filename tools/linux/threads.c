@@ -19,6 +19,9 @@
 #ifndef MADV_PAGEOUT
 #define MADV_PAGEOUT 21
 #endif
+#ifndef MADV_DONTNEED_LOCKED
+#define MADV_DONTNEED_LOCKED 24
+#endif
 
 static __thread struct seat *mine;
 static __thread sigjmp_buf back;
@@ -122,12 +125,16 @@ static void map(struct seat *seat) {
     struct source *source = &sources[shared->translations[seat->numbers[0]].page];
     int flags = MAP_FIXED | (source->descriptor < 0 ? MAP_PRIVATE | MAP_ANONYMOUS : MAP_SHARED);
     void *at = mmap(place_of(seat->numbers[0]), PAGE_BYTES, PROT_READ | PROT_WRITE, flags, source->descriptor, source->place);
-    if (at == MAP_FAILED) {
+    if (at == MAP_FAILED || (source->is_locked && mlock2(at, PAGE_BYTES, MLOCK_ONFAULT) != 0)) {
         seat->outcome = FAILED;
         seat->error = errno;
     } else if (source->is_file) {
         madvise(at, PAGE_BYTES, MADV_RANDOM);
     }
+}
+
+static int is_locked(unsigned long translation) {
+    return sources[shared->translations[translation].page].is_locked;
 }
 
 static void *serve(void *of);
@@ -139,7 +146,7 @@ static void call(struct seat *seat) {
     if (seat->deed == PRCTL)
         came = syscall(SYS_prctl, n[0], n[1], n[2], n[3], n[4]);
     else if (seat->deed == DISCARD)
-        came = madvise(place_of(n[0]), PAGE_BYTES, MADV_DONTNEED);
+        came = madvise(place_of(n[0]), PAGE_BYTES, is_locked(n[0]) ? MADV_DONTNEED_LOCKED : MADV_DONTNEED);
     else if (seat->deed == PAGE_OUT)
         came = madvise(place_of(n[0]), PAGE_BYTES, MADV_PAGEOUT);
     else

@@ -35,7 +35,7 @@ last-of-all report =
     omega (arith, stands, same, all)
   where
     before : (cpus : List (List CpuLine)) → List (List (List ℕ))
-    before cpus = head_lines report.stop report.count ++ numbered file_lines 0 report.files ++ numbered frame_lines 0 report.frames ++ numbered page_lines 0 report.pages ++ numbered cpu_lines 0 cpus
+    before cpus = head_lines report.version report.stop report.count ++ numbered file_lines 0 report.files ++ numbered frame_lines 0 report.frames ++ numbered page_lines 0 report.pages ++ numbered cpu_lines 0 cpus
 
 pub last-within : (bytes : List ℕ) (report : Report) → IsTextOf bytes report → last_line report ≤ length bytes
 last-within bytes report text =

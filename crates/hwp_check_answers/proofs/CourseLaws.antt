@@ -15,12 +15,11 @@ use Rattle.hwp_check_evidence.specs.hwp_report_text.declared.CpuLine.TheVariants
 use Rattle.hwp_check_evidence.specs.hwp_report_text.declared.Report.{Report}
 use Rattle.hwp_check_evidence.specs.hwp_law.Commands.{process_at}
 use Rattle.hwp_check_evidence.specs.hwp_law.Lines.{answer_among, answer_of}
-use Rattle.hwp_check_evidence.specs.Ends.{process_numbers}
 use Rattle.hwp_check_evidence.specs.Windows.{AreOfEarlier, floors_of, raised}
 use Rattle.hwp_check_evidence.proofs.ListItems.{item_of_push}
 use Rattle.hwp_check_rules.specs.Answered.{is_answer, seq_of}
 use Rattle.hwp_check_answers.specs.declared.judging.Course.{Course}
-use Rattle.hwp_check_answers.specs.Judging.{HadGone, IsCourse, IsNextOf, gone_after, gone_by, next_seq}
+use Rattle.hwp_check_answers.specs.Judging.{HadGone, IsCourse, IsNextOf, gone_after, gone_by, next_seq, process_numbers}
 
 no-flag : (n k : ℕ) → get_or (replicate {A = Bool} n false) k false ≡ false
 no-flag n k = elim (cases_lt k n) [

@@ -73,7 +73,7 @@ module _ (script : Script) (report : Report) (who : Who) (command : Command) whe
 
   met-there : (c : Command) (mask : Mask) (at : At) → MetBadLines script report c mask at → at.page.0 < length report.pages
   met-there (commands.Sync page) mask at h = page-there at (λ s. s.cached ≡ true) h.1.cached
-  met-there (commands.Out page) mask at h = page-there at (λ s. s.cached ≡ true) h.1.cached
+  met-there (commands.Out page) mask at h = page-there at (λ s. s.cached ≡ true) h.1.1.cached
   met-there c mask at h = absurd h
 
   asked : (answer : Answer) (at : At) → is_by_state answer ≡ true → state_named answer ≡ Some at → IsCaused script report who command answer → at.page.0 < length report.pages
@@ -85,6 +85,7 @@ module _ (script : Script) (report : Report) (who : Who) (command : Command) whe
   caused-there (answers.NotMapped a) at named caused = asked (answers.NotMapped a) at refl named caused
   caused-there (answers.Dirty a) at named caused = asked (answers.Dirty a) at refl named caused
   caused-there (answers.Mapped a) at named caused = asked (answers.Mapped a) at refl named caused
+  caused-there (answers.Locked a) at named caused = asked (answers.Locked a) at refl named caused
   caused-there answer at named caused = absurd (none-some at named)
 
   pub right_there : (answer : Answer) → IsRight script report who command answer → (at : At) → state_named answer ≡ Some at → at.page.0 < length report.pages

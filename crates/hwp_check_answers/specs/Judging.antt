@@ -15,7 +15,6 @@ use Rattle.hwp_check_evidence.specs.hwp_law.Commands.{process_at}
 use Rattle.hwp_check_evidence.specs.hwp_law.Endings.{WasGone}
 use Rattle.hwp_check_evidence.specs.hwp_law.Lines.{answer_among}
 use Rattle.hwp_check_evidence.specs.hwp_law.States.{entry_named}
-use Rattle.hwp_check_evidence.specs.Ends.{process_numbers}
 use Rattle.hwp_check_evidence.specs.Named.{flagged_pages}
 use Rattle.hwp_check_evidence.specs.Windows.{AreOfEarlier, floors_of}
 use Rattle.hwp_check_rules.specs.AnswerFaults.{IsOutside, IsRevived, IsUnnamed}
@@ -28,6 +27,10 @@ pub record HadGone (script : Script) (report : Report) (later : Who) (process : 
   pub who : Who
   pub gone : WasGone script report who process
   pub before : IsEarlier who later
+
+-- the numbers that a process can have
+abbrev pub process_numbers : ℕ
+process_numbers = 256
 
 -- what the lines before a command's answer tell is right
 pub record IsCourse (script : Script) (report : Report) (before : List CpuLine) (later : Who) (course : Course) : Type 0 where

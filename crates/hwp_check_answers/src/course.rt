@@ -1,7 +1,6 @@
 ghost use Rattle.std.specs.Prelude.{◌≡◌, IfOk, false, length, replicate};
-ghost use Rattle.hwp_check_evidence.specs.Ends.{process_numbers};
 ghost use Rattle.hwp_check_evidence.specs.Windows.{raised};
-ghost use Rattle.hwp_check_answers.specs.Judging.{gone_after, gone_by};
+ghost use Rattle.hwp_check_answers.specs.Judging.{gone_after, gone_by, process_numbers};
 ghost use Rattle.hwp_check_answers.specs.Walk.{IsCourseAt};
 
 use crate::judging::Course;

@@ -59,9 +59,18 @@ module _ (script : Script) (report : Report) (who : Who) where
   mapped-asked (commands.Soft frame) at h = absurd h.1
   mapped-asked command at h = absurd h
 
+  locked-asked : (command : Command) (at : At) → Caused command (answers.Locked at) → Asked command (answers.Locked at) at
+  locked-asked (commands.Drop page) at h = h
+  locked-asked (commands.Out page) at h = h
+  locked-asked (commands.Prctl thread args) at h = absurd (no-reply _ (answers.Locked at) refl h)
+  locked-asked (commands.Inject frame) at h = absurd h.1
+  locked-asked (commands.Soft frame) at h = absurd h.1
+  locked-asked command at h = absurd h
+
   pub caused-asked : (command : Command) (answer : Answer) (at : At) → is_by_state answer ≡ true → state_named answer ≡ Some at → Caused command answer → Asked command answer at
   caused-asked command (answers.NotResident a) at by named h = subst (λ (x : At). Asked command (answers.NotResident a) x) (same_Some _ _ named) (away-asked command a h)
   caused-asked command (answers.NotMapped a) at by named h = subst (λ (x : At). Asked command (answers.NotMapped a) x) (same_Some _ _ named) (unmapped-asked command a h)
   caused-asked command (answers.Dirty a) at by named h = subst (λ (x : At). Asked command (answers.Dirty a) x) (same_Some _ _ named) (dirty-asked command a h)
   caused-asked command (answers.Mapped a) at by named h = subst (λ (x : At). Asked command (answers.Mapped a) x) (same_Some _ _ named) (mapped-asked command a h)
+  caused-asked command (answers.Locked a) at by named h = subst (λ (x : At). Asked command (answers.Locked a) x) (same_Some _ _ named) (locked-asked command a h)
   caused-asked command answer at by named h = absurd (true≢false (sym by))

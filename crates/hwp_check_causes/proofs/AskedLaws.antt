@@ -19,6 +19,7 @@ names_none (answers.NotResident at) by none = none-some at (sym none)
 names_none (answers.NotMapped at) by none = none-some at (sym none)
 names_none (answers.Dirty at) by none = none-some at (sym none)
 names_none (answers.Mapped at) by none = none-some at (sym none)
+names_none (answers.Locked at) by none = none-some at (sym none)
 names_none answer by none = true≢false (sym by)
 
 module _ (script : Script) (report : Report) (who : Who) where
@@ -46,9 +47,15 @@ module _ (script : Script) (report : Report) (who : Who) where
   mapped_caused (commands.Drop page) at h = h
   mapped_caused command at h = absurd h.0
 
+  locked_caused : (command : Command) (at : At) → Asked command (answers.Locked at) at → Caused command (answers.Locked at)
+  locked_caused (commands.Drop page) at h = h
+  locked_caused (commands.Out page) at h = h
+  locked_caused command at h = absurd h.0
+
   pub asked_caused : (command : Command) (answer : Answer) (at : At) → is_by_state answer ≡ true → state_named answer ≡ Some at → Asked command answer at → Caused command answer
   asked_caused command (answers.NotResident a) at by named h = away_caused command a (subst (λ (x : At). Asked command (answers.NotResident a) x) (sym (same_Some _ _ named)) h)
   asked_caused command (answers.NotMapped a) at by named h = unmapped_caused command a (subst (λ (x : At). Asked command (answers.NotMapped a) x) (sym (same_Some _ _ named)) h)
   asked_caused command (answers.Dirty a) at by named h = dirty_caused command a (subst (λ (x : At). Asked command (answers.Dirty a) x) (sym (same_Some _ _ named)) h)
   asked_caused command (answers.Mapped a) at by named h = mapped_caused command a (subst (λ (x : At). Asked command (answers.Mapped a) x) (sym (same_Some _ _ named)) h)
+  asked_caused command (answers.Locked a) at by named h = locked_caused command a (subst (λ (x : At). Asked command (answers.Locked a) x) (sym (same_Some _ _ named)) h)
   asked_caused command answer at by named h = absurd (true≢false (sym by))

@@ -84,10 +84,7 @@ module _ (script : Script) (report : Report) (who : Who) where
   caused_last (commands.Unpoison f) answers.TakenFree by h = h
   caused_last command answers.TakenFree by h = absurd h
   caused_last (commands.Prctl thread args) (answers.Opened n) by h = h
-  caused_last (commands.Inject f) (answers.Opened n) by h = h
-  caused_last (commands.Soft f) (answers.Opened n) by h = h
-  caused_last (commands.Unpoison f) (answers.Opened n) by h = h
-  caused_last command (answers.Opened n) by h = absurd h
+  caused_last command (answers.Opened n) by h = absurd (true≢false (sym by))
   caused_last (commands.Prctl thread args) answers.NotPoisoned by h = h
   caused_last (commands.Inject f) answers.NotPoisoned by h = h
   caused_last (commands.Soft f) answers.NotPoisoned by h = h
@@ -125,6 +122,7 @@ module _ (script : Script) (report : Report) (who : Who) where
   caused_last command (answers.NotMapped at) by h = absurd (true≢false (sym by))
   caused_last command (answers.Dirty at) by h = absurd (true≢false (sym by))
   caused_last command (answers.Mapped at) by h = absurd (true≢false (sym by))
+  caused_last command (answers.Locked at) by h = absurd (true≢false (sym by))
   caused_last command (answers.BadLines mask at) by h = absurd (true≢false (sym by))
 
   pub last_caused : (command : Command) (answer : Answer) → is_last command answer ≡ true → IsLast script report who command answer → Caused command answer
@@ -169,10 +167,7 @@ module _ (script : Script) (report : Report) (who : Who) where
   last_caused (commands.Unpoison f) answers.TakenFree by h = h
   last_caused command answers.TakenFree by h = absurd h
   last_caused (commands.Prctl thread args) (answers.Opened n) by h = h
-  last_caused (commands.Inject f) (answers.Opened n) by h = h
-  last_caused (commands.Soft f) (answers.Opened n) by h = h
-  last_caused (commands.Unpoison f) (answers.Opened n) by h = h
-  last_caused command (answers.Opened n) by h = absurd h
+  last_caused command (answers.Opened n) by h = absurd (true≢false (sym by))
   last_caused (commands.Prctl thread args) answers.NotPoisoned by h = h
   last_caused (commands.Inject f) answers.NotPoisoned by h = h
   last_caused (commands.Soft f) answers.NotPoisoned by h = h
@@ -210,4 +205,5 @@ module _ (script : Script) (report : Report) (who : Who) where
   last_caused command (answers.NotMapped at) by h = absurd (true≢false (sym by))
   last_caused command (answers.Dirty at) by h = absurd (true≢false (sym by))
   last_caused command (answers.Mapped at) by h = absurd (true≢false (sym by))
+  last_caused command (answers.Locked at) by h = absurd (true≢false (sym by))
   last_caused command (answers.BadLines mask at) by h = absurd (true≢false (sym by))

@@ -2,6 +2,7 @@
 use Rattle.std.proofs.Common.{◌≡◌, ◌<◌, ◌≤◌, List, [], ◌∷◌, Option, Some, None, All, IsSomeAnd, length, slice_get, refl, sym, arith}
 use Rattle.std.proofs.lemmas.List.Elements.{All-cons, All-nil}
 use Rattle.std.proofs.lemmas.Option.{slice_get_within}
+use Rattle.hwp_check_evidence.specs.hwp_geom.Layout.{is_locked}
 use Rattle.hwp_check_evidence.specs.hwp_geom.declared.Layout.{Layout}
 use Rattle.hwp_check_evidence.specs.hwp_geom.declared.Page.{Page}
 use Rattle.hwp_check_evidence.specs.hwp_geom.declared.TransDecl.{TransDecl}
@@ -48,7 +49,7 @@ module _ (script : Script) (report : Report) (below : HoldBelow 3 script report)
   pub legal_steps : IsValid script → AreLegalSteps report.pages
   legal_steps valid page list there =
       let h = histories.legal (record { 0 = page }) list there in
-      all-within script.layout (record { 0 = page }) (opening_of h.1.kind) h.0 list valid.sound h.1.leads
+      all-within script.layout (record { 0 = page }) (opening_of h.1.kind (is_locked script.layout (record { 0 = page }))) h.0 list valid.sound h.1.leads
 
   pub pages_fit : length script.layout.pages ≡ length report.pages
   pages_fit = sym shape.pages

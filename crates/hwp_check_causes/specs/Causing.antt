@@ -1,5 +1,6 @@
 -- Answers by what decides whether they have their cause, where that is neither an entry, nor a state, nor the command alone.
 use Rattle.std.specs.Prelude.{◌≡◌, ◌||◌, ℕ, not, Bool, true, false}
+use Rattle.hwp_check_evidence.specs.hwp_geom.Layout.{is_locked}
 use Rattle.hwp_check_evidence.specs.hwp_geom.declared.Mask.{Mask}
 use Rattle.hwp_check_evidence.specs.hwp_geom.declared.Who.{Who}
 use Rattle.hwp_check_evidence.specs.hwp_kill.Prctl.{reply}
@@ -23,10 +24,10 @@ use Rattle.hwp_check_causes.specs.Telling.{is_by_entry}
 abbrev pub IsBadSomewhere : Report → Mask → Type 0
 IsBadSomewhere report mask = (frame : ℕ) × AreBadLines (bad_lines_of report frame) mask.0
 
--- a command that copies the page's content met its bad lines
+-- a command that copies the page's content met its bad lines; `out` looks at the lines of a page that isn't locked alone
 abbrev pub MetBadLines : Script → Report → Command → Mask → At → Type 0
 MetBadLines script report (commands.Sync page) mask at = (at.page ≡ page) × HadBadLines script report mask at
-MetBadLines script report (commands.Out page) mask at = (at.page ≡ page) × HadBadLines script report mask at
+MetBadLines script report (commands.Out page) mask at = (is_locked script.layout page ≡ false) × ((at.page ≡ page) × HadBadLines script report mask at)
 MetBadLines script report _ mask at = ⊥
 
 -- a thread makes the command

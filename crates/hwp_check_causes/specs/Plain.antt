@@ -27,6 +27,7 @@ abbrev pub is_plain : Command → Answer → Bool
 is_plain command answers.NoFrame = is_other command
 is_plain command answers.Done = is_unmarked command
 is_plain command (answers.Eio lost) = is_other command
+is_plain command (answers.Opened word) = is_other command
 is_plain command answers.Kernel = is_other command
 is_plain command (answers.HasBad mask) = is_other command
 is_plain command (answers.InUse count) = is_other command
@@ -55,6 +56,11 @@ IsDone _ = ⊥
 abbrev pub IsLossTold : Command → ℕ → Type 0
 IsLossTold (commands.Fsync file) lost = 0 < lost
 IsLossTold _ lost = ⊥
+
+-- a file was opened
+abbrev pub IsOpening : Command → Type 0
+IsOpening (commands.Open file) = Unit {0}
+IsOpening _ = ⊥
 
 -- a soft offline of a frame of the kernel
 abbrev pub IsOfKernel : Script → Command → Type 0
@@ -87,6 +93,7 @@ abbrev pub IsPlain : Script → Report → Who → Command → Answer → Type 0
 IsPlain script report who command answers.NoFrame = IsShort script command
 IsPlain script report who command answers.Done = IsDone command
 IsPlain script report who command (answers.Eio lost) = IsLossTold command lost
+IsPlain script report who command (answers.Opened word) = IsOpening command
 IsPlain script report who command answers.Kernel = IsOfKernel script command
 IsPlain script report who command (answers.HasBad mask) = HasTheseBad script report command mask.0
 IsPlain script report who command (answers.InUse count) = IsUsed command

@@ -1,6 +1,6 @@
 ghost use Rattle.std.specs.Prelude.{◌≡◌, ◌↔◌, IsTrue};
 ghost use Rattle.hwp_check_evidence.specs.hwp_law.States.{state_named};
-ghost use Rattle.hwp_check_causes.specs.Asking.{IsAskable, IsAtPage, IsDropOf, IsFreeOf};
+ghost use Rattle.hwp_check_causes.specs.Asking.{IsAskable, IsAtPage, IsDropOf, IsFreeOf, IsLeavingOf};
 
 use hwp_check_rules::{Answer, At, Command, Layout, Page, leads_to};
 
@@ -26,6 +26,16 @@ fn is_drop_of(command: &Command, page: Page) -> bool
     }
 }
 
+/// Whether it drops the page or swaps it out.
+fn is_leaving_of(command: &Command, page: Page) -> bool
+    ensures { IsTrue result ↔ IsLeavingOf command.now page }
+{
+    match *command {
+        Command::Drop { page: named } | Command::Out { page: named } => page == named,
+        _ => false,
+    }
+}
+
 /// Whether it frees a translation of the page.
 fn is_free_of(layout: &Layout, command: &Command, page: Page) -> bool
     ensures { IsTrue result ↔ IsFreeOf layout.now command.now page }
@@ -45,6 +55,7 @@ pub(crate) fn is_askable(layout: &Layout, command: &Command, answer: &Answer) ->
         Answer::NotMapped(at) => is_free_of(layout, command, at.page),
         Answer::Dirty(at) => is_drop_of(command, at.page),
         Answer::Mapped(at) => is_drop_of(command, at.page),
+        Answer::Locked(at) => is_leaving_of(command, at.page),
         _ => false,
     }
 }
@@ -58,6 +69,7 @@ pub fn named_state(answer: &Answer) -> Option<At>
         Answer::NotMapped(at) => Some(at),
         Answer::Dirty(at) => Some(at),
         Answer::Mapped(at) => Some(at),
+        Answer::Locked(at) => Some(at),
         Answer::BadLines(_, at) => Some(at),
         _ => None,
     }

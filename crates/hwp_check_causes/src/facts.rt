@@ -1,4 +1,4 @@
-use hwp_check_evidence::{Glance, Repeats, Span};
+use hwp_check_evidence::{PageGlances, Span};
 use hwp_check_poison::{MarkIndex, Results};
 use hwp_check_rules::{List, Policy};
 
@@ -8,7 +8,7 @@ pub struct ReportFacts {
     /// Whether there are frames enough at any time.
     pub ample: bool,
     /// The states of pages at all places of their histories.
-    pub glances: Vec<Repeats<Glance>>,
+    pub glances: Vec<PageGlances>,
 }
 
 /// What is known of a report for the answers of one processor.

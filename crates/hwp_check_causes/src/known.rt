@@ -10,7 +10,9 @@ ghost use Rattle.hwp_check_causes.specs.Causing.{IsBadSomewhere, MetBadLines, is
 use crate::asking::{is_askable, named_state};
 use crate::case::Case;
 use crate::plain::are_bad_lines;
-use hwp_check_evidence::{has_ending, was_away, was_cached, was_dirty, was_mapped, was_unused};
+use hwp_check_evidence::{
+    has_ending, was_away, was_cached, was_dirty, was_locked, was_mapped, was_unused,
+};
 use hwp_check_rules::{
     Answer, At, Command, FrameLine, Layout, Mask, Page, Proc, Report, Script, Thread, Who,
     command_of,
@@ -46,6 +48,7 @@ fn was_so(case: &Case<'_>, answer: &Answer, at: At) -> bool
         Answer::NotMapped(_) => was_unused_by(case, at),
         Answer::Dirty(_) => was_dirty(layout, pages, case.known.glances.as_slice(), at),
         Answer::Mapped(_) => was_mapped(layout, pages, case.known.glances.as_slice(), at),
+        Answer::Locked(_) => was_locked(layout, pages, case.known.glances.as_slice(), at),
         _ => false,
     }
 }
@@ -94,13 +97,14 @@ fn had_bad_lines(case: &Case<'_>, mask: Mask, at: At) -> bool
         && are_bad_somewhere(case.report, mask)
 }
 
-/// Whether the command copies a page's content, and met its bad lines.
+/// Whether the command copies a page's content, and met its bad lines; those of a locked page `out` doesn't look at.
 fn met_bad_lines(case: &Case<'_>, mask: Mask, at: At) -> bool
     ensures { IsTrue result ↔ MetBadLines case.now.script case.now.report case.now.command mask at }
 {
     match *case.command {
-        Command::Sync { page } | Command::Out { page } => {
-            at.page == page && had_bad_lines(case, mask, at)
+        Command::Sync { page } => at.page == page && had_bad_lines(case, mask, at),
+        Command::Out { page } => {
+            !case.script.layout.is_locked(page) && at.page == page && had_bad_lines(case, mask, at)
         }
         _ => false,
     }

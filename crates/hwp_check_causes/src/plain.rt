@@ -2,7 +2,7 @@ ghost use Rattle.std.specs.Prelude.{◌≡◌, ◌↔◌, IsTrue, true};
 ghost use Rattle.hwp_check_evidence.specs.hwp_law.Causes.{AreBadLines, IsCaused};
 ghost use Rattle.hwp_check_evidence.specs.hwp_law.Commands.{is_kernels};
 ghost use Rattle.hwp_check_evidence.specs.hwp_law.Lines.{bad_lines_of};
-ghost use Rattle.hwp_check_causes.specs.Plain.{AreRaised, AreScrubbed, HasTheseBad, IsDone, IsLossTold, IsOfKernel, IsPlain, IsShort, IsUsed, is_plain};
+ghost use Rattle.hwp_check_causes.specs.Plain.{AreRaised, AreScrubbed, HasTheseBad, IsDone, IsLossTold, IsOfKernel, IsOpening, IsPlain, IsShort, IsUsed, is_plain};
 
 use crate::case::Case;
 use hwp_check_rules::{Answer, Command, Frame, Layout, Mask, Report};
@@ -68,6 +68,13 @@ fn is_loss_told(command: &Command, lost: u64) -> bool
     }
 }
 
+/// Whether the command opens a file.
+fn is_opening(command: &Command) -> bool
+    ensures { IsTrue result ↔ IsOpening command.now }
+{
+    matches!(command, Command::Open { .. })
+}
+
 /// Whether the command takes a frame of the kernel out of use.
 fn is_of_kernel(case: &Case<'_>) -> bool
     ensures { IsTrue result ↔ IsOfKernel case.now.script case.now.command }
@@ -128,6 +135,7 @@ fn is_plain_right(case: &Case<'_>, answer: &Answer) -> bool
         Answer::NoFrame => is_short(case),
         Answer::Done => is_done(case.command),
         Answer::Eio(lost) => is_loss_told(case.command, lost),
+        Answer::Opened(_) => is_opening(case.command),
         Answer::Kernel => is_of_kernel(case),
         Answer::HasBad(mask) => has_these_bad(case, mask),
         Answer::InUse(_) => is_used(case.command),

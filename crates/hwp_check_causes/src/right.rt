@@ -31,7 +31,11 @@ fn names_state(answer: &Answer) -> bool
 {
     matches!(
         answer,
-        Answer::NotResident(_) | Answer::NotMapped(_) | Answer::Dirty(_) | Answer::Mapped(_)
+        Answer::NotResident(_)
+            | Answer::NotMapped(_)
+            | Answer::Dirty(_)
+            | Answer::Mapped(_)
+            | Answer::Locked(_)
     )
 }
 
@@ -43,6 +47,7 @@ fn speaks_plainly(command: &Command, answer: &Answer) -> bool
         Answer::Done => !matches!(command, Command::Prctl { .. } | Command::Unpoison { .. }),
         Answer::NoFrame
         | Answer::Eio(_)
+        | Answer::Opened(_)
         | Answer::Kernel
         | Answer::HasBad(_)
         | Answer::InUse(_)

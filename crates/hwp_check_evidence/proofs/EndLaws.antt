@@ -1,8 +1,8 @@
 -- The commands by which processes had ended tell which signals ended them.
-use Rattle.std.proofs.Common.{◌≡◌, ◌⊎◌, inl, inr, ℕ, zero, suc, ◌+◌, ◌<◌, ◌≤◌, ◌==◌, ◌&&◌, ◌||◌, not, min, cond, Bool, true, false, List, [], ◌∷◌, Option, Some, None, fold, get_or, set, length, slice_get, refl, sym, ap, ◌∙◌, subst, true≢false, arith}
+use Rattle.std.proofs.Common.{◌≡◌, ◌⊎◌, inl, inr, ℕ, zero, suc, ◌+◌, ◌<◌, ◌≤◌, ◌==◌, ◌&&◌, ◌||◌, not, max, min, cond, Bool, true, false, List, [], ◌∷◌, Option, Some, None, fold, get_or, set, length, slice_get, refl, sym, ap, ◌∙◌, subst, true≢false, arith}
 use Rattle.std.specs.List.{list_any}
 use Rattle.std.proofs.lemmas.Bool.{cases_eq, cases_lt, eq-eqb, eqb-true}
-use Rattle.std.proofs.lemmas.List.{get_or-set_same, get_or-set_other, get_or-replicate, length-replicate, length-set}
+use Rattle.std.proofs.lemmas.List.{get_or-set_same, get_or-set_other, get_or-replicate, get_or_past, length-replicate, length-set}
 use Rattle.std.proofs.lemmas.Option.{none-some, same_Some, slice_get_within}
 use Rattle.hwp_law.specs.hwp_geom.declared.Cpu.{Cpu}
 use Rattle.hwp_law.specs.hwp_geom.declared.Layout.{Layout}
@@ -158,8 +158,61 @@ module _ (p : Proc) where
     new-in k (entries.Fail situation required seen signals) list inside is new = new-signals k signals list inside is new
     new-in k what list inside is new = absurd (true≢false (sym is))
 
-  none-low : (k : ℕ) → k ≤ never → p.0 < process_numbers → IsLow none_ended k → ⊥
-  none-low k few small low = let is : get_or none_ended p.0 never ≡ never = get_or-replicate process_numbers p.0 never never small in omega (arith, is, low, few)
+  none-low : (layout : Layout) (k : ℕ) → k ≤ never → p.0 < length (none_ended layout) → IsLow (none_ended layout) k → ⊥
+  none-low layout k few inside low =
+      let small : p.0 < process_numbers layout = subst (λ (m : ℕ). p.0 < m) (length-replicate (process_numbers layout) never) inside in
+      let is : get_or (none_ended layout) p.0 never ≡ never = get_or-replicate (process_numbers layout) p.0 never never small in omega (arith, is, low, few)
+
+  -- a process of which nothing is kept had not ended
+  low-inside : (list : List ℕ) (k : ℕ) → k ≤ never → IsLow list k → p.0 < length list
+  low-inside list k few low = elim (cases_lt p.0 (length list)) [
+    | inl inside ↦ inside
+    | inr past ↦ let is : get_or list p.0 never ≡ never = get_or_past list p.0 never past in absurd (omega (arith, is, low, few))
+  ]
+
+  -- nor one that no thread has
+  more-numbers : (ts : List ThreadDecl) (n : ℕ) → n ≤ fold (λ (m : ℕ) (t : ThreadDecl). max m (t.process.0 + 1)) n ts
+  more-numbers [] n = omega arith
+  more-numbers (t ∷ ts) n = let rest = more-numbers ts (max n (t.process.0 + 1)) in omega (arith, rest)
+
+  thread-inside : (ts : List ThreadDecl) (n i : ℕ) (t : ThreadDecl) → slice_get ts i ≡ Some t → t.process.0 < fold (λ (m : ℕ) (x : ThreadDecl). max m (x.process.0 + 1)) n ts
+  thread-inside [] n i t there = absurd (none-some t there)
+  thread-inside (x ∷ ts) n zero t there =
+      let same : x.process.0 ≡ t.process.0 = ap (λ (y : ThreadDecl). y.process.0) (same_Some x t there) in
+      let rest = more-numbers ts (max n (x.process.0 + 1)) in omega (arith, same, rest)
+  thread-inside (x ∷ ts) n (suc i) t there = thread-inside ts (max n (x.process.0 + 1)) i t there
+
+  none-inside : (layout : Layout) → p.0 < process_numbers layout → p.0 < length (none_ended layout)
+  none-inside layout small = subst (λ (m : ℕ). p.0 < m) (sym (length-replicate (process_numbers layout) never)) small
+
+  ended-inside : (layout : Layout) (i : ℕ) → is_ended_by p (slice_get layout.threads i) ≡ true → p.0 < process_numbers layout
+  ended-inside layout i is = by (slice_get layout.threads i) refl is
+    where
+      by : (o : Option ThreadDecl) → slice_get layout.threads i ≡ o → is_ended_by p o ≡ true → p.0 < process_numbers layout
+      by None there ended = absurd (true≢false (sym ended))
+      by (Some t) there ended = which t.handler ended
+        where
+          which : (b : Bool) → (not b && (t.process.0 == p.0)) ≡ true → p.0 < process_numbers layout
+          which true h = absurd (true≢false (sym h))
+          which false h = subst (λ (q : ℕ). q < process_numbers layout) (own t h) (thread-inside layout.threads 0 i t there)
+
+  signals-inside : (layout : Layout) (signals : List Signal) → list_any (λ (s : Signal). ends layout p s.thread) signals ≡ true → p.0 < process_numbers layout
+  signals-inside layout [] is = absurd (true≢false (sym is))
+  signals-inside layout (s ∷ rest) is = which (ends layout p s.thread) refl is (λ h. signals-inside layout rest h)
+    where
+      which : (b : Bool) → ends layout p s.thread ≡ b → (b || list_any (λ (x : Signal). ends layout p x.thread) rest) ≡ true
+          → (list_any (λ (x : Signal). ends layout p x.thread) rest ≡ true → p.0 < process_numbers layout) → p.0 < process_numbers layout
+      which true here h later = ended-inside layout s.thread.0 here
+      which false here h later = later h
+
+  ending-inside : (layout : Layout) (what : What) → is_ending layout p what ≡ true → p.0 < length (none_ended layout)
+  ending-inside layout what is = none-inside layout (by what is)
+    where
+      by : (w : What) → is_ending layout p w ≡ true → p.0 < process_numbers layout
+      by (entries.Load slot line (Sigbus thread)) h = ended-inside layout thread.0 h
+      by (entries.Store slot line (Sigbus thread)) h = ended-inside layout thread.0 h
+      by (entries.Fail situation required seen signals) h = signals-inside layout signals h
+      by w h = absurd (true≢false (sym h))
 
   module _ (layout : Layout) (cpu : Cpu) where
     abbrev weight : Entry → ℕ
@@ -285,6 +338,10 @@ module _ (p : Proc) where
       | inr later ↦ inr (record { page = suc later.page; es = later.es; at = later.at; own = later.own })
     ]
 
+    pages-many : (pages : List (List Entry)) (list : List ℕ) → length (fold (own_page_ends layout cpu) list pages) ≡ length list
+    pages-many [] list = refl
+    pages-many (x ∷ pages) list = pages-many pages (own_page_ends layout cpu list x) ∙ own-many x list
+
     low-pages : (k : ℕ) (pages : List (List Entry)) (list : List ℕ) → p.0 < length list → IsLow list k → IsLow (fold (own_page_ends layout cpu) list pages) k
     low-pages k [] list inside low = low
     low-pages k (x ∷ pages) list inside low = low-pages k pages (own_page_ends layout cpu list x) (page-inside x list inside) (low-own k x list inside low)
@@ -297,38 +354,40 @@ module _ (p : Proc) where
         (new-own k x list i e inside (subst (λ (y : List Entry). slice_get y i ≡ Some e) (sym (same_Some _ _ at)) there) own_cpu is new)
     new-pages k (x ∷ pages) list (suc page) i es e inside at there own_cpu is new = new-pages k pages (own_page_ends layout cpu list x) page i es e (page-inside x list inside) at there own_cpu is new
 
-no-inside : (p : Proc) → p.0 < process_numbers → p.0 < length none_ended
-no-inside p small = subst (λ (m : ℕ). p.0 < m) (sym (length-replicate process_numbers never)) small
-
 same-cpu : (a b : Cpu) → a.0 ≡ b.0 → a ≡ b
 same-cpu a b is = λ i. record { 0 = is i }
 
-module _ (script : Script) (report : Report) (who : Who) (p : Proc) (small : p.0 < process_numbers) (few : who.seq < never) where
+module _ (script : Script) (report : Report) (who : Who) (p : Proc) (few : who.seq < never) where
+  abbrev none_list : List ℕ
+  none_list = none_ended script.layout
+
   abbrev own_list : List ℕ
   own_list = own_ends script.layout who.cpu report.pages
 
   pub low_ended : get_or own_list p.0 never < who.seq → HadEnded script report who p
-  low_ended low = elim (pages-low p script.layout who.cpu who.seq report.pages none_ended (no-inside p small) low) [
-    | inl none ↦ absurd (none-low p who.seq (omega (arith, few)) small none)
-    | inr has ↦ record {
-      who = has.own.e.who;
-      ended = record {
-        at = record { page = record { 0 = has.page }; entry = has.own.i };
-        entry = has.own.e;
-        there = entry-is report.pages (record { 0 = has.page }) has.own.i has.es has.own.e has.at has.own.there;
-        own = refl;
-        ending = has.own.ending;
-      };
-      before = (same-cpu has.own.e.who.cpu who.cpu has.own.own_cpu, has.own.low);
-    }
-  ]
+  low_ended low =
+      let inside : p.0 < length none_list = subst (λ (m : ℕ). p.0 < m) (pages-many p script.layout who.cpu report.pages none_list) (low-inside p own_list who.seq (omega (arith, few)) low) in
+      elim (pages-low p script.layout who.cpu who.seq report.pages none_list inside low) [
+        | inl none ↦ absurd (none-low p script.layout who.seq (omega (arith, few)) inside none)
+        | inr has ↦ record {
+          who = has.own.e.who;
+          ended = record {
+            at = record { page = record { 0 = has.page }; entry = has.own.i };
+            entry = has.own.e;
+            there = entry-is report.pages (record { 0 = has.page }) has.own.i has.es has.own.e has.at has.own.there;
+            own = refl;
+            ending = has.own.ending;
+          };
+          before = (same-cpu has.own.e.who.cpu who.cpu has.own.own_cpu, has.own.low);
+        }
+      ]
 
   pub ended_low : HadEnded script report who p → get_or own_list p.0 never < who.seq
   ended_low h =
       let f = is-entry report.pages h.ended.at h.ended.entry h.ended.there in
       let cpu_is : h.ended.entry.who.cpu.0 ≡ who.cpu.0 = ap (λ (w : Who). w.cpu.0) h.ended.own ∙ ap (λ (c : Cpu). c.0) h.before.0 in
       let low : h.ended.entry.who.seq < who.seq = subst (λ (w : Who). w.seq < who.seq) (sym h.ended.own) h.before.1 in
-      new-pages p script.layout who.cpu who.seq report.pages none_ended h.ended.at.page.0 h.ended.at.entry f.entries h.ended.entry (no-inside p small) f.page f.there cpu_is h.ended.ending low
+      new-pages p script.layout who.cpu who.seq report.pages none_list h.ended.at.page.0 h.ended.at.entry f.entries h.ended.entry (ending-inside p script.layout h.ended.entry.what h.ended.ending) f.page f.there cpu_is h.ended.ending low
 
   module _ (all : List (List ℕ)) (page : Page) (are : ArePageEnds script.layout who.cpu report.pages all) where
     pub low_ending : (list : List ℕ) → slice_get all page.0 ≡ Some list → get_or list p.0 never ≤ who.seq → HasEnding script report who p page
@@ -338,8 +397,10 @@ module _ (script : Script) (report : Report) (who : Who) (p : Proc) (small : p.0
         let e = item_at report.pages page.0 (omega (arith, inside, many)) in
         let is : list ≡ page_ends script.layout who.cpu e.0 = are.each page.0 e.0 list e.1 there in
         let less : get_or (page_ends script.layout who.cpu e.0) p.0 never < who.seq + 1 = subst (λ (l : List ℕ). get_or l p.0 never < who.seq + 1) is (omega (arith, low)) in
-        elim (any-low p script.layout who.cpu (who.seq + 1) e.0 none_ended (no-inside p small) less) [
-          | inl none ↦ absurd (none-low p (who.seq + 1) (omega (arith, few)) small none)
+        let inside_list : p.0 < length none_list =
+        subst (λ (m : ℕ). p.0 < m) (any-many p script.layout who.cpu e.0 none_list) (low-inside p (page_ends script.layout who.cpu e.0) (who.seq + 1) (omega (arith, few)) less) in
+        elim (any-low p script.layout who.cpu (who.seq + 1) e.0 none_list inside_list less) [
+          | inl none ↦ absurd (none-low p script.layout (who.seq + 1) (omega (arith, few)) inside_list none)
           | inr has ↦ record {
             at = record { page = page; entry = has.i };
             entry = has.e;
@@ -359,7 +420,7 @@ module _ (script : Script) (report : Report) (who : Who) (p : Proc) (small : p.0
         let got : slice_get report.pages page.0 ≡ Some f.entries = ap (λ (q : Page). slice_get report.pages q.0) (sym h.page_is) ∙ f.page in
         let is : list ≡ page_ends script.layout who.cpu f.entries = are.each page.0 f.entries list got there in
         let low : weight p script.layout who.cpu h.entry < who.seq + 1 = which (h.entry.who.cpu.0 == who.cpu.0) refl h in
-        let less : get_or (page_ends script.layout who.cpu f.entries) p.0 never < who.seq + 1 = new-any p script.layout who.cpu (who.seq + 1) f.entries none_ended h.at.entry h.entry (no-inside p small) f.there h.ending low in
+        let less : get_or (page_ends script.layout who.cpu f.entries) p.0 never < who.seq + 1 = new-any p script.layout who.cpu (who.seq + 1) f.entries none_list h.at.entry h.entry (ending-inside p script.layout h.entry.what h.ending) f.there h.ending low in
         let back : get_or list p.0 never < who.seq + 1 = subst (λ (l : List ℕ). get_or l p.0 never < who.seq + 1) (sym is) less in
         omega (arith, back)
       where

@@ -1,12 +1,12 @@
 -- What was found in the first pages and is found in the others is what is found in all.
 use Rattle.std.proofs.Common.{◌≡◌, ℕ, ◌+◌, ◌<◌, ◌≤◌, Bool, false, List, [], ◌∷◌, ◌++◌, Option, Some, append_assoc, drop, fold, get_or, length, map, option_map, replicate, slice_get, refl, sym, ap, ◌∙◌, subst, arith}
-use Rattle.std.proofs.lemmas.List.{append-nil, at_drop_all, at_drop_more, length-map, length-replicate, length_push}
+use Rattle.std.proofs.lemmas.List.{append-nil, at_drop_all, at_drop_more, length-map, length_push}
 use Rattle.std.proofs.lemmas.Option.{none-some, same_Some, slice_get-map, slice_get_read}
 use Rattle.hwp_law.specs.hwp_geom.declared.Cpu.{Cpu}
 use Rattle.hwp_law.specs.hwp_geom.declared.Layout.{Layout}
 use Rattle.hwp_law.specs.hwp_page.declared.At.{At}
 use Rattle.hwp_law.specs.hwp_page.declared.Entry.{Entry}
-use Rattle.hwp_check_evidence.specs.Ends.{never, own_ends, own_page_ends, page_ends, process_numbers}
+use Rattle.hwp_check_evidence.specs.Ends.{none_ended, own_ends, own_page_ends, page_ends}
 use Rattle.hwp_check_evidence.specs.Findings.{AreFound, IsAdded}
 use Rattle.hwp_check_evidence.specs.Named.{flagged_page, flagged_pages}
 use Rattle.hwp_check_evidence.specs.Windows.{IsSpan}
@@ -31,7 +31,6 @@ module _ (layout : Layout) (named : List (Option At)) (cpu : Cpu) (commands : �
   -- what was found in the first pages
   pub record IsFoundUpTo (n : ℕ) (found : Findings) : Type 0 where
     pub ends : found.ends.items ++ map (page_ends layout cpu) (drop n pages) ≡ map (page_ends layout cpu) pages
-    pub many : length found.ended.items ≡ process_numbers
     pub ended : fold (own_page_ends layout cpu) found.ended.items (drop n pages) ≡ own_ends layout cpu pages
     pub as_many : length found.spans.items ≡ n
     pub spans : (page : ℕ) (span : Span) → slice_get found.spans.items page ≡ Some span → (entries : List Entry) → slice_get pages page ≡ Some entries → IsSpan cpu entries span
@@ -42,7 +41,6 @@ module _ (layout : Layout) (named : List (Option At)) (cpu : Cpu) (commands : �
       let there : slice_get pages n ≡ Some entries = slice_get_read pages (length pages) n entries refl low is in
       record {
         ends = ap (λ (l : List (List ℕ)). l ++ map (page_ends layout cpu) (drop (n + 1) pages)) added.ends ∙ list-next (page_ends layout cpu) old.ends.items (map (page_ends layout cpu) pages) pages n entries low is found.ends;
-        many = added.many;
         ended = ap (λ (l : List ℕ). fold (own_page_ends layout cpu) l (drop (n + 1) pages)) added.ended ∙ fold-next (own_page_ends layout cpu) old.ended.items (own_ends layout cpu pages) pages n entries low is found.ended;
         as_many = ap length added.spans ∙ length_push old.spans.items added.span ∙ ap (λ (m : ℕ). m + 1) found.as_many;
         spans = λ page span got.
@@ -56,10 +54,9 @@ module _ (layout : Layout) (named : List (Option At)) (cpu : Cpu) (commands : �
             ∙ found.others;
       }
 
-  pub found-none : (found : Findings) → found.ends.items ≡ [] → found.ended.items ≡ replicate process_numbers never → found.spans.items ≡ [] → found.others.items ≡ replicate commands false → IsFoundUpTo 0 found
+  pub found-none : (found : Findings) → found.ends.items ≡ [] → found.ended.items ≡ none_ended layout → found.spans.items ≡ [] → found.others.items ≡ replicate commands false → IsFoundUpTo 0 found
   found-none found ends ended spans others = record {
     ends = ap (λ (l : List (List ℕ)). l ++ map (page_ends layout cpu) pages) ends;
-    many = ap length ended ∙ length-replicate {A = ℕ} process_numbers never;
     ended = ap (λ (l : List ℕ). fold (own_page_ends layout cpu) l pages) ended;
     as_many = ap length spans;
     spans = λ page span got. absurd (none-some span (subst (λ (l : List Span). slice_get l page ≡ Some span) spans got));

@@ -2,6 +2,7 @@ pub mod ListItems
 mod AmpleLaws
 mod RepeatLaws
 mod GlanceLaws
+mod MapLaws
 mod SpanLaws
 pub mod WindowLaws
 mod FloorLaws

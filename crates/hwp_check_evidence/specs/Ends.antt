@@ -1,5 +1,5 @@
 -- By which command of a processor each process had ended at the latest.
-use Rattle.std.specs.Prelude.{◌≡◌, ℕ, ◌^◌, ◌==◌, min, cond, List, Option, Some, None, fold, replicate, length, slice_get, slice_index_or, slice_set}
+use Rattle.std.specs.Prelude.{◌≡◌, ℕ, ◌+◌, ◌^◌, ◌==◌, max, min, cond, List, Option, Some, None, fold, replicate, length, slice_get, slice_index_or, slice_set}
 use Rattle.hwp_law.specs.hwp_geom.declared.Cpu.{Cpu}
 use Rattle.hwp_law.specs.hwp_geom.declared.Layout.{Layout}
 use Rattle.hwp_law.specs.hwp_geom.declared.Proc.{Proc}
@@ -20,9 +20,12 @@ use Rattle.hwp_law.specs.Endings.{HasEnded}
 abbrev pub never : ℕ
 never = 2 ^ 32
 
--- the numbers that a process can have
-abbrev pub process_numbers : ℕ
-process_numbers = 256
+-- one more than the highest number of a thread's process
+abbrev pub numbers_of : List ThreadDecl → ℕ
+numbers_of threads = fold (λ (n : ℕ) (t : ThreadDecl). max n (t.process.0 + 1)) 0 threads
+
+abbrev pub process_numbers : Layout → ℕ
+process_numbers layout = numbers_of layout.threads
 
 -- the commands by which the processes had ended, with a signal of this one to a thread
 abbrev pub ended_by : ℕ → List ℕ → Option ThreadDecl → List ℕ
@@ -47,18 +50,18 @@ abbrev pub any_ended : Layout → Cpu → List ℕ → Entry → List ℕ
 any_ended layout cpu ends e = ended_in layout (cond (e.who.cpu.0 == cpu.0) e.who.seq 0) ends e.what
 
 -- no process had ended
-abbrev pub none_ended : List ℕ
-none_ended = replicate process_numbers never
+abbrev pub none_ended : Layout → List ℕ
+none_ended layout = replicate (process_numbers layout) never
 
 -- by a page's history; and by all histories
 abbrev pub page_ends : Layout → Cpu → List Entry → List ℕ
-page_ends layout cpu list = fold (any_ended layout cpu) none_ended list
+page_ends layout cpu list = fold (any_ended layout cpu) (none_ended layout) list
 
 abbrev pub own_page_ends : Layout → Cpu → List ℕ → List Entry → List ℕ
 own_page_ends layout cpu ends list = fold (own_ended layout cpu) ends list
 
 abbrev pub own_ends : Layout → Cpu → List (List Entry) → List ℕ
-own_ends layout cpu pages = fold (own_page_ends layout cpu) none_ended pages
+own_ends layout cpu pages = fold (own_page_ends layout cpu) (none_ended layout) pages
 
 -- those of each page
 pub record ArePageEnds (layout : Layout) (cpu : Cpu) (pages : List (List Entry)) (all : List (List ℕ)) : Type 0 where

@@ -5,7 +5,7 @@ use Rattle.hwp_law.specs.hwp_geom.declared.Layout.{Layout}
 use Rattle.hwp_law.specs.hwp_geom.declared.Page.{Page}
 use Rattle.hwp_law.specs.hwp_page.declared.At.{At}
 use Rattle.hwp_law.specs.hwp_page.declared.Entry.{Entry}
-use Rattle.hwp_check_evidence.specs.Ends.{ArePageEnds, own_ends, own_page_ends, page_ends, process_numbers}
+use Rattle.hwp_check_evidence.specs.Ends.{ArePageEnds, own_ends, own_page_ends, page_ends}
 use Rattle.hwp_check_evidence.specs.Named.{flagged_page, flagged_pages}
 use Rattle.hwp_check_evidence.specs.Windows.{AreSpans, IsSpan}
 use Rattle.hwp_check_evidence.specs.declared.findings.Findings.{Findings}
@@ -14,7 +14,6 @@ use Rattle.hwp_check_evidence.specs.declared.windows.Span.{Span}
 -- what was found with one page more
 pub record IsAdded (layout : Layout) (named : List (Option At)) (cpu : Cpu) (page : Page) (entries : List Entry) (old new : Findings) : Type 0 where
   pub ends : new.ends.items ≡ old.ends.items ++ page_ends layout cpu entries ∷ []
-  pub many : length new.ended.items ≡ process_numbers
   pub ended : new.ended.items ≡ own_page_ends layout cpu old.ended.items entries
   pub span : Span
   pub is_span : IsSpan cpu entries span

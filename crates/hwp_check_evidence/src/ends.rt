@@ -1,7 +1,7 @@
-ghost use Rattle.std.specs.Prelude.{◌≡◌, ◌↔◌, ℕ, List as Items, fold, replicate, slice_get, slice_index_or, IsTrue, IfOk, length};
+ghost use Rattle.std.specs.Prelude.{◌≡◌, ◌↔◌, ℕ, List as Items, fold, replicate, slice_get, slice_index_or, IsTrue, IfOk};
 ghost use Rattle.std.specs.Option.{option_copied};
 ghost use Rattle.hwp_law.specs.Endings.{HasEnding};
-ghost use Rattle.hwp_check_evidence.specs.Ends.{ArePageEnds, HadEnded, any_ended, ended_by, ended_in, never, own_ended, own_ends as own_ends_of, process_numbers, signalled};
+ghost use Rattle.hwp_check_evidence.specs.Ends.{ArePageEnds, HadEnded, any_ended, ended_by, ended_in, never, numbers_of, own_ended, own_ends as own_ends_of, signalled};
 
 use hwp_law::{
     Cpu, Entry, Layout, List, Met, OutOfMemory, Page, Proc, Report, Script, Signal, Thread,
@@ -12,27 +12,34 @@ use std::alloc::Global;
 /// What stands for no command.
 const NEVER: u64 = 4_294_967_296;
 
-/// The numbers that a process can have.
-pub(crate) const PROCESS_NUMBERS: usize = 256;
+/// One more than the highest number of a thread's process.
+pub(crate) fn process_numbers(threads: &[ThreadDecl]) -> usize
+    ensures { result ≡ numbers_of threads.now }
+{
+    let mut numbers = 0;
+    for thread in threads {
+        numbers = numbers.max(usize::from(thread.process.0) + 1);
+    }
+    numbers
+}
 
 /// Notes that the command with this number sent a signal to the thread, which ends its process where it has no handler.
 fn end_by(ends: &mut Vec<u64>, number: u64, thread: Option<ThreadDecl>)
-    requires { length ends.old.items ≡ process_numbers }
     ensures { ends.new.items ≡ ended_by number ends.old.items thread }
 {
     if let Some(thread) = thread {
         if !thread.handler {
             let process = usize::from(thread.process.0);
-            ends[process] = number.min(ends[process]);
+            if process < ends.len() {
+                ends[process] = number.min(ends[process]);
+            }
         }
     }
 }
 
 /// Notes a signal to the thread.
 fn signal(ends: &mut Vec<u64>, layout: &Layout, number: u64, thread: Thread)
-    requires { length ends.old.items ≡ process_numbers }
-    ensures end { ends.new.items ≡ signalled layout.now number ends.old.items thread }
-    ensures many { length ends.new.items ≡ process_numbers }
+    ensures { ends.new.items ≡ signalled layout.now number ends.old.items thread }
 {
     let declared = layout
         .threads
@@ -44,9 +51,7 @@ fn signal(ends: &mut Vec<u64>, layout: &Layout, number: u64, thread: Thread)
 
 /// Notes the signals of a failure.
 fn signal_all(ends: &mut Vec<u64>, layout: &Layout, number: u64, signals: &[Signal])
-    requires { length ends.old.items ≡ process_numbers }
-    ensures end { ends.new.items ≡ fold (λ (e : Items ℕ) (s : Signal). signalled layout.now number e s.thread) ends.old.items signals.now }
-    ensures many { length ends.new.items ≡ process_numbers }
+    ensures { ends.new.items ≡ fold (λ (e : Items ℕ) (s : Signal). signalled layout.now number e s.thread) ends.old.items signals.now }
 {
     for sent in signals {
         signal(ends, layout, number, sent.thread);
@@ -55,9 +60,7 @@ fn signal_all(ends: &mut Vec<u64>, layout: &Layout, number: u64, signals: &[Sign
 
 /// Notes what an entry ends.
 fn end_in(ends: &mut Vec<u64>, layout: &Layout, number: u64, what: &What)
-    requires { length ends.old.items ≡ process_numbers }
-    ensures end { ends.new.items ≡ ended_in layout.now number ends.old.items what.now }
-    ensures many { length ends.new.items ≡ process_numbers }
+    ensures { ends.new.items ≡ ended_in layout.now number ends.old.items what.now }
 {
     match what {
         What::Load {
@@ -75,9 +78,7 @@ fn end_in(ends: &mut Vec<u64>, layout: &Layout, number: u64, what: &What)
 
 /// Notes what an entry ends, if it is of the processor.
 pub(crate) fn end_own(ends: &mut Vec<u64>, layout: &Layout, cpu: Cpu, entry: &Entry)
-    requires { length ends.old.items ≡ process_numbers }
-    ensures end { ends.new.items ≡ own_ended layout.now cpu ends.old.items entry.now }
-    ensures many { length ends.new.items ≡ process_numbers }
+    ensures { ends.new.items ≡ own_ended layout.now cpu ends.old.items entry.now }
 {
     if entry.who.cpu.0 == cpu.0 {
         end_in(ends, layout, u64::from(entry.who.seq), &entry.what);
@@ -86,9 +87,7 @@ pub(crate) fn end_own(ends: &mut Vec<u64>, layout: &Layout, cpu: Cpu, entry: &En
 
 /// Notes what an entry ends; one of another processor comes before all commands of this one.
 pub(crate) fn end_any(ends: &mut Vec<u64>, layout: &Layout, cpu: Cpu, entry: &Entry)
-    requires { length ends.old.items ≡ process_numbers }
-    ensures end { ends.new.items ≡ any_ended layout.now cpu ends.old.items entry.now }
-    ensures many { length ends.new.items ≡ process_numbers }
+    ensures { ends.new.items ≡ any_ended layout.now cpu ends.old.items entry.now }
 {
     let number = if entry.who.cpu.0 == cpu.0 {
         u64::from(entry.who.seq)

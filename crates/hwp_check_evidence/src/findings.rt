@@ -4,7 +4,7 @@ ghost use Rattle.hwp_check_evidence.specs.Ends.{any_ended, never, own_page_ends,
 ghost use Rattle.hwp_check_evidence.specs.Findings.{AreFound, IsAdded};
 ghost use Rattle.hwp_check_evidence.specs.Named.{flagged_page};
 
-use crate::ends::{PROCESS_NUMBERS, end_any, end_own, no_ends};
+use crate::ends::{end_any, end_own, no_ends, process_numbers};
 use crate::named::flag;
 use crate::windows::{Span, page_span};
 use hwp_law::{At, Cpu, Entry, Layout, List, OutOfMemory, Page};
@@ -34,11 +34,8 @@ fn note_page(
     page: Page,
     entries: &[Entry],
 )
-    requires any { length ends.old.items ≡ process_numbers }
-    requires own { length ended.old.items ≡ process_numbers }
     ensures any { ends.new.items ≡ fold (any_ended layout.now cpu) ends.old.items entries.now }
     ensures own { ended.new.items ≡ own_page_ends layout.now cpu ended.old.items entries.now }
-    ensures many { length ended.new.items ≡ process_numbers }
     ensures others { others.new.items ≡ flagged_page named.now cpu page others.old.items 0 entries.now }
 {
     let mut number = 0;
@@ -66,13 +63,14 @@ fn add_page(
     layout: &Layout,
     named: &[Option<At>],
     cpu: Cpu,
+    processes: usize,
     page: Page,
     entries: &[Entry],
 ) -> Result<(), OutOfMemory>
-    requires { length found.old.ended.items ≡ process_numbers }
+    requires { processes ≡ process_numbers layout.now }
     ensures { OnOk result (IsAdded layout.now named.now cpu page entries.now found.old found.new) }
 {
-    let mut ends = no_ends(alloc, PROCESS_NUMBERS)?;
+    let mut ends = no_ends(alloc, processes)?;
     note_page(
         &mut ends,
         &mut found.ended,
@@ -86,6 +84,13 @@ fn add_page(
     found.ends.push(List::from_vec(ends))?;
     found.spans.push(page_span(alloc, cpu, entries)?)?;
     Ok(())
+}
+
+/// How many numbers of processes there are to keep.
+fn processes_of(layout: &Layout) -> usize
+    ensures { result ≡ process_numbers layout.now }
+{
+    process_numbers(layout.threads.as_slice())
 }
 
 /// What no histories tell of so many commands and processes.
@@ -118,7 +123,8 @@ pub fn findings_of(
     requires { length pages.now ≤ page_limit }
     ensures { IfOk result (λ found. AreFound layout.now named.now cpu commands pages.now found) }
 {
-    let mut found = nothing(alloc, commands, PROCESS_NUMBERS)?;
+    let processes = processes_of(layout);
+    let mut found = nothing(alloc, commands, processes)?;
     let mut number = 0;
     for entries in pages {
         add_page(
@@ -127,6 +133,7 @@ pub fn findings_of(
             layout,
             named,
             cpu,
+            processes,
             Page(number),
             entries.as_slice(),
         )?;

@@ -18,7 +18,10 @@ pub use counts::{event_counts, event_ends};
 pub use ends::{had_ended, has_ending};
 pub use findings::{Findings, findings_of};
 pub use firsts::{entries_named, first_answers};
-pub use glances::{Glance, glances_of, was_away, was_cached, was_dirty, was_mapped, was_unused};
+pub use glances::{
+    Glance, PageGlances, glances_of, was_away, was_cached, was_dirty, was_locked, was_mapped,
+    was_unused,
+};
 pub use marked::{reported, was_hardware_seen};
 pub use named::is_elsewhere;
 pub use repeats::Repeats;

@@ -148,6 +148,7 @@ fn named_place(answer: &Answer) -> Option<At>
         Answer::NotMapped(at) => Some(at),
         Answer::Dirty(at) => Some(at),
         Answer::Mapped(at) => Some(at),
+        Answer::Locked(at) => Some(at),
         Answer::BadLines(_, at) => Some(at),
         _ => None,
     }

@@ -75,7 +75,7 @@ frame-rises report a b low =
 -- situations of one number are one
 situation-of : ℕ → Situation
 situation-of n =
-    cond (n == 0) situations.Free (cond (n == 1) situations.Kernel (cond (n == 2) situations.FileClean (cond (n == 3) situations.FileDirty (cond (n == 4) situations.AnonOnly (cond (n == 5) situations.SwapClean situations.SwapDirty)))))
+    cond (n == 0) situations.Free (cond (n == 1) situations.Kernel (cond (n == 2) situations.FileClean (cond (n == 3) situations.FileDirty (cond (n == 4) situations.AnonOnly (cond (n == 5) situations.SwapClean (cond (n == 6) situations.SwapDirty (cond (n == 7) situations.LockedClean (cond (n == 8) situations.LockedFile situations.LockedAnon))))))))
 
 situation-back : (s : Situation) → situation-of (situation_number s) ≡ s
 unfolding situation-of
@@ -86,6 +86,9 @@ situation-back situations.FileDirty = refl
 situation-back situations.AnonOnly = refl
 situation-back situations.SwapClean = refl
 situation-back situations.SwapDirty = refl
+situation-back situations.LockedClean = refl
+situation-back situations.LockedFile = refl
+situation-back situations.LockedAnon = refl
 
 pub same-situation : (s t : Situation) → (situation_number s == situation_number t) ≡ true → s ≡ t
 same-situation s t is = sym (situation-back s) ∙ ap situation-of (eqb-true (situation_number s) (situation_number t) is) ∙ situation-back t

@@ -40,7 +40,7 @@ one-kind a b n less = elim (cases_Bool (a == n)) [
   | inr not_so ↦ let one : flag (a == n) ≡ flag false = ap flag not_so in let most : flag (b == n) ≤ 1 = flag-one (b == n) in omega (arith, one, most)
 ]
 
-situation-low : (s : Situation) → situation_number s < 7
+situation-low : (s : Situation) → situation_number s < 10
 situation-low situations.Free = omega arith
 situation-low situations.Kernel = omega arith
 situation-low situations.FileClean = omega arith
@@ -48,6 +48,9 @@ situation-low situations.FileDirty = omega arith
 situation-low situations.AnonOnly = omega arith
 situation-low situations.SwapClean = omega arith
 situation-low situations.SwapDirty = omega arith
+situation-low situations.LockedClean = omega arith
+situation-low situations.LockedFile = omega arith
+situation-low situations.LockedAnon = omega arith
 
 two-kinds : (who : Who) (k l : Kind) (q : (ℕ × ℕ) × ℕ) → kind_number k < kind_number l → raise (key_of who k) q + raise (key_of who l) q ≤ 1
 two-kinds who k l q less =
@@ -60,7 +63,7 @@ two-kinds who k l q less =
 how-one : (q : (ℕ × ℕ) × ℕ) (who : Who) (how : How) → how_raise q who how ≤ 1
 how-one q who (hows.Failure true situation outcome) = let one : raise (key_of who (kinds.Failure situation)) q ≤ 1 = raise-one (key_of who (kinds.Failure situation)) q in omega (arith, one)
 how-one q who (hows.Failure false situation outcome) =
-    let low : situation_number situation < 7 = situation-low situation in
+    let low : situation_number situation < 10 = situation-low situation in
     two-kinds who (kinds.Failure situation) kinds.Commanded q (omega (arith, low))
 how-one q who hows.Moved = two-kinds who kinds.Moved kinds.Commanded q (omega arith)
 how-one q who hows.TakenFree = raise-one (key_of who kinds.Commanded) q
@@ -191,8 +194,8 @@ and-all false = refl
 how-kind : (cycle : ℕ) (v w : Who) (how : How) (l : Kind) → how_raise (key_of w l) v how ≡ flag (is_kind w l (marks.Poisoned cycle v how))
 how-kind cycle v w (hows.Failure hardware s outcome) (kinds.Failure t) =
     let one : raise (key_of v (kinds.Failure s)) (key_of w (kinds.Failure t)) ≡ flag (is_same_command w v && (situation_number s == situation_number t)) = raise-is v w (kinds.Failure s) (kinds.Failure t) in
-    let low : situation_number t < 7 = situation-low t in
-    let none : raise (key_of v kinds.Commanded) (key_of w (kinds.Failure t)) ≡ 0 = raise-none v w kinds.Commanded (kinds.Failure t) (other-kind (situation_number t) 8 (omega (arith, low))).1 in
+    let low : situation_number t < 10 = situation-low t in
+    let none : raise (key_of v kinds.Commanded) (key_of w (kinds.Failure t)) ≡ 0 = raise-none v w kinds.Commanded (kinds.Failure t) (other-kind (situation_number t) 11 (omega (arith, low))).1 in
     let hidden : cond (not hardware) (raise (key_of v kinds.Commanded) (key_of w (kinds.Failure t))) 0 ≡ 0 = hide (not hardware) (raise (key_of v kinds.Commanded) (key_of w (kinds.Failure t))) none in
     omega (arith, one, hidden)
   where
@@ -200,8 +203,8 @@ how-kind cycle v w (hows.Failure hardware s outcome) (kinds.Failure t) =
     hide true n is = is
     hide false n is = refl
 how-kind cycle v w (hows.Failure hardware s outcome) kinds.Moved =
-    let low : situation_number s < 7 = situation-low s in
-    let none : raise (key_of v (kinds.Failure s)) (key_of w kinds.Moved) ≡ 0 = raise-none v w (kinds.Failure s) kinds.Moved (other-kind (situation_number s) 7 low).0 in
+    let low : situation_number s < 10 = situation-low s in
+    let none : raise (key_of v (kinds.Failure s)) (key_of w kinds.Moved) ≡ 0 = raise-none v w (kinds.Failure s) kinds.Moved (other-kind (situation_number s) 10 low).0 in
     let other : raise (key_of v kinds.Commanded) (key_of w kinds.Moved) ≡ 0 = raise-none v w kinds.Commanded kinds.Moved refl in
     let hidden : cond (not hardware) (raise (key_of v kinds.Commanded) (key_of w kinds.Moved)) 0 ≡ 0 = hide (not hardware) (raise (key_of v kinds.Commanded) (key_of w kinds.Moved)) other in
     let is : 0 ≡ flag (is_same_command w v && false) = and-none (is_same_command w v) in
@@ -211,20 +214,20 @@ how-kind cycle v w (hows.Failure hardware s outcome) kinds.Moved =
     hide true n is = is
     hide false n is = refl
 how-kind cycle v w (hows.Failure true s outcome) kinds.Commanded =
-    let low : situation_number s < 7 = situation-low s in
-    let none : raise (key_of v (kinds.Failure s)) (key_of w kinds.Commanded) ≡ 0 = raise-none v w (kinds.Failure s) kinds.Commanded (other-kind (situation_number s) 8 (omega (arith, low))).0 in
+    let low : situation_number s < 10 = situation-low s in
+    let none : raise (key_of v (kinds.Failure s)) (key_of w kinds.Commanded) ≡ 0 = raise-none v w (kinds.Failure s) kinds.Commanded (other-kind (situation_number s) 11 (omega (arith, low))).0 in
     let is : 0 ≡ flag (is_same_command w v && false) = and-none (is_same_command w v) in
     omega (arith, none, is)
 how-kind cycle v w (hows.Failure false s outcome) kinds.Commanded =
-    let low : situation_number s < 7 = situation-low s in
-    let none : raise (key_of v (kinds.Failure s)) (key_of w kinds.Commanded) ≡ 0 = raise-none v w (kinds.Failure s) kinds.Commanded (other-kind (situation_number s) 8 (omega (arith, low))).0 in
+    let low : situation_number s < 10 = situation-low s in
+    let none : raise (key_of v (kinds.Failure s)) (key_of w kinds.Commanded) ≡ 0 = raise-none v w (kinds.Failure s) kinds.Commanded (other-kind (situation_number s) 11 (omega (arith, low))).0 in
     let one : raise (key_of v kinds.Commanded) (key_of w kinds.Commanded) ≡ flag (is_same_command w v) = raise-same v w kinds.Commanded kinds.Commanded refl in
     let is : flag (is_same_command w v) ≡ flag (is_same_command w v && true) = and-all (is_same_command w v) in
     omega (arith, none, one, is)
 how-kind cycle v w hows.Moved (kinds.Failure t) =
-    let low : situation_number t < 7 = situation-low t in
-    let none : raise (key_of v kinds.Moved) (key_of w (kinds.Failure t)) ≡ 0 = raise-none v w kinds.Moved (kinds.Failure t) (other-kind (situation_number t) 7 low).1 in
-    let other : raise (key_of v kinds.Commanded) (key_of w (kinds.Failure t)) ≡ 0 = raise-none v w kinds.Commanded (kinds.Failure t) (other-kind (situation_number t) 8 (omega (arith, low))).1 in
+    let low : situation_number t < 10 = situation-low t in
+    let none : raise (key_of v kinds.Moved) (key_of w (kinds.Failure t)) ≡ 0 = raise-none v w kinds.Moved (kinds.Failure t) (other-kind (situation_number t) 10 low).1 in
+    let other : raise (key_of v kinds.Commanded) (key_of w (kinds.Failure t)) ≡ 0 = raise-none v w kinds.Commanded (kinds.Failure t) (other-kind (situation_number t) 11 (omega (arith, low))).1 in
     let is : 0 ≡ flag (is_same_command w v && false) = and-none (is_same_command w v) in
     omega (arith, none, other, is)
 how-kind cycle v w hows.Moved kinds.Moved =
@@ -238,26 +241,26 @@ how-kind cycle v w hows.Moved kinds.Commanded =
     let is : flag (is_same_command w v) ≡ flag (is_same_command w v && true) = and-all (is_same_command w v) in
     omega (arith, none, one, is)
 how-kind cycle v w hows.TakenFree (kinds.Failure t) =
-    let low : situation_number t < 7 = situation-low t in
-    raise-none v w kinds.Commanded (kinds.Failure t) (other-kind (situation_number t) 8 (omega (arith, low))).1 ∙ and-none (is_same_command w v)
+    let low : situation_number t < 10 = situation-low t in
+    raise-none v w kinds.Commanded (kinds.Failure t) (other-kind (situation_number t) 11 (omega (arith, low))).1 ∙ and-none (is_same_command w v)
 how-kind cycle v w hows.TakenFree kinds.Moved = raise-none v w kinds.Commanded kinds.Moved refl ∙ and-none (is_same_command w v)
 how-kind cycle v w hows.TakenFree kinds.Commanded = raise-same v w kinds.Commanded kinds.Commanded refl ∙ and-all (is_same_command w v)
 
 mark-kind : (w : Who) (l : Kind) (m : MarkLine) → mark_raise (key_of w l) m ≡ flag (is_kind w l m)
 mark-kind w l (marks.Poisoned cycle v how) = how-kind cycle v w how l
 mark-kind w (kinds.Failure t) (marks.Unpoisoned cycle v) =
-    let low : situation_number t < 7 = situation-low t in
-    raise-none v w kinds.Commanded (kinds.Failure t) (other-kind (situation_number t) 8 (omega (arith, low))).1 ∙ and-none (is_same_command w v)
+    let low : situation_number t < 10 = situation-low t in
+    raise-none v w kinds.Commanded (kinds.Failure t) (other-kind (situation_number t) 11 (omega (arith, low))).1 ∙ and-none (is_same_command w v)
 mark-kind w kinds.Moved (marks.Unpoisoned cycle v) = raise-none v w kinds.Commanded kinds.Moved refl ∙ and-none (is_same_command w v)
 mark-kind w kinds.Commanded (marks.Unpoisoned cycle v) = raise-same v w kinds.Commanded kinds.Commanded refl ∙ and-all (is_same_command w v)
 
 what-kind : (v w : Who) (what : What) (l : Kind) → what_raise (key_of w l) v what ≡ flag (is_same_command w v && is_entry l what)
 what-kind v w (entries.Fail s required seen signals) (kinds.Failure t) = raise-is v w (kinds.Failure s) (kinds.Failure t)
-what-kind v w (entries.Fail s required seen signals) kinds.Moved = raise-none v w (kinds.Failure s) kinds.Moved (other-kind (situation_number s) 7 (situation-low s)).0 ∙ and-none (is_same_command w v)
+what-kind v w (entries.Fail s required seen signals) kinds.Moved = raise-none v w (kinds.Failure s) kinds.Moved (other-kind (situation_number s) 10 (situation-low s)).0 ∙ and-none (is_same_command w v)
 what-kind v w (entries.Fail s required seen signals) kinds.Commanded =
-    let low : situation_number s < 7 = situation-low s in
-    raise-none v w (kinds.Failure s) kinds.Commanded (other-kind (situation_number s) 8 (omega (arith, low))).0 ∙ and-none (is_same_command w v)
-what-kind v w entries.Soft (kinds.Failure t) = raise-none v w kinds.Moved (kinds.Failure t) (other-kind (situation_number t) 7 (situation-low t)).1 ∙ and-none (is_same_command w v)
+    let low : situation_number s < 10 = situation-low s in
+    raise-none v w (kinds.Failure s) kinds.Commanded (other-kind (situation_number s) 11 (omega (arith, low))).0 ∙ and-none (is_same_command w v)
+what-kind v w entries.Soft (kinds.Failure t) = raise-none v w kinds.Moved (kinds.Failure t) (other-kind (situation_number t) 10 (situation-low t)).1 ∙ and-none (is_same_command w v)
 what-kind v w entries.Soft kinds.Moved = raise-same v w kinds.Moved kinds.Moved refl ∙ and-all (is_same_command w v)
 what-kind v w entries.Soft kinds.Commanded = raise-none v w kinds.Moved kinds.Commanded refl ∙ and-none (is_same_command w v)
 what-kind v w _ (kinds.Failure t) = and-none (is_same_command w v)

@@ -17,8 +17,8 @@ use Rattle.hwp_check_marks.specs.declared.kinds.Kind.TheVariants as kinds
 
 abbrev pub kind_number : Kind → ℕ
 kind_number (kinds.Failure situation) = situation_number situation
-kind_number kinds.Moved = 7
-kind_number kinds.Commanded = 8
+kind_number kinds.Moved = 10
+kind_number kinds.Commanded = 11
 
 abbrev pub key_of : Who → Kind → (ℕ × ℕ) × ℕ
 key_of who kind = ((who.cpu.0, who.seq), kind_number kind)

@@ -18,6 +18,9 @@ fn situation_number(situation: Situation) -> u8
         Situation::AnonOnly => 4,
         Situation::SwapClean => 5,
         Situation::SwapDirty => 6,
+        Situation::LockedClean => 7,
+        Situation::LockedFile => 8,
+        Situation::LockedAnon => 9,
     }
 }
 
@@ -34,8 +37,8 @@ fn kind_number(kind: Kind) -> u8
 {
     match kind {
         Kind::Failure(situation) => situation_number(situation),
-        Kind::Moved => 7,
-        Kind::Commanded => 8,
+        Kind::Moved => 10,
+        Kind::Commanded => 11,
     }
 }
 

@@ -74,38 +74,38 @@ module _ (report : Report) where
   files-length n = heights file_lines (λ (x : ℕ). 1) file-height 0 (take n report.files) ∙ ones (take n report.files)
 
   -- a file's line is the one behind the head and the files before it
-  pub file-in-text : (n : ℕ) → file_line report n ≡ 1 + length (head_lines report.stop report.count ++ numbered file_lines 0 (take n report.files))
+  pub file-in-text : (n : ℕ) → file_line report n ≡ 1 + length (head_lines report.version report.stop report.count ++ numbered file_lines 0 (take n report.files))
   file-in-text n =
       let files : length (numbered file_lines 0 (take n report.files)) ≡ length (take n report.files) = files-length n in
-      let all : length (head_lines report.stop report.count ++ numbered file_lines 0 (take n report.files)) ≡ 3 + length (numbered file_lines 0 (take n report.files)) = length-append (head_lines report.stop report.count) (numbered file_lines 0 (take n report.files)) in
+      let all : length (head_lines report.version report.stop report.count ++ numbered file_lines 0 (take n report.files)) ≡ 3 + length (numbered file_lines 0 (take n report.files)) = length-append (head_lines report.version report.stop report.count) (numbered file_lines 0 (take n report.files)) in
       omega (arith, files, all)
 
   all-files : length (numbered file_lines 0 report.files) ≡ length report.files
   all-files = heights file_lines (λ (x : ℕ). 1) file-height 0 report.files ∙ ones report.files
 
   -- a frame's heading is the line behind the head, the files and the frames before it
-  pub frame-in-text : (n : ℕ) → frame_line report n ≡ 1 + length (head_lines report.stop report.count ++ numbered file_lines 0 report.files ++ numbered frame_lines 0 (take n report.frames))
+  pub frame-in-text : (n : ℕ) → frame_line report n ≡ 1 + length (head_lines report.version report.stop report.count ++ numbered file_lines 0 report.files ++ numbered frame_lines 0 (take n report.frames))
   frame-in-text n =
       let files : length (numbered file_lines 0 report.files) ≡ length report.files = all-files in
       let frames : length (numbered frame_lines 0 (take n report.frames)) ≡ sum_by frame_height (take n report.frames) = heights frame_lines frame_height frame-height 0 (take n report.frames) in
       omega (arith, files, frames, length-of (numbered file_lines 0 report.files) (numbered frame_lines 0 (take n report.frames)))
     where
-      length-of : (xs ys : List (List (List ℕ))) → length (head_lines report.stop report.count ++ xs ++ ys) ≡ 3 + length xs + length ys
-      length-of xs ys = let one : length ((head_lines report.stop report.count ++ xs) ++ ys) ≡ length (head_lines report.stop report.count ++ xs) + length ys = length-append (head_lines report.stop report.count ++ xs) ys in let two : length (head_lines report.stop report.count ++ xs) ≡ 3 + length xs = length-append (head_lines report.stop report.count) xs in omega (arith, one, two)
+      length-of : (xs ys : List (List (List ℕ))) → length (head_lines report.version report.stop report.count ++ xs ++ ys) ≡ 3 + length xs + length ys
+      length-of xs ys = let one : length ((head_lines report.version report.stop report.count ++ xs) ++ ys) ≡ length (head_lines report.version report.stop report.count ++ xs) + length ys = length-append (head_lines report.version report.stop report.count ++ xs) ys in let two : length (head_lines report.version report.stop report.count ++ xs) ≡ 3 + length xs = length-append (head_lines report.version report.stop report.count) xs in omega (arith, one, two)
 
   -- a page's heading is the line behind all frames and the pages before it
-  pub page-in-text : (n : ℕ) → page_line report n ≡ 1 + length (head_lines report.stop report.count ++ numbered file_lines 0 report.files ++ numbered frame_lines 0 report.frames ++ numbered page_lines 0 (take n report.pages))
+  pub page-in-text : (n : ℕ) → page_line report n ≡ 1 + length (head_lines report.version report.stop report.count ++ numbered file_lines 0 report.files ++ numbered frame_lines 0 report.frames ++ numbered page_lines 0 (take n report.pages))
   page-in-text n =
       let files : length (numbered file_lines 0 report.files) ≡ length report.files = all-files in
       let frames : length (numbered frame_lines 0 report.frames) ≡ sum_by frame_height report.frames = heights frame_lines frame_height frame-height 0 report.frames in
       let pages : length (numbered page_lines 0 (take n report.pages)) ≡ sum_by page_height (take n report.pages) = heights page_lines page_height page-height 0 (take n report.pages) in
       omega (arith, files, frames, pages, length-of (numbered file_lines 0 report.files) (numbered frame_lines 0 report.frames) (numbered page_lines 0 (take n report.pages)))
     where
-      length-of : (xs ys zs : List (List (List ℕ))) → length (head_lines report.stop report.count ++ xs ++ ys ++ zs) ≡ 3 + length xs + length ys + length zs
-      length-of xs ys zs = let zero : length (((head_lines report.stop report.count ++ xs) ++ ys) ++ zs) ≡ length ((head_lines report.stop report.count ++ xs) ++ ys) + length zs = length-append ((head_lines report.stop report.count ++ xs) ++ ys) zs in let one : length ((head_lines report.stop report.count ++ xs) ++ ys) ≡ length (head_lines report.stop report.count ++ xs) + length ys = length-append (head_lines report.stop report.count ++ xs) ys in let two : length (head_lines report.stop report.count ++ xs) ≡ 3 + length xs = length-append (head_lines report.stop report.count) xs in omega (arith, zero, one, two)
+      length-of : (xs ys zs : List (List (List ℕ))) → length (head_lines report.version report.stop report.count ++ xs ++ ys ++ zs) ≡ 3 + length xs + length ys + length zs
+      length-of xs ys zs = let zero : length (((head_lines report.version report.stop report.count ++ xs) ++ ys) ++ zs) ≡ length ((head_lines report.version report.stop report.count ++ xs) ++ ys) + length zs = length-append ((head_lines report.version report.stop report.count ++ xs) ++ ys) zs in let one : length ((head_lines report.version report.stop report.count ++ xs) ++ ys) ≡ length (head_lines report.version report.stop report.count ++ xs) + length ys = length-append (head_lines report.version report.stop report.count ++ xs) ys in let two : length (head_lines report.version report.stop report.count ++ xs) ≡ 3 + length xs = length-append (head_lines report.version report.stop report.count) xs in omega (arith, zero, one, two)
 
   -- a processor's heading is the line behind all pages and the processors before it
-  pub cpu-in-text : (n : ℕ) → cpu_line report n ≡ 1 + length (head_lines report.stop report.count ++ numbered file_lines 0 report.files ++ numbered frame_lines 0 report.frames ++ numbered page_lines 0 report.pages ++ numbered cpu_lines 0 (take n report.cpus))
+  pub cpu-in-text : (n : ℕ) → cpu_line report n ≡ 1 + length (head_lines report.version report.stop report.count ++ numbered file_lines 0 report.files ++ numbered frame_lines 0 report.frames ++ numbered page_lines 0 report.pages ++ numbered cpu_lines 0 (take n report.cpus))
   cpu-in-text n =
       let files : length (numbered file_lines 0 report.files) ≡ length report.files = all-files in
       let frames : length (numbered frame_lines 0 report.frames) ≡ sum_by frame_height report.frames = heights frame_lines frame_height frame-height 0 report.frames in
@@ -113,5 +113,5 @@ module _ (report : Report) where
       let cpus : length (numbered cpu_lines 0 (take n report.cpus)) ≡ sum_by cpu_height (take n report.cpus) = heights cpu_lines cpu_height cpu-height 0 (take n report.cpus) in
       omega (arith, files, frames, pages, cpus, length-of (numbered file_lines 0 report.files) (numbered frame_lines 0 report.frames) (numbered page_lines 0 report.pages) (numbered cpu_lines 0 (take n report.cpus)))
     where
-      length-of : (xs ys zs us : List (List (List ℕ))) → length (head_lines report.stop report.count ++ xs ++ ys ++ zs ++ us) ≡ 3 + length xs + length ys + length zs + length us
-      length-of xs ys zs us = let last : length ((((head_lines report.stop report.count ++ xs) ++ ys) ++ zs) ++ us) ≡ length (((head_lines report.stop report.count ++ xs) ++ ys) ++ zs) + length us = length-append (((head_lines report.stop report.count ++ xs) ++ ys) ++ zs) us in let zero : length (((head_lines report.stop report.count ++ xs) ++ ys) ++ zs) ≡ length ((head_lines report.stop report.count ++ xs) ++ ys) + length zs = length-append ((head_lines report.stop report.count ++ xs) ++ ys) zs in let one : length ((head_lines report.stop report.count ++ xs) ++ ys) ≡ length (head_lines report.stop report.count ++ xs) + length ys = length-append (head_lines report.stop report.count ++ xs) ys in let two : length (head_lines report.stop report.count ++ xs) ≡ 3 + length xs = length-append (head_lines report.stop report.count) xs in omega (arith, last, zero, one, two)
+      length-of : (xs ys zs us : List (List (List ℕ))) → length (head_lines report.version report.stop report.count ++ xs ++ ys ++ zs ++ us) ≡ 3 + length xs + length ys + length zs + length us
+      length-of xs ys zs us = let last : length ((((head_lines report.version report.stop report.count ++ xs) ++ ys) ++ zs) ++ us) ≡ length (((head_lines report.version report.stop report.count ++ xs) ++ ys) ++ zs) + length us = length-append (((head_lines report.version report.stop report.count ++ xs) ++ ys) ++ zs) us in let zero : length (((head_lines report.version report.stop report.count ++ xs) ++ ys) ++ zs) ≡ length ((head_lines report.version report.stop report.count ++ xs) ++ ys) + length zs = length-append ((head_lines report.version report.stop report.count ++ xs) ++ ys) zs in let one : length ((head_lines report.version report.stop report.count ++ xs) ++ ys) ≡ length (head_lines report.version report.stop report.count ++ xs) + length ys = length-append (head_lines report.version report.stop report.count ++ xs) ys in let two : length (head_lines report.version report.stop report.count ++ xs) ≡ 3 + length xs = length-append (head_lines report.version report.stop report.count) xs in omega (arith, last, zero, one, two)

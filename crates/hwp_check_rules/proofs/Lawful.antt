@@ -1,6 +1,7 @@
 -- The nine rules together are the law of reports.
 use Rattle.std.proofs.Common.{◌≡◌, ℕ, zero, suc, ◌<◌, Bool, true, cond, List, [], ◌∷◌, Some, IsSome, get_or, length, slice_get, refl, sym, ap, ◌∙◌, subst, arith}
 use Rattle.std.proofs.lemmas.Option.{same_Some, none-some, slice_get-get_or, slice_get_within}
+use Rattle.hwp_law.specs.hwp_geom.Layout.{is_locked}
 use Rattle.hwp_law.specs.hwp_geom.declared.Cpu.{Cpu}
 use Rattle.hwp_law.specs.hwp_geom.declared.FileNo.{FileNo}
 use Rattle.hwp_law.specs.hwp_geom.declared.Frame.{Frame}
@@ -37,7 +38,7 @@ leads-same layout page s (e ∷ entries) t u one other = leads-same layout page 
 pub replay-same : (layout : Layout) (page : Page) (entries : List Entry) (t u : PageState) → IsReplay layout page entries t → IsReplay layout page entries u → t ≡ u
 replay-same layout page entries t u one other =
     let kind : one.kind ≡ other.kind = same_Some _ _ (sym one.declared ∙ other.declared) in
-    leads-same layout page (opening_of other.kind) entries t u (subst (λ (k : PageKind). Leads layout page (opening_of k) entries t) kind one.leads) other.leads
+    leads-same layout page (opening_of other.kind (is_locked layout page)) entries t u (subst (λ (k : PageKind). Leads layout page (opening_of k (is_locked layout page)) entries t) kind one.leads) other.leads
 
 -- of two lists that are as long as each other, both have an item at a place
 both_there : {X Y : Type 0} (xs : List X) (ys : List Y) (i : ℕ) (x : X) → length xs ≡ length ys → slice_get xs i ≡ Some x → (y : Y) × (slice_get ys i ≡ Some y)
@@ -50,7 +51,7 @@ module _ (script : Script) (report : Report) where
   -- there are as many lists as processors
   module _ (one_each : length script.lists ≡ script.layout.cpus) (law : IsLawful script report) where
     shape : ShapeFits script report
-    shape = record { files = law.losses.files_fit; frames = law.shape.frames; pages = law.shape.pages; cpus = law.shape.cpus }
+    shape = record { version = law.shape.version; files = law.losses.files_fit; frames = law.shape.frames; pages = law.shape.pages; cpus = law.shape.cpus }
 
     histories : HistoriesFit script report
     histories = record {
@@ -109,7 +110,7 @@ module _ (script : Script) (report : Report) where
     -- a report that keeps each rule is lawful
     pub holds-lawful : IsLawful script report
     holds-lawful = record {
-      shape = record { frames = shape_fits.frames; pages = shape_fits.pages; cpus = shape_fits.cpus };
+      shape = record { version = shape_fits.version; frames = shape_fits.frames; pages = shape_fits.pages; cpus = shape_fits.cpus };
       histories = record { legal = legal; made = of_histories.made; ordered = of_histories.ordered; seen = of_seen.right; falls_never = of_seen.falls_never };
       answers = record {
         caused = λ cpu list rows of_script of_report. rows-by script report cpu list rows (of_answers.answered cpu list rows of_script of_report);

@@ -1,6 +1,7 @@
 -- Which lines of a report break its rules: the shape, the histories, the policies seen, the count, the losses, the stop and the
 -- frames.
 use Rattle.std.specs.Prelude.{◌≡◌, ◌≢◌, ◌⊎◌, ℕ, ◌+◌, ◌<◌, ◌≤◌, min, Bool, true, false, cond, List, [], ◌∷◌, Some, Contains, count_by, length, slice_get, take}
+use Rattle.hwp_law.specs.hwp_geom.Layout.{is_locked}
 use Rattle.hwp_law.specs.hwp_geom.declared.FileNo.{FileNo}
 use Rattle.hwp_law.specs.hwp_geom.declared.Frame.{Frame}
 use Rattle.hwp_law.specs.hwp_geom.declared.Page.{Page}
@@ -22,16 +23,21 @@ use Rattle.hwp_law.specs.Places.{entry_at}
 use Rattle.hwp_law.specs.PageHistory.{is_of}
 use Rattle.hwp_law.specs.SeenPolicies.{IsOwnCount, IsPolicySeen, seen_in}
 use Rattle.hwp_check_rules.specs.Rules.{CountFits, IsFrameShown, IsTold, StopFits}
-use Rattle.hwp_check_rules.specs.Standing.{count_line, cpu_line, entry_line, file_line, frame_line, page_line, seen_line, stop_line}
+use Rattle.hwp_check_rules.specs.Standing.{count_line, cpu_line, entry_line, file_line, frame_line, header_line, page_line, seen_line, stop_line}
 
 -- a section has not as many items as it should: named is the line in the place of the first that lacks, or the heading of the
 -- first that is too many
 abbrev pub IsMiscounted : ℕ → ℕ → (ℕ → ℕ) → ℕ → Type 0
 IsMiscounted has should line_of line = (has ≢ should) × (line ≡ line_of (min has should))
 
+-- the report is of another version than the script
+abbrev pub IsMisversioned : Script → Report → ℕ → Type 0
+IsMisversioned script report line = (report.version ≢ script.layout.version) × (line ≡ header_line)
+
 abbrev pub IsShapeFault : Script → Report → ℕ → Type 0
 IsShapeFault script report line =
-    IsMiscounted (length report.files) script.layout.files (file_line report) line
+    IsMisversioned script report line
+    ⊎ IsMiscounted (length report.files) script.layout.files (file_line report) line
     ⊎ IsMiscounted (length report.frames) script.layout.frames (frame_line report) line
     ⊎ IsMiscounted (length report.pages) (length script.layout.pages) (page_line report) line
     ⊎ IsMiscounted (length report.cpus) script.layout.cpus (cpu_line report) line
@@ -42,7 +48,7 @@ pub record IsBarred (script : Script) (report : Report) (at : At) (entry : Entry
   pub entries : List Entry
   pub declared : slice_get script.layout.pages at.page.0 ≡ Some kind
   pub there : slice_get report.pages at.page.0 ≡ Some entries
-  pub barred : Allowed script.layout at.page (state_after (opening_of kind) (take at.entry entries)) entry.what → ⊥
+  pub barred : Allowed script.layout at.page (state_after (opening_of kind (is_locked script.layout at.page)) (take at.entry entries)) entry.what → ⊥
 
 -- before the entry its page has one of a later command of the same processor
 pub record IsBehind (report : Report) (at : At) (entry : Entry) : Type 0 where

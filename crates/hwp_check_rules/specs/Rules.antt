@@ -33,8 +33,9 @@ use Rattle.hwp_law.specs.SeenPolicies.{AreSeen, SeenNeverFalls}
 use Rattle.hwp_law.specs.Stops.{StaysStopped}
 use Rattle.hwp_check_rules.specs.Answered.{AreAnswered}
 
--- 1: the report has as many files, frames, pages and processors as the script
+-- 1: the report has the script's version, and as many files, frames, pages and processors
 pub record ShapeFits (script : Script) (report : Report) : Type 0 where
+  pub version : report.version ≡ script.layout.version
   pub files : length report.files ≡ script.layout.files
   pub frames : length report.frames ≡ script.layout.frames
   pub pages : length report.pages ≡ length script.layout.pages

@@ -26,7 +26,10 @@ page_height entries = 1 + sum_by entry_height entries
 abbrev pub cpu_height : List CpuLine → ℕ
 cpu_height rows = 1 + length rows
 
--- below the header, the line of the stop and the line of the count
+-- the header, and below it the line of the stop and the line of the count
+abbrev pub header_line : ℕ
+header_line = 1
+
 abbrev pub stop_line : ℕ
 stop_line = 2
 

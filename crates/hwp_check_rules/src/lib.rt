@@ -15,7 +15,8 @@ pub use hwp_law::{
     Acted, Answer, At, Code, Command, Cpu, CpuLine, Entry, FileNo, Frame, FrameLine, How, Layout,
     Line, List, MarkLine, Mask, McgBits, Met, Mode, OutOfMemory, Outcome, Page, PageKind,
     PageState, Policy, PrctlArgs, Proc, ReadScript, Reply, Report, Script, Seen, Signal, Situation,
-    Stop, StopCause, Text, Thread, VSlot, What, Whereabouts, Who, is_text, prctl, read, words_in,
+    Stop, StopCause, Text, Thread, VSlot, Version, What, Whereabouts, Who, is_text, prctl, read,
+    words_in,
 };
 pub use making::{command_of, is_made_by, leads_to};
 pub use pasts::{ThreadPolicies, done_of, pasts_of};

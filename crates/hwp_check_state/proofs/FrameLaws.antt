@@ -6,6 +6,7 @@ use Rattle.std.proofs.lemmas.Bool.{cases_eq, eq-eqb, eqb-true, ltb-false, ltb-tr
 use Rattle.std.proofs.lemmas.Nat.{bit_set_by_shift}
 use Rattle.std.proofs.lemmas.Nat.Bits.{bit_at-lt, bit_at-pow_other, bit_at-pow_same, bit_at-zero, bit_at_or, same_from_bits, shr_and_one}
 use Rattle.std.proofs.lemmas.Option.{get_or_from_slice_get, slice_get-map, slice_get_within}
+use Rattle.hwp_check_rules.specs.hwp_geom.Layout.{is_locked}
 use Rattle.hwp_check_rules.specs.hwp_geom.declared.Frame.{Frame}
 use Rattle.hwp_check_rules.specs.hwp_geom.declared.Layout.{Layout}
 use Rattle.hwp_check_rules.specs.hwp_geom.declared.Page.{Page}
@@ -179,6 +180,9 @@ act-keeps s situations.FileDirty = refl
 act-keeps s situations.AnonOnly = refl
 act-keeps s situations.SwapClean = refl
 act-keeps s situations.SwapDirty = refl
+act-keeps s situations.LockedClean = refl
+act-keeps s situations.LockedFile = refl
+act-keeps s situations.LockedAnon = refl
 
 step-cached : (s : PageState) (what : What) → (after s what).cached ≡ cached_by s.cached what
 step-cached s (entries.Load slot line met) = refl
@@ -208,8 +212,8 @@ module _ (script : Script) (report : Report) (page : Page) (state : PageState) (
   pub end-cached : slice_index_or (ends_of report) page.0 false ≡ state.cached
   end-cached =
       get_or_from_slice_get (ends_of report) page.0 (cached_after false ends.entries) false listed
-      ∙ sym (after-cached (opening_of ends.replay.kind) ends.entries)
-      ∙ ap (λ (s : PageState). s.cached) (Leads-state script.layout page (opening_of ends.replay.kind) state ends.entries ends.replay.leads)
+      ∙ sym (after-cached (opening_of ends.replay.kind (is_locked script.layout page)) ends.entries)
+      ∙ ap (λ (s : PageState). s.cached) (Leads-state script.layout page (opening_of ends.replay.kind (is_locked script.layout page)) state ends.entries ends.replay.leads)
 
 -- ---- the frames that say a page
 

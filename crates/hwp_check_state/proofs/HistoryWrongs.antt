@@ -4,6 +4,7 @@ use Rattle.std.proofs.lemmas.Bool.{cases_lt}
 use Rattle.std.proofs.lemmas.List.{take-take, take_all}
 use Rattle.std.proofs.lemmas.List.Sums.{sum_by_more, sum_by-take-le}
 use Rattle.std.proofs.lemmas.Option.{get_or_from_slice_get, none-some, same_Some, slice_get_within}
+use Rattle.hwp_check_rules.specs.hwp_geom.Layout.{is_locked}
 use Rattle.hwp_check_rules.specs.hwp_geom.declared.Layout.{Layout}
 use Rattle.hwp_check_rules.specs.hwp_geom.declared.Page.{Page}
 use Rattle.hwp_check_rules.specs.hwp_geom.declared.PageKind.{PageKind}
@@ -57,14 +58,14 @@ slice_get-take (x ∷ xs) (suc n) (suc i) low = slice_get-take xs n i (omega (ar
 
 allowed-in : (layout : Layout) (page : Page) (entries : List Entry) (n : ℕ) (state : PageState) → IsReplay layout page (take n entries) state
     → (i : ℕ) (e : Entry) → i < n → slice_get entries i ≡ Some e → (kind : PageKind) → slice_get layout.pages page.0 ≡ Some kind
-    → Allowed layout page (state_after (opening_of kind) (take i entries)) e.what
+    → Allowed layout page (state_after (opening_of kind (is_locked layout page)) (take i entries)) e.what
 allowed-in layout page entries n state replay i e low there kind declared =
     let same : replay.kind ≡ kind = same_Some _ _ (sym replay.declared ∙ declared) in
-    let got : Allowed layout page (state_after (opening_of replay.kind) (take i (take n entries))) e.what =
-    leads-allowed layout page (opening_of replay.kind) state (take n entries) i e replay.leads (slice_get-take entries n i low ∙ there) in
+    let got : Allowed layout page (state_after (opening_of replay.kind (is_locked layout page)) (take i (take n entries))) e.what =
+    leads-allowed layout page (opening_of replay.kind (is_locked layout page)) state (take n entries) i e replay.leads (slice_get-take entries n i low ∙ there) in
     let short : take i (take n entries) ≡ take i entries = take-take i n entries (omega arith) in
-    subst (λ (k : PageKind). Allowed layout page (state_after (opening_of k) (take i entries)) e.what) same
-    (subst (λ (es : List Entry). Allowed layout page (state_after (opening_of replay.kind) es) e.what) short got)
+    subst (λ (k : PageKind). Allowed layout page (state_after (opening_of k (is_locked layout page)) (take i entries)) e.what) same
+    (subst (λ (es : List Entry). Allowed layout page (state_after (opening_of replay.kind (is_locked layout page)) es) e.what) short got)
 
 -- what is wrong with an entry
 abbrev IsFaultAt : Script → Report → At → Entry → Type 0
@@ -78,7 +79,7 @@ no-fault script report at e entries n state page fits low there fault = elim fau
   | inl barred ↦
       let same : entries ≡ barred.entries = same_Some _ _ (sym page ∙ barred.there) in
       barred.barred
-      (subst (λ (es : List Entry). Allowed script.layout at.page (state_after (opening_of barred.kind) (take at.entry es)) e.what) same
+      (subst (λ (es : List Entry). Allowed script.layout at.page (state_after (opening_of barred.kind (is_locked script.layout at.page)) (take at.entry es)) e.what) same
       (allowed-in script.layout at.page entries n state fits.replay at.entry e low there barred.kind barred.declared))
   | inr rest ↦ elim rest [
     | inl unmade ↦ unmade (fits.made at.entry e low there)
@@ -135,7 +136,7 @@ refutes script report p entries n page wrong fit = elim wrong.wrong [
       subst (λ (es : List Entry). IsReplay script.layout (record { 0 = p }) es legal.0) (sym (take_all (length entries) entries (omega arith))) legal.1 in
       let allowed = allowed-in script.layout (record { 0 = p }) entries (length entries) legal.0 replay n wrong.entry (slice_get_within entries n wrong.entry wrong.there) wrong.there
       wrong.before.replay.kind wrong.before.replay.declared in
-      let state_is = Leads-state script.layout (record { 0 = p }) (opening_of wrong.before.replay.kind) wrong.state (take n entries) wrong.before.replay.leads in
+      let state_is = Leads-state script.layout (record { 0 = p }) (opening_of wrong.before.replay.kind (is_locked script.layout (record { 0 = p }))) wrong.state (take n entries) wrong.before.replay.leads in
       barred (subst (λ (s : PageState). Allowed script.layout (record { 0 = p }) s wrong.entry.what) state_is allowed)
   | inr rest ↦ elim rest [
     | inl unmade ↦ unmade (fit.made (record { page = record { 0 = p }; entry = n }) wrong.entry (stands report.pages p n entries wrong.entry page wrong.there))
@@ -152,7 +153,7 @@ as-fault : (script : Script) (report : Report) (p : ℕ) (entries : List Entry) 
     → (wrong : IsFirstWrong script (record { 0 = p }) entries n) → IsFaultAt script report (record { page = record { 0 = p }; entry = n }) wrong.entry
 as-fault script report p entries n page wrong = elim wrong.wrong [
   | inl barred ↦
-      let state_is = Leads-state script.layout (record { 0 = p }) (opening_of wrong.before.replay.kind) wrong.state (take n entries) wrong.before.replay.leads in
+      let state_is = Leads-state script.layout (record { 0 = p }) (opening_of wrong.before.replay.kind (is_locked script.layout (record { 0 = p }))) wrong.state (take n entries) wrong.before.replay.leads in
       inl (record {
         kind = wrong.before.replay.kind;
         entries = entries;

@@ -17,3 +17,4 @@ mod HistoryWrongs
 mod DoneLaws
 mod FrameLaws
 mod FrameRule
+mod TableLaws

@@ -4,9 +4,11 @@ use Rattle.std.proofs.Common.{◌≡◌, ℕ, ◌≤◌, true, false, List, [], 
 use Rattle.hwp_check_rules.specs.hwp_geom.declared.Cpu.{Cpu}
 use Rattle.hwp_check_rules.specs.hwp_geom.declared.FileNo.{FileNo}
 use Rattle.hwp_check_rules.specs.hwp_geom.declared.PageKind.TheVariants.{File}
+use Rattle.hwp_check_rules.specs.hwp_geom.declared.Version.TheVariants.{Two}
 use Rattle.hwp_check_rules.specs.hwp_page.declared.Entry.{Entry}
 use Rattle.hwp_check_rules.specs.hwp_page.declared.Situation.TheVariants as situations
 use Rattle.hwp_check_rules.specs.hwp_page.declared.What.TheVariants as entries
+use Rattle.hwp_check_rules.specs.hwp_script_read.declared.Command.{Command}
 use Rattle.hwp_check_rules.specs.hwp_script_read.declared.Command.TheVariants as commands
 use Rattle.hwp_check_rules.specs.hwp_script_read.declared.Script.{Script}
 use Rattle.hwp_check_rules.specs.hwp_report_text.declared.Answer.{Answer}
@@ -21,9 +23,11 @@ file = record { 0 = 0 }
 abbrev cpu : ℕ → Cpu
 cpu n = record { 0 = n }
 
-abbrev script : Script
-script = record {
+-- processor 1 makes these commands
+abbrev script_with : List Command → Script
+script_with list = record {
   layout = record {
+    version = Two;
     cpus = 2;
     frames = 1;
     kernel = false ∷ [];
@@ -34,10 +38,14 @@ script = record {
     threads = [];
     pages = File file 9 ∷ [];
     trans = [];
+    locked = false ∷ [];
   };
-  lists = (commands.Inject (record { 0 = 0 }) ∷ commands.Fsync file ∷ commands.Fsync file ∷ []) ∷ (commands.Fsync file ∷ commands.Fsync file ∷ []) ∷ [];
+  lists = (commands.Inject (record { 0 = 0 }) ∷ commands.Fsync file ∷ commands.Fsync file ∷ []) ∷ list ∷ [];
   go = [];
 }
+
+abbrev script : Script
+script = script_with (commands.Fsync file ∷ commands.Fsync file ∷ [])
 
 -- command 0 of processor 0 lost the page's content
 abbrev history : List Entry
@@ -46,6 +54,7 @@ history = (record { who = record { cpu = cpu 0; seq = 0 }; what = entries.Fail s
 -- `file 0 lost L`, and these two answers of each processor
 abbrev report : ℕ → Answer → Answer → Answer → Answer → Report
 report lost a b c d = record {
+  version = Two;
   stop = None;
   count = 1;
   files = lost ∷ [];
@@ -68,3 +77,10 @@ told_of_more fit = let few : 2 ≤ 1 = ((fit file 1 refl).numbers (cpu 1) _ _ re
 
 told_of_twice : LossesFit script (report 1 (answers.Eio 1) answers.Done (answers.Eio 1) (answers.Eio 1)) → ⊥
 told_of_twice fit = let few : 2 ≤ 1 = ((fit file 1 refl).numbers (cpu 1) _ _ refl refl 1 (commands.Fsync file, answers.Eio 1) refl refl).within in absurd (omega arith)
+
+-- nor where it opens the file, and an opened file takes nothing back that was told
+opened_with_more : LossesFit (script_with (commands.Open file ∷ commands.Fsync file ∷ [])) (report 1 (answers.Eio 1) answers.Done (answers.Opened 2) answers.Done) → ⊥
+opened_with_more fit = let few : 2 ≤ 1 = ((fit file 1 refl).numbers (cpu 1) _ _ refl refl 0 (commands.Open file, answers.Opened 2) refl refl).within in absurd (omega arith)
+
+opened_with_fewer : LossesFit (script_with (commands.Fsync file ∷ commands.Open file ∷ [])) (report 1 (answers.Eio 1) answers.Done (answers.Eio 1) (answers.Opened 0)) → ⊥
+opened_with_fewer fit = let few : 1 ≤ 0 = ((fit file 1 refl).numbers (cpu 1) _ _ refl refl 1 (commands.Open file, answers.Opened 0) refl refl).rises in absurd (omega arith)

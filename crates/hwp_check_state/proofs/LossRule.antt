@@ -14,7 +14,7 @@ use Rattle.hwp_check_rules.specs.hwp_report_text.declared.Answer.TheVariants as 
 use Rattle.hwp_check_rules.specs.hwp_report_text.declared.CpuLine.{CpuLine}
 use Rattle.hwp_check_rules.specs.hwp_report_text.declared.Report.{Report}
 use Rattle.hwp_check_rules.specs.hwp_law.Causes.{AreCaused}
-use Rattle.hwp_check_rules.specs.hwp_law.Losses.{IsNumber, answered, is_lost, losses_such, number_by, numbers_after, tells_number}
+use Rattle.hwp_check_rules.specs.hwp_law.Losses.{IsNumber, answered, is_lost, is_lost_before, losses_such, numbers_after, tells_number}
 use Rattle.hwp_check_rules.specs.Faults.{IsLossFault}
 use Rattle.hwp_check_rules.specs.Firsts.{sooner_if, soonest}
 use Rattle.hwp_check_rules.specs.Rules.{AnswersFit, IsTold, LossesFit, ShapeFits}
@@ -25,7 +25,7 @@ use Rattle.hwp_check_rules.proofs.AnswersByRow.{rows-by}
 use Rattle.hwp_check_state.specs.Handles.{IsFirst, IsFirstLost, IsFirstTold, IsLostWrong, IsToldWrong, IsToldWrongBy}
 use Rattle.hwp_check_state.specs.Told.{is_good, walk}
 use Rattle.hwp_check_state.proofs.FirstFound.{first-both, first-same, soon-if}
-use Rattle.hwp_check_state.proofs.ToldLaws.{after-more, told-first}
+use Rattle.hwp_check_state.proofs.ToldLaws.{told-first}
 
 not-true : (b : Bool) → not b ≡ true → b ≡ false
 not-true true is = absurd (true≢false (sym is))
@@ -34,14 +34,6 @@ not-true false is = refl
 not-false : (b : Bool) → not b ≡ false → b ≡ true
 not-false true is = refl
 not-false false is = absurd (true≢false is)
-
--- no answer makes a number lower
-rises-by : (file : FileNo) (n : ℕ) (c : Command) (a : Answer) → n ≤ number_by file n c a
-rises-by file n (commands.Fsync other) (answers.Eio more) = omega arith
-rises-by file n _ _ = omega arith
-
-rises : (file : FileNo) (list : List (Command × Answer)) (n : ℕ) (p : Command × Answer) → slice_get {X = Command × Answer} list n ≡ Some p → numbers_after file 0 (take n list) ≤ numbers_after file 0 (take (n + 1) list)
-rises file list n p there = subst (λ (m : ℕ). numbers_after file 0 (take n list) ≤ m) (sym (after-more file list n p there)) (rises-by file (numbers_after file 0 (take n list)) p.0 p.1)
 
 and-left : (a b : Bool) → (a && b) ≡ true → a ≡ true
 and-left true b is = refl
@@ -77,16 +69,22 @@ module _ (script : Script) (report : Report) (shape : ShapeFits script report) w
       number : (cpu : Cpu) (list : List Command) (rows : List CpuLine) → slice_get script.lists cpu.0 ≡ Some list → slice_get report.cpus cpu.0 ≡ Some rows → (i : ℕ) (p : Command × Answer)
           → slice_get {X = Command × Answer} (answered list rows) i ≡ Some p → tells_number file p.0 p.1 ≡ true → IsNumber script report file cpu (answered list rows) i
       number cpu list rows of_script of_report i p at tells = record {
-        rises = rises file (answered list rows) i p at;
-        within = leb-true _ _ (and-left _ _ good);
-        covers = leb-true _ _ (and-right (nat_le (numbers_after file 0 (take (i + 1) (answered list rows))) (losses_such is_lost script report file)) _ good);
+        rises = leb-true _ _ (and-left _ (nat_le new (losses_such is_lost script report file)) low);
+        within = leb-true _ _ (and-right (nat_le old new) _ low);
+        covers = leb-true _ _ (and-right (nat_le old new && nat_le new (losses_such is_lost script report file)) _ good);
       }
         where
           cpu_inside : cpu.0 < script.layout.cpus
           cpu_inside = let less : cpu.0 < length report.cpus = slice_get_within report.cpus cpu.0 rows of_report in omega (arith, less, shape.cpus)
 
-          good : is_good script report file (record { cpu = cpu; seq = i }) (numbers_after file 0 (take (i + 1) (answered list rows))) ≡ true
-          good = elim (cases_Bool (is_good script report file (record { cpu = cpu; seq = i }) (numbers_after file 0 (take (i + 1) (answered list rows))))) [
+          old : ℕ
+          old = numbers_after file 0 (take i (answered list rows))
+
+          new : ℕ
+          new = numbers_after file 0 (take (i + 1) (answered list rows))
+
+          good : is_good script report file (record { cpu = cpu; seq = i }) old new ≡ true
+          good = elim (cases_Bool (is_good script report file (record { cpu = cpu; seq = i }) old new)) [
             | inl right ↦ right
             | inr wrong ↦
                 absurd (none (inr (record {
@@ -110,6 +108,9 @@ module _ (script : Script) (report : Report) (shape : ShapeFits script report) w
                 })))
           ]
 
+          low : (nat_le old new && nat_le new (losses_such is_lost script report file)) ≡ true
+          low = and-left _ (nat_le (losses_such (is_lost_before (record { cpu = cpu; seq = i })) script report file) new) good
+
   -- a wrong line breaks the rule
   fault-of : (line : ℕ) → Wrong line → IsLossFault script report line
   fault-of line (inl w) = record {
@@ -126,7 +127,7 @@ module _ (script : Script) (report : Report) (shape : ShapeFits script report) w
     line_is = w.wrong.line_is ∙ line-of w.wrong.file.0 within;
     wrong = λ told.
         let number = told.numbers w.cpu w.list w.rows w.of_script w.of_report w.wrong.place w.wrong.pair w.wrong.there w.wrong.tells in
-        true≢false (sym (both _ _ (le-leb _ _ number.within) (le-leb _ _ number.covers)) ∙ w.wrong.wrong);
+        true≢false (sym (both _ _ (both _ _ (le-leb _ _ number.rises) (le-leb _ _ number.within)) (le-leb _ _ number.covers)) ∙ w.wrong.wrong);
   }
     where
       within : w.wrong.file.0 < length report.files

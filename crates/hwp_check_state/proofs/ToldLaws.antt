@@ -1,6 +1,6 @@
 -- A processor's lines, gone through, show the first line of a file of which an answer told a wrong number.
 use Rattle.std.proofs.Common.{◌≡◌, ◌⊎◌, inl, inr, ℕ, zero, suc, ◌+◌, ◌-◌, ◌^◌, ◌<◌, ◌≤◌, ◌==◌, ◌&&◌, not, Bool, true, false, cond, nat_le, nat_lt, List, [], ◌∷◌, Option, Some, None, get_or, length, replicate, set, slice_get, take, refl, sym, ap, ◌∙◌, subst, true≢false, add-one, arith}
-use Rattle.std.proofs.lemmas.Bool.{cases_eq, cases_lt, eq-eqb, eqb-true, ne_eqb, lt-leb, lt-ltb, ltb-true}
+use Rattle.std.proofs.lemmas.Bool.{cases_eq, cases_lt, eq-eqb, eqb-true, ne_eqb, le-leb, lt-leb, lt-ltb, ltb-true}
 use Rattle.std.proofs.lemmas.List.{get_or-replicate, get_or-set_other, get_or-set_same, length-replicate, length-set}
 use Rattle.std.proofs.lemmas.Option.{none-some, same_Some}
 use Rattle.hwp_check_rules.specs.hwp_geom.declared.Cpu.{Cpu}
@@ -19,24 +19,31 @@ use Rattle.hwp_check_rules.specs.hwp_law.Losses.{answered, is_lost, is_lost_befo
 use Rattle.hwp_check_rules.specs.Firsts.{soonest}
 use Rattle.hwp_check_state.specs.declared.told.Told.{Told}
 use Rattle.hwp_check_state.specs.Handles.{IsFirst, IsToldWrong}
-use Rattle.hwp_check_state.specs.Told.{capped, fault_by, is_good, raised_by, telling, told_by, told_to, walk}
+use Rattle.hwp_check_state.specs.Told.{capped, fault_by, is_good, number_with, raised_by, telling, telling_all, told_by, told_to, walk}
 use Rattle.hwp_check_state.proofs.FirstFound.{first-both, first-same}
 
 -- what an answer told is what the law says of it
-zero-more : (b : Bool) (m : ℕ) → m ≡ m + cond b 0 0
+zero-more : (b : Bool) (m : ℕ) → m ≡ cond b (m + 0) m
 zero-more true m = omega arith
 zero-more false m = omega arith
+
+some-more : (b : Bool) (m more : ℕ) → m + cond b more 0 ≡ cond b (m + more) m
+some-more true m more = refl
+some-more false m more = omega arith
 
 tells-none : (c : Command) (a : Answer) → told_by c a ≡ None → (file : FileNo) (m : ℕ) → (tells_number file c a ≡ false) × (number_by file m c a ≡ m)
 tells-none (commands.Fsync other) answers.Done is file m = absurd (none-some (telling other 0) (sym is))
 tells-none (commands.Fsync other) (answers.Eio more) is file m = absurd (none-some (telling other more) (sym is))
+tells-none (commands.Open other) (answers.Opened word) is file m = absurd (none-some (telling_all other word) (sym is))
 tells-none _ _ is file m = (refl, refl)
 
-tells-some : (c : Command) (a : Answer) (t : Told) → told_by c a ≡ Some t → (file : FileNo) (m : ℕ) → (tells_number file c a ≡ (t.file.0 == file.0)) × (number_by file m c a ≡ m + cond (t.file.0 == file.0) t.more 0)
+tells-some : (c : Command) (a : Answer) (t : Told) → told_by c a ≡ Some t → (file : FileNo) (m : ℕ) → (tells_number file c a ≡ (t.file.0 == file.0)) × (number_by file m c a ≡ cond (t.file.0 == file.0) (number_with m t) m)
 tells-some (commands.Fsync other) answers.Done t is file m =
-    subst (λ (x : Told). ((other.0 == file.0) ≡ (x.file.0 == file.0)) × (m ≡ m + cond (x.file.0 == file.0) x.more 0)) (same_Some (telling other 0) t is) (refl, zero-more (other.0 == file.0) m)
+    subst (λ (x : Told). ((other.0 == file.0) ≡ (x.file.0 == file.0)) × (m ≡ cond (x.file.0 == file.0) (number_with m x) m)) (same_Some (telling other 0) t is) (refl, zero-more (other.0 == file.0) m)
 tells-some (commands.Fsync other) (answers.Eio more) t is file m =
-    subst (λ (x : Told). ((other.0 == file.0) ≡ (x.file.0 == file.0)) × (m + cond (other.0 == file.0) more 0 ≡ m + cond (x.file.0 == file.0) x.more 0)) (same_Some (telling other more) t is) (refl, refl)
+    subst (λ (x : Told). ((other.0 == file.0) ≡ (x.file.0 == file.0)) × (m + cond (other.0 == file.0) more 0 ≡ cond (x.file.0 == file.0) (number_with m x) m)) (same_Some (telling other more) t is) (refl, some-more (other.0 == file.0) m more)
+tells-some (commands.Open other) (answers.Opened word) t is file m =
+    subst (λ (x : Told). ((other.0 == file.0) ≡ (x.file.0 == file.0)) × (cond (other.0 == file.0) word m ≡ cond (x.file.0 == file.0) (number_with m x) m)) (same_Some (telling_all other word) t is) (refl, refl)
 tells-some _ _ t is file m = absurd (none-some t is)
 
 -- the number after one answer more
@@ -68,23 +75,44 @@ from-none n = omega arith
 same-file : (a b : FileNo) → a.0 ≡ b.0 → a ≡ b
 same-file a b same = λ i. record { 0 = same i }
 
-capped-more : (m more : ℕ) → capped (capped m + more) ≡ capped (m + more)
-capped-more m more = omega arith
+capped-more : (m : ℕ) (t : Told) → capped (number_with (capped m) t) ≡ capped (number_with m t)
+capped-more m t = by t.all t.losses
+  where
+    by : (all : Bool) (losses : ℕ) → capped (cond all losses (capped m + losses)) ≡ capped (cond all losses (m + losses))
+    by true losses = refl
+    by false losses = omega arith
 
 module _ (script : Script) (report : Report) (room : (file : FileNo) → losses_such is_lost script report file < 2 ^ 64 - 1) (cpu : Cpu) where
   abbrev who : ℕ → Who
   who n = record { cpu = cpu; seq = n }
 
   -- a number that was cut off is wrong where the whole one is
-  good-same : (file : FileNo) (w : Who) (n : ℕ) → is_good script report file w (capped n) ≡ is_good script report file w n
-  good-same file w n = elim (cases_lt n (2 ^ 64)) [
-    | inl low ↦ let is : capped n ≡ n = omega (arith, low) in ap (is_good script report file w) is
+  good-same : (file : FileNo) (w : Who) (m n : ℕ) → is_good script report file w (capped m) (capped n) ≡ is_good script report file w m n
+  good-same file w m n = elim (cases_lt n (2 ^ 64 - 1)) [
+    | inl low ↦
+        let is : capped n ≡ n = omega (arith, low) in
+        ap (is_good script report file w (capped m)) is
+        ∙ ap (λ (b : Bool). b && nat_le n (losses_such is_lost script report file) && nat_le (losses_such (is_lost_before w) script report file) n) (old-same m n low)
     | inr most ↦
         let is : capped n ≡ 2 ^ 64 - 1 = omega (arith, most) in
         let few : losses_such is_lost script report file < 2 ^ 64 - 1 = room file in
-        ap (λ (b : Bool). b && nat_le (losses_such (is_lost_before w) script report file) (capped n)) (lt-leb (capped n) (losses_such is_lost script report file) (omega (arith, is, few)))
-        ∙ sym (ap (λ (b : Bool). b && nat_le (losses_such (is_lost_before w) script report file) n) (lt-leb n (losses_such is_lost script report file) (omega (arith, most, few))))
+        too-many (capped m) (capped n) (omega (arith, is, few)) ∙ sym (too-many m n (omega (arith, most, few)))
   ]
+    where
+      old-same : (m n : ℕ) → n < 2 ^ 64 - 1 → nat_le (capped m) n ≡ nat_le m n
+      old-same m n low = elim (cases_lt n m) [
+        | inl more ↦ lt-leb (capped m) n (omega (arith, low, more)) ∙ sym (lt-leb m n more)
+        | inr most ↦ le-leb (capped m) n (omega (arith, most)) ∙ sym (le-leb m n most)
+      ]
+
+      or-none : (a b : Bool) → (a && false && b) ≡ false
+      or-none true b = refl
+      or-none false b = refl
+
+      too-many : (m n : ℕ) → losses_such is_lost script report file < n → is_good script report file w m n ≡ false
+      too-many m n more =
+          ap (λ (b : Bool). nat_le m n && b && nat_le (losses_such (is_lost_before w) script report file) n) (lt-leb n (losses_such is_lost script report file) more)
+          ∙ or-none (nat_le m n) (nat_le (losses_such (is_lost_before w) script report file) n)
 
   module _ (list : List Command) (rows0 : List CpuLine) where
     abbrev pub full : List (Command × Answer)
@@ -107,28 +135,27 @@ module _ (script : Script) (report : Report) (room : (file : FileNo) → losses_
       each = λ file within. are.each file within ∙ ap capped (sym (after-more file full n p there ∙ (tells-none p.0 p.1 is file (numbers_after file 0 (take n full))).1));
     }
     numbers-next numbers n p there are (Some t) is = record {
-      many = length-set numbers t.file.0 (capped (get_or numbers t.file.0 0 + t.more)) ∙ are.many;
+      many = length-set numbers t.file.0 (capped (number_with (get_or numbers t.file.0 0) t)) ∙ are.many;
       each = λ file within. each file within (cases_eq file.0 t.file.0);
     }
       where
-        more : (file : FileNo) → numbers_after file 0 (take (n + 1) full) ≡ numbers_after file 0 (take n full) + cond (t.file.0 == file.0) t.more 0
+        more : (file : FileNo) → numbers_after file 0 (take (n + 1) full) ≡ cond (t.file.0 == file.0) (number_with (numbers_after file 0 (take n full)) t) (numbers_after file 0 (take n full))
         more file = after-more file full n p there ∙ (tells-some p.0 p.1 t is file (numbers_after file 0 (take n full))).1
 
         each : (file : FileNo) → file.0 < script.layout.files → (file.0 ≡ t.file.0) ⊎ (file.0 ≡ t.file.0 → ⊥)
-            → get_or (set numbers t.file.0 (capped (get_or numbers t.file.0 0 + t.more))) file.0 0 ≡ capped (numbers_after file 0 (take (n + 1) full))
+            → get_or (set numbers t.file.0 (capped (number_with (get_or numbers t.file.0 0) t))) file.0 0 ≡ capped (numbers_after file 0 (take (n + 1) full))
         each file within (inl here) =
             let own : get_or numbers t.file.0 0 ≡ capped (numbers_after file 0 (take n full)) = ap (λ (k : ℕ). get_or numbers k 0) (sym here) ∙ are.each file within in
             let room : t.file.0 < length numbers = omega (arith, within, here, are.many) in
-            let counted : numbers_after file 0 (take (n + 1) full) ≡ numbers_after file 0 (take n full) + t.more =
-            more file ∙ ap (λ (b : Bool). numbers_after file 0 (take n full) + cond b t.more 0) (eq-eqb t.file.0 file.0 (sym here)) in
-            ap (λ (k : ℕ). get_or (set numbers t.file.0 (capped (get_or numbers t.file.0 0 + t.more))) k 0) here
-            ∙ get_or-set_same numbers t.file.0 (capped (get_or numbers t.file.0 0 + t.more)) 0 room
-            ∙ ap (λ (k : ℕ). capped (k + t.more)) own ∙ capped-more (numbers_after file 0 (take n full)) t.more ∙ ap capped (sym counted)
+            let counted : numbers_after file 0 (take (n + 1) full) ≡ number_with (numbers_after file 0 (take n full)) t =
+            more file ∙ ap (λ (b : Bool). cond b (number_with (numbers_after file 0 (take n full)) t) (numbers_after file 0 (take n full))) (eq-eqb t.file.0 file.0 (sym here)) in
+            ap (λ (k : ℕ). get_or (set numbers t.file.0 (capped (number_with (get_or numbers t.file.0 0) t))) k 0) here
+            ∙ get_or-set_same numbers t.file.0 (capped (number_with (get_or numbers t.file.0 0) t)) 0 room
+            ∙ ap (λ (k : ℕ). capped (number_with k t)) own ∙ capped-more (numbers_after file 0 (take n full)) t ∙ ap capped (sym counted)
         each file within (inr other) =
-            let counted : numbers_after file 0 (take (n + 1) full) ≡ numbers_after file 0 (take n full) + 0 =
-            more file ∙ ap (λ (b : Bool). numbers_after file 0 (take n full) + cond b t.more 0) (ne_eqb t.file.0 file.0 (λ e. other (sym e))) in
-            let same : numbers_after file 0 (take (n + 1) full) ≡ numbers_after file 0 (take n full) = omega (arith, counted) in
-            get_or-set_other numbers t.file.0 file.0 (capped (get_or numbers t.file.0 0 + t.more)) 0 other ∙ are.each file within ∙ ap capped (sym same)
+            let same : numbers_after file 0 (take (n + 1) full) ≡ numbers_after file 0 (take n full) =
+            more file ∙ ap (λ (b : Bool). cond b (number_with (numbers_after file 0 (take n full)) t) (numbers_after file 0 (take n full))) (ne_eqb t.file.0 file.0 (λ e. other (sym e))) in
+            get_or-set_other numbers t.file.0 file.0 (capped (number_with (get_or numbers t.file.0 0) t)) 0 other ∙ are.each file within ∙ ap capped (sym same)
 
     -- one answer more can have told a wrong number
     weaken : (n line : ℕ) → IsWrongIn n line → IsWrongIn (n + 1) line
@@ -162,7 +189,7 @@ module _ (script : Script) (report : Report) (room : (file : FileNo) → losses_
       file : FileNo
       within : file.0 < script.layout.files
       tells : tells_number file p.0 p.1 ≡ true
-      wrong : is_good script report file (who n) (numbers_after file 0 (take (n + 1) full)) ≡ false
+      wrong : is_good script report file (who n) (numbers_after file 0 (take n full)) (numbers_after file 0 (take (n + 1) full)) ≡ false
       line_is : line ≡ 4 + file.0
 
     last : (n line : ℕ) (p : Command × Answer) → At n p → (w : IsWrongIn (n + 1) line) → n ≤ w.place → IsLast n line p
@@ -174,7 +201,7 @@ module _ (script : Script) (report : Report) (room : (file : FileNo) → losses_
           file = w.file;
           within = w.within;
           tells = ap (λ (q : Command × Answer). tells_number w.file q.0 q.1) (sym same) ∙ w.tells;
-          wrong = ap (λ (k : ℕ). is_good script report w.file (who k) (numbers_after w.file 0 (take (k + 1) full))) (sym here) ∙ w.wrong;
+          wrong = ap (λ (k : ℕ). is_good script report w.file (who k) (numbers_after w.file 0 (take k full)) (numbers_after w.file 0 (take (k + 1) full))) (sym here) ∙ w.wrong;
           line_is = w.line_is;
         }
 
@@ -189,11 +216,14 @@ module _ (script : Script) (report : Report) (room : (file : FileNo) → losses_
         ]
     wrong-next numbers n p found there are first (Some t) is = first-both (IsWrongIn n) Now (IsWrongIn (n + 1)) (weaken n) now which found (cond counts (Some (4 + t.file.0)) None) first (found-now counts refl)
       where
+        old : ℕ
+        old = get_or numbers t.file.0 0
+
         number : ℕ
-        number = capped (get_or numbers t.file.0 0 + t.more)
+        number = capped (number_with (get_or numbers t.file.0 0) t)
 
         counts : Bool
-        counts = nat_lt t.file.0 (length numbers) && not (is_good script report t.file (who n) number)
+        counts = nat_lt t.file.0 (length numbers) && not (is_good script report t.file (who n) old number)
 
         Now : ℕ → Type 0
         Now line = (counts ≡ true) × (line ≡ 4 + t.file.0)
@@ -203,18 +233,19 @@ module _ (script : Script) (report : Report) (room : (file : FileNo) → losses_
         found-now false so = λ l q. true≢false (sym q.0 ∙ so)
 
         -- the number that was told is the one that was cut off
-        good : t.file.0 < script.layout.files → is_good script report t.file (who n) number ≡ is_good script report t.file (who n) (numbers_after t.file 0 (take (n + 1) full))
+        good : t.file.0 < script.layout.files → is_good script report t.file (who n) old number ≡ is_good script report t.file (who n) (numbers_after t.file 0 (take n full)) (numbers_after t.file 0 (take (n + 1) full))
         good within =
             let own : get_or numbers t.file.0 0 ≡ capped (numbers_after t.file 0 (take n full)) = are.each t.file within in
-            let counted : numbers_after t.file 0 (take (n + 1) full) ≡ numbers_after t.file 0 (take n full) + t.more =
+            let counted : numbers_after t.file 0 (take (n + 1) full) ≡ number_with (numbers_after t.file 0 (take n full)) t =
             after-more t.file full n p there ∙ (tells-some p.0 p.1 t is t.file (numbers_after t.file 0 (take n full))).1
-            ∙ ap (λ (b : Bool). numbers_after t.file 0 (take n full) + cond b t.more 0) (eq-eqb t.file.0 t.file.0 refl) in
-            ap (is_good script report t.file (who n)) (ap (λ (k : ℕ). capped (k + t.more)) own ∙ capped-more (numbers_after t.file 0 (take n full)) t.more ∙ ap capped (sym counted))
-            ∙ good-same t.file (who n) (numbers_after t.file 0 (take (n + 1) full))
+            ∙ ap (λ (b : Bool). cond b (number_with (numbers_after t.file 0 (take n full)) t) (numbers_after t.file 0 (take n full))) (eq-eqb t.file.0 t.file.0 refl) in
+            let new : number ≡ capped (numbers_after t.file 0 (take (n + 1) full)) =
+            ap (λ (k : ℕ). capped (number_with k t)) own ∙ capped-more (numbers_after t.file 0 (take n full)) t ∙ ap capped (sym counted) in
+            (λ i. is_good script report t.file (who n) (own i) (new i)) ∙ good-same t.file (who n) (numbers_after t.file 0 (take n full)) (numbers_after t.file 0 (take (n + 1) full))
 
         now : (line : ℕ) → Now line → IsWrongIn (n + 1) line
         now line q =
-            let inside : t.file.0 < length numbers = ltb-true t.file.0 (length numbers) (and-left (nat_lt t.file.0 (length numbers)) (not (is_good script report t.file (who n) number)) q.0) in
+            let inside : t.file.0 < length numbers = ltb-true t.file.0 (length numbers) (and-left (nat_lt t.file.0 (length numbers)) (not (is_good script report t.file (who n) old number)) q.0) in
             let within : t.file.0 < script.layout.files = omega (arith, inside, are.many) in
             record {
               file = t.file;
@@ -224,7 +255,7 @@ module _ (script : Script) (report : Report) (room : (file : FileNo) → losses_
               before = omega arith;
               there = there;
               tells = (tells-some p.0 p.1 t is t.file 0).0 ∙ eq-eqb t.file.0 t.file.0 refl;
-              wrong = sym (good within) ∙ not-true (is_good script report t.file (who n) number) (and-right (nat_lt t.file.0 (length numbers)) (not (is_good script report t.file (who n) number)) q.0);
+              wrong = sym (good within) ∙ not-true (is_good script report t.file (who n) old number) (and-right (nat_lt t.file.0 (length numbers)) (not (is_good script report t.file (who n) old number)) q.0);
               line_is = q.1;
             }
 
@@ -233,9 +264,9 @@ module _ (script : Script) (report : Report) (room : (file : FileNo) → losses_
             let here : t.file ≡ l.file = same-file t.file l.file (eqb-true t.file.0 l.file.0 (sym (tells-some p.0 p.1 t is l.file 0).0 ∙ l.tells)) in
             let within : t.file.0 < script.layout.files = subst (λ (f : FileNo). f.0 < script.layout.files) (sym here) l.within in
             let inside : t.file.0 < length numbers = omega (arith, within, are.many) in
-            let wrong : is_good script report t.file (who n) number ≡ false =
-            good within ∙ ap (λ (f : FileNo). is_good script report f (who n) (numbers_after f 0 (take (n + 1) full))) here ∙ l.wrong in (
-              ap (λ (b : Bool). b && not (is_good script report t.file (who n) number)) (lt-ltb t.file.0 (length numbers) inside) ∙ ap not wrong,
+            let wrong : is_good script report t.file (who n) old number ≡ false =
+            good within ∙ ap (λ (f : FileNo). is_good script report f (who n) (numbers_after f 0 (take n full)) (numbers_after f 0 (take (n + 1) full))) here ∙ l.wrong in (
+              ap (λ (b : Bool). b && not (is_good script report t.file (who n) old number)) (lt-ltb t.file.0 (length numbers) inside) ∙ ap not wrong,
               l.line_is ∙ ap (λ (f : FileNo). 4 + f.0) (sym here),
             )
 

@@ -4,6 +4,7 @@ use Rattle.std.proofs.lemmas.Bool.{cases_eq, cases_lt}
 use Rattle.std.proofs.lemmas.List.{take_more, get_or-set_same, get_or-set_other, get_or_past, get_or-replicate, length-replicate, length-set, take_all}
 use Rattle.std.proofs.lemmas.List.Sums.{sum_by_more, sum_by_more_le}
 use Rattle.std.proofs.lemmas.Option.{get_or_from_slice_get, same_Some, slice_get_within}
+use Rattle.hwp_check_rules.specs.hwp_geom.Layout.{is_locked}
 use Rattle.hwp_check_rules.specs.hwp_geom.declared.Cpu.{Cpu}
 use Rattle.hwp_check_rules.specs.hwp_geom.declared.Layout.{Layout}
 use Rattle.hwp_check_rules.specs.hwp_geom.declared.Page.{Page}
@@ -192,7 +193,7 @@ none-below i low = absurd (omega (arith, low))
 
 -- it begins at the page's opening
 pub walked-start : (script : Script) (page : Page) (entries : List Entry) (heading : ℕ) (kind : PageKind) (state : PageState)
-    → slice_get script.layout.pages page.0 ≡ Some kind → state ≡ opening_of kind → Walked script page entries heading 0 state (replicate 256 0) (heading + 1)
+    → slice_get script.layout.pages page.0 ≡ Some kind → state ≡ opening_of kind (is_locked script.layout page) → Walked script page entries heading 0 state (replicate 256 0) (heading + 1)
 walked-start script page entries heading kind state declared opening = record {
   fits = record {
     replay = record { kind = kind; declared = declared; leads = sym opening };

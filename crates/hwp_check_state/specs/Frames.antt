@@ -1,6 +1,6 @@
 -- The lines of frames as they are gone through: which pages are cached at the end, the commands that were done, and the lines
 -- of frames that these marked.
-use Rattle.std.specs.Prelude.{◌≡◌, ◌↔◌, ℕ, ◌+◌, ◌^◌, ◌<◌, ◌==◌, ◌&&◌, ◌||◌, Bool, true, false, not, cond, nat_lt, List, [], ◌∷◌, ◌++◌, Some, bit_or, Contains, length, map, option_map, slice_get, slice_index_or, take, unwrap_or}
+use Rattle.std.specs.Prelude.{◌≡◌, ◌↔◌, ℕ, ◌+◌, ◌^◌, ◌<◌, ◌==◌, ◌&&◌, ◌||◌, Bool, true, false, not, cond, nat_lt, List, [], ◌∷◌, ◌++◌, Some, bit_or, fold, replicate, Contains, length, map, option_map, slice_get, slice_index_or, slice_set, take, unwrap_or}
 use Rattle.hwp_check_rules.specs.hwp_geom.declared.Who.{Who}
 use Rattle.hwp_check_rules.specs.hwp_page.declared.Entry.{Entry}
 use Rattle.hwp_check_rules.specs.hwp_page.declared.Situation.{Situation}
@@ -20,6 +20,7 @@ use Rattle.hwp_check_rules.specs.hwp_law.Lines.{answer_of}
 use Rattle.hwp_check_rules.specs.hwp_law.Places.{command_at}
 use Rattle.hwp_check_rules.specs.hwp_law.Records.{ends_poisoned}
 use Rattle.hwp_check_rules.specs.Faults.{sayers}
+use Rattle.hwp_check_state.specs.declared.frames.Marked.{Marked}
 
 -- a failure of a frame that is free, or the kernel's, takes no page from it
 abbrev pub keeps : Situation → Bool → Bool
@@ -76,6 +77,31 @@ weak_bit number command = 0
 abbrev pub with_bits : (Command → ℕ) → ℕ → List Command → ℕ
 with_bits bit mask [] = mask
 with_bits bit mask (command ∷ rest) = with_bits bit (bit_or mask (bit command)) rest
+
+-- the lines that are marked of each frame, with one more; and with one that a command marks bad or weak
+abbrev pub marked_at : List ℕ → ℕ → ℕ → List ℕ
+marked_at marked frame line = slice_set marked frame (bit_or (slice_index_or marked frame 0) (2 ^ line))
+
+abbrev pub with_bad : List ℕ → Command → List ℕ
+with_bad marked (commands.Bad frame line) = marked_at marked frame.0 line
+with_bad marked command = marked
+
+abbrev pub with_weak : List ℕ → Command → List ℕ
+with_weak marked (commands.Weak frame line) = marked_at marked frame.0 line
+with_weak marked command = marked
+
+-- these are the lines that the commands mark in each of so many frames
+pub record AreMarked (frames : ℕ) (done : List Command) (marked : Marked) : Type 0 where
+  pub bad : marked.bad.items ≡ fold with_bad (replicate frames 0) done
+  pub weak : marked.weak.items ≡ fold with_weak (replicate frames 0) done
+
+-- which pages some frame says, with a place more; and of so many pages those that these frames say
+abbrev pub said_with : List Bool → Whereabouts → List Bool
+said_with said (places.Of page) = slice_set said page.0 true
+said_with said place = said
+
+abbrev pub said_by : ℕ → List FrameLine → List Bool
+said_by pages frames = fold (λ (said : List Bool) (f : FrameLine). said_with said f.place) (replicate pages false) frames
 
 -- a frame's place fits: whether the frame is the kernel's, and whether it is poisoned
 abbrev pub is_placed : ℕ → Bool → Bool → Whereabouts → Bool

@@ -33,7 +33,7 @@ pub record IsToldWrong (script : Script) (report : Report) (cpu : Cpu) (list : L
   pub before : place < many
   pub there : slice_get {X = Command × Answer} list place ≡ Some pair
   pub tells : tells_number file pair.0 pair.1 ≡ true
-  pub wrong : is_good script report file (record { cpu = cpu; seq = place }) (numbers_after file 0 (take (place + 1) list)) ≡ false
+  pub wrong : is_good script report file (record { cpu = cpu; seq = place }) (numbers_after file 0 (take place list)) (numbers_after file 0 (take (place + 1) list)) ≡ false
   pub line_is : line ≡ 4 + file.0
 
 -- the same of one of so many processors

@@ -1,9 +1,9 @@
-ghost use Rattle.std.specs.Prelude.{◌≡◌, ◌≤◌, ◌<◌, ◌^◌, false, Some, None, cond, length, map, option_map, IfOk, IfSome, MatchOption};
-ghost use Rattle.hwp_check_rules.specs.hwp_geom.Limits.{frame_limit, page_limit};
+ghost use Rattle.std.specs.Prelude.{◌≡◌, ◌==◌, ◌&&◌, ◌≤◌, ◌<◌, ◌^◌, ℕ, nat_lt, not, false, Some, None, cond, length, map, option_map, slice_get, slice_index_or, take, unwrap_or, IfOk, IfSome, MatchOption};
+ghost use Rattle.hwp_check_rules.specs.hwp_geom.Limits.{frame_limit};
 ghost use Rattle.hwp_check_rules.specs.hwp_script_read.Valid.{IsValid};
-ghost use Rattle.hwp_check_rules.specs.hwp_law.PageHistory.{is_of};
+ghost use Rattle.hwp_check_rules.specs.hwp_law.Records.{ends_poisoned};
 ghost use Rattle.hwp_check_rules.specs.Faults.{first_free, is_free, sayers};
-ghost use Rattle.hwp_check_state.specs.Frames.{AreRight, bad_bit, cached_after, cached_by, is_beyond, is_placed, is_right_frame, is_right_line, is_unsaid_from, keeps, weak_bit, with_bits};
+ghost use Rattle.hwp_check_state.specs.Frames.{AreMarked, AreRight, bad_bit, cached_after, cached_by, is_beyond, is_placed, is_right_frame, is_right_line, is_unsaid_from, keeps, marked_at, said_by, said_with, weak_bit, with_bad, with_bits, with_weak};
 ghost use Rattle.hwp_check_rules.specs.Standing.{frame_line, last_line};
 ghost use Rattle.hwp_check_rules.specs.declared.Rule.TheVariants.{Frames as FrameRule};
 ghost use Rattle.hwp_check_rules.specs.Verdicts.{HoldBelow, Holds, IsBroken};
@@ -11,7 +11,7 @@ ghost use Rattle.hwp_check_rules.specs.Verdicts.{HoldBelow, Holds, IsBroken};
 use crate::count::ends_poisoned;
 use crate::dones::done_commands;
 use hwp_check_rules::{
-    Command, Entry, FrameLine, Line, List, OutOfMemory, Page, Report, Script, Situation, What,
+    Command, Entry, Frame, FrameLine, Line, List, OutOfMemory, Report, Script, Situation, What,
     Whereabouts, frame_at, soonest,
 };
 use std::alloc::Global;
@@ -60,27 +60,6 @@ fn ends_of(alloc: Global, pages: &[List<Entry>]) -> Result<Vec<bool>, OutOfMemor
     Ok(ends)
 }
 
-/// Whether the place is this page's.
-fn is_of(page: Page, place: &Whereabouts) -> bool
-    ensures { result ≡ is_of page place.now }
-{
-    match place {
-        Whereabouts::Of(other) => other.0 == page.0,
-        _ => false,
-    }
-}
-
-/// How many frames say the page.
-fn sayers(page: Page, frames: &[FrameLine]) -> u64
-    ensures { result ≡ sayers page frames.now }
-{
-    let mut count = 0;
-    for frame in frames {
-        count += u64::from(is_of(page, &frame.place));
-    }
-    count
-}
-
 /// The bit of a line.
 fn bit_of(line: Line) -> u64
     ensures { result ≡ 2 ^ line }
@@ -88,46 +67,75 @@ fn bit_of(line: Line) -> u64
     1 << line.get()
 }
 
-/// A bit for the line of the frame that a command marks bad.
-fn bad_bit(number: u16, command: &Command) -> u64
-    ensures { result ≡ bad_bit number command.now }
+/// Marks a line of a frame, if there is such a frame.
+fn mark(marked: &mut Vec<u64>, frame: Frame, line: Line)
+    ensures { marked.new.items ≡ marked_at marked.old.items frame.0 line }
 {
-    match command {
-        Command::Bad { frame, line } => { if frame.0 == number { bit_of(*line) } else { 0 } }
-        _ => 0,
+    let at = usize::from(frame.0);
+    if at < marked.len() {
+        marked[at] |= bit_of(line);
     }
 }
 
-/// The same of a command that marks a line weak.
-fn weak_bit(number: u16, command: &Command) -> u64
-    ensures { result ≡ weak_bit number command.now }
+/// Marks the line that a command marks bad.
+fn mark_bad(marked: &mut Vec<u64>, command: &Command)
+    ensures { marked.new.items ≡ with_bad marked.old.items command.now }
 {
-    match command {
-        Command::Weak { frame, line } => { if frame.0 == number { bit_of(*line) } else { 0 } }
-        _ => 0,
+    if let Command::Bad { frame, line } = *command {
+        mark(marked, frame, line);
     }
 }
 
-/// The lines of the frame that the commands mark bad.
-fn bad_lines(number: u16, done: &[Command]) -> u64
-    ensures { result ≡ with_bits (bad_bit number) 0 done.now }
+/// Marks the line that a command marks weak.
+fn mark_weak(marked: &mut Vec<u64>, command: &Command)
+    ensures { marked.new.items ≡ with_weak marked.old.items command.now }
 {
-    let mut lines = 0;
+    if let Command::Weak { frame, line } = *command {
+        mark(marked, frame, line);
+    }
+}
+
+/// The lines of each of so many frames that commands mark.
+#[derive(Drop)]
+pub struct Marked {
+    pub bad: Vec<u64>,
+    pub weak: Vec<u64>,
+}
+
+/// Those that these commands mark.
+fn marked_by(alloc: Global, frames: usize, done: &[Command]) -> Result<Marked, OutOfMemory>
+    ensures { IfOk result (λ marked. AreMarked frames done.now marked) }
+{
+    let mut bad = vec![in alloc; 0; frames]?;
+    let mut weak = vec![in alloc; 0; frames]?;
     for command in done {
-        lines |= bad_bit(number, command);
+        mark_bad(&mut bad, command);
+        mark_weak(&mut weak, command);
     }
-    lines
+    Ok(Marked { bad, weak })
 }
 
-/// The lines of the frame that the commands mark weak.
-fn weak_lines(number: u16, done: &[Command]) -> u64
-    ensures { result ≡ with_bits (weak_bit number) 0 done.now }
+/// Notes that a frame says the page of its place.
+fn say(said: &mut Vec<bool>, place: &Whereabouts)
+    ensures { said.new.items ≡ said_with said.old.items place.now }
 {
-    let mut lines = 0;
-    for command in done {
-        lines |= weak_bit(number, command);
+    if let Whereabouts::Of(page) = place {
+        let at = usize::from(page.0);
+        if at < said.len() {
+            said[at] = true;
+        }
     }
-    lines
+}
+
+/// Which of so many pages some frame says.
+fn said_by(alloc: Global, pages: usize, frames: &[FrameLine]) -> Result<Vec<bool>, OutOfMemory>
+    ensures { IfOk result (λ said. said.items ≡ said_by pages frames.now) }
+{
+    let mut said = vec![in alloc; false; pages]?;
+    for frame in frames {
+        say(&mut said, &frame.place);
+    }
+    Ok(said)
 }
 
 /// Whether the place fits the layout and the frame's record.
@@ -142,30 +150,75 @@ fn is_placed(pages: usize, kernel: bool, poisoned: bool, place: &Whereabouts) ->
     }
 }
 
-/// Whether the place says a page that as many frames as should say before.
-fn is_beyond(cached: &[bool], front: &[FrameLine], place: &Whereabouts) -> bool
+/// Whether some of the frames says the page with this number, where these pages are said there.
+fn is_said(pages: usize, frames: &[FrameLine], said: &[bool], page: usize) -> bool
+    requires said { said.now ≡ said_by pages frames.now }
+    requires within { page < pages }
+    ensures { result ≡ not (sayers (record { 0 = page }) frames.now == 0) }
+{
+    let _pages = pages;
+    let _frames = frames;
+    said[page]
+}
+
+/// The lines that are marked at the place.
+fn lines_at(marked: &[u64], place: usize) -> u64
+    requires { place < length marked.now }
+    ensures { result ≡ slice_index_or marked.now place 0 }
+{
+    marked[place]
+}
+
+/// The lines of the frame with this number that the commands mark bad.
+fn bad_in(frames: usize, done: &[Command], marked: &Marked, number: usize) -> u64
+    requires marked { AreMarked frames done.now marked.now }
+    requires within { number < frames }
+    ensures { result ≡ with_bits (bad_bit number) 0 done.now }
+{
+    let _frames = frames;
+    let _done = done;
+    lines_at(marked.bad.as_slice(), number)
+}
+
+/// Those that they mark weak.
+fn weak_in(frames: usize, done: &[Command], marked: &Marked, number: usize) -> u64
+    requires marked { AreMarked frames done.now marked.now }
+    requires within { number < frames }
+    ensures { result ≡ with_bits (weak_bit number) 0 done.now }
+{
+    let _frames = frames;
+    let _done = done;
+    lines_at(marked.weak.as_slice(), number)
+}
+
+/// Whether a page is said before as often as it should be, where it is said before or not, and should be said or not.
+fn is_full(said: bool, cached: bool) -> bool
+    ensures { (n : ℕ) → said ≡ not (n == 0) → result ≡ not (nat_lt n (cond cached 1 0)) }
+{
+    said || !cached
+}
+
+/// Whether the place says a page that as many frames as should say before, where these pages are said there.
+fn is_beyond(cached: &[bool], front: &[FrameLine], said: &[bool], place: &Whereabouts) -> bool
+    requires { said.now ≡ said_by (length cached.now) front.now }
     ensures { result ≡ is_beyond cached.now front.now place.now }
 {
     match place {
         Whereabouts::Of(page) => {
             let number = usize::from(page.0);
-            number < cached.len() && !(sayers(*page, front) < u64::from(cached[number]))
+            if number < cached.len() {
+                is_full(is_said(cached.len(), front, said, number), cached[number])
+            } else {
+                false
+            }
         }
         _ => false,
     }
 }
 
-/// Whether the line of the frame with this number is right.
-fn is_right_line(
-    script: &Script,
-    report: &Report,
-    done: &[Command],
-    cached: &[bool],
-    number: u16,
-    line: &FrameLine,
-) -> bool
-    requires { number ≤ length report.now.frames }
-    ensures { result ≡ is_right_line script.now report.now done.now cached.now number line.now }
+/// Whether the place of the frame with this number fits the layout and the frame's record.
+fn has_place(script: &Script, number: u16, line: &FrameLine) -> bool
+    ensures { result ≡ is_placed (length script.now.layout.pages) (unwrap_or (slice_get script.now.layout.kernel number) false) (ends_poisoned line.now.marks) line.now.place }
 {
     let at = usize::from(number);
     let pages = script.layout.pages.len();
@@ -176,9 +229,40 @@ fn is_right_line(
         kernel,
         ends_poisoned(line.marks.as_slice()),
         &line.place,
-    ) && line.bad.0 == bad_lines(number, done)
-        && line.weak.0 == weak_lines(number, done)
-        && !is_beyond(cached, &report.frames.as_slice()[..at], &line.place)
+    )
+}
+
+/// Whether a frame's place, its bad and its weak lines are right, and its page isn't said too often.
+fn are_right(placed: bool, bad: bool, weak: bool, beyond: bool) -> bool
+    ensures { result ≡ (placed && bad && weak && not beyond) }
+{
+    placed && bad && weak && !beyond
+}
+
+/// Whether the line of the frame with this number is right, where these commands mark these lines, and the frames before say these
+/// pages.
+fn is_right_line(
+    script: &Script,
+    report: &Report,
+    done: &[Command],
+    marked: &Marked,
+    cached: &[bool],
+    said: &[bool],
+    number: u16,
+    line: &FrameLine,
+) -> bool
+    requires within { number < length report.now.frames }
+    requires marked { AreMarked (length report.now.frames) done.now marked.now }
+    requires said { said.now ≡ said_by (length cached.now) (take number report.now.frames) }
+    ensures { result ≡ is_right_line script.now report.now done.now cached.now number line.now }
+{
+    let at = usize::from(number);
+    let placed = has_place(script, number, line);
+    let frames = report.frames.as_slice();
+    let bad = bad_in(frames.len(), done, marked, at);
+    let weak = weak_in(frames.len(), done, marked, at);
+    let beyond = is_beyond(cached, &frames[..at], said, &line.place);
+    are_right(placed, line.bad.0 == bad, line.weak.0 == weak, beyond)
 }
 
 /// Whether the frame with this number is right, where there is one.
@@ -186,38 +270,62 @@ fn is_right_frame(
     script: &Script,
     report: &Report,
     done: &[Command],
+    marked: &Marked,
     cached: &[bool],
+    said: &[bool],
     number: u16,
 ) -> bool
+    requires marked { AreMarked (length report.now.frames) done.now marked.now }
+    requires said { said.now ≡ said_by (length cached.now) (take number report.now.frames) }
     ensures { result ≡ is_right_frame script.now report.now done.now cached.now number }
 {
     match report.frames.as_slice().get(usize::from(number)) {
-        Some(line) => is_right_line(script, report, done, cached, number, line),
+        Some(line) => is_right_line(script, report, done, marked, cached, said, number, line),
         None => true,
     }
 }
 
 /// The first frame that is not right.
-fn first_frame(script: &Script, report: &Report, done: &[Command], cached: &[bool]) -> Option<u16>
-    requires { length report.now.frames ≤ frame_limit }
-    ensures { MatchOption result (AreRight script.now report.now done.now cached.now (length report.now.frames))
-        (λ at. AreRight script.now report.now done.now cached.now at × (at < length report.now.frames) × (is_right_frame script.now report.now done.now cached.now at ≡ false)) }
+fn first_frame(
+    alloc: Global,
+    script: &Script,
+    report: &Report,
+    done: &[Command],
+    marked: &Marked,
+    cached: &[bool],
+) -> Result<Option<u16>, OutOfMemory>
+    requires few { length report.now.frames ≤ frame_limit }
+    requires marked { AreMarked (length report.now.frames) done.now marked.now }
+    ensures { IfOk result (λ found. MatchOption found (AreRight script.now report.now done.now cached.now (length report.now.frames))
+        (λ at. AreRight script.now report.now done.now cached.now at × (at < length report.now.frames) × (is_right_frame script.now report.now done.now cached.now at ≡ false))) }
 {
-    for at in 0..report.frames.len() {
-        if !is_right_frame(script, report, done, cached, at as u16) {
-            return Some(at as u16);
+    let mut said = vec![in alloc; false; cached.len()]?;
+    let frames = report.frames.as_slice();
+    for at in 0..frames.len() {
+        let number = at as u16;
+        if !is_right_frame(
+            script,
+            report,
+            done,
+            marked,
+            cached,
+            said.as_slice(),
+            number,
+        ) {
+            return Ok(Some(number));
         }
+        say(&mut said, &frames[at].place);
     }
-    None
+    Ok(None)
 }
 
-/// Whether some page is cached that no frame says.
-fn is_some_unsaid(cached: &[bool], frames: &[FrameLine]) -> bool
-    requires { length cached.now ≤ page_limit }
+/// Whether some page is cached that no frame says, where these are said.
+fn is_some_unsaid(cached: &[bool], frames: &[FrameLine], said: &[bool]) -> bool
+    requires { said.now ≡ said_by (length cached.now) frames.now }
     ensures { result ≡ is_unsaid_from 0 cached.now frames.now }
 {
     for number in 0..cached.len() {
-        if cached[number] && sayers(Page(number as u16), frames) == 0 {
+        if cached[number] && !is_said(cached.len(), frames, said, number) {
             return true;
         }
     }
@@ -257,16 +365,16 @@ fn line_of(report: &Report, found: Option<u16>) -> Option<u64>
 }
 
 /// The line of the first free frame, if a page is cached that no frame says.
-fn unsaid_line(report: &Report, cached: &[bool]) -> Option<u64>
+fn unsaid_line(alloc: Global, report: &Report, cached: &[bool]) -> Result<Option<u64>, OutOfMemory>
     requires room { last_line report.now < 2 ^ 64 }
-    requires few { length cached.now ≤ page_limit }
-    ensures { result ≡ cond (is_unsaid_from 0 cached.now report.now.frames) (Some (frame_line report.now (first_free 0 report.now.frames))) None }
+    ensures { IfOk result (λ line. line ≡ cond (is_unsaid_from 0 cached.now report.now.frames) (Some (frame_line report.now (first_free 0 report.now.frames))) None) }
 {
     let frames = report.frames.as_slice();
-    if !is_some_unsaid(cached, frames) {
-        return None;
+    let said = said_by(alloc, cached.len(), frames)?;
+    if !is_some_unsaid(cached, frames, said.as_slice()) {
+        return Ok(None);
     }
-    Some(frame_at(report, first_free(frames)))
+    Ok(Some(frame_at(report, first_free(frames))))
 }
 
 /// Whether each frame's line is right, and each page is cached exactly where one frame says it; else the first line that
@@ -282,8 +390,16 @@ pub fn frames_fault(
     ensures { IfOk result (λ found. MatchOption found (Holds FrameRule script.now report.now) (IsBroken FrameRule script.now report.now)) }
 {
     let done = done_commands(alloc, script, report)?;
+    let marked = marked_by(alloc, report.frames.len(), done.as_slice())?;
     let cached = ends_of(alloc, report.pages.as_slice())?;
-    let wrong = first_frame(script, report, done.as_slice(), cached.as_slice());
-    let unsaid = unsaid_line(report, cached.as_slice());
+    let wrong = first_frame(
+        alloc,
+        script,
+        report,
+        done.as_slice(),
+        &marked,
+        cached.as_slice(),
+    )?;
+    let unsaid = unsaid_line(alloc, report, cached.as_slice())?;
     Ok(soonest(line_of(report, wrong), unsaid))
 }

@@ -41,7 +41,7 @@ fn walk(
     ensures { MatchResult result (λ next. PageFits script.now page entries.now × (next ≡ heading + 1 + sum_by height_of entries.now))
         (λ line. IsWrongAt script.now page entries.now heading line) }
 {
-    let mut state = PageState::opening(kind);
+    let mut state = PageState::opening(kind, script.layout.is_locked(page));
     let mut lasts = [0; CPU_NUMBERS];
     let mut line = heading + 1;
     for entry in entries {

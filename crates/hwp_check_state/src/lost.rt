@@ -22,7 +22,9 @@ fn is_loss(what: &What) -> bool
     ensures { result ≡ is_loss what.now }
 {
     match what {
-        What::Fail { situation, .. } => matches!(situation, Situation::FileDirty),
+        What::Fail { situation, .. } => {
+            matches!(situation, Situation::FileDirty | Situation::LockedFile)
+        }
         _ => false,
     }
 }

@@ -5,12 +5,19 @@ ghost use Rattle.hwp_check_rules.specs.Verdicts.{Holds, IsBroken};
 
 use hwp_check_rules::{Report, Script, cpu_at, file_at, frame_at, page_at};
 
-/// Whether the report has the script's numbers of files, frames, pages and processors; else the first line that doesn't fit.
-#[tactic(auto, using(crate::proofs::Shapes::shape_fits, crate::proofs::Shapes::files_first, crate::proofs::Shapes::frames_first, crate::proofs::Shapes::pages_first, crate::proofs::Shapes::cpus_first))]
+/// The line that names a report's version.
+const HEADER_LINE: u64 = 1;
+
+/// Whether the report has the script's version and its numbers of files, frames, pages and processors; else the first line that
+/// doesn't fit.
+#[tactic(auto, using(crate::proofs::Shapes::shape_fits, crate::proofs::Shapes::version_first, crate::proofs::Shapes::files_first, crate::proofs::Shapes::frames_first, crate::proofs::Shapes::pages_first, crate::proofs::Shapes::cpus_first))]
 pub fn shape_fault(script: &Script, report: &Report) -> Option<u64>
     requires room { last_line report.now < 2 ^ 64 }
     ensures { MatchOption result (Holds Shape script.now report.now) (IsBroken Shape script.now report.now) }
 {
+    if report.version != script.layout.version {
+        return Some(HEADER_LINE);
+    }
     let (files, frames) = (
         usize::from(script.layout.files),
         usize::from(script.layout.frames),

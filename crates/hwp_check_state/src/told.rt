@@ -1,6 +1,6 @@
 ghost use Rattle.std.specs.Prelude.{◌≡◌, ◌↔◌, None, length, replicate, IfOk, IsTrue};
 ghost use Rattle.hwp_check_state.specs.Lost.{AreLosses};
-ghost use Rattle.hwp_check_state.specs.Told.{fault_by, fault_of, is_good, raised, raised_by, seq_in, told_by, told_in, told_to, walk};
+ghost use Rattle.hwp_check_state.specs.Told.{capped, fault_by, fault_of, is_good, number_with, raised, raised_by, seq_in, telling, told_by, told_in, told_to, walk};
 
 use crate::lost::{Loss, lost, lost_before};
 use hwp_check_rules::{
@@ -8,11 +8,23 @@ use hwp_check_rules::{
 };
 use std::alloc::Global;
 
-/// What an answer told: the file, and how many losses of it the processor hadn't been told of.
+/// What an answer told of a file: how many losses the processor hadn't been told of, or all of them.
 #[derive(Clone, Copy)]
 pub struct Told {
     pub file: FileNo,
-    pub more: u64,
+    pub losses: u64,
+    pub all: bool,
+}
+
+/// That of so many losses more the processor was told.
+fn telling(file: FileNo, losses: u64) -> Told
+    ensures { result ≡ telling file losses }
+{
+    Told {
+        file,
+        losses,
+        all: false,
+    }
 }
 
 /// What the answer of a command told.
@@ -21,8 +33,18 @@ fn told_by(command: &Command, answer: &Answer) -> Option<Told>
 {
     match *command {
         Command::Fsync { file } => match *answer {
-            Answer::Done => Some(Told { file, more: 0 }),
-            Answer::Eio(more) => Some(Told { file, more }),
+            Answer::Done => Some(telling(file, 0)),
+            Answer::Eio(more) => Some(telling(file, more)),
+            _ => None,
+        },
+        Command::Open { file } => match *answer {
+            Answer::Opened(losses) => {
+                Some(Told {
+                    file,
+                    losses,
+                    all: true,
+                })
+            }
             _ => None,
         },
         _ => None,
@@ -52,23 +74,36 @@ fn seq_in(row: &CpuLine) -> u32
     }
 }
 
-/// Whether a handle's number is at most the file's losses, and at least those by earlier commands of the processor.
+/// A handle's number after this was told, where it was `old`.
+fn number_with(old: u64, told: Told) -> u64
+    ensures { result ≡ capped (number_with old told) }
+{
+    if told.all {
+        told.losses
+    } else {
+        old.saturating_add(told.losses)
+    }
+}
+
+/// Whether a handle's number has not fallen, is at most the file's losses, and at least those by earlier commands of the processor.
 fn is_good(
     script: &Script,
     report: &Report,
     list: &[Loss],
     file: FileNo,
     who: Who,
+    old: u64,
     number: u64,
 ) -> bool
     requires { AreLosses script.now report.now list.now }
-    ensures { result ≡ is_good script.now report.now file who number }
+    ensures { result ≡ is_good script.now report.now file who old number }
 {
-    number <= lost(script, report, list, file)
+    old <= number
+        && number <= lost(script, report, list, file)
         && lost_before(script, report, list, file, who) <= number
 }
 
-/// Raises the number of the handle by what was told of it, and answers the file's line where the number is wrong then.
+/// Sets the number of the handle to what was told of it, and answers the file's line where the number is wrong then.
 fn raise(
     script: &Script,
     report: &Report,
@@ -85,9 +120,10 @@ fn raise(
     if at >= numbers.len() {
         return None;
     }
-    let number = numbers[at].saturating_add(told.more);
+    let old = numbers[at];
+    let number = number_with(old, told);
     numbers[at] = number;
-    if is_good(script, report, list, told.file, who, number) {
+    if is_good(script, report, list, told.file, who, old, number) {
         return None;
     }
     Some(4 + u64::from(told.file.0))

@@ -28,7 +28,7 @@ use Rattle.hwp_evict.specs.hwp_page.declared.PageState.{PageState}
 use Rattle.hwp_evict.specs.hwp_page.Endings.{ends, has_ending, is_ending}
 use Rattle.hwp_evict.specs.hwp_page.History.{BodyValue}
 use Rattle.hwp_evict.specs.hwp_page.Losses.{file_behind, is_loss}
-use Rattle.hwp_evict.specs.hwp_page.Situations.{is_signalling}
+use Rattle.hwp_evict.specs.hwp_page.Situations.{always_signals, is_signalling}
 use Rattle.hwp_evict.specs.hwp_words.Names.{frame_name}
 use Rattle.hwp_evict.specs.hwp_words.Translations.{pte_word}
 use Rattle.hwp_evict.specs.hwp_words.declared.Pte.TheVariants as ptes
@@ -127,7 +127,7 @@ module _ {layout : Layout} {view : View} (a : Abandon) {killed : ℕ} {trans : L
 
   -- a signal goes to a thread of its process
   in-process : (i : ℕ) (s : Signal) → slice_get has.f.signals i ≡ Some s → IsIn layout s.thread s.process
-  in-process = signal-in layout (state_of layout has.log).maps (is_signalling has.f.situation) has.f.required has.f.seen has.f.signals has.entry.allowed.killed
+  in-process = signal-in layout (state_of layout has.log).maps (is_signalling has.f.situation) (always_signals has.f.situation) has.f.required has.f.seen has.f.signals has.entry.allowed.killed
 
   ending-in : (i : ℕ) (s : Signal) → slice_get a.losses.endings i ≡ Some s → IsIn layout s.thread s.process
   ending-in i s is =

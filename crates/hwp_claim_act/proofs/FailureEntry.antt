@@ -14,6 +14,7 @@ use Rattle.hwp_evict.specs.hwp_geom.declared.PageKind.{PageKind}
 use Rattle.hwp_evict.specs.hwp_geom.declared.PageKind.TheVariants.{Anon, File}
 use Rattle.hwp_evict.specs.hwp_geom.declared.Thread.{Thread}
 use Rattle.hwp_evict.specs.hwp_geom.declared.Who.{Who}
+use Rattle.hwp_evict.specs.hwp_geom.Layout.{is_locked}
 use Rattle.hwp_evict.specs.hwp_kill.declared.Seen.{Seen}
 use Rattle.hwp_evict.specs.hwp_kill.declared.Signal.{Signal}
 use Rattle.hwp_evict.specs.hwp_kill.Limits.{signal_limit}
@@ -54,13 +55,16 @@ only-member P l a one here i x e = which i (sym (ap (λ m. slice_get m i) one) �
     which (suc j) at = absurd (none-some x at)
 
 -- the file that a failure costs content is the one behind the page
-lost-right : (layout : Layout) (page : Page) (kind : PageKind) (dirty : Bool) (back : Option (List ℕ)) (required : Option Thread) (seen : List Seen) (signals : List Signal)
-    → file_of layout page ≡ file_behind kind → IsLostFile layout page (record { situation = situation_by kind dirty back; required = required; seen = seen; signals = signals }) (lost_at kind dirty)
-lost-right layout page (File file fill) true back required seen signals behind = (behind, refl)
-lost-right layout page (File file fill) false back required seen signals behind = refl
-lost-right layout page Anon dirty None required seen signals behind = refl
-lost-right layout page Anon true (Some words) required seen signals behind = refl
-lost-right layout page Anon false (Some words) required seen signals behind = refl
+lost-right : (layout : Layout) (page : Page) (kind : PageKind) (locked dirty : Bool) (back : Option (List ℕ)) (required : Option Thread) (seen : List Seen) (signals : List Signal)
+    → file_of layout page ≡ file_behind kind → IsLostFile layout page (record { situation = situation_by kind locked dirty back; required = required; seen = seen; signals = signals }) (lost_at kind dirty)
+lost-right layout page (File file fill) true true back required seen signals behind = (behind, refl)
+lost-right layout page (File file fill) true false back required seen signals behind = refl
+lost-right layout page (File file fill) false true back required seen signals behind = (behind, refl)
+lost-right layout page (File file fill) false false back required seen signals behind = refl
+lost-right layout page Anon true dirty back required seen signals behind = refl
+lost-right layout page Anon false dirty None required seen signals behind = refl
+lost-right layout page Anon false true (Some words) required seen signals behind = refl
+lost-right layout page Anon false false (Some words) required seen signals behind = refl
 
 -- what a failure makes of residence and translations
 pub record Acts (s t : PageState) (barred : Bool) : Type 0 where
@@ -68,26 +72,32 @@ pub record Acts (s t : PageState) (barred : Bool) : Type 0 where
   pub maps : t.maps ≡ set.empty
   pub bar : t.bar ≡ cond barred (set.union s.bar s.maps) s.bar
 
-acts-by : (s : PageState) (kind : PageKind) (dirty : Bool) (back : Option (List ℕ)) → Acts s (acted s (situation_by kind dirty back)) (bars_of (situation_by kind dirty back))
-acts-by s (File file fill) true back = record { cached = refl; maps = refl; bar = refl }
-acts-by s (File file fill) false back = record { cached = refl; maps = refl; bar = refl }
-acts-by s Anon dirty None = record { cached = refl; maps = refl; bar = refl }
-acts-by s Anon true (Some words) = record { cached = refl; maps = refl; bar = refl }
-acts-by s Anon false (Some words) = record { cached = refl; maps = refl; bar = refl }
+acts-by : (s : PageState) (kind : PageKind) (locked dirty : Bool) (back : Option (List ℕ)) → Acts s (acted s (situation_by kind locked dirty back)) (bars_of (situation_by kind locked dirty back))
+acts-by s (File file fill) true true back = record { cached = refl; maps = refl; bar = refl }
+acts-by s (File file fill) true false back = record { cached = refl; maps = refl; bar = refl }
+acts-by s (File file fill) false true back = record { cached = refl; maps = refl; bar = refl }
+acts-by s (File file fill) false false back = record { cached = refl; maps = refl; bar = refl }
+acts-by s Anon true dirty back = record { cached = refl; maps = refl; bar = refl }
+acts-by s Anon false dirty None = record { cached = refl; maps = refl; bar = refl }
+acts-by s Anon false true (Some words) = record { cached = refl; maps = refl; bar = refl }
+acts-by s Anon false false (Some words) = record { cached = refl; maps = refl; bar = refl }
 
-of-page-by : (kind : PageKind) (dirty : Bool) (back : Option (List ℕ)) → IsOfPage (situation_by kind dirty back)
-of-page-by (File file fill) true back = tt
-of-page-by (File file fill) false back = tt
-of-page-by Anon dirty None = tt
-of-page-by Anon true (Some words) = tt
-of-page-by Anon false (Some words) = tt
+of-page-by : (kind : PageKind) (locked dirty : Bool) (back : Option (List ℕ)) → IsOfPage (situation_by kind locked dirty back)
+of-page-by (File file fill) true true back = tt
+of-page-by (File file fill) true false back = tt
+of-page-by (File file fill) false true back = tt
+of-page-by (File file fill) false false back = tt
+of-page-by Anon true dirty back = tt
+of-page-by Anon false dirty None = tt
+of-page-by Anon false true (Some words) = tt
+of-page-by Anon false false (Some words) = tt
 
 -- what a failure finds of a page is of a page
 pub of-page : (s : PageState) (situation : _) → situation ≡ situation_of s → IsOfPage situation
-of-page s situation is = subst IsOfPage (sym is) (of-page-by s.kind s.dirty s.back)
+of-page s situation is = subst IsOfPage (sym is) (of-page-by s.kind s.locked s.dirty s.back)
 
 pub acts : (s : PageState) (situation : _) → situation ≡ situation_of s → Acts s (acted s situation) (bars_of situation)
-acts s situation is = subst (λ x. Acts s (acted s x) (bars_of x)) (sym is) (acts-by s s.kind s.dirty s.back)
+acts s situation is = subst (λ x. Acts s (acted s x) (bars_of x)) (sym is) (acts-by s s.kind s.locked s.dirty s.back)
 
 module _ {layout : Layout} {who : Who} {page : Page} {log : Log} {f : Failure} {losses : Losses} {failed : Failed} {body : BodyValue} (has : HasFailure layout who page log f losses failed body) where
   abbrev longer : Log
@@ -95,7 +105,7 @@ module _ {layout : Layout} {who : Who} {page : Page} {log : Log} {f : Failure} {
 
   -- the state after the entry
   pub state-after : state_of layout (log_of body) ≡ acted (state_of layout log) f.situation
-  state-after = ap (state_of layout) has.log_is ∙ fold-append (λ (t : PageState) (e : Entry). after t e.what) (opening_at (slice_get layout.pages log.page.0)) log.entries (entry_of who f ∷ [])
+  state-after = ap (state_of layout) has.log_is ∙ fold-append (λ (t : PageState) (e : Entry). after t e.what) (opening_at (slice_get layout.pages log.page.0) (is_locked layout log.page)) log.entries (entry_of who f ∷ [])
 
   pub acts-after : Acts (state_of layout log) (state_of layout (log_of body)) (bars_of f.situation)
   acts-after = subst (λ (t : PageState). Acts (state_of layout log) t (bars_of f.situation)) (sym state-after) (acts (state_of layout log) f.situation has.allowed.actual)
@@ -115,7 +125,7 @@ module _ {layout : Layout} {who : Who} {page : Page} {log : Log} {f : Failure} {
       page_is = refl;
       longer = ap (λ (list : List Entry). log.entries ++ list) (sym longer-more);
       leads = subst (λ (list : List Entry). Leads layout log.page (state_of layout log) list (state_of layout longer)) (sym longer-more)
-          (has.allowed, sym (fold-append (λ (t : PageState) (e : Entry). after t e.what) (opening_at (slice_get layout.pages log.page.0)) log.entries (entry_of who f ∷ [])));
+          (has.allowed, sym (fold-append (λ (t : PageState) (e : Entry). after t e.what) (opening_at (slice_get layout.pages log.page.0) (is_locked layout log.page)) log.entries (entry_of who f ∷ [])));
       own = only-member (λ (e : Entry). e.who ≡ who) (more_of taken longer) (entry_of who f) longer-more refl;
       seen = only-member (λ (e : Entry). HasSeen (drop seen sights) who (Some frame) e.what) (more_of taken longer) (entry_of who f) longer-more saw;
     })
@@ -157,8 +167,8 @@ module _ {layout : Layout} {page : Page} {frame : Frame} {body : BodyValue} (is 
   kind-is =
       let replay = is.replay in
       ap (λ (o : Option PageKind). option_and_then file_behind o) replay.declared
-      ∙ ap file_behind (sym (ap (λ (s : PageState). s.kind) (sym (state-is is)) ∙ state-kind (opening_at (slice_get layout.pages body.page.0)) body.log
-      ∙ ap (λ (p : Page). (opening_at (slice_get layout.pages p.0)).kind) is.page_is ∙ ap (λ (o : Option PageKind). (opening_at o).kind) replay.declared))
+      ∙ ap file_behind (sym (ap (λ (s : PageState). s.kind) (sym (state-is is)) ∙ state-kind (opening_at (slice_get layout.pages body.page.0) (is_locked layout body.page)) body.log
+      ∙ ap (λ (p : Page). (opening_at (slice_get layout.pages p.0) (is_locked layout p)).kind) is.page_is ∙ ap (λ (o : Option PageKind). (opening_at o (is_locked layout page)).kind) replay.declared))
 
   pub has-failure : {who : Who} {required : Option Thread} {seen : List Seen} {entered : Entered} → CanEnter required body seen → (made : HasMadeEntry who required body seen entered)
       → HasFailure layout who page (log_of body) (failure_of body.state required seen made.signals) entered.losses entered.failed entered.body
@@ -170,7 +180,7 @@ module _ {layout : Layout} {page : Page} {frame : Frame} {body : BodyValue} (is 
         (subst (λ (l : Layout). IsFailure l body.state (situation_of body.state) required seen made.signals) is.layout_is (record { cached = can.cached; actual = refl; policies = can.policies; killed = made.killed }));
     endings_are = ap (λ (e : Entered). e.losses.endings) made.is ∙ ap (λ (l : Layout). endings_of l made.signals) is.layout_is;
     few = subst (λ (l : List Signal). length l ≤ signal_limit) (sym (ap (λ (e : Entered). e.losses.endings) made.is)) made.few;
-    file_is = subst (IsLostFile layout page (failure_of body.state required seen made.signals)) (sym (ap (λ (e : Entered). e.losses.file) made.is)) (lost-right layout page body.state.kind body.state.dirty body.state.back required seen made.signals kind-is);
+    file_is = subst (IsLostFile layout page (failure_of body.state required seen made.signals)) (sym (ap (λ (e : Entered). e.losses.file) made.is)) (lost-right layout page body.state.kind body.state.locked body.state.dirty body.state.back required seen made.signals kind-is);
     failed_is = ap (λ (e : Entered). e.failed) made.is
         ∙ ap (λ (p : Page). record { situation = situation_of body.state; required = required; at = record { page = p; entry = length body.log }; signalled = signals_now made.signals }) is.page_is;
   }

@@ -1,5 +1,5 @@
 -- The signals that end a process, and the processes that an entry ends.
-use Rattle.std.proofs.Common.{◌≡◌, ℕ, zero, suc, ◌==◌, ◌&&◌, ◌||◌, Bool, true, false, not, cond, List, [], ◌∷◌, Option, Some, None, slice_get, refl, sym, ap, ◌∙◌, subst}
+use Rattle.std.proofs.Common.{◌≡◌, inl, inr, ℕ, zero, suc, ◌==◌, ◌&&◌, ◌||◌, Bool, true, false, not, cond, List, [], ◌∷◌, Option, Some, None, slice_get, refl, sym, ap, ◌∙◌, subst}
 use Rattle.std.proofs.lemmas.Bool.{both_ways, eqb-true}
 use Rattle.std.proofs.lemmas.Option.{none-some, same_Some, get_or_from_slice_get, slice_get_within}
 use Rattle.std.specs.List.{filter, list_any}
@@ -61,15 +61,16 @@ any-some {A} test (x ∷ xs) is = which (any-some test xs) (test x) refl is
     which rest false fails is = let some = rest is in (suc some.0, some.1, some.2, some.3)
 
 -- a signal goes to a thread of its process
-reached-in : (layout : Layout) (current : Option Thread) (seen : List Seen) (process : Proc) (thread : Thread) (code : Code) → Reaches layout current seen process thread code → IsIn layout thread process
-reached-in layout current seen process thread codes.Ar reaches = reaches.1
-reached-in layout current seen process thread codes.Ao reaches = reaches.1.early.own
+reached-in : (layout : Layout) (always : Bool) (current : Option Thread) (seen : List Seen) (process : Proc) (thread : Thread) (code : Code) → Reaches layout always current seen process thread code → IsIn layout thread process
+reached-in layout always current seen process thread codes.Ar reaches = reaches.1
+reached-in layout always current seen process thread codes.Ao (none, inl early) = early.early.own
+reached-in layout always current seen process thread codes.Ao (none, inr told) = told.2.own
 
-pub signal-in : (layout : Layout) (maps : set.FinSet nat_cmp) (at_all : Bool) (current : Option Thread) (seen : List Seen) (signals : List Signal) → Killed layout maps at_all current seen signals → (i : ℕ) (s : Signal) → slice_get signals i ≡ Some s → IsIn layout s.thread s.process
-signal-in layout maps false current seen signals none i s is = absurd (none-some s (sym (ap (λ (l : List Signal). slice_get l i) none) ∙ is))
-signal-in layout maps true current seen signals due i s is =
+pub signal-in : (layout : Layout) (maps : set.FinSet nat_cmp) (at_all always : Bool) (current : Option Thread) (seen : List Seen) (signals : List Signal) → Killed layout maps at_all always current seen signals → (i : ℕ) (s : Signal) → slice_get signals i ≡ Some s → IsIn layout s.thread s.process
+signal-in layout maps false always current seen signals none i s is = absurd (none-some s (sym (ap (λ (l : List Signal). slice_get l i) none) ∙ is))
+signal-in layout maps true always current seen signals due i s is =
     let has : Contains signals s = (i, slice_get_within signals i s is, get_or_from_slice_get signals i s s is) in
-    reached-in layout current seen s.process s.thread s.code ((due.each s).0 has).thread
+    reached-in layout always current seen s.process s.thread s.code ((due.each s).0 has).thread
 
 -- such a signal ends the process
 ends-of : (o : Option ThreadDecl) (p : Proc) → IsSomeAnd o (λ (t : ThreadDecl). t.process ≡ p) → unhandled_at o ≡ true → is_ended_by p o ≡ true

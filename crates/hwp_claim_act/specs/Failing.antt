@@ -14,7 +14,7 @@ use Rattle.hwp_evict.specs.hwp_page.declared.Situation.{Situation}
 use Rattle.hwp_evict.specs.hwp_page.declared.Situation.TheVariants as situations
 use Rattle.hwp_evict.specs.hwp_page.Actions.{acted, situation_of}
 use Rattle.hwp_evict.specs.hwp_page.History.{BodyValue}
-use Rattle.hwp_evict.specs.hwp_page.Situations.{is_signalling}
+use Rattle.hwp_evict.specs.hwp_page.Situations.{always_signals, is_signalling}
 use Rattle.hwp_evict.specs.hwp_page.Step.{IsSeenList}
 use Rattle.hwp_claim_act.specs.declared.abandon.Failed.{Failed}
 use Rattle.hwp_claim_act.specs.declared.abandon.Losses.{Losses}
@@ -40,6 +40,9 @@ bars_of situations.FileDirty = true
 bars_of situations.AnonOnly = true
 bars_of situations.SwapClean = false
 bars_of situations.SwapDirty = false
+bars_of situations.LockedClean = false
+bars_of situations.LockedFile = true
+bars_of situations.LockedAnon = true
 
 -- the page is in its frame, there is room for an entry, and these are the policies that were read
 pub record CanEnter (required : Option Thread) (body : BodyValue) (seen : List Seen) : Type 0 where
@@ -65,7 +68,7 @@ failed_by body f = record { situation = f.situation; required = f.required; at =
 -- the entry has the signals of the kill table
 pub record HasMadeEntry (who : Who) (required : Option Thread) (body : BodyValue) (seen : List Seen) (entered : Entered) : Type 0 where
   pub signals : List Signal
-  pub killed : Killed body.layout body.state.maps (is_signalling (situation_of body.state)) required seen signals
+  pub killed : Killed body.layout body.state.maps (is_signalling (situation_of body.state)) (always_signals (situation_of body.state)) required seen signals
   pub few : length (endings_of body.layout signals) ≤ signal_limit
   pub is : entered ≡ record {
     body = with_failure who (failure_of body.state required seen signals) body entered.body.spare;

@@ -6,10 +6,9 @@ ghost use Rattle.hwp_claim_act.specs.Acts.{AfterRead, Begins, CanReadOn, Enters,
 
 use crate::abandon::{Abandon, Failed, Losses};
 use crate::failing::{Entered, bars, enter};
-use crate::read_policies::ReadPolicies;
+use crate::read_policies::{ReadPolicies, Rooms};
 use hwp_evict::{
-    Body, Clear, Frame, GiveUp, Layout, List, Page, Ranked, Seen, SignalRoom, Step, Task, Thread,
-    Turn, Who,
+    Body, Clear, Frame, GiveUp, Layout, List, Page, Ranked, Seen, Step, Task, Thread, Turn, Who,
 };
 use std::alloc::Global;
 use std::mem;
@@ -147,7 +146,7 @@ fn start(
     }
 }
 
-/// Room is made for the signals and, where the failure signals, for the policies, which are read then; else the entry is made.
+/// Room is made for the signals, for the translations and, where the failure signals, for the policies, which are read then; else the entry is made.
 fn begin(
     alloc: Global,
     who: Who,
@@ -160,7 +159,7 @@ fn begin(
     requires room { 0 < body.spare }
     ensures { Begins who page frame required body result }
 {
-    let Ok(room) = SignalRoom::new(alloc) else {
+    let Ok(room) = Rooms::new(alloc) else {
         return given_up(who, page, frame, body);
     };
     let signalling = body.state().situation().signals();
@@ -208,14 +207,15 @@ fn go_out(
     required: Option<Thread>,
     body: Body,
     seen: List<Seen>,
-    room: SignalRoom,
+    room: Rooms,
 ) -> ActAt
     requires { CanEnter required body seen }
     ensures { Enters who page frame required body seen result }
 {
-    let maps = body.state().maps.copy();
+    let Rooms { signals, slots } = room;
+    let maps = slots.hold(&body.state().maps);
     let barred = bars(body.state().situation());
-    let entered = enter(who, required, body, seen, room);
+    let entered = enter(who, required, body, seen, signals);
     let clear = Clear::new(who, page, frame, maps, barred);
     after_clear(who, page, frame, clear, entered)
 }

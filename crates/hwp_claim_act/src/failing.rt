@@ -2,7 +2,7 @@ ghost use Rattle.std.specs.Prelude.{◌≡◌, ◌≤◌, length};
 ghost use Rattle.hwp_evict.specs.hwp_kill.Kill.{Killed};
 ghost use Rattle.hwp_evict.specs.hwp_kill.Limits.{signal_limit};
 ghost use Rattle.hwp_evict.specs.hwp_page.Actions.{situation_of};
-ghost use Rattle.hwp_evict.specs.hwp_page.Situations.{is_signalling};
+ghost use Rattle.hwp_evict.specs.hwp_page.Situations.{always_signals, is_signalling};
 ghost use Rattle.hwp_claim_act.specs.Abandons.{endings_of, is_unhandled, signals_now};
 ghost use Rattle.hwp_claim_act.specs.Failing.{CanEnter, HasMadeEntry, bars_of, lost_of};
 
@@ -69,26 +69,31 @@ pub(crate) fn bars(situation: Situation) -> bool
     ensures { result ≡ bars_of situation }
 {
     match situation {
-        Situation::FileDirty | Situation::AnonOnly => true,
+        Situation::FileDirty
+        | Situation::AnonOnly
+        | Situation::LockedFile
+        | Situation::LockedAnon => true,
         Situation::Free
         | Situation::Kernel
         | Situation::FileClean
         | Situation::SwapClean
-        | Situation::SwapDirty => false,
+        | Situation::SwapDirty
+        | Situation::LockedClean => false,
     }
 }
 
 /// The signals of the failure, by the policies that were read.
 fn due_signals(body: &Body, required: Option<Thread>, seen: &List<Seen>) -> SignalList
-    ensures { Killed body.now.layout body.now.state.maps (is_signalling (situation_of body.now.state)) required seen.now result }
+    ensures { Killed body.now.layout body.now.state.maps (is_signalling (situation_of body.now.state)) (always_signals (situation_of body.now.state)) required seen.now result }
 {
     let state = body.state();
-    let signalling = state.situation().signals();
+    let situation = state.situation();
     let mut due = SignalList::new();
     signals(
         body.layout(),
         &state.maps,
-        signalling,
+        situation.signals(),
+        situation.always_signals(),
         required,
         seen,
         &mut due,

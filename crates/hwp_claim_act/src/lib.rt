@@ -9,4 +9,4 @@ mod read_policies;
 
 pub use abandon::{Abandon, Failed, Losses};
 pub use act::Act;
-pub use read_policies::ReadPolicies;
+pub use read_policies::{ReadPolicies, Rooms};

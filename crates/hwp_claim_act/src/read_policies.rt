@@ -2,9 +2,30 @@ ghost use Rattle.std.specs.Prelude.{◌≡◌, [], is_none, vec_capacity};
 ghost use Rattle.hwp_claim_act.specs.Reads.{IsBegun};
 
 use hwp_evict::{
-    Body, Frame, Layout, List, PolicyWord, Ranked, Seen, SharedWord, SignalRoom, Step, Task,
-    Thread, Turn, Who, next_to_read,
+    Body, Frame, Layout, List, OutOfMemory, PolicyWord, Ranked, Seen, SharedWord, SignalRoom,
+    SlotRoom, Step, Task, Thread, Turn, Who, next_to_read,
 };
+use std::alloc::Global;
+
+/// Room for the signals of a memory failure and for the translations in use, made before the page has its entry.
+#[derive(Drop)]
+pub struct Rooms {
+    pub signals: SignalRoom,
+    pub slots: SlotRoom,
+}
+
+impl Rooms {
+    /// Room for as many as there can be.
+    ///
+    /// # Errors
+    /// `OutOfMemory` where there is none.
+    pub fn new(alloc: Global) -> Result<Rooms, OutOfMemory> {
+        Ok(Rooms {
+            signals: SignalRoom::new(alloc)?,
+            slots: SlotRoom::new(alloc)?,
+        })
+    }
+}
 
 /// Reads the policies of the threads that a memory failure may signal (prctl(2), PR_MCE_KILL), one thread after another
 /// (Linux collect_procs; the order is this project's rule). The page is held, with its frame.
@@ -18,20 +39,20 @@ pub struct ReadPolicies {
     seen: Vec<Seen>,
     /// The thread that comes.
     next: Option<Thread>,
-    /// For the signals, once all policies are read.
-    room: SignalRoom,
+    /// For the signals and the translations, once all policies are read.
+    room: Rooms,
 }
 
 impl ReadPolicies {
     /// The command reads the policies for the page of this body, in this frame, where `required` is the thread that needs
-    /// the page now. What it reads it puts into `seen`, which is empty; the room for the signals is kept.
+    /// the page now. What it reads it puts into `seen`, which is empty; the room is kept.
     pub fn new(
         who: Who,
         frame: Frame,
         required: Option<Thread>,
         body: Body,
         seen: Vec<Seen>,
-        room: SignalRoom,
+        room: Rooms,
     ) -> ReadPolicies
         requires { seen.items ≡ [] }
         ensures { IsBegun who frame required body (vec_capacity seen) result }
@@ -63,8 +84,8 @@ impl ReadPolicies {
         self.required
     }
 
-    /// The page's body, what was read, and the room for the signals.
-    pub fn into_parts(self) -> (Body, List<Seen>, SignalRoom)
+    /// The page's body, what was read, and the room.
+    pub fn into_parts(self) -> (Body, List<Seen>, Rooms)
         ensures { (result.0 ≡ self.body) × (result.1 ≡ self.seen.items) }
     {
         let ReadPolicies {

@@ -6,6 +6,7 @@ use Rattle.std.specs.Ordering.{nat_cmp}
 use Rattle.hwp_core_task.specs.hwp_geom.declared.Layout.{Layout}
 use Rattle.hwp_core_task.specs.hwp_geom.declared.Page.{Page}
 use Rattle.hwp_core_task.specs.hwp_geom.declared.PageKind.{PageKind}
+use Rattle.hwp_core_task.specs.hwp_geom.Layout.{is_locked}
 use Rattle.hwp_core_task.specs.hwp_page.declared.Entry.{Entry}
 use Rattle.hwp_core_task.specs.hwp_page.declared.Met.TheVariants.{Word, Sigbus}
 use Rattle.hwp_core_task.specs.hwp_page.declared.PageState.{PageState}
@@ -31,6 +32,9 @@ unused-acted s situations.FileDirty was = λ none. refl
 unused-acted s situations.AnonOnly was = λ none. refl
 unused-acted s situations.SwapClean was = λ none. refl
 unused-acted s situations.SwapDirty was = λ none. refl
+unused-acted s situations.LockedClean was = λ none. refl
+unused-acted s situations.LockedFile was = λ none. refl
+unused-acted s situations.LockedAnon was = λ none. refl
 
 unused-after : (layout : Layout) (page : Page) (s : PageState) (what : What) → IsUnused s → Allowed layout page s what → IsUnused (after s what)
 unused-after layout page s (entries.Load slot line met) was allowed = was
@@ -53,8 +57,8 @@ unused-led layout page s t (e ∷ es) leads was = unused-led layout page (after 
 module _ {layout : Layout} {page : Page} {list : List Entry} {state : PageState} (replay : IsReplay layout page list state) where
   -- a body's state is that of its history
   pub replay-state : state_of layout (record { page = page; entries = list }) ≡ state
-  replay-state = ap (λ (k : Option PageKind). state_after (opening_at k) list) replay.declared ∙ Leads-state layout page (opening_of replay.kind) state list replay.leads
+  replay-state = ap (λ (k : Option PageKind). state_after (opening_at k (is_locked layout page)) list) replay.declared ∙ Leads-state layout page (opening_of replay.kind (is_locked layout page)) state list replay.leads
 
   -- a page that is in no frame has no translation in use
   pub replay-unused : state.cached ≡ false → state.maps ≡ set.empty
-  replay-unused = unused-led layout page (opening_of replay.kind) state list replay.leads (λ none. refl)
+  replay-unused = unused-led layout page (opening_of replay.kind (is_locked layout page)) state list replay.leads (λ none. refl)

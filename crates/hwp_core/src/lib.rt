@@ -13,11 +13,11 @@ pub use give_up::GiveUp;
 pub use hold::Hold;
 pub use hwp_core_task::{
     At, Board, Body, CacheWord, Code, CounterWord, Cpu, Damage, Entry, FileNo, Frame, FrameWord,
-    FreeWord, Kind, Layout, Line, List, Mask, Met, Mode, Ops, OutOfMemory, Outcome, POISON, Page,
-    PageKind, PageState, PageWord, PolicyWord, Proc, ProcessWord, Pte, REFERENCE, Ranked, Reply,
-    Scheduled, Seen, SharedWord, Signal, SignalList, SignalRoom, Situation, Slots, Step, StopWord,
-    Task, Text, Thread, Turn, VSlot, View, What, Who, advance, frame_in, index, is_stopped,
-    lowest_bit, next_to_read, signals,
+    FreeWord, HeldSlots, Kind, Layout, Line, List, Mask, Met, Mode, Ops, OutOfMemory, Outcome,
+    POISON, Page, PageKind, PageState, PageWord, PolicyWord, Proc, ProcessWord, Pte, REFERENCE,
+    Ranked, Reply, Scheduled, Seen, SharedWord, Signal, SignalList, SignalRoom, Situation,
+    SlotRoom, Slots, Step, StopWord, Task, Text, Thread, Turn, VSlot, Version, View, What, Who,
+    advance, frame_in, index, is_stopped, lowest_bit, next_to_read, signals,
 };
 pub use pin::{Pin, PinAnswer};
 pub use refer::Refer;

@@ -10,7 +10,7 @@ use Rattle.std.proofs.lemmas.Option.{none-some, same_Some, slice_get_within}
 use Rattle.hwp_page.specs.hwp_geom.declared.Layout.{Layout}
 use Rattle.hwp_page.specs.hwp_geom.declared.PageKind.{PageKind}
 use Rattle.hwp_page.specs.hwp_geom.Limits.{command_limit}
-use Rattle.hwp_page.specs.hwp_geom.Layout.{IsSound}
+use Rattle.hwp_page.specs.hwp_geom.Layout.{IsSound, is_locked}
 use Rattle.std.specs.Ordering.{nat_cmp}
 use Rattle.hwp_words.specs.Translations.{pte_word}
 use Rattle.hwp_words.specs.Frames.{poison_of, count_of, owner_of, lock_of, handled_of}
@@ -150,21 +150,21 @@ no-entry layout P each i log e = elim (WordsOpen.less-or i layout.frames) [
 ]
 
 opening-state : (layout : Layout) (q : ℕ) → (state_of layout (opening_log q)).cached ≡ false
-opening-state layout q = by-kind (slice_get layout.pages q)
+opening-state layout q = by-kind (slice_get layout.pages q) (is_locked layout (record { 0 = q }))
   where
-    by-kind : (kind : Option PageKind) → (opening_at kind).cached ≡ false
-    by-kind None = refl
-    by-kind (Some kind) = refl
+    by-kind : (kind : Option PageKind) (locked : Bool) → (opening_at kind locked).cached ≡ false
+    by-kind None locked = refl
+    by-kind (Some kind) locked = refl
 
 unused-word : (c v : ℕ) → cond (set.contains {R = nat_cmp} set.empty v) c (cond (set.contains {R = nat_cmp} set.empty v) (pte_word ptes.Poison) 0) ≡ 0
 unused-word c v = ap (λ (b : Bool). cond b c (cond b (pte_word ptes.Poison) 0)) (set.contains-empty nat_cmp v)
 
 opening-word : (layout : Layout) (q c v : ℕ) → fitting_word (state_of layout (opening_log q)) c v ≡ 0
-opening-word layout q c v = by-kind (slice_get layout.pages q)
+opening-word layout q c v = by-kind (slice_get layout.pages q) (is_locked layout (record { 0 = q }))
   where
-    by-kind : (kind : Option PageKind) → fitting_word (opening_at kind) c v ≡ 0
-    by-kind None = unused-word c v
-    by-kind (Some kind) = unused-word c v
+    by-kind : (kind : Option PageKind) (locked : Bool) → fitting_word (opening_at kind locked) c v ≡ 0
+    by-kind None locked = unused-word c v
+    by-kind (Some kind) locked = unused-word c v
 
 -- of the numbers below n, one is c
 one-below : (n c : ℕ) → c < n → sum_by (λ (m : ℕ). from_bool (m == c)) (below n) ≡ 1

@@ -11,7 +11,7 @@ use Rattle.hwp_page.specs.hwp_geom.declared.Layout.{Layout}
 use Rattle.hwp_page.specs.hwp_geom.declared.Page.{Page}
 use Rattle.hwp_page.specs.hwp_geom.declared.PageKind.{PageKind}
 use Rattle.hwp_page.specs.hwp_geom.declared.PageKind.TheVariants.{Anon, File}
-use Rattle.hwp_page.specs.hwp_geom.Layout.{IsSound, IsBacked}
+use Rattle.hwp_page.specs.hwp_geom.Layout.{IsSound, IsBacked, is_locked}
 use Rattle.hwp_page.specs.declared.Entry.{Entry}
 use Rattle.hwp_page.specs.declared.Met.TheVariants.{Word, Sigbus}
 use Rattle.hwp_page.specs.declared.PageState.{PageState}
@@ -41,6 +41,9 @@ acted-kind s situations.FileDirty = refl
 acted-kind s situations.AnonOnly = refl
 acted-kind s situations.SwapClean = refl
 acted-kind s situations.SwapDirty = refl
+acted-kind s situations.LockedClean = refl
+acted-kind s situations.LockedFile = refl
+acted-kind s situations.LockedAnon = refl
 
 pub after-kind : (s : PageState) (what : What) → (after s what).kind ≡ s.kind
 after-kind s (entries.Load slot line met) = refl
@@ -62,22 +65,25 @@ state-kind s (e ∷ es) = state-kind (after s e.what) es ∙ after-kind s e.what
 
 -- ---- a loss is of a file
 
-abbrev is_file_dirty : Situation → Bool
-is_file_dirty situations.FileDirty = true
-is_file_dirty _ = false
+-- the situations in which dirty content of a file is lost
+abbrev is_file_loss : Situation → Bool
+is_file_loss situations.FileDirty = true
+is_file_loss situations.LockedFile = true
+is_file_loss _ = false
 
-anon-keeps : (dirty : Bool) (back : Option (List ℕ)) → is_file_dirty (situation_by Anon dirty back) ≡ false
-anon-keeps dirty None = refl
-anon-keeps true (Some words) = refl
-anon-keeps false (Some words) = refl
+anon-keeps : (locked dirty : Bool) (back : Option (List ℕ)) → is_file_loss (situation_by Anon locked dirty back) ≡ false
+anon-keeps true dirty back = refl
+anon-keeps false dirty None = refl
+anon-keeps false true (Some words) = refl
+anon-keeps false false (Some words) = refl
 
--- the file behind a page that is declared so, where a dirty content of a file was met
-file-met : (o : Option PageKind) (s : PageState) → s.kind ≡ (opening_at o).kind → situations.FileDirty ≡ situation_of s → (file : FileNo) × (option_and_then file_behind o ≡ Some file)
-file-met None s kind met = absurd (true≢false (ap is_file_dirty met ∙ ap (λ (k : PageKind). is_file_dirty (situation_by k s.dirty s.back)) kind ∙ anon-keeps s.dirty s.back))
-file-met (Some Anon) s kind met = absurd (true≢false (ap is_file_dirty met ∙ ap (λ (k : PageKind). is_file_dirty (situation_by k s.dirty s.back)) kind ∙ anon-keeps s.dirty s.back))
-file-met (Some (File file fill)) s kind met = (file, refl)
+-- the file behind a page that is declared so, where dirty content of a file was lost
+file-met : (o : Option PageKind) (locked : Bool) (s : PageState) → s.kind ≡ (opening_at o locked).kind → true ≡ is_file_loss (situation_of s) → (file : FileNo) × (option_and_then file_behind o ≡ Some file)
+file-met None locked s kind lost = absurd (true≢false (lost ∙ ap (λ (k : PageKind). is_file_loss (situation_by k s.locked s.dirty s.back)) kind ∙ anon-keeps s.locked s.dirty s.back))
+file-met (Some Anon) locked s kind lost = absurd (true≢false (lost ∙ ap (λ (k : PageKind). is_file_loss (situation_by k s.locked s.dirty s.back)) kind ∙ anon-keeps s.locked s.dirty s.back))
+file-met (Some (File file fill)) locked s kind lost = (file, refl)
 
-loss-behind : (layout : Layout) (page : Page) (s : PageState) (what : What) → s.kind ≡ (opening_at (slice_get layout.pages page.0)).kind → Allowed layout page s what → is_loss what ≡ true
+loss-behind : (layout : Layout) (page : Page) (s : PageState) (what : What) → s.kind ≡ (opening_at (slice_get layout.pages page.0) (is_locked layout page)).kind → Allowed layout page s what → is_loss what ≡ true
     → (file : FileNo) × (file_of layout page ≡ Some file)
 loss-behind layout page s (entries.Load slot line met) kind allowed loss = absurd (true≢false (sym loss))
 loss-behind layout page s (entries.Store slot line met) kind allowed loss = absurd (true≢false (sym loss))
@@ -91,10 +97,13 @@ loss-behind layout page s (entries.Mce slot line mask) kind allowed loss = absur
 loss-behind layout page s (entries.Fail situations.Free required seen signals) kind allowed loss = absurd (true≢false (sym loss))
 loss-behind layout page s (entries.Fail situations.Kernel required seen signals) kind allowed loss = absurd (true≢false (sym loss))
 loss-behind layout page s (entries.Fail situations.FileClean required seen signals) kind allowed loss = absurd (true≢false (sym loss))
-loss-behind layout page s (entries.Fail situations.FileDirty required seen signals) kind allowed loss = file-met (slice_get layout.pages page.0) s kind allowed.actual
+loss-behind layout page s (entries.Fail situations.FileDirty required seen signals) kind allowed loss = file-met (slice_get layout.pages page.0) (is_locked layout page) s kind (ap is_file_loss allowed.actual)
 loss-behind layout page s (entries.Fail situations.AnonOnly required seen signals) kind allowed loss = absurd (true≢false (sym loss))
 loss-behind layout page s (entries.Fail situations.SwapClean required seen signals) kind allowed loss = absurd (true≢false (sym loss))
 loss-behind layout page s (entries.Fail situations.SwapDirty required seen signals) kind allowed loss = absurd (true≢false (sym loss))
+loss-behind layout page s (entries.Fail situations.LockedClean required seen signals) kind allowed loss = absurd (true≢false (sym loss))
+loss-behind layout page s (entries.Fail situations.LockedFile required seen signals) kind allowed loss = file-met (slice_get layout.pages page.0) (is_locked layout page) s kind (ap is_file_loss allowed.actual)
+loss-behind layout page s (entries.Fail situations.LockedAnon required seen signals) kind allowed loss = absurd (true≢false (sym loss))
 loss-behind layout page s entries.Soft kind allowed loss = absurd (true≢false (sym loss))
 
 -- ---- what is owed for entries
@@ -161,7 +170,7 @@ listed-of-file layout file stamp page frame place (e ∷ es) =
     same = is_same_file file (file_of layout page)
 
 -- one for each loss, since each loss is of a file
-pub made-length : (layout : Layout) (page : Page) (s t : PageState) (es : List Entry) → s.kind ≡ (opening_at (slice_get layout.pages page.0)).kind → Leads layout page s es t
+pub made-length : (layout : Layout) (page : Page) (s t : PageState) (es : List Entry) → s.kind ≡ (opening_at (slice_get layout.pages page.0) (is_locked layout page)).kind → Leads layout page s es t
     → length (losses_made layout page es) ≡ losses_in es
 made-length layout page s t [] kind leads = refl
 made-length layout page s t (e ∷ es) kind leads =
@@ -179,7 +188,7 @@ made-length layout page s t (e ∷ es) kind leads =
 -- the same of what a body has more
 pub owed-length : (layout : Layout) (page : Page) (log : Log) (t : PageState) (es : List Entry) → page ≡ log.page → Leads layout page (state_of layout log) es t → length (losses_made layout page es) ≡ losses_in es
 owed-length layout page log t es is leads =
-    made-length layout page (state_of layout log) t es (state-kind (opening_at (slice_get layout.pages log.page.0)) log.entries ∙ ap (λ (p : Page). (opening_at (slice_get layout.pages p.0)).kind) (sym is)) leads
+    made-length layout page (state_of layout log) t es (state-kind (opening_at (slice_get layout.pages log.page.0) (is_locked layout log.page)) log.entries ∙ ap (λ (p : Page). (opening_at (slice_get layout.pages p.0) (is_locked layout p)).kind) (sym is)) leads
 
 -- a page with a file behind it is one of the layout, and so is the file
 pub behind-within : (layout : Layout) (page : Page) (file : FileNo) → file_of layout page ≡ Some file → page.0 < length layout.pages

@@ -1,5 +1,5 @@
 -- What a body's history says: the page's state, the losses of its file, the translation words that fit it.
-use Rattle.std.specs.Prelude.{ℕ, ◌==◌, cond, List, [], ◌∷◌, Option, Some, None, suc, slice_get, option_and_then}
+use Rattle.std.specs.Prelude.{ℕ, ◌==◌, Bool, cond, List, [], ◌∷◌, Option, Some, None, suc, slice_get, option_and_then}
 use Rattle.std.specs.FinSet as set
 use Rattle.hwp_page.specs.hwp_geom.declared.FileNo.{FileNo}
 use Rattle.hwp_page.specs.hwp_geom.declared.Layout.{Layout}
@@ -7,6 +7,7 @@ use Rattle.hwp_page.specs.hwp_geom.declared.Page.{Page}
 use Rattle.hwp_page.specs.hwp_geom.declared.PageKind.{PageKind}
 use Rattle.hwp_page.specs.hwp_geom.declared.PageKind.TheVariants.{Anon}
 use Rattle.hwp_page.specs.hwp_geom.declared.TransDecl.{TransDecl}
+use Rattle.hwp_page.specs.hwp_geom.Layout.{is_locked}
 use Rattle.hwp_page.specs.declared.PageState.{PageState}
 use Rattle.hwp_page.specs.History.{BodyValue, state_after}
 use Rattle.hwp_page.specs.Losses.{file_behind, is_same_file, losses_in}
@@ -19,14 +20,14 @@ use Rattle.hwp_core_rule.specs.declared.log.Log.{Log}
 abbrev pub log_of : BodyValue → Log
 log_of body = record { page = body.page; entries = body.log }
 
--- the state at opening of a page that is declared so
-abbrev pub opening_at : Option PageKind → PageState
-opening_at None = opening_of Anon
-opening_at (Some kind) = opening_of kind
+-- the state at opening of a page that is declared so, locked or not
+abbrev pub opening_at : Option PageKind → Bool → PageState
+opening_at None locked = opening_of Anon locked
+opening_at (Some kind) locked = opening_of kind locked
 
 -- the state of the page: the replay of its history
 abbrev pub state_of : Layout → Log → PageState
-state_of layout log = state_after (opening_at (slice_get layout.pages log.page.0)) log.entries
+state_of layout log = state_after (opening_at (slice_get layout.pages log.page.0) (is_locked layout log.page)) log.entries
 
 -- the file behind a page
 abbrev pub file_of : Layout → Page → Option FileNo

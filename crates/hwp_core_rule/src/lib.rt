@@ -13,10 +13,10 @@ mod view;
 mod words;
 
 pub use hwp_page::{
-    At, Body, Code, Cpu, Damage, Entry, FileNo, Frame, Kind, Layout, Line, List, Mask, Mode,
-    OutOfMemory, Outcome, Page, PageKind, PageState, Policy, Proc, Reply, Seen, Signal, SignalList,
-    SignalRoom, Situation, Slots, Text, Thread, VSlot, What, Who, lowest_bit, next_to_read, prctl,
-    signals,
+    At, Body, Code, Cpu, Damage, Entry, FileNo, Frame, HeldSlots, Kind, Layout, Line, List, Mask,
+    Mode, OutOfMemory, Outcome, Page, PageKind, PageState, Policy, Proc, Reply, Seen, Signal,
+    SignalList, SignalRoom, Situation, SlotRoom, Slots, Text, Thread, VSlot, Version, What, Who,
+    lowest_bit, next_to_read, prctl, signals,
 };
 pub use hwp_words::{
     CacheWord, CounterWord, FrameWord, FreeWord, HANDLED, LOCK, POISON, PageWord, PolicyWord,

@@ -25,7 +25,7 @@ pub enum SharedWord {
     Process(Proc),
     /// A thread's policy and the number of its settings (prctl(2)).
     Policy(Thread),
-    /// The losses of a file since its last fsync(2).
+    /// The losses of a file so far.
     Loss(FileNo),
     /// The processor that stopped the machine.
     Stop,

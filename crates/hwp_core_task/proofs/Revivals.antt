@@ -7,7 +7,7 @@ use Rattle.std.proofs.lemmas.List.{get_or-set_same, get_or-set_other}
 use Rattle.std.proofs.lemmas.Option.{same_Some, slice_get-get_or}
 use Rattle.hwp_core_rule.specs.hwp_geom.declared.Frame.{Frame}
 use Rattle.hwp_core_rule.specs.hwp_geom.declared.Layout.{Layout}
-use Rattle.hwp_core_rule.specs.hwp_geom.Limits.{cpu_limit}
+use Rattle.hwp_core_rule.specs.hwp_geom.Limits.{command_limit, cpu_limit}
 use Rattle.hwp_core_rule.specs.hwp_words.Frames.{poison_of, cycle_of, is_poisoned, is_handled, is_kernel}
 use Rattle.hwp_core_rule.proofs.of_hwp_words.FrameSteps.{fields-revived}
 use Rattle.hwp_core_rule.specs.declared.State.{State}
@@ -105,7 +105,7 @@ module _ {S : Type 0} {m : Member S} {layout : Layout} {seat : ℕ} {a b : State
 
       room : cycle_of word + 1 < 2 ^ 20
       room =
-          let few : cycle_of word ≤ layout.cpus * 4096 = cycles-few layout (words_at layout a) a.homes a.views made.rule.rule frame.0 word there in
+          let few : cycle_of word ≤ layout.cpus * command_limit = cycles-few layout (words_at layout a) a.homes a.views made.rule.rule frame.0 word there in
           let cpus : layout.cpus ≤ cpu_limit = made.rule.sound.cpus in
           omega (arith, few, cpus)
 

@@ -28,7 +28,7 @@ abbrev pub is_refused : Turn → Bool
 is_refused turns.NoMemory = true
 is_refused turn = false
 
--- Room for larger machines than today's: no more translations than this, of whatever page
+-- no more translations than this, of whatever page
 abbrev pub translation_room : ℕ
 translation_room = 4096
 

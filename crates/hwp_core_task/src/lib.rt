@@ -14,11 +14,11 @@ pub use board::Board;
 pub use driver::advance;
 pub use hwp_core_rule::{
     At, Body, CacheWord, Code, CounterWord, Cpu, Damage, Entry, FileNo, Frame, FrameWord, FreeWord,
-    HANDLED, Kind, LOCK, Layout, Line, List, Mask, Mode, OutOfMemory, Outcome, POISON, Page,
-    PageKind, PageState, PageWord, Policy, PolicyWord, Proc, ProcessWord, Pte, REFERENCE, Reply,
-    Seen, SharedWord, Signal, SignalList, SignalRoom, Situation, SlotMove, Slots, Step, StopWord,
-    Text, Thread, VSlot, View, What, Who, frame_in, index, is_stopped, lowest_bit, next_to_read,
-    prctl, signals,
+    HANDLED, HeldSlots, Kind, LOCK, Layout, Line, List, Mask, Mode, OutOfMemory, Outcome, POISON,
+    Page, PageKind, PageState, PageWord, Policy, PolicyWord, Proc, ProcessWord, Pte, REFERENCE,
+    Reply, Seen, SharedWord, Signal, SignalList, SignalRoom, Situation, SlotMove, SlotRoom, Slots,
+    Step, StopWord, Text, Thread, VSlot, Version, View, What, Who, frame_in, index, is_stopped,
+    lowest_bit, next_to_read, prctl, signals,
 };
 pub use ops::{Met, Ops};
 pub use ranked::Ranked;

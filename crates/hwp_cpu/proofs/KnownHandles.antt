@@ -30,6 +30,8 @@ use Rattle.hwp_cpu.proofs.Rows.{past-end}
 untold : (file : FileNo) (n : ℕ) (command : Command) (a : Answer) → tells_number file command a ≡ false → number_by file n command a ≡ n
 untold file n (commands.Fsync other) (answers.Eio more) is = let none : cond (other.0 == file.0) more 0 ≡ 0 = ap (λ (b : Bool). cond b more 0) is in omega (arith, none)
 untold file n (commands.Fsync other) _ is = refl
+untold file n (commands.Open other) (answers.Opened lost) is = ap (λ (b : Bool). cond b lost n) is
+untold file n (commands.Open other) _ is = refl
 untold file n command a is = refl
 
 seen-loss : (view : View) (who : Who) (file : FileNo) (n : ℕ) → Saw view who (places.Loss file) n → HasSeenLoss view file n

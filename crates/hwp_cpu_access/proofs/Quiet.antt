@@ -1,4 +1,4 @@
--- An access makes only steps that set no policy, take no losses, neither mark nor count a frame and don't stop the machine.
+-- An access makes only steps that set no policy, neither mark nor count a frame and don't stop the machine.
 use Rattle.std.proofs.Common.{ℕ}
 use Rattle.hwp_fault.specs.hwp_geom.declared.Frame.{Frame}
 use Rattle.hwp_fault.specs.hwp_geom.declared.Page.{Page}

@@ -1,6 +1,6 @@
 -- Why a command that makes no entry is answered so: of a file's losses, of an event that is logged, of damage to a line, and of a
 -- thread's policy.
-use Rattle.std.proofs.Common.{◌≡◌, ℕ, ◌<◌, eq-eqb, Bool, false, cond, List, [], ◌∷◌, ◌++◌, Option, Some, map, take, refl, sym, ap, ◌∙◌, subst, inl, inr}
+use Rattle.std.proofs.Common.{◌≡◌, ℕ, ◌<◌, eq-eqb, Bool, false, true, cond, List, [], ◌∷◌, ◌++◌, Option, Some, map, take, refl, sym, ap, ◌∙◌, subst, inl, inr}
 use Rattle.std.specs.List.{fold}
 use Rattle.std.specs.Option.{option_map}
 use Rattle.std.proofs.lemmas.List.{append-nil, map-append, same_from_push}
@@ -31,7 +31,7 @@ use Rattle.hwp_law_holds.specs.hwp_banks.Banks.{Banks}
 use Rattle.hwp_law_holds.specs.hwp_banks.Banks.{raw_event}
 use Rattle.hwp_law_holds.specs.hwp_law.Policies.{arguments, settings}
 use Rattle.hwp_law_holds.specs.hwp_law.Policies as laws
-use Rattle.hwp_law_holds.specs.hwp_core_task.Known.{Saw}
+use Rattle.hwp_law_holds.specs.hwp_core_task.Known.{HasMadeNone, Saw}
 use Rattle.hwp_cpu_command.specs.hwp_cpu_control.declared.NestedAnswer.{NestedAnswer}
 use Rattle.hwp_cpu_command.specs.hwp_cpu_control.declared.NestedAnswer.TheVariants as nested_answers
 use Rattle.hwp_cpu_command.specs.hwp_cpu_control.declared.Nested.{Nested}
@@ -64,8 +64,8 @@ use Rattle.hwp_law_holds.specs.hwp_cpu_row.declared.FrameChange.{FrameChange}
 use Rattle.hwp_cpu_command.specs.declared.Job.{Job}
 use Rattle.hwp_cpu_command.specs.declared.Job.TheVariants as jobs
 use Rattle.hwp_cpu_command.specs.Answers.{fsync_answer, nested_answer, prctl_answer, read_stop_answer, spoil_answer}
-use Rattle.hwp_cpu_command.specs.Begins.{BeginsLog, BeginsPrctl, BeginsSpoil}
-use Rattle.hwp_cpu_command.specs.FileHandles.{HasHandle, IsUnopened}
+use Rattle.hwp_cpu_command.specs.Begins.{BeginsFsync, BeginsLog, BeginsPrctl, BeginsSpoil}
+use Rattle.hwp_cpu_command.specs.FileHandles.{HasHandle, IsToldBy}
 use Rattle.hwp_cpu_command.specs.Jobs.{Fits, answer}
 use Rattle.hwp_cpu_command.specs.Runs.{anew}
 use Rattle.hwp_cpu_command.specs.Settings.{HasReplied, IsCounted, policies_in, set_at}
@@ -77,14 +77,30 @@ use Rattle.hwp_cpu_causes.proofs.StopCauses.{found-stopped}
 
 -- ---- the losses of a file
 
-pub fsync-caused : (layout : Layout) (list : List Command) (view : View) (told : List EventOutcome) (did : Option FrameChange) {who : Who} {file : FileNo} {handle : ℕ} (j : Job) {a : Answer} → anew j ≡ jobs.Fsync (fsyncs.begin who file handle false) → Fits layout view j → answer j ≡ Some a → (handles : List ℕ) → HasHandle handles j
-    → IsAnswerCaused layout list view who (commands.Fsync file) told did a
-fsync-caused layout list view told did {who} {file} {handle} j {a} runs fits is handles has =
-    subst (λ (f : Fsync). IsAnswerCaused layout list view f.who (commands.Fsync f.file) told did a) task.2
-    (subst (IsAnswerCaused layout list view task.0.who (commands.Fsync task.0.file) told did) own.2 (by own.0 (subst (fsyncs.FitsAt layout view task.0.who task.0.file task.0.handle) over fit.at) (subst IsUnopened over unopened)))
+-- what an `fsync` or an `open` knows of its answer
+pub record KnowsLosses (layout : Layout) (view : View) (who : Who) (file : FileNo) (opens : Bool) (answer : Answer) : Type 0 where
+  pub own : FsyncAnswer
+  pub answer_is : fsync_answer own ≡ answer
+  pub handle : ℕ
+  pub number : ℕ
+  pub caused : fsyncs.IsCaused layout view who file handle number own
+  pub told : IsToldBy opens (fsync_at.Over own number)
+  pub made_none : HasMadeNone view who
+
+pub knows-losses : {layout : Layout} {view : View} {who : Who} {file : FileNo} {opens : Bool} (j : Job) {a : Answer} → BeginsFsync layout who file opens (anew j) → Fits layout view j → answer j ≡ Some a → (handles : List ℕ) → HasHandle handles j
+    → KnowsLosses layout view who file opens a
+knows-losses {layout} {view} {who} {file} {opens} j {a} runs fits is handles has = subst (λ (f : Fsync). KnowsLosses layout view f.who f.file f.opens a) task.2 (record {
+  own = own.0;
+  answer_is = own.2;
+  handle = task.0.handle;
+  number = fsyncs.number task.0;
+  caused = subst (fsyncs.FitsAt layout view task.0.who task.0.file task.0.handle) over fit.at;
+  told = subst (IsToldBy task.0.opens) over (subst (HasHandle handles) task.1 has).1;
+  made_none = fit.made_none;
+})
   where
-    task : (f : Fsync) × (j ≡ jobs.Fsync f) × (fsyncs.begin f.who f.file f.handle f.opens ≡ fsyncs.begin who file handle false)
-    task = of-fsync j runs
+    task : (f : Fsync) × (j ≡ jobs.Fsync f) × (fsyncs.begin f.who f.file f.handle f.opens ≡ fsyncs.begin who file runs.1 opens)
+    task = of-fsync j runs.2
 
     own : (x : FsyncAnswer) × (fsyncs.answer task.0 ≡ Some x) × (fsync_answer x ≡ a)
     own = mapped fsync_answer (fsyncs.answer task.0) (sym (ap answer task.1) ∙ is)
@@ -95,15 +111,25 @@ fsync-caused layout list view told did {who} {file} {handle} j {a} runs fits is 
     over : task.0.at ≡ fsync_at.Over own.0 (fsyncs.number task.0)
     over = fsync-over task.0 own.1
 
-    unopened : IsUnopened task.0.at
-    unopened = (subst (HasHandle handles) task.1 has).2
+module _ (layout : Layout) (list : List Command) (view : View) (who : Who) (file : FileNo) (told : List EventOutcome) (did : Option FrameChange) (handle number : ℕ) (none : HasMadeNone view who) where
+  asked : (x : FsyncAnswer) → fsyncs.IsCaused layout view who file handle number x → IsToldBy false (fsync_at.Over x number) → IsAnswerCaused layout list view who (commands.Fsync file) told did (fsync_answer x)
+  asked fsync_answers.Stopped caused by = found-stopped layout (commands.Fsync file) view who (inl caused.0) none
+  asked fsync_answers.Done caused by = none
+  asked (fsync_answers.Eio more) caused by = (none, caused.0)
+  asked (fsync_answers.Opened lost) caused by = absurd by
 
-    by : (x : FsyncAnswer) → fsyncs.IsCaused layout view task.0.who task.0.file task.0.handle (fsyncs.number task.0) x → IsUnopened (fsync_at.Over x (fsyncs.number task.0))
-        → IsAnswerCaused layout list view task.0.who (commands.Fsync task.0.file) told did (fsync_answer x)
-    by fsync_answers.Stopped caused none = found-stopped layout (commands.Fsync task.0.file) view task.0.who (inl caused.0) fit.made_none
-    by fsync_answers.Done caused none = fit.made_none
-    by (fsync_answers.Eio more) caused none = (fit.made_none, caused.0)
-    by (fsync_answers.Opened lost) caused none = absurd none
+  opened : (x : FsyncAnswer) → fsyncs.IsCaused layout view who file handle number x → IsToldBy true (fsync_at.Over x number) → IsAnswerCaused layout list view who (commands.Open file) told did (fsync_answer x)
+  opened fsync_answers.Stopped caused by = found-stopped layout (commands.Open file) view who (inl caused.0) none
+  opened fsync_answers.Done caused by = absurd by
+  opened (fsync_answers.Eio more) caused by = absurd by
+  opened (fsync_answers.Opened lost) caused by = none
+
+module _ {layout : Layout} (list : List Command) {view : View} {who : Who} {file : FileNo} {a : Answer} (told : List EventOutcome) (did : Option FrameChange) where
+  pub fsync-caused : KnowsLosses layout view who file false a → IsAnswerCaused layout list view who (commands.Fsync file) told did a
+  fsync-caused k = subst (IsAnswerCaused layout list view who (commands.Fsync file) told did) k.answer_is (asked layout list view who file told did k.handle k.number k.made_none k.own k.caused k.told)
+
+  pub open-caused : KnowsLosses layout view who file true a → IsAnswerCaused layout list view who (commands.Open file) told did a
+  open-caused k = subst (IsAnswerCaused layout list view who (commands.Open file) told did) k.answer_is (opened layout list view who file told did k.handle k.number k.made_none k.own k.caused k.told)
 
 -- ---- commands of machine checks
 

@@ -14,7 +14,7 @@ use Rattle.hwp_cpu_command.specs.Runs.{Runs}
 use Rattle.hwp_cpu_command.specs.Settings.{HasReplied, IsCounted}
 use Rattle.hwp_law_holds.specs.Causes.{IsCaused}
 use Rattle.hwp_cpu_causes.proofs.AccessCauses.{fetch-caused, kload-caused, knows-access, load-caused, store-caused}
-use Rattle.hwp_cpu_causes.proofs.CallCauses.{fsync-caused, log-caused, nested-caused, prctl-caused, spoil-caused}
+use Rattle.hwp_cpu_causes.proofs.CallCauses.{fsync-caused, knows-losses, log-caused, nested-caused, open-caused, prctl-caused, spoil-caused}
 use Rattle.hwp_cpu_causes.proofs.InjectCauses.{inject-caused, knows-failure}
 use Rattle.hwp_cpu_causes.proofs.EvictCauses.{drop-caused, free-caused, knows-eviction, out-caused, sync-caused}
 use Rattle.hwp_cpu_causes.proofs.OfflineCauses.{knows-soft, soft-caused}
@@ -32,7 +32,8 @@ caused layout list view who (commands.Free slot) j runs fits is counted handles 
 caused layout list view who (commands.Drop page) j runs fits is counted handles has = drop-caused list (told_of j) (own_of j) (knows-eviction j runs fits is)
 caused layout list view who (commands.Sync page) j runs fits is counted handles has = sync-caused list (told_of j) (own_of j) (knows-eviction j runs fits is)
 caused layout list view who (commands.Out page) j runs fits is counted handles has = out-caused list (told_of j) (own_of j) (knows-eviction j runs fits is)
-caused layout list view who (commands.Fsync file) j runs fits is counted handles has = fsync-caused layout list view (told_of j) (own_of j) j runs.2 fits is handles has
+caused layout list view who (commands.Fsync file) j runs fits is counted handles has = fsync-caused list (told_of j) (own_of j) (knows-losses j runs fits is handles has)
+caused layout list view who (commands.Open file) j runs fits is counted handles has = open-caused list (told_of j) (own_of j) (knows-losses j runs fits is handles has)
 caused layout list view who (commands.Prctl thread args) j runs fits is counted handles has = prctl-caused list view (told_of j) (own_of j) j runs fits is counted
 caused layout list view who (commands.Bad frame line) j runs fits is counted handles has = spoil-caused layout list view (told_of j) (own_of j) j runs fits is
 caused layout list view who (commands.Weak frame line) j runs fits is counted handles has = spoil-caused layout list view (told_of j) (own_of j) j runs fits is

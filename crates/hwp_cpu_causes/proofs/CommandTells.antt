@@ -72,6 +72,7 @@ tells layout view who (commands.Drop page) j kept runs fits is = by-kind kept (c
 tells layout view who (commands.Sync page) j kept runs fits is = by-kind kept (commands.Sync page) (of-evict j runs.job_is).1 refl (refl, refl)
 tells layout view who (commands.Out page) j kept runs fits is = by-kind kept (commands.Out page) (of-evict j runs.job_is).1 refl (refl, refl)
 tells layout view who (commands.Fsync file) j kept runs fits is = by-kind kept (commands.Fsync file) (of-fsync j runs.2).1 refl (refl, refl)
+tells layout view who (commands.Open file) j kept runs fits is = by-kind kept (commands.Open file) (of-fsync j runs.2).1 refl (refl, refl)
 tells layout view who (commands.Prctl thread args) j kept runs fits is = by-kind kept (commands.Prctl thread args) (of-prctl j runs.job_is).1 refl (refl, refl)
 tells layout view who (commands.Bad frame line) j kept runs fits is = by-kind kept (commands.Bad frame line) (of-spoil j runs.job_is).1 refl (refl, refl)
 tells layout view who (commands.Weak frame line) j kept runs fits is = by-kind kept (commands.Weak frame line) (of-spoil j runs.job_is).1 refl (refl, refl)

@@ -73,6 +73,7 @@ module _ (layout : Layout) (list : List Command) (view : View) (who : Who) (page
   free slot kind (answers.Done at) has = (subst (λ (p : Page). IsOf layout p slot) (sym has.0) kind, made-one layout view who page (evictions.Free slot) at has)
   free slot kind (answers.Refused refusals.NotMapped at) has = (subst (λ (p : Page). IsOf layout p slot) (sym has.1.page_is) kind, found-state layout view who page (evictions.Free slot) refusals.NotMapped at has)
   free slot kind (answers.Refused refusals.NotResident at) has = absurd has.1.state.such
+  free slot kind (answers.Refused refusals.Locked at) has = absurd has.1.state.such
   free slot kind (answers.Refused refusals.Dirty at) has = absurd has.1.state.such
   free slot kind (answers.Refused refusals.Mapped at) has = absurd has.1.state.such
   free slot kind (answers.Refused (refusals.BadLines mask) at) has = absurd has.1.state.such
@@ -82,6 +83,7 @@ module _ (layout : Layout) (list : List Command) (view : View) (who : Who) (page
   drop (answers.Done at) has = (has.0, made-one layout view who page evictions.Drop at has)
   drop (answers.Refused refusals.NotMapped at) has = absurd has.1.state.such
   drop (answers.Refused refusals.NotResident at) has = (has.1.page_is, found-state layout view who page evictions.Drop refusals.NotResident at has)
+  drop (answers.Refused refusals.Locked at) has = (has.1.page_is, found-state layout view who page evictions.Drop refusals.Locked at has)
   drop (answers.Refused refusals.Dirty at) has = (has.1.page_is, found-state layout view who page evictions.Drop refusals.Dirty at has)
   drop (answers.Refused refusals.Mapped at) has = (has.1.page_is, found-state layout view who page evictions.Drop refusals.Mapped at has)
   drop (answers.Refused (refusals.BadLines mask) at) has = absurd has.1.state.such
@@ -91,6 +93,7 @@ module _ (layout : Layout) (list : List Command) (view : View) (who : Who) (page
   sync (answers.Done at) has = (has.0, made-one layout view who page evictions.Sync at has)
   sync (answers.Refused refusals.NotMapped at) has = absurd has.1.state.such
   sync (answers.Refused refusals.NotResident at) has = (has.1.page_is, found-state layout view who page evictions.Sync refusals.NotResident at has)
+  sync (answers.Refused refusals.Locked at) has = absurd has.1.state.such
   sync (answers.Refused refusals.Dirty at) has = absurd has.1.state.such
   sync (answers.Refused refusals.Mapped at) has = absurd has.1.state.such
   sync (answers.Refused (refusals.BadLines mask) at) has = (has.1.page_is, found-state layout view who page evictions.Sync (refusals.BadLines mask) at has, bad-lines layout view who page evictions.Sync mask at has)
@@ -100,6 +103,7 @@ module _ (layout : Layout) (list : List Command) (view : View) (who : Who) (page
   out (answers.Done at) has = (has.0, made-one layout view who page evictions.Out at has)
   out (answers.Refused refusals.NotMapped at) has = absurd has.1.state.such
   out (answers.Refused refusals.NotResident at) has = (has.1.page_is, found-state layout view who page evictions.Out refusals.NotResident at has)
+  out (answers.Refused refusals.Locked at) has = (has.1.page_is, found-state layout view who page evictions.Out refusals.Locked at has)
   out (answers.Refused refusals.Dirty at) has = absurd has.1.state.such
   out (answers.Refused refusals.Mapped at) has = absurd has.1.state.such
   out (answers.Refused (refusals.BadLines mask) at) has = (has.1.page_is, found-state layout view who page evictions.Out (refusals.BadLines mask) at has, bad-lines layout view who page evictions.Out mask at has)

@@ -22,9 +22,10 @@ use Rattle.hwp_law_holds.specs.Handles.{KnowsNumber}
 use Rattle.hwp_cpu_command.specs.declared.Job.{Job}
 use Rattle.hwp_cpu_command.specs.declared.Job.TheVariants as jobs
 use Rattle.hwp_cpu_command.specs.Answers.{fsync_answer}
-use Rattle.hwp_cpu_command.specs.FileHandles.{HasHandle, IsUnopened, handles_after}
+use Rattle.hwp_cpu_command.specs.Begins.{BeginsFsync}
+use Rattle.hwp_cpu_command.specs.FileHandles.{HasHandle, IsToldBy, handles_after}
 use Rattle.hwp_cpu_command.specs.Jobs.{Fits, answer}
-use Rattle.hwp_cpu_command.specs.Runs.{Runs}
+use Rattle.hwp_cpu_command.specs.Runs.{Runs, anew}
 use Rattle.hwp_cpu_command.proofs.JobEnds.{fsync-over, mapped}
 use Rattle.hwp_cpu_command.proofs.OfKind.{of-evict, of-fsync, of-inject, of-instruction, of-log, of-nested, of-prctl, of-raise, of-scrub, of-soft, of-spoil, of-unpoison}
 
@@ -33,94 +34,124 @@ pub record IsNumbered (layout : Layout) (view : View) (who : Who) (command : Com
   pub has : slice_get after file.0 ≡ Some (number_by file m command a)
   pub knows : tells_number file command a ≡ true → KnowsNumber layout view who file (number_by file m command a)
 
--- ---- the answer of an `fsync`
+-- ---- the answer of an `fsync` or an `open`
+
+-- the command that asks a handle of the file, or opens it
+abbrev asking : Bool → FileNo → Command
+asking false file = commands.Fsync file
+asking true file = commands.Open file
 
 module _ (layout : Layout) (view : View) (handles : List ℕ) (f : Fsync) where
+  abbrev command : Command
+  command = asking f.opens f.file
+
+  abbrev Caused : FsyncAnswer → Type 0
+  Caused x = fsyncs.IsCaused layout view f.who f.file f.handle (fsyncs.number f) x
+
+  abbrev Told : Bool → FsyncAnswer → Type 0
+  Told opens x = IsToldBy opens (fsync_at.Over x (fsyncs.number f))
+
   -- the file that it names
-  number-own : (x : FsyncAnswer) → fsyncs.IsCaused layout view f.who f.file f.handle (fsyncs.number f) x → IsUnopened (fsync_at.Over x (fsyncs.number f)) → number_by f.file f.handle (commands.Fsync f.file) (fsync_answer x) ≡ fsyncs.number f
-  number-own fsync_answers.Stopped caused none = sym caused.1
-  number-own fsync_answers.Done caused none = sym caused.0
-  number-own (fsync_answers.Eio more) caused none = ap (λ (b : Bool). f.handle + cond b more 0) (eq-eqb f.file.0 f.file.0 refl) ∙ sym caused.1
-  number-own (fsync_answers.Opened lost) caused none = absurd none
+  number-own : (opens : Bool) (x : FsyncAnswer) → Caused x → Told opens x → number_by f.file f.handle (asking opens f.file) (fsync_answer x) ≡ fsyncs.number f
+  number-own false fsync_answers.Stopped caused by = sym caused.1
+  number-own true fsync_answers.Stopped caused by = sym caused.1
+  number-own false fsync_answers.Done caused by = sym caused.0
+  number-own true fsync_answers.Done caused by = absurd by
+  number-own false (fsync_answers.Eio more) caused by = ap (λ (b : Bool). f.handle + cond b more 0) (eq-eqb f.file.0 f.file.0 refl) ∙ sym caused.1
+  number-own true (fsync_answers.Eio more) caused by = absurd by
+  number-own false (fsync_answers.Opened lost) caused by = absurd by
+  number-own true (fsync_answers.Opened lost) caused by = ap (λ (b : Bool). cond b lost f.handle) (eq-eqb f.file.0 f.file.0 refl) ∙ sym caused.0
 
-  knows-own : (x : FsyncAnswer) → fsyncs.IsCaused layout view f.who f.file f.handle (fsyncs.number f) x → IsUnopened (fsync_at.Over x (fsyncs.number f)) → tells_number f.file (commands.Fsync f.file) (fsync_answer x) ≡ true
-      → KnowsNumber layout view f.who f.file (fsyncs.number f)
-  knows-own fsync_answers.Stopped caused none told = absurd (both_ways false refl told)
-  knows-own fsync_answers.Done caused none told = (caused.1, caused.2)
-  knows-own (fsync_answers.Eio more) caused none told = (caused.2, caused.3)
-  knows-own (fsync_answers.Opened lost) caused none told = absurd none
+  knows-own : (opens : Bool) (x : FsyncAnswer) → Caused x → Told opens x → tells_number f.file (asking opens f.file) (fsync_answer x) ≡ true → KnowsNumber layout view f.who f.file (fsyncs.number f)
+  knows-own false fsync_answers.Stopped caused by told = absurd (both_ways false refl told)
+  knows-own true fsync_answers.Stopped caused by told = absurd (both_ways false refl told)
+  knows-own opens fsync_answers.Done caused by told = (caused.1, caused.2)
+  knows-own opens (fsync_answers.Eio more) caused by told = (caused.2, caused.3)
+  knows-own opens (fsync_answers.Opened lost) caused by told = (caused.1, caused.2)
 
-  own-file : (x : FsyncAnswer) → fsyncs.IsCaused layout view f.who f.file f.handle (fsyncs.number f) x → IsUnopened (fsync_at.Over x (fsyncs.number f)) → slice_get handles f.file.0 ≡ Some f.handle
-      → IsNumbered layout view f.who (commands.Fsync f.file) (fsync_answer x) f.file f.handle (slice_set handles f.file.0 (fsyncs.number f))
-  own-file x caused none there = record {
-    has = set_here handles f.file.0 (fsyncs.number f) f.handle there ∙ ap (λ (n : ℕ). Some n) (sym (number-own x caused none));
-    knows = λ told. subst (KnowsNumber layout view f.who f.file) (sym (number-own x caused none)) (knows-own x caused none told);
+  own-file : (x : FsyncAnswer) → Caused x → Told f.opens x → slice_get handles f.file.0 ≡ Some f.handle → IsNumbered layout view f.who command (fsync_answer x) f.file f.handle (slice_set handles f.file.0 (fsyncs.number f))
+  own-file x caused by there = record {
+    has = set_here handles f.file.0 (fsyncs.number f) f.handle there ∙ ap (λ (n : ℕ). Some n) (sym (number-own f.opens x caused by));
+    knows = λ told. subst (KnowsNumber layout view f.who f.file) (sym (number-own f.opens x caused by)) (knows-own f.opens x caused by told);
   }
 
   -- another file
   module _ (file : FileNo) (m : ℕ) (other : (f.file.0 == file.0) ≡ false) where
-    number-other : (x : FsyncAnswer) → number_by file m (commands.Fsync f.file) (fsync_answer x) ≡ m
-    number-other fsync_answers.Stopped = refl
-    number-other fsync_answers.Done = refl
-    number-other (fsync_answers.Eio more) = let none : cond (f.file.0 == file.0) more 0 ≡ 0 = ap (λ (b : Bool). cond b more 0) other in omega (arith, none)
-    number-other (fsync_answers.Opened lost) = refl
+    number-other : (opens : Bool) (x : FsyncAnswer) → number_by file m (asking opens f.file) (fsync_answer x) ≡ m
+    number-other false fsync_answers.Stopped = refl
+    number-other true fsync_answers.Stopped = refl
+    number-other false fsync_answers.Done = refl
+    number-other true fsync_answers.Done = refl
+    number-other false (fsync_answers.Eio more) = let none : cond (f.file.0 == file.0) more 0 ≡ 0 = ap (λ (b : Bool). cond b more 0) other in omega (arith, none)
+    number-other true (fsync_answers.Eio more) = refl
+    number-other false (fsync_answers.Opened lost) = refl
+    number-other true (fsync_answers.Opened lost) = ap (λ (b : Bool). cond b lost m) other
 
-    untold : (x : FsyncAnswer) → tells_number file (commands.Fsync f.file) (fsync_answer x) ≡ false
-    untold fsync_answers.Stopped = refl
-    untold fsync_answers.Done = other
-    untold (fsync_answers.Eio more) = other
-    untold (fsync_answers.Opened lost) = refl
+    untold : (opens : Bool) (x : FsyncAnswer) → tells_number file (asking opens f.file) (fsync_answer x) ≡ false
+    untold false fsync_answers.Stopped = refl
+    untold true fsync_answers.Stopped = refl
+    untold false fsync_answers.Done = other
+    untold true fsync_answers.Done = refl
+    untold false (fsync_answers.Eio more) = other
+    untold true (fsync_answers.Eio more) = refl
+    untold false (fsync_answers.Opened lost) = refl
+    untold true (fsync_answers.Opened lost) = other
 
-    other-file : (x : FsyncAnswer) → slice_get handles file.0 ≡ Some m → IsNumbered layout view f.who (commands.Fsync f.file) (fsync_answer x) file m (slice_set handles f.file.0 (fsyncs.number f))
+    other-file : (x : FsyncAnswer) → slice_get handles file.0 ≡ Some m → IsNumbered layout view f.who command (fsync_answer x) file m (slice_set handles f.file.0 (fsyncs.number f))
     other-file x there = record {
-      has = set_else handles f.file.0 file.0 (fsyncs.number f) (λ same. both_ways (f.file.0 == file.0) other (eq-eqb f.file.0 file.0 (sym same))) ∙ there ∙ ap (λ (n : ℕ). Some n) (sym (number-other x));
-      knows = λ told. absurd (both_ways (tells_number file (commands.Fsync f.file) (fsync_answer x)) (untold x) told);
+      has = set_else handles f.file.0 file.0 (fsyncs.number f) (λ same. both_ways (f.file.0 == file.0) other (eq-eqb f.file.0 file.0 (sym same))) ∙ there ∙ ap (λ (n : ℕ). Some n) (sym (number-other f.opens x));
+      knows = λ told. absurd (both_ways (tells_number file command (fsync_answer x)) (untold f.opens x) told);
     }
 
-  each-file : (x : FsyncAnswer) → fsyncs.IsCaused layout view f.who f.file f.handle (fsyncs.number f) x → IsUnopened (fsync_at.Over x (fsyncs.number f)) → f.handle ≡ number_in handles f.file → (file : FileNo) (m : ℕ) → slice_get handles file.0 ≡ Some m
-      → IsNumbered layout view f.who (commands.Fsync f.file) (fsync_answer x) file m (slice_set handles f.file.0 (fsyncs.number f))
-  each-file x caused none handle file m there = which (f.file.0 == file.0) refl
+  each-file : (x : FsyncAnswer) → Caused x → Told f.opens x → f.handle ≡ number_in handles f.file → (file : FileNo) (m : ℕ) → slice_get handles file.0 ≡ Some m
+      → IsNumbered layout view f.who command (fsync_answer x) file m (slice_set handles f.file.0 (fsyncs.number f))
+  each-file x caused by handle file m there = which (f.file.0 == file.0) refl
     where
-      own : f.file ≡ file → IsNumbered layout view f.who (commands.Fsync f.file) (fsync_answer x) file m (slice_set handles f.file.0 (fsyncs.number f))
+      own : f.file ≡ file → IsNumbered layout view f.who command (fsync_answer x) file m (slice_set handles f.file.0 (fsyncs.number f))
       own same =
           let here : slice_get handles f.file.0 ≡ Some m = ap (λ (n : FileNo). slice_get handles n.0) same ∙ there in
           let is : f.handle ≡ m = handle ∙ ap (λ o. unwrap_or o 0) here in
-          subst (λ (n : FileNo). IsNumbered layout view f.who (commands.Fsync f.file) (fsync_answer x) n m (slice_set handles f.file.0 (fsyncs.number f))) same
-          (subst (λ (k : ℕ). IsNumbered layout view f.who (commands.Fsync f.file) (fsync_answer x) f.file k (slice_set handles f.file.0 (fsyncs.number f))) is
-          (own-file x caused none (here ∙ ap (λ (k : ℕ). Some k) (sym is))))
+          subst (λ (n : FileNo). IsNumbered layout view f.who command (fsync_answer x) n m (slice_set handles f.file.0 (fsyncs.number f))) same
+          (subst (λ (k : ℕ). IsNumbered layout view f.who command (fsync_answer x) f.file k (slice_set handles f.file.0 (fsyncs.number f))) is
+          (own-file x caused by (here ∙ ap (λ (k : ℕ). Some k) (sym is))))
 
-      which : (b : Bool) → (f.file.0 == file.0) ≡ b → IsNumbered layout view f.who (commands.Fsync f.file) (fsync_answer x) file m (slice_set handles f.file.0 (fsyncs.number f))
+      which : (b : Bool) → (f.file.0 == file.0) ≡ b → IsNumbered layout view f.who command (fsync_answer x) file m (slice_set handles f.file.0 (fsyncs.number f))
       which true is = own (λ t. record { 0 = eqb-true f.file.0 file.0 is t })
       which false is = other-file file m is x there
 
 -- a command that tells a number is of a file of the layout
-tells-file : (file other : FileNo) (a : Answer) → tells_number file (commands.Fsync other) a ≡ true → other.0 ≡ file.0
-tells-file file other answers.Done is = eqb-true other.0 file.0 is
-tells-file file other (answers.Eio more) is = eqb-true other.0 file.0 is
-tells-file file other _ is = absurd (both_ways false refl is)
+tells-asked : (file other : FileNo) (a : Answer) → tells_number file (commands.Fsync other) a ≡ true → other.0 ≡ file.0
+tells-asked file other answers.Done is = eqb-true other.0 file.0 is
+tells-asked file other (answers.Eio more) is = eqb-true other.0 file.0 is
+tells-asked file other _ is = absurd (both_ways false refl is)
+
+tells-opened : (file other : FileNo) (a : Answer) → tells_number file (commands.Open other) a ≡ true → other.0 ≡ file.0
+tells-opened file other (answers.Opened lost) is = eqb-true other.0 file.0 is
+tells-opened file other _ is = absurd (both_ways false refl is)
 
 pub tells-inside : (layout : Layout) (who : Who) (command : Command) (j : Job) (a : Answer) (file : FileNo) → Runs layout who command j → tells_number file command a ≡ true → file.0 < layout.files
-tells-inside layout who (commands.Fsync other) j a file runs is = subst (λ (n : ℕ). n < layout.files) (tells-file file other a is) runs.0
+tells-inside layout who (commands.Fsync other) j a file runs is = subst (λ (n : ℕ). n < layout.files) (tells-asked file other a is) runs.0
+tells-inside layout who (commands.Open other) j a file runs is = subst (λ (n : ℕ). n < layout.files) (tells-opened file other a is) runs.0
 tells-inside layout who command j a file runs is = absurd (both_ways false refl is)
 
 -- ---- each command
 
 module _ (layout : Layout) (view : View) (who : Who) (j : Job) {a : Answer} (fits : Fits layout view j) (is : answer j ≡ Some a) (handles : List ℕ) (file : FileNo) (m : ℕ) (there : slice_get handles file.0 ≡ Some m) where
-  -- one that is no `fsync` leaves the handles
+  -- one that is no `fsync` and no `open` leaves the handles
   leaves : (command : Command) {k : Job} → j ≡ k → handles_after k handles ≡ handles → number_by file m command a ≡ m → tells_number file command a ≡ false → IsNumbered layout view who command a file m (handles_after j handles)
   leaves command same kept number untold = record {
     has = ap (λ (l : List ℕ). slice_get l file.0) (ap (λ (q : Job). handles_after q handles) same ∙ kept) ∙ there ∙ ap (λ (n : ℕ). Some n) (sym number);
     knows = λ told. absurd (both_ways (tells_number file command a) untold told);
   }
 
-  told-by : (other : FileNo) → Runs layout who (commands.Fsync other) j → HasHandle handles j → IsNumbered layout view who (commands.Fsync other) a file m (handles_after j handles)
-  told-by other runs has =
-      subst (λ (f : Fsync). IsNumbered layout view f.who (commands.Fsync f.file) a file m (handles_after j handles)) task.2
-      (subst (λ (q : Job). IsNumbered layout view task.0.who (commands.Fsync task.0.file) a file m (handles_after q handles)) (sym task.1)
-      (subst (λ (x : Answer). IsNumbered layout view task.0.who (commands.Fsync task.0.file) x file m (slice_set handles task.0.file.0 (fsyncs.number task.0))) own.2
-      (each-file layout view handles task.0 own.0 (subst (fsyncs.FitsAt layout view task.0.who task.0.file task.0.handle) over fit.at) (subst IsUnopened over known.2) known.0 file m there)))
+  told-by : (opens : Bool) (other : FileNo) → BeginsFsync layout who other opens (anew j) → HasHandle handles j → IsNumbered layout view who (asking opens other) a file m (handles_after j handles)
+  told-by opens other runs has =
+      subst (λ (f : Fsync). IsNumbered layout view f.who (asking f.opens f.file) a file m (handles_after j handles)) task.2
+      (subst (λ (q : Job). IsNumbered layout view task.0.who (asking task.0.opens task.0.file) a file m (handles_after q handles)) (sym task.1)
+      (subst (λ (x : Answer). IsNumbered layout view task.0.who (asking task.0.opens task.0.file) x file m (slice_set handles task.0.file.0 (fsyncs.number task.0))) own.2
+      (each-file layout view handles task.0 own.0 (subst (fsyncs.FitsAt layout view task.0.who task.0.file task.0.handle) over fit.at) (subst (IsToldBy task.0.opens) over known.1) known.0 file m there)))
     where
-      task : (f : Fsync) × (j ≡ jobs.Fsync f) × (fsyncs.begin f.who f.file f.handle f.opens ≡ fsyncs.begin who other runs.1 false)
+      task : (f : Fsync) × (j ≡ jobs.Fsync f) × (fsyncs.begin f.who f.file f.handle f.opens ≡ fsyncs.begin who other runs.1 opens)
       task = of-fsync j runs.2
 
       own : (x : FsyncAnswer) × (fsyncs.answer task.0 ≡ Some x) × (fsync_answer x ≡ a)
@@ -136,7 +167,8 @@ module _ (layout : Layout) (view : View) (who : Who) (j : Job) {a : Answer} (fit
       known = subst (HasHandle handles) task.1 has
 
   pub numbered : (command : Command) → Runs layout who command j → HasHandle handles j → IsNumbered layout view who command a file m (handles_after j handles)
-  numbered (commands.Fsync other) runs has = told-by other runs has
+  numbered (commands.Fsync other) runs has = told-by false other runs has
+  numbered (commands.Open other) runs has = told-by true other runs has
   numbered (commands.Load thread slot line) runs has = leaves (commands.Load thread slot line) (of-instruction j runs.job_is).1 refl refl refl
   numbered (commands.Fetch thread slot line) runs has = leaves (commands.Fetch thread slot line) (of-instruction j runs.job_is).1 refl refl refl
   numbered (commands.KLoad thread slot line) runs has = leaves (commands.KLoad thread slot line) (of-instruction j runs.job_is).1 refl refl refl

@@ -280,6 +280,7 @@ does layout view who (commands.Drop page) j runs fits is = let task = (of-evict 
 does layout view who (commands.Sync page) j runs fits is = let task = (of-evict j runs.job_is).1 in by-kind task (refl, refl, refl, refl) (ap policies_now task) tt
 does layout view who (commands.Out page) j runs fits is = let task = (of-evict j runs.job_is).1 in by-kind task (refl, refl, refl, refl) (ap policies_now task) tt
 does layout view who (commands.Fsync file) j runs fits is = let task = (of-fsync j runs.2).1 in by-kind task (refl, refl, refl, refl) (ap policies_now task) tt
+does layout view who (commands.Open file) j runs fits is = let task = (of-fsync j runs.2).1 in by-kind task (refl, refl, refl, refl) (ap policies_now task) tt
 does layout view who (commands.Prctl thread args) j runs fits is = let task = (of-prctl j runs.job_is).1 in by-kind task (refl, refl, refl, refl) (prctl-set (knows-prctl j runs fits is)) tt
 does layout view who (commands.Bad frame line) j runs fits is = let task = (of-spoil j runs.job_is).1 in by-kind task (refl, refl, refl, refl) (ap policies_now task) tt
 does layout view who (commands.Weak frame line) j runs fits is = let task = (of-spoil j runs.job_is).1 in by-kind task (refl, refl, refl, refl) (ap policies_now task) tt

@@ -20,8 +20,8 @@ pub use hwp_claim_frame::{
 };
 pub use hwp_law::{
     Acted, Answer, Command, CpuLine, Decision, EventLine, FrameLine, How, MAX_SCRIPT, MarkLine,
-    McgBits, PrctlArgs, Report, Script, Stop, StopCause, Whereabouts, grade, handle, is_text,
-    kind_name, policy_word, print, read_number,
+    McgBits, PrctlArgs, Report, Script, Stop, StopCause, Version, Whereabouts, grade, handle,
+    is_text, kind_name, policy_word, print, read_number,
 };
 pub use lines::ToldLines;
 pub use told::{EventOutcome, Held};

@@ -44,6 +44,7 @@ instruction_answer instruction.Stopped = answers.Stopped
 abbrev pub refusal_answer : Refusal → At → Answer
 refusal_answer refusals.NotMapped at = answers.NotMapped at
 refusal_answer refusals.NotResident at = answers.NotResident at
+refusal_answer refusals.Locked at = answers.Locked at
 refusal_answer refusals.Dirty at = answers.Dirty at
 refusal_answer refusals.Mapped at = answers.Mapped at
 refusal_answer (refusals.BadLines mask) at = answers.BadLines mask at

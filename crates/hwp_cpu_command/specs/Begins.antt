@@ -1,8 +1,9 @@
 -- The task that a command begins as.
 use Rattle.std.specs.declared.alloc.Global.{Global}
-use Rattle.std.specs.Prelude.{◌≡◌, ℕ, ◌<◌, false, Some, None, length, slice_get}
+use Rattle.std.specs.Prelude.{◌≡◌, ℕ, ◌<◌, Bool, false, true, Some, None, length, slice_get}
 use Rattle.hwp_cpu_control.specs.hwp_geom.declared.Damage.{Damage}
 use Rattle.hwp_cpu_control.specs.hwp_geom.declared.Damage.TheVariants as damages
+use Rattle.hwp_cpu_control.specs.hwp_geom.declared.FileNo.{FileNo}
 use Rattle.hwp_cpu_control.specs.hwp_geom.declared.Frame.{Frame}
 use Rattle.hwp_cpu_control.specs.hwp_geom.declared.Layout.{Layout}
 use Rattle.hwp_cpu_control.specs.hwp_geom.declared.Mode.{Mode}
@@ -146,6 +147,10 @@ pub record BeginsUnpoison (layout : Layout) (who : Who) (frame : Frame) (j : Job
   pub within : frame.0 < layout.frames
   pub job_is : j ≡ jobs.Unpoison (unpoisons.begin who frame)
 
+-- a handle of a file of the layout, with some number, is asked what came since, or is opened
+abbrev pub BeginsFsync : Layout → Who → FileNo → Bool → Job → Type 0
+BeginsFsync layout who file opens j = (file.0 < layout.files) × (handle : ℕ) × (j ≡ jobs.Fsync (fsyncs.begin who file handle opens))
+
 -- the task is at the beginning of the command, of a processor whose banks hold this
 abbrev pub Begins : Layout → Who → Command → Banks → Job → Type 0
 Begins layout who (commands.Load thread slot line) banks j = BeginsLoad layout who thread slot line banks j
@@ -156,7 +161,8 @@ Begins layout who (commands.Free slot) banks j = (page : Page) × BeginsEviction
 Begins layout who (commands.Drop page) banks j = BeginsEviction layout who page evictions.Drop j
 Begins layout who (commands.Sync page) banks j = BeginsEviction layout who page evictions.Sync j
 Begins layout who (commands.Out page) banks j = BeginsEviction layout who page evictions.Out j
-Begins layout who (commands.Fsync file) banks j = (file.0 < layout.files) × (handle : ℕ) × (j ≡ jobs.Fsync (fsyncs.begin who file handle false))
+Begins layout who (commands.Fsync file) banks j = BeginsFsync layout who file false j
+Begins layout who (commands.Open file) banks j = BeginsFsync layout who file true j
 Begins layout who (commands.Prctl thread args) banks j = BeginsPrctl layout who thread args j
 Begins layout who (commands.Bad frame line) banks j = BeginsSpoil layout who frame line damages.Bad j
 Begins layout who (commands.Weak frame line) banks j = BeginsSpoil layout who frame line damages.Weak j

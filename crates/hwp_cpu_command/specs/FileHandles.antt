@@ -1,5 +1,5 @@
 -- The handles of a processor while its commands run, one for each file: how many losses of the file the processor has seen.
-use Rattle.std.specs.Prelude.{◌≡◌, ◌⊎◌, ℕ, false, List, slice_set}
+use Rattle.std.specs.Prelude.{◌≡◌, ◌⊎◌, ℕ, Bool, false, true, List, slice_set}
 use Rattle.hwp_cpu_control.specs.hwp_core_rule.declared.View.{View}
 use Rattle.hwp_cpu_control.specs.hwp_core_task.Known.{HasSeenLoss}
 use Rattle.hwp_evict.specs.declared.FsyncAnswer.TheVariants as fsync_answers
@@ -12,14 +12,16 @@ use Rattle.hwp_cpu_command.specs.declared.job.Job.{Job}
 use Rattle.hwp_cpu_command.specs.declared.job.Job.TheVariants as jobs
 use Rattle.hwp_cpu_command.specs.Jobs.{banks_after, left_in}
 
--- the task doesn't answer that it opened a handle
-abbrev pub IsUnopened : FsyncAt → Type 0
-IsUnopened (fsync_at.Over (fsync_answers.Opened word) number) = ⊥
-IsUnopened _ = Unit {0}
+-- the task answers what an `open` does where it opens the handle, and else what an `fsync` does
+abbrev pub IsToldBy : Bool → FsyncAt → Type 0
+IsToldBy false (fsync_at.Over (fsync_answers.Opened word) number) = ⊥
+IsToldBy true (fsync_at.Over fsync_answers.Done number) = ⊥
+IsToldBy true (fsync_at.Over (fsync_answers.Eio more) number) = ⊥
+IsToldBy opens _ = Unit {0}
 
--- an `fsync` has the number of its file's handle, and opens none
+-- an `fsync` or an `open` has the number of its file's handle
 abbrev pub HasHandle : List ℕ → Job → Type 0
-HasHandle handles (jobs.Fsync f) = (f.handle ≡ number_in handles f.file) × (f.opens ≡ false) × IsUnopened f.at
+HasHandle handles (jobs.Fsync f) = (f.handle ≡ number_in handles f.file) × IsToldBy f.opens f.at
 HasHandle handles _ = Unit {0}
 
 -- the number of its handle is 0, or a step of the processor showed so many losses of the file

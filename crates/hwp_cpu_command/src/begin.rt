@@ -36,7 +36,7 @@ use std::mem;
 
 impl Job {
     /// The command at its beginning. One that can log or raise an event takes what the banks of its processor hold, and an `fsync`
-    /// gets the number of the processor's handle of the file.
+    /// or an `open` gets the number of the processor's handle of the file.
     pub fn new(alloc: Global, layout: &Layout, who: Who, command: Command, local: &mut Local) -> Job
         requires sound { IsSound layout.now }
         requires of { IsCommandOf layout.now who.cpu.0 command }
@@ -94,7 +94,8 @@ fn begin(
         Command::Drop { page } => Job::Evict(Evict::drop_page(who, page)),
         Command::Sync { page } => Job::Evict(Evict::sync_page(who, page)),
         Command::Out { page } => Job::Evict(Evict::out_page(who, page)),
-        Command::Fsync { file } => fsync(who, file, handles),
+        Command::Fsync { file } => ask(who, file, handles, false),
+        Command::Open { file } => ask(who, file, handles, true),
         Command::Prctl { thread, args } => call(layout, who, thread, args),
         Command::Bad { frame, line } => spoil_line(who, frame, line, Damage::Bad),
         Command::Weak { frame, line } => spoil_line(who, frame, line, Damage::Weak),
@@ -121,11 +122,11 @@ fn taken(banks: &mut [Bank; BANKS]) -> [Bank; BANKS]
     mem::replace(banks, no_events())
 }
 
-/// The losses of a file that the processor's handle of it hasn't seen.
-fn fsync(who: Who, file: FileNo, handles: &Handles) -> Job
-    ensures { result ≡ jobs.Fsync (fsyncs.begin who file (number_in handles.now file) false) }
+/// An `fsync` at its beginning, or where it opens the handle an `open`, with the number of the processor's handle of the file.
+fn ask(who: Who, file: FileNo, handles: &Handles, opens: bool) -> Job
+    ensures { result ≡ jobs.Fsync (fsyncs.begin who file (number_in handles.now file) opens) }
 {
-    Job::Fsync(Fsync::new(who, file, handles.number(file), false))
+    Job::Fsync(Fsync::new(who, file, handles.number(file), opens))
 }
 
 /// The page that a translation leads to.

@@ -21,7 +21,7 @@ pub enum Job {
     Instruction(Instruction),
     /// A command by which a page, or a part of it, leaves its frame.
     Evict(Evict),
-    /// The losses of a file are told that the processor's handle hasn't seen.
+    /// An `fsync`: what the processor's handle of a file hasn't seen of its losses; or an `open`: all of them.
     Fsync(Fsync),
     /// A call of prctl(2).
     Prctl(Prctl),
@@ -162,6 +162,7 @@ fn refusal_answer(refusal: Refusal, at: At) -> Answer
     match refusal {
         Refusal::NotMapped => Answer::NotMapped(at),
         Refusal::NotResident => Answer::NotResident(at),
+        Refusal::Locked => Answer::Locked(at),
         Refusal::Dirty => Answer::Dirty(at),
         Refusal::Mapped => Answer::Mapped(at),
         Refusal::BadLines(mask) => Answer::BadLines(mask, at),

@@ -1,5 +1,5 @@
 -- The turns of a command are few.
-use Rattle.std.proofs.Common.{◌≡◌, ℕ, ◌+◌, ◌<◌, ◌≤◌, false, length, sym, subst, arith}
+use Rattle.std.proofs.Common.{◌≡◌, ℕ, ◌+◌, ◌<◌, ◌≤◌, false, true, length, sym, subst, arith}
 use Rattle.hwp_cpu_command.specs.hwp_geom.declared.Layout.{Layout}
 use Rattle.hwp_cpu_command.specs.hwp_geom.declared.Mode.{Mode}
 use Rattle.hwp_cpu_command.specs.hwp_geom.declared.Thread.{Thread}
@@ -128,6 +128,7 @@ begins-below layout a by command banks j rule begun = which command begun
     which (commands.Sync page) b = below b.job_is (wider (evict-below w (evicts.begin by page evictions.Sync)))
     which (commands.Out page) b = below b.job_is (wider (evict-below w (evicts.begin by page evictions.Out)))
     which (commands.Fsync file) b = below b.2 (let most = fsync-below (fsyncs.begin by file b.1 false) w in omega (arith, most))
+    which (commands.Open file) b = below b.2 (let most = fsync-below (fsyncs.begin by file b.1 true) w in omega (arith, most))
     which (commands.Prctl thread args) b = below b.job_is (omega arith)
     which (commands.Bad frame line) b = below b.job_is (omega arith)
     which (commands.Weak frame line) b = below b.job_is (omega arith)

@@ -1,5 +1,4 @@
--- What a step of a command does beside entries: it poisons a frame or counts that, takes the losses of a file, sets a policy, or
--- leaves what the view lists of these.
+-- What a step of a command does beside entries: it poisons a frame or counts that, sets a policy, or leaves what the view lists of these.
 use Rattle.std.proofs.Common.{◌≡◌, inl, inr, ℕ, suc, ◌+◌, ◌==◌, Bool, true, false, cond, List, [], ◌∷◌, ◌++◌, Option, Some, None, option_map, filter, filter_map, map, refl, sym, ap, ◌∙◌, subst, arith, true≢false}
 use Rattle.std.specs.List.{cons_option}
 use Rattle.std.proofs.lemmas.Bool.{eqb-true}

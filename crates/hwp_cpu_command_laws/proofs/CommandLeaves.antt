@@ -1,4 +1,4 @@
--- What a step of a command leaves of what a view lists: the policies set, the losses taken and the damage stay, but for a command
+-- What a step of a command leaves of what a view lists: the policies set and the damage stay, but for a command
 -- that makes one of these; and the stops stay, or the command stops the machine itself.
 use Rattle.std.proofs.Common.{◌≡◌, ◌⊎◌, inl, inr, ◌==◌, Bool, true, false, cond, [], ◌∷◌, ◌++◌, Option, Some, None, refl, sym, ap, ◌∙◌, subst, true≢false}
 use Rattle.std.proofs.lemmas.Option.{none-some}

@@ -2,6 +2,7 @@
 use Rattle.std.proofs.Common.{◌≡◌, inl, inr, ℕ, Bool, true, false, [], Option, Some, None, refl, sym, ap, ◌∙◌, subst}
 use Rattle.std.specs.declared.alloc.Global.{Global}
 use Rattle.hwp_cpu_command.specs.hwp_geom.declared.Damage.{Damage}
+use Rattle.hwp_cpu_command.specs.hwp_geom.declared.FileNo.{FileNo}
 use Rattle.hwp_cpu_command.specs.hwp_geom.declared.Frame.{Frame}
 use Rattle.hwp_cpu_command.specs.hwp_geom.declared.Layout.{Layout}
 use Rattle.hwp_cpu_command.specs.hwp_geom.declared.Mode.{Mode}
@@ -54,7 +55,7 @@ use Rattle.hwp_cpu_command.proofs.of_hwp_scrub.ScrubLaws as scrubbing
 use Rattle.hwp_cpu_command.specs.hwp_soft.declared.Soft.{Soft}
 use Rattle.hwp_cpu_command.specs.declared.job.Job.{Job}
 use Rattle.hwp_cpu_command.specs.declared.job.Job.TheVariants as jobs
-use Rattle.hwp_cpu_command.specs.Begins.{Begins, BeginsAccess, BeginsEviction, BeginsInject, BeginsLog, BeginsPrctl, BeginsRaiseKernel, BeginsRaiseUser, BeginsScrub, BeginsSoft, BeginsSpoil, BeginsUnpoison, request_of}
+use Rattle.hwp_cpu_command.specs.Begins.{Begins, BeginsAccess, BeginsEviction, BeginsFsync, BeginsInject, BeginsLog, BeginsPrctl, BeginsRaiseKernel, BeginsRaiseUser, BeginsScrub, BeginsSoft, BeginsSpoil, BeginsUnpoison, request_of}
 use Rattle.hwp_cpu_command.specs.Done.{can_fail}
 use Rattle.hwp_cpu_command.specs.Jobs.{Fits, Next, banks_before, bare, claims, class, left_in, who}
 use Rattle.hwp_cpu_command.specs.FileHandles.{KnowsHandle}
@@ -263,6 +264,7 @@ has-begun layout by command banks j begun = which command begun
     which (commands.Sync page) b = from (commands.Sync page) _ b.job_is (λ r. record { runs = r; who_is = refl; start = refl; before = refl; idle = (refl, refl); call = refl }) b
     which (commands.Out page) b = from (commands.Out page) _ b.job_is (λ r. record { runs = r; who_is = refl; start = refl; before = refl; idle = (refl, refl); call = refl }) b
     which (commands.Fsync file) b = from (commands.Fsync file) _ b.2 (λ r. record { runs = r; who_is = refl; start = refl; before = refl; idle = (refl, refl); call = refl }) b
+    which (commands.Open file) b = from (commands.Open file) _ b.2 (λ r. record { runs = r; who_is = refl; start = refl; before = refl; idle = (refl, refl); call = refl }) b
     which (commands.Prctl thread args) b = from (commands.Prctl thread args) _ b.job_is (λ r. record { runs = r; who_is = refl; start = refl; before = refl; idle = (refl, refl); call = refl }) b
     which (commands.Bad frame line) b = from (commands.Bad frame line) _ b.job_is (λ r. record { runs = r; who_is = refl; start = refl; before = refl; idle = (refl, refl); call = refl }) b
     which (commands.Weak frame line) b = from (commands.Weak frame line) _ b.job_is (λ r. record { runs = r; who_is = refl; start = refl; before = refl; idle = (refl, refl); call = refl }) b
@@ -354,6 +356,17 @@ module _ {layout : Layout} {view : View} {who : Who} (rest : AtRest view who) {j
   unpoison-fits : {frame : Frame} → BeginsUnpoison layout who frame j → Fits layout view j
   unpoison-fits begun = subst (Fits layout view) (sym begun.job_is) (record { on_turn = rest.on_turn; hand_is = rest.hand_is; made = rest.made; frame = begun.within; at = rest.revivals })
 
+fsync-fits : (layout : Layout) (view : View) (who : Who) (file : FileNo) (opens : Bool) (j : Job) → BeginsFsync layout who file opens j → AtRest view who → KnowsHandle view j → Fits layout view j
+fsync-fits layout view who file opens j begun rest known = subst (Fits layout view) (sym begun.2) (record {
+  on_turn = rest.on_turn;
+  file = begun.0;
+  hand_is = rest.hand_is;
+  paid = rest.paid;
+  made_none = rest.made;
+  handle = subst (KnowsHandle view) begun.2 known;
+  at = tt;
+})
+
 pub begins-fits : (layout : Layout) (view : View) (who : Who) (command : Command) (banks : Banks) (j : Job) → Begins layout who command banks j → AreBanks banks → AtRest view who → KnowsHandle view j → Fits layout view j
 begins-fits layout view by (commands.Load thread slot line) banks j begun free rest known = access-fits rest tt begun
 begins-fits layout view by (commands.Fetch thread slot line) banks j begun free rest known = access-fits rest tt begun
@@ -363,15 +376,8 @@ begins-fits layout view by (commands.Free slot) banks j begun free rest known = 
 begins-fits layout view by (commands.Drop page) banks j begun free rest known = eviction-fits rest begun
 begins-fits layout view by (commands.Sync page) banks j begun free rest known = eviction-fits rest begun
 begins-fits layout view by (commands.Out page) banks j begun free rest known = eviction-fits rest begun
-begins-fits layout view by (commands.Fsync file) banks j begun free rest known = subst (Fits layout view) (sym begun.2) (record {
-  on_turn = rest.on_turn;
-  file = begun.0;
-  hand_is = rest.hand_is;
-  paid = rest.paid;
-  made_none = rest.made;
-  handle = subst (KnowsHandle view) begun.2 known;
-  at = tt;
-})
+begins-fits layout view by (commands.Fsync file) banks j begun free rest known = fsync-fits layout view by file false j begun rest known
+begins-fits layout view by (commands.Open file) banks j begun free rest known = fsync-fits layout view by file true j begun rest known
 begins-fits layout view by (commands.Prctl thread args) banks j begun free rest known = prctl-fits rest begun
 begins-fits layout view by (commands.Bad frame line) banks j begun free rest known = spoil-fits rest begun
 begins-fits layout view by (commands.Weak frame line) banks j begun free rest known = spoil-fits rest begun

@@ -393,6 +393,7 @@ stops (inr own) = inr (own.0, own.1, own.2, tt)
 refused : (refusal : Refusal) (at : At) → says_stopped (Some (refusal_answer refusal at)) ≡ false
 refused refusals.NotMapped at = refl
 refused refusals.NotResident at = refl
+refused refusals.Locked at = refl
 refused refusals.Dirty at = refl
 refused refusals.Mapped at = refl
 refused (refusals.BadLines mask) at = refl

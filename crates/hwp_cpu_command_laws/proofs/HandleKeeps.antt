@@ -10,26 +10,29 @@ use Rattle.hwp_cpu_command.specs.hwp_evict.declared.fsync.FsyncAt.TheVariants as
 use Rattle.hwp_cpu_command.specs.hwp_evict.Fsyncs as fsyncs
 use Rattle.hwp_cpu_command.specs.declared.job.Job.{Job}
 use Rattle.hwp_cpu_command.specs.declared.job.Job.TheVariants as jobs
-use Rattle.hwp_cpu_command.specs.FileHandles.{HasHandle, IsUnopened}
+use Rattle.hwp_cpu_command.specs.FileHandles.{HasHandle, IsToldBy}
 use Rattle.hwp_cpu_command.specs.Jobs.{Next, bare}
 
--- an `fsync` that opens no handle doesn't answer that it has
-stays-unopened : (handle found : ℕ) (x : FsyncAt) → IsUnopened x → IsUnopened (fsyncs.next_at handle false x found)
-stays-unopened handle found fsync_at.LoadStop none = by-stop (is_stopped found)
-  where
-    by-stop : (b : Bool) → IsUnopened (cond b (fsync_at.Over fsync_answers.Stopped handle) fsync_at.Report)
-    by-stop true = tt
-    by-stop false = tt
-stays-unopened handle found fsync_at.Report none = by-word (found == handle)
-  where
-    by-word : (b : Bool) → IsUnopened (fsync_at.Over (cond b fsync_answers.Done (fsync_answers.Eio (found - handle))) found)
-    by-word true = tt
-    by-word false = tt
-stays-unopened handle found (fsync_at.Over answer number) none = none
+-- where the task opens the handle it answers so, and else not
+by-stop : (handle : ℕ) (opens stopped : Bool) → IsToldBy opens (cond stopped (fsync_at.Over fsync_answers.Stopped handle) fsync_at.Report)
+by-stop handle true true = tt
+by-stop handle true false = tt
+by-stop handle false true = tt
+by-stop handle false false = tt
+
+by-word : (handle found : ℕ) (seen : Bool) → IsToldBy false (fsync_at.Over (cond seen fsync_answers.Done (fsync_answers.Eio (found - handle))) found)
+by-word handle found true = tt
+by-word handle found false = tt
+
+stays-told : (handle found : ℕ) (opens : Bool) (x : FsyncAt) → IsToldBy opens x → IsToldBy opens (fsyncs.next_at handle opens x found)
+stays-told handle found opens fsync_at.LoadStop told = by-stop handle opens (is_stopped found)
+stays-told handle found true fsync_at.Report told = tt
+stays-told handle found false fsync_at.Report told = by-word handle found (found == handle)
+stays-told handle found opens (fsync_at.Over answer number) told = told
 
 pub handle-stays : (layout : Layout) (handles : List ℕ) (j after : Job) (found : ℕ) (got : Option BodyValue) (turn : Turn) → Next layout (bare j) found got after turn → HasHandle handles j → HasHandle handles after
 handle-stays layout handles (jobs.Fsync f) after found got turn next has =
-    subst (HasHandle handles) (sym next.0) (has.0, has.1, subst (λ (opens : Bool). IsUnopened (fsyncs.next_at f.handle opens f.at found)) (sym has.1) (stays-unopened f.handle found f.at has.2))
+    subst (HasHandle handles) (sym next.0) (has.0, stays-told f.handle found f.opens f.at has.1)
 handle-stays layout handles (jobs.Instruction i) after found got turn next has = subst (HasHandle handles) (sym next.1) tt
 handle-stays layout handles (jobs.Evict e) after found got turn next has = subst (HasHandle handles) (sym next.1) tt
 handle-stays layout handles (jobs.Raise r) after found got turn next has = subst (HasHandle handles) (sym next.1) tt

@@ -1,4 +1,4 @@
--- Tasks that set no policy, take no losses, neither mark nor count a frame, damage no line and don't stop the machine (`IsQuiet`).
+-- Tasks that set no policy, neither mark nor count a frame, damage no line and don't stop the machine (`IsQuiet`).
 use Rattle.std.proofs.Common.{Bool}
 use Rattle.hwp_cpu_command.specs.hwp_geom.declared.Frame.{Frame}
 use Rattle.hwp_cpu_command.specs.hwp_geom.declared.Page.{Page}

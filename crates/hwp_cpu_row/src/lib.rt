@@ -11,8 +11,8 @@ pub use hwp_cpu_check::{
     FrameWord, Held, How, Inject, Kind, Layout, List, MAX_SCRIPT, MarkLine, Mask, McgBits, Mode,
     Ops, Origin, OutOfMemory, Page, PageWord, PolicyWord, PrctlArgs, ProcessWord, Pte, Ranked,
     Report, Scheduled, Script, SharedWord, Status, Step, Stop, StopCause, StopWord, Task, Text,
-    Turn, Whereabouts, Who, handle, index, is_text, kind_name, no_events, policy_word, print,
-    read_number,
+    Turn, Version, Whereabouts, Who, handle, index, is_text, kind_name, no_events, policy_word,
+    print, read_number,
 };
 pub use local::{Handles, Local};
 pub use row::{FrameChange, Row};

@@ -44,6 +44,7 @@ module _ {layout : Layout} {by : Who} {step : Step} {put : Option Log} {old new 
   lines-stay : (who : Who) (page : Page) (refusal : Refusal) → SawLines layout old who page refusal → SawLines layout new who page refusal
   lines-stay who page refusals.NotMapped saw = tt
   lines-stay who page refusals.NotResident saw = tt
+  lines-stay who page refusals.Locked saw = tt
   lines-stay who page refusals.Dirty saw = tt
   lines-stay who page refusals.Mapped saw = tt
   lines-stay who page (refusals.BadLines mask) saw = (saw.0, (saw.1.0, saw.1.1, saw-bad-of-stays made page saw.1.2))

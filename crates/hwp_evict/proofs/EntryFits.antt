@@ -47,7 +47,7 @@ module _ {layout : Layout} {view : View} {who : Who} {page : Page} (on : IsOnTur
       (leaves evictions.Drop on inside frame body has none kind passes sound few saw now entry (shelf-words entry frame has.seen refl unused unused refl) (ap (λ (s : PageState). s.maps) (state-after entry frame has.seen) ∙ unused))
     where
       unused : (state_of layout (log_of body)).maps ≡ set.empty
-      unused = ap (λ (s : PageState). s.maps) (state-is has.body_is) ∙ passes.1
+      unused = ap (λ (s : PageState). s.maps) (state-is has.body_is) ∙ passes.2
   made-fits evictions.Out kind passes few saw now entry x is = starts on inside sound frame body has now entry few saw none x is
 
   pub enters-fits : (what : Eviction) → IsOfKind layout page what → Passes what body.state → has.seen ≤ length view.sights → HasSeen (drop has.seen view.sights) who (Some frame) (entry_of what)

@@ -13,6 +13,7 @@ use Rattle.hwp_core.specs.hwp_geom.declared.Page.{Page}
 use Rattle.hwp_core.specs.hwp_geom.declared.Proc.{Proc}
 use Rattle.hwp_core.specs.hwp_geom.declared.TransDecl.{TransDecl}
 use Rattle.hwp_core.specs.hwp_geom.declared.Who.{Who}
+use Rattle.hwp_core.specs.hwp_geom.Layout.{is_locked}
 use Rattle.hwp_core.specs.hwp_page.declared.At.{At}
 use Rattle.hwp_core.specs.hwp_page.declared.Entry.{Entry}
 use Rattle.hwp_core.specs.hwp_page.declared.PageState.{PageState}
@@ -91,7 +92,7 @@ module _ {layout : Layout} {who : Who} {page : Page} {what : Eviction} {log : Lo
   one-more = ap (more_of taken) has.log_is ∙ longer-more
 
   longer-state : after state (entry_of what) ≡ state_of layout longer
-  longer-state = sym (fold-append (λ (t : PageState) (e : Entry). after t e.what) (opening_at (slice_get layout.pages log.page.0)) log.entries (entry ∷ []))
+  longer-state = sym (fold-append (λ (t : PageState) (e : Entry). after t e.what) (opening_at (slice_get layout.pages log.page.0) (is_locked layout log.page)) log.entries (entry ∷ []))
 
   -- the state after the entry
   pub state-after : state_of layout (log_of body) ≡ after state (entry_of what)

@@ -50,7 +50,7 @@ use Rattle.hwp_evict.specs.Vacates as vacates
 use Rattle.hwp_evict.proofs.AnswerCauses.{ahead-stays, home-after, home-by-page, unhold-causes}
 use Rattle.hwp_evict.proofs.EvictSteps.{bad-fits, held-enters, hold-fits, recent-held}
 use Rattle.hwp_evict.proofs.TranslationWrites.{can-write, declared-of, freed}
-use Rattle.hwp_evict.proofs.PageStates.{can-enter, copying-passes}
+use Rattle.hwp_evict.proofs.PageStates.{can-enter}
 use Rattle.hwp_evict.proofs.ClearLaws as clearing
 use Rattle.hwp_evict.proofs.SwapOut.{clear-fits, clear-shows}
 use Rattle.hwp_evict.proofs.VacateCosts.{vacate-lists}
@@ -228,7 +228,7 @@ both layout old new e step found got fits is made = which e.at is fits.at made
 
         none : HasMadeNone new e.who
         none = deeds-same e.who (hold-lists h step p) made ∙ has.made_none
-    which (at.LoadBad frame body) p has made = (can-enter e.what has.page_held.body_is fits.kind (copying-passes e.what body.state has.copying), λ y turn follows. bad-fits on fits.page fits.kind has (steps-planned p made) y follows.0)
+    which (at.LoadBad frame body) p has made = (can-enter e.what has.page_held.body_is fits.kind has.passes, λ y turn follows. bad-fits on fits.page fits.kind has (steps-planned p made) y follows.0)
     which (at.SetPte slot frame body done) p has made = (
       tt,
       λ y turn follows. to follows.0

@@ -44,11 +44,11 @@ use Rattle.hwp_evict.specs.declared.evict.Eviction.{Eviction}
 use Rattle.hwp_evict.specs.declared.evict.Eviction.TheVariants as evictions
 use Rattle.hwp_evict.specs.declared.evict.Refusal.{Refusal}
 use Rattle.hwp_evict.specs.declared.evict.Refusal.TheVariants as refusals
-use Rattle.hwp_evict.specs.Evictions.{absence, copies, entry_of, Bars, IsOfKind, IsWhy, SawLines}
+use Rattle.hwp_evict.specs.Evictions.{absence, copies, entry_of, Bars, IsOfKind, IsWhy, Passes, SawLines}
 use Rattle.hwp_evict.specs.Evicts.{AfterBad, AfterHeld, AfterHold, AfterHoldAt, CanEnterHeld, Enters, FitsAt, IsReading, refused}
 use Rattle.hwp_evict.proofs.EvictBegins.{refused-fits}
 use Rattle.hwp_evict.proofs.EntryFits.{enters-fits}
-use Rattle.hwp_evict.proofs.PageStates.{away-why, bars-why, can-enter, copying-passes, is-cached}
+use Rattle.hwp_evict.proofs.PageStates.{away-why, bars-why, can-enter, is-cached, state-is}
 
 -- a body taken with its frame's lock has been in hand since no later sight
 abbrev IsRecent : View → HoldAt → Type 0
@@ -123,6 +123,7 @@ away-lines layout view who page evictions.Out = tt
 bars-lines : (layout : Layout) (view : View) (who : Who) (page : Page) (what : Eviction) (s : PageState) (refusal : Refusal) → Bars what s refusal → SawLines layout view who page refusal
 bars-lines layout view who page what s refusals.NotMapped bars = tt
 bars-lines layout view who page what s refusals.NotResident bars = tt
+bars-lines layout view who page what s refusals.Locked bars = tt
 bars-lines layout view who page what s refusals.Dirty bars = tt
 bars-lines layout view who page what s refusals.Mapped bars = tt
 bars-lines layout view who page (evictions.Free slot) s (refusals.BadLines mask) bars = absurd bars
@@ -149,7 +150,7 @@ module _ {layout : Layout} {view : View} {who : Who} {page : Page} (what : Evict
       few = recent (body_in (Some frame) (log_of body) has.seen) (ap (λ (h : Hand). slice_get h.bodies 0) has.hand_is)
 
       which : (b : Bool) → copies what ≡ b → MatchBool b (y ≡ at.LoadBad frame body) (Enters who page what frame body y) → FitsAt layout view who page what y
-      which true is goes = subst (FitsAt layout view who page what) (sym goes) (record { copying = is; page_held = has; few = few; saw = saw; made_none = none })
+      which true is goes = subst (FitsAt layout view who page what) (sym goes) (record { copying = is; passes = passes; page_held = has; few = few; saw = saw; made_none = none })
       which false is goes = enters-fits on inside sound frame body has none what kind passes few (sees-nothing (drop has.seen view.sights) who frame what is) y goes
 
   pub hold-fits : (h : Hold) → h.who ≡ who → h.page ≡ page → holds.Fits layout view h → IsRecent view h.at → (y : EvictAt) → AfterHold who page what h y → FitsAt layout view who page what y
@@ -181,11 +182,11 @@ held-enters {layout} {view} {page} what h its kind fits = which h.at fits.at
 -- ---- the bad lines are read
 
 -- the word shown is that of the frame that is locked
-lines-why : (what : Eviction) (word : ℕ) (s : PageState) → copies what ≡ true → s.cached ≡ true → IsWhy what (refusals.BadLines (record { 0 = word })) s
-lines-why (evictions.Free slot) word s is cached = absurd (both_ways true (sym is) refl)
-lines-why evictions.Sync word s is cached = cached
-lines-why evictions.Out word s is cached = cached
-lines-why evictions.Drop word s is cached = absurd (both_ways true (sym is) refl)
+lines-why : (what : Eviction) (word : ℕ) (s : PageState) → copies what ≡ true → Passes what s → s.cached ≡ true → IsWhy what (refusals.BadLines (record { 0 = word })) s
+lines-why (evictions.Free slot) word s is passes cached = absurd (both_ways true (sym is) refl)
+lines-why evictions.Sync word s is passes cached = cached
+lines-why evictions.Out word s is passes cached = (cached, passes)
+lines-why evictions.Drop word s is passes cached = absurd (both_ways true (sym is) refl)
 
 mask-seen : (sights : List Sight) (who : Who) (frame : Frame) (what : Eviction) → copies what ≡ true → SomeMember (Shows who frame (places.Bad frame) 0) sights → HasSeen sights who (Some frame) (entry_of what)
 mask-seen sights who frame (evictions.Free slot) is seen = tt
@@ -226,7 +227,7 @@ module _ {layout : Layout} {old new : View} {who : Who} {page : Page} {what : Ev
   bad-fits y follows = which (found == 0) refl follows
     where
       which : (b : Bool) → (found == 0) ≡ b → MatchBool b (Enters who page what frame body y) (y ≡ refused who page (Some frame) body (refusals.BadLines (record { 0 = found }))) → FitsAt layout new who page what y
-      which true zero follows = enters-fits on inside made.told.rule.sound frame body page-still none-still what kind (copying-passes what body.state has.copying) few-still
+      which true zero follows = enters-fits on inside made.told.rule.sound frame body page-still none-still what kind has.passes few-still
           (mask-seen (drop has.page_held.seen new.sights) who frame what has.copying (seen-zero (eqb-true found 0 zero))) y follows
       which false some follows = subst (FitsAt layout new who page what) (sym follows) (refused-fits what on inside (Some frame) body (refusals.BadLines (record { 0 = found })) page-still (saw-log-stays made has.saw) none-still
-          (lines-why what found (state_of layout (log_of body)) has.copying (is-cached has.page_held.body_is)) (eqb-false found 0 some, (frame, has.page_held.within frame refl, saw-bad-of-load made page (record { frame = frame; owner = page.0 + 1; handled = has.page_held.handled; poisoned = has.page_held.poisoned }) (ap (λ (h : Hand). slice_get h.locks 0) has.page_held.hand_is) refl refl)))
+          (lines-why what found (state_of layout (log_of body)) has.copying (subst (Passes what) (sym (state-is has.page_held.body_is)) has.passes) (is-cached has.page_held.body_is)) (eqb-false found 0 some, (frame, has.page_held.within frame refl, saw-bad-of-load made page (record { frame = frame; owner = page.0 + 1; handled = has.page_held.handled; poisoned = has.page_held.poisoned }) (ap (λ (h : Hand). slice_get h.locks 0) has.page_held.hand_is) refl refl)))

@@ -9,6 +9,7 @@ use Rattle.hwp_core.specs.hwp_geom.declared.Layout.{Layout}
 use Rattle.hwp_core.specs.hwp_geom.declared.Page.{Page}
 use Rattle.hwp_core.specs.hwp_geom.declared.PageKind.{PageKind}
 use Rattle.hwp_core.specs.hwp_geom.declared.TransDecl.{TransDecl}
+use Rattle.hwp_core.specs.hwp_geom.Layout.{is_locked}
 use Rattle.hwp_core.specs.hwp_page.declared.Entry.{Entry}
 use Rattle.hwp_core.specs.hwp_page.declared.Met.TheVariants.{Word, Sigbus}
 use Rattle.hwp_core.specs.hwp_page.declared.PageState.{PageState}
@@ -28,7 +29,7 @@ use Rattle.hwp_evict.specs.declared.evict.Eviction.{Eviction}
 use Rattle.hwp_evict.specs.declared.evict.Eviction.TheVariants as evictions
 use Rattle.hwp_evict.specs.declared.evict.Refusal.{Refusal}
 use Rattle.hwp_evict.specs.declared.evict.Refusal.TheVariants as refusals
-use Rattle.hwp_evict.specs.Evictions.{entry_of, copies, absence, IsOfKind, Passes, Bars, IsWhy}
+use Rattle.hwp_evict.specs.Evictions.{entry_of, absence, IsOfKind, Passes, Bars, IsWhy}
 use Rattle.hwp_evict.specs.Evicts.{CanMakeEntry}
 
 -- ---- what entries leave
@@ -52,6 +53,9 @@ acted-apart s situations.FileDirty was = unmapped-apart s (acted s situations.Fi
 acted-apart s situations.AnonOnly was = unmapped-apart s (acted s situations.AnonOnly) refl
 acted-apart s situations.SwapClean was = unmapped-apart s (acted s situations.SwapClean) refl
 acted-apart s situations.SwapDirty was = unmapped-apart s (acted s situations.SwapDirty) refl
+acted-apart s situations.LockedClean was = unmapped-apart s (acted s situations.LockedClean) refl
+acted-apart s situations.LockedFile was = unmapped-apart s (acted s situations.LockedFile) refl
+acted-apart s situations.LockedAnon was = unmapped-apart s (acted s situations.LockedAnon) refl
 
 -- what a set has with a number more, and without one
 has-more : (s : set.FinSet nat_cmp) (k q : ℕ) → set.contains (set.insert s k) q ≡ ((q == k) || set.contains s q)
@@ -93,7 +97,7 @@ led-apart layout page s t [] leads was = subst IsApart leads was
 led-apart layout page s t (e ∷ es) leads was = led-apart layout page (after s e.what) t es leads.1 (after-apart layout page s e.what was leads.0)
 
 pub replay-apart : {layout : Layout} {page : Page} {list : List Entry} {state : PageState} → IsReplay layout page list state → (slot : ℕ) → set.contains state.maps slot ≡ true → set.contains state.bar slot ≡ false
-replay-apart {layout} {page} {list} {state} replay = led-apart layout page (opening_of replay.kind) state list replay.leads (unmapped-apart (opening_of replay.kind) (opening_of replay.kind) refl)
+replay-apart {layout} {page} {list} {state} replay = led-apart layout page (opening_of replay.kind (is_locked layout page)) state list replay.leads (unmapped-apart (opening_of replay.kind (is_locked layout page)) (opening_of replay.kind (is_locked layout page)) refl)
 
 -- a translation in use is one of the page
 abbrev AreOwn : Layout → Page → PageState → Type 0
@@ -110,6 +114,9 @@ acted-own layout page s situations.FileDirty was = unmapped-own layout page (act
 acted-own layout page s situations.AnonOnly was = unmapped-own layout page (acted s situations.AnonOnly) refl
 acted-own layout page s situations.SwapClean was = unmapped-own layout page (acted s situations.SwapClean) refl
 acted-own layout page s situations.SwapDirty was = unmapped-own layout page (acted s situations.SwapDirty) refl
+acted-own layout page s situations.LockedClean was = unmapped-own layout page (acted s situations.LockedClean) refl
+acted-own layout page s situations.LockedFile was = unmapped-own layout page (acted s situations.LockedFile) refl
+acted-own layout page s situations.LockedAnon was = unmapped-own layout page (acted s situations.LockedAnon) refl
 
 mapped-own : (layout : Layout) (page : Page) (s : PageState) (k : ℕ) → IsSomeAnd (slice_get layout.trans k) (λ (t : TransDecl). t.page ≡ page) → AreOwn layout page s → AreOwn layout page (record s { maps = set.insert s.maps k })
 mapped-own layout page s k own was q used = which (q == k) refl (sym (has-more s.maps k q) ∙ used)
@@ -144,7 +151,7 @@ led-own layout page s t [] leads was = subst (AreOwn layout page) leads was
 led-own layout page s t (e ∷ es) leads was = led-own layout page (after s e.what) t es leads.1 (after-own layout page s e.what was leads.0)
 
 pub replay-own : {layout : Layout} {page : Page} {list : List Entry} {state : PageState} → IsReplay layout page list state → (slot : ℕ) → set.contains state.maps slot ≡ true → IsSomeAnd (slice_get layout.trans slot) (λ (t : TransDecl). t.page ≡ page)
-replay-own {layout} {page} {list} {state} replay = led-own layout page (opening_of replay.kind) state list replay.leads (unmapped-own layout page (opening_of replay.kind) refl)
+replay-own {layout} {page} {list} {state} replay = led-own layout page (opening_of replay.kind (is_locked layout page)) state list replay.leads (unmapped-own layout page (opening_of replay.kind (is_locked layout page)) refl)
 
 -- the kind of a page's state is the declared one
 some-is : {A : Type 0} (P : A → Type 0) (o : Option A) (x : A) → o ≡ Some x → IsSomeAnd o P → P x
@@ -186,14 +193,21 @@ away-why {layout} {page} {body} what is = which what
 -- what bars the command is why it is refused
 barred-why : (what : Eviction) (s : PageState) (refusal : Refusal) → s.cached ≡ true → Bars what s refusal → IsWhy what refusal s
 barred-why (evictions.Free slot) s refusals.NotMapped cached bars = bars
-barred-why evictions.Drop s refusals.Dirty cached bars = (cached, bars)
-barred-why evictions.Drop s refusals.Mapped cached bars = (cached, bars.0, bars.1)
+barred-why evictions.Drop s refusals.Locked cached bars = (cached, bars)
+barred-why evictions.Drop s refusals.Dirty cached bars = (cached, bars.0, bars.1)
+barred-why evictions.Drop s refusals.Mapped cached bars = (cached, bars.0, bars.1, bars.2)
+barred-why evictions.Out s refusals.Locked cached bars = (cached, bars)
 barred-why (evictions.Free slot) s refusals.NotResident cached bars = absurd bars
+barred-why (evictions.Free slot) s refusals.Locked cached bars = absurd bars
 barred-why (evictions.Free slot) s refusals.Dirty cached bars = absurd bars
 barred-why (evictions.Free slot) s refusals.Mapped cached bars = absurd bars
 barred-why (evictions.Free slot) s (refusals.BadLines mask) cached bars = absurd bars
 barred-why evictions.Sync s refusal cached bars = absurd bars
-barred-why evictions.Out s refusal cached bars = absurd bars
+barred-why evictions.Out s refusals.NotMapped cached bars = absurd bars
+barred-why evictions.Out s refusals.NotResident cached bars = absurd bars
+barred-why evictions.Out s refusals.Dirty cached bars = absurd bars
+barred-why evictions.Out s refusals.Mapped cached bars = absurd bars
+barred-why evictions.Out s (refusals.BadLines mask) cached bars = absurd bars
 barred-why evictions.Drop s refusals.NotMapped cached bars = absurd bars
 barred-why evictions.Drop s refusals.NotResident cached bars = absurd bars
 barred-why evictions.Drop s (refusals.BadLines mask) cached bars = absurd bars
@@ -214,13 +228,13 @@ passes-allowed layout page (evictions.Free slot) s kind declared is cached own p
 passes-allowed layout page evictions.Sync s kind declared is cached own passes =
     (ap is_file is ∙ some-is (λ (k : PageKind). is_file k ≡ true) (slice_get layout.pages page.0) kind declared own, cached)
 passes-allowed layout page evictions.Out s kind declared is cached own passes =
-    (ap is_file is ∙ some-is (λ (k : PageKind). is_file k ≡ false) (slice_get layout.pages page.0) kind declared own, cached)
+    (ap is_file is ∙ some-is (λ (k : PageKind). is_file k ≡ false) (slice_get layout.pages page.0) kind declared own, cached, passes)
 passes-allowed layout page evictions.Drop s kind declared is cached own passes =
-    record { cached = cached; unused = passes.1; clean = is-clean s passes.0; backed = λ none. passes.0 (inr none) }
+    record { cached = cached; unused = passes.2; clean = is-clean s passes.1; backed = λ none. passes.1 (inr none); unlocked = passes.0 }
 
 module _ {layout : Layout} {page : Page} {frame : Frame} {body : BodyValue} (what : Eviction) (is : IsBodyOf layout page (Some frame) body) (own : IsOfKind layout page what) where
   pub allows : Passes what body.state → Allowed layout page (state_of layout (log_of body)) (entry_of what)
-  allows passes = passes-allowed layout page what (state_of layout (log_of body)) replay.kind replay.declared (led-kind layout page (opening_of replay.kind) (state_of layout (log_of body)) body.log replay.leads) (is-cached is) own
+  allows passes = passes-allowed layout page what (state_of layout (log_of body)) replay.kind replay.declared (led-kind layout page (opening_of replay.kind (is_locked layout page)) (state_of layout (log_of body)) body.log replay.leads) (is-cached is) own
       (subst (Passes what) (sym (state-is is)) passes)
     where
       replay : IsReplay layout page body.log (state_of layout (log_of body))
@@ -229,10 +243,3 @@ module _ {layout : Layout} {page : Page} {frame : Frame} {body : BodyValue} (wha
   pub can-enter : Passes what body.state → CanMakeEntry what body
   can-enter passes = subst (λ (l : Layout). Allowed l body.page body.state (entry_of what)) (sym is.layout_is)
       (subst (λ (p : Page). Allowed layout p body.state (entry_of what)) (sym is.page_is) (subst (λ (s : PageState). Allowed layout page s (entry_of what)) (state-is is) (allows passes)))
-
--- a command that copies the content is let go on by each state
-pub copying-passes : (what : Eviction) (s : PageState) → copies what ≡ true → Passes what s
-copying-passes (evictions.Free slot) s is = absurd (both_ways true (sym is) refl)
-copying-passes evictions.Sync s is = tt
-copying-passes evictions.Out s is = tt
-copying-passes evictions.Drop s is = absurd (both_ways true (sym is) refl)

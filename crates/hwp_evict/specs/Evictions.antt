@@ -10,7 +10,7 @@ use Rattle.hwp_core.specs.hwp_page.declared.At.{At}
 use Rattle.hwp_core.specs.hwp_page.declared.PageState.{PageState}
 use Rattle.hwp_core.specs.hwp_page.declared.What.{What}
 use Rattle.hwp_core.specs.hwp_page.declared.What.TheVariants as entries
-use Rattle.hwp_core.specs.hwp_page.Refusals.{IsAway, IsDirty, IsMapped, IsUnsaved, IsUnused}
+use Rattle.hwp_core.specs.hwp_page.Refusals.{IsAway, IsDirty, IsLockedIn, IsMapped, IsUnsaved, IsUnused}
 use Rattle.hwp_core.specs.hwp_page.Step.{IsOf, is_file}
 use Rattle.hwp_core.specs.hwp_core_rule.declared.View.{View}
 use Rattle.hwp_core.specs.hwp_core_task.Known.{HasMade, HasMadeNone, SawBadOf, SawStop}
@@ -54,14 +54,16 @@ absence evictions.Out = refusals.NotResident
 abbrev pub Passes : Eviction → PageState → Type 0
 Passes (evictions.Free slot) s = IsTrue (set.contains s.maps slot.0)
 Passes evictions.Sync s = Unit {0}
-Passes evictions.Drop s = (¬ IsUnsaved s) × (s.maps ≡ set.empty)
-Passes evictions.Out s = Unit {0}
+Passes evictions.Drop s = (s.locked ≡ false) × (¬ IsUnsaved s) × (s.maps ≡ set.empty)
+Passes evictions.Out s = s.locked ≡ false
 
 -- it bars the command for this reason
 abbrev pub Bars : Eviction → PageState → Refusal → Type 0
 Bars (evictions.Free slot) s refusals.NotMapped = IsUnused slot s
-Bars evictions.Drop s refusals.Dirty = IsUnsaved s
-Bars evictions.Drop s refusals.Mapped = (¬ IsUnsaved s) × (s.maps ≢ set.empty)
+Bars evictions.Drop s refusals.Locked = s.locked ≡ true
+Bars evictions.Drop s refusals.Dirty = (s.locked ≡ false) × IsUnsaved s
+Bars evictions.Drop s refusals.Mapped = (s.locked ≡ false) × (¬ IsUnsaved s) × (s.maps ≢ set.empty)
+Bars evictions.Out s refusals.Locked = s.locked ≡ true
 Bars what s refusal = ⊥
 
 abbrev pub IsJudged : Eviction → PageState → Option Refusal → Type 0
@@ -73,10 +75,12 @@ IsWhy (evictions.Free slot) refusals.NotMapped s = IsUnused slot s
 IsWhy evictions.Sync refusals.NotResident s = IsAway s
 IsWhy evictions.Sync (refusals.BadLines mask) s = s.cached ≡ true
 IsWhy evictions.Drop refusals.NotResident s = IsAway s
+IsWhy evictions.Drop refusals.Locked s = IsLockedIn s
 IsWhy evictions.Drop refusals.Dirty s = IsDirty s
 IsWhy evictions.Drop refusals.Mapped s = IsMapped s
 IsWhy evictions.Out refusals.NotResident s = IsAway s
-IsWhy evictions.Out (refusals.BadLines mask) s = s.cached ≡ true
+IsWhy evictions.Out refusals.Locked s = IsLockedIn s
+IsWhy evictions.Out (refusals.BadLines mask) s = (s.cached ≡ true) × (s.locked ≡ false)
 IsWhy what refusal s = ⊥
 
 -- the bad lines were shown, of a frame that the page owns

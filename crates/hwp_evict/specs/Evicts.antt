@@ -244,9 +244,10 @@ pub record IsHolding (layout : Layout) (view : View) (who : Who) (page : Page) (
   pub under_way : is_none (holds.plan h) ≡ false
   pub made_none : HasMadeNone view who
 
--- the page is held, and the command saw its history
+-- the page is held, lets the command go on, and the command saw its history
 pub record IsReading (layout : Layout) (view : View) (who : Who) (page : Page) (what : Eviction) (frame : Frame) (body : BodyValue) : Type 0 where
   pub copying : copies what ≡ true
+  pub passes : Passes what body.state
   pub page_held : HoldsPage layout view page (Some frame) body
   pub few : page_held.seen ≤ length view.sights
   pub saw : SawLog view who (log_of body)

@@ -74,8 +74,8 @@ number_at handle _ = handle
 abbrev pub number : Fsync → ℕ
 number f = number_at f.handle f.at
 
--- why the command answers so, where its handle had the number `handle` and has `number` then: a step of it showed the loss word at that
--- number, which the earlier losses of the processor don't exceed
+-- why the command answers so, where its handle had the number `handle` and has `number` then: a step of it showed the stop word of a
+-- stopped machine; or the loss word at that number, which the earlier losses of the processor don't exceed
 abbrev pub IsCaused : Layout → View → Who → FileNo → ℕ → ℕ → FsyncAnswer → Type 0
 IsCaused layout view who file handle number answers.Stopped = SawStop view who × (number ≡ handle)
 IsCaused layout view who file handle number answers.Done = (number ≡ handle) × Saw view who (places.Loss file) number × Covers layout view who file number

@@ -1,7 +1,7 @@
 ghost use Rattle.std.specs.Prelude.{◌≡◌, is_none};
 ghost use Rattle.hwp_evict.specs.Clears.{IsBegun, pte_of};
 
-use hwp_core::{Body, Frame, Layout, Page, Pte, Ranked, Slots, Step, Task, Turn, VSlot, Who};
+use hwp_core::{Body, Frame, HeldSlots, Layout, Page, Pte, Ranked, Step, Task, Turn, VSlot, Who};
 
 /// Writes the translations that lead to a page's frame, in rising order, so that they no longer do: empty, or with a poison
 /// entry (Linux try_to_unmap).
@@ -10,7 +10,7 @@ pub struct Clear {
     who: Who,
     page: Page,
     frame: Frame,
-    slots: Slots,
+    slots: HeldSlots,
     barred: bool,
     /// How many references to the frame the command has in the end: one of its own, that of the cache word, and one for each
     /// translation that is written.
@@ -21,7 +21,7 @@ pub struct Clear {
 
 impl Clear {
     /// The command writes these translations, which lead to the page's frame; with poison entries where they are barred.
-    pub fn new(who: Who, page: Page, frame: Frame, slots: Slots, barred: bool) -> Clear
+    pub fn new(who: Who, page: Page, frame: Frame, slots: HeldSlots, barred: bool) -> Clear
         ensures { IsBegun who page frame slots barred result }
     {
         let next = slots.lowest_from(VSlot(0));

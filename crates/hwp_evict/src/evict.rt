@@ -3,13 +3,13 @@ ghost use Rattle.hwp_evict.specs.declared.evict.EvictAt.TheVariants as states;
 ghost use Rattle.std.specs.FinSet as set;
 ghost use Rattle.hwp_evict.specs.declared.evict.Eviction.TheVariants as evictions;
 ghost use Rattle.hwp_evict.specs.Evictions.{entry_of, copies, absence, IsJudged};
-ghost use Rattle.hwp_evict.specs.Evicts.{begin, answer, CanEnter, CanEnterHeld, CanMakeEntry, after_stop, AfterHold, AfterHeld, AfterBad, Enters, GoesOut, Follows, IsLeaving, Shows, StartsClearing, freed, refused, with_entry, after_clear, turn_after};
+ghost use Rattle.hwp_evict.specs.Evicts.{begin, answer, CanEnter, CanEnterHeld, CanMakeEntry, after_stop, AfterHold, AfterHeld, AfterBad, Enters, GoesOut, Follows, IsLeaving, Shows, StartsClearing, freed, given_up, refused, with_entry, after_clear, turn_after};
 
 use crate::clear::Clear;
 use crate::vacate::Vacate;
 use hwp_core::{
-    At, Body, Entry, Frame, GiveUp, Hold, Layout, Mask, Page, PageState, Pte, Ranked, Scheduled,
-    SharedWord, Slots, Step, Task, Turn, Unhold, VSlot, What, Who, is_stopped,
+    At, Body, Entry, Frame, GiveUp, HeldSlots, Hold, Layout, Mask, Page, PageState, Pte, Ranked,
+    Scheduled, SharedWord, SlotRoom, Slots, Step, Task, Turn, Unhold, VSlot, What, Who, is_stopped,
 };
 use std::mem;
 
@@ -33,6 +33,8 @@ pub enum Refusal {
     NotMapped,
     /// No frame holds the page.
     NotResident,
+    /// The page is locked in memory.
+    Locked,
     /// The page's content doesn't stand behind it.
     Dirty,
     /// A translation to the page is in use.
@@ -143,9 +145,18 @@ impl Eviction {
                     Some(Refusal::NotMapped)
                 }
             }
-            Eviction::Sync | Eviction::Out => None,
+            Eviction::Sync => None,
+            Eviction::Out => {
+                if state.locked {
+                    Some(Refusal::Locked)
+                } else {
+                    None
+                }
+            }
             Eviction::Drop => {
-                if state.dirty || state.back.is_none() {
+                if state.locked {
+                    Some(Refusal::Locked)
+                } else if state.dirty || state.back.is_none() {
                     Some(Refusal::Dirty)
                 } else if is_empty(&state.maps) {
                     None
@@ -381,7 +392,7 @@ fn go_out(
     page: Page,
     what: Eviction,
     frame: Frame,
-    maps: Slots,
+    maps: HeldSlots,
     body: Body,
     done: At,
 ) -> EvictAt
@@ -407,7 +418,14 @@ fn go_out(
 }
 
 /// The translations that were in use are written, one by one.
-fn start_clearing(who: Who, page: Page, frame: Frame, maps: Slots, body: Body, done: At) -> EvictAt
+fn start_clearing(
+    who: Who,
+    page: Page,
+    frame: Frame,
+    maps: HeldSlots,
+    body: Body,
+    done: At,
+) -> EvictAt
     ensures { StartsClearing who page frame maps body done result }
 {
     let clear = Clear::new(who, page, frame, maps, false);
@@ -437,12 +455,22 @@ fn enter(who: Who, page: Page, what: Eviction, frame: Frame, body: Body) -> Evic
         page,
         entry: body.len(),
     };
-    let maps = body.state().maps.copy();
+    let Ok(room) = SlotRoom::new(body.alloc()) else {
+        return given_up(who, page, frame, body);
+    };
+    let maps = room.hold(&body.state().maps);
     match make_entry(who, what, body) {
         Ok(body) => go_out(who, page, what, frame, maps, body, done),
-        Err(body) => EvictAt::GiveUp {
-            give_up: GiveUp::with_page(who, page, Some(frame), 1, body),
-        },
+        Err(body) => given_up(who, page, frame, body),
+    }
+}
+
+/// Memory is refused, and the command gives up.
+fn given_up(who: Who, page: Page, frame: Frame, body: Body) -> EvictAt
+    ensures { result ≡ given_up who page frame body }
+{
+    EvictAt::GiveUp {
+        give_up: GiveUp::with_page(who, page, Some(frame), 1, body),
     }
 }
 

@@ -6,8 +6,8 @@ use hwp_core::{
 };
 
 /// Tells how much of a file was lost since a handle saw its loss word last. A handle is the pair of a processor and a file, and its
-/// number the losses that it has seen (Linux errseq_t, of which each open file keeps a sample; this is a simple form). A handle that
-/// opens is told all losses.
+/// number the losses that it has seen (Linux errseq_t, of which each open file keeps a sample; this is a simple form). The opening
+/// of a handle answers the count.
 #[derive(Clone, Copy)]
 pub struct Fsync {
     who: Who,

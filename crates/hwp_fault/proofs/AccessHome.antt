@@ -12,6 +12,7 @@ use Rattle.hwp_page.specs.hwp_geom.declared.Frame.{Frame}
 use Rattle.hwp_page.specs.hwp_geom.declared.Layout.{Layout}
 use Rattle.hwp_page.specs.hwp_geom.declared.Proc.{Proc}
 use Rattle.hwp_page.specs.hwp_geom.declared.Who.{Who}
+use Rattle.hwp_page.specs.hwp_geom.Layout.{is_locked}
 use Rattle.hwp_page.specs.Endings.{has_ending}
 use Rattle.hwp_page.specs.declared.Entry.{Entry}
 use Rattle.hwp_page.specs.declared.PageState.{PageState}
@@ -119,7 +120,7 @@ module _ {layout : Layout} {view : View} {frame : Frame} {body : BodyValue} (has
     of-entry P is = only-member P (more_of taken more) entry one-more is
 
     state-is : after (state_of layout (log_of body)) entry.what ≡ state_of layout more
-    state-is = sym (fold-append (λ (t : PageState) (e : Entry). after t e.what) (opening_at (slice_get layout.pages body.page.0)) body.log (entry ∷ []))
+    state-is = sym (fold-append (λ (t : PageState) (e : Entry). after t e.what) (opening_at (slice_get layout.pages body.page.0) (is_locked layout body.page)) body.log (entry ∷ []))
 
     module _ (used : set.contains body.state.maps a.slot.0 ≡ true) where
       word-allowed : ¬ IsBitSet mask a.line → (kind : AccessKind) → Allowed layout body.page body.state (what_by kind a.slot a.line (record { 0 = mask }) (word_in a body))

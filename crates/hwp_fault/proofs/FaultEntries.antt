@@ -14,6 +14,7 @@ use Rattle.hwp_page.specs.hwp_geom.declared.Page.{Page}
 use Rattle.hwp_page.specs.hwp_geom.declared.Proc.{Proc}
 use Rattle.hwp_page.specs.hwp_geom.declared.VSlot.{VSlot}
 use Rattle.hwp_page.specs.hwp_geom.declared.Who.{Who}
+use Rattle.hwp_page.specs.hwp_geom.Layout.{is_locked}
 use Rattle.hwp_page.specs.declared.Entry.{Entry}
 use Rattle.hwp_page.specs.declared.PageState.{PageState}
 use Rattle.hwp_page.specs.declared.What.{What}
@@ -73,7 +74,7 @@ abbrev pub with_entry : Log → Entry → Log
 with_entry log e = record { page = log.page; entries = log.entries ++ e ∷ [] }
 
 pub state-more : (layout : Layout) (log : Log) (e : Entry) → state_of layout (with_entry log e) ≡ after (state_of layout log) e.what
-state-more layout log e = fold-append (λ (t : PageState) (x : Entry). after t x.what) (opening_at (slice_get layout.pages log.page.0)) log.entries (e ∷ [])
+state-more layout log e = fold-append (λ (t : PageState) (x : Entry). after t x.what) (opening_at (slice_get layout.pages log.page.0) (is_locked layout log.page)) log.entries (e ∷ [])
 
 pub added-more : (was now : Log) (e : Entry) → now.entries ≡ was.entries ++ added was now → added was (with_entry now e) ≡ added was now ++ e ∷ []
 added-more was now e longer = drop-append-le (length was.entries) now.entries (e ∷ [])

@@ -13,6 +13,7 @@ use Rattle.hwp_core.specs.hwp_geom.declared.Frame.{Frame}
 use Rattle.hwp_core.specs.hwp_geom.declared.Layout.{Layout}
 use Rattle.hwp_core.specs.hwp_geom.declared.Page.{Page}
 use Rattle.hwp_core.specs.hwp_geom.declared.Who.{Who}
+use Rattle.hwp_core.specs.hwp_geom.Layout.{is_locked}
 use Rattle.hwp_core.specs.hwp_page.declared.Entry.{Entry}
 use Rattle.hwp_core.specs.hwp_page.declared.PageState.{PageState}
 use Rattle.hwp_core.specs.hwp_page.declared.What.TheVariants as entries
@@ -74,7 +75,7 @@ module _ {layout : Layout} {page : Page} {body : BodyValue} (who : Who) (frame :
   allowed = subst (λ (s : PageState). Allowed layout body.page s entries.FaultIn) (sym (replay-state replay)) has.room.allowed
 
   state-is : after state entries.FaultIn ≡ state_of layout more
-  state-is = sym (fold-append (λ (t : PageState) (e : Entry). after t e.what) (opening_at (slice_get layout.pages body.page.0)) body.log (entry ∷ []))
+  state-is = sym (fold-append (λ (t : PageState) (e : Entry). after t e.what) (opening_at (slice_get layout.pages body.page.0) (is_locked layout body.page)) body.log (entry ∷ []))
 
   one-more : more_of taken more ≡ entry ∷ []
   one-more = drop-append_seam body.log (entry ∷ [])

@@ -1,25 +1,27 @@
 ghost use Rattle.std.specs.Prelude.{◌≡◌, IfOk};
+ghost use Rattle.hwp_geom.specs.Layout.{is_locked};
 ghost use Rattle.hwp_geom.specs.Limits.{cpu_limit, frame_limit, file_limit, process_limit, thread_limit, page_limit, translation_limit, command_limit};
 
 use crate::OutOfMemory;
 use crate::list::List;
 use crate::numbers::{Cpu, FileNo, Page, Proc};
+use crate::version::Version;
 use std::alloc::Global;
 
-/// The most processors of a machine (this project's rule).
-pub const MAX_CPUS: u8 = 8;
-/// The most frames of a machine (this project's rule).
-pub const MAX_FRAMES: u16 = 256;
+/// The most processors of a machine, in any version (this project's rule).
+pub const MAX_CPUS: u8 = 16;
+/// The most frames of a machine, in any version (this project's rule).
+pub const MAX_FRAMES: u16 = 4096;
 /// The most files of a script (this project's rule).
 pub const MAX_FILES: u8 = 16;
 /// The most processes of a script (this project's rule).
 pub const MAX_PROCS: u8 = 16;
 /// The most threads of a script (this project's rule).
 pub const MAX_THREADS: u8 = 32;
-/// The most pages of a script (this project's rule).
-pub const MAX_PAGES: u16 = 256;
-/// The most translations of a script (this project's rule).
-pub const MAX_TRANS: u16 = 512;
+/// The most pages of a script, in any version (this project's rule).
+pub const MAX_PAGES: u16 = 4096;
+/// The most translations of a script, in any version (this project's rule).
+pub const MAX_TRANS: u16 = 4096;
 /// The most commands of a script, over all processors (this project's rule).
 pub const MAX_COMMANDS: u32 = 4096;
 
@@ -57,10 +59,12 @@ pub struct TransDecl {
     pub page: Page,
 }
 
-/// What a script declares of the machine. `kernel` has a value for each frame; `recovery` and `early` are the
-/// settings `vm.memory_failure_recovery` and `vm.memory_failure_early_kill` (Linux hwpoison.rst).
+/// What a script declares of the machine. `kernel` has a value for each frame, `locked` one for each page: a locked page is never
+/// dropped or swapped out on request. `recovery` and `early` are the settings `vm.memory_failure_recovery` and
+/// `vm.memory_failure_early_kill` (Linux hwpoison.rst).
 #[derive(Drop)]
 pub struct Layout {
+    pub version: Version,
     pub cpus: u8,
     pub frames: u16,
     pub kernel: List<bool>,
@@ -71,6 +75,7 @@ pub struct Layout {
     pub threads: List<ThreadDecl>,
     pub pages: List<PageKind>,
     pub trans: List<TransDecl>,
+    pub locked: List<bool>,
 }
 
 impl Layout {
@@ -79,6 +84,7 @@ impl Layout {
         ensures { IfOk result (λ layout. layout ≡ self.now) }
     {
         Ok(Layout {
+            version: self.version,
             cpus: self.cpus,
             frames: self.frames,
             kernel: self.kernel.copy(alloc)?,
@@ -89,6 +95,17 @@ impl Layout {
             threads: self.threads.copy(alloc)?,
             pages: self.pages.copy(alloc)?,
             trans: self.trans.copy(alloc)?,
+            locked: self.locked.copy(alloc)?,
         })
+    }
+
+    /// Whether the page is declared as locked.
+    pub fn is_locked(&self, page: Page) -> bool
+        ensures { result ≡ is_locked self.now page }
+    {
+        match self.locked.as_slice().get(usize::from(page.0)) {
+            Some(locked) => *locked,
+            None => false,
+        }
     }
 }

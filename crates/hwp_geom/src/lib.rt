@@ -9,6 +9,7 @@ mod lines;
 mod list;
 mod numbers;
 mod text;
+mod version;
 
 pub use bits::lowest_bit;
 pub use kind::Kind;
@@ -21,6 +22,7 @@ pub use lines::Lines;
 pub use list::List;
 pub use numbers::{Cpu, Damage, FileNo, Frame, Mask, Mode, Page, Proc, Thread, VSlot, Who};
 pub use text::Text;
+pub use version::Version;
 
 /// Out of memory: the one answer that no clause ties to a cause.
 pub type OutOfMemory = std::alloc::AllocError;

@@ -1,3 +1,4 @@
+pub mod Holding
 pub mod Membership
 pub mod NextLaws
 pub mod Order

@@ -6,14 +6,14 @@ use Rattle.std.specs.Cmp.{nat_cmp_total, unsigned_tied}
 use Rattle.std.specs.FinSet as set
 use Rattle.std.specs.FinSet.{nat_cmp-IsAntisymmetric}
 use Rattle.std.specs.Int.{bit_at, w64, bit_not}
-use Rattle.std.proofs.lemmas.Bool.{cases_eq, lt-ltb, le-ltb}
+use Rattle.std.proofs.lemmas.Bool.{cases_eq, cases_lt, lt-ltb, le-ltb}
 use Rattle.std.proofs.lemmas.Bool.Decides.{nat_tests}
 use Rattle.std.proofs.lemmas.Grind.{get_or-set_at}
-use Rattle.std.proofs.lemmas.List.{get_or-set_other, length-set}
+use Rattle.std.proofs.lemmas.List.{get_or_past, get_or-set_other, length-set}
 use Rattle.std.proofs.lemmas.List.Elements.{filter-append}
 use Rattle.std.proofs.lemmas.List.Folds.{list_any-append}
 use Rattle.std.proofs.lemmas.Nat.{one_shl, pow_pos}
-use Rattle.std.proofs.lemmas.Nat.Bits.{and_pow, bit_at-lt, bit_at_set_same, bit_at_set_other, bit_at_clear_same, bit_at_clear_other}
+use Rattle.std.proofs.lemmas.Nat.Bits.{and_pow, bit_at-lt, bit_at-zero, bit_at_set_same, bit_at_set_other, bit_at_clear_same, bit_at_clear_other}
 use Rattle.hwp_kill.specs.Members.{members, numbers_below, bit_of}
 
 or_false : (b : Bool) → (b || false) ≡ b
@@ -42,6 +42,27 @@ any_below p (suc n) v =
 pub contains-members : (words : List ℕ) (v : ℕ) → set.contains (set.from_list {R = nat_cmp} (members words)) v ≡ (nat_lt v (64 * length words) && bit_of words v)
 contains-members words v = set.contains-from_list_nat (members words) v ∙ any_below (bit_of words) (64 * length words) v
 
+no_bit : (words : List ℕ) (v : ℕ) → 64 * length words ≤ v → bit_of words v ≡ false
+no_bit words v past =
+    ap (λ w. nat_eq (bit_at w (v % 64)) 1) (get_or_past words (v / 64) 0 (omega arith))
+    ∙ ap (λ b. nat_eq b 1) (bit_at-zero (v % 64))
+
+-- a number is in the set where its bit is set
+pub contains-bit : (words : List ℕ) (v : ℕ) → set.contains (set.from_list {R = nat_cmp} (members words)) v ≡ bit_of words v
+contains-bit words v = contains-members words v ∙ elim (cases_lt v (64 * length words)) [
+  | inl below ↦ ap (λ b. b && bit_of words v) (lt-ltb v (64 * length words) below)
+  | inr past ↦ ap (λ b. b && bit_of words v) (le-ltb v (64 * length words) past) ∙ sym (no_bit words v past)
+]
+
+-- rows with the same word at each place have the same members
+pub same-members : (a b : List ℕ) → ((i : ℕ) → slice_index a i ≡ slice_index b i)
+    → set.from_list {R = nat_cmp} (members a) ≡ set.from_list (members b)
+same-members a b same =
+    set.same_set nat_cmp_total nat_cmp-IsAntisymmetric _ _ (λ v.
+    contains-bit a v
+    ∙ ap (λ w. nat_eq (bit_at w (v % 64)) 1) (same (v / 64))
+    ∙ sym (contains-bit b v))
+
 scaled : (b p : ℕ) → b < 2 → 0 < p → not (nat_eq (b * p) 0) ≡ nat_eq b 1
 scaled zero p small some = grind (arith, nat_tests)
 scaled (suc zero) p small some = grind (arith, nat_tests)
@@ -57,6 +78,11 @@ pub has-members : (words : List ℕ) (k : ℕ) → k < 64 * length words
 has-members words k within =
     bit_test (slice_index words (k / 64)) (k % 64) (omega arith)
     ∙ sym (contains-members words k ∙ ap (λ b. b && bit_of words k) (lt-ltb k (64 * length words) within))
+
+-- the code's test of the word where the number's bit stands
+pub has-word : (words : List ℕ) (k : ℕ)
+    → not (nat_eq (bit_and (slice_index words (k / 64)) (1 * 2 ^ (k % 64) % 2 ^ 64)) 0) ≡ set.contains (set.from_list {R = nat_cmp} (members words)) k
+has-word words k = bit_test (slice_index words (k / 64)) (k % 64) (omega arith) ∙ sym (contains-bit words k)
 
 -- a number past the words is in no such set
 pub has-past : (words : List ℕ) (k : ℕ) → 64 * length words ≤ k → set.contains (set.from_list {R = nat_cmp} (members words)) k ≡ false

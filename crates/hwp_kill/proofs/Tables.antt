@@ -1,5 +1,5 @@
 -- How the kill table is worked out: the lowest translation of each process, and the signals one process after another.
-use Rattle.std.proofs.Common.{◌+◌, refl, sym, ap, subst, ◌∙◌, get_or, length-append, ◌↔◌, ◌++◌, [], ◌∷◌, inl, inr, ◌≡◌, ℕ, ◌<◌, ◌≤◌, List, Option, Some, None, length, slice_index_or, MatchOption, arith}
+use Rattle.std.proofs.Common.{◌+◌, refl, sym, ap, subst, ◌∙◌, get_or, length-append, ◌↔◌, ◌++◌, [], ◌∷◌, inl, inr, ◌≡◌, ℕ, ◌<◌, ◌≤◌, Bool, List, Option, Some, None, length, slice_index_or, MatchOption, arith}
 use Rattle.std.specs.Prelude.{Contains, AllPairs, slice_get, IsSomeAnd}
 use Rattle.std.proofs.lemmas.Bool.{cases_lt}
 use Rattle.std.proofs.lemmas.List.Elements.{Contains-get_or, Contains-append_left, Contains-push, Contains-push_cases, All-get_or}
@@ -18,7 +18,7 @@ use Rattle.hwp_kill.specs.declared.types.Code.TheVariants.{Ar, Ao}
 use Rattle.hwp_kill.specs.declared.types.Seen.{Seen}
 use Rattle.hwp_kill.specs.declared.types.Signal.{Signal}
 use Rattle.hwp_kill.specs.Limits.{slot_limit, signal_limit}
-use Rattle.hwp_kill.specs.Kill.{IsIn, Uses, UsesLowest, IsCurrent, IsLowestEarly, IsLowestUsed, UsesNone, Reaches, ReachesNone, IsDue, AreDue}
+use Rattle.hwp_kill.specs.Kill.{IsIn, Uses, UsesLowest, IsCurrent, IsLowestEarly, IsLowestThread, IsLowestUsed, IsTold, UsesNone, Reaches, ReachesNone, IsDue, AreDue}
 
 -- no translation of the process below `at` is in use
 abbrev pub UsesNoneBelow : Layout → set.FinSet nat_cmp → Proc → ℕ → Type 0
@@ -36,9 +36,9 @@ pub record Noted (layout : Layout) (maps : set.FinSet nat_cmp) (at : ℕ) (lowes
   pub each : (p : ℕ) → p < signal_limit → IsLowestBelow layout maps at (record { 0 = p }) (slice_index_or lowest p None)
 
 -- the signals that the table gives to processes below `n`
-pub record DueBelow (layout : Layout) (maps : set.FinSet nat_cmp) (current : Option Thread) (seen : List Seen) (n : ℕ) (signals : List Signal) : Type 0 where
+pub record DueBelow (layout : Layout) (maps : set.FinSet nat_cmp) (always : Bool) (current : Option Thread) (seen : List Seen) (n : ℕ) (signals : List Signal) : Type 0 where
   pub few : length signals ≤ n
-  pub each : (signal : Signal) → Contains signals signal ↔ ((signal.process.0 < n) × IsDue layout maps current seen signal)
+  pub each : (signal : Signal) → Contains signals signal ↔ ((signal.process.0 < n) × IsDue layout maps always current seen signal)
   pub rising : AllPairs (λ (a b : Signal). a.process.0 < b.process.0) signals
 
 -- a signal of these parts
@@ -76,32 +76,46 @@ same_early {t = t} {u = u} a b = elim (cases_lt t.0 u.0) [
   ]
 ]
 
+same_lowest : {layout : Layout} {process : Proc} {t u : Thread} → IsLowestThread layout process 0 t → IsLowestThread layout process 0 u → t.0 ≡ u.0
+same_lowest {t = t} {u = u} a b =
+    let up = a.lowest u b.not_below b.own in
+    let down = b.lowest t a.not_below a.own in
+    omega arith
+
+-- one thread of a process is told at most
+same_told : (layout : Layout) (always : Bool) (seen : List Seen) (process : Proc) (t u : Thread)
+    → IsTold layout always seen process t → IsTold layout always seen process u → t.0 ≡ u.0
+same_told layout always seen process t u (inl a) (inl b) = same_early a b
+same_told layout always seen process t u (inl a) (inr b) = absurd (b.1 t a.early)
+same_told layout always seen process t u (inr a) (inl b) = absurd (a.1 u b.early)
+same_told layout always seen process t u (inr a) (inr b) = same_lowest a.2 b.2
+
 current_is : (layout : Layout) (process : Proc) (current : Option Thread) (thread : Thread) → current ≡ Some thread → IsIn layout thread process → IsCurrent layout current process
 current_is layout process None thread same own = absurd (cc)
 current_is layout process (Some other) thread same own = rw (same_Some other thread same) own
 
 -- a process has one thread that is reached, with one code
-same_reached : (layout : Layout) (current : Option Thread) (seen : List Seen) (process : Proc) (t u : Thread) (c d : Code)
-    → Reaches layout current seen process t c → Reaches layout current seen process u d → (t ≡ u) × (c ≡ d)
-same_reached layout current seen process t u Ar Ar a b = (same_Some t u (sym a.0 ∙ b.0), refl)
-same_reached layout current seen process t u Ar Ao a b = absurd (b.0 (current_is layout process current t a.0 a.1))
-same_reached layout current seen process t u Ao Ar a b = absurd (a.0 (current_is layout process current u b.0 b.1))
-same_reached layout current seen process t u Ao Ao a b = (ap thread_of (same_early a.1 b.1), refl)
+same_reached : (layout : Layout) (always : Bool) (current : Option Thread) (seen : List Seen) (process : Proc) (t u : Thread) (c d : Code)
+    → Reaches layout always current seen process t c → Reaches layout always current seen process u d → (t ≡ u) × (c ≡ d)
+same_reached layout always current seen process t u Ar Ar a b = (same_Some t u (sym a.0 ∙ b.0), refl)
+same_reached layout always current seen process t u Ar Ao a b = absurd (b.0 (current_is layout process current t a.0 a.1))
+same_reached layout always current seen process t u Ao Ar a b = absurd (a.0 (current_is layout process current u b.0 b.1))
+same_reached layout always current seen process t u Ao Ao a b = (ap thread_of (same_told layout always seen process t u a.1 b.1), refl)
 
 -- the table gives a process one signal at most
-pub same_due : {layout : Layout} {maps : set.FinSet nat_cmp} {current : Option Thread} {seen : List Seen} {s t : Signal}
-    → IsDue layout maps current seen s → IsDue layout maps current seen t → s.process ≡ t.process → s ≡ t
-same_due {layout = layout} {maps = maps} {current = current} {seen = seen} {s = s} {t = t} a b same =
+pub same_due : {layout : Layout} {maps : set.FinSet nat_cmp} {always : Bool} {current : Option Thread} {seen : List Seen} {s t : Signal}
+    → IsDue layout maps always current seen s → IsDue layout maps always current seen t → s.process ≡ t.process → s ≡ t
+same_due {layout = layout} {maps = maps} {always = always} {current = current} {seen = seen} {s = s} {t = t} a b same =
     let slot : UsesLowest layout maps s.process t.slot.0 = rw same b.slot in
-    let thread : Reaches layout current seen s.process t.thread t.code = rw same b.thread in
-    let reached = same_reached layout current seen s.process s.thread t.thread s.code t.code a.thread thread in
+    let thread : Reaches layout always current seen s.process t.thread t.code = rw same b.thread in
+    let reached = same_reached layout always current seen s.process s.thread t.thread s.code t.code a.thread thread in
     both s.process t.process s.thread t.thread s.code t.code s.slot t.slot same reached.0 reached.1 (ap slot_of (same_slot a.slot slot))
 
 -- no signal to the next process
-pub DueBelow-none : {layout : Layout} {maps : set.FinSet nat_cmp} {current : Option Thread} {seen : List Seen} {n : ℕ} {signals : List Signal}
-    → DueBelow layout maps current seen n signals
-    → ((s : Signal) → s.process ≡ process_of n → IsDue layout maps current seen s → ⊥)
-    → DueBelow layout maps current seen (n + 1) signals
+pub DueBelow-none : {layout : Layout} {maps : set.FinSet nat_cmp} {always : Bool} {current : Option Thread} {seen : List Seen} {n : ℕ} {signals : List Signal}
+    → DueBelow layout maps always current seen n signals
+    → ((s : Signal) → s.process ≡ process_of n → IsDue layout maps always current seen s → ⊥)
+    → DueBelow layout maps always current seen (n + 1) signals
 DueBelow-none {n = n} before nothing = record {
   few = let f = before.few in omega arith;
   each = λ s. (
@@ -115,32 +129,32 @@ DueBelow-none {n = n} before nothing = record {
 }
 
 -- the next process uses no translation
-pub DueBelow-unused : {layout : Layout} {maps : set.FinSet nat_cmp} {current : Option Thread} {seen : List Seen} {n : ℕ} {signals : List Signal} (lowest : List (Option VSlot)) (i : ℕ)
-    → DueBelow layout maps current seen n signals
+pub DueBelow-unused : {layout : Layout} {maps : set.FinSet nat_cmp} {always : Bool} {current : Option Thread} {seen : List Seen} {n : ℕ} {signals : List Signal} (lowest : List (Option VSlot)) (i : ℕ)
+    → DueBelow layout maps always current seen n signals
     → IsLowestUsed layout maps (process_of n) (get_or lowest n None) → i ≡ n → get_or lowest i None ≡ None
-    → DueBelow layout maps current seen (n + 1) signals
+    → DueBelow layout maps always current seen (n + 1) signals
 DueBelow-unused {layout = layout} {maps = maps} {n = n} lowest i before least here none =
     let there : get_or lowest n None ≡ None = rw here at none in
     let nothing : UsesNone layout maps (process_of n) = rw there at least in
     DueBelow-none before (λ s same due. nothing s.slot.0 (rw (← same) due.slot.uses))
 
 -- no thread of the next process is reached
-pub DueBelow-unreached : {layout : Layout} {maps : set.FinSet nat_cmp} {current : Option Thread} {seen : List Seen} {n : ℕ} {signals : List Signal}
-    → DueBelow layout maps current seen n signals → ReachesNone layout current seen (process_of n)
-    → DueBelow layout maps current seen (n + 1) signals
+pub DueBelow-unreached : {layout : Layout} {maps : set.FinSet nat_cmp} {always : Bool} {current : Option Thread} {seen : List Seen} {n : ℕ} {signals : List Signal}
+    → DueBelow layout maps always current seen n signals → ReachesNone layout always current seen (process_of n)
+    → DueBelow layout maps always current seen (n + 1) signals
 DueBelow-unreached before nothing = DueBelow-none before (λ s same due. nothing s.thread s.code (rw (← same) due.thread))
 
 -- one signal to the next process
-pub DueBelow-one : {layout : Layout} {maps : set.FinSet nat_cmp} {current : Option Thread} {seen : List Seen} {n : ℕ} {signals : List Signal} (signal : Signal)
-    → DueBelow layout maps current seen n signals
-    → signal.process.0 ≡ n → IsDue layout maps current seen signal
-    → DueBelow layout maps current seen (n + 1) (signals ++ signal ∷ [])
-DueBelow-one {layout = layout} {maps = maps} {current = current} {seen = seen} {n = n} {signals = signals} signal before here due = record {
+pub DueBelow-one : {layout : Layout} {maps : set.FinSet nat_cmp} {always : Bool} {current : Option Thread} {seen : List Seen} {n : ℕ} {signals : List Signal} (signal : Signal)
+    → DueBelow layout maps always current seen n signals
+    → signal.process.0 ≡ n → IsDue layout maps always current seen signal
+    → DueBelow layout maps always current seen (n + 1) (signals ++ signal ∷ [])
+DueBelow-one {layout = layout} {maps = maps} {always = always} {current = current} {seen = seen} {n = n} {signals = signals} signal before here due = record {
   few = let f = before.few in omega (arith, length-append {A = Signal});
   each = λ s. (
     λ has. elim (Contains-push_cases signals signal s has) [
       | inl earlier ↦ let b = (before.each s).0 earlier in let k = b.0 in (omega arith, b.1)
-      | inr same ↦ let P : Signal → Type 0 = λ x. (x.process.0 < n + 1) × IsDue layout maps current seen x in subst P same (omega arith, due)
+      | inr same ↦ let P : Signal → Type 0 = λ x. (x.process.0 < n + 1) × IsDue layout maps always current seen x in subst P same (omega arith, due)
     ],
     λ d. elim (cases_lt s.process.0 n) [
       | inl below ↦ Contains-append_left signals (signal ∷ []) s ((before.each s).1 (below, d.1))
@@ -169,8 +183,8 @@ owner_declared layout slot process sound own = elim (cases_lt slot (length layou
 ]
 
 -- all declared processes are done
-pub DueBelow-all : {layout : Layout} {maps : set.FinSet nat_cmp} {current : Option Thread} {seen : List Seen} {n : ℕ} {signals : List Signal}
-    → IsSound layout → DueBelow layout maps current seen n signals → layout.procs ≤ n → AreDue layout maps current seen signals
+pub DueBelow-all : {layout : Layout} {maps : set.FinSet nat_cmp} {always : Bool} {current : Option Thread} {seen : List Seen} {n : ℕ} {signals : List Signal}
+    → IsSound layout → DueBelow layout maps always current seen n signals → layout.procs ≤ n → AreDue layout maps always current seen signals
 DueBelow-all {layout = layout} {n = n} sound before done = record {
   each = λ s. (
     λ has. ((before.each s).0 has).1,
@@ -180,11 +194,11 @@ DueBelow-all {layout = layout} {n = n} sound before done = record {
 }
 
 -- a signal of these parts to the next process
-pub DueBelow-next : {layout : Layout} {maps : set.FinSet nat_cmp} {current : Option Thread} {seen : List Seen} {n : ℕ} {signals : List Signal} (lowest : List (Option VSlot)) (i : ℕ) (thread : Thread) (code : Code) (slot : VSlot)
-    → DueBelow layout maps current seen n signals
+pub DueBelow-next : {layout : Layout} {maps : set.FinSet nat_cmp} {always : Bool} {current : Option Thread} {seen : List Seen} {n : ℕ} {signals : List Signal} (lowest : List (Option VSlot)) (i : ℕ) (thread : Thread) (code : Code) (slot : VSlot)
+    → DueBelow layout maps always current seen n signals
     → IsLowestUsed layout maps (process_of n) (get_or lowest n None) → i ≡ n → get_or lowest i None ≡ Some slot
-    → Reaches layout current seen (process_of n) thread code
-    → DueBelow layout maps current seen (n + 1) (signals ++ record_of (process_of n) thread code slot ∷ [])
+    → Reaches layout always current seen (process_of n) thread code
+    → DueBelow layout maps always current seen (n + 1) (signals ++ record_of (process_of n) thread code slot ∷ [])
 DueBelow-next {layout = layout} {maps = maps} {n = n} lowest i thread code slot before least here some reached =
     let there : get_or lowest n None ≡ Some slot = rw here at some in
     let uses : UsesLowest layout maps (process_of n) slot.0 = rw there at least in

@@ -62,10 +62,10 @@ same_rising f (x ∷ xs) (y ∷ ys) rise rise' to from =
     cc
 
 -- the kill table gives one list of signals
-pub Killed-same : (layout : Layout) (maps : set.FinSet nat_cmp) (signals_at_all : Bool) (current : Option Thread) (seen : List Seen) (xs ys : List Signal)
-    → Killed layout maps signals_at_all current seen xs → Killed layout maps signals_at_all current seen ys → xs ≡ ys
-Killed-same layout maps false current seen xs ys a b = a ∙ sym b
-Killed-same layout maps true current seen xs ys a b =
+pub Killed-same : (layout : Layout) (maps : set.FinSet nat_cmp) (signals_at_all always : Bool) (current : Option Thread) (seen : List Seen) (xs ys : List Signal)
+    → Killed layout maps signals_at_all always current seen xs → Killed layout maps signals_at_all always current seen ys → xs ≡ ys
+Killed-same layout maps false always current seen xs ys a b = a ∙ sym b
+Killed-same layout maps true always current seen xs ys a b =
     same_rising (λ (s : Signal). s.process.0) xs ys (record { pairs = a.rising }) (record { pairs = b.rising })
     (λ z has. (b.each z).1 ((a.each z).0 has))
     (λ z has. (a.each z).1 ((b.each z).0 has))

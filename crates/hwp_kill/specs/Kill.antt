@@ -1,5 +1,5 @@
 -- The kill table: which threads a memory failure signals, and whose policies it reads for that.
-use Rattle.std.specs.Prelude.{◌≡◌, ◌↔◌, ◌⊎◌, ℕ, ◌<◌, Bool, true, false, List, [], Option, Some, slice_get, IsSomeAnd, IsTrue, MatchBool, MatchOption, Any, AllPairs, Contains}
+use Rattle.std.specs.Prelude.{◌≡◌, ◌↔◌, ◌⊎◌, ℕ, ◌<◌, ◌≤◌, Bool, true, false, List, [], Option, Some, slice_get, IsSomeAnd, IsTrue, MatchBool, MatchOption, Any, AllPairs, Contains}
 use Rattle.std.specs.Ordering.{nat_cmp}
 use Rattle.std.specs.FinSet as set
 use Rattle.hwp_geom.specs.declared.Layout.{Layout}
@@ -66,30 +66,53 @@ pub record IsLowestEarly (layout : Layout) (seen : List Seen) (process : Proc) (
   pub early : IsEarly layout seen process thread
   pub lowest : HasNoEarlyBelow layout seen process thread
 
--- the thread of the process that the code goes to: ar to the current thread, ao to the lowest early thread of a process
--- that is not the current thread's
-abbrev pub Reaches : Layout → Option Thread → List Seen → Proc → Thread → Code → Type 0
-Reaches layout current seen process thread Ar = (current ≡ Some thread) × IsIn layout thread process
-Reaches layout current seen process thread Ao =
-    (IsCurrent layout current process → ⊥) × IsLowestEarly layout seen process thread
+-- no thread of the process has this number or one above
+abbrev pub HasNoThreadFrom : Layout → Proc → ℕ → Type 0
+HasNoThreadFrom layout process from = (thread : Thread) → from ≤ thread.0 → IsIn layout thread process → ⊥
+
+-- the thread is the lowest of the process from a number on
+pub record IsLowestThread (layout : Layout) (process : Proc) (from : ℕ) (thread : Thread) : Type 0 where
+  pub own : IsIn layout thread process
+  pub not_below : from ≤ thread.0
+  pub lowest : (other : Thread) → from ≤ other.0 → IsIn layout other process → thread.0 ≤ other.0
+
+-- the thread is the lowest of a process none of whose threads was seen to be early, and such a process is told all the same
+abbrev pub IsLowestToldAnyway : Layout → Bool → List Seen → Proc → Thread → Type 0
+IsLowestToldAnyway layout always seen process thread = (always ≡ true) × HasNoEarly layout seen process × IsLowestThread layout process 0 thread
+
+-- the thread of a process that is told, where none of its threads needs the page now: the lowest early one, or the lowest of all where
+-- none is early and every process is told (`always`)
+abbrev pub IsTold : Layout → Bool → List Seen → Proc → Thread → Type 0
+IsTold layout always seen process thread = IsLowestEarly layout seen process thread ⊎ IsLowestToldAnyway layout always seen process thread
+
+-- no thread of the process is told
+abbrev pub TellsNone : Layout → Bool → List Seen → Proc → Type 0
+TellsNone layout always seen process = (thread : Thread) → IsTold layout always seen process thread → ⊥
+
+-- the thread of the process that the code goes to: ar to the current thread, ao to the thread that is told of a process that is not the
+-- current thread's
+abbrev pub Reaches : Layout → Bool → Option Thread → List Seen → Proc → Thread → Code → Type 0
+Reaches layout always current seen process thread Ar = (current ≡ Some thread) × IsIn layout thread process
+Reaches layout always current seen process thread Ao = (IsCurrent layout current process → ⊥) × IsTold layout always seen process thread
 
 -- no code goes to a thread of the process
-abbrev pub ReachesNone : Layout → Option Thread → List Seen → Proc → Type 0
-ReachesNone layout current seen process = (thread : Thread) (code : Code) → Reaches layout current seen process thread code → ⊥
+abbrev pub ReachesNone : Layout → Bool → Option Thread → List Seen → Proc → Type 0
+ReachesNone layout always current seen process = (thread : Thread) (code : Code) → Reaches layout always current seen process thread code → ⊥
 
 -- the table gives the signal
-pub record IsDue (layout : Layout) (maps : set.FinSet nat_cmp) (current : Option Thread) (seen : List Seen) (signal : Signal) : Type 0 where
+pub record IsDue (layout : Layout) (maps : set.FinSet nat_cmp) (always : Bool) (current : Option Thread) (seen : List Seen) (signal : Signal) : Type 0 where
   pub slot : UsesLowest layout maps signal.process signal.slot.0
-  pub thread : Reaches layout current seen signal.process signal.thread signal.code
+  pub thread : Reaches layout always current seen signal.process signal.thread signal.code
 
 -- the signals are those that the table gives, processes rising, one for each process at most
-pub record AreDue (layout : Layout) (maps : set.FinSet nat_cmp) (current : Option Thread) (seen : List Seen) (signals : List Signal) : Type 0 where
-  pub each : (signal : Signal) → Contains signals signal ↔ IsDue layout maps current seen signal
+pub record AreDue (layout : Layout) (maps : set.FinSet nat_cmp) (always : Bool) (current : Option Thread) (seen : List Seen) (signals : List Signal) : Type 0 where
+  pub each : (signal : Signal) → Contains signals signal ↔ IsDue layout maps always current seen signal
   pub rising : AllPairs (λ (a b : Signal). a.process.0 < b.process.0) signals
 
 -- the signals of a memory failure: those of the table where it signals at all, and else none
-abbrev pub Killed : Layout → set.FinSet nat_cmp → Bool → Option Thread → List Seen → List Signal → Type 0
-Killed layout maps signals_at_all current seen signals = MatchBool signals_at_all (AreDue layout maps current seen signals) (signals ≡ [])
+abbrev pub Killed : Layout → set.FinSet nat_cmp → Bool → Bool → Option Thread → List Seen → List Signal → Type 0
+Killed layout maps signals_at_all always current seen signals =
+    MatchBool signals_at_all (AreDue layout maps always current seen signals) (signals ≡ [])
 
 -- the table reads the thread's policy: its process uses a translation and is not the current thread's, and no thread of
 -- the process below it was seen to be early

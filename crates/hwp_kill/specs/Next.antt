@@ -45,13 +45,3 @@ pub record IsFirstLeft (layout : Layout) (maps : set.FinSet nat_cmp) (current : 
   pub asked : IsAsked layout maps current seen thread process
   pub unnamed : Names seen thread → ⊥
   pub lowest : (other : Thread) → IsAsked layout maps current seen other process → (Names seen other → ⊥) → thread.0 ≤ other.0
-
--- no thread of the process has this number or one above
-abbrev pub HasNoThreadFrom : Layout → Proc → ℕ → Type 0
-HasNoThreadFrom layout process from = (thread : Thread) → from ≤ thread.0 → IsIn layout thread process → ⊥
-
--- the thread is the lowest of the process from a number on
-pub record IsLowestThread (layout : Layout) (process : Proc) (from : ℕ) (thread : Thread) : Type 0 where
-  pub own : IsIn layout thread process
-  pub not_below : from ≤ thread.0
-  pub lowest : (other : Thread) → from ≤ other.0 → IsIn layout other process → thread.0 ≤ other.0

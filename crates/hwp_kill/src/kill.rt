@@ -1,6 +1,6 @@
 ghost use Rattle.std.specs.Prelude.{◌↔◌, ◌≡◌, ◌<◌, IsTrue, MatchOption, EachIndex, slice_index_or};
 ghost use Rattle.hwp_geom.specs.Layout.{IsSound};
-ghost use Rattle.hwp_kill.specs.Kill.{is_early, IsIn, IsCurrent, IsEarly, HasNoEarly, IsLowestEarly, IsLowestUsed, Reaches, ReachesNone, Killed};
+ghost use Rattle.hwp_kill.specs.Kill.{is_early, IsIn, IsCurrent, IsEarly, HasNoEarly, HasNoThreadFrom, IsLowestEarly, IsLowestThread, IsLowestUsed, IsTold, TellsNone, Reaches, ReachesNone, Killed};
 
 use crate::signal_list::{MAX_SIGNALS, SignalList};
 use crate::slots::Slots;
@@ -61,19 +61,52 @@ pub(crate) fn lowest_early(layout: &Layout, seen: &[Seen], process: Proc) -> Opt
     None
 }
 
+/// The lowest thread of the process from a number on.
+pub(crate) fn lowest_thread(layout: &Layout, process: Proc, from: u8) -> Option<Thread>
+    requires { IsSound layout.now }
+    ensures { MatchOption result (HasNoThreadFrom layout.now process from) (IsLowestThread layout.now process from) }
+{
+    for number in from..layout.threads.len() as u8 {
+        let thread = Thread(number);
+        if is_in(layout, thread, process) {
+            return Some(thread);
+        }
+    }
+    None
+}
+
+/// The thread of a process that is told, where none of its threads needs the page now: its lowest early one, and where it has none the
+/// lowest of all, if every process is told.
+fn told(layout: &Layout, always: bool, seen: &[Seen], process: Proc) -> Option<Thread>
+    requires { IsSound layout.now }
+    ensures { MatchOption result (TellsNone layout.now always seen.now process) (IsTold layout.now always seen.now process) }
+{
+    match lowest_early(layout, seen, process) {
+        Some(thread) => Some(thread),
+        None => {
+            if always {
+                lowest_thread(layout, process, 0)
+            } else {
+                None
+            }
+        }
+    }
+}
+
 /// The thread of the process that is signalled, and the code.
 fn reached(
     layout: &Layout,
+    always: bool,
     current: Option<Thread>,
     seen: &[Seen],
     process: Proc,
 ) -> Option<(Thread, Code)>
     requires { IsSound layout.now }
-    ensures { MatchOption result (ReachesNone layout.now current seen.now process) (λ r. Reaches layout.now current seen.now process r.0 r.1) }
+    ensures { MatchOption result (ReachesNone layout.now always current seen.now process) (λ r. Reaches layout.now always current seen.now process r.0 r.1) }
 {
     match current {
         Some(thread) if is_in(layout, thread, process) => Some((thread, Code::Ar)),
-        _ => match lowest_early(layout, seen, process) {
+        _ => match told(layout, always, seen, process) {
             Some(thread) => Some((thread, Code::Ao)),
             None => None,
         },
@@ -101,20 +134,22 @@ pub(crate) fn lowest_slots(layout: &Layout, maps: &Slots) -> [Option<VSlot>; MAX
 
 /// The signals of a memory failure, by the kill table (after Linux hwpoison.rst and prctl(2); whom of a process and in
 /// which order is this project's rule). `maps` are the translations of the page in use, `signals_at_all` says whether
-/// the failure's situation signals, `current` is the thread that needs the page now, and `seen` has the policies that
-/// were read. Each process that uses a translation gets one signal at most, processes rising: ar to the current thread
-/// where it is one of the process, else ao to the lowest thread of the process that was seen to be early. The signal
-/// names the lowest translation of the process in use. The signals take the place of what was in `out`.
+/// the failure's situation signals, `always` whether it tells every process, `current` is the thread that needs the page
+/// now, and `seen` has the policies that were read. Each process that uses a translation gets one signal at most,
+/// processes rising: ar to the current thread where it is one of the process, else ao to the lowest thread of the process
+/// that was seen to be early, else, where every process is told, ao to its lowest thread, if it has one. The signal names
+/// the lowest translation of the process in use. The signals take the place of what was in `out`.
 pub fn signals(
     layout: &Layout,
     maps: &Slots,
     signals_at_all: bool,
+    always: bool,
     current: Option<Thread>,
     seen: &List<Seen>,
     out: &mut SignalList,
 )
     requires { IsSound layout.now }
-    ensures { Killed layout.now maps.now signals_at_all current seen.now out.new }
+    ensures { Killed layout.now maps.now signals_at_all always current seen.now out.new }
 {
     *out = SignalList::new();
     if !signals_at_all {
@@ -126,7 +161,7 @@ pub fn signals(
         let Some(slot) = lowest[usize::from(number)] else {
             continue;
         };
-        let Some((thread, code)) = reached(layout, current, seen.as_slice(), process) else {
+        let Some((thread, code)) = reached(layout, always, current, seen.as_slice(), process) else {
             continue;
         };
         let signal = Signal {

@@ -12,7 +12,7 @@ mod types;
 
 pub use hwp_geom::{
     Cpu, Damage, FileNo, Frame, Kind, Layout, Line, Lines, List, Mask, Mode, OutOfMemory, Page,
-    PageKind, Proc, Text, Thread, VSlot, Who, lowest_bit,
+    PageKind, Proc, Text, Thread, VSlot, Version, Who, lowest_bit,
 };
 pub use kill::signals;
 pub use next::next_to_read;
@@ -22,5 +22,5 @@ pub use policies::{
 };
 pub use reading::are_policies_read;
 pub use signal_list::{MAX_SIGNALS, SignalList, SignalRoom};
-pub use slots::{SLOTS, Slots};
+pub use slots::{HeldSlots, SLOTS, SlotRoom, Slots};
 pub use types::{Code, Policy, Reply, Seen, Signal};

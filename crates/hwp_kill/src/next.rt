@@ -1,9 +1,9 @@
 ghost use Rattle.std.specs.Prelude.{MatchOption};
 ghost use Rattle.hwp_geom.specs.Layout.{IsSound};
 ghost use Rattle.hwp_kill.specs.Kill.{IsLowestUsed, PoliciesRead};
-ghost use Rattle.hwp_kill.specs.Next.{IsReadSoFar, IsNextToRead, IsStart, HasNoneLeft, IsFirstLeft, HasNoThreadFrom, IsLowestThread};
+ghost use Rattle.hwp_kill.specs.Next.{IsReadSoFar, IsNextToRead, IsStart, HasNoneLeft, IsFirstLeft};
 
-use crate::kill::{is_current, is_early_policy, is_in, lowest_slots};
+use crate::kill::{is_current, is_early_policy, lowest_slots, lowest_thread};
 use crate::slots::Slots;
 use crate::types::Seen;
 use hwp_geom::{Layout, Proc, Thread, VSlot};
@@ -40,20 +40,6 @@ fn start_of(layout: &Layout, maps: &Slots, current: Option<Thread>, seen: &[Seen
             thread: last.thread.0 + 1,
         }
     }
-}
-
-/// The lowest thread of the process from a number on.
-fn lowest_thread(layout: &Layout, process: Proc, from: u8) -> Option<Thread>
-    requires { IsSound layout.now }
-    ensures { MatchOption result (HasNoThreadFrom layout.now process from) (IsLowestThread layout.now process from) }
-{
-    for number in from..layout.threads.len() as u8 {
-        let thread = Thread(number);
-        if is_in(layout, thread, process) {
-            return Some(thread);
-        }
-    }
-    None
 }
 
 /// The lowest thread of the process that is left to read, where `slot` is a translation that the process uses.

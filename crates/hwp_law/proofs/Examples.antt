@@ -4,6 +4,7 @@ use Rattle.std.proofs.Common.{◌≡◌, ℕ, suc, zero, true, false, List, [], 
 use Rattle.std.proofs.lemmas.Option.{same_Some, none-some}
 use Rattle.hwp_script_read.specs.hwp_geom.declared.Layout.{Layout}
 use Rattle.hwp_script_read.specs.hwp_geom.declared.PageKind.TheVariants.{Anon}
+use Rattle.hwp_script_read.specs.hwp_geom.declared.Version.TheVariants.{One}
 use Rattle.hwp_script_read.specs.hwp_geom.declared.Who.{Who}
 use Rattle.hwp_report_text.specs.hwp_kill.declared.Code.TheVariants.{Ar}
 use Rattle.hwp_report_text.specs.hwp_page.declared.Entry.{Entry}
@@ -32,6 +33,7 @@ use Rattle.hwp_law.specs.Records.{Alternates, HaveEvents, IsMarkAt}
 -- two frames, and one anonymous page of one process whose thread has a handler
 abbrev pub layout : Layout
 layout = record {
+  version = One;
   cpus = 1;
   frames = 2;
   kernel = false ∷ false ∷ [];
@@ -42,6 +44,7 @@ layout = record {
   threads = (record { process = record { 0 = 0 }; cpu = record { 0 = 0 }; handler = true }) ∷ [];
   pages = Anon ∷ [];
   trans = (record { process = record { 0 = 0 }; page = record { 0 = 0 } }) ∷ [];
+  locked = false ∷ [];
 }
 
 -- `store 0 0 5 77`, `bad 0 5`, `load 0 0 5`, `load 0 0 6`
@@ -77,6 +80,7 @@ mark = marks.Poisoned 0 (command 2) (hows.Failure true situations.AnonOnly outco
 
 abbrev pub report : Report
 report = record {
+  version = One;
   stop = None;
   count = 1;
   files = [];
@@ -114,6 +118,9 @@ failure_recorded situations.FileDirty paged = (refl, refl)
 failure_recorded situations.AnonOnly paged = (refl, refl)
 failure_recorded situations.SwapClean paged = (refl, refl)
 failure_recorded situations.SwapDirty paged = (refl, refl)
+failure_recorded situations.LockedClean paged = (refl, refl)
+failure_recorded situations.LockedFile paged = (refl, refl)
+failure_recorded situations.LockedAnon paged = (refl, refl)
 
 pub failing_recorded : AreRecorded report (command 2)
 failing_recorded = record {

@@ -1,16 +1,32 @@
 -- What the law refuses: small changes of the example's report, each against the clause that sees it.
-use Rattle.std.proofs.Common.{◌≡◌, ℕ, suc, zero, ◌<◌, ◌≤◌, Bool, true, false, List, [], ◌∷◌, Some, None, take, ◌&&◌, nat_lt, slice_get, refl, sym, ap, ◌∙◌, inl, lit<, true≢false, arith}
+use Rattle.std.proofs.Common.{◌≡◌, ℕ, suc, zero, ◌<◌, ◌≤◌, Bool, true, false, List, [], ◌∷◌, Some, None, take, ◌&&◌, nat_lt, slice_get, refl, sym, ap, subst, ◌∙◌, inl, lit<, true≢false, arith}
 use Rattle.std.proofs.lemmas.Option.{none-some, same_Some}
 use Rattle.std.specs.List.{list_any}
+use Rattle.hwp_script_read.specs.hwp_geom.declared.Cpu.{Cpu}
+use Rattle.hwp_script_read.specs.hwp_geom.declared.FileNo.{FileNo}
+use Rattle.hwp_script_read.specs.hwp_geom.declared.Mask.{Mask}
+use Rattle.hwp_script_read.specs.hwp_geom.declared.Page.{Page}
+use Rattle.hwp_script_read.specs.hwp_geom.declared.PageKind.{PageKind}
+use Rattle.hwp_script_read.specs.hwp_geom.declared.PageKind.TheVariants.{Anon, File}
+use Rattle.hwp_script_read.specs.hwp_geom.declared.Version.{Version}
+use Rattle.hwp_script_read.specs.hwp_geom.declared.Version.TheVariants.{One, Two}
+use Rattle.hwp_script_read.specs.hwp_geom.declared.Who.{Who}
 use Rattle.hwp_report_text.specs.hwp_kill.declared.Policy.{Policy}
 use Rattle.hwp_report_text.specs.hwp_kill.declared.Policy.TheVariants as policies
 use Rattle.hwp_report_text.specs.hwp_page.declared.At.{At}
 use Rattle.hwp_report_text.specs.hwp_page.declared.Met.TheVariants.{Word}
+use Rattle.hwp_report_text.specs.hwp_page.declared.Entry.{Entry}
 use Rattle.hwp_report_text.specs.hwp_page.declared.Outcome.TheVariants as outcomes
+use Rattle.hwp_report_text.specs.hwp_page.declared.PageState.{PageState}
 use Rattle.hwp_report_text.specs.hwp_page.declared.Situation.TheVariants as situations
 use Rattle.hwp_report_text.specs.hwp_page.declared.What.TheVariants as entries
+use Rattle.hwp_report_text.specs.hwp_page.History.{state_after}
+use Rattle.hwp_report_text.specs.hwp_page.Refusals.{IsDirty, IsLockedIn}
+use Rattle.hwp_report_text.specs.hwp_page.Step.{opening_of}
 use Rattle.hwp_report_text.specs.hwp_banks.declared.Origin.TheVariants as origins
+use Rattle.hwp_script_read.specs.declared.Command.{Command}
 use Rattle.hwp_script_read.specs.declared.Command.TheVariants as commands
+use Rattle.hwp_script_read.specs.declared.Script.{Script}
 use Rattle.hwp_report_text.specs.declared.Acted.{Acted}
 use Rattle.hwp_report_text.specs.declared.Acted.TheVariants as acts
 use Rattle.hwp_report_text.specs.declared.Answer.{Answer}
@@ -32,10 +48,12 @@ use Rattle.hwp_law.specs.Entries.{IsMadeBy}
 use Rattle.hwp_law.specs.Events.{AreEventsOf, IsDamaged, MeetsMarked}
 use Rattle.hwp_law.specs.Frames.{IsPlaced}
 use Rattle.hwp_law.specs.Halts.{IsStoppedBy}
+use Rattle.hwp_law.specs.Law.{HasShape}
+use Rattle.hwp_law.specs.Losses.{IsNumber, LossesAgree}
 use Rattle.hwp_law.specs.Pairings.{AreRecorded}
 use Rattle.hwp_law.specs.Records.{Alternates, HaveEvents, WasPoisoned, ends_poisoned}
 use Rattle.hwp_law.specs.SeenPolicies.{IsPolicySeen}
-use Rattle.hwp_law.specs.States.{IsInWindow}
+use Rattle.hwp_law.specs.States.{HadState, IsInWindow}
 use Rattle.hwp_law.specs.Stops.{StaysStopped}
 use Rattle.hwp_law.proofs.Examples.{command, history, layout, mark, report, script}
 
@@ -205,3 +223,88 @@ is_default _ = false
 
 pub other_policy : IsPolicySeen script (record { thread = record { 0 = 0 }; policy = policies.Early; n = 0 }) → ⊥
 other_policy seen = true≢false (sym (ap is_default seen.policy))
+
+-- ---- losses
+
+abbrev file : FileNo
+file = record { 0 = 0 }
+
+abbrev by_zero : Cpu
+by_zero = record { 0 = 0 }
+
+-- the page is of a file, and a failure lost what a store had made dirty
+abbrev filed : Script
+filed = record script { layout = record layout { files = 1; pages = File file 9 ∷ [] } }
+
+abbrev lost : Report
+lost = record report { files = 1 ∷ []; pages = ((record { who = command 2; what = entries.Fail situations.FileDirty None [] [] }) ∷ []) ∷ [] }
+
+-- and other commands ask for losses
+abbrev asks : Answer → Command × Answer
+asks answer = (commands.Fsync file, answer)
+
+abbrev opens : ℕ → Command × Answer
+opens n = (commands.Open file, answers.Opened n)
+
+-- the number of the file's losses is the one that the histories have
+pub none_said : LossesAgree filed (record lost { files = 0 ∷ [] }) → ⊥
+none_said agree = let same : ◌≡◌ {A = ℕ} 0 1 = agree.lost file 0 refl in absurd (omega arith)
+
+-- an answer doesn't tell of more losses than there are, nor do two together
+pub told_of_more : IsNumber filed lost file by_zero (asks answers.Done ∷ asks (answers.Eio 2) ∷ []) 1 → ⊥
+told_of_more number = let few : 2 ≤ 1 = number.within in absurd (omega arith)
+
+pub told_of_twice : IsNumber filed lost file by_zero (asks (answers.Eio 1) ∷ asks (answers.Eio 1) ∷ []) 1 → ⊥
+told_of_twice number = let few : 2 ≤ 1 = number.within in absurd (omega arith)
+
+pub opened_past_all : IsNumber filed lost file by_zero (opens 2 ∷ []) 0 → ⊥
+opened_past_all number = let few : 2 ≤ 1 = number.within in absurd (omega arith)
+
+-- a file isn't opened below what its processor was told
+pub opened_below : IsNumber filed lost file by_zero (asks (answers.Eio 1) ∷ opens 0 ∷ []) 1 → ⊥
+opened_below number = let fallen : 1 ≤ 0 = number.rises in absurd (omega arith)
+
+-- once a processor's own command lost something, what its later commands were told has it
+pub not_told : IsNumber filed lost file by_zero (asks answers.Done ∷ asks answers.Done ∷ asks answers.Done ∷ asks answers.Done ∷ []) 3 → ⊥
+not_told number = let few : 1 ≤ 0 = number.covers in absurd (omega arith)
+
+-- `fsync` isn't answered `opened`, nor `open` as `fsync` is
+pub opened_unasked : (n : ℕ) → IsCaused filed lost (command 3) (commands.Fsync file) (answers.Opened n) → ⊥
+opened_unasked n caused = caused
+
+pub opened_and_told : (n : ℕ) → IsCaused filed lost (command 3) (commands.Open file) (answers.Eio n) → ⊥
+opened_and_told n caused = caused
+
+-- ---- versions and locked pages
+
+abbrev is_first : Version → Bool
+is_first One = true
+is_first Two = false
+
+-- the report is of the script's version
+pub other_version : HasShape script (record report { version = Two }) → ⊥
+other_version shape = true≢false (sym (ap is_first shape.version))
+
+-- the same script, whose page is locked
+abbrev locked : Script
+locked = record script { layout = record layout { locked = true ∷ [] } }
+
+abbrev page : Page
+page = record { 0 = 0 }
+
+-- `out` looks at the lines of a page that isn't locked alone
+pub looked_at : (mask : Mask) → IsCaused locked report (command 0) (commands.Out page) (answers.BadLines mask (after_entries 3)) → ⊥
+looked_at mask caused = true≢false caused.0
+
+-- the page had this property after its first three entries, locked or not
+had_it : (l : Bool) (P : PageState → Type 0) → HadState (record layout { locked = l ∷ [] }) report.pages (after_entries 3) P → P (state_after (opening_of Anon l) (take 3 history))
+had_it l P h =
+    subst (λ (k : PageKind). P (state_after (opening_of k l) (take 3 history))) (sym (same_Some Anon h.kind h.declared))
+    (subst (λ (es : List Entry). P (state_after (opening_of h.kind l) (take 3 es))) (sym (same_Some history h.entries h.there)) h.had)
+
+-- a page that isn't locked isn't refused as one, and a locked page for nothing else
+pub not_locked : IsCaused script report (command 0) (commands.Drop page) (answers.Locked (after_entries 3)) → ⊥
+not_locked caused = let is : IsLockedIn (state_after (opening_of Anon false) (take 3 history)) = had_it false IsLockedIn caused.1 in true≢false (sym is.1)
+
+pub dirty_before : IsCaused locked report (command 0) (commands.Drop page) (answers.Dirty (after_entries 3)) → ⊥
+dirty_before caused = let is : IsDirty (state_after (opening_of Anon true) (take 3 history)) = had_it true IsDirty caused.1 in true≢false is.1

@@ -8,7 +8,7 @@ use Rattle.hwp_script_read.specs.hwp_geom.declared.Layout.{Layout}
 use Rattle.hwp_script_read.specs.hwp_geom.declared.Page.{Page}
 use Rattle.hwp_script_read.specs.hwp_geom.declared.VSlot.{VSlot}
 use Rattle.hwp_report_text.specs.hwp_banks.Addresses.{frame_at}
-use Rattle.hwp_report_text.specs.hwp_page.Refusals.{IsAway, IsDirty, IsMapped, IsUnused}
+use Rattle.hwp_report_text.specs.hwp_page.Refusals.{IsAway, IsDirty, IsLockedIn, IsMapped, IsUnused}
 use Rattle.hwp_report_text.specs.hwp_page.Step.{IsOf}
 use Rattle.hwp_report_text.specs.hwp_page.declared.At.{At}
 use Rattle.hwp_report_text.specs.hwp_page.declared.Entry.{Entry}
@@ -93,10 +93,15 @@ IsAnswer script pages stop who (commands.Drop page) (answers.Dirty at) =
     (at.page ≡ page) × HadState script.layout pages at IsDirty
 IsAnswer script pages stop who (commands.Drop page) (answers.Mapped at) =
     (at.page ≡ page) × HadState script.layout pages at IsMapped
+IsAnswer script pages stop who (commands.Drop page) (answers.Locked at) =
+    (at.page ≡ page) × HadState script.layout pages at IsLockedIn
 IsAnswer script pages stop who (commands.Drop page) answer = IsPageAnswer script.layout pages who page entries.Drop answer
 IsAnswer script pages stop who (commands.Sync page) answer = IsPageAnswer script.layout pages who page entries.Sync answer
+IsAnswer script pages stop who (commands.Out page) (answers.Locked at) =
+    (at.page ≡ page) × HadState script.layout pages at IsLockedIn
 IsAnswer script pages stop who (commands.Out page) answer = IsPageAnswer script.layout pages who page entries.Out answer
 IsAnswer script pages stop who (commands.Fsync file) answers.Done = Unit {0}
+IsAnswer script pages stop who (commands.Open file) (answers.Opened lost) = Unit {0}
 IsAnswer script pages stop who (commands.Prctl thread args) answer = answer ≡ reply_answer (reply (policy_before script who thread) (arguments args))
 IsAnswer script pages stop who (commands.Log status addr misc) answers.Done = Unit {0}
 IsAnswer script pages stop who _ _ = ⊥

@@ -1,6 +1,7 @@
 -- What stands in a report for each answer.
 use Rattle.std.specs.Prelude.{◌≡◌, ◌≢◌, ℕ, ◌+◌, ◌<◌, Bool, true, false, List, [], ◌∷◌, Some, length, bit_and, ◌||◌, IsSome, IsSomeAnd, Any}
 use Rattle.std.specs.List.{list_any}
+use Rattle.hwp_script_read.specs.hwp_geom.Layout.{is_locked}
 use Rattle.hwp_script_read.specs.hwp_geom.declared.Cpu.{Cpu}
 use Rattle.hwp_script_read.specs.hwp_geom.declared.Frame.{Frame}
 use Rattle.hwp_script_read.specs.hwp_geom.declared.Mask.{Mask}
@@ -76,6 +77,12 @@ abbrev pub IsCopyAnswer : Script → Report → Who → Command → Page → Ans
 IsCopyAnswer script report who command page (answers.BadLines mask at) = (at.page ≡ page) × HadBadLines script report mask at
 IsCopyAnswer script report who command page answer = IsAnswer script report.pages report.stop who command answer
 
+-- an answer of `out`, which looks at the lines of a page that isn't locked alone
+abbrev pub IsOutAnswer : Script → Report → Who → Page → Answer → Type 0
+IsOutAnswer script report who page (answers.BadLines mask at) =
+    (is_locked script.layout page ≡ false) × IsCopyAnswer script report who (commands.Out page) page (answers.BadLines mask at)
+IsOutAnswer script report who page answer = IsCopyAnswer script report who (commands.Out page) page answer
+
 -- the frame has a mark of this command, and it is such
 abbrev pub HasMark : Report → Who → Frame → (MarkLine → Type 0) → Type 0
 HasMark report who frame Such = Any (λ (m : MarkLine). (who_in m ≡ who) × Such m) (marks_of report frame.0)
@@ -132,7 +139,7 @@ IsCaused script report who (commands.Fetch thread slot line) answer = IsAccessAn
 IsCaused script report who (commands.KLoad thread slot line) answer = IsAccessAnswer script report who (commands.KLoad thread slot line) answer
 IsCaused script report who (commands.Store thread slot line word) answer = IsAccessAnswer script report who (commands.Store thread slot line word) answer
 IsCaused script report who (commands.Sync page) answer = IsCopyAnswer script report who (commands.Sync page) page answer
-IsCaused script report who (commands.Out page) answer = IsCopyAnswer script report who (commands.Out page) page answer
+IsCaused script report who (commands.Out page) answer = IsOutAnswer script report who page answer
 IsCaused script report who (commands.Fsync file) (answers.Eio lost) = 0 < lost
 IsCaused script report who (commands.Prctl thread args) (answers.Gone page) = IsGone script report who page
 IsCaused script report who (commands.Bad frame line) answers.Done = Unit {0}

@@ -23,8 +23,9 @@ use Rattle.hwp_law.specs.Pairings.{AreRecorded}
 use Rattle.hwp_law.specs.PageHistory.{IsHistory}
 use Rattle.hwp_law.specs.SeenPolicies.{AreSeen, SeenNeverFalls}
 
--- the report has a line, a history or lines for each frame, page and processor of the script
+-- the report is of the script's version, with a line, a history or lines for each frame, page and processor of the script
 pub record HasShape (script : Script) (report : Report) : Type 0 where
+  pub version : report.version ≡ script.layout.version
   pub frames : length report.frames ≡ script.layout.frames
   pub pages : length report.pages ≡ length script.layout.pages
   pub cpus : length report.cpus ≡ script.layout.cpus

@@ -1,5 +1,6 @@
 -- The lost content of files, and what each processor was told of it. A handle is a processor together with a file: it has a number,
--- the losses of the file that the processor knows of, which is 0 at first.
+-- the losses of the file that the processor knows of, which is 0 at first. `fsync` tells the losses past it, and `open` passes them over: after each the number is what the
+-- command saw.
 use Rattle.std.specs.Prelude.{◌≡◌, ℕ, ◌+◌, ◌<◌, ◌≤◌, ◌==◌, ◌&&◌, Bool, true, false, cond, nat_lt, List, [], ◌∷◌, Some, length, map, filter_map, slice_get, take}
 use Rattle.std.specs.Int.{from_bool}
 use Rattle.std.specs.List.{sum_by, zip}
@@ -25,6 +26,7 @@ answered list rows = zip list (map (λ (l : AnswerLine). l.answer) (filter_map a
 -- the number that a handle of the file has after a command with this answer, where it had n
 abbrev pub number_by : FileNo → ℕ → Command → Answer → ℕ
 number_by file n (commands.Fsync other) (answers.Eio more) = n + cond (other.0 == file.0) more 0
+number_by file n (commands.Open other) (answers.Opened lost) = cond (other.0 == file.0) lost n
 number_by file n _ _ = n
 
 -- and after commands with these answers
@@ -32,10 +34,11 @@ abbrev pub numbers_after : FileNo → ℕ → List (Command × Answer) → ℕ
 numbers_after file n [] = n
 numbers_after file n (p ∷ ps) = numbers_after file (number_by file n p.0 p.1) ps
 
--- the command told the number: it is `fsync` of the file, and was answered `done` or `eio`
+-- the command told the number: it is `fsync` of the file, and was answered `done` or `eio`, or `open` of it, and was answered `opened`
 abbrev pub tells_number : FileNo → Command → Answer → Bool
 tells_number file (commands.Fsync other) answers.Done = other.0 == file.0
 tells_number file (commands.Fsync other) (answers.Eio more) = other.0 == file.0
+tells_number file (commands.Open other) (answers.Opened lost) = other.0 == file.0
 tells_number file _ _ = false
 
 -- the entries of a page that the test finds, where the file stands behind the page

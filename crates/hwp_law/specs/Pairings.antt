@@ -29,6 +29,9 @@ situation_number situations.FileDirty = 3
 situation_number situations.AnonOnly = 4
 situation_number situations.SwapClean = 5
 situation_number situations.SwapDirty = 6
+situation_number situations.LockedClean = 7
+situation_number situations.LockedFile = 8
+situation_number situations.LockedAnon = 9
 
 -- a page is in the frame
 abbrev pub has_page : Situation → Bool

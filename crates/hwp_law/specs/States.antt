@@ -1,6 +1,7 @@
 -- The state of a page at a place of its history, and the window in which a command can have seen it.
 use Rattle.std.specs.Prelude.{◌≡◌, ℕ, ◌<◌, ◌≤◌, List, Option, Some, None, length, take, slice_get}
 use Rattle.std.specs.Option.{option_or}
+use Rattle.hwp_script_read.specs.hwp_geom.Layout.{is_locked}
 use Rattle.hwp_script_read.specs.hwp_geom.declared.Layout.{Layout}
 use Rattle.hwp_script_read.specs.hwp_geom.declared.PageKind.{PageKind}
 use Rattle.hwp_script_read.specs.hwp_geom.declared.Who.{Who}
@@ -22,7 +23,7 @@ pub record HadState (layout : Layout) (pages : List (List Entry)) (at : At) (P :
   pub declared : slice_get layout.pages at.page.0 ≡ Some kind
   pub there : slice_get pages at.page.0 ≡ Some entries
   pub within : at.entry ≤ length entries
-  pub had : P (state_after (opening_of kind) (take at.entry entries))
+  pub had : P (state_after (opening_of kind (is_locked layout at.page)) (take at.entry entries))
 
 -- the place of the entry that an answer names
 abbrev pub entry_named : Answer → Option At
@@ -39,6 +40,7 @@ state_named (answers.NotResident at) = Some at
 state_named (answers.NotMapped at) = Some at
 state_named (answers.Dirty at) = Some at
 state_named (answers.Mapped at) = Some at
+state_named (answers.Locked at) = Some at
 state_named (answers.BadLines mask at) = Some at
 state_named _ = None
 

@@ -8,6 +8,7 @@ use Rattle.hwp_law_run.specs.hwp_geom.declared.Mask.{Mask}
 use Rattle.hwp_law_run.specs.hwp_geom.declared.Page.{Page}
 use Rattle.hwp_law_run.specs.hwp_geom.declared.Thread.{Thread}
 use Rattle.hwp_law_run.specs.hwp_geom.declared.Who.{Who}
+use Rattle.hwp_law_run.specs.hwp_geom.Layout.{is_locked}
 use Rattle.hwp_law_run.specs.hwp_kill.Prctl.{reply}
 use Rattle.hwp_law_run.specs.hwp_page.declared.At.{At}
 use Rattle.hwp_law_run.specs.hwp_page.declared.Entry.{Entry}
@@ -39,7 +40,7 @@ use Rattle.hwp_law_run.specs.hwp_report_text.declared.FrameLine.{FrameLine}
 use Rattle.hwp_law_run.specs.hwp_report_text.declared.MarkLine.{MarkLine}
 use Rattle.hwp_law_run.specs.hwp_report_text.declared.Report.{Report}
 use Rattle.hwp_law_run.specs.hwp_law.Answers.{StandsAt, reply_answer}
-use Rattle.hwp_law_run.specs.hwp_law.Causes.{AreBadLines, ComesTo, HadBadLines, HasMark, IsCaused as IsLawCaused, IsFailureAnswer, IsOfflineAnswer, IsSigbus, IsUnpoisonAnswer, SendsSigbus, TakesBack}
+use Rattle.hwp_law_run.specs.hwp_law.Causes.{AreBadLines, ComesTo, HadBadLines, HasMark, IsCaused as IsLawCaused, IsFailureAnswer, IsOfflineAnswer, IsOutAnswer, IsSigbus, IsUnpoisonAnswer, SendsSigbus, TakesBack}
 use Rattle.hwp_law_run.specs.hwp_law.Commands.{current_thread}
 use Rattle.hwp_law_run.specs.hwp_law.Lines.{bad_lines_of, events_of}
 use Rattle.hwp_law_run.specs.hwp_law.Places.{command_at, entry_at}
@@ -53,10 +54,12 @@ use Rattle.hwp_cpu_row.specs.declared.FrameChange.TheVariants as owns
 use Rattle.hwp_cpu_row.specs.declared.Row.{Row}
 use Rattle.hwp_cpu_row.specs.hwp_cpu_check.declared.EventOutcome.{EventOutcome}
 use Rattle.hwp_cpu_row.specs.hwp_cpu_check.Told.{first_signal}
-use Rattle.hwp_law_holds.specs.Causes.{FoundState, HasCome, IsAnswerCaused, IsInjectCaused, IsOfflineCaused, IsSoftCaused, IsUnpoisonCaused, SawBadLines}
+use Rattle.hwp_law_holds.specs.Causes.{HasCome, IsAnswerCaused, IsInjectCaused, IsOfflineCaused, IsSoftCaused, IsUnpoisonCaused, SawBadLines}
 use Rattle.hwp_law_holds.specs.Rows.{event_at, offlined}
 use Rattle.hwp_law_holds.specs.Runs.{row_at}
+use Rattle.hwp_law_holds.proofs.AllowedThere.{had-so}
 use Rattle.hwp_law_holds.proofs.Ample.{not-ample}
+use Rattle.hwp_law_holds.proofs.PageLocks.{had-unlocked}
 use Rattle.hwp_law_holds.proofs.RunEnds.{IsEnd, IsOf}
 use Rattle.hwp_law_holds.proofs.endings.Gone.{is-gone}
 use Rattle.hwp_law_holds.proofs.deeds.Made.{command-is, some-so}
@@ -117,8 +120,19 @@ module _ (script : Script) (seat : Cpu → ℕ) (last : State) (report : Report)
       }
 
   -- those of a page's frame
-  bad-lines : (who : Who) (page : Page) (mask : Mask) (at : At) → FoundState script.layout view who at (λ (s : PageState). s.cached ≡ true) → SawBadLines script.layout view who page mask → HadBadLines script report mask at
-  bad-lines who page mask at found lines = record { cached = had found.saw; frame = lines.frame.0; bad = bad-at-end lines.frame mask lines.inside lines.some (looked page lines.saw) }
+  bad-lines : (who : Who) (page : Page) (mask : Mask) (at : At) → HadState script.layout report.pages at (λ (s : PageState). s.cached ≡ true) → SawBadLines script.layout view who page mask → HadBadLines script report mask at
+  bad-lines who page mask at cached lines = record { cached = cached; frame = lines.frame.0; bad = bad-at-end lines.frame mask lines.inside lines.some (looked page lines.saw) }
+
+  -- so `out` found them, of a page that isn't locked
+  abbrev IsIn : PageState → Type 0
+  IsIn s = (s.cached ≡ true) × (s.locked ≡ false)
+
+  out-lines : (who : Who) (page : Page) (mask : Mask) (at : At) → at.page ≡ page → HadState script.layout report.pages at IsIn → SawBadLines script.layout view who page mask → IsOutAnswer script report who page (answers.BadLines mask at)
+  out-lines who page mask at page_is was lines =
+      let unlocked = had-unlocked script.layout report.pages at (had-so IsIn (λ (s : PageState). s.locked ≡ false) (λ s is. is.1) was) in (
+        sym (ap (is_locked script.layout) page_is) ∙ unlocked,
+        (page_is, bad-lines who page mask at (had-so IsIn (λ (s : PageState). s.cached ≡ true) (λ s is. is.0) was) lines),
+      )
 
   -- a failure came to its answer
   failure : (who : Who) (frame : Frame) (own : Option FrameChange) (answer : Answer) → ((frame : Frame) (outcome : Outcome) → HasCome script.layout view who frame own outcome → HasMark report who frame (ComesTo outcome))
@@ -209,16 +223,19 @@ module _ (script : Script) (seat : Cpu → ℕ) (last : State) (report : Report)
   law-caused who list list_is (commands.Free slot) told own (answers.NotMapped bt) at facts caused = (caused.0, had caused.1.saw)
   law-caused who list list_is (commands.Drop page) told own (answers.DoneAt bt) at facts caused = (caused.0, stands caused.1.made)
   law-caused who list list_is (commands.Drop page) told own (answers.NotResident bt) at facts caused = (caused.0, had caused.1.saw)
+  law-caused who list list_is (commands.Drop page) told own (answers.Locked bt) at facts caused = (caused.0, had caused.1.saw)
   law-caused who list list_is (commands.Drop page) told own (answers.Dirty bt) at facts caused = (caused.0, had caused.1.saw)
   law-caused who list list_is (commands.Drop page) told own (answers.Mapped bt) at facts caused = (caused.0, had caused.1.saw)
   law-caused who list list_is (commands.Sync page) told own (answers.DoneAt bt) at facts caused = (caused.0, stands caused.1.made)
   law-caused who list list_is (commands.Sync page) told own (answers.NotResident bt) at facts caused = (caused.0, had caused.1.saw)
-  law-caused who list list_is (commands.Sync page) told own (answers.BadLines mask bt) at facts caused = (caused.0, bad-lines who page mask bt caused.1 caused.2)
+  law-caused who list list_is (commands.Sync page) told own (answers.BadLines mask bt) at facts caused = (caused.0, bad-lines who page mask bt (had caused.1.saw) caused.2)
   law-caused who list list_is (commands.Out page) told own (answers.DoneAt bt) at facts caused = (caused.0, stands caused.1.made)
   law-caused who list list_is (commands.Out page) told own (answers.NotResident bt) at facts caused = (caused.0, had caused.1.saw)
-  law-caused who list list_is (commands.Out page) told own (answers.BadLines mask bt) at facts caused = (caused.0, bad-lines who page mask bt caused.1 caused.2)
+  law-caused who list list_is (commands.Out page) told own (answers.Locked bt) at facts caused = (caused.0, had caused.1.saw)
+  law-caused who list list_is (commands.Out page) told own (answers.BadLines mask bt) at facts caused = out-lines who page mask bt caused.0 (had caused.1.saw) caused.2
   law-caused who list list_is (commands.Fsync file) told own answers.Done at facts caused = tt
   law-caused who list list_is (commands.Fsync file) told own (answers.Eio more) at facts caused = caused.1
+  law-caused who list list_is (commands.Open file) told own (answers.Opened word) at facts caused = tt
   law-caused who list list_is (commands.Prctl thread args) told own (answers.Gone page) at facts caused = is-gone script seat last report end cpu inside who (commands.Prctl thread args) thread page at refl caused.0
   law-caused who list list_is (commands.Prctl thread args) told own (answers.Sigbus bt) at facts (inl caused) = caused.replied ∙ replied who list list_is thread args
   law-caused who list list_is (commands.Prctl thread args) told own (answers.Sigbus bt) at facts (inr was) = absurd was

@@ -268,13 +268,17 @@ module _ {layout : Layout} {by : Who} {step : Step} {body : Option BodyValue} {o
   table-stays list (commands.Store thread slot line word) answer caused = store-stays thread slot line word answer caused
   table-stays list (commands.Free slot) (answers.DoneAt at) caused = (caused.0, one-stays at _ caused.1)
   table-stays list (commands.Free slot) (answers.NotMapped at) caused = (caused.0, state-stays at _ caused.1)
+  table-stays list (commands.Drop page) (answers.Locked at) caused = (caused.0, state-stays at _ caused.1)
   table-stays list (commands.Drop page) (answers.Dirty at) caused = (caused.0, state-stays at _ caused.1)
   table-stays list (commands.Drop page) (answers.Mapped at) caused = (caused.0, state-stays at _ caused.1)
   table-stays list (commands.Drop page) answer caused = page-stays page entries.Drop answer caused
   table-stays list (commands.Sync page) answer caused = copy-stays page entries.Sync answer caused
+  table-stays list (commands.Out page) (answers.Locked at) caused = (caused.0, state-stays at _ caused.1)
+  table-stays list (commands.Out page) (answers.BadLines mask at) caused = (caused.0, state-stays at _ caused.1, lines-stay page mask caused.2)
   table-stays list (commands.Out page) answer caused = copy-stays page entries.Out answer caused
   table-stays list (commands.Fsync file) answers.Done caused = made-none-later caused
   table-stays list (commands.Fsync file) (answers.Eio more) caused = (made-none-later caused.0, caused.1)
+  table-stays list (commands.Open file) (answers.Opened word) caused = made-none-later caused
   table-stays list (commands.Prctl thread args) (answers.Gone page) caused = (gone-stays thread page caused.0, made-none-later caused.1)
   table-stays list (commands.Prctl thread args) answer caused = replied-stays list thread _ answer caused
   table-stays list (commands.Log status addr misc) answers.Done caused = made-none-later caused

@@ -24,7 +24,7 @@ module _ (script : Script) (seat : Cpu → ℕ) (turns : List Played) (last : St
   end = ended script seat turns last report run
 
   pub shape-fits : HasShape script report
-  shape-fits = record { frames = run.lengths.frames; pages = run.lengths.pages; cpus = run.lengths.cpus }
+  shape-fits = record { version = run.lengths.version; frames = run.lengths.frames; pages = run.lengths.pages; cpus = run.lengths.cpus }
 
   pub histories-fit : HistoriesFit script report
   histories-fit = record {

@@ -27,6 +27,7 @@ pub mod Settled
 pub mod Seats
 pub mod Retired
 pub mod AllowedThere
+mod PageLocks
 pub mod Signals
 pub mod marks
 pub mod lines

@@ -245,14 +245,17 @@ module _ (layout : Layout) (list : List Command) (view : View) (who : Who) where
   table-place (commands.Free slot) (answers.NotMapped bt) caused at is = saw-one bt (saw-at caused.1.saw) at is
   table-place (commands.Drop page) (answers.DoneAt bt) caused at is = made-one bt (made-at caused.1.made) at is
   table-place (commands.Drop page) (answers.NotResident bt) caused at is = saw-one bt (saw-at caused.1.saw) at is
+  table-place (commands.Drop page) (answers.Locked bt) caused at is = saw-one bt (saw-at caused.1.saw) at is
   table-place (commands.Drop page) (answers.Dirty bt) caused at is = saw-one bt (saw-at caused.1.saw) at is
   table-place (commands.Drop page) (answers.Mapped bt) caused at is = saw-one bt (saw-at caused.1.saw) at is
   table-place (commands.Sync page) (answers.DoneAt bt) caused at is = made-one bt (made-at caused.1.made) at is
   table-place (commands.Sync page) (answers.NotResident bt) caused at is = saw-one bt (saw-at caused.1.saw) at is
   table-place (commands.Out page) (answers.DoneAt bt) caused at is = made-one bt (made-at caused.1.made) at is
   table-place (commands.Out page) (answers.NotResident bt) caused at is = saw-one bt (saw-at caused.1.saw) at is
+  table-place (commands.Out page) (answers.Locked bt) caused at is = saw-one bt (saw-at caused.1.saw) at is
   table-place (commands.Fsync file) answers.Done caused at is = absurd (none-some at is)
   table-place (commands.Fsync file) (answers.Eio more) caused at is = absurd (none-some at is)
+  table-place (commands.Open file) (answers.Opened word) caused at is = absurd (none-some at is)
   table-place (commands.Prctl thread args) (answers.Gone page) caused at is = absurd (none-some at is)
   table-place (commands.Prctl thread args) answer caused at is = absurd (replied (reply (last_policy (settings thread (take who.seq list))) (arguments args)) (sym (ap place_named caused.replied) ∙ is))
     where
@@ -325,10 +328,12 @@ module _ (layout : Layout) (list : List Command) (view : View) (who : Who) where
   table-state : (command : Command) (answer : Answer) → IsTableCaused layout list view who command answer → (at : At) → state_named answer ≡ Some at → SawAt view who at
   table-state (commands.Free slot) (answers.NotMapped bt) caused at is = subst (SawAt view who) (same_Some bt at is) (saw-at caused.1.saw)
   table-state (commands.Drop page) (answers.NotResident bt) caused at is = subst (SawAt view who) (same_Some bt at is) (saw-at caused.1.saw)
+  table-state (commands.Drop page) (answers.Locked bt) caused at is = subst (SawAt view who) (same_Some bt at is) (saw-at caused.1.saw)
   table-state (commands.Drop page) (answers.Dirty bt) caused at is = subst (SawAt view who) (same_Some bt at is) (saw-at caused.1.saw)
   table-state (commands.Drop page) (answers.Mapped bt) caused at is = subst (SawAt view who) (same_Some bt at is) (saw-at caused.1.saw)
   table-state (commands.Sync page) (answers.NotResident bt) caused at is = subst (SawAt view who) (same_Some bt at is) (saw-at caused.1.saw)
   table-state (commands.Out page) (answers.NotResident bt) caused at is = subst (SawAt view who) (same_Some bt at is) (saw-at caused.1.saw)
+  table-state (commands.Out page) (answers.Locked bt) caused at is = subst (SawAt view who) (same_Some bt at is) (saw-at caused.1.saw)
   table-state (commands.Sync page) (answers.BadLines mask bt) caused at is = subst (SawAt view who) (same_Some bt at is) (saw-at caused.1.saw)
   table-state (commands.Out page) (answers.BadLines mask bt) caused at is = subst (SawAt view who) (same_Some bt at is) (saw-at caused.1.saw)
   table-state (commands.Prctl thread args) (answers.Gone page) caused at is = absurd (none-some at is)
@@ -346,6 +351,7 @@ module _ (layout : Layout) (list : List Command) (view : View) (who : Who) where
   table-state command (answers.DoneAt bt) caused at is = absurd (none-some at is)
   table-state command answers.Done caused at is = absurd (none-some at is)
   table-state command (answers.Eio more) caused at is = absurd (none-some at is)
+  table-state command (answers.Opened word) caused at is = absurd (none-some at is)
   table-state command answer caused at is = absurd caused
 
   offline-state : (frame : Frame) (own : Option FrameChange) (answer : Answer) → IsOfflineCaused layout view who frame own answer → (at : At) → state_named answer ≡ Some at → SawAt view who at

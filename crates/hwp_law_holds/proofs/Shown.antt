@@ -185,7 +185,7 @@ module _ (script : Script) (turns : List Played) (view : View) (said : Said (tol
   replied-shown thread args replies.Einval = tt
 
   -- lines of a page that a copy found bad
-  bad-shown : (place : At) (page : Page) (mask : Mask) → place.page ≡ page → FoundState script.layout view who place (λ (s : PageState). s.cached ≡ true) → SawBadLines script.layout view who page mask
+  bad-shown : {Such : PageState → Type 0} (place : At) (page : Page) (mask : Mask) → place.page ≡ page → FoundState script.layout view who place Such → SawBadLines script.layout view who page mask
       → LengthShown script.layout turns who place × ((frame : Frame) × FindsBad script.layout turns who place.page frame mask.0)
   bad-shown place page mask same found lines = (
     length-shown script.layout turns view said who found.saw,
@@ -214,6 +214,7 @@ module _ (script : Script) (turns : List Played) (view : View) (said : Said (tol
   table-shown (commands.Free slot) (answers.NotMapped place) at caused = length-shown script.layout turns view said who caused.1.saw
   table-shown (commands.Drop page) (answers.DoneAt entry) at caused = tt
   table-shown (commands.Drop page) (answers.NotResident place) at caused = length-shown script.layout turns view said who caused.1.saw
+  table-shown (commands.Drop page) (answers.Locked place) at caused = length-shown script.layout turns view said who caused.1.saw
   table-shown (commands.Drop page) (answers.Dirty place) at caused = length-shown script.layout turns view said who caused.1.saw
   table-shown (commands.Drop page) (answers.Mapped place) at caused = length-shown script.layout turns view said who caused.1.saw
   table-shown (commands.Sync page) (answers.DoneAt entry) at caused = tt
@@ -221,9 +222,11 @@ module _ (script : Script) (turns : List Played) (view : View) (said : Said (tol
   table-shown (commands.Sync page) (answers.BadLines mask place) at caused = bad-shown place page mask caused.0 caused.1 caused.2
   table-shown (commands.Out page) (answers.DoneAt entry) at caused = tt
   table-shown (commands.Out page) (answers.NotResident place) at caused = length-shown script.layout turns view said who caused.1.saw
+  table-shown (commands.Out page) (answers.Locked place) at caused = length-shown script.layout turns view said who caused.1.saw
   table-shown (commands.Out page) (answers.BadLines mask place) at caused = bad-shown place page mask caused.0 caused.1 caused.2
   table-shown (commands.Fsync file) answers.Done at caused = tt
   table-shown (commands.Fsync file) (answers.Eio more) at caused = tt
+  table-shown (commands.Open file) (answers.Opened word) at caused = tt
   table-shown (commands.Prctl thread args) (answers.Gone page) at caused = gone-shown (commands.Prctl thread args) thread page at refl caused.0
   table-shown (commands.Prctl thread args) answer at caused =
       subst (AnswerShown script turns who (commands.Prctl thread args)) (sym caused.replied) (replied-shown thread args (reply (last_policy (settings thread (take who.seq list))) (arguments args)))
@@ -321,6 +324,7 @@ module _ (script : Script) (turns : List Played) (view : View) (said : Said (tol
     goes-table (commands.Sync page) answer is caused = absurd (none-some process is)
     goes-table (commands.Out page) answer is caused = absurd (none-some process is)
     goes-table (commands.Fsync file) answer is caused = absurd (none-some process is)
+    goes-table (commands.Open file) answer is caused = absurd (none-some process is)
     goes-table (commands.Log status addr misc) answer is caused = absurd (none-some process is)
     goes-table (commands.Bad frame line) answer is caused = absurd (none-some process is)
     goes-table (commands.Weak frame line) answer is caused = absurd (none-some process is)

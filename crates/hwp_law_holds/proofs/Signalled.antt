@@ -20,7 +20,7 @@ use Rattle.hwp_law_run.specs.hwp_page.declared.Entry.{Entry}
 use Rattle.hwp_law_run.specs.hwp_page.declared.PageState.{PageState}
 use Rattle.hwp_law_run.specs.hwp_page.declared.What.{What}
 use Rattle.hwp_law_run.specs.hwp_page.declared.What.TheVariants as entries
-use Rattle.hwp_law_run.specs.hwp_page.Situations.{is_signalling}
+use Rattle.hwp_law_run.specs.hwp_page.Situations.{always_signals, is_signalling}
 use Rattle.hwp_law_run.specs.hwp_page.Step.{IsFailure}
 use Rattle.hwp_law_run.specs.hwp_core_rule.declared.State.{State}
 use Rattle.hwp_law_run.specs.hwp_core_task.Boards.{view_of}
@@ -52,17 +52,17 @@ now-code codes.Ar is = refl
 now-code codes.Ao is = absurd (true≢false (sym is))
 
 -- a signal of that kind is for the thread that needs the page
-now-due : (layout : Layout) (maps : set.FinSet nat_cmp) (required : Option Thread) (seen : List Seen) (signals : List Signal) → AreDue layout maps required seen signals → signals_now signals ≡ true → HasNow required signals
-now-due layout maps required seen signals due now =
+now-due : (layout : Layout) (maps : set.FinSet nat_cmp) (always : Bool) (required : Option Thread) (seen : List Seen) (signals : List Signal) → AreDue layout maps always required seen signals → signals_now signals ≡ true → HasNow required signals
+now-due layout maps always required seen signals due now =
     let some = Any-from_list_any (λ (s : Signal). is_now s.code) signals now in
     let s : Signal = some.1 in
     let code : s.code ≡ codes.Ar = now-code s.code some.4 in
-    let reached = subst (Reaches layout required seen s.process s.thread) code (((due.each s).0 (some.0, some.2, some.3)).thread) in
+    let reached = subst (Reaches layout always required seen s.process s.thread) code (((due.each s).0 (some.0, some.2, some.3)).thread) in
     record { thread = s.thread; required_is = reached.0; sent = (some.0, s, some.2, some.3, (refl, code)) }
 
-now-killed : (layout : Layout) (maps : set.FinSet nat_cmp) (all : Bool) (required : Option Thread) (seen : List Seen) (signals : List Signal) → Killed layout maps all required seen signals → signals_now signals ≡ true → HasNow required signals
-now-killed layout maps true required seen signals due now = now-due layout maps required seen signals due now
-now-killed layout maps false required seen signals none now = absurd (true≢false (sym now ∙ ap signals_now none))
+now-killed : (layout : Layout) (maps : set.FinSet nat_cmp) (all always : Bool) (required : Option Thread) (seen : List Seen) (signals : List Signal) → Killed layout maps all always required seen signals → signals_now signals ≡ true → HasNow required signals
+now-killed layout maps true always required seen signals due now = now-due layout maps always required seen signals due now
+now-killed layout maps false always required seen signals none now = absurd (true≢false (sym now ∙ ap signals_now none))
 
 -- which is the command's own
 own-thread : (thread : Option Thread) (severity : Severity) (one : Thread) → required_by thread severity ≡ Some one → thread ≡ Some one
@@ -86,7 +86,7 @@ module _ (script : Script) (seat : Cpu → ℕ) (last : State) (report : Report)
       ∙ listed-entry script.layout last report end.board (seat cpu) has.made.j (view_of last (seat cpu)) has.made.made (end.seated.there cpu inside) has.made.there in
       let allowed = allowed-there script.layout report (histories-lead script.layout last report end.board) at e what there stands.entry.what_is in
       let now = (had-so (λ (s : PageState). IsFailure script.layout s f.situation f.required stands.entry.seen stands.entry.signals) (λ (s : PageState). HasNow f.required stands.entry.signals)
-      (λ s failed. now-killed script.layout s.maps (is_signalling f.situation) f.required stands.entry.seen stands.entry.signals failed.killed stands.entry.signalled) allowed).had in
+      (λ s failed. now-killed script.layout s.maps (is_signalling f.situation) (always_signals f.situation) f.required stands.entry.seen stands.entry.signals failed.killed stands.entry.signalled) allowed).had in
       record {
         entry = e;
         there = there;

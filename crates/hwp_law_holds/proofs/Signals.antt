@@ -11,7 +11,7 @@ use Rattle.hwp_law_run.specs.hwp_page.declared.PageState.{PageState}
 use Rattle.hwp_law_run.specs.hwp_page.declared.Situation.{Situation}
 use Rattle.hwp_law_run.specs.hwp_page.declared.What.TheVariants.{Fail}
 use Rattle.hwp_law_run.specs.hwp_page.Actions.{situation_of}
-use Rattle.hwp_law_run.specs.hwp_page.Situations.{is_signalling}
+use Rattle.hwp_law_run.specs.hwp_page.Situations.{always_signals, is_signalling}
 use Rattle.hwp_law_run.specs.hwp_page.Step.{IsFailure, IsSeenList}
 use Rattle.hwp_law_run.specs.hwp_script_read.declared.Script.{Script}
 use Rattle.hwp_law_run.specs.hwp_report_text.declared.Report.{Report}
@@ -30,7 +30,7 @@ module _ (script : Script) (report : Report) (lawful : IsLawful script report) w
         resident = had-so (λ (s : PageState). IsFailure script.layout s situation required seen signals) (λ (s : PageState). s.cached ≡ true) (λ s f. f.cached) there;
         situation_is = had-so (λ (s : PageState). IsFailure script.layout s situation required seen signals) (λ (s : PageState). situation ≡ situation_of s) (λ s f. f.actual) there;
         asked = had-so (λ (s : PageState). IsFailure script.layout s situation required seen signals) (λ (s : PageState). IsSeenList script.layout s.maps (is_signalling situation) required seen) (λ s f. f.policies) there;
-        signalled = had-so (λ (s : PageState). IsFailure script.layout s situation required seen signals) (λ (s : PageState). Killed script.layout s.maps (is_signalling situation) required seen signals) (λ s f. f.killed) there;
+        signalled = had-so (λ (s : PageState). IsFailure script.layout s situation required seen signals) (λ (s : PageState). Killed script.layout s.maps (is_signalling situation) (always_signals situation) required seen signals) (λ s f. f.killed) there;
         had = λ one listed. (lawful.histories.seen at e one is (subst (λ (l : List Seen). Contains l one) (sym (ap seen_in what)) listed)).0;
       }
 

@@ -1,3 +1,4 @@
 pub mod LossesOwed
+mod LossesSeen
 pub mod NumbersTold
 pub mod LossesAgree

@@ -21,7 +21,7 @@ use Rattle.hwp_law_run.specs.hwp_page.declared.PageState.{PageState}
 use Rattle.hwp_law_run.specs.hwp_page.declared.What.{What}
 use Rattle.hwp_law_run.specs.hwp_page.declared.What.TheVariants as entries
 use Rattle.hwp_law_run.specs.hwp_page.Situations.{outcome_of}
-use Rattle.hwp_law_run.specs.hwp_page.Refusals.{IsAway, IsDirty, IsMapped, IsUnused}
+use Rattle.hwp_law_run.specs.hwp_page.Refusals.{IsAway, IsDirty, IsLockedIn, IsMapped, IsUnused}
 use Rattle.hwp_law_run.specs.hwp_page.Step.{IsOf}
 use Rattle.hwp_law_run.specs.hwp_core_rule.declared.Made.{Made}
 use Rattle.hwp_law_run.specs.hwp_core_rule.declared.SharedWord.TheVariants as places
@@ -297,13 +297,18 @@ IsTableCaused layout list view who (commands.KLoad thread slot line) answer = Is
 IsTableCaused layout list view who (commands.Store thread slot line word) answer = IsStoreCaused layout view who thread slot line word answer
 IsTableCaused layout list view who (commands.Free slot) (answers.DoneAt at) = IsOf layout at.page slot × MadeOne view who at (entries.Free slot)
 IsTableCaused layout list view who (commands.Free slot) (answers.NotMapped at) = IsOf layout at.page slot × FoundState layout view who at (IsUnused slot)
+IsTableCaused layout list view who (commands.Drop page) (answers.Locked at) = (at.page ≡ page) × FoundState layout view who at IsLockedIn
 IsTableCaused layout list view who (commands.Drop page) (answers.Dirty at) = (at.page ≡ page) × FoundState layout view who at IsDirty
 IsTableCaused layout list view who (commands.Drop page) (answers.Mapped at) = (at.page ≡ page) × FoundState layout view who at IsMapped
 IsTableCaused layout list view who (commands.Drop page) answer = IsPageCaused layout view who page entries.Drop answer
 IsTableCaused layout list view who (commands.Sync page) answer = IsCopyCaused layout view who page entries.Sync answer
+IsTableCaused layout list view who (commands.Out page) (answers.Locked at) = (at.page ≡ page) × FoundState layout view who at IsLockedIn
+IsTableCaused layout list view who (commands.Out page) (answers.BadLines mask at) =
+    (at.page ≡ page) × FoundState layout view who at (λ (s : PageState). (s.cached ≡ true) × (s.locked ≡ false)) × SawBadLines layout view who page mask
 IsTableCaused layout list view who (commands.Out page) answer = IsCopyCaused layout view who page entries.Out answer
 IsTableCaused layout list view who (commands.Fsync file) answers.Done = HasMadeNone view who
 IsTableCaused layout list view who (commands.Fsync file) (answers.Eio more) = HasMadeNone view who × (0 < more)
+IsTableCaused layout list view who (commands.Open file) (answers.Opened word) = HasMadeNone view who
 IsTableCaused layout list view who (commands.Prctl thread args) (answers.Gone page) = FoundGone layout view who thread page × HasMadeNone view who
 IsTableCaused layout list view who (commands.Prctl thread args) answer = IsReplied layout list view who thread (arguments args) answer
 IsTableCaused layout list view who (commands.Log status addr misc) answers.Done = HasMadeNone view who

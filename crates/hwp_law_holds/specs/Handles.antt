@@ -1,4 +1,4 @@
--- The numbers of a processor's handles of files: each answer of `fsync` tells one, by what the processor's own steps showed.
+-- The numbers of a processor's handles of files: each answer of `fsync` or `open` tells one, by what the processor's own steps showed.
 use Rattle.std.specs.Prelude.{◌≡◌, ℕ, ◌+◌, true, List, Some, map, slice_get, take}
 use Rattle.std.specs.List.{zip}
 use Rattle.hwp_law_run.specs.hwp_geom.declared.Cpu.{Cpu}

@@ -46,8 +46,9 @@ abbrev pub notes_of : ℕ → List (List Row) → List (List Note)
 notes_of n [] = []
 notes_of n (own ∷ rows) = notes_from (record { 0 = n }) 0 own ∷ notes_of (n + 1) rows
 
--- a report, and a script, have as many members as the layout says
+-- a report is of its script's version, and both have as many members as the layout says
 pub record HasLengths (script : Script) (report : Report) (rows : List (List Row)) : Type 0 where
+  pub version : report.version ≡ script.layout.version
   pub lists : length script.lists ≡ script.layout.cpus
   pub cpus : length report.cpus ≡ script.layout.cpus
   pub rows_fit : length rows ≡ script.layout.cpus

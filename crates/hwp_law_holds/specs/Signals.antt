@@ -10,7 +10,7 @@ use Rattle.hwp_law_run.specs.hwp_page.declared.PageState.{PageState}
 use Rattle.hwp_law_run.specs.hwp_page.declared.Situation.{Situation}
 use Rattle.hwp_law_run.specs.hwp_page.declared.What.TheVariants.{Fail}
 use Rattle.hwp_law_run.specs.hwp_page.Actions.{situation_of}
-use Rattle.hwp_law_run.specs.hwp_page.Situations.{is_signalling}
+use Rattle.hwp_law_run.specs.hwp_page.Situations.{always_signals, is_signalling}
 use Rattle.hwp_law_run.specs.hwp_page.Step.{IsSeenList}
 use Rattle.hwp_law_run.specs.hwp_script_read.declared.Script.{Script}
 use Rattle.hwp_law_run.specs.hwp_report_text.declared.FrameLine.{FrameLine}
@@ -28,7 +28,7 @@ pub record IsFailureAsModel (script : Script) (report : Report) (at : At) (situa
   pub resident : HadState script.layout report.pages at (λ (s : PageState). s.cached ≡ true)
   pub situation_is : HadState script.layout report.pages at (λ (s : PageState). situation ≡ situation_of s)
   pub asked : HadState script.layout report.pages at (λ (s : PageState). IsSeenList script.layout s.maps (is_signalling situation) required seen)
-  pub signalled : HadState script.layout report.pages at (λ (s : PageState). Killed script.layout s.maps (is_signalling situation) required seen signals)
+  pub signalled : HadState script.layout report.pages at (λ (s : PageState). Killed script.layout s.maps (is_signalling situation) (always_signals situation) required seen signals)
   pub had : (one : Seen) → Contains seen one → IsPolicySeen script one
 
 -- Each failure is as the model has it. What the report says is lost of a file are the losses in the histories of its pages, and the

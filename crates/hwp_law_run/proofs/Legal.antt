@@ -1,6 +1,7 @@
 -- Each history is legal: its entries lead from the page's opening, step by step.
 use Rattle.std.proofs.Common.{◌≡◌, ℕ, zero, suc, ◌==◌, Bool, true, false, cond, List, [], ◌∷◌, ◌++◌, Option, Some, None, length, map, replicate, slice_get, refl, sym, ap, ◌∙◌, subst}
 use Rattle.std.proofs.lemmas.Option.{none-some, same_Some}
+use Rattle.hwp_law.specs.hwp_geom.Layout.{is_locked}
 use Rattle.hwp_law.specs.hwp_geom.declared.Frame.{Frame}
 use Rattle.hwp_law.specs.hwp_geom.declared.Layout.{Layout}
 use Rattle.hwp_law.specs.hwp_geom.declared.Page.{Page}
@@ -38,7 +39,7 @@ use Rattle.hwp_law_run.specs.Turns.{Leads as LeadsTo}
 
 -- the entries lead from the opening of their page to its state
 abbrev pub IsLegal : Layout → Log → Type 0
-IsLegal layout log = Leads layout log.page (opening_at (slice_get layout.pages log.page.0)) log.entries (state_of layout log)
+IsLegal layout log = Leads layout log.page (opening_at (slice_get layout.pages log.page.0) (is_locked layout log.page)) log.entries (state_of layout log)
 
 -- entries, and then others
 leads-append : (layout : Layout) (page : Page) (s t u : PageState) (xs ys : List Entry) → Leads layout page s xs t → Leads layout page t ys u → Leads layout page s (xs ++ ys) u
@@ -48,10 +49,10 @@ leads-append layout page s t u (e ∷ es) ys (allowed, rest) then = (allowed, le
 -- a history stays legal with entries that are allowed after it
 legal-more : (layout : Layout) (old log : Log) (more : List Entry) → log.page ≡ old.page → log.entries ≡ old.entries ++ more → Leads layout log.page (state_of layout old) more (state_of layout log) → IsLegal layout old → IsLegal layout log
 legal-more layout old log more page_is all leads was =
-    let first : Leads layout log.page (opening_at (slice_get layout.pages log.page.0)) old.entries (state_of layout old)
-    = subst (λ (p : Page). Leads layout p (opening_at (slice_get layout.pages p.0)) old.entries (state_of layout old)) (sym page_is) was in
-    subst (λ (es : List Entry). Leads layout log.page (opening_at (slice_get layout.pages log.page.0)) es (state_of layout log)) (sym all)
-    (leads-append layout log.page (opening_at (slice_get layout.pages log.page.0)) (state_of layout old) (state_of layout log) old.entries more first leads)
+    let first : Leads layout log.page (opening_at (slice_get layout.pages log.page.0) (is_locked layout log.page)) old.entries (state_of layout old)
+    = subst (λ (p : Page). Leads layout p (opening_at (slice_get layout.pages p.0) (is_locked layout p)) old.entries (state_of layout old)) (sym page_is) was in
+    subst (λ (es : List Entry). Leads layout log.page (opening_at (slice_get layout.pages log.page.0) (is_locked layout log.page)) es (state_of layout log)) (sym all)
+    (leads-append layout log.page (opening_at (slice_get layout.pages log.page.0) (is_locked layout log.page)) (state_of layout old) (state_of layout log) old.entries more first leads)
 
 -- ---- what a step makes of the bodies in hand
 

@@ -3,6 +3,7 @@ use Rattle.std.proofs.Common.{◌≡◌, ℕ, ◌+◌, ◌<◌, ◌≤◌, List,
 use Rattle.std.proofs.Math.Seq.{take-append_seam}
 use Rattle.std.proofs.lemmas.List.{length-append}
 use Rattle.std.proofs.lemmas.Option.{none-some, same_Some}
+use Rattle.hwp_law.specs.hwp_geom.Layout.{is_locked}
 use Rattle.hwp_law.specs.hwp_geom.declared.Layout.{Layout}
 use Rattle.hwp_law.specs.hwp_geom.declared.Page.{Page}
 use Rattle.hwp_law.specs.hwp_geom.declared.PageKind.{PageKind}
@@ -83,7 +84,7 @@ module _ (layout : Layout) (last : State) (report : Report) (l : IsLast layout l
         replay = record {
           kind = kind.0;
           declared = kind.1;
-          leads = subst (λ (o : Option PageKind). Leads layout page (opening_at o) entries (state_of layout log)) kind.1 (l.legal.home home.0 (Some (Some log)) home.1 log refl);
+          leads = subst (λ (o : Option PageKind). Leads layout page (opening_at o (is_locked layout page)) entries (state_of layout log)) kind.1 (l.legal.home home.0 (Some (Some log)) home.1 log refl);
         };
         held = cached-once layout last l.holds l.unlocked report.frames l.frames_fit word-of home.0 log home.1;
       }
@@ -192,5 +193,5 @@ module _ (layout : Layout) (last : State) (report : Report) (l : IsLast layout l
           declared = kind.1;
           there = told.1;
           within = omega arith;
-          had = subst (λ (es : List Entry). P (state_after (opening_of kind.0) es)) (sym front) (subst (λ (o : Option PageKind). P (state_after (opening_at o) x.log.entries)) kind.1 had);
+          had = subst (λ (es : List Entry). P (state_after (opening_of kind.0 (is_locked layout x.log.page)) es)) (sym front) (subst (λ (o : Option PageKind). P (state_after (opening_at o (is_locked layout x.log.page)) x.log.entries)) kind.1 had);
         }

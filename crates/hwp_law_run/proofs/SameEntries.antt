@@ -103,7 +103,8 @@ met_from kind a b = cond (kind == 0) (Word (record { 0 = a }) b) (Sigbus (record
 
 abbrev situation_from : ℕ → Situation
 situation_from n = cond (n == 0) situations.Free (cond (n == 1) situations.Kernel (cond (n == 2) situations.FileClean (cond (n == 3) situations.FileDirty
-    (cond (n == 4) situations.AnonOnly (cond (n == 5) situations.SwapClean situations.SwapDirty)))))
+    (cond (n == 4) situations.AnonOnly (cond (n == 5) situations.SwapClean (cond (n == 6) situations.SwapDirty
+    (cond (n == 7) situations.LockedClean (cond (n == 8) situations.LockedFile situations.LockedAnon))))))))
 
 abbrev required_from : ℕ → ℕ → Option Thread
 required_from kind thread = cond (kind == 0) None (Some (record { 0 = thread }))
@@ -130,6 +131,9 @@ situation-back situations.FileDirty = refl
 situation-back situations.AnonOnly = refl
 situation-back situations.SwapClean = refl
 situation-back situations.SwapDirty = refl
+situation-back situations.LockedClean = refl
+situation-back situations.LockedFile = refl
+situation-back situations.LockedAnon = refl
 
 what-back : (w : What) → what_from (what_numbers w) (seen_of w) (signals_of w) ≡ w
 what-back (entries.Load slot line (Word mask word)) = refl

@@ -124,6 +124,7 @@ AnswerShown script turns who command (answers.NotResident at) = LengthShown scri
 AnswerShown script turns who command (answers.NotMapped at) = LengthShown script.layout turns who at
 AnswerShown script turns who command (answers.Dirty at) = LengthShown script.layout turns who at
 AnswerShown script turns who command (answers.Mapped at) = LengthShown script.layout turns who at
+AnswerShown script turns who command (answers.Locked at) = LengthShown script.layout turns who at
 AnswerShown script turns who command (answers.BadLines mask at) = LengthShown script.layout turns who at × ((frame : Frame) × FindsBad script.layout turns who at.page frame mask.0)
 AnswerShown script turns who command answer = CommandAnswerShown script.layout turns who command answer
 

@@ -4,7 +4,7 @@ use Rattle.std.proofs.lemmas.Option.{slice_get-get_or, same_Some}
 use Rattle.hwp_kill.specs.hwp_geom.declared.Layout.{Layout}
 use Rattle.hwp_kill.specs.hwp_geom.declared.Page.{Page}
 use Rattle.hwp_kill.specs.hwp_geom.declared.PageKind.{PageKind}
-use Rattle.hwp_kill.specs.hwp_geom.Layout.{IsSound}
+use Rattle.hwp_kill.specs.hwp_geom.Layout.{IsSound, is_locked}
 use Rattle.hwp_page.specs.declared.state.PageState.{PageState}
 use Rattle.hwp_page.specs.declared.entry.Entry.{Entry}
 use Rattle.hwp_page.specs.Step.{Allowed, after, opening_of}
@@ -23,7 +23,7 @@ pub IsReplay-more : {layout : Layout} {page : Page} {log : List Entry} {state : 
 IsReplay-more {layout = layout} {page = page} {log = log} {state = state} e replay allowed = record {
   kind = replay.kind;
   declared = replay.declared;
-  leads = Leads-more layout page (opening_of replay.kind) log state e replay.leads allowed;
+  leads = Leads-more layout page (opening_of replay.kind (is_locked layout page)) log state e replay.leads allowed;
 }
 
 pub IsKept-more : {layout : Layout} {page : Page} {log : List Entry} {state : PageState} (e : Entry)
@@ -43,7 +43,7 @@ declared_at layout page pages at d inside same number =
 
 pub IsKept-opened : {layout : Layout} {page : Page} {log : List Entry} {state : PageState} (pages : List PageKind) (at : ℕ) (d : PageKind)
     → IsSound layout → page.0 < length layout.pages → pages ≡ layout.pages → at ≡ page.0
-    → log ≡ [] → state ≡ opening_of (slice_index_or pages at d) → IsKept layout page log state
+    → log ≡ [] → state ≡ opening_of (slice_index_or pages at d) (is_locked layout page) → IsKept layout page log state
 IsKept-opened {layout = layout} {page = page} {log = log} {state = state} pages at d sound inside same number none opening =
     rw none (record {
       sound = sound;
@@ -55,7 +55,7 @@ IsKept-opened {layout = layout} {page = page} {log = log} {state = state} pages 
     })
 
 pub opening_is : (layout : Layout) (page : Page) {state : PageState} (pages : List PageKind) (at : ℕ) (d : PageKind)
-    → page.0 < length layout.pages → pages ≡ layout.pages → at ≡ page.0 → state ≡ opening_of (slice_index_or pages at d)
-    → (kind : PageKind) → slice_get layout.pages page.0 ≡ Some kind → state ≡ opening_of kind
+    → page.0 < length layout.pages → pages ≡ layout.pages → at ≡ page.0 → state ≡ opening_of (slice_index_or pages at d) (is_locked layout page)
+    → (kind : PageKind) → slice_get layout.pages page.0 ≡ Some kind → state ≡ opening_of kind (is_locked layout page)
 opening_is layout page pages at d inside same number opening kind declared =
-    opening ∙ ap opening_of (same_Some _ _ (sym (declared_at layout page pages at d inside same number) ∙ declared))
+    opening ∙ ap (λ k. opening_of k (is_locked layout page)) (same_Some _ _ (sym (declared_at layout page pages at d inside same number) ∙ declared))

@@ -9,10 +9,11 @@ use Rattle.std.proofs.lemmas.Bool.{cases_lt}
 use Rattle.std.proofs.lemmas.Bool.Decides.{nat_tests}
 use Rattle.hwp_kill.specs.hwp_geom.declared.VSlot.{VSlot}
 use Rattle.hwp_kill.specs.Lowest.{HasNoneFrom, IsLowestFrom}
+use Rattle.hwp_kill.specs.Limits.{slot_limit}
 
 -- the members of `slots` below `at` were put into what was `start`
 pub record Gathered (start slots into : set.FinSet nat_cmp) (at : ℕ) : Type 0 where
-  pub within : at ≤ 512
+  pub within : at ≤ slot_limit
   pub each : (v : ℕ) → set.contains into v ≡ (set.contains start v || (set.contains slots v && nat_lt v at))
 
 at_found : (v found at : ℕ) (s : Bool) → v ≡ found → (nat_eq v found || (s || (true && nat_lt v at))) ≡ (s || (true && nat_lt v (found + 1)))
@@ -52,7 +53,7 @@ one_more start slots at found v low =
       ]
     ]
 
-pub Gathered-next : {start slots into : set.FinSet nat_cmp} {at : ℕ} (found : ℕ) → Gathered start slots into at → IsLowestFrom slots at found → found < 512
+pub Gathered-next : {start slots into : set.FinSet nat_cmp} {at : ℕ} (found : ℕ) → Gathered start slots into at → IsLowestFrom slots at found → found < slot_limit
     → Gathered start slots (set.insert into found) (found + 1)
 Gathered-next {start = start} {slots = slots} {into = into} {at = at} found so_far low inside = record {
   within = omega arith;

@@ -5,17 +5,21 @@ use Rattle.hwp_kill.specs.hwp_geom.declared.PageKind.{PageKind}
 use Rattle.hwp_kill.specs.hwp_geom.declared.PageKind.TheVariants.{Anon, File}
 use Rattle.hwp_page.specs.declared.state.PageState.{PageState}
 use Rattle.hwp_page.specs.declared.situation.Situation.{Situation}
-use Rattle.hwp_page.specs.declared.situation.Situation.TheVariants.{Free, Kernel, FileClean, FileDirty, AnonOnly, SwapClean, SwapDirty}
+use Rattle.hwp_page.specs.declared.situation.Situation.TheVariants.{Free, Kernel, FileClean, FileDirty, AnonOnly, SwapClean, SwapDirty, LockedClean, LockedFile, LockedAnon}
 
--- the situation of a page of this kind, dirty or not, with or without content behind it
-abbrev pub situation_by : PageKind → Bool → Option (List ℕ) → Situation
-situation_by (File file fill) dirty back = cond dirty FileDirty FileClean
-situation_by Anon dirty None = AnonOnly
-situation_by Anon dirty (Some words) = cond dirty SwapDirty SwapClean
+-- the situation of an anonymous page that isn't locked
+abbrev pub anon_situation : Bool → Option (List ℕ) → Situation
+anon_situation dirty None = AnonOnly
+anon_situation dirty (Some words) = cond dirty SwapDirty SwapClean
+
+-- the situation of a page of this kind, locked or not, dirty or not, with or without content behind it
+abbrev pub situation_by : PageKind → Bool → Bool → Option (List ℕ) → Situation
+situation_by (File file fill) locked dirty back = cond locked (cond dirty LockedFile LockedClean) (cond dirty FileDirty FileClean)
+situation_by Anon locked dirty back = cond locked LockedAnon (anon_situation dirty back)
 
 -- the situation of a failure of the page's frame
 abbrev pub situation_of : PageState → Situation
-situation_of s = situation_by s.kind s.dirty s.back
+situation_of s = situation_by s.kind s.locked s.dirty s.back
 
 -- the content behind the page, or its own where there is none
 abbrev pub content_behind : PageState → Option (List ℕ) → List ℕ
@@ -39,3 +43,6 @@ acted s FileDirty = record (barred s) { val = content_behind s s.back; dirty = f
 acted s AnonOnly = record (barred s) { lost = true }
 acted s SwapClean = unmapped s
 acted s SwapDirty = record (unmapped s) { lost = true }
+acted s LockedClean = unmapped s
+acted s LockedFile = record (barred s) { val = content_behind s s.back; dirty = false }
+acted s LockedAnon = record (barred s) { lost = true }

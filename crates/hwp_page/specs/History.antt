@@ -3,7 +3,7 @@ use Rattle.std.specs.Prelude.{◌≡◌, ℕ, List, [], ◌∷◌, Some, fold, s
 use Rattle.hwp_kill.specs.hwp_geom.declared.Layout.{Layout}
 use Rattle.hwp_kill.specs.hwp_geom.declared.Page.{Page}
 use Rattle.hwp_kill.specs.hwp_geom.declared.PageKind.{PageKind}
-use Rattle.hwp_kill.specs.hwp_geom.Layout.{IsSound}
+use Rattle.hwp_kill.specs.hwp_geom.Layout.{IsSound, is_locked}
 use Rattle.hwp_page.specs.declared.state.PageState.{PageState}
 use Rattle.hwp_page.specs.declared.entry.Entry.{Entry}
 use Rattle.hwp_page.specs.Step.{Allowed, after, opening_of}
@@ -21,7 +21,7 @@ Leads layout page s (e ∷ es) t = Allowed layout page s e.what × Leads layout 
 pub record IsReplay (layout : Layout) (page : Page) (log : List Entry) (state : PageState) : Type 0 where
   pub kind : PageKind
   pub declared : slice_get layout.pages page.0 ≡ Some kind
-  pub leads : Leads layout page (opening_of kind) log state
+  pub leads : Leads layout page (opening_of kind (is_locked layout page)) log state
 
 -- what every body keeps: a sound layout, and a state that is the replay of its history
 pub record IsKept (layout : Layout) (page : Page) (log : List Entry) (state : PageState) : Type 0 where
@@ -41,4 +41,4 @@ pub record IsFresh (layout : Layout) (page : Page) (body : BodyValue) : Type 0 w
   pub page_is : body.page ≡ page
   pub layout_is : body.layout ≡ layout
   pub no_entry : body.log ≡ []
-  pub opening : (kind : PageKind) → slice_get layout.pages page.0 ≡ Some kind → body.state ≡ opening_of kind
+  pub opening : (kind : PageKind) → slice_get layout.pages page.0 ≡ Some kind → body.state ≡ opening_of kind (is_locked layout page)

@@ -10,9 +10,10 @@ use Rattle.hwp_page.specs.declared.entry.What.{What}
 use Rattle.hwp_page.specs.declared.entry.What.TheVariants as entries
 use Rattle.hwp_page.specs.declared.situation.Situation.TheVariants as situations
 
--- the entry is a failure that lost dirty content of a file
+-- the entry is a failure that lost dirty content of a file, of a locked page or another
 abbrev pub is_loss : What → Bool
 is_loss (entries.Fail situations.FileDirty required seen signals) = true
+is_loss (entries.Fail situations.LockedFile required seen signals) = true
 is_loss _ = false
 
 abbrev pub losses_in : List Entry → ℕ

@@ -16,10 +16,14 @@ IsUnused slot s = IsFalse (set.contains s.maps slot.0)
 abbrev pub IsUnsaved : PageState → Type 0
 IsUnsaved s = (s.dirty ≡ true) ⊎ (s.back ≡ None)
 
--- the page is in a frame, and its content does not stand behind it
-abbrev pub IsDirty : PageState → Type 0
-IsDirty s = (s.cached ≡ true) × IsUnsaved s
+-- the page is in a frame, and locked
+abbrev pub IsLockedIn : PageState → Type 0
+IsLockedIn s = (s.cached ≡ true) × (s.locked ≡ true)
 
--- the page is in a frame, its content stands behind it, and translations lead to it
+-- the page is in a frame and not locked, and its content does not stand behind it
+abbrev pub IsDirty : PageState → Type 0
+IsDirty s = (s.cached ≡ true) × (s.locked ≡ false) × IsUnsaved s
+
+-- the page is in a frame and not locked, its content stands behind it, and translations lead to it
 abbrev pub IsMapped : PageState → Type 0
-IsMapped s = (s.cached ≡ true) × (¬ IsUnsaved s) × (s.maps ≢ set.empty)
+IsMapped s = (s.cached ≡ true) × (s.locked ≡ false) × (¬ IsUnsaved s) × (s.maps ≢ set.empty)

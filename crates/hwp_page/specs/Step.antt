@@ -20,7 +20,7 @@ use Rattle.hwp_page.specs.declared.entry.What.{What}
 use Rattle.hwp_page.specs.declared.entry.What.TheVariants.{Load, Store, FaultIn, Map, Free, Drop, Sync, Out, Mce, Fail, Soft}
 use Rattle.hwp_page.specs.declared.entry.Met.TheVariants.{Word, Sigbus}
 use Rattle.hwp_page.specs.declared.situation.Situation.{Situation}
-use Rattle.hwp_page.specs.Situations.{is_signalling}
+use Rattle.hwp_page.specs.Situations.{is_signalling, always_signals}
 use Rattle.hwp_page.specs.Actions.{situation_of, acted, unmapped}
 
 -- the translation belongs to the page
@@ -51,19 +51,20 @@ pub record IsFailure (layout : Layout) (s : PageState) (situation : Situation) (
   pub cached : s.cached ≡ true
   pub actual : situation ≡ situation_of s
   pub policies : IsSeenList layout s.maps (is_signalling situation) required seen
-  pub killed : Killed layout s.maps (is_signalling situation) required seen signals
+  pub killed : Killed layout s.maps (is_signalling situation) (always_signals situation) required seen signals
 
 -- the translation can come into use
 abbrev pub CanMap : Layout → Page → PageState → VSlot → Type 0
 CanMap layout page s slot =
     (s.cached ≡ true) × IsOf layout page slot × IsFalse (set.contains s.maps slot.0) × IsFalse (set.contains s.bar slot.0)
 
--- the page can leave its frame at once: nothing uses it, and its content stands behind it
+-- the page can leave its frame at once: it isn't locked, nothing uses it, and its content stands behind it
 pub record IsDroppable (s : PageState) : Type 0 where
   pub cached : s.cached ≡ true
   pub unused : s.maps ≡ set.empty
   pub clean : s.dirty ≡ false
   pub backed : s.back ≢ None
+  pub unlocked : s.locked ≡ false
 
 -- the state allows the entry
 abbrev pub Allowed : Layout → Page → PageState → What → Type 0
@@ -77,7 +78,7 @@ Allowed layout page s (Map slot) = CanMap layout page s slot
 Allowed layout page s (Free slot) = IsTrue (set.contains s.maps slot.0)
 Allowed layout page s Drop = IsDroppable s
 Allowed layout page s Sync = (is_file s.kind ≡ true) × (s.cached ≡ true)
-Allowed layout page s Out = (is_file s.kind ≡ false) × (s.cached ≡ true)
+Allowed layout page s Out = (is_file s.kind ≡ false) × (s.cached ≡ true) × (s.locked ≡ false)
 Allowed layout page s (Mce slot line mask) = IsTrue (set.contains s.maps slot.0) × IsBitSet mask.0 line
 Allowed layout page s (Fail situation required seen signals) = IsFailure layout s situation required seen signals
 Allowed layout page s Soft = s.cached ≡ true
@@ -112,9 +113,9 @@ abbrev pub first_back : PageKind → Option (List ℕ)
 first_back Anon = None
 first_back (File file fill) = Some (replicate line_limit fill)
 
--- the state at opening of a page of this kind
-abbrev pub opening_of : PageKind → PageState
-opening_of kind = record {
+-- the state at opening of a page of this kind, locked or not
+abbrev pub opening_of : PageKind → Bool → PageState
+opening_of kind locked = record {
   kind = kind;
   val = replicate line_limit (first_word kind);
   back = first_back kind;
@@ -123,4 +124,5 @@ opening_of kind = record {
   maps = set.empty;
   bar = set.empty;
   lost = false;
+  locked = locked;
 }

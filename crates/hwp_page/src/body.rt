@@ -53,6 +53,11 @@ impl Body {
         self.replay.room()
     }
 
+    /// The allocator of its entries.
+    pub fn alloc(&self) -> Global {
+        self.replay.alloc()
+    }
+
     /// Adds an entry that the state allows, and goes on to the state after it. It takes no memory.
     pub fn append(&mut self, entry: Entry)
         requires allowed { Allowed self.old.layout self.old.page self.old.state entry.what }

@@ -28,15 +28,24 @@ pub(crate) fn are_signals(
     layout: &Layout,
     maps: &Slots,
     signals_at_all: bool,
+    always: bool,
     required: Option<Thread>,
     seen: &List<Seen>,
     listed: &List<Signal>,
 ) -> bool
     requires { IsSound layout.now }
-    ensures { IsTrue result ↔ Killed layout.now maps.now signals_at_all required seen.now listed.now }
+    ensures { IsTrue result ↔ Killed layout.now maps.now signals_at_all always required seen.now listed.now }
 {
     let mut due = SignalList::new();
-    signals(layout, maps, signals_at_all, required, seen, &mut due);
+    signals(
+        layout,
+        maps,
+        signals_at_all,
+        always,
+        required,
+        seen,
+        &mut due,
+    );
     are_equal(due.as_slice(), listed.as_slice())
 }
 

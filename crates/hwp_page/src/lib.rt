@@ -13,9 +13,10 @@ mod state;
 pub use body::Body;
 pub use entry::{At, Entry, Met, What};
 pub use hwp_kill::{
-    Code, Cpu, Damage, FileNo, Frame, Kind, Layout, Line, List, MAX_SIGNALS, Mask, Mode,
-    OutOfMemory, Page, PageKind, Policy, Proc, Reply, Seen, Signal, SignalList, SignalRoom, Slots,
-    Text, Thread, VSlot, Who, are_policies_read, lowest_bit, next_to_read, prctl, signals,
+    Code, Cpu, Damage, FileNo, Frame, HeldSlots, Kind, Layout, Line, List, MAX_SIGNALS, Mask, Mode,
+    OutOfMemory, Page, PageKind, Policy, Proc, Reply, Seen, Signal, SignalList, SignalRoom,
+    SlotRoom, Slots, Text, Thread, VSlot, Version, Who, are_policies_read, lowest_bit,
+    next_to_read, prctl, signals,
 };
 pub use situation::{Outcome, Situation};
 pub use state::PageState;

@@ -59,7 +59,7 @@ impl Replay {
         Ok(Replay {
             page,
             layout: layout.clone()?,
-            state: PageState::opening(kind),
+            state: PageState::opening(kind, declared.is_locked(page)),
             log: Vec::new(alloc),
         })
     }
@@ -69,6 +69,10 @@ impl Replay {
         ensures err { OnErr result (self.new ≡ self.old) }
     {
         self.log.reserve(1)
+    }
+
+    pub(crate) fn alloc(&self) -> Global {
+        *self.log.allocator()
     }
 
     pub(crate) fn append(&mut self, entry: Entry)

@@ -1,7 +1,7 @@
 ghost use Rattle.std.specs.Prelude.{◌≡◌};
-ghost use Rattle.hwp_page.specs.Situations.{is_signalling, outcome_of};
+ghost use Rattle.hwp_page.specs.Situations.{is_signalling, always_signals, outcome_of};
 
-/// What a memory failure finds in its frame (after Linux hwpoison.rst; these seven cases are this project's rule).
+/// What a memory failure finds in its frame (after Linux hwpoison.rst; these ten cases are this project's rule).
 #[derive(Clone, Copy, PartialEq, Eq)]
 pub enum Situation {
     /// The frame has no page.
@@ -18,6 +18,12 @@ pub enum Situation {
     SwapClean,
     /// An anonymous page that was swapped out and then stored to.
     SwapDirty,
+    /// A locked page of a file, equal to the file.
+    LockedClean,
+    /// A locked page of a file that was stored to.
+    LockedFile,
+    /// A locked anonymous page.
+    LockedAnon,
 }
 
 /// What came of a memory failure (Linux hwpoison.rst has these words).
@@ -37,12 +43,33 @@ impl Situation {
         ensures { result ≡ is_signalling self }
     {
         match self {
-            Situation::FileDirty | Situation::AnonOnly => true,
+            Situation::FileDirty
+            | Situation::AnonOnly
+            | Situation::LockedFile
+            | Situation::LockedAnon => true,
             Situation::Free
             | Situation::Kernel
             | Situation::FileClean
             | Situation::SwapClean
-            | Situation::SwapDirty => false,
+            | Situation::SwapDirty
+            | Situation::LockedClean => false,
+        }
+    }
+
+    /// Whether a failure in this situation tells every process that maps the page, also where none of its threads is early.
+    pub fn always_signals(self) -> bool
+        ensures { result ≡ always_signals self }
+    {
+        match self {
+            Situation::LockedFile | Situation::LockedAnon => true,
+            Situation::Free
+            | Situation::Kernel
+            | Situation::FileClean
+            | Situation::FileDirty
+            | Situation::AnonOnly
+            | Situation::SwapClean
+            | Situation::SwapDirty
+            | Situation::LockedClean => false,
         }
     }
 
@@ -55,7 +82,10 @@ impl Situation {
             | Situation::FileClean
             | Situation::FileDirty
             | Situation::AnonOnly
-            | Situation::SwapClean => Outcome::Recovered,
+            | Situation::SwapClean
+            | Situation::LockedClean
+            | Situation::LockedFile
+            | Situation::LockedAnon => Outcome::Recovered,
             Situation::SwapDirty => Outcome::Delayed,
             Situation::Kernel => Outcome::Ignored,
         }

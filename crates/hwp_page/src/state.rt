@@ -28,6 +28,8 @@ pub struct PageState {
     pub bar: Slots,
     /// Whether the content is gone for good.
     pub lost: bool,
+    /// Whether the page is declared as locked. No entry changes it.
+    pub locked: bool,
 }
 
 impl PageState {
@@ -36,8 +38,8 @@ impl PageState {
     ghost use Rattle.hwp_page.specs.Step.{Allowed, MapsWithin, CanMap, IsDroppable, IsFailure, IsRefused, after, is_file, opening_of};
 
     /// The state at opening: nothing is cached, mapped or lost, and every word is the kind's own.
-    pub fn opening(kind: PageKind) -> PageState
-        ensures { result ≡ opening_of kind }
+    pub fn opening(kind: PageKind, locked: bool) -> PageState
+        ensures { result ≡ opening_of kind locked }
     {
         let (word, back) = match kind {
             PageKind::Anon => (0, None),
@@ -52,11 +54,36 @@ impl PageState {
             maps: Slots::new(),
             bar: Slots::new(),
             lost: false,
+            locked,
         }
     }
 
     /// What a memory failure of the page's frame finds.
     pub fn situation(&self) -> Situation
+        ensures { result ≡ situation_of self.now }
+    {
+        if self.locked {
+            self.locked_situation()
+        } else {
+            self.unlocked_situation()
+        }
+    }
+
+    /// What a memory failure finds of a page that is locked.
+    fn locked_situation(&self) -> Situation
+        requires { self.now.locked ≡ true }
+        ensures { result ≡ situation_of self.now }
+    {
+        match (self.kind, self.dirty) {
+            (PageKind::File { .. }, false) => Situation::LockedClean,
+            (PageKind::File { .. }, true) => Situation::LockedFile,
+            (PageKind::Anon, _) => Situation::LockedAnon,
+        }
+    }
+
+    /// What a memory failure finds of a page that isn't locked.
+    fn unlocked_situation(&self) -> Situation
+        requires { self.now.locked ≡ false }
         ensures { result ≡ situation_of self.now }
     {
         match (self.kind, self.dirty, &self.back) {
@@ -109,7 +136,7 @@ impl PageState {
             What::Free { slot } => self.maps.has(*slot),
             What::Drop => self.can_drop(),
             What::Sync => self.is_of_file() && self.cached,
-            What::Out => !self.is_of_file() && self.cached,
+            What::Out => !self.is_of_file() && self.cached && !self.locked,
             What::Mce { slot, line, mask } => self.maps.has(*slot) && mask.has(*line),
             What::Fail {
                 situation,
@@ -148,7 +175,7 @@ impl PageState {
     fn can_drop(&self) -> bool
         ensures { IsTrue result ↔ IsDroppable self.now }
     {
-        self.cached && is_empty(&self.maps) && !self.dirty && self.back.is_some()
+        !self.locked && self.cached && is_empty(&self.maps) && !self.dirty && self.back.is_some()
     }
 
     /// Whether a memory failure is as the situation and the kill table say.
@@ -170,6 +197,7 @@ impl PageState {
                 layout,
                 &self.maps,
                 situation.signals(),
+                situation.always_signals(),
                 required,
                 seen,
                 signals,
@@ -222,7 +250,7 @@ impl PageState {
     fn leave_frame(&mut self)
         ensures { self.new ≡ unmapped self.old }
     {
-        self.maps = Slots::new();
+        self.maps.clear();
         self.cached = false;
     }
 
@@ -248,15 +276,17 @@ impl PageState {
     {
         match situation {
             Situation::Free | Situation::Kernel => {}
-            Situation::FileClean | Situation::SwapClean => self.leave_frame(),
-            Situation::FileDirty => {
+            Situation::FileClean | Situation::SwapClean | Situation::LockedClean => {
+                self.leave_frame()
+            }
+            Situation::FileDirty | Situation::LockedFile => {
                 if let Some(words) = &self.back {
                     self.val = words.copy();
                 }
                 self.dirty = false;
                 self.bar_all();
             }
-            Situation::AnonOnly => {
+            Situation::AnonOnly | Situation::LockedAnon => {
                 self.bar_all();
                 self.lost = true;
             }

@@ -101,7 +101,7 @@ report_fits report h =
     let all_paged = All-front FormFits (paged_forms ran.paged) cpus all_ran in
     let all_framed = All-front FormFits (framed_forms ran.paged.framed) pages all_paged in
     let all_front = All-front FormFits (front_forms ran.paged.framed.front) frames all_framed in
-    let behind_head = All-tail FormFits forms.Header (forms.Stop report.stop ∷ forms.Count report.count ∷ files) all_front in
+    let behind_head = All-tail FormFits (forms.Header report.version) (forms.Stop report.stop ∷ forms.Count report.count ∷ files) all_front in
     let behind_stop = All-tail FormFits (forms.Stop report.stop) (forms.Count report.count ∷ files) behind_head in
     record {
       stop = All-head FormFits (forms.Stop report.stop) (forms.Count report.count ∷ files) behind_head;

@@ -6,6 +6,7 @@ use Rattle.std.proofs.lemmas.List.{map_push}
 use Rattle.std.proofs.lemmas.List.Concat.{flat_map-append}
 use Rattle.hwp_report_text.specs.hwp_kill.Limits.{signal_limit}
 use Rattle.hwp_report_text.specs.hwp_kill.declared.Signal.{Signal}
+use Rattle.hwp_report_text.specs.hwp_geom.declared.Version.{Version}
 use Rattle.hwp_report_text.specs.hwp_geom.declared.Who.{Who}
 use Rattle.hwp_report_text.specs.hwp_page.declared.Entry.{Entry}
 use Rattle.hwp_report_text.specs.hwp_page.declared.What.{What}
@@ -77,7 +78,7 @@ adds-file : (front : Front) (f : ReportLine) (q : Partial) → after_files front
 adds-file front (forms.File number lost) q e =
     let c = chosen (number == length front.files) _ q e in
     ap lines_read (sym c.1)
-    ∙ numbered_forms-behind file_forms (forms.Header ∷ forms.Stop front.stop ∷ forms.Count front.count ∷ []) front.files lost
+    ∙ numbered_forms-behind file_forms (forms.Header front.version ∷ forms.Stop front.stop ∷ forms.Count front.count ∷ []) front.files lost
     ∙ ap (λ k. front_forms front ++ forms.File k lost ∷ []) (sym (same_number number (length front.files) c.0))
 adds-file front f q e = adds-frame (record { front = front; frames = [] }) f q e ∙ ap (λ t. t ++ f ∷ []) (append-nil (front_forms front))
 
@@ -206,22 +207,23 @@ adds-to_cpu cpu f q e =
     (λ k. cpu-push cpu f q k)
 
 adds-head : (f : ReportLine) (q : Partial) → after_nothing f ≡ Some q → lines_read q ≡ f ∷ []
-adds-head forms.Header q e = ap lines_read {x = q} {y = partials.Headed} (cc)
+adds-head (forms.Header version) q e = ap lines_read {x = q} {y = partials.Headed version} (cc)
 adds-head f q e = absurd (cc)
 
-adds-stop : (f : ReportLine) (q : Partial) → after_head f ≡ Some q → lines_read q ≡ forms.Header ∷ f ∷ []
-adds-stop (forms.Stop stop) q e = ap lines_read {x = q} {y = partials.Stopped stop} (cc)
-adds-stop f q e = absurd (cc)
+adds-stop : (version : Version) (f : ReportLine) (q : Partial) → after_head version f ≡ Some q → lines_read q ≡ forms.Header version ∷ f ∷ []
+adds-stop version (forms.Stop stop) q e = ap lines_read {x = q} {y = partials.Stopped version stop} (cc)
+adds-stop version f q e = absurd (cc)
 
-adds-count : (stop : Option Stop) (f : ReportLine) (q : Partial) → after_stop stop f ≡ Some q → lines_read q ≡ forms.Header ∷ forms.Stop stop ∷ f ∷ []
-adds-count stop (forms.Count count) q e = ap lines_read {x = q} {y = partials.Files (record { stop = stop; count = count; files = [] })} (cc)
-adds-count stop f q e = absurd (cc)
+adds-count : (version : Version) (stop : Option Stop) (f : ReportLine) (q : Partial) → after_stop version stop f ≡ Some q
+    → lines_read q ≡ forms.Header version ∷ forms.Stop stop ∷ f ∷ []
+adds-count version stop (forms.Count count) q e = ap lines_read {x = q} {y = partials.Files (record { version = version; stop = stop; count = count; files = [] })} (cc)
+adds-count version stop f q e = absurd (cc)
 
 -- a line that may follow is read behind those before it
 pub adds : (p : Partial) (f : ReportLine) (q : Partial) → FormFits f → follow p f ≡ Some q → lines_read q ≡ lines_read p ++ f ∷ []
 adds partials.Nothing f q fits e = adds-head f q e
-adds partials.Headed f q fits e = adds-stop f q e
-adds (partials.Stopped stop) f q fits e = adds-count stop f q e
+adds (partials.Headed version) f q fits e = adds-stop version f q e
+adds (partials.Stopped version stop) f q fits e = adds-count version stop f q e
 adds (partials.Files front) f q fits e = adds-file front f q e
 adds (partials.Frames framed frame) f q fits e = adds-mark framed frame f q e
 adds (partials.Pages page) f q fits e = adds-to_page page f q fits e

@@ -61,7 +61,7 @@ forms_fit report h =
     let pages = of_numbered page_forms (ListFits EntryFits most_told) of_page 0 report.pages (omega (arith, h.pages.few)) h.pages.each in
     let cpus = of_numbered cpu_forms (ListFits CpuLineFits most_told) of_cpu 0 report.cpus (omega (arith, h.cpus.few)) h.cpus.each in
     let front : All FormFits (front_forms ran.paged.framed.front) =
-    All-cons FormFits forms.Header (forms.Stop report.stop ∷ forms.Count report.count ∷ numbered_forms file_forms 0 report.files) tt
+    All-cons FormFits (forms.Header report.version) (forms.Stop report.stop ∷ forms.Count report.count ∷ numbered_forms file_forms 0 report.files) tt
     (All-cons FormFits (forms.Stop report.stop) (forms.Count report.count ∷ numbered_forms file_forms 0 report.files) h.stop
     (All-cons FormFits (forms.Count report.count) (numbered_forms file_forms 0 report.files) h.count files)) in
     All-append FormFits (ran_forms ran) (forms.End ∷ [])

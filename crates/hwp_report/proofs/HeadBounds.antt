@@ -77,12 +77,12 @@ by_test true x y q e h k = h e
 by_test false x y q e h k = k refl e
 
 pub within : (p : Partial) (f : ReportLine) (q : Partial) → FormFits f → IsWithin p → follow p f ≡ Some q → IsWithin q
-within partials.Nothing forms.Header q fits h e = given e tt
+within partials.Nothing (forms.Header version) q fits h e = given e tt
 within partials.Nothing f q fits h e = absurd (cc)
-within partials.Headed (forms.Stop stop) q fits h e = given e tt
-within partials.Headed f q fits h e = absurd (cc)
-within (partials.Stopped stop) (forms.Count count) q fits h e = given e tt
-within (partials.Stopped stop) f q fits h e = absurd (cc)
+within (partials.Headed version) (forms.Stop stop) q fits h e = given e tt
+within (partials.Headed version) f q fits h e = absurd (cc)
+within (partials.Stopped version stop) (forms.Count count) q fits h e = given e tt
+within (partials.Stopped version stop) f q fits h e = absurd (cc)
 within (partials.Files front) f q fits h e = within-file front f q e
 within (partials.Frames framed frame) f q fits h e = within-mark framed frame f q e
 within (partials.Pages page) f q fits h e =

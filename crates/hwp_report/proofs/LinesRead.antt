@@ -57,7 +57,7 @@ cpu_forms number lines = forms.Cpu number (length lines) ∷ map forms.CpuLine l
 
 -- the lines of the parts
 abbrev pub front_forms : Front → List ReportLine
-front_forms front = forms.Header ∷ forms.Stop front.stop ∷ forms.Count front.count ∷ numbered_forms file_forms 0 front.files
+front_forms front = forms.Header front.version ∷ forms.Stop front.stop ∷ forms.Count front.count ∷ numbered_forms file_forms 0 front.files
 
 abbrev pub framed_forms : Framed → List ReportLine
 framed_forms framed = front_forms framed.front ++ numbered_forms frame_forms 0 framed.frames
@@ -73,7 +73,7 @@ abbrev pub parts_of : Report → Ran
 parts_of report = record {
   paged = record {
     framed = record {
-      front = record { stop = report.stop; count = report.count; files = report.files };
+      front = record { version = report.version; stop = report.stop; count = report.count; files = report.files };
       frames = report.frames;
     };
     pages = report.pages;
@@ -104,8 +104,8 @@ cpu_in_hand cpu = ran_forms cpu.ran ++ forms.Cpu (length cpu.ran.cpus) cpu.count
 -- the lines that were read so far
 abbrev pub lines_read : Partial → List ReportLine
 lines_read partials.Nothing = []
-lines_read partials.Headed = forms.Header ∷ []
-lines_read (partials.Stopped stop) = forms.Header ∷ forms.Stop stop ∷ []
+lines_read (partials.Headed version) = forms.Header version ∷ []
+lines_read (partials.Stopped version stop) = forms.Header version ∷ forms.Stop stop ∷ []
 lines_read (partials.Files front) = front_forms front
 lines_read (partials.Frames framed frame) = framed_forms framed ++ frame_forms (length framed.frames) frame
 lines_read (partials.Pages page) = page_in_hand page

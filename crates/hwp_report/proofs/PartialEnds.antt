@@ -4,6 +4,7 @@ use Rattle.std.specs.Prelude.{All}
 use Rattle.std.specs.List.{flat_map}
 use Rattle.std.proofs.lemmas.List.{length-append, length-replicate}
 use Rattle.std.proofs.lemmas.List.Elements.{All-nil, All-cons, All-append, All-map, All-replicate}
+use Rattle.hwp_report_text.specs.hwp_geom.declared.Version.TheVariants.{One}
 use Rattle.hwp_report_text.specs.hwp_kill.Limits.{signal_limit}
 use Rattle.hwp_report_text.specs.hwp_kill.declared.Code.TheVariants as kinds
 use Rattle.hwp_report_text.specs.hwp_kill.declared.Policy.TheVariants as policies
@@ -127,13 +128,13 @@ finish_cpu cpu some =
 
 pub can_finish : (p : Partial) → IsWithin p → CanFinish p
 can_finish partials.Nothing h =
-    finish_with partials.Nothing (forms.Header ∷ forms.Stop None ∷ forms.Count 0 ∷ forms.End ∷ []) _
-    (All-cons FormFits forms.Header (forms.Stop None ∷ forms.Count 0 ∷ forms.End ∷ []) tt (All-cons FormFits (forms.Stop None) (forms.Count 0 ∷ forms.End ∷ []) tt (All-cons FormFits (forms.Count 0) (forms.End ∷ []) (omega arith) last))) refl
-can_finish partials.Headed h =
-    finish_with partials.Headed (forms.Stop None ∷ forms.Count 0 ∷ forms.End ∷ []) _
+    finish_with partials.Nothing (forms.Header One ∷ forms.Stop None ∷ forms.Count 0 ∷ forms.End ∷ []) _
+    (All-cons FormFits (forms.Header One) (forms.Stop None ∷ forms.Count 0 ∷ forms.End ∷ []) tt (All-cons FormFits (forms.Stop None) (forms.Count 0 ∷ forms.End ∷ []) tt (All-cons FormFits (forms.Count 0) (forms.End ∷ []) (omega arith) last))) refl
+can_finish (partials.Headed version) h =
+    finish_with (partials.Headed version) (forms.Stop None ∷ forms.Count 0 ∷ forms.End ∷ []) _
     (All-cons FormFits (forms.Stop None) (forms.Count 0 ∷ forms.End ∷ []) tt (All-cons FormFits (forms.Count 0) (forms.End ∷ []) (omega arith) last)) refl
-can_finish (partials.Stopped stop) h =
-    finish_with (partials.Stopped stop) (forms.Count 0 ∷ forms.End ∷ []) _ (All-cons FormFits (forms.Count 0) (forms.End ∷ []) (omega arith) last) refl
+can_finish (partials.Stopped version stop) h =
+    finish_with (partials.Stopped version stop) (forms.Count 0 ∷ forms.End ∷ []) _ (All-cons FormFits (forms.Count 0) (forms.End ∷ []) (omega arith) last) refl
 can_finish (partials.Files front) h = finish_with (partials.Files front) (forms.End ∷ []) _ last refl
 can_finish (partials.Frames framed frame) h = finish_with (partials.Frames framed frame) (forms.End ∷ []) _ last refl
 can_finish (partials.Pages page) h = finish_entries page h

@@ -259,12 +259,12 @@ on_cpus p ran (x ∷ xs) h =
 -- the lines of a report are read to the report
 pub on_report : (report : Report) → ReportFits report → onward (Some partials.Nothing) (report_forms report) ≡ Some (partials.Whole report)
 on_report report fits =
-    let front : Front = record { stop = report.stop; count = report.count; files = report.files } in
+    let front : Front = record { version = report.version; stop = report.stop; count = report.count; files = report.files } in
     let framed : Framed = record { front = front; frames = report.frames } in
     let paged : Paged = record { framed = framed; pages = report.pages } in
     let ran : Ran = record { paged = paged; cpus = report.cpus } in
     let files : onward (Some partials.Nothing) (front_forms front) ≡ Some (partials.Files front) =
-    on_files (record { stop = report.stop; count = report.count; files = [] }) report.files in
+    on_files (record { version = report.version; stop = report.stop; count = report.count; files = [] }) report.files in
     let frames = on_frames (partials.Files front) (record { front = front; frames = [] }) report.frames (frame_behind_files front) in
     let pages = on_pages frames.to (record { framed = framed; pages = [] }) report.pages (page_behind_frames frames.to framed frames.at) fits.pages.each in
     let cpus = on_cpus pages.to (record { paged = paged; cpus = [] }) report.cpus (cpu_behind_pages pages.to paged pages.at) in

@@ -88,7 +88,7 @@ words_of_report report =
     let frames = words_of_numbered frame_forms frame_lines words_of_frame 0 report.frames in
     let pages = words_of_numbered page_forms page_lines words_of_page 0 report.pages in
     let cpus = words_of_numbered cpu_forms cpu_lines words_of_cpu 0 report.cpus in
-    words_of_parts (forms.Header ∷ forms.Stop report.stop ∷ forms.Count report.count ∷ numbered_forms file_forms 0 report.files)
+    words_of_parts (forms.Header report.version ∷ forms.Stop report.stop ∷ forms.Count report.count ∷ numbered_forms file_forms 0 report.files)
     (numbered_forms frame_forms 0 report.frames) (numbered_forms page_forms 0 report.pages) (numbered_forms cpu_forms 0 report.cpus) (forms.End ∷ [])
     ∙ rw (files, frames, pages, cpus) refl
 

@@ -1,6 +1,7 @@
 -- Which line may follow what was read of a report so far, and what is read with it.
 use Rattle.std.specs.Prelude.{◌≡◌, ℕ, ◌==◌, ◌⊎◌, if◌then◌else◌, List, [], ◌∷◌, ◌++◌, length, Option, Some, None}
 use Rattle.hwp_report_text.specs.hwp_geom.Words.{line as line_text}
+use Rattle.hwp_report_text.specs.hwp_geom.declared.Version.{Version}
 use Rattle.hwp_report_text.specs.hwp_kill.Limits.{signal_limit}
 use Rattle.hwp_report_text.specs.hwp_kill.declared.Signal.{Signal}
 use Rattle.hwp_report_text.specs.hwp_page.declared.Entry.{Entry}
@@ -24,6 +25,7 @@ use Rattle.hwp_report_lines.specs.Forms.{FormFits, form_words}
 -- the report of these parts
 abbrev pub report_of : Ran → Report
 report_of ran = record {
+  version = ran.paged.framed.front.version;
   stop = ran.paged.framed.front.stop;
   count = ran.paged.framed.front.count;
   files = ran.paged.framed.front.files;
@@ -48,16 +50,16 @@ abbrev pub seen_so_far : OpenPage → OpenFailure → Partial
 seen_so_far page f = if length f.seen == f.line.seen then signals_so_far page f [] else partials.Seeing page f
 
 abbrev pub after_nothing : ReportLine → Option Partial
-after_nothing forms.Header = Some partials.Headed
+after_nothing (forms.Header version) = Some (partials.Headed version)
 after_nothing line = None
 
-abbrev pub after_head : ReportLine → Option Partial
-after_head (forms.Stop stop) = Some (partials.Stopped stop)
-after_head line = None
+abbrev pub after_head : Version → ReportLine → Option Partial
+after_head version (forms.Stop stop) = Some (partials.Stopped version stop)
+after_head version line = None
 
-abbrev pub after_stop : Option Stop → ReportLine → Option Partial
-after_stop stop (forms.Count count) = Some (partials.Files (record { stop = stop; count = count; files = [] }))
-after_stop stop line = None
+abbrev pub after_stop : Version → Option Stop → ReportLine → Option Partial
+after_stop version stop (forms.Count count) = Some (partials.Files (record { version = version; stop = stop; count = count; files = [] }))
+after_stop version stop line = None
 
 -- the next processor, or the end
 abbrev pub open_cpu : Ran → ReportLine → Option Partial
@@ -130,8 +132,8 @@ after_line cpu line =
 -- what is read with one line more, if the line may follow
 abbrev pub follow : Partial → ReportLine → Option Partial
 follow partials.Nothing line = after_nothing line
-follow partials.Headed line = after_head line
-follow (partials.Stopped stop) line = after_stop stop line
+follow (partials.Headed version) line = after_head version line
+follow (partials.Stopped version stop) line = after_stop version stop line
 follow (partials.Files front) line = after_files front line
 follow (partials.Frames framed frame) line = after_frame framed frame line
 follow (partials.Pages page) line = after_entry page line

@@ -4,7 +4,8 @@ ghost use Rattle.hwp_report.specs.Follows.{add_entry, add_line, after_entry, aft
 use hwp_report_lines::ReportLine;
 use hwp_report_page_lines::Failure;
 use hwp_report_text::{
-    CpuLine, Entry, FrameLine, List, MAX_SIGNALS, OutOfMemory, Report, Seen, Signal, Stop, What,
+    CpuLine, Entry, FrameLine, List, MAX_SIGNALS, OutOfMemory, Report, Seen, Signal, Stop, Version,
+    What,
 };
 use std::alloc::Global;
 
@@ -14,6 +15,8 @@ const MOST_ROOM: u64 = 65_536;
 /// What stands before the frames.
 #[derive(Drop)]
 pub(crate) struct Front {
+    /// The version.
+    pub version: Version,
     /// What stopped the machine, if it was stopped.
     pub stop: Option<Stop>,
     /// The number of poisoned frames.
@@ -85,10 +88,10 @@ pub(crate) struct OpenCpu {
 pub(crate) enum Partial {
     /// Nothing.
     Nothing,
-    /// The head.
-    Headed,
+    /// The head, with its version.
+    Headed(Version),
     /// The stop line too.
-    Stopped(Option<Stop>),
+    Stopped(Version, Option<Stop>),
     /// The count too, and some files.
     Files(Front),
     /// Some frames, and the last one's marks so far.
@@ -113,6 +116,7 @@ impl Ran {
         let Paged { framed, pages } = self.paged;
         let Framed { front, frames } = framed;
         Report {
+            version: front.version,
             stop: front.stop,
             count: front.count,
             files: front.files,
@@ -152,8 +156,8 @@ impl Partial {
     {
         match self {
             Partial::Nothing => Ok(begun(line)),
-            Partial::Headed => Ok(stopped(line)),
-            Partial::Stopped(stop) => Ok(counted(alloc, stop, line)),
+            Partial::Headed(version) => Ok(stopped(version, line)),
+            Partial::Stopped(version, stop) => Ok(counted(alloc, version, stop, line)),
             Partial::Files(front) => with_file(alloc, front, line),
             Partial::Frames(framed, frame) => with_mark(alloc, framed, frame, line),
             Partial::Pages(page) => with_entry(alloc, page, line),
@@ -180,27 +184,28 @@ fn begun(line: ReportLine) -> Option<Partial>
     ensures { result ≡ after_nothing line }
 {
     match line {
-        ReportLine::Header => Some(Partial::Headed),
+        ReportLine::Header(version) => Some(Partial::Headed(version)),
         _ => None,
     }
 }
 
 /// Behind the head stands what stopped the machine.
-fn stopped(line: ReportLine) -> Option<Partial>
-    ensures { result ≡ after_head line }
+fn stopped(version: Version, line: ReportLine) -> Option<Partial>
+    ensures { result ≡ after_head version line }
 {
     match line {
-        ReportLine::Stop(stop) => Some(Partial::Stopped(stop)),
+        ReportLine::Stop(stop) => Some(Partial::Stopped(version, stop)),
         _ => None,
     }
 }
 
 /// Behind the stop stands the count.
-fn counted(alloc: Global, stop: Option<Stop>, line: ReportLine) -> Option<Partial>
-    ensures { result ≡ after_stop stop line }
+fn counted(alloc: Global, version: Version, stop: Option<Stop>, line: ReportLine) -> Option<Partial>
+    ensures { result ≡ after_stop version stop line }
 {
     match line {
         ReportLine::Count(count) => Some(Partial::Files(Front {
+            version,
             stop,
             count,
             files: List::new(alloc),

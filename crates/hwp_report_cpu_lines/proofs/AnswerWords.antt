@@ -41,7 +41,7 @@ counted_listed counted.Scrubbed = record { place = 6; fits = omega arith; is = r
 counted_listed counted.Raised = record { place = 7; fits = omega arith; is = refl }
 
 abbrev pub all_placed : List Placed
-all_placed = placed.Stored ∷ placed.Sigbus ∷ placed.Done ∷ placed.NotResident ∷ placed.NotMapped ∷ placed.Dirty ∷ placed.Mapped ∷ []
+all_placed = placed.Stored ∷ placed.Sigbus ∷ placed.Done ∷ placed.NotResident ∷ placed.NotMapped ∷ placed.Dirty ∷ placed.Mapped ∷ placed.Locked ∷ []
 
 pub placed_listed : (x : Placed) → IsListed all_placed placed.Stored x
 placed_listed placed.Stored = record { place = 0; fits = omega arith; is = refl }
@@ -51,6 +51,7 @@ placed_listed placed.NotResident = record { place = 3; fits = omega arith; is = 
 placed_listed placed.NotMapped = record { place = 4; fits = omega arith; is = refl }
 placed_listed placed.Dirty = record { place = 5; fits = omega arith; is = refl }
 placed_listed placed.Mapped = record { place = 6; fits = omega arith; is = refl }
+placed_listed placed.Locked = record { place = 7; fits = omega arith; is = refl }
 
 abbrev pub all_valued : List Valued
 all_valued = valued.Value ∷ valued.BadLines ∷ valued.Moved ∷ []

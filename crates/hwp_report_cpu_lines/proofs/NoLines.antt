@@ -73,6 +73,7 @@ no_placed word page entry none (answers.NotResident at) e = none placed.NotResid
 no_placed word page entry none (answers.NotMapped at) e = none placed.NotMapped (word_at 0 e)
 no_placed word page entry none (answers.Dirty at) e = none placed.Dirty (word_at 0 e)
 no_placed word page entry none (answers.Mapped at) e = none placed.Mapped (word_at 0 e)
+no_placed word page entry none (answers.Locked at) e = none placed.Locked (word_at 0 e)
 no_placed word page entry none answer e = absurd (omega (arith, ap length e))
 
 pub no_place : (word page entry : List ℕ) → ((at : At) → AtFits at → page ∷ entry ∷ [] ≡ at_words at → ⊥) → (answer : Answer) → AnswerFits answer
@@ -84,6 +85,7 @@ no_place word page entry none (answers.NotResident at) fits e = none at fits (ap
 no_place word page entry none (answers.NotMapped at) fits e = none at fits (ap (drop 1) e)
 no_place word page entry none (answers.Dirty at) fits e = none at fits (ap (drop 1) e)
 no_place word page entry none (answers.Mapped at) fits e = none at fits (ap (drop 1) e)
+no_place word page entry none (answers.Locked at) fits e = none at fits (ap (drop 1) e)
 no_place word page entry none answer fits e = absurd (omega (arith, ap length e))
 
 -- an answer with a number

@@ -44,6 +44,7 @@ placed_text placed.NotResident = codes "notresident"
 placed_text placed.NotMapped = codes "notmapped"
 placed_text placed.Dirty = codes "dirty"
 placed_text placed.Mapped = codes "mapped"
+placed_text placed.Locked = codes "locked"
 
 -- a word of an answer that a value and a place follow
 abbrev pub valued_text : Valued → List ℕ

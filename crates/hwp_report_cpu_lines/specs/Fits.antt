@@ -30,6 +30,7 @@ AnswerFits (answers.NotResident at) = AtFits at
 AnswerFits (answers.NotMapped at) = AtFits at
 AnswerFits (answers.Dirty at) = AtFits at
 AnswerFits (answers.Mapped at) = AtFits at
+AnswerFits (answers.Locked at) = AtFits at
 AnswerFits (answers.BadLines mask at) = (mask.0 < 2 ^ 64) × AtFits at
 AnswerFits (answers.Eio lost) = lost < 2 ^ 64
 AnswerFits (answers.Opened lost) = lost < 2 ^ 64

@@ -78,6 +78,7 @@ fn placed_answer(kind: Placed, at: At) -> Answer
         Placed::NotMapped => Answer::NotMapped(at),
         Placed::Dirty => Answer::Dirty(at),
         Placed::Mapped => Answer::Mapped(at),
+        Placed::Locked => Answer::Locked(at),
     }
 }
 

@@ -43,6 +43,7 @@ pub(crate) enum Placed {
     NotMapped,
     Dirty,
     Mapped,
+    Locked,
 }
 
 /// A word of an answer that a value and a place follow.
@@ -82,7 +83,7 @@ const COUNTED: [Counted; 8] = [
 ];
 
 /// The words of answers that a place follows.
-const PLACED: [Placed; 7] = [
+const PLACED: [Placed; 8] = [
     Placed::Stored,
     Placed::Sigbus,
     Placed::Done,
@@ -90,6 +91,7 @@ const PLACED: [Placed; 7] = [
     Placed::NotMapped,
     Placed::Dirty,
     Placed::Mapped,
+    Placed::Locked,
 ];
 
 /// The words of answers that a value and a place follow.
@@ -145,6 +147,7 @@ impl HasWord for Placed {
             Placed::NotMapped => "notmapped",
             Placed::Dirty => "dirty",
             Placed::Mapped => "mapped",
+            Placed::Locked => "locked",
         }
     }
 }

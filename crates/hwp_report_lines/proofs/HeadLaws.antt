@@ -77,7 +77,7 @@ entry_verb who what = refl
 
 headed : (f : ReportLine) → ((line : CpuLine) × (f ≡ forms.CpuLine line)) ⊎ IsHeaded f
 headed (forms.CpuLine line) = inl (line, refl)
-headed forms.Header = inr (record { head = heads.Header; is = refl; word = refl })
+headed (forms.Header version) = inr (record { head = heads.Header; is = refl; word = refl })
 headed (forms.Stop None) = inr (record { head = heads.Stop; is = refl; word = refl })
 headed (forms.Stop (Some stop)) = inr (record { head = heads.Stop; is = refl; word = refl })
 headed (forms.Count n) = inr (record { head = heads.Count; is = refl; word = refl })

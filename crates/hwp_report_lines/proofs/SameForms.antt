@@ -11,7 +11,7 @@ use Rattle.hwp_report_text.specs.declared.CpuLine.{CpuLine}
 use Rattle.hwp_report_text.specs.declared.CpuLine.TheVariants as lines
 use Rattle.hwp_report_text.specs.declared.MarkLine.TheVariants as marks
 use Rattle.hwp_report_text.specs.ReportText.{cpu_line_words}
-use Rattle.hwp_report_words.proofs.SameWords.{tag, tag_at, word_at, same_u8, same_u16, same_u32, same_u64, same_mask, same_policy, same_code, same_situation, same_who}
+use Rattle.hwp_report_words.proofs.SameWords.{tag, tag_at, word_at, same_u8, same_u16, same_u32, same_u64, same_mask, same_policy, same_code, same_situation, same_version, same_who}
 use Rattle.hwp_report_page_lines.specs.declared.Failure.{Failure}
 use Rattle.hwp_report_page_lines.specs.Fits.{FailFits, PlainFits}
 use Rattle.hwp_report_page_lines.specs.Words.{failure_words}
@@ -27,7 +27,7 @@ abbrev class_of_tag : ℕ → ℕ
 class_of_tag n = if n == tag (codes "hwp-report") then 1 else if n == tag (codes "stop") then 2 else if n == tag (codes "count") then 3 else if n == tag (codes "file") then 4 else if n == tag (codes "frame") then 5 else if n == tag (codes "poisoned") then 6 else if n == tag (codes "unpoisoned") then 6 else if n == tag (codes "page") then 7 else if n == tag (codes "load") then 8 else if n == tag (codes "store") then 8 else if n == tag (codes "in") then 8 else if n == tag (codes "map") then 8 else if n == tag (codes "free") then 8 else if n == tag (codes "drop") then 8 else if n == tag (codes "sync") then 8 else if n == tag (codes "out") then 8 else if n == tag (codes "mce") then 8 else if n == tag (codes "soft") then 8 else if n == tag (codes "fail") then 9 else if n == tag (codes "seen") then 10 else if n == tag (codes "signal") then 11 else if n == tag (codes "cpu") then 12 else if n == tag (codes "end") then 13 else 0
 
 abbrev class_of : ReportLine → ℕ
-class_of forms.Header = 1
+class_of (forms.Header version) = 1
 class_of (forms.Stop stop) = 2
 class_of (forms.Count count) = 3
 class_of (forms.File number lost) = 4
@@ -110,8 +110,8 @@ same_failure a b f g e =
     }
 
 pub form_unique : (f g : ReportLine) → FormFits f → FormFits g → form_words f ≡ form_words g → f ≡ g
-form_unique forms.Header forms.Header a b e = refl
-form_unique forms.Header g a b e = absurd (omega (arith, same_class forms.Header g a b e))
+form_unique (forms.Header version) (forms.Header version2) a b e = λ i. forms.Header (same_version version version2 (word_at 1 e) i)
+form_unique (forms.Header version) g a b e = absurd (omega (arith, same_class (forms.Header version) g a b e))
 form_unique (forms.Stop stop) (forms.Stop stop2) a b e = λ i. forms.Stop (same_stop stop stop2 a b e i)
 form_unique (forms.Stop stop) g a b e = absurd (omega (arith, same_class (forms.Stop stop) g a b e))
 form_unique (forms.Count n) (forms.Count n2) a b e = λ i. forms.Count (same_u64 a b (word_at 1 e) i)

@@ -9,7 +9,7 @@ use Rattle.hwp_report_text.specs.hwp_page.declared.What.TheVariants as whats
 use Rattle.hwp_report_text.specs.declared.CpuLine.TheVariants as lines
 use Rattle.hwp_report_text.specs.declared.MarkLine.TheVariants as marks
 use Rattle.hwp_report_text.specs.ReportText.{entry_words}
-use Rattle.hwp_report_words.proofs.WordsPut.{put_small, put_policy, put_code, put_situation, put_u8, put_u16, put_u32, put_u64, put_mask}
+use Rattle.hwp_report_words.proofs.WordsPut.{put_small, put_policy, put_code, put_situation, put_u8, put_u16, put_u32, put_u64, put_mask, put_version}
 use Rattle.hwp_report_page_lines.proofs.WordsPut.{put_state, put_mark, put_required, put_entry}
 use Rattle.hwp_report_cpu_lines.proofs.WordsPut.{put_stop, put_cpu_line}
 use Rattle.hwp_report_lines.specs.declared.report_line.ReportLine.{ReportLine}
@@ -17,7 +17,7 @@ use Rattle.hwp_report_lines.specs.declared.report_line.ReportLine.TheVariants as
 use Rattle.hwp_report_lines.specs.Forms.{FormFits, form_words}
 
 put_form : (f : ReportLine) → FormFits f → ArePut (form_words f)
-put_form forms.Header h = then (fixed _ _ refl) (then (fixed _ _ refl) nothing)
+put_form (forms.Header version) h = then (fixed _ _ refl) (then (put_version version) nothing)
 put_form (forms.Stop stop) h = put_stop stop h
 put_form (forms.Count count) h = then (fixed _ _ refl) (then (put_u64 h) nothing)
 put_form (forms.File number lost) h = then (fixed _ _ refl) (then (put_u64 h.0) (then (fixed _ _ refl) (then (put_u64 h.1) nothing)))

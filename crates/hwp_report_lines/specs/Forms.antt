@@ -2,6 +2,7 @@
 use Rattle.std.specs.Prelude.{◌≡◌, ℕ, ◌^◌, ◌<◌, List, [], ◌∷◌, ◌++◌, codes, decimal, Option, Some, IfSome, MatchOption}
 use Rattle.hwp_report_text.specs.hwp_geom.Words.{line as line_text}
 use Rattle.hwp_report_text.specs.declared.MarkLine.{MarkLine}
+use Rattle.hwp_report_text.specs.Terms.{version_word}
 use Rattle.hwp_report_text.specs.ReportText.{stop_words, frame_words, mark_words, entry_words, seen_words, signal_words, cpu_line_words}
 use Rattle.hwp_report_words.specs.Reads.{IsReadAs}
 use Rattle.hwp_report_page_lines.specs.Fits.{PlaceFits, MarkFits, PlainEntryFits, FailFits, SeenFits, SignalFits}
@@ -14,7 +15,7 @@ use Rattle.hwp_report_lines.specs.Heads.{head_of, head_text, mark_head}
 
 -- the words of a line, as they are printed
 abbrev pub form_words : ReportLine → List (List ℕ)
-form_words forms.Header = codes "hwp-report" ∷ codes "1" ∷ []
+form_words (forms.Header version) = codes "hwp-report" ∷ version_word version ∷ []
 form_words (forms.Stop stop) = stop_words stop
 form_words (forms.Count count) = codes "count" ∷ decimal count ∷ []
 form_words (forms.File number lost) = codes "file" ∷ decimal number ∷ codes "lost" ∷ decimal lost ∷ []
@@ -31,7 +32,7 @@ form_words forms.End = codes "end" ∷ []
 
 -- each number of a line is within its type
 abbrev pub FormFits : ReportLine → Type 0
-FormFits forms.Header = Unit {0}
+FormFits (forms.Header version) = Unit {0}
 FormFits (forms.Stop stop) = IfSome stop StopFits
 FormFits (forms.Count count) = count < 2 ^ 64
 FormFits (forms.File number lost) = (number < 2 ^ 64) × (lost < 2 ^ 64)

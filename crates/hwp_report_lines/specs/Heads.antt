@@ -32,7 +32,7 @@ mark_head (marks.Unpoisoned cycle who) = heads.Unpoisoned
 
 -- which first word a line has; that of a processor begins with a number
 abbrev pub head_of : ReportLine → Option Head
-head_of forms.Header = Some heads.Header
+head_of (forms.Header version) = Some heads.Header
 head_of (forms.Stop stop) = Some heads.Stop
 head_of (forms.Count count) = Some heads.Count
 head_of (forms.File number lost) = Some heads.File

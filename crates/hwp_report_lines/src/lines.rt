@@ -1,6 +1,7 @@
 ghost use Rattle.std.specs.Prelude.{◌≡◌, ◌==◌, ◌^◌, [], ◌∷◌, decimal, map, IfOk};
 ghost use Rattle.std.specs.List.{slice_split};
-ghost use Rattle.hwp_report_words.specs.Reads.{AreBelow, Below, IsReadAs, two_words};
+ghost use Rattle.hwp_report_text.specs.Terms.{version_word};
+ghost use Rattle.hwp_report_words.specs.Reads.{Any, AreBelow, Below, IsReadAs, two_words};
 ghost use Rattle.hwp_report_lines.specs.Forms.{IsFormRead, IsLineRead, IsRestRead};
 
 use crate::frames::{read_frame, read_poisoned, read_unpoisoned};
@@ -8,8 +9,8 @@ use crate::heads::{Head, read_head};
 use crate::report_line::ReportLine;
 use hwp_report_cpu_lines::{read_cpu_line, read_stop};
 use hwp_report_page_lines::{Verb, read_failure, read_plain_entry, read_seen, read_signal};
-use hwp_report_text::OutOfMemory;
-use hwp_report_words::{is_text, read_number};
+use hwp_report_text::{OutOfMemory, Version};
+use hwp_report_words::{is_text, read_number, read_version};
 use std::alloc::Global;
 
 /// The parts of a text that the byte `at` parts.
@@ -64,12 +65,12 @@ fn read_file(words: &[&[u8]]) -> Option<ReportLine>
     Some(ReportLine::File { number, lost })
 }
 
-/// The head of a report, by the words behind `hwp-report`.
-fn read_header(words: &[&[u8]]) -> Option<ReportLine>
-    ensures { IsRestRead Head.Header (map (λ w. w.now) words.now) result }
+/// The version that is the only word.
+fn one_version(words: &[&[u8]]) -> Option<Version>
+    ensures { IsReadAs Any (λ v. version_word v ∷ []) (map (λ w. w.now) words.now) result }
 {
     match words {
-        [b"1"] => Some(ReportLine::Header),
+        [word] => read_version(word),
         _ => None,
     }
 }
@@ -125,7 +126,7 @@ fn read_rest(head: Head, words: &[&[u8]]) -> Option<ReportLine>
     ensures { IsRestRead head (map (λ w. w.now) words.now) result }
 {
     match head {
-        Head::Header => read_header(words),
+        Head::Header => Some(ReportLine::Header(one_version(words)?)),
         Head::Count => Some(ReportLine::Count(one_number(words)?)),
         Head::File => read_file(words),
         Head::Page => read_page(words),

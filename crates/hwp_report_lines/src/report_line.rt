@@ -1,11 +1,11 @@
 use hwp_report_page_lines::Failure;
-use hwp_report_text::{CpuLine, Entry, MarkLine, Mask, Seen, Signal, Stop, Whereabouts};
+use hwp_report_text::{CpuLine, Entry, MarkLine, Mask, Seen, Signal, Stop, Version, Whereabouts};
 
 /// A line of a report.
 #[derive(Drop)]
 pub enum ReportLine {
-    /// `hwp-report 1`: the head of a report.
-    Header,
+    /// `hwp-report 1` or `hwp-report 2`: the head of a report, with its version.
+    Header(Version),
     /// What stopped the machine, if it was stopped.
     Stop(Option<Stop>),
     /// `count N`: the number of poisoned frames.

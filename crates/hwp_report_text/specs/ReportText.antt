@@ -1,6 +1,7 @@
 -- The text of a report: lines of words.
 use Rattle.std.specs.Prelude.{ℕ, ◌+◌, List, [], ◌∷◌, ◌++◌, Option, Some, None, length, codes, decimal, flat_map, map}
 use Rattle.hwp_page.specs.hwp_geom.Words.{line, hex}
+use Rattle.hwp_page.specs.hwp_geom.declared.Version.{Version}
 use Rattle.hwp_page.specs.hwp_geom.declared.Who.{Who}
 use Rattle.hwp_page.specs.hwp_geom.declared.Thread.{Thread}
 use Rattle.hwp_page.specs.hwp_geom.declared.Mode.{Mode}
@@ -29,7 +30,7 @@ use Rattle.hwp_report_text.specs.declared.lines.Answer.TheVariants as answers
 use Rattle.hwp_report_text.specs.declared.lines.CpuLine.{CpuLine}
 use Rattle.hwp_report_text.specs.declared.lines.CpuLine.TheVariants as lines
 use Rattle.hwp_report_text.specs.declared.lines.EventLine.{EventLine}
-use Rattle.hwp_report_text.specs.Terms.{acted_word, code_word, flag_number, mode_word, origin_word, outcome_word, policy_word, situation_word}
+use Rattle.hwp_report_text.specs.Terms.{acted_word, code_word, flag_number, mode_word, origin_word, outcome_word, policy_word, situation_word, version_word}
 
 -- the lines of each item of a list, with its number, counted from n
 abbrev pub numbered : {A : Type 0} → (ℕ → A → List (List (List ℕ))) → ℕ → List A → List (List (List ℕ))
@@ -57,10 +58,10 @@ abbrev pub stop_words : Option Stop → List (List ℕ)
 stop_words None = codes "stop" ∷ codes "none" ∷ []
 stop_words (Some stop) = codes "stop" ∷ decimal stop.who.cpu.0 ∷ decimal stop.who.seq ∷ cause_words stop.cause
 
--- `hwp-report 1`, the stop line and `count N`
-abbrev pub head_lines : Option Stop → ℕ → List (List (List ℕ))
-head_lines stop count =
-    (codes "hwp-report" ∷ codes "1" ∷ []) ∷ stop_words stop ∷ (codes "count" ∷ decimal count ∷ []) ∷ []
+-- `hwp-report 1` or `hwp-report 2`, the stop line and `count N`
+abbrev pub head_lines : Version → Option Stop → ℕ → List (List (List ℕ))
+head_lines version stop count =
+    (codes "hwp-report" ∷ version_word version ∷ []) ∷ stop_words stop ∷ (codes "count" ∷ decimal count ∷ []) ∷ []
 
 -- `file N lost L`
 abbrev pub file_lines : ℕ → ℕ → List (List (List ℕ))
@@ -162,6 +163,7 @@ answer_words (answers.NotResident at) = placed (codes "notresident") at
 answer_words (answers.NotMapped at) = placed (codes "notmapped") at
 answer_words (answers.Dirty at) = placed (codes "dirty") at
 answer_words (answers.Mapped at) = placed (codes "mapped") at
+answer_words (answers.Locked at) = placed (codes "locked") at
 answer_words (answers.BadLines mask at) = codes "badlines" ∷ hex mask.0 ∷ decimal at.page.0 ∷ decimal at.entry ∷ []
 answer_words (answers.Eio lost) = codes "eio" ∷ decimal lost ∷ []
 answer_words (answers.Opened lost) = codes "opened" ∷ decimal lost ∷ []
@@ -197,7 +199,7 @@ cpu_lines number items = (codes "cpu" ∷ decimal number ∷ decimal (length ite
 -- the lines of a report
 abbrev pub report_lines : Report → List (List (List ℕ))
 report_lines report =
-    head_lines report.stop report.count
+    head_lines report.version report.stop report.count
     ++ numbered file_lines 0 report.files
     ++ numbered frame_lines 0 report.frames
     ++ numbered page_lines 0 report.pages

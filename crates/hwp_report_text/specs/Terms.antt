@@ -2,6 +2,8 @@
 use Rattle.std.specs.Prelude.{ℕ, Bool, true, false, List, codes}
 use Rattle.hwp_page.specs.hwp_geom.declared.Mode.{Mode}
 use Rattle.hwp_page.specs.hwp_geom.declared.Mode.TheVariants as modes
+use Rattle.hwp_page.specs.hwp_geom.declared.Version.{Version}
+use Rattle.hwp_page.specs.hwp_geom.declared.Version.TheVariants as versions
 use Rattle.hwp_page.specs.hwp_kill.declared.Policy.{Policy}
 use Rattle.hwp_page.specs.hwp_kill.declared.Policy.TheVariants as policies
 use Rattle.hwp_page.specs.hwp_kill.declared.Code.{Code}
@@ -12,6 +14,11 @@ use Rattle.hwp_page.specs.declared.Outcome.{Outcome}
 use Rattle.hwp_page.specs.declared.Outcome.TheVariants as outcomes
 use Rattle.hwp_report_text.specs.declared.lines.Acted.{Acted}
 use Rattle.hwp_report_text.specs.declared.lines.Acted.TheVariants as acts
+
+-- a version
+abbrev pub version_word : Version → List ℕ
+version_word versions.One = codes "1"
+version_word versions.Two = codes "2"
 
 -- the number of a yes or no
 abbrev pub flag_number : Bool → ℕ
@@ -43,6 +50,9 @@ situation_word situations.FileDirty = codes "filedirty"
 situation_word situations.AnonOnly = codes "anononly"
 situation_word situations.SwapClean = codes "swapclean"
 situation_word situations.SwapDirty = codes "swapdirty"
+situation_word situations.LockedClean = codes "lockedclean"
+situation_word situations.LockedFile = codes "lockedfile"
+situation_word situations.LockedAnon = codes "lockedanon"
 
 -- what came of a memory failure
 abbrev pub outcome_word : Outcome → List ℕ

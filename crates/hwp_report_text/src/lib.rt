@@ -11,7 +11,7 @@ pub use frames::{FrameLine, How, MarkLine, Whereabouts};
 pub use hwp_page::{
     At, Code, Cpu, Entry, Frame, Line, List, MAX_SIGNALS, Mask, Met, Mode, OutOfMemory, Outcome,
     Page, PageState, Policy, Proc, Reply, Seen, Signal, Situation, Slots, Text, Thread, VSlot,
-    What, Who, prctl,
+    Version, What, Who, prctl,
 };
 pub use hwp_severity::{Arrival, Decision, Grade, McgBits, Severity, grade, handle};
 pub use lines::{Acted, Answer, CpuLine, EventLine};

@@ -75,11 +75,13 @@ pub enum Answer {
     Dirty(At),
     /// A translation to the page was in use.
     Mapped(At),
+    /// The page was locked, and no request drops such a page or writes it out.
+    Locked(At),
     /// The page's frame had these bad lines.
     BadLines(Mask, At),
-    /// This many losses had come to the file since the last time.
+    /// This many losses had come to the file since its processor asked last.
     Eio(u64),
-    /// The file is open, and had come to this many losses.
+    /// The file was opened, and had come to this many losses by then.
     Opened(u64),
     /// The policy has this number (prctl(2)).
     Is(u64),

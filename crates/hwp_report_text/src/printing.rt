@@ -6,10 +6,12 @@ ghost use Rattle.hwp_report_text.specs.ReportText.{cause_words, cpu_lines, file_
 use crate::frames::{FrameLine, How, MarkLine, Whereabouts};
 use crate::lines::CpuLine;
 use crate::report::{Report, Stop, StopCause};
-use crate::terms::{flag_number, mode_word, origin_word, outcome_word, situation_word};
+use crate::terms::{
+    flag_number, mode_word, origin_word, outcome_word, situation_word, version_word,
+};
 use answers::put_cpu_lines;
 use entries::put_entries;
-use hwp_page::{Entry, List, Mask, Mode, OutOfMemory, Page, Text, Who};
+use hwp_page::{Entry, List, Mask, Mode, OutOfMemory, Page, Text, Version, Who};
 use hwp_severity::McgBits;
 use std::alloc::Global;
 
@@ -31,16 +33,22 @@ pub fn print(alloc: Global, report: &Report) -> Result<Text, OutOfMemory>
 
 fn put_front(out: &mut String, report: &Report) -> Result<(), OutOfMemory>
     ensures { OnOk result (string_bytes out.new ≡ string_bytes out.old
-        ++ flat_map line (head_lines report.now.stop report.now.count ++ numbered file_lines 0 report.now.files)) }
+        ++ flat_map line (head_lines report.now.version report.now.stop report.now.count ++ numbered file_lines 0 report.now.files)) }
 {
-    put_head(out, report.stop, report.count)?;
+    put_head(out, report.version, report.stop, report.count)?;
     put_files(out, report.files.as_slice())
 }
 
-fn put_head(out: &mut String, stop: Option<Stop>, count: u64) -> Result<(), OutOfMemory>
-    ensures { OnOk result (string_bytes out.new ≡ string_bytes out.old ++ flat_map line (head_lines stop count)) }
+fn put_head(
+    out: &mut String,
+    version: Version,
+    stop: Option<Stop>,
+    count: u64,
+) -> Result<(), OutOfMemory>
+    ensures { OnOk result (string_bytes out.new ≡ string_bytes out.old ++ flat_map line (head_lines version stop count)) }
 {
-    writeln!(out, "hwp-report 1")?;
+    let version = version_word(version);
+    writeln!(out, "hwp-report {version}")?;
     put_stop(out, stop)?;
     writeln!(out, "count {count}")
 }

@@ -1,6 +1,6 @@
 use crate::frames::FrameLine;
 use crate::lines::CpuLine;
-use hwp_page::{Entry, Frame, List, Mode, Who};
+use hwp_page::{Entry, Frame, List, Mode, Version, Who};
 use hwp_severity::McgBits;
 
 /// What stopped the machine.
@@ -30,6 +30,8 @@ pub struct Stop {
 /// What a run is reported as.
 #[derive(Drop)]
 pub struct Report {
+    /// The version of the script that was run.
+    pub version: Version,
     /// What stopped the machine, if it was stopped.
     pub stop: Option<Stop>,
     /// The number of poisoned frames.

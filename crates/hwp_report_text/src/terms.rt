@@ -2,7 +2,17 @@ ghost use Rattle.std.specs.Prelude.{◌≡◌};
 ghost use Rattle.hwp_report_text.specs.Terms as terms;
 
 use crate::lines::Acted;
-use hwp_page::{Code, Mode, Outcome, Policy, Situation};
+use hwp_page::{Code, Mode, Outcome, Policy, Situation, Version};
+
+/// The word of a version.
+pub(crate) fn version_word(version: Version) -> &'static str
+    ensures { result.now ≡ terms.version_word version }
+{
+    match version {
+        Version::One => "1",
+        Version::Two => "2",
+    }
+}
 
 /// The number of a yes or no.
 pub(crate) fn flag_number(set: bool) -> u8
@@ -54,6 +64,9 @@ pub fn situation_word(situation: Situation) -> &'static str
         Situation::AnonOnly => "anononly",
         Situation::SwapClean => "swapclean",
         Situation::SwapDirty => "swapdirty",
+        Situation::LockedClean => "lockedclean",
+        Situation::LockedFile => "lockedfile",
+        Situation::LockedAnon => "lockedanon",
     }
 }
 

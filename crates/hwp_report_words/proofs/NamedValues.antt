@@ -45,7 +45,7 @@ policy_listed policies.Early = record { place = 1; fits = omega arith; is = refl
 policy_listed policies.Default = record { place = 2; fits = omega arith; is = refl }
 
 abbrev pub all_situations : List Situation
-all_situations = situations.Free ∷ situations.Kernel ∷ situations.FileClean ∷ situations.FileDirty ∷ situations.AnonOnly ∷ situations.SwapClean ∷ situations.SwapDirty ∷ []
+all_situations = situations.Free ∷ situations.Kernel ∷ situations.FileClean ∷ situations.FileDirty ∷ situations.AnonOnly ∷ situations.SwapClean ∷ situations.SwapDirty ∷ situations.LockedClean ∷ situations.LockedFile ∷ situations.LockedAnon ∷ []
 
 pub situation_listed : (x : Situation) → IsListed all_situations situations.Free x
 situation_listed situations.Free = record { place = 0; fits = omega arith; is = refl }
@@ -55,6 +55,9 @@ situation_listed situations.FileDirty = record { place = 3; fits = omega arith; 
 situation_listed situations.AnonOnly = record { place = 4; fits = omega arith; is = refl }
 situation_listed situations.SwapClean = record { place = 5; fits = omega arith; is = refl }
 situation_listed situations.SwapDirty = record { place = 6; fits = omega arith; is = refl }
+situation_listed situations.LockedClean = record { place = 7; fits = omega arith; is = refl }
+situation_listed situations.LockedFile = record { place = 8; fits = omega arith; is = refl }
+situation_listed situations.LockedAnon = record { place = 9; fits = omega arith; is = refl }
 
 abbrev pub all_outcomes : List Outcome
 all_outcomes = outcomes.Recovered ∷ outcomes.Delayed ∷ outcomes.Ignored ∷ []

@@ -5,6 +5,8 @@ use Rattle.std.specs.Str.Parse.{digits_value}
 use Rattle.hwp_script_lines.specs.hwp_geom.Words.{hex}
 use Rattle.hwp_script_lines.specs.hwp_geom.declared.Mode.{Mode}
 use Rattle.hwp_script_lines.specs.hwp_geom.declared.Mode.TheVariants as modes
+use Rattle.hwp_script_lines.specs.hwp_geom.declared.Version.{Version}
+use Rattle.hwp_script_lines.specs.hwp_geom.declared.Version.TheVariants as versions
 use Rattle.hwp_script_lines.specs.hwp_geom.declared.Who.{Who}
 use Rattle.hwp_report_text.specs.hwp_kill.declared.Policy.{Policy}
 use Rattle.hwp_report_text.specs.hwp_kill.declared.Policy.TheVariants as policies
@@ -17,7 +19,7 @@ use Rattle.hwp_report_text.specs.hwp_page.declared.Outcome.{Outcome}
 use Rattle.hwp_report_text.specs.hwp_page.declared.Outcome.TheVariants as outcomes
 use Rattle.hwp_report_text.specs.declared.Acted.{Acted}
 use Rattle.hwp_report_text.specs.declared.Acted.TheVariants as acts
-use Rattle.hwp_report_text.specs.Terms.{flag_number, mode_word, policy_word, code_word, situation_word, outcome_word, origin_word, acted_word}
+use Rattle.hwp_report_text.specs.Terms.{flag_number, mode_word, policy_word, code_word, situation_word, outcome_word, origin_word, acted_word, version_word}
 use Rattle.hwp_report_words.specs.Words.{AtFits}
 
 -- a word as a number
@@ -34,6 +36,12 @@ hex_injective m n a b e =
     let x = (digits_is_IsNumeral 16 false (omega arith) (omega arith) m (omega arith)).1 in
     let y = (digits_is_IsNumeral 16 false (omega arith) (omega arith) n (omega arith)).1 in
     sym x ∙ ap (digits_value 16) e ∙ y
+
+pub same_version : (a b : Version) → version_word a ≡ version_word b → a ≡ b
+same_version versions.One versions.One e = refl
+same_version versions.One b e = absurd (omega (arith, ap tag e))
+same_version versions.Two versions.Two e = refl
+same_version versions.Two b e = absurd (omega (arith, ap tag e))
 
 pub same_mode : (a b : Mode) → mode_word a ≡ mode_word b → a ≡ b
 same_mode modes.User modes.User e = refl
@@ -70,6 +78,12 @@ same_situation situations.SwapClean situations.SwapClean e = refl
 same_situation situations.SwapClean b e = absurd (omega (arith, ap tag e))
 same_situation situations.SwapDirty situations.SwapDirty e = refl
 same_situation situations.SwapDirty b e = absurd (omega (arith, ap tag e))
+same_situation situations.LockedClean situations.LockedClean e = refl
+same_situation situations.LockedClean b e = absurd (omega (arith, ap tag e))
+same_situation situations.LockedFile situations.LockedFile e = refl
+same_situation situations.LockedFile b e = absurd (omega (arith, ap tag e))
+same_situation situations.LockedAnon situations.LockedAnon e = refl
+same_situation situations.LockedAnon b e = absurd (omega (arith, ap tag e))
 
 pub same_outcome : (a b : Outcome) → outcome_word a ≡ outcome_word b → a ≡ b
 same_outcome outcomes.Recovered outcomes.Recovered e = refl

@@ -2,6 +2,8 @@
 use Rattle.std.proofs.Common.{ℕ, ◌<◌, ◌≤◌, ◌^◌, Bool, true, false, [], ◌∷◌, decimal, refl, arith}
 use Rattle.hwp_script_lines.specs.hwp_geom.declared.Mode.{Mode}
 use Rattle.hwp_script_lines.specs.hwp_geom.declared.Mode.TheVariants as modes
+use Rattle.hwp_script_lines.specs.hwp_geom.declared.Version.{Version}
+use Rattle.hwp_script_lines.specs.hwp_geom.declared.Version.TheVariants as versions
 use Rattle.hwp_script_lines.specs.hwp_geom.Words.{hex}
 use Rattle.hwp_script_lines.proofs.of_hwp_geom.WordsPut.{IsPut, ArePut, put_decimal, put_hex, fixed, then, nothing}
 use Rattle.hwp_report_text.specs.hwp_kill.declared.Policy.{Policy}
@@ -15,7 +17,7 @@ use Rattle.hwp_report_text.specs.hwp_page.declared.Outcome.{Outcome}
 use Rattle.hwp_report_text.specs.hwp_page.declared.Outcome.TheVariants as outcomes
 use Rattle.hwp_report_text.specs.declared.Acted.{Acted}
 use Rattle.hwp_report_text.specs.declared.Acted.TheVariants as acts
-use Rattle.hwp_report_text.specs.Terms.{flag_number, mode_word, policy_word, code_word, situation_word, outcome_word, origin_word, acted_word}
+use Rattle.hwp_report_text.specs.Terms.{flag_number, mode_word, policy_word, code_word, situation_word, outcome_word, origin_word, acted_word, version_word}
 use Rattle.hwp_report_words.specs.Words.{AtFits}
 
 -- a small number
@@ -25,6 +27,10 @@ put_small n bound high h = put_decimal n (omega (arith, high, h))
 pub put_flag : (b : Bool) → IsPut (decimal (flag_number b))
 put_flag true = put_decimal 1 (omega arith)
 put_flag false = put_decimal 0 (omega arith)
+
+pub put_version : (v : Version) → IsPut (version_word v)
+put_version versions.One = fixed _ _ refl
+put_version versions.Two = fixed _ _ refl
 
 pub put_mode : (m : Mode) → IsPut (mode_word m)
 put_mode modes.User = fixed _ _ refl
@@ -47,6 +53,9 @@ put_situation situations.FileDirty = fixed _ _ refl
 put_situation situations.AnonOnly = fixed _ _ refl
 put_situation situations.SwapClean = fixed _ _ refl
 put_situation situations.SwapDirty = fixed _ _ refl
+put_situation situations.LockedClean = fixed _ _ refl
+put_situation situations.LockedFile = fixed _ _ refl
+put_situation situations.LockedAnon = fixed _ _ refl
 
 pub put_outcome : (o : Outcome) → IsPut (outcome_word o)
 put_outcome outcomes.Recovered = fixed _ _ refl

@@ -11,6 +11,6 @@ pub use numbers::{
 };
 pub use terms::{
     read_acted, read_code, read_flag, read_mode, read_origin, read_outcome, read_policy,
-    read_situation,
+    read_situation, read_version,
 };
 pub use words::{HasWord, named};

@@ -5,7 +5,7 @@ ghost use Rattle.hwp_report_words.specs.Reads.{IsNamedBy};
 use crate::numbers::{is_text, read_below};
 use crate::words::{HasWord, named};
 use hwp_report_text::{
-    Acted, Code, Mode, Outcome, Policy, Situation, acted_word, outcome_word, policy_word,
+    Acted, Code, Mode, Outcome, Policy, Situation, Version, acted_word, outcome_word, policy_word,
     situation_word,
 };
 
@@ -21,7 +21,7 @@ impl HasWord for Policy {
 }
 
 /// All situations.
-const SITUATIONS: [Situation; 7] = [
+const SITUATIONS: [Situation; 10] = [
     Situation::Free,
     Situation::Kernel,
     Situation::FileClean,
@@ -29,6 +29,9 @@ const SITUATIONS: [Situation; 7] = [
     Situation::AnonOnly,
     Situation::SwapClean,
     Situation::SwapDirty,
+    Situation::LockedClean,
+    Situation::LockedFile,
+    Situation::LockedAnon,
 ];
 
 impl HasWord for Situation {
@@ -72,6 +75,19 @@ impl HasWord for Acted {
     fn word(self) -> &'static str {
         acted_word(self)
     }
+}
+
+/// The version that a word names.
+pub fn read_version(word: &[u8]) -> Option<Version>
+    ensures { IsNamedBy terms.version_word word.now result }
+{
+    if is_text(word, "1") {
+        return Some(Version::One);
+    }
+    if is_text(word, "2") {
+        return Some(Version::Two);
+    }
+    None
 }
 
 /// The yes or no whose number a word is.

@@ -9,6 +9,7 @@ use Rattle.hwp_script_read.specs.hwp_geom.declared.Thread.{Thread}
 use Rattle.hwp_script_read.specs.hwp_geom.declared.VSlot.{VSlot}
 use Rattle.hwp_script_read.specs.hwp_script_lines.declared.Command.{Command}
 use Rattle.hwp_script_read.specs.hwp_script_lines.declared.Command.TheVariants as commands
+use Rattle.hwp_script_read.specs.Reasons.{IsNewer}
 use Rattle.hwp_script_read.specs.Valid.{HasWords, IsAccess, IsAnon, IsCommandOf, IsFile}
 use Rattle.rand_pcg.specs.Lcg.{Lcg}
 use Rattle.hwp_script.specs.Commands.{accessed, called, chosen, chosen_access, chosen_change, chosen_failure, command, frame_at, marred, numbered, page_at, scrub_of, slot_at, stored, thread_at}
@@ -32,9 +33,9 @@ word-fits g = let small : word g < 2 ^ 32 = small-word g in omega (arith, small)
 drawn-below : (bound : ℕ) (g : Lcg) → 0 < bound → drawn bound g < bound
 drawn-below bound g some = mod-lt (word g) some
 
--- the command is one of the processor, and its words are of 64 bits
+-- the command is one of the processor, its words are of 64 bits, and every version has it
 abbrev pub Fits : ℕ → Command → Type 0
-Fits cpu c = IsCommandOf machine cpu c × HasWords c
+Fits cpu c = IsCommandOf machine cpu c × HasWords c × (IsNewer c → ⊥)
 
 -- ---- threads and translations
 
@@ -84,7 +85,7 @@ accessed-fits make fits cpu g few =
 
 stored-fits : (cpu : ℕ) (g : Lcg) → cpu < 4 → Fits cpu (stored cpu g).0
 stored-fits cpu g few =
-    ((access-of cpu (drawn 2 g) (drawn 20 (after g)) few (drawn-below 2 g (omega arith)) (drawn-below 20 (after g) (omega arith)), drawn-below 64 (after (after g)) (omega arith)), word-fits (after (after (after g))))
+    ((access-of cpu (drawn 2 g) (drawn 20 (after g)) few (drawn-below 2 g (omega arith)) (drawn-below 20 (after g) (omega arith)), drawn-below 64 (after (after g)) (omega arith)), word-fits (after (after (after g))), λ newer. newer)
 
 called-fits : (cpu : ℕ) (g : Lcg) → cpu < 4 → Fits cpu (called cpu g).0
 called-fits cpu g few =
@@ -93,6 +94,7 @@ called-fits cpu g few =
     let own : (cpu + 4 * drawn 2 g) % 4 ≡ cpu = omega arith in (
       some-and _ _ (thread_decl (cpu + 4 * drawn 2 g)) (first-get thread_decl 8 (cpu + 4 * drawn 2 g) (omega arith)) own,
       (omega arith, omega arith, omega arith, omega arith, omega arith),
+      λ newer. newer,
     )
 
 marred-fits : (make : Frame → ℕ → Command) → ((cpu frame line : ℕ) → frame < 64 → line < 64 → Fits cpu (make (frame_at frame) line)) → (cpu : ℕ) (g : Lcg) → Fits cpu (marred make g).0
@@ -121,44 +123,44 @@ module _ (cpu k : ℕ) (g : Lcg) (few : cpu < 4) where
 
   accesses : Fits cpu (chosen_access cpu k g).0
   accesses =
-      either 45 (accessed commands.Load cpu g) (if nat_lt k 70 then stored cpu g else accessed commands.Fetch cpu g) (accessed-fits commands.Load (λ c t v l of less. ((of, less), tt)) cpu g few)
-      (either 70 (stored cpu g) (accessed commands.Fetch cpu g) (stored-fits cpu g few) (accessed-fits commands.Fetch (λ c t v l of less. ((of, less), tt)) cpu g few))
+      either 45 (accessed commands.Load cpu g) (if nat_lt k 70 then stored cpu g else accessed commands.Fetch cpu g) (accessed-fits commands.Load (λ c t v l of less. ((of, less), tt, λ newer. newer)) cpu g few)
+      (either 70 (stored cpu g) (accessed commands.Fetch cpu g) (stored-fits cpu g few) (accessed-fits commands.Fetch (λ c t v l of less. ((of, less), tt, λ newer. newer)) cpu g few))
 
   changes : Fits cpu (chosen_change cpu k g).0
   changes = either 78 (numbered (λ (n : ℕ). commands.Free (record { 0 = n })) 80 g)
       (if nat_lt k 81 then (numbered (λ (n : ℕ). commands.Drop (page_at n)) 40 g) else (if nat_lt k 84 then (numbered (λ (n : ℕ). commands.Sync (page_at (2 * n + 1))) 20 g) else (if nat_lt k 87 then (numbered (λ (n : ℕ). commands.Out (page_at (2 * n))) 20 g) else (if nat_lt k 89 then (numbered (λ (n : ℕ). commands.Fsync (record { 0 = n })) 2 g) else (called cpu g)))))
-      (numbered-fits (λ (n : ℕ). commands.Free (record { 0 = n })) 80 cpu (omega arith) (λ n less. (subst (λ (m : ℕ). n < m) (sym (first-length trans_decl 80)) less, tt)) g)
+      (numbered-fits (λ (n : ℕ). commands.Free (record { 0 = n })) 80 cpu (omega arith) (λ n less. (subst (λ (m : ℕ). n < m) (sym (first-length trans_decl 80)) less, tt, λ newer. newer)) g)
       (either 81 (numbered (λ (n : ℕ). commands.Drop (page_at n)) 40 g)
       (if nat_lt k 84 then (numbered (λ (n : ℕ). commands.Sync (page_at (2 * n + 1))) 20 g) else (if nat_lt k 87 then (numbered (λ (n : ℕ). commands.Out (page_at (2 * n))) 20 g) else (if nat_lt k 89 then (numbered (λ (n : ℕ). commands.Fsync (record { 0 = n })) 2 g) else (called cpu g))))
-      (numbered-fits (λ (n : ℕ). commands.Drop (page_at n)) 40 cpu (omega arith) (λ n less. (subst (λ (m : ℕ). n < m) (sym (first-length page_kind 40)) less, tt)) g)
+      (numbered-fits (λ (n : ℕ). commands.Drop (page_at n)) 40 cpu (omega arith) (λ n less. (subst (λ (m : ℕ). n < m) (sym (first-length page_kind 40)) less, tt, λ newer. newer)) g)
       (either 84 (numbered (λ (n : ℕ). commands.Sync (page_at (2 * n + 1))) 20 g)
       (if nat_lt k 87 then (numbered (λ (n : ℕ). commands.Out (page_at (2 * n))) 20 g) else (if nat_lt k 89 then (numbered (λ (n : ℕ). commands.Fsync (record { 0 = n })) 2 g) else (called cpu g)))
-      (numbered-fits (λ (n : ℕ). commands.Sync (page_at (2 * n + 1))) 20 cpu (omega arith) (λ n less. (odd-file n less, tt)) g)
+      (numbered-fits (λ (n : ℕ). commands.Sync (page_at (2 * n + 1))) 20 cpu (omega arith) (λ n less. (odd-file n less, tt, λ newer. newer)) g)
       (either 87 (numbered (λ (n : ℕ). commands.Out (page_at (2 * n))) 20 g)
       (if nat_lt k 89 then (numbered (λ (n : ℕ). commands.Fsync (record { 0 = n })) 2 g) else (called cpu g))
-      (numbered-fits (λ (n : ℕ). commands.Out (page_at (2 * n))) 20 cpu (omega arith) (λ n less. (even-anon n less, tt)) g)
+      (numbered-fits (λ (n : ℕ). commands.Out (page_at (2 * n))) 20 cpu (omega arith) (λ n less. (even-anon n less, tt, λ newer. newer)) g)
       (either 89 (numbered (λ (n : ℕ). commands.Fsync (record { 0 = n })) 2 g)
       (called cpu g)
-      (numbered-fits (λ (n : ℕ). commands.Fsync (record { 0 = n })) 2 cpu (omega arith) (λ n less. (less, tt)) g)
+      (numbered-fits (λ (n : ℕ). commands.Fsync (record { 0 = n })) 2 cpu (omega arith) (λ n less. (less, tt, λ newer. newer)) g)
       (called-fits cpu g few)))))
 
   failures : Fits cpu (chosen_failure k g).0
   failures = either 93 (marred commands.Bad g)
       (if nat_lt k 94 then (marred commands.Weak g) else (if nat_lt k 95 then (numbered scrub_of 4 g) else (if nat_lt k 97 then (numbered (λ (n : ℕ). commands.Inject (frame_at n)) 64 g) else (if nat_lt k 99 then (numbered (λ (n : ℕ). commands.Soft (frame_at n)) 64 g) else (numbered (λ (n : ℕ). commands.Unpoison (frame_at n)) 64 g)))))
-      (marred-fits commands.Bad (λ c f l frame line. ((omega arith, line), tt)) cpu g)
+      (marred-fits commands.Bad (λ c f l frame line. ((omega arith, line), tt, λ newer. newer)) cpu g)
       (either 94 (marred commands.Weak g)
       (if nat_lt k 95 then (numbered scrub_of 4 g) else (if nat_lt k 97 then (numbered (λ (n : ℕ). commands.Inject (frame_at n)) 64 g) else (if nat_lt k 99 then (numbered (λ (n : ℕ). commands.Soft (frame_at n)) 64 g) else (numbered (λ (n : ℕ). commands.Unpoison (frame_at n)) 64 g))))
-      (marred-fits commands.Weak (λ c f l frame line. ((omega arith, line), tt)) cpu g)
+      (marred-fits commands.Weak (λ c f l frame line. ((omega arith, line), tt, λ newer. newer)) cpu g)
       (either 95 (numbered scrub_of 4 g)
       (if nat_lt k 97 then (numbered (λ (n : ℕ). commands.Inject (frame_at n)) 64 g) else (if nat_lt k 99 then (numbered (λ (n : ℕ). commands.Soft (frame_at n)) 64 g) else (numbered (λ (n : ℕ). commands.Unpoison (frame_at n)) 64 g)))
-      (numbered-fits scrub_of 4 cpu (omega arith) (λ n less. ((omega arith, omega arith), tt)) g)
+      (numbered-fits scrub_of 4 cpu (omega arith) (λ n less. ((omega arith, omega arith), tt, λ newer. newer)) g)
       (either 97 (numbered (λ (n : ℕ). commands.Inject (frame_at n)) 64 g)
       (if nat_lt k 99 then (numbered (λ (n : ℕ). commands.Soft (frame_at n)) 64 g) else (numbered (λ (n : ℕ). commands.Unpoison (frame_at n)) 64 g))
-      (numbered-fits (λ (n : ℕ). commands.Inject (frame_at n)) 64 cpu (omega arith) (λ n less. (omega arith, tt)) g)
+      (numbered-fits (λ (n : ℕ). commands.Inject (frame_at n)) 64 cpu (omega arith) (λ n less. (omega arith, tt, λ newer. newer)) g)
       (either 99 (numbered (λ (n : ℕ). commands.Soft (frame_at n)) 64 g)
       (numbered (λ (n : ℕ). commands.Unpoison (frame_at n)) 64 g)
-      (numbered-fits (λ (n : ℕ). commands.Soft (frame_at n)) 64 cpu (omega arith) (λ n less. (omega arith, tt)) g)
-      (numbered-fits (λ (n : ℕ). commands.Unpoison (frame_at n)) 64 cpu (omega arith) (λ n less. (omega arith, tt)) g)))))
+      (numbered-fits (λ (n : ℕ). commands.Soft (frame_at n)) 64 cpu (omega arith) (λ n less. (omega arith, tt, λ newer. newer)) g)
+      (numbered-fits (λ (n : ℕ). commands.Unpoison (frame_at n)) 64 cpu (omega arith) (λ n less. (omega arith, tt, λ newer. newer)) g)))))
 
   chosen-fits : Fits cpu (chosen cpu k g).0
   chosen-fits = either 74 (chosen_access cpu k g) (if nat_lt k 91 then chosen_change cpu k g else chosen_failure k g) accesses (either 91 (chosen_change cpu k g) (chosen_failure k g) changes failures)

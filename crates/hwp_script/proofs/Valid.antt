@@ -11,12 +11,13 @@ use Rattle.hwp_script_read.specs.hwp_geom.declared.TransDecl.{TransDecl}
 use Rattle.hwp_script_read.specs.hwp_geom.Layout.{IsBacked, IsSound}
 use Rattle.hwp_script_read.specs.hwp_script_lines.declared.Command.{Command}
 use Rattle.hwp_script_read.specs.hwp_script_lines.declared.Go.{Go}
+use Rattle.hwp_script_read.specs.Reasons.{IsNewer}
 use Rattle.hwp_script_read.specs.Valid.{AreLists, HasFill, HasWords, IsCommandOf, IsValid}
 use Rattle.rand_pcg.specs.Lcg.{Lcg}
 use Rattle.hwp_script.specs.Commands.{command}
 use Rattle.hwp_script.specs.Draws.{word}
 use Rattle.hwp_script.specs.Generated.{commands_of, generated, go, lists, many, seeded}
-use Rattle.hwp_script.specs.Machine.{is_kernel, machine, page_kind, thread_decl, trans_decl}
+use Rattle.hwp_script.specs.Machine.{is_kernel, is_locked, machine, page_kind, thread_decl, trans_decl}
 use Rattle.hwp_script.proofs.CommandFits.{command-fits}
 use Rattle.hwp_script.proofs.Made.{first-all, first-length, many-all, many-length}
 
@@ -48,6 +49,13 @@ sound = record {
   threads = let is = first-length thread_decl 8 in omega arith;
   pages = let is = first-length page_kind 40 in omega arith;
   trans = let is = first-length trans_decl 80 in omega arith;
+  within = record {
+    cpus = omega arith;
+    frames = omega arith;
+    pages = let is = first-length page_kind 40 in omega arith;
+    trans = let is = first-length trans_decl 80 in omega arith;
+  };
+  locked = first-length is_locked 40 ∙ sym (first-length page_kind 40);
   thread_names = first-all (λ (t : ThreadDecl). (t.process.0 < 4) × (t.cpu.0 < 4)) thread_decl 8 (λ i less. (mod-lt i (omega arith), mod-lt i (omega arith)));
   page_names = first-all (IsBacked machine) page_kind 40 (λ q less. backed q);
   trans_names = first-all (λ (t : TransDecl). (t.process.0 < 4) × (t.page.0 < length machine.pages)) trans_decl 80
@@ -56,11 +64,18 @@ sound = record {
 
 -- ---- lists of commands
 
+-- both versions have the command
+abbrev IsInBoth : Command → Type 0
+IsInBoth c = IsNewer c → ⊥
+
 one-list : (cpu : ℕ) → cpu < 4 → (g : Lcg) → All (IsCommandOf machine cpu) (commands_of cpu g).0
 one-list cpu few g = many-all (IsCommandOf machine cpu) (command cpu) (λ h. (command-fits cpu few h).0) 1000 g
 
 one-words : (cpu : ℕ) → cpu < 4 → (g : Lcg) → All HasWords (commands_of cpu g).0
 one-words cpu few g = many-all HasWords (command cpu) (λ h. (command-fits cpu few h).1) 1000 g
+
+one-older : (cpu : ℕ) → cpu < 4 → (g : Lcg) → All IsInBoth (commands_of cpu g).0
+one-older cpu few g = many-all IsInBoth (command cpu) (λ h. (command-fits cpu few h).2) 1000 g
 
 -- a list more, for the next processor
 list-more : (cpu n : ℕ) (before : List (List Command)) (list : List Command) → length before ≡ n → AreLists machine cpu before → All (IsCommandOf machine (cpu + n)) list → AreLists machine cpu (before ++ list ∷ [])
@@ -74,10 +89,11 @@ record AreDrawn (n : ℕ) (g : Lcg) : Type 0 where
   are : AreLists machine 0 (lists n g).0
   few : sum_by length (lists n g).0 ≡ 1000 * n
   words : All (All HasWords) (lists n g).0
+  older : All (All IsInBoth) (lists n g).0
 
 drawn-none : (g : Lcg) → AreDrawn zero g
 unfolding lists
-drawn-none g = record { count = refl; are = tt; few = refl; words = All-nil (All HasWords) }
+drawn-none g = record { count = refl; are = tt; few = refl; words = All-nil (All HasWords); older = All-nil (All IsInBoth) }
 
 drawn-more : (n : ℕ) → n < 4 → (g : Lcg) → AreDrawn n g → AreDrawn (suc n) g
 unfolding lists
@@ -91,6 +107,7 @@ drawn-more n few g before =
           let long : length list ≡ 1000 = many-length (command n) 1000 (lists n g).1 in
           omega arith;
       words = All-append (All HasWords) (lists n g).0 (list ∷ []) before.words (All-cons (All HasWords) list [] (one-words n few (lists n g).1) (All-nil (All HasWords)));
+      older = All-append (All IsInBoth) (lists n g).0 (list ∷ []) before.older (All-cons (All IsInBoth) list [] (one-older n few (lists n g).1) (All-nil (All IsInBoth)));
     }
 
 all-drawn : (g : Lcg) → AreDrawn 4 g
@@ -101,6 +118,7 @@ generated-valid seed =
     let drawn = all-drawn (seeded seed) in
     let rest = (lists 4 (seeded seed)).1 in
     record {
+      older = λ one. record { unlocked = first-all (λ (l : Bool). l ≡ false) is_locked 40 (λ q less. refl); commands = drawn.older };
       sound = sound;
       one_each = drawn.count;
       lists = drawn.are;

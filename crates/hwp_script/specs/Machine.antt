@@ -1,6 +1,7 @@
 -- The machine of all generated scripts: four processors, eight threads, forty pages and eighty translations.
 use Rattle.std.specs.Prelude.{ℕ, zero, suc, ◌+◌, ◌/◌, ◌%◌, ◌==◌, Bool, true, false, List, [], ◌∷◌, ◌++◌, if◌then◌else◌}
 use Rattle.hwp_script_read.specs.hwp_geom.declared.Layout.{Layout}
+use Rattle.hwp_script_read.specs.hwp_geom.declared.Version.TheVariants as versions
 use Rattle.hwp_script_read.specs.hwp_geom.declared.PageKind.{PageKind}
 use Rattle.hwp_script_read.specs.hwp_geom.declared.PageKind.TheVariants as kinds
 use Rattle.hwp_script_read.specs.hwp_geom.declared.ThreadDecl.{ThreadDecl}
@@ -27,9 +28,14 @@ page_kind q = if q % 2 == 0 then kinds.Anon else kinds.File (record { 0 = q / 2 
 abbrev pub trans_decl : ℕ → TransDecl
 trans_decl v = record { process = record { 0 = (v + v / 40) % 4 }; page = record { 0 = v % 40 } }
 
--- the machine: recovery is on, and no process is killed early
+-- no page is locked
+abbrev pub is_locked : ℕ → Bool
+is_locked page = false
+
+-- the machine, of version One: recovery is on, and no process is killed early
 abbrev pub machine : Layout
 machine = record {
+  version = versions.One;
   cpus = 4;
   frames = 256;
   kernel = first is_kernel 256;
@@ -40,4 +46,5 @@ machine = record {
   threads = first thread_decl 8;
   pages = first page_kind 40;
   trans = first trans_decl 80;
+  locked = first is_locked 40;
 }

@@ -1,8 +1,8 @@
 ghost use Rattle.std.specs.Prelude.{◌≡◌, ◌<◌, IfOk};
-ghost use Rattle.hwp_script.specs.Machine.{first, is_kernel, machine, page_kind, thread_decl, trans_decl};
+ghost use Rattle.hwp_script.specs.Machine.{first, is_kernel, is_locked, machine, page_kind, thread_decl, trans_decl};
 
 use hwp_script_read::{
-    Cpu, FileNo, Layout, List, OutOfMemory, Page, PageKind, Proc, ThreadDecl, TransDecl,
+    Cpu, FileNo, Layout, List, OutOfMemory, Page, PageKind, Proc, ThreadDecl, TransDecl, Version,
 };
 use std::alloc::Global;
 
@@ -11,6 +11,7 @@ pub(crate) fn machine(alloc: Global) -> Result<Layout, OutOfMemory>
     ensures { IfOk result (λ layout. layout ≡ machine) }
 {
     Ok(Layout {
+        version: Version::One,
         cpus: 4,
         frames: 256,
         kernel: kernel(alloc)?,
@@ -21,6 +22,7 @@ pub(crate) fn machine(alloc: Global) -> Result<Layout, OutOfMemory>
         threads: threads(alloc)?,
         pages: pages(alloc)?,
         trans: translations(alloc)?,
+        locked: locked(alloc)?,
     })
 }
 
@@ -71,6 +73,17 @@ fn kind_of(page: u8) -> PageKind
             fill: u64::from(page),
         }
     }
+}
+
+/// No page is locked.
+fn locked(alloc: Global) -> Result<List<bool>, OutOfMemory>
+    ensures { IfOk result (λ locked. locked ≡ first is_locked 40) }
+{
+    let mut locked = List::new(alloc);
+    for _page in 0..40u8 {
+        locked.push(false)?;
+    }
+    Ok(locked)
 }
 
 fn translations(alloc: Global) -> Result<List<TransDecl>, OutOfMemory>

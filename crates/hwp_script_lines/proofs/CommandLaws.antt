@@ -5,7 +5,9 @@ use Rattle.std.specs.Str.Parse.{digits_value}
 use Rattle.std.proofs.lemmas.Fmt.{decimal_is_IsNumeral}
 use Rattle.std.proofs.lemmas.List.{get_or-map, length-map}
 use Rattle.std.proofs.lemmas.List.Elements.{All-from_recursion, All-same, All-get_or}
-use Rattle.hwp_geom.specs.Limits.{line_limit, frame_limit, file_limit, thread_limit, page_limit, translation_limit}
+use Rattle.hwp_geom.specs.Limits.{number, line_limit, frame_limit, file_limit, thread_limit, page_limit, translation_limit}
+use Rattle.hwp_geom.specs.declared.Version.{Version}
+use Rattle.hwp_geom.specs.declared.Version.TheVariants as versions
 use Rattle.hwp_script_lines.specs.Numbers.{IsNumber, IsNumberWord, IsRegister}
 use Rattle.hwp_script_lines.specs.Grammar.{bit, command_word, CommandFits, AreCommandWords, IsCommand, IsCommandOver, HaveNumbers, HasShape, handler_text, thread_keyword}
 use Rattle.hwp_script_lines.specs.declared.command.Command.{Command}
@@ -28,7 +30,7 @@ register_is w n (inl h) = ap (λ v. digits_value 16 (drop 2 v)) h.0 ∙ sym h.1
 register_is w n (inr h) = ap (λ v. digits_value 16 (drop 2 v)) h.same ∙ sym h.value
 
 -- a number below one of the limits
-pub low : (n limit : ℕ) → n < limit → limit ≤ 512 → n < 2 ^ 64
+pub low : (n limit : ℕ) → n < limit → limit ≤ 2 ^ 16 → n < 2 ^ 64
 low n limit h k = omega arith
 
 bit_found : (b : Bool) (n : ℕ) → n ≡ bit b → (n == 1) ≡ b
@@ -38,6 +40,10 @@ bit_found false n e = rw e refl
 pub bit_low : (b : Bool) → bit b < 2 ^ 64
 bit_low true = omega arith
 bit_low false = omega arith
+
+pub version_low : (v : Version) → number v < 2 ^ 64
+version_low versions.One = omega arith
+version_low versions.Two = omega arith
 
 -- the command of a first word and the words behind it
 abbrev pub command_at : CommandWord → List (List ℕ) → Command
@@ -50,6 +56,7 @@ command_at words.Drop ws = commands.Drop (record { 0 = value ws 0 })
 command_at words.Sync ws = commands.Sync (record { 0 = value ws 0 })
 command_at words.Out ws = commands.Out (record { 0 = value ws 0 })
 command_at words.Fsync ws = commands.Fsync (record { 0 = value ws 0 })
+command_at words.Open ws = commands.Open (record { 0 = value ws 0 })
 command_at words.Bad ws = commands.Bad (record { 0 = value ws 0 }) (value ws 1)
 command_at words.Weak ws = commands.Weak (record { 0 = value ws 0 }) (value ws 1)
 command_at words.Scrub ws = commands.Scrub (record { 0 = value ws 0 }) (record { 0 = value ws 1 })
@@ -95,6 +102,8 @@ command_found ws (commands.Sync q) h e =
 command_found ws (commands.Out q) h e =
     rw (value_is ws 0 q.0 (low q.0 page_limit h (omega arith)) (ap (λ us. get_or us 0 []) e)) refl
 command_found ws (commands.Fsync n) h e =
+    rw (value_is ws 0 n.0 (low n.0 file_limit h (omega arith)) (ap (λ us. get_or us 0 []) e)) refl
+command_found ws (commands.Open n) h e =
     rw (value_is ws 0 n.0 (low n.0 file_limit h (omega arith)) (ap (λ us. get_or us 0 []) e)) refl
 command_found ws (commands.Inject f) h e =
     rw (value_is ws 0 f.0 (low f.0 frame_limit h (omega arith)) (ap (λ us. get_or us 0 []) e)) refl
@@ -230,6 +239,7 @@ no_user ws m n p h out (commands.Drop q) j = absurd (cc j.kind)
 no_user ws m n p h out (commands.Sync q) j = absurd (cc j.kind)
 no_user ws m n p h out (commands.Out q) j = absurd (cc j.kind)
 no_user ws m n p h out (commands.Fsync f) j = absurd (cc j.kind)
+no_user ws m n p h out (commands.Open f) j = absurd (cc j.kind)
 no_user ws m n p h out (commands.Prctl t args) j = absurd (cc j.kind)
 no_user ws m n p h out (commands.Bad f l) j = absurd (cc j.kind)
 no_user ws m n p h out (commands.Weak f l) j = absurd (cc j.kind)
@@ -257,6 +267,7 @@ no_kernel ws m n h out (commands.Drop q) j = absurd (cc j.kind)
 no_kernel ws m n h out (commands.Sync q) j = absurd (cc j.kind)
 no_kernel ws m n h out (commands.Out q) j = absurd (cc j.kind)
 no_kernel ws m n h out (commands.Fsync f) j = absurd (cc j.kind)
+no_kernel ws m n h out (commands.Open f) j = absurd (cc j.kind)
 no_kernel ws m n h out (commands.Prctl t args) j = absurd (cc j.kind)
 no_kernel ws m n h out (commands.Bad f l) j = absurd (cc j.kind)
 no_kernel ws m n h out (commands.Weak f l) j = absurd (cc j.kind)

@@ -62,10 +62,10 @@ same_word e = ap word_of e
 no_line : (w : CommandWord) (ws : List (List ℕ)) → ((o : Command) → IsCommand w ws o → ⊥) → (f : ScriptLine) → IsSentence (keywords.Command w) ws f → ⊥
 no_line w ws none (forms.Command o) h = none o (record { kind = same_word h.kind; fits = h.fits; same = h.same })
 no_line w ws none (forms.Schedule ts) h = absurd (cc h.kind)
-no_line w ws none forms.Header h = absurd (cc h.kind)
+no_line w ws none (forms.Header v) h = absurd (cc h.kind)
 no_line w ws none (forms.Trans m n p) h = absurd (cc h.kind)
 no_line w ws none (forms.Thread m n p b) h = absurd (cc h.kind)
-no_line w ws none (forms.Page q b) h = absurd (cc h.kind)
+no_line w ws none (forms.Page q b l) h = absurd (cc h.kind)
 no_line w ws none forms.End h = absurd (cc h.kind)
 no_line w ws none (forms.Cpus n) h = absurd (cc h.kind)
 no_line w ws none (forms.Frames n) h = absurd (cc h.kind)

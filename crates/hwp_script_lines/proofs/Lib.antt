@@ -4,6 +4,7 @@ pub mod Listed
 pub mod HexLaws
 pub mod CommandLaws
 pub mod NumberLaws
+pub mod PageLaws
 pub mod KeywordLaws
 pub mod TurnLaws
 pub mod ShortTurns

@@ -11,7 +11,7 @@ use Rattle.hwp_script_lines.specs.declared.script_line.Numbered.{Numbered}
 use Rattle.hwp_script_lines.proofs.PairsLaws.{Pairs-push, Pairs-unique, take-now}
 use Rattle.hwp_script_lines.specs.declared.script_line.LineRead.TheVariants as reads
 use Rattle.hwp_script_lines.proofs.LineUnique.{form_unique}
-use Rattle.hwp_script_lines.proofs.Shapes.{bad_form, bad_over, whole}
+use Rattle.hwp_script_lines.proofs.Shapes.{bad_form, bad_over, bad_once, over_once, whole}
 
 -- a text has at most one piece more than bytes
 pub length-pieces : (bytes : List ℕ) → length (pieces bytes) ≤ length bytes + 1
@@ -69,20 +69,20 @@ lines-all bytes ps i lines e h l =
 pub read_unique : (ws : List (List ℕ)) (a b : LineRead) → IsRead ws a → IsRead ws b → a ≡ b
 read_unique ws (reads.ScriptLine f) (reads.ScriptLine g) h k = ap reads.ScriptLine (form_unique ws f g h k)
 read_unique ws (reads.ScriptLine f) reads.Unknown h k = absurd (k (whole ws f h).shaped)
-read_unique ws (reads.ScriptLine f) reads.BadNumber h k = absurd (bad_form ws f h k)
-read_unique ws (reads.ScriptLine f) reads.OverLimit h k = absurd (k.none f h)
+read_unique ws (reads.ScriptLine f) (reads.BadNumber n) h k = absurd (bad_form ws n f h k)
+read_unique ws (reads.ScriptLine f) (reads.OverLimit n) h k = absurd (k.none f h)
 read_unique ws reads.Unknown (reads.ScriptLine g) h k = absurd (h (whole ws g k).shaped)
 read_unique ws reads.Unknown reads.Unknown h k = refl
-read_unique ws reads.Unknown reads.BadNumber h k = absurd (h k.shaped)
-read_unique ws reads.Unknown reads.OverLimit h k = absurd (h k.shaped)
-read_unique ws reads.BadNumber (reads.ScriptLine g) h k = absurd (bad_form ws g k h)
-read_unique ws reads.BadNumber reads.Unknown h k = absurd (k h.shaped)
-read_unique ws reads.BadNumber reads.BadNumber h k = refl
-read_unique ws reads.BadNumber reads.OverLimit h k = absurd (bad_over ws h k)
-read_unique ws reads.OverLimit (reads.ScriptLine g) h k = absurd (h.none g k)
-read_unique ws reads.OverLimit reads.Unknown h k = absurd (k h.shaped)
-read_unique ws reads.OverLimit reads.BadNumber h k = absurd (bad_over ws k h)
-read_unique ws reads.OverLimit reads.OverLimit h k = refl
+read_unique ws reads.Unknown (reads.BadNumber n) h k = absurd (h k.shaped)
+read_unique ws reads.Unknown (reads.OverLimit n) h k = absurd (h k.shaped)
+read_unique ws (reads.BadNumber m) (reads.ScriptLine g) h k = absurd (bad_form ws m g k h)
+read_unique ws (reads.BadNumber m) reads.Unknown h k = absurd (k h.shaped)
+read_unique ws (reads.BadNumber m) (reads.BadNumber n) h k = ap reads.BadNumber (bad_once ws m n h k)
+read_unique ws (reads.BadNumber m) (reads.OverLimit n) h k = absurd (bad_over ws m n h k)
+read_unique ws (reads.OverLimit m) (reads.ScriptLine g) h k = absurd (h.none g k)
+read_unique ws (reads.OverLimit m) reads.Unknown h k = absurd (k h.shaped)
+read_unique ws (reads.OverLimit m) (reads.BadNumber n) h k = absurd (bad_over ws n m k h)
+read_unique ws (reads.OverLimit m) (reads.OverLimit n) h k = ap reads.OverLimit (over_once ws m n h k)
 
 abbrev numbered_made : ℕ → LineRead → Numbered
 numbered_made n read = record { line = n; read = read }

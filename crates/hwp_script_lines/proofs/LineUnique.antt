@@ -2,13 +2,16 @@
 use Rattle.std.proofs.Common.{ℕ, ◌≡◌, ◌<◌, ◌≤◌, ◌^◌, ◌==◌, cond, Bool, true, false, List, [], ◌∷◌, length, get_or, decimal, refl, sym, ap, ◌∙◌, arith}
 use Rattle.std.proofs.lemmas.Fmt.{decimal_injective}
 use Rattle.std.proofs.lemmas.List.{append_cancel_right}
-use Rattle.hwp_geom.specs.Limits.{cpu_limit}
+use Rattle.hwp_geom.specs.Limits.{number, cpu_limit}
+use Rattle.hwp_geom.specs.declared.Version.{Version}
+use Rattle.hwp_geom.specs.declared.Version.TheVariants as versions
 use Rattle.hwp_geom.specs.Pairs.{Pairs}
 use Rattle.hwp_geom.specs.declared.Kind.{Kind}
 use Rattle.hwp_geom.specs.declared.Kind.TheVariants as kinds
 use Rattle.hwp_script_lines.specs.Kinds.{kind_text}
 use Rattle.hwp_script_lines.specs.Grammar.{keyword, handler_text, Fits, AreRestWords, IsTurn, AreTurnOver, HaveTurnShape, pieces_of, IsSentence, IsForm}
 use Rattle.hwp_script_lines.specs.declared.script_line.ScriptLine.{ScriptLine}
+use Rattle.hwp_script_lines.specs.declared.script_line.Backing.{Backing}
 use Rattle.hwp_script_lines.specs.declared.command.Go.{Go}
 use Rattle.hwp_script_lines.specs.declared.command.Until.{Until}
 use Rattle.hwp_script_lines.specs.declared.keywords.Keyword.{Keyword}
@@ -16,7 +19,7 @@ use Rattle.hwp_script_lines.specs.declared.script_line.ScriptLine.TheVariants as
 use Rattle.hwp_script_lines.specs.declared.script_line.Backing.TheVariants as backings
 use Rattle.hwp_script_lines.specs.declared.command.Until.TheVariants as untils
 use Rattle.hwp_script_lines.specs.declared.keywords.Keyword.TheVariants as keywords
-use Rattle.hwp_script_lines.proofs.CommandLaws.{value, value_is, command_at, command_found}
+use Rattle.hwp_script_lines.proofs.CommandLaws.{version_low, value, value_is, command_at, command_found}
 use Rattle.hwp_script_lines.proofs.Listed.{all_kinds}
 use Rattle.hwp_script_lines.proofs.PairsLaws.{Pairs-unique}
 use Rattle.hwp_script_lines.proofs.SentenceLaws.{text_number, sentence_from_form}
@@ -103,15 +106,22 @@ over_turn pieces c u h e out shape = record {
       let same = (until_unique c turn.cpu.0 u turn.until h (below_cpus turn.cpu.0 k.fits) (sym e ∙ k.same)).0 in omega (arith, same, k.fits, out);
 }
 
+-- what stands behind a page of which so many words say it, and whether it is locked
+backing_at : List (List ℕ) → ℕ → Backing
+backing_at ws count = cond (count == 2) backings.Anon (cond (count == 3) backings.Anon (backings.File (value ws 2) (value ws 4)))
+
+locked_at : ℕ → Bool
+locked_at count = cond (count == 3) true (count == 6)
+
 -- the line of a keyword and the words behind it, where these are the words of a schedule
 form_at : List Go → Keyword → List (List ℕ) → ScriptLine
-form_at turns keywords.Hwp ws = forms.Header
+form_at turns keywords.Hwp ws = forms.Header (cond (value ws 0 == 1) versions.One versions.Two)
 form_at turns keywords.End ws = forms.End
 form_at turns keywords.Schedule ws = forms.Schedule turns
 form_at turns (keywords.Command w) ws = forms.Command (command_at w ws)
 form_at turns keywords.Trans ws = forms.Trans (value ws 0) (value ws 1) (value ws 2)
 form_at turns keywords.Thread ws = forms.Thread (value ws 0) (value ws 1) (value ws 2) (length (get_or ws 3 []) == 7)
-form_at turns keywords.Page ws = cond (length ws == 2) (forms.Page (value ws 0) backings.Anon) (forms.Page (value ws 0) (backings.File (value ws 2) (value ws 4)))
+form_at turns keywords.Page ws = forms.Page (value ws 0) (backing_at ws (length ws)) (locked_at (length ws))
 form_at turns keywords.Cpus ws = forms.Cpus (value ws 0)
 form_at turns keywords.Frames ws = forms.Frames (value ws 0)
 form_at turns keywords.Kernel ws = forms.Kernel (value ws 0)
@@ -130,10 +140,25 @@ turns_of : ScriptLine → List Go
 turns_of (forms.Schedule turns) = turns
 turns_of f = []
 
+version_found : (v : Version) → cond (number v == 1) versions.One versions.Two ≡ v
+version_found versions.One = refl
+version_found versions.Two = refl
+
+file_found : (ws : List (List ℕ)) (n x : ℕ) → value ws 2 ≡ n → value ws 4 ≡ x → backings.File (value ws 2) (value ws 4) ≡ backings.File n x
+file_found ws n x a b = cc (a, b)
+
+page_found : (ws : List (List ℕ)) (count q : ℕ) (b : Backing) (locked : Bool) → length ws ≡ count → value ws 0 ≡ q → backing_at ws count ≡ b → locked_at count ≡ locked
+    → forms.Page (value ws 0) (backing_at ws (length ws)) (locked_at (length ws)) ≡ forms.Page q b locked
+page_found ws count q b locked many number behind shut =
+    ap (λ k. forms.Page (value ws 0) (backing_at ws k) (locked_at k)) many
+    ∙ ap (λ k. forms.Page k (backing_at ws count) (locked_at count)) number
+    ∙ ap (λ k. forms.Page q k (locked_at count)) behind
+    ∙ ap (λ k. forms.Page q b k) shut
+
 form_found : (turns : List Go) (ws : List (List ℕ)) (f : ScriptLine) → (keyword f ≡ keywords.Schedule → turns ≡ turns_of f) → Fits f → AreRestWords ws f
     → form_at turns (keyword f) ws ≡ f
-unfolding form_at turns_of
-form_found turns ws forms.Header one h e = refl
+unfolding form_at turns_of backing_at locked_at
+form_found turns ws (forms.Header v) one h e = ap forms.Header (ap (λ n. cond (n == 1) versions.One versions.Two) (value_is ws 0 (number v) (version_low v) (ap (λ us. get_or us 0 []) e)) ∙ version_found v)
 form_found turns ws forms.End one h e = refl
 form_found turns ws (forms.Schedule ts) one h e = ap forms.Schedule (one refl)
 form_found turns ws (forms.Command o) one h e = ap forms.Command (command_found ws o h e)
@@ -141,12 +166,16 @@ form_found turns ws (forms.Trans m n p) one h e = cc (value_is ws 0 m h.0 (ap (�
 form_found turns ws (forms.Thread m n p b) one h e =
     let last : (length (get_or ws 3 []) == 7) ≡ b = ap (λ us. length (get_or us 3 []) == 7) e ∙ handler_found b in
     cc (value_is ws 0 m h.0 (ap (λ us. get_or us 0 []) e), value_is ws 1 n h.1 (ap (λ us. get_or us 1 []) e), value_is ws 2 p h.2 (ap (λ us. get_or us 2 []) e), last)
-form_found turns ws (forms.Page q backings.Anon) one h e =
-    ap (λ k. cond (k == 2) (forms.Page (value ws 0) backings.Anon) (forms.Page (value ws 0) (backings.File (value ws 2) (value ws 4)))) (ap length e)
-    ∙ ap (λ k. forms.Page k backings.Anon) (value_is ws 0 q h (ap (λ us. get_or us 0 []) e))
-form_found turns ws (forms.Page q (backings.File n x)) one h e =
-    ap (λ k. cond (k == 2) (forms.Page (value ws 0) backings.Anon) (forms.Page (value ws 0) (backings.File (value ws 2) (value ws 4)))) (ap length e)
-    ∙ cc (value_is ws 0 q h.0 (ap (λ us. get_or us 0 []) e), value_is ws 2 n h.1 (ap (λ us. get_or us 2 []) e), value_is ws 4 x h.2 (ap (λ us. get_or us 4 []) e))
+form_found turns ws (forms.Page q backings.Anon false) one h e =
+    page_found ws 2 q backings.Anon false (ap length e) (value_is ws 0 q h (ap (λ us. get_or us 0 []) e)) refl refl
+form_found turns ws (forms.Page q backings.Anon true) one h e =
+    page_found ws 3 q backings.Anon true (ap length e) (value_is ws 0 q h (ap (λ us. get_or us 0 []) e)) refl refl
+form_found turns ws (forms.Page q (backings.File n x) false) one h e =
+    page_found ws 5 q (backings.File n x) false (ap length e) (value_is ws 0 q h.0 (ap (λ us. get_or us 0 []) e))
+    (file_found ws n x (value_is ws 2 n h.1 (ap (λ us. get_or us 2 []) e)) (value_is ws 4 x h.2 (ap (λ us. get_or us 4 []) e))) refl
+form_found turns ws (forms.Page q (backings.File n x) true) one h e =
+    page_found ws 6 q (backings.File n x) true (ap length e) (value_is ws 0 q h.0 (ap (λ us. get_or us 0 []) e))
+    (file_found ws n x (value_is ws 2 n h.1 (ap (λ us. get_or us 2 []) e)) (value_is ws 4 x h.2 (ap (λ us. get_or us 4 []) e))) refl
 form_found turns ws (forms.Cpus n) one h e = ap forms.Cpus (value_is ws 0 n h (ap (λ us. get_or us 0 []) e))
 form_found turns ws (forms.Frames n) one h e = ap forms.Frames (value_is ws 0 n h (ap (λ us. get_or us 0 []) e))
 form_found turns ws (forms.Kernel n) one h e = ap forms.Kernel (value_is ws 0 n h (ap (λ us. get_or us 0 []) e))
@@ -160,11 +189,11 @@ turns_unique : (ws : List (List ℕ)) (turns : List Go) (g : ScriptLine) → Pai
     → turns ≡ turns_of g
 unfolding turns_of
 turns_unique ws turns (forms.Schedule ts) h k e = Pairs-unique IsTurn turn_unique ws turns ts h k
-turns_unique ws turns forms.Header h k e = absurd (cc e)
+turns_unique ws turns (forms.Header v) h k e = absurd (cc e)
 turns_unique ws turns (forms.Command o) h k e = absurd (cc e)
 turns_unique ws turns (forms.Trans m n p) h k e = absurd (cc e)
 turns_unique ws turns (forms.Thread m n p b) h k e = absurd (cc e)
-turns_unique ws turns (forms.Page q b) h k e = absurd (cc e)
+turns_unique ws turns (forms.Page q b l) h k e = absurd (cc e)
 turns_unique ws turns forms.End h k e = absurd (cc e)
 turns_unique ws turns (forms.Cpus n) h k e = absurd (cc e)
 turns_unique ws turns (forms.Frames n) h k e = absurd (cc e)
@@ -180,11 +209,11 @@ turns_agree : (ws : List (List ℕ)) (f g : ScriptLine) → keyword f ≡ keywor
     → turns_of f ≡ turns_of g
 unfolding turns_of
 turns_agree ws (forms.Schedule ts) g same h k e = turns_unique ws ts g h k e
-turns_agree ws forms.Header g same h k e = absurd (cc (same ∙ e))
+turns_agree ws (forms.Header v) g same h k e = absurd (cc (same ∙ e))
 turns_agree ws (forms.Command o) g same h k e = absurd (cc (same ∙ e))
 turns_agree ws (forms.Trans m n p) g same h k e = absurd (cc (same ∙ e))
 turns_agree ws (forms.Thread m n p b) g same h k e = absurd (cc (same ∙ e))
-turns_agree ws (forms.Page q b) g same h k e = absurd (cc (same ∙ e))
+turns_agree ws (forms.Page q b l) g same h k e = absurd (cc (same ∙ e))
 turns_agree ws forms.End g same h k e = absurd (cc (same ∙ e))
 turns_agree ws (forms.Cpus n) g same h k e = absurd (cc (same ∙ e))
 turns_agree ws (forms.Frames n) g same h k e = absurd (cc (same ∙ e))

@@ -59,10 +59,10 @@ kind_listed kinds.ReportLost = (35, omega arith, refl)
 
 abbrev pub all_words : List CommandWord
 all_words =
-    words.Load ∷ words.Fetch ∷ words.KLoad ∷ words.Store ∷ words.Free ∷ words.Drop ∷ words.Sync ∷ words.Out ∷ words.Fsync ∷ words.Prctl ∷
+    words.Load ∷ words.Fetch ∷ words.KLoad ∷ words.Store ∷ words.Free ∷ words.Drop ∷ words.Sync ∷ words.Out ∷ words.Fsync ∷ words.Open ∷ words.Prctl ∷
     words.Bad ∷ words.Weak ∷ words.Scrub ∷ words.Log ∷ words.Raise ∷ words.Inject ∷ words.Soft ∷ words.Unpoison ∷ []
 
-pub word_listed : (w : CommandWord) → (i : ℕ) × (i < 18) × (get_or all_words i words.Load ≡ w)
+pub word_listed : (w : CommandWord) → (i : ℕ) × (i < 19) × (get_or all_words i words.Load ≡ w)
 word_listed words.Load = (0, omega arith, refl)
 word_listed words.Fetch = (1, omega arith, refl)
 word_listed words.KLoad = (2, omega arith, refl)
@@ -72,15 +72,16 @@ word_listed words.Drop = (5, omega arith, refl)
 word_listed words.Sync = (6, omega arith, refl)
 word_listed words.Out = (7, omega arith, refl)
 word_listed words.Fsync = (8, omega arith, refl)
-word_listed words.Prctl = (9, omega arith, refl)
-word_listed words.Bad = (10, omega arith, refl)
-word_listed words.Weak = (11, omega arith, refl)
-word_listed words.Scrub = (12, omega arith, refl)
-word_listed words.Log = (13, omega arith, refl)
-word_listed words.Raise = (14, omega arith, refl)
-word_listed words.Inject = (15, omega arith, refl)
-word_listed words.Soft = (16, omega arith, refl)
-word_listed words.Unpoison = (17, omega arith, refl)
+word_listed words.Open = (9, omega arith, refl)
+word_listed words.Prctl = (10, omega arith, refl)
+word_listed words.Bad = (11, omega arith, refl)
+word_listed words.Weak = (12, omega arith, refl)
+word_listed words.Scrub = (13, omega arith, refl)
+word_listed words.Log = (14, omega arith, refl)
+word_listed words.Raise = (15, omega arith, refl)
+word_listed words.Inject = (16, omega arith, refl)
+word_listed words.Soft = (17, omega arith, refl)
+word_listed words.Unpoison = (18, omega arith, refl)
 
 abbrev pub all_heads : List Keyword
 all_heads =

@@ -64,6 +64,7 @@ plain words.Drop d ws ns = record { shape = λ h. h; long = λ h. h; numbers = �
 plain words.Sync d ws ns = record { shape = λ h. h; long = λ h. h; numbers = λ h. h; all = λ h. h; kind = refl; same = λ e. e; at = λ f. rw (f 0 (omega arith)) refl }
 plain words.Out d ws ns = record { shape = λ h. h; long = λ h. h; numbers = λ h. h; all = λ h. h; kind = refl; same = λ e. e; at = λ f. rw (f 0 (omega arith)) refl }
 plain words.Fsync d ws ns = record { shape = λ h. h; long = λ h. h; numbers = λ h. h; all = λ h. h; kind = refl; same = λ e. e; at = λ f. rw (f 0 (omega arith)) refl }
+plain words.Open d ws ns = record { shape = λ h. h; long = λ h. h; numbers = λ h. h; all = λ h. h; kind = refl; same = λ e. e; at = λ f. rw (f 0 (omega arith)) refl }
 plain words.Prctl d ws ns = record { shape = λ h. h; long = λ h. h; numbers = λ h. h; all = λ h. h; kind = refl; same = λ e. e; at = λ f. rw (f 0 (omega arith), f 1 (omega arith), f 2 (omega arith), f 3 (omega arith), f 4 (omega arith), f 5 (omega arith)) refl }
 plain words.Bad d ws ns = record { shape = λ h. h; long = λ h. h; numbers = λ h. h; all = λ h. h; kind = refl; same = λ e. e; at = λ f. rw (f 0 (omega arith), f 1 (omega arith)) refl }
 plain words.Weak d ws ns = record { shape = λ h. h; long = λ h. h; numbers = λ h. h; all = λ h. h; kind = refl; same = λ e. e; at = λ f. rw (f 0 (omega arith), f 1 (omega arith)) refl }

@@ -1,8 +1,8 @@
 -- A line has one first word, and what the first word and the others say of the line.
-use Rattle.std.proofs.Common.{ℕ, ◌≡◌, ◌<◌, ◌+◌, ◌-◌, ◌*◌, ◌==◌, ◌++◌, cond, List, [], ◌∷◌, length, get_or, take, drop, map, Bor, refl, sym, ap, subst, ◌∙◌, arith}
+use Rattle.std.proofs.Common.{ℕ, ◌≡◌, ◌<◌, ◌+◌, ◌-◌, ◌*◌, ◌==◌, ◌++◌, cond, Bool, List, [], ◌∷◌, length, get_or, take, drop, map, Bor, refl, sym, ap, subst, ◌∙◌, arith}
 use Rattle.std.specs.Prelude.{All}
 use Rattle.std.proofs.lemmas.List.{take_all, length-drop}
-use Rattle.hwp_script_lines.specs.Grammar.{keyword_text, keyword, IsSentence, IsSentenceOver, IsForm, IsPrintable, IsUnknown, IsBadNumber, IsOverLimit, HasShape, HaveNumbers}
+use Rattle.hwp_script_lines.specs.Grammar.{is_newer, keyword_text, keyword, IsSentence, IsSentenceOver, IsForm, IsPrintable, IsUnknown, IsBadNumber, IsOverLimit, HasShape, HaveNumbers}
 use Rattle.hwp_script_lines.specs.declared.script_line.ScriptLine.{ScriptLine}
 use Rattle.hwp_script_lines.specs.declared.keywords.Keyword.{Keyword}
 use Rattle.hwp_script_lines.specs.declared.keywords.Keyword.TheVariants as keywords
@@ -47,6 +47,7 @@ keyword_found (keywords.Command words.Drop) = refl
 keyword_found (keywords.Command words.Sync) = refl
 keyword_found (keywords.Command words.Out) = refl
 keyword_found (keywords.Command words.Fsync) = refl
+keyword_found (keywords.Command words.Open) = refl
 keyword_found (keywords.Command words.Prctl) = refl
 keyword_found (keywords.Command words.Bad) = refl
 keyword_found (keywords.Command words.Weak) = refl
@@ -82,14 +83,15 @@ no_first ws d l none = λ h. none h.first (ap (λ vs. get_or vs 0 []) (sym (unco
 
 -- the words of a line, from those behind the first
 pub bad_from_sentence : (ws : List (List ℕ)) (k : Keyword) (rest : List (List ℕ)) → ws ≡ keyword_text k ∷ rest → All (All IsPrintable) ws
-    → HasShape k rest × (HaveNumbers k rest → ⊥) → IsBadNumber ws
-bad_from_sentence ws k rest e printable h =
-    record { shaped = record { printable = printable; first = k; rest = rest; same = e; shape = h.0 }; none = h.1 }
+    → HasShape k rest × (HaveNumbers k rest → ⊥) → (newer : Bool) → newer ≡ is_newer k (length rest) → IsBadNumber ws newer
+bad_from_sentence ws k rest e printable h newer is =
+    record { shaped = record { printable = printable; first = k; rest = rest; same = e; shape = h.0 }; version = is; none = h.1 }
 
 pub over_from_sentence : (ws : List (List ℕ)) (k : Keyword) (rest : List (List ℕ)) → ws ≡ keyword_text k ∷ rest → All (All IsPrintable) ws
-    → IsSentenceOver k rest → IsOverLimit ws
-over_from_sentence ws k rest e printable h = record {
+    → IsSentenceOver k rest → (newer : Bool) → newer ≡ is_newer k (length rest) → IsOverLimit ws newer
+over_from_sentence ws k rest e printable h newer is = record {
   shaped = record { printable = printable; first = k; rest = rest; same = e; shape = h.shaped };
+  version = is;
   numbers = h.numbers;
   none = λ f g. h.none f (sentence_from_form ws k rest f e g);
 }

@@ -7,16 +7,17 @@ use Rattle.std.specs.Str.Parse.{AllDigits}
 use Rattle.std.proofs.lemmas.Bool.{and_parts}
 use Rattle.std.proofs.lemmas.Bool.Decides.{nat_tests}
 use Rattle.std.proofs.lemmas.Fmt.{decimal_is_IsNumeral}
-use Rattle.std.proofs.lemmas.List.Elements.{All-nil, All-cons, All-append, All-from_recursion, All-same, All-weaker}
+use Rattle.std.proofs.lemmas.List.Elements.{All-nil, All-cons, All-push, All-append, All-from_recursion, All-same, All-weaker}
 use Rattle.std.proofs.lemmas.List.Splits.{join_with_byte-slice_split}
-use Rattle.hwp_geom.specs.Limits.{line_limit, frame_limit, file_limit, thread_limit, page_limit, translation_limit}
+use Rattle.hwp_geom.specs.Limits.{number, line_limit, frame_limit, file_limit, thread_limit, page_limit, translation_limit}
 use Rattle.hwp_geom.specs.Pairs.{Pairs}
 use Rattle.hwp_geom.specs.declared.Kind.{Kind}
 use Rattle.hwp_geom.specs.declared.Kind.TheVariants as kinds
 use Rattle.hwp_script_lines.specs.Kinds.{kind_text}
 use Rattle.hwp_script_lines.specs.Numbers.{IsNumberWord, IsRegister, IsRegisterWord}
-use Rattle.hwp_script_lines.specs.Grammar.{bit, keyword, keyword_text, command_word, command_text, rest_words, handler_text, Fits, CommandFits, AreRestWords, AreCommandWords, AreRegisters, IsTurn, IsTurnWord, HasTurnShape, pieces_of, IsForm, IsShaped, IsBadNumber, IsOverLimit, IsPrintable, HasShape, HasCommandShape, HasRaiseShape, HaveNumbers, HaveCommandNumbers}
+use Rattle.hwp_script_lines.specs.Grammar.{bit, page_words, is_newer, keyword, keyword_text, command_word, command_text, rest_words, handler_text, Fits, CommandFits, AreRestWords, AreCommandWords, AreRegisters, IsTurn, IsTurnWord, HasTurnShape, pieces_of, IsForm, IsShaped, IsBadNumber, IsOverLimit, IsPrintable, HasShape, HasCommandShape, HasRaiseShape, HaveNumbers, HaveCommandNumbers}
 use Rattle.hwp_script_lines.specs.declared.script_line.ScriptLine.{ScriptLine}
+use Rattle.hwp_script_lines.specs.declared.script_line.Backing.{Backing}
 use Rattle.hwp_script_lines.specs.declared.command.Command.{Command}
 use Rattle.hwp_script_lines.specs.declared.command.Go.{Go}
 use Rattle.hwp_script_lines.specs.declared.command.Until.{Until}
@@ -28,7 +29,7 @@ use Rattle.hwp_script_lines.specs.declared.script_line.Backing.TheVariants as ba
 use Rattle.hwp_script_lines.specs.declared.command.Until.TheVariants as untils
 use Rattle.hwp_script_lines.specs.declared.keywords.Keyword.TheVariants as keywords
 use Rattle.hwp_script_lines.specs.declared.keywords.CommandWord.TheVariants as words
-use Rattle.hwp_script_lines.proofs.CommandLaws.{bit_low, low, one, two, three, four, six}
+use Rattle.hwp_script_lines.proofs.CommandLaws.{bit_low, version_low, low, one, two, three, four, six}
 use Rattle.hwp_script_lines.proofs.SentenceLaws.{first_words}
 use Rattle.hwp_script_lines.proofs.TurnLaws.{turn_word, shape-turn}
 
@@ -81,6 +82,7 @@ printable-keyword (keywords.Command words.Drop) = plain (command_text words.Drop
 printable-keyword (keywords.Command words.Sync) = plain (command_text words.Sync) refl
 printable-keyword (keywords.Command words.Out) = plain (command_text words.Out) refl
 printable-keyword (keywords.Command words.Fsync) = plain (command_text words.Fsync) refl
+printable-keyword (keywords.Command words.Open) = plain (command_text words.Open) refl
 printable-keyword (keywords.Command words.Prctl) = plain (command_text words.Prctl) refl
 printable-keyword (keywords.Command words.Bad) = plain (command_text words.Bad) refl
 printable-keyword (keywords.Command words.Weak) = plain (command_text words.Weak) refl
@@ -193,6 +195,7 @@ command_printable words.Drop ws h shape = numbers_printable ws h
 command_printable words.Sync ws h shape = numbers_printable ws h
 command_printable words.Out ws h shape = numbers_printable ws h
 command_printable words.Fsync ws h shape = numbers_printable ws h
+command_printable words.Open ws h shape = numbers_printable ws h
 command_printable words.Prctl ws h shape = numbers_printable ws h
 command_printable words.Bad ws h shape = numbers_printable ws h
 command_printable words.Weak ws h shape = numbers_printable ws h
@@ -216,6 +219,7 @@ command_shaped ws (commands.Drop q) h e = (one ws q.0 (low q.0 page_limit h (ome
 command_shaped ws (commands.Sync q) h e = (one ws q.0 (low q.0 page_limit h (omega arith), e), ap length e)
 command_shaped ws (commands.Out q) h e = (one ws q.0 (low q.0 page_limit h (omega arith), e), ap length e)
 command_shaped ws (commands.Fsync n) h e = (one ws n.0 (low n.0 file_limit h (omega arith), e), ap length e)
+command_shaped ws (commands.Open n) h e = (one ws n.0 (low n.0 file_limit h (omega arith), e), ap length e)
 command_shaped ws (commands.Inject f) h e = (one ws f.0 (low f.0 frame_limit h (omega arith), e), ap length e)
 command_shaped ws (commands.Soft f) h e = (one ws f.0 (low f.0 frame_limit h (omega arith), e), ap length e)
 command_shaped ws (commands.Unpoison f) h e = (one ws f.0 (low f.0 frame_limit h (omega arith), e), ap length e)
@@ -241,10 +245,20 @@ record AreRest (k : Keyword) (ws : List (List ℕ)) : Type 0 where
 number_at : (ws : List (List ℕ)) (i n : ℕ) → n < 2 ^ 64 → get_or ws i [] ≡ decimal n → IsNumberWord (get_or ws i [])
 number_at ws i n h e = (n, record { fits = h; digits = e })
 
+-- the words of a page, and `locked` behind words, are printable
+page_printable : (q : ℕ) (b : Backing) → Fits (forms.Page q b false) → All (All IsPrintable) (page_words q b)
+page_printable q backings.Anon h = All-from_recursion (All IsPrintable) (page_words q backings.Anon) (printable-decimal q h, (plain (codes "anon") refl, tt))
+page_printable q (backings.File n x) h =
+    All-from_recursion (All IsPrintable) (page_words q (backings.File n x))
+    (printable-decimal q h.0, (plain (codes "file") refl, (printable-decimal n h.1, (plain (codes "fill") refl, (printable-decimal x h.2, tt)))))
+
+locked_printable : (ws : List (List ℕ)) → All (All IsPrintable) ws → All (All IsPrintable) (ws ++ codes "locked" ∷ [])
+locked_printable ws h = All-push (All IsPrintable) ws (codes "locked") h (plain (codes "locked") refl)
+
 form_rest : (ws : List (List ℕ)) (f : ScriptLine) → Fits f → AreRestWords ws f → AreRest (keyword f) ws
-form_rest ws forms.Header h e = record {
-  printable = same_printable ws (rest_words forms.Header) e (All-from_recursion (All IsPrintable) (rest_words forms.Header) (plain (codes "1") refl, tt));
-  shape = e;
+form_rest ws (forms.Header v) h e = record {
+  printable = same_printable ws (rest_words (forms.Header v)) e (All-from_recursion (All IsPrintable) (rest_words (forms.Header v)) (printable-decimal (number v) (version_low v), tt));
+  shape = (v, e);
   numbers = tt;
 }
 form_rest ws forms.End h e =
@@ -264,17 +278,27 @@ form_rest ws (forms.Thread m n p b) h e = record {
   shape = (ap length e, (b, ap (λ us. get_or us 3 []) e));
   numbers = three (take 3 ws) m n p (h.0, h.1, h.2, ap (take 3) e);
 }
-form_rest ws (forms.Page q backings.Anon) h e =
+form_rest ws (forms.Page q backings.Anon false) h e =
     let two : length ws ≡ 2 = ap length e in record {
-      printable = same_printable ws (rest_words (forms.Page q backings.Anon)) e (All-from_recursion (All IsPrintable) (rest_words (forms.Page q backings.Anon)) (printable-decimal q h, (plain (codes "anon") refl, tt)));
-      shape = inl (two, ap (λ us. get_or us 1 []) e);
-      numbers = (number_at ws 0 q h (ap (λ us. get_or us 0 []) e), λ five. absurd (omega (arith, two, five)));
+      printable = same_printable ws (page_words q backings.Anon) e (page_printable q backings.Anon h);
+      shape = inl (inl (two, ap (λ us. get_or us 1 []) e));
+      numbers = (number_at ws 0 q h (ap (λ us. get_or us 0 []) e), λ more. absurd (omega (arith, two, more)));
     }
-form_rest ws (forms.Page q (backings.File n x)) h e = record {
-  printable = same_printable ws (rest_words (forms.Page q (backings.File n x))) e (All-from_recursion (All IsPrintable) (rest_words (forms.Page q (backings.File n x)))
-      (printable-decimal q h.0, (plain (codes "file") refl, (printable-decimal n h.1, (plain (codes "fill") refl, (printable-decimal x h.2, tt))))));
-  shape = inr (ap length e, ap (λ us. get_or us 1 []) e, ap (λ us. get_or us 3 []) e);
-  numbers = (number_at ws 0 q h.0 (ap (λ us. get_or us 0 []) e), λ five. (number_at ws 2 n h.1 (ap (λ us. get_or us 2 []) e), number_at ws 4 x h.2 (ap (λ us. get_or us 4 []) e)));
+form_rest ws (forms.Page q backings.Anon true) h e =
+    let three : length ws ≡ 3 = ap length e in record {
+      printable = same_printable ws (page_words q backings.Anon ++ codes "locked" ∷ []) e (locked_printable (page_words q backings.Anon) (page_printable q backings.Anon h));
+      shape = inr (inl (three, ap (λ us. get_or us 1 []) e, ap (λ us. get_or us 2 []) e));
+      numbers = (number_at ws 0 q h (ap (λ us. get_or us 0 []) e), λ more. absurd (omega (arith, three, more)));
+    }
+form_rest ws (forms.Page q (backings.File n x) false) h e = record {
+  printable = same_printable ws (page_words q (backings.File n x)) e (page_printable q (backings.File n x) h);
+  shape = inl (inr (ap length e, ap (λ us. get_or us 1 []) e, ap (λ us. get_or us 3 []) e));
+  numbers = (number_at ws 0 q h.0 (ap (λ us. get_or us 0 []) e), λ more. (number_at ws 2 n h.1 (ap (λ us. get_or us 2 []) e), number_at ws 4 x h.2 (ap (λ us. get_or us 4 []) e)));
+}
+form_rest ws (forms.Page q (backings.File n x) true) h e = record {
+  printable = same_printable ws (page_words q (backings.File n x) ++ codes "locked" ∷ []) e (locked_printable (page_words q (backings.File n x)) (page_printable q (backings.File n x) h));
+  shape = inr (inr (ap length e, ap (λ us. get_or us 1 []) e, ap (λ us. get_or us 3 []) e, ap (λ us. get_or us 5 []) e));
+  numbers = (number_at ws 0 q h.0 (ap (λ us. get_or us 0 []) e), λ more. (number_at ws 2 n h.1 (ap (λ us. get_or us 2 []) e), number_at ws 4 x h.2 (ap (λ us. get_or us 4 []) e)));
 }
 form_rest ws (forms.Command c) h e =
     let both = command_shaped ws c h e in record { printable = command_printable (command_word c) ws both.0 both.1; shape = both.1; numbers = both.0 }
@@ -309,8 +333,20 @@ numbers_of ws h k numbers =
     let both = first_words k.first h.first ws k.rest h.rest k.same h.same in
     subst (λ us. HaveNumbers k.first us) both.1 (subst (λ j. HaveNumbers j h.rest) both.0 numbers)
 
-pub bad_form : (ws : List (List ℕ)) (f : ScriptLine) → IsForm ws f → IsBadNumber ws → ⊥
-bad_form ws f h k = let w = whole ws f h in k.none (numbers_of ws w.shaped k.shaped w.numbers)
+-- words of one shape have it in one version
+same_version : (ws : List (List ℕ)) (h k : IsShaped ws) → is_newer h.first (length h.rest) ≡ is_newer k.first (length k.rest)
+same_version ws h k =
+    let both = first_words k.first h.first ws k.rest h.rest k.same h.same in
+    ap (λ j. is_newer j (length h.rest)) both.0 ∙ ap (λ us. is_newer k.first (length us)) both.1
 
-pub bad_over : (ws : List (List ℕ)) → IsBadNumber ws → IsOverLimit ws → ⊥
-bad_over ws h k = h.none (numbers_of ws k.shaped h.shaped k.numbers)
+pub bad_once : (ws : List (List ℕ)) (m n : Bool) → IsBadNumber ws m → IsBadNumber ws n → m ≡ n
+bad_once ws m n h k = h.version ∙ same_version ws h.shaped k.shaped ∙ sym k.version
+
+pub over_once : (ws : List (List ℕ)) (m n : Bool) → IsOverLimit ws m → IsOverLimit ws n → m ≡ n
+over_once ws m n h k = h.version ∙ same_version ws h.shaped k.shaped ∙ sym k.version
+
+pub bad_form : (ws : List (List ℕ)) (newer : Bool) (f : ScriptLine) → IsForm ws f → IsBadNumber ws newer → ⊥
+bad_form ws newer f h k = let w = whole ws f h in k.none (numbers_of ws w.shaped k.shaped w.numbers)
+
+pub bad_over : (ws : List (List ℕ)) (m n : Bool) → IsBadNumber ws m → IsOverLimit ws n → ⊥
+bad_over ws m n h k = h.none (numbers_of ws k.shaped h.shaped k.numbers)

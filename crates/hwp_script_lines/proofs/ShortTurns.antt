@@ -4,7 +4,6 @@ use Rattle.std.specs.Fmt.{digits}
 use Rattle.std.proofs.lemmas.List.{take_all}
 use Rattle.hwp_geom.specs.declared.Kind.{Kind}
 use Rattle.hwp_geom.specs.declared.Kind.TheVariants as kinds
-use Rattle.hwp_geom.specs.Limits.{cpu_limit}
 use Rattle.hwp_script_lines.specs.Kinds.{kind_text}
 use Rattle.hwp_script_lines.specs.Grammar.{IsTurn, behind_number, pieces_of, turn_pieces}
 use Rattle.hwp_script_lines.specs.declared.command.Until.{Until}
@@ -55,7 +54,7 @@ record IsCut (d : ℕ) : Type 0 where
   dot : turn_pieces ((48 + d) ∷ codes ".") ≡ (decimal d ++ codes ".") ∷ []
   more : (rest : List ℕ) → turn_pieces ((48 + d) ∷ 64 ∷ rest) ≡ decimal d ∷ turn_pieces rest
 
-cut : (d : ℕ) → d < 8 → IsCut d
+cut : (d : ℕ) → d < 10 → IsCut d
 unfolding digits
 cut zero l = record { one = refl; dot = refl; more = λ rest. refl }
 cut (suc zero) l = record { one = refl; dot = refl; more = λ rest. refl }
@@ -65,22 +64,24 @@ cut (suc (suc (suc (suc zero)))) l = record { one = refl; dot = refl; more = λ 
 cut (suc (suc (suc (suc (suc zero))))) l = record { one = refl; dot = refl; more = λ rest. refl }
 cut (suc (suc (suc (suc (suc (suc zero)))))) l = record { one = refl; dot = refl; more = λ rest. refl }
 cut (suc (suc (suc (suc (suc (suc (suc zero))))))) l = record { one = refl; dot = refl; more = λ rest. refl }
-cut (suc (suc (suc (suc (suc (suc (suc (suc n)))))))) l = absurd (omega (arith, l))
+cut (suc (suc (suc (suc (suc (suc (suc (suc zero)))))))) l = record { one = refl; dot = refl; more = λ rest. refl }
+cut (suc (suc (suc (suc (suc (suc (suc (suc (suc zero))))))))) l = record { one = refl; dot = refl; more = λ rest. refl }
+cut (suc (suc (suc (suc (suc (suc (suc (suc (suc (suc n)))))))))) l = absurd (omega (arith, l))
 
-cut-at : (d : ℕ) → d < 8 → (u : Until) → turn_pieces ((48 + d) ∷ behind_number u) ≡ pieces_of d u
+cut-at : (d : ℕ) → d < 10 → (u : Until) → turn_pieces ((48 + d) ∷ behind_number u) ≡ pieces_of d u
 cut-at d l untils.One = (cut d l).one
 cut-at d l untils.Command = (cut d l).dot
 cut-at d l (untils.After k) = (cut d l).more (kind_text k) ∙ ap (λ (ps : List (List ℕ)). decimal d ∷ ps) (kind-whole k)
 
 -- a digit below the limit, and what stands behind the number of a word, are the word
-short-turn : (word rest : List ℕ) (digit d : ℕ) (u : Until) → word ≡ digit ∷ rest → (d < cpu_limit) × (digit ≡ 48 + d) → rest ≡ behind_number u
+short-turn : (word rest : List ℕ) (digit d : ℕ) (u : Until) → word ≡ digit ∷ rest → (d < 10) × (digit ≡ 48 + d) → rest ≡ behind_number u
     → IsTurn word (record { cpu = record { 0 = d }; until = u })
 short-turn word rest digit d u is low behind = record {
-  fits = low.0;
+  fits = let few : d < 10 = low.0 in omega (arith, few);
   same = ap turn_pieces (is ∙ ap (λ (b : ℕ). b ∷ rest) low.1 ∙ ap (λ (r : List ℕ). (48 + d) ∷ r) behind) ∙ cut-at d low.0 u;
 }
 
-pub short_turn : (word : List ℕ) (d : ℕ) (u : Until) → 1 ≤ length word → (d < cpu_limit) × (get_or word 0 0 ≡ 48 + d) → take (length word - 1) (drop 1 word) ≡ behind_number u
+pub short_turn : (word : List ℕ) (d : ℕ) (u : Until) → 1 ≤ length word → (d < 10) × (get_or word 0 0 ≡ 48 + d) → take (length word - 1) (drop 1 word) ≡ behind_number u
     → IsTurn word (record { cpu = record { 0 = d }; until = u })
 short_turn [] d u some low behind = absurd (omega (arith, some))
 short_turn (b ∷ rest) d u some low behind = short-turn (b ∷ rest) rest b d u refl low (sym (take_all (length (b ∷ rest) - 1) rest (omega arith)) ∙ behind)

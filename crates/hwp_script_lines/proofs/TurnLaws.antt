@@ -109,11 +109,11 @@ turns-shaped words i turns is_bad is_over h all =
 -- words that are no words of a schedule are no schedule
 no_schedule : (ws : List (List ℕ)) → ((ts : List Go) → Pairs IsTurn ws ts → ⊥) → (f : ScriptLine) → IsSentence schedule_keyword ws f → ⊥
 no_schedule ws none (forms.Schedule ts) h = none ts h.same
-no_schedule ws none forms.Header h = absurd (cc h.kind)
+no_schedule ws none (forms.Header v) h = absurd (cc h.kind)
 no_schedule ws none (forms.Command o) h = absurd (cc h.kind)
 no_schedule ws none (forms.Trans m n p) h = absurd (cc h.kind)
 no_schedule ws none (forms.Thread m n p b) h = absurd (cc h.kind)
-no_schedule ws none (forms.Page q b) h = absurd (cc h.kind)
+no_schedule ws none (forms.Page q b l) h = absurd (cc h.kind)
 no_schedule ws none forms.End h = absurd (cc h.kind)
 no_schedule ws none (forms.Cpus n) h = absurd (cc h.kind)
 no_schedule ws none (forms.Frames n) h = absurd (cc h.kind)

@@ -1,14 +1,16 @@
 -- The grammar of a line: the words of each form, and which lines are no form.
-use Rattle.std.specs.Prelude.{◌≡◌, ℕ, Bool, true, false, ◌^◌, ◌<◌, ◌≤◌, ◌==◌, ◌++◌, ◌⊎◌, List, [], ◌∷◌, length, get_or, take, drop, map, codes, decimal, All}
+use Rattle.std.specs.Prelude.{◌≡◌, ℕ, Bool, true, false, ◌^◌, ◌<◌, ◌≤◌, ◌==◌, ◌||◌, ◌++◌, ◌⊎◌, List, [], ◌∷◌, length, get_or, take, drop, map, codes, decimal, All}
 use Rattle.std.specs.List.{slice_split}
 use Rattle.hwp_geom.specs.declared.Kind.{Kind}
 use Rattle.hwp_geom.specs.declared.Thread.{Thread}
 use Rattle.hwp_geom.specs.declared.VSlot.{VSlot}
+use Rattle.hwp_geom.specs.declared.Version.{Version}
 use Rattle.hwp_geom.specs.Pairs.{Pairs}
-use Rattle.hwp_geom.specs.Limits.{line_limit, cpu_limit, frame_limit, file_limit, thread_limit, page_limit, translation_limit}
+use Rattle.hwp_geom.specs.Limits.{number, line_limit, cpu_limit, frame_limit, file_limit, thread_limit, page_limit, translation_limit}
 use Rattle.hwp_script_lines.specs.Numbers.{IsNumberWord, IsRegister, IsRegisterWord, register}
 use Rattle.hwp_script_lines.specs.Kinds.{kind_text}
 use Rattle.hwp_script_lines.specs.declared.script_line.ScriptLine.{ScriptLine}
+use Rattle.hwp_script_lines.specs.declared.script_line.Backing.{Backing}
 use Rattle.hwp_script_lines.specs.declared.command.Command.{Command}
 use Rattle.hwp_script_lines.specs.declared.command.Go.{Go}
 use Rattle.hwp_script_lines.specs.declared.command.Until.{Until}
@@ -32,6 +34,7 @@ command_text words.Drop = codes "drop"
 command_text words.Sync = codes "sync"
 command_text words.Out = codes "out"
 command_text words.Fsync = codes "fsync"
+command_text words.Open = codes "open"
 command_text words.Prctl = codes "prctl"
 command_text words.Bad = codes "bad"
 command_text words.Weak = codes "weak"
@@ -71,6 +74,7 @@ command_word (commands.Drop q) = words.Drop
 command_word (commands.Sync q) = words.Sync
 command_word (commands.Out q) = words.Out
 command_word (commands.Fsync n) = words.Fsync
+command_word (commands.Open n) = words.Open
 command_word (commands.Prctl t args) = words.Prctl
 command_word (commands.Bad f l) = words.Bad
 command_word (commands.Weak f l) = words.Weak
@@ -85,7 +89,7 @@ command_word (commands.Unpoison f) = words.Unpoison
 
 -- which first word a line has
 abbrev pub keyword : ScriptLine → Keyword
-keyword forms.Header = keywords.Hwp
+keyword (forms.Header v) = keywords.Hwp
 keyword (forms.Cpus n) = keywords.Cpus
 keyword (forms.Frames n) = keywords.Frames
 keyword (forms.Kernel f) = keywords.Kernel
@@ -94,7 +98,7 @@ keyword (forms.Early b) = keywords.Early
 keyword (forms.File n) = keywords.File
 keyword (forms.Proc p) = keywords.Proc
 keyword (forms.Thread t p c h) = keywords.Thread
-keyword (forms.Page q b) = keywords.Page
+keyword (forms.Page q b locked) = keywords.Page
 keyword (forms.Trans v p q) = keywords.Trans
 keyword (forms.Cpu c) = keywords.Cpu
 keyword (forms.Command o) = keywords.Command (command_word o)
@@ -171,6 +175,7 @@ command_words (commands.Drop q) = decimal q.0 ∷ []
 command_words (commands.Sync q) = decimal q.0 ∷ []
 command_words (commands.Out q) = decimal q.0 ∷ []
 command_words (commands.Fsync n) = decimal n.0 ∷ []
+command_words (commands.Open n) = decimal n.0 ∷ []
 command_words (commands.Prctl t args) = decimal t.0 ∷ decimal args.operation ∷ decimal args.arg2 ∷ decimal args.arg3 ∷ decimal args.arg4 ∷ decimal args.arg5 ∷ []
 command_words (commands.Bad f l) = decimal f.0 ∷ decimal l ∷ []
 command_words (commands.Weak f l) = decimal f.0 ∷ decimal l ∷ []
@@ -198,9 +203,19 @@ pub record AreTurnOver (pieces : List (List ℕ)) : Type 0 where
 abbrev pub IsTurnOver : List ℕ → Type 0
 IsTurnOver word = AreTurnOver (turn_pieces word)
 
+-- the words of a page that isn't locked: what stands behind it
+abbrev pub page_words : ℕ → Backing → List (List ℕ)
+page_words q backings.Anon = decimal q ∷ codes "anon" ∷ []
+page_words q (backings.File n x) = decimal q ∷ codes "file" ∷ decimal n ∷ codes "fill" ∷ decimal x ∷ []
+
+-- the last word of the line of a page, if the page is locked
+abbrev pub locked_words : Bool → List (List ℕ)
+locked_words true = codes "locked" ∷ []
+locked_words false = []
+
 -- the words of a line behind its first, as they are printed
 abbrev pub rest_words : ScriptLine → List (List ℕ)
-rest_words forms.Header = codes "1" ∷ []
+rest_words (forms.Header v) = decimal (number v) ∷ []
 rest_words (forms.Cpus n) = decimal n ∷ []
 rest_words (forms.Frames n) = decimal n ∷ []
 rest_words (forms.Kernel f) = decimal f ∷ []
@@ -209,8 +224,7 @@ rest_words (forms.Early b) = decimal b ∷ []
 rest_words (forms.File n) = decimal n ∷ []
 rest_words (forms.Proc p) = decimal p ∷ []
 rest_words (forms.Thread t p c h) = decimal t ∷ decimal p ∷ decimal c ∷ handler_text h ∷ []
-rest_words (forms.Page q backings.Anon) = decimal q ∷ codes "anon" ∷ []
-rest_words (forms.Page q (backings.File n x)) = decimal q ∷ codes "file" ∷ decimal n ∷ codes "fill" ∷ decimal x ∷ []
+rest_words (forms.Page q b locked) = page_words q b ++ locked_words locked
 rest_words (forms.Trans v p q) = decimal v ∷ decimal p ∷ decimal q ∷ []
 rest_words (forms.Cpu c) = decimal c ∷ []
 rest_words (forms.Command o) = command_words o
@@ -236,6 +250,7 @@ CommandFits (commands.Drop q) = q.0 < page_limit
 CommandFits (commands.Sync q) = q.0 < page_limit
 CommandFits (commands.Out q) = q.0 < page_limit
 CommandFits (commands.Fsync n) = n.0 < file_limit
+CommandFits (commands.Open n) = n.0 < file_limit
 CommandFits (commands.Prctl t args) = (t.0 < thread_limit) × (args.operation < 2 ^ 64) × (args.arg2 < 2 ^ 64) × (args.arg3 < 2 ^ 64) × (args.arg4 < 2 ^ 64) × (args.arg5 < 2 ^ 64)
 CommandFits (commands.Bad f l) = (f.0 < frame_limit) × (l < line_limit)
 CommandFits (commands.Weak f l) = (f.0 < frame_limit) × (l < line_limit)
@@ -250,7 +265,7 @@ CommandFits (commands.Unpoison f) = f.0 < frame_limit
 
 -- the numbers of a declaration are below 2 ^ 64, those of a command are within their ranges, and a schedule has a word
 abbrev pub Fits : ScriptLine → Type 0
-Fits forms.Header = Unit {0}
+Fits (forms.Header v) = Unit {0}
 Fits (forms.Cpus n) = n < 2 ^ 64
 Fits (forms.Frames n) = n < 2 ^ 64
 Fits (forms.Kernel f) = f < 2 ^ 64
@@ -259,8 +274,8 @@ Fits (forms.Early b) = b < 2 ^ 64
 Fits (forms.File n) = n < 2 ^ 64
 Fits (forms.Proc p) = p < 2 ^ 64
 Fits (forms.Thread t p c h) = (t < 2 ^ 64) × (p < 2 ^ 64) × (c < 2 ^ 64)
-Fits (forms.Page q backings.Anon) = q < 2 ^ 64
-Fits (forms.Page q (backings.File n x)) = (q < 2 ^ 64) × (n < 2 ^ 64) × (x < 2 ^ 64)
+Fits (forms.Page q backings.Anon locked) = q < 2 ^ 64
+Fits (forms.Page q (backings.File n x) locked) = (q < 2 ^ 64) × (n < 2 ^ 64) × (x < 2 ^ 64)
 Fits (forms.Trans v p q) = (v < 2 ^ 64) × (p < 2 ^ 64) × (q < 2 ^ 64)
 Fits (forms.Cpu c) = c < 2 ^ 64
 Fits (forms.Command c) = CommandFits c
@@ -323,6 +338,7 @@ HasCommandShape words.Drop ws = length ws ≡ 1
 HasCommandShape words.Sync ws = length ws ≡ 1
 HasCommandShape words.Out ws = length ws ≡ 1
 HasCommandShape words.Fsync ws = length ws ≡ 1
+HasCommandShape words.Open ws = length ws ≡ 1
 HasCommandShape words.Prctl ws = length ws ≡ 6
 HasCommandShape words.Bad ws = length ws ≡ 2
 HasCommandShape words.Weak ws = length ws ≡ 2
@@ -333,9 +349,19 @@ HasCommandShape words.Inject ws = length ws ≡ 1
 HasCommandShape words.Soft ws = length ws ≡ 1
 HasCommandShape words.Unpoison ws = length ws ≡ 1
 
+-- the fixed words of a page are in place: nothing stands behind it, or a file
+abbrev pub HasPageShape : List (List ℕ) → Type 0
+HasPageShape ws = ((length ws ≡ 2) × (get_or ws 1 [] ≡ codes "anon")) ⊎ ((length ws ≡ 5) × (get_or ws 1 [] ≡ codes "file") × (get_or ws 3 [] ≡ codes "fill"))
+
+-- so are those of a locked page, which has one word more
+abbrev pub HasLockedShape : List (List ℕ) → Type 0
+HasLockedShape ws =
+    ((length ws ≡ 3) × (get_or ws 1 [] ≡ codes "anon") × (get_or ws 2 [] ≡ codes "locked"))
+    ⊎ ((length ws ≡ 6) × (get_or ws 1 [] ≡ codes "file") × (get_or ws 3 [] ≡ codes "fill") × (get_or ws 5 [] ≡ codes "locked"))
+
 -- the words behind a keyword are as many as they must be, and the fixed words are in place
 abbrev pub HasShape : Keyword → List (List ℕ) → Type 0
-HasShape keywords.Hwp ws = ws ≡ codes "1" ∷ []
+HasShape keywords.Hwp ws = (v : Version) × (ws ≡ decimal (number v) ∷ [])
 HasShape keywords.Cpus ws = length ws ≡ 1
 HasShape keywords.Frames ws = length ws ≡ 1
 HasShape keywords.Kernel ws = length ws ≡ 1
@@ -344,7 +370,7 @@ HasShape keywords.Early ws = length ws ≡ 1
 HasShape keywords.File ws = length ws ≡ 1
 HasShape keywords.Proc ws = length ws ≡ 1
 HasShape keywords.Thread ws = (length ws ≡ 4) × ((handler : Bool) × (get_or ws 3 [] ≡ handler_text handler))
-HasShape keywords.Page ws = ((length ws ≡ 2) × (get_or ws 1 [] ≡ codes "anon")) ⊎ ((length ws ≡ 5) × (get_or ws 1 [] ≡ codes "file") × (get_or ws 3 [] ≡ codes "fill"))
+HasShape keywords.Page ws = HasPageShape ws ⊎ HasLockedShape ws
 HasShape keywords.Trans ws = length ws ≡ 3
 HasShape keywords.Cpu ws = length ws ≡ 1
 HasShape (keywords.Command w) ws = HasCommandShape w ws
@@ -368,7 +394,7 @@ pub record IsCommandOver (word : CommandWord) (ws : List (List ℕ)) : Type 0 wh
 abbrev pub HaveNumbers : Keyword → List (List ℕ) → Type 0
 HaveNumbers keywords.Hwp ws = Unit {0}
 HaveNumbers keywords.Thread ws = All IsNumberWord (take 3 ws)
-HaveNumbers keywords.Page ws = IsNumberWord (get_or ws 0 []) × (length ws ≡ 5 → IsNumberWord (get_or ws 2 []) × IsNumberWord (get_or ws 4 []))
+HaveNumbers keywords.Page ws = IsNumberWord (get_or ws 0 []) × (3 < length ws → IsNumberWord (get_or ws 2 []) × IsNumberWord (get_or ws 4 []))
 HaveNumbers (keywords.Command w) ws = HaveCommandNumbers w ws
 HaveNumbers keywords.Schedule ws = All IsTurnWord ws
 HaveNumbers keywords.End ws = Unit {0}
@@ -415,17 +441,32 @@ pub record IsShaped (ws : List (List ℕ)) : Type 0 where
   pub same : ws ≡ keyword_text first ∷ rest
   pub shape : HasShape first rest
 
+-- the first words of commands that version Two alone has
+abbrev pub is_newer_word : CommandWord → Bool
+is_newer_word words.Open = true
+is_newer_word w = false
+
+-- a keyword with so many words behind it has a form in version Two alone
+abbrev pub is_newer : Keyword → ℕ → Bool
+is_newer (keywords.Command w) count = is_newer_word w
+is_newer keywords.Page count = (count == 3) || (count == 6)
+is_newer k count = false
+
 -- no shape fits the words
 abbrev pub IsUnknown : List (List ℕ) → Type 0
 IsUnknown ws = IsShaped ws → ⊥
 
--- a shape fits the words, and in the place of a number, a register word or a schedule word stands what is none
-pub record IsBadNumber (ws : List (List ℕ)) : Type 0 where
+-- a shape fits the words, and in the place of a number, a register word or a schedule word stands what is none; `newer`
+-- says whether it is a shape of version Two alone
+pub record IsBadNumber (ws : List (List ℕ)) (newer : Bool) : Type 0 where
   pub shaped : IsShaped ws
+  pub version : newer ≡ is_newer shaped.first (length shaped.rest)
   pub none : HaveNumbers shaped.first shaped.rest → ⊥
 
--- all numbers stand in their places, and yet the words are no line: a number is outside its range
-pub record IsOverLimit (ws : List (List ℕ)) : Type 0 where
+-- all numbers stand in their places, and yet the words are no line: a number is outside its range; `newer` says whether
+-- their shape is one of version Two alone
+pub record IsOverLimit (ws : List (List ℕ)) (newer : Bool) : Type 0 where
   pub shaped : IsShaped ws
+  pub version : newer ≡ is_newer shaped.first (length shaped.rest)
   pub numbers : HaveNumbers shaped.first shaped.rest
   pub none : (f : ScriptLine) → IsForm ws f → ⊥

@@ -34,8 +34,8 @@ numbered_lines bytes = numbered_from 1 (pieces bytes)
 abbrev pub IsRead : List (List ℕ) → LineRead → Type 0
 IsRead ws (reads.ScriptLine f) = IsForm ws f
 IsRead ws reads.Unknown = IsUnknown ws
-IsRead ws reads.BadNumber = IsBadNumber ws
-IsRead ws reads.OverLimit = IsOverLimit ws
+IsRead ws (reads.BadNumber newer) = IsBadNumber ws newer
+IsRead ws (reads.OverLimit newer) = IsOverLimit ws newer
 
 -- a line has this number and is read as this
 pub record IsNumbered (line : ℕ × List (List ℕ)) (numbered : Numbered) : Type 0 where

@@ -1,8 +1,9 @@
 -- Why words are not what was to be read, the words of a command by their numbers, and the errors of each reader.
-use Rattle.std.specs.Prelude.{◌≡◌, ℕ, ◌<◌, Bool, true, false, List, [], length, get_or, All}
+use Rattle.std.specs.Prelude.{◌≡◌, ℕ, ◌<◌, ◌++◌, ◌⊎◌, Bool, true, false, List, [], ◌∷◌, length, get_or, codes, All}
 use Rattle.hwp_script_lines.specs.Numbers.{IsNumber}
-use Rattle.hwp_script_lines.specs.Grammar.{HasCommandShape, HaveCommandNumbers, IsCommandOver, HasShape, HaveNumbers, IsSentenceOver, HaveTurnShape, HaveTurnNumber, AreTurnOver, turn_pieces}
+use Rattle.hwp_script_lines.specs.Grammar.{Fits, page_words, page_keyword, HasPageShape, HasCommandShape, HaveCommandNumbers, IsCommandOver, HasShape, HaveNumbers, IsSentenceOver, HaveTurnShape, HaveTurnNumber, AreTurnOver, turn_pieces}
 use Rattle.hwp_script_lines.specs.declared.script_line.ScriptLine.{ScriptLine}
+use Rattle.hwp_script_lines.specs.declared.script_line.Backing.{Backing}
 use Rattle.hwp_script_lines.specs.declared.command.Command.{Command}
 use Rattle.hwp_script_lines.specs.declared.keywords.Keyword.{Keyword}
 use Rattle.hwp_script_lines.specs.declared.keywords.CommandWord.{CommandWord}
@@ -31,6 +32,20 @@ IsCommandMisfit word ws e = IsMisfit (HasCommandShape word ws) (HaveCommandNumbe
 -- what a misfit says of the words behind a keyword
 abbrev pub IsSentenceMisfit : Keyword → List (List ℕ) → Misfit → Type 0
 IsSentenceMisfit k ws e = IsMisfit (HasShape k ws) (HaveNumbers k ws) (IsSentenceOver k ws) e
+
+-- the words are those of a page that isn't locked, with its number and what stands behind it
+pub record ArePageWords (ws : List (List ℕ)) (page : ℕ × Backing) : Type 0 where
+  pub fits : Fits (forms.Page page.0 page.1 false)
+  pub same : ws ≡ page_words page.0 page.1
+
+-- what a misfit says of the words of a page that isn't locked
+abbrev pub IsPageMisfit : List (List ℕ) → Misfit → Type 0
+IsPageMisfit ws e = IsMisfit (HasPageShape ws) (HaveNumbers page_keyword ws) ⊥ e
+
+-- the words are two or five, and `locked` behind them
+pub record IsLockedFront (ws front : List (List ℕ)) : Type 0 where
+  pub same : ws ≡ front ++ codes "locked" ∷ []
+  pub count : (length front ≡ 2) ⊎ (length front ≡ 5)
 
 -- what a misfit says of the pieces of a word of a schedule
 abbrev pub AreTurnMisfit : List (List ℕ) → Misfit → Type 0
@@ -76,6 +91,7 @@ is_page_word words.Drop = true
 is_page_word words.Sync = true
 is_page_word words.Out = true
 is_page_word words.Fsync = true
+is_page_word words.Open = true
 is_page_word w = false
 
 -- the first words of commands about frames
@@ -99,6 +115,7 @@ command_with words.Drop ns = commands.Drop (record { 0 = get_or ns 0 0 })
 command_with words.Sync ns = commands.Sync (record { 0 = get_or ns 0 0 })
 command_with words.Out ns = commands.Out (record { 0 = get_or ns 0 0 })
 command_with words.Fsync ns = commands.Fsync (record { 0 = get_or ns 0 0 })
+command_with words.Open ns = commands.Open (record { 0 = get_or ns 0 0 })
 command_with words.Prctl ns = commands.Prctl (record { 0 = get_or ns 0 0 }) (record { operation = get_or ns 1 0; arg2 = get_or ns 2 0; arg3 = get_or ns 3 0; arg4 = get_or ns 4 0; arg5 = get_or ns 5 0 })
 command_with words.Bad ns = commands.Bad (record { 0 = get_or ns 0 0 }) (get_or ns 1 0)
 command_with words.Weak ns = commands.Weak (record { 0 = get_or ns 0 0 }) (get_or ns 1 0)

@@ -58,6 +58,10 @@ pub enum Command {
     Fsync {
         file: FileNo,
     },
+    /// Opens a file anew, as open(2) does: its processor has been told of the losses so far.
+    Open {
+        file: FileNo,
+    },
     /// A thread calls prctl(2), with PR_MCE_KILL or PR_MCE_KILL_GET where the numbers say so.
     Prctl {
         thread: Thread,

@@ -226,6 +226,10 @@ fn page_with(word: CommandWord, numbers: [u64; 6]) -> Option<Command>
             let file = file_of(numbers[0])?;
             Some(Command::Fsync { file })
         }
+        CommandWord::Open => {
+            let file = file_of(numbers[0])?;
+            Some(Command::Open { file })
+        }
         _ => unreachable!(),
     }
 }
@@ -277,7 +281,8 @@ fn command_with(word: CommandWord, numbers: [u64; 6]) -> Option<Command>
         | CommandWord::Drop
         | CommandWord::Sync
         | CommandWord::Out
-        | CommandWord::Fsync => page_with(word, numbers),
+        | CommandWord::Fsync
+        | CommandWord::Open => page_with(word, numbers),
         CommandWord::Prctl => {
             let [first, operation, arg2, arg3, arg4, arg5] = numbers;
             let thread = thread_of(first)?;

@@ -1,5 +1,5 @@
 ghost use Rattle.std.specs.Prelude.{◌≡◌, ◌≤◌, IfSome, IfNone};
-ghost use Rattle.hwp_script_lines.specs.Grammar.{keyword_text, command_text};
+ghost use Rattle.hwp_script_lines.specs.Grammar.{keyword_text, command_text, is_newer, is_newer_word};
 ghost use Rattle.hwp_script_lines.specs.Misfits.{number_count};
 ghost use Rattle.hwp_script_lines.specs.declared.keywords.Keyword.{Keyword};
 ghost use Rattle.hwp_script_lines.specs.declared.keywords.CommandWord.{CommandWord};
@@ -38,6 +38,7 @@ pub(crate) enum CommandWord {
     Sync,
     Out,
     Fsync,
+    Open,
     Prctl,
     Bad,
     Weak,
@@ -50,7 +51,7 @@ pub(crate) enum CommandWord {
 }
 
 /// The first words of all commands.
-const COMMAND_WORDS: [CommandWord; 18] = [
+const COMMAND_WORDS: [CommandWord; 19] = [
     CommandWord::Load,
     CommandWord::Fetch,
     CommandWord::KLoad,
@@ -60,6 +61,7 @@ const COMMAND_WORDS: [CommandWord; 18] = [
     CommandWord::Sync,
     CommandWord::Out,
     CommandWord::Fsync,
+    CommandWord::Open,
     CommandWord::Prctl,
     CommandWord::Bad,
     CommandWord::Weak,
@@ -104,6 +106,7 @@ impl CommandWord {
             CommandWord::Sync => "sync",
             CommandWord::Out => "out",
             CommandWord::Fsync => "fsync",
+            CommandWord::Open => "open",
             CommandWord::Prctl => "prctl",
             CommandWord::Bad => "bad",
             CommandWord::Weak => "weak",
@@ -114,6 +117,13 @@ impl CommandWord {
             CommandWord::Soft => "soft",
             CommandWord::Unpoison => "unpoison",
         }
+    }
+
+    /// Whether version 2 alone has commands of this word.
+    fn is_newer(self) -> bool
+        ensures { result ≡ is_newer_word self }
+    {
+        matches!(self, CommandWord::Open)
     }
 
     /// How many numbers stand behind the word, where only numbers do.
@@ -152,6 +162,17 @@ impl Keyword {
             Keyword::Schedule => "schedule",
             Keyword::End => "end",
             Keyword::Command(word) => word.text(),
+        }
+    }
+
+    /// Whether a line of this word with so many behind it has a form in version 2 alone.
+    pub(crate) fn is_newer(self, count: usize) -> bool
+        ensures { result ≡ is_newer self count }
+    {
+        match self {
+            Keyword::Page => count == 3 || count == 6,
+            Keyword::Command(word) => word.is_newer(),
+            _ => false,
         }
     }
 }

@@ -22,11 +22,12 @@ fn read_words(alloc: Global, words: &[&[u8]]) -> Result<LineRead, OutOfMemory>
     let Some(keyword) = read_keyword(first) else {
         return Ok(LineRead::Unknown);
     };
+    let newer = keyword.is_newer(rest.len());
     match read_sentence(alloc, keyword, rest)? {
         Ok(form) => Ok(LineRead::ScriptLine(form)),
         Err(Misfit::Unknown) => Ok(LineRead::Unknown),
-        Err(Misfit::BadNumber) => Ok(LineRead::BadNumber),
-        Err(Misfit::OverLimit) => Ok(LineRead::OverLimit),
+        Err(Misfit::BadNumber) => Ok(LineRead::BadNumber { newer }),
+        Err(Misfit::OverLimit) => Ok(LineRead::OverLimit { newer }),
     }
 }
 

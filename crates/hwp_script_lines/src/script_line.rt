@@ -1,5 +1,5 @@
 use crate::command::{Command, Go};
-use hwp_geom::List;
+use hwp_geom::{List, Version};
 
 /// What stands behind a page, with its numbers as they are written.
 #[derive(Clone, Copy)]
@@ -14,8 +14,8 @@ pub enum Backing {
 /// within their ranges.
 #[derive(Drop)]
 pub enum ScriptLine {
-    /// `hwp 1`: the head of a script.
-    Header,
+    /// `hwp 1` or `hwp 2`: the head of a script, with its version.
+    Header(Version),
     /// `cpus N`: the number of processors.
     Cpus(u64),
     /// `frames N`: the number of frames.
@@ -38,10 +38,11 @@ pub enum ScriptLine {
         cpu: u64,
         handler: bool,
     },
-    /// `page Q anon` or `page Q file N fill X`: a page, and what stands behind it.
+    /// `page Q anon` or `page Q file N fill X`: a page, and what stands behind it; in version 2 also with `locked` at the end.
     Page {
         page: u64,
         backing: Backing,
+        locked: bool,
     },
     /// `trans V P Q`: a translation of a process to a page.
     Trans {
@@ -66,10 +67,11 @@ pub enum LineRead {
     ScriptLine(ScriptLine),
     /// The line has no form, by its words or their number, or by a byte outside 0x20 to 0x7e.
     Unknown,
-    /// A word in the place of a number, a register word or a schedule word is none.
-    BadNumber,
-    /// A number of a command, or of a word of the schedule, is outside its range.
-    OverLimit,
+    /// A word in the place of a number, a register word or a schedule word is none. `newer` says that the line has a
+    /// form of version 2 alone.
+    BadNumber { newer: bool },
+    /// A number of a command, or of a word of the schedule, is outside its range in any version. `newer` as above.
+    OverLimit { newer: bool },
 }
 
 /// A line with words, and its number from 1 among all lines.

@@ -1,7 +1,9 @@
-ghost use Rattle.std.specs.Prelude.{◌≡◌, ◌≢◌, ℕ, map, true, Bool, IfOk, MatchOption, MatchResult};
-ghost use Rattle.hwp_script_lines.specs.Grammar.{IsSentence, thread_keyword, page_keyword, schedule_keyword, header_keyword, trans_keyword, command_keyword, end_keyword, handler_text};
+ghost use Rattle.std.specs.Prelude.{◌≡◌, ◌≢◌, ℕ, map, decimal, true, Bool, IfOk, MatchOption, MatchResult};
+ghost use Rattle.hwp_geom.specs.Limits.{number};
+ghost use Rattle.hwp_geom.specs.declared.Version.{Version};
+ghost use Rattle.hwp_script_lines.specs.Grammar.{IsSentence, HasLockedShape, thread_keyword, page_keyword, schedule_keyword, header_keyword, trans_keyword, command_keyword, end_keyword, handler_text};
 ghost use Rattle.hwp_script_lines.specs.Numbers.{IsNumber};
-ghost use Rattle.hwp_script_lines.specs.Misfits.{IsSentenceMisfit, form_with, has_one_number};
+ghost use Rattle.hwp_script_lines.specs.Misfits.{ArePageWords, IsLockedFront, IsPageMisfit, IsSentenceMisfit, form_with, has_one_number};
 
 use crate::commands::read_command;
 use crate::keywords::{CommandWord, Keyword};
@@ -9,7 +11,7 @@ use crate::numbers::{Misfit, one_number, read_number, read_numbers};
 use crate::script_line::{Backing, ScriptLine};
 use crate::turns::read_schedule;
 use crate::words::is_text;
-use hwp_geom::OutOfMemory;
+use hwp_geom::{OutOfMemory, Version};
 use std::alloc::Global;
 
 /// Whether a thread has a handler, by its last word.
@@ -57,24 +59,18 @@ fn read_thread(words: &[&[u8]]) -> Result<ScriptLine, Misfit>
     })
 }
 
-/// The page that these words behind `page` declare.
-fn read_page(words: &[&[u8]]) -> Result<ScriptLine, Misfit>
-    ensures { MatchResult result (IsSentence page_keyword (map (λ w. w.now) words.now)) (IsSentenceMisfit page_keyword (map (λ w. w.now) words.now)) }
+/// The number of a page that isn't locked, and what stands behind it, as these words say it.
+fn read_backing(words: &[&[u8]]) -> Result<(u64, Backing), Misfit>
+    ensures { MatchResult result (ArePageWords (map (λ w. w.now) words.now)) (IsPageMisfit (map (λ w. w.now) words.now)) }
 {
     match words {
         [page, kind] if is_text(kind, "anon") => match read_number(page) {
-            Some(page) => Ok(ScriptLine::Page {
-                page,
-                backing: Backing::Anon,
-            }),
+            Some(page) => Ok((page, Backing::Anon)),
             None => Err(Misfit::BadNumber),
         },
         [page, kind, file, of, fill] if is_text(kind, "file") && is_text(of, "fill") => {
             match three_of(page, file, fill) {
-                Some((page, file, fill)) => Ok(ScriptLine::Page {
-                    page,
-                    backing: Backing::File { file, fill },
-                }),
+                Some((page, file, fill)) => Ok((page, Backing::File { file, fill })),
                 None => Err(Misfit::BadNumber),
             }
         }
@@ -82,13 +78,70 @@ fn read_page(words: &[&[u8]]) -> Result<ScriptLine, Misfit>
     }
 }
 
-/// The head, if these words behind `hwp` are the version of the format.
+/// The words before `locked`, where that is the last word of a page's line.
+fn before_locked<'a>(words: &'a [&'a [u8]]) -> Option<&'a [&'a [u8]]>
+    ensures { MatchOption result (HasLockedShape (map (λ w. w.now) words.now) → ⊥) (λ front. IsLockedFront (map (λ w. w.now) words.now) (map (λ w. w.now) front.now)) }
+{
+    if words.len() != 3 && words.len() != 6 {
+        return None;
+    }
+    let [front @ .., last] = words else {
+        return None;
+    };
+    if is_text(last, "locked") {
+        Some(front)
+    } else {
+        None
+    }
+}
+
+/// The page that these words behind `page` declare.
+fn read_page(words: &[&[u8]]) -> Result<ScriptLine, Misfit>
+    ensures { MatchResult result (IsSentence page_keyword (map (λ w. w.now) words.now)) (IsSentenceMisfit page_keyword (map (λ w. w.now) words.now)) }
+{
+    match before_locked(words) {
+        Some(front) => match read_backing(front) {
+            Ok((page, backing)) => Ok(ScriptLine::Page {
+                page,
+                backing,
+                locked: true,
+            }),
+            Err(misfit) => Err(misfit),
+        },
+        None => match read_backing(words) {
+            Ok((page, backing)) => Ok(ScriptLine::Page {
+                page,
+                backing,
+                locked: false,
+            }),
+            Err(misfit) => Err(misfit),
+        },
+    }
+}
+
+/// The version that a word names.
+fn read_version(word: &[u8]) -> Option<Version>
+    ensures { MatchOption result ((v : Version) → word.now ≡ decimal (number v) → ⊥) (λ v. word.now ≡ decimal (number v)) }
+{
+    if is_text(word, "1") {
+        Some(Version::One)
+    } else if is_text(word, "2") {
+        Some(Version::Two)
+    } else {
+        None
+    }
+}
+
+/// The head, if these words behind `hwp` are a version of the format.
 fn read_header(words: &[&[u8]]) -> Result<ScriptLine, Misfit>
     ensures { MatchResult result (IsSentence header_keyword (map (λ w. w.now) words.now)) (IsSentenceMisfit header_keyword (map (λ w. w.now) words.now)) }
 {
-    match words {
-        [version] if is_text(version, "1") => Ok(ScriptLine::Header),
-        _ => Err(Misfit::Unknown),
+    let [version] = words else {
+        return Err(Misfit::Unknown);
+    };
+    match read_version(version) {
+        Some(version) => Ok(ScriptLine::Header(version)),
+        None => Err(Misfit::Unknown),
     }
 }
 

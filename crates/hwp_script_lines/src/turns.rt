@@ -78,10 +78,10 @@ fn read_pieces(pieces: &[&[u8]]) -> Result<Go, Misfit>
 
 /// The number of a processor that a digit writes.
 fn cpu_of(digit: u8) -> Option<u8>
-    ensures { IfSome result (λ cpu. (cpu < cpu_limit) × (digit ≡ 48 + cpu)) }
+    ensures { IfSome result (λ cpu. (cpu < 10) × (digit ≡ 48 + cpu)) }
 {
     match digit {
-        b'0'..=b'7' => Some(digit - b'0'),
+        b'0'..=b'9' => Some(digit - b'0'),
         _ => None,
     }
 }
@@ -101,7 +101,7 @@ fn until_of(rest: &[u8]) -> Option<Until>
     }
 }
 
-/// The schedule word that a word is, at once and without memory, as each one is read that is right; `None` says nothing.
+/// The schedule word that a word is, read without memory, where its processor has one digit; `None` where this way can't tell.
 fn short_turn(word: &[u8]) -> Option<Go>
     ensures { IfSome result (IsTurn word.now) }
 {

@@ -1,10 +1,11 @@
 -- When no reason applies to a line, kind by kind.
-use Rattle.std.proofs.Common.{ℕ, Bool, ◌≡◌, ◌<◌, ◌≤◌, ◌+◌, List, [], length, inl, inr, arith, Option, None, Some}
+use Rattle.std.proofs.Common.{ℕ, Bool, true, false, ◌≡◌, ◌<◌, ◌≤◌, ◌+◌, List, [], length, inl, inr, arith, Option, None, Some}
 use Rattle.std.specs.Prelude.{Contains, IsSome}
 use Rattle.hwp_script_read.specs.Limits.{schedule_limit}
-use Rattle.hwp_script_read.specs.hwp_geom.Limits.{command_limit}
-use Rattle.hwp_script_read.specs.Context.{cpus_in, kernel_in, recovery_in, early_in, lists_in, commands_in, go_in}
-use Rattle.hwp_script_read.specs.Reasons.{Applies, IsMisplaced, IsClean}
+use Rattle.hwp_script_read.specs.hwp_geom.Limits.{command_limit, cpu_limit_of, frame_limit_of, page_limit_of, translation_limit_of}
+use Rattle.hwp_script_read.specs.hwp_geom.declared.Version.{Version}
+use Rattle.hwp_script_read.specs.Context.{version_in, cpus_in, kernel_in, recovery_in, early_in, lists_in, commands_in, go_in}
+use Rattle.hwp_script_read.specs.Reasons.{Applies, IsMisplaced, IsClean, top_cpu}
 use Rattle.hwp_script_read.specs.hwp_script_lines.declared.Command.{Command}
 use Rattle.hwp_script_read.specs.hwp_script_lines.declared.Backing.{Backing}
 use Rattle.hwp_script_read.specs.hwp_script_lines.declared.Go.{Go}
@@ -19,17 +20,17 @@ not_misplaced h (inl e) = omega (arith, h.late, e)
 not_misplaced h (inr (inl e)) = omega (arith, h.some_cpu, e)
 not_misplaced h (inr (inr e)) = omega (arith, h.some_frame, e)
 
-no_header : (w : Why) → Applies [] forms.Header w → ⊥
-no_header whys.UnknownWord e = omega (arith, e)
-no_header w e = e
+no_header : (v : Version) (w : Why) → Applies [] (forms.Header v) w → ⊥
+no_header v whys.UnknownWord e = omega (arith, e)
+no_header v w e = e
 
-pub put_header : IsClean [] forms.Header
-put_header = record { none = no_header }
+pub put_header : (v : Version) → IsClean [] (forms.Header v)
+put_header v = record { none = no_header v }
 
 no_cpus : {above : List ScriptLine} {n : ℕ} → 0 < length above → IsCpusClean above n → (w : Why) → Applies above (forms.Cpus n) w → ⊥
 no_cpus l h whys.BadHeader e = omega (arith, l, e)
 no_cpus l h whys.OverLimit (inl e) = omega (arith, h.some, e)
-no_cpus {above} {n} l h whys.OverLimit (inr e) = let big : 8 < n = e in omega (arith, h.few, big)
+no_cpus {above} {n} l h whys.OverLimit (inr e) = let big : cpu_limit_of (version_in above) < n = e in omega (arith, h.few, big)
 no_cpus l h whys.Twice e = omega (arith, h.first, e)
 no_cpus l h whys.WrongPlace e = omega (arith, h.late, e)
 no_cpus l h w e = e
@@ -40,7 +41,7 @@ put_cpus l h = record { none = no_cpus l h }
 no_frames : {above : List ScriptLine} {n : ℕ} → 0 < length above → IsFramesClean above n → 0 < cpus_in above → (w : Why) → Applies above (forms.Frames n) w → ⊥
 no_frames l h k whys.BadHeader e = omega (arith, l, e)
 no_frames l h k whys.OverLimit (inl e) = omega (arith, h.some, e)
-no_frames {above} {n} l h k whys.OverLimit (inr e) = let big : 256 < n = e in omega (arith, h.few, big)
+no_frames {above} {n} l h k whys.OverLimit (inr e) = let big : frame_limit_of (version_in above) < n = e in omega (arith, h.few, big)
 no_frames l h k whys.Twice e = omega (arith, h.first, e)
 no_frames l h k whys.WrongPlace (inl e) = omega (arith, h.late, e)
 no_frames l h k whys.WrongPlace (inr e) = omega (arith, k, e)
@@ -52,7 +53,7 @@ put_frames l h k = record { none = no_frames l h k }
 no_kernel : {above : List ScriptLine} {n : ℕ} → 0 < length above → IsKernelClean above n → (Contains (kernel_in above) n → ⊥) → (w : Why)
     → Applies above (forms.Kernel n) w → ⊥
 no_kernel l h k whys.BadHeader e = omega (arith, l, e)
-no_kernel {above} {n} l h k whys.OverLimit e = let big : 256 ≤ n = e in omega (arith, h.low, big)
+no_kernel {above} {n} l h k whys.OverLimit e = let big : frame_limit_of (version_in above) ≤ n = e in omega (arith, h.low, big)
 no_kernel l h k whys.Undeclared e = omega (arith, h.declared, e)
 no_kernel l h k whys.Twice e = k e
 no_kernel l h k whys.WrongPlace e = not_misplaced h.placed e
@@ -111,7 +112,7 @@ no_thread : {above : List ScriptLine} {t p c : ℕ} (b : Bool) → 0 < length ab
 no_thread b l h whys.BadHeader e = omega (arith, l, e)
 no_thread {above} {t} b l h whys.OverLimit (inl e) = let big : 32 ≤ t = e in omega (arith, h.few, big)
 no_thread {above} {t} {p} b l h whys.OverLimit (inr (inl e)) = let big : 16 ≤ p = e in omega (arith, h.low_process, big)
-no_thread {above} {t} {p} {c} b l h whys.OverLimit (inr (inr e)) = let big : 8 ≤ c = e in omega (arith, h.low_cpu, big)
+no_thread {above} {t} {p} {c} b l h whys.OverLimit (inr (inr e)) = let big : cpu_limit_of (version_in above) ≤ c = e in omega (arith, h.low_cpu, big)
 no_thread b l h whys.Undeclared (inl e) = omega (arith, h.process, e)
 no_thread b l h whys.Undeclared (inr e) = omega (arith, h.cpu, e)
 no_thread b l h whys.Twice e = omega (arith, h.next, e)
@@ -122,9 +123,14 @@ no_thread b l h w e = e
 pub put_thread : {above : List ScriptLine} {t p c : ℕ} (b : Bool) → 0 < length above → IsThreadClean above t p c → IsClean above (forms.Thread t p c b)
 put_thread b l h = record { none = no_thread b l h }
 
-no_page : {above : List ScriptLine} {q : ℕ} {b : Backing} → 0 < length above → IsPageClean above q b → (w : Why) → Applies above (forms.Page q b) w → ⊥
+lock_differs : (locked : Bool) → locked ≡ false → locked ≡ true → ⊥
+lock_differs locked unlocked is_locked = cc
+
+no_page : {above : List ScriptLine} {q : ℕ} {b : Backing} {locked : Bool} → 0 < length above → IsPageClean above q b locked → (w : Why)
+    → Applies above (forms.Page q b locked) w → ⊥
 no_page l h whys.BadHeader e = omega (arith, l, e)
-no_page {above} {q} l h whys.OverLimit (inl e) = let big : 256 ≤ q = e in omega (arith, h.few, big)
+no_page {locked = locked} l h whys.UnknownWord e = lock_differs locked (h.older e.0) e.1
+no_page {above} {q} l h whys.OverLimit (inl e) = let big : page_limit_of (version_in above) ≤ q = e in omega (arith, h.few, big)
 no_page l h whys.OverLimit (inr e) = h.low e
 no_page l h whys.Undeclared e = h.backed e
 no_page l h whys.Twice e = omega (arith, h.next, e)
@@ -132,14 +138,14 @@ no_page l h whys.WrongPlace (inl e) = not_misplaced h.placed e
 no_page l h whys.WrongPlace (inr e) = omega (arith, h.next, e)
 no_page l h w e = e
 
-pub put_page : {above : List ScriptLine} {q : ℕ} {b : Backing} → 0 < length above → IsPageClean above q b → IsClean above (forms.Page q b)
+pub put_page : {above : List ScriptLine} {q : ℕ} {b : Backing} {locked : Bool} → 0 < length above → IsPageClean above q b locked → IsClean above (forms.Page q b locked)
 put_page l h = record { none = no_page l h }
 
 no_trans : {above : List ScriptLine} {v p q : ℕ} → 0 < length above → IsTransClean above v p q → (w : Why) → Applies above (forms.Trans v p q) w → ⊥
 no_trans l h whys.BadHeader e = omega (arith, l, e)
-no_trans {above} {v} l h whys.OverLimit (inl e) = let big : 512 ≤ v = e in omega (arith, h.few, big)
+no_trans {above} {v} l h whys.OverLimit (inl e) = let big : translation_limit_of (version_in above) ≤ v = e in omega (arith, h.few, big)
 no_trans {above} {v} {p} l h whys.OverLimit (inr (inl e)) = let big : 16 ≤ p = e in omega (arith, h.low_process, big)
-no_trans {above} {v} {p} {q} l h whys.OverLimit (inr (inr e)) = let big : 256 ≤ q = e in omega (arith, h.low_page, big)
+no_trans {above} {v} {p} {q} l h whys.OverLimit (inr (inr e)) = let big : page_limit_of (version_in above) ≤ q = e in omega (arith, h.low_page, big)
 no_trans l h whys.Undeclared (inl e) = omega (arith, h.process, e)
 no_trans l h whys.Undeclared (inr e) = omega (arith, h.page, e)
 no_trans l h whys.Twice e = omega (arith, h.next, e)
@@ -152,7 +158,7 @@ put_trans l h = record { none = no_trans l h }
 
 no_cpu : {above : List ScriptLine} {c : ℕ} → 0 < length above → IsCpuClean above c → (Contains (lists_in above) c → ⊥) → (w : Why) → Applies above (forms.Cpu c) w → ⊥
 no_cpu l h k whys.BadHeader e = omega (arith, l, e)
-no_cpu {above} {c} l h k whys.OverLimit e = let big : 8 ≤ c = e in omega (arith, h.low, big)
+no_cpu {above} {c} l h k whys.OverLimit e = let big : cpu_limit_of (version_in above) ≤ c = e in omega (arith, h.low, big)
 no_cpu l h k whys.Undeclared e = omega (arith, h.cpu, e)
 no_cpu l h k whys.Twice e = k e
 no_cpu l h k whys.WrongPlace e = not_misplaced h.placed e
@@ -163,7 +169,9 @@ put_cpu l h k = record { none = no_cpu l h k }
 
 no_command : {above : List ScriptLine} {c : Command} → 0 < length above → IsCommandClean above c → (w : Why) → Applies above (forms.Command c) w → ⊥
 no_command l h whys.BadHeader e = omega (arith, l, e)
-no_command {above} l h whys.OverLimit e = let big : command_limit ≤ commands_in above = e in omega (arith, h.few, big)
+no_command l h whys.UnknownWord e = h.older e.0 e.1
+no_command {above} l h whys.OverLimit (inl e) = let big : command_limit ≤ commands_in above = e in omega (arith, h.few, big)
+no_command l h whys.OverLimit (inr e) = h.low e
 no_command l h whys.Undeclared e = h.named e
 no_command l h whys.WrongPlace (inl e) = not_misplaced h.placed e
 no_command l h whys.WrongPlace (inr e) = h.here e
@@ -174,7 +182,8 @@ put_command l h = record { none = no_command l h }
 
 no_schedule : {above : List ScriptLine} {ws : List Go} → 0 < length above → IsScheduleClean above ws → (w : Why) → Applies above (forms.Schedule ws) w → ⊥
 no_schedule l h whys.BadHeader e = omega (arith, l, e)
-no_schedule {above} {ws} l h whys.OverLimit e = let big : schedule_limit < length (go_in above) + length ws = e in omega (arith, h.few, big)
+no_schedule {above} {ws} l h whys.OverLimit (inl e) = let big : schedule_limit < length (go_in above) + length ws = e in omega (arith, h.few, big)
+no_schedule {above} {ws} l h whys.OverLimit (inr e) = let big : cpu_limit_of (version_in above) ≤ top_cpu ws = e in omega (arith, h.low, big)
 no_schedule l h whys.Undeclared e = omega (arith, h.cpus, e)
 no_schedule l h whys.WrongPlace e = not_misplaced h.placed e
 no_schedule l h w e = e

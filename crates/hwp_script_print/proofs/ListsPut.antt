@@ -6,7 +6,8 @@ use Rattle.std.proofs.lemmas.List.{append-nil, append_assoc}
 use Rattle.std.proofs.lemmas.List.Elements.{All-head, All-tail, All-push, All-weaker, All-contains}
 use Rattle.std.proofs.lemmas.List.Sums.{sum_by-cons}
 use Rattle.hwp_script_read.specs.hwp_geom.Layout.{IsSound}
-use Rattle.hwp_script_read.specs.hwp_geom.Limits.{line_limit, cpu_limit, frame_limit, file_limit, thread_limit, page_limit, translation_limit, command_limit}
+use Rattle.hwp_script_read.specs.hwp_geom.Limits.{line_limit, file_limit, thread_limit, command_limit, cpu_limit, frame_limit, page_limit, translation_limit, cpu_limit_of, frame_limit_of, page_limit_of, translation_limit_of}
+use Rattle.hwp_script_read.specs.hwp_geom.declared.Version.TheVariants as versions
 use Rattle.hwp_script_read.specs.hwp_geom.declared.Layout.{Layout}
 use Rattle.hwp_script_read.specs.hwp_geom.declared.Thread.{Thread}
 use Rattle.hwp_script_read.specs.hwp_geom.declared.VSlot.{VSlot}
@@ -19,9 +20,10 @@ use Rattle.hwp_script_read.specs.hwp_script_lines.declared.ScriptLine.{ScriptLin
 use Rattle.hwp_script_read.specs.hwp_script_lines.declared.ScriptLine.TheVariants as forms
 use Rattle.hwp_script_read.specs.hwp_script_lines.declared.Command.{Command}
 use Rattle.hwp_script_read.specs.hwp_script_lines.declared.Command.TheVariants as commands
-use Rattle.hwp_script_read.specs.Context.{cpus_in, frames_in, files_in, threads_in, pages_in, trans_in, lists_in, commands_in, place_in}
-use Rattle.hwp_script_read.specs.Reasons.{IsClean, IsForeign, IsNoFilePage, IsNoAnonPage, IsUndeclared, IsElsewhere, actor}
+use Rattle.hwp_script_read.specs.Context.{version_in, cpus_in, frames_in, files_in, threads_in, pages_in, trans_in, lists_in, commands_in, place_in}
+use Rattle.hwp_script_read.specs.Reasons.{IsClean, IsNewer, IsBeyond, IsForeign, IsNoFilePage, IsNoAnonPage, IsUndeclared, IsElsewhere, actor}
 use Rattle.hwp_script_read.specs.Valid.{IsThreadOf, IsAccess, IsFile, IsAnon, IsCommandOf, AreLists, HasWords}
+use Rattle.hwp_script_read.proofs.CleanLaws.{cpu_most}
 use Rattle.hwp_script_print.specs.Text.{list_forms, numbered}
 use Rattle.hwp_script_print.proofs.CleanPut.{put_cpu, put_command}
 use Rattle.hwp_script_print.proofs.Sections.{Known, IsMade, made_push, made_then, made_nil, placed, plain}
@@ -29,6 +31,7 @@ use Rattle.hwp_script_print.proofs.Sections.{Known, IsMade, made_push, made_then
 -- the declarations above are those of a sound layout
 pub record IsLaidOut (k : Known) (l : Layout) : Type 0 where
   pub sound : IsSound l
+  pub version : k.version ≡ l.version
   pub cpus : k.cpus ≡ l.cpus
   pub frames : k.frames ≡ l.frames
   pub files : k.files ≡ l.files
@@ -37,6 +40,7 @@ pub record IsLaidOut (k : Known) (l : Layout) : Type 0 where
   pub trans : k.trans ≡ l.trans
 
 pub record AreAbove (fs : List ScriptLine) (l : Layout) : Type 0 where
+  pub version : version_in fs ≡ l.version
   pub cpus : cpus_in fs ≡ l.cpus
   pub frames : frames_in fs ≡ l.frames
   pub files : files_in fs ≡ l.files
@@ -46,6 +50,7 @@ pub record AreAbove (fs : List ScriptLine) (l : Layout) : Type 0 where
 
 above_made : {fs : List ScriptLine} {g : ℕ} {k : Known} {l : Layout} → IsMade fs g k → IsLaidOut k l → AreAbove fs l
 above_made {fs} {g} {k} {l} h laid = record {
+  version = ap (λ (x : Known). x.version) h.same ∙ laid.version;
   cpus = ap (λ (x : Known). x.cpus) h.same ∙ laid.cpus;
   frames = ap (λ (x : Known). x.frames) h.same ∙ laid.frames;
   files = ap (λ (x : Known). x.files) h.same ∙ laid.files;
@@ -110,6 +115,7 @@ not_undeclared c (commands.Drop q) a h e = omega (arith, ap length a.pages, h, e
 not_undeclared {fs} {l} c (commands.Sync q) a h e = is_file_page (slice_get l.pages q.0) h (rw a.pages at e)
 not_undeclared {fs} {l} c (commands.Out q) a h e = is_anon_page (slice_get l.pages q.0) h (rw a.pages at e)
 not_undeclared c (commands.Fsync n) a h e = omega (arith, a.files, h, e)
+not_undeclared c (commands.Open n) a h e = omega (arith, a.files, h, e)
 not_undeclared c (commands.Prctl t args) a h e = thread_named c t a h e
 not_undeclared c (commands.Bad f x) a h e = frame_named f.0 a h.0 e
 not_undeclared c (commands.Weak f x) a h e = frame_named f.0 a h.0 e
@@ -161,6 +167,7 @@ command_fits l c (commands.Drop q) s h w = below q.0 (length l.pages) page_limit
 command_fits l c (commands.Sync q) s h w = fits_page l IsFile q.0 s h
 command_fits l c (commands.Out q) s h w = fits_page l IsAnon q.0 s h
 command_fits l c (commands.Fsync n) s h w = below n.0 l.files file_limit h s.files
+command_fits l c (commands.Open n) s h w = below n.0 l.files file_limit h s.files
 command_fits l c (commands.Prctl t args) s h w = (fits_thread l c t s h, w.0, w.1, w.2, w.3, w.4)
 command_fits l c (commands.Bad f x) s h w = (below f.0 l.frames frame_limit h.0 s.frames, h.1)
 command_fits l c (commands.Weak f x) s h w = (below f.0 l.frames frame_limit h.0 s.frames, h.1)
@@ -173,24 +180,61 @@ command_fits l c (commands.Inject f) s h w = below f.0 l.frames frame_limit h s.
 command_fits l c (commands.Soft f) s h w = below f.0 l.frames frame_limit h s.frames
 command_fits l c (commands.Unpoison f) s h w = below f.0 l.frames frame_limit h s.frames
 
+-- nor is one beyond the limits of the version
+not_over : (n m limit : ℕ) → n < m → m ≤ limit → limit ≤ n → ⊥
+not_over n m limit h k e = omega (arith, h, k, e)
+
+access_inside : (l : Layout) (c : ℕ) (t : Thread) (v : VSlot) → IsSound l → IsAccess l c t v → translation_limit_of l.version ≤ v.0 → ⊥
+access_inside l c t v s h e =
+    not_over v.0 (length l.trans) (translation_limit_of l.version) (some_inside (IsAccessBy l c v) (v.0 < length l.trans) (slice_get l.threads t.0)
+    (λ x a. some_within (λ (w : TransDecl). w.process ≡ x.process) l.trans v.0 a.1) h) s.within.trans e
+
+page_inside : (l : Layout) (P : PageKind → Type 0) (q : ℕ) → IsSound l → IsSomeAnd (slice_get l.pages q) P → page_limit_of l.version ≤ q → ⊥
+page_inside l P q s h e = not_over q (length l.pages) (page_limit_of l.version) (some_within P l.pages q h) s.within.pages e
+
+frame_inside : (l : Layout) (f : ℕ) → IsSound l → f < l.frames → frame_limit_of l.version ≤ f → ⊥
+frame_inside l f s h e = not_over f l.frames (frame_limit_of l.version) h s.within.frames e
+
+not_beyond : (l : Layout) (c : ℕ) (cmd : Command) → IsSound l → IsCommandOf l c cmd → IsBeyond l.version cmd → ⊥
+not_beyond l c (commands.Load t v x) s h e = access_inside l c t v s h.0 e
+not_beyond l c (commands.Fetch t v x) s h e = access_inside l c t v s h.0 e
+not_beyond l c (commands.KLoad t v x) s h e = access_inside l c t v s h.0 e
+not_beyond l c (commands.Store t v x w) s h e = access_inside l c t v s h.0 e
+not_beyond l c (commands.Free v) s h e = not_over v.0 (length l.trans) (translation_limit_of l.version) h s.within.trans e
+not_beyond l c (commands.Drop q) s h e = not_over q.0 (length l.pages) (page_limit_of l.version) h s.within.pages e
+not_beyond l c (commands.Sync q) s h e = page_inside l IsFile q.0 s h e
+not_beyond l c (commands.Out q) s h e = page_inside l IsAnon q.0 s h e
+not_beyond l c (commands.Bad f x) s h e = frame_inside l f.0 s h.0 e
+not_beyond l c (commands.Weak f x) s h e = frame_inside l f.0 s h.0 e
+not_beyond l c (commands.Scrub a b) s h e = frame_inside l b.0 s h.1 e
+not_beyond l c (commands.Inject f) s h e = frame_inside l f.0 s h e
+not_beyond l c (commands.Soft f) s h e = frame_inside l f.0 s h e
+not_beyond l c (commands.Unpoison f) s h e = frame_inside l f.0 s h e
+not_beyond l c cmd s h e = e
+
+abbrev pub IsOld : Command → Type 0
+IsOld c = IsNewer c → ⊥
+
 -- the commands of a list
 pub made_commands : {fs : List ScriptLine} (k : Known) (l : Layout) (c n : ℕ) (cmds : List Command) → IsMade fs 11 (record k { commands = n }) → IsLaidOut k l → 0 < k.cpus → 0 < k.frames
-    → k.place ≡ Some c → All (IsCommandOf l c) cmds → All HasWords cmds → n + length cmds ≤ command_limit
+    → k.place ≡ Some c → All (IsCommandOf l c) cmds → (l.version ≡ versions.One → All IsOld cmds) → All HasWords cmds → n + length cmds ≤ command_limit
     → IsMade (fs ++ map forms.Command cmds) 11 (record k { commands = n + length cmds })
-made_commands k l c n [] h laid some_c some_f here own words few = let e : n + zero ≡ n = omega arith in rw e (made_nil h)
-made_commands {fs} k l c n (cmd ∷ cmds) h laid some_c some_f here own words few =
+made_commands k l c n [] h laid some_c some_f here own old words few = let e : n + zero ≡ n = omega arith in rw e (made_nil h)
+made_commands {fs} k l c n (cmd ∷ cmds) h laid some_c some_f here own old words few =
     let own_it = All-head (IsCommandOf l c) cmd cmds own in
-    let above = above_made {k = record k { commands = n }} {l = l} h (record { sound = laid.sound; cpus = laid.cpus; frames = laid.frames; files = laid.files; threads = laid.threads; pages = laid.pages; trans = laid.trans }) in
+    let above = above_made {k = record k { commands = n }} {l = l} h (record { sound = laid.sound; version = laid.version; cpus = laid.cpus; frames = laid.frames; files = laid.files; threads = laid.threads; pages = laid.pages; trans = laid.trans }) in
     let count : commands_in fs ≡ n = ap (λ (x : Known). x.commands) h.same in
     let place : place_in fs ≡ Some c = ap (λ (x : Known). x.place) h.same ∙ here in
     let clean : IsClean fs (forms.Command cmd) = put_command h.some (record {
       placed = placed h some_c some_f;
+      older = λ one. All-head IsOld cmd cmds (old (sym above.version ∙ one));
       few = omega arith;
+      low = λ e. not_beyond l c cmd laid.sound own_it (rw above.version at e);
       named = not_undeclared c cmd above own_it;
       here = λ e. not_elsewhere l c cmd own_it (rw (place, above.threads) at e);
     }) in
     let rest = made_commands k l c (n + 1) cmds (made_push (forms.Command cmd) h (omega arith) (plain (command_fits l c cmd laid.sound own_it (All-head HasWords cmd cmds words)) refl) clean)
-    laid some_c some_f here (All-tail (IsCommandOf l c) cmd cmds own) (All-tail HasWords cmd cmds words) (omega arith) in
+    laid some_c some_f here (All-tail (IsCommandOf l c) cmd cmds own) (λ one. All-tail IsOld cmd cmds (old one)) (All-tail HasWords cmd cmds words) (omega arith) in
     let e : n + length (cmd ∷ cmds) ≡ n + 1 + length cmds = omega arith in
     rw e (made_then fs (forms.Command cmd) (map forms.Command cmds) rest)
 
@@ -201,23 +245,25 @@ placed_at p m (list ∷ lists) = placed_at (Some m) (m + 1) lists
 
 pub made_lists : {fs : List ScriptLine} (k : Known) (l : Layout) (done : List ℕ) (p : Option ℕ) (n m : ℕ) (lists : List (List Command))
     → IsMade fs 11 (record k { lists = done; place = p; commands = n }) → IsLaidOut k l → 0 < k.cpus → 0 < k.frames
-    → All (λ i. i < m) done → m + length lists ≤ k.cpus → k.cpus ≤ cpu_limit → AreLists l m lists → All (All HasWords) lists → n + sum_by length lists ≤ command_limit
+    → All (λ i. i < m) done → m + length lists ≤ k.cpus → k.cpus ≤ cpu_limit_of k.version → AreLists l m lists → (l.version ≡ versions.One → All (All IsOld) lists) → All (All HasWords) lists → n + sum_by length lists ≤ command_limit
     → IsMade (fs ++ numbered list_forms m lists) 11 (record k { lists = done ++ range_with_len m (length lists); place = placed_at p m lists; commands = n + sum_by length lists })
-made_lists k l done p n m [] h laid some_c some_f low l_c few_c own words few =
+made_lists k l done p n m [] h laid some_c some_f low l_c few_c own old words few =
     let e : n + zero ≡ n = omega arith in rw (append-nil done, e) (made_nil h)
-made_lists {fs} k l done p n m (list ∷ lists) h laid some_c some_f low l_c few_c own words few =
+made_lists {fs} k l done p n m (list ∷ lists) h laid some_c some_f low l_c few_c own old words few =
     let cpus : cpus_in fs ≡ k.cpus = ap (λ (x : Known). x.cpus) h.same in
     let begun : lists_in fs ≡ done = ap (λ (x : Known). x.lists) h.same in
     let sum : sum_by length (list ∷ lists) ≡ length list + sum_by length lists = sum_by-cons length list lists in
     let once : Contains (lists_in fs) m → ⊥ = λ has. omega (arith, All-contains (λ i. i < m) done m low (subst (λ xs. Contains xs m) begun has)) in
-    let clean : IsClean fs (forms.Cpu m) = put_cpu h.some (record { placed = placed h some_c some_f; cpu = omega arith; low = omega arith }) once in
+    let version : version_in fs ≡ k.version = ap (λ (x : Known). x.version) h.same in
+    let low_c : cpu_limit_of k.version ≤ cpu_limit = cpu_most k.version in
+    let clean : IsClean fs (forms.Cpu m) = put_cpu h.some (record { placed = placed h some_c some_f; cpu = omega arith; low = rw version (omega arith) }) once in
     let head = made_push (forms.Cpu m) h (omega arith) (plain (omega arith) refl) clean in
     let one = made_commands (record k { lists = done ++ m ∷ []; place = Some m }) l m n list head
-    (record { sound = laid.sound; cpus = laid.cpus; frames = laid.frames; files = laid.files; threads = laid.threads; pages = laid.pages; trans = laid.trans })
-    some_c some_f refl own.0 (All-head (All HasWords) list lists words) (omega arith) in
+    (record { sound = laid.sound; version = laid.version; cpus = laid.cpus; frames = laid.frames; files = laid.files; threads = laid.threads; pages = laid.pages; trans = laid.trans })
+    some_c some_f refl own.0 (λ one. All-head (All IsOld) list lists (old one)) (All-head (All HasWords) list lists words) (omega arith) in
     let rest = made_lists k l (done ++ m ∷ []) (Some m) (n + length list) (m + 1) lists one laid some_c some_f
     (All-push (λ i. i < m + 1) done m (All-weaker (λ i. i < m) (λ i. i < m + 1) (λ i e. omega arith) done low) (omega arith)) (omega arith) few_c own.1
-    (All-tail (All HasWords) list lists words) (omega arith) in
+    (λ one. All-tail (All IsOld) list lists (old one)) (All-tail (All HasWords) list lists words) (omega arith) in
     let count : n + length list + sum_by length lists ≡ n + sum_by length (list ∷ lists) = omega (arith, sum) in
     made_then fs (forms.Cpu m) (map forms.Command list ++ numbered list_forms (m + 1) lists)
     (rw (append_assoc (fs ++ forms.Cpu m ∷ []) (map forms.Command list) (numbered list_forms (m + 1) lists), append_assoc done (m ∷ []) (range_with_len (m + 1) (length lists)), count) at rest)

@@ -63,21 +63,21 @@ text_parts a b c d e f g h i j z = simp (forms_text-append, forms_text-one)
 
 -- the text of a script, part by part
 pub script_parts : (s : Script) (a b c d e f g h i j k l : List ℕ) → a ≡ []
-    → b ≡ a ++ forms_text (head_forms s.layout.cpus s.layout.frames)
+    → b ≡ a ++ forms_text (head_forms s.layout.version s.layout.cpus s.layout.frames)
     → c ≡ b ++ forms_text (numbered kernel_forms 0 s.layout.kernel)
     → d ≡ c ++ forms_text (setting_forms s.layout.recovery s.layout.early)
     → e ≡ d ++ forms_text (counted file_form s.layout.files)
     → f ≡ e ++ forms_text (counted proc_form s.layout.procs)
     → g ≡ f ++ forms_text (numbered thread_forms 0 s.layout.threads)
-    → h ≡ g ++ forms_text (numbered page_forms 0 s.layout.pages)
+    → h ≡ g ++ forms_text (numbered (page_forms s.layout.locked) 0 s.layout.pages)
     → i ≡ h ++ forms_text (numbered trans_forms 0 s.layout.trans)
     → j ≡ i ++ forms_text (numbered list_forms 0 s.lists)
     → k ≡ j ++ forms_text (counted (go_row s.go) (rows_of (length s.go)))
     → l ≡ k ++ line (form_words forms.End) → l ≡ script_text s
 script_parts s a b c d e f g h i j k l ea eb ec ed ee ef eg eh ei ej ek el =
-    el ∙ rw (ek, ej, ei, eh, eg, ef, ee, ed, ec, eb, ea) (sym (text_parts (head_forms s.layout.cpus s.layout.frames) (numbered kernel_forms 0 s.layout.kernel)
+    el ∙ rw (ek, ej, ei, eh, eg, ef, ee, ed, ec, eb, ea) (sym (text_parts (head_forms s.layout.version s.layout.cpus s.layout.frames) (numbered kernel_forms 0 s.layout.kernel)
     (setting_forms s.layout.recovery s.layout.early) (counted file_form s.layout.files) (counted proc_form s.layout.procs) (numbered thread_forms 0 s.layout.threads)
-    (numbered page_forms 0 s.layout.pages) (numbered trans_forms 0 s.layout.trans) (numbered list_forms 0 s.lists) (counted (go_row s.go) (rows_of (length s.go))) forms.End))
+    (numbered (page_forms s.layout.locked) 0 s.layout.pages) (numbered trans_forms 0 s.layout.trans) (numbered list_forms 0 s.lists) (counted (go_row s.go) (rows_of (length s.go))) forms.End))
 
 -- the words from one place to another, where 50 or fewer follow
 pub row_words : {A : Type 0} (xs : List A) (start end : ℕ) → start ≤ length xs

@@ -4,10 +4,11 @@ use Rattle.std.specs.Prelude.{◌↔◌, All, Contains, slice_get, sum_by, fold}
 use Rattle.std.specs.List.{range_with_len}
 use Rattle.std.proofs.lemmas.List.{length_push, take_all}
 use Rattle.std.proofs.lemmas.List.Elements.{All-nil, Contains-append_right, Contains-append_cases, Contains-push_cases}
-use Rattle.hwp_script_read.specs.hwp_geom.Limits.{command_limit}
+use Rattle.hwp_script_read.specs.hwp_geom.Limits.{command_limit, page_limit_of, translation_limit_of}
 use Rattle.hwp_script_read.specs.hwp_geom.Layout.{IsSound, IsBacked}
 use Rattle.hwp_script_read.specs.hwp_geom.declared.Layout.{Layout}
 use Rattle.hwp_script_read.specs.hwp_geom.declared.PageKind.{PageKind}
+use Rattle.hwp_script_read.specs.hwp_geom.declared.Version.TheVariants as versions
 use Rattle.hwp_script_read.specs.hwp_geom.declared.PageKind.TheVariants as kinds
 use Rattle.hwp_script_read.specs.hwp_script_lines.declared.ScriptLine.{ScriptLine}
 use Rattle.hwp_script_read.specs.hwp_script_lines.declared.ScriptLine.TheVariants as forms
@@ -22,7 +23,7 @@ use Rattle.hwp_script_print.specs.Text.{numbered, counted, head_forms, kernel_fo
 use Rattle.hwp_script_print.specs.Round.{IsTextOf}
 use Rattle.hwp_script_print.proofs.CleanPut.{put_end}
 use Rattle.hwp_script_print.proofs.ReadBack.{lines_at, text_read, forms_read}
-use Rattle.hwp_script_print.proofs.Sections.{Known, IsMade, nothing, marked, HasFile, made_head, made_kernel, made_settings, made_files, made_procs, made_threads, made_pages, made_trans, made_later, made_push, placed, plain}
+use Rattle.hwp_script_print.proofs.Sections.{Known, IsMade, nothing, marked, marks_from, HasFile, made_head, made_kernel, made_settings, made_files, made_procs, made_threads, made_pages, made_trans, made_later, made_push, placed, plain}
 use Rattle.hwp_script_print.proofs.ListsPut.{made_lists, placed_at}
 use Rattle.hwp_script_print.proofs.RowsPut.{made_rows}
 use Rattle.hwp_script_print.proofs.CommandsBack.{lists_back, between}
@@ -31,12 +32,13 @@ use Rattle.hwp_script_read.proofs.OneScript.{one_script}
 -- the lines of the declarations
 abbrev layout_forms : Layout → List ScriptLine
 layout_forms l =
-    head_forms l.cpus l.frames ++ numbered kernel_forms 0 l.kernel ++ setting_forms l.recovery l.early ++ counted file_form l.files
-    ++ counted proc_form l.procs ++ numbered thread_forms 0 l.threads ++ numbered page_forms 0 l.pages ++ numbered trans_forms 0 l.trans
+    head_forms l.version l.cpus l.frames ++ numbered kernel_forms 0 l.kernel ++ setting_forms l.recovery l.early ++ counted file_form l.files
+    ++ counted proc_form l.procs ++ numbered thread_forms 0 l.threads ++ numbered (page_forms l.locked) 0 l.pages ++ numbered trans_forms 0 l.trans
 
 -- what they declare
 abbrev declared : Layout → Known
 declared l = record nothing {
+  version = l.version;
   cpus = l.cpus;
   frames = l.frames;
   kernel = marked 0 l.kernel;
@@ -46,6 +48,7 @@ declared l = record nothing {
   procs = l.procs;
   threads = l.threads;
   pages = l.pages;
+  locked = marks_from l.locked 0 l.pages;
   trans = l.trans;
 }
 
@@ -62,17 +65,34 @@ from_none n = omega arith
 no_more : (n limit : ℕ) → n ≤ limit → 0 + n ≤ limit
 no_more n limit h = omega arith
 
-made_layout : (l : Layout) → IsSound l → All HasFill l.pages → IsMade (layout_forms l) 10 (declared l)
-made_layout l s fills =
-    let head = made_head l.cpus l.frames s.some_cpu s.cpus s.some_frame s.frames in
-    let kernel = made_kernel (record nothing { cpus = l.cpus; frames = l.frames }) [] 0 l.kernel (made_later 3 head (omega arith)) s.some_cpu s.some_frame s.frames
+-- the marks are the list of locked pages
+marks_at : (locked : List Bool) (n : ℕ) (pages : List PageKind) (rest : List Bool) → length rest ≡ length pages
+    → ((i : ℕ) → get_or locked (n + i) false ≡ get_or rest i false) → marks_from locked n pages ≡ rest
+marks_at locked n [] [] l same = refl
+marks_at locked n [] (b ∷ bs) l same = absurd (omega (arith, l))
+marks_at locked n (q ∷ qs) [] l same = absurd (omega (arith, l))
+marks_at locked n (q ∷ qs) (b ∷ bs) l same =
+    let at : n + 0 ≡ n = omega arith in
+    let here : get_or locked n false ≡ b = rw at at (same 0) in
+    let behind = marks_at locked (n + 1) qs bs (omega (arith, l)) (λ i. let next : n + 1 + i ≡ n + suc i = omega arith in rw next (same (suc i))) in
+    rw (here, behind) refl
+
+marks_are_all : (l : Layout) → IsSound l → marks_from l.locked 0 l.pages ≡ l.locked
+marks_are_all l s = marks_at l.locked 0 l.pages l.locked s.locked (λ i. let e : 0 + i ≡ i = omega arith in rw e refl)
+
+made_layout : (l : Layout) → IsSound l → (l.version ≡ versions.One → All (λ (b : Bool). b ≡ false) l.locked) → All HasFill l.pages → IsMade (layout_forms l) 10 (declared l)
+made_layout l s older fills =
+    let f = s.within in
+    let head = made_head l.version l.cpus l.frames s.some_cpu f.cpus s.some_frame f.frames in
+    let kernel = made_kernel (record nothing { version = l.version; cpus = l.cpus; frames = l.frames }) [] 0 l.kernel (made_later 3 head (omega arith)) s.some_cpu s.some_frame f.frames
     (All-nil (λ m. m < 0)) (omega (arith, s.kernel)) in
-    let settings = made_settings (record nothing { cpus = l.cpus; frames = l.frames; kernel = marked 0 l.kernel }) l.recovery l.early (made_later 5 kernel (omega arith)) kernel.late s.some_cpu s.some_frame in
-    let files = made_files (record (declared l) { procs = 0; threads = []; pages = []; trans = [] }) 0 l.files (made_later 6 settings (omega arith)) s.some_cpu s.some_frame (no_more l.files 16 s.files) in
-    let procs = made_procs (record (declared l) { threads = []; pages = []; trans = [] }) 0 l.procs (made_later 7 (rw (from_none l.files) at files) (omega arith)) s.some_cpu s.some_frame (no_more l.procs 16 s.procs) in
-    let threads = made_threads (record (declared l) { pages = []; trans = [] }) [] l.threads (made_later 8 (rw (from_none l.procs) at procs) (omega arith)) s.some_cpu s.some_frame s.cpus s.procs (no_more (length l.threads) 32 s.threads) s.thread_names in
-    let pages = made_pages (record (declared l) { trans = [] }) [] l.pages (made_later 9 threads (omega arith)) s.some_cpu s.some_frame s.files (no_more (length l.pages) 256 s.pages) (have_files l l.pages s.page_names fills) in
-    made_trans (declared l) [] l.trans (made_later 10 pages (omega arith)) s.some_cpu s.some_frame s.procs s.pages (no_more (length l.trans) 512 s.trans) s.trans_names
+    let settings = made_settings (record nothing { version = l.version; cpus = l.cpus; frames = l.frames; kernel = marked 0 l.kernel }) l.recovery l.early (made_later 5 kernel (omega arith)) kernel.late s.some_cpu s.some_frame in
+    let files = made_files (record (declared l) { procs = 0; threads = []; pages = []; locked = []; trans = [] }) 0 l.files (made_later 6 settings (omega arith)) s.some_cpu s.some_frame (no_more l.files 16 s.files) in
+    let procs = made_procs (record (declared l) { threads = []; pages = []; locked = []; trans = [] }) 0 l.procs (made_later 7 (rw (from_none l.files) at files) (omega arith)) s.some_cpu s.some_frame (no_more l.procs 16 s.procs) in
+    let threads = made_threads (record (declared l) { pages = []; locked = []; trans = [] }) [] l.threads (made_later 8 (rw (from_none l.procs) at procs) (omega arith)) s.some_cpu s.some_frame f.cpus s.procs (no_more (length l.threads) 32 s.threads) s.thread_names in
+    let pages = made_pages (record (declared l) { trans = [] }) l.locked [] l.pages [] (made_later 9 threads (omega arith)) s.some_cpu s.some_frame s.files (no_more (length l.pages) (page_limit_of l.version) f.pages) (have_files l l.pages s.page_names fills)
+    (λ one. rw (marks_are_all l s) (older one)) in
+    made_trans (declared l) [] l.trans (made_later 10 pages (omega arith)) s.some_cpu s.some_frame s.procs f.pages (no_more (length l.trans) (translation_limit_of l.version) f.trans) s.trans_names
 
 -- what all lines of a script declare
 abbrev said : Script → Known
@@ -84,12 +104,12 @@ all_rows n = omega arith
 made_script : (s : Script) → IsValid s → IsMade (script_forms s) 13 (said s)
 made_script s v =
     let sound = v.sound in
-    let layout = made_layout s.layout sound v.fills in
+    let layout = made_layout s.layout sound (λ one. (v.older one).unlocked) v.fills in
     let lists = made_lists (declared s.layout) s.layout [] None 0 0 s.lists (made_later 11 layout (omega arith))
-    (record { sound = sound; cpus = refl; frames = refl; files = refl; threads = refl; pages = refl; trans = refl }) sound.some_cpu sound.some_frame
-    (All-nil (λ i. i < 0)) (omega (arith, v.one_each)) sound.cpus v.lists v.words (no_more (sum_by length s.lists) command_limit v.few) in
+    (record { sound = sound; version = refl; cpus = refl; frames = refl; files = refl; threads = refl; pages = refl; trans = refl }) sound.some_cpu sound.some_frame
+    (All-nil (λ i. i < 0)) (omega (arith, v.one_each)) sound.within.cpus v.lists (λ one. (v.older one).commands) v.words (no_more (sum_by length s.lists) command_limit v.few) in
     let rows = made_rows (record (said s) { go = [] }) s.go (placed_at None 0 s.lists) 0 (rows_of (length s.go)) (made_later 12 (rw (from_none (sum_by length s.lists)) at lists) (omega arith))
-    sound.some_cpu sound.some_frame sound.cpus v.go v.few_go (omega arith) in
+    sound.some_cpu sound.some_frame sound.within.cpus v.go v.few_go (omega arith) in
     let end = made_push forms.End (made_later 13 rows (omega arith)) (omega arith) (plain tt refl) (put_end rows.some (placed rows sound.some_cpu sound.some_frame)) in
     rw (take_all ((0 + rows_of (length s.go)) * 50) s.go (all_rows (length s.go))) at end
 
@@ -146,8 +166,9 @@ lists_said s v made front =
 script_back : (s : Script) → IsValid s → Collects (script_forms s) s
 script_back s v =
     let made = made_script s v in
-    let front : commands_in (layout_forms s.layout) ≡ 0 = ap (λ (x : Known). x.commands) (made_layout s.layout v.sound v.fills).same in
+    let front : commands_in (layout_forms s.layout) ≡ 0 = ap (λ (x : Known). x.commands) (made_layout s.layout v.sound (λ one. (v.older one).unlocked) v.fills).same in
     record {
+      version = sym (ap (λ (x : Known). x.version) made.same);
       cpus = sym (ap (λ (x : Known). x.cpus) made.same);
       frames = sym (ap (λ (x : Known). x.frames) made.same);
       marks = v.sound.kernel ∙ sym (ap (λ (x : Known). x.frames) made.same);
@@ -159,6 +180,7 @@ script_back s v =
       threads = sym (ap (λ (x : Known). x.threads) made.same);
       pages = sym (ap (λ (x : Known). x.pages) made.same);
       trans = sym (ap (λ (x : Known). x.trans) made.same);
+      locked = sym (ap (λ (x : Known). x.locked) made.same ∙ marks_are_all s.layout v.sound);
       lists = lists_said s v made front;
       go = sym (ap (λ (x : Known). x.go) made.same);
     }

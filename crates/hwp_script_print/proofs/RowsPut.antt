@@ -4,12 +4,13 @@ use Rattle.std.specs.Prelude.{All}
 use Rattle.std.specs.List.{range_with_len}
 use Rattle.std.proofs.lemmas.List.{length-take, length-drop}
 use Rattle.std.proofs.lemmas.List.Elements.{All-head, All-tail, All-take, All-drop, All-weaker}
-use Rattle.hwp_script_read.specs.hwp_geom.Limits.{cpu_limit}
+use Rattle.hwp_script_read.specs.hwp_geom.Limits.{cpu_limit, cpu_limit_of}
 use Rattle.hwp_script_read.specs.hwp_script_lines.declared.ScriptLine.{ScriptLine}
 use Rattle.hwp_script_read.specs.hwp_script_lines.declared.Go.{Go}
 use Rattle.hwp_script_read.specs.Limits.{schedule_limit}
-use Rattle.hwp_script_read.specs.Context.{cpus_in, go_in}
+use Rattle.hwp_script_read.specs.Context.{version_in, cpus_in, go_in}
 use Rattle.hwp_script_read.specs.Reasons.{IsClean, top_cpu}
+use Rattle.hwp_script_read.proofs.CleanLaws.{cpu_most}
 use Rattle.hwp_script_print.specs.Text.{go_row, rows_of}
 use Rattle.hwp_script_print.proofs.WordsPut.{IsWhole}
 use Rattle.hwp_script_print.proofs.CleanPut.{put_schedule}
@@ -49,12 +50,14 @@ placed_rows p zero = p
 placed_rows p (suc n) = placed_rows None n
 
 pub made_rows : {fs : List ScriptLine} (k : Known) (go : List Go) (p : Option ℕ) (i n : ℕ) → IsMade fs 12 (record k { place = p; go = take (i * 50) go })
-    → 0 < k.cpus → 0 < k.frames → k.cpus ≤ cpu_limit → All (IsGoBelow k.cpus) go → length go ≤ schedule_limit → i + n ≤ rows_of (length go)
+    → 0 < k.cpus → 0 < k.frames → k.cpus ≤ cpu_limit_of k.version → All (IsGoBelow k.cpus) go → length go ≤ schedule_limit → i + n ≤ rows_of (length go)
     → IsMade (fs ++ map (go_row go) (range_with_len i n)) 12 (record k { place = placed_rows p n; go = take ((i + n) * 50) go })
 made_rows k go p i zero h some_c some_f few_c own few l = let e : i + zero ≡ i = omega arith in rw e (made_nil h)
 made_rows {fs} k go p i (suc n) h some_c some_f few_c own few l =
     let row = take 50 (drop (i * 50) go) in
     let cpus : cpus_in fs ≡ k.cpus = ap (λ (x : Known). x.cpus) h.same in
+    let version : version_in fs ≡ k.version = ap (λ (x : Known). x.version) h.same in
+    let few_any : k.cpus ≤ cpu_limit = let most : cpu_limit_of k.version ≤ cpu_limit = cpu_most k.version in omega (arith, few_c, most) in
     let so_far : go_in fs ≡ take (i * 50) go = ap (λ (x : Known). x.go) h.same in
     let own_row : All (IsGoBelow k.cpus) row = All-take (IsGoBelow k.cpus) 50 (drop (i * 50) go) (All-drop (IsGoBelow k.cpus) (i * 50) go own) in
     let below : top_cpu row < k.cpus = turns_below k.cpus row some_c own_row in
@@ -64,9 +67,10 @@ made_rows {fs} k go p i (suc n) h some_c some_f few_c own few l =
     let clean : IsClean fs (go_row go i) = put_schedule h.some (record {
       placed = placed h some_c some_f;
       few = rw (so_far, before, many) (omega arith);
+      low = rw version (omega (arith, below, few_c));
       cpus = rw cpus below;
     }) in
-    let whole : IsWhole (go_row go i) = record { fits = rw many (omega arith); turns = turns_low k.cpus row few_c own_row } in
+    let whole : IsWhole (go_row go i) = record { fits = rw many (omega arith); turns = turns_low k.cpus row few_any own_row } in
     let made : IsMade (fs ++ go_row go i ∷ []) 12 (record k { place = None; go = take ((i + 1) * 50) go }) =
     rw (row_after go i) at (made_push (go_row go i) h (omega arith) whole clean) in
     let rest = made_rows {fs = fs ++ go_row go i ∷ []} k go None (i + 1) n made some_c some_f few_c own few (omega arith) in

@@ -1,10 +1,12 @@
 -- Declarations that are put one after the other: each line is clean, and what they declare grows.
-use Rattle.std.proofs.Common.{ℕ, ◌≡◌, ◌<◌, ◌≤◌, ◌^◌, ◌+◌, ◌++◌, ◌==◌, Bool, true, false, List, [], ◌∷◌, length, map, Option, Some, None, zero, suc, ap, subst, ◌∙◌, sym, refl, arith}
+use Rattle.std.proofs.Common.{ℕ, ◌≡◌, ◌<◌, ◌≤◌, ◌^◌, ◌+◌, ◌++◌, ◌==◌, Bool, true, false, List, [], ◌∷◌, length, get_or, map, Option, Some, None, zero, suc, ap, subst, ◌∙◌, sym, refl, arith}
 use Rattle.std.specs.Prelude.{All, Contains}
 use Rattle.std.specs.List.{range_with_len}
 use Rattle.std.proofs.lemmas.List.{append-nil, append_assoc, length_push}
 use Rattle.std.proofs.lemmas.List.Elements.{All-nil, All-cons, All-head, All-tail, All-push, All-weaker, All-contains}
-use Rattle.hwp_script_read.specs.hwp_geom.Limits.{cpu_limit}
+use Rattle.hwp_script_read.specs.hwp_geom.Limits.{cpu_limit, frame_limit, page_limit, translation_limit, cpu_limit_of, frame_limit_of, page_limit_of, translation_limit_of}
+use Rattle.hwp_script_read.specs.hwp_geom.declared.Version.{Version}
+use Rattle.hwp_script_read.specs.hwp_geom.declared.Version.TheVariants as versions
 use Rattle.hwp_script_read.specs.hwp_geom.declared.ThreadDecl.{ThreadDecl}
 use Rattle.hwp_script_read.specs.hwp_geom.declared.TransDecl.{TransDecl}
 use Rattle.hwp_script_read.specs.hwp_geom.declared.PageKind.{PageKind}
@@ -12,10 +14,10 @@ use Rattle.hwp_script_read.specs.hwp_geom.declared.PageKind.TheVariants as kinds
 use Rattle.hwp_script_read.specs.hwp_script_lines.declared.ScriptLine.{ScriptLine}
 use Rattle.hwp_script_read.specs.hwp_script_lines.declared.Go.{Go}
 use Rattle.hwp_script_read.specs.hwp_script_lines.declared.ScriptLine.TheVariants as forms
-use Rattle.hwp_script_read.specs.Context.{cpus_of, frames_of, kernel_of, recovery_of, early_of, file_of, proc_of, thread_of, page_of, trans_of, cpu_of, command_of, words_of, kind_of, cpus_in, frames_in, kernel_in, recovery_in, early_in, files_in, procs_in, threads_in, pages_in, trans_in, lists_in, commands_in, go_in, place_in, place_after, group, highest}
+use Rattle.hwp_script_read.specs.Context.{version_after, version_in, locked_of, locked_in, cpus_of, frames_of, kernel_of, recovery_of, early_of, file_of, proc_of, thread_of, page_of, trans_of, cpu_of, command_of, words_of, kind_of, cpus_in, frames_in, kernel_in, recovery_in, early_in, files_in, procs_in, threads_in, pages_in, trans_in, lists_in, commands_in, go_in, place_in, place_after, group, highest}
 use Rattle.hwp_script_read.specs.Reasons.{IsClean, AreClean, IsBackingOver, IsBackingUndeclared}
 use Rattle.hwp_script_read.proofs.ContextLaws.{onto, plus, more, either, pushed}
-use Rattle.hwp_script_read.proofs.CleanLaws.{IsPlaced}
+use Rattle.hwp_script_read.proofs.CleanLaws.{IsPlaced, cpu_most, frame_most, page_most, trans_most}
 use Rattle.hwp_script_read.proofs.CleanLists.{AreClean-none, AreClean-push}
 use Rattle.hwp_script_read.proofs.ValidLaws.{IsNamedThread, IsNamedTrans}
 use Rattle.hwp_script_print.specs.Text.{backing_of, numbered, head_forms, kernel_forms, setting_forms, file_form, proc_form, thread_forms, page_forms, trans_forms}
@@ -25,6 +27,7 @@ use Rattle.hwp_script_print.proofs.CleanPut.{put_header, put_cpus, put_frames, p
 
 -- what lines declare
 pub record Known : Type 0 where
+  pub version : Version
   pub cpus : ℕ
   pub frames : ℕ
   pub kernel : List ℕ
@@ -34,6 +37,7 @@ pub record Known : Type 0 where
   pub procs : ℕ
   pub threads : List ThreadDecl
   pub pages : List PageKind
+  pub locked : List Bool
   pub trans : List TransDecl
   pub lists : List ℕ
   pub place : Option ℕ
@@ -42,6 +46,7 @@ pub record Known : Type 0 where
 
 abbrev pub known : List ScriptLine → Known
 known fs = record {
+  version = version_in fs;
   cpus = cpus_in fs;
   frames = frames_in fs;
   kernel = kernel_in fs;
@@ -51,6 +56,7 @@ known fs = record {
   procs = procs_in fs;
   threads = threads_in fs;
   pages = pages_in fs;
+  locked = locked_in fs;
   trans = trans_in fs;
   lists = lists_in fs;
   place = place_in fs;
@@ -69,6 +75,7 @@ go_more-is xs (w ∷ ws) = refl
 -- what they declare with one more
 abbrev pub next : Known → ScriptLine → Known
 next k f = record {
+  version = version_after k.version f;
   cpus = plus (cpus_of f) k.cpus;
   frames = plus (frames_of f) k.frames;
   kernel = onto (kernel_of f) k.kernel;
@@ -78,6 +85,7 @@ next k f = record {
   procs = more (proc_of f) k.procs;
   threads = onto (thread_of f) k.threads;
   pages = onto (page_of f) k.pages;
+  locked = onto (locked_of f) k.locked;
   trans = onto (trans_of f) k.trans;
   lists = onto (cpu_of f) k.lists;
   place = place_after k.place f;
@@ -88,7 +96,7 @@ next k f = record {
 known_push : (fs : List ScriptLine) (f : ScriptLine) → known (fs ++ f ∷ []) ≡ next (known fs) f
 known_push fs f =
     let p = pushed fs f in
-    rw (p.cpus, p.frames, p.kernel, p.recovery, p.early, p.files, p.procs, p.threads, p.pages, p.trans, p.lists, p.place, p.commands, p.go, go_more-is) refl
+    rw (p.version, p.locked, p.cpus, p.frames, p.kernel, p.recovery, p.early, p.files, p.procs, p.threads, p.pages, p.trans, p.lists, p.place, p.commands, p.go, go_more-is) refl
 
 -- the lines are clean, of groups up to g, and declare this
 pub record IsMade (fs : List ScriptLine) (g : ℕ) (k : Known) : Type 0 where
@@ -129,6 +137,7 @@ placed {fs} {g} {k} h c f =
 -- the header, and the numbers of processors and frames
 abbrev pub nothing : Known
 nothing = record {
+  version = versions.One;
   cpus = 0;
   frames = 0;
   kernel = [];
@@ -138,6 +147,7 @@ nothing = record {
   procs = 0;
   threads = [];
   pages = [];
+  locked = [];
   trans = [];
   lists = [];
   place = None;
@@ -145,13 +155,15 @@ nothing = record {
   go = [];
 }
 
-made_header : IsMade (forms.Header ∷ []) 2 nothing
-made_header = record { some = omega arith; clean = AreClean-push [] forms.Header AreClean-none put_header; late = omega arith; whole = All-cons IsWhole forms.Header [] (plain tt refl) (All-nil IsWhole); same = refl }
+made_header : (v : Version) → IsMade (forms.Header v ∷ []) 2 (record nothing { version = v })
+made_header v = record { some = omega arith; clean = AreClean-push [] (forms.Header v) AreClean-none (put_header v); late = omega arith; whole = All-cons IsWhole (forms.Header v) [] (plain tt refl) (All-nil IsWhole); same = refl }
 
-pub made_head : (c f : ℕ) → 1 ≤ c → c ≤ 8 → 1 ≤ f → f ≤ 256 → IsMade (head_forms c f) 2 (record nothing { cpus = c; frames = f })
-made_head c f some_c few_c some_f few_f =
-    let one = made_push (forms.Cpus c) made_header (omega arith) (plain (omega arith) refl) (put_cpus (omega arith) (record { some = omega arith; few = omega arith; first = refl; late = omega arith })) in
-    let two = made_push (forms.Frames f) one (omega arith) (plain (omega arith) refl) (put_frames (omega arith) (record { some = omega arith; few = omega arith; first = refl; late = omega arith }) (omega arith)) in
+pub made_head : (v : Version) (c f : ℕ) → 1 ≤ c → c ≤ cpu_limit_of v → 1 ≤ f → f ≤ frame_limit_of v → IsMade (head_forms v c f) 2 (record nothing { version = v; cpus = c; frames = f })
+made_head v c f some_c few_c some_f few_f =
+    let low_c : cpu_limit_of v ≤ cpu_limit = cpu_most v in
+    let low_f : frame_limit_of v ≤ frame_limit = frame_most v in
+    let one = made_push (forms.Cpus c) (made_header v) (omega arith) (plain (omega arith) refl) (put_cpus (omega arith) (record { some = omega arith; few = few_c; first = refl; late = omega arith })) in
+    let two = made_push (forms.Frames f) one (omega arith) (plain (omega arith) refl) (put_frames (omega arith) (record { some = omega arith; few = few_f; first = refl; late = omega arith }) (omega arith)) in
     let cpus : 0 + c ≡ c = omega arith in
     let frames : 0 + f ≡ f = omega arith in
     rw (cpus, frames) at two
@@ -162,7 +174,7 @@ marked n [] = []
 marked n (true ∷ bs) = n ∷ marked (n + 1) bs
 marked n (false ∷ bs) = marked (n + 1) bs
 
-pub made_kernel : {fs : List ScriptLine} (k : Known) (done : List ℕ) (n : ℕ) (bs : List Bool) → IsMade fs 3 (record k { kernel = done }) → 0 < k.cpus → 0 < k.frames → k.frames ≤ 256
+pub made_kernel : {fs : List ScriptLine} (k : Known) (done : List ℕ) (n : ℕ) (bs : List Bool) → IsMade fs 3 (record k { kernel = done }) → 0 < k.cpus → 0 < k.frames → k.frames ≤ frame_limit_of k.version
     → All (λ m. m < n) done → n + length bs ≤ k.frames → IsMade (fs ++ numbered kernel_forms n bs) 3 (record k { kernel = done ++ marked n bs })
 made_kernel k done n [] h c f few low l = rw (append-nil done) (made_nil h)
 made_kernel k done n (false ∷ bs) h c f few low l =
@@ -171,7 +183,9 @@ made_kernel {fs} k done n (true ∷ bs) h c f few low l =
     let frames : frames_in fs ≡ k.frames = ap (λ (x : Known). x.frames) h.same in
     let marks : kernel_in fs ≡ done = ap (λ (x : Known). x.kernel) h.same in
     let once : Contains (kernel_in fs) n → ⊥ = λ has. omega (arith, All-contains (λ m. m < n) done n low (subst (λ xs. Contains xs n) marks has)) in
-    let clean : IsClean fs (forms.Kernel n) = put_kernel h.some (record { placed = placed h c f; declared = omega arith; low = omega arith }) once in
+    let version : version_in fs ≡ k.version = ap (λ (x : Known). x.version) h.same in
+    let low_f : frame_limit_of k.version ≤ frame_limit = frame_most k.version in
+    let clean : IsClean fs (forms.Kernel n) = put_kernel h.some (record { placed = placed h c f; declared = omega arith; low = rw version (omega arith) }) once in
     let rest = made_kernel k (done ++ n ∷ []) (n + 1) bs (made_push (forms.Kernel n) h (omega arith) (plain (omega arith) refl) clean) c f few
     (All-push (λ m. m < n + 1) done n (All-weaker (λ m. m < n) (λ m. m < n + 1) (λ m e. omega arith) done low) (omega arith)) (omega arith) in
     made_then fs (forms.Kernel n) (numbered kernel_forms (n + 1) bs) (rw (append_assoc done (n ∷ []) (marked (n + 1) bs)) at rest)
@@ -215,7 +229,7 @@ made_procs {fs} k m (suc n) h c f l =
 
 -- the threads, the pages and the translations
 pub made_threads : {fs : List ScriptLine} (k : Known) (done ts : List ThreadDecl) → IsMade fs 8 (record k { threads = done }) → 0 < k.cpus → 0 < k.frames
-    → k.cpus ≤ 8 → k.procs ≤ 16 → length done + length ts ≤ 32 → All (IsNamedThread k.procs k.cpus) ts
+    → k.cpus ≤ cpu_limit_of k.version → k.procs ≤ 16 → length done + length ts ≤ 32 → All (IsNamedThread k.procs k.cpus) ts
     → IsMade (fs ++ numbered thread_forms (length done) ts) 8 (record k { threads = done ++ ts })
 made_threads k done [] h c f few_c few_p l names = rw (append-nil done) (made_nil h)
 made_threads {fs} k done (t ∷ ts) h c f few_c few_p l names =
@@ -223,6 +237,8 @@ made_threads {fs} k done (t ∷ ts) h c f few_c few_p l names =
     let cpus : cpus_in fs ≡ k.cpus = ap (λ (x : Known). x.cpus) h.same in
     let procs : procs_in fs ≡ k.procs = ap (λ (x : Known). x.procs) h.same in
     let next : length done ≡ length (threads_in fs) = sym (ap (λ (x : Known). length x.threads) h.same) in
+    let version : version_in fs ≡ k.version = ap (λ (x : Known). x.version) h.same in
+    let low_c : cpu_limit_of k.version ≤ cpu_limit = cpu_most k.version in
     let clean : IsClean fs (forms.Thread (length done) t.process.0 t.cpu.0 t.handler) = put_thread t.handler h.some (record {
       placed = placed h c f;
       few = omega arith;
@@ -230,7 +246,7 @@ made_threads {fs} k done (t ∷ ts) h c f few_c few_p l names =
       process = omega (arith, named.0, procs);
       low_process = omega (arith, named.0);
       cpu = omega (arith, named.1, cpus);
-      low_cpu = omega (arith, named.1);
+      low_cpu = rw version (omega (arith, named.1));
     }) in
     let rest = made_threads k (done ++ t ∷ []) ts (made_push (forms.Thread (length done) t.process.0 t.cpu.0 t.handler) h (omega arith) (plain (omega arith, omega (arith, named.0), omega (arith, named.1)) refl) clean) c f few_c few_p
     (rw length_push (omega arith)) (All-tail (IsNamedThread k.procs k.cpus) t ts names) in
@@ -253,31 +269,42 @@ no_undeclared : (fs : List ScriptLine) (n : ℕ) (kind : PageKind) → HasFile n
 no_undeclared fs n kinds.Anon h same e = e
 no_undeclared fs n (kinds.File file fill) h same e = omega (arith, h.0, e)
 
-page_fits : (n q : ℕ) (kind : PageKind) → HasFile n kind → n ≤ 16 → q < 2 ^ 64 → Fits (forms.Page q (backing_of kind))
-page_fits n q kinds.Anon h l low = low
-page_fits n q (kinds.File file fill) h l low = (low, omega (arith, h.0), h.1)
+page_fits : (n q : ℕ) (kind : PageKind) (locked : Bool) → HasFile n kind → n ≤ 16 → q < 2 ^ 64 → Fits (forms.Page q (backing_of kind) locked)
+page_fits n q kinds.Anon locked h l low = low
+page_fits n q (kinds.File file fill) locked h l low = (low, omega (arith, h.0), h.1)
 
-pub made_pages : {fs : List ScriptLine} (k : Known) (done qs : List PageKind) → IsMade fs 9 (record k { pages = done }) → 0 < k.cpus → 0 < k.frames
-    → k.files ≤ 16 → length done + length qs ≤ 256 → All (HasFile k.files) qs
-    → IsMade (fs ++ numbered page_forms (length done) qs) 9 (record k { pages = done ++ qs })
-made_pages k done [] h c f few l files = rw (append-nil done) (made_nil h)
-made_pages {fs} k done (q ∷ qs) h c f few l files =
+-- the marks of the pages from n on: whether each is locked
+abbrev pub marks_from : List Bool → ℕ → List PageKind → List Bool
+marks_from locked n [] = []
+marks_from locked n (q ∷ qs) = get_or locked n false ∷ marks_from locked (n + 1) qs
+
+pub made_pages : {fs : List ScriptLine} (k : Known) (locked : List Bool) (done qs : List PageKind) (marks : List Bool) → IsMade fs 9 (record k { pages = done; locked = marks }) → 0 < k.cpus → 0 < k.frames
+    → k.files ≤ 16 → length done + length qs ≤ page_limit_of k.version → All (HasFile k.files) qs → (k.version ≡ versions.One → All (λ (l : Bool). l ≡ false) (marks_from locked (length done) qs))
+    → IsMade (fs ++ numbered (page_forms locked) (length done) qs) 9 (record k { pages = done ++ qs; locked = marks ++ marks_from locked (length done) qs })
+made_pages k locked done [] marks h c f few l files older = rw (append-nil done, append-nil marks) (made_nil h)
+made_pages {fs} k locked done (q ∷ qs) marks h c f few l files older =
     let file = All-head (HasFile k.files) q qs files in
+    let mark = get_or locked (length done) false in
+    let version : version_in fs ≡ k.version = ap (λ (x : Known). x.version) h.same in
+    let low_p : page_limit_of k.version ≤ page_limit = page_most k.version in
     let next : length done ≡ length (pages_in fs) = sym (ap (λ (x : Known). length x.pages) h.same) in
-    let clean : IsClean fs (forms.Page (length done) (backing_of q)) = put_page h.some (record {
+    let clean : IsClean fs (forms.Page (length done) (backing_of q) mark) = put_page h.some (record {
       placed = placed h c f;
-      few = omega arith;
+      older = λ one. All-head (λ (l : Bool). l ≡ false) mark (marks_from locked (length done + 1) qs) (older (sym version ∙ one));
+      few = rw version (omega arith);
       next = next;
       low = no_over k.files q file few;
       backed = no_undeclared fs k.files q file (ap (λ (x : Known). x.files) h.same);
     }) in
-    let made : IsMade (fs ++ forms.Page (length done) (backing_of q) ∷ []) 9 (record k { pages = done ++ q ∷ [] }) =
-    rw kind_back at (made_push (forms.Page (length done) (backing_of q)) h (omega arith) (plain (page_fits k.files (length done) q file few (omega arith)) refl) clean) in
-    let rest = made_pages k (done ++ q ∷ []) qs made c f few (rw length_push (omega arith)) (All-tail (HasFile k.files) q qs files) in
-    made_then fs (forms.Page (length done) (backing_of q)) (numbered page_forms (length done + 1) qs) (rw (length_push, append_assoc done (q ∷ []) qs) at rest)
+    let made : IsMade (fs ++ forms.Page (length done) (backing_of q) mark ∷ []) 9 (record k { pages = done ++ q ∷ []; locked = marks ++ mark ∷ [] }) =
+    rw kind_back at (made_push (forms.Page (length done) (backing_of q) mark) h (omega arith) (plain (page_fits k.files (length done) q mark file few (omega arith)) refl) clean) in
+    let rest = made_pages k locked (done ++ q ∷ []) qs (marks ++ mark ∷ []) made c f few (rw length_push (omega arith)) (All-tail (HasFile k.files) q qs files)
+    (λ one. rw length_push (All-tail (λ (l : Bool). l ≡ false) mark (marks_from locked (length done + 1) qs) (older one))) in
+    made_then fs (forms.Page (length done) (backing_of q) mark) (numbered (page_forms locked) (length done + 1) qs)
+    (rw (length_push, append_assoc done (q ∷ []) qs, append_assoc marks (mark ∷ []) (marks_from locked (length done + 1) qs)) at rest)
 
 pub made_trans : {fs : List ScriptLine} (k : Known) (done vs : List TransDecl) → IsMade fs 10 (record k { trans = done }) → 0 < k.cpus → 0 < k.frames
-    → k.procs ≤ 16 → length k.pages ≤ 256 → length done + length vs ≤ 512 → All (IsNamedTrans k.procs (length k.pages)) vs
+    → k.procs ≤ 16 → length k.pages ≤ page_limit_of k.version → length done + length vs ≤ translation_limit_of k.version → All (IsNamedTrans k.procs (length k.pages)) vs
     → IsMade (fs ++ numbered trans_forms (length done) vs) 10 (record k { trans = done ++ vs })
 made_trans k done [] h c f few_p few_q l names = rw (append-nil done) (made_nil h)
 made_trans {fs} k done (v ∷ vs) h c f few_p few_q l names =
@@ -285,14 +312,17 @@ made_trans {fs} k done (v ∷ vs) h c f few_p few_q l names =
     let procs : procs_in fs ≡ k.procs = ap (λ (x : Known). x.procs) h.same in
     let pages : length (pages_in fs) ≡ length k.pages = ap (λ (x : Known). length x.pages) h.same in
     let next : length done ≡ length (trans_in fs) = sym (ap (λ (x : Known). length x.trans) h.same) in
+    let version : version_in fs ≡ k.version = ap (λ (x : Known). x.version) h.same in
+    let low_p : page_limit_of k.version ≤ page_limit = page_most k.version in
+    let low_t : translation_limit_of k.version ≤ translation_limit = trans_most k.version in
     let clean : IsClean fs (forms.Trans (length done) v.process.0 v.page.0) = put_trans h.some (record {
       placed = placed h c f;
-      few = omega arith;
+      few = rw version (omega arith);
       next = next;
       process = omega (arith, named.0, procs);
       low_process = omega (arith, named.0);
       page = omega (arith, named.1, pages);
-      low_page = omega (arith, named.1);
+      low_page = rw version (omega (arith, named.1));
     }) in
     let rest = made_trans k (done ++ v ∷ []) vs (made_push (forms.Trans (length done) v.process.0 v.page.0) h (omega arith) (plain (omega arith, omega (arith, named.0), omega (arith, named.1)) refl) clean) c f few_p few_q
     (rw length_push (omega arith)) (All-tail (IsNamedTrans k.procs (length k.pages)) v vs names) in

@@ -7,14 +7,16 @@ use Rattle.std.proofs.lemmas.Bool.{and_parts}
 use Rattle.std.proofs.lemmas.Bool.Decides.{nat_tests}
 use Rattle.std.proofs.lemmas.Fmt.{decimal_is_IsNumeral}
 use Rattle.std.proofs.lemmas.List.Elements.{All-nil, All-cons, All-head, All-tail}
-use Rattle.hwp_script_read.specs.hwp_geom.Limits.{line_limit, cpu_limit, frame_limit, file_limit, thread_limit, page_limit, translation_limit}
+use Rattle.hwp_script_read.specs.hwp_geom.Limits.{number, line_limit, file_limit, thread_limit, cpu_limit, frame_limit, page_limit, translation_limit}
 use Rattle.hwp_script_read.specs.hwp_geom.Words.{hex}
+use Rattle.hwp_script_read.specs.hwp_geom.declared.Version.{Version}
+use Rattle.hwp_script_read.specs.hwp_geom.declared.Version.TheVariants as versions
 use Rattle.hwp_script_read.specs.hwp_geom.declared.Kind.{Kind}
 use Rattle.hwp_script_read.specs.hwp_geom.declared.Kind.TheVariants as kinds
 use Rattle.hwp_script_read.proofs.of_hwp_geom.WordsPut.{IsHigh, IsPut, ArePut, put_append, put_decimal, put_hex, are_fixed, fixed_high, fixed, then, nothing}
 use Rattle.hwp_script_read.specs.hwp_script_lines.Kinds.{kind_text}
 use Rattle.hwp_script_read.specs.hwp_script_lines.Numbers.{register}
-use Rattle.hwp_script_read.specs.hwp_script_lines.Grammar.{bit, keyword, keyword_text, command_words, rest_words, form_words, handler_text, turn_text, until_text, Fits, CommandFits}
+use Rattle.hwp_script_read.specs.hwp_script_lines.Grammar.{bit, keyword, keyword_text, command_words, rest_words, form_words, locked_words, handler_text, turn_text, until_text, Fits, CommandFits}
 use Rattle.hwp_script_read.specs.Context.{words_of as turns_in}
 use Rattle.hwp_script_read.specs.hwp_script_lines.declared.ScriptLine.{ScriptLine}
 use Rattle.hwp_script_read.specs.hwp_script_lines.declared.Command.{Command}
@@ -59,7 +61,7 @@ put_register n h = put_append (hex n) (fixed 48 (120 ∷ []) refl) (put_hex n h)
 
 -- the first word of a line
 put_first : (f : ScriptLine) → IsPut (keyword_text (keyword f))
-put_first forms.Header = fixed _ _ refl
+put_first (forms.Header v) = fixed _ _ refl
 put_first forms.End = fixed _ _ refl
 put_first (forms.Cpus n) = fixed _ _ refl
 put_first (forms.Frames n) = fixed _ _ refl
@@ -70,7 +72,7 @@ put_first (forms.File n) = fixed _ _ refl
 put_first (forms.Proc n) = fixed _ _ refl
 put_first (forms.Cpu n) = fixed _ _ refl
 put_first (forms.Thread t p c h) = fixed _ _ refl
-put_first (forms.Page q b) = fixed _ _ refl
+put_first (forms.Page q b l) = fixed _ _ refl
 put_first (forms.Trans v p q) = fixed _ _ refl
 put_first (forms.Schedule ts) = fixed _ _ refl
 put_first (forms.Command (commands.Load t v l)) = fixed _ _ refl
@@ -82,6 +84,7 @@ put_first (forms.Command (commands.Drop q)) = fixed _ _ refl
 put_first (forms.Command (commands.Sync q)) = fixed _ _ refl
 put_first (forms.Command (commands.Out q)) = fixed _ _ refl
 put_first (forms.Command (commands.Fsync n)) = fixed _ _ refl
+put_first (forms.Command (commands.Open n)) = fixed _ _ refl
 put_first (forms.Command (commands.Prctl t args)) = fixed _ _ refl
 put_first (forms.Command (commands.Bad f l)) = fixed _ _ refl
 put_first (forms.Command (commands.Weak f l)) = fixed _ _ refl
@@ -166,6 +169,7 @@ put_command (commands.Drop q) h = then (put_decimal q.0 (low q.0 page_limit h (o
 put_command (commands.Sync q) h = then (put_decimal q.0 (low q.0 page_limit h (omega arith))) nothing
 put_command (commands.Out q) h = then (put_decimal q.0 (low q.0 page_limit h (omega arith))) nothing
 put_command (commands.Fsync n) h = then (put_decimal n.0 (low n.0 file_limit h (omega arith))) nothing
+put_command (commands.Open n) h = then (put_decimal n.0 (low n.0 file_limit h (omega arith))) nothing
 put_command (commands.Inject f) h = then (put_decimal f.0 (low f.0 frame_limit h (omega arith))) nothing
 put_command (commands.Soft f) h = then (put_decimal f.0 (low f.0 frame_limit h (omega arith))) nothing
 put_command (commands.Unpoison f) h = then (put_decimal f.0 (low f.0 frame_limit h (omega arith))) nothing
@@ -185,8 +189,16 @@ pub record IsWhole (f : ScriptLine) : Type 0 where
   pub fits : Fits f
   pub turns : All (λ (t : Go). t.cpu.0 < cpu_limit) (turns_in f)
 
+low_version : (v : Version) → number v < 2 ^ 64
+low_version versions.One = omega arith
+low_version versions.Two = omega arith
+
+put_locked : (locked : Bool) → ArePut (locked_words locked)
+put_locked true = then (fixed _ _ refl) nothing
+put_locked false = nothing
+
 put_rest : (f : ScriptLine) → Fits f → All (λ (t : Go). t.cpu.0 < cpu_limit) (turns_in f) → ArePut (rest_words f)
-put_rest forms.Header h k = then (fixed _ _ refl) nothing
+put_rest (forms.Header v) h k = then (put_decimal (number v) (low_version v)) nothing
 put_rest (forms.Cpus n) h k = then (put_decimal n h) nothing
 put_rest (forms.Frames n) h k = then (put_decimal n h) nothing
 put_rest (forms.Kernel n) h k = then (put_decimal n h) nothing
@@ -196,8 +208,9 @@ put_rest (forms.File n) h k = then (put_decimal n h) nothing
 put_rest (forms.Proc n) h k = then (put_decimal n h) nothing
 put_rest (forms.Cpu n) h k = then (put_decimal n h) nothing
 put_rest (forms.Thread t p c b) h k = then (put_decimal t h.0) (then (put_decimal p h.1) (then (put_decimal c h.2) (then (put_handler b) nothing)))
-put_rest (forms.Page q backings.Anon) h k = then (put_decimal q h) (then (fixed _ _ refl) nothing)
-put_rest (forms.Page q (backings.File n x)) h k = then (put_decimal q h.0) (then (fixed _ _ refl) (then (put_decimal n h.1) (then (fixed _ _ refl) (then (put_decimal x h.2) nothing))))
+put_rest (forms.Page q backings.Anon locked) h k = then (put_decimal q h) (then (fixed _ _ refl) (put_locked locked))
+put_rest (forms.Page q (backings.File n x) locked) h k =
+    then (put_decimal q h.0) (then (fixed _ _ refl) (then (put_decimal n h.1) (then (fixed _ _ refl) (then (put_decimal x h.2) (put_locked locked)))))
 put_rest (forms.Trans v p q) h k = then (put_decimal v h.0) (then (put_decimal p h.1) (then (put_decimal q h.2) nothing))
 put_rest (forms.Command c) h k = put_command c h
 put_rest (forms.Schedule ts) h k = put_turns ts k

@@ -17,9 +17,9 @@ command_line c = line (command_text (command_word c) ∷ command_words c)
 abbrev pub thread_words : ℕ → ℕ → ℕ → Bool → List (List ℕ)
 thread_words t p c handler = form_words (forms.Thread t p c handler)
 
--- the words of a page
-abbrev pub page_words : ℕ → Backing → List (List ℕ)
-page_words q backing = form_words (forms.Page q backing)
+-- the words of the line of a page
+abbrev pub page_line : ℕ → Backing → Bool → List (List ℕ)
+page_line q backing locked = form_words (forms.Page q backing locked)
 
 -- the words of a line of the schedule
 abbrev pub schedule_words : List Go → List (List ℕ)

@@ -1,6 +1,7 @@
 -- The one text of a script.
-use Rattle.std.specs.Prelude.{ℕ, ◌+◌, ◌*◌, ◌/◌, ◌++◌, Bool, true, false, List, [], ◌∷◌, length, map, take, drop}
+use Rattle.std.specs.Prelude.{ℕ, ◌+◌, ◌*◌, ◌/◌, ◌++◌, Bool, true, false, List, [], ◌∷◌, length, get_or, map, take, drop}
 use Rattle.std.specs.List.{range_with_len}
+use Rattle.hwp_script_read.specs.hwp_geom.declared.Version.{Version}
 use Rattle.hwp_script_read.specs.hwp_geom.declared.PageKind.{PageKind}
 use Rattle.hwp_script_read.specs.hwp_geom.declared.ThreadDecl.{ThreadDecl}
 use Rattle.hwp_script_read.specs.hwp_geom.declared.TransDecl.{TransDecl}
@@ -30,8 +31,8 @@ abbrev pub counted : (ℕ → ScriptLine) → ℕ → List ScriptLine
 counted form_of n = map form_of (range_with_len 0 n)
 
 -- the header, and the numbers of processors and frames
-abbrev pub head_forms : ℕ → ℕ → List ScriptLine
-head_forms cpus frames = forms.Header ∷ forms.Cpus cpus ∷ forms.Frames frames ∷ []
+abbrev pub head_forms : Version → ℕ → ℕ → List ScriptLine
+head_forms version cpus frames = forms.Header version ∷ forms.Cpus cpus ∷ forms.Frames frames ∷ []
 
 -- a line for a frame of the kernel
 abbrev pub kernel_forms : ℕ → Bool → List ScriptLine
@@ -54,9 +55,9 @@ proc_form n = forms.Proc n
 abbrev pub thread_forms : ℕ → ThreadDecl → List ScriptLine
 thread_forms n t = forms.Thread n t.process.0 t.cpu.0 t.handler ∷ []
 
--- a page
-abbrev pub page_forms : ℕ → PageKind → List ScriptLine
-page_forms n kind = forms.Page n (backing_of kind) ∷ []
+-- a page, locked if the list of locked pages says so
+abbrev pub page_forms : List Bool → ℕ → PageKind → List ScriptLine
+page_forms locked n kind = forms.Page n (backing_of kind) (get_or locked n false) ∷ []
 
 -- a translation
 abbrev pub trans_forms : ℕ → TransDecl → List ScriptLine
@@ -77,13 +78,13 @@ go_row go i = forms.Schedule (take 50 (drop (i * 50) go))
 -- the lines of a script, in the order of their groups
 abbrev pub script_forms : Script → List ScriptLine
 script_forms s =
-    head_forms s.layout.cpus s.layout.frames
+    head_forms s.layout.version s.layout.cpus s.layout.frames
     ++ numbered kernel_forms 0 s.layout.kernel
     ++ setting_forms s.layout.recovery s.layout.early
     ++ counted file_form s.layout.files
     ++ counted proc_form s.layout.procs
     ++ numbered thread_forms 0 s.layout.threads
-    ++ numbered page_forms 0 s.layout.pages
+    ++ numbered (page_forms s.layout.locked) 0 s.layout.pages
     ++ numbered trans_forms 0 s.layout.trans
     ++ numbered list_forms 0 s.lists
     ++ counted (go_row s.go) (rows_of (length s.go))

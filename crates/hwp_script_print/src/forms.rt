@@ -3,7 +3,7 @@ ghost use Rattle.std.specs.List.{flat_map};
 ghost use Rattle.hwp_script_read.specs.hwp_geom.Words.{line};
 ghost use Rattle.hwp_script_read.specs.hwp_script_lines.Grammar.{bit, form_words, turn_text};
 ghost use Rattle.hwp_script_read.specs.hwp_script_lines.Numbers.{register};
-ghost use Rattle.hwp_script_print.specs.Printed.{command_line, thread_words, page_words, schedule_words};
+ghost use Rattle.hwp_script_print.specs.Printed.{command_line, thread_words, page_line, schedule_words};
 
 use hwp_script_read::{
     Backing, Command, Frame, Go, Line, OutOfMemory, PrctlArgs, ScriptLine, Thread, Until, VSlot,
@@ -16,7 +16,7 @@ pub fn put_form(out: &mut String, form: &ScriptLine) -> Result<(), OutOfMemory>
     ensures { OnOk result (string_bytes out.new ≡ string_bytes out.old ++ line (form_words form.now)) }
 {
     match form {
-        ScriptLine::Header => writeln!(out, "hwp 1"),
+        ScriptLine::Header(version) => put_number(out, "hwp", u64::from(version.number())),
         ScriptLine::Cpus(count) => put_number(out, "cpus", *count),
         ScriptLine::Frames(count) => put_number(out, "frames", *count),
         ScriptLine::Kernel(frame) => put_number(out, "kernel", *frame),
@@ -30,7 +30,11 @@ pub fn put_form(out: &mut String, form: &ScriptLine) -> Result<(), OutOfMemory>
             cpu,
             handler,
         } => put_thread(out, *thread, *process, *cpu, *handler),
-        ScriptLine::Page { page, backing } => put_page(out, *page, *backing),
+        ScriptLine::Page {
+            page,
+            backing,
+            locked,
+        } => put_page(out, *page, *backing, *locked),
         ScriptLine::Trans {
             slot,
             process,
@@ -71,12 +75,18 @@ fn put_thread(
     }
 }
 
-fn put_page(out: &mut String, page: u64, backing: Backing) -> Result<(), OutOfMemory>
-    ensures { OnOk result (string_bytes out.new ≡ string_bytes out.old ++ line (page_words page backing)) }
+fn put_page(out: &mut String, page: u64, backing: Backing, locked: bool) -> Result<(), OutOfMemory>
+    ensures { OnOk result (string_bytes out.new ≡ string_bytes out.old ++ line (page_line page backing locked)) }
 {
-    match backing {
-        Backing::Anon => writeln!(out, "page {page} anon"),
-        Backing::File { file, fill } => writeln!(out, "page {page} file {file} fill {fill}"),
+    match (backing, locked) {
+        (Backing::Anon, false) => writeln!(out, "page {page} anon"),
+        (Backing::Anon, true) => writeln!(out, "page {page} anon locked"),
+        (Backing::File { file, fill }, false) => {
+            writeln!(out, "page {page} file {file} fill {fill}")
+        }
+        (Backing::File { file, fill }, true) => {
+            writeln!(out, "page {page} file {file} fill {fill} locked")
+        }
     }
 }
 
@@ -99,6 +109,7 @@ fn put_command(out: &mut String, command: &Command) -> Result<(), OutOfMemory>
         Command::Sync { page } => put_short(out, "sync", page.0),
         Command::Out { page } => put_short(out, "out", page.0),
         Command::Fsync { file } => put_short(out, "fsync", u16::from(file.0)),
+        Command::Open { file } => put_short(out, "open", u16::from(file.0)),
         Command::Prctl { thread, args } => put_prctl(out, thread, args),
         Command::Bad { frame, line } => put_frame_line(out, "bad", frame, line),
         Command::Weak { frame, line } => put_frame_line(out, "weak", frame, line),

@@ -10,7 +10,7 @@ ghost use Rattle.hwp_script_print.specs.Text.{backing_of, head_forms, kernel_for
 use crate::put_form;
 use hwp_script_read::{
     Backing, Command, Go, List, OutOfMemory, PageKind, Script, ScriptLine, Text, ThreadDecl,
-    TransDecl,
+    TransDecl, Version,
 };
 use std::alloc::Global;
 
@@ -25,13 +25,13 @@ pub fn print(alloc: Global, script: &Script) -> Result<Text, OutOfMemory>
 {
     let layout = &script.layout;
     let mut out = String::new(alloc);
-    put_head(&mut out, layout.cpus, layout.frames)?;
+    put_head(&mut out, layout.version, layout.cpus, layout.frames)?;
     put_kernel(&mut out, layout.kernel.as_slice())?;
     put_settings(&mut out, layout.recovery, layout.early)?;
     put_files(&mut out, layout.files)?;
     put_procs(&mut out, layout.procs)?;
     put_threads(&mut out, layout.threads.as_slice())?;
-    put_pages(&mut out, layout.pages.as_slice())?;
+    put_pages(&mut out, layout.pages.as_slice(), layout.locked.as_slice())?;
     put_trans(&mut out, layout.trans.as_slice())?;
     put_lists(&mut out, script.lists.as_slice())?;
     put_schedule(alloc, &mut out, script.go.as_slice())?;
@@ -39,10 +39,10 @@ pub fn print(alloc: Global, script: &Script) -> Result<Text, OutOfMemory>
     Ok(Text::from_string(out))
 }
 
-fn put_head(out: &mut String, cpus: u8, frames: u16) -> Result<(), OutOfMemory>
-    ensures { OnOk result (string_bytes out.new ≡ string_bytes out.old ++ forms_text (head_forms cpus frames)) }
+fn put_head(out: &mut String, version: Version, cpus: u8, frames: u16) -> Result<(), OutOfMemory>
+    ensures { OnOk result (string_bytes out.new ≡ string_bytes out.old ++ forms_text (head_forms version cpus frames)) }
 {
-    put_form(out, &ScriptLine::Header)?;
+    put_form(out, &ScriptLine::Header(version))?;
     put_form(out, &ScriptLine::Cpus(u64::from(cpus)))?;
     put_form(out, &ScriptLine::Frames(u64::from(frames)))?;
     Ok(())
@@ -127,21 +127,27 @@ fn backing(kind: PageKind) -> Backing
     }
 }
 
-fn put_pages(out: &mut String, pages: &[PageKind]) -> Result<(), OutOfMemory>
-    ensures { OnOk result (string_bytes out.new ≡ string_bytes out.old ++ forms_text (numbered page_forms 0 pages.now)) }
+fn put_pages(out: &mut String, pages: &[PageKind], locked: &[bool]) -> Result<(), OutOfMemory>
+    ensures { OnOk result (string_bytes out.new ≡ string_bytes out.old ++ forms_text (numbered (page_forms locked.now) 0 pages.now)) }
 {
     for (number, kind) in pages.iter().enumerate() {
-        put_page(out, number, *kind)?;
+        put_page(out, number, *kind, locked)?;
     }
     Ok(())
 }
 
-fn put_page(out: &mut String, number: usize, kind: PageKind) -> Result<(), OutOfMemory>
-    ensures { OnOk result (string_bytes out.new ≡ string_bytes out.old ++ forms_text (page_forms number kind)) }
+fn put_page(
+    out: &mut String,
+    number: usize,
+    kind: PageKind,
+    locked: &[bool],
+) -> Result<(), OutOfMemory>
+    ensures { OnOk result (string_bytes out.new ≡ string_bytes out.old ++ forms_text (page_forms locked.now number kind)) }
 {
     let form = ScriptLine::Page {
         page: number as u64,
         backing: backing(kind),
+        locked: locked.get(number).copied().unwrap_or(false),
     };
     put_form(out, &form)?;
     Ok(())

@@ -1,10 +1,12 @@
 -- What it says of a line that no reason applies to it, kind by kind.
-use Rattle.std.proofs.Common.{ℕ, Bool, ◌≡◌, ◌<◌, ◌≤◌, List, [], ◌∷◌, length, inl, inr, refl, arith, rules, Option, None, Some, ◌+◌}
+use Rattle.std.proofs.Common.{ℕ, Bool, true, false, ◌≡◌, ◌<◌, ◌≤◌, List, [], ◌∷◌, length, inl, inr, refl, arith, ap, rules, Option, None, Some, ◌+◌}
 use Rattle.std.specs.Prelude.{slice_get, option_and_then, IsSome}
 use Rattle.hwp_script_read.specs.Limits.{schedule_limit}
-use Rattle.hwp_geom.specs.Limits.{command_limit}
-use Rattle.hwp_script_read.specs.Context.{cpus_in, frames_in, recovery_in, early_in, files_in, procs_in, threads_in, pages_in, trans_in, commands_in, go_in, place_in, highest}
-use Rattle.hwp_script_read.specs.Reasons.{IsMisplaced, IsElsewhere, IsBackingOver, IsBackingUndeclared, IsUndeclared, actor, top_cpu, IsClean}
+use Rattle.hwp_geom.specs.Limits.{command_limit, cpu_limit, frame_limit, page_limit, translation_limit, cpu_limit_of, frame_limit_of, page_limit_of, translation_limit_of}
+use Rattle.hwp_geom.specs.declared.Version.{Version}
+use Rattle.hwp_geom.specs.declared.Version.TheVariants as versions
+use Rattle.hwp_script_read.specs.Context.{version_in, cpus_in, frames_in, recovery_in, early_in, files_in, procs_in, threads_in, pages_in, trans_in, commands_in, go_in, place_in, highest}
+use Rattle.hwp_script_read.specs.Reasons.{IsMisplaced, IsElsewhere, IsBackingOver, IsBackingUndeclared, IsUndeclared, IsNewer, IsBeyond, actor, top_cpu, IsClean}
 use Rattle.hwp_script_lines.specs.declared.Backing.{Backing}
 use Rattle.hwp_script_lines.specs.declared.Go.{Go}
 use Rattle.hwp_script_lines.specs.declared.Command.{Command}
@@ -25,14 +27,34 @@ placed above g h =
     let frame : frames_in above ≡ 0 → ⊥ = λ e. h (inr (inr e)) in
     record { late = omega arith; some_cpu = omega arith; some_frame = omega arith }
 
+-- the limits of a version are within those of all
+pub cpu_most : (v : Version) → cpu_limit_of v ≤ cpu_limit
+cpu_most versions.One = omega arith
+cpu_most versions.Two = omega arith
+
+pub frame_most : (v : Version) → frame_limit_of v ≤ frame_limit
+frame_most versions.One = omega arith
+frame_most versions.Two = omega arith
+
+pub page_most : (v : Version) → page_limit_of v ≤ page_limit
+page_most versions.One = omega arith
+page_most versions.Two = omega arith
+
+pub trans_most : (v : Version) → translation_limit_of v ≤ translation_limit
+trans_most versions.One = omega arith
+trans_most versions.Two = omega arith
+
 -- the header is the first line
-pub clean_header : (above : List ScriptLine) → IsClean above forms.Header → highest above ≡ 0
-clean_header [] h = refl
-clean_header (f ∷ above) h = absurd (h.none whys.UnknownWord (omega arith))
+pub none_above : {above : List ScriptLine} {v : Version} → IsClean above (forms.Header v) → above ≡ []
+none_above {above = []} h = refl
+none_above {above = f ∷ above} h = absurd (h.none whys.UnknownWord (omega arith))
+
+pub clean_header : (above : List ScriptLine) (v : Version) → IsClean above (forms.Header v) → highest above ≡ 0
+clean_header above v h = ap highest (none_above h)
 
 pub record IsCpusClean (above : List ScriptLine) (n : ℕ) : Type 0 where
   pub some : 0 < n
-  pub few : n ≤ 8
+  pub few : n ≤ cpu_limit_of (version_in above)
   pub first : cpus_in above ≡ 0
   pub late : highest above ≤ 1
 
@@ -41,12 +63,12 @@ clean_cpus {above} {n} h =
     let twice = h.none whys.Twice in
     let place = h.none whys.WrongPlace in
     let zero : n ≡ 0 → ⊥ = λ e. h.none whys.OverLimit (inl e) in
-    let big : 8 < n → ⊥ = λ e. h.none whys.OverLimit (inr e) in
+    let big : cpu_limit_of (version_in above) < n → ⊥ = λ e. h.none whys.OverLimit (inr e) in
     record { some = omega arith; few = omega arith; first = omega arith; late = omega arith }
 
 pub record IsFramesClean (above : List ScriptLine) (n : ℕ) : Type 0 where
   pub some : 0 < n
-  pub few : n ≤ 256
+  pub few : n ≤ frame_limit_of (version_in above)
   pub first : frames_in above ≡ 0
   pub late : highest above ≤ 2
 
@@ -54,14 +76,14 @@ pub clean_frames : {above : List ScriptLine} {n : ℕ} → IsClean above (forms.
 clean_frames {above} {n} h =
     let twice = h.none whys.Twice in
     let zero : n ≡ 0 → ⊥ = λ e. h.none whys.OverLimit (inl e) in
-    let big : 256 < n → ⊥ = λ e. h.none whys.OverLimit (inr e) in
+    let big : frame_limit_of (version_in above) < n → ⊥ = λ e. h.none whys.OverLimit (inr e) in
     let place : 2 < highest above → ⊥ = λ e. h.none whys.WrongPlace (inl e) in
     record { some = omega arith; few = omega arith; first = omega arith; late = omega arith }
 
 pub record IsKernelClean (above : List ScriptLine) (f : ℕ) : Type 0 where
   pub placed : IsPlaced above 3
   pub declared : f < frames_in above
-  pub low : f < 256
+  pub low : f < frame_limit_of (version_in above)
 
 pub clean_kernel : {above : List ScriptLine} {f : ℕ} → IsClean above (forms.Kernel f) → IsKernelClean above f
 clean_kernel {above} {f} h =
@@ -118,13 +140,13 @@ pub record IsThreadClean (above : List ScriptLine) (t p c : ℕ) : Type 0 where
   pub process : p < procs_in above
   pub low_process : p < 16
   pub cpu : c < cpus_in above
-  pub low_cpu : c < 8
+  pub low_cpu : c < cpu_limit_of (version_in above)
 
 pub clean_thread : {above : List ScriptLine} {t p c : ℕ} {b : Bool} → IsClean above (forms.Thread t p c b) → IsThreadClean above t p c
 clean_thread {above} {t} {p} {c} {b} h =
     let over_thread : 32 ≤ t → ⊥ = λ e. h.none whys.OverLimit (inl e) in
     let over_process : 16 ≤ p → ⊥ = λ e. h.none whys.OverLimit (inr (inl e)) in
-    let over_cpu : 8 ≤ c → ⊥ = λ e. h.none whys.OverLimit (inr (inr e)) in
+    let over_cpu : cpu_limit_of (version_in above) ≤ c → ⊥ = λ e. h.none whys.OverLimit (inr (inr e)) in
     let no_process : procs_in above ≤ p → ⊥ = λ e. h.none whys.Undeclared (inl e) in
     let no_cpu : cpus_in above ≤ c → ⊥ = λ e. h.none whys.Undeclared (inr e) in
     let twice = h.none whys.Twice in
@@ -139,20 +161,26 @@ clean_thread {above} {t} {p} {c} {b} h =
       low_cpu = omega arith;
     }
 
-pub record IsPageClean (above : List ScriptLine) (q : ℕ) (b : Backing) : Type 0 where
+pub record IsPageClean (above : List ScriptLine) (q : ℕ) (b : Backing) (locked : Bool) : Type 0 where
   pub placed : IsPlaced above 9
-  pub few : q < 256
+  pub older : version_in above ≡ versions.One → locked ≡ false
+  pub few : q < page_limit_of (version_in above)
   pub next : q ≡ length (pages_in above)
   pub low : IsBackingOver b → ⊥
   pub backed : IsBackingUndeclared above b → ⊥
 
-pub clean_page : {above : List ScriptLine} {q : ℕ} {b : Backing} → IsClean above (forms.Page q b) → IsPageClean above q b
-clean_page {above} {q} {b} h =
-    let over : 256 ≤ q → ⊥ = λ e. h.none whys.OverLimit (inl e) in
+not_true : (b : Bool) → (b ≡ true → ⊥) → b ≡ false
+not_true true h = absurd (h refl)
+not_true false h = refl
+
+pub clean_page : {above : List ScriptLine} {q : ℕ} {b : Backing} {locked : Bool} → IsClean above (forms.Page q b locked) → IsPageClean above q b locked
+clean_page {above} {q} {b} {locked} h =
+    let over : page_limit_of (version_in above) ≤ q → ⊥ = λ e. h.none whys.OverLimit (inl e) in
     let twice = h.none whys.Twice in
     let gap : length (pages_in above) < q → ⊥ = λ e. h.none whys.WrongPlace (inr e) in
     record {
       placed = placed above 9 (λ e. h.none whys.WrongPlace (inl e));
+      older = λ one. not_true locked (λ e. h.none whys.UnknownWord (one, e));
       few = omega arith;
       next = omega arith;
       low = λ e. h.none whys.OverLimit (inr e);
@@ -161,18 +189,18 @@ clean_page {above} {q} {b} h =
 
 pub record IsTransClean (above : List ScriptLine) (v p q : ℕ) : Type 0 where
   pub placed : IsPlaced above 10
-  pub few : v < 512
+  pub few : v < translation_limit_of (version_in above)
   pub next : v ≡ length (trans_in above)
   pub process : p < procs_in above
   pub low_process : p < 16
   pub page : q < length (pages_in above)
-  pub low_page : q < 256
+  pub low_page : q < page_limit_of (version_in above)
 
 pub clean_trans : {above : List ScriptLine} {v p q : ℕ} → IsClean above (forms.Trans v p q) → IsTransClean above v p q
 clean_trans {above} {v} {p} {q} h =
-    let over_slot : 512 ≤ v → ⊥ = λ e. h.none whys.OverLimit (inl e) in
+    let over_slot : translation_limit_of (version_in above) ≤ v → ⊥ = λ e. h.none whys.OverLimit (inl e) in
     let over_process : 16 ≤ p → ⊥ = λ e. h.none whys.OverLimit (inr (inl e)) in
-    let over_page : 256 ≤ q → ⊥ = λ e. h.none whys.OverLimit (inr (inr e)) in
+    let over_page : page_limit_of (version_in above) ≤ q → ⊥ = λ e. h.none whys.OverLimit (inr (inr e)) in
     let no_process : procs_in above ≤ p → ⊥ = λ e. h.none whys.Undeclared (inl e) in
     let no_page : length (pages_in above) ≤ q → ⊥ = λ e. h.none whys.Undeclared (inr e) in
     let twice = h.none whys.Twice in
@@ -190,7 +218,7 @@ clean_trans {above} {v} {p} {q} h =
 pub record IsCpuClean (above : List ScriptLine) (c : ℕ) : Type 0 where
   pub placed : IsPlaced above 11
   pub cpu : c < cpus_in above
-  pub low : c < 8
+  pub low : c < cpu_limit_of (version_in above)
 
 pub clean_cpu : {above : List ScriptLine} {c : ℕ} → IsClean above (forms.Cpu c) → IsCpuClean above c
 clean_cpu {above} {c} h =
@@ -200,16 +228,20 @@ clean_cpu {above} {c} h =
 
 pub record IsCommandClean (above : List ScriptLine) (c : Command) : Type 0 where
   pub placed : IsPlaced above 11
+  pub older : version_in above ≡ versions.One → IsNewer c → ⊥
   pub few : commands_in above < command_limit
+  pub low : IsBeyond (version_in above) c → ⊥
   pub named : IsUndeclared above c → ⊥
   pub here : IsElsewhere (place_in above) (option_and_then (λ t. slice_get (threads_in above) t) (actor c)) → ⊥
 
 pub clean_command : {above : List ScriptLine} {c : Command} → IsClean above (forms.Command c) → IsCommandClean above c
 clean_command {above} {c} h =
-    let many : command_limit ≤ commands_in above → ⊥ = h.none whys.OverLimit in
+    let many : command_limit ≤ commands_in above → ⊥ = λ e. h.none whys.OverLimit (inl e) in
     record {
       placed = placed above 11 (λ e. h.none whys.WrongPlace (inl e));
+      older = λ one new. h.none whys.UnknownWord (one, new);
       few = omega arith;
+      low = λ e. h.none whys.OverLimit (inr e);
       named = h.none whys.Undeclared;
       here = λ e. h.none whys.WrongPlace (inr e);
     }
@@ -217,13 +249,28 @@ clean_command {above} {c} h =
 pub record IsScheduleClean (above : List ScriptLine) (ws : List Go) : Type 0 where
   pub placed : IsPlaced above 12
   pub few : length (go_in above) + length ws ≤ schedule_limit
+  pub low : top_cpu ws < cpu_limit_of (version_in above)
   pub cpus : top_cpu ws < cpus_in above
 
 pub clean_schedule : {above : List ScriptLine} {ws : List Go} → IsClean above (forms.Schedule ws) → IsScheduleClean above ws
 clean_schedule {above} {ws} h =
-    let many : schedule_limit < length (go_in above) + length ws → ⊥ = h.none whys.OverLimit in
+    let many : schedule_limit < length (go_in above) + length ws → ⊥ = λ e. h.none whys.OverLimit (inl e) in
+    let high : cpu_limit_of (version_in above) ≤ top_cpu ws → ⊥ = λ e. h.none whys.OverLimit (inr e) in
     let none = h.none whys.Undeclared in
-    record { placed = placed above 12 (h.none whys.WrongPlace); few = omega arith; cpus = omega arith }
+    record { placed = placed above 12 (h.none whys.WrongPlace); few = omega arith; low = omega arith; cpus = omega arith }
 
 pub clean_end : {above : List ScriptLine} → IsClean above forms.End → IsPlaced above 12
 clean_end {above} h = placed above 12 (h.none whys.WrongPlace)
+
+-- the numbers of clean lines are within the limits of all versions
+pub small_cpus : {above : List ScriptLine} {n : ℕ} → IsClean above (forms.Cpus n) → n ≤ cpu_limit
+small_cpus {above} h = omega (arith, (clean_cpus h).few, cpu_most (version_in above))
+
+pub small_frames : {above : List ScriptLine} {n : ℕ} → IsClean above (forms.Frames n) → n ≤ frame_limit
+small_frames {above} h = omega (arith, (clean_frames h).few, frame_most (version_in above))
+
+pub small_thread : {above : List ScriptLine} {t p c : ℕ} {b : Bool} → IsClean above (forms.Thread t p c b) → c < cpu_limit
+small_thread {above} h = omega (arith, (clean_thread h).low_cpu, cpu_most (version_in above))
+
+pub small_trans : {above : List ScriptLine} {v p q : ℕ} → IsClean above (forms.Trans v p q) → q < page_limit
+small_trans {above} h = omega (arith, (clean_trans h).low_page, page_most (version_in above))

@@ -5,7 +5,8 @@ use Rattle.std.proofs.lemmas.List.{append-nil, length_push}
 use Rattle.std.proofs.lemmas.List.Elements.{filter_map-append}
 use Rattle.std.proofs.lemmas.List.Sums.{fold-append}
 use Rattle.std.proofs.lemmas.Grind.{flat_map-append}
-use Rattle.hwp_script_read.specs.Context.{cpus_of, frames_of, kernel_of, recovery_of, early_of, file_of, proc_of, thread_of, page_of, trans_of, cpu_of, command_of, words_of, cpus_in, frames_in, kernel_in, recovery_in, early_in, files_in, procs_in, threads_in, pages_in, trans_in, lists_in, commands_in, go_in, place_in, place_after, group, highest}
+use Rattle.hwp_script_read.specs.Context.{version_after, locked_of, version_in, locked_in, cpus_of, frames_of, kernel_of, recovery_of, early_of, file_of, proc_of, thread_of, page_of, trans_of, cpu_of, command_of, words_of, cpus_in, frames_in, kernel_in, recovery_in, early_in, files_in, procs_in, threads_in, pages_in, trans_in, lists_in, commands_in, go_in, place_in, place_after, group, highest}
+use Rattle.hwp_geom.specs.declared.Version.TheVariants as versions
 use Rattle.hwp_script_lines.specs.declared.ScriptLine.{ScriptLine}
 
 -- the list with the item behind it, if there is one
@@ -57,6 +58,7 @@ go-push above f = flat_map-append words_of above (f ∷ []) ∙ ap (λ t. flat_m
 -- what the lines declare with one more
 pub record IsPushed (above : List ScriptLine) (f : ScriptLine) : Type 0 where
   pub group : highest (above ++ f ∷ []) ≡ max (highest above) (group f)
+  pub version : version_in (above ++ f ∷ []) ≡ version_after (version_in above) f
   pub cpus : cpus_in (above ++ f ∷ []) ≡ plus (cpus_of f) (cpus_in above)
   pub frames : frames_in (above ++ f ∷ []) ≡ plus (frames_of f) (frames_in above)
   pub kernel : kernel_in (above ++ f ∷ []) ≡ onto (kernel_of f) (kernel_in above)
@@ -67,6 +69,7 @@ pub record IsPushed (above : List ScriptLine) (f : ScriptLine) : Type 0 where
   pub threads : threads_in (above ++ f ∷ []) ≡ onto (thread_of f) (threads_in above)
   pub pages : pages_in (above ++ f ∷ []) ≡ onto (page_of f) (pages_in above)
   pub trans : trans_in (above ++ f ∷ []) ≡ onto (trans_of f) (trans_in above)
+  pub locked : locked_in (above ++ f ∷ []) ≡ onto (locked_of f) (locked_in above)
   pub lists : lists_in (above ++ f ∷ []) ≡ onto (cpu_of f) (lists_in above)
   pub place : place_in (above ++ f ∷ []) ≡ place_after (place_in above) f
   pub commands : commands_in (above ++ f ∷ []) ≡ more (command_of f) (commands_in above)
@@ -75,6 +78,7 @@ pub record IsPushed (above : List ScriptLine) (f : ScriptLine) : Type 0 where
 pub pushed : (above : List ScriptLine) (f : ScriptLine) → IsPushed above f
 pushed above f = record {
   group = highest-push above f;
+  version = fold-append version_after versions.One above (f ∷ []);
   cpus = ap sum (filter_map-push cpus_of above f _ refl) ∙ sum-onto (cpus_of f) (filter_map cpus_of above);
   frames = ap sum (filter_map-push frames_of above f _ refl) ∙ sum-onto (frames_of f) (filter_map frames_of above);
   kernel = filter_map-push kernel_of above f _ refl;
@@ -85,6 +89,7 @@ pushed above f = record {
   threads = filter_map-push thread_of above f _ refl;
   pages = filter_map-push page_of above f _ refl;
   trans = filter_map-push trans_of above f _ refl;
+  locked = filter_map-push locked_of above f _ refl;
   lists = filter_map-push cpu_of above f _ refl;
   place = fold-append place_after None above (f ∷ []);
   commands = ap length (filter_map-push command_of above f _ refl) ∙ length-onto (command_of f) (filter_map command_of above);

@@ -35,12 +35,12 @@ pub lines_fit : {bytes : List ℕ} {lines : List Numbered} {fs : List ScriptLine
 lines_fit {bytes} {lines} {fs} h k = all_fit (numbered_lines bytes) lines fs h.each k.same
 
 -- the words of pages
-fill_fits : (q : ℕ) (b : Backing) → Fits (forms.Page q b) → HasFill (kind_of b)
-fill_fits q backings.Anon h = tt
-fill_fits q (backings.File n x) h = h.2
+fill_fits : (q : ℕ) (b : Backing) (locked : Bool) → Fits (forms.Page q b locked) → HasFill (kind_of b)
+fill_fits q backings.Anon locked h = tt
+fill_fits q (backings.File n x) locked h = h.2
 
 page_fills : (f : ScriptLine) (qs : List PageKind) → Fits f → All HasFill qs → All HasFill (cons_option (page_of f) qs)
-page_fills (forms.Page q b) qs h k = All-cons HasFill (kind_of b) qs (fill_fits q b h) k
+page_fills (forms.Page q b locked) qs h k = All-cons HasFill (kind_of b) qs (fill_fits q b locked h) k
 page_fills f qs h k = k
 
 pub all_fills : (fs : List ScriptLine) → All Fits fs → All HasFill (pages_in fs)

@@ -6,6 +6,7 @@ use Rattle.std.proofs.lemmas.Bool.{cases_eq}
 use Rattle.hwp_geom.specs.Layout.{IsBacked}
 use Rattle.hwp_geom.specs.declared.Layout.{Layout}
 use Rattle.hwp_geom.specs.declared.Proc.{Proc}
+use Rattle.hwp_geom.specs.declared.Version.TheVariants as versions
 use Rattle.hwp_geom.specs.declared.PageKind.{PageKind}
 use Rattle.hwp_geom.specs.declared.PageKind.TheVariants as kinds
 use Rattle.hwp_geom.specs.declared.ThreadDecl.{ThreadDecl}
@@ -24,6 +25,7 @@ use Rattle.hwp_script_read.proofs.ContextLaws.{onto, plus, more, pushed}
 -- the names that lines declare
 abbrev pub names_in : List ScriptLine → Layout
 names_in fs = record {
+  version = versions.One;
   cpus = cpus_in fs;
   frames = frames_in fs;
   kernel = [];
@@ -34,6 +36,7 @@ names_in fs = record {
   threads = threads_in fs;
   pages = pages_in fs;
   trans = trans_in fs;
+  locked = [];
 }
 
 -- what is declared stays declared
@@ -107,6 +110,7 @@ command_kept l m c g (commands.Drop q) h = omega (arith, g.page_count)
 command_kept l m c g (commands.Sync q) h = page_kept l m IsFile q.0 g h
 command_kept l m c g (commands.Out q) h = page_kept l m IsAnon q.0 g h
 command_kept l m c g (commands.Fsync n) h = omega (arith, g.files)
+command_kept l m c g (commands.Open n) h = omega (arith, g.files)
 command_kept l m c g (commands.Prctl t args) h = thread_kept l m c t.0 g h
 command_kept l m c g (commands.Bad f n) h = (omega (arith, g.frames, h.0), h.1)
 command_kept l m c g (commands.Weak f n) h = (omega (arith, g.frames, h.0), h.1)
@@ -168,6 +172,7 @@ command_valid above (commands.Drop q) c place e fits named here = omega arith
 command_valid above (commands.Sync q) c place e fits named here = file_page _ named
 command_valid above (commands.Out q) c place e fits named here = anon_page _ named
 command_valid above (commands.Fsync n) c place e fits named here = omega arith
+command_valid above (commands.Open n) c place e fits named here = omega arith
 command_valid above (commands.Prctl t args) c place e fits named here = thread_here (threads_in above) t.0 c place e named here
 command_valid above (commands.Bad f l) c place e fits named here = (omega arith, fits.1)
 command_valid above (commands.Weak f l) c place e fits named here = (omega arith, fits.1)

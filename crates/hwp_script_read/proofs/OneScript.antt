@@ -2,6 +2,7 @@
 use Rattle.std.proofs.Common.{ℕ, ◌≡◌, Bool, true, false, List, [], ◌∷◌, length, map, Some, suc, ap, subst, ◌∙◌, sym, refl, arith}
 use Rattle.std.specs.Prelude.{◌↔◌, slice_get}
 use Rattle.hwp_geom.specs.declared.Layout.{Layout}
+use Rattle.hwp_geom.specs.declared.Version.{Version}
 use Rattle.hwp_geom.specs.declared.ThreadDecl.{ThreadDecl}
 use Rattle.hwp_geom.specs.declared.TransDecl.{TransDecl}
 use Rattle.hwp_geom.specs.declared.PageKind.{PageKind}
@@ -34,15 +35,16 @@ marks_same (x ∷ xs) (y ∷ ys) h =
     let here : x ≡ y = first_mark x y (h.each 0).0 (h.each 0).1 in
     let rest : xs ≡ ys = marks_same xs ys (record { long = omega (arith, h.long); each = λ i. h.each (suc i) }) in cc
 
-abbrev laid_out : ℕ → ℕ → List Bool → Bool → Bool → ℕ → ℕ → List ThreadDecl → List PageKind → List TransDecl → Layout
-laid_out c f k r e n p ts qs vs =
-    record { cpus = c; frames = f; kernel = k; recovery = r; early = e; files = n; procs = p; threads = ts; pages = qs; trans = vs }
+abbrev laid_out : Version → ℕ → ℕ → List Bool → Bool → Bool → ℕ → ℕ → List ThreadDecl → List PageKind → List TransDecl → List Bool → Layout
+laid_out v c f k r e n p ts qs vs ls =
+    record { version = v; cpus = c; frames = f; kernel = k; recovery = r; early = e; files = n; procs = p; threads = ts; pages = qs; trans = vs; locked = ls }
 
 abbrev script_made : Layout → List (List Command) → List Go → Script
 script_made l lists go = record { layout = l; lists = lists; go = go }
 
 collected_once : (fs : List ScriptLine) (s t : Script) → Collects fs s → Collects fs t → t ≡ s
 collected_once fs s t h k =
+    let version : t.layout.version ≡ s.layout.version = k.version ∙ sym h.version in
     let cpus : t.layout.cpus ≡ s.layout.cpus = k.cpus ∙ sym h.cpus in
     let frames : t.layout.frames ≡ s.layout.frames = k.frames ∙ sym h.frames in
     let kernel : t.layout.kernel ≡ s.layout.kernel = marks_same t.layout.kernel s.layout.kernel (record {
@@ -56,11 +58,12 @@ collected_once fs s t h k =
     let threads : t.layout.threads ≡ s.layout.threads = k.threads ∙ sym h.threads in
     let pages : t.layout.pages ≡ s.layout.pages = k.pages ∙ sym h.pages in
     let trans : t.layout.trans ≡ s.layout.trans = k.trans ∙ sym h.trans in
+    let locked : t.layout.locked ≡ s.layout.locked = k.locked ∙ sym h.locked in
     let lists : t.lists ≡ s.lists = k.lists ∙ sym h.lists in
     let go : t.go ≡ s.go = k.go ∙ sym h.go in
-    let same : script_made (laid_out t.layout.cpus t.layout.frames t.layout.kernel t.layout.recovery t.layout.early t.layout.files t.layout.procs t.layout.threads t.layout.pages t.layout.trans) t.lists t.go
-    ≡ script_made (laid_out s.layout.cpus s.layout.frames s.layout.kernel s.layout.recovery s.layout.early s.layout.files s.layout.procs s.layout.threads s.layout.pages s.layout.trans) s.lists s.go =
-    rw (cpus, frames, kernel, recovery, early, files, procs, threads, pages, trans, lists, go) refl in same
+    let same : script_made (laid_out t.layout.version t.layout.cpus t.layout.frames t.layout.kernel t.layout.recovery t.layout.early t.layout.files t.layout.procs t.layout.threads t.layout.pages t.layout.trans t.layout.locked) t.lists t.go
+    ≡ script_made (laid_out s.layout.version s.layout.cpus s.layout.frames s.layout.kernel s.layout.recovery s.layout.early s.layout.files s.layout.procs s.layout.threads s.layout.pages s.layout.trans s.layout.locked) s.lists s.go =
+    rw (version, cpus, frames, kernel, recovery, early, files, procs, threads, pages, trans, locked, lists, go) refl in same
 
 pub one_script : (bytes : List ℕ) (s t : Script) → Reads bytes s → Reads bytes t → t ≡ s
 one_script bytes s t h k =

@@ -10,34 +10,44 @@ use Rattle.std.proofs.lemmas.Option.{slice_get-get_or, slice_get_within, get_or_
 use Rattle.std.proofs.lemmas.Bool.{cases_eq}
 use Rattle.std.proofs.lemmas.Bool.Decides.{nat_tests}
 use Rattle.hwp_script_read.specs.Limits.{schedule_limit}
-use Rattle.hwp_geom.specs.Limits.{command_limit}
+use Rattle.hwp_geom.specs.Limits.{command_limit, cpu_limit_of, frame_limit_of, page_limit_of, translation_limit_of}
 use Rattle.hwp_geom.specs.Layout.{IsBacked}
 use Rattle.hwp_geom.specs.declared.Layout.{Layout}
+use Rattle.hwp_geom.specs.declared.Version.TheVariants as versions
 use Rattle.hwp_geom.specs.declared.ThreadDecl.{ThreadDecl}
 use Rattle.hwp_geom.specs.declared.TransDecl.{TransDecl}
 use Rattle.hwp_script_lines.specs.Grammar.{Fits}
 use Rattle.hwp_script_lines.specs.declared.ScriptLine.{ScriptLine}
 use Rattle.hwp_script_lines.specs.declared.ScriptLine.TheVariants as forms
 use Rattle.hwp_script_lines.specs.declared.Go.{Go}
-use Rattle.hwp_script_read.specs.Context.{cpus_of, frames_of, file_of, proc_of, thread_of, page_of, trans_of, command_of, words_of, cpus_in, frames_in, files_in, procs_in, threads_in, pages_in, trans_in, commands_in, go_in, place_in, place_after}
-use Rattle.hwp_script_read.specs.Reasons.{IsClean, AreClean, top_cpu}
+use Rattle.hwp_script_read.specs.Context.{version_in, version_after, locked_of, locked_in, cpus_of, frames_of, file_of, proc_of, thread_of, page_of, trans_of, command_of, words_of, cpus_in, frames_in, files_in, procs_in, threads_in, pages_in, trans_in, commands_in, go_in, place_in, place_after}
+use Rattle.hwp_script_read.specs.Reasons.{IsClean, AreClean, IsNewer, top_cpu}
 use Rattle.hwp_script_read.specs.Collects.{command_at, commands_from, commands_of, IsEnded, Collects}
 use Rattle.hwp_script_read.specs.Valid.{IsCommandOf, AreLists, IsValid}
 use Rattle.hwp_script_read.specs.Reads.{Reads}
 use Rattle.hwp_script_read.specs.declared.script.Script.{Script}
 use Rattle.hwp_script_lines.specs.declared.Command.{Command}
 use Rattle.hwp_script_read.proofs.ContextLaws.{onto, plus, more, pushed}
-use Rattle.hwp_script_read.proofs.CleanLaws.{clean_cpus, clean_frames, clean_file, clean_proc, clean_thread, clean_page, clean_trans, clean_command, clean_schedule, clean_end}
+use Rattle.hwp_script_read.proofs.CleanLaws.{cpu_most, frame_most, page_most, trans_most, none_above, clean_cpus, clean_frames, clean_file, clean_proc, clean_thread, clean_page, clean_trans, clean_command, clean_schedule, clean_end}
 use Rattle.hwp_script_read.proofs.CollectLaws.{commands_of-push}
 use Rattle.hwp_script_read.proofs.FitLaws.{lines_fit, all_fills, all_words}
 use Rattle.hwp_script_read.proofs.NameLaws.{names_in, Grows, grows_line, command_kept, backed_kept, backed, command_valid, plus_le, more_le, onto_le}
 
+-- a page that isn't locked, and a command that version One has
+abbrev IsUnlocked : Bool → Type 0
+IsUnlocked locked = locked ≡ false
+
+abbrev IsOld : Command → Type 0
+IsOld command = IsNewer command → ⊥
+
 -- the numbers stay within their limits
-cpus_step : (above : List ScriptLine) (f : ScriptLine) → cpus_in above ≤ 8 → IsClean above f → plus (cpus_of f) (cpus_in above) ≤ 8
+cpus_step : (above : List ScriptLine) (f : ScriptLine) → cpus_in above ≤ cpu_limit_of (version_in above) → IsClean above f → plus (cpus_of f) (cpus_in above) ≤ cpu_limit_of (version_after (version_in above) f)
+cpus_step above (forms.Header v) h k = rw (none_above k) (omega arith)
 cpus_step above (forms.Cpus n) h k = omega (arith, (clean_cpus k).few, (clean_cpus k).first)
 cpus_step above f h k = h
 
-frames_step : (above : List ScriptLine) (f : ScriptLine) → frames_in above ≤ 256 → IsClean above f → plus (frames_of f) (frames_in above) ≤ 256
+frames_step : (above : List ScriptLine) (f : ScriptLine) → frames_in above ≤ frame_limit_of (version_in above) → IsClean above f → plus (frames_of f) (frames_in above) ≤ frame_limit_of (version_after (version_in above) f)
+frames_step above (forms.Header v) h k = rw (none_above k) (omega arith)
 frames_step above (forms.Frames n) h k = omega (arith, (clean_frames k).few, (clean_frames k).first)
 frames_step above f h k = h
 
@@ -49,11 +59,13 @@ threads_step : (above : List ScriptLine) (f : ScriptLine) → length (threads_in
 threads_step above (forms.Thread t p c b) h k = rw length_push (omega (arith, (clean_thread k).few, (clean_thread k).next))
 threads_step above f h k = h
 
-pages_step : (above : List ScriptLine) (f : ScriptLine) → length (pages_in above) ≤ 256 → IsClean above f → length (onto (page_of f) (pages_in above)) ≤ 256
-pages_step above (forms.Page q b) h k = rw length_push (omega (arith, (clean_page k).few, (clean_page k).next))
+pages_step : (above : List ScriptLine) (f : ScriptLine) → length (pages_in above) ≤ page_limit_of (version_in above) → IsClean above f → length (onto (page_of f) (pages_in above)) ≤ page_limit_of (version_after (version_in above) f)
+pages_step above (forms.Header v) h k = rw (none_above k) (omega arith)
+pages_step above (forms.Page q b l) h k = rw length_push (omega (arith, (clean_page k).few, (clean_page k).next))
 pages_step above f h k = h
 
-trans_step : (above : List ScriptLine) (f : ScriptLine) → length (trans_in above) ≤ 512 → IsClean above f → length (onto (trans_of f) (trans_in above)) ≤ 512
+trans_step : (above : List ScriptLine) (f : ScriptLine) → length (trans_in above) ≤ translation_limit_of (version_in above) → IsClean above f → length (onto (trans_of f) (trans_in above)) ≤ translation_limit_of (version_after (version_in above) f)
+trans_step above (forms.Header v) h k = rw (none_above k) (omega arith)
 trans_step above (forms.Trans v p q) h k = rw length_push (omega (arith, (clean_trans k).few, (clean_trans k).next))
 trans_step above f h k = h
 
@@ -68,6 +80,17 @@ commands_step above f h k = h
 go_count_step : (above : List ScriptLine) (f : ScriptLine) → length (go_in above) ≤ schedule_limit → IsClean above f → length (go_in above ++ words_of f) ≤ schedule_limit
 go_count_step above (forms.Schedule ws) h k = simp length-append (clean_schedule k).few
 go_count_step above f h k = rw append-nil h
+
+-- in version One no page is locked
+unlocked_step : (above : List ScriptLine) (f : ScriptLine) → (version_in above ≡ versions.One → All IsUnlocked (locked_in above)) → IsClean above f
+    → version_after (version_in above) f ≡ versions.One → All IsUnlocked (onto (locked_of f) (locked_in above))
+unlocked_step above (forms.Header v) h k one = rw (none_above k) (All-nil IsUnlocked)
+unlocked_step above (forms.Page q b locked) h k one = All-push IsUnlocked (locked_in above) locked (h one) ((clean_page k).older one)
+unlocked_step above f h k one = h one
+
+lock_each_step : (above : List ScriptLine) (f : ScriptLine) → length (locked_in above) ≡ length (pages_in above) → length (onto (locked_of f) (locked_in above)) ≡ length (onto (page_of f) (pages_in above))
+lock_each_step above (forms.Page q b l) h = length_push (locked_in above) _ ∙ ap (λ n. n + 1) h ∙ sym (length_push (pages_in above) _)
+lock_each_step above f h = h
 
 -- the names in declarations are declared
 abbrev pub IsNamedThread : ℕ → ℕ → ThreadDecl → Type 0
@@ -90,7 +113,7 @@ trans_names_step above f procs pages a b h k = h
 
 page_names_step : (above : List ScriptLine) (f : ScriptLine) → All (IsBacked (names_in above)) (pages_in above) → IsClean above f
     → All (IsBacked (names_in above)) (onto (page_of f) (pages_in above))
-page_names_step above (forms.Page q b) h k = All-push (IsBacked (names_in above)) (pages_in above) _ h (backed above b (clean_page k).backed)
+page_names_step above (forms.Page q b l) h k = All-push (IsBacked (names_in above)) (pages_in above) _ h (backed above b (clean_page k).backed)
 page_names_step above f h k = h
 
 -- a word of the schedule names a declared processor
@@ -126,19 +149,35 @@ added_command above (forms.Command x) c (Some place) e k fits =
     added (IsCommandOf (names_in above) c) (place == c) _ (λ t. command_valid above x c place (same_place place c t) fits is.named (rw e at is.here))
 added_command above f c (Some place) e k fits = none_added (IsCommandOf (names_in above) c) (place == c)
 
+-- in version One no command is one of version Two alone
+old_command : (above : List ScriptLine) (f : ScriptLine) (c : ℕ) (place : Option ℕ) → IsClean above f → version_after (version_in above) f ≡ versions.One
+    → All IsOld (option_to_list (command_at place c f))
+old_command above f c None k one = All-nil IsOld
+old_command above (forms.Command x) c (Some place) k one = added IsOld (place == c) x (λ t. (clean_command k).older one)
+old_command above f c (Some place) k one = none_added IsOld (place == c)
+
+old_step : (above : List ScriptLine) (f : ScriptLine) (c : ℕ) → (version_in above ≡ versions.One → All IsOld (commands_of above c)) → IsClean above f
+    → version_after (version_in above) f ≡ versions.One → All IsOld (commands_of above c ++ option_to_list (command_at (place_in above) c f))
+old_step above (forms.Header v) c h k one =
+    All-append IsOld (commands_of above c) _ (rw (none_above k) (All-nil IsOld)) (old_command above (forms.Header v) c (place_in above) k one)
+old_step above f c h k one = All-append IsOld (commands_of above c) _ (h one) (old_command above f c (place_in above) k one)
+
 -- what clean lines declare
 pub record IsDeclared (fs : List ScriptLine) : Type 0 where
-  pub cpus : cpus_in fs ≤ 8
-  pub frames : frames_in fs ≤ 256
+  pub cpus : cpus_in fs ≤ cpu_limit_of (version_in fs)
+  pub frames : frames_in fs ≤ frame_limit_of (version_in fs)
   pub files : files_in fs ≤ 16
   pub procs : procs_in fs ≤ 16
   pub threads : length (threads_in fs) ≤ 32
-  pub pages : length (pages_in fs) ≤ 256
-  pub trans : length (trans_in fs) ≤ 512
+  pub pages : length (pages_in fs) ≤ page_limit_of (version_in fs)
+  pub trans : length (trans_in fs) ≤ translation_limit_of (version_in fs)
   pub commands : commands_in fs ≤ command_limit
   pub thread_names : All (IsNamedThread (procs_in fs) (cpus_in fs)) (threads_in fs)
   pub trans_names : All (IsNamedTrans (procs_in fs) (length (pages_in fs))) (trans_in fs)
   pub page_names : All (IsBacked (names_in fs)) (pages_in fs)
+  pub unlocked : version_in fs ≡ versions.One → All IsUnlocked (locked_in fs)
+  pub old : (c : ℕ) → version_in fs ≡ versions.One → All IsOld (commands_of fs c)
+  pub lock_each : length (locked_in fs) ≡ length (pages_in fs)
   pub own : (c : ℕ) → All (IsCommandOf (names_in fs) c) (commands_of fs c)
   pub go : All (IsNamedGo (cpus_in fs)) (go_in fs)
   pub few_go : length (go_in fs) ≤ schedule_limit
@@ -156,6 +195,9 @@ declared_none = record {
   thread_names = All-nil (IsNamedThread 0 0);
   trans_names = All-nil (IsNamedTrans 0 0);
   page_names = All-nil (IsBacked (names_in []));
+  unlocked = λ one. All-nil IsUnlocked;
+  old = λ c one. All-nil IsOld;
+  lock_each = refl;
   own = λ c. All-nil (IsCommandOf (names_in []) c);
   go = All-nil (IsNamedGo 0);
   few_go = omega arith;
@@ -169,13 +211,13 @@ declared_step above f h k fits =
     let cpus : cpus_in above ≤ plus (cpus_of f) (cpus_in above) = plus_le (cpus_of f) (cpus_in above) in
     let pages : length (pages_in above) ≤ length (onto (page_of f) (pages_in above)) = onto_le (page_of f) (pages_in above) in
     record {
-      cpus = rw p.cpus (cpus_step above f h.cpus k);
-      frames = rw p.frames (frames_step above f h.frames k);
+      cpus = rw (p.cpus, p.version) (cpus_step above f h.cpus k);
+      frames = rw (p.frames, p.version) (frames_step above f h.frames k);
       files = rw p.files (files_step above f h.files k);
       procs = rw p.procs (procs_step above f h.procs k);
       threads = rw p.threads (threads_step above f h.threads k);
-      pages = rw p.pages (pages_step above f h.pages k);
-      trans = rw p.trans (trans_step above f h.trans k);
+      pages = rw (p.pages, p.version) (pages_step above f h.pages k);
+      trans = rw (p.trans, p.version) (trans_step above f h.trans k);
       commands = rw p.commands (commands_step above f h.commands k);
       thread_names = rw (p.procs, p.cpus, p.threads) (thread_names_step above f _ _ procs cpus
           (All-weaker (IsNamedThread (procs_in above) (cpus_in above)) (IsNamedThread (more (proc_of f) (procs_in above)) (plus (cpus_of f) (cpus_in above)))
@@ -185,6 +227,9 @@ declared_step above f h k fits =
           (λ v n. (omega (arith, n.0), omega (arith, n.1))) (trans_in above) h.trans_names) k);
       page_names = rw p.pages (All-weaker (IsBacked (names_in above)) (IsBacked (names_in (above ++ f ∷ []))) (backed_kept (names_in above) (names_in (above ++ f ∷ [])) grows.files)
           (onto (page_of f) (pages_in above)) (page_names_step above f h.page_names k));
+      unlocked = λ one. rw p.locked (unlocked_step above f h.unlocked k (sym p.version ∙ one));
+      old = λ c one. rw (commands_of-push above f c) (old_step above f c (h.old c) k (sym p.version ∙ one));
+      lock_each = rw (p.locked, p.pages) (lock_each_step above f h.lock_each);
       own = λ c. rw (commands_of-push above f c)
           (All-weaker (IsCommandOf (names_in above) c) (IsCommandOf (names_in (above ++ f ∷ [])) c)
           (command_kept (names_in above) (names_in (above ++ f ∷ [])) c grows) (commands_of above c ++ option_to_list (command_at (place_in above) c f))
@@ -279,6 +324,10 @@ lists_valid : (layout : Layout) (g : ℕ → List Command) (a n : ℕ) → ((c :
 lists_valid layout g a zero h = tt
 lists_valid layout g a (suc n) h = (h a, lists_valid layout g (a + 1) n h)
 
+all_lists : (fs : List ScriptLine) (a n : ℕ) → ((c : ℕ) → All IsOld (commands_of fs c)) → All (All IsOld) (map (commands_of fs) (range_with_len a n))
+all_lists fs a zero h = All-nil (All IsOld)
+all_lists fs a (suc n) h = All-cons (All IsOld) (commands_of fs a) (map (commands_of fs) (range_with_len (a + 1) n)) (h a) (all_lists fs (a + 1) n h)
+
 -- the last line stands behind the others
 last_behind : (fs : List ScriptLine) (f : ScriptLine) → slice_get fs (length fs - 1) ≡ Some f → fs ≡ take (length fs - 1) fs ++ f ∷ []
 last_behind fs f e =
@@ -315,18 +364,33 @@ valid fs s clean ended h fit =
       page_count = rw h.pages (omega arith);
       trans_count = rw h.trans (omega arith);
     } in
+    let most = cpu_most (version_in fs) in
+    let most_frames = frame_most (version_in fs) in
+    let most_pages = page_most (version_in fs) in
+    let most_trans = trans_most (version_in fs) in
     record {
+      older = λ one. record {
+        unlocked = rw h.locked (d.unlocked (sym h.version ∙ one));
+        commands = rw h.lists (all_lists fs 0 (cpus_in fs) (λ c. d.old c (sym h.version ∙ one)));
+      };
       sound = record {
         some_cpu = omega (arith, h.cpus);
-        cpus = omega (arith, h.cpus);
+        cpus = omega (arith, h.cpus, d.cpus, most);
         some_frame = omega (arith, h.frames);
-        frames = omega (arith, h.frames);
+        frames = omega (arith, h.frames, d.frames, most_frames);
         kernel = h.marks ∙ sym h.frames;
         files = omega (arith, h.files, d.files);
         procs = omega (arith, h.procs);
         threads = rw h.threads d.threads;
-        pages = rw h.pages d.pages;
-        trans = rw h.trans d.trans;
+        pages = rw h.pages (omega (arith, d.pages, most_pages));
+        trans = rw h.trans (omega (arith, d.trans, most_trans));
+        within = record {
+          cpus = rw (h.version, h.cpus) d.cpus;
+          frames = rw (h.version, h.frames) d.frames;
+          pages = rw (h.version, h.pages) d.pages;
+          trans = rw (h.version, h.trans) d.trans;
+        };
+        locked = rw (h.locked, h.pages) d.lock_each;
         thread_names = rw (h.threads, h.procs, h.cpus) d.thread_names;
         page_names = rw h.pages (All-weaker (IsBacked (names_in fs)) (IsBacked s.layout) (backed_kept (names_in fs) s.layout grows.files) (pages_in fs) d.page_names);
         trans_names = rw (h.trans, h.procs, h.pages) d.trans_names;

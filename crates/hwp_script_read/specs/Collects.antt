@@ -6,7 +6,7 @@ use Rattle.hwp_script_read.specs.declared.script.Script.{Script}
 use Rattle.hwp_script_lines.specs.declared.Command.{Command}
 use Rattle.hwp_script_lines.specs.declared.ScriptLine.{ScriptLine}
 use Rattle.hwp_script_lines.specs.declared.ScriptLine.TheVariants as forms
-use Rattle.hwp_script_read.specs.Context.{command_of, place_after, cpus_in, frames_in, kernel_in, recovery_in, early_in, files_in, procs_in, threads_in, pages_in, trans_in, go_in}
+use Rattle.hwp_script_read.specs.Context.{command_of, place_after, version_in, cpus_in, frames_in, kernel_in, recovery_in, early_in, files_in, procs_in, threads_in, pages_in, locked_in, trans_in, go_in}
 
 -- the command that a line is, if it stands in the list of processor c
 abbrev pub command_at : Option ℕ → ℕ → ScriptLine → Option Command
@@ -33,6 +33,7 @@ IsEnded fs = slice_get fs (length fs - 1) ≡ Some forms.End
 
 -- the script that the lines give: `recovery` is on and `early` off where no line says otherwise
 pub record Collects (fs : List ScriptLine) (s : Script) : Type 0 where
+  pub version : s.layout.version ≡ version_in fs
   pub cpus : s.layout.cpus ≡ cpus_in fs
   pub frames : s.layout.frames ≡ frames_in fs
   pub marks : length s.layout.kernel ≡ frames_in fs
@@ -44,5 +45,6 @@ pub record Collects (fs : List ScriptLine) (s : Script) : Type 0 where
   pub threads : s.layout.threads ≡ threads_in fs
   pub pages : s.layout.pages ≡ pages_in fs
   pub trans : s.layout.trans ≡ trans_in fs
+  pub locked : s.layout.locked ≡ locked_in fs
   pub lists : s.lists ≡ map (commands_of fs) (range_with_len 0 (cpus_in fs))
   pub go : s.go ≡ go_in fs

@@ -4,6 +4,8 @@ use Rattle.hwp_geom.specs.declared.ThreadDecl.{ThreadDecl}
 use Rattle.hwp_geom.specs.declared.TransDecl.{TransDecl}
 use Rattle.hwp_geom.specs.declared.PageKind.{PageKind}
 use Rattle.hwp_geom.specs.declared.PageKind.TheVariants as kinds
+use Rattle.hwp_geom.specs.declared.Version.{Version}
+use Rattle.hwp_geom.specs.declared.Version.TheVariants as versions
 use Rattle.hwp_script_lines.specs.declared.ScriptLine.{ScriptLine}
 use Rattle.hwp_script_lines.specs.declared.ScriptLine.TheVariants as forms
 use Rattle.hwp_script_lines.specs.declared.Backing.{Backing}
@@ -58,8 +60,13 @@ kind_of (backings.File n x) = kinds.File (record { 0 = n }) x
 
 -- the page that a line declares
 abbrev pub page_of : ScriptLine → Option PageKind
-page_of (forms.Page q b) = Some (kind_of b)
+page_of (forms.Page q b locked) = Some (kind_of b)
 page_of f = None
+
+-- whether the page that a line declares is locked
+abbrev pub locked_of : ScriptLine → Option Bool
+locked_of (forms.Page q b locked) = Some locked
+locked_of f = None
 
 -- the translation that a line declares
 abbrev pub trans_of : ScriptLine → Option TransDecl
@@ -80,6 +87,15 @@ command_of f = None
 abbrev pub words_of : ScriptLine → List Go
 words_of (forms.Schedule ws) = ws
 words_of f = []
+
+-- the version after a line, from that before it
+abbrev pub version_after : Version → ScriptLine → Version
+version_after at (forms.Header v) = v
+version_after at f = at
+
+-- the version of the script: that of its header, and One where there is none
+abbrev pub version_in : List ScriptLine → Version
+version_in above = fold version_after versions.One above
 
 -- the number of processors: 0 before its line, which stands once
 abbrev pub cpus_in : List ScriptLine → ℕ
@@ -117,6 +133,10 @@ threads_in above = filter_map thread_of above
 abbrev pub pages_in : List ScriptLine → List PageKind
 pages_in above = filter_map page_of above
 
+-- for each page, whether it is locked
+abbrev pub locked_in : List ScriptLine → List Bool
+locked_in above = filter_map locked_of above
+
 -- the translations, by their numbers
 abbrev pub trans_in : List ScriptLine → List TransDecl
 trans_in above = filter_map trans_of above
@@ -146,7 +166,7 @@ place_in above = fold place_after None above
 
 -- the group of a kind of line: groups stand in rising order
 abbrev pub group : ScriptLine → ℕ
-group forms.Header = 0
+group (forms.Header v) = 0
 group (forms.Cpus n) = 1
 group (forms.Frames n) = 2
 group (forms.Kernel f) = 3
@@ -155,7 +175,7 @@ group (forms.Early b) = 5
 group (forms.File n) = 6
 group (forms.Proc p) = 7
 group (forms.Thread t p c h) = 8
-group (forms.Page q b) = 9
+group (forms.Page q b locked) = 9
 group (forms.Trans v p q) = 10
 group (forms.Cpu c) = 11
 group (forms.Command c) = 11

@@ -1,10 +1,12 @@
 -- The reasons to refuse a line, after the lines above it.
-use Rattle.std.specs.Prelude.{◌≡◌, ◌≢◌, ℕ, ◌+◌, ◌<◌, ◌≤◌, ◌⊎◌, max, length, Contains, IsSome, slice_get, option_and_then, Option, Some, None, List, [], ◌∷◌, take}
+use Rattle.std.specs.Prelude.{◌≡◌, ◌≢◌, ℕ, true, ◌+◌, ◌<◌, ◌≤◌, ◌⊎◌, max, length, Contains, IsSome, slice_get, option_and_then, Option, Some, None, List, [], ◌∷◌, take}
 use Rattle.hwp_geom.specs.declared.ThreadDecl.{ThreadDecl}
 use Rattle.hwp_geom.specs.declared.TransDecl.{TransDecl}
 use Rattle.hwp_geom.specs.declared.PageKind.{PageKind}
 use Rattle.hwp_geom.specs.declared.PageKind.TheVariants as kinds
-use Rattle.hwp_geom.specs.Limits.{cpu_limit, frame_limit, file_limit, process_limit, thread_limit, page_limit, translation_limit, command_limit}
+use Rattle.hwp_geom.specs.Limits.{file_limit, process_limit, thread_limit, command_limit, cpu_limit_of, frame_limit_of, page_limit_of, translation_limit_of}
+use Rattle.hwp_geom.specs.declared.Version.{Version}
+use Rattle.hwp_geom.specs.declared.Version.TheVariants as versions
 use Rattle.hwp_script_lines.specs.declared.ScriptLine.{ScriptLine}
 use Rattle.hwp_script_lines.specs.declared.ScriptLine.TheVariants as forms
 use Rattle.hwp_script_lines.specs.declared.Backing.{Backing}
@@ -13,7 +15,7 @@ use Rattle.hwp_script_lines.specs.declared.Go.{Go}
 use Rattle.hwp_script_lines.specs.declared.Command.{Command}
 use Rattle.hwp_script_lines.specs.declared.Command.TheVariants as commands
 use Rattle.hwp_script_read.specs.Limits.{schedule_limit}
-use Rattle.hwp_script_read.specs.Context.{cpus_in, frames_in, kernel_in, recovery_in, early_in, files_in, procs_in, threads_in, pages_in, trans_in, lists_in, commands_in, go_in, place_in, highest}
+use Rattle.hwp_script_read.specs.Context.{version_in, cpus_in, frames_in, kernel_in, recovery_in, early_in, files_in, procs_in, threads_in, pages_in, trans_in, lists_in, commands_in, go_in, place_in, highest}
 use Rattle.hwp_script_read.specs.declared.why.Why.{Why}
 use Rattle.hwp_script_read.specs.declared.why.Why.TheVariants as whys
 
@@ -47,6 +49,7 @@ IsUndeclared above (commands.Drop q) = length (pages_in above) ≤ q.0
 IsUndeclared above (commands.Sync q) = IsNoFilePage (slice_get (pages_in above) q.0)
 IsUndeclared above (commands.Out q) = IsNoAnonPage (slice_get (pages_in above) q.0)
 IsUndeclared above (commands.Fsync n) = files_in above ≤ n.0
+IsUndeclared above (commands.Open n) = files_in above ≤ n.0
 IsUndeclared above (commands.Prctl t args) = length (threads_in above) ≤ t.0
 IsUndeclared above (commands.Bad f l) = frames_in above ≤ f.0
 IsUndeclared above (commands.Weak f l) = frames_in above ≤ f.0
@@ -90,18 +93,41 @@ abbrev pub top_cpu : List Go → ℕ
 top_cpu [] = 0
 top_cpu (w ∷ ws) = max w.cpu.0 (top_cpu ws)
 
+-- a command that version Two alone has
+abbrev pub IsNewer : Command → Type 0
+IsNewer (commands.Open n) = Unit {0}
+IsNewer c = ⊥
+
+-- a command names what there can't be in the version; its lines, threads and files are within limits that all versions have
+abbrev pub IsBeyond : Version → Command → Type 0
+IsBeyond version (commands.Load t v l) = translation_limit_of version ≤ v.0
+IsBeyond version (commands.Fetch t v l) = translation_limit_of version ≤ v.0
+IsBeyond version (commands.KLoad t v l) = translation_limit_of version ≤ v.0
+IsBeyond version (commands.Store t v l x) = translation_limit_of version ≤ v.0
+IsBeyond version (commands.Free v) = translation_limit_of version ≤ v.0
+IsBeyond version (commands.Drop q) = page_limit_of version ≤ q.0
+IsBeyond version (commands.Sync q) = page_limit_of version ≤ q.0
+IsBeyond version (commands.Out q) = page_limit_of version ≤ q.0
+IsBeyond version (commands.Bad f l) = frame_limit_of version ≤ f.0
+IsBeyond version (commands.Weak f l) = frame_limit_of version ≤ f.0
+IsBeyond version (commands.Scrub a b) = frame_limit_of version ≤ b.0
+IsBeyond version (commands.Inject f) = frame_limit_of version ≤ f.0
+IsBeyond version (commands.Soft f) = frame_limit_of version ≤ f.0
+IsBeyond version (commands.Unpoison f) = frame_limit_of version ≤ f.0
+IsBeyond version c = ⊥
+
 -- the reason applies to the line, after those above it (a line below `end`, also a second `end`, is in the wrong place)
 abbrev pub Applies : List ScriptLine → ScriptLine → Why → Type 0
-Applies above forms.Header whys.UnknownWord = 0 < length above
-Applies above forms.Header w = ⊥
+Applies above (forms.Header v) whys.UnknownWord = 0 < length above
+Applies above (forms.Header v) w = ⊥
 Applies above f whys.BadHeader = length above ≡ 0
-Applies above (forms.Cpus n) whys.OverLimit = (n ≡ 0) ⊎ (cpu_limit < n)
+Applies above (forms.Cpus n) whys.OverLimit = (n ≡ 0) ⊎ (cpu_limit_of (version_in above) < n)
 Applies above (forms.Cpus n) whys.Twice = 0 < cpus_in above
 Applies above (forms.Cpus n) whys.WrongPlace = 1 < highest above
-Applies above (forms.Frames n) whys.OverLimit = (n ≡ 0) ⊎ (frame_limit < n)
+Applies above (forms.Frames n) whys.OverLimit = (n ≡ 0) ⊎ (frame_limit_of (version_in above) < n)
 Applies above (forms.Frames n) whys.Twice = 0 < frames_in above
 Applies above (forms.Frames n) whys.WrongPlace = (2 < highest above) ⊎ (cpus_in above ≡ 0)
-Applies above (forms.Kernel f) whys.OverLimit = frame_limit ≤ f
+Applies above (forms.Kernel f) whys.OverLimit = frame_limit_of (version_in above) ≤ f
 Applies above (forms.Kernel f) whys.Undeclared = frames_in above ≤ f
 Applies above (forms.Kernel f) whys.Twice = Contains (kernel_in above) f
 Applies above (forms.Kernel f) whys.WrongPlace = IsMisplaced above 3
@@ -117,26 +143,28 @@ Applies above (forms.File n) whys.WrongPlace = IsMisplaced above 6 ⊎ (files_in
 Applies above (forms.Proc p) whys.OverLimit = process_limit ≤ p
 Applies above (forms.Proc p) whys.Twice = p < procs_in above
 Applies above (forms.Proc p) whys.WrongPlace = IsMisplaced above 7 ⊎ (procs_in above < p)
-Applies above (forms.Thread t p c h) whys.OverLimit = (thread_limit ≤ t) ⊎ (process_limit ≤ p) ⊎ (cpu_limit ≤ c)
+Applies above (forms.Thread t p c h) whys.OverLimit = (thread_limit ≤ t) ⊎ (process_limit ≤ p) ⊎ (cpu_limit_of (version_in above) ≤ c)
 Applies above (forms.Thread t p c h) whys.Undeclared = (procs_in above ≤ p) ⊎ (cpus_in above ≤ c)
 Applies above (forms.Thread t p c h) whys.Twice = t < length (threads_in above)
 Applies above (forms.Thread t p c h) whys.WrongPlace = IsMisplaced above 8 ⊎ (length (threads_in above) < t)
-Applies above (forms.Page q b) whys.OverLimit = (page_limit ≤ q) ⊎ IsBackingOver b
-Applies above (forms.Page q b) whys.Undeclared = IsBackingUndeclared above b
-Applies above (forms.Page q b) whys.Twice = q < length (pages_in above)
-Applies above (forms.Page q b) whys.WrongPlace = IsMisplaced above 9 ⊎ (length (pages_in above) < q)
-Applies above (forms.Trans v p q) whys.OverLimit = (translation_limit ≤ v) ⊎ (process_limit ≤ p) ⊎ (page_limit ≤ q)
+Applies above (forms.Page q b locked) whys.UnknownWord = (version_in above ≡ versions.One) × (locked ≡ true)
+Applies above (forms.Page q b locked) whys.OverLimit = (page_limit_of (version_in above) ≤ q) ⊎ IsBackingOver b
+Applies above (forms.Page q b locked) whys.Undeclared = IsBackingUndeclared above b
+Applies above (forms.Page q b locked) whys.Twice = q < length (pages_in above)
+Applies above (forms.Page q b locked) whys.WrongPlace = IsMisplaced above 9 ⊎ (length (pages_in above) < q)
+Applies above (forms.Trans v p q) whys.OverLimit = (translation_limit_of (version_in above) ≤ v) ⊎ (process_limit ≤ p) ⊎ (page_limit_of (version_in above) ≤ q)
 Applies above (forms.Trans v p q) whys.Undeclared = (procs_in above ≤ p) ⊎ (length (pages_in above) ≤ q)
 Applies above (forms.Trans v p q) whys.Twice = v < length (trans_in above)
 Applies above (forms.Trans v p q) whys.WrongPlace = IsMisplaced above 10 ⊎ (length (trans_in above) < v)
-Applies above (forms.Cpu c) whys.OverLimit = cpu_limit ≤ c
+Applies above (forms.Cpu c) whys.OverLimit = cpu_limit_of (version_in above) ≤ c
 Applies above (forms.Cpu c) whys.Undeclared = cpus_in above ≤ c
 Applies above (forms.Cpu c) whys.Twice = Contains (lists_in above) c
 Applies above (forms.Cpu c) whys.WrongPlace = IsMisplaced above 11
-Applies above (forms.Command c) whys.OverLimit = command_limit ≤ commands_in above
+Applies above (forms.Command c) whys.UnknownWord = (version_in above ≡ versions.One) × IsNewer c
+Applies above (forms.Command c) whys.OverLimit = (command_limit ≤ commands_in above) ⊎ IsBeyond (version_in above) c
 Applies above (forms.Command c) whys.Undeclared = IsUndeclared above c
 Applies above (forms.Command c) whys.WrongPlace = IsMisplaced above 11 ⊎ IsElsewhere (place_in above) (option_and_then (λ t. slice_get (threads_in above) t) (actor c))
-Applies above (forms.Schedule ws) whys.OverLimit = schedule_limit < length (go_in above) + length ws
+Applies above (forms.Schedule ws) whys.OverLimit = (schedule_limit < length (go_in above) + length ws) ⊎ (cpu_limit_of (version_in above) ≤ top_cpu ws)
 Applies above (forms.Schedule ws) whys.Undeclared = cpus_in above ≤ top_cpu ws
 Applies above (forms.Schedule ws) whys.WrongPlace = IsMisplaced above 12
 Applies above forms.End whys.WrongPlace = IsMisplaced above 12

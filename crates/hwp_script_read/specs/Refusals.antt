@@ -5,6 +5,8 @@ use Rattle.hwp_script_lines.specs.declared.ScriptLine.TheVariants as forms
 use Rattle.hwp_script_lines.specs.declared.LineRead.{LineRead}
 use Rattle.hwp_script_lines.specs.declared.LineRead.TheVariants as reads
 use Rattle.hwp_script_lines.specs.declared.Numbered.{Numbered}
+use Rattle.hwp_geom.specs.declared.Version.TheVariants as versions
+use Rattle.hwp_script_read.specs.Context.{version_in}
 use Rattle.hwp_script_read.specs.Reasons.{Applies, AreClean, number}
 use Rattle.hwp_script_read.specs.Collects.{Collects, IsEnded}
 use Rattle.hwp_script_read.specs.declared.script.Script.{Script}
@@ -24,14 +26,20 @@ pub record AreScript (lines : List Numbered) (s : Script) : Type 0 where
   pub ended : IsEnded forms
   pub collects : Collects forms s
 
+-- a line of a form that the version of the lines above it has not: `newer` says that version Two alone has it
+abbrev pub IsTooNew : Bool → List ScriptLine → Type 0
+IsTooNew newer above = (newer ≡ true) × (version_in above ≡ versions.One)
+
 -- the reason applies to a line, after those above it; NoEnd applies to the last line, where it is not `end`
 abbrev pub IsFault : Bool → List ScriptLine → LineRead → Why → Type 0
 IsFault last above (reads.ScriptLine f) whys.NoEnd = (last ≡ true) × (f ≢ forms.End)
 IsFault last above (reads.ScriptLine f) w = Applies above f w
 IsFault last above r whys.BadHeader = length above ≡ 0
 IsFault last above reads.Unknown whys.UnknownWord = Unit {0}
-IsFault last above reads.BadNumber whys.BadNumber = Unit {0}
-IsFault last above reads.OverLimit whys.OverLimit = Unit {0}
+IsFault last above (reads.BadNumber newer) whys.UnknownWord = IsTooNew newer above
+IsFault last above (reads.BadNumber newer) whys.BadNumber = Unit {0}
+IsFault last above (reads.OverLimit newer) whys.UnknownWord = IsTooNew newer above
+IsFault last above (reads.OverLimit newer) whys.OverLimit = Unit {0}
 IsFault last above r whys.NoEnd = last ≡ true
 IsFault last above r w = ⊥
 

@@ -3,12 +3,13 @@ use Rattle.std.specs.Prelude.{◌≡◌, ℕ, ◌<◌, ◌↔◌, true, length, 
 use Rattle.std.specs.List.{range_with_len}
 use Rattle.hwp_script_lines.specs.declared.ScriptLine.{ScriptLine}
 use Rattle.hwp_script_read.specs.declared.context.Summary.{Summary}
-use Rattle.hwp_script_read.specs.Context.{cpus_in, frames_in, kernel_in, recovery_in, early_in, files_in, procs_in, threads_in, pages_in, trans_in, lists_in, commands_in, go_in, place_in, highest}
+use Rattle.hwp_script_read.specs.Context.{version_in, cpus_in, frames_in, kernel_in, recovery_in, early_in, files_in, procs_in, threads_in, pages_in, locked_in, trans_in, lists_in, commands_in, go_in, place_in, highest}
 use Rattle.hwp_script_read.specs.Collects.{commands_of}
 
 -- the summary is that of these lines
 pub record Sums (above : List ScriptLine) (s : Summary) : Type 0 where
   pub group : s.group ≡ highest above
+  pub version : s.version ≡ version_in above
   pub cpus : s.cpus ≡ cpus_in above
   pub frames : s.frames ≡ frames_in above
   pub marks : length s.kernel.items ≡ frames_in above
@@ -20,6 +21,7 @@ pub record Sums (above : List ScriptLine) (s : Summary) : Type 0 where
   pub threads : s.threads ≡ threads_in above
   pub pages : s.pages ≡ pages_in above
   pub trans : s.trans ≡ trans_in above
+  pub locked : s.locked ≡ locked_in above
   pub begun : s.begun ≡ lists_in above
   pub place : s.place ≡ place_in above
   pub within : IfSome s.place (λ (p : ℕ). p < s.cpus)

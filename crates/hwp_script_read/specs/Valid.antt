@@ -1,10 +1,11 @@
 -- What every script has that some text gives.
-use Rattle.std.specs.Prelude.{◌≡◌, ℕ, ◌<◌, ◌≤◌, ◌+◌, ◌^◌, length, sum_by, All, IsSomeAnd, slice_get, List, [], ◌∷◌}
+use Rattle.std.specs.Prelude.{◌≡◌, ℕ, Bool, false, ◌<◌, ◌≤◌, ◌+◌, ◌^◌, length, sum_by, All, IsSomeAnd, slice_get, List, [], ◌∷◌}
 use Rattle.hwp_geom.specs.Layout.{IsSound}
 use Rattle.hwp_geom.specs.Limits.{line_limit, command_limit}
 use Rattle.hwp_geom.specs.declared.Layout.{Layout}
 use Rattle.hwp_geom.specs.declared.Thread.{Thread}
 use Rattle.hwp_geom.specs.declared.VSlot.{VSlot}
+use Rattle.hwp_geom.specs.declared.Version.TheVariants as versions
 use Rattle.hwp_geom.specs.declared.ThreadDecl.{ThreadDecl}
 use Rattle.hwp_geom.specs.declared.TransDecl.{TransDecl}
 use Rattle.hwp_geom.specs.declared.PageKind.{PageKind}
@@ -14,6 +15,7 @@ use Rattle.hwp_script_lines.specs.declared.Go.{Go}
 use Rattle.hwp_script_lines.specs.declared.Command.{Command}
 use Rattle.hwp_script_lines.specs.declared.Command.TheVariants as commands
 use Rattle.hwp_script_read.specs.Limits.{schedule_limit}
+use Rattle.hwp_script_read.specs.Reasons.{IsNewer}
 
 -- a thread of the processor
 abbrev pub IsThreadOf : Layout → ℕ → Thread → Type 0
@@ -46,6 +48,7 @@ IsCommandOf layout cpu (commands.Drop page) = page.0 < length layout.pages
 IsCommandOf layout cpu (commands.Sync page) = IsSomeAnd (slice_get layout.pages page.0) IsFile
 IsCommandOf layout cpu (commands.Out page) = IsSomeAnd (slice_get layout.pages page.0) IsAnon
 IsCommandOf layout cpu (commands.Fsync file) = file.0 < layout.files
+IsCommandOf layout cpu (commands.Open file) = file.0 < layout.files
 IsCommandOf layout cpu (commands.Prctl thread args) = IsThreadOf layout cpu thread
 IsCommandOf layout cpu (commands.Bad frame line) = (frame.0 < layout.frames) × (line < line_limit)
 IsCommandOf layout cpu (commands.Weak frame line) = (frame.0 < layout.frames) × (line < line_limit)
@@ -75,9 +78,15 @@ abbrev pub HasFill : PageKind → Type 0
 HasFill kinds.Anon = Unit {0}
 HasFill (kinds.File file fill) = fill < 2 ^ 64
 
--- a script that some text gives: its layout is sound, it has a list of each processor's commands, and a schedule of
+-- no page is locked, and no command is one that version Two alone has
+pub record IsOlder (script : Script) : Type 0 where
+  pub unlocked : All (λ (l : Bool). l ≡ false) script.layout.locked
+  pub commands : All (All (λ (c : Command). IsNewer c → ⊥)) script.lists
+
+-- a script that some text gives: in version One it has no `open` and no locked page; its layout is sound, it has a list of each processor's commands, and a schedule of
 -- its processors
 pub record IsValid (script : Script) : Type 0 where
+  pub older : script.layout.version ≡ versions.One → IsOlder script
   pub sound : IsSound script.layout
   pub one_each : length script.lists ≡ script.layout.cpus
   pub lists : AreLists script.layout 0 script.lists

@@ -78,7 +78,7 @@ fn push_command(
 }
 
 impl Summary {
-    #[tactic(auto, using(crate::proofs::CleanLaws::clean_cpus))]
+    #[tactic(auto, using(crate::proofs::CleanLaws::clean_cpus, crate::proofs::CleanLaws::small_cpus))]
     fn add_cpus(&mut self, above: &[ScriptLine], alloc: Global, n: u64) -> Result<(), OutOfMemory>
         requires sums { Sums above.now self.old }
         requires clean { IsClean above.now (ScriptLine.Cpus n) }
@@ -90,7 +90,7 @@ impl Summary {
         Ok(())
     }
 
-    #[tactic(auto, using(crate::proofs::CleanLaws::clean_frames))]
+    #[tactic(auto, using(crate::proofs::CleanLaws::clean_frames, crate::proofs::CleanLaws::small_frames))]
     fn add_frames(&mut self, above: &[ScriptLine], alloc: Global, n: u64) -> Result<(), OutOfMemory>
         requires sums { Sums above.now self.old }
         requires clean { IsClean above.now (ScriptLine.Frames n) }
@@ -152,7 +152,7 @@ impl Summary {
         self.procs += 1;
     }
 
-    #[tactic(auto, using(crate::proofs::CleanLaws::clean_thread))]
+    #[tactic(auto, using(crate::proofs::CleanLaws::clean_thread, crate::proofs::CleanLaws::small_thread))]
     fn add_thread(
         &mut self,
         above: &[ScriptLine],
@@ -180,17 +180,19 @@ impl Summary {
         above: &[ScriptLine],
         page: u64,
         backing: Backing,
+        locked: bool,
     ) -> Result<(), OutOfMemory>
         requires sums { Sums above.now self.old }
-        requires clean { IsClean above.now (ScriptLine.Page page backing) }
-        ensures { OnOk result (Sums (above.now ++ ScriptLine.Page page backing ∷ []) self.new) }
+        requires clean { IsClean above.now (ScriptLine.Page page backing locked) }
+        ensures { OnOk result (Sums (above.now ++ ScriptLine.Page page backing locked ∷ []) self.new) }
     {
         self.group = 9;
         self.pages.push(page_kind(backing))?;
+        self.locked.push(locked)?;
         Ok(())
     }
 
-    #[tactic(auto, using(crate::proofs::CleanLaws::clean_trans))]
+    #[tactic(auto, using(crate::proofs::CleanLaws::clean_trans, crate::proofs::CleanLaws::small_trans))]
     fn add_trans(
         &mut self,
         above: &[ScriptLine],
@@ -273,7 +275,7 @@ impl Summary {
         ensures { OnOk result (Sums (above.now ++ form.now ∷ []) self.new) }
     {
         match form {
-            ScriptLine::Header => {}
+            ScriptLine::Header(version) => self.version = *version,
             ScriptLine::Cpus(n) => return self.add_cpus(above, alloc, *n),
             ScriptLine::Frames(n) => return self.add_frames(above, alloc, *n),
             ScriptLine::Kernel(frame) => self.add_kernel(above, *frame),
@@ -287,7 +289,11 @@ impl Summary {
                 cpu,
                 handler,
             } => return self.add_thread(above, *thread, *process, *cpu, *handler),
-            ScriptLine::Page { page, backing } => return self.add_page(above, *page, *backing),
+            ScriptLine::Page {
+                page,
+                backing,
+                locked,
+            } => return self.add_page(above, *page, *backing, *locked),
             ScriptLine::Trans {
                 slot,
                 process,

@@ -1,5 +1,6 @@
 ghost use Rattle.std.specs.Prelude.{◌≡◌, ℕ, ◌<◌, ◌≤◌, ◌↔◌, length, slice_get, option_and_then, IsTrue, MatchOption};
-ghost use Rattle.hwp_script_read.specs.Reasons.{IsClean, IsLowest, IsForeign, IsNoFilePage, IsNoAnonPage, IsUndeclared, IsElsewhere, actor};
+ghost use Rattle.hwp_script_read.specs.Context.{version_in};
+ghost use Rattle.hwp_script_read.specs.Reasons.{IsClean, IsLowest, IsForeign, IsNoFilePage, IsNoAnonPage, IsUndeclared, IsNewer, IsBeyond, IsElsewhere, actor};
 ghost use Rattle.hwp_script_read.specs.Sums.{Sums};
 
 use crate::context::Summary;
@@ -55,7 +56,7 @@ fn is_undeclared(summary: &Summary, above: &[ScriptLine], command: &Command) -> 
         Command::Drop { page } => usize::from(page.0) >= summary.pages.len(),
         Command::Sync { page } => is_no_file_page(summary, page),
         Command::Out { page } => is_no_anon_page(summary, page),
-        Command::Fsync { file } => file.0 >= summary.files,
+        Command::Fsync { file } | Command::Open { file } => file.0 >= summary.files,
         Command::Prctl { thread, .. } | Command::RaiseUser { thread, .. } => {
             usize::from(thread.0) >= summary.threads.len()
         }
@@ -65,6 +66,37 @@ fn is_undeclared(summary: &Summary, above: &[ScriptLine], command: &Command) -> 
         Command::Inject { frame } | Command::Soft { frame } | Command::Unpoison { frame } => {
             frame.0 >= frames
         }
+    }
+}
+
+/// Whether version 2 alone has a command.
+fn is_newer(command: &Command) -> bool
+    ensures { IsTrue result ↔ IsNewer command.now }
+{
+    matches!(command, Command::Open { .. })
+}
+
+/// Whether a command names what there can't be in the version of the lines.
+fn is_beyond(summary: &Summary, above: &[ScriptLine], command: &Command) -> bool
+    requires { Sums above.now summary.now }
+    ensures { IsTrue result ↔ IsBeyond (version_in above.now) command.now }
+{
+    match *command {
+        Command::Load { slot, .. }
+        | Command::Fetch { slot, .. }
+        | Command::KLoad { slot, .. }
+        | Command::Store { slot, .. }
+        | Command::Free { slot } => u64::from(slot.0) >= summary.max_trans(above),
+        Command::Drop { page } | Command::Sync { page } | Command::Out { page } => {
+            u64::from(page.0) >= summary.max_pages(above)
+        }
+        Command::Bad { frame, .. }
+        | Command::Weak { frame, .. }
+        | Command::Inject { frame }
+        | Command::Soft { frame }
+        | Command::Unpoison { frame } => u64::from(frame.0) >= summary.max_frames(above),
+        Command::Scrub { last, .. } => u64::from(last.0) >= summary.max_frames(above),
+        _ => false,
     }
 }
 
@@ -109,7 +141,9 @@ pub(crate) fn command_fault(
     requires some { 0 < length above.now }
     ensures { MatchOption result (IsClean above.now (ScriptLine.Command command.now)) (λ why. IsLowest above.now (ScriptLine.Command command.now) why) }
 {
-    if summary.commands >= MAX_COMMANDS {
+    if is_newer(command) && summary.is_first_version(above) {
+        Some(Why::UnknownWord)
+    } else if summary.commands >= MAX_COMMANDS || is_beyond(summary, above, command) {
         Some(Why::OverLimit)
     } else if is_undeclared(summary, above, command) {
         Some(Why::Undeclared)

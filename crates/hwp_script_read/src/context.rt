@@ -1,9 +1,11 @@
-ghost use Rattle.std.specs.Prelude.{◌↔◌, IsTrue, [], Contains};
+ghost use Rattle.std.specs.Prelude.{◌≡◌, ◌↔◌, IsTrue, [], Contains};
+ghost use Rattle.hwp_geom.specs.Limits.{cpu_limit_of, frame_limit_of, page_limit_of, translation_limit_of};
+ghost use Rattle.hwp_script_read.specs.Context.{version_in};
 ghost use Rattle.hwp_script_read.specs.Collects.{Collects};
 ghost use Rattle.hwp_script_read.specs.Sums.{Sums};
 
 use crate::script::Script;
-use hwp_geom::{Layout, List, PageKind, ThreadDecl, TransDecl};
+use hwp_geom::{Layout, List, PageKind, ThreadDecl, TransDecl, Version};
 use hwp_script_lines::{Command, Go, ScriptLine};
 use std::alloc::Global;
 
@@ -12,6 +14,8 @@ use std::alloc::Global;
 pub(crate) struct Summary {
     /// The highest group.
     pub group: u8,
+    /// The version, which the header gives.
+    pub version: Version,
     /// The number of processors, 0 before its line.
     pub cpus: u8,
     /// The number of frames, 0 before its line.
@@ -26,6 +30,8 @@ pub(crate) struct Summary {
     pub procs: u8,
     pub threads: List<ThreadDecl>,
     pub pages: List<PageKind>,
+    /// For each page, whether it is locked.
+    pub locked: List<bool>,
     pub trans: List<TransDecl>,
     /// The processors whose lists have begun.
     pub begun: List<u64>,
@@ -46,6 +52,7 @@ impl Summary {
     {
         Summary {
             group: 0,
+            version: Version::One,
             cpus: 0,
             frames: 0,
             kernel: Vec::new(alloc),
@@ -55,6 +62,7 @@ impl Summary {
             procs: 0,
             threads: List::new(alloc),
             pages: List::new(alloc),
+            locked: List::new(alloc),
             trans: List::new(alloc),
             begun: List::new(alloc),
             place: None,
@@ -62,6 +70,46 @@ impl Summary {
             lists: Vec::new(alloc),
             go: List::new(alloc),
         }
+    }
+
+    /// Whether the lines are of version 1.
+    pub(crate) fn is_first_version(&self, lines: &[ScriptLine]) -> bool
+        requires { Sums lines.now self.now }
+        ensures { IsTrue result ↔ (version_in lines.now ≡ Version.One) }
+    {
+        matches!(self.version, Version::One)
+    }
+
+    /// The most processors in the version of the lines.
+    pub(crate) fn max_cpus(&self, lines: &[ScriptLine]) -> u64
+        requires { Sums lines.now self.now }
+        ensures { result ≡ cpu_limit_of (version_in lines.now) }
+    {
+        u64::from(self.version.max_cpus())
+    }
+
+    /// The most frames in the version of the lines.
+    pub(crate) fn max_frames(&self, lines: &[ScriptLine]) -> u64
+        requires { Sums lines.now self.now }
+        ensures { result ≡ frame_limit_of (version_in lines.now) }
+    {
+        u64::from(self.version.max_frames())
+    }
+
+    /// The most pages in the version of the lines.
+    pub(crate) fn max_pages(&self, lines: &[ScriptLine]) -> u64
+        requires { Sums lines.now self.now }
+        ensures { result ≡ page_limit_of (version_in lines.now) }
+    {
+        u64::from(self.version.max_pages())
+    }
+
+    /// The most translations in the version of the lines.
+    pub(crate) fn max_trans(&self, lines: &[ScriptLine]) -> u64
+        requires { Sums lines.now self.now }
+        ensures { result ≡ translation_limit_of (version_in lines.now) }
+    {
+        u64::from(self.version.max_trans())
     }
 
     /// Whether a processor's list has begun.
@@ -78,6 +126,7 @@ impl Summary {
     {
         Script {
             layout: Layout {
+                version: self.version,
                 cpus: self.cpus,
                 frames: self.frames,
                 kernel: List::from_vec(self.kernel),
@@ -88,6 +137,7 @@ impl Summary {
                 threads: self.threads,
                 pages: self.pages,
                 trans: self.trans,
+                locked: self.locked,
             },
             lists: List::from_vec(self.lists),
             go: self.go,

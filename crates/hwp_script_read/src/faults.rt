@@ -7,7 +7,7 @@ use crate::commands::command_fault;
 use crate::context::Summary;
 use crate::script::MAX_SCHEDULE;
 use crate::why::Why;
-use hwp_geom::{MAX_CPUS, MAX_FILES, MAX_FRAMES, MAX_PAGES, MAX_PROCS, MAX_THREADS, MAX_TRANS};
+use hwp_geom::{MAX_FILES, MAX_PROCS, MAX_THREADS};
 use hwp_script_lines::{Backing, Go, ScriptLine};
 
 /// Whether a line of a group may not stand below these lines.
@@ -48,7 +48,7 @@ fn cpus_fault(summary: &Summary, above: &[ScriptLine], n: u64) -> Option<Why>
     requires some { 0 < length above.now }
     ensures { MatchOption result (IsClean above.now (ScriptLine.Cpus n)) (λ why. IsLowest above.now (ScriptLine.Cpus n) why) }
 {
-    if n == 0 || n > u64::from(MAX_CPUS) {
+    if n == 0 || n > summary.max_cpus(above) {
         Some(Why::OverLimit)
     } else if summary.cpus > 0 {
         Some(Why::Twice)
@@ -64,7 +64,7 @@ fn frames_fault(summary: &Summary, above: &[ScriptLine], n: u64) -> Option<Why>
     requires some { 0 < length above.now }
     ensures { MatchOption result (IsClean above.now (ScriptLine.Frames n)) (λ why. IsLowest above.now (ScriptLine.Frames n) why) }
 {
-    if n == 0 || n > u64::from(MAX_FRAMES) {
+    if n == 0 || n > summary.max_frames(above) {
         Some(Why::OverLimit)
     } else if summary.frames > 0 {
         Some(Why::Twice)
@@ -80,7 +80,7 @@ fn kernel_fault(summary: &Summary, above: &[ScriptLine], frame: u64) -> Option<W
     requires some { 0 < length above.now }
     ensures { MatchOption result (IsClean above.now (ScriptLine.Kernel frame)) (λ why. IsLowest above.now (ScriptLine.Kernel frame) why) }
 {
-    if frame >= u64::from(MAX_FRAMES) {
+    if frame >= summary.max_frames(above) {
         Some(Why::OverLimit)
     } else if frame >= u64::from(summary.frames) {
         Some(Why::Undeclared)
@@ -172,7 +172,7 @@ fn thread_fault(
     let threads = summary.threads.len() as u64;
     if thread >= u64::from(MAX_THREADS)
         || process >= u64::from(MAX_PROCS)
-        || cpu >= u64::from(MAX_CPUS)
+        || cpu >= summary.max_cpus(above)
     {
         Some(Why::OverLimit)
     } else if process >= u64::from(summary.procs) || cpu >= u64::from(summary.cpus) {
@@ -207,13 +207,21 @@ fn is_backing_undeclared(summary: &Summary, above: &[ScriptLine], backing: Backi
     }
 }
 
-fn page_fault(summary: &Summary, above: &[ScriptLine], page: u64, backing: Backing) -> Option<Why>
+fn page_fault(
+    summary: &Summary,
+    above: &[ScriptLine],
+    page: u64,
+    backing: Backing,
+    locked: bool,
+) -> Option<Why>
     requires sums { Sums above.now summary.now }
     requires some { 0 < length above.now }
-    ensures { MatchOption result (IsClean above.now (ScriptLine.Page page backing)) (λ why. IsLowest above.now (ScriptLine.Page page backing) why) }
+    ensures { MatchOption result (IsClean above.now (ScriptLine.Page page backing locked)) (λ why. IsLowest above.now (ScriptLine.Page page backing locked) why) }
 {
     let pages = summary.pages.len() as u64;
-    if page >= u64::from(MAX_PAGES) || is_backing_over(backing) {
+    if locked && summary.is_first_version(above) {
+        Some(Why::UnknownWord)
+    } else if page >= summary.max_pages(above) || is_backing_over(backing) {
         Some(Why::OverLimit)
     } else if is_backing_undeclared(summary, above, backing) {
         Some(Why::Undeclared)
@@ -238,9 +246,9 @@ fn trans_fault(
     ensures { MatchOption result (IsClean above.now (ScriptLine.Trans slot process page)) (λ why. IsLowest above.now (ScriptLine.Trans slot process page) why) }
 {
     let slots = summary.trans.len() as u64;
-    if slot >= u64::from(MAX_TRANS)
+    if slot >= summary.max_trans(above)
         || process >= u64::from(MAX_PROCS)
-        || page >= u64::from(MAX_PAGES)
+        || page >= summary.max_pages(above)
     {
         Some(Why::OverLimit)
     } else if process >= u64::from(summary.procs) || page >= summary.pages.len() as u64 {
@@ -259,7 +267,7 @@ fn cpu_fault(summary: &Summary, above: &[ScriptLine], cpu: u64) -> Option<Why>
     requires some { 0 < length above.now }
     ensures { MatchOption result (IsClean above.now (ScriptLine.Cpu cpu)) (λ why. IsLowest above.now (ScriptLine.Cpu cpu) why) }
 {
-    if cpu >= u64::from(MAX_CPUS) {
+    if cpu >= summary.max_cpus(above) {
         Some(Why::OverLimit)
     } else if cpu >= u64::from(summary.cpus) {
         Some(Why::Undeclared)
@@ -285,7 +293,7 @@ fn schedule_fault(summary: &Summary, above: &[ScriptLine], words: &[Go]) -> Opti
     ensures { MatchOption result (IsClean above.now (ScriptLine.Schedule words.now)) (λ why. IsLowest above.now (ScriptLine.Schedule words.now) why) }
 {
     let highest = highest_cpu(words);
-    if is_too_long(summary.go.len(), words.len()) {
+    if is_too_long(summary.go.len(), words.len()) || u64::from(highest) >= summary.max_cpus(above) {
         Some(Why::OverLimit)
     } else if highest >= summary.cpus {
         Some(Why::Undeclared)
@@ -317,7 +325,7 @@ pub(crate) fn fault(summary: &Summary, above: &[ScriptLine], form: &ScriptLine) 
         return first_fault(above, form);
     }
     match form {
-        ScriptLine::Header => Some(Why::UnknownWord),
+        ScriptLine::Header(_) => Some(Why::UnknownWord),
         ScriptLine::Cpus(n) => cpus_fault(summary, above, *n),
         ScriptLine::Frames(n) => frames_fault(summary, above, *n),
         ScriptLine::Kernel(frame) => kernel_fault(summary, above, *frame),
@@ -331,7 +339,11 @@ pub(crate) fn fault(summary: &Summary, above: &[ScriptLine], form: &ScriptLine) 
             cpu,
             handler,
         } => thread_fault(summary, above, *thread, *process, *cpu, *handler),
-        ScriptLine::Page { page, backing } => page_fault(summary, above, *page, *backing),
+        ScriptLine::Page {
+            page,
+            backing,
+            locked,
+        } => page_fault(summary, above, *page, *backing, *locked),
         ScriptLine::Trans {
             slot,
             process,
@@ -350,7 +362,7 @@ fn first_fault(above: &[ScriptLine], form: &ScriptLine) -> Option<Why>
     ensures { MatchOption result (IsClean above.now form.now) (λ why. IsLowest above.now form.now why) }
 {
     match form {
-        ScriptLine::Header => None,
+        ScriptLine::Header(_) => None,
         _ => Some(Why::BadHeader),
     }
 }

@@ -1,7 +1,7 @@
 ghost use Rattle.std.specs.Prelude.{◌≡◌, ◌↔◌, Bool, IsTrue, true, IfOk, IfErr};
 ghost use Rattle.hwp_script_read.specs.Reasons.{IsClean};
 ghost use Rattle.hwp_script_read.specs.Sums.{Sums};
-ghost use Rattle.hwp_script_read.specs.Refusals.{AreScript, AreRefused, IsLowestFault};
+ghost use Rattle.hwp_script_read.specs.Refusals.{AreScript, AreRefused, IsLowestFault, IsTooNew};
 
 use crate::context::Summary;
 use crate::faults::fault;
@@ -29,23 +29,37 @@ fn unknown_fault(above: &[ScriptLine]) -> Why
     }
 }
 
+/// Whether a line has a form that the version of the lines above it has not.
+fn is_too_new(newer: bool, summary: &Summary, above: &[ScriptLine]) -> bool
+    requires { Sums above.now summary.now }
+    ensures { IsTrue result ↔ IsTooNew newer above.now }
+{
+    newer && summary.is_first_version(above)
+}
+
 /// The fault of a line with a word in a number's place that is none.
-fn number_fault(above: &[ScriptLine]) -> Why
-    ensures { (last : Bool) → IsLowestFault last above.now LineRead.BadNumber result }
+fn number_fault(newer: bool, summary: &Summary, above: &[ScriptLine]) -> Why
+    requires { Sums above.now summary.now }
+    ensures { (last : Bool) → IsLowestFault last above.now (LineRead.BadNumber newer) result }
 {
     if above.is_empty() {
         Why::BadHeader
+    } else if is_too_new(newer, summary, above) {
+        Why::UnknownWord
     } else {
         Why::BadNumber
     }
 }
 
 /// The fault of a line with a number outside its range.
-fn range_fault(above: &[ScriptLine]) -> Why
-    ensures { (last : Bool) → IsLowestFault last above.now LineRead.OverLimit result }
+fn range_fault(newer: bool, summary: &Summary, above: &[ScriptLine]) -> Why
+    requires { Sums above.now summary.now }
+    ensures { (last : Bool) → IsLowestFault last above.now (LineRead.OverLimit newer) result }
 {
     if above.is_empty() {
         Why::BadHeader
+    } else if is_too_new(newer, summary, above) {
+        Why::UnknownWord
     } else {
         Why::OverLimit
     }
@@ -67,8 +81,8 @@ fn judge_line(
     let form = match read {
         LineRead::ScriptLine(form) => form,
         LineRead::Unknown => return Err(unknown_fault(above)),
-        LineRead::BadNumber => return Err(number_fault(above)),
-        LineRead::OverLimit => return Err(range_fault(above)),
+        LineRead::BadNumber { newer } => return Err(number_fault(newer, summary, above)),
+        LineRead::OverLimit { newer } => return Err(range_fault(newer, summary, above)),
     };
     if let Some(why) = fault(summary, above, &form) {
         return Err(why);

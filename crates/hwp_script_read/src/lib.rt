@@ -12,7 +12,7 @@ mod why;
 
 pub use hwp_geom::{
     Cpu, FileNo, Frame, Kind, Layout, Line, List, MAX_COMMANDS, MAX_CPUS, Mask, Mode, OutOfMemory,
-    Page, PageKind, Proc, Text, Thread, ThreadDecl, TransDecl, VSlot, Who,
+    Page, PageKind, Proc, Text, Thread, ThreadDecl, TransDecl, VSlot, Version, Who,
 };
 pub use hwp_script_lines::{
     Backing, Command, Go, LineRead, PrctlArgs, ScriptLine, Until, is_text, kind_name, read_lines,

@@ -25,7 +25,6 @@ use Rattle.hwp_evict.specs.hwp_core_task.Calls.{logs, rec_of}
 use Rattle.hwp_evict.specs.hwp_core_task.Hands.{Hand}
 use Rattle.hwp_evict.specs.hwp_core_task.Ranks.{IsRanked, Made, OtherHand, Pending, Quiet, failures_left, is_waits, words_at, free_room, take_most}
 use Rattle.hwp_evict.proofs.of_hwp_core_task.StepRanks.{failed, met, pending-kept, retire-fails, steps-on, words-after, words-kept}
-use Rattle.hwp_evict.specs.hwp_core.declared.give_up.GiveUp.{GiveUp}
 use Rattle.hwp_evict.specs.hwp_core.declared.refer.Refer.{Refer}
 use Rattle.hwp_evict.specs.hwp_core.declared.refer.ReferAt.{ReferAt}
 use Rattle.hwp_evict.specs.hwp_core.declared.refer.ReferAt.TheVariants as refer_at
@@ -82,8 +81,8 @@ use Rattle.hwp_soft.specs.declared.soft.SoftAnswer.{SoftAnswer}
 use Rattle.hwp_soft.specs.declared.soft.SoftAnswer.TheVariants as answers
 use Rattle.hwp_soft.specs.declared.soft.SoftAt.{SoftAt}
 use Rattle.hwp_soft.specs.declared.soft.SoftAt.TheVariants as at
-use Rattle.hwp_soft.specs.Offline.{Fits, FitsAt, IsDiscarding, IsRelocating, IsSeizing, task as soft-task}
-use Rattle.hwp_soft.specs.Softs.{Follows, FollowsAt, Moves, ShowsAt, TakesOne, aborts, aborts_at, after_discard, after_relocate, after_release, after_seize, after_take, after_unhold, bare, bare_at, claim_of, claims, claims_at, class, class_at, cost, cost_at, ended, given_up, let_go, plan, plan_at, put, put_at, move_most, seized_most, soft_most}
+use Rattle.hwp_soft.specs.Offline.{FitsAt, IsDiscarding, IsRelocating, IsSeizing, task as soft-task}
+use Rattle.hwp_soft.specs.Softs.{FollowsAt, Moves, ShowsAt, TakesOne, aborts, aborts_at, after_discard, after_relocate, after_release, after_seize, after_take, after_unhold, bare_at, claim_of, claims, claims_at, class, class_at, cost, cost_at, ended, given_up, let_go, plan_at, put_at, move_most, seized_most, soft_most}
 use Rattle.hwp_soft.proofs.SoftFits.{both}
 
 -- ---- what is left once a part is over

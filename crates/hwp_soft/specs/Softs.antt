@@ -108,6 +108,12 @@ is_held (at.UnlockSpare page body to) = true
 is_held (at.ReleaseSpare page body r) = true
 is_held _ = false
 
+-- and is to move, with room for its translations in use
+abbrev pub is_movable : SoftAt → Bool
+is_movable (at.Take page body t) = true
+is_movable (at.Poison page body to) = true
+is_movable _ = false
+
 abbrev pub IsHeld : SoftAt → Page → BodyValue → Type 0
 IsHeld (at.LoadBad own in_hand) page body = (page ≡ own) × (body ≡ in_hand)
 IsHeld (at.Take own in_hand t) page body = (page ≡ own) × (body ≡ in_hand)

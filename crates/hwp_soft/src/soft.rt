@@ -1,12 +1,13 @@
-ghost use Rattle.std.specs.Prelude.{◌≡◌, true, cond, Some};
+ghost use Rattle.std.specs.Prelude.{◌≡◌, false, true, cond, Some};
 ghost use Rattle.hwp_evict.specs.hwp_core.Releases as releases;
 ghost use Rattle.hwp_evict.specs.hwp_core_task.declared.Turn.TheVariants.{Answered, Moved};
 ghost use Rattle.hwp_soft.specs.declared.soft.SoftAt.TheVariants as states;
-ghost use Rattle.hwp_soft.specs.Softs.{begin, answer, is_held, IsHeld, after_stop, after_seize, AfterBad, after_take_by, AfterPoison, CanMakeEntry, Moves, let_go, ended, Shows, Follows};
+ghost use Rattle.hwp_soft.specs.Softs.{begin, answer, is_held, is_movable, IsHeld, after_stop, after_seize, AfterBad, given_up, after_take_by, AfterPoison, CanMakeEntry, Moves, let_go, ended, Shows, Follows};
 
+use crate::movable::Movable;
 use hwp_evict::{
     At, Body, Entry, Frame, FrameWord, GiveUp, Layout, Mask, Page, Ranked, Release, Scheduled,
-    SharedWord, Step, Task, Turn, Unhold, What, Who, is_stopped,
+    SharedWord, SlotRoom, Step, Task, Turn, Unhold, What, Who, is_stopped,
 };
 use hwp_fault_fill::{Take, TakeAnswer};
 use hwp_soft_move::{Discard, Relocate, Seize, SeizeAnswer};
@@ -55,12 +56,12 @@ enum SoftAt {
     },
     Take {
         page: Page,
-        body: Body,
+        body: Movable,
         take: Take,
     },
     Poison {
         page: Page,
-        body: Body,
+        body: Movable,
         to: Frame,
     },
     UnlockSpare {
@@ -171,19 +172,41 @@ impl Soft {
 
     /// The page that is held and its body, for the state that comes next.
     fn take_page(&mut self) -> (Page, Body)
-        requires { is_held self.old.at ≡ true }
+        requires held { is_held self.old.at ≡ true }
+        requires plain { is_movable self.old.at ≡ false }
         ensures left { self.new ≡ record self.old { at = states.LoadStop } }
         ensures held { IsHeld self.old.at result.0 result.1 }
     {
         match mem::replace(&mut self.at, SoftAt::LoadStop) {
             SoftAt::LoadBad { page, body }
-            | SoftAt::Take { page, body, .. }
-            | SoftAt::Poison { page, body, .. }
             | SoftAt::UnlockSpare { page, body, .. }
             | SoftAt::ReleaseSpare { page, body, .. } => (page, body),
             SoftAt::LoadStop
             | SoftAt::Seize { .. }
             | SoftAt::Discard { .. }
+            | SoftAt::Take { .. }
+            | SoftAt::Poison { .. }
+            | SoftAt::Relocate { .. }
+            | SoftAt::Unhold { .. }
+            | SoftAt::GiveUp { .. }
+            | SoftAt::Over { .. } => unreachable!(),
+        }
+    }
+
+    /// The page that is to move and its body, for the state that comes next.
+    fn take_movable(&mut self) -> (Page, Movable)
+        requires { is_movable self.old.at ≡ true }
+        ensures left { self.new ≡ record self.old { at = states.LoadStop } }
+        ensures held { IsHeld self.old.at result.0 result.1 }
+    {
+        match mem::replace(&mut self.at, SoftAt::LoadStop) {
+            SoftAt::Take { page, body, .. } | SoftAt::Poison { page, body, .. } => (page, body),
+            SoftAt::LoadStop
+            | SoftAt::Seize { .. }
+            | SoftAt::Discard { .. }
+            | SoftAt::LoadBad { .. }
+            | SoftAt::UnlockSpare { .. }
+            | SoftAt::ReleaseSpare { .. }
             | SoftAt::Relocate { .. }
             | SoftAt::Unhold { .. }
             | SoftAt::GiveUp { .. }
@@ -205,14 +228,14 @@ impl Soft {
             SoftAt::Take { take, .. } => {
                 let turn = take.settle(layout, found, got);
                 if let Some(answer) = take.answer() {
-                    let (page, body) = self.take_page();
+                    let (page, body) = self.take_movable();
                     self.set(after_take(self.who, self.frame, page, body, answer));
                 }
                 turn
             }
             SoftAt::Poison { to, .. } => {
                 let to = *to;
-                let (page, body) = self.take_page();
+                let (page, body) = self.take_movable();
                 self.move_to(after_poison(self.who, self.frame, page, body, to, found))
             }
             SoftAt::UnlockSpare { to, .. } => {
@@ -294,46 +317,56 @@ fn let_go(who: Who, frame: Frame, page: Page, body: Body, answer: SoftAnswer) ->
     }
 }
 
-/// The bad lines of the frame are read: with none another frame is taken, once there is room for the entry.
+/// The bad lines of the frame are read: with none another frame is taken, once there is room for the entry and for the
+/// translations in use.
 fn after_bad(who: Who, frame: Frame, page: Page, body: Body, word: u64) -> SoftAt
     ensures { AfterBad who frame page body word result }
 {
     if word != 0 {
         return let_go(who, frame, page, body, SoftAnswer::HasBad(Mask(word)));
     }
+    let Ok(room) = SlotRoom::new(body.alloc()) else {
+        return given_up(who, frame, page, body);
+    };
     let mut body = body;
     match body.room() {
         Ok(()) => SoftAt::Take {
             page,
-            body,
+            body: Movable::new(body, room),
             take: Take::new(who),
         },
-        Err(_) => SoftAt::GiveUp {
-            give_up: GiveUp::with_page(who, page, Some(frame), 1, body),
-        },
+        Err(_) => given_up(who, frame, page, body),
     }
 }
 
-fn after_take(who: Who, frame: Frame, page: Page, body: Body, answer: TakeAnswer) -> SoftAt
+/// Memory is refused, and the command gives up.
+fn given_up(who: Who, frame: Frame, page: Page, body: Body) -> SoftAt
+    ensures { result ≡ given_up who frame page body }
+{
+    SoftAt::GiveUp {
+        give_up: GiveUp::with_page(who, page, Some(frame), 1, body),
+    }
+}
+
+fn after_take(who: Who, frame: Frame, page: Page, body: Movable, answer: TakeAnswer) -> SoftAt
     ensures { (t : Take) → result ≡ after_take_by who frame page body t (Some answer) }
 {
     match answer {
         TakeAnswer::Taken(to) => SoftAt::Poison { page, body, to },
-        TakeAnswer::NoFrame => let_go(who, frame, page, body, SoftAnswer::NoFrame),
+        TakeAnswer::NoFrame => let_go(who, frame, page, body.into_body(), SoftAnswer::NoFrame),
     }
 }
 
 /// The page moves to the other frame, by the entry that is made.
-fn relocate(who: Who, frame: Frame, page: Page, body: Body, to: Frame, cycle: u32) -> SoftAt
+fn relocate(who: Who, frame: Frame, page: Page, body: Movable, to: Frame, cycle: u32) -> SoftAt
     requires { CanMakeEntry body }
     ensures { Moves who frame page body to cycle result }
 {
-    let mut body = body;
+    let (mut body, maps) = body.into_parts();
     let at = At {
         page,
         entry: body.len(),
     };
-    let maps = body.state().maps.copy();
     body.append(Entry {
         who,
         what: What::Soft,
@@ -349,13 +382,17 @@ fn relocate(who: Who, frame: Frame, page: Page, body: Body, to: Frame, cycle: u3
 }
 
 /// A frame that was poisoned meanwhile is left, and the other one given back.
-fn after_poison(who: Who, frame: Frame, page: Page, body: Body, to: Frame, found: u64) -> SoftAt
+fn after_poison(who: Who, frame: Frame, page: Page, body: Movable, to: Frame, found: u64) -> SoftAt
     requires { CanMakeEntry body }
     ensures { AfterPoison who frame page body to found result }
 {
     let word = FrameWord::unpack(found);
     if word.poisoned {
-        SoftAt::UnlockSpare { page, body, to }
+        SoftAt::UnlockSpare {
+            page,
+            body: body.into_body(),
+            to,
+        }
     } else {
         relocate(who, frame, page, body, to, word.cycle)
     }

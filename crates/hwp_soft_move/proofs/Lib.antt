@@ -1,4 +1,5 @@
 pub mod SetCounts
+pub mod RemapTurns
 pub mod RemapLaws
 pub mod SoftEntry
 pub mod RelocateSteps

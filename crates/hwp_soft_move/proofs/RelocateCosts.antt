@@ -68,7 +68,7 @@ relocate-falls w now r step found next turn is shows follows shown kept = which 
     exactly : (x : RelocateAt) (n : ℕ) → next.at ≡ x → cost_at x now < n → cost_at next.at now < n
     exactly x n is less = subst (λ (y : RelocateAt). cost_at y now < n) (sym is) less
 
-    which : (x : RelocateAt) → plan_at r.transfer x ≡ Some step → ShowsAt x → FollowsAt r.transfer r.maps x found next.at turn → cost_at next.at now < cost_at x w
+    which : (x : RelocateAt) → plan_at r.transfer x ≡ Some step → ShowsAt r.maps x → FollowsAt r.transfer r.maps x found next.at turn → cost_at next.at now < cost_at x w
     which at.Count e shows f = exactly at.SetOwner (pass + 5) f.0 (omega arith)
     which at.SetOwner e shows f = exactly (at.Refer (refers.begin r.transfer.who r.transfer.to (r.transfer.count - 1))) (pass + 4) f.0 (omega arith)
     which (at.Refer g) e shows f =
@@ -76,7 +76,7 @@ relocate-falls w now r step found next turn is shows follows shown kept = which 
         let most : cost_at next.at now ≤ refers.cost (refers.next g found) now + (pass + 1) = refer-cost r.transfer r.maps g (refers.next g found).at next.at now f.0 in
         omega (arith, less, most)
     which (at.Remap m) e shows f =
-        let less : remaps.cost f.0.after now < remaps.cost m w = remaps-fall m f.0.after w now e f.0.follows shows in
+        let less : remaps.cost f.0.after now < remaps.cost m w = remaps-fall m f.0.after w now e f.0.follows shows.0 in
         let most : cost_at (after_remap f.0.after) now ≤ remaps.cost f.0.after now + 9 = remap-cost f.0.after now in
         exactly (after_remap f.0.after) (remaps.cost m w + 9) f.0.next_is (omega (arith, less, most))
     which at.SetCache e shows f = exactly at.ClearOwner 9 f.0 (omega arith)

@@ -212,12 +212,12 @@ module _ {layout : Layout} {view : View} (t : Transfer) (maps : set.FinSet nat_c
       taken-is : has.taken ≡ taken
       taken-is = same_Some has.taken taken (sym (ap (λ (h : Hand). slice_get h.bodies 0) has.hand_is) ∙ ap (λ l. slice_get l 0) bodies)
 
-  writes-on : (taken : InHand) → view.bodies ≡ taken ∷ [] → Carries layout view t maps done given taken → (m : Remap) → remaps.Fits layout view m → m.who ≡ t.who → m.page ≡ t.page → m.from ≡ t.from → m.to ≡ t.to → m.count ≡ t.count → FitsAt layout view t maps done given (after_remap m)
-  writes-on taken bodies carries m fit own page_is from_is to_is count_is = which m.next fit
+  writes-on : (taken : InHand) → view.bodies ≡ taken ∷ [] → Carries layout view t maps done given taken → (m : Remap) → remaps.Fits layout view m → m.who ≡ t.who → m.page ≡ t.page → m.from ≡ t.from → m.to ≡ t.to → m.count ≡ t.count → m.slots.value ≡ maps → FitsAt layout view t maps done given (after_remap m)
+  writes-on taken bodies carries m fit own page_is from_is to_is count_is slots_are = which m.next fit
     where
       which : (n : Option VSlot) → remaps.Fits layout view (record m { next = n }) → FitsAt layout view t maps done given (after_remap (record m { next = n }))
       which None fit = all-written taken bodies carries m fit.at page_is from_is to_is count_is
-      which (Some slot) fit = record { remap = fit; own = own; page_is = page_is; from_is = from_is; to_is = to_is; count_is = count_is; taken = taken; bodies_are = bodies; carries = carries; under_way = refl }
+      which (Some slot) fit = record { remap = fit; own = own; page_is = page_is; from_is = from_is; to_is = to_is; count_is = count_is; slots_are = slots_are; taken = taken; bodies_are = bodies; carries = carries; under_way = refl }
 
   -- the first of them
   none-done : (n : Option VSlot) → IsNextFrom maps 0 n → (slot : ℕ) → set.contains maps slot ≡ true → is_done n slot ≡ false
@@ -270,7 +270,7 @@ module _ {layout : Layout} {view : View} (t : Transfer) (maps : set.FinSet nat_c
   starts number counts count_is trans taken hand carries words x is = subst (FitsAt layout view t maps done given) (sym is.next_is) (subst (λ (m : Remap). FitsAt layout view t maps done given (after_remap m)) (sym is.begun.is)
       (writes-on taken (ap (λ (h : Hand). h.bodies) hand) carries (remaps.begin t.who t.page t.from t.to maps t.count is.remap.next)
       (record { on_turn = on; sound = sound; page = inside; from = from; to = to; apart = apart; room = room; at = begun number counts count_is trans taken hand carries words is.remap.next is.begun.lowest })
-      refl refl refl refl refl))
+      refl refl refl refl refl refl))
 
 -- ---- what follows fits
 
@@ -305,12 +305,13 @@ record IsSame (m after : Remap) : Type 0 where
   from : after.from ≡ m.from
   to : after.to ≡ m.to
   count : after.count ≡ m.count
+  slots : after.slots.value ≡ m.slots.value
 
 same-remap : (m after : Remap) → remaps.Follows m after → IsSame m after
 same-remap m after follows = which m.next follows
   where
     of : (next : Option VSlot) → after ≡ record m { next = next } → IsSame m after
-    of next is = record { who = ap (λ (x : Remap). x.who) is; page = ap (λ (x : Remap). x.page) is; from = ap (λ (x : Remap). x.from) is; to = ap (λ (x : Remap). x.to) is; count = ap (λ (x : Remap). x.count) is }
+    of next is = record { who = ap (λ (x : Remap). x.who) is; page = ap (λ (x : Remap). x.page) is; from = ap (λ (x : Remap). x.from) is; to = ap (λ (x : Remap). x.to) is; count = ap (λ (x : Remap). x.count) is; slots = ap (λ (x : Remap). x.slots.value) is }
 
     which : (n : Option VSlot) → remaps.FollowsAt m n after → IsSame m after
     which None is = of m.next is
@@ -377,7 +378,7 @@ module _ {layout : Layout} {old new : View} (r : Relocate) {step : Step} {found 
         (writes-on r.transfer r.maps r.done r.body on fits.sound fits.page fits.from fits.to fits.apart fits.room has.taken (bodies-same ∙ has.bodies_are)
         (carry-on has.carries (inl sights-same) (deeds-same r.transfer.who (remapping.remap-lists m step e) made)) is.after
         ((remapping.both layout old new m step found got has.remap e its).1 is.after is.follows)
-        (fields.who ∙ has.own) (fields.page ∙ has.page_is) (fields.from ∙ has.from_is) (fields.to ∙ has.to_is) (fields.count ∙ has.count_is))
+        (fields.who ∙ has.own) (fields.page ∙ has.page_is) (fields.from ∙ has.from_is) (fields.to ∙ has.to_is) (fields.count ∙ has.count_is) (fields.slots ∙ has.slots_are))
       where
         fields : IsSame m is.after
         fields = same-remap m is.after is.follows
@@ -442,7 +443,7 @@ both layout old new r step found got fits is made = which r.at is fits.at made
         record { on_turn = on; frame = fits.to; at = record { some = omega (arith, refs); more = omega (arith, two); room = omega (arith, refs, two, room) } }
 
     which : (x : RelocateAt) → plan_at r.transfer x ≡ Some step → FitsAt layout old r.transfer r.maps r.done r.body x → Steps layout r.transfer.who step (logs (put_at r.body x)) old new found got
-        → ShowsAt x × ((y : RelocateAt) (turn : Turn) → FollowsAt r.transfer r.maps x found y turn → FitsAt layout new r.transfer r.maps r.done (left_at r.body x) y)
+        → ShowsAt r.maps x × ((y : RelocateAt) (turn : Turn) → FollowsAt r.transfer r.maps x found y turn → FitsAt layout new r.transfer r.maps r.done (left_at r.body x) y)
     which at.Count e has made = (tt, λ y turn follows. subst (FitsAt layout new r.transfer r.maps r.done r.body) (sym follows.0) (counted r.transfer r.maps r.done r.body fits.apart (steps-planned e made) has.0))
     which at.SetOwner e has made = (
       tt,
@@ -451,7 +452,7 @@ both layout old new r step found got fits is made = which r.at is fits.at made
           subst (FitsAt layout new r.transfer r.maps r.done r.body) (sym follows.0) (record { ahead = ahead; refer = refer-begins ahead; own = refl; frame_is = refl; count_is = refl; under_way = refl }),
     )
     which (at.Refer f) e has made = (tt, λ y turn follows. refer-fits r fits on f has e made y turn follows)
-    which (at.Remap m) e has made = (remap-shows r fits on m has e made, λ y turn follows. remap-fits r fits on m has e made y follows.0)
+    which (at.Remap m) e has made = ((remap-shows r fits on m has e made, has.slots_are), λ y turn follows. remap-fits r fits on m has e made y follows.0)
     which at.SetCache e has made = (tt, λ y turn follows. subst (FitsAt layout new r.transfer r.maps r.done r.body) (sym follows.0) (cache-set r.transfer r.maps r.done r.body fits.apart (small r fits) (some r fits) fits.page (steps-planned e made) has))
     which at.ClearOwner e has made = (tt, λ y turn follows. subst (FitsAt layout new r.transfer r.maps r.done r.body) (sym follows.0) (owner-cleared r.transfer r.maps r.done r.body fits.apart (steps-planned e made) has))
     which at.UnlockFrame e has made = (

@@ -1,6 +1,6 @@
 -- The laws of `Remap`.
 use Rattle.std.proofs.Common.{◌≡◌, ◌≢◌, ◌⊎◌, inl, inr, ℕ, ◌+◌, ◌-◌, ◌^◌, ◌<◌, ◌≤◌, ◌==◌, Bool, true, false, cond, nat_lt, List, [], ◌∷◌, Option, Some, None, length, slice_get, slice_set, refl, sym, ap, ◌∙◌, subst, arith}
-use Rattle.std.proofs.lemmas.Bool.{both_ways, le-ltb, ne_eqb}
+use Rattle.std.proofs.lemmas.Bool.{le-ltb, ne_eqb}
 use Rattle.std.proofs.lemmas.Option.{none-some, same_Some, slice_get_within}
 use Rattle.std.specs.FinSet as set
 use Rattle.std.specs.List.{find}
@@ -26,13 +26,9 @@ use Rattle.hwp_claim_frame.specs.hwp_core_rule.Views.{frame_in, is_body_of, less
 use Rattle.hwp_claim_frame.specs.hwp_core_rule.Words.{Words}
 use Rattle.hwp_claim_frame.proofs.of_hwp_core_rule.Lists.{same-number, same-or, set_here, set_else}
 use Rattle.hwp_claim_frame.proofs.of_hwp_core_rule.MetWords.{frame-named, lock-knows}
-use Rattle.hwp_claim_frame.specs.hwp_core_task.declared.Turn.{Turn}
-use Rattle.hwp_claim_frame.specs.hwp_core_task.declared.Turn.TheVariants.{Moved}
 use Rattle.hwp_claim_frame.specs.hwp_core_task.Calls.{CanMake, Steps}
 use Rattle.hwp_claim_frame.specs.hwp_core_task.Hands.{Hand, hand_of}
-use Rattle.hwp_claim_frame.specs.hwp_core_task.Ranks.{IsRanked, is_waits, words_at, translation_room}
-use Rattle.hwp_claim_frame.specs.hwp_core_task.Boards.{view_of}
-use Rattle.hwp_claim_frame.proofs.of_hwp_core_task.StepRanks.{rank-of, steps-on}
+use Rattle.hwp_claim_frame.specs.hwp_core_task.Ranks.{translation_room}
 use Rattle.hwp_claim_frame.proofs.of_hwp_core_task.StepLeaves.{on-turn-after, hand-planned, steps-planned, can-make}
 use Rattle.hwp_claim_frame.proofs.of_hwp_core_task.MadeEntries.{ListsNone}
 use Rattle.hwp_claim_frame.specs.hwp_core.Holds.{page_lock}
@@ -41,7 +37,7 @@ use Rattle.hwp_evict.specs.Vacates.{page_held}
 use Rattle.hwp_evict.proofs.ClearLaws.{done-behind, done-same}
 use Rattle.hwp_evict.proofs.TranslationWrites.{trans-word}
 use Rattle.hwp_soft_move.specs.declared.remap.Remap.{Remap}
-use Rattle.hwp_soft_move.specs.Remaps.{CountsOn, plan, plan_at, Follows, FollowsAt, Shows, ShowsAt, word_now, with_both, IsRemapping, Fits, cost, cost_at, task as remap-task}
+use Rattle.hwp_soft_move.specs.Remaps.{CountsOn, plan, plan_at, Follows, FollowsAt, Shows, ShowsAt, word_now, with_both, IsRemapping, Fits, cost, cost_at}
 use Rattle.hwp_soft_move.proofs.SetCounts.{one-fewer}
 
 -- ---- the references to two frames
@@ -94,8 +90,8 @@ module _ {layout : Layout} {old : View} (r : Remap) (slot : VSlot) (fits : Fits 
   pages : old.pages ≡ page_lock r.page (Some r.from) (Some has.trans) ∷ []
   pages = ap (λ (h : Hand). h.pages) has.hand_is
 
-  some-left : (next : Option VSlot) → IsNextFrom r.slots (slot.0 + 1) next → (k : ℕ) × (has.left ≡ k + 1) × CountsOn r.slots next k
-  some-left next low = one-fewer r.slots slot next has.left has.left_is low
+  some-left : (next : Option VSlot) → IsNextFrom r.slots.value (slot.0 + 1) next → (k : ℕ) × (has.left ≡ k + 1) × CountsOn r.slots.value next k
+  some-left next low = one-fewer r.slots.value slot next has.left has.left_is low
 
   can-write : CanSetPte layout old slot (ptes.At r.to)
   can-write = record {
@@ -146,7 +142,7 @@ module _ {layout : Layout} {old : View} (r : Remap) (slot : VSlot) (fits : Fits 
         ∙ sym ((lock-knows layout made.told.board made.told.rule made.told.seat old made.told.me (page_lock r.page (Some r.from) (Some has.trans)) (ap (λ l. slice_get l 0) pages)).words has.trans refl slot.0 decl.0 decl.1 decl.2)
         ∙ names-frame)
 
-    module _ (next : Option VSlot) (lowest : IsNextFrom r.slots (slot.0 + 1) next) where
+    module _ (next : Option VSlot) (lowest : IsNextFrom r.slots.value (slot.0 + 1) next) where
       abbrev k : ℕ
       k = (some-left next lowest).0
 
@@ -166,7 +162,7 @@ module _ {layout : Layout} {old : View} (r : Remap) (slot : VSlot) (fits : Fits 
       words-now u t declared own = which (same-or u slot.0)
         where
           same-word : u ≢ slot.0 → (b : Bool) → set.contains state.maps u ≡ b → word_now state r.from r.to (Some slot) u ≡ word_now state r.from r.to next u
-          same-word other true some = ap (λ (d : Bool). cond (set.contains state.maps u) (cond d word (r.from.0 + 1)) (cond (set.contains state.bar u) (pte_word ptes.Poison) 0)) (done-same r.slots slot u (ap (λ m. set.contains m u) has.slots_are ∙ some) other next lowest)
+          same-word other true some = ap (λ (d : Bool). cond (set.contains state.maps u) (cond d word (r.from.0 + 1)) (cond (set.contains state.bar u) (pte_word ptes.Poison) 0)) (done-same r.slots.value slot u (ap (λ m. set.contains m u) has.slots_are ∙ some) other next lowest)
           same-word other false none = ap (λ (b : Bool). cond b (cond (nat_lt u slot.0) word (r.from.0 + 1)) (cond (set.contains state.bar u) (pte_word ptes.Poison) 0)) none
               ∙ sym (ap (λ (b : Bool). cond b (cond (is_done next u) word (r.from.0 + 1)) (cond (set.contains state.bar u) (pte_word ptes.Poison) 0)) none)
 
@@ -174,12 +170,12 @@ module _ {layout : Layout} {old : View} (r : Remap) (slot : VSlot) (fits : Fits 
           which (inl same) = ap (slice_get now) same ∙ set_here has.trans slot.0 (pte_word (ptes.At r.to)) (r.from.0 + 1) names-frame ∙ ap (λ (n : ℕ). Some n) word-is
               ∙ sym (ap (λ (n : ℕ). Some (word_now state r.from r.to next n)) same
               ∙ ap (λ (b : Bool). Some (cond b (cond (is_done next slot.0) word (r.from.0 + 1)) (cond (set.contains state.bar slot.0) (pte_word ptes.Poison) 0))) maps-used
-              ∙ ap (λ (b : Bool). Some (cond b word (r.from.0 + 1))) (done-behind r.slots slot next lowest))
+              ∙ ap (λ (b : Bool). Some (cond b word (r.from.0 + 1))) (done-behind r.slots.value slot next lowest))
           which (inr other) = set_else has.trans slot.0 u (pte_word (ptes.At r.to)) other ∙ has.words u t declared own ∙ ap (λ (n : ℕ). Some n) (same-word other (set.contains state.maps u) refl)
 
-      member-now : (n : Option VSlot) → IsNextFrom r.slots (slot.0 + 1) n → (s : VSlot) → n ≡ Some s → set.contains r.slots s.0 ≡ true
+      member-now : (n : Option VSlot) → IsNextFrom r.slots.value (slot.0 + 1) n → (s : VSlot) → n ≡ Some s → set.contains r.slots.value s.0 ≡ true
       member-now None none s is = absurd (none-some s is)
-      member-now (Some v) low s is = subst (λ (x : VSlot). set.contains r.slots x.0 ≡ true) (same_Some v s is) low.1.member
+      member-now (Some v) low s is = subst (λ (x : VSlot). set.contains r.slots.value x.0 ≡ true) (same_Some v s is) low.1.member
 
       pub written : IsRemapping layout new (record r { next = next })
       written = record {
@@ -223,20 +219,12 @@ both layout old new r step found got fits is made = which r.next fits.at is
       }),
     )
 
-pub stays : (layout : Layout) (old new : View) (r : Remap) (step : Step) (found : ℕ) (got : Option BodyValue) → Fits layout old r → plan r ≡ Some step → Steps layout r.who step None old new found got
-    → Shows r × ((after : Remap) (turn : Turn) → Follows r after × (turn ≡ Moved) → Fits layout new after × (after.who.cpu ≡ r.who.cpu))
-stays layout old new r step found got fits is made = let all = both layout old new r step found got fits is made in (all.0, λ after turn follows. (all.1 after follows.0, own r.next after follows.0))
-  where
-    own : (n : Option VSlot) (after : Remap) → FollowsAt r n after → after.who.cpu ≡ r.who.cpu
-    own None after follows = ap (λ (x : Remap). x.who.cpu) follows
-    own (Some slot) after follows = ap (λ (x : Remap). x.who.cpu) follows.0
-
 -- ---- the law of the rank
 
 pub remaps-fall : (r next : Remap) (w now : Words) {step : Step} → plan r ≡ Some step → Follows r next → Shows r → cost next now < cost r w
 remaps-fall r next w now {step} is follows shows = which r.next is follows shows
   where
-    by : (slot : VSlot) (n : Option VSlot) → slot.0 < slot_limit → IsNextFrom r.slots (slot.0 + 1) n → cost_at n < slot_limit - slot.0
+    by : (slot : VSlot) (n : Option VSlot) → slot.0 < slot_limit → IsNextFrom r.slots.value (slot.0 + 1) n → cost_at n < slot_limit - slot.0
     by slot None few low = omega (arith, few)
     by slot (Some v) few low = let above : slot.0 + 1 ≤ v.0 = low.1.not_below in omega (arith, few, above)
 
@@ -266,9 +254,3 @@ remap-lists r step is = which r.next is
     which : (n : Option VSlot) → plan_at r.to n ≡ Some step → ListsNone step
     which (Some slot) e = subst ListsNone (same_Some (steps.SetPte slot (ptes.At r.to)) step e) tt
     which None e = absurd (none-some step e)
-
-pub remap-ranked : IsRanked remap-task
-remap-ranked = rank-of remap-task (λ s. refl) (λ s. (omega arith, omega arith)) (λ layout a seat s rule fits. let few : _ = remap-small (words_at layout a) s in omega (arith, few))
-    (λ layout seat a b s t turn made goes. remaps-fall s t (words_at layout a) (words_at layout b) made.planned made.follows.0 (both layout (view_of a seat) _ s made.step made.found made.got made.fits made.planned (steps-on made)).0)
-    (λ layout seat a b s t turn made is quiet. absurd (both_ways true (sym is ∙ ap is_waits made.follows.1) refl))
-    (λ s. refl) remap-mild

@@ -36,7 +36,7 @@ use Rattle.hwp_claim_frame.proofs.MeetCosts.{meet-class, meet-falls, meet-made, 
 use Rattle.hwp_soft_move.specs.declared.seize.Seize.{Seize}
 use Rattle.hwp_soft_move.specs.declared.seize.SeizeAt.{SeizeAt}
 use Rattle.hwp_soft_move.specs.declared.seize.SeizeAt.TheVariants as at
-use Rattle.hwp_soft_move.specs.Seizes.{plan, plan_at, put_at, bare, bare_at, looked, after_grab, after_grab_by, after_meet, next, next_at, turn, turn_at, FitsAt, class, class_at, aborts, aborts_at, cost, cost_with, task as seize-task, seize_most}
+use Rattle.hwp_soft_move.specs.Seizes.{plan, plan_at, put_at, bare, bare_at, looked, after_grab, after_grab_by, after_meet, next, next_at, turn_at, FitsAt, class, class_at, aborts, aborts_at, cost, cost_with, task as seize-task, seize_most}
 use Rattle.hwp_soft_move.proofs.SeizeLaws.{lasts-on}
 
 -- ---- what is left once a part is over

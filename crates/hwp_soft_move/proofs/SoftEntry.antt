@@ -11,6 +11,7 @@ use Rattle.hwp_claim_frame.specs.hwp_geom.declared.Page.{Page}
 use Rattle.hwp_claim_frame.specs.hwp_geom.declared.Proc.{Proc}
 use Rattle.hwp_claim_frame.specs.hwp_geom.declared.TransDecl.{TransDecl}
 use Rattle.hwp_claim_frame.specs.hwp_geom.declared.Who.{Who}
+use Rattle.hwp_claim_frame.specs.hwp_geom.Layout.{is_locked}
 use Rattle.hwp_claim_frame.specs.hwp_page.declared.At.{At}
 use Rattle.hwp_claim_frame.specs.hwp_page.declared.Entry.{Entry}
 use Rattle.hwp_claim_frame.specs.hwp_page.declared.PageState.{PageState}
@@ -51,7 +52,7 @@ module _ {layout : Layout} {who : Who} {page : Page} {log : Log} {done : At} {bo
   one-more = ap (more_of taken) has.log_is ∙ longer-more
 
   longer-state : state_of layout log ≡ state_of layout longer
-  longer-state = sym (fold-append (λ (t : PageState) (e : Entry). after t e.what) (opening_at (slice_get layout.pages log.page.0)) log.entries (entry ∷ []))
+  longer-state = sym (fold-append (λ (t : PageState) (e : Entry). after t e.what) (opening_at (slice_get layout.pages log.page.0) (is_locked layout log.page)) log.entries (entry ∷ []))
 
   -- the content is kept
   pub same-state : state_of layout (log_of body) ≡ state_of layout log

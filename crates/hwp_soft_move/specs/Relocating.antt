@@ -103,6 +103,7 @@ pub record IsWriting (layout : Layout) (view : View) (t : Transfer) (maps : set.
   pub from_is : m.from ≡ t.from
   pub to_is : m.to ≡ t.to
   pub count_is : m.count ≡ t.count
+  pub slots_are : m.slots.value ≡ maps
   pub taken : InHand
   pub bodies_are : view.bodies ≡ taken ∷ []
   pub carries : Carries layout view t maps done given taken

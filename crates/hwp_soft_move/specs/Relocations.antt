@@ -114,12 +114,13 @@ FollowsAt t maps at.Over found x turn = (x ≡ at.Over) × (turn ≡ Moved)
 abbrev pub Follows : Relocate → ℕ → Relocate → Turn → Type 0
 Follows r found after turn = (after ≡ record r { at = after.at }) × FollowsAt r.transfer r.maps r.at found after.at turn
 
-abbrev pub ShowsAt : RelocateAt → Type 0
-ShowsAt (at.Remap r) = remaps.Shows r
-ShowsAt _ = Unit {0}
+-- the translations that are written are those of the page
+abbrev pub ShowsAt : set.FinSet nat_cmp → RelocateAt → Type 0
+ShowsAt maps (at.Remap r) = remaps.Shows r × (r.slots.value ≡ maps)
+ShowsAt maps _ = Unit {0}
 
 abbrev pub Shows : Relocate → Type 0
-Shows r = ShowsAt r.at
+Shows r = ShowsAt r.maps r.at
 
 -- 1 while the old frame is locked, and 2 while the page is
 abbrev pub class_at : RelocateAt → ℕ

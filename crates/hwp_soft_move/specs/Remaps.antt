@@ -2,6 +2,7 @@
 use Rattle.std.specs.Prelude.{◌≡◌, ◌≢◌, ℕ, zero, suc, ◌+◌, ◌-◌, ◌<◌, ◌≤◌, true, false, cond, List, [], ◌∷◌, Option, Some, None, length, slice_get}
 use Rattle.std.specs.FinSet as set
 use Rattle.std.specs.Ordering.{nat_cmp}
+use Rattle.std.specs.declared.snapshot.Snapshot.{Snapshot}
 use Rattle.hwp_claim_frame.specs.hwp_geom.declared.Frame.{Frame}
 use Rattle.hwp_claim_frame.specs.hwp_geom.declared.Layout.{Layout}
 use Rattle.hwp_claim_frame.specs.hwp_geom.declared.Page.{Page}
@@ -22,8 +23,6 @@ use Rattle.hwp_claim_frame.specs.hwp_core_rule.Logs.{state_of}
 use Rattle.hwp_claim_frame.specs.hwp_core_rule.Words.{Words}
 use Rattle.hwp_claim_frame.specs.hwp_core_task.Calls.{IsOnTurn}
 use Rattle.hwp_claim_frame.specs.hwp_core_task.Hands.{Hand, hand_of}
-use Rattle.hwp_claim_frame.specs.hwp_core_task.Turns.{Member}
-use Rattle.hwp_claim_frame.specs.hwp_core_task.declared.Turn.TheVariants.{Moved}
 use Rattle.hwp_claim_frame.specs.hwp_core.Releases.{new_lock}
 use Rattle.hwp_evict.specs.Clears.{IsNextFrom, is_done}
 use Rattle.hwp_evict.specs.Vacates.{page_held}
@@ -39,8 +38,12 @@ CountsOn slots (Some slot) (suc n) = (next : Option VSlot) × IsNextFrom slots (
 abbrev pub IsCount : set.FinSet nat_cmp → ℕ → Type 0
 IsCount slots n = (first : Option VSlot) × IsNextFrom slots 0 first × CountsOn slots first n
 
+-- a set as clauses see it
+abbrev pub snapshot : set.FinSet nat_cmp → Snapshot (set.FinSet nat_cmp)
+snapshot s = record { marker = record {}; value = s }
+
 abbrev pub begin : Who → Page → Frame → Frame → set.FinSet nat_cmp → ℕ → Option VSlot → Remap
-begin who page from to slots count next = record { who = who; page = page; from = from; to = to; slots = slots; count = count; next = next }
+begin who page from to slots count next = record { who = who; page = page; from = from; to = to; slots = snapshot slots; count = count; next = next }
 
 pub record IsBegun (who : Who) (page : Page) (from to : Frame) (slots : set.FinSet nat_cmp) (count : ℕ) (r : Remap) : Type 0 where
   pub is : r ≡ begin who page from to slots count r.next
@@ -54,7 +57,7 @@ abbrev pub plan : Remap → Option Step
 plan r = plan_at r.to r.next
 
 abbrev pub FollowsAt : Remap → Option VSlot → Remap → Type 0
-FollowsAt r (Some slot) after = (after ≡ record r { next = after.next }) × IsNextFrom r.slots (slot.0 + 1) after.next
+FollowsAt r (Some slot) after = (after ≡ record r { next = after.next }) × IsNextFrom r.slots.value (slot.0 + 1) after.next
 FollowsAt r None after = after ≡ r
 
 abbrev pub Follows : Remap → Remap → Type 0
@@ -88,14 +91,14 @@ pub record IsRemapping (layout : Layout) (view : View) (r : Remap) : Type 0 wher
   pub trans : List ℕ
   pub taken : InHand
   pub left : ℕ
-  pub left_is : CountsOn r.slots r.next left
+  pub left_is : CountsOn r.slots.value r.next left
   pub hand_is : hand_of view ≡ with_both r.from (r.page.0 + 1) (r.count - 1 - left) r.to (r.page.0 + 1) (left + 2) (page_held r.page (Some r.from) trans taken)
   pub taken_is : taken.log.page ≡ r.page
-  pub slots_are : r.slots ≡ (state_of layout taken.log).maps
-  pub declared : (slot : ℕ) → set.contains r.slots slot ≡ true → (t : TransDecl) × (slice_get layout.trans slot ≡ Some t) × (t.page ≡ r.page)
+  pub slots_are : r.slots.value ≡ (state_of layout taken.log).maps
+  pub declared : (slot : ℕ) → set.contains r.slots.value slot ≡ true → (t : TransDecl) × (slice_get layout.trans slot ≡ Some t) × (t.page ≡ r.page)
   pub words : (slot : ℕ) (t : TransDecl) → slice_get layout.trans slot ≡ Some t → t.page ≡ r.page → slice_get trans slot ≡ Some (word_now (state_of layout taken.log) r.from r.to r.next slot)
   pub few : left + 2 ≤ r.count
-  pub member : (slot : VSlot) → r.next ≡ Some slot → set.contains r.slots slot.0 ≡ true
+  pub member : (slot : VSlot) → r.next ≡ Some slot → set.contains r.slots.value slot.0 ≡ true
 
 pub record Fits (layout : Layout) (view : View) (r : Remap) : Type 0 where
   pub on_turn : IsOnTurn view r.who
@@ -114,19 +117,3 @@ cost_at None = 0
 
 abbrev pub cost : Remap → Words → ℕ
 cost r words = cost_at r.next
-
--- the task, as the laws of tasks read it
-abbrev pub task : Member Remap
-task = record {
-  who = λ r. r.who;
-  plan = plan;
-  put = λ r. None;
-  bare = λ r. r;
-  shows = λ r found got. Shows r;
-  next = λ layout r found got after result. Follows r after × (result ≡ Moved);
-  fits = Fits;
-  class = λ r. 1;
-  cost = cost;
-  aborts = λ r. false;
-  claims = λ r. None;
-}

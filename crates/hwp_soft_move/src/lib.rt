@@ -9,5 +9,4 @@ mod seize;
 
 pub use discard::Discard;
 pub use relocate::Relocate;
-pub use remap::Remap;
 pub use seize::{Seize, SeizeAnswer};

@@ -6,8 +6,9 @@ ghost use Rattle.hwp_soft_move.specs.Relocations.{IsBegun, plan, StartsRemap, af
 
 use crate::remap::{Remap, count};
 use hwp_claim_frame::{
-    At, Body, Frame, Layout, Page, Ranked, Refer, Release, Slots, Step, Task, Turn, Who,
+    At, Body, Frame, Layout, Page, Ranked, Refer, Release, Step, Task, Turn, Who,
 };
+use hwp_evict::HeldSlots;
 
 /// Puts a page that is held into another frame, which is held too, and its old frame out of use: the poison of that is counted,
 /// the translations and the page's cache word lead to the other frame, to which the page's body goes home, and then the old
@@ -16,7 +17,7 @@ use hwp_claim_frame::{
 pub struct Relocate {
     transfer: Transfer,
     /// The translations in use.
-    maps: Slots,
+    maps: HeldSlots,
     done: At,
     body: Option<Body>,
     at: RelocateAt,
@@ -58,7 +59,7 @@ impl Relocate {
         page: Page,
         from: Frame,
         to: Frame,
-        maps: Slots,
+        maps: HeldSlots,
         done: At,
         body: Body,
     ) -> Relocate
@@ -120,7 +121,7 @@ impl Relocate {
             transfer.page,
             transfer.from,
             transfer.to,
-            self.maps.copy(),
+            &self.maps,
             transfer.count,
         );
         after_remap(remap)
@@ -228,11 +229,11 @@ impl Task for Relocate {
                 turn
             }
             RelocateAt::Remap { remap } => {
-                let turn = remap.settle(layout, found, body);
+                remap.settle(&self.maps);
                 if remap.is_over() {
                     self.set(RelocateAt::SetCache);
                 }
-                turn
+                Turn::Moved
             }
             RelocateAt::SetCache => self.move_to(RelocateAt::ClearOwner),
             RelocateAt::ClearOwner => self.move_to(RelocateAt::UnlockFrame),

@@ -1,20 +1,20 @@
 ghost use Rattle.std.specs.Prelude.{◌≡◌, ◌≤◌, is_none};
 ghost use Rattle.hwp_claim_frame.specs.hwp_kill.Limits.{slot_limit};
-ghost use Rattle.hwp_soft_move.specs.Remaps.{IsBegun, IsCount};
+ghost use Rattle.hwp_soft_move.specs.Remaps.{Follows, IsBegun, IsCount, Shows, plan};
 
-use hwp_claim_frame::{
-    Body, Frame, Layout, Page, Pte, Ranked, Slots, Step, Task, Turn, VSlot, Who,
-};
+use hwp_claim_frame::{Frame, Page, Pte, Step, VSlot, Who};
+use hwp_evict::HeldSlots;
+use std::snapshot::Snapshot;
 
 /// Writes the translations that lead to the frame of a page, in rising order, so that they lead to another one (Linux
-/// remove_migration_ptes).
+/// remove_migration_ptes). It is a part of the task that holds the set of them.
 #[derive(Drop)]
 pub struct Remap {
     who: Who,
     page: Page,
     from: Frame,
     to: Frame,
-    slots: Slots,
+    slots: Snapshot<HeldSlots>,
     /// How many references to the frame that the page leaves the command has once the cache word names it no more.
     count: u32,
     /// The one that comes.
@@ -22,7 +22,7 @@ pub struct Remap {
 }
 
 /// How many translations are in the set.
-pub(crate) fn count(slots: &Slots) -> u32
+pub(crate) fn count(slots: &HeldSlots) -> u32
     ensures members { IsCount slots.now result }
     ensures few { result ≤ slot_limit }
 {
@@ -38,8 +38,8 @@ pub(crate) fn count(slots: &Slots) -> u32
 impl Remap {
     /// The command writes these translations, which lead to `from`. In the end it has so many references to that frame, with
     /// that of the cache word.
-    pub fn new(who: Who, page: Page, from: Frame, to: Frame, slots: Slots, count: u32) -> Remap
-        ensures { IsBegun who page from to slots count result }
+    pub fn new(who: Who, page: Page, from: Frame, to: Frame, slots: &HeldSlots, count: u32) -> Remap
+        ensures { IsBegun who page from to slots.now count result }
     {
         let next = slots.lowest_from(VSlot(0));
         Remap {
@@ -47,7 +47,7 @@ impl Remap {
             page,
             from,
             to,
-            slots,
+            slots: Snapshot::of(slots),
             count,
             next,
         }
@@ -59,18 +59,11 @@ impl Remap {
     {
         self.next.is_none()
     }
-}
 
-impl Task for Remap {
-    ghost use Rattle.hwp_soft_move.specs.Remaps as remaps;
-
-    ghost task = { remaps.task };
-
-    fn who(&self) -> Who {
-        self.who
-    }
-
-    fn plan(&self) -> Option<Step> {
+    /// The step by which the next one is written.
+    pub fn plan(&self) -> Option<Step>
+        ensures { result ≡ plan self.now }
+    {
         match self.next {
             Some(slot) => Some(Step::SetPte {
                 slot,
@@ -80,22 +73,14 @@ impl Task for Remap {
         }
     }
 
-    fn give(&mut self) -> Option<Body> {
-        None
-    }
-
-    fn settle(&mut self, _layout: &Layout, _found: u64, _body: Option<Body>) -> Turn {
+    /// The next one is written. `slots` are the translations that it began with.
+    pub fn settle(&mut self, slots: &HeldSlots)
+        requires same { self.old.slots.value ≡ slots.now }
+        requires shows { Shows self.old }
+        ensures { Follows self.old self.new }
+    {
         if let Some(slot) = self.next {
-            self.next = self.slots.lowest_from(VSlot(slot.0 + 1));
+            self.next = slots.lowest_from(VSlot(slot.0 + 1));
         }
-        Turn::Moved
     }
-}
-
-impl Ranked for Remap {
-    fn class(&self) -> u8 {
-        1
-    }
-
-    fn ranked(&self) {}
 }

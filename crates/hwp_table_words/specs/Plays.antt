@@ -2,6 +2,7 @@
 use Rattle.std.specs.Prelude.{◌≡◌, ℕ, false, List, [], ◌∷◌, Some, None, slice_index}
 use Rattle.atomic_table.specs.Table.{rest}
 use Rattle.hwp_core_task.specs.hwp_geom.declared.Layout.{Layout}
+use Rattle.hwp_core_task.specs.hwp_geom.declared.Version.TheVariants as versions
 use Rattle.hwp_core_task.specs.hwp_geom.declared.Who.{Who}
 use Rattle.hwp_core_task.specs.hwp_core_rule.declared.Rec.{Rec}
 use Rattle.hwp_core_task.specs.hwp_core_rule.declared.SlotMove.{SlotMove}
@@ -32,7 +33,7 @@ pub record Call : Type 0 where
 -- a step of a machine that has nothing
 abbrev pub no_call : Call
 no_call = record {
-  layout = record { cpus = 0; frames = 0; kernel = []; recovery = false; early = false; files = 0; procs = 0; threads = []; pages = []; trans = [] };
+  layout = record { version = versions.One; cpus = 0; frames = 0; kernel = []; recovery = false; early = false; files = 0; procs = 0; threads = []; pages = []; trans = []; locked = [] };
   cpu = 0;
   mine = opening_view 0;
   who = record { cpu = record { 0 = 0 }; seq = 0 };

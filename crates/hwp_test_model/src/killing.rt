@@ -2,25 +2,25 @@
 
 use crate::machine::{all_seen, machine};
 use hwp_page::{
-    Code, Policy, Proc, Reply, Signal, SignalList, Slots, Thread, VSlot, are_policies_read, prctl,
-    signals,
+    Code, Policy, Proc, Reply, Signal, SignalList, Slots, Thread, VSlot, Version,
+    are_policies_read, prctl, signals,
 };
 use std::alloc::Global;
 use std::process::Abort;
 
 /// Process 0 has threads 0 and 1 and translation 0, process 1 threads 2 and 3 and translations 1 and 2, process 2 thread 4
-/// and translation 3. `early` is the system default, or is not.
+/// and translation 3, process 3 no thread and translation 4. `early` is the system default, or is not.
 const EARLY: &[u8] =
-    b"hwp 1\ncpus 1\nframes 1\nearly 1\nproc 0\nproc 1\nproc 2\nthread 0 0 0 handler\nthread 1 0 0 handler\nthread 2 1 0 handler\nthread 3 1 0 handler\nthread 4 2 0 handler\npage 0 anon\ntrans 0 0 0\ntrans 1 1 0\ntrans 2 1 0\ntrans 3 2 0\nend\n";
+    b"hwp 1\ncpus 1\nframes 1\nearly 1\nproc 0\nproc 1\nproc 2\nproc 3\nthread 0 0 0 handler\nthread 1 0 0 handler\nthread 2 1 0 handler\nthread 3 1 0 handler\nthread 4 2 0 nohandler\npage 0 anon\ntrans 0 0 0\ntrans 1 1 0\ntrans 2 1 0\ntrans 3 2 0\ntrans 4 3 0\nend\n";
 
 const LATE: &[u8] =
-    b"hwp 1\ncpus 1\nframes 1\nproc 0\nproc 1\nproc 2\nthread 0 0 0 handler\nthread 1 0 0 handler\nthread 2 1 0 handler\nthread 3 1 0 handler\nthread 4 2 0 handler\npage 0 anon\ntrans 0 0 0\ntrans 1 1 0\ntrans 2 1 0\ntrans 3 2 0\nend\n";
+    b"hwp 1\ncpus 1\nframes 1\nproc 0\nproc 1\nproc 2\nproc 3\nthread 0 0 0 handler\nthread 1 0 0 handler\nthread 2 1 0 handler\nthread 3 1 0 handler\nthread 4 2 0 nohandler\npage 0 anon\ntrans 0 0 0\ntrans 1 1 0\ntrans 2 1 0\ntrans 3 2 0\ntrans 4 3 0\nend\n";
 
-/// The set of these translations, which are below 512.
+/// The set of these translations, which a script of version 1 can declare.
 fn in_use(slots: &[u16]) -> Slots {
     let mut maps = Slots::new();
     for slot in slots {
-        if *slot < 512 {
+        if *slot < Version::One.max_trans() {
             maps.insert(VSlot(*slot));
         }
     }
@@ -37,8 +37,8 @@ type Sent<'a> = (
     &'a [Signal],
 );
 
-/// A failure of the page of three processes sends what each row says.
-fn sends(rt: &impl Abort, alloc: Global, script: &[u8], rows: &[Sent<'_>]) {
+/// A failure of the page of four processes sends what each row says, where it tells every process, or doesn't.
+fn sends(rt: &impl Abort, alloc: Global, script: &[u8], always: bool, rows: &[Sent<'_>]) {
     let layout = machine(rt, alloc, script);
     for (slots, at_all, current, policies, want) in rows {
         let maps = in_use(slots);
@@ -48,6 +48,7 @@ fn sends(rt: &impl Abort, alloc: Global, script: &[u8], rows: &[Sent<'_>]) {
             &layout,
             &maps,
             *at_all,
+            always,
             current.map(Thread),
             &seen,
             &mut out,
@@ -84,6 +85,13 @@ const AR_TO_0: Signal = Signal {
     process: Proc(0),
     thread: Thread(0),
     code: Code::Ar,
+    slot: VSlot(0),
+};
+
+const AO_TO_0: Signal = Signal {
+    process: Proc(0),
+    thread: Thread(0),
+    code: Code::Ao,
     slot: VSlot(0),
 };
 
@@ -155,10 +163,33 @@ const SENT_WHERE_LATE: &[Sent<'static>] = &[
     (&[3], true, None, &[DEFAULT_4], &[]),
 ];
 
+/// Where the system default is late, and every process is told.
+#[rattlefmt::skip]
+const SENT_TO_ALL: &[Sent<'static>] = &[
+    // to the lowest thread where none is early, with a handler or without one, and to the early one
+    (&[0], true, None, &[LATE_0, LATE_1], &[AO_TO_0]),
+    (&[0], true, None, &[LATE_0, DEFAULT_1], &[AO_TO_0]),
+    (&[0], true, None, &[LATE_0, EARLY_1], &[AO_TO_1]),
+    (&[3], true, None, &[LATE_4], &[AO_TO_4]),
+    (&[3], true, None, &[DEFAULT_4], &[AO_TO_4]),
+    // a process without threads; no translation in use; no signals at all
+    (&[4], true, None, &[], &[]),
+    (&[], true, Some(3), &[], &[]),
+    (&[0, 3], false, None, &[], &[]),
+    // the current thread alone, and with the other processes
+    (&[1, 2], true, Some(3), &[], &[AR_TO_3]),
+    (&[0, 1, 2, 3, 4], true, Some(3), &[LATE_0, LATE_1, LATE_4], &[AO_TO_0, AR_TO_3, AO_TO_4]),
+];
+
+#[test]
+fn whom_a_failure_signals_that_tells_every_process(rt: HostRuntime) {
+    sends(&rt, rt.alloc(), LATE, true, SENT_TO_ALL);
+}
+
 #[test]
 fn whom_a_failure_signals(rt: HostRuntime) {
-    sends(&rt, rt.alloc(), EARLY, SENT);
-    sends(&rt, rt.alloc(), LATE, SENT_WHERE_LATE);
+    sends(&rt, rt.alloc(), EARLY, false, SENT);
+    sends(&rt, rt.alloc(), LATE, false, SENT_WHERE_LATE);
 }
 
 /// Translations in use, the current thread, and policies; whether they are those that a failure reads.

@@ -1,6 +1,6 @@
-//! The page machine: what becomes of a page that fails, and which failures it allows.
+//! The page machine: what becomes of a page that fails, which failures it allows, and what a locked page doesn't.
 
-use crate::machine::{all_seen, machine};
+use crate::machine::{all_seen, machine, with_locked};
 use hwp_page::{
     Body, Code, Cpu, Entry, Line, List, Mask, Met, Outcome, Page, Policy, Proc, Signal, Situation,
     Thread, VSlot, What, Who,
@@ -14,9 +14,9 @@ use std::sync::Arc;
 const TWO_PAGES: &[u8] =
     b"hwp 1\ncpus 1\nframes 1\nfile 0\nproc 0\nproc 1\nthread 0 0 0 handler\nthread 1 1 0 nohandler\npage 0 anon\npage 1 file 0 fill 9\ntrans 0 0 0\ntrans 1 0 1\ntrans 2 1 0\nend\n";
 
-/// The page at opening.
-fn fresh(rt: &impl Abort, alloc: Global, page: u16) -> Body {
-    let layout = machine(rt, alloc, TWO_PAGES);
+/// The page at opening, of a machine with all pages locked, or none.
+fn fresh(rt: &impl Abort, alloc: Global, locked: bool, page: u16) -> Body {
+    let layout = with_locked(rt, alloc, machine(rt, alloc, TWO_PAGES), locked);
     if usize::from(page) >= layout.pages.len() {
         panic!(rt; "a page");
     }
@@ -72,10 +72,16 @@ fn come(rt: &impl Abort, body: &mut Body, before: Before) {
     }
 }
 
-/// The page with its translation of this number in use, after what came to it.
-fn mapped(rt: &impl Abort, alloc: Global, page: u16, before: &[Before]) -> Body {
-    let mut body = fresh(rt, alloc, page);
+/// The page in a frame.
+fn cached(rt: &impl Abort, alloc: Global, locked: bool, page: u16) -> Body {
+    let mut body = fresh(rt, alloc, locked, page);
     add(rt, &mut body, What::FaultIn);
+    body
+}
+
+/// The page with its translation of this number in use, after what came to it.
+fn mapped(rt: &impl Abort, alloc: Global, locked: bool, page: u16, before: &[Before]) -> Body {
+    let mut body = cached(rt, alloc, locked, page);
     add(rt, &mut body, What::Map { slot: VSlot(page) });
     for one in before {
         come(rt, &mut body, *one);
@@ -115,29 +121,29 @@ fn became(rt: &impl Abort, body: &Body, word: u64, flags: [bool; 3]) {
     assert!(rt; !state.cached && state.maps.lowest_from(VSlot(0)).is_none());
 }
 
-/// A page and what comes to it; what it is found as, what comes of its failure, and whether that signals; its word and its
-/// flags then.
+/// A page and what comes to it; what it is found as, what comes of its failure, whether that signals, and whether it tells every
+/// process; its word and its flags then.
 type Failed<'a> = (
     u16,
     &'a [Before],
-    (Situation, Outcome, bool),
+    (Situation, Outcome, bool, bool),
     (u64, [bool; 3]),
 );
 
-/// The page fails, and becomes what the row says.
-fn fails(rt: &impl Abort, alloc: Global, row: &Failed<'_>) {
+/// The page fails, locked or not, and becomes what the row says.
+fn fails(rt: &impl Abort, alloc: Global, locked: bool, row: &Failed<'_>) {
     let (page, before, found, (word, flags)) = row;
-    let mut body = mapped(rt, alloc, *page, before);
+    let mut body = mapped(rt, alloc, locked, *page, before);
     let situation = body.state().situation();
     let (outcome, signals) = (situation.outcome(), situation.signals());
-    assert!(rt; (situation, outcome, signals) == *found);
+    assert!(rt; (situation, outcome, signals, situation.always_signals()) == *found);
     add(rt, &mut body, failure(rt, alloc, *page, situation, signals));
     became(rt, &body, *word, *flags);
 }
 
-fn all_fail(rt: &impl Abort, alloc: Global, rows: &[Failed<'_>]) {
+fn all_fail(rt: &impl Abort, alloc: Global, locked: bool, rows: &[Failed<'_>]) {
     for row in rows {
-        fails(rt, alloc, row);
+        fails(rt, alloc, locked, row);
     }
 }
 
@@ -149,16 +155,30 @@ const STORED_AGAIN: &[Before] = &[Before::Store(70), Before::Swap, Before::Store
 
 #[rattlefmt::skip]
 const FAILED: &[Failed<'static>] = &[
-    (1, &[], (Situation::FileClean, Outcome::Recovered, false), (9, [false, false, false])),
-    (1, STORED, (Situation::FileDirty, Outcome::Recovered, true), (9, [false, true, false])),
-    (0, STORED, (Situation::AnonOnly, Outcome::Recovered, true), (70, [true, true, true])),
-    (0, SWAPPED, (Situation::SwapClean, Outcome::Recovered, false), (70, [false, false, false])),
-    (0, STORED_AGAIN, (Situation::SwapDirty, Outcome::Delayed, false), (71, [true, false, true])),
+    (1, &[], (Situation::FileClean, Outcome::Recovered, false, false), (9, [false, false, false])),
+    (1, STORED, (Situation::FileDirty, Outcome::Recovered, true, false), (9, [false, true, false])),
+    (0, STORED, (Situation::AnonOnly, Outcome::Recovered, true, false), (70, [true, true, true])),
+    (0, SWAPPED, (Situation::SwapClean, Outcome::Recovered, false, false), (70, [false, false, false])),
+    (0, STORED_AGAIN, (Situation::SwapDirty, Outcome::Delayed, false, false), (71, [true, false, true])),
+];
+
+/// Where the page is locked.
+#[rattlefmt::skip]
+const FAILED_LOCKED: &[Failed<'static>] = &[
+    (1, &[], (Situation::LockedClean, Outcome::Recovered, false, false), (9, [false, false, false])),
+    (1, STORED, (Situation::LockedFile, Outcome::Recovered, true, true), (9, [false, true, false])),
+    (0, &[], (Situation::LockedAnon, Outcome::Recovered, true, true), (0, [false, true, true])),
+    (0, STORED, (Situation::LockedAnon, Outcome::Recovered, true, true), (70, [true, true, true])),
 ];
 
 #[test]
 fn what_becomes_of_a_page_that_fails(rt: HostRuntime) {
-    all_fail(&rt, rt.alloc(), FAILED);
+    all_fail(&rt, rt.alloc(), false, FAILED);
+}
+
+#[test]
+fn what_becomes_of_a_locked_page_that_fails(rt: HostRuntime) {
+    all_fail(&rt, rt.alloc(), true, FAILED_LOCKED);
 }
 
 /// The signals that a failure sent.
@@ -169,13 +189,13 @@ fn all_sent(rt: &impl Abort, alloc: Global, signals: &[Signal]) -> List<Signal> 
 /// Policies and signals, and whether a failure may have them.
 type May<'a> = (&'a [(u8, Policy)], &'a [Signal], bool);
 
-/// Whether page 0 may fail so, with a translation of each process in use.
-fn may_fail(rt: &impl Abort, alloc: Global, rows: &[May<'_>]) {
-    let mut body = mapped(rt, alloc, 0, STORED);
+/// Whether page 0, locked or not, may fail so, with a translation of each process in use.
+fn may_fail(rt: &impl Abort, alloc: Global, locked: bool, situation: Situation, rows: &[May<'_>]) {
+    let mut body = mapped(rt, alloc, locked, 0, STORED);
     add(rt, &mut body, What::Map { slot: VSlot(2) });
     for (policies, signals, want) in rows {
         let may = body.allowed(&entry(What::Fail {
-            situation: Situation::AnonOnly,
+            situation,
             required: None,
             seen: all_seen(rt, alloc, policies),
             signals: all_sent(rt, alloc, signals),
@@ -221,5 +241,80 @@ const ALLOWED: &[May<'static>] = &[
 
 #[test]
 fn which_signals_and_policies_a_failure_has(rt: HostRuntime) {
-    may_fail(&rt, rt.alloc(), ALLOWED);
+    may_fail(&rt, rt.alloc(), false, Situation::AnonOnly, ALLOWED);
+    may_fail(&rt, rt.alloc(), false, Situation::LockedAnon, OF_ANOTHER);
+}
+
+/// Each process is told: the first, none of whose threads is early, and the second, whether its thread is early or not.
+#[rattlefmt::skip]
+const ALLOWED_LOCKED: &[May<'static>] = &[
+    (&[LATE, EARLY], &[FIRST, SECOND], true),
+    (&[LATE, DEFAULT], &[FIRST, SECOND], true),
+    // the one left out, the other, both
+    (&[LATE, EARLY], &[SECOND], false),
+    (&[LATE, DEFAULT], &[FIRST], false),
+    (&[LATE, DEFAULT], &[], false),
+    // policies cut short, left out
+    (&[LATE], &[FIRST, SECOND], false),
+    (&[EARLY], &[FIRST, SECOND], false),
+];
+
+/// In the situation of a page that is locked where it isn't, or isn't where it is.
+const OF_ANOTHER: &[May<'static>] = &[
+    (&[LATE, DEFAULT], &[], false),
+    (&[LATE, DEFAULT], &[FIRST, SECOND], false),
+];
+
+#[test]
+fn which_signals_a_failure_of_a_locked_page_has(rt: HostRuntime) {
+    may_fail(&rt, rt.alloc(), true, Situation::LockedAnon, ALLOWED_LOCKED);
+    may_fail(&rt, rt.alloc(), true, Situation::AnonOnly, OF_ANOTHER);
+}
+
+/// An entry without parts.
+#[derive(Clone, Copy)]
+enum Plain {
+    Drop,
+    Out,
+    Sync,
+    Soft,
+}
+
+/// The entry that it names.
+fn what(plain: Plain) -> What {
+    match plain {
+        Plain::Drop => What::Drop,
+        Plain::Out => What::Out,
+        Plain::Sync => What::Sync,
+        Plain::Soft => What::Soft,
+    }
+}
+
+/// Of the pages of a machine with all pages locked, or none: a page in a frame, an entry, and whether it allows that.
+fn all_allow(rt: &impl Abort, alloc: Global, locked: bool, rows: &[(u16, Plain, bool)]) {
+    for (page, plain, want) in rows {
+        let body = cached(rt, alloc, locked, *page);
+        assert!(rt; body.allowed(&entry(what(*plain))) == *want);
+    }
+}
+
+#[rattlefmt::skip]
+const UNLOCKED: &[(u16, Plain, bool)] = &[
+    (1, Plain::Drop, true),
+    (0, Plain::Out, true),
+];
+
+#[rattlefmt::skip]
+const LOCKED: &[(u16, Plain, bool)] = &[
+    (1, Plain::Drop, false),
+    (0, Plain::Out, false),
+    (1, Plain::Sync, true),
+    (1, Plain::Soft, true),
+    (0, Plain::Soft, true),
+];
+
+#[test]
+fn a_locked_page_is_neither_dropped_nor_swapped_out(rt: HostRuntime) {
+    all_allow(&rt, rt.alloc(), false, UNLOCKED);
+    all_allow(&rt, rt.alloc(), true, LOCKED);
 }

@@ -8,7 +8,7 @@ ghost use Rattle.hwp_fault_fill.specs.Takes.{Fits};
 
 use hwp_core::{Board, Task, Turn};
 use hwp_fault_fill::{Take, TakeAnswer};
-use hwp_page::{Cpu, Kind, Layout, List, PageKind, Who};
+use hwp_page::{Cpu, Kind, Layout, List, PageKind, Version, Who};
 use hwp_plain::PlainBoard;
 use std::alloc::Global;
 use std::process::Abort;
@@ -19,6 +19,7 @@ fn two_processors(rt: &impl Abort, alloc: Global) -> Layout
     ensures cpus { result.cpus ≡ 2 }
 {
     Layout {
+        version: Version::One,
         cpus: 2,
         frames: 1,
         kernel: List::from_vec([false].to_vec(alloc).expect(rt, "memory")),
@@ -29,6 +30,7 @@ fn two_processors(rt: &impl Abort, alloc: Global) -> Layout
         threads: List::new(alloc),
         pages: List::new(alloc),
         trans: List::new(alloc),
+        locked: List::new(alloc),
     }
 }
 

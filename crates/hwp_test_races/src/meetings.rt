@@ -133,6 +133,22 @@ cpu 0 4\n0 stored 0 2\n1 recovered\n2 eio 1\n3 done\ncpu 1 2\n0 eio 1\n1 done\ne
     ],
 };
 
+/// Its page is a locked one of a file, dirty, which is dropped while the frame fails.
+const DROPPED: Meeting = Meeting {
+    front: "hwp 2\ncpus 2\nframes 2\nfile 0\nproc 0\nthread 0 0 0 handler\npage 0 file 0 fill 9 locked\ntrans 0 0 0\ncpu 0\n\
+store 0 0 0 5\ndrop 0\ncpu 1\ninject 0\nschedule 0.",
+    ends: &[
+        // the drop is refused before
+        "hwp-report 2\nstop none\ncount 1\nfile 0 lost 1\nframe 0 handled bad 0 weak 0\npoisoned 0 1 0 sw lockedfile recovered\n\
+frame 1 free bad 0 weak 0\npage 0 4\nin 0 0\nmap 0 0 0\nstore 0 0 0 0 0 5\nfail 1 0 lockedfile opt - 1 1\nseen 0 default 0\n\
+signal 0 0 ao 0\ncpu 0 2\n0 stored 0 2\n1 locked 0 3\ncpu 1 1\n0 recovered\nend\n",
+        // the failure has taken the page out of its frame
+        "hwp-report 2\nstop none\ncount 1\nfile 0 lost 1\nframe 0 handled bad 0 weak 0\npoisoned 0 1 0 sw lockedfile recovered\n\
+frame 1 free bad 0 weak 0\npage 0 4\nin 0 0\nmap 0 0 0\nstore 0 0 0 0 0 5\nfail 1 0 lockedfile opt - 1 1\nseen 0 default 0\n\
+signal 0 0 ao 0\ncpu 0 2\n0 stored 0 2\n1 notresident 0 4\ncpu 1 1\n0 recovered\nend\n",
+    ],
+};
+
 /// The texts that are other ones than the report.
 fn others(
     rt: &impl Abort,
@@ -197,4 +213,9 @@ fn a_frame_is_taken_back_once_its_failure_is_over(rt: HostRuntime) {
 #[test]
 fn each_processor_is_told_of_a_loss_once(rt: HostRuntime) {
     comes_to_its_ends(&rt, rt.alloc(), &ASKED);
+}
+
+#[test]
+fn a_locked_page_is_refused_to_a_drop_or_lost_before(rt: HostRuntime) {
+    comes_to_its_ends(&rt, rt.alloc(), &DROPPED);
 }

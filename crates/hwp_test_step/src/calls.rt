@@ -100,7 +100,7 @@ fn a_seed_is_a_number_of_a_script(rt: HostRuntime) {
 
 const REFUSED: &[(&str, &str)] = &[
     ("", "script line 1: BadHeader\n"),
-    ("hwp 2\n", "script line 1: BadHeader\n"),
+    ("hwp 3\n", "script line 1: BadHeader\n"),
     (
         "hwp 1\ncpus 1\nframes 2\nproc 1\nend\n",
         "script line 4: WrongPlace\n",

@@ -8,6 +8,8 @@ mod handling;
 #[cfg(test)]
 mod numbers;
 #[cfg(test)]
+mod sets;
+#[cfg(test)]
 mod severity;
 #[cfg(test)]
 mod streams;

@@ -5,6 +5,11 @@ use hwp_script_read::{LineRead, read_lines};
 use std::alloc::Global;
 use std::process::Abort;
 
+/// Which version a form is of, where version 2 alone has it.
+fn version(newer: bool) -> &'static str {
+    if newer { " in version 2" } else { "" }
+}
+
 /// The lines that are not skipped, one a line: the number, and the line as it is printed, or what is wrong with it.
 fn told(rt: &impl Abort, alloc: Global, text: &[u8]) -> String {
     assert!(rt; text.len() < 1000);
@@ -15,8 +20,8 @@ fn told(rt: &impl Abort, alloc: Global, text: &[u8]) -> String {
         let put = match &numbered.read {
             LineRead::ScriptLine(form) => put_form(&mut out, form),
             LineRead::Unknown => writeln!(out, "unknown"),
-            LineRead::BadNumber => writeln!(out, "bad number"),
-            LineRead::OverLimit => writeln!(out, "over the limit"),
+            LineRead::BadNumber { newer } => writeln!(out, "bad number{}", version(*newer)),
+            LineRead::OverLimit { newer } => writeln!(out, "over the limit{}", version(*newer)),
         };
         put.expect(rt, "memory");
     }
@@ -37,6 +42,30 @@ fn are_all(rt: &impl Abort, alloc: Global, texts: &[&[u8]], want: &str) {
         let read = told(rt, alloc, text);
         assert!(rt; read.as_str() == want);
     }
+}
+
+/// The forms of version 2, and its highest numbers.
+const NEWER: &[(&[u8], &str)] = &[
+    (
+        b"hwp 2\ncpus 16\nframes 4096\npage 6 anon locked\npage 7 file 8 fill 9 locked\nopen 15\n",
+        "1 hwp 2\n2 cpus 16\n3 frames 4096\n4 page 6 anon locked\n5 page 7 file 8 fill 9 locked\n6 open 15\n",
+    ),
+    (
+        b"load 0 4095 0\ndrop 4095\nscrub 256 4095\ninject 4095\nschedule 8 9. 15@stop\n",
+        "1 load 0 4095 0\n2 drop 4095\n3 scrub 256 4095\n4 inject 4095\n5 schedule 8 9. 15@stop\n",
+    ),
+    (b"open x", "1 bad number in version 2\n"),
+    (b"page x anon locked", "1 bad number in version 2\n"),
+    (
+        b"page 0 file x fill 1 locked",
+        "1 bad number in version 2\n",
+    ),
+    (b"open 16", "1 over the limit in version 2\n"),
+];
+
+#[test]
+fn forms_of_version_2_are_read_as_they_are_printed(rt: HostRuntime) {
+    are_told(&rt, rt.alloc(), NEWER);
 }
 
 /// Every kind of line, as it is read and as it is printed.
@@ -95,13 +124,18 @@ const UNKNOWN: &[&[u8]] = &[
     b"sotre 0 0 5 77",
     b"cpus",
     b"cpus 1 2",
-    b"hwp 2",
+    b"hwp 3",
+    b"hwp 1 2",
     b"hwp 01",
     b"HWP 1",
     b"thread 0 0 0 maybe",
     b"thread 0 0 0",
     b"page 0 file 0 full 1",
     b"page 0 anon 1",
+    b"page 0 anon locked locked",
+    b"page 0 file 0 fill 1 lock",
+    b"open",
+    b"open 0 0",
     b"raise user 0 1",
     b"raise nested 1",
     b"raise other 1 1",
@@ -128,6 +162,7 @@ const NO_NUMBERS: &[&[u8]] = &[
     b"cpus 0x1",
     b"page x file 0 fill 1",
     b"page 0 file 0 fill 1.5",
+    b"page 0 file 0 fill locked",
     b"prctl 0 33 1 0 0 x",
     b"log 1 0 0",
     b"log 0x 0 0",
@@ -149,23 +184,23 @@ fn a_word_in_a_numbers_place_is_a_number(rt: HostRuntime) {
 
 const TOO_LARGE: &[&[u8]] = &[
     b"load 32 0 0",
-    b"fetch 0 512 0",
+    b"fetch 0 4096 0",
     b"kload 0 0 64",
     b"store 32 0 0 1",
-    b"free 512",
-    b"drop 256",
-    b"sync 256",
+    b"free 4096",
+    b"drop 4096",
+    b"sync 4096",
     b"fsync 16",
     b"prctl 32 33 0 0 0 0",
-    b"bad 256 0",
+    b"bad 4096 0",
     b"weak 0 64",
     b"scrub 1 0",
-    b"scrub 0 256",
+    b"scrub 0 4096",
     b"raise user 0 2 0",
     b"raise kernel 0 2",
-    b"inject 256",
-    b"schedule 8",
-    b"schedule 0 8@poison",
+    b"inject 4096",
+    b"schedule 16",
+    b"schedule 0 16@poison",
 ];
 
 #[test]

@@ -13,10 +13,10 @@ const FAILED: &str =
     "hwp-report 1\nstop 7 4095 shutdown\ncount 1\npage 0 8\nfree 0 1 511\ndrop 0 2\nsync 1 3\nout 7 4\nfail 0 5 filedirty req 0 3 2\nseen 1 late 0\nseen 2 default 4095\nseen 31 early 1\nsignal 0 0 ar 0\nsignal 15 31 ao 511\nfail 2 6 swapclean opt - 0 0\nfail 2 6 kernel opt - 0 1\nsignal 15 31 ao 511\nsoft 0 7\nend\n";
 
 const MARKED: &str =
-    "hwp-report 1\nstop 0 0 panic 255\ncount 3\nframe 0 handled bad 20 weak 0\npoisoned 0 0 0 sw free recovered\nunpoisoned 0 1 1\npoisoned 1 0 6 hw anononly ignored\nframe 1 handled bad 0 weak 0\npoisoned 4095 0 2 soft moved recovered\npoisoned 4096 0 3 soft free recovered\npoisoned 4097 0 4 hw swapdirty delayed\nend\n";
+    "hwp-report 2\nstop 0 0 panic 255\ncount 3\nframe 0 handled bad 20 weak 0\npoisoned 0 0 0 sw free recovered\nunpoisoned 0 1 1\npoisoned 1 0 6 hw anononly ignored\nframe 1 handled bad 0 weak 0\npoisoned 4095 0 2 soft moved recovered\npoisoned 4096 0 3 soft free recovered\npoisoned 4097 0 4 hw swapdirty delayed\npoisoned 4098 0 5 hw lockedclean recovered\npoisoned 4099 0 6 sw lockedfile recovered\npoisoned 4100 0 7 sw lockedanon recovered\nend\n";
 
 const ANSWERED: &str =
-    "hwp-report 1\nstop 0 2 severity S8 1 fd800000000000c0 1 0 user\ncount 0\ncpu 0 4\n2 event 0 fd800000000000c0 1040 86 S9 recovered\n2 event 1 fd800000000000c0 1040 86 S8 stop\n2 event 2 fd800000000000c0 1040 86 S1 none\n2 event 0 fd800000000000c0 1040 86 S255 held\ncpu 1 27\n0 sigbus 255 10\n1 gone 255\n2 stopped\n3 done\n4 done 255 10\n5 notresident 255 10\n6 notmapped 255 10\n7 dirty 255 10\n8 mapped 255 10\n9 badlines 2a 255 10\n10 eio 10\n11 is 2\n12 einval\n13 recovered\n14 delayed\n15 ignored\n16 already\n17 moved 1 255 10\n18 takenfree\n19 kernel\n20 hasbad a\n21 notpoisoned\n22 hardwareseen\n23 inuse 10\n24 scrubbed 10\n25 raised 3\n26 opened 10\nend\n";
+    "hwp-report 1\nstop 0 2 severity S8 1 fd800000000000c0 1 0 user\ncount 0\ncpu 0 4\n2 event 0 fd800000000000c0 1040 86 S9 recovered\n2 event 1 fd800000000000c0 1040 86 S8 stop\n2 event 2 fd800000000000c0 1040 86 S1 none\n2 event 0 fd800000000000c0 1040 86 S255 held\ncpu 1 28\n0 sigbus 255 10\n1 gone 255\n2 stopped\n3 done\n4 done 255 10\n5 notresident 255 10\n6 notmapped 255 10\n7 dirty 255 10\n8 mapped 255 10\n9 badlines 2a 255 10\n10 eio 10\n11 is 2\n12 einval\n13 recovered\n14 delayed\n15 ignored\n16 already\n17 moved 1 255 10\n18 takenfree\n19 kernel\n20 hasbad a\n21 notpoisoned\n22 hardwareseen\n23 inuse 10\n24 scrubbed 10\n25 raised 3\n26 opened 10\n27 locked 255 10\nend\n";
 
 /// The report that a text is read as is printed as the text.
 fn is_read(rt: &impl Abort, alloc: Global, text: &str) {
@@ -37,7 +37,8 @@ fn a_report_is_read_as_it_is_printed(rt: HostRuntime) {
 const FAULTS: &[(&[u8], u64)] = &[
     (b"", 1),
     (b"hwp-report 1", 1),
-    (b"hwp-report 2\n", 1),
+    (b"hwp-report 2\n", 2),
+    (b"hwp-report 3\n", 1),
     (b"hwp-report 1\n", 2),
     (b"hwp-report 1\n\nstop none\n", 2),
     (b"hwp-report 1\nstop  none\n", 2),

@@ -2,7 +2,7 @@
 
 use hwp_report_text::{
     Acted, Answer, At, Code, CpuLine, Entry, EventLine, FrameLine, How, MarkLine, McgBits, Outcome,
-    Policy, Report, Seen, Signal, Situation, Stop, StopCause, What, Whereabouts, print,
+    Policy, Report, Seen, Signal, Situation, Stop, StopCause, Version, What, Whereabouts, print,
 };
 use hwp_script_read::{Cpu, Frame, Line, List, Mask, Mode, Page, Proc, Thread, VSlot, Who};
 use std::alloc::Global;
@@ -12,6 +12,7 @@ use std::str;
 /// A report of nothing, which a test fills.
 fn empty(alloc: Global) -> Report {
     Report {
+        version: Version::One,
         stop: None,
         count: 0,
         files: List::new(alloc),
@@ -183,8 +184,8 @@ fn a_report_of_failed_pages(rt: HostRuntime) {
     is_printed(&rt, alloc, &report, FAILED);
 }
 
-/// Frames with their records: each situation, each outcome, and both causes.
-const MARKED: &str = "hwp-report 1
+/// Frames with their records: each situation, each outcome, and both causes; of version 2.
+const MARKED: &str = "hwp-report 2
 stop 0 0 panic 255
 count 3
 frame 0 handled bad 20 weak 0
@@ -198,6 +199,9 @@ poisoned 4097 0 4 hw swapdirty delayed
 poisoned 4098 0 5 sw fileclean recovered
 poisoned 4099 0 6 sw filedirty recovered
 poisoned 4100 0 7 sw swapclean recovered
+poisoned 4101 0 8 hw lockedclean recovered
+poisoned 4102 0 9 sw lockedfile recovered
+poisoned 4103 0 10 sw lockedanon recovered
 frame 2 kernel bad 0 weak 1
 poisoned 0 0 9 hw kernel ignored
 end
@@ -231,6 +235,7 @@ fn moved(cycle: u32, seq: u32, how: How) -> MarkLine {
 fn a_report_of_poisoned_frames(rt: HostRuntime) {
     let alloc = rt.alloc();
     let mut report = empty(alloc);
+    report.version = Version::Two;
     report.stop = stop(0, 0, StopCause::Panic(Frame(255)));
     report.count = 3;
     put_frame(&rt, alloc, &mut report, (Whereabouts::Handled, 0x20, 0), &[
@@ -245,6 +250,9 @@ fn a_report_of_poisoned_frames(rt: HostRuntime) {
         failure(4098, 5, false, Situation::FileClean, Outcome::Recovered),
         failure(4099, 6, false, Situation::FileDirty, Outcome::Recovered),
         failure(4100, 7, false, Situation::SwapClean, Outcome::Recovered),
+        failure(4101, 8, true, Situation::LockedClean, Outcome::Recovered),
+        failure(4102, 9, false, Situation::LockedFile, Outcome::Recovered),
+        failure(4103, 10, false, Situation::LockedAnon, Outcome::Recovered),
     ]);
     put_frame(&rt, alloc, &mut report, (Whereabouts::Kernel, 0, 1), &[
         failure(0, 9, true, Situation::Kernel, Outcome::Ignored),
@@ -269,7 +277,7 @@ cpu 0 12
 2 event 0 fd800000000000c0 1040 86 S12 outside
 2 event 0 fd800000000000c0 1040 86 S12 panic
 2 event 0 fd800000000000c0 1040 86 S12 held
-cpu 1 27
+cpu 1 28
 0 sigbus 255 10
 1 gone 255
 2 stopped
@@ -297,6 +305,7 @@ cpu 1 27
 24 scrubbed 10
 25 raised 3
 26 opened 10
+27 locked 255 10
 end
 ";
 
@@ -305,7 +314,7 @@ const PLACE: At = At {
     entry: 10,
 };
 
-const ANSWERS: [Answer; 27] = [
+const ANSWERS: [Answer; 28] = [
     Answer::Sigbus(PLACE),
     Answer::Gone(Page(255)),
     Answer::Stopped,
@@ -333,6 +342,7 @@ const ANSWERS: [Answer; 27] = [
     Answer::Scrubbed(10),
     Answer::Raised(3),
     Answer::Opened(10),
+    Answer::Locked(PLACE),
 ];
 
 /// The bank, the row of the severity table, and what was done.

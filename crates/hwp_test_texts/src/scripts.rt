@@ -1,6 +1,6 @@
 //! Scripts read, and refused at their first line at fault.
 
-use hwp_script_read::{Command, Layout, ReadScript, Refused, Script, Why, read};
+use hwp_script_read::{Command, Layout, ReadScript, Refused, Script, Version, Why, read};
 use std::alloc::Global;
 use std::process::Abort;
 
@@ -11,6 +11,10 @@ const ONE: &str =
 /// A script with every form of line, in the spellings that a user may choose.
 const ALL: &str =
     "# all forms\n\n  hwp   1 \ncpus 2\nframes 4\nkernel 3\nrecovery 0\nearly 1\nfile 0\nproc 0\nproc 1\nthread 0 0 0 handler\nthread 1 1 1 nohandler\npage 0 anon\npage 1 file 0 fill 9\ntrans 0 0 0\ntrans 1 1 1\ncpu 1\nload 1 1 7\nfetch 1 1 8\nkload 1 1 9\nstore 1 1 10 18446744073709551615\nfree 1\ndrop 1\nsync 1\nfsync 0\nprctl 1 33 1 2 0 7\ncpu 0\nout 0\nbad 0 3\nweak 1 63\nscrub 0 3\nlog 0xBD000000000000c0 0x1000 0x86\nraise user 0 1 0\nraise kernel 0 1\nraise nested\ninject 1\nsoft 2\nunpoison 3\nschedule 0 1. 0@poison\n# done\nschedule 1\nend\n\n# after the end";
+
+/// A script of version 2 with its two forms, on the largest machine.
+const TWO: &str =
+    "hwp 2\ncpus 16\nframes 4096\nfile 0\nproc 0\nthread 0 0 15 handler\npage 0 file 0 fill 1 locked\ntrans 0 0 0\ncpu 15\nopen 0\ninject 4095\nschedule 15\nend\n";
 
 /// What becomes of a text: the line and the reason of its refusal, if it is refused.
 type Answer = Option<(u32, Why)>;
@@ -65,6 +69,8 @@ fn have(rt: &impl Abort, script: &Script, rows: &[(usize, usize, [u64; 5])]) {
 fn is_declared(rt: &impl Abort, layout: &Layout) {
     let counts = (layout.cpus, layout.frames, layout.procs, layout.files);
     assert!(rt; (counts, layout.recovery, layout.early) == ((2, 4, 2, 1), false, true));
+    assert!(rt; layout.version == Version::One);
+    assert!(rt; matches!(layout.locked.as_slice(), [false, false]));
 }
 
 const NUMBERS: &[(usize, usize, [u64; 5])] = &[
@@ -108,6 +114,32 @@ fn a_refusal_names_the_first_line_at_fault(rt: HostRuntime) {
     );
     becomes(&rt, rt.alloc(), b"", Some((1, Why::BadHeader)));
     becomes(&rt, rt.alloc(), b"hwp 1", Some((1, Why::NoEnd)));
+}
+
+#[test]
+fn a_script_of_version_2_is_read_and_refused_where_it_is_at_fault(rt: HostRuntime) {
+    let script = read(rt.alloc(), TWO.as_bytes())
+        .ok()
+        .expect(&rt, "a script");
+    assert!(&rt; script.layout.version == Version::Two);
+    assert!(&rt; matches!(script.layout.locked.as_slice(), [true]));
+    refused(
+        &rt,
+        rt.alloc(),
+        TWO,
+        &[
+            ("hwp 2", "hwp 1", 2, Why::OverLimit),
+            ("cpus 16", "cpus 17", 2, Why::OverLimit),
+            ("frames 4096", "frames 4097", 3, Why::OverLimit),
+            (" locked", " locked locked", 7, Why::UnknownWord),
+            ("fill 1 locked", "fill locked", 7, Why::BadNumber),
+            ("open 0", "open x", 10, Why::BadNumber),
+            ("open 0", "open 16", 10, Why::OverLimit),
+            ("open 0", "open 1", 10, Why::Undeclared),
+            ("inject 4095", "hwp 2", 11, Why::UnknownWord),
+            ("schedule 15", "schedule 16", 12, Why::OverLimit),
+        ],
+    );
 }
 
 #[test]
@@ -252,7 +284,7 @@ fn become_so(rt: &impl Abort, alloc: Global, rows: &[Swap<'_>]) {
 
 /// Each reason early, in the middle, and after a comment.
 const REASONS: &[Swap<'static>] = &[
-    (1, b"hwp 2", Some((1, Why::BadHeader))),
+    (1, b"hwp 3", Some((1, Why::BadHeader))),
     (1, b"", Some((2, Why::BadHeader))),
     (1, b"# c\nhwp 01", Some((2, Why::BadHeader))),
     (2, b"cpus 1 1", Some((2, Why::UnknownWord))),
@@ -289,6 +321,37 @@ const REASONS: &[Swap<'static>] = &[
 #[test]
 fn each_reason_comes_early_in_the_middle_and_after_a_comment(rt: HostRuntime) {
     become_so(&rt, rt.alloc(), REASONS);
+}
+
+/// What version 2 has and version 1 hasn't is unknown in version 1, also where its numbers are bad.
+const OLDER: &[Swap<'static>] = &[
+    (1, b"hwp 2", None),
+    (6, b"page 0 anon locked", Some((6, Why::UnknownWord))),
+    (6, b"page x anon locked", Some((6, Why::UnknownWord))),
+    (6, b"page 256 anon locked", Some((6, Why::UnknownWord))),
+    (
+        6,
+        b"page 0 file 0 fill x locked",
+        Some((6, Why::UnknownWord)),
+    ),
+    (6, b"page 0 file 0 fill locked", Some((6, Why::BadNumber))),
+    (10, b"open 0", Some((10, Why::UnknownWord))),
+    (10, b"open x", Some((10, Why::UnknownWord))),
+    (10, b"open 16", Some((10, Why::UnknownWord))),
+    (10, b"inject 256", Some((10, Why::OverLimit))),
+    (10, b"scrub 0 256", Some((10, Why::OverLimit))),
+    (10, b"drop 256", Some((10, Why::OverLimit))),
+    (10, b"free 512", Some((10, Why::OverLimit))),
+    (10, b"inject 255", Some((10, Why::Undeclared))),
+    (6, b"page 256 anon", Some((6, Why::OverLimit))),
+    (7, b"trans 512 0 0", Some((7, Why::OverLimit))),
+    (7, b"trans 0 0 256", Some((7, Why::OverLimit))),
+    (8, b"cpu 8", Some((8, Why::OverLimit))),
+];
+
+#[test]
+fn version_1_has_its_own_forms_and_limits(rt: HostRuntime) {
+    become_so(&rt, rt.alloc(), OLDER);
 }
 
 /// Bytes that no line may have, and some that a comment may.
@@ -349,10 +412,10 @@ fn declare(rt: &impl Abort, text: &mut String, kind: &str, count: u32, rest: &st
     }
 }
 
-/// What becomes of a script with so many files, processes, threads, pages and translations.
-fn are_declared(rt: &impl Abort, alloc: Global, counts: [u32; 5], want: Answer) {
+/// What becomes of a script with this head and so many files, processes, threads, pages and translations.
+fn are_headed(rt: &impl Abort, alloc: Global, head: &str, counts: [u32; 5], want: Answer) {
     let [files, procs, threads, pages, trans] = counts;
-    let mut text = String::from_str(alloc, "hwp 1\ncpus 8\nframes 256\n").expect(rt, "memory");
+    let mut text = String::from_str(alloc, head).expect(rt, "memory");
     declare(rt, &mut text, "file", files, "");
     declare(rt, &mut text, "proc", procs, "");
     declare(rt, &mut text, "thread", threads, " 0 7 handler");
@@ -360,6 +423,26 @@ fn are_declared(rt: &impl Abort, alloc: Global, counts: [u32; 5], want: Answer) 
     declare(rt, &mut text, "trans", trans, " 0 0");
     text.push_str("end\n").expect(rt, "memory");
     becomes(rt, alloc, text.as_bytes(), want);
+}
+
+/// The same of version 1.
+fn are_declared(rt: &impl Abort, alloc: Global, counts: [u32; 5], want: Answer) {
+    are_headed(rt, alloc, "hwp 1\ncpus 8\nframes 256\n", counts, want);
+}
+
+/// The same of version 2.
+fn are_newer(rt: &impl Abort, alloc: Global, counts: [u32; 5], want: Answer) {
+    are_headed(rt, alloc, "hwp 2\ncpus 16\nframes 4096\n", counts, want);
+}
+
+#[test]
+fn version_2_has_more_pages_and_translations_and_no_more(rt: HostRuntime) {
+    let alloc = rt.alloc();
+    let over = Why::OverLimit;
+    are_newer(&rt, alloc, [16, 16, 32, 4096, 4096], None);
+    are_newer(&rt, alloc, [17, 16, 32, 4096, 4096], Some((20, over)));
+    are_newer(&rt, alloc, [16, 16, 32, 4097, 4096], Some((4164, over)));
+    are_newer(&rt, alloc, [16, 16, 32, 4096, 4097], Some((8260, over)));
 }
 
 #[test]

@@ -178,10 +178,11 @@ module _ (layout : Layout) (s : State) (h : Holds layout s) (lists : List (List 
 
   -- ---- the report
 
-  pub closes : (report : Report) → AreLinesBy (words_of layout s.words) notes layout.frames report.frames → report.files ≡ (words_of layout s.words).losses
+  pub closes : (report : Report) → report.version ≡ layout.version → AreLinesBy (words_of layout s.words) notes layout.frames report.frames → report.files ≡ (words_of layout s.words).losses
       → report.count ≡ sum_by poison_of (words_of layout s.words).frames → IsStopBy (words_of layout s.words).stop lists rows report.stop → length report.pages ≡ length layout.pages → AreHistories s.homes report.pages
       → report.cpus ≡ lines_of_all rows → IsClosing layout s lists rows report
-  closes report frames files count stop many pages lines_are = record {
+  closes report version frames files count stop many pages lines_are = record {
+    version = version;
     ends = record {
       frames = frame-on report.frames frames;
       pages = λ page entries there. record { home = pages page entries there };
@@ -206,9 +207,9 @@ module _ {layout : Layout} {words : List ℕ} {pages : List (List Entry)} {lists
   pub outcome-stopper : HasStopper (words_of layout words).stop rows
   outcome-stopper = subst (λ (ws : List ℕ). HasStopper (words_of layout ws).stop rows) is.words_are (has-stopper layout s is.holds lists rows is.ended)
 
-  pub outcome-closes : (report : Report) → AreLinesBy (words_of layout words) (notes_of 0 rows) layout.frames report.frames → report.files ≡ (words_of layout words).losses → report.count ≡ sum_by poison_of (words_of layout words).frames
+  pub outcome-closes : (report : Report) → report.version ≡ layout.version → AreLinesBy (words_of layout words) (notes_of 0 rows) layout.frames report.frames → report.files ≡ (words_of layout words).losses → report.count ≡ sum_by poison_of (words_of layout words).frames
       → IsStopBy (words_of layout words).stop lists rows report.stop → report.pages ≡ pages → report.cpus ≡ lines_of_all rows → IsClosing layout s lists rows report
-  outcome-closes report frames files count stop pages_are lines_are = closes layout s is.holds lists rows is.ended report
+  outcome-closes report version frames files count stop pages_are lines_are = closes layout s is.holds lists rows is.ended report version
       (subst (λ (ws : List ℕ). AreLinesBy (words_of layout ws) (notes_of 0 rows) layout.frames report.frames) (sym is.words_are) frames)
       (files ∙ ap (λ (ws : List ℕ). (words_of layout ws).losses) (sym is.words_are))
       (count ∙ ap (λ (ws : List ℕ). sum_by poison_of (words_of layout ws).frames) (sym is.words_are))

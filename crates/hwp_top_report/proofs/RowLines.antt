@@ -16,6 +16,7 @@ use Rattle.hwp_cpu_row.specs.hwp_report_text.declared.StopCause.{StopCause}
 use Rattle.hwp_cpu_row.specs.declared.Row.{Row}
 use Rattle.hwp_cpu_row.specs.hwp_cpu_check.declared.EventOutcome.{EventOutcome}
 use Rattle.hwp_cpu.specs.hwp_law_holds.Rows.{Note, lines_from, notes_from, own_note, row_lines, row_notes, told_note}
+use Rattle.hwp_cpu.specs.hwp_law_holds.Runs.{notes_of}
 use Rattle.hwp_cpu.specs.Processors.{at_number}
 use Rattle.hwp_cpu.proofs.Rows.{notes-more}
 use Rattle.hwp_top_report.specs.Closing.{AreTellable, HasStopper, IsFirstStop, IsNamed, IsStopBy, cause_in, command_in}
@@ -121,3 +122,19 @@ stop-told word lists rows cpu n d own seq e told command cause has stopper numbe
     cause_is ∙ ap (λ (o : Option Command). cause_in o told) command_is ∙ ap (cause_in (command_in lists (record { cpu = cpu; seq = seq }))) (told_is ∙ ap (λ (r : Row). r.told) (stop-row own seq e first)),
   ),
 )
+
+-- ---- the notes of processors
+
+lists-more : (n : ℕ) (rows : List (List Row)) (m : ℕ) (own : List Row) → m ≡ n + length rows → notes_of n (rows ++ own ∷ []) ≡ notes_of n rows ++ notes_from (record { 0 = m }) 0 own ∷ []
+lists-more n [] m own is = ap (λ (k : ℕ). notes_from (record { 0 = k }) 0 own ∷ []) (let same : n ≡ m = omega arith in same)
+lists-more n (r ∷ rs) m own is = ap (λ (l : List (List Note)). notes_from (record { 0 = n }) 0 r ∷ l) (lists-more (n + 1) rs m own (omega arith))
+
+-- of one processor more
+pub lists-next : (rows : List (List Row)) (i : ℕ) (own : List Row) (old new : List (List Note)) (notes : List Note) → i < length rows → own ≡ get_or rows i own → old ≡ notes_of 0 (take i rows)
+    → notes ≡ notes_from (record { 0 = i }) 0 own → new ≡ old ++ notes ∷ [] → new ≡ notes_of 0 (take (i + 1) rows)
+lists-next rows i own old new notes within own_is was notes_are more =
+    more ∙ ap (λ (l : List (List Note)). l ++ notes ∷ []) was ∙ ap (λ (x : List Note). notes_of 0 (take i rows) ++ x ∷ []) notes_are
+    ∙ sym (ap (notes_of 0) (take_more rows i own within ∙ ap (λ (r : List Row). take i rows ++ r ∷ []) (sym own_is)) ∙ lists-more 0 (take i rows) i own number)
+  where
+    number : i ≡ 0 + length (take i rows)
+    number = let many : length (take i rows) ≡ i = length-take-le i rows (omega (arith, within)) in omega (arith, many)

@@ -155,8 +155,10 @@ pub record IsOutcome (layout : Layout) (words : List ℕ) (pages : List (List En
   pub one_each : length pages ≡ length layout.pages
   pub ended : IsEnded layout lists s.views rows
 
--- the report is that of this board and of these rows, with all frames and pages, and any stop has its command's cause
+-- the report is of the layout's version, it is that of this board and of these rows, with all frames and pages, and any stop has its
+-- command's cause
 pub record IsClosing (layout : Layout) (state : State) (lists : List (List Command)) (rows : List (List Row)) (report : Report) : Type 0 where
+  pub version : report.version ≡ layout.version
   pub ends : EndsWith layout state report
   pub frames : length report.frames ≡ layout.frames
   pub pages : length report.pages ≡ length layout.pages

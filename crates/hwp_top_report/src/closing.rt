@@ -12,7 +12,7 @@ use hwp_cpu_row::{Command, Entry, FileNo, Layout, List, OutOfMemory, Report, Row
 use std::alloc::Global;
 
 /// The report of a run: of the words, in the frame rule's order, and the pages' histories of the board on which it ends, and of the
-/// rows of its processors, which ran these commands.
+/// rows of its processors, which ran these commands. Its version is that of the script.
 pub fn report(
     alloc: Global,
     layout: &Layout,
@@ -31,6 +31,7 @@ pub fn report(
     let stop = stop_of(word(layout, words, SharedWord::Stop), lists, rows);
     let cpus = all_lines(alloc, rows)?;
     Ok(Report {
+        version: layout.version,
         stop,
         count,
         files,

@@ -7,6 +7,9 @@ use Rattle.hwp_threads.specs.hwp_geom.contracts.list.List as List
 use Rattle.hwp_threads.specs.hwp_geom.contracts.layout.Layout as Layout
 use Rattle.hwp_top_turns.specs.hwp_script_lines.contracts.command.Command as Command
 use Rattle.hwp_top_turns.specs.hwp_cpu_row.contracts.local.Local as Local
+use Rattle.hwp_top_turns.specs.hwp_report_text.contracts.lines.Answer as Answer
+use Rattle.hwp_top_turns.specs.hwp_cpu_check.contracts.told.EventOutcome as EventOutcome
+use Rattle.hwp_top_turns.specs.hwp_cpu_row.contracts.row.FrameChange as FrameChange
 use Rattle.hwp_top_turns.specs.hwp_cpu_row.contracts.row.Row as Row
 use Rattle.hwp_threads.specs.hwp_page.contracts.entry.Entry as Entry
 use Rattle.hwp_threads.specs.hwp_page.contracts.body.Body as Body
@@ -50,8 +53,17 @@ layout-sync = search (list-sync, sendable, crosses) depth 100 fits 20000
 command-send : IsSend Command.the_field.row
 command-send = search (sendable, crosses) depth 100 fits 20000
 
+answer-send : IsSend Answer.the_field.row
+answer-send = search (sendable, crosses) depth 100 fits 20000
+
+event-outcome-send : IsSend EventOutcome.the_field.row
+event-outcome-send = search (sendable, crosses) depth 100 fits 20000
+
+frame-change-send : IsSend FrameChange.the_field.row
+frame-change-send = search (sendable, crosses) depth 100 fits 20000
+
 row-send : IsSend Row.the_field.row
-row-send = search (list-send, sendable, crosses) depth 100 fits 20000
+row-send = search (list-send, answer-send, event-outcome-send, frame-change-send, sendable, crosses) depth 100 fits 20000
 
 local-send : IsSend Local.the_field.row
 local-send = search (sendable, crosses) depth 100 fits 20000

@@ -52,6 +52,7 @@ module _ (script : Script) (turns : List Played) (state : State) (rows : List (L
     records = records-noted;
     ends = closing.ends;
     lengths = record {
+      version = closing.version;
       lists = valid.one_each;
       cpus = ap (λ (c : List (List CpuLine)). length c) closing.lines ∙ length-map rows (lines_from 0) ∙ ended.count;
       rows_fit = ended.count;

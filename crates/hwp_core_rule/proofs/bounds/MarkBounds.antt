@@ -5,7 +5,7 @@ use Rattle.std.specs.Int.{from_bool}
 use Rattle.std.specs.List.{sum_by}
 use Rattle.hwp_page.specs.hwp_geom.declared.Layout.{Layout}
 use Rattle.hwp_page.specs.hwp_geom.Layout.{IsSound}
-use Rattle.hwp_page.specs.hwp_geom.Limits.{cpu_limit, frame_limit}
+use Rattle.hwp_page.specs.hwp_geom.Limits.{command_limit, cpu_limit, frame_limit}
 use Rattle.hwp_words.specs.Counters.{hardware_of, biased_poisoned_of}
 use Rattle.hwp_words.specs.Frames.{poison_of, cycle_of}
 use Rattle.hwp_core_rule.specs.declared.view.Mark.{Mark}
@@ -25,7 +25,7 @@ use Rattle.hwp_core_rule.proofs.bounds.CycleBounds.{cycles-few}
 
 -- a mark of one kind at most of each frame and each of its cycles
 abbrev pub mark_limit : ℕ
-mark_limit = frame_limit * (cpu_limit * 4096 + 1)
+mark_limit = frame_limit * (cpu_limit * command_limit + 1)
 
 -- marks of one kind, of n frames and k cycles, one at most of each frame and cycle
 module _ (is : MarkKind → Bool) (marks : List (List Mark)) (n k : ℕ) where
@@ -67,7 +67,7 @@ module _ (layout : Layout) (w : Words) (homes : Homes) (views : List View) (soun
   debts = map count_debts_of views
 
   abbrev last : ℕ
-  last = layout.cpus * 4096 + 1
+  last = layout.cpus * command_limit + 1
 
   there : (f : ℕ) → f < layout.frames → slice_get w.frames f ≡ Some (slice_index w.frames f)
   there f less = word-there w.frames f layout.frames wide less
@@ -103,14 +103,14 @@ module _ (layout : Layout) (w : Words) (homes : Homes) (views : List View) (soun
       let some : of is marks layout.frames last m.frame.0 m.cycle m ≤ sum_all (of is marks layout.frames last m.frame.0 m.cycle) marks = all-term (of is marks layout.frames last m.frame.0 m.cycle) marks i j l m at member in
       let most_there : sum_all (of is marks layout.frames last m.frame.0 m.cycle) marks ≤ most m.cycle (slice_index w.frames m.frame.0) = listed m.frame.0 m.cycle inside in
       let past : m.cycle ≤ cycle_of (slice_index w.frames m.frame.0) = due-past m.cycle (slice_index w.frames m.frame.0) (omega (arith, here, some, most_there)) in
-      let few : cycle_of (slice_index w.frames m.frame.0) ≤ layout.cpus * 4096 = cycles-few layout w homes views h m.frame.0 (slice_index w.frames m.frame.0) (there m.frame.0 inside) in
+      let few : cycle_of (slice_index w.frames m.frame.0) ≤ layout.cpus * command_limit = cycles-few layout w homes views h m.frame.0 (slice_index w.frames m.frame.0) (there m.frame.0 inside) in
       (inside, omega (arith, past, few))
 
   all-few : (is : MarkKind → Bool) → ((f c : ℕ) → f < layout.frames → sum_all (of is marks layout.frames last f c) marks ≤ most c (slice_index w.frames f)) → sum_all (λ (m : Mark). from_bool (is m.kind)) marks ≤ mark_limit
   all-few is listed =
       let frames : layout.frames ≤ frame_limit = sound.frames in
       let cpus : layout.cpus ≤ cpu_limit = sound.cpus in
-      let cycles : last ≤ cpu_limit * 4096 + 1 = omega (arith, cpus) in
+      let cycles : last ≤ cpu_limit * command_limit + 1 = omega (arith, cpus) in
       let product : layout.frames * last ≤ mark_limit = mul-le-mul frames cycles in
       let few : sum_all (λ (m : Mark). from_bool (is m.kind)) marks ≤ layout.frames * last = kind-few is marks layout.frames last (of-one is listed) (λ f c less. within f c less) in
       omega (arith, product, few)

@@ -334,7 +334,7 @@ keeps-revive frame seen layout w homes views seat v who content given = which (w
 
     room : cycle_of (get_or w.frames frame.0 0) + 1 < 2 ^ 20
     room =
-        let few : cycle_of (get_or w.frames frame.0 0) ≤ layout.cpus * 4096 = cycles-few layout w homes views given.rule frame.0 (get_or w.frames frame.0 0) there in
+        let few : cycle_of (get_or w.frames frame.0 0) ≤ layout.cpus * command_limit = cycles-few layout w homes views given.rule frame.0 (get_or w.frames frame.0 0) there in
         let cpus : layout.cpus ≤ cpu_limit = given.sound.cpus in
         omega arith
 

@@ -194,6 +194,7 @@ module _ (layout : Layout) (list : List Command) (view : View) (who : Who) where
   table-deeds (commands.Free slot) (answers.NotMapped at) need caused = none view who _ caused.1.made
   table-deeds (commands.Drop page) (answers.DoneAt at) need caused = one _ need _ at _ tt caused.0 refl caused.1.made
   table-deeds (commands.Drop page) (answers.NotResident at) need caused = none view who _ caused.1.made
+  table-deeds (commands.Drop page) (answers.Locked at) need caused = none view who _ caused.1.made
   table-deeds (commands.Drop page) (answers.Dirty at) need caused = none view who _ caused.1.made
   table-deeds (commands.Drop page) (answers.Mapped at) need caused = none view who _ caused.1.made
   table-deeds (commands.Sync page) (answers.DoneAt at) need caused = one _ need _ at _ tt caused.0 refl caused.1.made
@@ -201,9 +202,11 @@ module _ (layout : Layout) (list : List Command) (view : View) (who : Who) where
   table-deeds (commands.Sync page) (answers.BadLines mask at) need caused = none view who _ caused.1.made
   table-deeds (commands.Out page) (answers.DoneAt at) need caused = one _ need _ at _ tt caused.0 refl caused.1.made
   table-deeds (commands.Out page) (answers.NotResident at) need caused = none view who _ caused.1.made
+  table-deeds (commands.Out page) (answers.Locked at) need caused = none view who _ caused.1.made
   table-deeds (commands.Out page) (answers.BadLines mask at) need caused = none view who _ caused.1.made
   table-deeds (commands.Fsync file) answers.Done need caused = none view who _ caused
   table-deeds (commands.Fsync file) (answers.Eio more) need caused = none view who _ caused.0
+  table-deeds (commands.Open file) (answers.Opened word) need caused = none view who _ caused
   table-deeds (commands.Prctl thread args) (answers.Gone page) need caused = none view who _ caused.1
   table-deeds (commands.Prctl thread args) answer need caused = none view who _ caused.made
   table-deeds (commands.Log status addr misc) answers.Done need caused = none view who _ caused

@@ -68,6 +68,7 @@ module _ (layout : Layout) (list : List Command) (view : View) (who : Who) (proc
   table-going (commands.Sync page) answer is caused = absurd (none-some process is)
   table-going (commands.Out page) answer is caused = absurd (none-some process is)
   table-going (commands.Fsync file) answer is caused = absurd (none-some process is)
+  table-going (commands.Open file) answer is caused = absurd (none-some process is)
   table-going (commands.Log status addr misc) answer is caused = absurd (none-some process is)
   table-going (commands.Bad frame line) answer is caused = absurd (none-some process is)
   table-going (commands.Weak frame line) answer is caused = absurd (none-some process is)

@@ -46,7 +46,10 @@ situation_at (suc (suc zero)) = situations.FileClean
 situation_at (suc (suc (suc zero))) = situations.FileDirty
 situation_at (suc (suc (suc (suc zero)))) = situations.AnonOnly
 situation_at (suc (suc (suc (suc (suc zero))))) = situations.SwapClean
-situation_at (suc (suc (suc (suc (suc (suc n)))))) = situations.SwapDirty
+situation_at (suc (suc (suc (suc (suc (suc zero)))))) = situations.SwapDirty
+situation_at (suc (suc (suc (suc (suc (suc (suc zero))))))) = situations.LockedClean
+situation_at (suc (suc (suc (suc (suc (suc (suc (suc zero)))))))) = situations.LockedFile
+situation_at (suc (suc (suc (suc (suc (suc (suc (suc (suc n))))))))) = situations.LockedAnon
 
 at-number : (s : Situation) → situation_at (situation_number s) ≡ s
 at-number situations.Free = refl
@@ -56,6 +59,9 @@ at-number situations.FileDirty = refl
 at-number situations.AnonOnly = refl
 at-number situations.SwapClean = refl
 at-number situations.SwapDirty = refl
+at-number situations.LockedClean = refl
+at-number situations.LockedFile = refl
+at-number situations.LockedAnon = refl
 
 pub same-situation : (s t : Situation) → (situation_number s == situation_number t) ≡ true → s ≡ t
 same-situation s t is = sym (at-number s) ∙ ap situation_at (eqb-true (situation_number s) (situation_number t) is) ∙ at-number t

@@ -1,9 +1,10 @@
 -- What the report says is lost of a file are the losses in the histories of its pages, and the numbers of handles agree with them.
-use Rattle.std.proofs.Common.{◌≡◌, ◌≢◌, ℕ, zero, suc, ◌+◌, ◌<◌, ◌≤◌, ◌==◌, ◌&&◌, nat_lt, Bool, true, false, cond, List, [], ◌∷◌, Option, Some, length, map, option_and_then, slice_get, take, unwrap_or, refl, sym, ap, ◌∙◌, subst, arith}
+use Rattle.std.proofs.Common.{◌≡◌, ◌≢◌, ◌⊎◌, inl, inr, ℕ, zero, suc, ◌+◌, ◌<◌, ◌≤◌, ◌==◌, ◌&&◌, nat_lt, Bool, true, false, cond, List, [], ◌∷◌, Option, Some, length, map, option_and_then, slice_get, take, unwrap_or, refl, sym, ap, ◌∙◌, subst, arith}
 use Rattle.std.specs.Int.{from_bool}
 use Rattle.std.specs.List.{sum_by, zip}
 use Rattle.std.proofs.lemmas.Bool.{eqb-true, false_from_ne_true}
 use Rattle.std.proofs.lemmas.List.Sums.{sum_by-cons, sum_by-le-sum_by}
+use Rattle.std.proofs.lemmas.Option.{slice_get_within}
 use Rattle.hwp_law_run.specs.hwp_geom.declared.Cpu.{Cpu}
 use Rattle.hwp_law_run.specs.hwp_geom.declared.FileNo.{FileNo}
 use Rattle.hwp_law_run.specs.hwp_geom.declared.Layout.{Layout}
@@ -11,6 +12,7 @@ use Rattle.hwp_law_run.specs.hwp_geom.declared.Page.{Page}
 use Rattle.hwp_law_run.specs.hwp_geom.declared.PageKind.{PageKind}
 use Rattle.hwp_law_run.specs.hwp_geom.declared.Who.{Who}
 use Rattle.hwp_law_run.specs.hwp_page.declared.Entry.{Entry}
+use Rattle.hwp_law_run.specs.hwp_page.Orders.{IsEarlier}
 use Rattle.hwp_law_run.specs.hwp_page.Losses.{file_behind, is_loss, is_same_file}
 use Rattle.hwp_law_run.specs.hwp_core_rule.declared.Debts.{Debts}
 use Rattle.hwp_law_run.specs.hwp_core_rule.declared.InHand.{InHand}
@@ -31,23 +33,22 @@ use Rattle.hwp_law_run.proofs.of_hwp_core_rule.MoveKeeps.{shaped}
 use Rattle.hwp_law_run.specs.hwp_core_task.Boards.{Played, view_of}
 use Rattle.hwp_law_run.specs.hwp_core_task.Known.{Saw, earlier_losses}
 use Rattle.hwp_law_run.specs.hwp_script_read.declared.Command.{Command}
-use Rattle.hwp_law_run.specs.hwp_script_read.declared.Command.TheVariants as commands
 use Rattle.hwp_law_run.specs.hwp_script_read.declared.Script.{Script}
 use Rattle.hwp_law_run.specs.hwp_report_text.declared.Answer.{Answer}
-use Rattle.hwp_law_run.specs.hwp_report_text.declared.Answer.TheVariants as answers
 use Rattle.hwp_law_run.specs.hwp_report_text.declared.CpuLine.{CpuLine}
 use Rattle.hwp_law_run.specs.hwp_report_text.declared.Report.{Report}
-use Rattle.hwp_law_run.specs.hwp_law.Losses.{IsNumber, LossesAgree, answered, found_in, is_lost, is_lost_before, losses_such, number_by, numbers_after, tells_number}
+use Rattle.hwp_law_run.specs.hwp_law.Losses.{IsNumber, LossesAgree, answered, found_in, is_lost, is_lost_before, losses_such, numbers_after, tells_number}
 use Rattle.hwp_law_run.proofs.Histories.{balanced, no-bodies}
 use Rattle.hwp_law_run.proofs.Homes.{there-is}
 use Rattle.hwp_law_holds.specs.Runs.{IsRunOf}
-use Rattle.hwp_law_holds.proofs.Handles.{numbers-next}
 use Rattle.hwp_law_holds.proofs.HomePages.{home-sum}
 use Rattle.hwp_law_holds.proofs.LastBoard.{ended, nothing}
 use Rattle.hwp_law_holds.proofs.RunEnds.{IsEnd}
+use Rattle.hwp_law_holds.proofs.RunKeeps.{run-keeps}
 use Rattle.hwp_law_holds.proofs.Seats.{seat-place}
 use Rattle.hwp_law_holds.proofs.Sums.{list-below, sum-one}
-use Rattle.hwp_law_holds.proofs.losses.NumbersTold.{number-known, zip-at}
+use Rattle.hwp_law_holds.proofs.losses.LossesSeen.{AreRisingSights, sights-kept}
+use Rattle.hwp_law_holds.proofs.losses.NumbersTold.{IsToldBefore, number-known, told-before, zip-at}
 
 zip-length : {A B : Type 0} (xs : List A) (ys : List B) → length xs ≡ length ys → length {A = A × B} (zip xs ys) ≡ length xs
 zip-length [] ys same = refl
@@ -87,11 +88,6 @@ weigh-found layout file test page place (e ∷ es) =
     omega (arith, rest, all)
 
 -- ---- numbers
-
--- a command leaves the number of a handle, or raises it
-never-falls : (file : FileNo) (n : ℕ) (command : Command) (answer : Answer) → n ≤ number_by file n command answer
-never-falls file n (commands.Fsync other) (answers.Eio more) = omega arith
-never-falls file n command answer = omega arith
 
 -- an entry that is a loss by an earlier command of the processor is one by an earlier command
 before-than : (same loss cpu less : Bool) → cond same (from_bool (loss && (cpu && less))) 0 ≤ cond same (from_bool (loss && less)) 0
@@ -190,22 +186,43 @@ module _ (script : Script) (seat : Cpu → ℕ) (turns : List Played) (last : St
               let at = seat-place script.layout seat last end.board.holds end.seated i v m.entry.who there ((end.board.holds.rule.processors.commands.own i v there).made j m made) in
               differs (at.1 ∙ ap (λ (n : ℕ). seat (record { 0 = n })) (eqb-true m.entry.who.cpu.0 cpu.0 yes_)))))
 
+  -- what an earlier command of the processor was shown of the losses is at most what a later one was
+  rising : (cpu : Cpu) → cpu.0 < script.layout.cpus → (file : FileNo) (j i n m : ℕ) → j < i → Saw (view_of last (seat cpu)) (record { cpu = cpu; seq = j }) (places.Loss file) n → Saw (view_of last (seat cpu)) (record { cpu = cpu; seq = i }) (places.Loss file) m → n ≤ m
+  rising cpu inside file j i n m less first second =
+      let s : Sight = first.1 in
+      let t : Sight = second.1 in
+      let each = run-keeps script.layout (λ (b : State) (v : View). AreRisingSights v.sights) (sights-kept script.layout) turns last run.rule run.moves (seat cpu) (view_of last (seat cpu)) (end.seated.there cpu inside) in
+      let earlier : IsEarlier s.stamp.who t.stamp.who = subst (λ (w : Who). IsEarlier w t.stamp.who) (sym first.3.0) (subst (IsEarlier (record { cpu = cpu; seq = j })) (sym second.3.0) (refl, less)) in
+      let at : s.word ≤ t.word = each second.0 t second.2 first.0 s first.2 file first.3.1 second.3.1 earlier in
+      let low : s.word ≡ n = first.3.2 in
+      let high : t.word ≡ m = second.3.2 in
+      omega (arith, at, low, high)
+
   -- the number that an answer tells agrees with the losses
   is-number : (file : FileNo) (cpu : Cpu) (list : List Command) (rows : List CpuLine) → file.0 < script.layout.files → slice_get script.lists cpu.0 ≡ Some list → slice_get report.cpus cpu.0 ≡ Some rows
       → (i : ℕ) (p : Command × Answer) → slice_get {X = Command × Answer} (answered list rows) i ≡ Some p → tells_number file p.0 p.1 ≡ true → IsNumber script report file cpu (answered list rows) i
   is-number file cpu list rows within list_is rows_is i p there tells =
       let known = number-known script seat last report end cpu list rows list_is rows_is file i p there tells in
       let now : ℕ = numbers_after file 0 (take (i + 1) (answered list rows)) in
-      let was : ℕ = numbers_after file 0 (take i (answered list rows)) in
-      let next : now ≡ number_by file was p.0 p.1 = ap (λ (k : ℕ). numbers_after file 0 (take k (answered list rows))) (let same : i + 1 ≡ suc i = omega arith in same) ∙ numbers-next file 0 (answered list rows) i p there in
-      let rises : was ≤ number_by file was p.0 p.1 = never-falls file was p.0 p.1 in
       let covers : earlier_losses script.layout file (record { cpu = cpu; seq = i }) (view_of last (seat cpu)) ≤ now = known.1.1 in
       let earlier : losses_such (is_lost_before (record { cpu = cpu; seq = i })) script report file ≤ earlier_losses script.layout file (record { cpu = cpu; seq = i }) (view_of last (seat cpu)) = by-earlier file cpu known.0 i in
       record {
-        rises = omega (arith, next, rises);
+        rises = from-zero (told-before file (answered list rows) i (let inside : i < length {A = Command × Answer} (answered list rows) = slice_get_within (answered list rows) i p there in omega (arith, inside)));
         within = at-most file cpu known.0 (record { cpu = cpu; seq = i }) now within known.1.0;
         covers = omega (arith, covers, earlier);
       }
+    where
+      -- what an earlier command told, its step showed, and the word has not fallen since
+      not-above : (j : ℕ) (q : Command × Answer) → j < i → slice_get {X = Command × Answer} (answered list rows) j ≡ Some q → tells_number file q.0 q.1 ≡ true
+          → numbers_after file 0 (take (j + 1) (answered list rows)) ≤ numbers_after file 0 (take (i + 1) (answered list rows))
+      not-above j q less at told =
+          let first = number-known script seat last report end cpu list rows list_is rows_is file j q at told in
+          let second = number-known script seat last report end cpu list rows list_is rows_is file i p there tells in
+          rising cpu first.0 file j i (numbers_after file 0 (take (j + 1) (answered list rows))) (numbers_after file 0 (take (i + 1) (answered list rows))) less first.1.0 second.1.0
+
+      from-zero : (numbers_after file 0 (take i (answered list rows)) ≡ 0) ⊎ IsToldBefore file (answered list rows) i → numbers_after file 0 (take i (answered list rows)) ≤ numbers_after file 0 (take (i + 1) (answered list rows))
+      from-zero (inl none) = omega (arith, none)
+      from-zero (inr told) = subst (λ (n : ℕ). n ≤ numbers_after file 0 (take (i + 1) (answered list rows))) told.same (not-above told.place told.pair told.before told.there told.tells)
 
   pub losses-lawful : LossesAgree script report
   losses-lawful = record {

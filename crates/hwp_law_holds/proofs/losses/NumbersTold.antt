@@ -1,5 +1,6 @@
--- The number of a handle that an answer of the report tells is one that its processor's seat knows.
-use Rattle.std.proofs.Common.{◌≡◌, ℕ, zero, suc, ◌+◌, ◌<◌, true, List, [], ◌∷◌, Some, filter_map, map, slice_get, take, refl, sym, ap, ◌∙◌, subst}
+-- The number of a handle that an answer of the report tells is one that its processor's seat knows. Before a command it is the one that an
+-- earlier command told, or 0.
+use Rattle.std.proofs.Common.{◌≡◌, ◌⊎◌, inl, inr, ℕ, zero, suc, ◌+◌, ◌<◌, ◌≤◌, ◌==◌, Bool, true, false, cond, List, [], ◌∷◌, Some, filter_map, length, map, slice_get, take, refl, sym, ap, ◌∙◌, subst, arith}
 use Rattle.std.specs.List.{zip}
 use Rattle.std.proofs.lemmas.Option.{none-some, same_Some}
 use Rattle.hwp_law_run.specs.hwp_geom.declared.Cpu.{Cpu}
@@ -10,15 +11,19 @@ use Rattle.hwp_law_run.specs.hwp_core_rule.declared.View.{View}
 use Rattle.hwp_law_run.proofs.of_hwp_core_rule.Lists.{map-was}
 use Rattle.hwp_law_run.specs.hwp_core_task.Boards.{view_of}
 use Rattle.hwp_law_run.specs.hwp_script_read.declared.Command.{Command}
+use Rattle.hwp_law_run.specs.hwp_script_read.declared.Command.TheVariants as commands
 use Rattle.hwp_law_run.specs.hwp_script_read.declared.Script.{Script}
 use Rattle.hwp_law_run.specs.hwp_report_text.declared.Answer.{Answer}
+use Rattle.hwp_law_run.specs.hwp_report_text.declared.Answer.TheVariants as answers
 use Rattle.hwp_law_run.specs.hwp_report_text.declared.CpuLine.{CpuLine}
 use Rattle.hwp_law_run.specs.hwp_report_text.declared.Report.{Report}
 use Rattle.hwp_law_run.specs.hwp_law.Lines.{AnswerLine, answer_in}
-use Rattle.hwp_law_run.specs.hwp_law.Losses.{answered, numbers_after, tells_number}
+use Rattle.hwp_law_run.specs.hwp_law.Losses.{answered, number_by, numbers_after, tells_number}
+use Rattle.hwp_law_run.proofs.Homes.{there-is}
 use Rattle.hwp_cpu_row.specs.declared.Row.{Row}
 use Rattle.hwp_law_holds.specs.Handles.{KnowsNumber, KnowsNumbers, answers_by}
 use Rattle.hwp_law_holds.specs.Rows.{lines_from}
+use Rattle.hwp_law_holds.proofs.Handles.{numbers-next}
 use Rattle.hwp_law_holds.proofs.RowLines.{answers-split}
 use Rattle.hwp_law_holds.proofs.RunEnds.{IsEnd, rows-of-lines}
 
@@ -57,3 +62,53 @@ module _ (script : Script) (seat : Cpu → ℕ) (last : State) (report : Report)
         subst (λ (l : List (Command × Answer)). slice_get {X = Command × Answer} l i ≡ Some p → KnowsNumber script.layout (view_of last (seat cpu)) (record { cpu = cpu; seq = i }) file (numbers_after file 0 (take (i + 1) l))) pairs
             (λ at. known-by-rows script.layout (view_of last (seat cpu)) cpu list has.own knows file i p at tells) there,
       )
+
+-- ---- a handle's number before a command
+
+-- a command that doesn't tell the number leaves it
+untold : (file : FileNo) (n : ℕ) (command : Command) (answer : Answer) → tells_number file command answer ≡ false → number_by file n command answer ≡ n
+untold file n (commands.Fsync other) (answers.Eio more) none = let none_more : cond (other.0 == file.0) more 0 ≡ 0 = ap (λ (b : Bool). cond b more 0) none in omega (arith, none_more)
+untold file n (commands.Open other) (answers.Opened word) none = ap (λ (b : Bool). cond b word n) none
+untold file n command answer none = refl
+
+-- the number before the i-th command is the one that an earlier command told
+pub record IsToldBefore (file : FileNo) (list : List (Command × Answer)) (i : ℕ) : Type 0 where
+  pub place : ℕ
+  pub before : place < i
+  pub pair : Command × Answer
+  pub there : slice_get {X = Command × Answer} list place ≡ Some pair
+  pub tells : tells_number file pair.0 pair.1 ≡ true
+  pub same : numbers_after file 0 (take (place + 1) list) ≡ numbers_after file 0 (take i list)
+
+-- or it is 0, where none did
+pub told-before : (file : FileNo) (list : List (Command × Answer)) (i : ℕ) → i ≤ length {A = Command × Answer} list → (numbers_after file 0 (take i list) ≡ 0) ⊎ IsToldBefore file list i
+told-before file list zero within = inl refl
+told-before file list (suc i) within =
+    let one : suc i ≤ length {A = Command × Answer} list = within in
+    let inside : i < length {A = Command × Answer} list = omega (arith, one) in
+    let less : i ≤ length {A = Command × Answer} list = omega (arith, one) in
+    let p = there-is {A = Command × Answer} list i inside in
+    which (tells_number file p.0.0 p.0.1) p.0 refl p.1 (told-before file list i less)
+  where
+    next : (p : Command × Answer) → slice_get {X = Command × Answer} list i ≡ Some p → tells_number file p.0 p.1 ≡ false → numbers_after file 0 (take (suc i) list) ≡ numbers_after file 0 (take i list)
+    next p there none = numbers-next file 0 list i p there ∙ untold file (numbers_after file 0 (take i list)) p.0 p.1 none
+
+    which : (tells : Bool) (p : Command × Answer) → tells_number file p.0 p.1 ≡ tells → slice_get {X = Command × Answer} list i ≡ Some p → (numbers_after file 0 (take i list) ≡ 0) ⊎ IsToldBefore file list i
+        → (numbers_after file 0 (take (suc i) list) ≡ 0) ⊎ IsToldBefore file list (suc i)
+    which true p tells there was = inr (record {
+      place = i;
+      before = omega arith;
+      pair = p;
+      there = there;
+      tells = tells;
+      same = ap (λ (k : ℕ). numbers_after file 0 (take k list)) (let one : i + 1 ≡ suc i = omega arith in one);
+    })
+    which false p none there (inl zero_) = inl (next p there none ∙ zero_)
+    which false p none there (inr told) = inr (record {
+      place = told.place;
+      before = omega (arith, told.before);
+      pair = told.pair;
+      there = told.there;
+      tells = told.tells;
+      same = told.same ∙ sym (next p there none);
+    })

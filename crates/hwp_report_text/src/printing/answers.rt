@@ -61,6 +61,7 @@ fn put_answer(out: &mut String, seq: u32, answer: Answer) -> Result<(), OutOfMem
         Answer::NotMapped(at) => put_place(out, seq, "notmapped", at),
         Answer::Dirty(at) => put_place(out, seq, "dirty", at),
         Answer::Mapped(at) => put_place(out, seq, "mapped", at),
+        Answer::Locked(at) => put_place(out, seq, "locked", at),
         Answer::BadLines(mask, at) => put_bad_lines(out, seq, mask, at),
         Answer::Eio(lost) => put_number(out, seq, "eio", lost),
         Answer::Opened(lost) => put_number(out, seq, "opened", lost),

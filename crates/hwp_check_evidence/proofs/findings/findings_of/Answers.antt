@@ -1,10 +1,11 @@
-use Rattle.std.proofs.Common.{◌≡◌, ℕ, ◌+◌, ◌≤◌, length, refl, ap, arith}
+use Rattle.std.proofs.Common.{◌≡◌, ℕ, ◌+◌, ◌≤◌, length, replicate, refl, ap, ◌∙◌, arith}
+use Rattle.hwp_check_evidence.specs.Ends.{never}
 use Rattle.hwp_check_evidence.proofs.FindingLaws.{found-all, found-more, found-none}
 use Rattle.hwp_check_evidence.proofs.findings.findings_of.Goals as goal
 
 pub loop-entries-init : goal.loop-entries-init
 loop-entries-init c =
-    (refl, found-none c.args.layout.now c.args.named.now c.args.cpu c.args.commands c.args.pages.now c.in_ok-found.found c.in_ok-found.ensures.ends c.in_ok-found.ensures.ended c.in_ok-found.ensures.spans c.in_ok-found.ensures.others)
+    (refl, found-none c.args.layout.now c.args.named.now c.args.cpu c.args.commands c.args.pages.now c.in_ok-found.found c.in_ok-found.ensures.ends (c.in_ok-found.ensures.ended ∙ ap (λ (n : ℕ). replicate n never) c.processes_of-processes.ensures) c.in_ok-found.ensures.spans c.in_ok-found.ensures.others)
 
 pub loop-entries-preserved : goal.loop-entries-preserved
 loop-entries-preserved c =

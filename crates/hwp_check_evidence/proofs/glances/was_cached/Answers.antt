@@ -1,4 +1,4 @@
-use Rattle.std.proofs.Common.{◌≡◌, true, ap, ◌∙◌, sym}
+use Rattle.std.proofs.Common.{◌≡◌, Bool, true, ap, ◌∙◌, sym}
 use Rattle.std.specs.Option.{option_copied}
 use Rattle.hwp_check_evidence.specs.declared.glances.Glance.{Glance}
 use Rattle.hwp_check_evidence.proofs.GlanceLaws.{cached-by, had-by, had-never}
@@ -6,7 +6,7 @@ use Rattle.hwp_check_evidence.proofs.glances.was_cached.Goals as goal
 
 pub returns-in-Some : goal.returns-in-Some
 returns-in-Some c =
-    had-by c.args.layout.now c.args.pages.now c.args.all.now c.requires c.args.at (λ (g : Glance). g.cached) (λ s. s.cached ≡ true) cached-by c.in-Some.glance.now (sym c.glance_at.ensures ∙ ap option_copied c.in-Some.is)
+    had-by c.args.layout.now c.args.pages.now c.args.all.now c.requires c.args.at (λ (g : Glance) (locked : Bool). g.cached) (λ s. s.cached ≡ true) cached-by c.in-Some.glance.now (sym c.glance_at.ensures ∙ ap option_copied c.in-Some.is)
 
 pub returns-in-None : goal.returns-in-None
 returns-in-None c = had-never c.args.layout.now c.args.pages.now c.args.all.now c.requires c.args.at (λ s. s.cached ≡ true) (sym c.glance_at.ensures ∙ ap option_copied c.in-None.is)

@@ -1,4 +1,4 @@
-use Rattle.std.proofs.Common.{◌↔◌, ◌&&◌, Bool, IsTrue, ap, ◌∙◌, sym, subst}
+use Rattle.std.proofs.Common.{◌↔◌, ◌&&◌, not, Bool, IsTrue, ap, ◌∙◌, sym, subst}
 use Rattle.std.specs.Option.{option_copied}
 use Rattle.hwp_law.specs.hwp_page.Refusals.{IsDirty}
 use Rattle.hwp_law.specs.States.{HadState}
@@ -8,8 +8,9 @@ use Rattle.hwp_check_evidence.proofs.glances.was_dirty.Goals as goal
 
 pub returns-in-Some : goal.returns-in-Some
 returns-in-Some c =
-    subst (λ (b : Bool). IsTrue b ↔ HadState c.args.layout.now c.args.pages.now c.args.at IsDirty) (sym c.is_dirty.ensures)
-    (had-by c.args.layout.now c.args.pages.now c.args.all.now c.requires c.args.at (λ (g : Glance). g.cached && g.unsaved) IsDirty dirty-by c.in-Some.glance.now (sym c.glance_at.ensures ∙ ap option_copied c.in-Some.is))
+    subst (λ (b : Bool). IsTrue b ↔ HadState c.args.layout.now c.args.pages.now c.args.at IsDirty)
+    (sym (c.is_dirty.ensures ∙ ap (λ (locked : Bool). (c.in-Some.glance.now.cached && c.in-Some.glance.now.unsaved) && not locked) c.is_locked.ensures))
+    (had-by c.args.layout.now c.args.pages.now c.args.all.now c.requires c.args.at (λ (g : Glance) (locked : Bool). (g.cached && g.unsaved) && not locked) IsDirty dirty-by c.in-Some.glance.now (sym c.glance_at.ensures ∙ ap option_copied c.in-Some.is))
 
 pub returns-in-None : goal.returns-in-None
 returns-in-None c = had-never c.args.layout.now c.args.pages.now c.args.all.now c.requires c.args.at IsDirty (sym c.glance_at.ensures ∙ ap option_copied c.in-None.is)

@@ -1,11 +1,16 @@
-use Rattle.std.proofs.Common.{ap, ◌∙◌, sym}
+use Rattle.std.proofs.Common.{◌↔◌, ◌&&◌, not, Bool, IsTrue, ap, ◌∙◌, sym, subst}
 use Rattle.std.specs.Option.{option_copied}
 use Rattle.hwp_law.specs.hwp_page.Refusals.{IsMapped}
-use Rattle.hwp_check_evidence.proofs.GlanceLaws.{had-never, mapped-is}
+use Rattle.hwp_law.specs.States.{HadState}
+use Rattle.hwp_check_evidence.specs.declared.glances.Glance.{Glance}
+use Rattle.hwp_check_evidence.proofs.GlanceLaws.{had-by, had-never, mapped-by}
 use Rattle.hwp_check_evidence.proofs.glances.was_mapped.Goals as goal
 
 pub returns-in-Some : goal.returns-in-Some
-returns-in-Some c = mapped-is c.args.layout.now c.args.pages.now c.args.all.now c.requires c.args.at c.in-Some.glance.now c.is_mapped.result (sym c.glance_at.ensures ∙ ap option_copied c.in-Some.is) c.is_mapped.ensures
+returns-in-Some c =
+    subst (λ (b : Bool). IsTrue b ↔ HadState c.args.layout.now c.args.pages.now c.args.at IsMapped)
+    (sym (c.is_mapped.ensures ∙ ap (λ (locked : Bool). (c.in-Some.glance.now.cached && (not c.in-Some.glance.now.unsaved && c.in-Some.glance.now.mapped)) && not locked) c.is_locked.ensures))
+    (had-by c.args.layout.now c.args.pages.now c.args.all.now c.requires c.args.at (λ (g : Glance) (locked : Bool). (g.cached && (not g.unsaved && g.mapped)) && not locked) IsMapped mapped-by c.in-Some.glance.now (sym c.glance_at.ensures ∙ ap option_copied c.in-Some.is))
 
 pub returns-in-None : goal.returns-in-None
 returns-in-None c = had-never c.args.layout.now c.args.pages.now c.args.all.now c.requires c.args.at IsMapped (sym c.glance_at.ensures ∙ ap option_copied c.in-None.is)

@@ -1,10 +1,11 @@
-use Rattle.std.proofs.Common.{rules, arith, ◌≡◌, ◌<◌, Some, slice_get, get_or, refl, ap}
+use Rattle.std.proofs.Common.{rules, arith, ◌≡◌, ◌<◌, Some, slice_get, get_or, refl, ap, ◌∙◌}
 use Rattle.std.proofs.lemmas.Option.{slice_get_read}
+use Rattle.hwp_check_rules.specs.hwp_page.Step.{opening_of}
 use Rattle.hwp_check_state.proofs.WalkLaws.{maps-within, walked-end, walked-next, walked-room, walked-start, walked-wrong}
 use Rattle.hwp_check_state.proofs.histories.walk.Goals as goal
 
 pub loop-entry-init : goal.loop-entry-init
-loop-entry-init c = walked-start c.args.script.now c.args.page c.args.entries.now c.args.heading c.args.kind c.opening-state.result c.requires.declared c.opening-state.ensures
+loop-entry-init c = walked-start c.args.script.now c.args.page c.args.entries.now c.args.heading c.args.kind c.opening-state.result c.requires.declared (c.opening-state.ensures ∙ ap (opening_of c.args.kind) c.is_locked.ensures)
 
 pub returns-then-not-is_right : goal.returns-then-not-is_right
 returns-then-not-is_right c =

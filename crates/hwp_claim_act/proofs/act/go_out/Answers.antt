@@ -6,6 +6,6 @@ returns c = record {
   entered = c.enter-entered.result;
   made = c.enter-entered.ensures;
   clear = c.new-clear.result;
-  begun = rw (c.copy-maps.ensures, c.state.ensures.value, c.bars-barred.ensures, c.situation.ensures, c.state-2.ensures.value) at c.new-clear.ensures;
+  begun = rw (c.hold-maps.ensures, c.state.ensures.value, c.bars-barred.ensures, c.situation.ensures, c.state-2.ensures.value) at c.new-clear.ensures;
   next_is = c.after_clear.ensures;
 }

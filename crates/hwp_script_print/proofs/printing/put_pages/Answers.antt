@@ -5,4 +5,4 @@ use Rattle.hwp_script_print.proofs.printing.put_pages.Goals as goal
 
 pub loop-number-preserved : goal.loop-number-preserved
 loop-number-preserved c =
-    put_numbered page_forms _ _ _ c.args.pages.now c.loop-number.number _ _ (omega arith) c.loop-number.invariant c.in_ok-put_page.ensures refl
+    put_numbered (page_forms c.args.locked.now) _ _ _ c.args.pages.now c.loop-number.number _ _ (omega arith) c.loop-number.invariant c.in_ok-put_page.ensures refl

@@ -34,6 +34,6 @@ all_lines-requires c = record { tellable = c.requires.ended.1.ended.tellable }
 
 pub returns : goal.returns
 returns c s is =
-    outcome-closes is (record { stop = c.stop_of-stop.result; count = c.poisoned_frames-count.result; files = c.in_ok-files.files; frames = c.in_ok-frames.frames; pages = c.args.pages; cpus = c.in_ok-cpus.cpus })
+    outcome-closes is (record { version = c.args.layout.now.version; stop = c.stop_of-stop.result; count = c.poisoned_frames-count.result; files = c.in_ok-files.files; frames = c.in_ok-frames.frames; pages = c.args.pages; cpus = c.in_ok-cpus.cpus }) refl
     (subst (λ (n : List (List Note)). AreLinesBy (words_of c.args.layout.now c.args.words.now) n c.args.layout.now.frames c.in_ok-frames.frames) (c.as_slice.ensures ∙ c.in_ok-notes.ensures) c.in_ok-frames.ensures)
     c.in_ok-files.ensures c.poisoned_frames-count.ensures (subst (λ (w : ℕ). IsStopBy w c.args.lists.now c.args.rows.now c.stop_of-stop.result) c.word.ensures c.stop_of-stop.ensures) refl c.in_ok-cpus.ensures

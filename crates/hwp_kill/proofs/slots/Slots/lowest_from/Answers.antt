@@ -11,4 +11,4 @@ loop-at-preserved c = SearchedTo-next c.loop-at.invariant c.in_default.ensures.l
 
 pub returns-clause-lowest : goal.returns-clause-lowest
 returns-clause-lowest c =
-    rw (← c.self.view_is) (none_found c.loop-at.invariant (omega arith))
+    rw (← c.self.view_is) (none_found c.loop-at.invariant c.self.invariant (omega arith))

@@ -9,5 +9,5 @@ pub returns : goal.returns
 returns c =
     let k = clean_kernel c.requires.clean in
     next_sums _ (forms.Kernel c.args.frame) _ _ c.requires.sums (k.placed.late)
-    refl refl refl (ap length c.mark.ensures ∙ length-set c.args.self.now.kernel.items c.args.frame true)
+    refl refl refl refl refl (ap length c.mark.ensures ∙ length-set c.args.self.now.kernel.items c.args.frame true)
     (rw c.mark.ensures (one_mark c.args.frame c.requires.sums k.declared)) refl refl refl refl refl refl refl refl refl refl (sym (append-nil _)) c.requires.sums.within refl

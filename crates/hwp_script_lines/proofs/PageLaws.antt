@@ -1,0 +1,122 @@
+-- The words of a page, with and without `locked` at the end.
+use Rattle.std.proofs.Common.{ℕ, ◌≡◌, ◌≢◌, ◌<◌, ◌+◌, ◌⊎◌, inl, inr, ◌++◌, true, false, zero, suc, List, [], ◌∷◌, length, get_or, codes, decimal, refl, sym, ap, subst, ◌∙◌, arith}
+use Rattle.std.proofs.lemmas.List.{append-nil, length-append}
+use Rattle.std.specs.Fmt.{digits}
+use Rattle.hwp_geom.specs.Limits.{number}
+use Rattle.hwp_geom.specs.declared.Version.{Version}
+use Rattle.hwp_geom.specs.declared.Version.TheVariants as versions
+use Rattle.hwp_script_lines.specs.Numbers.{IsNumberWord}
+use Rattle.hwp_script_lines.specs.Grammar.{Fits, IsSentence, HasShape, HasPageShape, HasLockedShape, HaveNumbers, page_keyword}
+use Rattle.hwp_script_lines.specs.Misfits.{ArePageWords, IsPageMisfit, IsLockedFront, IsSentenceMisfit}
+use Rattle.hwp_script_lines.specs.declared.script_line.ScriptLine.TheVariants as forms
+use Rattle.hwp_script_lines.specs.declared.script_line.Backing.{Backing}
+use Rattle.hwp_script_lines.specs.declared.script_line.Backing.TheVariants as backings
+use Rattle.hwp_script_lines.specs.declared.numbers.Misfit.{Misfit}
+use Rattle.hwp_script_lines.specs.declared.numbers.Misfit.TheVariants as misfits
+
+-- the digits of both versions
+pub one_digit : decimal (number versions.One) ≡ codes "1"
+unfolding digits
+one_digit = refl
+
+pub two_digit : decimal (number versions.Two) ≡ codes "2"
+unfolding digits
+two_digit = refl
+
+pub no_version : (word : List ℕ) → (word ≡ codes "1" → ⊥) → (word ≡ codes "2" → ⊥) → (v : Version) → word ≡ decimal (number v) → ⊥
+no_version word one two versions.One e = one (e ∙ one_digit)
+no_version word one two versions.Two e = two (e ∙ two_digit)
+
+fits_locked : (q : ℕ) (b : Backing) → Fits (forms.Page q b false) → Fits (forms.Page q b true)
+fits_locked q backings.Anon h = h
+fits_locked q (backings.File n x) h = h
+
+pub plain_page : (ws : List (List ℕ)) (q : ℕ) (b : Backing) → ArePageWords ws (q, b) → IsSentence page_keyword ws (forms.Page q b false)
+plain_page ws q b h = record { kind = refl; fits = h.fits; same = h.same ∙ sym (append-nil _) }
+
+pub locked_page : (ws front : List (List ℕ)) (q : ℕ) (b : Backing) → IsLockedFront ws front → ArePageWords front (q, b) → IsSentence page_keyword ws (forms.Page q b true)
+locked_page ws front q b f h = record { kind = refl; fits = fits_locked q b h.fits; same = f.same ∙ ap (λ us. us ++ codes "locked" ∷ []) h.same }
+
+-- the words before the last one
+before : (front : List (List ℕ)) (w : List ℕ) (i : ℕ) → i < length front → get_or (front ++ w ∷ []) i [] ≡ get_or front i []
+before [] w i l = absurd (omega (arith, l))
+before (u ∷ us) w zero l = refl
+before (u ∷ us) w (suc i) l = before us w i (omega (arith, l))
+
+last : (front : List (List ℕ)) (w : List ℕ) (i : ℕ) → i ≡ length front → get_or (front ++ w ∷ []) i [] ≡ w
+last [] w zero e = refl
+last [] w (suc i) e = absurd (omega (arith, e))
+last (u ∷ us) w zero e = absurd (omega (arith, e))
+last (u ∷ us) w (suc i) e = last us w i (omega (arith, e))
+
+at_front : {ws front : List (List ℕ)} → IsLockedFront ws front → (i : ℕ) → i < length front → get_or ws i [] ≡ get_or front i []
+at_front {ws} {front} f i l = ap (λ us. get_or us i []) f.same ∙ before front (codes "locked") i l
+
+at_end : {ws front : List (List ℕ)} → IsLockedFront ws front → (i : ℕ) → i ≡ length front → get_or ws i [] ≡ codes "locked"
+at_end {ws} {front} f i e = ap (λ us. get_or us i []) f.same ∙ last front (codes "locked") i e
+
+longer : {ws front : List (List ℕ)} → IsLockedFront ws front → length ws ≡ length front + 1
+longer {ws} {front} f = ap length f.same ∙ length-append front (codes "locked" ∷ [])
+
+locked_shape : {ws front : List (List ℕ)} → IsLockedFront ws front → HasPageShape front → HasLockedShape ws
+locked_shape f (inl s) = let many = longer f in let two = s.0 in
+    inl (omega (arith, many, two), at_front f 1 (omega (arith, two)) ∙ s.1, at_end f 2 (omega (arith, two)))
+locked_shape f (inr s) = let many = longer f in let five = s.0 in
+    inr (omega (arith, many, five), at_front f 1 (omega (arith, five)) ∙ s.1, at_front f 3 (omega (arith, five)) ∙ s.2, at_end f 5 (omega (arith, five)))
+
+front_shape : {ws front : List (List ℕ)} → IsLockedFront ws front → HasLockedShape ws → HasPageShape front
+front_shape f (inl s) = let many = longer f in let three = s.0 in
+    inl (omega (arith, many, three), sym (at_front f 1 (omega (arith, many, three))) ∙ s.1)
+front_shape f (inr s) = let many = longer f in let six = s.0 in
+    inr (omega (arith, many, six), sym (at_front f 1 (omega (arith, many, six))) ∙ s.1, sym (at_front f 3 (omega (arith, many, six))) ∙ s.2)
+
+-- a page's words are two or five
+page_long : (ws : List (List ℕ)) → HasPageShape ws → (length ws ≡ 2) ⊎ (length ws ≡ 5)
+page_long ws (inl s) = inl s.0
+page_long ws (inr s) = inr s.0
+
+not_both : (m n : ℕ) → (m ≡ 2) ⊎ (m ≡ 5) → (n ≡ 2) ⊎ (n ≡ 5) → m ≡ n + 1 → ⊥
+not_both m n (inl a) (inl b) e = omega (arith, a, b, e)
+not_both m n (inl a) (inr b) e = omega (arith, a, b, e)
+not_both m n (inr a) (inl b) e = omega (arith, a, b, e)
+not_both m n (inr a) (inr b) e = omega (arith, a, b, e)
+
+some_front : (n : ℕ) → (n ≡ 2) ⊎ (n ≡ 5) → 0 < n
+some_front n (inl e) = omega (arith, e)
+some_front n (inr e) = omega (arith, e)
+
+shape_behind : {ws front : List (List ℕ)} → IsLockedFront ws front → HasShape page_keyword ws → HasPageShape front
+shape_behind {ws} {front} f (inl s) = absurd (not_both (length ws) (length front) (page_long ws s) f.count (longer f))
+shape_behind f (inr s) = front_shape f s
+
+front_numbers : {ws front : List (List ℕ)} → IsLockedFront ws front → HasPageShape front → HaveNumbers page_keyword ws → HaveNumbers page_keyword front
+front_numbers {ws} {front} f shape h =
+    let many = longer f in (
+      subst IsNumberWord (at_front f 0 (some_front (length front) (page_long front shape))) h.0,
+      λ more. let five : 4 < length front = which (page_long front shape) more in
+          let both = h.1 (omega (arith, many, more)) in
+          (subst IsNumberWord (at_front f 2 (omega (arith, five))) both.0, subst IsNumberWord (at_front f 4 five) both.1),
+    )
+  where
+    which : (length front ≡ 2) ⊎ (length front ≡ 5) → 3 < length front → 4 < length front
+    which (inl e) l = absurd (omega (arith, e, l))
+    which (inr e) l = omega (arith, e)
+
+pub locked_misfit : (ws front : List (List ℕ)) (e : Misfit) → IsLockedFront ws front → IsPageMisfit front e → IsSentenceMisfit page_keyword ws e
+locked_misfit ws front misfits.Unknown f h = λ s. h (shape_behind f s)
+locked_misfit ws front misfits.BadNumber f h = (inr (locked_shape f h.0), λ n. h.1 (front_numbers f h.0 n))
+locked_misfit ws front misfits.OverLimit f h = absurd h
+
+neither : (ws : List (List ℕ)) → (HasPageShape ws → ⊥) → (HasLockedShape ws → ⊥) → HasShape page_keyword ws → ⊥
+neither ws p l (inl s) = p s
+neither ws p l (inr s) = l s
+
+pub plain_misfit : (ws : List (List ℕ)) (e : Misfit) → (HasLockedShape ws → ⊥) → IsPageMisfit ws e → IsSentenceMisfit page_keyword ws e
+plain_misfit ws misfits.Unknown l h = neither ws h l
+plain_misfit ws misfits.BadNumber l h = (inl h.0, h.1)
+plain_misfit ws misfits.OverLimit l h = absurd h
+
+-- words of another number are not those of a locked page
+pub not_locked : (ws : List (List ℕ)) → length ws ≢ 3 → length ws ≢ 6 → HasLockedShape ws → ⊥
+not_locked ws three six (inl s) = three s.0
+not_locked ws three six (inr s) = six s.0
