@@ -24,9 +24,9 @@ pub record IsSeatBoard (id : TableId) (layout : Layout) (seats : List SeatValue)
   pub seated : seat < layout.cpus
 
 -- the board is at the table that its type names
-pub record IsAtTable (id sheet : TableId) (layout : Layout) (seats : List SeatValue) (holder : ℕ) (turns : List Turn) (seat : ℕ) : Type 0 where
+pub record IsAtTable (ways : ℕ) (id sheet : TableId) (layout : Layout) (seats : List SeatValue) (holder : ℕ) (turns : List Turn) (seat : ℕ) : Type 0 where
   pub sheet_is : sheet ≡ id
-  pub table_is : IsTableOf layout id
+  pub table_is : IsTableOf ways layout id
   pub board : IsSeatBoard id layout seats holder turns seat
 
 -- what the one seat knows of the whole that has all rights again

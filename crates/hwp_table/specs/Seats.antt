@@ -6,6 +6,7 @@ use Rattle.hwp_core_task.specs.hwp_core_rule.declared.View.{View}
 use Rattle.hwp_core_task.specs.hwp_core_rule.Lists.{EachMember}
 use Rattle.hwp_core_task.specs.hwp_core_rule.Opening.{opening_view}
 use Rattle.hwp_core_task.specs.hwp_core_rule.parts.Holdings.{HoldsNothing}
+use Rattle.hwp_table_words.specs.hwp_tlb_rule.Caching.{idle_caching}
 use Rattle.hwp_table_words.specs.Known.{Known, Whole, let_go, note, times, views_for, with_note}
 use Rattle.hwp_table_words.specs.Seats.{IsTableOf, SeatValue, cpu, mine}
 use Rattle.hwp_table_words.specs.Stands.{Me}
@@ -44,7 +45,7 @@ pub record IsHeld (layout : Layout) (seats : List SeatValue) (holder : ℕ) (w :
   pub all : (c : ℕ) → c < layout.cpus → 0 < times c seat.known.rights
   pub others : (i : ℕ) (s : SeatValue) → i ≢ holder → slice_get seats i ≡ Some s → s.known.whole ≡ None
 
--- a seat whose rights are gone, and one that took those of another
+-- a seat whose rights are gone, and one that took those of another; what each knows of caches stays
 abbrev pub without_rights : SeatValue → SeatValue
 without_rights s = record s { known = let_go s.known }
 
@@ -59,9 +60,9 @@ pub record Handed (a b : List SeatValue) (from to : ℕ) : Type 0 where
   pub to_there : slice_get (slice_set a from (without_rights giver)) to ≡ Some taker
   pub next : b ≡ slice_set (slice_set a from (without_rights giver)) to (with_rights taker giver.known)
 
--- the seats at opening: each has its view, and none has a right yet
+-- the seats at opening: each has its view, none has a right yet, and none knows anything of caches
 abbrev pub seat_open : TableId → Layout → ℕ → SeatValue
-seat_open id layout c = record { table = id; layout = layout; known = record { mines = (c, opening_view c) ∷ []; own = []; rights = []; whole = None } }
+seat_open id layout c = record { table = id; layout = layout; known = record { mines = (c, opening_view c) ∷ []; own = []; rights = []; whole = None }; caching = idle_caching }
 
 -- no table
 abbrev pub no_table : TableId
@@ -74,10 +75,10 @@ pub record IsGathered (id : TableId) (layout : Layout) (all : List SeatValue) (h
   pub front : all ≡ left ++ rest
   pub same : of ≡ id
   pub bare : me.1 ≡ []
-  pub views : EachMember (λ (x : ℕ × View). slice_get (map mine all) x.0 ≡ Some x.1) me.0.mines
-  pub each : (c : ℕ) → length left ≤ c → c < layout.cpus → 0 < views_for c me.0.mines
-  pub none : holder < length left → me.0.whole ≡ None
-  pub whole : length left ≤ holder → me.0.whole ≡ Some w
+  pub views : EachMember (λ (x : ℕ × View). slice_get (map mine all) x.0 ≡ Some x.1) me.0.known.mines
+  pub each : (c : ℕ) → length left ≤ c → c < layout.cpus → 0 < views_for c me.0.known.mines
+  pub none : holder < length left → me.0.known.whole ≡ None
+  pub whole : length left ≤ holder → me.0.known.whole ≡ Some w
 
 -- the seats of a board, none of which holds anything
 pub record CanGather (id : TableId) (layout : Layout) (all : List SeatValue) (holder : ℕ) (w : Whole) : Type 0 where
@@ -94,7 +95,7 @@ pub record Gathering : Type 0 where
   pub whole : Whole
 
 -- the seats are these, at the table of this sheet
-pub record AreThese (g : Gathering) (sheet : TableId) (all : List SeatValue) : Type 0 where
+pub record AreThese (ways : ℕ) (g : Gathering) (sheet : TableId) (all : List SeatValue) : Type 0 where
   pub sheet_is : sheet ≡ g.table
-  pub table_is : IsTableOf g.layout g.table
+  pub table_is : IsTableOf ways g.layout g.table
   pub can : CanGather g.table g.layout all g.holder g.whole

@@ -9,14 +9,14 @@ ghost use Rattle.hwp_table_words.specs.Ends.{HasAll};
 ghost use Rattle.hwp_core_task.specs.Boards.{AreSeated};
 ghost use Rattle.hwp_core_task.specs.Calls.{CanMake, Steps, logs, rec_of};
 ghost use Rattle.hwp_plain.specs.Boards.{IsReached, Moves, own_view, with_turn};
-ghost use Rattle.hwp_table_words.specs.Known.{first_known};
+ghost use Rattle.hwp_table_words.specs.Known.{first_knowing};
 ghost use Rattle.hwp_table_words.specs.Seats.{IsTableOf, mine};
 
 use crate::dealing::{deal_seats, gather_seats};
 use crate::hand::hand_over;
 use crate::turns::{Turns, tell};
 use hwp_core_task::{Body, Cpu, Kind, Layout, List, Met, Ops, OutOfMemory, Step, Turn, Who};
-use hwp_table_words::{Pass, SeatOps, Sheet, let_go};
+use hwp_table_words::{Pass, SeatOps, Sheet, Ways, let_go};
 use std::alloc::Global;
 use std::marker::{Brand, Model, PhantomData};
 use std::snapshot::Snapshot;
@@ -32,11 +32,11 @@ impl OfTable for Brand {
 
 /// The seats of all processors. All rights are with one of them, which made the last step.
 #[derive(Drop)]
-pub struct SeatBoard<'a, N: OfTable> {
+pub struct SeatBoard<'a, N: OfTable, W: Ways> {
     of: PhantomData<N>,
-    sheet: &'a Sheet,
+    sheet: &'a Sheet<W>,
     layout: &'a Layout,
-    seats: Vec<SeatOps<'a>>,
+    seats: Vec<SeatOps<'a, W>>,
     holder: usize,
     turns: Turns,
     seat: Cpu,
@@ -44,7 +44,7 @@ pub struct SeatBoard<'a, N: OfTable> {
     made: Option<Kind>,
 }
 
-impl<'a, N: OfTable> Model for SeatBoard<'a, N> {
+impl<'a, N: OfTable, W: Ways> Model for SeatBoard<'a, N, W> {
     ghost use Rattle.hwp_plain.specs.Boards.{Board};
     ghost use Rattle.hwp_table.specs.Boards.{IsAtTable, state_of};
     ghost use Rattle.hwp_table.specs.Seats.{whole_at};
@@ -65,20 +65,20 @@ impl<'a, N: OfTable> Model for SeatBoard<'a, N> {
       made = b.made;
     } };
 
-    ghost invariant = { λ b. IsAtTable N.table b.sheet.now.table_id b.layout.now b.seats.items b.holder (turns_of b.turns) b.seat.0 };
+    ghost invariant = { λ b. IsAtTable W.ways N.table b.sheet.now.table_id b.layout.now b.seats.items b.holder (turns_of b.turns) b.seat.0 };
 }
 
-impl<'a, N: OfTable> SeatBoard<'a, N> {
+impl<'a, N: OfTable, W: Ways> SeatBoard<'a, N, W> {
     /// The board of a table at opening, by the one seat that the table begins with.
     pub fn new(
         alloc: Global,
-        sheet: &'a Sheet,
+        sheet: &'a Sheet<W>,
         layout: &'a Layout,
         pass: Pass,
-    ) -> Result<SeatBoard<'a, N>, OutOfMemory>
-        requires table { IsTableOf layout.now sheet.now.table_id × (sheet.now.key ≡ layout.now) }
+    ) -> Result<SeatBoard<'a, N, W>, OutOfMemory>
+        requires table { IsTableOf W.ways layout.now sheet.now.table_id × (sheet.now.key ≡ layout.now) }
         requires named { N.table ≡ sheet.now.table_id }
-        requires seat { (pass.table_id ≡ sheet.now.table_id) × (pass.me ≡ (first_known layout.now, [])) }
+        requires seat { (pass.table_id ≡ sheet.now.table_id) × (pass.me ≡ (first_knowing layout.now, [])) }
         ensures layout { IfOk result (λ board. board.layout ≡ layout.now) }
         ensures state { IfOk result (λ board. board.state ≡ opening layout.now) }
         ensures log { IfOk result (λ board. board.log ≡ []) }
@@ -105,9 +105,9 @@ impl<'a, N: OfTable> SeatBoard<'a, N> {
         requires nothing { EachMember HoldsNothing self.state.views }
         ensures table { result.table_id ≡ N.table }
         ensures bare { result.me.1 ≡ [] }
-        ensures all { HasAll self.entry.layout result.me.0 }
-        ensures views { EachMember (λ x. slice_get self.entry.state.views x.0 ≡ Some x.1) result.me.0.mines }
-        ensures whole { result.me.0.whole ≡ Some (whole_then self.entry.state self.entry.log) }
+        ensures all { HasAll self.entry.layout result.me.0.known }
+        ensures views { EachMember (λ x. slice_get self.entry.state.views x.0 ≡ Some x.1) result.me.0.known.mines }
+        ensures whole { result.me.0.known.whole ≡ Some (whole_then self.entry.state self.entry.log) }
     {
         let SeatBoard { sheet, seats, .. } = self;
         gather_seats(sheet, seats)
@@ -115,7 +115,7 @@ impl<'a, N: OfTable> SeatBoard<'a, N> {
 
     /// The seats, in the order of the processors: each is its processor's, with the view that the board's state has for it.
     /// All rights stay with one of them, which knows what the board came to. It takes no memory.
-    pub fn seats(self) -> List<SeatOps<'a>>
+    pub fn seats(self) -> List<SeatOps<'a, W>>
         ensures seats { AreSeats N.table self.entry.layout result }
         ensures views { map mine result ≡ self.entry.state.views }
         ensures rights { (holder : ℕ) × IsHeld self.entry.layout result holder (whole_then self.entry.state self.entry.log) }

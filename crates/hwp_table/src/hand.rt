@@ -3,10 +3,10 @@ ghost use Rattle.atomic_table.specs.Seated.{TableId};
 ghost use Rattle.hwp_core_task.specs.hwp_core_rule.Lists.{EachMember};
 ghost use Rattle.hwp_table.specs.Seats.{Handed};
 
-use hwp_table_words::SeatOps;
+use hwp_table_words::{SeatOps, Ways};
 
 /// All rights go from one seat to another.
-pub(crate) fn hand_over<'a>(seats: &mut Vec<SeatOps<'a>>, from: usize, to: usize)
+pub(crate) fn hand_over<'a, W: Ways>(seats: &mut Vec<SeatOps<'a, W>>, from: usize, to: usize)
     requires there { (from < length seats.old.items) × (to < length seats.old.items) }
     requires one_table { (id : TableId) × EachMember (λ s. s.table ≡ id) seats.old.items }
     ensures { Handed seats.old.items seats.new.items from to }

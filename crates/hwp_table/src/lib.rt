@@ -10,5 +10,6 @@ mod turns;
 
 pub use board::{OfTable, SeatBoard};
 pub use hwp_table_words::{
-    Ended, Machine, Pass, SeatOps, Sheet, WordTable, begin, close, join, split,
+    Bare, Cached, Ended, Machine, Pass, SeatOps, Sheet, TlbCounts, Ways, WordTable, begin, close,
+    join, split,
 };

@@ -2,8 +2,9 @@ ghost use Rattle.std.specs.Prelude.{◌≡◌, true};
 
 use crate::board::{OfTable, SeatBoard};
 use hwp_core_task::{Board, Body, Cpu, Kind, Layout, Met, Ops, Step, Task, Turn, Who, advance};
+use hwp_table_words::Ways;
 
-impl<'a, N: OfTable> Ops for SeatBoard<'a, N> {
+impl<'a, N: OfTable, W: Ways> Ops for SeatBoard<'a, N, W> {
     ghost use Rattle.hwp_plain.specs.Boards.{own_view, Moves};
 
     ghost layout = { λ b. b.layout };
@@ -23,7 +24,7 @@ impl<'a, N: OfTable> Ops for SeatBoard<'a, N> {
     }
 }
 
-impl<'a, N: OfTable> Board for SeatBoard<'a, N> {
+impl<'a, N: OfTable, W: Ways> Board for SeatBoard<'a, N, W> {
     ghost layout = { λ b. b.layout };
 
     ghost state = { λ b. b.state };

@@ -3,13 +3,13 @@
 ghost use Rattle.std.specs.Prelude.{◌≡◌, []};
 ghost use Rattle.hwp_page.specs.hwp_geom.Layout.{IsSound};
 ghost use Rattle.hwp_table.specs.hwp_table_words.Ends.{HasAll};
-ghost use Rattle.hwp_table.specs.hwp_table_words.Known.{first_known};
+ghost use Rattle.hwp_table.specs.hwp_table_words.Known.{first_knowing};
 ghost use Rattle.hwp_table.specs.hwp_table_words.Seats.{IsTableOf};
 
 use crate::machine::machine;
 use hwp_page::{Body, Layout};
 use hwp_plain::{Machine, PlainBoard};
-use hwp_table::{OfTable, Pass, SeatBoard, Sheet, begin, close, join};
+use hwp_table::{Bare, OfTable, Pass, SeatBoard, Sheet, Ways, begin, close, join};
 use std::alloc::Global;
 use std::marker::Brand;
 use std::process::Abort;
@@ -83,21 +83,21 @@ fn a_plain_board_is_closed_with_its_words_and_bodies(rt: HostRuntime) {
 }
 
 /// The pass of a table at opening, which is dealt to a seat for each of two processors, and put together again of these.
-fn dealt<N: OfTable>(
+fn dealt<N: OfTable, W: Ways>(
     rt: &impl Abort,
     alloc: Global,
-    sheet: &Sheet,
+    sheet: &Sheet<W>,
     layout: &Layout,
     pass: Pass,
 ) -> Pass
-    requires table { IsTableOf layout.now sheet.now.table_id × (sheet.now.key ≡ layout.now) }
+    requires table { IsTableOf W.ways layout.now sheet.now.table_id × (sheet.now.key ≡ layout.now) }
     requires named { N.table ≡ sheet.now.table_id }
-    requires seat { (pass.table_id ≡ sheet.now.table_id) × (pass.me ≡ (first_known layout.now, [])) }
+    requires seat { (pass.table_id ≡ sheet.now.table_id) × (pass.me ≡ (first_knowing layout.now, [])) }
     requires two { layout.now.cpus ≡ 2 }
     ensures same { result.table_id ≡ sheet.now.table_id }
-    ensures all { HasAll layout.now result.me.0 }
+    ensures all { HasAll layout.now result.me.0.known }
 {
-    let board = SeatBoard::<N>::new(alloc, sheet, layout, pass).expect(rt, "memory");
+    let board = SeatBoard::<N, W>::new(alloc, sheet, layout, pass).expect(rt, "memory");
     let mut seats = board.seats().into_vec();
     let second = seats.pop().expect(rt, "the seat of processor 1");
     let first = seats.pop().expect(rt, "the seat of processor 0");
@@ -110,8 +110,8 @@ fn dealt<N: OfTable>(
 /// What a table comes to whose seats make no step.
 fn at_table(rt: &impl Abort, alloc: Global) -> Machine {
     let layout = Arc::new(alloc, two_frames(rt, alloc)).expect(rt, "memory");
-    let (table, pass) = begin(alloc, &layout).expect(rt, "memory");
-    let pass = dealt::<Brand>(rt, alloc, &table.shared, &layout, pass);
+    let (table, pass) = begin::<Bare>(alloc, &layout).expect(rt, "memory");
+    let pass = dealt::<Brand, Bare>(rt, alloc, &table.shared, &layout, pass);
     let Ok((ended, bodies)) = close(alloc, table, pass) else {
         panic!(rt; "memory")
     };

@@ -7,6 +7,7 @@ use Rattle.hwp_core_task.specs.hwp_core_rule.declared.View.{View}
 use Rattle.hwp_core_task.specs.hwp_core_rule.Lists.{EachMember}
 use Rattle.hwp_core_task.specs.hwp_core_rule.Opening.{opening_view}
 use Rattle.hwp_core_task.specs.hwp_core_rule.parts.Holdings.{HoldsNothing}
+use Rattle.hwp_table_words.specs.hwp_tlb_rule.Caching.{idle_caching}
 use Rattle.hwp_table_words.specs.Known.{Known, dealt}
 use Rattle.hwp_table_words.specs.Seats.{SeatValue, mine}
 use Rattle.hwp_table_words.specs.Stands.{Me}
@@ -17,7 +18,7 @@ abbrev pub seat_known : ℕ → Known
 seat_known c = record { mines = (c, opening_view c) ∷ []; own = []; rights = c ∷ []; whole = None }
 
 abbrev pub seat_at : TableId → Layout → ℕ → SeatValue
-seat_at id layout c = record { table = id; layout = layout; known = seat_known c }
+seat_at id layout c = record { table = id; layout = layout; known = seat_known c; caching = idle_caching }
 
 -- a worker for each task, from processor c on
 abbrev pub workers_at : {T : Type 0} → TableId → Layout → ℕ → List T → List (Worker SeatValue T)
@@ -38,7 +39,7 @@ pub record CanDeal (from cpus : ℕ) (v : Known) : Type 0 where
 pub record IsLeft (id of : TableId) (me : Me) : Type 0 where
   pub same : of ≡ id
   pub slots : me.1 ≡ []
-  pub unused : IsUnused me.0
+  pub unused : IsUnused me.0.known
 
 -- the seat of a processor at this table, which made these moves, the newest first
 pub record HasMoved (id : TableId) (layout : Layout) (c : ℕ) (recs : List Rec) (s : SeatValue) : Type 0 where

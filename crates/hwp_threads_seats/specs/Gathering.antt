@@ -31,8 +31,8 @@ own_in w = w.seat.known.own
 pub record IsBrought {T : Type 0} (id : TableId) (old : Me) (w : Worker SeatValue T) (of : TableId) (new : Me) (task : T) : Type 0 where
   pub same : of ≡ id
   pub slots : new.1 ≡ old.1
-  pub mines : new.0.mines ≡ old.0.mines ++ mine_in w ∷ []
-  pub own : new.0.own ≡ old.0.own ++ own_in w
+  pub mines : new.0.known.mines ≡ old.0.known.mines ++ mine_in w ∷ []
+  pub own : new.0.known.own ≡ old.0.known.own ++ own_in w
   pub task_is : task ≡ w.task
   pub going : w.refused ≡ false
 
@@ -40,7 +40,7 @@ pub record IsBrought {T : Type 0} (id : TableId) (old : Me) (w : Worker SeatValu
 pub record AreGathered {T : Type 0} (id : TableId) (old : Known) (workers : List (CachePadded (Worker SeatValue T))) (of : TableId) (new : Me) (tasks : List T) : Type 0 where
   pub same : of ≡ id
   pub slots : new.1 ≡ []
-  pub mines : new.0.mines ≡ old.mines ++ map (λ (w : CachePadded (Worker SeatValue T)). mine_in (padded_value w)) workers
-  pub own : new.0.own ≡ old.own ++ flat_map (λ (w : CachePadded (Worker SeatValue T)). own_in (padded_value w)) workers
+  pub mines : new.0.known.mines ≡ old.mines ++ map (λ (w : CachePadded (Worker SeatValue T)). mine_in (padded_value w)) workers
+  pub own : new.0.known.own ≡ old.own ++ flat_map (λ (w : CachePadded (Worker SeatValue T)). own_in (padded_value w)) workers
   pub tasks_are : tasks ≡ map (λ (w : CachePadded (Worker SeatValue T)). (padded_value w).task) workers
   pub going : EachMember (λ (w : CachePadded (Worker SeatValue T)). (padded_value w).refused ≡ false) workers

@@ -5,24 +5,24 @@ ghost use Rattle.hwp_threads_seats.specs.Dealing.{CanDeal, IsLeft, workers_at};
 
 use crossbeam_utils::CachePadded;
 use hwp_core_task::{Cpu, Layout, OutOfMemory, Scheduled};
-use hwp_table_words::{Pass, SeatOps, Sheet, split};
+use hwp_table_words::{Pass, SeatOps, Sheet, Ways, split};
 use hwp_threads::Worker;
 use std::alloc::Global;
 
 /// A worker whose seat is at a table.
-pub type SeatWorker<'a, T> = CachePadded<Worker<SeatOps<'a>, T>>;
+pub type SeatWorker<'a, W, T> = CachePadded<Worker<SeatOps<'a, W>, T>>;
 
 /// A worker for each task, in their order: the first has the seat of processor 0. What the seat that had all views has left
 /// comes back beside them.
-pub fn deal<'a, T: Scheduled + Drop>(
+pub fn deal<'a, W: Ways, T: Scheduled + Drop>(
     alloc: Global,
-    sheet: &'a Sheet,
+    sheet: &'a Sheet<W>,
     layout: &'a Layout,
     pass: Pass,
     tasks: Vec<T>,
-) -> Result<(Pass, Vec<SeatWorker<'a, T>>), OutOfMemory>
-    requires table { IsTableOf layout.now sheet.now.table_id × (sheet.now.key ≡ layout.now) }
-    requires seat { (pass.table_id ≡ sheet.now.table_id) × (pass.me.1 ≡ []) × CanDeal 0 layout.now.cpus pass.me.0 }
+) -> Result<(Pass, Vec<SeatWorker<'a, W, T>>), OutOfMemory>
+    requires table { IsTableOf W.ways layout.now sheet.now.table_id × (sheet.now.key ≡ layout.now) }
+    requires seat { (pass.table_id ≡ sheet.now.table_id) × (pass.me.1 ≡ []) × CanDeal 0 layout.now.cpus pass.me.0.known }
     requires one_each { length tasks.items ≡ layout.now.cpus }
     ensures left { IfOk result (λ r. IsLeft sheet.now.table_id r.0.table_id r.0.me) }
     ensures workers { IfOk result (λ r. map padded_value r.1.items ≡ workers_at sheet.now.table_id layout.now 0 tasks.items) }

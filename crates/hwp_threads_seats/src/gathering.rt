@@ -4,7 +4,7 @@ ghost use Rattle.hwp_threads_seats.specs.Gathering.{AreBare, AreGathered, IsBare
 
 use crate::dealing::SeatWorker;
 use hwp_core_task::OutOfMemory;
-use hwp_table_words::{Pass, Sheet, join};
+use hwp_table_words::{Pass, Sheet, Ways, join};
 use hwp_threads::Worker;
 use std::alloc::{AllocError, Global};
 
@@ -12,15 +12,15 @@ use std::alloc::{AllocError, Global};
 ///
 /// # Errors
 /// `OutOfMemory` where a turn of a worker was refused memory, and where there is none for the tasks.
-pub fn gather<'a, T: Drop>(
+pub fn gather<'a, W: Ways, T: Drop>(
     alloc: Global,
-    sheet: &Sheet,
+    sheet: &Sheet<W>,
     pass: Pass,
-    workers: Vec<SeatWorker<'a, T>>,
+    workers: Vec<SeatWorker<'a, W, T>>,
 ) -> Result<(Pass, Vec<T>), OutOfMemory>
     requires fits { (pass.table_id ≡ sheet.now.table_id) × (0 < sheet.now.table_id.words) × (pass.me.1 ≡ []) }
     requires bare { AreBare sheet.now.table_id workers.items }
-    ensures { IfOk result (λ r. AreGathered sheet.now.table_id pass.me.0 workers.entry.items r.0.table_id r.0.me r.1.items) }
+    ensures { IfOk result (λ r. AreGathered sheet.now.table_id pass.me.0.known workers.entry.items r.0.table_id r.0.me r.1.items) }
 {
     let mut pass = pass;
     let mut workers = workers;
@@ -33,10 +33,10 @@ pub fn gather<'a, T: Drop>(
 }
 
 /// The seat takes what a worker's seat has; its task comes back.
-fn bring<'a, T: Drop>(
-    sheet: &Sheet,
+fn bring<'a, W: Ways, T: Drop>(
+    sheet: &Sheet<W>,
     pass: &mut Pass,
-    worker: SeatWorker<'a, T>,
+    worker: SeatWorker<'a, W, T>,
 ) -> Result<T, OutOfMemory>
     requires fits { (pass.old.table_id ≡ sheet.now.table_id) × (0 < sheet.now.table_id.words) }
     requires bare { IsBare sheet.now.table_id (padded_value worker).seat }

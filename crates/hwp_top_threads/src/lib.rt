@@ -3,5 +3,5 @@
 
 mod running;
 
-pub use hwp_top_turns::Finished;
+pub use hwp_top_turns::{Bare, Cached, Finished, Ways};
 pub use running::run_on_threads;

@@ -9,7 +9,7 @@ mod running;
 
 pub use crew::{Rows, crew_of, rows_of};
 pub use hwp_plain::PlainBoard;
-pub use hwp_table_words::{Ended, Pass, Sheet, Slot, begin, close};
+pub use hwp_table_words::{Bare, Cached, Ended, Pass, Sheet, Slot, TlbCounts, Ways, begin, close};
 pub use hwp_top_report::{
     Board, CacheWord, CounterWord, Cpu, Frame, FrameWord, Kind, Layout, List, MAX_SCRIPT, Ops,
     OutOfMemory, Page, PageWord, PolicyWord, ProcessWord, Processor, Pte, Report, Script,

@@ -4,14 +4,15 @@ ghost use Rattle.hwp_top_report.specs.hwp_law.Runs.{IsOfRun};
 ghost use Rattle.hwp_plain.specs.hwp_script_read.Valid.{IsValid};
 ghost use Rattle.hwp_table_words.specs.hwp_plain_words.Openings.{home_with};
 ghost use Rattle.hwp_table_words.specs.hwp_plain_words.Ends.{AreHistories};
-ghost use Rattle.hwp_table_words.specs.Known.{first_known};
+ghost use Rattle.hwp_table_words.specs.Known.{first_knowing};
 ghost use Rattle.hwp_table_words.specs.Seats.{IsTableOf};
+ghost use Rattle.hwp_top_turns.specs.Caches.{IsCachedEnd};
 ghost use Rattle.hwp_top_turns.specs.Runs.{HasEndedAt, IsCoreRun, IsFinished, IsTablePlayed, IsTableRun, KnowsRun};
 
 use crate::crew::Rows;
 use crate::playing::play;
 use hwp_table::{OfTable, SeatBoard};
-use hwp_table_words::{Ended, Pass, Sheet, Slot, begin, close};
+use hwp_table_words::{Ended, Pass, Sheet, Slot, Ways, begin, close};
 use hwp_top_report::{
     Entry, Layout, List, OutOfMemory, Page, Report, Script, SharedWord, histories, index, report,
 };
@@ -21,41 +22,44 @@ use std::sync::Arc;
 
 /// What a run came to: its report, and what the table at which it was made was closed with.
 #[derive(Drop)]
-pub struct Finished {
+pub struct Finished<W: Ways> {
     pub report: Report,
-    pub ended: Ended,
+    pub ended: Ended<W>,
 }
 
 /// All turns of a script's processors at a table whose one seat has all there is: that seat again, with what they led to, and the
 /// rows of each processor.
-fn seat_all<N: OfTable>(
+fn seat_all<N: OfTable, W: Ways>(
     alloc: Global,
-    sheet: &Sheet,
+    sheet: &Sheet<W>,
     script: &Script,
     pass: Pass,
 ) -> Result<(Pass, Rows), OutOfMemory>
     requires valid { IsValid script.now }
     requires named { N.table ≡ sheet.now.table_id }
-    requires table { IsTableOf script.now.layout sheet.now.table_id × (sheet.now.key ≡ script.now.layout) }
-    requires seat { (pass.table_id ≡ sheet.now.table_id) × (pass.me ≡ (first_known script.now.layout, [])) }
+    requires table { IsTableOf W.ways script.now.layout sheet.now.table_id × (sheet.now.key ≡ script.now.layout) }
+    requires seat { (pass.table_id ≡ sheet.now.table_id) × (pass.me ≡ (first_knowing script.now.layout, [])) }
     ensures same { IfOk result (λ end. end.0.table_id ≡ sheet.now.table_id) }
-    ensures knows { IfOk result (λ end. KnowsRun script.now end.0.me.0 end.1) }
+    ensures knows { IfOk result (λ end. KnowsRun script.now end.0.me.0.known end.1) }
 {
-    let mut board = SeatBoard::<N>::new(alloc, sheet, &script.layout, pass)?;
+    let mut board = SeatBoard::<N, W>::new(alloc, sheet, &script.layout, pass)?;
     let rows = play(alloc, script, &mut board)?;
     Ok((board.into_pass(), rows))
 }
 
 /// The turns of a script's processors at a table of their own: what the table was closed with, the bodies that were in its
 /// slots, and the rows of each processor.
-fn play_at_table(alloc: Global, script: &Script) -> Result<(Ended, Vec<Slot>, Rows), OutOfMemory>
+fn play_at_table<W: Ways>(
+    alloc: Global,
+    script: &Script,
+) -> Result<(Ended<W>, Vec<Slot>, Rows), OutOfMemory>
     requires valid { IsValid script.now }
     ensures played { IfOk result (λ end. IsTablePlayed script.now end.0 end.2) }
     ensures bodies { IfOk result (λ end. end.0.slots ≡ end.1.items) }
 {
     let layout = Arc::new(alloc, script.layout.copy(alloc)?)?;
-    let (table, pass) = begin(alloc, &layout)?;
-    let (pass, rows) = seat_all::<Brand>(alloc, &table.shared, script, pass)?;
+    let (table, pass) = begin::<W>(alloc, &layout)?;
+    let (pass, rows) = seat_all::<Brand, W>(alloc, &table.shared, script, pass)?;
     let Ok((ended, slots)) = close(alloc, table, pass) else {
         return Err(AllocError);
     };
@@ -63,9 +67,9 @@ fn play_at_table(alloc: Global, script: &Script) -> Result<(Ended, Vec<Slot>, Ro
 }
 
 /// The histories of the bodies of a table that was closed, in the order of the pages.
-fn pages_of(
+fn pages_of<W: Ways>(
     alloc: Global,
-    ended: &Ended,
+    ended: &Ended<W>,
     bodies: Vec<Slot>,
     layout: &Layout,
 ) -> Result<List<List<Entry>>, OutOfMemory>
@@ -83,19 +87,20 @@ fn pages_of(
 
 /// What a run came to, in whatever order its processors made their turns: the report, which is of the words and the bodies with
 /// which the table was closed and of the processors' rows, and what the table was closed with.
-pub fn finish_run(
+pub fn finish_run<W: Ways>(
     alloc: Global,
     script: &Script,
-    ended: Ended,
+    ended: Ended<W>,
     bodies: Vec<Slot>,
     rows: &Rows,
-) -> Result<Finished, OutOfMemory>
+) -> Result<Finished<W>, OutOfMemory>
     requires valid { IsValid script.now }
     requires run { HasEndedAt script.now ended rows.now }
     requires bodies { ended.slots ≡ bodies.items }
     ensures of_run { IfOk result (λ run. IsOfRun script.now run.report) }
     ensures lawful { IfOk result (λ run. IsLawful script.now run.report) }
     ensures closing { IfOk result (λ run. IsFinished script.now ended rows.now run.report run.ended) }
+    ensures caches { IfOk result (λ run. IsCachedEnd W.ways run.ended) }
 {
     let pages = pages_of(alloc, &ended, bodies, &script.layout)?;
     let lists = script.lists.as_slice();
@@ -112,13 +117,14 @@ pub fn finish_run(
 
 /// The run of a script in turns: its processors make them in the order of the schedule, and then in the finishing order, until each
 /// of their commands is answered. They make them at one table of atomic words, and the report is of what it is closed with.
-pub fn run_in_turns(alloc: Global, script: &Script) -> Result<Finished, OutOfMemory>
+pub fn run_in_turns<W: Ways>(alloc: Global, script: &Script) -> Result<Finished<W>, OutOfMemory>
     requires valid { IsValid script.now }
     ensures of_run { IfOk result (λ run. IsOfRun script.now run.report) }
     ensures lawful { IfOk result (λ run. IsLawful script.now run.report) }
     ensures core { IfOk result (λ run. IsCoreRun script.now run.report) }
     ensures ended { IfOk result (λ run. IsTableRun script.now run.report run.ended) }
+    ensures caches { IfOk result (λ run. IsCachedEnd W.ways run.ended) }
 {
-    let (ended, bodies, rows) = play_at_table(alloc, script)?;
+    let (ended, bodies, rows) = play_at_table::<W>(alloc, script)?;
     finish_run(alloc, script, ended, bodies, &rows)
 }
