@@ -1,39 +1,64 @@
-ghost use Rattle.std.specs.Prelude.{◌≡◌, ◌≢◌, ◌↔◌, ◌<◌, ℕ, List, [], ◌∷◌, codes, map, string_bytes, Contains, IsSomeAnd, IsTrue, Some, None};
+ghost use Rattle.std.specs.Prelude.{◌≡◌, ◌≢◌, ◌↔◌, ◌<◌, ℕ, List, [], ◌∷◌, true, map, string_bytes, Contains, IfSome, IfNone, IsSomeAnd, IsTrue, Some, None};
 ghost use Rattle.std.specs.Io.KnownBytes.{Appends};
 ghost use Rattle.hwp_io.specs.Causes.{AppendsStrictFront};
 ghost use Rattle.hwp_top_turns.specs.hwp_script_read.declared.Refused.{Refused};
-ghost use Rattle.hwp_top_step.specs.Outputs.{HasRun, IsStepReport};
+ghost use Rattle.hwp_top_step.specs.Outputs.{IsStepReport};
 ghost use Rattle.hwp_top_step.specs.Top.{IsDone, Refuses, Told, refusal_text, told_text};
-ghost use Rattle.hwp_top.specs.Top.{IsRun, IsThreaded};
+ghost use Rattle.hwp_top.specs.Top.{AsksRun, IsNoRun, IsRun, IsThreadedCall};
 
 use crate::running::threaded;
 use hwp_io::{Sink, Source};
 use hwp_threads::Gate;
 use hwp_top_step::{Done, USAGE, deliver, tell, tell_fault};
+use hwp_top_turns::is_text;
 use std::alloc::Global;
 use std::sync::Wait;
 use std::thread::Threads;
 
-/// Whether a word is `run`.
-fn is_run(word: &[u8]) -> bool
-    ensures { IsTrue result ↔ (word.now ≡ codes "run") }
+/// Whether one word asks for a run on threads. It has no translation caches.
+fn run_alone(word: &[u8]) -> Option<bool>
+    ensures some { IfSome result (IsRun (word.now ∷ [])) }
+    ensures none { IfNone result (IsNoRun (word.now ∷ [])) }
 {
-    word == "run".as_bytes()
+    if is_text(word, "run") {
+        return Some(false);
+    }
+    None
 }
 
-/// Whether the words ask for a run on threads.
-fn asks_run(words: &[String]) -> bool
-    ensures { IsTrue result ↔ IsRun (map string_bytes words.now) }
+/// Whether the words are `run tlb`.
+fn is_run_tlb(word: &[u8], second: &[u8]) -> bool
+    ensures { IsTrue result ↔ IsRun (word.now ∷ second.now ∷ []) true }
+{
+    is_text(word, "run") && is_text(second, "tlb")
+}
+
+/// Whether two words ask for a run on threads. It has translation caches.
+fn run_with(word: &[u8], second: &[u8]) -> Option<bool>
+    ensures some { IfSome result (IsRun (word.now ∷ second.now ∷ [])) }
+    ensures none { IfNone result (IsNoRun (word.now ∷ second.now ∷ [])) }
+{
+    if is_run_tlb(word, second) {
+        return Some(true);
+    }
+    None
+}
+
+/// Whether the words ask for a run on threads, and then whether it has translation caches.
+fn run_of(words: &[String]) -> Option<bool>
+    ensures some { IfSome result (IsRun (map string_bytes words.now)) }
+    ensures none { IfNone result (IsNoRun (map string_bytes words.now)) }
 {
     match words {
-        [word] => is_run(word.as_bytes()),
-        _ => false,
+        [word] => run_alone(word.as_bytes()),
+        [word, second] => run_with(word.as_bytes(), second.as_bytes()),
+        _ => None,
     }
 }
 
 /// Serves the word `run`: reads a fault script from `src`, runs it with each of its processors on a thread of its own, all at one
 /// table of atomic words, and writes the report to `out`. The schedule is read and not used. A worker passes `gate` after the first
-/// turn of each command and after the last.
+/// turn of each command and after the last. The words `run tlb` do the same with a translation cache for each processor.
 ///
 /// The exit statuses are those of `top` for `step`: 0 done, 8 done and the machine stopped, 2 other words, 3 the script is refused,
 /// 4 the source failed, 5 the sink failed, and a part of the report is written, 6 out of memory. For each but 0 and 8 a text goes to
@@ -54,51 +79,53 @@ pub fn top_run<R: Threads + Wait + Sync, S: Source, K: Sink, E: Sink, G: Gate + 
     // Status 0, or 8 where the machine stopped: what is written is a report of the script that the source gave, and it keeps the law of
     // reports.
     ensures report { IsDone result.status → (text : List ℕ)
-        × IsRun (map string_bytes words.now)
+        × AsksRun (map string_bytes words.now)
         × IsSomeAnd result.report (IsStepReport (S.left src.old) (S.left src.new) result.status text)
         × Appends (K.taken out.old) (K.taken out.new) text }
 
-    // The run level: that report is the one of a run of the processors on threads, with what its table was closed with.
+    // The run level: that report is the one of a run of the processors on threads, with what its table was closed with. At the end of
+    // `run tlb` no entry of a translation cache names a handled frame.
     ensures done { IsDone result.status → (text : List ℕ)
-        × IsRun (map string_bytes words.now)
-        × HasRun result.report result.ended (IsThreaded (S.left src.old) (S.left src.new) result.status text)
+        × IsThreadedCall (map string_bytes words.now) (S.left src.old) (S.left src.new) result.status text result.report result.ended result.tlb
         × Appends (K.taken out.old) (K.taken out.new) text }
 
     // Status 2 comes if and only if the words are anything else, and statuses 3, 4 and 5 only by their cause.
-    ensures usage { (result.status ≡ 2) ↔ (¬ IsRun (map string_bytes words.now)) }
+    ensures usage { (result.status ≡ 2) ↔ IsNoRun (map string_bytes words.now) }
     ensures refused { result.status ≡ 3 → (r : Refused)
         × Refuses (S.left src.old) (S.left src.new) r
         × Told (E.taken err.old) (E.taken err.new) (E.faults err.old) (E.faults err.new) (refusal_text r) }
     ensures read_fault { result.status ≡ 4 → S.faults src.old < S.faults src.new }
     ensures write_fault { result.status ≡ 5 → K.faults out.old < K.faults out.new }
-    ensures unread { (¬ IsRun (map string_bytes words.now)) → src.new ≡ src.old }
+    ensures unread { IsNoRun (map string_bytes words.now) → src.new ≡ src.old }
 
     // Status 5: a part of the report is written, and the report is there.
     ensures cut { result.status ≡ 5 → (status : ℕ) × (text : List ℕ)
-        × HasRun result.report result.ended (IsThreaded (S.left src.old) (S.left src.new) status text)
+        × IsThreadedCall (map string_bytes words.now) (S.left src.old) (S.left src.new) status text result.report result.ended result.tlb
         × AppendsStrictFront (K.taken out.old) (K.taken out.new) text }
     ensures unwritten { (¬ IsDone result.status) → result.status ≢ 5 → out.new ≡ out.old }
-    ensures no_report { (¬ IsDone result.status) → result.status ≢ 5 → (result.report ≡ None) × (result.ended ≡ None) }
+    ensures no_report { (¬ IsDone result.status) → result.status ≢ 5 → (result.report ≡ None) × (result.ended ≡ None) × (result.tlb ≡ None) }
 
     // What is told on `err`.
     ensures silent { IsDone result.status → err.new ≡ err.old }
     ensures told { (text : List ℕ) → told_text result.status ≡ Some text
         → Told (E.taken err.old) (E.taken err.new) (E.faults err.old) (E.faults err.new) text }
 {
-    if !asks_run(words) {
+    let Some(caches) = run_of(words) else {
         tell(err, USAGE);
         return Done {
             status: 2,
             report: None,
             ended: None,
+            tlb: None,
         };
-    }
-    match threaded(rt, alloc, src, gate) {
+    };
+    match threaded(rt, alloc, caches, src, gate) {
         Ok(output) => deliver(out, err, output),
         Err(fault) => Done {
             status: tell_fault(alloc, err, fault),
             report: None,
             ended: None,
+            tlb: None,
         },
     }
 }

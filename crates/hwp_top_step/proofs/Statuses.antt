@@ -36,20 +36,23 @@ verdict_is_done verdicts.Legal = inl refl
 verdict_is_done (verdicts.Not line rule) = inr (inl refl)
 
 -- an output has the status of a call that is done
-output_is_done : (call : Call) (left left' : Option (List ℕ)) (status : ℕ) (text : List ℕ) (report : Option Report) (ended : Option EndValue) → IsOutputOf call left left' status text report ended → IsDone status
-output_is_done calls.Step left left' status text (Some report) (Some ended) o = subst IsDone (sym o.status_is) (report_is_done report)
-output_is_done calls.Step left left' status text (Some report) None o = elim o [ ]
-output_is_done calls.Step left left' status text None ended o = elim o [ ]
-output_is_done calls.Check left left' status text report ended o = subst IsDone (sym o.0.status_is) (verdict_is_done o.0.verdict)
-output_is_done (calls.Gen seed) left left' status text report ended o = inl o.1
-output_is_done (calls.Sum seed) left left' status text (Some report) (Some ended) o = inl o.status_is
-output_is_done (calls.Sum seed) left left' status text (Some report) None o = elim o [ ]
-output_is_done (calls.Sum seed) left left' status text None ended o = elim o [ ]
+output_is_done : (call : Call) (left left' : Option (List ℕ)) (status : ℕ) (text : List ℕ) (report : Option Report) (ended tlb : Option EndValue) → IsOutputOf call left left' status text report ended tlb → IsDone status
+output_is_done calls.Step left left' status text (Some report) (Some ended) tlb o = subst IsDone (sym o.0.status_is) (report_is_done report)
+output_is_done calls.Step left left' status text (Some report) None tlb o = absurd o.0
+output_is_done calls.Step left left' status text None ended tlb o = absurd o.0
+output_is_done calls.StepTlb left left' status text (Some report) ended (Some tlb) o = subst IsDone (sym o.0.stepped.status_is) (report_is_done report)
+output_is_done calls.StepTlb left left' status text (Some report) ended None o = absurd o.0
+output_is_done calls.StepTlb left left' status text None ended tlb o = absurd o.0
+output_is_done calls.Check left left' status text report ended tlb o = subst IsDone (sym o.0.status_is) (verdict_is_done o.0.verdict)
+output_is_done (calls.Gen seed) left left' status text report ended tlb o = inl o.1
+output_is_done (calls.Sum seed) left left' status text (Some report) (Some ended) tlb o = inl o.0.status_is
+output_is_done (calls.Sum seed) left left' status text (Some report) None tlb o = absurd o.0
+output_is_done (calls.Sum seed) left left' status text None ended tlb o = absurd o.0
 
 -- an output that is written, whole or in part, ends with a status of the list
-pub output_is_listed : (call : Call) (left left' : Option (List ℕ)) (status n : ℕ) (text : List ℕ) (report : Option Report) (ended : Option EndValue) → IsOutputOf call left left' status text report ended → (n ≡ status) ⊎ (n ≡ 5) → Listed n
-output_is_listed call left left' status n text report ended o (inl whole) = subst Listed (sym whole) (done_is_listed status (output_is_done call left left' status text report ended o))
-output_is_listed call left left' status n text report ended o (inr cut) = subst Listed (sym cut) (5, lit< tt, refl)
+pub output_is_listed : (call : Call) (left left' : Option (List ℕ)) (status n : ℕ) (text : List ℕ) (report : Option Report) (ended tlb : Option EndValue) → IsOutputOf call left left' status text report ended tlb → (n ≡ status) ⊎ (n ≡ 5) → Listed n
+output_is_listed call left left' status n text report ended tlb o (inl whole) = subst Listed (sym whole) (done_is_listed status (output_is_done call left left' status text report ended tlb o))
+output_is_listed call left left' status n text report ended tlb o (inr cut) = subst Listed (sym cut) (5, lit< tt, refl)
 
 -- the statuses of a call that gives one run, by its report or its trace: all of the list but 1, which is a verdict's
 abbrev pub RunStatus : ℕ → Type 0

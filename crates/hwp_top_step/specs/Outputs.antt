@@ -11,6 +11,7 @@ use Rattle.hwp_report_summary.specs.hwp_report_text.ReportText.{report_text}
 use Rattle.hwp_report_summary.specs.Counts.{summary_of}
 use Rattle.hwp_report_summary.specs.Text.{summary_text}
 use Rattle.hwp_top_turns.specs.hwp_table_words.Ends.{EndValue}
+use Rattle.hwp_top_turns.specs.Runs.{IsCachedEnd}
 use Rattle.hwp_top_step.specs.declared.served.Call.{Call}
 use Rattle.hwp_top_step.specs.declared.served.Call.TheVariants as calls
 use Rattle.hwp_top_step.specs.Calls.{IsCall}
@@ -27,6 +28,11 @@ pub record IsStepped (left left' : Option (List ℕ)) (status : ℕ) (text : Lis
   pub reports : Reports left left' report ended
   pub status_is : status ≡ done_status report
   pub text_is : text ≡ report_text report
+
+-- the same of a run with translation caches: at its end no entry of a cache names a handled frame
+pub record IsSteppedTlb (left left' : Option (List ℕ)) (status : ℕ) (text : List ℕ) (report : Report) (ended : EndValue) : Type 0 where
+  pub stepped : IsStepped left left' status text report ended
+  pub cached : IsCachedEnd ended
 
 -- a report of the seed's script, as `step` gives it, and the text of its summary
 pub record IsSummed (seed status : ℕ) (text : List ℕ) (report : Report) (ended : EndValue) : Type 0 where
@@ -51,6 +57,7 @@ pub record IsSumReport (seed status : ℕ) (text : List ℕ) (report : Report) :
 -- the report level: what a call gives, whatever run made its report
 abbrev pub IsReportedOf : Call → Option (List ℕ) → Option (List ℕ) → ℕ → List ℕ → Option Report → Type 0
 IsReportedOf calls.Step left left' status text report = IsSomeAnd report (IsStepReport left left' status text)
+IsReportedOf calls.StepTlb left left' status text report = IsSomeAnd report (IsStepReport left left' status text)
 IsReportedOf calls.Check left left' status text report = IsChecked left left' status text × (report ≡ None)
 IsReportedOf (calls.Gen seed) left left' status text report = IsGenerated seed text × (status ≡ 0) × (report ≡ None)
 IsReportedOf (calls.Sum seed) left left' status text report = IsSomeAnd report (IsSumReport seed status text)
@@ -65,25 +72,28 @@ pub record IsReported (words : List (List ℕ)) (left left' : Option (List ℕ))
 abbrev pub HasRun : Option Report → Option EndValue → (Report → EndValue → Type 0) → Type 0
 HasRun report ended Such = IsSomeAnd report (λ (r : Report). IsSomeAnd ended (Such r))
 
--- the output of a call: its status, its text, and, where a run was made, its report and what its table was closed with
-abbrev pub IsOutputOf : Call → Option (List ℕ) → Option (List ℕ) → ℕ → List ℕ → Option Report → Option EndValue → Type 0
-IsOutputOf calls.Step left left' status text report ended = HasRun report ended (IsStepped left left' status text)
-IsOutputOf calls.Check left left' status text report ended = IsChecked left left' status text × (report ≡ None) × (ended ≡ None)
-IsOutputOf (calls.Gen seed) left left' status text report ended = IsGenerated seed text × (status ≡ 0) × (report ≡ None) × (ended ≡ None)
-IsOutputOf (calls.Sum seed) left left' status text report ended = HasRun report ended (IsSummed seed status text)
+-- the output of a call: its status, its text, and, where a run was made, its report and what its table was closed with: `tlb` where
+-- the table has translation caches, else `ended`
+abbrev pub IsOutputOf : Call → Option (List ℕ) → Option (List ℕ) → ℕ → List ℕ → Option Report → Option EndValue → Option EndValue → Type 0
+IsOutputOf calls.Step left left' status text report ended tlb = HasRun report ended (IsStepped left left' status text) × (tlb ≡ None)
+IsOutputOf calls.StepTlb left left' status text report ended tlb = HasRun report tlb (IsSteppedTlb left left' status text) × (ended ≡ None)
+IsOutputOf calls.Check left left' status text report ended tlb = IsChecked left left' status text × (report ≡ None) × (ended ≡ None) × (tlb ≡ None)
+IsOutputOf (calls.Gen seed) left left' status text report ended tlb = IsGenerated seed text × (status ≡ 0) × (report ≡ None) × (ended ≡ None) × (tlb ≡ None)
+IsOutputOf (calls.Sum seed) left left' status text report ended tlb = HasRun report ended (IsSummed seed status text) × (tlb ≡ None)
 
 -- a call is refused: what the source gave is
 abbrev pub IsRefusedFor : Call → Option (List ℕ) → Option (List ℕ) → Refused → Type 0
 IsRefusedFor calls.Step left left' refused = Refuses left left' refused
+IsRefusedFor calls.StepTlb left left' refused = Refuses left left' refused
 IsRefusedFor calls.Check left left' refused = RefusesChecked left left' refused
 IsRefusedFor (calls.Gen seed) left left' refused = ⊥
 IsRefusedFor (calls.Sum seed) left left' refused = ⊥
 
 -- the words ask for a call, and this is its output
-pub record IsOutput (words : List (List ℕ)) (left left' : Option (List ℕ)) (status : ℕ) (text : List ℕ) (report : Option Report) (ended : Option EndValue) : Type 0 where
+pub record IsOutput (words : List (List ℕ)) (left left' : Option (List ℕ)) (status : ℕ) (text : List ℕ) (report : Option Report) (ended tlb : Option EndValue) : Type 0 where
   pub call : Call
   pub asked : IsCall words call
-  pub output : IsOutputOf call left left' status text report ended
+  pub output : IsOutputOf call left left' status text report ended tlb
 
 -- the words ask for a call, and it is refused
 pub record IsRefusedCall (words : List (List ℕ)) (left left' : Option (List ℕ)) (refused : Refused) : Type 0 where

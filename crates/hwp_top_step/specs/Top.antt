@@ -67,7 +67,7 @@ Told taken taken' faults faults' text = Appends taken taken' text ⊎ (faults < 
 
 -- the texts of the statuses that have one text each
 abbrev pub usage_text : List ℕ
-usage_text = codes "usage: hwp step|run|check|gen N|sum N" ++ 10 ∷ []
+usage_text = codes "usage: hwp step [tlb]|run [tlb]|check|gen N|sum N" ++ 10 ∷ []
 
 abbrev pub read_fault_text : List ℕ
 read_fault_text = codes "read fault" ++ 10 ∷ []

@@ -12,16 +12,18 @@ use crate::messages::{OUT_OF_MEMORY, READ_FAULT, USAGE, WRITE_FAULT, refusal, te
 use crate::outputs::{Output, output_of};
 use crate::words::call_of;
 use hwp_io::{Sink, Source, WriteFault, write_all};
-use hwp_top_turns::{Ended, Report};
+use hwp_top_turns::{Bare, Cached, Ended, Report};
 use std::alloc::Global;
 use std::process::ExitCode;
 
-/// How a call ended: its exit status; and, where it made a run, the report, and what the run's table was closed with.
+/// How a call ended: its exit status; and, where it made a run, the report, and what the run's table was closed with: `tlb` has it of
+/// a table with translation caches, `ended` of any other.
 #[derive(Drop)]
 pub struct Done {
     pub status: u8,
     pub report: Option<Report>,
-    pub ended: Option<Ended>,
+    pub ended: Option<Ended<Bare>>,
+    pub tlb: Option<Ended<Cached>>,
 }
 
 impl Done {
@@ -36,6 +38,7 @@ impl Done {
 /// Serves the command that the words are:
 ///
 /// - `step` reads a fault script from `src`, runs it on its schedule, and writes the report to `out`;
+/// - `step tlb` does the same with a translation cache for each processor;
 /// - `check` reads a fault script from `src` and, behind its line `end`, a report, and writes whether a run of the script can have
 ///   the report: `legal`, or `not PLACE RULE` with the lowest rule that is broken and the first line of the report that breaks it;
 /// - `gen N` writes the script of seed N;
@@ -45,7 +48,7 @@ impl Done {
 ///
 /// - 0: done, and the whole output is written;
 /// - 1: done too, and the report that `check` read isn't legal;
-/// - 8: done too, and the report of `step` says that the machine stopped;
+/// - 8: done too, and the report of `step` or `step tlb` says that the machine stopped;
 /// - 2: the words are no command that is supported;
 /// - 3: the script is refused;
 /// - 4: the source failed;
@@ -62,15 +65,16 @@ pub fn top<S: Source, K: Sink, E: Sink>(
 ) -> Done
     ensures statuses { Contains (0 ∷ 1 ∷ 2 ∷ 3 ∷ 4 ∷ 5 ∷ 6 ∷ 8 ∷ []) result.status }
 
-    // Status 0, or 8 where the machine of `step` stopped, or 1 where the report that `check` read isn't legal: what is written is
-    // what the call that the words ask for gives, with a report that keeps the law of reports.
+    // Status 0, or 8 where the machine of `step` or `step tlb` stopped, or 1 where the report that `check` read isn't legal: what is
+    // written is what the call that the words ask for gives, with a report that keeps the law of reports.
     ensures report { IsDone result.status → (text : List ℕ)
         × IsReported (map string_bytes words.now) (S.left src.old) (S.left src.new) result.status text result.report
         × Appends (K.taken out.old) (K.taken out.new) text }
 
-    // The run level: that report is the one of a run of the processors on the written schedule, with what its table was closed with.
+    // The run level: that report is the one of a run of the processors on the written schedule, with what its table was closed with. At
+    // the end of `step tlb` no entry of a translation cache names a handled frame.
     ensures done { IsDone result.status → (text : List ℕ)
-        × IsOutput (map string_bytes words.now) (S.left src.old) (S.left src.new) result.status text result.report result.ended
+        × IsOutput (map string_bytes words.now) (S.left src.old) (S.left src.new) result.status text result.report result.ended result.tlb
         × Appends (K.taken out.old) (K.taken out.new) text }
 
     // Status 2 comes if and only if the words are anything else, and statuses 3, 4 and 5 only by their cause.
@@ -81,15 +85,15 @@ pub fn top<S: Source, K: Sink, E: Sink>(
     ensures read_fault { result.status ≡ 4 → S.faults src.old < S.faults src.new }
     ensures write_fault { result.status ≡ 5 → K.faults out.old < K.faults out.new }
 
-    // `step` and `check` alone read the source.
+    // `step`, `step tlb` and `check` alone read the source.
     ensures unread { (¬ IsReading (map string_bytes words.now)) → src.new ≡ src.old }
 
-    // Status 5: a part of the output is written, and the report of `step` and `sum` is there.
+    // Status 5: a part of the output is written, and the report of `step`, `step tlb` and `sum` is there.
     ensures cut { result.status ≡ 5 → (status : ℕ) × (text : List ℕ)
-        × IsOutput (map string_bytes words.now) (S.left src.old) (S.left src.new) status text result.report result.ended
+        × IsOutput (map string_bytes words.now) (S.left src.old) (S.left src.new) status text result.report result.ended result.tlb
         × AppendsStrictFront (K.taken out.old) (K.taken out.new) text }
     ensures unwritten { (¬ IsDone result.status) → result.status ≢ 5 → out.new ≡ out.old }
-    ensures no_report { (¬ IsDone result.status) → result.status ≢ 5 → (result.report ≡ None) × (result.ended ≡ None) }
+    ensures no_report { (¬ IsDone result.status) → result.status ≢ 5 → (result.report ≡ None) × (result.ended ≡ None) × (result.tlb ≡ None) }
 
     // What is told on `err`.
     ensures silent { IsDone result.status → err.new ≡ err.old }
@@ -102,6 +106,7 @@ pub fn top<S: Source, K: Sink, E: Sink>(
             status: 2,
             report: None,
             ended: None,
+            tlb: None,
         };
     };
     match output_of(alloc, call, src) {
@@ -110,6 +115,7 @@ pub fn top<S: Source, K: Sink, E: Sink>(
             status: tell_fault(alloc, err, fault),
             report: None,
             ended: None,
+            tlb: None,
         },
     }
 }
@@ -118,7 +124,7 @@ pub fn top<S: Source, K: Sink, E: Sink>(
 pub fn deliver<K: Sink, E: Sink>(out: &mut K, err: &mut E, output: Output) -> Done
     requires { IsDone output.status }
     ensures statuses { (result.status ≡ output.status) ⊎ (result.status ≡ 5) }
-    ensures report { (result.report ≡ output.report) × (result.ended ≡ output.ended) }
+    ensures report { (result.report ≡ output.report) × (result.ended ≡ output.ended) × (result.tlb ≡ output.tlb) }
     ensures done { IsDone result.status → (result.status ≡ output.status) × Appends (K.taken out.old) (K.taken out.new) output.text }
     ensures silent { IsDone result.status → err.new ≡ err.old }
     ensures write_fault { result.status ≡ 5 → K.faults out.old < K.faults out.new }
@@ -130,12 +136,14 @@ pub fn deliver<K: Sink, E: Sink>(out: &mut K, err: &mut E, output: Output) -> Do
         status,
         report,
         ended,
+        tlb,
     } = output;
     match write_all(out, text.as_slice()) {
         Ok(()) => Done {
             status,
             report,
             ended,
+            tlb,
         },
         Err(WriteFault) => {
             tell(err, WRITE_FAULT);
@@ -143,6 +151,7 @@ pub fn deliver<K: Sink, E: Sink>(out: &mut K, err: &mut E, output: Output) -> Do
                 status: 5,
                 report,
                 ended,
+                tlb,
             }
         }
     }

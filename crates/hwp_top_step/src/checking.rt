@@ -43,7 +43,7 @@ fn status_of(verdict: Verdict) -> u8
 
 /// The output of `check`.
 pub(crate) fn checked<S: Source>(alloc: Global, src: &mut S) -> Result<Output, InputFault>
-    ensures output { IfOk result (λ o. IsOutputOf Call.Check (S.left src.old) (S.left src.new) o.status o.text o.report o.ended) }
+    ensures output { IfOk result (λ o. IsOutputOf Call.Check (S.left src.old) (S.left src.new) o.status o.text o.report o.ended o.tlb) }
     ensures refused { (r : Refused) → IsErrOf result (InputFault.Refused r) → RefusesChecked (S.left src.old) (S.left src.new) r }
     ensures fault { IsErrOf result InputFault.ReadFault → S.faults src.old < S.faults src.new }
 {
@@ -61,5 +61,6 @@ pub(crate) fn checked<S: Source>(alloc: Global, src: &mut S) -> Result<Output, I
         status: status_of(verdict),
         report: None,
         ended: None,
+        tlb: None,
     })
 }

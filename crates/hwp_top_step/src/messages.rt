@@ -7,7 +7,7 @@ use hwp_script::{Refused, Why};
 use std::alloc::{AllocError, Global};
 
 /// Usage line.
-pub const USAGE: &[u8] = b"usage: hwp step|run|check|gen N|sum N\n";
+pub const USAGE: &[u8] = b"usage: hwp step [tlb]|run [tlb]|check|gen N|sum N\n";
 /// Printed when a read fails.
 pub(crate) const READ_FAULT: &[u8] = b"read fault\n";
 /// Printed when a write fails.

@@ -4,6 +4,7 @@ ghost use Rattle.hwp_script.specs.hwp_script_read.declared.Refused.{Refused};
 ghost use Rattle.hwp_report_summary.specs.hwp_report_text.ReportText.{report_text};
 ghost use Rattle.hwp_top_step.specs.Outputs.{HasRun, IsGenerated, IsOutputOf, IsRefusedFor, IsSummed};
 ghost use Rattle.hwp_top_step.specs.Top.{Refuses, Reports, done_status};
+ghost use Rattle.hwp_top_turns.specs.Runs.{IsCachedEnd};
 
 use crate::checking::checked;
 use crate::inputs::{InputFault, take_script};
@@ -11,28 +12,33 @@ use crate::served::Call;
 use hwp_io::Source;
 use hwp_report_summary::summary;
 use hwp_script::generate;
-use hwp_top_turns::{Ended, Finished, Report, Text, run_in_turns};
+use hwp_top_turns::{Bare, Cached, Ended, Finished, Report, Text, Ways, run_in_turns};
 use std::alloc::Global;
 
 /// What a call writes, the status where all of it is written, and, where it made a run, the report, and what the run's table was
-/// closed with.
+/// closed with: `tlb` has it of a table with translation caches, `ended` of any other.
 #[derive(Drop)]
 pub struct Output {
     pub text: Text,
     pub status: u8,
     pub report: Option<Report>,
-    pub ended: Option<Ended>,
+    pub ended: Option<Ended<Bare>>,
+    pub tlb: Option<Ended<Cached>>,
 }
 
 /// The run of the script that a source gives, and the text of its report.
-fn report_of<S: Source>(alloc: Global, src: &mut S) -> Result<(Finished, Text), InputFault>
+fn report_of<S: Source, W: Ways>(
+    alloc: Global,
+    src: &mut S,
+) -> Result<(Finished<W>, Text), InputFault>
     ensures report { IfOk result (λ done. Reports (S.left src.old) (S.left src.new) done.0.report done.0.ended) }
+    ensures cached { IfOk result (λ done. IsCachedEnd done.0.ended) }
     ensures text { IfOk result (λ done. done.1 ≡ report_text done.0.report) }
     ensures refused { (r : Refused) → IsErrOf result (InputFault.Refused r) → Refuses (S.left src.old) (S.left src.new) r }
     ensures fault { IsErrOf result InputFault.ReadFault → S.faults src.old < S.faults src.new }
 {
     let script = take_script(alloc, src)?;
-    let Ok(run) = run_in_turns(alloc, &script) else {
+    let Ok(run) = run_in_turns::<W>(alloc, &script) else {
         return Err(InputFault::OutOfMemory);
     };
     let Ok(text) = hwp_top_turns::print(alloc, &run.report) else {
@@ -43,16 +49,33 @@ fn report_of<S: Source>(alloc: Global, src: &mut S) -> Result<(Finished, Text), 
 
 /// The output of `step`.
 fn stepped<S: Source>(alloc: Global, src: &mut S) -> Result<Output, InputFault>
-    ensures output { IfOk result (λ o. IsOutputOf Call.Step (S.left src.old) (S.left src.new) o.status o.text o.report o.ended) }
+    ensures output { IfOk result (λ o. IsOutputOf Call.Step (S.left src.old) (S.left src.new) o.status o.text o.report o.ended o.tlb) }
     ensures refused { (r : Refused) → IsErrOf result (InputFault.Refused r) → Refuses (S.left src.old) (S.left src.new) r }
     ensures fault { IsErrOf result InputFault.ReadFault → S.faults src.old < S.faults src.new }
 {
-    let (run, text) = report_of(alloc, src)?;
+    let (run, text) = report_of::<S, Bare>(alloc, src)?;
     Ok(Output {
         text,
         status: status_of(&run.report),
         report: Some(run.report),
         ended: Some(run.ended),
+        tlb: None,
+    })
+}
+
+/// The output of `step tlb`.
+fn stepped_tlb<S: Source>(alloc: Global, src: &mut S) -> Result<Output, InputFault>
+    ensures output { IfOk result (λ o. IsOutputOf Call.StepTlb (S.left src.old) (S.left src.new) o.status o.text o.report o.ended o.tlb) }
+    ensures refused { (r : Refused) → IsErrOf result (InputFault.Refused r) → Refuses (S.left src.old) (S.left src.new) r }
+    ensures fault { IsErrOf result InputFault.ReadFault → S.faults src.old < S.faults src.new }
+{
+    let (run, text) = report_of::<S, Cached>(alloc, src)?;
+    Ok(Output {
+        text,
+        status: status_of(&run.report),
+        report: Some(run.report),
+        ended: None,
+        tlb: Some(run.ended),
     })
 }
 
@@ -65,7 +88,7 @@ pub fn status_of(report: &Report) -> u8
 
 /// The output of `gen`.
 fn script_text(alloc: Global, seed: u64) -> Result<Output, InputFault>
-    ensures output { IfOk result (λ o. IsGenerated seed o.text × (o.status ≡ 0) × (o.report ≡ None) × (o.ended ≡ None)) }
+    ensures output { IfOk result (λ o. IsGenerated seed o.text × (o.status ≡ 0) × (o.report ≡ None) × (o.ended ≡ None) × (o.tlb ≡ None)) }
     ensures memory { (fault : InputFault) → IsErrOf result fault → fault ≡ InputFault.OutOfMemory }
 {
     let Ok(script) = generate(alloc, seed) else {
@@ -79,18 +102,19 @@ fn script_text(alloc: Global, seed: u64) -> Result<Output, InputFault>
         status: 0,
         report: None,
         ended: None,
+        tlb: None,
     })
 }
 
 /// The output of `sum`.
 fn summed(alloc: Global, seed: u64) -> Result<Output, InputFault>
-    ensures output { IfOk result (λ o. HasRun o.report o.ended (IsSummed seed o.status o.text)) }
+    ensures output { IfOk result (λ o. HasRun o.report o.ended (IsSummed seed o.status o.text) × (o.tlb ≡ None)) }
     ensures memory { (fault : InputFault) → IsErrOf result fault → fault ≡ InputFault.OutOfMemory }
 {
     let Ok(script) = generate(alloc, seed) else {
         return Err(InputFault::OutOfMemory);
     };
-    let Ok(run) = run_in_turns(alloc, &script) else {
+    let Ok(run) = run_in_turns::<Bare>(alloc, &script) else {
         return Err(InputFault::OutOfMemory);
     };
     let Ok(text) = hwp_report_summary::print(alloc, seed, &summary(&run.report)) else {
@@ -101,22 +125,24 @@ fn summed(alloc: Global, seed: u64) -> Result<Output, InputFault>
         status: 0,
         report: Some(run.report),
         ended: Some(run.ended),
+        tlb: None,
     })
 }
 
-/// The output of a call. `step` and `check` alone read the source.
+/// The output of a call. `step`, `step tlb` and `check` alone read the source.
 pub(crate) fn output_of<S: Source>(
     alloc: Global,
     call: Call,
     src: &mut S,
 ) -> Result<Output, InputFault>
-    ensures output { IfOk result (λ o. IsOutputOf call (S.left src.old) (S.left src.new) o.status o.text o.report o.ended) }
+    ensures output { IfOk result (λ o. IsOutputOf call (S.left src.old) (S.left src.new) o.status o.text o.report o.ended o.tlb) }
     ensures refused { (r : Refused) → IsErrOf result (InputFault.Refused r) → IsRefusedFor call (S.left src.old) (S.left src.new) r }
     ensures fault { IsErrOf result InputFault.ReadFault → S.faults src.old < S.faults src.new }
-    ensures unread { call ≢ Call.Step → call ≢ Call.Check → src.new ≡ src.old }
+    ensures unread { call ≢ Call.Step → call ≢ Call.StepTlb → call ≢ Call.Check → src.new ≡ src.old }
 {
     match call {
         Call::Step => stepped(alloc, src),
+        Call::StepTlb => stepped_tlb(alloc, src),
         Call::Check => checked(alloc, src),
         Call::Gen(seed) => script_text(alloc, seed),
         Call::Sum(seed) => summed(alloc, seed),

@@ -1,6 +1,6 @@
 //! The words of a command.
-ghost use Rattle.std.specs.Prelude.{[], ◌∷◌, map, string_bytes, IfSome, IfNone};
-ghost use Rattle.hwp_top_step.specs.Calls.{IsCall, IsNoCall};
+ghost use Rattle.std.specs.Prelude.{◌↔◌, [], ◌∷◌, true, map, string_bytes, IfSome, IfNone, IsTrue};
+ghost use Rattle.hwp_top_step.specs.Calls.{IsCall, IsNoCall, IsStep};
 
 use crate::served::Call;
 use hwp_top_turns::{is_text, read_number};
@@ -19,12 +19,22 @@ fn call_alone(word: &[u8]) -> Option<Call>
     None
 }
 
-/// The call that a word and a number are.
-fn call_with(word: &[u8], number: &[u8]) -> Option<Call>
-    ensures some { IfSome result (IsCall (word.now ∷ number.now ∷ [])) }
-    ensures none { IfNone result (IsNoCall (word.now ∷ number.now ∷ [])) }
+/// Whether the words are `step tlb`.
+fn is_step_tlb(word: &[u8], second: &[u8]) -> bool
+    ensures { IsTrue result ↔ IsStep (word.now ∷ second.now ∷ []) true }
 {
-    let Some(seed) = read_number(number) else {
+    is_text(word, "step") && is_text(second, "tlb")
+}
+
+/// The call that two words are.
+fn call_with(word: &[u8], second: &[u8]) -> Option<Call>
+    ensures some { IfSome result (IsCall (word.now ∷ second.now ∷ [])) }
+    ensures none { IfNone result (IsNoCall (word.now ∷ second.now ∷ [])) }
+{
+    if is_step_tlb(word, second) {
+        return Some(Call::StepTlb);
+    }
+    let Some(seed) = read_number(second) else {
         return None;
     };
     if is_text(word, "gen") {
@@ -43,7 +53,7 @@ pub(crate) fn call_of(words: &[String]) -> Option<Call>
 {
     match words {
         [word] => call_alone(word.as_bytes()),
-        [word, number] => call_with(word.as_bytes(), number.as_bytes()),
+        [word, second] => call_with(word.as_bytes(), second.as_bytes()),
         _ => None,
     }
 }

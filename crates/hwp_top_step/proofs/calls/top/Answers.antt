@@ -15,11 +15,11 @@ returns-in_default-clause-told g c text is =
 
 pub returns-in-Ok-clause-statuses : goal.returns-in-Ok-clause-statuses
 returns-in-Ok-clause-statuses g c =
-    output_is_listed c.in-Some.call (g.S.Source.left c.args.src.now) (g.S.Source.left c.output_of.new.src) c.in-Ok.output.status c.deliver.result.status c.in-Ok.output.text c.in-Ok.output.report c.in-Ok.output.ended c.in-Ok.ensures.output c.deliver.ensures.statuses
+    output_is_listed c.in-Some.call (g.S.Source.left c.args.src.now) (g.S.Source.left c.output_of.new.src) c.in-Ok.output.status c.deliver.result.status c.in-Ok.output.text c.in-Ok.output.report c.in-Ok.output.ended c.in-Ok.output.tlb c.in-Ok.ensures.output c.deliver.ensures.statuses
 
 pub returns-in-Err-clause-statuses : goal.returns-in-Err-clause-statuses
 returns-in-Err-clause-statuses g c = fault_is_listed c.tell_fault.result c.tell_fault.ensures.statuses
 
 pub returns-in-Ok-clause-report : goal.returns-in-Ok-clause-report
 returns-in-Ok-clause-report g c =
-    delivered (map string_bytes c.args.words.now) c.in-Some.call (g.S.Source.left c.args.src.now) (g.S.Source.left c.output_of.new.src) (g.K.Sink.taken c.args.out.now) (g.K.Sink.taken c.deliver.new.out) c.in-Ok.output.status c.deliver.result.status c.in-Ok.output.text c.in-Ok.output.report c.deliver.result.report c.in-Ok.output.ended c.in-Some.ensures.some c.in-Ok.ensures.output c.deliver.ensures.report.0 c.deliver.ensures.done
+    delivered (map string_bytes c.args.words.now) c.in-Some.call (g.S.Source.left c.args.src.now) (g.S.Source.left c.output_of.new.src) (g.K.Sink.taken c.args.out.now) (g.K.Sink.taken c.deliver.new.out) c.in-Ok.output.status c.deliver.result.status c.in-Ok.output.text c.in-Ok.output.report c.deliver.result.report c.in-Ok.output.ended c.in-Ok.output.tlb c.in-Some.ensures.some c.in-Ok.ensures.output c.deliver.ensures.report.0 c.deliver.ensures.done
