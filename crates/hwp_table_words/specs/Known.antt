@@ -11,6 +11,7 @@ use Rattle.hwp_core_task.specs.hwp_core_rule.SlotMoves.{homes_after}
 use Rattle.hwp_core_task.specs.hwp_core_rule.Steps.{place_of, word_after}
 use Rattle.hwp_core_task.specs.hwp_core_rule.Views.{view_after, without}
 use Rattle.hwp_core_task.specs.hwp_core_rule.Words.{index}
+use Rattle.hwp_tlb_rule.specs.Caching.{Caching, forgotten, idle_caching, joined_caching}
 
 -- What the table is: all words and all slots at home, in the order of the frame rule, and the moves that led to them, the
 -- newest first.
@@ -110,3 +111,23 @@ joined v w = record { mines = v.mines ++ w.mines; own = v.own ++ w.own; rights =
 -- the same where the other is a note, which has no view
 abbrev pub with_note : Known → Known → Known
 with_note v w = record { mines = v.mines; own = v.own ++ w.own; rights = v.rights ++ w.rights; whole = either_whole v.whole w.whole }
+
+-- what a seat knows, and beside it what it knows of the translation caches
+pub record Knowing : Type 0 where
+  pub known : Known
+  pub caching : Caching
+
+-- it knows nothing of the caches
+abbrev pub idling : Known → Knowing
+idling v = record { known = v; caching = idle_caching }
+
+abbrev pub first_knowing : Layout → Knowing
+first_knowing layout = idling (first_known layout)
+
+-- it forgets what it listed of the caches
+abbrev pub forgetting : Known → Caching → Knowing
+forgetting v k = record { known = v; caching = forgotten k }
+
+-- all that two seats have
+abbrev pub joining : Knowing → Knowing → Knowing
+joining v w = record { known = joined v.known w.known; caching = joined_caching v.caching w.caching }

@@ -18,10 +18,12 @@ use Rattle.hwp_core_task.specs.hwp_core_rule.Views.{view_after}
 use Rattle.hwp_core_task.specs.hwp_core_rule.Words.{index}
 use Rattle.hwp_core_task.specs.Calls.{FitsLayout, logs, rec_of}
 use Rattle.hwp_table_words.specs.Known.{Whole, known_after}
-use Rattle.hwp_table_words.specs.Stands.{Content, Me}
+use Rattle.hwp_table_words.specs.Stands.{Content, FirstMe, Me, first_me}
+use Rattle.hwp_tlb_rule.specs.Rule.{frames_of}
+use Rattle.hwp_tlb_rule.specs.Steps.{caching_after}
 
 -- a step that is to be made: on which machine, of which processor with this view, of which command, which step, and the
--- content that goes home with it
+-- content that goes home with it; and how many words the translation caches have
 pub record Call : Type 0 where
   pub layout : Layout
   pub cpu : ℕ
@@ -29,6 +31,7 @@ pub record Call : Type 0 where
   pub who : Who
   pub step : Step
   pub put : Content
+  pub places : ℕ
 
 -- a step of a machine that has nothing
 abbrev pub no_call : Call
@@ -39,6 +42,7 @@ no_call = record {
   who = record { cpu = record { 0 = 0 }; seq = 0 };
   step = steps.GiveUp;
   put = None;
+  places = 0;
 }
 
 abbrev pub rec : Call → ℕ → Content → Rec
@@ -61,7 +65,7 @@ pub record Finds (layout : Layout) (r : Rec) (w : Whole) : Type 0 where
   pub slot : Meets layout w.homes r.step r.found r.content
 
 -- the step was made
-pub record Makes (call : Call) (m : Me) (found : ℕ) (n : Me) : Type 0 where
+pub record Makes (call : Call) (m : FirstMe) (found : ℕ) (n : FirstMe) : Type 0 where
   pub got : Content
   pub told : Told call.layout (rec call found got) call.mine (view_after call.layout (rec call found got) call.mine)
   pub layout_is : FitsLayout call.layout got
@@ -69,3 +73,8 @@ pub record Makes (call : Call) (m : Me) (found : ℕ) (n : Me) : Type 0 where
   pub known : n.0 ≡ known_after call.layout call.cpu (rec call found got) m.0
   pub slots : n.1 ≡ carried (slot_move call.layout call.step found) got m.1
   pub whole : (w : Whole) → m.0.whole ≡ Some w → Finds call.layout (rec call found got) w
+
+-- and what the seat knows of the translation caches followed
+pub record IsMade (call : Call) (m : Me) (found : ℕ) (n : Me) : Type 0 where
+  pub makes : Makes call (first_me m) found (first_me n)
+  pub caching : n.0.caching ≡ caching_after call.places call.step found (frames_of call.mine.locks) m.0.caching

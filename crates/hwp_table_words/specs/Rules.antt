@@ -1,5 +1,5 @@
 -- The rule of the table: moves lead from the opening to the table as it is, and each seat knows its part of what they led to.
-use Rattle.std.specs.Prelude.{◌≡◌, ℕ, ◌<◌, ◌≤◌, List, [], Some, slice_get}
+use Rattle.std.specs.Prelude.{◌≡◌, ℕ, ◌<◌, ◌≤◌, List, [], Some, drop, map, slice_get}
 use Rattle.std.specs.List.{sum_by}
 use Rattle.hwp_core_task.specs.hwp_geom.declared.Layout.{Layout}
 use Rattle.hwp_core_task.specs.hwp_geom.Layout.{IsSound}
@@ -9,8 +9,10 @@ use Rattle.hwp_core_task.specs.hwp_core_rule.declared.View.{View}
 use Rattle.hwp_core_task.specs.hwp_core_rule.Lists.{EachMember}
 use Rattle.hwp_core_task.specs.hwp_core_rule.Moves.{Run}
 use Rattle.hwp_core_task.specs.hwp_core_rule.Opening.{opening}
-use Rattle.hwp_table_words.specs.Known.{Known, Whole, moves_by, times, views_for}
-use Rattle.hwp_table_words.specs.Stands.{Table, stand, AreOfLayout}
+use Rattle.hwp_core_task.specs.hwp_core_rule.Words.{size}
+use Rattle.hwp_table_words.specs.Known.{Known, Knowing, Whole, moves_by, times, views_for}
+use Rattle.hwp_table_words.specs.Stands.{CachedTable, Table, first_part, stand, AreOfLayout}
+use Rattle.hwp_tlb_rule.specs.Rule.{CachesAgree, Seat}
 
 -- what one seat knows of the whole: it has all rights
 pub record IsWhole (layout : Layout) (s : State) (log : List (ℕ × Rec)) (rights : List ℕ) (w : Whole) : Type 0 where
@@ -42,3 +44,13 @@ pub record Reached (layout : Layout) (t : Table) : Type 0 where
   pub run : Run layout (opening layout) log (stand views t)
   pub ruled : Ruled layout (stand views t) log t.views
   pub bodies : AreOfLayout layout t.homes
+
+-- a seat, as the rule of the translation caches sees it: the views that it has, and what it knows of the caches
+abbrev pub cache_seat : Knowing → Seat
+cache_seat k = (k.known.mines, k.caching)
+
+-- The rule of the whole table: moves lead to its first words, and the words behind them, so many for each processor, are what
+-- the seats know of the translation caches.
+pub record Kept (ways : ℕ) (layout : Layout) (t : CachedTable) : Type 0 where
+  pub reached : Reached layout (first_part layout t)
+  pub agree : CachesAgree ways layout (stand reached.views (first_part layout t)) (drop (size layout) t.words) (map cache_seat t.views)

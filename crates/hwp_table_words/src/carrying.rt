@@ -6,6 +6,7 @@ ghost use Rattle.hwp_table_words.specs.Carrying.{vacant, IsCarried, IsFirst, Has
 ghost use Rattle.hwp_table_words.specs.Known.{times};
 
 use crate::plays::{Pass, Sheet, Slot};
+use crate::ways::Ways;
 use arrayvec::ArrayVec;
 use hwp_core_task::SlotMove;
 
@@ -13,7 +14,7 @@ use hwp_core_task::SlotMove;
 pub type Order = ArrayVec<usize, 3>;
 
 /// Before a step that frees a lock: the lock's slot comes to the front, and the body into it.
-pub(crate) fn lay(sheet: &Sheet, seat: &mut Pass, order: &mut Order, to: SlotMove, body: Slot)
+pub(crate) fn lay<W: Ways>(sheet: &Sheet<W>, seat: &mut Pass, order: &mut Order, to: SlotMove, body: Slot)
     requires fits { seat.old.table_id ≡ sheet.now.table_id }
     requires empty { seat.old.me.1 ≡ vacant order.old.items }
     requires there { IsCarried to order.old.items }
@@ -47,7 +48,7 @@ fn bring(seat: &mut Pass, order: &mut Order, slot: usize)
 }
 
 /// After a step: the body of the slot that went out with its lock, so that all slots that the seat carries are empty.
-pub fn settle(sheet: &Sheet, seat: &mut Pass, order: &mut Order, to: SlotMove) -> Slot
+pub fn settle<W: Ways>(sheet: &Sheet<W>, seat: &mut Pass, order: &mut Order, to: SlotMove) -> Slot
     requires fits { seat.old.table_id ≡ sheet.now.table_id }
     requires brought { (got : Option BodyValue) × (seat.old.me.1 ≡ brought to got order.old.items) }
     requires first { IsFirst to order.old.items }
@@ -73,7 +74,7 @@ pub fn settle(sheet: &Sheet, seat: &mut Pass, order: &mut Order, to: SlotMove) -
 }
 
 /// Takes the body out of the first slot that the seat carries.
-fn take(sheet: &Sheet, seat: &mut Pass, slot: usize) -> Slot
+fn take<W: Ways>(sheet: &Sheet<W>, seat: &mut Pass, slot: usize) -> Slot
     requires fits { seat.old.table_id ≡ sheet.now.table_id }
     requires front { (got : Option BodyValue) × (seat.old.me.1 ≡ (slot, got) ∷ rest seat.old.me.1) }
     ensures same { seat.new.table_id ≡ seat.old.table_id }

@@ -1,4 +1,4 @@
-ghost use Rattle.std.specs.Prelude.{◌≡◌, ◌<◌, ◌≤◌, ℕ, [], false, length, map, slice_index_or, vec_capacity, vec_len, IfErr, IfOk};
+ghost use Rattle.std.specs.Prelude.{◌≡◌, ◌<◌, ◌≤◌, ℕ, [], false, length, map, take, slice_index_or, vec_capacity, vec_len, IfErr, IfOk};
 ghost use Rattle.std.specs.Slots.{slots_items, slots_filled, slots_len, IsFull};
 ghost use Rattle.hwp_plain_words.specs.Openings.{home_with};
 ghost use Rattle.hwp_plain_words.specs.Ends.{IsMachineOf};
@@ -7,6 +7,7 @@ ghost use Rattle.hwp_table_words.specs.Order.{in_rule};
 ghost use Rattle.hwp_table_words.specs.Seats.{IsTableOf};
 
 use crate::plays::{Pass, Slot, WordTable};
+use crate::ways::Ways;
 use atomic_table::Closed;
 use hwp_core_task::{Layout, OutOfMemory};
 use hwp_plain_words::{Machine, machine_of};
@@ -14,17 +15,22 @@ use std::alloc::Global;
 use std::marker::Model;
 use std::snapshot::Snapshot;
 
-/// What a table came to: its words; and, for clauses, the bodies that were in its slots, and what its last seat knew. That
-/// moves of the frame rule led to them from the opening stands in its type. Only `close` makes one.
+/// What a table came to: the machine's words; and, for clauses, the bodies that were in its slots, what its last seat knew,
+/// and the words of the translation caches. That moves of the frame rule led to them from the opening stands in its type.
+/// Only `close` makes one.
 #[derive(Drop)]
-pub struct Ended {
+pub struct Ended<W: Ways> {
     words: Vec<u64>,
     slots: Snapshot<Vec<Slot>>,
-    table: Snapshot<WordTable>,
+    table: Snapshot<WordTable<W>>,
     pass: Snapshot<Pass>,
+    closed: Snapshot<Closed<Slot, Global>>,
 }
 
-impl Model for Ended {
+impl<W: Ways> Model for Ended<W> {
+    ghost use Rattle.std.specs.Prelude.{drop};
+    ghost use Rattle.std.specs.Slots.{slots_items};
+    ghost use Rattle.hwp_core_task.specs.hwp_core_rule.Words.{size};
     ghost use Rattle.hwp_table_words.specs.Ends.{EndValue, IsEnd};
     ghost use Rattle.hwp_core_task.specs.hwp_kill.contracts.Slots as sets;
     ghost use Rattle.std.specs.Coded.{codes};
@@ -33,12 +39,12 @@ impl Model for Ended {
 
     ghost coded = { Prim.hlevel (codes, sets.the_row.coded) };
 
-    ghost view = { λ e. record { layout = e.table.value.shared.key; words = e.words.items; slots = e.slots.value.items; known = e.pass.value.me.0 } };
+    ghost view = { λ e. record { layout = e.table.value.shared.key; words = e.words.items; slots = e.slots.value.items; known = e.pass.value.me.0.known; entries = drop (size e.table.value.shared.key) (slots_items e.closed.value.words) } };
 
-    ghost invariant = { λ e. IsEnd e.table.value.shared.key e.pass.value.me.0 e.words.items e.slots.value.items };
+    ghost invariant = { λ e. IsEnd W.ways e.table.value.shared.key e.pass.value.me.0.known e.words.items e.slots.value.items (drop (size e.table.value.shared.key) (slots_items e.closed.value.words)) };
 }
 
-impl Ended {
+impl<W: Ways> Ended<W> {
     /// The words, in the order of the frame rule.
     pub fn words(&self) -> &[u64]
         ensures { result.now ≡ self.now.words }
@@ -48,7 +54,7 @@ impl Ended {
 
     /// Moves led from the opening to the words and bodies. Proof only: a call tells its clauses.
     pub fn reached(&self)
-        ensures { IsEnd self.now.layout self.now.known self.now.words self.now.slots }
+        ensures { IsEnd W.ways self.now.layout self.now.known self.now.words self.now.slots self.now.entries }
     {
         let _words = &self.words;
     }
@@ -68,20 +74,21 @@ impl Ended {
 ///
 /// # Errors
 /// The table and the seat, as they were, where memory for the words and bodies is refused.
-pub fn close(
+pub fn close<W: Ways>(
     alloc: Global,
-    table: WordTable,
+    layout: &Layout,
+    table: WordTable<W>,
     pass: Pass,
-) -> Result<(Ended, Vec<Slot>), (WordTable, Pass)>
-    requires table { IsTableOf table.shared.key table.shared.table_id }
+) -> Result<(Ended<W>, Vec<Slot>), (WordTable<W>, Pass)>
+    requires table { IsTableOf W.ways layout.now table.shared.table_id × (table.shared.key ≡ layout.now) }
     requires same { pass.table_id ≡ table.shared.table_id }
-    requires all { HasAll table.shared.key pass.me.0 }
-    ensures layout { IfOk result (λ e. e.0.layout ≡ table.shared.key) }
-    ensures known { IfOk result (λ e. e.0.known ≡ pass.me.0) }
+    requires all { HasAll layout.now pass.me.0.known }
+    ensures layout { IfOk result (λ e. e.0.layout ≡ layout.now) }
+    ensures known { IfOk result (λ e. e.0.known ≡ pass.me.0.known) }
     ensures slots { IfOk result (λ e. e.0.slots ≡ e.1.items) }
     ensures refused { IfErr result (λ back. (back.0 ≡ table) × (back.1 ≡ pass)) }
 {
-    let word_count = table.word_count();
+    let word_count = table.word_count() - W::ways() * usize::from(layout.cpus);
     let Ok(mut words) = Vec::with_capacity(alloc, word_count) else {
         return Err((table, pass));
     };
@@ -92,6 +99,7 @@ pub fn close(
     let of_pass = Snapshot::of(&pass);
     let mut closed = table.close_with(pass);
     read_words(&closed, word_count, &mut words);
+    let of_closed = Snapshot::of(&closed);
     take_slots(&mut closed, &mut slots);
     closed.free();
     let ended = Ended {
@@ -99,15 +107,16 @@ pub fn close(
         slots: Snapshot::of(&slots),
         table: of_table,
         pass: of_pass,
+        closed: of_closed,
     };
     Ok((ended, slots))
 }
 
-/// Reads all words, the stop word last.
+/// Reads the machine's words, which are so many, the stop word last.
 fn read_words(closed: &Closed<Slot, Global>, count: usize, words: &mut Vec<u64>)
-    requires full { IsFull closed.now.words × (slots_len closed.now.words ≡ count) × (0 < count) }
+    requires full { IsFull closed.now.words × (count ≤ slots_len closed.now.words) × (0 < count) }
     requires room { (words.old.items ≡ []) × (vec_len words.old ≡ 0) × (count ≤ vec_capacity words.old) }
-    ensures { words.new.items ≡ in_rule (slots_items closed.now.words) }
+    ensures { words.new.items ≡ in_rule (take count (slots_items closed.now.words)) }
 {
     let mut next = 1;
     while next < count {

@@ -4,13 +4,13 @@ use std::marker::Model;
 pub struct Knowledge;
 
 impl Model for Knowledge {
-    ghost use Rattle.hwp_table_words.specs.Known.{Known, idle};
+    ghost use Rattle.hwp_table_words.specs.Known.{Knowing, idle, idling};
     ghost use Rattle.hwp_core_task.specs.hwp_kill.contracts.Slots as sets;
     ghost use Rattle.std.specs.Coded.{codes};
 
-    ghost Value = { Known };
+    ghost Value = { Knowing };
 
     ghost coded = { Prim.hlevel (codes, sets.the_row.coded) };
 
-    ghost view = { λ _. idle };
+    ghost view = { λ _. idling idle };
 }

@@ -1,12 +1,13 @@
-ghost use Rattle.std.specs.Prelude.{◌≡◌, [], IfOk};
+ghost use Rattle.std.specs.Prelude.{◌≡◌, ◌*◌, ◌++◌, [], replicate, IfOk, OnOk};
 ghost use Rattle.std.specs.Arc.{arc_value};
 ghost use Rattle.hwp_core_task.specs.hwp_geom.Layout.{IsSound};
 ghost use Rattle.hwp_core_task.specs.hwp_core_rule.Opening.{opening_words};
-ghost use Rattle.hwp_table_words.specs.Known.{first_known};
-ghost use Rattle.hwp_table_words.specs.Order.{in_rule};
+ghost use Rattle.hwp_table_words.specs.Known.{first_knowing};
+ghost use Rattle.hwp_table_words.specs.Order.{IsOpened};
 ghost use Rattle.hwp_table_words.specs.Seats.{IsTableOf};
 
 use crate::plays::{Pass, WordTable};
+use crate::ways::Ways;
 use atomic_table::Table;
 use hwp_core_task::{Layout, OutOfMemory};
 use hwp_plain_words::{opening_bodies, opening_words};
@@ -14,13 +15,16 @@ use std::alloc::{AllocError, Global};
 use std::sync::Arc;
 
 /// The table of a sound layout at opening, and its one seat, which has the views and the rights of all processors.
-pub fn begin(alloc: Global, layout: &Arc<Layout, Global>) -> Result<(WordTable, Pass), OutOfMemory>
+pub fn begin<W: Ways>(
+    alloc: Global,
+    layout: &Arc<Layout, Global>,
+) -> Result<(WordTable<W>, Pass), OutOfMemory>
     requires sound { IsSound (arc_value layout.now) }
-    ensures table { IfOk result (λ t. IsTableOf (arc_value layout.now) t.0.shared.table_id × (t.0.shared.key ≡ arc_value layout.now)) }
-    ensures seat { IfOk result (λ t. (t.1.table_id ≡ t.0.shared.table_id) × (t.1.me ≡ (first_known (arc_value layout.now), []))) }
+    ensures table { IfOk result (λ t. IsTableOf W.ways (arc_value layout.now) t.0.shared.table_id × (t.0.shared.key ≡ arc_value layout.now)) }
+    ensures seat { IfOk result (λ t. (t.1.table_id ≡ t.0.shared.table_id) × (t.1.me ≡ (first_knowing (arc_value layout.now), []))) }
 {
     let declared: &Layout = layout;
-    let words = table_words(alloc, declared)?;
+    let words = table_words::<W>(alloc, declared)?;
     let bodies = opening_bodies(alloc, layout)?;
     match Table::new(alloc, words.as_slice(), bodies, declared) {
         Ok(opened) => Ok(opened),
@@ -28,14 +32,25 @@ pub fn begin(alloc: Global, layout: &Arc<Layout, Global>) -> Result<(WordTable, 
     }
 }
 
-/// The words at opening, the stop word first.
-fn table_words(alloc: Global, layout: &Layout) -> Result<Vec<u64>, OutOfMemory>
+/// The words at opening, the stop word first, and behind them those of the translation caches, which are empty.
+fn table_words<W: Ways>(alloc: Global, layout: &Layout) -> Result<Vec<u64>, OutOfMemory>
     requires sound { IsSound layout.now }
-    ensures { IfOk result (λ words. in_rule words.items ≡ opening_words layout.now) }
+    ensures { IfOk result (λ words. IsOpened layout.now (W.ways * layout.now.cpus) words.items) }
 {
     let mut words = opening_words(alloc, layout)?;
     if let Some(stop) = words.pop() {
         words.insert(0, stop)?;
     }
+    add_empty(&mut words, W::ways() * usize::from(layout.cpus))?;
     Ok(words)
+}
+
+/// So many empty words more.
+fn add_empty(words: &mut Vec<u64>, count: usize) -> Result<(), OutOfMemory>
+    ensures { OnOk result (words.new.items ≡ words.old.items ++ replicate count 0) }
+{
+    for _ in 0..count {
+        words.push(0)?;
+    }
+    Ok(())
 }

@@ -1,7 +1,8 @@
 use crate::seat::SeatOps;
+use crate::ways::Ways;
 use hwp_core_task::{Body, Layout, Met, Ops, Step, Who};
 
-impl<'a> Ops for SeatOps<'a> {
+impl<'a, W: Ways> Ops for SeatOps<'a, W> {
     ghost use Rattle.hwp_table_words.specs.Seats.{HasRight, Moves, mine};
 
     ghost layout = { λ s. s.layout };

@@ -1,9 +1,10 @@
 ghost use Rattle.std.specs.Prelude.{ℕ};
-ghost use Rattle.hwp_table_words.specs.Known.{dealt, first_known, idle, joined, kept, let_go, note};
-ghost use Rattle.hwp_table_words.specs.Plays.{Call, Makes as IsMade, no_call};
-ghost use Rattle.hwp_table_words.specs.Rules.{Reached};
+ghost use Rattle.hwp_table_words.specs.Known.{first_knowing, forgetting, idle, idling, joining, dealt, kept, let_go, note};
+ghost use Rattle.hwp_table_words.specs.Plays.{Call, IsMade, no_call};
+ghost use Rattle.hwp_table_words.specs.Rules.{Kept};
 
 use crate::knowledge::Knowledge;
+use crate::ways::Ways;
 use atomic_table::{Join, Play, Seat, Shared, Split, Table, TableRule};
 use hwp_core_task::{Body, Layout};
 use std::alloc::Global;
@@ -13,21 +14,23 @@ use std::marker::{Brand, PhantomData};
 pub type Slot = Option<Body>;
 
 /// The words and slots, as threads share them.
-pub type Sheet = Shared<Slot, Knowledge, Layout, Rule>;
+pub type Sheet<W> = Shared<Slot, Knowledge, Layout, Rule<W>>;
 
 /// The table itself.
-pub type WordTable = Table<Slot, Knowledge, Layout, Rule, Global>;
+pub type WordTable<W> = Table<Slot, Knowledge, Layout, Rule<W>, Global>;
 
 /// A seat at the table.
 pub type Pass = Seat<Slot, Knowledge>;
 
-/// The frame rule, and who may make steps.
-pub struct Rule;
+/// The frame rule, who may make steps, and what the translation caches may hold.
+pub struct Rule<W> {
+    of: PhantomData<W>,
+}
 
-impl TableRule<Slot, Knowledge, Layout> for Rule {
-    ghost holds = { λ layout table. Reached layout table };
+impl<W: Ways> TableRule<Slot, Knowledge, Layout> for Rule<W> {
+    ghost holds = { λ layout table. Kept W.ways layout table };
 
-    ghost first = { λ layout. first_known layout };
+    ghost first = { λ layout. first_knowing layout };
 }
 
 /// Which step it is.
@@ -52,9 +55,9 @@ impl<N: Named> Play<Slot, Knowledge> for Makes<N> {
 pub struct Lets;
 
 impl Split<Knowledge> for Lets {
-    ghost left = { λ v. let_go v };
+    ghost left = { λ v. record v { known = let_go v.known } };
 
-    ghost right = { λ v. note v };
+    ghost right = { λ v. idling (note v.known) };
 }
 
 /// Which processor a new seat is for.
@@ -66,22 +69,22 @@ impl Given for Brand {
     ghost cpu = { 0 };
 }
 
-/// A new seat has what there is of a processor, its view and its right.
+/// A new seat has what there is of a processor, its view and its right. Both forget what they listed of the caches.
 pub struct Deals<G: Given> {
     of: PhantomData<G>,
 }
 
 impl<G: Given> Split<Knowledge> for Deals<G> {
-    ghost left = { λ v. kept G.cpu v };
+    ghost left = { λ v. forgetting (kept G.cpu v.known) v.caching };
 
-    ghost right = { λ v. dealt G.cpu v };
+    ghost right = { λ v. idling (dealt G.cpu v.known) };
 }
 
 /// A seat takes all that another has.
 pub struct Joins;
 
 impl Join<Knowledge> for Joins {
-    ghost both = { λ v w. joined v w };
+    ghost both = { λ v w. joining v w };
 
-    ghost spent = { idle };
+    ghost spent = { idling idle };
 }

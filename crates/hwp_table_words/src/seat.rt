@@ -1,29 +1,31 @@
 ghost use Rattle.std.specs.Prelude.{◌≡◌, [], ◌∷◌};
 ghost use Rattle.hwp_core_task.specs.Calls.{CanMake, Steps, logs, rec_of};
-ghost use Rattle.hwp_table_words.specs.Known.{let_go, note, with_note};
-ghost use Rattle.hwp_table_words.specs.Seats.{HasRight, IsTableOf, Moves, cpu_of, mine, mine_of, slots_of};
+ghost use Rattle.hwp_table_words.specs.Known.{idling, let_go, note, with_note};
+ghost use Rattle.hwp_table_words.specs.Seats.{HasRight, IsTableOf, Moves, cpu_of, mine, mine_of, slots_of, value_of};
+ghost use Rattle.hwp_tlb_rule.specs.Caching.{idle_caching};
 
 use crate::baton::{join, let_go};
-use crate::carrying::{Order, lay, settle};
+use crate::carrying::Order;
+use crate::making::one;
 use crate::plays::{Pass, Sheet};
-use crate::steps::step_as;
-use crate::words::word_of;
+use crate::ways::Ways;
 use arrayvec::ArrayVec;
 use hwp_core_task::{Body, Layout, Met, Step, Who};
-use std::marker::{Brand, Model};
+use std::marker::Model;
 
 /// A seat at the table that has the view of one processor, with the slots of its locks, which are empty between its steps.
 #[derive(Drop)]
-pub struct SeatOps<'a> {
-    sheet: &'a Sheet,
+pub struct SeatOps<'a, W: Ways> {
+    sheet: &'a Sheet<W>,
     layout: &'a Layout,
     seat: Pass,
     order: Order,
 }
 
-impl<'a> Model for SeatOps<'a> {
-    ghost use Rattle.std.specs.Prelude.{◌≡◌};
-    ghost use Rattle.hwp_table_words.specs.Seats.{SeatValue, IsSeat};
+impl<'a, W: Ways> Model for SeatOps<'a, W> {
+    ghost use Rattle.std.specs.Prelude.{◌*◌};
+    ghost use Rattle.hwp_table_words.specs.Seats.{HasCache, IsSeat, SeatValue, mine_of, value_of};
+    ghost use Rattle.hwp_table_words.specs.Stands.{first_me};
     ghost use Rattle.hwp_core_task.specs.hwp_kill.contracts.Slots as sets;
     ghost use Rattle.std.specs.Coded.{codes};
 
@@ -31,19 +33,20 @@ impl<'a> Model for SeatOps<'a> {
 
     ghost coded = { Prim.hlevel (codes, sets.the_row.coded) };
 
-    ghost view = { λ s. record { table = s.sheet.now.table_id; layout = s.layout.now; known = s.seat.me.0 } };
+    ghost view = { λ s. value_of s.sheet.now.table_id s.layout.now s.seat.me.0 };
 
-    ghost invariant = { λ s. IsSeat s.layout.now s.sheet.now.key s.sheet.now.table_id s.seat.table_id s.seat.me s.order.items };
+    ghost invariant = { λ s. IsSeat W.ways s.layout.now s.sheet.now.key s.sheet.now.table_id s.seat.table_id (first_me s.seat.me) s.order.items × HasCache (W.ways * s.layout.now.cpus) s.seat.me.0 };
 }
 
-impl<'a> SeatOps<'a> {
+impl<'a, W: Ways> SeatOps<'a, W> {
     /// A seat of one processor that carries no slot and lists no lock.
-    pub fn new(sheet: &'a Sheet, layout: &'a Layout, pass: Pass) -> SeatOps<'a>
-        requires table { IsTableOf layout.now sheet.now.table_id × (sheet.now.key ≡ layout.now) }
+    pub fn new(sheet: &'a Sheet<W>, layout: &'a Layout, pass: Pass) -> SeatOps<'a, W>
+        requires table { IsTableOf W.ways layout.now sheet.now.table_id × (sheet.now.key ≡ layout.now) }
         requires same { pass.table_id ≡ sheet.now.table_id }
-        requires one { pass.me.0.mines ≡ (cpu_of pass.me.0.mines, mine_of pass.me.0.mines) ∷ [] }
-        requires bare { (pass.me.1 ≡ []) × (slots_of layout.now (mine_of pass.me.0.mines) ≡ []) }
-        ensures { result ≡ record { table = sheet.now.table_id; layout = layout.now; known = pass.me.0 } }
+        requires one { pass.me.0.known.mines ≡ (cpu_of pass.me.0.known.mines, mine_of pass.me.0.known.mines) ∷ [] }
+        requires bare { (pass.me.1 ≡ []) × (slots_of layout.now (mine_of pass.me.0.known.mines) ≡ []) }
+        requires idle { pass.me.0.caching ≡ idle_caching }
+        ensures { result ≡ value_of sheet.now.table_id layout.now pass.me.0 }
     {
         SeatOps {
             sheet,
@@ -55,7 +58,7 @@ impl<'a> SeatOps<'a> {
 
     /// The token of the seat, which carries no slot where it lists no lock.
     pub fn pass(self) -> Pass
-        ensures same { (result.table_id ≡ self.entry.table) × (result.me.0 ≡ self.entry.known) }
+        ensures same { (result.table_id ≡ self.entry.table) × (result.me.0 ≡ record { known = self.entry.known; caching = self.entry.caching }) }
         ensures bare { slots_of self.entry.layout (mine self.entry) ≡ [] → result.me.1 ≡ [] }
     {
         let SeatOps { seat, .. } = self;
@@ -65,8 +68,8 @@ impl<'a> SeatOps<'a> {
     /// The seat takes the rights that a note has, and what it knows of the whole.
     pub fn gather(&mut self, note: Pass)
         requires same { note.table_id ≡ self.old.table }
-        requires note { (note.me.0.mines ≡ []) × (note.me.1 ≡ []) }
-        ensures { self.new ≡ record self.old { known = with_note self.old.known note.me.0 } }
+        requires note { (note.me.0.caching ≡ idle_caching) × (note.me.0.known.mines ≡ []) × (note.me.1 ≡ []) }
+        ensures { self.new ≡ record self.old { known = with_note self.old.known note.me.0.known } }
     {
         join(self.sheet, &mut self.seat, note);
     }
@@ -74,7 +77,7 @@ impl<'a> SeatOps<'a> {
     /// The seat's rights go off on a note, with what it knows of the whole.
     pub fn let_go(&mut self) -> Pass
         ensures seat { self.new ≡ record self.old { known = let_go self.old.known } }
-        ensures note { (result.table_id ≡ self.old.table) × (result.me ≡ (note self.old.known, [])) }
+        ensures note { (result.table_id ≡ self.old.table) × (result.me ≡ (idling (note self.old.known), [])) }
     {
         let_go(self.sheet, &mut self.seat)
     }
@@ -94,12 +97,6 @@ impl<'a> SeatOps<'a> {
         ensures told { Steps self.old.layout who step.now (logs body) (mine self.old) (mine self.new) result.found result.body }
         ensures moved { Moves self.old (rec_of self.old.layout who step.now (logs body) result.found result.body) self.new }
     {
-        let home = step.slot_move(self.layout, 0);
-        lay(self.sheet, &mut self.seat, &mut self.order, home, body);
-        let word = word_of(self.layout, step.place());
-        let found = step_as::<Brand>(self.sheet, &mut self.seat, word, who, step);
-        let to = step.slot_move(self.layout, found);
-        let body = settle(self.sheet, &mut self.seat, &mut self.order, to);
-        Met { found, body }
+        one(self.sheet, self.layout, &mut self.seat, &mut self.order, who, step, body)
     }
 }

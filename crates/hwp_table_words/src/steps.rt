@@ -1,21 +1,22 @@
 ghost use Rattle.std.specs.Prelude.{◌≡◌};
-ghost use Rattle.hwp_table_words.specs.Plays.{Makes as IsMade};
+ghost use Rattle.hwp_table_words.specs.Plays.{IsMade};
 ghost use Rattle.hwp_table_words.specs.Seats.{CanPlay};
 
 use crate::operation::{Operation, operation_of};
 use crate::plays::{Makes, Named, Pass, Sheet};
+use crate::ways::Ways;
 use hwp_core_task::{Step, Who};
 
 /// A step of any kind, as one atomic operation on the table: it answers the word that it met.
-pub(crate) fn step_as<N: Named>(
-    sheet: &Sheet,
+pub(crate) fn step_as<W: Ways, N: Named>(
+    sheet: &Sheet<W>,
     seat: &mut Pass,
     word: usize,
     who: Who,
     step: &Step,
 ) -> u64
     requires named { (N.call.who ≡ who) × (N.call.step ≡ step.now) }
-    requires can { CanPlay sheet.now.table_id sheet.now.key N.call seat.old.table_id seat.old.me word }
+    requires can { CanPlay W.ways sheet.now.table_id sheet.now.key N.call seat.old.table_id seat.old.me word }
     ensures same { seat.new.table_id ≡ seat.old.table_id }
     ensures made { IsMade N.call seat.old.me result seat.new.me }
 {
