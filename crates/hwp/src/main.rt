@@ -13,8 +13,8 @@ const VERSION: &str = "hwp 0.1.0";
 
 /// What `--help` prints.
 const HELP: &str = "\
-usage: hwp step < SCRIPT > REPORT
-       hwp run < SCRIPT > REPORT
+usage: hwp step [tlb] < SCRIPT > REPORT
+       hwp run [tlb] < SCRIPT > REPORT
        hwp check < SCRIPT-AND-REPORT
        hwp gen N > SCRIPT
        hwp sum N > SUMMARY
@@ -26,6 +26,9 @@ machine of its own. docs/FORMATS.md has the formats.
                schedule, and writes the report to standard output
   hwp run      does the same with each processor on a thread of its own, in
                whatever order they come; the schedule isn't used
+  hwp step tlb, hwp run tlb
+               the same, with a cache of 16 translations for each processor,
+               filled by loads and flushed by whoever changes a translation
   hwp check    reads a script and the report behind it, and writes `legal`, or
                `not PLACE RULE`: the rule that is broken, and where first
   hwp gen N    writes the fault script of seed N, a number below 2^64

@@ -1,23 +1,27 @@
 -- The statuses of the top call for runs on threads are those of its list.
-use Rattle.std.specs.Prelude.{◌≡◌, ℕ, List, ◌⊎◌, Option, Some, None}
-use Rattle.std.proofs.Common.{lit<, refl, subst, sym, inl, inr}
+use Rattle.std.specs.Prelude.{◌≡◌, ℕ, Bool, true, false, List, ◌⊎◌, Option, Some, None}
+use Rattle.std.proofs.Common.{lit<, refl, subst, sym, ◌∙◌, inl, inr}
 use Rattle.hwp_top_turns.specs.hwp_report_text.declared.Report.{Report}
 use Rattle.hwp_top_turns.specs.hwp_table_words.Ends.{EndValue}
-use Rattle.hwp_top_step.specs.Outputs.{HasRun}
-use Rattle.hwp_top_step.specs.Top.{IsDone}
+use Rattle.hwp_top_step.specs.Top.{IsDone, done_status}
 use Rattle.hwp_top_step.proofs.Statuses.{RunStatus, report_is_done, report_is_run_status}
-use Rattle.hwp_top.specs.Top.{IsThreaded}
+use Rattle.hwp_top.specs.Top.{IsThreadedOf}
 
 module _ (left left' : Option (List ℕ)) (status : ℕ) (text : List ℕ) where
-  -- the output of `run` has the status of a report that is written
-  pub output-done : (report : Option Report) (ended : Option EndValue) → HasRun report ended (IsThreaded left left' status text) → IsDone status
-  output-done (Some report) (Some ended) o = subst IsDone (sym o.status_is) (report_is_done report)
-  output-done (Some report) None o = elim o [ ]
-  output-done None ended o = elim o [ ]
+  -- the report of a run on threads: its status is that of a report that is written
+  has-status : (caches : Bool) (report : Option Report) (ended tlb : Option EndValue) → IsThreadedOf caches left left' status text report ended tlb → (r : Report) × (status ≡ done_status r)
+  has-status false (Some report) (Some ended) tlb o = (report, o.0.status_is)
+  has-status false (Some report) None tlb o = absurd o.0
+  has-status false None ended tlb o = absurd o.0
+  has-status true (Some report) ended (Some tlb) o = (report, o.0.threaded.status_is)
+  has-status true (Some report) ended None o = absurd o.0
+  has-status true None ended tlb o = absurd o.0
+
+  -- the output of `run`, or of `run tlb`, is of a call that is done
+  pub output-done : (caches : Bool) (report : Option Report) (ended tlb : Option EndValue) → IsThreadedOf caches left left' status text report ended tlb → IsDone status
+  output-done caches report ended tlb o = let so = has-status caches report ended tlb o in subst IsDone (sym so.1) (report_is_done so.0)
 
   -- and where it is written, whole or in part, the call ends with a status of the list
-  pub output-listed : (report : Option Report) (ended : Option EndValue) (n : ℕ) → HasRun report ended (IsThreaded left left' status text) → (n ≡ status) ⊎ (n ≡ 5) → RunStatus n
-  output-listed (Some report) (Some ended) n o (inl whole) = subst RunStatus (sym whole) (subst RunStatus (sym o.status_is) (report_is_run_status report))
-  output-listed (Some report) None n o (inl whole) = elim o [ ]
-  output-listed None ended n o (inl whole) = elim o [ ]
-  output-listed report ended n o (inr cut) = subst RunStatus (sym cut) (4, lit< tt, refl)
+  pub output-listed : (caches : Bool) (report : Option Report) (ended tlb : Option EndValue) (n : ℕ) → IsThreadedOf caches left left' status text report ended tlb → (n ≡ status) ⊎ (n ≡ 5) → RunStatus n
+  output-listed caches report ended tlb n o (inl whole) = let so = has-status caches report ended tlb o in subst RunStatus (sym (whole ∙ so.1)) (report_is_run_status so.0)
+  output-listed caches report ended tlb n o (inr cut) = subst RunStatus (sym cut) (4, lit< tt, refl)

@@ -6,9 +6,9 @@ use Rattle.hwp_top_turns.specs.hwp_report_text.ReportText.{report_text}
 use Rattle.hwp_top_turns.specs.hwp_law.Law.{IsLawful}
 use Rattle.hwp_top_turns.specs.hwp_law.Runs.{IsOfRun}
 use Rattle.hwp_top_turns.specs.hwp_table_words.Ends.{EndValue}
-use Rattle.hwp_top_turns.specs.Runs.{IsCachedEnd}
+use Rattle.hwp_top_turns.specs.Caches.{IsCachedEnd}
 use Rattle.hwp_top_threads.specs.Runs.{IsThreadRun}
-use Rattle.hwp_top_step.specs.Outputs.{HasRun}
+use Rattle.hwp_top_step.specs.Outputs.{HasRun, tlb_entries}
 use Rattle.hwp_top_step.specs.Top.{Takes, done_status}
 
 -- the words ask for a run on threads, with translation caches or without
@@ -46,7 +46,7 @@ pub record IsThreaded (left left' : Option (List ℕ)) (status : ℕ) (text : Li
 -- the same of a run with translation caches: at its end no entry of a cache names a handled frame
 pub record IsThreadedTlb (left left' : Option (List ℕ)) (status : ℕ) (text : List ℕ) (report : Report) (ended : EndValue) : Type 0 where
   pub threaded : IsThreaded left left' status text report ended
-  pub cached : IsCachedEnd ended
+  pub cached : IsCachedEnd tlb_entries ended
 
 -- the output of a run on threads: its status, its text, its report, and what its table was closed with: `tlb` where the table has
 -- translation caches, else `ended`

@@ -3,7 +3,7 @@ ghost use Rattle.std.specs.Prelude.{◌≡◌, ◌<◌, true, false, IfOk, IsErr
 ghost use Rattle.hwp_top_turns.specs.hwp_script_read.declared.Refused.{Refused};
 ghost use Rattle.hwp_top_turns.specs.hwp_report_text.ReportText.{report_text};
 ghost use Rattle.hwp_top_step.specs.Top.{Refuses};
-ghost use Rattle.hwp_top_turns.specs.Runs.{IsCachedEnd};
+ghost use Rattle.hwp_top_turns.specs.Caches.{IsCachedEnd};
 ghost use Rattle.hwp_top.specs.Top.{IsThreadedOf, Reports};
 
 use hwp_io::Source;
@@ -23,7 +23,7 @@ fn report_of<R: Threads + Wait + Sync, W: Ways, S: Source, G: Gate + Sync>(
     gate: &G,
 ) -> Result<(Finished<W>, Text), InputFault>
     ensures report { IfOk result (λ done. Reports (S.left src.old) (S.left src.new) done.0.report done.0.ended) }
-    ensures cached { IfOk result (λ done. IsCachedEnd done.0.ended) }
+    ensures cached { IfOk result (λ done. IsCachedEnd W.ways done.0.ended) }
     ensures text { IfOk result (λ done. done.1 ≡ report_text done.0.report) }
     ensures refused { (r : Refused) → IsErrOf result (InputFault.Refused r) → Refuses (S.left src.old) (S.left src.new) r }
     ensures fault { IsErrOf result InputFault.ReadFault → S.faults src.old < S.faults src.new }

@@ -14,11 +14,11 @@ use Rattle.hwp_script.proofs.of_hwp_script_read.OneScript.{one_script}
 use Rattle.hwp_script.proofs.of_hwp_script_read.ReadLaws.{apart}
 use Rattle.hwp_report_summary.specs.hwp_report_text.declared.Report.{Report}
 use Rattle.hwp_top_turns.specs.hwp_table_words.Ends.{EndValue}
-use Rattle.hwp_top_turns.specs.Runs.{IsCachedEnd}
+use Rattle.hwp_top_turns.specs.Caches.{IsCachedEnd}
 use Rattle.hwp_top_step.specs.declared.served.Call.{Call}
 use Rattle.hwp_top_step.specs.declared.served.Call.TheVariants as calls
 use Rattle.hwp_top_step.specs.Calls.{IsCall, IsNoCall, IsStep}
-use Rattle.hwp_top_step.specs.Outputs.{IsOutput, IsOutputOf, IsRefusedCall, IsRefusedFor as IsRefusedAt, IsStepped}
+use Rattle.hwp_top_step.specs.Outputs.{IsOutput, IsOutputOf, IsRefusedCall, IsRefusedFor as IsRefusedAt, IsStepped, tlb_entries}
 use Rattle.hwp_top_step.specs.Serving.{HasReported, end_at}
 use Rattle.hwp_top_step.specs.Top.{IsDone, IsReportOfRun, Refuses}
 
@@ -78,7 +78,7 @@ record IsRunOutput (caches : Bool) (left left' : Option (List ℕ)) (status : �
   closed_is : end_at caches ended tlb ≡ Some end
   other_is : end_at (not caches) ended tlb ≡ None
   stepped : IsStepped left left' status text it end
-  cached : IsTrue caches → IsCachedEnd end
+  cached : IsTrue caches → IsCachedEnd tlb_entries end
 
 run-output : (caches : Bool) (left left' : Option (List ℕ)) (status : ℕ) (text : List ℕ) (report : Option Report) (ended tlb : Option EndValue) → IsOutputOf (step-call caches) left left' status text report ended tlb → IsRunOutput caches left left' status text report ended tlb
 run-output false left left' status text (Some it) (Some end) tlb o = record { it = it; given_is = refl; end = end; closed_is = refl; other_is = o.1; stepped = o.0; cached = λ (is : IsTrue false). absurd is }

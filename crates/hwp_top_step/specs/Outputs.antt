@@ -11,7 +11,7 @@ use Rattle.hwp_report_summary.specs.hwp_report_text.ReportText.{report_text}
 use Rattle.hwp_report_summary.specs.Counts.{summary_of}
 use Rattle.hwp_report_summary.specs.Text.{summary_text}
 use Rattle.hwp_top_turns.specs.hwp_table_words.Ends.{EndValue}
-use Rattle.hwp_top_turns.specs.Runs.{IsCachedEnd}
+use Rattle.hwp_top_turns.specs.Caches.{IsCachedEnd}
 use Rattle.hwp_top_step.specs.declared.served.Call.{Call}
 use Rattle.hwp_top_step.specs.declared.served.Call.TheVariants as calls
 use Rattle.hwp_top_step.specs.Calls.{IsCall}
@@ -29,10 +29,14 @@ pub record IsStepped (left left' : Option (List ℕ)) (status : ℕ) (text : Lis
   pub status_is : status ≡ done_status report
   pub text_is : text ≡ report_text report
 
+-- how many entries the translation cache of a processor has
+abbrev pub tlb_entries : ℕ
+tlb_entries = 16
+
 -- the same of a run with translation caches: at its end no entry of a cache names a handled frame
 pub record IsSteppedTlb (left left' : Option (List ℕ)) (status : ℕ) (text : List ℕ) (report : Report) (ended : EndValue) : Type 0 where
   pub stepped : IsStepped left left' status text report ended
-  pub cached : IsCachedEnd ended
+  pub cached : IsCachedEnd tlb_entries ended
 
 -- a report of the seed's script, as `step` gives it, and the text of its summary
 pub record IsSummed (seed status : ℕ) (text : List ℕ) (report : Report) (ended : EndValue) : Type 0 where

@@ -5,7 +5,8 @@ use Rattle.hwp_script.specs.hwp_script_read.declared.Script.{Script}
 use Rattle.hwp_report_summary.specs.hwp_report_text.declared.Report.{Report}
 use Rattle.hwp_report_summary.specs.hwp_report_text.ReportText.{report_text}
 use Rattle.hwp_top_turns.specs.hwp_table_words.Ends.{EndValue}
-use Rattle.hwp_top_turns.specs.Runs.{IsCachedEnd}
+use Rattle.hwp_top_turns.specs.Caches.{IsCachedEnd}
+use Rattle.hwp_top_step.specs.Outputs.{tlb_entries}
 use Rattle.hwp_top_step.specs.Top.{IsReportOfRun, done_status}
 
 -- what the run's table was closed with: the one without translation caches, or the one with them
@@ -22,6 +23,6 @@ pub record HasReported (caches : Bool) (script : Script) (taken taken' : Option 
   pub closed_is : end_at caches ended tlb ≡ Some end
   pub other_is : end_at (not caches) ended tlb ≡ None
   pub report_of : IsReportOfRun script report end
-  pub cached : IsTrue caches → IsCachedEnd end
+  pub cached : IsTrue caches → IsCachedEnd tlb_entries end
   pub status_is : status ≡ done_status report
   pub written : Appends taken taken' (report_text report)

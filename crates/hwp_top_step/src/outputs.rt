@@ -4,7 +4,7 @@ ghost use Rattle.hwp_script.specs.hwp_script_read.declared.Refused.{Refused};
 ghost use Rattle.hwp_report_summary.specs.hwp_report_text.ReportText.{report_text};
 ghost use Rattle.hwp_top_step.specs.Outputs.{HasRun, IsGenerated, IsOutputOf, IsRefusedFor, IsSummed};
 ghost use Rattle.hwp_top_step.specs.Top.{Refuses, Reports, done_status};
-ghost use Rattle.hwp_top_turns.specs.Runs.{IsCachedEnd};
+ghost use Rattle.hwp_top_turns.specs.Caches.{IsCachedEnd};
 
 use crate::checking::checked;
 use crate::inputs::{InputFault, take_script};
@@ -32,7 +32,7 @@ fn report_of<S: Source, W: Ways>(
     src: &mut S,
 ) -> Result<(Finished<W>, Text), InputFault>
     ensures report { IfOk result (λ done. Reports (S.left src.old) (S.left src.new) done.0.report done.0.ended) }
-    ensures cached { IfOk result (λ done. IsCachedEnd done.0.ended) }
+    ensures cached { IfOk result (λ done. IsCachedEnd W.ways done.0.ended) }
     ensures text { IfOk result (λ done. done.1 ≡ report_text done.0.report) }
     ensures refused { (r : Refused) → IsErrOf result (InputFault.Refused r) → Refuses (S.left src.old) (S.left src.new) r }
     ensures fault { IsErrOf result InputFault.ReadFault → S.faults src.old < S.faults src.new }

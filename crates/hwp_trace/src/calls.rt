@@ -48,7 +48,7 @@ pub fn show<S: Source, K: Sink, E: Sink>(
         × AppendsStrictFront (K.taken out.old) (K.taken out.new) text }
     ensures unwritten { (¬ IsDone result.status) → result.status ≢ 5 → out.new ≡ out.old }
     ensures no_report { (¬ IsDone result.status) → result.status ≢ 5 → result.report ≡ None }
-    ensures no_table { result.ended ≡ None }
+    ensures no_table { (result.ended ≡ None) × (result.tlb ≡ None) }
 
     // What is told on `err`.
     ensures silent { IsDone result.status → err.new ≡ err.old }
@@ -61,6 +61,7 @@ pub fn show<S: Source, K: Sink, E: Sink>(
             status: 2,
             report: None,
             ended: None,
+            tlb: None,
         };
     }
     match traced(alloc, src) {
@@ -69,6 +70,7 @@ pub fn show<S: Source, K: Sink, E: Sink>(
             status: tell_fault(alloc, err, fault),
             report: None,
             ended: None,
+            tlb: None,
         },
     }
 }

@@ -29,7 +29,7 @@ fn trace_of<S: Source>(alloc: Global, src: &mut S) -> Result<(Report, Text), Inp
 /// What is written: the trace of the script that a source gives.
 pub(crate) fn traced<S: Source>(alloc: Global, src: &mut S) -> Result<Output, InputFault>
     ensures output { IfOk result (λ o. IsShown (S.left src.old) (S.left src.new) o.status o.text o.report) }
-    ensures no_table { IfOk result (λ o. o.ended ≡ None) }
+    ensures no_table { IfOk result (λ o. (o.ended ≡ None) × (o.tlb ≡ None)) }
     ensures refused { (r : Refused) → IsErrOf result (InputFault.Refused r) → Refuses (S.left src.old) (S.left src.new) r }
     ensures fault { IsErrOf result InputFault.ReadFault → S.faults src.old < S.faults src.new }
 {
@@ -39,5 +39,6 @@ pub(crate) fn traced<S: Source>(alloc: Global, src: &mut S) -> Result<Output, In
         status: status_of(&report),
         report: Some(report),
         ended: None,
+        tlb: None,
     })
 }

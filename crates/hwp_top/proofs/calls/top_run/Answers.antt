@@ -1,34 +1,31 @@
-use Rattle.std.specs.Prelude.{map, string_bytes}
-use Rattle.std.proofs.Common.{List, ℕ, lit<, refl, rules, subst}
+use Rattle.std.proofs.Common.{List, ℕ, lit<, refl, subst}
 use Rattle.std.proofs.lemmas.Option.{same_Some}
 use Rattle.hwp_top_step.specs.Top.{Told, usage_text}
 use Rattle.hwp_top_step.proofs.ReportLevel.{delivered-report}
 use Rattle.hwp_top_step.proofs.Statuses.{fault_is_run_status}
 use Rattle.hwp_top.proofs.ReportLevel.{threaded-report}
-use Rattle.hwp_top.specs.Top.{IsRun}
 use Rattle.hwp_top.proofs.Statuses.{output-done, output-listed}
 use Rattle.hwp_top.proofs.calls.top_run.Goals as goal
 
-pub returns-then-not-asks_run-clause-statuses : goal.returns-then-not-asks_run-clause-statuses
-returns-then-not-asks_run-clause-statuses g c = (1, lit< tt, refl)
+pub returns-in_default-clause-statuses : goal.returns-in_default-clause-statuses
+returns-in_default-clause-statuses g c = (1, lit< tt, refl)
 
-pub returns-then-not-asks_run-clause-told : goal.returns-then-not-asks_run-clause-told
-returns-then-not-asks_run-clause-told g c text is =
+pub returns-in_default-clause-told : goal.returns-in_default-clause-told
+returns-in_default-clause-told g c text is =
     subst (λ (t : List ℕ). Told (g.E.Sink.taken c.args.err.now) (g.E.Sink.taken c.tell.new.err) (g.E.Sink.faults c.args.err.now) (g.E.Sink.faults c.tell.new.err) t) (same_Some usage_text text is) c.tell.ensures
 
 pub deliver-requires : goal.deliver-requires
-deliver-requires g c = output-done (g.S.Source.left c.args.src.now) (g.S.Source.left c.threaded.new.src) c.in-Ok.output.status c.in-Ok.output.text c.in-Ok.output.report c.in-Ok.output.ended c.in-Ok.ensures.output
+deliver-requires g c = output-done (g.S.Source.left c.args.src.now) (g.S.Source.left c.threaded.new.src) c.in-Ok.output.status c.in-Ok.output.text c.in-Some.caches c.in-Ok.output.report c.in-Ok.output.ended c.in-Ok.output.tlb c.in-Ok.ensures.output
 
 pub returns-in-Ok-clause-statuses : goal.returns-in-Ok-clause-statuses
 returns-in-Ok-clause-statuses g c =
-    output-listed (g.S.Source.left c.args.src.now) (g.S.Source.left c.threaded.new.src) c.in-Ok.output.status c.in-Ok.output.text c.in-Ok.output.report c.in-Ok.output.ended c.deliver.result.status c.in-Ok.ensures.output c.deliver.ensures.statuses
+    output-listed (g.S.Source.left c.args.src.now) (g.S.Source.left c.threaded.new.src) c.in-Ok.output.status c.in-Ok.output.text c.in-Some.caches c.in-Ok.output.report c.in-Ok.output.ended c.in-Ok.output.tlb c.deliver.result.status c.in-Ok.ensures.output c.deliver.ensures.statuses
 
 pub returns-in-Err-clause-statuses : goal.returns-in-Err-clause-statuses
 returns-in-Err-clause-statuses g c = fault_is_run_status c.tell_fault.result c.tell_fault.ensures.statuses
 
 pub returns-in-Ok-clause-report : goal.returns-in-Ok-clause-report
 returns-in-Ok-clause-report g c is =
-    let run : IsRun (map string_bytes c.args.words.now) = search rules in
     let so = delivered-report (g.S.Source.left c.args.src.now) (g.S.Source.left c.threaded.new.src) (g.K.Sink.taken c.args.out.now) (g.K.Sink.taken c.deliver.new.out) c.in-Ok.output.status c.deliver.result.status c.in-Ok.output.text c.in-Ok.output.report c.deliver.result.report
-    (threaded-report (g.S.Source.left c.args.src.now) (g.S.Source.left c.threaded.new.src) c.in-Ok.output.status c.in-Ok.output.text c.in-Ok.output.report c.in-Ok.output.ended c.in-Ok.ensures.output) c.deliver.ensures.report.0 c.deliver.ensures.done is in
-    (so.0, run, so.1, so.2)
+    (threaded-report (g.S.Source.left c.args.src.now) (g.S.Source.left c.threaded.new.src) c.in-Ok.output.status c.in-Ok.output.text c.in-Some.caches c.in-Ok.output.report c.in-Ok.output.ended c.in-Ok.output.tlb c.in-Ok.ensures.output) c.deliver.ensures.report.0 c.deliver.ensures.done is in
+    (so.0, (c.in-Some.caches, c.in-Some.ensures.some), so.1, so.2)
