@@ -7,7 +7,8 @@ use Rattle.hwp_core_task.specs.hwp_core_rule.Lists.{EachMember}
 use Rattle.hwp_core_task.specs.hwp_core_rule.Opening.{below, opening_view}
 use Rattle.hwp_core_task.proofs.of_hwp_core_rule.Lists.{each-map, same-number}
 use Rattle.hwp_core_task.proofs.of_hwp_core_rule.WordsOpen.{below-at, length-below}
-use Rattle.hwp_table_words.specs.Known.{Known, dealt, kept}
+use Rattle.hwp_table_words.specs.hwp_tlb_rule.Caching.{idle_caching}
+use Rattle.hwp_table_words.specs.Known.{Knowing, Known}
 use Rattle.hwp_table_words.specs.Stands.{Me}
 
 abbrev pub pair : ℕ → ℕ × View

@@ -14,6 +14,7 @@ use Rattle.hwp_core_task.specs.hwp_core_rule.Lists.{EachMember}
 use Rattle.hwp_core_task.specs.hwp_core_rule.parts.Holdings.{HoldsNothing}
 use Rattle.hwp_core_task.proofs.of_hwp_core_rule.Lists.{at_last, at_longer, at_map, each-push, from_bool-same, same-or}
 use Rattle.hwp_core_task.specs.declared.Turn.{Turn}
+use Rattle.hwp_table_words.specs.hwp_tlb_rule.Caching.{Caching}
 use Rattle.hwp_table_words.specs.Ends.{HasAll}
 use Rattle.hwp_table_words.specs.Known.{Known, Whole, either_whole, joined, views_for}
 use Rattle.hwp_table_words.specs.Seats.{SeatValue, cpu, mine, slots_of}
@@ -74,7 +75,7 @@ module _ (id : TableId) (layout : Layout) (all : List SeatValue) (holder : ℕ) 
     front-less = front ∙ append_assoc left (s ∷ []) rest
 
     -- the first that is taken
-    pub first : (of : TableId) (me : Me) → rest ≡ [] → of ≡ s.table → me.0 ≡ s.known → me.1 ≡ [] → IsGathered id layout all holder w left of me
+    pub first : (of : TableId) (me : Me) → rest ≡ [] → of ≡ s.table → me.0.known ≡ s.known → me.1 ≡ [] → IsGathered id layout all holder w left of me
     first of me last of-is known bare = record {
       rest = s ∷ rest;
       front = front-less;
@@ -90,15 +91,15 @@ module _ (id : TableId) (layout : Layout) (all : List SeatValue) (holder : ℕ) 
         count = ap length (front ∙ ap (λ (l : List SeatValue). (left ++ s ∷ []) ++ l) last ∙ append-nil (left ++ s ∷ [])) ∙ length-append left (s ∷ [])
 
     -- and one more
-    pub more : (before : List SeatValue) (of now : TableId) (me new : Me) → before ≡ left ++ s ∷ [] → IsGathered id layout all holder w before of me → now ≡ of → new ≡ (joined me.0 s.known, me.1) → IsGathered id layout all holder w left now new
-    more before of now me new before-is was now-is is-new = subst (IsGathered id layout all holder w left now) (sym is-new) (record {
+    pub more : (before : List SeatValue) (of now : TableId) (me new : Me) → before ≡ left ++ s ∷ [] → IsGathered id layout all holder w before of me → now ≡ of → (caching : Caching) → new ≡ (record { known = joined me.0.known s.known; caching = caching }, me.1) → IsGathered id layout all holder w left now new
+    more before of now me new before-is was now-is caching is-new = subst (IsGathered id layout all holder w left now) (sym is-new) (record {
       rest = s ∷ rest;
       front = front-less;
       same = now-is ∙ was.same;
       bare = was.bare;
-      views = subst (λ (l : List (ℕ × View)). EachMember (λ (x : ℕ × View). slice_get views x.0 ≡ Some x.1) (me.0.mines ++ l)) (sym of-s.one)
-          (each-push (λ (x : ℕ × View). slice_get views x.0 ≡ Some x.1) me.0.mines (cpu s, mine s) own-view was.views);
-      each = λ c past less. let both = sum_by-append (λ (x : ℕ × View). from_bool (x.0 == c)) me.0.mines s.known.mines in elim (same-or c n) [
+      views = subst (λ (l : List (ℕ × View)). EachMember (λ (x : ℕ × View). slice_get views x.0 ≡ Some x.1) (me.0.known.mines ++ l)) (sym of-s.one)
+          (each-push (λ (x : ℕ × View). slice_get views x.0 ≡ Some x.1) me.0.known.mines (cpu s, mine s) own-view was.views);
+      each = λ c past less. let both = sum_by-append (λ (x : ℕ × View). from_bool (x.0 == c)) me.0.known.mines s.known.mines in elim (same-or c n) [
         | inl same ↦ let here = counted c same in omega (arith, both, here)
         | inr other ↦ let earlier = was.each c (omega (arith, count, past, other)) less in omega (arith, both, earlier)
       ];
@@ -113,15 +114,15 @@ module _ (id : TableId) (layout : Layout) (all : List SeatValue) (holder : ℕ) 
         count = ap length before-is ∙ length-append left (s ∷ [])
 
   -- all views are there in the end, and nothing is held
-  pub has-all : (of : TableId) (me : Me) → IsGathered id layout all holder w [] of me → HasAll layout me.0
+  pub has-all : (of : TableId) (me : Me) → IsGathered id layout all holder w [] of me → HasAll layout me.0.known
   has-all of me g = record { all = λ c less. g.each c (omega arith) less; nothing = λ i x e. can.nothing x.0 x.1 (g.views i x e) }
 
 -- the seats of a board
-module _ (id sheet : TableId) (layout : Layout) (seats : List SeatValue) (holder : ℕ) (turns : List Turn) (seat : ℕ) (is : IsAtTable id sheet layout seats holder turns seat) where
+module _ (ways : ℕ) (id sheet : TableId) (layout : Layout) (seats : List SeatValue) (holder : ℕ) (turns : List Turn) (seat : ℕ) (is : IsAtTable ways id sheet layout seats holder turns seat) where
   abbrev pub which : Gathering
   which = record { table = id; layout = layout; holder = holder; whole = whole_at seats holder }
 
-  pub these : EachMember HoldsNothing (map mine seats) → AreThese which sheet seats
+  pub these : EachMember HoldsNothing (map mine seats) → AreThese ways which sheet seats
   these nothing = record {
     sheet_is = is.sheet_is;
     table_is = is.table_is;

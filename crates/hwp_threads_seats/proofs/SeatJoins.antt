@@ -35,13 +35,13 @@ tasks_in {T} ws = map (λ (w : CachePadded (Worker SeatValue T)). (padded_value 
 pub record SoFar {T : Type 0} (id : TableId) (old : Known) (all left : Places T) (of : TableId) (me : Me) (tasks : List T) : Type 0 where
   pub same : of ≡ id
   pub slots : me.1 ≡ []
-  pub mines : me.0.mines ++ mines_in left ≡ old.mines ++ mines_in all
-  pub own : me.0.own ++ owns_in left ≡ old.own ++ owns_in all
+  pub mines : me.0.known.mines ++ mines_in left ≡ old.mines ++ mines_in all
+  pub own : me.0.known.own ++ owns_in left ≡ old.own ++ owns_in all
   pub tasks_are : tasks ++ tasks_in left ≡ tasks_in all
   pub bare : AreBare id left
   pub going : NotRefused left → NotRefused all
 
-pub taking-begins : {T : Type 0} (id : TableId) (of : TableId) (me : Me) (all : Places T) → of ≡ id → me.1 ≡ [] → AreBare id all → SoFar id me.0 all all of me []
+pub taking-begins : {T : Type 0} (id : TableId) (of : TableId) (me : Me) (all : Places T) → of ≡ id → me.1 ≡ [] → AreBare id all → SoFar id me.0.known all all of me []
 taking-begins id of me all same slots bare = record { same = same; slots = slots; mines = refl; own = refl; tasks_are = refl; bare = bare; going = λ each. each }
 
 each-more : {T : Type 0} (w : CachePadded (Worker SeatValue T)) (ws : Places T) → (padded_value w).refused ≡ false → NotRefused ws → NotRefused (w ∷ ws)
@@ -58,8 +58,8 @@ pub taking-more : {T : Type 0} (id : TableId) (old : Known) (all : Places T) (w 
 taking-more {T} id old all w ws left of of' me me' tasks t is so brought = record {
   same = brought.same ∙ so.same;
   slots = brought.slots ∙ so.slots;
-  mines = ap (λ (l : List (ℕ × View)). l ++ mines_in ws) brought.mines ∙ push-front me.0.mines (mine_in (padded_value w)) (mines_in ws) ∙ ap (λ (l : Places T). me.0.mines ++ mines_in l) (sym is) ∙ so.mines;
-  own = ap (λ (l : List (ℕ × Rec)). l ++ owns_in ws) brought.own ∙ append-on me.0.own (own_in (padded_value w)) (owns_in ws) ∙ ap (λ (l : Places T). me.0.own ++ owns_in l) (sym is) ∙ so.own;
+  mines = ap (λ (l : List (ℕ × View)). l ++ mines_in ws) brought.mines ∙ push-front me.0.known.mines (mine_in (padded_value w)) (mines_in ws) ∙ ap (λ (l : Places T). me.0.known.mines ++ mines_in l) (sym is) ∙ so.mines;
+  own = ap (λ (l : List (ℕ × Rec)). l ++ owns_in ws) brought.own ∙ append-on me.0.known.own (own_in (padded_value w)) (owns_in ws) ∙ ap (λ (l : Places T). me.0.known.own ++ owns_in l) (sym is) ∙ so.own;
   tasks_are = push-front tasks t (tasks_in ws) ∙ ap (λ (x : T). tasks ++ x ∷ tasks_in ws) brought.task_is ∙ ap (λ (l : Places T). tasks ++ tasks_in l) (sym is) ∙ so.tasks_are;
   bare = λ i x e. subst (AreBare id) is so.bare (suc i) x e;
   going = λ each. so.going (subst NotRefused (sym is) (each-more w ws brought.going each));
@@ -69,8 +69,8 @@ pub taking-ends : {T : Type 0} (id : TableId) (old : Known) (all left : Places T
 taking-ends {T} id old all left of me tasks none so = record {
   same = so.same;
   slots = so.slots;
-  mines = sym (append-nil me.0.mines) ∙ ap (λ (l : Places T). me.0.mines ++ mines_in l) (sym none) ∙ so.mines;
-  own = sym (append-nil me.0.own) ∙ ap (λ (l : Places T). me.0.own ++ owns_in l) (sym none) ∙ so.own;
+  mines = sym (append-nil me.0.known.mines) ∙ ap (λ (l : Places T). me.0.known.mines ++ mines_in l) (sym none) ∙ so.mines;
+  own = sym (append-nil me.0.known.own) ∙ ap (λ (l : Places T). me.0.known.own ++ owns_in l) (sym none) ∙ so.own;
   tasks_are = sym (append-nil tasks) ∙ ap (λ (l : Places T). tasks ++ tasks_in l) (sym none) ∙ so.tasks_are;
   going = so.going (subst NotRefused (sym none) (λ i w e. absurd (none-some w e)));
 }

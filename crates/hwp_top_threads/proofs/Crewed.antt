@@ -34,6 +34,6 @@ module _ (script : Script) (crew : List Processor) (valid : IsValid script) (beg
     bare-then = subst (AreBare id) (sym written) (are-bare script crew valid begin id slice dealt-slice news count ran)
 
     -- and the one seat that took all in knows their runs
-    pub run-then : (left : Known) → IsUnused left → (of : TableId) (me : Me) (tasks : List Processor) → AreGathered id left (take len (news ++ drop (length news) items)) of me tasks → HaveRun script me.0 tasks
+    pub run-then : (left : Known) → IsUnused left → (of : TableId) (me : Me) (tasks : List Processor) → AreGathered id left (take len (news ++ drop (length news) items)) of me tasks → HaveRun script me.0.known tasks
     run-then left unused of me tasks gathered =
         have-run script crew valid begin id slice dealt-slice news count ran left unused me of tasks (subst (λ (ws : List Place). AreGathered id left ws of me tasks) written gathered)

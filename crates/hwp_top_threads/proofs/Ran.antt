@@ -151,7 +151,7 @@ module _ (script : Script) (crew : List Processor) (valid : IsValid script) (beg
         pub b : Place
         pub there : slice_get news c ≡ Some b
         pub to_is : o.to ≡ standing (λ (s : SeatValue). mine s) (value b)
-        pub has : HasRun script crew me.0 c o
+        pub has : HasRun script crew me.0.known c o
 
       of-worker : (c : ℕ) → c < length news → (o : Own Processor) × IsOf c o
       of-worker c less =
@@ -198,7 +198,7 @@ module _ (script : Script) (crew : List Processor) (valid : IsValid script) (beg
           dealt-length n (t ∷ ts) = ap (λ (k : ℕ). suc k) (dealt-length (n + 1) ts)
 
       -- THE WORKERS' RUNS, as the one seat knows them
-      pub have-run : HaveRun script me.0 tasks
+      pub have-run : HaveRun script me.0.known tasks
       have-run = record {
         tasks = crew;
         begin = begin;

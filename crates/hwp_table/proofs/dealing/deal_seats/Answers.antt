@@ -7,17 +7,17 @@ use Rattle.hwp_table.proofs.Dealt.{own-is, left-is}
 use Rattle.hwp_table.proofs.dealing.deal_seats.Goals as goal
 
 pub new-requires-clause-one : goal.new-requires-clause-one
-new-requires-clause-one c =
+new-requires-clause-one g c =
     let less : c.loop-cpu.cpu < c.args.layout.now.cpus = omega (arith, c.loop-cpu-test.true) in
-    subst (λ (m : Me). m.0.mines ≡ (cpu_of m.0.mines, mine_of m.0.mines) ∷ []) (sym (own-is c.args.layout.now.cpus c.loop-cpu.cpu less c.loop-cpu.pass.me c.split-own.result.me c.split-own.new.seat.me c.loop-cpu.invariant.pass c.split-own.ensures.new)) refl
+    subst (λ (m : Me). m.0.known.mines ≡ (cpu_of m.0.known.mines, mine_of m.0.known.mines) ∷ []) (sym (own-is c.args.layout.now.cpus c.loop-cpu.cpu less c.loop-cpu.pass.me c.split-own.result.me c.split-own.new.seat.me c.loop-cpu.invariant.pass c.split-own.ensures.new)) refl
 
 pub new-requires-clause-bare : goal.new-requires-clause-bare
-new-requires-clause-bare c =
+new-requires-clause-bare g c =
     let less : c.loop-cpu.cpu < c.args.layout.now.cpus = omega (arith, c.loop-cpu-test.true) in
-    subst (λ (m : Me). (m.1 ≡ []) × (slots_of c.args.layout.now (mine_of m.0.mines) ≡ [])) (sym (own-is c.args.layout.now.cpus c.loop-cpu.cpu less c.loop-cpu.pass.me c.split-own.result.me c.split-own.new.seat.me c.loop-cpu.invariant.pass c.split-own.ensures.new)) (refl, refl)
+    subst (λ (m : Me). (m.1 ≡ []) × (slots_of c.args.layout.now (mine_of m.0.known.mines) ≡ [])) (sym (own-is c.args.layout.now.cpus c.loop-cpu.cpu less c.loop-cpu.pass.me c.split-own.result.me c.split-own.new.seat.me c.loop-cpu.invariant.pass c.split-own.ensures.new)) (refl, refl)
 
 pub loop-cpu-preserved : goal.loop-cpu-preserved
-loop-cpu-preserved c =
+loop-cpu-preserved g c =
     let i = c.loop-cpu.invariant in
     let less : c.loop-cpu.cpu < c.args.layout.now.cpus = omega (arith, c.loop-cpu-test.true) in
     let own = own-is c.args.layout.now.cpus c.loop-cpu.cpu less c.loop-cpu.pass.me c.split-own.result.me c.split-own.new.seat.me i.pass c.split-own.ensures.new in

@@ -16,7 +16,7 @@ loop-cpu-preserved g c =
     record {
       same = c.split-own.ensures.same.0 ∙ i.same;
       slots = ap (λ (m : Me). m.1) c.split-own.ensures.seat ∙ i.slots;
-      can = subst (λ (m : Me). CanDeal (c.loop-cpu.cpu + 1) c.args.layout.now.cpus m.0) (sym c.split-own.ensures.seat) (deals-on c.loop-cpu.cpu c.args.layout.now.cpus c.loop-cpu.pass.me.0 i.can);
+      can = subst (λ (m : Me). CanDeal (c.loop-cpu.cpu + 1) c.args.layout.now.cpus m.0.known) (sym c.split-own.ensures.seat) (deals-on c.loop-cpu.cpu c.args.layout.now.cpus c.loop-cpu.pass.me.0.known i.can);
       count = omega (arith, i.count, ap length first);
       so_far = deal-more c.args.sheet.now.table_id c.args.layout.now c.loop-cpu.workers.items c.push.new.self.items c.new-in-loop-cpu.result c.new.result c.new-seat.result c.loop-cpu.cpu c.remove-task.result c.loop-cpu.tasks.items c.remove-task.new.self.items _
           first seat c.new.ensures c.new-in-loop-cpu.ensures c.in_ok-push.ensures.items i.so_far;

@@ -9,10 +9,10 @@ loop-workers-preserved g c =
     let o = c.loop-workers.workers.ok in
     let some : 0 < length c.loop-workers.workers.items = omega (arith, o, c.remove-worker.ensures.len) in
     let first = taken-first c.loop-workers.workers.items c.remove-worker.result c.remove-worker.new.self.items some c.remove-worker.ensures.value c.remove-worker.ensures.items in
-    subst (λ ts. SoFar c.args.sheet.now.table_id c.args.pass.me.0 c.args.workers.items c.remove-worker.new.self.items c.bring.new.pass.table_id c.bring.new.pass.me ts) (sym c.in_ok-push.ensures.items)
-    (taking-more c.args.sheet.now.table_id c.args.pass.me.0 c.args.workers.items c.remove-worker.result c.remove-worker.new.self.items c.loop-workers.workers.items c.loop-workers.pass.table_id c.bring.new.pass.table_id c.loop-workers.pass.me c.bring.new.pass.me
+    subst (λ ts. SoFar c.args.sheet.now.table_id c.args.pass.me.0.known c.args.workers.items c.remove-worker.new.self.items c.bring.new.pass.table_id c.bring.new.pass.me ts) (sym c.in_ok-push.ensures.items)
+    (taking-more c.args.sheet.now.table_id c.args.pass.me.0.known c.args.workers.items c.remove-worker.result c.remove-worker.new.self.items c.loop-workers.workers.items c.loop-workers.pass.table_id c.bring.new.pass.table_id c.loop-workers.pass.me c.bring.new.pass.me
     c.loop-workers.tasks.items c.in_ok-bring.field-0 first c.loop-workers.invariant c.in_ok-bring.ensures)
 
 pub returns : goal.returns
-returns g c = taking-ends c.args.sheet.now.table_id c.args.pass.me.0 c.args.workers.items c.loop-workers.workers.items c.loop-workers.pass.table_id c.loop-workers.pass.me c.loop-workers.tasks.items
+returns g c = taking-ends c.args.sheet.now.table_id c.args.pass.me.0.known c.args.workers.items c.loop-workers.workers.items c.loop-workers.pass.table_id c.loop-workers.pass.me c.loop-workers.tasks.items
     (none-here c.loop-workers.workers.items (let o = c.loop-workers.workers.ok in omega (arith, o, eqb-true c.loop-workers.workers.len 0 (sym c.is_empty.ensures ∙ c.loop-workers-test.false)))) c.loop-workers.invariant

@@ -3,7 +3,7 @@ use Rattle.hwp_threads_seats.proofs.SeatJoins.{SoFar}
 use Rattle.hwp_threads_seats.proofs.gathering.gather.Given as goal
 
 abbrev pub invariant-loop-workers : goal.invariant-loop-workers
-invariant-loop-workers g l = SoFar l.fn.sheet.table_id l.fn.pass.me.0 l.fn.workers.items l.workers.items l.pass.table_id l.pass.me l.tasks.items
+invariant-loop-workers g l = SoFar l.fn.sheet.table_id l.fn.pass.me.0.known l.fn.workers.items l.workers.items l.pass.table_id l.pass.me l.tasks.items
 
 abbrev pub decreases-loop-workers : goal.decreases-loop-workers
 decreases-loop-workers g l = length l.workers.items

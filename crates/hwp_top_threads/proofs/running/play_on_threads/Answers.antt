@@ -9,8 +9,8 @@ use Rattle.hwp_top_threads.proofs.running.play_on_threads.Goals as goal
 pub close-requires-clause-all : goal.close-requires-clause-all
 close-requires-clause-all g c =
     let same : c.in_ok-table.table.shared.key ≡ c.args.script.now.layout = c.in_ok-table.ensures.table.1 ∙ search rules in
-    subst (λ (l : Layout). HasAll l c.in_ok-pass.pass.me.0) (sym same)
-    (has-all c.args.script.now c.in_ok-pass.pass.me.0 c.in_ok-pass.tasks.items c.in_ok-rows.rows c.requires.valid c.in_ok-pass.ensures.ran c.in_ok-rows.ensures)
+    subst (λ (l : Layout). HasAll l c.in_ok-pass.pass.me.0.known) (sym same)
+    (has-all c.args.script.now c.in_ok-pass.pass.me.0.known c.in_ok-pass.tasks.items c.in_ok-rows.rows c.requires.valid c.in_ok-pass.ensures.ran c.in_ok-rows.ensures)
 
 pub returns-clause-played : goal.returns-clause-played
 returns-clause-played g c =

@@ -13,7 +13,7 @@ pub deal-requires-clause-seat : goal.deal-requires-clause-seat
 deal-requires-clause-seat g c = (
   c.requires.seat.0,
   ap (λ (m : Me). m.1) c.requires.seat.1,
-  subst (λ (m : Me). CanDeal 0 c.args.script.now.layout.cpus m.0) (sym c.requires.seat.1) (first-deals c.args.script.now.layout),
+  subst (λ (m : Me). CanDeal 0 c.args.script.now.layout.cpus m.0.known) (sym c.requires.seat.1) (first-deals c.args.script.now.layout),
 )
 
 pub run_all-requires-clause-law : goal.run_all-requires-clause-law
@@ -37,4 +37,4 @@ returns-clause-ran g c =
     IfOk-weaker c.gather.result _ _ (λ r gathered.
     run-then c.args.script.now c.in_ok-crew.crew.items c.requires.valid c.in_ok-crew.ensures c.args.sheet.now.table_id c.in_ok-pass.workers.items c.deref_mut.result.now c.in_ok-pass.ensures.workers c.deref_mut.ensures.value
     c.in_ok-pass.workers.len c.run_all.new.workers whole c.run_all.ensures.count c.run_all.ensures.ran
-    c.in_ok-pass.pass.me.0 c.in_ok-pass.ensures.left.unused r.0.table_id r.0.me r.1.items gathered) c.gather.ensures
+    c.in_ok-pass.pass.me.0.known c.in_ok-pass.ensures.left.unused r.0.table_id r.0.me r.1.items gathered) c.gather.ensures

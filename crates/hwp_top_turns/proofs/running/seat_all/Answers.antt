@@ -12,6 +12,6 @@ returns-clause-knows g c = record {
   log = c.play.new.board.log;
   state = c.play.new.board.state;
   played = c.in_ok-rows.ensures.played;
-  all = subst (λ (l : Layout). HasAll l c.into_pass.result.me.0) c.in_ok-rows.ensures.layout c.into_pass.ensures.all;
+  all = subst (λ (l : Layout). HasAll l c.into_pass.result.me.0.known) c.in_ok-rows.ensures.layout c.into_pass.ensures.all;
   whole = c.into_pass.ensures.whole;
 }

@@ -13,7 +13,7 @@ gather-requires-clause-same g c = c.let_go-note.ensures.same.1 ∙ c.requires.se
 pub invariant_of-result : goal.invariant_of-result
 invariant_of-result g c = record {
   sheet_is = sym c.requires.named;
-  table_is = subst (IsTableOf c.args.layout.now) (sym c.requires.named) c.requires.table.0;
+  table_is = subst (IsTableOf g.W.Ways.ways c.args.layout.now) (sym c.requires.named) c.requires.table.0;
   board = subst (λ (id : TableId). IsSeatBoard id c.args.layout.now (set c.in_ok-seats.seats.items 0 c.gather.new.self) 0 [] 0) (sym c.requires.named)
       (board-now c.args.sheet.now.table_id c.args.layout.now c.requires.table.0.sound c.in_ok-seats.seats.items c.in_ok-seats.ensures c.index_mut.result.now c.index_mut.ensures.value c.let_go-note.result.me (c.let_go-note.ensures.note ∙ ap (λ (m : Me). (note m.0, [])) c.requires.seat.1) c.gather.new.self c.gather.ensures);
 }

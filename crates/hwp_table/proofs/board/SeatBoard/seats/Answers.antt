@@ -20,6 +20,6 @@ returns-clause-rights g c =
     let seats = c.self.inside.seats.items in
     let holder = c.self.inside.holder in
     let came = whole_then (state_of seats holder) (played (whole_at seats holder).log (turns_of c.self.inside.turns)) in
-    let whole = whole-is g.N.OfTable.table c.self.inside.sheet.now.table_id layout seats holder (turns_of c.self.inside.turns) c.self.inside.seat.0 c.self.invariant in
+    let whole = whole-is g.W.Ways.ways g.N.OfTable.table c.self.inside.sheet.now.table_id layout seats holder (turns_of c.self.inside.turns) c.self.inside.seat.0 c.self.invariant in
     let held = subst (λ (l : List SeatValue). IsHeld layout l holder came) (sym c.from_vec.ensures) (subst (IsHeld layout seats holder) whole c.self.invariant.board.held) in
     subst (λ (b : Board). (h : ℕ) × IsHeld b.layout c.from_vec.result h (whole_then b.state b.log)) c.self.view_is (holder, held)
