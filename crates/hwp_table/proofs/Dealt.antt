@@ -7,8 +7,7 @@ use Rattle.hwp_core_task.specs.hwp_core_rule.Lists.{EachMember}
 use Rattle.hwp_core_task.specs.hwp_core_rule.Opening.{below, opening_view}
 use Rattle.hwp_core_task.proofs.of_hwp_core_rule.Lists.{each-map, same-number}
 use Rattle.hwp_core_task.proofs.of_hwp_core_rule.WordsOpen.{below-at, length-below}
-use Rattle.hwp_table_words.specs.hwp_tlb_rule.Caching.{idle_caching}
-use Rattle.hwp_table_words.specs.Known.{Knowing, Known}
+use Rattle.hwp_table_words.specs.Known.{Known, dealt, forgetting, idling, kept}
 use Rattle.hwp_table_words.specs.Stands.{Me}
 
 abbrev pub pair : ℕ → ℕ × View
@@ -66,9 +65,9 @@ module _ (n c : ℕ) (less : c < n) where
 abbrev pub left_from : ℕ → ℕ → Known
 left_from c n = record { mines = map pair (drop c (below n)); own = []; rights = []; whole = None }
 
-module _ (n c : ℕ) (less : c < n) (pass own left : Me) (pass-is : pass ≡ (left_from c n, [])) where
-  pub own-is : own ≡ (dealt c pass.0, []) → own ≡ (record { mines = pair c ∷ []; own = []; rights = []; whole = None }, [])
-  own-is is = is ∙ ap (λ (m : Me). (dealt c m.0, [])) pass-is ∙ (λ i. (record { mines = dealt-is n c less i; own = []; rights = []; whole = None }, []))
+module _ (n c : ℕ) (less : c < n) (pass own left : Me) (pass-is : pass ≡ (idling (left_from c n), [])) where
+  pub own-is : own ≡ (idling (dealt c pass.0.known), []) → own ≡ (idling (record { mines = pair c ∷ []; own = []; rights = []; whole = None }), [])
+  own-is is = is ∙ ap (λ (m : Me). (idling (dealt c m.0.known), [])) pass-is ∙ (λ i. (idling (record { mines = dealt-is n c less i; own = []; rights = []; whole = None }), []))
 
-  pub left-is : left ≡ (kept c pass.0, pass.1) → left ≡ (left_from (c + 1) n, [])
-  left-is is = is ∙ ap (λ (m : Me). (kept c m.0, m.1)) pass-is ∙ (λ i. (record { mines = kept-is n c less i; own = []; rights = []; whole = None }, []))
+  pub left-is : left ≡ (forgetting (kept c pass.0.known) pass.0.caching, pass.1) → left ≡ (idling (left_from (c + 1) n), [])
+  left-is is = is ∙ ap (λ (m : Me). (forgetting (kept c m.0.known) m.0.caching, m.1)) pass-is ∙ (λ i. (idling (record { mines = kept-is n c less i; own = []; rights = []; whole = None }), []))

@@ -14,9 +14,8 @@ use Rattle.hwp_core_task.specs.hwp_core_rule.Lists.{EachMember}
 use Rattle.hwp_core_task.specs.hwp_core_rule.parts.Holdings.{HoldsNothing}
 use Rattle.hwp_core_task.proofs.of_hwp_core_rule.Lists.{at_last, at_longer, at_map, each-push, from_bool-same, same-or}
 use Rattle.hwp_core_task.specs.declared.Turn.{Turn}
-use Rattle.hwp_table_words.specs.hwp_tlb_rule.Caching.{Caching}
 use Rattle.hwp_table_words.specs.Ends.{HasAll}
-use Rattle.hwp_table_words.specs.Known.{Known, Whole, either_whole, joined, views_for}
+use Rattle.hwp_table_words.specs.Known.{Known, Whole, either_whole, joining, views_for}
 use Rattle.hwp_table_words.specs.Seats.{SeatValue, cpu, mine, slots_of}
 use Rattle.hwp_table_words.specs.Stands.{Me}
 use Rattle.hwp_table.specs.Boards.{IsAtTable, state_of, whole_then}
@@ -91,8 +90,8 @@ module _ (id : TableId) (layout : Layout) (all : List SeatValue) (holder : ℕ) 
         count = ap length (front ∙ ap (λ (l : List SeatValue). (left ++ s ∷ []) ++ l) last ∙ append-nil (left ++ s ∷ [])) ∙ length-append left (s ∷ [])
 
     -- and one more
-    pub more : (before : List SeatValue) (of now : TableId) (me new : Me) → before ≡ left ++ s ∷ [] → IsGathered id layout all holder w before of me → now ≡ of → (caching : Caching) → new ≡ (record { known = joined me.0.known s.known; caching = caching }, me.1) → IsGathered id layout all holder w left now new
-    more before of now me new before-is was now-is caching is-new = subst (IsGathered id layout all holder w left now) (sym is-new) (record {
+    pub more : (before : List SeatValue) (of now : TableId) (me new : Me) → before ≡ left ++ s ∷ [] → IsGathered id layout all holder w before of me → now ≡ of → new ≡ (joining me.0 (record { known = s.known; caching = s.caching }), me.1) → IsGathered id layout all holder w left now new
+    more before of now me new before-is was now-is is-new = subst (IsGathered id layout all holder w left now) (sym is-new) (record {
       rest = s ∷ rest;
       front = front-less;
       same = now-is ∙ was.same;

@@ -13,7 +13,7 @@ use Rattle.hwp_core_task.proofs.of_hwp_core_rule.Lists.{at_map, at_set, map-was,
 use Rattle.hwp_core_task.proofs.of_hwp_core_rule.BoardOpens.{opening-holds}
 use Rattle.hwp_core_task.proofs.of_hwp_core_rule.WordsOpen.{below-at, length-below}
 use Rattle.hwp_plain.specs.Boards.{IsReached}
-use Rattle.hwp_table_words.specs.Known.{Whole, first_known, note, with_note}
+use Rattle.hwp_table_words.specs.Known.{Whole, first_known, idling, note, with_note}
 use Rattle.hwp_table_words.specs.Seats.{SeatValue, mine}
 use Rattle.hwp_table_words.specs.Stands.{Me}
 use Rattle.hwp_table_words.proofs.Opened.{times-in}
@@ -94,9 +94,9 @@ module _ (id : TableId) (layout : Layout) (sound : IsSound layout) where
     pub s-is : s ≡ seat_open id layout 0
     s-is = s-at ∙ ap (λ (l : List SeatValue). get_or l 0 s) items-are ∙ get_or_from_slice_get dealt 0 (seat_open id layout 0) s first-there
 
-    module _ (n : Me) (n-is : n ≡ (note (first_known layout), [])) (g : SeatValue) (g-is : g ≡ record s { known = with_note s.known n.0 }) where
+    module _ (n : Me) (n-is : n ≡ (idling (note (first_known layout)), [])) (g : SeatValue) (g-is : g ≡ record s { known = with_note s.known n.0.known }) where
       seats-now : set items 0 g ≡ seats
-      seats-now = λ i. set (items-are i) 0 ((g-is ∙ (λ j. record (s-is j) { known = with_note (s-is j).known (n-is j).0 })) i)
+      seats-now = λ i. set (items-are i) 0 ((g-is ∙ (λ j. record (s-is j) { known = with_note (s-is j).known (n-is j).0.known })) i)
 
       pub board-now : IsSeatBoard id layout (set items 0 g) 0 [] 0
       board-now = subst (λ (l : List SeatValue). IsSeatBoard id layout l 0 [] 0) (sym seats-now) board-open

@@ -95,8 +95,8 @@ module _ (id : TableId) (layout : Layout) (seats : List SeatValue) (holder : ℕ
       steps-s : Steps layout who step (logs put) (mine s) (mine s2) found got
       steps-s = subst (λ (l : Layout). Steps l who step (logs put) (mine s) (mine s2) found got) of-s.layout_is steps
 
-      next-s : s2 ≡ record s { known = known_after layout own r s.known }
-      next-s = moved-s.next ∙ (λ i. record s { known = known_after (of-s.layout_is i) (of-s.number_is i) (rec_of (of-s.layout_is i) who step (logs put) found got) s.known })
+      next-s : s2 ≡ record s { known = known_after layout own r s.known; caching = s2.caching }
+      next-s = moved-s.next ∙ (λ i. record s { known = known_after (of-s.layout_is i) (of-s.number_is i) (rec_of (of-s.layout_is i) who step (logs put) found got) s.known; caching = s2.caching })
 
       whole-s : s.known.whole ≡ Some w
       whole-s = subst (λ (t : SeatValue). t.known.whole ≡ Some w) seat-is held1.whole

@@ -1,7 +1,6 @@
 ghost use Rattle.std.specs.Prelude.{◌≡◌, [], map, IfOk};
 ghost use Rattle.hwp_core_task.specs.hwp_core_rule.Opening.{below};
-ghost use Rattle.hwp_table_words.specs.hwp_tlb_rule.Caching.{idle_caching};
-ghost use Rattle.hwp_table_words.specs.Known.{first_known, let_go};
+ghost use Rattle.hwp_table_words.specs.Known.{first_known, idling, let_go};
 ghost use Rattle.hwp_table_words.specs.Seats.{IsTableOf};
 ghost use Rattle.hwp_table.specs.Seats.{AreThese, Gathering, IsGathered, seat_open};
 
@@ -17,7 +16,7 @@ pub(crate) fn deal_seats<'a, W: Ways>(
     pass: Pass,
 ) -> Result<Vec<SeatOps<'a, W>>, OutOfMemory>
     requires table { IsTableOf W.ways layout.now sheet.now.table_id × (sheet.now.key ≡ layout.now) }
-    requires seat { (pass.table_id ≡ sheet.now.table_id) × (pass.me ≡ (record { known = let_go (first_known layout.now); caching = idle_caching }, [])) }
+    requires seat { (pass.table_id ≡ sheet.now.table_id) × (pass.me ≡ (idling (let_go (first_known layout.now)), [])) }
     ensures { IfOk result (λ seats. seats.items ≡ map (seat_open sheet.now.table_id layout.now) (below layout.now.cpus)) }
 {
     let mut pass = pass;

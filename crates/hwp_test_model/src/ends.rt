@@ -112,7 +112,7 @@ fn at_table(rt: &impl Abort, alloc: Global) -> Machine {
     let layout = Arc::new(alloc, two_frames(rt, alloc)).expect(rt, "memory");
     let (table, pass) = begin::<Bare>(alloc, &layout).expect(rt, "memory");
     let pass = dealt::<Brand, Bare>(rt, alloc, &table.shared, &layout, pass);
-    let Ok((ended, bodies)) = close(alloc, table, pass) else {
+    let Ok((ended, bodies)) = close(alloc, &layout, table, pass) else {
         panic!(rt; "memory")
     };
     ended.machine(&layout, bodies).expect(rt, "memory")

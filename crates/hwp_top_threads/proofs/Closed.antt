@@ -71,7 +71,7 @@ module _ (script : Script) (v : Known) (now : List Processor) (rows : List (List
       nothing x (inr (o, at, is)) =
           subst HoldsNothing (sym is) (holds-none script.layout o.to.view o.to.task (have.each x.0 o at).begun.fits (finished-over (tasks_then have.owns) rows x.0 o.to.task finished-then (at_map (λ (y : Own Processor). y.to.task) have.owns x.0 o at)))
 
-  module _ (words : List ℕ) (slots : List Content) (end : IsEnd script.layout v words slots) where
+  module _ (ways : ℕ) (words : List ℕ) (slots : List Content) (entries : List ℕ) (end : IsEnd ways script.layout v words slots entries) where
     done : AreDone script (board_of words slots end.views) rows
     done = record {
       moves = end.moves;
@@ -91,14 +91,14 @@ module _ (script : Script) (v : Known) (now : List Processor) (rows : List (List
       finished = finished-then;
     }
 
-pub closed-run : (script : Script) (ended : EndValue) (now : List Processor) (rows : List (List Row)) → IsValid script → ended.layout ≡ script.layout → HaveRun script ended.known now → AreFinished now rows → IsEnd ended.layout ended.known ended.words ended.slots → IsThreadPlayed script ended rows
+pub closed-run : (ways : ℕ) (script : Script) (ended : EndValue) (now : List Processor) (rows : List (List Row)) → IsValid script → ended.layout ≡ script.layout → HaveRun script ended.known now → AreFinished now rows → IsEnd ways ended.layout ended.known ended.words ended.slots ended.entries → IsThreadPlayed script ended rows
 unfolding done
-closed-run script ended now rows valid layout_is have finished end =
-    let there : IsEnd script.layout ended.known ended.words ended.slots = subst (λ (l : Layout). IsEnd l ended.known ended.words ended.slots) layout_is end in
+closed-run ways script ended now rows valid layout_is have finished end =
+    let there : IsEnd ways script.layout ended.known ended.words ended.slots ended.entries = subst (λ (l : Layout). IsEnd ways l ended.known ended.words ended.slots ended.entries) layout_is end in
     record {
       layout_is = layout_is;
       views = there.views;
-      done = done script ended.known now rows valid have finished ended.words ended.slots there;
+      done = done script ended.known now rows valid have finished ways ended.words ended.slots ended.entries there;
       all = has-all script ended.known now rows valid have finished;
       views_are = there.mines;
       moves_are = there.own;

@@ -54,7 +54,7 @@ fn play_on_threads<R: Threads + Wait + Sync, W: Ways, G: Gate + Sync>(
     let (table, pass) = begin::<W>(alloc, &layout)?;
     let (pass, tasks) = run_crew(rt, alloc, &table.shared, script, pass, gate)?;
     let rows = rows_of(alloc, tasks)?;
-    let Ok((ended, slots)) = close(alloc, table, pass) else {
+    let Ok((ended, slots)) = close(alloc, &script.layout, table, pass) else {
         return Err(AllocError);
     };
     ended.reached();

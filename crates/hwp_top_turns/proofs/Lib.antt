@@ -4,6 +4,7 @@ pub mod Led
 pub mod Played
 pub mod Came
 pub mod Whole
+pub mod CachedEnds
 mod SwappedMarks
 mod Tabled
 pub mod ProcessorServes

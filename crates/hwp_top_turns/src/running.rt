@@ -60,7 +60,7 @@ fn play_at_table<W: Ways>(
     let layout = Arc::new(alloc, script.layout.copy(alloc)?)?;
     let (table, pass) = begin::<W>(alloc, &layout)?;
     let (pass, rows) = seat_all::<Brand, W>(alloc, &table.shared, script, pass)?;
-    let Ok((ended, slots)) = close(alloc, table, pass) else {
+    let Ok((ended, slots)) = close(alloc, &script.layout, table, pass) else {
         return Err(AllocError);
     };
     Ok((ended, slots, rows))
@@ -102,6 +102,7 @@ pub fn finish_run<W: Ways>(
     ensures closing { IfOk result (λ run. IsFinished script.now ended rows.now run.report run.ended) }
     ensures caches { IfOk result (λ run. IsCachedEnd W.ways run.ended) }
 {
+    ended.reached();
     let pages = pages_of(alloc, &ended, bodies, &script.layout)?;
     let lists = script.lists.as_slice();
     let report = report(

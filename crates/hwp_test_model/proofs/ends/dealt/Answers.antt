@@ -40,6 +40,6 @@ returns-clause-all g c =
     let views : map mine c.seats.result ≡ (opening layout).views = c.seats.ensures.views ∙ ap (λ (s : State). s.views) state-is in
     let two = two-seats g.N.OfTable.table layout c.seats.result c.into_vec-seats.result.items c.pop.new.self.items c.pop-2.new.self.items c.expect-first.result c.expect-second.result are c.requires.two
     c.into_vec-seats.ensures (rw c.expect-second.ensures at c.pop.ensures.items) (rw c.expect-first.ensures at c.pop-2.ensures.items) in
-    let known : c.join.new.seat.me.0 ≡ joined c.expect-first.result.known c.expect-second.result.known =
-    ap (λ (m : Me). m.0) c.join.ensures.seat ∙ (λ i. joined (c.pass-pass.ensures.same.1 i) (c.pass.ensures.same.1 i)) in
+    let known : c.join.new.seat.me.0.known ≡ joined c.expect-first.result.known c.expect-second.result.known =
+    ap (λ (m : Me). m.0.known) c.join.ensures.seat ∙ (λ i. joined (c.pass-pass.ensures.same.1 i).known (c.pass.ensures.same.1 i).known) in
     subst (HasAll layout) (sym known) (all-joined g.N.OfTable.table layout c.seats.result c.expect-first.result c.expect-second.result are two views)

@@ -1,4 +1,6 @@
 use Rattle.std.proofs.Common.{◌≡◌, ◌+◌, ◌<◌, [], length, sym, ap, ◌∙◌, subst, arith}
+use Rattle.hwp_table_words.specs.Known.{idling}
+use Rattle.hwp_table_words.specs.Seats.{value_of}
 use Rattle.hwp_table_words.specs.Stands.{Me}
 use Rattle.hwp_threads_seats.specs.Dealing.{CanDeal, seat_at, seat_known}
 use Rattle.hwp_threads_seats.proofs.Pieces.{deal-more, taken-first}
@@ -11,8 +13,8 @@ loop-cpu-preserved g c =
     let less : c.loop-cpu.cpu < c.args.layout.now.cpus = omega (arith, c.loop-cpu-test.true) in
     let some : 0 < length c.loop-cpu.tasks.items = omega (arith, i.count, less) in
     let first = taken-first c.loop-cpu.tasks.items c.remove-task.result c.remove-task.new.self.items some c.remove-task.ensures.value c.remove-task.ensures.items in
-    let own : c.split-own.result.me ≡ (seat_known c.loop-cpu.cpu, []) = c.split-own.ensures.new ∙ (λ j. (i.can.each c.loop-cpu.cpu (omega arith) less j, [])) in
-    let seat : c.new-seat.result ≡ seat_at c.args.sheet.now.table_id c.args.layout.now c.loop-cpu.cpu = c.new-seat.ensures ∙ (λ j. record { table = c.args.sheet.now.table_id; layout = c.args.layout.now; known = (own j).0 }) in
+    let own : c.split-own.result.me ≡ (idling (seat_known c.loop-cpu.cpu), []) = c.split-own.ensures.new ∙ (λ j. (idling (i.can.each c.loop-cpu.cpu (omega arith) less j), [])) in
+    let seat : c.new-seat.result ≡ seat_at c.args.sheet.now.table_id c.args.layout.now c.loop-cpu.cpu = c.new-seat.ensures ∙ (λ j. value_of c.args.sheet.now.table_id c.args.layout.now (own j).0) in
     record {
       same = c.split-own.ensures.same.0 ∙ i.same;
       slots = ap (λ (m : Me). m.1) c.split-own.ensures.seat ∙ i.slots;

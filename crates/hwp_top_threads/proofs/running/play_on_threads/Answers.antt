@@ -15,5 +15,5 @@ close-requires-clause-all g c =
 pub returns-clause-played : goal.returns-clause-played
 returns-clause-played g c =
     let same : c.in-Ok.ended.layout ≡ c.args.script.now.layout = c.in-Ok.ensures.layout ∙ c.in_ok-table.ensures.table.1 ∙ search rules in
-    closed-run c.args.script.now c.in-Ok.ended c.in_ok-pass.tasks.items c.in_ok-rows.rows c.requires.valid same
+    closed-run g.W.Ways.ways c.args.script.now c.in-Ok.ended c.in_ok-pass.tasks.items c.in_ok-rows.rows c.requires.valid same
     (subst (λ (v : Known). HaveRun c.args.script.now v c.in_ok-pass.tasks.items) (sym c.in-Ok.ensures.known) c.in_ok-pass.ensures.ran) c.in_ok-rows.ensures c.reached.ensures

@@ -1,4 +1,5 @@
 use Rattle.std.proofs.Common.{refl}
+use Rattle.hwp_top_turns.proofs.CachedEnds.{cached-end}
 use Rattle.hwp_top_turns.proofs.Came.{end-came, end-told}
 use Rattle.hwp_top_turns.proofs.Whole.{run-lawful, run-of-run}
 use Rattle.hwp_top_turns.proofs.running.finish_run.Goals as goal
@@ -30,3 +31,6 @@ returns-clause-closing g c = record {
       c.words.ensures c.in_ok-pages.ensures.pages c.in_ok-pages.ensures.count c.as_slice-lists.ensures c.as_slice.ensures c.in_ok-report.report c.in_ok-report.ensures;
   same = refl;
 }
+
+pub returns-clause-caches : goal.returns-clause-caches
+returns-clause-caches g c = cached-end g.W.Ways.ways c.args.ended c.reached.ensures

@@ -1,6 +1,6 @@
 use Rattle.std.proofs.Common.{[], set, sym, ap, ◌∙◌, subst}
 use Rattle.atomic_table.specs.Seated.{TableId}
-use Rattle.hwp_table_words.specs.Known.{note}
+use Rattle.hwp_table_words.specs.Known.{idling, note}
 use Rattle.hwp_table_words.specs.Seats.{IsTableOf, SeatValue}
 use Rattle.hwp_table_words.specs.Stands.{Me}
 use Rattle.hwp_table.specs.Boards.{IsSeatBoard}
@@ -15,11 +15,11 @@ invariant_of-result g c = record {
   sheet_is = sym c.requires.named;
   table_is = subst (IsTableOf g.W.Ways.ways c.args.layout.now) (sym c.requires.named) c.requires.table.0;
   board = subst (λ (id : TableId). IsSeatBoard id c.args.layout.now (set c.in_ok-seats.seats.items 0 c.gather.new.self) 0 [] 0) (sym c.requires.named)
-      (board-now c.args.sheet.now.table_id c.args.layout.now c.requires.table.0.sound c.in_ok-seats.seats.items c.in_ok-seats.ensures c.index_mut.result.now c.index_mut.ensures.value c.let_go-note.result.me (c.let_go-note.ensures.note ∙ ap (λ (m : Me). (note m.0, [])) c.requires.seat.1) c.gather.new.self c.gather.ensures);
+      (board-now c.args.sheet.now.table_id c.args.layout.now c.requires.table.0.sound c.in_ok-seats.seats.items c.in_ok-seats.ensures c.index_mut.result.now c.index_mut.ensures.value c.let_go-note.result.me (c.let_go-note.ensures.note ∙ ap (λ (m : Me). (idling (note m.0.known), [])) c.requires.seat.1) c.gather.new.self c.gather.ensures);
 }
 
 pub returns-clause-state : goal.returns-clause-state
-returns-clause-state g c = state-now c.args.sheet.now.table_id c.args.layout.now c.requires.table.0.sound c.in_ok-seats.seats.items c.in_ok-seats.ensures c.index_mut.result.now c.index_mut.ensures.value c.let_go-note.result.me (c.let_go-note.ensures.note ∙ ap (λ (m : Me). (note m.0, [])) c.requires.seat.1) c.gather.new.self c.gather.ensures
+returns-clause-state g c = state-now c.args.sheet.now.table_id c.args.layout.now c.requires.table.0.sound c.in_ok-seats.seats.items c.in_ok-seats.ensures c.index_mut.result.now c.index_mut.ensures.value c.let_go-note.result.me (c.let_go-note.ensures.note ∙ ap (λ (m : Me). (idling (note m.0.known), [])) c.requires.seat.1) c.gather.new.self c.gather.ensures
 
 pub returns-clause-log : goal.returns-clause-log
-returns-clause-log g c = log-now c.args.sheet.now.table_id c.args.layout.now c.requires.table.0.sound c.in_ok-seats.seats.items c.in_ok-seats.ensures c.index_mut.result.now c.index_mut.ensures.value c.let_go-note.result.me (c.let_go-note.ensures.note ∙ ap (λ (m : Me). (note m.0, [])) c.requires.seat.1) c.gather.new.self c.gather.ensures
+returns-clause-log g c = log-now c.args.sheet.now.table_id c.args.layout.now c.requires.table.0.sound c.in_ok-seats.seats.items c.in_ok-seats.ensures c.index_mut.result.now c.index_mut.ensures.value c.let_go-note.result.me (c.let_go-note.ensures.note ∙ ap (λ (m : Me). (idling (note m.0.known), [])) c.requires.seat.1) c.gather.new.self c.gather.ensures

@@ -1,0 +1,13 @@
+-- The caches of a table that was closed lead where the translations do, and name frames in use alone.
+use Rattle.std.proofs.Common.{ℕ, []}
+use Rattle.std.proofs.lemmas.Option.{none-some}
+use Rattle.hwp_table_words.proofs.of_hwp_tlb_rule.Named.{none-handled}
+use Rattle.hwp_table_words.specs.Ends.{EndValue, IsEnd, board_of}
+use Rattle.hwp_top_turns.specs.Caches.{IsCachedEnd}
+
+pub cached-end : (ways : ℕ) (ended : EndValue) → IsEnd ways ended.layout ended.known ended.words ended.slots ended.entries → IsCachedEnd ways ended
+cached-end ways ended end = record {
+  count = end.entry_count;
+  leads = end.lead;
+  in_use = none-handled ways ended.layout (board_of ended.words ended.slots end.views) ended.entries [] (record { count = end.entry_count; lead = end.lead; knows = λ i x e. absurd (none-some x e) }) end.holds;
+}
