@@ -1,0 +1,6 @@
+pub mod CachingLaws
+pub mod LockSlots
+pub mod LockTimes
+pub mod SeatViews
+pub mod Agrees
+pub mod Named

@@ -1,5 +1,5 @@
 -- The rule of translation caches: an entry leads where the translation leads, and each seat is right in what it knows.
-use Rattle.std.specs.Prelude.{◌≡◌, ◌⊎◌, ℕ, ◌+◌, ◌*◌, ◌%◌, ◌<◌, ◌≤◌, ◌==◌, Bool, true, false, List, [], ◌∷◌, ◌++◌, Option, Some, length, map, slice_get}
+use Rattle.std.specs.Prelude.{◌≡◌, ◌⊎◌, ℕ, ◌+◌, ◌*◌, ◌%◌, ◌^◌, ◌<◌, ◌≤◌, ◌==◌, Bool, true, false, List, [], ◌∷◌, ◌++◌, Option, Some, length, map, slice_get}
 use Rattle.std.specs.List.{sum_by}
 use Rattle.std.specs.Int.{from_bool}
 use Rattle.hwp_core_task.specs.hwp_geom.declared.Layout.{Layout}
@@ -31,6 +31,7 @@ pub record Leads (ways : ℕ) (trans : List ℕ) (place word : ℕ) : Type 0 whe
   pub slot : ℕ
   pub frame : ℕ
   pub word_is : word ≡ entry_word slot frame
+  pub fits : frame < 2 ^ 16
   pub place_is : place % ways ≡ slot % ways
   pub leads : slice_get trans slot ≡ Some (frame + 1)
 
