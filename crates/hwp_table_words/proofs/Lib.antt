@@ -3,7 +3,7 @@ mod WordOrder
 mod ListReads
 mod SeatMoves
 mod SeatKnows
-mod TableKeeps
+pub mod TableKeeps
 mod OperationAsks
 mod SeatDeals
 mod LockSlots
@@ -16,3 +16,4 @@ pub mod Opened
 mod Closed
 pub use Rattle.hwp_core_task.proofs.of_hwp_core_rule as of_hwp_core_rule
 pub use Rattle.hwp_plain_words.proofs as of_hwp_plain_words
+pub use Rattle.hwp_tlb_rule.proofs as of_hwp_tlb_rule
