@@ -4,3 +4,4 @@ pub mod LockTimes
 pub mod SeatViews
 pub mod Agrees
 pub mod Named
+pub mod EntrySteps
