@@ -58,12 +58,66 @@ fn step_gives_the_report_of_a_script(rt: HostRuntime) {
     gives(&rt, rt.alloc(), NESTED, STOPPED, 8);
 }
 
+/// These words give the report of a script, end with this status, and tell of a table without translation caches, or of one with them.
+fn tells_of(
+    rt: &impl Abort,
+    alloc: Global,
+    words: &[&str],
+    script: &str,
+    report: &str,
+    status: u8,
+    tables: (bool, bool),
+) {
+    let left = call(rt, alloc, words, script.as_bytes(), &[], (4096, &[]));
+    leaves(rt, &left, true, status, report, "");
+    assert!(rt; left.tables == tables);
+}
+
+#[test]
+fn step_tlb_gives_the_same_report_from_a_table_with_caches(rt: HostRuntime) {
+    for (script, report, status) in [(STORE_AND_LOAD, STORED_AND_LOADED, 0), (NESTED, STOPPED, 8)] {
+        tells_of(
+            &rt,
+            rt.alloc(),
+            &["step"],
+            script,
+            report,
+            status,
+            (true, false),
+        );
+        tells_of(
+            &rt,
+            rt.alloc(),
+            &["step", "tlb"],
+            script,
+            report,
+            status,
+            (false, true),
+        );
+    }
+}
+
+/// `step tlb` refuses a script, and fails, as `step` does.
+#[test]
+fn step_tlb_tells_refusals_and_faults(rt: HostRuntime) {
+    let words = &["step", "tlb"];
+    let refused = call(&rt, rt.alloc(), words, b"hwp 3\n", &[], (4096, &[]));
+    leaves(&rt, &refused, false, 3, "", "script line 1: BadHeader\n");
+    let script = STORE_AND_LOAD.as_bytes();
+    let unread = call(&rt, rt.alloc(), words, script, &[1], (4096, &[]));
+    leaves(&rt, &unread, false, 4, "", "read fault\n");
+    assert!(&rt; unread.tables == (false, false));
+    let cut = call(&rt, rt.alloc(), words, script, &[], (4, &[2]));
+    leaves(&rt, &cut, true, 5, "hwp-", "write fault\n");
+    assert!(&rt; cut.tables == (false, true));
+}
+
 /// Each of the words is a usage.
 fn are_usage(rt: &impl Abort, alloc: Global, rows: &[&[&str]]) {
     for words in rows {
         let script = STORE_AND_LOAD.as_bytes();
         let left = call(rt, alloc, words, script, &[], (4096, &[]));
-        let usage = "usage: hwp step|run|check|gen N|sum N\n";
+        let usage = "usage: hwp step [tlb]|run [tlb]|check|gen N|sum N\n";
         leaves(rt, &left, false, 2, "", usage);
     }
 }
@@ -71,7 +125,16 @@ fn are_usage(rt: &impl Abort, alloc: Global, rows: &[&[&str]]) {
 const OTHER_WORDS: &[&[&str]] = &[
     &[],
     &["run"],
+    &["tlb"],
+    &["tlb", "step"],
     &["step", "now"],
+    &["step", ""],
+    &["step", "TLB"],
+    &["step", "tlb", "now"],
+    &["run", "tlb"],
+    &["gen", "tlb"],
+    &["sum", "tlb"],
+    &["check", "tlb"],
     &["STEP"],
     &["gen"],
     &["sum"],

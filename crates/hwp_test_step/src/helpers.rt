@@ -8,10 +8,11 @@ use std::alloc::Global;
 use std::process::Abort;
 use std::str;
 
-/// What a call left: whether it gave a report, its status, and both sinks.
+/// What a call left: whether it gave a report, and a table without translation caches, and one with them; its status, and both sinks.
 #[derive(Drop)]
 pub struct Left {
     pub reported: bool,
+    pub tables: (bool, bool),
     pub status: u8,
     pub out: MemSink,
     pub err: MemSink,
@@ -48,6 +49,7 @@ pub fn call_untold(
     let done = top(alloc, list.as_slice(), &mut src, &mut out, &mut err);
     Left {
         reported: done.report.is_some(),
+        tables: (done.ended.is_some(), done.tlb.is_some()),
         status: done.status,
         out,
         err,

@@ -19,7 +19,7 @@ fn has_text(rt: &impl Abort, alloc: Global, bytes: &[u8], script: &Script) {
 /// `gen` writes the script of the seed, which is read back, and reads nothing itself.
 fn writes_script(rt: &impl Abort, alloc: Global, word: &str, seed: u64) {
     let left = unread(rt, alloc, &["gen", word]);
-    assert!(rt; (left.reported, left.status) == (false, 0));
+    assert!(rt; (left.reported, left.tables, left.status) == (false, (false, false), 0));
     let script = generate(alloc, seed).expect(rt, "memory");
     has_text(rt, alloc, left.out.bytes(), &script);
     let again = read(alloc, left.out.bytes()).expect(rt, "a script");
@@ -59,7 +59,7 @@ fn gen_tells_a_fault_of_the_sink(rt: HostRuntime) {
 /// `sum` runs the script of the seed, reads nothing, and begins its summary with these lines.
 fn sums(rt: &impl Abort, alloc: Global, word: &str, front: &str) -> Left {
     let left = unread(rt, alloc, &["sum", word]);
-    assert!(rt; (left.reported, left.status) == (true, 0));
+    assert!(rt; (left.reported, left.tables, left.status) == (true, (true, false), 0));
     assert!(rt; left.out.bytes().starts_with(front.as_bytes()));
     left
 }

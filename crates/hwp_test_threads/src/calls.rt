@@ -2,6 +2,10 @@
 
 use crate::helpers::{call, leaves};
 use hwp_top::Open;
+use std::alloc::Global;
+use std::process::Abort;
+use std::sync::Wait;
+use std::thread::Threads;
 
 const STORE_AND_LOAD: &str = "\
 hwp 1
@@ -42,37 +46,58 @@ const STOPPED: &str = "\
 hwp-report 1\nstop 0 0 shutdown\ncount 0\nframe 0 free bad 0 weak 0\nframe 1 free bad 0 weak 0\npage 0 0\ncpu 0 1\n\
 0 stopped\nend\n";
 
-const USAGE: &str = "usage: hwp step|run|check|gen N|sum N\n";
+const USAGE: &str = "usage: hwp step [tlb]|run [tlb]|check|gen N|sum N\n";
 
-#[test]
-fn a_script_is_run(rt: HostRuntime) {
-    let left = call(
-        &rt,
-        rt.alloc(),
-        "run",
-        STORE_AND_LOAD,
-        &[],
-        (4096, &[]),
-        &Open,
-    );
-    leaves(&rt, &left, true, 0, STORED_AND_LOADED, "");
-    let left = call(&rt, rt.alloc(), "run", NESTED, &[], (4096, &[]), &Open);
-    leaves(&rt, &left, true, 8, STOPPED, "");
+/// These words give the report of each script, and tell of a table without translation caches, or of one with them.
+fn runs(
+    rt: &(impl Abort + Threads + Wait + Sync),
+    alloc: Global,
+    words: &[&str],
+    tables: (bool, bool),
+) {
+    for (script, report, status) in [(STORE_AND_LOAD, STORED_AND_LOADED, 0), (NESTED, STOPPED, 8)] {
+        let left = call(rt, alloc, words, script, &[], (4096, &[]), &Open);
+        leaves(rt, &left, true, status, report, "");
+        assert!(rt; left.tables == tables);
+    }
 }
 
 #[test]
-fn the_word_run_alone_is_served(rt: HostRuntime) {
-    for word in ["step", "check", "runs", "Run", ""] {
+fn a_script_is_run(rt: HostRuntime) {
+    runs(&rt, rt.alloc(), &["run"], (true, false));
+    runs(&rt, rt.alloc(), &["run", "tlb"], (false, true));
+}
+
+/// Words for which there is no run on threads.
+const OTHER_WORDS: &[&[&str]] = &[
+    &[],
+    &["step"],
+    &["step", "tlb"],
+    &["check"],
+    &["tlb"],
+    &["runs"],
+    &["Run"],
+    &[""],
+    &["run", ""],
+    &["run", "now"],
+    &["run", "tlb", "now"],
+    &["tlb", "run"],
+];
+
+#[test]
+fn the_words_run_and_run_tlb_alone_are_served(rt: HostRuntime) {
+    for words in OTHER_WORDS {
         let left = call(
             &rt,
             rt.alloc(),
-            word,
+            words,
             STORE_AND_LOAD,
             &[],
             (4096, &[]),
             &Open,
         );
         leaves(&rt, &left, false, 2, "", USAGE);
+        assert!(&rt; left.tables == (false, false));
     }
 }
 
@@ -81,7 +106,7 @@ fn a_refused_script_and_a_source_that_fails_leave_nothing(rt: HostRuntime) {
     let left = call(
         &rt,
         rt.alloc(),
-        "run",
+        &["run"],
         "hwp 1\ncpus 9\n",
         &[],
         (4096, &[]),
@@ -91,7 +116,7 @@ fn a_refused_script_and_a_source_that_fails_leave_nothing(rt: HostRuntime) {
     let left = call(
         &rt,
         rt.alloc(),
-        "run",
+        &["run"],
         STORE_AND_LOAD,
         &[2],
         (4096, &[]),
@@ -105,7 +130,7 @@ fn a_sink_that_fails_has_the_front_of_the_report(rt: HostRuntime) {
     let left = call(
         &rt,
         rt.alloc(),
-        "run",
+        &["run"],
         STORE_AND_LOAD,
         &[],
         (16, &[3]),

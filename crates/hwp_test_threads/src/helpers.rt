@@ -10,10 +10,11 @@ use std::str;
 use std::sync::Wait;
 use std::thread::Threads;
 
-/// What a call left: whether it gave a report, its status, and both sinks.
+/// What a call left: whether it gave a report, and a table without translation caches, and one with them; its status, and both sinks.
 #[derive(Drop)]
 pub struct Left {
     pub reported: bool,
+    pub tables: (bool, bool),
     pub status: u8,
     pub out: MemSink,
     pub err: MemSink,
@@ -23,7 +24,7 @@ pub struct Left {
 pub fn call<R: Abort + Threads + Wait + Sync>(
     rt: &R,
     alloc: Global,
-    word: &str,
+    words: &[&str],
     script: &str,
     read: &[u64],
     sink: (usize, &[u64]),
@@ -31,9 +32,11 @@ pub fn call<R: Abort + Threads + Wait + Sync>(
 ) -> Left
     requires { 0 < sink.0 }
 {
-    let mut words = Vec::new(alloc);
-    let word = String::from_str(alloc, word).expect(rt, "memory");
-    words.push(word).expect(rt, "memory");
+    let mut list = Vec::new(alloc);
+    for word in words {
+        let word = String::from_str(alloc, word).expect(rt, "memory");
+        list.push(word).expect(rt, "memory");
+    }
     let (take, write) = sink;
     let script = script.as_bytes().to_vec(alloc).expect(rt, "memory");
     let mut src = MemSource::new(script, read.to_vec(alloc).expect(rt, "memory"));
@@ -42,14 +45,15 @@ pub fn call<R: Abort + Threads + Wait + Sync>(
     let done = top_run(
         rt,
         alloc,
-        words.as_slice(),
+        list.as_slice(),
         &mut src,
         &mut out,
         &mut err,
         gate,
     );
     Left {
-        reported: done.report.is_some() && done.ended.is_some(),
+        reported: done.report.is_some(),
+        tables: (done.ended.is_some(), done.tlb.is_some()),
         status: done.status,
         out,
         err,

@@ -122,7 +122,7 @@ fn one_answers_while_the_other_is_inside_its_command(rt: HostRuntime) {
         },
     ];
     let gate = Meeting::new(&holds);
-    let left = call(&rt, rt.alloc(), "run", TWO, &[], (4096, &[]), &gate);
+    let left = call(&rt, rt.alloc(), &["run"], TWO, &[], (4096, &[]), &gate);
     // Both points of one command of processor 0, and of two of processor 1.
     assert!(rt; (gate.is_missed(), gate.came()) == (false, 0xf03));
     assert!(rt; (left.reported, left.status) == (true, 0));
@@ -141,7 +141,7 @@ fn eight_are_inside_their_commands_at_once(rt: HostRuntime) {
         holds[usize::from(cpu)].at = bit(cpu, 0, Point::Begun);
     }
     let gate = Meeting::new(&holds);
-    let left = call(&rt, rt.alloc(), "run", EIGHT, &[], (4096, &[]), &gate);
+    let left = call(&rt, rt.alloc(), &["run"], EIGHT, &[], (4096, &[]), &gate);
     // Both points of one command of each.
     assert!(rt; (gate.is_missed(), gate.came()) == (false, 0x0303_0303_0303_0303));
     leaves(&rt, &left, true, 0, EIGHT_DONE, "");
@@ -155,7 +155,7 @@ fn each_thread_is_told_of_a_loss_once(rt: HostRuntime) {
         until: bit(0, 1, Point::Answered),
     }];
     let gate = Meeting::new(&holds);
-    let left = call(&rt, rt.alloc(), "run", LOSS, &[], (4096, &[]), &gate);
+    let left = call(&rt, rt.alloc(), &["run"], LOSS, &[], (4096, &[]), &gate);
     // Both points of four commands of processor 0, and of two of processor 1.
     assert!(rt; (gate.is_missed(), gate.came()) == (false, 0xfff));
     leaves(&rt, &left, true, 0, TOLD, "");
