@@ -1,6 +1,7 @@
 mod Times
 mod WordOrder
 mod ListReads
+mod FirstParts
 mod SeatMoves
 mod SeatKnows
 pub mod TableKeeps

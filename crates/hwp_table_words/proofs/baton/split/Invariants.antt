@@ -1,4 +1,4 @@
 use Rattle.hwp_table_words.proofs.baton.split.Given as goal
 
 abbrev pub ghosts-deal : goal.ghosts-deal
-ghosts-deal a = record { cpu = a.cpu.0 }
+ghosts-deal g a = record { cpu = a.cpu.0 }
