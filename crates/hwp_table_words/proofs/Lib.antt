@@ -2,12 +2,12 @@ mod Times
 mod WordOrder
 mod ListReads
 mod FirstParts
+mod MovedStub
 mod SeatMoves
 mod SeatKnows
 pub mod TableKeeps
 mod OperationAsks
 mod SeatDeals
-mod LockSlots
 mod Carried
 mod FrontSlot
 mod Made

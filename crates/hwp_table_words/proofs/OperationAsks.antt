@@ -1,5 +1,5 @@
 -- What each operation on the table asks of its rule: a step of any kind goes on with the history.
-use Rattle.std.proofs.Common.{◌≡◌, ℕ, ◌*◌, ◌^◌, ◌<◌, true, false, cond, List, ◌∷◌, drop, map, set, length, take, slice_get, slice_index, refl, sym, ap, ◌∙◌, subst, inl, inr}
+use Rattle.std.proofs.Common.{◌≡◌, ℕ, ◌+◌, ◌*◌, ◌^◌, ◌<◌, true, false, cond, List, ◌∷◌, drop, map, set, length, take, slice_get, slice_index, refl, sym, ap, ◌∙◌, subst, inl, inr, arith}
 use Rattle.std.specs.Prelude.{Option as Maybe, Some, None}
 use mathlib.Core.Option.{Option, some, none, some-injective, some-ne-none}
 use lib.ListN.{get_elem?}
@@ -43,7 +43,7 @@ use Rattle.hwp_table_words.proofs.SeatKnows.{step-ruled, view-at}
 use Rattle.hwp_tlb_rule.specs.Caching.{Caching}
 use Rattle.hwp_tlb_rule.specs.Rule.{CachesAgree, HaveViews, Seat, frames_of}
 use Rattle.hwp_tlb_rule.specs.Steps.{IsGuarded, caching_after}
-use Rattle.hwp_tlb_rule.proofs.Moved.{agree-moved}
+use Rattle.hwp_table_words.proofs.MovedStub.{agree-moved}
 use Rattle.hwp_tlb_rule.proofs.SeatViews.{have-views}
 
 -- the bodies at home, where a slot went out or came home
@@ -129,7 +129,7 @@ module _ (ways : ℕ) (call : Call) (id : ℕ) (m : Me) (word : ℕ) (tid of : T
       stand-is : stand views then ≡ moved layout call.cpu r call.mine s
       stand-is = λ i. record { words = words-is (word_after step x) i; homes = homes-is i; views = views }
 
-      move : Move layout call.cpu r s (stand views then)
+      abbrev move : Move layout call.cpu r s (stand views then)
       move = record {
         view = call.mine;
         me = me;
@@ -145,7 +145,7 @@ module _ (ways : ℕ) (call : Call) (id : ℕ) (m : Me) (word : ℕ) (tid of : T
         next = stand-is;
       }
 
-      reached : Reached layout then
+      abbrev reached : Reached layout then
       reached = record {
         sound = h.sound;
         log = (call.cpu, r) ∷ h.log;
@@ -236,7 +236,7 @@ module _ (ways : ℕ) (call : Call) (id : ℕ) (m : Me) (word : ℕ) (tid of : T
     plays (moves.Out k) is home = goes-out k is home
     plays (moves.Home k) is home = goes-home k is
 
-    pub played : Played
+    played : Played
     played = plays (slot_move layout step x) refl (slot-home layout s holds call.cpu call.mine me x call.who step (logs call.put) can.can.asks met)
 
   -- the same with the caches, which the step leaves as they are
@@ -279,18 +279,21 @@ module _ (ways : ℕ) (call : Call) (id : ℕ) (m : Me) (word : ℕ) (tid of : T
       views-had = have-views (λ (k : Knowing). k.known) (λ (v : Known). v.mines) (λ (k : Knowing). k.caching) (stand h.reached.views first) st.views h.reached.ruled.mines h.reached.ruled.one_view
 
       -- the seat as the caches see it then
-      seat-is : (map (mine_after call.layout call.cpu p.went.r) m.0.known.mines, caching_after (ways * call.layout.cpus) p.went.r.step p.went.r.found (frames_of call.mine.locks) m.0.caching) ≡ cache_seat knowing
+      abbrev seat-then : Seat
+      seat-then = (map (mine_after call.layout call.cpu p.went.r) m.0.known.mines, caching_after (ways * call.layout.cpus) p.went.r.step p.went.r.found (frames_of call.mine.locks) m.0.caching)
+
+      seat-is : seat-then ≡ cache_seat knowing
       seat-is = λ i. (sym p.went.mines i, caching_after (sym can.places i) (p.went.step_is i) (p.went.found_is i) (frames_of call.mine.locks) m.0.caching)
 
-      seats-are : set seats id (cache_seat knowing) ≡ map cache_seat then-all.views
-      seats-are = sym (map-set cache_seat st.views id knowing)
+      seats-are : set seats id seat-then ≡ map cache_seat then-all.views
+      seats-are = ap (set seats id) seat-is ∙ sym (map-set cache_seat st.views id knowing)
 
       entries-are : entries ≡ drop (size call.layout) then-all.words
       entries-are = sym (drop-set (size call.layout) st.words word (word_after call.step x-first) inside-first)
 
       agree : CachesAgree ways call.layout (stand p.after.views then-first) (drop (size call.layout) then-all.words) (map cache_seat then-all.views)
-      agree = subst (λ (l : List Seat). CachesAgree ways call.layout (stand p.after.views then-first) (drop (size call.layout) then-all.words) l) (ap (set seats id) seat-is ∙ seats-are)
-          (subst (λ (l : List ℕ). CachesAgree ways call.layout (stand p.after.views then-first) l _) entries-are
+      agree = subst (λ (l : List Seat). CachesAgree ways call.layout (stand p.after.views then-first) (drop (size call.layout) then-all.words) l) seats-are
+          (subst (λ (l : List ℕ). CachesAgree ways call.layout (stand p.after.views then-first) l (set seats id seat-then)) entries-are
               (agree-moved ways call.layout (stand h.reached.views first) entries seats h.agree (reached-holds call.layout first h.reached) views-had id m.0.known.mines m.0.caching (at_map cache_seat st.views id m.0 (as-slice st.views id m.0 at))
                   call.cpu call.mine p.went.r (stand p.after.views then-first) p.went.move p.went.view_is can.view guarded))
         where
@@ -304,7 +307,7 @@ module _ (ways : ℕ) (call : Call) (id : ℕ) (m : Me) (word : ℕ) (tid of : T
       abbrev Answers : ℕ → Type 0
       Answers n = (w : Knowing) × (a : Act Content) × Valid st.homes m.1 a × Kept ways call.layout (stepped st word (word_after call.step n) id m.1 w a) × IsMade call m n (w, carried_after m.1 a)
 
-      pub answers : Answers x-first
+      answers : Answers x-first
       answers = (knowing, p.act, p.valid, kept, record { makes = p.makes; caching = refl })
 
   pub step-allowed : (count : ℕ) → Allows (Kept ways call.layout) count id m word (word_after call.step) (IsMade call m)
@@ -317,3 +320,7 @@ pub allowed-as : (ways : ℕ) (call : Call) (key : Layout) (count id : ℕ) (m :
     → Allows (Kept ways key) count id m word f (IsMade call m)
 allowed-as ways call key count id m word tid of f can does = subst (λ (g : ℕ → ℕ). Allows (Kept ways key) count id m word g (IsMade call m)) (λ i n. does n i)
     (subst (λ (k : Layout). CanPlay ways tid k call of m word → Allows (Kept ways k) count id m word (word_after call.step) (IsMade call m)) can.layout_is (λ c. step-allowed ways call id m word tid of c count) can)
+
+-- the word is one of the table's
+pub in-table : {ways : ℕ} {id of : TableId} {layout : Layout} {call : Call} {m : Me} {word : ℕ} → CanPlay ways id layout call of m word → word < id.words
+in-table {ways} {id} {of} {layout} {call} {m} {word} can = let less : word < size layout = can.inside in let all : id.words ≡ size layout + ways * layout.cpus = can.table.words in omega (arith, less, all)

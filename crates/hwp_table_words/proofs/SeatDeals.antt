@@ -51,7 +51,7 @@ module _ (ways : ℕ) (layout : Layout) (t : CachedTable) (h : Kept ways layout 
   with-seats list firsts theirs e g r agree = kept-of ways layout (with_seats t list) (with_views first firsts) r (λ i. with_views first (e i))
       (subst (CachesAgree ways layout (stand r.views (with_views first firsts)) entries) (sym g) agree)
 
-  let-first : (id : ℕ) (v : Known) → slice_get first.views id ≡ Some v → Reached layout (with_views first (set first.views id (let_go v) ++ note v ∷ []))
+  abbrev let-first : (id : ℕ) (v : Known) → slice_get first.views id ≡ Some v → Reached layout (with_views first (set first.views id (let_go v) ++ note v ∷ []))
   let-first id v me = record {
     sound = h.reached.sound;
     log = h.reached.log;
@@ -61,7 +61,7 @@ module _ (ways : ℕ) (layout : Layout) (t : CachedTable) (h : Kept ways layout 
     bodies = h.reached.bodies;
   }
 
-  deal-first : (id : ℕ) (v : Known) (c : ℕ) → slice_get first.views id ≡ Some v → Reached layout (with_views first (set first.views id (kept c v) ++ dealt c v ∷ []))
+  abbrev deal-first : (id : ℕ) (v : Known) (c : ℕ) → slice_get first.views id ≡ Some v → Reached layout (with_views first (set first.views id (kept c v) ++ dealt c v ∷ []))
   deal-first id v c me = record {
     sound = h.reached.sound;
     log = h.reached.log;
@@ -71,7 +71,7 @@ module _ (ways : ℕ) (layout : Layout) (t : CachedTable) (h : Kept ways layout 
     bodies = h.reached.bodies;
   }
 
-  join-first : (id other : ℕ) (v w : Known) → slice_get first.views id ≡ Some v → slice_get first.views other ≡ Some w → ¬ (other ≡ id) → Reached layout (with_views first (set (set first.views id (joined v w)) other idle))
+  abbrev join-first : (id other : ℕ) (v w : Known) → slice_get first.views id ≡ Some v → slice_get first.views other ≡ Some w → ¬ (other ≡ id) → Reached layout (with_views first (set (set first.views id (joined v w)) other idle))
   join-first id other v w me you apart = record {
     sound = h.reached.sound;
     log = h.reached.log;
