@@ -5,7 +5,10 @@ pub mod Stands
 pub mod Rules
 pub mod Carrying
 pub mod Plays
+pub mod CacheCounts
 pub mod Seats
+pub mod CachePlays
+pub mod Caches
 pub mod Ends
 pub use Rattle.hwp_core_task.specs.hwp_core_rule as hwp_core_rule
 pub use Rattle.hwp_core_task.specs as hwp_core_task

@@ -13,6 +13,7 @@ use Rattle.hwp_core_task.specs.hwp_core_rule.SlotMoves.{slot_move}
 use Rattle.hwp_core_task.specs.hwp_core_rule.Steps.{place_of}
 use Rattle.hwp_core_task.specs.hwp_core_rule.Words.{index, size}
 use Rattle.hwp_core_task.specs.Calls.{CanMake}
+use Rattle.hwp_table_words.specs.CacheCounts.{told_counts}
 use Rattle.hwp_table_words.specs.Carrying.{vacant}
 use Rattle.hwp_table_words.specs.Known.{Known, Knowing, Whole, known_after, times}
 use Rattle.hwp_table_words.specs.Order.{in_table}
@@ -20,6 +21,7 @@ use Rattle.hwp_table_words.specs.Plays.{Call, Finds, IsFront}
 use Rattle.hwp_table_words.specs.Stands.{Content, FirstMe, Me}
 use Rattle.hwp_tlb_rule.specs.Caching.{Caching}
 use Rattle.hwp_tlb_rule.specs.Steps.{IsGuarded}
+use Rattle.hwp_tlb_rule.specs.declared.TlbCounts.{TlbCounts}
 
 -- the processor of a seat that has one view, and that view
 abbrev pub cpu_of : List (ℕ × View) → ℕ
@@ -85,8 +87,9 @@ pub record IsSeat (ways : ℕ) (layout key : Layout) (id of : TableId) (me : Fir
   pub carries : Carries layout (mine_of me.0.mines) me.1 order
 
 -- and what it keeps of the translation caches between its steps
-pub record HasCache (places : ℕ) (k : Knowing) : Type 0 where
+pub record HasCache (places : ℕ) (counts : TlbCounts) (k : Knowing) : Type 0 where
   pub guarded : IsGuarded places (mine_of k.known.mines) k.caching
+  pub counted : counts ≡ told_counts k.caching.counts
 
 -- it has the right to make steps of its processor
 abbrev pub HasRight : Known → Type 0

@@ -3,8 +3,11 @@
 #![tactic(auto)]
 
 mod baton;
+mod cache_plays;
+mod caching;
 mod carrying;
 mod closing;
+mod entries;
 mod knowledge;
 mod making;
 mod opening;

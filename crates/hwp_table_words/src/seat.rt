@@ -1,16 +1,19 @@
 ghost use Rattle.std.specs.Prelude.{◌≡◌, [], ◌∷◌};
 ghost use Rattle.hwp_core_task.specs.Calls.{CanMake, Steps, logs, rec_of};
+ghost use Rattle.hwp_table_words.specs.CacheCounts.{told_counts};
 ghost use Rattle.hwp_table_words.specs.Known.{idling, let_go, note, with_note};
 ghost use Rattle.hwp_table_words.specs.Seats.{HasRight, IsTableOf, Moves, cpu_of, mine, mine_of, slots_of, value_of};
 ghost use Rattle.hwp_tlb_rule.specs.Caching.{idle_caching};
 
 use crate::baton::{join, let_go};
+use crate::caching::{Filled, follow, look};
 use crate::carrying::Order;
 use crate::making::one;
 use crate::plays::{Pass, Sheet};
 use crate::ways::Ways;
 use arrayvec::ArrayVec;
 use hwp_core_task::{Body, Layout, Met, Step, Who};
+use hwp_tlb_rule::TlbCounts;
 use std::marker::Model;
 
 /// A seat at the table that has the view of one processor, with the slots of its locks, which are empty between its steps.
@@ -20,6 +23,8 @@ pub struct SeatOps<'a, W: Ways> {
     layout: &'a Layout,
     seat: Pass,
     order: Order,
+    filled: Filled,
+    counts: TlbCounts,
 }
 
 impl<'a, W: Ways> Model for SeatOps<'a, W> {
@@ -35,7 +40,7 @@ impl<'a, W: Ways> Model for SeatOps<'a, W> {
 
     ghost view = { λ s. value_of s.sheet.now.table_id s.layout.now s.seat.me.0 };
 
-    ghost invariant = { λ s. IsSeat W.ways s.layout.now s.sheet.now.key s.sheet.now.table_id s.seat.table_id (first_me s.seat.me) s.order.items × HasCache (W.ways * s.layout.now.cpus) s.seat.me.0 };
+    ghost invariant = { λ s. IsSeat W.ways s.layout.now s.sheet.now.key s.sheet.now.table_id s.seat.table_id (first_me s.seat.me) s.order.items × HasCache (W.ways * s.layout.now.cpus) s.counts s.seat.me.0 };
 }
 
 impl<'a, W: Ways> SeatOps<'a, W> {
@@ -53,6 +58,12 @@ impl<'a, W: Ways> SeatOps<'a, W> {
             layout,
             seat: pass,
             order: ArrayVec::new(),
+            filled: [None; 16],
+            counts: TlbCounts {
+                hits: 0,
+                fills: 0,
+                flushes: 0,
+            },
         }
     }
 
@@ -82,6 +93,13 @@ impl<'a, W: Ways> SeatOps<'a, W> {
         let_go(self.sheet, &mut self.seat)
     }
 
+    /// How often the seat's loads of translations hit its processor's cache, and how many entries it filled and flushed.
+    pub fn counts(&self) -> TlbCounts
+        ensures { result ≡ told_counts self.now.caching.counts }
+    {
+        self.counts
+    }
+
     /// The layout of the machine.
     pub(crate) fn machine(&self) -> &Layout
         ensures { result.now ≡ self.now.layout }
@@ -97,6 +115,30 @@ impl<'a, W: Ways> SeatOps<'a, W> {
         ensures told { Steps self.old.layout who step.now (logs body) (mine self.old) (mine self.new) result.found result.body }
         ensures moved { Moves self.old (rec_of self.old.layout who step.now (logs body) result.found result.body) self.new }
     {
-        one(self.sheet, self.layout, &mut self.seat, &mut self.order, who, step, body)
+        if let Some(found) = look(self.sheet, self.layout, &mut self.seat, &self.filled, who, step) {
+            self.counts.hits = self.counts.hits.saturating_add(1);
+            return Met { found, body: None };
+        }
+        let met = one(
+            self.sheet,
+            self.layout,
+            &mut self.seat,
+            &mut self.order,
+            who,
+            step,
+            body,
+        );
+        follow(
+            self.sheet,
+            self.layout,
+            &mut self.seat,
+            &self.order,
+            &mut self.filled,
+            &mut self.counts,
+            who,
+            step,
+            met.found,
+        );
+        met
     }
 }
