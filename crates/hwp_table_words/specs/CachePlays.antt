@@ -4,8 +4,7 @@ use Rattle.atomic_table.specs.Seated.{TableId}
 use Rattle.hwp_core_task.specs.hwp_geom.declared.Frame.{Frame}
 use Rattle.hwp_core_task.specs.hwp_geom.declared.Layout.{Layout}
 use Rattle.hwp_core_task.specs.hwp_geom.declared.VSlot.{VSlot}
-use Rattle.hwp_core_task.specs.hwp_core_rule.declared.SharedWord.{SharedWord}
-use Rattle.hwp_core_task.specs.hwp_core_rule.declared.SharedWord.TheVariants as places
+use Rattle.hwp_core_task.specs.hwp_core_rule.declared.SharedWord.TheVariants as shared
 use Rattle.hwp_core_task.specs.hwp_core_rule.declared.Step.{Step}
 use Rattle.hwp_core_task.specs.hwp_core_rule.declared.Step.TheVariants as steps
 use Rattle.hwp_core_task.specs.hwp_core_rule.declared.View.{View}
@@ -95,7 +94,7 @@ CanFill slot frame m = m.0.caching.shown ≡ Some (record { slot = slot; frame =
 pub record CanLook (ways : ℕ) (layout : Layout) (look : Look) (m : Me) : Type 0 where
   pub layout_is : look.call.layout ≡ layout
   pub places : look.call.places ≡ ways * layout.cpus
-  pub step_is : look.call.step ≡ steps.Load (places.Trans look.slot)
+  pub step_is : look.call.step ≡ steps.Load (shared.Trans look.slot)
   pub put_is : look.call.put ≡ None
   pub view : SomeMember (λ (x : ℕ × View). x ≡ (look.call.cpu, look.call.mine)) m.0.known.mines
   pub right : 0 < times look.call.cpu m.0.known.rights

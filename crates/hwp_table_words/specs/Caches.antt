@@ -5,7 +5,7 @@ use Rattle.hwp_core_task.specs.hwp_geom.declared.Frame.{Frame}
 use Rattle.hwp_core_task.specs.hwp_geom.declared.Layout.{Layout}
 use Rattle.hwp_core_task.specs.hwp_geom.declared.VSlot.{VSlot}
 use Rattle.hwp_core_task.specs.hwp_geom.declared.Who.{Who}
-use Rattle.hwp_core_task.specs.hwp_core_rule.declared.SharedWord.TheVariants as places
+use Rattle.hwp_core_task.specs.hwp_core_rule.declared.SharedWord.TheVariants as shared
 use Rattle.hwp_core_task.specs.hwp_core_rule.declared.Step.{Step}
 use Rattle.hwp_core_task.specs.hwp_core_rule.declared.Step.TheVariants as steps
 use Rattle.hwp_core_task.specs.hwp_core_rule.declared.View.{View}
@@ -42,7 +42,7 @@ HasLooked places layout who step m None n = n ≡ m
 HasLooked places layout who step m (Some found) n = IsHit (call_of places layout who step m) m found n
 
 abbrev pub load_of : VSlot → Step
-load_of slot = steps.Load (places.Trans slot)
+load_of slot = steps.Load (shared.Trans slot)
 
 -- the word of a translation that an entry gives
 abbrev pub word_to : Option Frame → Option ℕ
