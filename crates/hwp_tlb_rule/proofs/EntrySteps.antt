@@ -3,10 +3,9 @@ use Rattle.std.proofs.Common.{◌≡◌, ◌≢◌, ◌⊎◌, ℕ, zero, suc, �
 use Rattle.std.specs.Int.{from_bool}
 use Rattle.std.proofs.lemmas.Bool.{eqb-true, cases_lt}
 use Rattle.std.proofs.lemmas.List.{length-set}
-use Rattle.std.proofs.lemmas.Option.{none-some, same_Some, slice_get_within}
+use Rattle.std.proofs.lemmas.Option.{none-some, same_Some}
 use prog.Atomic.{either}
 use Rattle.hwp_core_task.specs.hwp_geom.declared.Layout.{Layout}
-use Rattle.hwp_core_task.specs.hwp_geom.Limits.{frame_limit}
 use Rattle.hwp_core_task.specs.hwp_core_rule.declared.State.{State}
 use Rattle.hwp_core_task.specs.hwp_core_rule.declared.View.{View}
 use Rattle.hwp_core_task.specs.hwp_core_rule.Lists.{EachMember}
@@ -14,16 +13,14 @@ use Rattle.hwp_core_task.specs.hwp_core_rule.Rule.{Holds}
 use Rattle.hwp_core_task.specs.hwp_core_rule.Steps.{exchanged}
 use Rattle.hwp_core_task.specs.hwp_core_rule.Words.{words_of}
 use Rattle.hwp_core_task.proofs.of_hwp_core_rule.Lists.{at_set, not-both, same-number, set_again}
-use Rattle.hwp_core_task.proofs.of_hwp_core_rule.MoveKeeps.{shaped}
 use Rattle.hwp_tlb_rule.specs.Caching.{Caching, Cleared, Counts, Glimpse, Shown, upto_of, with_upto, without_frame}
 use Rattle.hwp_tlb_rule.specs.Rule.{CachesAgree, HaveViews, IsCleared, IsGlimpsed, IsShown, Knows, Leads, Seat, locks_in, times}
 use Rattle.hwp_tlb_rule.specs.Steps.{filled, flushed, looked}
 use Rattle.hwp_tlb_rule.specs.Words.{entry_word, is_of}
 use Rattle.hwp_tlb_rule.proofs.Agrees.{knows-counts}
 use Rattle.hwp_tlb_rule.proofs.CachingLaws.{each-gone, each-upto, upto-listed}
-use Rattle.hwp_tlb_rule.proofs.LockTimes.{some-listed}
 use Rattle.hwp_tlb_rule.proofs.Named.{entry-frame, slot-few}
-use Rattle.hwp_tlb_rule.proofs.SeatViews.{lock-there, seats-apart}
+use Rattle.hwp_tlb_rule.proofs.SeatViews.{listed-few, seats-apart}
 
 -- an entry that is 0 names no frame, and one of a frame no other
 pub none-of : (g : ℕ) → is_of g 0 ≡ false
@@ -190,12 +187,7 @@ module _ (ways : ℕ) (layout : Layout) (s : State) (entries : List ℕ) (seats 
       few = let less : v < 4096 = slot-few layout s holds v (f + 1) shown.leads in omega (arith, less)
 
       fits : f < 2 ^ 16
-      fits =
-          let view = some-listed f mines shown.locked in
-          let there = lock-there layout s holds f view.1.0 view.1.1 (views.mines id (mines, k) me view.0 view.1 view.2) view.3 in
-          let inside : f < layout.frames = subst (λ (n : ℕ). f < n) (shaped layout s holds).frames (slice_get_within (words_of layout s.words).frames f there.0 there.1) in
-          let all : layout.frames ≤ frame_limit = holds.sound.frames in
-          omega (arith, inside, all)
+      fits = listed-few layout s holds seats views f id (mines, k) me shown.locked
 
       leads : Leads ways trans i (entry_word v f)
       leads = record { slot = v; frame = f; word_is = refl; fits = fits; place_is = place; leads = shown.leads }

@@ -5,3 +5,5 @@ pub mod SeatViews
 pub mod Agrees
 pub mod Named
 pub mod EntrySteps
+pub mod StepKinds
+pub mod Moved

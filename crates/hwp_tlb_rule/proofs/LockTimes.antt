@@ -13,6 +13,9 @@ use Rattle.hwp_tlb_rule.specs.Rule.{frames_of, locks_in, times}
 pub times-append : (n : ℕ) (xs ys : List ℕ) → times n (xs ++ ys) ≡ times n xs + times n ys
 times-append n xs ys = sum_by-append (λ (m : ℕ). from_bool (m == n)) xs ys
 
+pub times-cons : (n x : ℕ) (xs : List ℕ) → times n (x ∷ xs) ≡ from_bool (x == n) + times n xs
+times-cons n x xs = sum_by-cons (λ (m : ℕ). from_bool (m == n)) x xs
+
 pub times-frames : (f : ℕ) (locks : List FrameLock) → times f (frames_of locks) ≡ locks_on f locks
 times-frames f locks = sum-map (λ (m : ℕ). from_bool (m == f)) (λ (l : FrameLock). l.frame.0) locks
 

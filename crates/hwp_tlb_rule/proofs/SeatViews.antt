@@ -2,9 +2,11 @@
 use Rattle.std.proofs.Common.{◌≡◌, ◌≢◌, ℕ, zero, suc, ◌+◌, ◌/◌, ◌%◌, ◌^◌, ◌<◌, ◌≤◌, ◌==◌, List, [], ◌∷◌, Some, map, inl, inr, slice_get, refl, sym, ap, ◌∙◌, subst, arith}
 use Rattle.std.proofs.lemmas.List.Sums.{sum_by-cons}
 use Rattle.std.proofs.lemmas.Nat.{mod_below}
+use Rattle.std.proofs.lemmas.Option.{slice_get_within}
 use Rattle.std.specs.List.{sum_by}
 use Rattle.std.specs.Int.{from_bool}
 use Rattle.hwp_core_task.specs.hwp_geom.declared.Layout.{Layout}
+use Rattle.hwp_core_task.specs.hwp_geom.Limits.{frame_limit}
 use Rattle.hwp_core_task.specs.hwp_words.Frames.{lock_of}
 use Rattle.hwp_core_task.specs.hwp_core_rule.declared.FrameLock.{FrameLock}
 use Rattle.hwp_core_task.specs.hwp_core_rule.declared.Ref.{Ref}
@@ -16,6 +18,7 @@ use Rattle.hwp_core_task.specs.hwp_core_rule.Rule.{Holds}
 use Rattle.hwp_core_task.specs.hwp_core_rule.Views.{locks_on}
 use Rattle.hwp_core_task.specs.hwp_core_rule.Words.{words_of}
 use Rattle.hwp_core_task.proofs.of_hwp_core_rule.Lists.{same-or, map-was, at_map, each-map, sum-map, term-le, terms-le, from_bool-same, from_bool-other}
+use Rattle.hwp_core_task.proofs.of_hwp_core_rule.MoveKeeps.{shaped}
 use Rattle.hwp_tlb_rule.specs.Caching.{Caching}
 use Rattle.hwp_tlb_rule.specs.Rule.{HaveViews, Seat, locks_in, times, views_for}
 use Rattle.hwp_tlb_rule.proofs.LockTimes.{some-listed}
@@ -75,6 +78,15 @@ module _ (layout : Layout) (s : State) (holds : Holds layout s) where
         let v = some-listed f y.0 b in
         let apart : u.1.0 ≢ v.1.0 = λ same. view-apart u.1.0 i j x y other at_i at_j (counted u.1.0 u.1.1 x.0 u.0 u.2) (counted u.1.0 v.1.1 y.0 v.0 (v.2 ∙ ap (λ (n : ℕ). Some (n, v.1.1)) (sym same))) in
         lock-apart f u.1.0 v.1.0 u.1.1 v.1.1 apart (views.mines i x at_i u.0 u.1 u.2) (views.mines j y at_j v.0 v.1 v.2) u.3 v.3
+
+-- a lock that a seat has is of a frame, a number of 16 bits
+pub listed-few : (layout : Layout) (s : State) → Holds layout s → (seats : List Seat) → HaveViews s seats → (f i : ℕ) (x : Seat) → slice_get seats i ≡ Some x → 0 < times f (locks_in x.0) → f < 2 ^ 16
+listed-few layout s holds seats views f i x at some =
+    let view = some-listed f x.0 some in
+    let there = lock-there layout s holds f view.1.0 view.1.1 (views.mines i x at view.0 view.1 view.2) view.3 in
+    let inside : f < layout.frames = subst (λ (n : ℕ). f < n) (shaped layout s holds).frames (slice_get_within (words_of layout s.words).frames f there.0 there.1) in
+    let all : layout.frames ≤ frame_limit = holds.sound.frames in
+    omega (arith, inside, all)
 
 -- the views that seats have, where what a seat knows has other parts too
 pub have-views : {A B : Type 0} (known : A → B) (mines : B → List (ℕ × View)) (caching : A → Caching) (s : State) (list : List A)

@@ -1,12 +1,14 @@
 -- What each step makes of what its seat knows of the caches.
 use Rattle.std.specs.Prelude.{ℕ, suc, ◌+◌, ◌-◌, ◌<◌, ◌≤◌, ◌==◌, ◌&&◌, nat_lt, Bool, not, cond, List, Option, Some, None, length}
 use Rattle.std.specs.Int.{from_bool}
+use Rattle.hwp_core_task.specs.hwp_geom.declared.Layout.{Layout}
+use Rattle.hwp_core_task.specs.hwp_core_rule.declared.Rec.{Rec}
 use Rattle.hwp_core_task.specs.hwp_core_rule.declared.SharedWord.{SharedWord}
 use Rattle.hwp_core_task.specs.hwp_core_rule.declared.SharedWord.TheVariants as places
 use Rattle.hwp_core_task.specs.hwp_core_rule.declared.Step.{Step}
 use Rattle.hwp_core_task.specs.hwp_core_rule.declared.Step.TheVariants as steps
 use Rattle.hwp_core_task.specs.hwp_core_rule.declared.View.{View}
-use Rattle.hwp_core_task.specs.hwp_core_rule.Views.{locks_on}
+use Rattle.hwp_core_task.specs.hwp_core_rule.Views.{locks_on, view_after}
 use Rattle.hwp_tlb_rule.specs.Caching.{Caching, Cleared, Counts, Shown, upto_of, with_upto, without_frame}
 use Rattle.hwp_tlb_rule.specs.Rule.{times}
 use Rattle.hwp_tlb_rule.specs.Words.{is_of}
@@ -64,3 +66,7 @@ hit k = record k { counts = record k.counts { hits = k.counts.hits + 1 } }
 -- entry of it stays.
 abbrev pub IsGuarded : ℕ → View → Caching → Type 0
 IsGuarded places v k = 0 < length v.pages → (f : ℕ) → 0 < locks_on f v.locks → places ≤ upto_of f k.cleared
+
+-- what a seat has of a view after a step of the processor
+abbrev pub mine_after : Layout → ℕ → Rec → ℕ × View → ℕ × View
+mine_after layout c r x = (x.0, cond (x.0 == c) (view_after layout r x.1) x.1)

@@ -1,0 +1,275 @@
+-- What each kind of step does to translation words, to the locks that are listed, and to what a seat knows of the caches.
+use Rattle.std.proofs.Common.{◌≡◌, ◌≢◌, ◌⊎◌, ℕ, zero, suc, ◌+◌, ◌-◌, ◌<◌, ◌≤◌, ◌==◌, ◌&&◌, nat_lt, Bool, true, false, not, cond, List, [], ◌∷◌, ◌++◌, Option, Some, None, map, set, slice_get, slice_index, inl, inr, refl, sym, ap, ◌∙◌, subst, arith, ne_eqb}
+use Rattle.std.specs.Int.{from_bool}
+use Rattle.std.proofs.lemmas.Bool.{eqb-true, ltb-true, true≢false}
+use Rattle.std.proofs.lemmas.List.Sums.{sum_by-cons}
+use Rattle.std.proofs.lemmas.Option.{none-some, same_Some}
+use Rattle.hwp_core_task.specs.hwp_geom.declared.Damage.TheVariants as damages
+use Rattle.hwp_core_task.specs.hwp_geom.declared.Frame.{Frame}
+use Rattle.hwp_core_task.specs.hwp_geom.declared.Layout.{Layout}
+use Rattle.hwp_core_task.specs.hwp_geom.declared.VSlot.{VSlot}
+use Rattle.hwp_core_task.specs.hwp_geom.declared.Who.{Who}
+use Rattle.hwp_core_task.specs.hwp_words.declared.Pte.{Pte}
+use Rattle.hwp_core_task.specs.hwp_core_rule.declared.Log.{Log}
+use Rattle.hwp_core_task.specs.hwp_core_rule.declared.Rec.{Rec}
+use Rattle.hwp_core_task.specs.hwp_core_rule.declared.SharedWord.{SharedWord}
+use Rattle.hwp_core_task.specs.hwp_core_rule.declared.SharedWord.TheVariants as places
+use Rattle.hwp_core_task.specs.hwp_core_rule.declared.Step.{Step}
+use Rattle.hwp_core_task.specs.hwp_core_rule.declared.Step.TheVariants as steps
+use Rattle.hwp_core_task.specs.hwp_core_rule.declared.View.{View}
+use Rattle.hwp_core_task.specs.hwp_core_rule.Lists.{EachMember}
+use Rattle.hwp_core_task.specs.hwp_core_rule.Steps.{goes, place_of, word_after}
+use Rattle.hwp_core_task.specs.hwp_core_rule.Views.{noted, view_after, view_by}
+use Rattle.hwp_core_task.specs.hwp_core_rule.Words.{Words, put, read}
+use Rattle.hwp_core_task.proofs.of_hwp_core_rule.Lists.{not-both, same-number}
+use Rattle.hwp_core_task.proofs.of_hwp_core_rule.WordsByKind.{same-put}
+use Rattle.hwp_tlb_rule.specs.Caching.{Cleared, Shown, with_upto, without_frame}
+use Rattle.hwp_tlb_rule.specs.Rule.{frames_of, locks_in, times}
+use Rattle.hwp_tlb_rule.specs.Steps.{cleared_after, mine_after, shown_after, shown_by}
+use Rattle.hwp_tlb_rule.proofs.LockSlots.{less, locks-after, locks_then}
+use Rattle.hwp_tlb_rule.proofs.LockTimes.{times-append}
+
+-- the step writes a translation
+abbrev pub is_pte : Step → Bool
+is_pte (steps.SetPte slot pte) = true
+is_pte step = false
+
+-- the step frees the lock of the frame
+abbrev pub frees_lock : Step → ℕ → Bool
+frees_lock (steps.UnlockFrame frame) f = frame.0 == f
+frees_lock (steps.Retire frame) f = frame.0 == f
+frees_lock step f = false
+
+-- all others leave the translation words as they are
+pub put-trans : (step : Step) (found : ℕ) (w : Words) → found ≡ read (place_of step) w → is_pte step ≡ false → (put (place_of step) (word_after step found) w).trans ≡ w.trans
+put-trans (steps.Load place) found w met other = ap (λ (n : ℕ). (put place n w).trans) met ∙ ap (λ (u : Words). u.trans) (same-put place w)
+put-trans (steps.Reserve seen) found w met other = refl
+put-trans (steps.TakeBit frame) found w met other = refl
+put-trans (steps.GiveBit frame) found w met other = refl
+put-trans steps.Unreserve found w met other = refl
+put-trans (steps.Adopt frame) found w met other = refl
+put-trans (steps.GetRef frame seen count) found w met other = refl
+put-trans (steps.PutRef frame count) found w met other = refl
+put-trans (steps.LockFrame frame) found w met other = refl
+put-trans (steps.UnlockFrame frame) found w met other = refl
+put-trans (steps.Retire frame) found w met other = refl
+put-trans (steps.Revive frame seen) found w met other = refl
+put-trans (steps.SetOwner frame page owned) found w met other = refl
+put-trans (steps.LockPage page) found w met other = refl
+put-trans (steps.UnlockPage page) found w met other = refl
+put-trans (steps.SetPte slot pte) found w met other = absurd (true≢false other)
+put-trans (steps.SetCache page frame) found w met other = refl
+put-trans (steps.Poison frame hardware) found w met other = refl
+put-trans (steps.CountPoison hardware) found w met other = refl
+put-trans steps.Uncount found w met other = refl
+put-trans (steps.Spoil frame line damages.Bad) found w met other = refl
+put-trans (steps.Spoil frame line damages.Weak) found w met other = refl
+put-trans (steps.Stop cpu) found w met other = refl
+put-trans steps.GiveUp found w met other = refl
+put-trans (steps.Kill process page body) found w met other = refl
+put-trans (steps.SetPolicy thread policy settings) found w met other = refl
+put-trans (steps.Lose file body) found w met other = refl
+put-trans (steps.ReportLost file) found w met other = refl
+
+-- a step that writes a translation is one
+pub pte-is : (step : Step) → is_pte step ≡ true → (slot : VSlot) × (pte : Pte) × (step ≡ steps.SetPte slot pte)
+pte-is (steps.Load place) is = absurd (true≢false (sym is))
+pte-is (steps.Reserve seen) is = absurd (true≢false (sym is))
+pte-is (steps.TakeBit frame) is = absurd (true≢false (sym is))
+pte-is (steps.GiveBit frame) is = absurd (true≢false (sym is))
+pte-is steps.Unreserve is = absurd (true≢false (sym is))
+pte-is (steps.Adopt frame) is = absurd (true≢false (sym is))
+pte-is (steps.GetRef frame seen count) is = absurd (true≢false (sym is))
+pte-is (steps.PutRef frame count) is = absurd (true≢false (sym is))
+pte-is (steps.LockFrame frame) is = absurd (true≢false (sym is))
+pte-is (steps.UnlockFrame frame) is = absurd (true≢false (sym is))
+pte-is (steps.Retire frame) is = absurd (true≢false (sym is))
+pte-is (steps.Revive frame seen) is = absurd (true≢false (sym is))
+pte-is (steps.SetOwner frame page owned) is = absurd (true≢false (sym is))
+pte-is (steps.LockPage page) is = absurd (true≢false (sym is))
+pte-is (steps.UnlockPage page) is = absurd (true≢false (sym is))
+pte-is (steps.SetPte slot pte) is = (slot, pte, refl)
+pte-is (steps.SetCache page frame) is = absurd (true≢false (sym is))
+pte-is (steps.Poison frame hardware) is = absurd (true≢false (sym is))
+pte-is (steps.CountPoison hardware) is = absurd (true≢false (sym is))
+pte-is steps.Uncount is = absurd (true≢false (sym is))
+pte-is (steps.Spoil frame line damage) is = absurd (true≢false (sym is))
+pte-is (steps.Stop cpu) is = absurd (true≢false (sym is))
+pte-is steps.GiveUp is = absurd (true≢false (sym is))
+pte-is (steps.Kill process page body) is = absurd (true≢false (sym is))
+pte-is (steps.SetPolicy thread policy settings) is = absurd (true≢false (sym is))
+pte-is (steps.Lose file body) is = absurd (true≢false (sym is))
+pte-is (steps.ReportLost file) is = absurd (true≢false (sym is))
+
+same-le : (n : ℕ) → n ≤ n
+same-le n = omega arith
+
+more-le : (f : ℕ) (list more : List ℕ) → times f list ≤ times f (list ++ more)
+more-le f list more = let all : times f (list ++ more) ≡ times f list + times f more = times-append f list more in omega (arith, all)
+
+less-le : (f g : ℕ) (list : List ℕ) → (g == f) ≡ false → times f list ≤ times f (less g list)
+less-le f g [] other = omega arith
+less-le f g (x ∷ xs) other = which (x == g) refl (less-le f g xs other)
+  where
+    all : times f (x ∷ xs) ≡ from_bool (x == f) + times f xs
+    all = sum_by-cons (λ (m : ℕ). from_bool (m == f)) x xs
+
+    which : (b : Bool) → (x == g) ≡ b → times f xs ≤ times f (less g xs) → times f (x ∷ xs) ≤ times f (cond b xs (x ∷ less g xs))
+    which true is rest =
+        let none : from_bool (x == f) ≡ 0 = ap (λ (n : ℕ). from_bool (n == f)) (eqb-true x g is) ∙ ap from_bool other in
+        omega (arith, all, none)
+    which false isnt rest =
+        let then : times f (x ∷ less g xs) ≡ from_bool (x == f) + times f (less g xs) = sum_by-cons (λ (m : ℕ). from_bool (m == f)) x (less g xs) in
+        omega (arith, all, then, rest)
+
+-- a lock that a step doesn't free stays listed
+locks-stay : (step : Step) (found f : ℕ) (list : List ℕ) → frees_lock step f ≡ false → times f list ≤ times f (locks_then step found list)
+locks-stay (steps.Load place) found f list other = same-le (times f list)
+locks-stay (steps.Reserve seen) found f list other = same-le (times f list)
+locks-stay (steps.TakeBit frame) found f list other = same-le (times f list)
+locks-stay (steps.GiveBit frame) found f list other = same-le (times f list)
+locks-stay steps.Unreserve found f list other = same-le (times f list)
+locks-stay (steps.Adopt frame) found f list other = more-le f list (frame.0 ∷ [])
+locks-stay (steps.GetRef frame seen count) found f list other = same-le (times f list)
+locks-stay (steps.PutRef frame count) found f list other = same-le (times f list)
+locks-stay (steps.LockFrame frame) found f list other = which (goes (steps.LockFrame frame) found)
+  where
+    which : (b : Bool) → times f list ≤ times f (cond b (list ++ frame.0 ∷ []) list)
+    which true = more-le f list (frame.0 ∷ [])
+    which false = same-le (times f list)
+locks-stay (steps.UnlockFrame frame) found f list other = less-le f frame.0 list other
+locks-stay (steps.Retire frame) found f list other = less-le f frame.0 list other
+locks-stay (steps.Revive frame seen) found f list other = same-le (times f list)
+locks-stay (steps.SetOwner frame page owned) found f list other = same-le (times f list)
+locks-stay (steps.LockPage page) found f list other = same-le (times f list)
+locks-stay (steps.UnlockPage page) found f list other = same-le (times f list)
+locks-stay (steps.SetPte slot pte) found f list other = same-le (times f list)
+locks-stay (steps.SetCache page frame) found f list other = same-le (times f list)
+locks-stay (steps.Poison frame hardware) found f list other = same-le (times f list)
+locks-stay (steps.CountPoison hardware) found f list other = same-le (times f list)
+locks-stay steps.Uncount found f list other = same-le (times f list)
+locks-stay (steps.Spoil frame line damage) found f list other = same-le (times f list)
+locks-stay (steps.Stop cpu) found f list other = same-le (times f list)
+locks-stay steps.GiveUp found f list other = same-le (times f list)
+locks-stay (steps.Kill process page body) found f list other = same-le (times f list)
+locks-stay (steps.SetPolicy thread policy settings) found f list other = same-le (times f list)
+locks-stay (steps.Lose file body) found f list other = same-le (times f list)
+locks-stay (steps.ReportLost file) found f list other = same-le (times f list)
+
+-- what a view, and what a seat, lists of a frame whose lock the step doesn't free
+pub view-keeps : (layout : Layout) (r : Rec) (f : ℕ) (u : View) → frees_lock r.step f ≡ false → times f (frames_of u.locks) ≤ times f (frames_of (view_after layout r u).locks)
+view-keeps layout r f u other =
+    let after : frames_of (view_after layout r u).locks ≡ locks_then r.step r.found (frames_of u.locks) = locks-after layout r.who r.step r.found r.content (noted r.who u) in
+    subst (λ (list : List ℕ). times f (frames_of u.locks) ≤ times f list) (sym after) (locks-stay r.step r.found f (frames_of u.locks) other)
+
+pub seat-keeps : (layout : Layout) (c : ℕ) (r : Rec) (f : ℕ) (mines : List (ℕ × View)) → frees_lock r.step f ≡ false → times f (locks_in mines) ≤ times f (locks_in (map (mine_after layout c r) mines))
+seat-keeps layout c r f [] other = same-le (times f [])
+seat-keeps layout c r f (x ∷ xs) other =
+    let before : times f (frames_of x.1.locks ++ locks_in xs) ≡ times f (frames_of x.1.locks) + times f (locks_in xs) = times-append f (frames_of x.1.locks) (locks_in xs) in
+    let after : times f (frames_of (mine_after layout c r x).1.locks ++ locks_in (map (mine_after layout c r) xs)) ≡ times f (frames_of (mine_after layout c r x).1.locks) + times f (locks_in (map (mine_after layout c r) xs)) =
+    times-append f (frames_of (mine_after layout c r x).1.locks) (locks_in (map (mine_after layout c r) xs)) in
+    let first : times f (frames_of x.1.locks) ≤ times f (frames_of (mine_after layout c r x).1.locks) = which (x.0 == c) in
+    let rest : times f (locks_in xs) ≤ times f (locks_in (map (mine_after layout c r) xs)) = seat-keeps layout c r f xs other in
+    omega (arith, before, after, first, rest)
+  where
+    which : (b : Bool) → times f (frames_of x.1.locks) ≤ times f (frames_of (cond b (view_after layout r x.1) x.1).locks)
+    which true = view-keeps layout r f x.1 other
+    which false = same-le (times f (frames_of x.1.locks))
+
+-- what is listed as cleared after a step: of the adopted frame all, of a frame that is unlocked nothing, and of others what was
+module _ (P : Cleared → Type 0) (places : ℕ) (list : List Cleared) where
+  pub cleared-then : (step : Step) → ((frame : Frame) → step ≡ steps.Adopt frame → EachMember P (with_upto frame.0 places list))
+      → ((frame : Frame) → ((g : ℕ) → g ≢ frame.0 → frees_lock step g ≡ false) → EachMember P (without_frame frame.0 list))
+      → (((g : ℕ) → frees_lock step g ≡ false) → EachMember P list) → EachMember P (cleared_after places step list)
+  cleared-then (steps.Load place) adopts frees same = same (λ g. refl)
+  cleared-then (steps.Reserve seen) adopts frees same = same (λ g. refl)
+  cleared-then (steps.TakeBit frame) adopts frees same = same (λ g. refl)
+  cleared-then (steps.GiveBit frame) adopts frees same = same (λ g. refl)
+  cleared-then steps.Unreserve adopts frees same = same (λ g. refl)
+  cleared-then (steps.Adopt frame) adopts frees same = adopts frame refl
+  cleared-then (steps.GetRef frame seen count) adopts frees same = same (λ g. refl)
+  cleared-then (steps.PutRef frame count) adopts frees same = same (λ g. refl)
+  cleared-then (steps.LockFrame frame) adopts frees same = same (λ g. refl)
+  cleared-then (steps.UnlockFrame frame) adopts frees same = frees frame (λ g other. ne_eqb frame.0 g (λ e. other (sym e)))
+  cleared-then (steps.Retire frame) adopts frees same = frees frame (λ g other. ne_eqb frame.0 g (λ e. other (sym e)))
+  cleared-then (steps.Revive frame seen) adopts frees same = same (λ g. refl)
+  cleared-then (steps.SetOwner frame page owned) adopts frees same = same (λ g. refl)
+  cleared-then (steps.LockPage page) adopts frees same = same (λ g. refl)
+  cleared-then (steps.UnlockPage page) adopts frees same = same (λ g. refl)
+  cleared-then (steps.SetPte slot pte) adopts frees same = same (λ g. refl)
+  cleared-then (steps.SetCache page frame) adopts frees same = same (λ g. refl)
+  cleared-then (steps.Poison frame hardware) adopts frees same = same (λ g. refl)
+  cleared-then (steps.CountPoison hardware) adopts frees same = same (λ g. refl)
+  cleared-then steps.Uncount adopts frees same = same (λ g. refl)
+  cleared-then (steps.Spoil frame line damage) adopts frees same = same (λ g. refl)
+  cleared-then (steps.Stop cpu) adopts frees same = same (λ g. refl)
+  cleared-then steps.GiveUp adopts frees same = same (λ g. refl)
+  cleared-then (steps.Kill process page body) adopts frees same = same (λ g. refl)
+  cleared-then (steps.SetPolicy thread policy settings) adopts frees same = same (λ g. refl)
+  cleared-then (steps.Lose file body) adopts frees same = same (λ g. refl)
+  cleared-then (steps.ReportLost file) adopts frees same = same (λ g. refl)
+
+-- only a load of a translation that leads to a frame whose lock is listed shows something
+pub record IsShowing (step : Step) (found : ℕ) (locks : List ℕ) (s : Shown) : Type 0 where
+  pub slot : VSlot
+  pub step_is : step ≡ steps.Load (places.Trans slot)
+  pub slot_is : s.slot ≡ slot.0
+  pub frame_is : s.frame + 1 ≡ found
+  pub locked : 0 < times s.frame locks
+
+both : (a b : Bool) → (a && b) ≡ true → (a ≡ true) × (b ≡ true)
+both true b is = (refl, is)
+both false b is = absurd (true≢false (sym is))
+
+showing : (slot : VSlot) (found : ℕ) (locks : List ℕ) (s : Shown) → shown_by (places.Trans slot) found locks ≡ Some s → IsShowing (steps.Load (places.Trans slot)) found locks s
+showing slot found locks s is = which (nat_lt 0 found && nat_lt 0 (times (found - 1) locks)) refl is
+  where
+    which : (b : Bool) → (nat_lt 0 found && nat_lt 0 (times (found - 1) locks)) ≡ b → cond b (Some (record { slot = slot.0; frame = found - 1 })) None ≡ Some s → IsShowing (steps.Load (places.Trans slot)) found locks s
+    which false isnt e = absurd (none-some s e)
+    which true is e =
+        let tests = both (nat_lt 0 found) (nat_lt 0 (times (found - 1) locks)) is in
+        let some : 0 < found = ltb-true 0 found tests.0 in
+        let listed : 0 < times (found - 1) locks = ltb-true 0 (times (found - 1) locks) tests.1 in
+        subst (IsShowing (steps.Load (places.Trans slot)) found locks) (same_Some (record { slot = slot.0; frame = found - 1 }) s e)
+            (record { slot = slot; step_is = refl; slot_is = refl; frame_is = omega (arith, some); locked = listed })
+
+pub shown-then : (step : Step) (found : ℕ) (locks : List ℕ) (s : Shown) → shown_after step found locks ≡ Some s → IsShowing step found locks s
+shown-then (steps.Load (places.Frame frame)) found locks s is = absurd (none-some s is)
+shown-then (steps.Load (places.Trans slot)) found locks s is = showing slot found locks s is
+shown-then (steps.Load (places.Cache page)) found locks s is = absurd (none-some s is)
+shown-then (steps.Load (places.Page page)) found locks s is = absurd (none-some s is)
+shown-then (steps.Load (places.Free number)) found locks s is = absurd (none-some s is)
+shown-then (steps.Load places.Available) found locks s is = absurd (none-some s is)
+shown-then (steps.Load (places.Bad frame)) found locks s is = absurd (none-some s is)
+shown-then (steps.Load (places.Weak frame)) found locks s is = absurd (none-some s is)
+shown-then (steps.Load places.Counter) found locks s is = absurd (none-some s is)
+shown-then (steps.Load (places.Process process)) found locks s is = absurd (none-some s is)
+shown-then (steps.Load (places.Policy thread)) found locks s is = absurd (none-some s is)
+shown-then (steps.Load (places.Loss file)) found locks s is = absurd (none-some s is)
+shown-then (steps.Load places.Stop) found locks s is = absurd (none-some s is)
+shown-then (steps.Reserve seen) found locks s is = absurd (none-some s is)
+shown-then (steps.TakeBit frame) found locks s is = absurd (none-some s is)
+shown-then (steps.GiveBit frame) found locks s is = absurd (none-some s is)
+shown-then steps.Unreserve found locks s is = absurd (none-some s is)
+shown-then (steps.Adopt frame) found locks s is = absurd (none-some s is)
+shown-then (steps.GetRef frame seen count) found locks s is = absurd (none-some s is)
+shown-then (steps.PutRef frame count) found locks s is = absurd (none-some s is)
+shown-then (steps.LockFrame frame) found locks s is = absurd (none-some s is)
+shown-then (steps.UnlockFrame frame) found locks s is = absurd (none-some s is)
+shown-then (steps.Retire frame) found locks s is = absurd (none-some s is)
+shown-then (steps.Revive frame seen) found locks s is = absurd (none-some s is)
+shown-then (steps.SetOwner frame page owned) found locks s is = absurd (none-some s is)
+shown-then (steps.LockPage page) found locks s is = absurd (none-some s is)
+shown-then (steps.UnlockPage page) found locks s is = absurd (none-some s is)
+shown-then (steps.SetPte slot pte) found locks s is = absurd (none-some s is)
+shown-then (steps.SetCache page frame) found locks s is = absurd (none-some s is)
+shown-then (steps.Poison frame hardware) found locks s is = absurd (none-some s is)
+shown-then (steps.CountPoison hardware) found locks s is = absurd (none-some s is)
+shown-then steps.Uncount found locks s is = absurd (none-some s is)
+shown-then (steps.Spoil frame line damage) found locks s is = absurd (none-some s is)
+shown-then (steps.Stop cpu) found locks s is = absurd (none-some s is)
+shown-then steps.GiveUp found locks s is = absurd (none-some s is)
+shown-then (steps.Kill process page body) found locks s is = absurd (none-some s is)
+shown-then (steps.SetPolicy thread policy settings) found locks s is = absurd (none-some s is)
+shown-then (steps.Lose file body) found locks s is = absurd (none-some s is)
+shown-then (steps.ReportLost file) found locks s is = absurd (none-some s is)
