@@ -7,6 +7,7 @@ mod SeatMoves
 mod SeatKnows
 pub mod TableKeeps
 mod OperationAsks
+mod EntryAsks
 mod SeatDeals
 mod Carried
 mod FrontSlot
