@@ -2,7 +2,6 @@ mod Times
 mod WordOrder
 mod ListReads
 mod FirstParts
-mod MovedStub
 mod SeatMoves
 mod SeatKnows
 pub mod TableKeeps

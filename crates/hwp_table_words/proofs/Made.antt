@@ -1,5 +1,5 @@
 -- A step of a seat, as its code makes it.
-use Rattle.std.proofs.Common.{◌≡◌, ℕ, ◌<◌, Bool, false, List, [], ◌∷◌, cond, map, slice_get, length, refl, sym, ap, ◌∙◌, subst}
+use Rattle.std.proofs.Common.{◌≡◌, ℕ, ◌*◌, ◌<◌, Bool, false, List, [], ◌∷◌, cond, map, slice_get, length, refl, sym, ap, ◌∙◌, subst}
 use Rattle.std.specs.Prelude.{Option, Some, None}
 use Rattle.atomic_table.specs.Seated.{TableId}
 use Rattle.hwp_core_task.specs.hwp_geom.declared.Layout.{Layout}
@@ -21,11 +21,14 @@ use Rattle.hwp_core_task.specs.hwp_core_rule.Words.{index, size}
 use Rattle.hwp_core_task.proofs.of_hwp_core_rule.Lists.{same-number}
 use Rattle.hwp_core_task.specs.Calls.{CanMake, FitsLayout, GoesHome, Steps, logs, rec_of}
 use Rattle.hwp_table_words.specs.Carrying.{vacant, front, IsCarried, IsFirst, HasRoom, laid, brought, order_after}
-use Rattle.hwp_table_words.specs.Known.{Known, known_after, mine_after, times}
+use Rattle.hwp_table_words.specs.Known.{Known, Knowing, known_after, mine_after, times}
 use Rattle.hwp_table_words.specs.Order.{in_table}
-use Rattle.hwp_table_words.specs.Plays.{Call, Makes, IsFront, carried, rec}
-use Rattle.hwp_table_words.specs.Seats.{CanPlay, HasRight, IsSeat, IsTableOf, Moves, SeatValue, cpu_of, mine, mine_of, slots_of}
-use Rattle.hwp_table_words.specs.Stands.{Content, Me}
+use Rattle.hwp_table_words.specs.Plays.{Call, IsFront, IsMade, Makes, carried, rec}
+use Rattle.hwp_table_words.specs.Seats.{CanPlay, HasRight, IsSeat, IsTableOf, Moves, SeatValue, cpu_of, mine, mine_of, slots_of, value_of}
+use Rattle.hwp_table_words.specs.Stands.{Content, Me, first_me}
+use Rattle.hwp_tlb_rule.specs.Caching.{Caching}
+use Rattle.hwp_tlb_rule.specs.Rule.{frames_of}
+use Rattle.hwp_tlb_rule.specs.Steps.{IsGuarded, caching_after}
 use Rattle.hwp_table_words.proofs.Carried.{front-laid, first-now, brought-now, is-carried, carries-after, room-for}
 
 -- what a call asks of a seat, or tells of it, it asks and tells of an equal one
@@ -62,26 +65,26 @@ same-got moves.Stays got body order none none' same = none refl ∙ sym (none' r
 same-got (moves.Out slot) got body order none none' same = ap front same
 same-got (moves.Home slot) got body order none none' same = none refl ∙ sym (none' refl)
 
-module _ (layout key : Layout) (id of : TableId) (me : Me) (order : List ℕ) (is : IsSeat layout key id of me order)
-    (who : Who) (step : Step) (put : Content) (right : HasRight me.0) (can : CanMake layout who step put (mine_of me.0.mines)) where
+module _ (ways : ℕ) (layout key : Layout) (id of : TableId) (me : Me) (order : List ℕ) (is : IsSeat ways layout key id of (first_me me) order)
+    (who : Who) (step : Step) (put : Content) (guarded : IsGuarded (ways * layout.cpus) (mine_of me.0.known.mines) me.0.caching) (right : HasRight me.0.known) (can : CanMake layout who step put (mine_of me.0.known.mines)) where
   -- its processor, and the processor's view
   abbrev c : ℕ
-  c = cpu_of me.0.mines
+  c = cpu_of me.0.known.mines
 
   abbrev view : View
-  view = mine_of me.0.mines
+  view = mine_of me.0.known.mines
 
   abbrev call : Call
-  call = record { layout = layout; cpu = c; mine = view; who = who; step = step; put = put }
+  call = record { layout = layout; cpu = c; mine = view; who = who; step = step; put = put; places = ways * layout.cpus }
 
   pub there : (home : SlotMove) → home ≡ slot_move layout step 0 → IsCarried home order
   there home home-is = subst (λ (t : SlotMove). IsCarried t order) (sym home-is) (is-carried layout who step (logs put) view order can.asks.kind is.carries.same)
 
-  has-view : SomeMember (λ (x : ℕ × View). x ≡ (c, view)) me.0.mines
+  has-view : SomeMember (λ (x : ℕ × View). x ≡ (c, view)) me.0.known.mines
   has-view = (0, (c, view), ap (λ (l : List (ℕ × View)). slice_get l 0) is.one, refl)
 
   -- the one view after a step
-  mines-then : (r : Rec) → map (mine_after layout c r) me.0.mines ≡ (c, view_after layout r view) ∷ []
+  mines-then : (r : Rec) → map (mine_after layout c r) me.0.known.mines ≡ (c, view_after layout r view) ∷ []
   mines-then r = ap (map (mine_after layout c r)) is.one ∙ ap (λ (b : Bool). (c, cond b (view_after layout r view) view) ∷ []) (same-number c c refl)
 
   -- the slot that goes home was laid in front
@@ -96,34 +99,39 @@ module _ (layout key : Layout) (id of : TableId) (me : Me) (order : List ℕ) (i
 
     -- the call as the code names it
     abbrev named : Call
-    named = record { layout = key; cpu = cpu_of me1.0.mines; mine = mine_of me1.0.mines; who = who; step = step; put = front me1.1 }
+    named = record { layout = key; cpu = cpu_of me1.0.known.mines; mine = mine_of me1.0.known.mines; who = who; step = step; put = front me1.1; places = ways * key.cpus }
 
     named-is : named ≡ call
-    named-is = λ i. record { layout = is.key_is i; cpu = cpu_of (same1 i).mines; mine = mine_of (same1 i).mines; who = who; step = step; put = (ap front laid1 ∙ front-put layout step put order1 can.goes_home) i }
+    named-is = λ i. record { layout = is.key_is i; cpu = cpu_of (same1 i).known.mines; mine = mine_of (same1 i).known.mines; who = who; step = step; put = (ap front laid1 ∙ front-put layout step put order1 can.goes_home) i; places = ways * (is.key_is i).cpus }
 
-    can-play : CanPlay id key call of1 me1 word
+    can-play : CanPlay ways id key call of1 me1 word
     can-play = record {
       same = of1-is ∙ is.same;
-      table = subst (λ (k : Layout). IsTableOf k id) (sym is.key_is) is.table;
+      table = subst (λ (k : Layout). IsTableOf ways k id) (sym is.key_is) is.table;
       layout_is = sym is.key_is;
+      places = ap (λ (k : Layout). ways * k.cpus) (sym is.key_is);
       word_is = word-is ∙ ap (λ (k : Layout). in_table (size k) (index k (place_of step))) (sym is.key_is);
-      inside = subst (λ (n : ℕ). word < n) (sym is.table.words) word-in;
-      view = subst (λ (v : Known). SomeMember (λ (x : ℕ × View). x ≡ (c, view)) v.mines) (sym same1) has-view;
-      right = subst (λ (v : Known). 0 < times c v.rights) (sym same1) right;
+      inside = subst (λ (k : Layout). word < size k) (sym is.key_is) word-in;
+      view = subst (λ (v : Knowing). SomeMember (λ (x : ℕ × View). x ≡ (c, view)) v.known.mines) (sym same1) has-view;
+      right = subst (λ (v : Knowing). 0 < times c v.known.rights) (sym same1) right;
+      guarded = subst (λ (v : Knowing). IsGuarded (ways * layout.cpus) view v.caching) (sym same1) guarded;
       can = subst (λ (k : Layout). CanMake k who step put view) (sym is.key_is) can;
       front = λ found. subst (λ (k : Layout). IsFront (slot_move k step found) put me1.1) (sym is.key_is) (subst (IsFront (slot_move layout step found) put) (sym laid1) (front-laid layout step put order1 found));
     }
 
-    pub can-named : CanPlay id key named of1 me1 word
-    can-named = subst (λ (c : Call). CanPlay id key c of1 me1 word) (sym named-is) can-play
+    pub can-named : CanPlay ways id key named of1 me1 word
+    can-named = subst (λ (c : Call). CanPlay ways id key c of1 me1 word) (sym named-is) can-play
 
     -- the step was made
-    module _ (found : ℕ) (me2 : Me) (of2 : TableId) (of2-is : of2 ≡ of1) (made-named : Makes named me1 found me2) where
+    module _ (found : ℕ) (me2 : Me) (of2 : TableId) (of2-is : of2 ≡ of1) (made-named : IsMade named me1 found me2) where
       abbrev to : SlotMove
       to = slot_move layout step found
 
-      made : Makes call me1 found me2
-      made = subst (λ (c : Call). Makes c me1 found me2) named-is made-named
+      made-all : IsMade call me1 found me2
+      made-all = subst (λ (c : Call). IsMade c me1 found me2) named-is made-named
+
+      abbrev made : Makes call (first_me me1) found (first_me me2)
+      made = made-all.makes
 
       brought2 : me2.1 ≡ brought to made.got order1
       brought2 = made.slots ∙ ap (carried to made.got) laid1 ∙ brought-now layout step put made.got order1 found
@@ -165,16 +173,19 @@ module _ (layout key : Layout) (id of : TableId) (me : Me) (order : List ℕ) (i
         got-is : made.got ≡ body
         got-is = same-got to made.got body order1 made.none none (sym brought2 ∙ body-is)
 
-        known-is : me3.0 ≡ known_after layout c (rec call found made.got) me.0
-        known-is = same3 ∙ made.known ∙ ap (known_after layout c (rec call found made.got)) same1
+        known-is : me3.0.known ≡ known_after layout c (rec call found made.got) me.0.known
+        known-is = ap (λ (k : Knowing). k.known) same3 ∙ made.known ∙ ap (λ (k : Knowing). known_after layout c (rec call found made.got) k.known) same1
 
-        mines-is : me3.0.mines ≡ (c, new) ∷ []
+        pub caching-now : me3.0.caching ≡ caching_after (ways * layout.cpus) step found (frames_of view.locks) me.0.caching
+        caching-now = ap (λ (k : Knowing). k.caching) same3 ∙ made-all.caching ∙ ap (λ (k : Knowing). caching_after (ways * layout.cpus) step found (frames_of view.locks) k.caching) same1
+
+        mines-is : me3.0.known.mines ≡ (c, new) ∷ []
         mines-is = ap (λ (v : Known). v.mines) known-is ∙ mines-then (rec call found made.got)
 
-        view-is : mine_of me3.0.mines ≡ new
+        view-is : mine_of me3.0.known.mines ≡ new
         view-is = ap mine_of mines-is
 
-        pub seat-now : IsSeat layout key id of3 me3 order3
+        pub seat-now : IsSeat ways layout key id of3 (first_me me3) order3
         seat-now = record {
           key_is = is.key_is;
           table = is.table;
@@ -190,14 +201,14 @@ module _ (layout key : Layout) (id of : TableId) (me : Me) (order : List ℕ) (i
             after : ((j : ℕ) → times j (order_after to order1) ≡ times j (slots_of layout new)) × (length (order_after to order1) ≡ length (slots_of layout new))
             after = carries-after layout (rec call found made.got) (logs put) view order1 can.asks.kind first2 (λ j. times1 j ∙ is.carries.same j) count
 
-        pub steps-now : Steps layout who step (logs put) view (mine_of me3.0.mines) found body
+        pub steps-now : Steps layout who step (logs put) view (mine_of me3.0.known.mines) found body
         steps-now = record {
-          told = subst (λ (b : Content). Told layout (rec_of layout who step (logs put) found b) view (mine_of me3.0.mines)) got-is (subst (λ (v : View). Told layout (rec call found made.got) view v) (sym view-is) made.told);
+          told = subst (λ (b : Content). Told layout (rec_of layout who step (logs put) found b) view (mine_of me3.0.known.mines)) got-is (subst (λ (v : View). Told layout (rec call found made.got) view v) (sym view-is) made.told);
           brings = record { none = none; layout_is = subst (FitsLayout layout) got-is made.layout_is; kept = kept };
         }
 
-        pub moves-now : Moves (record { table = id; layout = layout; known = me.0 }) (rec_of layout who step (logs put) found body) (record { table = id; layout = layout; known = me3.0 })
-        moves-now = subst (λ (b : Content). Moves (record { table = id; layout = layout; known = me.0 }) (rec_of layout who step (logs put) found b) (record { table = id; layout = layout; known = me3.0 })) got-is (record {
-          next = λ i. record { table = id; layout = layout; known = known-is i };
-          found = λ w whole. made.whole w (ap (λ (v : Known). v.whole) same1 ∙ whole);
+        pub moves-now : Moves (value_of id layout me.0) (rec_of layout who step (logs put) found body) (value_of id layout me3.0)
+        moves-now = subst (λ (b : Content). Moves (value_of id layout me.0) (rec_of layout who step (logs put) found b) (value_of id layout me3.0)) got-is (record {
+          next = λ i. record { table = id; layout = layout; known = known-is i; caching = me3.0.caching };
+          found = λ w whole. made.whole w (ap (λ (k : Knowing). k.known.whole) same1 ∙ whole);
         })

@@ -1,8 +1,8 @@
 -- The table at opening: its one seat has all there is.
-use Rattle.std.proofs.Common.{◌≡◌, ℕ, zero, suc, ◌+◌, ◌<◌, ◌≤◌, ◌==◌, List, [], ◌∷◌, inl, inr, map, length, slice_get, refl, sym, ap, ◌∙◌, subst, arith}
+use Rattle.std.proofs.Common.{◌≡◌, ℕ, zero, suc, ◌+◌, ◌*◌, ◌<◌, ◌≤◌, ◌==◌, List, [], ◌∷◌, ◌++◌, inl, inr, drop, map, length, replicate, slice_get, take, refl, sym, ap, ◌∙◌, subst, arith}
 use Rattle.std.specs.Prelude.{Some}
 use mathlib.Core.Option.{some, some-injective}
-use Rattle.std.proofs.lemmas.List.{length-map}
+use Rattle.std.proofs.lemmas.List.{length-append, length-map, length-replicate, take-append-drop}
 use Rattle.std.proofs.lemmas.List.Sums.{sum_by-cons}
 use Rattle.std.proofs.lemmas.Option.{none-some, same_Some}
 use Rattle.std.specs.List.{sum_by}
@@ -20,15 +20,16 @@ use Rattle.hwp_core_task.proofs.of_hwp_core_rule.BoardOpens.{opening-holds, home
 use Rattle.hwp_core_task.proofs.of_hwp_core_rule.WordsOpen.{below-at}
 use Rattle.hwp_core_task.specs.Calls.{FitsLayout}
 use Rattle.hwp_plain_words.specs.Openings.{home_with}
-use Rattle.hwp_table_words.specs.Known.{Known, Whole, first_known, times, views_for}
-use Rattle.hwp_table_words.specs.Order.{in_rule}
-use Rattle.hwp_table_words.specs.Rules.{IsOwn, IsWhole, Reached, Ruled}
-use Rattle.hwp_table_words.specs.Stands.{Content, Table, home_of, stand, AreOfLayout}
+use Rattle.hwp_table_words.specs.Known.{Known, Whole, first_known, first_knowing, times, views_for}
+use Rattle.hwp_table_words.specs.Order.{IsOpened, in_rule}
+use Rattle.hwp_table_words.specs.Rules.{IsOwn, IsWhole, Kept, Reached, Ruled, cache_seat}
+use Rattle.hwp_table_words.specs.Stands.{CachedTable, Content, Table, first_part, home_of, stand, AreOfLayout}
 use Rattle.hwp_table_words.proofs.SeatMoves.{first-own}
 use Rattle.hwp_table_words.proofs.ListReads.{as-slice}
 use Rattle.hwp_table_words.proofs.WordOrder.{length-in_rule}
 use Rattle.hwp_table_words.proofs.SeatKnows.{Of, each-one}
 use Rattle.hwp_table_words.proofs.Times.{times-append, times-cons}
+use Rattle.hwp_tlb_rule.proofs.Agrees.{first-agree}
 
 -- the numbers below n, each once
 below-less : (n i c : ℕ) → slice_get (below n) i ≡ Some c → c < n
@@ -72,6 +73,12 @@ homes-some : (slots : List Content) → map home_of (map some slots) ≡ map hom
 homes-some [] = refl
 homes-some (x ∷ xs) = λ i. Some (Rattle.hwp_core_task.specs.Calls.logs x) ∷ homes-some xs i
 
+-- all of these are 0
+replicated : (n i w : ℕ) → slice_get (replicate n 0) i ≡ Some w → w ≡ 0
+replicated zero i w e = absurd (none-some w e)
+replicated (suc n) zero w e = sym (same_Some 0 w e)
+replicated (suc n) (suc i) w e = replicated n i w e
+
 module _ (layout : Layout) (words : List ℕ) (slots : List Content) (sound : IsSound layout) (words-are : in_rule words ≡ opening_words layout) (homes-are : map home_with slots ≡ opening_homes layout) where
   abbrev pub opened : Table
   opened = table.opening words slots (first_known layout)
@@ -100,8 +107,8 @@ module _ (layout : Layout) (words : List ℕ) (slots : List Content) (sound : Is
       let was = map-was some slots slot (some content) (as-slice (map some slots) slot (some content) e) in
       subst (FitsLayout layout) (some-injective was.0 content was.2) (each slot was.0 was.1)
 
-  pub opens : EachMember (FitsLayout layout) slots → Reached layout opened
-  opens each = record {
+  opens-first : EachMember (FitsLayout layout) slots → Reached layout opened
+  opens-first each = record {
     sound = sound;
     log = [];
     views = map opening_view (below layout.cpus);
@@ -110,8 +117,30 @@ module _ (layout : Layout) (words : List ℕ) (slots : List Content) (sound : Is
     bodies = all-fit each;
   }
 
-  pub counted-words : length words ≡ size layout
-  counted-words = sym (length-in_rule words) ∙ ap length words-are ∙ (opening-holds layout sound).words
+  counted-first : length words ≡ size layout
+  counted-first = sym (length-in_rule words) ∙ ap length words-are ∙ (opening-holds layout sound).words
 
   pub counted-slots : length slots ≡ layout.frames + length layout.pages
   counted-slots = sym (length-map slots home_with) ∙ ap length homes-are ∙ homes-length layout
+
+-- the same with the words of the caches
+module _ (ways : ℕ) (layout : Layout) (words : List ℕ) (slots : List Content) (sound : IsSound layout) (words-are : IsOpened layout (ways * layout.cpus) words) (homes-are : map home_with slots ≡ opening_homes layout) where
+  abbrev pub opened-all : CachedTable
+  opened-all = table.opening words slots (first_knowing layout)
+
+  entries-count : length (drop (size layout) words) ≡ ways * layout.cpus
+  entries-count = ap length words-are.entries ∙ length-replicate (ways * layout.cpus) 0
+
+  pub opens : EachMember (FitsLayout layout) slots → Kept ways layout opened-all
+  opens each = let first : Reached layout (opened layout (take (size layout) words) slots sound words-are.first homes-are) = opens-first layout (take (size layout) words) slots sound words-are.first homes-are each in record {
+    reached = first;
+    agree = first-agree ways layout (stand first.views (first_part layout opened-all)) (drop (size layout) words) (first_known layout).mines entries-count
+        (λ i w e. replicated (ways * layout.cpus) i w (ap (λ (l : List ℕ). slice_get l i) (sym words-are.entries) ∙ e));
+  }
+
+  pub counted-words : length words ≡ size layout + ways * layout.cpus
+  counted-words =
+      let both : length words ≡ length (take (size layout) words) + length (drop (size layout) words) = ap length (sym (take-append-drop (size layout) words)) ∙ length-append (take (size layout) words) (drop (size layout) words) in
+      let first : length (take (size layout) words) ≡ size layout = counted-first layout (take (size layout) words) slots sound words-are.first homes-are in
+      let entries : length (drop (size layout) words) ≡ ways * layout.cpus = entries-count in
+      omega (arith, both, first, entries)

@@ -43,7 +43,7 @@ use Rattle.hwp_table_words.proofs.SeatKnows.{step-ruled, view-at}
 use Rattle.hwp_tlb_rule.specs.Caching.{Caching}
 use Rattle.hwp_tlb_rule.specs.Rule.{CachesAgree, HaveViews, Seat, frames_of}
 use Rattle.hwp_tlb_rule.specs.Steps.{IsGuarded, caching_after}
-use Rattle.hwp_table_words.proofs.MovedStub.{agree-moved}
+use Rattle.hwp_tlb_rule.proofs.Moved.{agree-moved}
 use Rattle.hwp_tlb_rule.proofs.SeatViews.{have-views}
 
 -- the bodies at home, where a slot went out or came home

@@ -4,15 +4,27 @@ use Rattle.std.proofs.lemmas.List.{append-nil}
 use Rattle.atomic_table.specs.Seated.{TableId}
 use Rattle.hwp_core_task.specs.hwp_geom.declared.Layout.{Layout}
 use Rattle.hwp_core_task.specs.hwp_core_rule.declared.View.{View}
-use Rattle.hwp_table_words.specs.Known.{Known, joined, let_go, times, with_note}
-use Rattle.hwp_table_words.specs.Seats.{IsSeat, IsTableOf, cpu_of, mine_of, slots_of}
-use Rattle.hwp_table_words.specs.Stands.{Me}
+use Rattle.hwp_table_words.specs.CacheCounts.{told_counts}
+use Rattle.hwp_table_words.specs.Known.{Knowing, joined, joining, let_go, times, with_note}
+use Rattle.hwp_table_words.specs.Seats.{HasCache, IsSeat, IsTableOf, cpu_of, mine_of, slots_of}
+use Rattle.hwp_table_words.specs.Stands.{Me, first_me}
+use Rattle.hwp_tlb_rule.specs.declared.TlbCounts.{TlbCounts}
+use Rattle.hwp_tlb_rule.specs.Caching.{Caching, idle_caching, joined_caching}
+use Rattle.hwp_tlb_rule.specs.Steps.{IsGuarded}
+use Rattle.hwp_tlb_rule.proofs.CachingLaws.{joined-idle}
 
-pub some-word : (layout : Layout) (id : TableId) → IsTableOf layout id → 0 < id.words
-some-word layout id is = omega (arith, is.words)
+pub some-word : (ways : ℕ) (layout : Layout) (id : TableId) → IsTableOf ways layout id → 0 < id.words
+some-word ways layout id is = omega (arith, is.words)
 
-module _ (layout key : Layout) (id of now : TableId) (me new : Me) (order : List ℕ) (is : IsSeat layout key id of me order) (same : now ≡ of) where
-  seat-same : new.0.mines ≡ me.0.mines → new.1 ≡ me.1 → IsSeat layout key id now new order
+-- what it keeps of the caches
+pub cache-same : {places : ℕ} {counts : TlbCounts} {k l : Knowing} → l.known.mines ≡ k.known.mines → l.caching ≡ k.caching → HasCache places counts k → HasCache places counts l
+cache-same {places} {counts} {k} {l} mines caching h = record {
+  guarded = subst (λ (c : Caching). IsGuarded places (mine_of l.known.mines) c) (sym caching) (subst (λ (m : List (ℕ × View)). IsGuarded places (mine_of m) k.caching) (sym mines) h.guarded);
+  counted = h.counted ∙ ap (λ (c : Caching). told_counts c.counts) (sym caching);
+}
+
+module _ (ways : ℕ) (layout key : Layout) (id of now : TableId) (me new : Me) (order : List ℕ) (is : IsSeat ways layout key id of (first_me me) order) (same : now ≡ of) where
+  seat-same : new.0.known.mines ≡ me.0.known.mines → new.1 ≡ me.1 → IsSeat ways layout key id now (first_me new) order
   seat-same mines slots = record {
     key_is = is.key_is;
     table = is.table;
@@ -25,11 +37,25 @@ module _ (layout key : Layout) (id of now : TableId) (me new : Me) (order : List
     };
   }
 
-  pub gathered : (w : Known) → w.mines ≡ [] → new ≡ (joined me.0 w, me.1) → new.0 ≡ with_note me.0 w
-  gathered w none is-new = ap (λ (m : Me). m.0) is-new ∙ (λ i. record { mines = (ap (λ (l : List (ℕ × View)). me.0.mines ++ l) none ∙ append-nil me.0.mines) i; own = (joined me.0 w).own; rights = (joined me.0 w).rights; whole = (joined me.0 w).whole })
+  module _ (w : Knowing) (idle : w.caching ≡ idle_caching) (none : w.known.mines ≡ []) (is-new : new ≡ (joining me.0 w, me.1)) where
+    mines-is : me.0.known.mines ++ w.known.mines ≡ me.0.known.mines
+    mines-is = ap (λ (l : List (ℕ × View)). me.0.known.mines ++ l) none ∙ append-nil me.0.known.mines
 
-  pub seat-gathers : (w : Known) → w.mines ≡ [] → new ≡ (joined me.0 w, me.1) → IsSeat layout key id now new order
-  seat-gathers w none is-new = seat-same (ap (λ (v : Known). v.mines) (gathered w none is-new)) (ap (λ (m : Me). m.1) is-new)
+    pub gathered : new.0 ≡ record me.0 { known = with_note me.0.known w.known }
+    gathered = ap (λ (m : Me). m.0) is-new ∙ (λ i. record {
+      known = record { mines = mines-is i; own = (joined me.0.known w.known).own; rights = (joined me.0.known w.known).rights; whole = (joined me.0.known w.known).whole };
+      caching = (ap (joined_caching me.0.caching) idle ∙ joined-idle me.0.caching) i;
+    })
 
-  pub seat-lets : new ≡ (let_go me.0, me.1) → IsSeat layout key id now new order
-  seat-lets is-new = seat-same (ap (λ (m : Me). m.0.mines) is-new) (ap (λ (m : Me). m.1) is-new)
+    pub seat-gathers : IsSeat ways layout key id now (first_me new) order
+    seat-gathers = seat-same (ap (λ (v : Knowing). v.known.mines) gathered) (ap (λ (m : Me). m.1) is-new)
+
+    pub cache-gathers : {places : ℕ} {counts : TlbCounts} → HasCache places counts me.0 → HasCache places counts new.0
+    cache-gathers h = cache-same (ap (λ (v : Knowing). v.known.mines) gathered) (ap (λ (v : Knowing). v.caching) gathered) h
+
+  module _ (is-new : new ≡ (record me.0 { known = let_go me.0.known }, me.1)) where
+    pub seat-lets : IsSeat ways layout key id now (first_me new) order
+    seat-lets = seat-same (ap (λ (m : Me). m.0.known.mines) is-new) (ap (λ (m : Me). m.1) is-new)
+
+    pub cache-lets : {places : ℕ} {counts : TlbCounts} → HasCache places counts me.0 → HasCache places counts new.0
+    cache-lets h = cache-same (ap (λ (m : Me). m.0.known.mines) is-new) (ap (λ (m : Me). m.0.caching) is-new) h
