@@ -12,7 +12,6 @@ upto-raised f n [] = ap (λ (b : Bool). cond b n 0) (same-number f f refl) ∙ z
   where
     zero-max : n ≡ max 0 n
     zero-max = omega arith
-
 upto-raised f n (c ∷ cs) = which (c.frame == f) refl (upto-raised f n cs)
   where
     which : (b : Bool) → (c.frame == f) ≡ b → upto_of f (with_upto f n cs) ≡ max (upto_of f cs) n

@@ -59,7 +59,7 @@ module _ (layout : Layout) (s : State) (holds : Holds layout s) where
       let one : sum_by (λ (h : List Ref × List FrameLock). locks_on f h.1) (map (λ (v : View). (v.refs, v.locks)) s.views) ≡ lock_of there.0 = holds.rule.frames.frame_locks.one f there.0 there.1 in
       let two : locks_on f u.locks + locks_on f v.locks ≤ sum_by (λ (h : List Ref × List FrameLock). locks_on f h.1) (map (λ (v : View). (v.refs, v.locks)) s.views) =
       terms-le (λ (h : List Ref × List FrameLock). locks_on f h.1) (map (λ (v : View). (v.refs, v.locks)) s.views) i j (u.refs, u.locks) (v.refs, v.locks) other
-          (at_map (λ (v : View). (v.refs, v.locks)) s.views i u at_i) (at_map (λ (v : View). (v.refs, v.locks)) s.views j v at_j) in
+      (at_map (λ (v : View). (v.refs, v.locks)) s.views i u at_i) (at_map (λ (v : View). (v.refs, v.locks)) s.views j v at_j) in
       let small : lock_of there.0 < 2 ^ 1 = mod_below (there.0 / 2 ^ 0) (2 ^ 1) (omega arith) in
       omega (arith, one, two, small, a, b)
 

@@ -231,7 +231,7 @@ showing slot found locks s is = which (nat_lt 0 found && nat_lt 0 (times (found 
         let some : 0 < found = ltb-true 0 found tests.0 in
         let listed : 0 < times (found - 1) locks = ltb-true 0 (times (found - 1) locks) tests.1 in
         subst (IsShowing (steps.Load (places.Trans slot)) found locks) (same_Some (record { slot = slot.0; frame = found - 1 }) s e)
-            (record { slot = slot; step_is = refl; slot_is = refl; frame_is = omega (arith, some); locked = listed })
+        (record { slot = slot; step_is = refl; slot_is = refl; frame_is = omega (arith, some); locked = listed })
 
 pub shown-then : (step : Step) (found : ℕ) (locks : List ℕ) (s : Shown) → shown_after step found locks ≡ Some s → IsShowing step found locks s
 shown-then (steps.Load (places.Frame frame)) found locks s is = absurd (none-some s is)

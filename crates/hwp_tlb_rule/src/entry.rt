@@ -32,7 +32,10 @@ impl EntryWord {
         if slot == 0 || frame == 0 {
             return EntryWord { to: None };
         }
-        let to = (VSlot(((slot - 1) % 65536) as u16), Frame(((frame - 1) % 65536) as u16));
+        let to = (
+            VSlot(((slot - 1) % 65536) as u16),
+            Frame(((frame - 1) % 65536) as u16),
+        );
         EntryWord { to: Some(to) }
     }
 
