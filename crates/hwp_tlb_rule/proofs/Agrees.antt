@@ -1,15 +1,15 @@
 -- The rule of the caches where seats are cut in two or take another in, and where a seat only counts.
-use Rattle.std.proofs.Common.{◌≡◌, ℕ, zero, suc, ◌+◌, ◌*◌, ◌<◌, ◌≤◌, ◌==◌, List, [], ◌∷◌, ◌++◌, inl, inr, Some, None, set, length, slice_get, refl, sym, ap, ◌∙◌, subst, arith}
+use Rattle.std.proofs.Common.{◌≡◌, ℕ, ◌+◌, ◌*◌, ◌<◌, List, [], ◌∷◌, ◌++◌, inl, Some, None, set, length, slice_get, refl, sym, ap, ◌∙◌, arith}
 use Rattle.std.proofs.lemmas.List.{append_assoc}
-use Rattle.std.proofs.lemmas.Option.{none-some, same_Some}
+use Rattle.std.proofs.lemmas.Option.{none-some}
 use Rattle.hwp_core_task.specs.hwp_geom.declared.Layout.{Layout}
 use Rattle.hwp_core_task.specs.hwp_core_rule.declared.State.{State}
 use Rattle.hwp_core_task.specs.hwp_core_rule.declared.View.{View}
 use Rattle.hwp_core_task.specs.hwp_core_rule.Lists.{EachMember}
 use Rattle.hwp_core_task.specs.hwp_core_rule.Words.{words_of}
 use Rattle.hwp_core_task.proofs.of_hwp_core_rule.Lists.{each-set, each-push}
-use Rattle.hwp_tlb_rule.specs.Caching.{Caching, Cleared, Counts, Glimpse, Shown, forgotten, idle_caching, joined_caching}
-use Rattle.hwp_tlb_rule.specs.Rule.{CachesAgree, IsCleared, IsGlimpsed, IsShown, Knows, Leads, Seat, frames_of, locks_in, times}
+use Rattle.hwp_tlb_rule.specs.Caching.{Caching, Counts, forgotten, idle_caching, joined_caching}
+use Rattle.hwp_tlb_rule.specs.Rule.{CachesAgree, IsCleared, IsGlimpsed, IsShown, Knows, Seat, frames_of, locks_in, times}
 use Rattle.hwp_tlb_rule.specs.Steps.{hit}
 use Rattle.hwp_tlb_rule.proofs.LockTimes.{times-append}
 

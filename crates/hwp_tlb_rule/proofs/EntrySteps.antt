@@ -1,7 +1,7 @@
 -- The rule of the caches after the steps on entries: a look, a flush and a fill.
-use Rattle.std.proofs.Common.{◌≡◌, ◌≢◌, ◌⊎◌, ℕ, zero, suc, ◌+◌, ◌*◌, ◌/◌, ◌%◌, ◌^◌, ◌<◌, ◌≤◌, ◌==◌, Bool, true, false, cond, max, List, [], ◌∷◌, Option, Some, None, set, length, slice_get, inl, inr, refl, sym, ap, ◌∙◌, subst, arith, ne_eqb}
+use Rattle.std.proofs.Common.{◌≡◌, ◌≢◌, ◌⊎◌, ℕ, suc, ◌+◌, ◌/◌, ◌%◌, ◌^◌, ◌<◌, ◌≤◌, ◌==◌, Bool, true, false, cond, max, List, Some, None, set, slice_get, inl, inr, refl, sym, ap, ◌∙◌, subst, arith, ne_eqb}
 use Rattle.std.specs.Int.{from_bool}
-use Rattle.std.proofs.lemmas.Bool.{eqb-true, cases_lt}
+use Rattle.std.proofs.lemmas.Bool.{cases_lt}
 use Rattle.std.proofs.lemmas.List.{length-set}
 use Rattle.std.proofs.lemmas.Option.{none-some, same_Some}
 use prog.Atomic.{either}
@@ -13,11 +13,10 @@ use Rattle.hwp_core_task.specs.hwp_core_rule.Rule.{Holds}
 use Rattle.hwp_core_task.specs.hwp_core_rule.Steps.{exchanged}
 use Rattle.hwp_core_task.specs.hwp_core_rule.Words.{words_of}
 use Rattle.hwp_core_task.proofs.of_hwp_core_rule.Lists.{at_set, not-both, same-number, set_again}
-use Rattle.hwp_tlb_rule.specs.Caching.{Caching, Cleared, Counts, Glimpse, Shown, upto_of, with_upto, without_frame}
+use Rattle.hwp_tlb_rule.specs.Caching.{Caching, Cleared, upto_of, with_upto}
 use Rattle.hwp_tlb_rule.specs.Rule.{CachesAgree, HaveViews, IsCleared, IsGlimpsed, IsShown, Knows, Leads, Seat, locks_in, times}
 use Rattle.hwp_tlb_rule.specs.Steps.{filled, flushed, looked}
 use Rattle.hwp_tlb_rule.specs.Words.{entry_word, is_of}
-use Rattle.hwp_tlb_rule.proofs.Agrees.{knows-counts}
 use Rattle.hwp_tlb_rule.proofs.CachingLaws.{each-gone, each-upto, upto-listed}
 use Rattle.hwp_tlb_rule.proofs.Named.{entry-frame, slot-few}
 use Rattle.hwp_tlb_rule.proofs.SeatViews.{listed-few, seats-apart}

@@ -1,5 +1,5 @@
 -- The rule of the caches after a step of the frame rule.
-use Rattle.std.proofs.Common.{◌≡◌, ◌≢◌, ◌⊎◌, ℕ, ◌+◌, ◌*◌, ◌/◌, ◌^◌, ◌<◌, ◌≤◌, ◌==◌, Bool, true, false, cond, List, [], ◌∷◌, ◌++◌, Some, None, map, set, length, slice_get, slice_index, inl, inr, refl, sym, ap, ◌∙◌, subst, arith}
+use Rattle.std.proofs.Common.{◌≡◌, ◌≢◌, ◌⊎◌, ℕ, ◌+◌, ◌*◌, ◌/◌, ◌^◌, ◌<◌, ◌≤◌, ◌==◌, Bool, true, false, cond, List, [], ◌∷◌, ◌++◌, Some, map, set, length, slice_get, slice_index, inl, inr, refl, sym, ap, ◌∙◌, subst, arith}
 use Rattle.std.specs.Int.{from_bool}
 use Rattle.std.proofs.lemmas.Bool.{true≢false}
 use Rattle.std.proofs.lemmas.Option.{none-some, same_Some, slice_get_within}
@@ -14,29 +14,29 @@ use Rattle.hwp_core_task.specs.hwp_core_rule.declared.State.{State}
 use Rattle.hwp_core_task.specs.hwp_core_rule.declared.Step.{Step}
 use Rattle.hwp_core_task.specs.hwp_core_rule.declared.Step.TheVariants as steps
 use Rattle.hwp_core_task.specs.hwp_core_rule.declared.View.{View}
-use Rattle.hwp_core_task.specs.hwp_core_rule.Asks.{AsksOf, CanSetPte, HasInHand, HasLock}
+use Rattle.hwp_core_task.specs.hwp_core_rule.Asks.{AsksOf, CanSetPte, HasInHand}
 use Rattle.hwp_core_task.specs.hwp_core_rule.Lists.{EachMember, SomeMember}
-use Rattle.hwp_core_task.specs.hwp_core_rule.Moves.{Move, moved}
+use Rattle.hwp_core_task.specs.hwp_core_rule.Moves.{Move}
 use Rattle.hwp_core_task.specs.hwp_core_rule.parts.Fits.{KnowsWords}
 use Rattle.hwp_core_task.specs.hwp_core_rule.Rule.{Holds}
 use Rattle.hwp_core_task.specs.hwp_core_rule.Steps.{place_of, word_after}
 use Rattle.hwp_core_task.specs.hwp_core_rule.Views.{frame_in, locks_on, noted, view_after}
-use Rattle.hwp_core_task.specs.hwp_core_rule.Words.{IsPlace, Words, index, put, read, words_of}
+use Rattle.hwp_core_task.specs.hwp_core_rule.Words.{IsPlace, Words, index, put, words_of}
 use Rattle.hwp_core_task.proofs.of_hwp_core_rule.KnownByLocks.{lock-listed}
 use Rattle.hwp_core_task.proofs.of_hwp_core_rule.Lists.{at_map, at_set, each-weaken, same-or, same-number, set_else, from_bool-same}
 use Rattle.hwp_core_task.proofs.of_hwp_core_rule.MoveKeeps.{shaped}
 use Rattle.hwp_core_task.proofs.of_hwp_core_rule.steps.NameSteps.{frame_in-name}
 use Rattle.hwp_core_task.proofs.of_hwp_core_rule.WordsByKind.{word-there, words-put, words-read}
-use Rattle.hwp_tlb_rule.specs.Caching.{Caching, Cleared, Glimpse, Shown, upto_of, with_upto, without_frame}
-use Rattle.hwp_tlb_rule.specs.Rule.{CachesAgree, HaveViews, IsCleared, IsGlimpsed, IsShown, Knows, Leads, Seat, frames_of, locks_in, times, views_for}
-use Rattle.hwp_tlb_rule.specs.Steps.{IsGuarded, caching_after, cleared_after, mine_after, shown_after}
+use Rattle.hwp_tlb_rule.specs.Caching.{Caching, Cleared, Shown, upto_of, with_upto}
+use Rattle.hwp_tlb_rule.specs.Rule.{CachesAgree, HaveViews, IsCleared, IsShown, Knows, Leads, Seat, frames_of, locks_in, times}
+use Rattle.hwp_tlb_rule.specs.Steps.{IsGuarded, caching_after, mine_after}
 use Rattle.hwp_tlb_rule.specs.Words.{entry_word, is_of}
 use Rattle.hwp_tlb_rule.proofs.CachingLaws.{each-gone}
 use Rattle.hwp_tlb_rule.proofs.EntrySteps.{cleared-upto, raised-cleared}
 use Rattle.hwp_tlb_rule.proofs.LockSlots.{locks-after, locks_then}
 use Rattle.hwp_tlb_rule.proofs.LockTimes.{listed-in, times-append, times-cons, times-frames}
 use Rattle.hwp_tlb_rule.proofs.Named.{entry-frame, entry-leads, in-hand-unnamed, slot-few}
-use Rattle.hwp_tlb_rule.proofs.SeatViews.{counted, listed-few, seats-apart, view-apart}
+use Rattle.hwp_tlb_rule.proofs.SeatViews.{listed-few, seats-apart}
 use Rattle.hwp_tlb_rule.proofs.StepKinds.{IsShowing, cleared-then, frees_lock, is_pte, pte-is, put-trans, seat-keeps, shown-then}
 
 -- the translation words after a move

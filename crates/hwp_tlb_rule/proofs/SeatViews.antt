@@ -1,5 +1,5 @@
 -- The views that seats have: two seats have no view of one processor, and no lock of one frame.
-use Rattle.std.proofs.Common.{◌≡◌, ◌≢◌, ℕ, zero, suc, ◌+◌, ◌/◌, ◌%◌, ◌^◌, ◌<◌, ◌≤◌, ◌==◌, List, [], ◌∷◌, Some, map, inl, inr, slice_get, refl, sym, ap, ◌∙◌, subst, arith}
+use Rattle.std.proofs.Common.{◌≡◌, ◌≢◌, ℕ, suc, ◌+◌, ◌/◌, ◌^◌, ◌<◌, ◌≤◌, ◌==◌, List, [], ◌∷◌, Some, map, inl, inr, slice_get, refl, sym, ap, ◌∙◌, subst, arith}
 use Rattle.std.proofs.lemmas.List.Sums.{sum_by-cons}
 use Rattle.std.proofs.lemmas.Nat.{mod_below}
 use Rattle.std.proofs.lemmas.Option.{slice_get_within}
@@ -12,12 +12,12 @@ use Rattle.hwp_core_task.specs.hwp_core_rule.declared.FrameLock.{FrameLock}
 use Rattle.hwp_core_task.specs.hwp_core_rule.declared.Ref.{Ref}
 use Rattle.hwp_core_task.specs.hwp_core_rule.declared.State.{State}
 use Rattle.hwp_core_task.specs.hwp_core_rule.declared.View.{View}
-use Rattle.hwp_core_task.specs.hwp_core_rule.Lists.{EachMember, SomeMember}
-use Rattle.hwp_core_task.specs.hwp_core_rule.parts.Locks.{FrameLocksHeld, IsLocked}
+use Rattle.hwp_core_task.specs.hwp_core_rule.Lists.{EachMember}
+use Rattle.hwp_core_task.specs.hwp_core_rule.parts.Locks.{IsLocked}
 use Rattle.hwp_core_task.specs.hwp_core_rule.Rule.{Holds}
 use Rattle.hwp_core_task.specs.hwp_core_rule.Views.{locks_on}
 use Rattle.hwp_core_task.specs.hwp_core_rule.Words.{words_of}
-use Rattle.hwp_core_task.proofs.of_hwp_core_rule.Lists.{same-or, map-was, at_map, each-map, sum-map, term-le, terms-le, from_bool-same, from_bool-other}
+use Rattle.hwp_core_task.proofs.of_hwp_core_rule.Lists.{same-or, at_map, each-map, sum-map, term-le, terms-le, from_bool-same, from_bool-other}
 use Rattle.hwp_core_task.proofs.of_hwp_core_rule.MoveKeeps.{shaped}
 use Rattle.hwp_tlb_rule.specs.Caching.{Caching}
 use Rattle.hwp_tlb_rule.specs.Rule.{HaveViews, Seat, locks_in, times, views_for}

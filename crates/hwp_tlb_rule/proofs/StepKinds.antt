@@ -1,5 +1,5 @@
 -- What each kind of step does to translation words, to the locks that are listed, and to what a seat knows of the caches.
-use Rattle.std.proofs.Common.{◌≡◌, ◌≢◌, ◌⊎◌, ℕ, zero, suc, ◌+◌, ◌-◌, ◌<◌, ◌≤◌, ◌==◌, ◌&&◌, nat_lt, Bool, true, false, not, cond, List, [], ◌∷◌, ◌++◌, Option, Some, None, map, set, slice_get, slice_index, inl, inr, refl, sym, ap, ◌∙◌, subst, arith, ne_eqb}
+use Rattle.std.proofs.Common.{◌≡◌, ◌≢◌, ℕ, ◌+◌, ◌-◌, ◌<◌, ◌≤◌, ◌==◌, ◌&&◌, nat_lt, Bool, true, false, cond, List, [], ◌∷◌, ◌++◌, Some, None, map, refl, sym, ap, ◌∙◌, subst, arith, ne_eqb}
 use Rattle.std.specs.Int.{from_bool}
 use Rattle.std.proofs.lemmas.Bool.{eqb-true, ltb-true, true≢false}
 use Rattle.std.proofs.lemmas.List.Sums.{sum_by-cons}
@@ -8,20 +8,16 @@ use Rattle.hwp_core_task.specs.hwp_geom.declared.Damage.TheVariants as damages
 use Rattle.hwp_core_task.specs.hwp_geom.declared.Frame.{Frame}
 use Rattle.hwp_core_task.specs.hwp_geom.declared.Layout.{Layout}
 use Rattle.hwp_core_task.specs.hwp_geom.declared.VSlot.{VSlot}
-use Rattle.hwp_core_task.specs.hwp_geom.declared.Who.{Who}
 use Rattle.hwp_core_task.specs.hwp_words.declared.Pte.{Pte}
-use Rattle.hwp_core_task.specs.hwp_core_rule.declared.Log.{Log}
 use Rattle.hwp_core_task.specs.hwp_core_rule.declared.Rec.{Rec}
-use Rattle.hwp_core_task.specs.hwp_core_rule.declared.SharedWord.{SharedWord}
 use Rattle.hwp_core_task.specs.hwp_core_rule.declared.SharedWord.TheVariants as places
 use Rattle.hwp_core_task.specs.hwp_core_rule.declared.Step.{Step}
 use Rattle.hwp_core_task.specs.hwp_core_rule.declared.Step.TheVariants as steps
 use Rattle.hwp_core_task.specs.hwp_core_rule.declared.View.{View}
 use Rattle.hwp_core_task.specs.hwp_core_rule.Lists.{EachMember}
 use Rattle.hwp_core_task.specs.hwp_core_rule.Steps.{goes, place_of, word_after}
-use Rattle.hwp_core_task.specs.hwp_core_rule.Views.{noted, view_after, view_by}
+use Rattle.hwp_core_task.specs.hwp_core_rule.Views.{noted, view_after}
 use Rattle.hwp_core_task.specs.hwp_core_rule.Words.{Words, put, read}
-use Rattle.hwp_core_task.proofs.of_hwp_core_rule.Lists.{not-both, same-number}
 use Rattle.hwp_core_task.proofs.of_hwp_core_rule.WordsByKind.{same-put}
 use Rattle.hwp_tlb_rule.specs.Caching.{Cleared, Shown, with_upto, without_frame}
 use Rattle.hwp_tlb_rule.specs.Rule.{frames_of, locks_in, times}

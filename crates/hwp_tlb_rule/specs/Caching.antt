@@ -1,5 +1,5 @@
 -- What a seat knows of the translation caches of all processors.
-use Rattle.std.specs.Prelude.{ℕ, ◌+◌, ◌==◌, not, cond, max, List, [], ◌∷◌, Option, Some, None, filter}
+use Rattle.std.specs.Prelude.{ℕ, ◌+◌, ◌==◌, not, cond, max, List, [], ◌∷◌, Option, None, filter}
 
 -- of the first so many entries none names the frame
 pub record Cleared : Type 0 where

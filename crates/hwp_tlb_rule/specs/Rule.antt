@@ -1,5 +1,5 @@
 -- The rule of translation caches: an entry leads where the translation leads, and each seat is right in what it knows.
-use Rattle.std.specs.Prelude.{◌≡◌, ◌⊎◌, ℕ, ◌+◌, ◌*◌, ◌%◌, ◌^◌, ◌<◌, ◌≤◌, ◌==◌, Bool, true, false, List, [], ◌∷◌, ◌++◌, Option, Some, length, map, slice_get}
+use Rattle.std.specs.Prelude.{◌≡◌, ◌⊎◌, ℕ, ◌+◌, ◌*◌, ◌%◌, ◌^◌, ◌<◌, ◌≤◌, ◌==◌, true, false, List, [], ◌∷◌, ◌++◌, Some, length, map, slice_get}
 use Rattle.std.specs.List.{sum_by}
 use Rattle.std.specs.Int.{from_bool}
 use Rattle.hwp_core_task.specs.hwp_geom.declared.Layout.{Layout}
@@ -25,8 +25,8 @@ locks_in (x ∷ xs) = frames_of x.1.locks ++ locks_in xs
 abbrev pub times : ℕ → List ℕ → ℕ
 times n list = sum_by (λ (m : ℕ). from_bool (m == n)) list
 
--- An entry that is not 0 is of a translation whose word leads to the entry's frame, and stands in the place of that translation. Broken
--- by: a fill of a translation that has changed; a translation cleared whose entry stays.
+-- An entry that is not 0 is of a translation whose word leads to the entry's frame, and stands in the place of that
+-- translation. Broken by: a fill of a translation that has changed; a translation cleared whose entry stays.
 pub record Leads (ways : ℕ) (trans : List ℕ) (place word : ℕ) : Type 0 where
   pub slot : ℕ
   pub frame : ℕ
@@ -35,8 +35,8 @@ pub record Leads (ways : ℕ) (trans : List ℕ) (place word : ℕ) : Type 0 whe
   pub place_is : place % ways ≡ slot % ways
   pub leads : slice_get trans slot ≡ Some (frame + 1)
 
--- A seat that has cleared entries of a frame has the frame's lock, and none of them names the frame. Broken by: a fill without the frame's lock; a sweep that leaves
--- out an entry.
+-- A seat that has cleared entries of a frame has the frame's lock, and none of them names the frame. Broken by: a fill without
+-- the frame's lock; a sweep that leaves out an entry.
 pub record IsCleared (entries locks : List ℕ) (c : Cleared) : Type 0 where
   pub locked : 0 < c.upto → 0 < times c.frame locks
   pub none : (i w : ℕ) → i < c.upto → slice_get entries i ≡ Some w → is_of c.frame w ≡ false

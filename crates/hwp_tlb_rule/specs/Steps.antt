@@ -1,5 +1,5 @@
 -- What each step makes of what its seat knows of the caches.
-use Rattle.std.specs.Prelude.{ℕ, suc, ◌+◌, ◌-◌, ◌<◌, ◌≤◌, ◌==◌, ◌&&◌, nat_lt, Bool, not, cond, List, Option, Some, None, length}
+use Rattle.std.specs.Prelude.{ℕ, suc, ◌+◌, ◌-◌, ◌<◌, ◌≤◌, ◌==◌, ◌&&◌, nat_lt, cond, List, Option, Some, None, length}
 use Rattle.std.specs.Int.{from_bool}
 use Rattle.hwp_core_task.specs.hwp_geom.declared.Layout.{Layout}
 use Rattle.hwp_core_task.specs.hwp_core_rule.declared.Rec.{Rec}
@@ -9,7 +9,7 @@ use Rattle.hwp_core_task.specs.hwp_core_rule.declared.Step.{Step}
 use Rattle.hwp_core_task.specs.hwp_core_rule.declared.Step.TheVariants as steps
 use Rattle.hwp_core_task.specs.hwp_core_rule.declared.View.{View}
 use Rattle.hwp_core_task.specs.hwp_core_rule.Views.{locks_on, view_after}
-use Rattle.hwp_tlb_rule.specs.Caching.{Caching, Cleared, Counts, Shown, upto_of, with_upto, without_frame}
+use Rattle.hwp_tlb_rule.specs.Caching.{Caching, Cleared, Shown, upto_of, with_upto, without_frame}
 use Rattle.hwp_tlb_rule.specs.Rule.{times}
 use Rattle.hwp_tlb_rule.specs.Words.{is_of}
 
@@ -29,7 +29,8 @@ cleared_after places (steps.UnlockFrame frame) list = without_frame frame.0 list
 cleared_after places (steps.Retire frame) list = without_frame frame.0 list
 cleared_after places step list = list
 
--- what a step of the frame rule makes of it: the places are all entries of all processors, and the locks are the frames that the step's own view lists
+-- what a step of the frame rule makes of it: the places are all entries of all processors, and the locks are the frames that
+-- the step's own view lists
 abbrev pub caching_after : ℕ → Step → ℕ → List ℕ → Caching → Caching
 caching_after places step found locks k = record {
   cleared = cleared_after places step k.cleared;
@@ -42,7 +43,8 @@ caching_after places step found locks k = record {
 abbrev pub looked : ℕ → ℕ → ℕ → Caching → Caching
 looked f i found k = cond (is_of f found) (record k { glimpse = Some (record { frame = f; place = i; word = found }) }) (record k { cleared = with_upto f (suc i) k.cleared })
 
--- an exchange that takes the entry away where it still is the one that was seen: either way the entry doesn't name the frame any more
+-- an exchange that takes the entry away where it still is the one that was seen: either way the entry doesn't name the frame
+-- any more
 abbrev pub flushed : ℕ → ℕ → ℕ → ℕ → Caching → Caching
 flushed f i seen found k = record k {
   cleared = with_upto f (suc i) k.cleared;
@@ -62,8 +64,8 @@ filled f k = record k {
 abbrev pub hit : Caching → Caching
 hit k = record k { counts = record k.counts { hits = k.counts.hits + 1 } }
 
--- a view that has a page's lock knows of each frame whose lock it has that no entry names it. So a translation is never cleared while an
--- entry of it stays.
+-- a view that has a page's lock knows of each frame whose lock it has that no entry names it. So a translation is never cleared
+-- while an entry of it stays.
 abbrev pub IsGuarded : ℕ → View → Caching → Type 0
 IsGuarded places v k = 0 < length v.pages → (f : ℕ) → 0 < locks_on f v.locks → places ≤ upto_of f k.cleared
 
