@@ -4,7 +4,8 @@ use Rattle.std.specs.Prelude.{Option as Maybe, Some, None}
 use mathlib.Core.Option.{Option, some, none}
 use lib.ListN.{get_elem?}
 use Rattle.std.proofs.lemmas.List.{get_or-drop, length-drop, map-set}
-use Rattle.std.proofs.lemmas.Nat.{mod-mul-add, mod_below, mul-comm}
+use Rattle.std.proofs.lemmas.Nat.{mod-mul-add, mod_below}
+use native.Mathlib.Nat.{mul_comm, zero-mul}
 use Rattle.atomic_table.specs.Seated.{TableId}
 use Rattle.atomic_table.specs.Table.{Act, keeps, Valid, Allows, stepped, carried_after}
 use Rattle.hwp_core_task.specs.hwp_geom.declared.Frame.{Frame}
@@ -35,12 +36,12 @@ module _ {A : Type 0} where
   pub take-behind : (m : ℕ) (xs : List A) (i : ℕ) (a : A) → take m (set xs (m + i) a) ≡ take m xs
   take-behind zero xs i a = refl
   take-behind (suc m) [] i a = refl
-  take-behind (suc m) (x ∷ xs) i a = ap (λ (l : List A). x ∷ l) (take-behind m xs i a)
+  take-behind (suc m) (x ∷ xs) i a = let e : suc m + i ≡ suc (m + i) = omega arith in ap (λ (n : ℕ). take (suc m) (set (x ∷ xs) n a)) e ∙ ap (λ (l : List A). x ∷ l) (take-behind m xs i a)
 
   pub drop-behind : (m : ℕ) (xs : List A) (i : ℕ) (a : A) → drop m (set xs (m + i) a) ≡ set (drop m xs) i a
-  drop-behind zero xs i a = refl
+  drop-behind zero xs i a = let e : 0 + i ≡ i = omega arith in ap (λ (n : ℕ). set xs n a) e
   drop-behind (suc m) [] i a = refl
-  drop-behind (suc m) (x ∷ xs) i a = drop-behind m xs i a
+  drop-behind (suc m) (x ∷ xs) i a = let e : suc m + i ≡ suc (m + i) = omega arith in ap (λ (n : ℕ). drop (suc m) (set (x ∷ xs) n a)) e ∙ drop-behind m xs i a
 
 pub read-in : (xs : List ℕ) (i : ℕ) → i < length xs → slice_get xs i ≡ Some (get_or xs i 0)
 read-in [] i less = absurd (omega (arith, less))
@@ -108,7 +109,7 @@ entry-in {ways} {id} {of} {key} {place} {word} e =
 
 -- where there is an entry, there are some ways
 pub some-ways : (ways cpus place : ℕ) → place < ways * cpus → 0 < ways
-some-ways zero cpus place less = absurd (omega (arith, less))
+some-ways zero cpus place less = let none : place < 0 = subst (λ (n : ℕ). place < n) (zero-mul cpus) less in absurd (omega (arith, none))
 some-ways (suc n) cpus place less = omega arith
 
 module _ (ways : ℕ) (key : Layout) (aim : Aim) (layout-is : aim.layout ≡ key) (count id : ℕ) (m : Me) (word : ℕ) (tid of : TableId) (entry : IsEntry ways tid key of aim.place word) where
@@ -149,7 +150,7 @@ module _ (ways : ℕ) (key : Layout) (aim : Aim) (layout-is : aim.layout ≡ key
 
   -- the place of a translation in its processor's cache is one of the translation
   own-place : (cpu slot : ℕ) → aim.place ≡ own_place ways cpu slot → aim.place % ways ≡ slot % ways
-  own-place cpu slot own = ap (λ (n : ℕ). n % ways) (own ∙ ap (λ (n : ℕ). n + slot % ways) (mul-comm ways cpu)) ∙ mod-mul-add cpu ways (slot % ways) (mod_below slot ways (some-ways ways aim.layout.cpus aim.place inside-aim))
+  own-place cpu slot own = ap (λ (n : ℕ). n % ways) (own ∙ ap (λ (n : ℕ). n + slot % ways) (mul_comm ways cpu)) ∙ mod-mul-add cpu ways (slot % ways) (mod_below slot ways (some-ways ways aim.layout.cpus aim.place inside-aim))
 
   pub fill-allowed : (cpu slot new : ℕ) → aim.place ≡ own_place ways cpu slot → new ≡ entry_word slot aim.frame → CanFill slot aim.frame m → Allows (Kept ways key) count id m word (λ n. new) (IsFilled aim word m)
   fill-allowed cpu slot new own new-is can = subst (λ (z : ℕ). Allows (Kept ways key) count id m word (λ n. z) (IsFilled aim word m)) (sym new-is) (as-named (λ n. entry_word slot aim.frame) (λ i. IsFilled aim i m) (λ st h homes at fits. (

@@ -7,6 +7,7 @@ mod SeatKnows
 pub mod TableKeeps
 mod OperationAsks
 mod EntryAsks
+mod LookAsks
 mod SeatDeals
 mod Carried
 mod FrontSlot
