@@ -5,7 +5,7 @@ use mathlib.Core.Option.{Option, some, none}
 use lib.ListN.{get_elem?}
 use Rattle.std.proofs.lemmas.List.{get_or-drop, length-drop, map-set}
 use Rattle.std.proofs.lemmas.Nat.{mod-mul-add, mod_below}
-use native.Mathlib.Nat.{mul_comm, zero-mul}
+use native.Mathlib.Nat.{mul-le-mul, mul_comm, zero-mul}
 use Rattle.atomic_table.specs.Seated.{TableId}
 use Rattle.atomic_table.specs.Table.{Act, keeps, Valid, Allows, stepped, carried_after}
 use Rattle.hwp_core_task.specs.hwp_geom.declared.Frame.{Frame}
@@ -106,6 +106,10 @@ entry-in {ways} {id} {of} {key} {place} {word} e =
     let is : word ≡ size key + place = e.word_is in
     let less : place < ways * key.cpus = e.inside in
     omega (arith, all, is, less)
+
+-- and there are few
+pub few-places : (ways cpus place : ℕ) → ways ≤ 16 → cpus ≤ 16 → place < ways * cpus → place < 256
+few-places ways cpus place few_ways few_cpus less = let most : ways * cpus ≤ 256 = mul-le-mul few_ways few_cpus in omega (arith, less, most)
 
 -- where there is an entry, there are some ways
 pub some-ways : (ways cpus place : ℕ) → place < ways * cpus → 0 < ways

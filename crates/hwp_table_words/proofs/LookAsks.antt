@@ -3,6 +3,7 @@ use Rattle.std.proofs.Common.{◌≡◌, ◌≢◌, ℕ, zero, suc, ◌+◌, ◌
 use Rattle.std.specs.Prelude.{Option as Maybe, Some, None, if◌then◌else◌}
 use mathlib.Core.Option.{Option, some, none}
 use lib.ListN.{get_elem?}
+use Rattle.std.proofs.lemmas.Bool.{true≢false}
 use Rattle.std.proofs.lemmas.List.{get_or-take, map-set, set-get_or}
 use Rattle.std.proofs.lemmas.Nat.{mod_below}
 use Rattle.std.proofs.lemmas.Option.{none-some, same_Some}
@@ -61,6 +62,10 @@ hit-few slot w f is = named (v == 0 || g == 0) is
     named : (b : Bool) → hit_to slot (if b then None else Some (record { 0 = (v - 1) % 2 ^ 16 }, record { 0 = (g - 1) % 2 ^ 16 })) ≡ Some f → f.0 < 2 ^ 16
     named true e = absurd (none-some f e)
     named false e = ours ((v - 1) % 2 ^ 16 == slot.0) e
+
+is-trans : SharedWord → Bool
+is-trans (shared.Trans slot) = true
+is-trans place = false
 
 read-of : (l : List ℕ) (i x : ℕ) → slice_get l i ≡ Some x → slice_index l i ≡ x
 read-of [] i x e = absurd (none-some x e)
@@ -122,8 +127,8 @@ module _ (ways : ℕ) (call : Call) (slot : VSlot) (step-is : call.step ≡ step
       abbrev w' : Knowing
       w' = record w { caching = hit w.caching }
 
-      abbrev then : CachedTable
-      then = stepped st here x id m.1 w' a
+      abbrev next : CachedTable
+      next = stepped st here x id m.1 w' a
 
       kept-loaded : Kept ways layout loaded
       kept-loaded = subst (λ (l : List ℕ). Kept ways layout (record { words = l; homes = homes_after st.homes m.1 a; views = set st.views id w })) (set-get_or st.words word 0) kept
@@ -131,22 +136,22 @@ module _ (ways : ℕ) (call : Call) (slot : VSlot) (step-is : call.step ≡ step
       at-loaded : slice_get (map cache_seat loaded.views) id ≡ Some (cache_seat w)
       at-loaded = at_map cache_seat loaded.views id w (set_here st.views id w m.0 (as-slice st.views id m.0 at))
 
-      first-is : first_part layout then ≡ first_part layout loaded
+      first-is : first_part layout next ≡ first_part layout loaded
       first-is = λ i. record {
         words = take (size layout) (set-get_or st.words here 0 i);
         homes = loaded.homes;
         views = (map-set (λ (k : Knowing). k.known) st.views id w' ∙ sym (map-set (λ (k : Knowing). k.known) st.views id w)) i;
       }
 
-      seats-are : set (map cache_seat loaded.views) id (cache_seat w') ≡ map cache_seat then.views
+      seats-are : set (map cache_seat loaded.views) id (cache_seat w') ≡ map cache_seat next.views
       seats-are = ap (λ (l : List Seat). set l id (cache_seat w')) (map-set cache_seat st.views id w) ∙ set-set (map cache_seat st.views) id (cache_seat w) (cache_seat w') ∙ sym (map-set cache_seat st.views id w')
 
       abbrev s-loaded : State
       s-loaded = stand kept-loaded.reached.views (first_part layout loaded)
 
-      kept-hit : Kept ways layout then
-      kept-hit = kept-of ways layout then (first_part layout loaded) kept-loaded.reached first-is
-          (subst (λ (l : List ℕ). CachesAgree ways layout s-loaded (drop (size layout) l) (map cache_seat then.views)) (sym (set-get_or st.words here 0))
+      kept-hit : Kept ways layout next
+      kept-hit = kept-of ways layout next (first_part layout loaded) kept-loaded.reached first-is
+          (subst (λ (l : List ℕ). CachesAgree ways layout s-loaded (drop (size layout) l) (map cache_seat next.views)) (sym (set-get_or st.words here 0))
               (subst (λ (l : List Seat). CachesAgree ways layout s-loaded (drop (size layout) st.words) l) seats-are (agree-hit ways layout s-loaded (drop (size layout) st.words) (map cache_seat loaded.views) kept-loaded.agree id w.known.mines w.caching at-loaded)))
 
       pub hit-answers : Answers (Some f)
@@ -192,7 +197,7 @@ module _ (ways : ℕ) (call : Call) (slot : VSlot) (step-is : call.step ≡ step
   }
     where
       other : shared.Trans slot ≢ shared.Stop
-      other e = ?
+      other e = true≢false (ap is-trans e)
 
   pub look-at : CanPlay ways tid layout call of m word → Allows (Kept ways layout) count id m here (λ n. n) (λ n w. (here ≡ here) × HasFound call m (hit_of slot n) w)
   look-at can st h homes at fits = let t = by-hit can st h at homes (hit_of slot (slice_index st.words here)) refl in (t.0, t.1, t.2, t.3, (refl, t.4))

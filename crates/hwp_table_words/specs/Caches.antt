@@ -18,8 +18,9 @@ use Rattle.hwp_table_words.specs.Plays.{Call}
 use Rattle.hwp_table_words.specs.Seats.{IsTableOf, cpu_of, mine_of}
 use Rattle.hwp_table_words.specs.Stands.{Me}
 
--- the seat is of this table of this machine
+-- the seat is of this table of this machine, whose caches have few entries
 pub record IsAtTable (ways : ℕ) (layout key : Layout) (id of : TableId) : Type 0 where
+  pub few : ways ≤ 16
   pub key_is : key ≡ layout
   pub table : IsTableOf ways layout id
   pub same : of ≡ id

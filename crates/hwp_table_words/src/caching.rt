@@ -1,11 +1,11 @@
-ghost use Rattle.std.specs.Prelude.{◌≡◌, ◌+◌, ◌*◌, ◌<◌, ◌≤◌, ◌↔◌, ◌∷◌, [], ℕ, Any, IfNone, IfSome, IsTrue, List, Option};
+ghost use Rattle.std.specs.Prelude.{◌≡◌, ◌+◌, ◌*◌, ◌<◌, ◌≤◌, ◌↔◌, ℕ, Any, IfNone, IfSome, IsTrue, List, Option};
 ghost use Rattle.hwp_core_task.specs.hwp_page.History.{BodyValue};
 ghost use Rattle.hwp_core_task.specs.Calls.{CanMake};
 ghost use Rattle.hwp_table_words.specs.CacheCounts.{told_counts};
 ghost use Rattle.hwp_table_words.specs.CachePlays.{CanFill, CanFlush, CanSearch, with_caching};
 ghost use Rattle.hwp_table_words.specs.Caches.{AreSwept, HasLooked, IsAlmostGuarded, IsAtTable, IsSweptOn, load_of, word_to};
 ghost use Rattle.hwp_table_words.specs.Known.{times};
-ghost use Rattle.hwp_table_words.specs.Seats.{Carries, HasRight, IsSeat, cpu_of, mine_of};
+ghost use Rattle.hwp_table_words.specs.Seats.{Carries, HasRight, IsSeat, mine_of};
 ghost use Rattle.hwp_table_words.specs.Stands.{first_me};
 ghost use Rattle.hwp_tlb_rule.specs.Caching.{upto_of};
 ghost use Rattle.hwp_tlb_rule.specs.Rule.{frames_of, locks_in};
@@ -83,9 +83,7 @@ pub(crate) fn follow<W: Ways>(
     step: &Step,
     found: u64,
 )
-    requires at { IsAtTable W.ways layout.now sheet.now.key sheet.now.table_id seat.old.table_id }
-    requires carries { Carries layout.now (mine_of seat.old.me.0.known.mines) seat.old.me.1 order.now.items }
-    requires one { seat.old.me.0.known.mines ≡ (cpu_of seat.old.me.0.known.mines, mine_of seat.old.me.0.known.mines) ∷ [] }
+    requires seat { IsSeat W.ways layout.now sheet.now.key sheet.now.table_id seat.old.table_id (first_me seat.old.me) order.now.items }
     requires shown { seat.old.me.0.caching.shown ≡ shown_after step.now found (frames_of (mine_of seat.old.me.0.known.mines).locks) }
     requires guarded { IsAlmostGuarded (W.ways * layout.now.cpus) step.now found (mine_of seat.old.me.0.known.mines) seat.old.me.0.caching }
     requires counts { counts.old ≡ told_counts seat.old.me.0.caching.counts }

@@ -1,4 +1,4 @@
-ghost use Rattle.std.specs.Prelude.{◌≡◌, ◌+◌, ◌*◌, ◌<◌, IfSome};
+ghost use Rattle.std.specs.Prelude.{◌≡◌, ◌+◌, ◌*◌, ◌<◌, ◌≤◌, IfSome};
 ghost use Rattle.hwp_core_task.specs.hwp_geom.Layout.{IsSound};
 ghost use Rattle.hwp_core_task.specs.hwp_core_rule.Words.{size};
 ghost use Rattle.hwp_table_words.specs.CachePlays.{CanFill, CanFlush, CanLook, CanSearch, IsEntry, IsFilled, IsFlushed, IsLooked, IsSearched, own_place};
@@ -12,6 +12,7 @@ use hwp_core_task::{Cpu, Layout, SharedWord, VSlot, index};
 /// Where the table has an entry: behind the words of the frame rule.
 pub(crate) fn entry_at<W: Ways>(layout: &Layout, place: usize) -> usize
     requires sound { IsSound layout.now }
+    requires few { W.ways ≤ 16 }
     requires inside { place < W.ways * layout.now.cpus }
     ensures { result ≡ size layout.now + place }
 {
