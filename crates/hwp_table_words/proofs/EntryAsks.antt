@@ -11,6 +11,8 @@ use Rattle.atomic_table.specs.Table.{Act, keeps, Valid, Allows, stepped, carried
 use Rattle.hwp_core_task.specs.hwp_geom.declared.Frame.{Frame}
 use Rattle.hwp_core_task.specs.hwp_geom.declared.Layout.{Layout}
 use Rattle.hwp_core_task.specs.hwp_geom.declared.VSlot.{VSlot}
+use Rattle.hwp_core_task.specs.hwp_geom.Layout.{IsSound}
+use Rattle.hwp_core_task.specs.hwp_geom.Limits.{file_limit, frame_limit, page_limit, process_limit, thread_limit, translation_limit}
 use Rattle.hwp_core_task.specs.hwp_core_rule.declared.State.{State}
 use Rattle.hwp_core_task.specs.hwp_core_rule.declared.View.{View}
 use Rattle.hwp_core_task.specs.hwp_core_rule.Rule.{Holds}
@@ -110,6 +112,17 @@ entry-in {ways} {id} {of} {key} {place} {word} e =
 -- and there are few
 pub few-places : (ways cpus place : ℕ) → ways ≤ 16 → cpus ≤ 16 → place < ways * cpus → place < 256
 few-places ways cpus place few_ways few_cpus less = let most : ways * cpus ≤ 256 = mul-le-mul few_ways few_cpus in omega (arith, less, most)
+
+-- a sound machine has few words
+pub few-words : (layout : Layout) → IsSound layout → size layout < 2 ^ 32
+few-words layout sound =
+    let frames : layout.frames ≤ frame_limit = sound.frames in
+    let trans : length layout.trans ≤ translation_limit = sound.trans in
+    let pages : length layout.pages ≤ page_limit = sound.pages in
+    let procs : layout.procs ≤ process_limit = sound.procs in
+    let threads : length layout.threads ≤ thread_limit = sound.threads in
+    let files : layout.files ≤ file_limit = sound.files in
+    omega arith
 
 -- where there is an entry, there are some ways
 pub some-ways : (ways cpus place : ℕ) → place < ways * cpus → 0 < ways

@@ -63,7 +63,7 @@ hit-few slot w f is = named (v == 0 || g == 0) is
     named true e = absurd (none-some f e)
     named false e = ours ((v - 1) % 2 ^ 16 == slot.0) e
 
-is-trans : SharedWord → Bool
+abbrev is-trans : SharedWord → Bool
 is-trans (shared.Trans slot) = true
 is-trans place = false
 
