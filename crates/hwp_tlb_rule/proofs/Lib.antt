@@ -7,3 +7,4 @@ pub mod Named
 pub mod EntrySteps
 pub mod StepKinds
 pub mod Moved
+pub mod Guards
