@@ -6,6 +6,7 @@ use Rattle.std.proofs.lemmas.Bool.{eqb-true, lt-ltb}
 use Rattle.std.proofs.lemmas.List.{length-map}
 use Rattle.std.proofs.lemmas.List.Sums.{sum_by-cons}
 use Rattle.std.proofs.lemmas.Nat.{mod_below}
+use Rattle.std.proofs.lemmas.Option.{slice_get_within}
 use Rattle.hwp_core_task.specs.hwp_geom.declared.Frame.{Frame}
 use Rattle.hwp_core_task.specs.hwp_geom.declared.Layout.{Layout}
 use Rattle.hwp_core_task.specs.hwp_geom.declared.Page.{Page}
@@ -23,7 +24,9 @@ use Rattle.hwp_core_task.specs.hwp_core_rule.declared.View.{View}
 use Rattle.hwp_core_task.specs.hwp_core_rule.Rule.{Holds}
 use Rattle.hwp_core_task.specs.hwp_core_rule.Steps.{goes}
 use Rattle.hwp_core_task.specs.hwp_core_rule.Views.{locks_on, noted, view_after}
+use Rattle.hwp_core_task.specs.hwp_core_rule.Words.{words_of}
 use Rattle.hwp_core_task.proofs.of_hwp_core_rule.Lists.{at_map, same-or, term-le, from_bool-other, from_bool-same}
+use Rattle.hwp_core_task.proofs.of_hwp_core_rule.MoveKeeps.{shaped}
 use Rattle.hwp_tlb_rule.specs.Caching.{Caching, Cleared, upto_of, with_upto, without_frame}
 use Rattle.hwp_tlb_rule.specs.Rule.{frames_of, times}
 use Rattle.hwp_tlb_rule.specs.Steps.{IsGuarded, caching_after, cleared_after, shown_after}
@@ -45,6 +48,12 @@ locks-once layout s holds c v at f = which (locks_on f v.locks) refl
         term-le (λ (h : List Ref × List FrameLock). locks_on f h.1) (map (λ (v : View). (v.refs, v.locks)) s.views) c (v.refs, v.locks) (at_map (λ (v : View). (v.refs, v.locks)) s.views c v at) in
         let small : lock_of there.0 < 2 ^ 1 = mod_below (there.0 / 2 ^ 0) (2 ^ 1) (omega arith) in
         omega (arith, one, mine, small)
+
+-- and so only of frames of the layout
+pub locks-within : (layout : Layout) (s : State) → Holds layout s → (c : ℕ) (v : View) → slice_get s.views c ≡ Some v → (f : ℕ) → 0 < locks_on f v.locks → f < layout.frames
+locks-within layout s holds c v at f some =
+    let there = lock-there layout s holds f c v at some in
+    subst (λ (n : ℕ). f < n) (shaped layout s holds).frames (slice_get_within (words_of layout s.words).frames f there.0 there.1)
 
 -- a load of a translation that leads to a frame whose lock is listed shows it
 pub shown-load : (slot : VSlot) (found f : ℕ) (locks : List ℕ) → found ≡ f + 1 → 0 < times f locks → shown_after (steps.Load (places.Trans slot)) found locks ≡ Some (record { slot = slot.0; frame = f })
@@ -114,7 +123,7 @@ module _ (all-places : ℕ) (locks pages : List ℕ) (list : List Cleared) (guar
       omega (arith, all, last, none)
 
   guard-then : (step : Step) (found : ℕ) → ((frame : Frame) → step ≡ steps.LockFrame frame → goes step found ≡ true → Sweeps frame.0)
-      → ((page : Page) → step ≡ steps.LockPage page → goes step found ≡ true → (f : ℕ) → Sweeps f) → Guarded step found
+      → ((page : Page) → step ≡ steps.LockPage page → goes step found ≡ true → (f : ℕ) → 0 < times f locks → Sweeps f) → Guarded step found
   guard-then (steps.Load place) found by-frame by-page some f listed = was some f listed
   guard-then (steps.Reserve seen) found by-frame by-page some f listed = was some f listed
   guard-then (steps.TakeBit frame) found by-frame by-page some f listed = was some f listed
@@ -144,7 +153,7 @@ module _ (all-places : ℕ) (locks pages : List ℕ) (list : List Cleared) (guar
   guard-then (steps.LockPage page) found by-frame by-page some f listed = which (goes (steps.LockPage page) found) refl some
     where
       which : (b : Bool) → goes (steps.LockPage page) found ≡ b → 0 < length (cond b (pages ++ page.0 ∷ []) pages) → Sweeps f ⊎ (all-places ≤ upto_of f list)
-      which true is now = inl (by-page page refl is f)
+      which true is now = inl (by-page page refl is f listed)
       which false isnt now = was now f listed
   guard-then (steps.UnlockPage page) found by-frame by-page some f listed = was (let fewer : length (less page.0 pages) ≤ length pages = less-length page.0 pages in omega (arith, fewer, some)) f listed
   guard-then (steps.SetPte slot pte) found by-frame by-page some f listed = was some f listed
@@ -163,10 +172,11 @@ module _ (all-places : ℕ) (locks pages : List ℕ) (list : List Cleared) (guar
 -- so it is of a view that was guarded
 pub guard-after : (layout : Layout) (r : Rec) (v : View) (k : Caching) (all-places : ℕ) (locks : List ℕ) (Sweeps : ℕ → Type 0) → IsGuarded all-places v k → ((f : ℕ) → locks_on f v.locks ≤ 1)
     → ((frame : Frame) → r.step ≡ steps.LockFrame frame → goes r.step r.found ≡ true → Sweeps frame.0)
-    → ((page : Page) → r.step ≡ steps.LockPage page → goes r.step r.found ≡ true → (f : ℕ) → Sweeps f)
+    → ((page : Page) → r.step ≡ steps.LockPage page → goes r.step r.found ≡ true → (f : ℕ) → 0 < locks_on f v.locks → Sweeps f)
     → 0 < length (view_after layout r v).pages → (f : ℕ) → 0 < locks_on f (view_after layout r v).locks → Sweeps f ⊎ (all-places ≤ upto_of f (caching_after all-places r.step r.found locks k).cleared)
 guard-after layout r v k all-places locks Sweeps guarded once by-frame by-page some f listed =
-    guard-then all-places (frames_of v.locks) (pages_of v.pages) k.cleared before (λ f. subst (λ (n : ℕ). n ≤ 1) (sym (times-frames f v.locks)) (once f)) Sweeps r.step r.found by-frame by-page pages-now f locks-now
+    guard-then all-places (frames_of v.locks) (pages_of v.pages) k.cleared before (λ f. subst (λ (n : ℕ). n ≤ 1) (sym (times-frames f v.locks)) (once f)) Sweeps r.step r.found by-frame
+    (λ page is went f listed. by-page page is went f (subst (λ (n : ℕ). 0 < n) (times-frames f v.locks) listed)) pages-now f locks-now
   where
     before : 0 < length (pages_of v.pages) → (f : ℕ) → 0 < times f (frames_of v.locks) → all-places ≤ upto_of f k.cleared
     before some f listed = guarded (subst (λ (n : ℕ). 0 < n) (length-map v.pages (λ (l : PageLock). l.page.0)) some) f (subst (λ (n : ℕ). 0 < n) (times-frames f v.locks) listed)
