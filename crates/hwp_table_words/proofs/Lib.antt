@@ -19,3 +19,4 @@ mod Closed
 pub use Rattle.hwp_core_task.proofs.of_hwp_core_rule as of_hwp_core_rule
 pub use Rattle.hwp_plain_words.proofs as of_hwp_plain_words
 pub use Rattle.hwp_tlb_rule.proofs as of_hwp_tlb_rule
+mod OrderLocks
