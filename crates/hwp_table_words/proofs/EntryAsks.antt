@@ -150,7 +150,7 @@ module _ (ways : ℕ) (key : Layout) (aim : Aim) (layout-is : aim.layout ≡ key
     tt,
     kept-then ways aim.layout aim.place inside-aim id m st h at (slice_index st.words here) (looked aim.frame aim.place (slice_index st.words here) m.0.caching)
         (agree-looked ways aim.layout _ _ _ h.agree (holds ways aim.layout aim.place inside-aim id m st h at) (views-had ways aim.layout aim.place inside-aim id m st h at) id m.0.known.mines m.0.caching (at-seat ways aim.layout aim.place inside-aim id m st h at)
-        aim.frame aim.place (slice_index st.words here) can.locked can.before (at-entry ways aim.layout aim.place inside-aim id m st h at)),
+            aim.frame aim.place (slice_index st.words here) can.locked can.before (at-entry ways aim.layout aim.place inside-aim id m st h at)),
     (refl, refl),
   ))
 
@@ -161,7 +161,7 @@ module _ (ways : ℕ) (key : Layout) (aim : Aim) (layout-is : aim.layout ≡ key
     tt,
     kept-then ways aim.layout aim.place inside-aim id m st h at (exchanged aim.seen 0 (slice_index st.words here)) (flushed aim.frame aim.place aim.seen (slice_index st.words here) m.0.caching)
         (agree-flushed ways aim.layout _ _ _ h.agree (holds ways aim.layout aim.place inside-aim id m st h at) (views-had ways aim.layout aim.place inside-aim id m st h at) id m.0.known.mines m.0.caching (at-seat ways aim.layout aim.place inside-aim id m st h at)
-        aim.frame aim.place aim.seen (slice_index st.words here) can.glimpse can.before (at-entry ways aim.layout aim.place inside-aim id m st h at)),
+            aim.frame aim.place aim.seen (slice_index st.words here) can.glimpse can.before (at-entry ways aim.layout aim.place inside-aim id m st h at)),
     (refl, refl),
   ))
 
@@ -176,6 +176,6 @@ module _ (ways : ℕ) (key : Layout) (aim : Aim) (layout-is : aim.layout ≡ key
     tt,
     kept-then ways aim.layout aim.place inside-aim id m st h at (entry_word slot aim.frame) (filled aim.frame m.0.caching)
         (agree-filled ways aim.layout _ _ _ h.agree (holds ways aim.layout aim.place inside-aim id m st h at) (views-had ways aim.layout aim.place inside-aim id m st h at) id m.0.known.mines m.0.caching (at-seat ways aim.layout aim.place inside-aim id m st h at)
-        slot aim.frame aim.place can (own-place cpu slot own)),
+            slot aim.frame aim.place can (own-place cpu slot own)),
     (refl, refl),
   )))

@@ -152,19 +152,13 @@ module _ (ways : ℕ) (call : Call) (slot : VSlot) (step-is : call.step ≡ step
       kept-hit : Kept ways layout next
       kept-hit = kept-of ways layout next (first_part layout loaded) kept-loaded.reached first-is
           (subst (λ (l : List ℕ). CachesAgree ways layout s-loaded (drop (size layout) l) (map cache_seat next.views)) (sym (set-get_or st.words here 0))
-          (subst (λ (l : List Seat). CachesAgree ways layout s-loaded (drop (size layout) st.words) l) seats-are (agree-hit ways layout s-loaded (drop (size layout) st.words) (map cache_seat loaded.views) kept-loaded.agree id w.known.mines w.caching at-loaded)))
+              (subst (λ (l : List Seat). CachesAgree ways layout s-loaded (drop (size layout) st.words) l) seats-are (agree-hit ways layout s-loaded (drop (size layout) st.words) (map cache_seat loaded.views) kept-loaded.agree id w.known.mines w.caching at-loaded)))
 
       pub hit-answers : Answers (Some f)
-      hit-answers = (
-        w',
-        a,
-        valid,
-        kept-hit,
-        record {
-          makes = subst (λ (n : ℕ). Makes call (first_me m) n (w.known, carried_after m.1 a)) (found f is) made.makes;
-          caching = ap hit (made.caching ∙ ap (λ (n : ℕ). caching_after call.places call.step n (frames_of call.mine.locks) m.0.caching) (found f is));
-        },
-      )
+      hit-answers = (w', a, valid, kept-hit, record {
+        makes = subst (λ (n : ℕ). Makes call (first_me m) n (w.known, carried_after m.1 a)) (found f is) made.makes;
+        caching = ap hit (made.caching ∙ ap (λ (n : ℕ). caching_after call.places call.step n (frames_of call.mine.locks) m.0.caching) (found f is));
+      })
 
     none-answers : Answers None
     none-answers = (m.0, keeps, tt, kept-none, refl)
@@ -212,14 +206,14 @@ pub look-allowed : (ways : ℕ) (key : Layout) (look : Look) (count id : ℕ) (m
     → Allows (Kept ways key) count id m word (λ n. n) (IsLooked look word m)
 look-allowed ways key look count id m word tid of entry can =
     subst (λ (k : Layout). Allows (Kept ways k) count id m word (λ n. n) (IsLooked look word m)) can.layout_is
-    (subst (λ (i : ℕ). Allows (Kept ways look.call.layout) count id m i (λ n. n) (IsLooked look i m)) (sym word-is)
-    (look-at ways look.call look.slot can.step_is can.put_is look.place inside count id m tid of
-    (look-plays ways look.call look.slot can.step_is can.put_is look.place inside count id m tid of
-    (subst (λ (k : Layout). CanMake k look.call.who look.call.step None look.call.mine) (sym can.layout_is) can.can)
-    (subst (λ (k : Layout). IsTableOf ways k tid) (sym can.layout_is) entry.table)
-    entry.same
-    (can.places ∙ ap (λ (k : Layout). ways * k.cpus) (sym can.layout_is))
-    can.view can.right can.guarded)))
+        (subst (λ (i : ℕ). Allows (Kept ways look.call.layout) count id m i (λ n. n) (IsLooked look i m)) (sym word-is)
+            (look-at ways look.call look.slot can.step_is can.put_is look.place inside count id m tid of
+                (look-plays ways look.call look.slot can.step_is can.put_is look.place inside count id m tid of
+                    (subst (λ (k : Layout). CanMake k look.call.who look.call.step None look.call.mine) (sym can.layout_is) can.can)
+                    (subst (λ (k : Layout). IsTableOf ways k tid) (sym can.layout_is) entry.table)
+                    entry.same
+                    (can.places ∙ ap (λ (k : Layout). ways * k.cpus) (sym can.layout_is))
+                    can.view can.right can.guarded)))
   where
     word-is : word ≡ size look.call.layout + look.place
     word-is = entry.word_is ∙ ap (λ (k : Layout). size k + look.place) (sym can.layout_is)

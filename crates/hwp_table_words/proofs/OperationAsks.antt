@@ -294,8 +294,8 @@ module _ (ways : ℕ) (call : Call) (id : ℕ) (m : Me) (word : ℕ) (tid of : T
       agree : CachesAgree ways call.layout (stand p.after.views then-first) (drop (size call.layout) then-all.words) (map cache_seat then-all.views)
       agree = subst (λ (l : List Seat). CachesAgree ways call.layout (stand p.after.views then-first) (drop (size call.layout) then-all.words) l) seats-are
           (subst (λ (l : List ℕ). CachesAgree ways call.layout (stand p.after.views then-first) l (set seats id seat-then)) entries-are
-          (agree-moved ways call.layout (stand h.reached.views first) entries seats h.agree (reached-holds call.layout first h.reached) views-had id m.0.known.mines m.0.caching (at_map cache_seat st.views id m.0 (as-slice st.views id m.0 at))
-          call.cpu call.mine p.went.r (stand p.after.views then-first) p.went.move p.went.view_is can.view guarded))
+              (agree-moved ways call.layout (stand h.reached.views first) entries seats h.agree (reached-holds call.layout first h.reached) views-had id m.0.known.mines m.0.caching (at_map cache_seat st.views id m.0 (as-slice st.views id m.0 at))
+                  call.cpu call.mine p.went.r (stand p.after.views then-first) p.went.move p.went.view_is can.view guarded))
         where
           guarded : IsGuarded (ways * call.layout.cpus) call.mine m.0.caching
           guarded = subst (λ (n : ℕ). IsGuarded n call.mine m.0.caching) can.places can.guarded
