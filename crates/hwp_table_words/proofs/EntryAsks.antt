@@ -26,8 +26,10 @@ use Rattle.hwp_tlb_rule.specs.Words.{entry_word, hit_of}
 use Rattle.hwp_tlb_rule.proofs.EntrySteps.{agree-filled, agree-flushed, agree-looked}
 use Rattle.hwp_tlb_rule.proofs.SeatViews.{have-views}
 use Rattle.hwp_table_words.specs.CachePlays.{Aim, CanFill, CanFlush, CanSearch, IsEntry, IsFilled, IsFlushed, IsSearched, own_place, with_caching}
+use Rattle.hwp_table_words.specs.Caches.{IsAtTable}
 use Rattle.hwp_table_words.specs.Known.{Known, Knowing}
 use Rattle.hwp_table_words.specs.Rules.{Kept, Reached, cache_seat}
+use Rattle.hwp_table_words.specs.Seats.{IsTableOf}
 use Rattle.hwp_table_words.specs.Stands.{CachedTable, Content, Me, Table, first_part, stand}
 use Rattle.hwp_table_words.proofs.FirstParts.{kept-of}
 use Rattle.hwp_table_words.proofs.ListReads.{as-slice}
@@ -108,6 +110,14 @@ entry-in {ways} {id} {of} {key} {place} {word} e =
     let is : word ≡ size key + place = e.word_is in
     let less : place < ways * key.cpus = e.inside in
     omega (arith, all, is, less)
+
+pub entry-of : {ways : ℕ} {layout key : Layout} {id of : TableId} {place word : ℕ} → IsAtTable ways layout key id of → word ≡ size layout + place → place < ways * layout.cpus → IsEntry ways id key of place word
+entry-of {ways} {layout} {key} {id} {of} {place} {word} at is less = record {
+  same = at.same;
+  table = subst (λ (k : Layout). IsTableOf ways k id) (sym at.key_is) at.table;
+  word_is = is ∙ ap (λ (k : Layout). size k + place) (sym at.key_is);
+  inside = subst (λ (k : Layout). place < ways * k.cpus) (sym at.key_is) less;
+}
 
 -- and there are few
 pub few-places : (ways cpus place : ℕ) → ways ≤ 16 → cpus ≤ 16 → place < ways * cpus → place < 256

@@ -8,6 +8,7 @@ pub mod TableKeeps
 mod OperationAsks
 mod EntryAsks
 mod LookAsks
+mod Sweeps
 mod SeatDeals
 mod Carried
 mod FrontSlot

@@ -9,9 +9,11 @@ use Rattle.hwp_core_task.specs.hwp_core_rule.declared.SharedWord.TheVariants as 
 use Rattle.hwp_core_task.specs.hwp_core_rule.declared.Step.{Step}
 use Rattle.hwp_core_task.specs.hwp_core_rule.declared.Step.TheVariants as steps
 use Rattle.hwp_core_task.specs.hwp_core_rule.declared.View.{View}
+use Rattle.hwp_core_task.specs.hwp_core_rule.Lists.{EachMember}
 use Rattle.hwp_core_task.specs.hwp_core_rule.Steps.{goes}
 use Rattle.hwp_core_task.specs.hwp_core_rule.Views.{locks_on}
 use Rattle.hwp_tlb_rule.specs.Caching.{Caching, upto_of}
+use Rattle.hwp_tlb_rule.specs.Rule.{locks_in}
 use Rattle.hwp_table_words.specs.CachePlays.{IsHit, with_caching}
 use Rattle.hwp_table_words.specs.Known.{times}
 use Rattle.hwp_table_words.specs.Plays.{Call}
@@ -64,6 +66,10 @@ pub record IsSweptOn (m n : Me) : Type 0 where
   pub rest : n ≡ with_caching n.0.caching m
   pub grows : (f : ℕ) → upto_of f m.0.caching.cleared ≤ upto_of f n.0.caching.cleared
 
--- no entry of so many names a frame whose slot is among these
+-- the frames whose slots are among these have their locks listed
+abbrev pub AreLocked : ℕ → List ℕ → Me → Type 0
+AreLocked frames order m = EachMember (λ (f : ℕ). f < frames → 0 < times f (locks_in m.0.known.mines)) order
+
+-- no entry of so many names one of them
 abbrev pub AreSwept : ℕ → ℕ → List ℕ → Caching → Type 0
-AreSwept places frames order k = (f : ℕ) → f < frames → 0 < times f order → places ≤ upto_of f k.cleared
+AreSwept places frames order k = EachMember (λ (f : ℕ). f < frames → places ≤ upto_of f k.cleared) order

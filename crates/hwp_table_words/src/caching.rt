@@ -3,7 +3,7 @@ ghost use Rattle.hwp_core_task.specs.hwp_page.History.{BodyValue};
 ghost use Rattle.hwp_core_task.specs.Calls.{CanMake};
 ghost use Rattle.hwp_table_words.specs.CacheCounts.{told_counts};
 ghost use Rattle.hwp_table_words.specs.CachePlays.{CanFill, CanFlush, CanSearch, with_caching};
-ghost use Rattle.hwp_table_words.specs.Caches.{AreSwept, HasLooked, IsAlmostGuarded, IsAtTable, IsSweptOn, load_of, word_to};
+ghost use Rattle.hwp_table_words.specs.Caches.{AreLocked, AreSwept, HasLooked, IsAlmostGuarded, IsAtTable, IsSweptOn, load_of, word_to};
 ghost use Rattle.hwp_table_words.specs.Known.{times};
 ghost use Rattle.hwp_table_words.specs.Seats.{Carries, HasRight, IsSeat, mine_of};
 ghost use Rattle.hwp_table_words.specs.Stands.{first_me};
@@ -57,7 +57,7 @@ pub(crate) fn look<W: Ways>(
         return None;
     };
     let word = entry_at::<W>(layout, place);
-    let entry = look_as::<W, Brand>(sheet, seat, word);
+    let entry = look_as::<W, Brand>(sheet, seat, who, slot, place, word);
     answer_of(slot, entry)
 }
 
@@ -200,7 +200,8 @@ fn fill<W: Ways>(
     };
     let word = entry_at::<W>(layout, place);
     let to = Some((slot, frame));
-    fill_as::<W, Brand>(sheet, seat, word, who.cpu, slot, EntryWord { to }.pack());
+    let entry = EntryWord { to }.pack();
+    fill_as::<W, Brand>(sheet, seat, frame, place, word, who.cpu, slot, entry);
     filled[usize::from(slot.0) % W::ways()] = Some(slot);
     counts.fills = counts.fills.saturating_add(1);
 }
@@ -214,7 +215,7 @@ fn sweep_all<W: Ways>(
     counts: &mut TlbCounts,
 )
     requires at { IsAtTable W.ways layout.now sheet.now.key sheet.now.table_id seat.old.table_id }
-    requires locked { (f : ℕ) → f < layout.now.frames → 0 < times f order.now → 0 < times f (locks_in seat.old.me.0.known.mines) }
+    requires locked { AreLocked layout.now.frames order.now seat.old.me }
     requires counts { counts.old ≡ told_counts seat.old.me.0.caching.counts }
     ensures same { seat.new.table_id ≡ seat.old.table_id }
     ensures rest { IsSweptOn seat.old.me seat.new.me }
@@ -222,10 +223,30 @@ fn sweep_all<W: Ways>(
     ensures counts { counts.new ≡ told_counts seat.new.me.0.caching.counts }
 {
     for slot in order {
-        if let Some(frame) = frame_of(layout, *slot) {
-            sweep(sheet, layout, seat, counts, frame);
-        }
+        sweep_slot(sheet, layout, seat, counts, *slot);
     }
+}
+
+/// Sweeps the frame whose slot it is.
+fn sweep_slot<W: Ways>(
+    sheet: &Sheet<W>,
+    layout: &Layout,
+    seat: &mut Pass,
+    counts: &mut TlbCounts,
+    slot: usize,
+)
+    requires at { IsAtTable W.ways layout.now sheet.now.key sheet.now.table_id seat.old.table_id }
+    requires locked { slot < layout.now.frames → 0 < times slot (locks_in seat.old.me.0.known.mines) }
+    requires counts { counts.old ≡ told_counts seat.old.me.0.caching.counts }
+    ensures same { seat.new.table_id ≡ seat.old.table_id }
+    ensures rest { IsSweptOn seat.old.me seat.new.me }
+    ensures swept { slot < layout.now.frames → W.ways * layout.now.cpus ≤ upto_of slot seat.new.me.0.caching.cleared }
+    ensures counts { counts.new ≡ told_counts seat.new.me.0.caching.counts }
+{
+    let Some(frame) = frame_of(layout, slot) else {
+        return;
+    };
+    sweep(sheet, layout, seat, counts, frame);
 }
 
 /// Takes away each entry that names a frame whose lock the seat has, of all processors.
@@ -245,10 +266,31 @@ fn sweep<W: Ways>(
     ensures counts { counts.new ≡ told_counts seat.new.me.0.caching.counts }
 {
     for place in 0..W::ways() * usize::from(layout.cpus) {
-        let seen = search(sheet, layout, seat, frame, place);
-        if EntryWord::names(seen, frame) {
-            flush(sheet, layout, seat, counts, frame, place, seen);
-        }
+        clear(sheet, layout, seat, counts, frame, place);
+    }
+}
+
+/// Takes an entry away if it names the frame.
+fn clear<W: Ways>(
+    sheet: &Sheet<W>,
+    layout: &Layout,
+    seat: &mut Pass,
+    counts: &mut TlbCounts,
+    frame: Frame,
+    place: usize,
+)
+    requires at { IsAtTable W.ways layout.now sheet.now.key sheet.now.table_id seat.old.table_id }
+    requires inside { place < W.ways * layout.now.cpus }
+    requires can { CanSearch frame.0 place seat.old.me }
+    requires counts { counts.old ≡ told_counts seat.old.me.0.caching.counts }
+    ensures same { seat.new.table_id ≡ seat.old.table_id }
+    ensures rest { IsSweptOn seat.old.me seat.new.me }
+    ensures cleared { place < upto_of frame.0 seat.new.me.0.caching.cleared }
+    ensures counts { counts.new ≡ told_counts seat.new.me.0.caching.counts }
+{
+    let seen = search(sheet, layout, seat, frame, place);
+    if EntryWord::names(seen, frame) {
+        flush(sheet, layout, seat, counts, frame, place, seen);
     }
 }
 
@@ -267,7 +309,7 @@ fn search<W: Ways>(
     ensures looked { seat.new.me ≡ with_caching (looked frame.0 place result seat.old.me.0.caching) seat.old.me }
 {
     let word = entry_at::<W>(layout, place);
-    search_as::<W, Brand>(sheet, seat, word)
+    search_as::<W, Brand>(sheet, seat, frame, place, word)
 }
 
 /// Takes an entry away that named the frame, if it still is what was seen.
@@ -289,8 +331,6 @@ fn flush<W: Ways>(
     ensures counts { counts.new ≡ told_counts seat.new.me.0.caching.counts }
 {
     let word = entry_at::<W>(layout, place);
-    let found = flush_as::<W, Brand>(sheet, seat, word, seen);
-    if found == seen {
-        counts.flushes = counts.flushes.saturating_add(1);
-    }
+    let found = flush_as::<W, Brand>(sheet, seat, frame, place, word, seen);
+    counts.flushes = counts.flushes.saturating_add(u64::from(found == seen));
 }

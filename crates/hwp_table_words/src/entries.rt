@@ -7,7 +7,7 @@ ghost use Rattle.hwp_tlb_rule.specs.Words.{entry_word};
 use crate::cache_plays::{Aimed, Fills, Flushes, Looking, Looks, Searches};
 use crate::plays::{Pass, Sheet};
 use crate::ways::Ways;
-use hwp_core_task::{Cpu, Layout, SharedWord, VSlot, index};
+use hwp_core_task::{Cpu, Frame, Layout, SharedWord, VSlot, Who, index};
 
 /// Where the table has an entry: behind the words of the frame rule.
 pub(crate) fn entry_at<W: Ways>(layout: &Layout, place: usize) -> usize
@@ -31,7 +31,14 @@ pub(crate) fn own_place<W: Ways>(layout: &Layout, cpu: Cpu, slot: VSlot) -> Opti
 }
 
 /// Loads an entry that may answer a load of a translation.
-pub(crate) fn look_as<W: Ways, N: Looking>(sheet: &Sheet<W>, seat: &mut Pass, word: usize) -> u64
+pub(crate) fn look_as<W: Ways, N: Looking>(
+    sheet: &Sheet<W>,
+    seat: &mut Pass,
+    who: Who,
+    slot: VSlot,
+    place: usize,
+    word: usize,
+) -> u64
     requires entry { IsEntry W.ways sheet.now.table_id sheet.now.key seat.old.table_id N.look.place word }
     requires can { CanLook W.ways sheet.now.key N.look seat.old.me }
     ensures same { seat.new.table_id ≡ seat.old.table_id }
@@ -41,7 +48,13 @@ pub(crate) fn look_as<W: Ways, N: Looking>(sheet: &Sheet<W>, seat: &mut Pass, wo
 }
 
 /// Loads an entry to see whether it names a frame.
-pub(crate) fn search_as<W: Ways, N: Aimed>(sheet: &Sheet<W>, seat: &mut Pass, word: usize) -> u64
+pub(crate) fn search_as<W: Ways, N: Aimed>(
+    sheet: &Sheet<W>,
+    seat: &mut Pass,
+    frame: Frame,
+    place: usize,
+    word: usize,
+) -> u64
     requires entry { IsEntry W.ways sheet.now.table_id sheet.now.key seat.old.table_id N.aim.place word × (N.aim.layout ≡ sheet.now.key) }
     requires can { CanSearch N.aim.frame N.aim.place seat.old.me }
     ensures same { seat.new.table_id ≡ seat.old.table_id }
@@ -54,6 +67,8 @@ pub(crate) fn search_as<W: Ways, N: Aimed>(sheet: &Sheet<W>, seat: &mut Pass, wo
 pub(crate) fn flush_as<W: Ways, N: Aimed>(
     sheet: &Sheet<W>,
     seat: &mut Pass,
+    frame: Frame,
+    place: usize,
     word: usize,
     seen: u64,
 ) -> u64
@@ -70,6 +85,8 @@ pub(crate) fn flush_as<W: Ways, N: Aimed>(
 pub(crate) fn fill_as<W: Ways, N: Aimed>(
     sheet: &Sheet<W>,
     seat: &mut Pass,
+    frame: Frame,
+    place: usize,
     word: usize,
     cpu: Cpu,
     slot: VSlot,
