@@ -21,3 +21,4 @@ pub use Rattle.hwp_core_task.proofs.of_hwp_core_rule as of_hwp_core_rule
 pub use Rattle.hwp_plain_words.proofs as of_hwp_plain_words
 pub use Rattle.hwp_tlb_rule.proofs as of_hwp_tlb_rule
 mod OrderLocks
+mod Guarded

@@ -79,7 +79,7 @@ less-gone f (x ∷ xs) once = which (x == f) refl (less-gone f xs)
         let gone : times f (less f xs) ≡ 0 = rest (omega (arith, all, once)) in
         omega (arith, none, then, gone)
 
-less-times : (f g : ℕ) (list : List ℕ) → times f (less g list) ≤ times f list
+pub less-times : (f g : ℕ) (list : List ℕ) → times f (less g list) ≤ times f list
 less-times f g [] = omega arith
 less-times f g (x ∷ xs) = which (x == g) (less-times f g xs)
   where

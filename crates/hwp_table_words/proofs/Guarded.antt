@@ -1,0 +1,88 @@
+-- What a step leaves of the guard: only the lock of a frame or of a page that went leaves frames to be swept.
+use Rattle.std.proofs.Common.{◌≡◌, ◌≢◌, ◌⊎◌, ℕ, ◌+◌, ◌<◌, ◌≤◌, ◌==◌, Bool, true, false, cond, List, [], ◌∷◌, ◌++◌, Some, map, inl, inr, refl, sym, ap, ◌∙◌, subst, arith}
+use Rattle.std.specs.Int.{from_bool}
+use Rattle.hwp_core_task.specs.hwp_geom.declared.Frame.{Frame}
+use Rattle.hwp_core_task.specs.hwp_geom.declared.Layout.{Layout}
+use Rattle.hwp_core_task.specs.hwp_geom.declared.Page.{Page}
+use Rattle.hwp_core_task.specs.hwp_core_rule.declared.Rec.{Rec}
+use Rattle.hwp_core_task.specs.hwp_core_rule.declared.Step.{Step}
+use Rattle.hwp_core_task.specs.hwp_core_rule.declared.Step.TheVariants as steps
+use Rattle.hwp_core_task.specs.hwp_core_rule.declared.View.{View}
+use Rattle.hwp_core_task.specs.hwp_core_rule.Moves.{Told}
+use Rattle.hwp_core_task.specs.hwp_core_rule.Steps.{goes, place_of}
+use Rattle.hwp_core_task.specs.hwp_core_rule.Views.{locks_on, noted, view_after}
+use Rattle.hwp_core_task.specs.hwp_core_rule.Words.{IsPlace}
+use Rattle.hwp_core_task.proofs.of_hwp_core_rule.Lists.{same-or, from_bool-other}
+use Rattle.hwp_tlb_rule.specs.Caching.{Caching}
+use Rattle.hwp_tlb_rule.specs.Rule.{frames_of, times}
+use Rattle.hwp_tlb_rule.specs.Steps.{IsGuarded, caching_after}
+use Rattle.hwp_tlb_rule.proofs.Guards.{guard-after, less-times, locks-once, locks-within}
+use Rattle.hwp_tlb_rule.proofs.LockSlots.{less, locks-after, locks_then}
+use Rattle.hwp_tlb_rule.proofs.LockTimes.{times-append, times-cons, times-frames}
+use Rattle.hwp_table_words.specs.Caches.{IsAlmostGuarded, IsToSweep}
+
+-- a frame that is locked after a step was so before, or is the frame of the step
+module _ (layout : Layout) (locks : List ℕ) (f : ℕ) (within : 0 < times f locks → f < layout.frames) where
+  one-more : (frame : ℕ) → frame < layout.frames → 0 < times f (locks ++ frame ∷ []) → f < layout.frames
+  one-more frame less some = elim (same-or f frame) [
+    | inl same ↦ omega (arith, same, less)
+    | inr other ↦
+        let all : times f (locks ++ frame ∷ []) ≡ times f locks + times f (frame ∷ []) = times-append f locks (frame ∷ []) in
+        let last : times f (frame ∷ []) ≡ from_bool (frame == f) + times f [] = times-cons f frame [] in
+        let none : from_bool (frame == f) ≡ 0 = from_bool-other frame f (λ e. other (sym e)) in
+        within (omega (arith, all, last, none, some))
+  ]
+
+  one-less : (frame : ℕ) → 0 < times f (less frame locks) → f < layout.frames
+  one-less frame some = let fewer : times f (less frame locks) ≤ times f locks = less-times f frame locks in within (omega (arith, fewer, some))
+
+  within-then : (step : Step) (found : ℕ) → IsPlace layout (place_of step) → 0 < times f (locks_then step found locks) → f < layout.frames
+  within-then (steps.Load place) found there some = within some
+  within-then (steps.Reserve seen) found there some = within some
+  within-then (steps.TakeBit frame) found there some = within some
+  within-then (steps.GiveBit frame) found there some = within some
+  within-then steps.Unreserve found there some = within some
+  within-then (steps.Adopt frame) found there some = one-more frame.0 there some
+  within-then (steps.GetRef frame seen count) found there some = within some
+  within-then (steps.PutRef frame count) found there some = within some
+  within-then (steps.LockFrame frame) found there some = which (goes (steps.LockFrame frame) found) some
+    where
+      which : (b : Bool) → 0 < times f (cond b (locks ++ frame.0 ∷ []) locks) → f < layout.frames
+      which true now = one-more frame.0 there now
+      which false now = within now
+  within-then (steps.UnlockFrame frame) found there some = one-less frame.0 some
+  within-then (steps.Retire frame) found there some = one-less frame.0 some
+  within-then (steps.Revive frame seen) found there some = within some
+  within-then (steps.SetOwner frame page owned) found there some = within some
+  within-then (steps.LockPage page) found there some = within some
+  within-then (steps.UnlockPage page) found there some = within some
+  within-then (steps.SetPte slot pte) found there some = within some
+  within-then (steps.SetCache page frame) found there some = within some
+  within-then (steps.Poison frame hardware) found there some = within some
+  within-then (steps.CountPoison hardware) found there some = within some
+  within-then steps.Uncount found there some = within some
+  within-then (steps.Spoil frame line damage) found there some = within some
+  within-then (steps.Stop cpu) found there some = within some
+  within-then steps.GiveUp found there some = within some
+  within-then (steps.Kill process page body) found there some = within some
+  within-then (steps.SetPolicy thread policy settings) found there some = within some
+  within-then (steps.Lose file body) found there some = within some
+  within-then (steps.ReportLost file) found there some = within some
+
+module _ (layout : Layout) (r : Rec) (old new : View) (told : Told layout r old new) where
+  -- the guard, but for the frames that are to be swept
+  pub almost-guarded : (places : ℕ) (k : Caching) (locks : List ℕ) → IsGuarded places old k → IsAlmostGuarded places r.step r.found new (caching_after places r.step r.found locks k)
+  almost-guarded places k locks guarded = subst (λ (v : View). IsAlmostGuarded places r.step r.found v (caching_after places r.step r.found locks k)) (sym told.next)
+      (guard-after layout r old k places locks (IsToSweep r.step r.found) guarded (locks-once layout told.board told.rule told.seat old told.me)
+          (λ frame is went. subst (λ (u : Step). IsToSweep u r.found frame.0) (sym is) (ap (λ (u : Step). goes u r.found) (sym is) ∙ went, refl))
+          (λ page is went f listed. subst (λ (u : Step). IsToSweep u r.found f) (sym is) (ap (λ (u : Step). goes u r.found) (sym is) ∙ went)))
+
+  -- each frame that is locked is one of the layout
+  pub within-after : IsPlace layout (place_of r.step) → (f : ℕ) → 0 < locks_on f new.locks → f < layout.frames
+  within-after place f some = within-then layout (frames_of old.locks) f before r.step r.found place now
+    where
+      before : 0 < times f (frames_of old.locks) → f < layout.frames
+      before listed = locks-within layout told.board told.rule told.seat old told.me f (subst (λ (n : ℕ). 0 < n) (times-frames f old.locks) listed)
+
+      now : 0 < times f (locks_then r.step r.found (frames_of old.locks))
+      now = subst (λ (n : ℕ). 0 < n) (sym (times-frames f new.locks) ∙ ap (λ (v : View). times f (frames_of v.locks)) told.next ∙ ap (times f) (locks-after layout r.who r.step r.found r.content (noted r.who old))) some
