@@ -1,10 +1,11 @@
 -- The table at opening: its one seat has all there is.
-use Rattle.std.proofs.Common.{◌≡◌, ℕ, zero, suc, ◌+◌, ◌*◌, ◌<◌, ◌≤◌, ◌==◌, List, [], ◌∷◌, ◌++◌, inl, inr, drop, map, length, replicate, slice_get, take, refl, sym, ap, ◌∙◌, subst, arith}
+use Rattle.std.proofs.Common.{◌≡◌, ℕ, zero, suc, ◌+◌, ◌-◌, ◌*◌, ◌<◌, ◌≤◌, ◌==◌, List, [], ◌∷◌, ◌++◌, inl, inr, drop, map, length, replicate, slice_get, take, refl, sym, ap, ◌∙◌, subst, arith}
 use Rattle.std.specs.Prelude.{Some}
 use mathlib.Core.Option.{some, some-injective}
 use Rattle.std.proofs.lemmas.List.{length-append, length-map, length-replicate, take-append-drop}
 use Rattle.std.proofs.lemmas.List.Sums.{sum_by-cons}
 use Rattle.std.proofs.lemmas.Option.{none-some, same_Some}
+use Rattle.std.proofs.Math.Seq.{drop-append_seam, take-append_seam}
 use Rattle.std.specs.List.{sum_by}
 use Rattle.std.specs.Int.{from_bool}
 use Rattle.atomic_table.specs.Table as table
@@ -72,6 +73,28 @@ own-view n i y e =
 homes-some : (slots : List Content) → map home_of (map some slots) ≡ map home_with slots
 homes-some [] = refl
 homes-some (x ∷ xs) = λ i. Some (Rattle.hwp_core_task.specs.Calls.logs x) ∷ homes-some xs i
+
+-- the machine's words, and so many empty ones behind them
+pub opened-words : (layout : Layout) (places : ℕ) (words all : List ℕ) → IsSound layout → in_rule words ≡ opening_words layout → all ≡ words ++ replicate places 0 → IsOpened layout places all
+opened-words layout places words all sound words-are all-is = record {
+  first = ap (λ (l : List ℕ). in_rule (take (size layout) l)) all-is ∙ ap (λ (n : ℕ). in_rule (take n (words ++ replicate places 0))) (sym count) ∙ ap in_rule (take-append_seam words (replicate places 0)) ∙ words-are;
+  entries = ap (drop (size layout)) all-is ∙ ap (λ (n : ℕ). drop n (words ++ replicate places 0)) (sym count) ∙ drop-append_seam words (replicate places 0);
+}
+  where
+    count : length words ≡ size layout
+    count = sym (length-in_rule words) ∙ ap length words-are ∙ (opening-holds layout sound).words
+
+take-past : {A : Type 0} (n : ℕ) (xs : List A) → length xs ≤ n → take n xs ≡ xs
+take-past zero [] less = refl
+take-past zero (x ∷ xs) less = absurd (omega (arith, less))
+take-past (suc n) [] less = refl
+take-past {A} (suc n) (x ∷ xs) less = ap (λ (l : List A). x ∷ l) (take-past n xs (omega (arith, less)))
+
+-- a list that grows to a length
+pub resized : (words all : List ℕ) (n m places : ℕ) → all ≡ take n words ++ replicate (n - m) 0 → m ≡ length words → n ≡ m + places → all ≡ words ++ replicate places 0
+resized words all n m places is old new =
+    let more : n - m ≡ places = omega (arith, new) in
+    is ∙ ap (λ (l : List ℕ). l ++ replicate (n - m) 0) (take-past n words (omega (arith, old, new))) ∙ ap (λ (k : ℕ). words ++ replicate k 0) more
 
 -- all of these are 0
 replicated : (n i w : ℕ) → slice_get (replicate n 0) i ≡ Some w → w ≡ 0

@@ -1,9 +1,9 @@
-ghost use Rattle.std.specs.Prelude.{◌≡◌, ◌*◌, ◌++◌, [], replicate, IfOk, OnOk};
+ghost use Rattle.std.specs.Prelude.{◌≡◌, ◌*◌, [], IfOk};
 ghost use Rattle.std.specs.Arc.{arc_value};
 ghost use Rattle.hwp_core_task.specs.hwp_geom.Layout.{IsSound};
 ghost use Rattle.hwp_core_task.specs.hwp_core_rule.Opening.{opening_words};
 ghost use Rattle.hwp_table_words.specs.Known.{first_knowing};
-ghost use Rattle.hwp_table_words.specs.Order.{IsOpened};
+ghost use Rattle.hwp_table_words.specs.Order.{IsOpened, in_rule};
 ghost use Rattle.hwp_table_words.specs.Seats.{IsTableOf};
 
 use crate::plays::{Pass, WordTable};
@@ -32,25 +32,25 @@ pub fn begin<W: Ways>(
     }
 }
 
-/// The words at opening, the stop word first, and behind them those of the translation caches, which are empty.
+/// The words at opening: the machine's, and behind them those of the translation caches, which are empty.
 fn table_words<W: Ways>(alloc: Global, layout: &Layout) -> Result<Vec<u64>, OutOfMemory>
     requires sound { IsSound layout.now }
     ensures { IfOk result (λ words. IsOpened layout.now (W.ways * layout.now.cpus) words.items) }
+{
+    let mut words = machine_words(alloc, layout)?;
+    let entries = W::ways() * usize::from(layout.cpus);
+    words.resize(words.len() + entries, 0)?;
+    Ok(words)
+}
+
+/// The machine's words at opening, the stop word first.
+fn machine_words(alloc: Global, layout: &Layout) -> Result<Vec<u64>, OutOfMemory>
+    requires sound { IsSound layout.now }
+    ensures { IfOk result (λ words. in_rule words.items ≡ opening_words layout.now) }
 {
     let mut words = opening_words(alloc, layout)?;
     if let Some(stop) = words.pop() {
         words.insert(0, stop)?;
     }
-    add_empty(&mut words, W::ways() * usize::from(layout.cpus))?;
     Ok(words)
-}
-
-/// So many empty words more.
-fn add_empty(words: &mut Vec<u64>, count: usize) -> Result<(), OutOfMemory>
-    ensures { OnOk result (words.new.items ≡ words.old.items ++ replicate count 0) }
-{
-    for _ in 0..count {
-        words.push(0)?;
-    }
-    Ok(())
 }
