@@ -13,7 +13,11 @@ in_rule (stop ∷ rest) = rest ++ stop ∷ []
 abbrev pub in_table : ℕ → ℕ → ℕ
 in_table count n = cond (suc n == count) 0 (suc n)
 
+-- the words behind the machine's, which are those of the translation caches
+abbrev pub entries_in : Layout → List ℕ → List ℕ
+entries_in layout words = drop (size layout) words
+
 -- the table's words at opening: the machine's first, and behind them so many of the translation caches, which are empty
 pub record IsOpened (layout : Layout) (places : ℕ) (words : List ℕ) : Type 0 where
   pub first : in_rule (take (size layout) words) ≡ opening_words layout
-  pub entries : drop (size layout) words ≡ replicate places 0
+  pub entries : entries_in layout words ≡ replicate places 0

@@ -28,10 +28,9 @@ pub struct Ended<W: Ways> {
 }
 
 impl<W: Ways> Model for Ended<W> {
-    ghost use Rattle.std.specs.Prelude.{drop};
     ghost use Rattle.std.specs.Slots.{slots_items};
-    ghost use Rattle.hwp_core_task.specs.hwp_core_rule.Words.{size};
     ghost use Rattle.hwp_table_words.specs.Ends.{EndValue, IsEnd};
+    ghost use Rattle.hwp_table_words.specs.Order.{entries_in};
     ghost use Rattle.hwp_core_task.specs.hwp_kill.contracts.Slots as sets;
     ghost use Rattle.std.specs.Coded.{codes};
 
@@ -39,9 +38,9 @@ impl<W: Ways> Model for Ended<W> {
 
     ghost coded = { Prim.hlevel (codes, sets.the_row.coded) };
 
-    ghost view = { λ e. record { layout = e.table.value.shared.key; words = e.words.items; slots = e.slots.value.items; known = e.pass.value.me.0.known; entries = drop (size e.table.value.shared.key) (slots_items e.closed.value.words) } };
+    ghost view = { λ e. record { layout = e.table.value.shared.key; words = e.words.items; slots = e.slots.value.items; known = e.pass.value.me.0.known; entries = entries_in e.table.value.shared.key (slots_items e.closed.value.words) } };
 
-    ghost invariant = { λ e. IsEnd W.ways e.table.value.shared.key e.pass.value.me.0.known e.words.items e.slots.value.items (drop (size e.table.value.shared.key) (slots_items e.closed.value.words)) };
+    ghost invariant = { λ e. IsEnd W.ways e.table.value.shared.key e.pass.value.me.0.known e.words.items e.slots.value.items (entries_in e.table.value.shared.key (slots_items e.closed.value.words)) };
 }
 
 impl<W: Ways> Ended<W> {
