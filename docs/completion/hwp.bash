@@ -21,6 +21,8 @@ _hwp() {
         local words="step run check gen sum --help --version"
         [[ ${1##*/} == hwp-trace ]] && words="--help --version"
         mapfile -t COMPREPLY < <(compgen -W "$words" -- "$current")
+      elif ((COMP_CWORD == 2)) && [[ ${1##*/} == hwp && $previous == @(step|run) ]]; then
+        mapfile -t COMPREPLY < <(compgen -W tlb -- "$current")
       fi
       ;;
   esac
