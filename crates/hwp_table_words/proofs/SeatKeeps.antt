@@ -1,9 +1,12 @@
 -- A seat whose rights come and go has the views and the slots that it had.
-use Rattle.std.proofs.Common.{◌≡◌, ℕ, ◌<◌, List, [], ◌∷◌, ◌++◌, length, ap, ◌∙◌, sym, subst, arith}
-use Rattle.std.proofs.lemmas.List.{append-nil}
+use Rattle.std.proofs.Common.{◌≡◌, ℕ, ◌+◌, ◌<◌, List, [], ◌∷◌, ◌++◌, length, map, ap, ◌∙◌, sym, subst, arith}
+use Rattle.std.proofs.lemmas.List.{append-nil, length-append, length-map}
 use Rattle.atomic_table.specs.Seated.{TableId}
 use Rattle.hwp_core_task.specs.hwp_geom.declared.Layout.{Layout}
+use Rattle.hwp_core_task.specs.hwp_core_rule.declared.FrameLock.{FrameLock}
+use Rattle.hwp_core_task.specs.hwp_core_rule.declared.PageLock.{PageLock}
 use Rattle.hwp_core_task.specs.hwp_core_rule.declared.View.{View}
+use Rattle.hwp_table_words.specs.Carrying.{vacant}
 use Rattle.hwp_table_words.specs.CacheCounts.{told_counts}
 use Rattle.hwp_table_words.specs.Known.{Knowing, joined, joining, let_go, times, with_note}
 use Rattle.hwp_table_words.specs.Seats.{HasCache, IsSeat, IsTableOf, cpu_of, mine_of, slots_of}
@@ -21,6 +24,35 @@ pub cache-same : {places : ℕ} {counts : TlbCounts} {k l : Knowing} → l.known
 cache-same {places} {counts} {k} {l} mines caching h = record {
   guarded = subst (λ (c : Caching). IsGuarded places (mine_of l.known.mines) c) (sym caching) (subst (λ (m : List (ℕ × View)). IsGuarded places (mine_of m) k.caching) (sym mines) h.guarded);
   counted = h.counted ∙ ap (λ (c : Caching). told_counts c.counts) (sym caching);
+}
+
+-- a seat that carries no slot and lists no lock has no page's lock
+no-pages : (layout : Layout) (v : View) → slots_of layout v ≡ [] → length v.pages ≡ 0
+no-pages layout v none =
+    let frames : List ℕ = map (λ (l : FrameLock). l.frame.0) v.locks in
+    let pages : List ℕ = map (λ (l : PageLock). l.page.0) v.pages in
+    let all : 0 ≡ length frames + length (map (λ (q : ℕ). layout.frames + q) pages) = ap length (sym none) ∙ length-append frames (map (λ (q : ℕ). layout.frames + q) pages) in
+    let count : length (map (λ (q : ℕ). layout.frames + q) pages) ≡ length v.pages = length-map pages (λ (q : ℕ). layout.frames + q) ∙ length-map v.pages (λ (l : PageLock). l.page.0) in
+    omega (arith, all, count)
+
+pub seat-new : (ways : ℕ) (layout key : Layout) (id of : TableId) (me : Me) (order : List ℕ) → IsTableOf ways layout id → key ≡ layout → of ≡ id → me.0.known.mines ≡ (cpu_of me.0.known.mines, mine_of me.0.known.mines) ∷ [] → me.1 ≡ []
+    → slots_of layout (mine_of me.0.known.mines) ≡ [] → order ≡ [] → IsSeat ways layout key id of (first_me me) order
+seat-new ways layout key id of me order table key-is same one bare none order-is = record {
+  key_is = key-is;
+  table = table;
+  same = same;
+  one = one;
+  carries = record {
+    empty = bare ∙ ap vacant (sym order-is);
+    same = λ slot. ap (times slot) (order-is ∙ sym none);
+    few = ap length (order-is ∙ sym none);
+  };
+}
+
+pub cache-new : (places : ℕ) (layout : Layout) (k : Knowing) → slots_of layout (mine_of k.known.mines) ≡ [] → k.caching ≡ idle_caching → HasCache places (record { hits = 0; fills = 0; flushes = 0 }) k
+cache-new places layout k none idle = record {
+  guarded = λ some f lock. absurd (let no = no-pages layout (mine_of k.known.mines) none in omega (arith, no, some));
+  counted = ap (λ (c : Caching). told_counts c.counts) (sym idle);
 }
 
 module _ (ways : ℕ) (layout key : Layout) (id of now : TableId) (me new : Me) (order : List ℕ) (is : IsSeat ways layout key id of (first_me me) order) (same : now ≡ of) where
