@@ -1,5 +1,5 @@
 -- What a step leaves of the guard: only the lock of a frame or of a page that went leaves frames to be swept.
-use Rattle.std.proofs.Common.{◌≡◌, ◌≢◌, ◌⊎◌, ℕ, ◌+◌, ◌<◌, ◌≤◌, ◌==◌, Bool, true, false, cond, List, [], ◌∷◌, ◌++◌, Some, map, inl, inr, refl, sym, ap, ◌∙◌, subst, arith}
+use Rattle.std.proofs.Common.{◌≡◌, ◌≢◌, ◌⊎◌, ℕ, ◌+◌, ◌<◌, ◌≤◌, ◌==◌, Bool, true, false, cond, List, [], ◌∷◌, ◌++◌, Some, length, inl, inr, refl, sym, ap, ◌∙◌, subst, arith}
 use Rattle.std.specs.Int.{from_bool}
 use Rattle.hwp_core_task.specs.hwp_geom.declared.Frame.{Frame}
 use Rattle.hwp_core_task.specs.hwp_geom.declared.Layout.{Layout}
@@ -13,13 +13,12 @@ use Rattle.hwp_core_task.specs.hwp_core_rule.Steps.{goes, place_of}
 use Rattle.hwp_core_task.specs.hwp_core_rule.Views.{locks_on, noted, view_after}
 use Rattle.hwp_core_task.specs.hwp_core_rule.Words.{IsPlace}
 use Rattle.hwp_core_task.proofs.of_hwp_core_rule.Lists.{same-or, from_bool-other}
-use Rattle.hwp_tlb_rule.specs.Caching.{Caching}
+use Rattle.hwp_tlb_rule.specs.Caching.{Caching, upto_of}
 use Rattle.hwp_tlb_rule.specs.Rule.{frames_of, times}
 use Rattle.hwp_tlb_rule.specs.Steps.{IsGuarded, caching_after}
 use Rattle.hwp_tlb_rule.proofs.Guards.{guard-after, less-times, locks-once, locks-within}
 use Rattle.hwp_tlb_rule.proofs.LockSlots.{less, locks-after, locks_then}
 use Rattle.hwp_tlb_rule.proofs.LockTimes.{times-append, times-cons, times-frames}
-use Rattle.hwp_table_words.specs.Caches.{IsAlmostGuarded, IsToSweep}
 
 -- a frame that is locked after a step was so before, or is the frame of the step
 module _ (layout : Layout) (locks : List ℕ) (f : ℕ) (within : 0 < times f locks → f < layout.frames) where
@@ -71,11 +70,14 @@ module _ (layout : Layout) (locks : List ℕ) (f : ℕ) (within : 0 < times f lo
 
 module _ (layout : Layout) (r : Rec) (old new : View) (told : Told layout r old new) where
   -- the guard, but for the frames that are to be swept
-  pub almost-guarded : (places : ℕ) (k : Caching) (locks : List ℕ) → IsGuarded places old k → IsAlmostGuarded places r.step r.found new (caching_after places r.step r.found locks k)
-  almost-guarded places k locks guarded = subst (λ (v : View). IsAlmostGuarded places r.step r.found v (caching_after places r.step r.found locks k)) (sym told.next)
-      (guard-after layout r old k places locks (IsToSweep r.step r.found) guarded (locks-once layout told.board told.rule told.seat old told.me)
-          (λ frame is went. subst (λ (u : Step). IsToSweep u r.found frame.0) (sym is) (ap (λ (u : Step). goes u r.found) (sym is) ∙ went, refl))
-          (λ page is went f listed. subst (λ (u : Step). IsToSweep u r.found f) (sym is) (ap (λ (u : Step). goes u r.found) (sym is) ∙ went)))
+  pub almost-guarded : (places : ℕ) (k : Caching) (locks : List ℕ) (Sweeps : ℕ → Type 0) → IsGuarded places old k
+      → ((frame : Frame) → r.step ≡ steps.LockFrame frame → goes r.step r.found ≡ true → Sweeps frame.0)
+      → ((page : Page) → r.step ≡ steps.LockPage page → goes r.step r.found ≡ true → (f : ℕ) → f < layout.frames → Sweeps f)
+      → 0 < length new.pages → (f : ℕ) → 0 < locks_on f new.locks → Sweeps f ⊎ (places ≤ upto_of f (caching_after places r.step r.found locks k).cleared)
+  almost-guarded places k locks Sweeps guarded by-frame by-page =
+      subst (λ (v : View). 0 < length v.pages → (f : ℕ) → 0 < locks_on f v.locks → Sweeps f ⊎ (places ≤ upto_of f (caching_after places r.step r.found locks k).cleared)) (sym told.next)
+      (guard-after layout r old k places locks Sweeps guarded (locks-once layout told.board told.rule told.seat old told.me) by-frame
+          (λ page is went f listed. by-page page is went f (locks-within layout told.board told.rule told.seat old told.me f listed)))
 
   -- each frame that is locked is one of the layout
   pub within-after : IsPlace layout (place_of r.step) → (f : ℕ) → 0 < locks_on f new.locks → f < layout.frames

@@ -1,7 +1,6 @@
 ghost use Rattle.std.specs.Prelude.{◌≡◌, ◌+◌, ◌*◌, ◌<◌, ◌≤◌, ◌↔◌, ℕ, Any, IfNone, IfSome, IsTrue, List, Option};
 ghost use Rattle.hwp_core_task.specs.hwp_page.History.{BodyValue};
 ghost use Rattle.hwp_core_task.specs.hwp_geom.declared.VSlot.{VSlot};
-ghost use Rattle.hwp_core_task.specs.hwp_core_rule.Views.{locks_on};
 ghost use Rattle.hwp_core_task.specs.Calls.{CanMake};
 ghost use Rattle.hwp_table_words.specs.CacheCounts.{told_counts};
 ghost use Rattle.hwp_table_words.specs.CachePlays.{CanFill, CanFlush, CanSearch, with_caching};
@@ -89,7 +88,6 @@ pub(crate) fn follow<W: Ways>(
     requires seat { IsSeat W.ways layout.now sheet.now.key sheet.now.table_id seat.old.table_id (first_me seat.old.me) order.now.items }
     requires shown { seat.old.me.0.caching.shown ≡ shown_after step.now found (frames_of (mine_of seat.old.me.0.known.mines).locks) }
     requires guarded { IsAlmostGuarded (W.ways * layout.now.cpus) step.now found (mine_of seat.old.me.0.known.mines) seat.old.me.0.caching }
-    requires within { (f : ℕ) → 0 < locks_on f (mine_of seat.old.me.0.known.mines).locks → f < layout.now.frames }
     requires counts { counts.old ≡ told_counts seat.old.me.0.caching.counts }
     ensures same { seat.new.table_id ≡ seat.old.table_id }
     ensures rest { seat.new.me ≡ with_caching seat.new.me.0.caching seat.old.me }
