@@ -9,6 +9,8 @@ mod OperationAsks
 mod EntryAsks
 mod LookAsks
 mod Sweeps
+mod Follows
+mod Looked
 mod SeatDeals
 mod Carried
 mod FrontSlot

@@ -1,5 +1,5 @@
 -- What a seat does with the translation caches beside its moves of the frame rule.
-use Rattle.std.specs.Prelude.{◌≡◌, ◌⊎◌, ℕ, ◌+◌, ◌<◌, ◌≤◌, true, Option, Some, None, List, length, option_map}
+use Rattle.std.specs.Prelude.{◌≡◌, ◌⊎◌, ℕ, ◌+◌, ◌<◌, ◌≤◌, cond, Option, Some, None, List, length, option_map}
 use Rattle.atomic_table.specs.Seated.{TableId}
 use Rattle.hwp_core_task.specs.hwp_geom.declared.Frame.{Frame}
 use Rattle.hwp_core_task.specs.hwp_geom.declared.Layout.{Layout}
@@ -14,6 +14,8 @@ use Rattle.hwp_core_task.specs.hwp_core_rule.Steps.{goes}
 use Rattle.hwp_core_task.specs.hwp_core_rule.Views.{locks_on}
 use Rattle.hwp_tlb_rule.specs.Caching.{Caching, upto_of}
 use Rattle.hwp_tlb_rule.specs.Rule.{locks_in}
+use Rattle.hwp_table_words.specs.declared.follow.Follow.{Follow}
+use Rattle.hwp_table_words.specs.declared.follow.Follow.TheVariants as follows
 use Rattle.hwp_table_words.specs.CachePlays.{IsHit, with_caching}
 use Rattle.hwp_table_words.specs.Known.{times}
 use Rattle.hwp_table_words.specs.Plays.{Call}
@@ -51,15 +53,30 @@ load_of slot = steps.Load (shared.Trans slot)
 abbrev pub word_to : Option Frame → Option ℕ
 word_to frame = option_map (λ (f : Frame). f.0 + 1) frame
 
--- a step that took a lock leaves these frames to be swept, if a page is locked: the one that it locked, or all
-abbrev pub IsToSweep : Step → ℕ → ℕ → Type 0
-IsToSweep (steps.LockFrame frame) found f = (goes (steps.LockFrame frame) found ≡ true) × (f ≡ frame.0)
-IsToSweep (steps.LockPage page) found f = goes (steps.LockPage page) found ≡ true
-IsToSweep step found f = ⊥
+-- what follows a step of the seat in the caches: a lock that was taken may leave frames to be swept
+abbrev pub follow_of : Step → ℕ → Follow
+follow_of (steps.Load (shared.Trans slot)) found = follows.Fill slot
+follow_of (steps.LockFrame frame) found = cond (goes (steps.LockFrame frame) found) (follows.Sweep frame) follows.Nothing
+follow_of (steps.LockPage page) found = cond (goes (steps.LockPage page) found) follows.SweepAll follows.Nothing
+follow_of step found = follows.Nothing
 
--- the guard, but for the frames that are to be swept
-abbrev pub IsAlmostGuarded : ℕ → Step → ℕ → View → Caching → Type 0
-IsAlmostGuarded places step found v k = 0 < length v.pages → (f : ℕ) → 0 < locks_on f v.locks → IsToSweep step found f ⊎ (places ≤ upto_of f k.cleared)
+-- the frames that are to be swept, of so many, if a page is locked
+abbrev pub IsToSweep : ℕ → Follow → ℕ → Type 0
+IsToSweep frames (follows.Sweep frame) f = f ≡ frame.0
+IsToSweep frames follows.SweepAll f = f < frames
+IsToSweep frames follow f = ⊥
+
+-- the lock of a frame that is to be swept is listed
+abbrev pub IsListed : Follow → View → Type 0
+IsListed (follows.Sweep frame) v = 0 < locks_on frame.0 v.locks
+IsListed follow v = Unit {0}
+
+-- the guard, but for them
+abbrev pub IsAlmostGuarded : ℕ → ℕ → Follow → View → Caching → Type 0
+IsAlmostGuarded places frames follow v k = 0 < length v.pages → (f : ℕ) → 0 < locks_on f v.locks → IsToSweep frames follow f ⊎ (places ≤ upto_of f k.cleared)
+
+abbrev pub sweep_of : Frame → Follow
+sweep_of frame = follows.Sweep frame
 
 -- the same seat, which may know more of the caches: of no frame fewer entries are cleared
 pub record IsSweptOn (m n : Me) : Type 0 where

@@ -4,7 +4,7 @@ ghost use Rattle.hwp_core_task.specs.hwp_geom.declared.VSlot.{VSlot};
 ghost use Rattle.hwp_core_task.specs.Calls.{CanMake};
 ghost use Rattle.hwp_table_words.specs.CacheCounts.{told_counts};
 ghost use Rattle.hwp_table_words.specs.CachePlays.{CanFill, CanFlush, CanSearch, with_caching};
-ghost use Rattle.hwp_table_words.specs.Caches.{AreLocked, AreSwept, HasLooked, IsAlmostGuarded, IsAtTable, IsSweptOn, load_of, word_to};
+ghost use Rattle.hwp_table_words.specs.Caches.{AreLocked, AreSwept, HasLooked, IsAlmostGuarded, IsAtTable, IsListed, IsSweptOn, follow_of, load_of, sweep_of, word_to};
 ghost use Rattle.hwp_table_words.specs.Known.{times};
 ghost use Rattle.hwp_table_words.specs.Seats.{Carries, HasRight, IsSeat, mine_of};
 ghost use Rattle.hwp_table_words.specs.Stands.{first_me};
@@ -13,8 +13,8 @@ ghost use Rattle.hwp_tlb_rule.specs.Rule.{frames_of, locks_in};
 ghost use Rattle.hwp_tlb_rule.specs.Steps.{IsGuarded, flushed, looked, shown_after};
 ghost use Rattle.hwp_tlb_rule.specs.Words.{hit_of};
 
-use crate::carrying::Order;
 use crate::entries::{entry_at, fill_as, flush_as, look_as, own_place, search_as};
+use crate::follow::Follow;
 use crate::plays::{Pass, Sheet};
 use crate::ways::Ways;
 use hwp_core_task::{Frame, Layout, SharedWord, Step, VSlot, Who};
@@ -78,16 +78,17 @@ pub(crate) fn follow<W: Ways>(
     sheet: &Sheet<W>,
     layout: &Layout,
     seat: &mut Pass,
-    order: &Order,
+    order: &[usize],
     filled: &mut Filled,
     counts: &mut TlbCounts,
     who: Who,
     step: &Step,
     found: u64,
 )
-    requires seat { IsSeat W.ways layout.now sheet.now.key sheet.now.table_id seat.old.table_id (first_me seat.old.me) order.now.items }
+    requires seat { IsSeat W.ways layout.now sheet.now.key sheet.now.table_id seat.old.table_id (first_me seat.old.me) order.now }
     requires shown { seat.old.me.0.caching.shown ≡ shown_after step.now found (frames_of (mine_of seat.old.me.0.known.mines).locks) }
-    requires guarded { IsAlmostGuarded (W.ways * layout.now.cpus) step.now found (mine_of seat.old.me.0.known.mines) seat.old.me.0.caching }
+    requires listed { IsListed (follow_of step.now found) (mine_of seat.old.me.0.known.mines) }
+    requires guarded { IsAlmostGuarded (W.ways * layout.now.cpus) layout.now.frames (follow_of step.now found) (mine_of seat.old.me.0.known.mines) seat.old.me.0.caching }
     requires counts { counts.old ≡ told_counts seat.old.me.0.caching.counts }
     ensures same { seat.new.table_id ≡ seat.old.table_id }
     ensures rest { seat.new.me ≡ with_caching seat.new.me.0.caching seat.old.me }
@@ -97,21 +98,29 @@ pub(crate) fn follow<W: Ways>(
     if W::ways() == 0 {
         return;
     }
+    match follow_of(step, found) {
+        Follow::Nothing => {}
+        Follow::Fill(slot) => {
+            fill_loaded(
+                sheet, layout, seat, order, filled, counts, who, slot, found,
+            );
+        }
+        Follow::Sweep(frame) => sweep_locked(sheet, layout, seat, order, counts, frame),
+        Follow::SweepAll => sweep_all(sheet, layout, seat, order, counts),
+    }
+}
+
+/// What follows the step, at the word that it found.
+fn follow_of(step: &Step, found: u64) -> Follow
+    ensures { result ≡ follow_of step.now found }
+{
     match step {
         Step::Load {
             place: SharedWord::Trans(slot),
-        } => fill_loaded(sheet, layout, seat, order, filled, counts, who, *slot, found),
-        Step::LockFrame { frame } => {
-            if step.goes(found) && carries_page(layout, order.as_slice()) {
-                sweep(sheet, layout, seat, counts, *frame);
-            }
-        }
-        Step::LockPage { .. } => {
-            if step.goes(found) {
-                sweep_all(sheet, layout, seat, order.as_slice(), counts);
-            }
-        }
-        _ => {}
+        } => Follow::Fill(*slot),
+        Step::LockFrame { frame } if step.goes(found) => Follow::Sweep(*frame),
+        Step::LockPage { .. } if step.goes(found) => Follow::SweepAll,
+        _ => Follow::Nothing,
     }
 }
 
@@ -120,7 +129,7 @@ fn fill_loaded<W: Ways>(
     sheet: &Sheet<W>,
     layout: &Layout,
     seat: &mut Pass,
-    order: &Order,
+    order: &[usize],
     filled: &mut Filled,
     counts: &mut TlbCounts,
     who: Who,
@@ -128,7 +137,7 @@ fn fill_loaded<W: Ways>(
     found: u64,
 )
     requires at { IsAtTable W.ways layout.now sheet.now.key sheet.now.table_id seat.old.table_id }
-    requires carries { Carries layout.now (mine_of seat.old.me.0.known.mines) seat.old.me.1 order.now.items }
+    requires carries { Carries layout.now (mine_of seat.old.me.0.known.mines) seat.old.me.1 order.now }
     requires shown { seat.old.me.0.caching.shown ≡ shown_after (load_of slot) found (frames_of (mine_of seat.old.me.0.known.mines).locks) }
     requires guarded { IsGuarded (W.ways * layout.now.cpus) (mine_of seat.old.me.0.known.mines) seat.old.me.0.caching }
     requires counts { counts.old ≡ told_counts seat.old.me.0.caching.counts }
@@ -137,10 +146,10 @@ fn fill_loaded<W: Ways>(
     ensures guarded { IsGuarded (W.ways * layout.now.cpus) (mine_of seat.new.me.0.known.mines) seat.new.me.0.caching }
     ensures counts { counts.new ≡ told_counts seat.new.me.0.caching.counts }
 {
-    if carries_page(layout, order.as_slice()) {
+    if carries_page(layout, order) {
         return;
     }
-    let Some(frame) = locked_frame(layout, order.as_slice(), found) else {
+    let Some(frame) = locked_frame(layout, order, found) else {
         return;
     };
     fill(sheet, layout, seat, filled, counts, who, slot, frame);
@@ -206,6 +215,31 @@ fn fill<W: Ways>(
     fill_as::<W, Brand>(sheet, seat, frame, place, word, who.cpu, slot, entry);
     filled[usize::from(slot.0) % W::ways()] = Some(slot);
     counts.fills = counts.fills.saturating_add(1);
+}
+
+/// Sweeps a frame that was locked, if a page is.
+fn sweep_locked<W: Ways>(
+    sheet: &Sheet<W>,
+    layout: &Layout,
+    seat: &mut Pass,
+    order: &[usize],
+    counts: &mut TlbCounts,
+    frame: Frame,
+)
+    requires at { IsAtTable W.ways layout.now sheet.now.key sheet.now.table_id seat.old.table_id }
+    requires carries { Carries layout.now (mine_of seat.old.me.0.known.mines) seat.old.me.1 order.now }
+    requires locked { 0 < times frame.0 (locks_in seat.old.me.0.known.mines) }
+    requires guarded { IsAlmostGuarded (W.ways * layout.now.cpus) layout.now.frames (sweep_of frame) (mine_of seat.old.me.0.known.mines) seat.old.me.0.caching }
+    requires counts { counts.old ≡ told_counts seat.old.me.0.caching.counts }
+    ensures same { seat.new.table_id ≡ seat.old.table_id }
+    ensures rest { seat.new.me ≡ with_caching seat.new.me.0.caching seat.old.me }
+    ensures guarded { IsGuarded (W.ways * layout.now.cpus) (mine_of seat.new.me.0.known.mines) seat.new.me.0.caching }
+    ensures counts { counts.new ≡ told_counts seat.new.me.0.caching.counts }
+{
+    if !carries_page(layout, order) {
+        return;
+    }
+    sweep(sheet, layout, seat, counts, frame);
 }
 
 /// Sweeps each frame whose slot the seat carries.

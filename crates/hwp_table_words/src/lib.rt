@@ -8,6 +8,7 @@ mod caching;
 mod carrying;
 mod closing;
 mod entries;
+mod follow;
 mod knowledge;
 mod making;
 mod opening;

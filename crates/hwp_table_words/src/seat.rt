@@ -132,7 +132,7 @@ impl<'a, W: Ways> SeatOps<'a, W> {
             self.sheet,
             self.layout,
             &mut self.seat,
-            &self.order,
+            self.order.as_slice(),
             &mut self.filled,
             &mut self.counts,
             who,
