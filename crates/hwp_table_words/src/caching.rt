@@ -45,13 +45,9 @@ pub(crate) fn look<W: Ways>(
     if ways == 0 {
         return None;
     }
-    let Step::Load {
-        place: SharedWord::Trans(slot),
-    } = step
-    else {
+    let Follow::Fill(slot) = follow_of(step, 0) else {
         return None;
     };
-    let slot = *slot;
     if filled[usize::from(slot.0) % ways] != Some(slot) {
         return None;
     }

@@ -1,6 +1,7 @@
 use hwp_core_task::{Frame, VSlot};
 
 /// What follows a step of a seat in the translation caches.
+#[derive(Clone, Copy)]
 pub(crate) enum Follow {
     Nothing,
     /// An entry is filled with the translation.

@@ -1,14 +1,10 @@
 use Rattle.std.proofs.Common.{ℕ, ◌*◌, ◌<◌, ◌≤◌, sym, subst}
 use Rattle.hwp_tlb_rule.specs.Caching.{upto_of}
 use Rattle.hwp_tlb_rule.specs.Rule.{locks_in, times}
-use Rattle.hwp_table_words.proofs.Sweeps.{swept-same}
 use Rattle.hwp_table_words.proofs.caching.sweep_slot.Goals as goal
 
 pub sweep-requires-clause-locked : goal.sweep-requires-clause-locked
-sweep-requires-clause-locked g c = subst (λ (n : ℕ). 0 < times n (locks_in c.args.seat.now.me.0.known.mines)) (sym (c.in-Some.ensures.some tt).0) (c.requires.locked (c.in-Some.ensures.some tt).1)
+sweep-requires-clause-locked g c = subst (λ (n : ℕ). 0 < times n (locks_in c.args.seat.now.me.0.known.mines)) (sym c.in-Some.ensures.some.0) (c.requires.locked c.in-Some.ensures.some.1)
 
 pub returns-clause-swept : goal.returns-clause-swept
-returns-clause-swept g c less = subst (λ (n : ℕ). g.W.Ways.ways * c.args.layout.now.cpus ≤ upto_of n c.sweep.new.seat.me.0.caching.cleared) (c.in-Some.ensures.some tt).0 c.sweep.ensures.swept
-
-pub returns-in-None-clause-rest : goal.returns-in-None-clause-rest
-returns-in-None-clause-rest g c = swept-same c.args.seat.now.me
+returns-clause-swept g c less = subst (λ (n : ℕ). g.W.Ways.ways * c.args.layout.now.cpus ≤ upto_of n c.sweep.new.seat.me.0.caching.cleared) c.in-Some.ensures.some.0 c.sweep.ensures.swept
