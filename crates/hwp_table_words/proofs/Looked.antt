@@ -1,6 +1,6 @@
 -- What a look tells: the word that the load finds, where an entry of the translation answers it.
 use Rattle.std.proofs.Common.{◌≡◌, ℕ, ◌+◌, ◌*◌, ◌<◌, ◌≤◌, List, [], ◌∷◌, slice_get, refl, sym, ap, ◌∙◌, subst}
-use Rattle.std.specs.Prelude.{Option, Some, None}
+use Rattle.std.specs.Prelude.{Option, Some, None, IfSome}
 use Rattle.atomic_table.specs.Seated.{TableId}
 use Rattle.hwp_core_task.specs.hwp_geom.declared.Frame.{Frame}
 use Rattle.hwp_core_task.specs.hwp_geom.declared.Layout.{Layout}
@@ -22,6 +22,11 @@ use Rattle.hwp_table_words.proofs.EntryAsks.{entry-of}
 -- a load puts no body home
 load-can : (layout : Layout) (who : Who) (slot : VSlot) (v : View) (body : Content) → CanMake layout who (load_of slot) body v → CanMake layout who (load_of slot) None v
 load-can layout who slot v body can = subst (λ (b : Content). CanMake layout who (load_of slot) b v) can.goes_home can
+
+-- what is told of an answer holds whatever it is
+pub some-load : (answer : Option ℕ) (step : Step) (slot : VSlot) → step ≡ load_of slot → IfSome answer (λ (found : ℕ). (s : VSlot) × (step ≡ load_of s))
+some-load None step slot is = tt
+some-load (Some n) step slot is = (slot, is)
 
 module _ (ways : ℕ) (layout key : Layout) (id of : TableId) (m : Me) (order : List ℕ) (seat : IsSeat ways layout key id of (first_me m) order) where
   pub at-table : ways ≤ 16 → IsAtTable ways layout key id of

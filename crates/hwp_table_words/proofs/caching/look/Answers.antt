@@ -1,7 +1,7 @@
 use Rattle.std.proofs.Common.{ℕ, ◌≤◌, sym, ◌∙◌, subst}
 use Rattle.hwp_table_words.proofs.EntryAsks.{entry-of}
 use Rattle.hwp_table_words.proofs.Follows.{is-load}
-use Rattle.hwp_table_words.proofs.Looked.{at-table, can-look, has-looked}
+use Rattle.hwp_table_words.proofs.Looked.{at-table, can-look, has-looked, some-load}
 use Rattle.hwp_table_words.proofs.caching.look.Goals as goal
 
 pub look_as-entry-requires-clause-entry : goal.look_as-entry-requires-clause-entry
@@ -19,3 +19,6 @@ returns-clause-looked g c =
     has-looked g.W.Ways.ways c.args.layout.now c.args.sheet.now.key c.args.sheet.now.table_id c.args.seat.now.table_id c.args.seat.now.me c.requires.seat.0 c.requires.seat.1
         c.args.who c.in-Fill.slot c.in-Some.place c.args.step.now c.entry_at-word.result c.look_as-entry.result c.answer_of.result c.look_as-entry.new.seat.me
         (is-load c.args.step.now 0 c.in-Fill.slot (sym c.follow_of.ensures ∙ c.in-Fill.is)) c.look_as-entry.ensures.looked c.answer_of.ensures
+
+pub returns-clause-load : goal.returns-clause-load
+returns-clause-load g c = some-load c.answer_of.result c.args.step.now c.in-Fill.slot (is-load c.args.step.now 0 c.in-Fill.slot (sym c.follow_of.ensures ∙ c.in-Fill.is))
