@@ -1,6 +1,6 @@
 -- Every script is served: where a source gives the text of one, and no read and no write fails, `run` and `run tlb` end with the whole
 -- report, or are out of memory, if they end. That follows from the clauses of the top call for runs on threads.
-use Rattle.std.proofs.Common.{◌≡◌, ◌⊎◌, inl, inr, ℕ, zero, suc, ◌<◌, List, [], ◌∷◌, Option, Some, None, length, slice_index_or, refl, sym, ap, ◌∙◌, subst, arith}
+use Rattle.std.proofs.Common.{◌≡◌, ◌⊎◌, inl, inr, ℕ, zero, suc, ◌<◌, List, [], ◌∷◌, Option, Some, None, length, slice_index_or, refl, sym, true≢false, ap, ◌∙◌, subst, arith}
 use Rattle.std.specs.Prelude.{Bool, true, false, not, Contains, IsTrue}
 use Rattle.std.specs.Io.KnownBytes.{Appends}
 use Rattle.hwp_top_turns.specs.hwp_script_read.Reads.{Reads}
@@ -28,7 +28,7 @@ record IsRunOutput (caches : Bool) (left left' : Option (List ℕ)) (status : �
   cached : IsTrue caches → IsCachedEnd tlb_entries end
 
 run-output : (caches : Bool) (left left' : Option (List ℕ)) (status : ℕ) (text : List ℕ) (report : Option Report) (ended tlb : Option EndValue) → IsThreadedOf caches left left' status text report ended tlb → IsRunOutput caches left left' status text report ended tlb
-run-output false left left' status text (Some it) (Some end) tlb o = record { it = it; given_is = refl; end = end; closed_is = refl; other_is = o.1; threaded = o.0; cached = λ (is : IsTrue false). absurd is }
+run-output false left left' status text (Some it) (Some end) tlb o = record { it = it; given_is = refl; end = end; closed_is = refl; other_is = o.1; threaded = o.0; cached = λ (is : IsTrue false). absurd (true≢false (sym is)) }
 run-output false left left' status text (Some it) None tlb o = absurd o.0
 run-output false left left' status text None ended tlb o = absurd o.0
 run-output true left left' status text (Some it) ended (Some end) o = record { it = it; given_is = refl; end = end; closed_is = refl; other_is = o.1; threaded = o.0.threaded; cached = λ is. o.0.cached }

@@ -1,4 +1,4 @@
-//! The top call for runs on threads: the word `run` and its script to the report and the status.
+//! The top call for runs on threads: the words `run` or `run tlb` and a script to the report and the status.
 #![tactic(auto)]
 
 mod calls;

@@ -1,6 +1,6 @@
 -- Every script is served: where a source gives the text of one, and no read and no write fails, `step` and `step tlb` end with the
 -- whole report, or are out of memory. That follows from the clauses of the top call.
-use Rattle.std.proofs.Common.{◌≡◌, ◌⊎◌, inl, inr, ℕ, zero, suc, ◌+◌, ◌<◌, ◌≤◌, List, [], ◌∷◌, ◌++◌, Option, Some, None, length, slice_index_or, append-nil, refl, sym, ap, ◌∙◌, subst, arith}
+use Rattle.std.proofs.Common.{◌≡◌, ◌⊎◌, inl, inr, ℕ, zero, suc, ◌+◌, ◌<◌, ◌≤◌, List, [], ◌∷◌, ◌++◌, Option, Some, None, length, slice_index_or, append-nil, refl, sym, true≢false, ap, ◌∙◌, subst, arith}
 use Rattle.std.specs.Prelude.{Bool, true, false, not, Contains, IsTrue}
 use Rattle.std.specs.Io.KnownBytes.{Appends, Consumes, IsAtEnd}
 use Rattle.std.proofs.lemmas.List.{length-append}
@@ -45,7 +45,7 @@ unrefused had script left r reads refuses = which r.why refl refuses.refusal.rea
         apart had r script (subst (λ (l : List ℕ). IsRefused l r) (sym same) refuses.refusal) reads
 
 -- the call of `step`, and of `step tlb`
-step-call : Bool → Call
+abbrev step-call : Bool → Call
 step-call false = calls.Step
 step-call true = calls.StepTlb
 
@@ -81,7 +81,7 @@ record IsRunOutput (caches : Bool) (left left' : Option (List ℕ)) (status : �
   cached : IsTrue caches → IsCachedEnd tlb_entries end
 
 run-output : (caches : Bool) (left left' : Option (List ℕ)) (status : ℕ) (text : List ℕ) (report : Option Report) (ended tlb : Option EndValue) → IsOutputOf (step-call caches) left left' status text report ended tlb → IsRunOutput caches left left' status text report ended tlb
-run-output false left left' status text (Some it) (Some end) tlb o = record { it = it; given_is = refl; end = end; closed_is = refl; other_is = o.1; stepped = o.0; cached = λ (is : IsTrue false). absurd is }
+run-output false left left' status text (Some it) (Some end) tlb o = record { it = it; given_is = refl; end = end; closed_is = refl; other_is = o.1; stepped = o.0; cached = λ (is : IsTrue false). absurd (true≢false (sym is)) }
 run-output false left left' status text (Some it) None tlb o = absurd o.0
 run-output false left left' status text None ended tlb o = absurd o.0
 run-output true left left' status text (Some it) ended (Some end) o = record { it = it; given_is = refl; end = end; closed_is = refl; other_is = o.1; stepped = o.0.stepped; cached = λ is. o.0.cached }
