@@ -11,6 +11,7 @@ mod LookAsks
 mod Sweeps
 mod Follows
 mod Looked
+mod Hits
 mod SeatDeals
 mod Carried
 mod FrontSlot
