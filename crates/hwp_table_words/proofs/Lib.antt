@@ -11,7 +11,6 @@ mod LookAsks
 mod Sweeps
 mod Follows
 mod Looked
-mod Hits
 mod SeatDeals
 mod Carried
 mod FrontSlot
