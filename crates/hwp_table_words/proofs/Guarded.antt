@@ -12,7 +12,7 @@ use Rattle.hwp_core_task.specs.hwp_core_rule.Moves.{Told}
 use Rattle.hwp_core_task.specs.hwp_core_rule.Steps.{goes, place_of}
 use Rattle.hwp_core_task.specs.hwp_core_rule.Views.{locks_on, noted, view_after}
 use Rattle.hwp_core_task.specs.hwp_core_rule.Words.{IsPlace}
-use Rattle.hwp_core_task.proofs.of_hwp_core_rule.Lists.{same-or, from_bool-other}
+use Rattle.hwp_core_task.proofs.of_hwp_core_rule.Lists.{same-or, from_bool-other, from_bool-same}
 use Rattle.hwp_tlb_rule.specs.Caching.{Caching, upto_of}
 use Rattle.hwp_tlb_rule.specs.Rule.{frames_of, times}
 use Rattle.hwp_tlb_rule.specs.Steps.{IsGuarded, caching_after}
@@ -88,3 +88,18 @@ module _ (layout : Layout) (r : Rec) (old new : View) (told : Told layout r old 
 
       now : 0 < times f (locks_then r.step r.found (frames_of old.locks))
       now = subst (λ (n : ℕ). 0 < n) (sym (times-frames f new.locks) ∙ ap (λ (v : View). times f (frames_of v.locks)) told.next ∙ ap (times f) (locks-after layout r.who r.step r.found r.content (noted r.who old))) some
+
+  -- the frame whose lock was taken is listed
+  pub lock-taken : (frame : Frame) → r.step ≡ steps.LockFrame frame → goes r.step r.found ≡ true → 0 < locks_on frame.0 new.locks
+  lock-taken frame is went = subst (λ (n : ℕ). 0 < n) (sym (sym (times-frames frame.0 new.locks) ∙ ap (λ (v : View). times frame.0 (frames_of v.locks)) told.next ∙ ap (times frame.0) after)) more
+    where
+      after : frames_of (view_after layout r old).locks ≡ frames_of old.locks ++ frame.0 ∷ []
+      after = locks-after layout r.who r.step r.found r.content (noted r.who old) ∙ ap (λ (u : Step). locks_then u r.found (frames_of old.locks)) is
+          ∙ ap (λ (b : Bool). cond b (frames_of old.locks ++ frame.0 ∷ []) (frames_of old.locks)) (ap (λ (u : Step). goes u r.found) (sym is) ∙ went)
+
+      more : 0 < times frame.0 (frames_of old.locks ++ frame.0 ∷ [])
+      more =
+          let all : times frame.0 (frames_of old.locks ++ frame.0 ∷ []) ≡ times frame.0 (frames_of old.locks) + times frame.0 (frame.0 ∷ []) = times-append frame.0 (frames_of old.locks) (frame.0 ∷ []) in
+          let last : times frame.0 (frame.0 ∷ []) ≡ from_bool (frame.0 == frame.0) + times frame.0 [] = times-cons frame.0 frame.0 [] in
+          let one : from_bool (frame.0 == frame.0) ≡ 1 = from_bool-same frame.0 frame.0 refl in
+          omega (arith, all, last, one)

@@ -24,3 +24,4 @@ pub use Rattle.hwp_plain_words.proofs as of_hwp_plain_words
 pub use Rattle.hwp_tlb_rule.proofs as of_hwp_tlb_rule
 mod OrderLocks
 mod Guarded
+mod SeatMakes
