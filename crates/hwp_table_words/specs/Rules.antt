@@ -49,8 +49,8 @@ pub record Reached (layout : Layout) (t : Table) : Type 0 where
 abbrev pub cache_seat : Knowing → Seat
 cache_seat k = (k.known.mines, k.caching)
 
--- The rule of the whole table: moves lead to its first words, and the words behind them, so many for each processor, are what
--- the seats know of the translation caches.
+-- The rule of the whole table: moves lead to its first words. Of the words behind them, which are the entries of the translation
+-- caches, each leads where its translation does, and each seat is right in what it lists of them.
 pub record Kept (ways : ℕ) (layout : Layout) (t : CachedTable) : Type 0 where
   pub reached : Reached layout (first_part layout t)
   pub agree : CachesAgree ways layout (stand reached.views (first_part layout t)) (drop (size layout) t.words) (map cache_seat t.views)

@@ -1,5 +1,6 @@
-//! The machine's words and page bodies in one table of atomic words, for many threads. The frame rule is the rule of the
-//! table, so that it holds between any two steps of any threads. A processor has a seat, which makes its steps.
+//! The machine's words and page bodies in one table of atomic words, for many threads, and behind them the entries of each
+//! processor's translation cache. The frame rule and the rule of the caches are the rule of the table, so that they hold
+//! between any two steps of any threads. A processor has a seat, which makes its steps.
 #![tactic(auto)]
 
 mod baton;
