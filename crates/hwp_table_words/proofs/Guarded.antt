@@ -36,14 +36,7 @@ module _ (layout : Layout) (locks : List ℕ) (f : ℕ) (within : 0 < times f lo
   one-less frame some = let fewer : times f (less frame locks) ≤ times f locks = less-times f frame locks in within (omega (arith, fewer, some))
 
   within-then : (step : Step) (found : ℕ) → IsPlace layout (place_of step) → 0 < times f (locks_then step found locks) → f < layout.frames
-  within-then (steps.Load place) found there some = within some
-  within-then (steps.Reserve seen) found there some = within some
-  within-then (steps.TakeBit frame) found there some = within some
-  within-then (steps.GiveBit frame) found there some = within some
-  within-then steps.Unreserve found there some = within some
   within-then (steps.Adopt frame) found there some = one-more frame.0 there some
-  within-then (steps.GetRef frame seen count) found there some = within some
-  within-then (steps.PutRef frame count) found there some = within some
   within-then (steps.LockFrame frame) found there some = which (goes (steps.LockFrame frame) found) some
     where
       which : (b : Bool) → 0 < times f (cond b (locks ++ frame.0 ∷ []) locks) → f < layout.frames
@@ -51,22 +44,7 @@ module _ (layout : Layout) (locks : List ℕ) (f : ℕ) (within : 0 < times f lo
       which false now = within now
   within-then (steps.UnlockFrame frame) found there some = one-less frame.0 some
   within-then (steps.Retire frame) found there some = one-less frame.0 some
-  within-then (steps.Revive frame seen) found there some = within some
-  within-then (steps.SetOwner frame page owned) found there some = within some
-  within-then (steps.LockPage page) found there some = within some
-  within-then (steps.UnlockPage page) found there some = within some
-  within-then (steps.SetPte slot pte) found there some = within some
-  within-then (steps.SetCache page frame) found there some = within some
-  within-then (steps.Poison frame hardware) found there some = within some
-  within-then (steps.CountPoison hardware) found there some = within some
-  within-then steps.Uncount found there some = within some
-  within-then (steps.Spoil frame line damage) found there some = within some
-  within-then (steps.Stop cpu) found there some = within some
-  within-then steps.GiveUp found there some = within some
-  within-then (steps.Kill process page body) found there some = within some
-  within-then (steps.SetPolicy thread policy settings) found there some = within some
-  within-then (steps.Lose file body) found there some = within some
-  within-then (steps.ReportLost file) found there some = within some
+  within-then step found there some = within some
 
 module _ (layout : Layout) (r : Rec) (old new : View) (told : Told layout r old new) where
   -- the guard, but for the frames that are to be swept

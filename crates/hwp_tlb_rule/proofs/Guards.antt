@@ -1,10 +1,9 @@
 -- The guard after a step: only the lock of a frame or of a page leaves frames of which a seat doesn't know that no entry names them.
-use Rattle.std.proofs.Common.{◌≡◌, ◌≢◌, ◌⊎◌, ℕ, zero, suc, ◌+◌, ◌-◌, ◌/◌, ◌%◌, ◌^◌, ◌<◌, ◌≤◌, ◌==◌, ◌&&◌, nat_lt, Bool, true, false, cond, max, List, [], ◌∷◌, ◌++◌, Some, None, map, length, slice_get, inl, inr, refl, sym, ap, ◌∙◌, subst, arith}
+use Rattle.std.proofs.Common.{◌≡◌, ◌≢◌, ◌⊎◌, ℕ, zero, suc, ◌+◌, ◌-◌, ◌/◌, ◌^◌, ◌<◌, ◌≤◌, ◌==◌, ◌&&◌, nat_lt, Bool, true, false, cond, max, List, [], ◌∷◌, ◌++◌, Some, None, map, length, slice_get, inl, inr, refl, sym, ap, ◌∙◌, subst, arith}
 use Rattle.std.specs.List.{sum_by}
 use Rattle.std.specs.Int.{from_bool}
-use Rattle.std.proofs.lemmas.Bool.{eqb-true, lt-ltb}
+use Rattle.std.proofs.lemmas.Bool.{lt-ltb}
 use Rattle.std.proofs.lemmas.List.{length-map}
-use Rattle.std.proofs.lemmas.List.Sums.{sum_by-cons}
 use Rattle.std.proofs.lemmas.Nat.{mod_below}
 use Rattle.std.proofs.lemmas.Option.{slice_get_within}
 use Rattle.hwp_core_task.specs.hwp_geom.declared.Frame.{Frame}
@@ -25,7 +24,7 @@ use Rattle.hwp_core_task.specs.hwp_core_rule.Rule.{Holds}
 use Rattle.hwp_core_task.specs.hwp_core_rule.Steps.{goes}
 use Rattle.hwp_core_task.specs.hwp_core_rule.Views.{locks_on, noted, view_after}
 use Rattle.hwp_core_task.specs.hwp_core_rule.Words.{words_of}
-use Rattle.hwp_core_task.proofs.of_hwp_core_rule.Lists.{at_map, same-or, term-le, from_bool-other, from_bool-same}
+use Rattle.hwp_core_task.proofs.of_hwp_core_rule.Lists.{at_map, same-or, term-le, from_bool-other}
 use Rattle.hwp_core_task.proofs.of_hwp_core_rule.MoveKeeps.{shaped}
 use Rattle.hwp_tlb_rule.specs.Caching.{Caching, Cleared, upto_of, with_upto, without_frame}
 use Rattle.hwp_tlb_rule.specs.Rule.{frames_of, times}
@@ -124,11 +123,6 @@ module _ (all-places : ℕ) (locks pages : List ℕ) (list : List Cleared) (guar
 
   guard-then : (step : Step) (found : ℕ) → ((frame : Frame) → step ≡ steps.LockFrame frame → goes step found ≡ true → Sweeps frame.0)
       → ((page : Page) → step ≡ steps.LockPage page → goes step found ≡ true → (f : ℕ) → 0 < times f locks → Sweeps f) → Guarded step found
-  guard-then (steps.Load place) found by-frame by-page some f listed = was some f listed
-  guard-then (steps.Reserve seen) found by-frame by-page some f listed = was some f listed
-  guard-then (steps.TakeBit frame) found by-frame by-page some f listed = was some f listed
-  guard-then (steps.GiveBit frame) found by-frame by-page some f listed = was some f listed
-  guard-then steps.Unreserve found by-frame by-page some f listed = was some f listed
   guard-then (steps.Adopt frame) found by-frame by-page some f listed = elim (same-or f frame.0) [
     | inl same ↦ inr (let now : upto_of f (with_upto frame.0 all-places list) ≡ max (upto_of frame.0 list) all-places = ap (λ (n : ℕ). upto_of n (with_upto frame.0 all-places list)) same ∙ upto-raised frame.0 all-places list in omega (arith, now))
     | inr other ↦
@@ -136,8 +130,6 @@ module _ (all-places : ℕ) (locks pages : List ℕ) (list : List Cleared) (guar
         let grows : upto_of f list ≤ upto_of f (with_upto frame.0 all-places list) = upto-grows frame.0 f all-places list in
         inr (omega (arith, now, grows))
   ]
-  guard-then (steps.GetRef frame seen count) found by-frame by-page some f listed = was some f listed
-  guard-then (steps.PutRef frame count) found by-frame by-page some f listed = was some f listed
   guard-then (steps.LockFrame frame) found by-frame by-page some f listed = which (goes (steps.LockFrame frame) found) refl listed
     where
       which : (b : Bool) → goes (steps.LockFrame frame) found ≡ b → 0 < times f (cond b (locks ++ frame.0 ∷ []) locks) → Sweeps f ⊎ (all-places ≤ upto_of f list)
@@ -148,26 +140,13 @@ module _ (all-places : ℕ) (locks pages : List ℕ) (list : List Cleared) (guar
       which false isnt now = was some f now
   guard-then (steps.UnlockFrame frame) found by-frame by-page some f listed = freed frame.0 some f listed
   guard-then (steps.Retire frame) found by-frame by-page some f listed = freed frame.0 some f listed
-  guard-then (steps.Revive frame seen) found by-frame by-page some f listed = was some f listed
-  guard-then (steps.SetOwner frame page owned) found by-frame by-page some f listed = was some f listed
   guard-then (steps.LockPage page) found by-frame by-page some f listed = which (goes (steps.LockPage page) found) refl some
     where
       which : (b : Bool) → goes (steps.LockPage page) found ≡ b → 0 < length (cond b (pages ++ page.0 ∷ []) pages) → Sweeps f ⊎ (all-places ≤ upto_of f list)
       which true is now = inl (by-page page refl is f listed)
       which false isnt now = was now f listed
   guard-then (steps.UnlockPage page) found by-frame by-page some f listed = was (let fewer : length (less page.0 pages) ≤ length pages = less-length page.0 pages in omega (arith, fewer, some)) f listed
-  guard-then (steps.SetPte slot pte) found by-frame by-page some f listed = was some f listed
-  guard-then (steps.SetCache page frame) found by-frame by-page some f listed = was some f listed
-  guard-then (steps.Poison frame hardware) found by-frame by-page some f listed = was some f listed
-  guard-then (steps.CountPoison hardware) found by-frame by-page some f listed = was some f listed
-  guard-then steps.Uncount found by-frame by-page some f listed = was some f listed
-  guard-then (steps.Spoil frame line damage) found by-frame by-page some f listed = was some f listed
-  guard-then (steps.Stop cpu) found by-frame by-page some f listed = was some f listed
-  guard-then steps.GiveUp found by-frame by-page some f listed = was some f listed
-  guard-then (steps.Kill process page body) found by-frame by-page some f listed = was some f listed
-  guard-then (steps.SetPolicy thread policy settings) found by-frame by-page some f listed = was some f listed
-  guard-then (steps.Lose file body) found by-frame by-page some f listed = was some f listed
-  guard-then (steps.ReportLost file) found by-frame by-page some f listed = was some f listed
+  guard-then step found by-frame by-page some f listed = was some f listed
 
 -- so it is of a view that was guarded
 pub guard-after : (layout : Layout) (r : Rec) (v : View) (k : Caching) (all-places : ℕ) (locks : List ℕ) (Sweeps : ℕ → Type 0) → IsGuarded all-places v k → ((f : ℕ) → locks_on f v.locks ≤ 1)

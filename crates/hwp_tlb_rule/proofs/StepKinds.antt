@@ -39,63 +39,15 @@ frees_lock step f = false
 -- all others leave the translation words as they are
 pub put-trans : (step : Step) (found : ℕ) (w : Words) → found ≡ read (place_of step) w → is_pte step ≡ false → (put (place_of step) (word_after step found) w).trans ≡ w.trans
 put-trans (steps.Load place) found w met other = ap (λ (n : ℕ). (put place n w).trans) met ∙ ap (λ (u : Words). u.trans) (same-put place w)
-put-trans (steps.Reserve seen) found w met other = refl
-put-trans (steps.TakeBit frame) found w met other = refl
-put-trans (steps.GiveBit frame) found w met other = refl
-put-trans steps.Unreserve found w met other = refl
-put-trans (steps.Adopt frame) found w met other = refl
-put-trans (steps.GetRef frame seen count) found w met other = refl
-put-trans (steps.PutRef frame count) found w met other = refl
-put-trans (steps.LockFrame frame) found w met other = refl
-put-trans (steps.UnlockFrame frame) found w met other = refl
-put-trans (steps.Retire frame) found w met other = refl
-put-trans (steps.Revive frame seen) found w met other = refl
-put-trans (steps.SetOwner frame page owned) found w met other = refl
-put-trans (steps.LockPage page) found w met other = refl
-put-trans (steps.UnlockPage page) found w met other = refl
 put-trans (steps.SetPte slot pte) found w met other = absurd (true≢false other)
-put-trans (steps.SetCache page frame) found w met other = refl
-put-trans (steps.Poison frame hardware) found w met other = refl
-put-trans (steps.CountPoison hardware) found w met other = refl
-put-trans steps.Uncount found w met other = refl
 put-trans (steps.Spoil frame line damages.Bad) found w met other = refl
 put-trans (steps.Spoil frame line damages.Weak) found w met other = refl
-put-trans (steps.Stop cpu) found w met other = refl
-put-trans steps.GiveUp found w met other = refl
-put-trans (steps.Kill process page body) found w met other = refl
-put-trans (steps.SetPolicy thread policy settings) found w met other = refl
-put-trans (steps.Lose file body) found w met other = refl
-put-trans (steps.ReportLost file) found w met other = refl
+put-trans step found w met other = refl
 
 -- a step that writes a translation is one
 pub pte-is : (step : Step) → is_pte step ≡ true → (slot : VSlot) × (pte : Pte) × (step ≡ steps.SetPte slot pte)
-pte-is (steps.Load place) is = absurd (true≢false (sym is))
-pte-is (steps.Reserve seen) is = absurd (true≢false (sym is))
-pte-is (steps.TakeBit frame) is = absurd (true≢false (sym is))
-pte-is (steps.GiveBit frame) is = absurd (true≢false (sym is))
-pte-is steps.Unreserve is = absurd (true≢false (sym is))
-pte-is (steps.Adopt frame) is = absurd (true≢false (sym is))
-pte-is (steps.GetRef frame seen count) is = absurd (true≢false (sym is))
-pte-is (steps.PutRef frame count) is = absurd (true≢false (sym is))
-pte-is (steps.LockFrame frame) is = absurd (true≢false (sym is))
-pte-is (steps.UnlockFrame frame) is = absurd (true≢false (sym is))
-pte-is (steps.Retire frame) is = absurd (true≢false (sym is))
-pte-is (steps.Revive frame seen) is = absurd (true≢false (sym is))
-pte-is (steps.SetOwner frame page owned) is = absurd (true≢false (sym is))
-pte-is (steps.LockPage page) is = absurd (true≢false (sym is))
-pte-is (steps.UnlockPage page) is = absurd (true≢false (sym is))
 pte-is (steps.SetPte slot pte) is = (slot, pte, refl)
-pte-is (steps.SetCache page frame) is = absurd (true≢false (sym is))
-pte-is (steps.Poison frame hardware) is = absurd (true≢false (sym is))
-pte-is (steps.CountPoison hardware) is = absurd (true≢false (sym is))
-pte-is steps.Uncount is = absurd (true≢false (sym is))
-pte-is (steps.Spoil frame line damage) is = absurd (true≢false (sym is))
-pte-is (steps.Stop cpu) is = absurd (true≢false (sym is))
-pte-is steps.GiveUp is = absurd (true≢false (sym is))
-pte-is (steps.Kill process page body) is = absurd (true≢false (sym is))
-pte-is (steps.SetPolicy thread policy settings) is = absurd (true≢false (sym is))
-pte-is (steps.Lose file body) is = absurd (true≢false (sym is))
-pte-is (steps.ReportLost file) is = absurd (true≢false (sym is))
+pte-is step is = absurd (true≢false (sym is))
 
 same-le : (n : ℕ) → n ≤ n
 same-le n = omega arith
@@ -120,14 +72,7 @@ less-le f g (x ∷ xs) other = which (x == g) refl (less-le f g xs other)
 
 -- a lock that a step doesn't free stays listed
 locks-stay : (step : Step) (found f : ℕ) (list : List ℕ) → frees_lock step f ≡ false → times f list ≤ times f (locks_then step found list)
-locks-stay (steps.Load place) found f list other = same-le (times f list)
-locks-stay (steps.Reserve seen) found f list other = same-le (times f list)
-locks-stay (steps.TakeBit frame) found f list other = same-le (times f list)
-locks-stay (steps.GiveBit frame) found f list other = same-le (times f list)
-locks-stay steps.Unreserve found f list other = same-le (times f list)
 locks-stay (steps.Adopt frame) found f list other = more-le f list (frame.0 ∷ [])
-locks-stay (steps.GetRef frame seen count) found f list other = same-le (times f list)
-locks-stay (steps.PutRef frame count) found f list other = same-le (times f list)
 locks-stay (steps.LockFrame frame) found f list other = which (goes (steps.LockFrame frame) found)
   where
     which : (b : Bool) → times f list ≤ times f (cond b (list ++ frame.0 ∷ []) list)
@@ -135,22 +80,7 @@ locks-stay (steps.LockFrame frame) found f list other = which (goes (steps.LockF
     which false = same-le (times f list)
 locks-stay (steps.UnlockFrame frame) found f list other = less-le f frame.0 list other
 locks-stay (steps.Retire frame) found f list other = less-le f frame.0 list other
-locks-stay (steps.Revive frame seen) found f list other = same-le (times f list)
-locks-stay (steps.SetOwner frame page owned) found f list other = same-le (times f list)
-locks-stay (steps.LockPage page) found f list other = same-le (times f list)
-locks-stay (steps.UnlockPage page) found f list other = same-le (times f list)
-locks-stay (steps.SetPte slot pte) found f list other = same-le (times f list)
-locks-stay (steps.SetCache page frame) found f list other = same-le (times f list)
-locks-stay (steps.Poison frame hardware) found f list other = same-le (times f list)
-locks-stay (steps.CountPoison hardware) found f list other = same-le (times f list)
-locks-stay steps.Uncount found f list other = same-le (times f list)
-locks-stay (steps.Spoil frame line damage) found f list other = same-le (times f list)
-locks-stay (steps.Stop cpu) found f list other = same-le (times f list)
-locks-stay steps.GiveUp found f list other = same-le (times f list)
-locks-stay (steps.Kill process page body) found f list other = same-le (times f list)
-locks-stay (steps.SetPolicy thread policy settings) found f list other = same-le (times f list)
-locks-stay (steps.Lose file body) found f list other = same-le (times f list)
-locks-stay (steps.ReportLost file) found f list other = same-le (times f list)
+locks-stay step found f list other = same-le (times f list)
 
 -- what a view, and what a seat, lists of a frame whose lock the step doesn't free
 pub view-keeps : (layout : Layout) (r : Rec) (f : ℕ) (u : View) → frees_lock r.step f ≡ false → times f (frames_of u.locks) ≤ times f (frames_of (view_after layout r u).locks)
@@ -177,33 +107,10 @@ module _ (P : Cleared → Type 0) (places : ℕ) (list : List Cleared) where
   pub cleared-then : (step : Step) → ((frame : Frame) → step ≡ steps.Adopt frame → EachMember P (with_upto frame.0 places list))
       → ((frame : Frame) → ((g : ℕ) → g ≢ frame.0 → frees_lock step g ≡ false) → EachMember P (without_frame frame.0 list))
       → (((g : ℕ) → frees_lock step g ≡ false) → EachMember P list) → EachMember P (cleared_after places step list)
-  cleared-then (steps.Load place) adopts frees same = same (λ g. refl)
-  cleared-then (steps.Reserve seen) adopts frees same = same (λ g. refl)
-  cleared-then (steps.TakeBit frame) adopts frees same = same (λ g. refl)
-  cleared-then (steps.GiveBit frame) adopts frees same = same (λ g. refl)
-  cleared-then steps.Unreserve adopts frees same = same (λ g. refl)
   cleared-then (steps.Adopt frame) adopts frees same = adopts frame refl
-  cleared-then (steps.GetRef frame seen count) adopts frees same = same (λ g. refl)
-  cleared-then (steps.PutRef frame count) adopts frees same = same (λ g. refl)
-  cleared-then (steps.LockFrame frame) adopts frees same = same (λ g. refl)
   cleared-then (steps.UnlockFrame frame) adopts frees same = frees frame (λ g other. ne_eqb frame.0 g (λ e. other (sym e)))
   cleared-then (steps.Retire frame) adopts frees same = frees frame (λ g other. ne_eqb frame.0 g (λ e. other (sym e)))
-  cleared-then (steps.Revive frame seen) adopts frees same = same (λ g. refl)
-  cleared-then (steps.SetOwner frame page owned) adopts frees same = same (λ g. refl)
-  cleared-then (steps.LockPage page) adopts frees same = same (λ g. refl)
-  cleared-then (steps.UnlockPage page) adopts frees same = same (λ g. refl)
-  cleared-then (steps.SetPte slot pte) adopts frees same = same (λ g. refl)
-  cleared-then (steps.SetCache page frame) adopts frees same = same (λ g. refl)
-  cleared-then (steps.Poison frame hardware) adopts frees same = same (λ g. refl)
-  cleared-then (steps.CountPoison hardware) adopts frees same = same (λ g. refl)
-  cleared-then steps.Uncount adopts frees same = same (λ g. refl)
-  cleared-then (steps.Spoil frame line damage) adopts frees same = same (λ g. refl)
-  cleared-then (steps.Stop cpu) adopts frees same = same (λ g. refl)
-  cleared-then steps.GiveUp adopts frees same = same (λ g. refl)
-  cleared-then (steps.Kill process page body) adopts frees same = same (λ g. refl)
-  cleared-then (steps.SetPolicy thread policy settings) adopts frees same = same (λ g. refl)
-  cleared-then (steps.Lose file body) adopts frees same = same (λ g. refl)
-  cleared-then (steps.ReportLost file) adopts frees same = same (λ g. refl)
+  cleared-then step adopts frees same = same (λ g. refl)
 
 -- only a load of a translation that leads to a frame whose lock is listed shows something
 pub record IsShowing (step : Step) (found : ℕ) (locks : List ℕ) (s : Shown) : Type 0 where
@@ -230,42 +137,6 @@ showing slot found locks s is = which (nat_lt 0 found && nat_lt 0 (times (found 
         (record { slot = slot; step_is = refl; slot_is = refl; frame_is = omega (arith, some); locked = listed })
 
 pub shown-then : (step : Step) (found : ℕ) (locks : List ℕ) (s : Shown) → shown_after step found locks ≡ Some s → IsShowing step found locks s
-shown-then (steps.Load (places.Frame frame)) found locks s is = absurd (none-some s is)
 shown-then (steps.Load (places.Trans slot)) found locks s is = showing slot found locks s is
-shown-then (steps.Load (places.Cache page)) found locks s is = absurd (none-some s is)
-shown-then (steps.Load (places.Page page)) found locks s is = absurd (none-some s is)
-shown-then (steps.Load (places.Free number)) found locks s is = absurd (none-some s is)
-shown-then (steps.Load places.Available) found locks s is = absurd (none-some s is)
-shown-then (steps.Load (places.Bad frame)) found locks s is = absurd (none-some s is)
-shown-then (steps.Load (places.Weak frame)) found locks s is = absurd (none-some s is)
-shown-then (steps.Load places.Counter) found locks s is = absurd (none-some s is)
-shown-then (steps.Load (places.Process process)) found locks s is = absurd (none-some s is)
-shown-then (steps.Load (places.Policy thread)) found locks s is = absurd (none-some s is)
-shown-then (steps.Load (places.Loss file)) found locks s is = absurd (none-some s is)
-shown-then (steps.Load places.Stop) found locks s is = absurd (none-some s is)
-shown-then (steps.Reserve seen) found locks s is = absurd (none-some s is)
-shown-then (steps.TakeBit frame) found locks s is = absurd (none-some s is)
-shown-then (steps.GiveBit frame) found locks s is = absurd (none-some s is)
-shown-then steps.Unreserve found locks s is = absurd (none-some s is)
-shown-then (steps.Adopt frame) found locks s is = absurd (none-some s is)
-shown-then (steps.GetRef frame seen count) found locks s is = absurd (none-some s is)
-shown-then (steps.PutRef frame count) found locks s is = absurd (none-some s is)
-shown-then (steps.LockFrame frame) found locks s is = absurd (none-some s is)
-shown-then (steps.UnlockFrame frame) found locks s is = absurd (none-some s is)
-shown-then (steps.Retire frame) found locks s is = absurd (none-some s is)
-shown-then (steps.Revive frame seen) found locks s is = absurd (none-some s is)
-shown-then (steps.SetOwner frame page owned) found locks s is = absurd (none-some s is)
-shown-then (steps.LockPage page) found locks s is = absurd (none-some s is)
-shown-then (steps.UnlockPage page) found locks s is = absurd (none-some s is)
-shown-then (steps.SetPte slot pte) found locks s is = absurd (none-some s is)
-shown-then (steps.SetCache page frame) found locks s is = absurd (none-some s is)
-shown-then (steps.Poison frame hardware) found locks s is = absurd (none-some s is)
-shown-then (steps.CountPoison hardware) found locks s is = absurd (none-some s is)
-shown-then steps.Uncount found locks s is = absurd (none-some s is)
-shown-then (steps.Spoil frame line damage) found locks s is = absurd (none-some s is)
-shown-then (steps.Stop cpu) found locks s is = absurd (none-some s is)
-shown-then steps.GiveUp found locks s is = absurd (none-some s is)
-shown-then (steps.Kill process page body) found locks s is = absurd (none-some s is)
-shown-then (steps.SetPolicy thread policy settings) found locks s is = absurd (none-some s is)
-shown-then (steps.Lose file body) found locks s is = absurd (none-some s is)
-shown-then (steps.ReportLost file) found locks s is = absurd (none-some s is)
+shown-then (steps.Load place) found locks s is = absurd (none-some s is)
+shown-then step found locks s is = absurd (none-some s is)
