@@ -22,7 +22,7 @@ use Rattle.hwp_core_task.proofs.of_hwp_core_rule.Lists.{at_map}
 use Rattle.hwp_plain_words.specs.Openings.{home_with}
 use Rattle.hwp_plain_words.proofs.AllHome.{all-home}
 use Rattle.hwp_table_words.specs.Ends.{HasAll, IsEnd, board_of}
-use Rattle.hwp_table_words.specs.Known.{Known, Knowing}
+use Rattle.hwp_table_words.specs.Known.{Knowing}
 use Rattle.hwp_table_words.specs.Order.{in_rule}
 use Rattle.hwp_table_words.specs.Rules.{IsWhole, Kept, Reached, cache_seat}
 use Rattle.hwp_table_words.specs.Stands.{Content, Table, first_part, home_of, stand}

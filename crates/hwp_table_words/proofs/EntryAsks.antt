@@ -1,36 +1,33 @@
 -- What each step on an entry of a translation cache asks of the table's rule: its first part stays.
-use Rattle.std.proofs.Common.{◌≡◌, ℕ, zero, suc, ◌+◌, ◌*◌, ◌%◌, ◌^◌, ◌<◌, ◌≤◌, Bool, List, [], ◌∷◌, drop, map, set, get_or, length, take, slice_get, slice_index, refl, sym, ap, ◌∙◌, subst, arith}
-use Rattle.std.specs.Prelude.{Option as Maybe, Some, None}
-use mathlib.Core.Option.{Option, some, none}
+use Rattle.std.proofs.Common.{◌≡◌, ℕ, zero, suc, ◌+◌, ◌*◌, ◌%◌, ◌^◌, ◌<◌, ◌≤◌, List, [], ◌∷◌, drop, map, set, get_or, length, take, slice_get, slice_index, refl, sym, ap, ◌∙◌, subst, arith}
+use Rattle.std.specs.Prelude.{Some}
+use mathlib.Core.Option.{some}
 use lib.ListN.{get_elem?}
-use Rattle.std.proofs.lemmas.List.{get_or-drop, length-drop, map-set}
+use Rattle.std.proofs.lemmas.List.{get_or-drop, map-set}
 use Rattle.std.proofs.lemmas.Nat.{mod-mul-add, mod_below}
 use native.Mathlib.Nat.{mul-le-mul, mul_comm, zero-mul}
 use Rattle.atomic_table.specs.Seated.{TableId}
-use Rattle.atomic_table.specs.Table.{Act, keeps, Valid, Allows, stepped, carried_after}
-use Rattle.hwp_core_task.specs.hwp_geom.declared.Frame.{Frame}
+use Rattle.atomic_table.specs.Table.{keeps, Allows, stepped}
 use Rattle.hwp_core_task.specs.hwp_geom.declared.Layout.{Layout}
-use Rattle.hwp_core_task.specs.hwp_geom.declared.VSlot.{VSlot}
 use Rattle.hwp_core_task.specs.hwp_geom.Layout.{IsSound}
 use Rattle.hwp_core_task.specs.hwp_geom.Limits.{file_limit, frame_limit, page_limit, process_limit, thread_limit, translation_limit}
 use Rattle.hwp_core_task.specs.hwp_core_rule.declared.State.{State}
-use Rattle.hwp_core_task.specs.hwp_core_rule.declared.View.{View}
 use Rattle.hwp_core_task.specs.hwp_core_rule.Rule.{Holds}
-use Rattle.hwp_core_task.specs.hwp_core_rule.Steps.{exchanged, word_after}
+use Rattle.hwp_core_task.specs.hwp_core_rule.Steps.{exchanged}
 use Rattle.hwp_core_task.specs.hwp_core_rule.Words.{size}
-use Rattle.hwp_core_task.proofs.of_hwp_core_rule.Lists.{at_map, set-set, set_again, set_here}
-use Rattle.hwp_tlb_rule.specs.Caching.{Caching, upto_of}
-use Rattle.hwp_tlb_rule.specs.Rule.{CachesAgree, HaveViews, Seat, locks_in, times}
-use Rattle.hwp_tlb_rule.specs.Steps.{filled, flushed, hit, looked}
-use Rattle.hwp_tlb_rule.specs.Words.{entry_word, hit_of}
+use Rattle.hwp_core_task.proofs.of_hwp_core_rule.Lists.{at_map, set_again}
+use Rattle.hwp_tlb_rule.specs.Caching.{Caching}
+use Rattle.hwp_tlb_rule.specs.Rule.{CachesAgree, HaveViews, Seat}
+use Rattle.hwp_tlb_rule.specs.Steps.{filled, flushed, looked}
+use Rattle.hwp_tlb_rule.specs.Words.{entry_word}
 use Rattle.hwp_tlb_rule.proofs.EntrySteps.{agree-filled, agree-flushed, agree-looked}
 use Rattle.hwp_tlb_rule.proofs.SeatViews.{have-views}
-use Rattle.hwp_table_words.specs.CachePlays.{Aim, CanFill, CanFlush, CanSearch, IsEntry, IsFilled, IsFlushed, IsSearched, own_place, with_caching}
+use Rattle.hwp_table_words.specs.CachePlays.{Aim, CanFill, CanFlush, CanSearch, IsEntry, IsFilled, IsFlushed, IsSearched, own_place}
 use Rattle.hwp_table_words.specs.Caches.{IsAtTable}
 use Rattle.hwp_table_words.specs.Known.{Known, Knowing}
-use Rattle.hwp_table_words.specs.Rules.{Kept, Reached, cache_seat}
+use Rattle.hwp_table_words.specs.Rules.{Kept, cache_seat}
 use Rattle.hwp_table_words.specs.Seats.{IsTableOf}
-use Rattle.hwp_table_words.specs.Stands.{CachedTable, Content, Me, Table, first_part, stand}
+use Rattle.hwp_table_words.specs.Stands.{CachedTable, Me, Table, first_part, stand}
 use Rattle.hwp_table_words.proofs.FirstParts.{kept-of}
 use Rattle.hwp_table_words.proofs.ListReads.{as-slice}
 use Rattle.hwp_table_words.proofs.TableKeeps.{reached-holds}
@@ -160,7 +157,7 @@ module _ (ways : ℕ) (key : Layout) (aim : Aim) (layout-is : aim.layout ≡ key
     tt,
     kept-then ways aim.layout aim.place inside-aim id m st h at (slice_index st.words here) (looked aim.frame aim.place (slice_index st.words here) m.0.caching)
         (agree-looked ways aim.layout _ _ _ h.agree (holds ways aim.layout aim.place inside-aim id m st h at) (views-had ways aim.layout aim.place inside-aim id m st h at) id m.0.known.mines m.0.caching (at-seat ways aim.layout aim.place inside-aim id m st h at)
-            aim.frame aim.place (slice_index st.words here) can.locked can.before (at-entry ways aim.layout aim.place inside-aim id m st h at)),
+        aim.frame aim.place (slice_index st.words here) can.locked can.before (at-entry ways aim.layout aim.place inside-aim id m st h at)),
     (refl, refl),
   ))
 
@@ -171,7 +168,7 @@ module _ (ways : ℕ) (key : Layout) (aim : Aim) (layout-is : aim.layout ≡ key
     tt,
     kept-then ways aim.layout aim.place inside-aim id m st h at (exchanged aim.seen 0 (slice_index st.words here)) (flushed aim.frame aim.place aim.seen (slice_index st.words here) m.0.caching)
         (agree-flushed ways aim.layout _ _ _ h.agree (holds ways aim.layout aim.place inside-aim id m st h at) (views-had ways aim.layout aim.place inside-aim id m st h at) id m.0.known.mines m.0.caching (at-seat ways aim.layout aim.place inside-aim id m st h at)
-            aim.frame aim.place aim.seen (slice_index st.words here) can.glimpse can.before (at-entry ways aim.layout aim.place inside-aim id m st h at)),
+        aim.frame aim.place aim.seen (slice_index st.words here) can.glimpse can.before (at-entry ways aim.layout aim.place inside-aim id m st h at)),
     (refl, refl),
   ))
 
@@ -186,6 +183,6 @@ module _ (ways : ℕ) (key : Layout) (aim : Aim) (layout-is : aim.layout ≡ key
     tt,
     kept-then ways aim.layout aim.place inside-aim id m st h at (entry_word slot aim.frame) (filled aim.frame m.0.caching)
         (agree-filled ways aim.layout _ _ _ h.agree (holds ways aim.layout aim.place inside-aim id m st h at) (views-had ways aim.layout aim.place inside-aim id m st h at) id m.0.known.mines m.0.caching (at-seat ways aim.layout aim.place inside-aim id m st h at)
-            slot aim.frame aim.place can (own-place cpu slot own)),
+        slot aim.frame aim.place can (own-place cpu slot own)),
     (refl, refl),
   )))

@@ -1,12 +1,12 @@
 -- The first part of a table, which the frame rule sees, after a step, and where seats are cut and joined.
-use Rattle.std.proofs.Common.{◌≡◌, ℕ, zero, suc, ◌+◌, ◌<◌, ◌≤◌, List, [], ◌∷◌, ◌++◌, map, set, get_or, length, take, drop, refl, sym, ap, ◌∙◌, subst, arith}
+use Rattle.std.proofs.Common.{◌≡◌, ℕ, zero, suc, ◌<◌, List, [], ◌∷◌, ◌++◌, map, set, take, drop, refl, sym, ap, ◌∙◌, subst, arith}
 use mathlib.Core.Option.{some, some-injective, some-ne-none}
 use lib.ListN.{get_elem?}
 use Rattle.std.proofs.lemmas.List.{map-append, map-set}
 use Rattle.atomic_table.specs.Table.{Act, stepped}
 use Rattle.hwp_core_task.specs.hwp_geom.declared.Layout.{Layout}
 use Rattle.hwp_core_task.specs.hwp_core_rule.Words.{size}
-use Rattle.hwp_table_words.specs.Known.{Known, Knowing}
+use Rattle.hwp_table_words.specs.Known.{Knowing}
 use Rattle.hwp_table_words.specs.Rules.{Kept, Reached, cache_seat}
 use Rattle.hwp_table_words.specs.Stands.{CachedTable, Content, Table, first_part, stand}
 use Rattle.hwp_tlb_rule.specs.Rule.{CachesAgree}

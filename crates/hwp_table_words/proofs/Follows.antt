@@ -1,18 +1,15 @@
 -- What follows a step of a seat: a fill where no page is locked, and a sweep where one is.
-use Rattle.std.proofs.Common.{◌≡◌, ◌⊎◌, ℕ, suc, zero, ◌+◌, ◌*◌, ◌<◌, ◌≤◌, ◌==◌, Bool, true, false, cond, List, [], ◌∷◌, Some, None, length, slice_get, get_or, inl, inr, refl, sym, ap, ◌∙◌, subst, arith}
+use Rattle.std.proofs.Common.{◌≡◌, ℕ, suc, zero, ◌+◌, ◌*◌, ◌<◌, ◌≤◌, ◌==◌, Bool, true, false, cond, List, [], ◌∷◌, Some, None, length, slice_get, inl, inr, refl, sym, ap, ◌∙◌, subst, arith}
 use Rattle.std.specs.Prelude.{Any, Option}
 use Rattle.std.specs.Int.{from_bool}
 use Rattle.std.proofs.lemmas.Option.{none-some, same_Some}
-use Rattle.std.proofs.lemmas.Bool.{true≢false}
 use native.Mathlib.Nat.{zero-mul}
 use Rattle.hwp_core_task.specs.hwp_geom.declared.Frame.{Frame}
 use Rattle.hwp_core_task.specs.hwp_geom.declared.Layout.{Layout}
-use Rattle.hwp_core_task.specs.hwp_geom.declared.Page.{Page}
 use Rattle.hwp_core_task.specs.hwp_geom.declared.VSlot.{VSlot}
 use Rattle.hwp_core_task.specs.hwp_core_rule.declared.Step.{Step}
 use Rattle.hwp_core_task.specs.hwp_core_rule.declared.Step.TheVariants as steps
 use Rattle.hwp_core_task.specs.hwp_core_rule.declared.View.{View}
-use Rattle.hwp_core_task.specs.hwp_core_rule.Lists.{EachMember}
 use Rattle.hwp_core_task.specs.hwp_core_rule.Steps.{goes}
 use Rattle.hwp_core_task.specs.hwp_core_rule.declared.SharedWord.{SharedWord}
 use Rattle.hwp_core_task.specs.hwp_core_rule.declared.SharedWord.TheVariants as shared
@@ -28,7 +25,7 @@ use Rattle.hwp_table_words.specs.Caches.{AreLocked, AreSwept, IsAlmostGuarded, I
 use Rattle.hwp_table_words.specs.declared.follow.Follow.{Follow}
 use Rattle.hwp_table_words.specs.declared.follow.Follow.TheVariants as follows
 use Rattle.hwp_table_words.specs.Seats.{Carries, cpu_of, mine_of}
-use Rattle.hwp_table_words.specs.Stands.{Content, Me}
+use Rattle.hwp_table_words.specs.Stands.{Me}
 use Rattle.hwp_table_words.proofs.OrderLocks.{lock-order, no-page, order-listed, order-lock}
 
 -- the locks of a seat that has one view

@@ -1,5 +1,5 @@
 -- What a step leaves of the guard: only the lock of a frame or of a page that went leaves frames to be swept.
-use Rattle.std.proofs.Common.{◌≡◌, ◌≢◌, ◌⊎◌, ℕ, ◌+◌, ◌<◌, ◌≤◌, ◌==◌, Bool, true, false, cond, List, [], ◌∷◌, ◌++◌, Some, length, inl, inr, refl, sym, ap, ◌∙◌, subst, arith}
+use Rattle.std.proofs.Common.{◌≡◌, ◌⊎◌, ℕ, ◌+◌, ◌<◌, ◌≤◌, ◌==◌, Bool, true, false, cond, List, [], ◌∷◌, ◌++◌, length, inl, inr, refl, sym, ap, ◌∙◌, subst, arith}
 use Rattle.std.specs.Int.{from_bool}
 use Rattle.hwp_core_task.specs.hwp_geom.declared.Frame.{Frame}
 use Rattle.hwp_core_task.specs.hwp_geom.declared.Layout.{Layout}
@@ -55,7 +55,7 @@ module _ (layout : Layout) (r : Rec) (old new : View) (told : Told layout r old 
   almost-guarded places k locks Sweeps guarded by-frame by-page =
       subst (λ (v : View). 0 < length v.pages → (f : ℕ) → 0 < locks_on f v.locks → Sweeps f ⊎ (places ≤ upto_of f (caching_after places r.step r.found locks k).cleared)) (sym told.next)
       (guard-after layout r old k places locks Sweeps guarded (locks-once layout told.board told.rule told.seat old told.me) by-frame
-          (λ page is went f listed. by-page page is went f (locks-within layout told.board told.rule told.seat old told.me f listed)))
+      (λ page is went f listed. by-page page is went f (locks-within layout told.board told.rule told.seat old told.me f listed)))
 
   -- each frame that is locked is one of the layout
   pub within-after : IsPlace layout (place_of r.step) → (f : ℕ) → 0 < locks_on f new.locks → f < layout.frames

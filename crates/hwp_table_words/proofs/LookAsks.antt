@@ -1,7 +1,7 @@
 -- What a load of a translation asks that an entry may answer: it is the move of the frame rule that finds the word to which the entry leads.
 use Rattle.std.proofs.Common.{◌≡◌, ◌≢◌, ℕ, zero, suc, ◌+◌, ◌-◌, ◌*◌, ◌/◌, ◌%◌, ◌^◌, ◌<◌, ◌==◌, ◌||◌, Bool, true, false, cond, List, [], ◌∷◌, drop, map, set, get_or, length, take, slice_get, slice_index, refl, sym, ap, ◌∙◌, subst, arith}
 use Rattle.std.specs.Prelude.{Option as Maybe, Some, None, if◌then◌else◌}
-use mathlib.Core.Option.{Option, some, none}
+use mathlib.Core.Option.{some}
 use lib.ListN.{get_elem?}
 use Rattle.std.proofs.lemmas.Bool.{true≢false}
 use Rattle.std.proofs.lemmas.List.{get_or-take, map-set, set-get_or}
@@ -12,7 +12,6 @@ use Rattle.atomic_table.specs.Table.{Act, keeps, Valid, Allows, stepped, carried
 use Rattle.hwp_core_task.specs.hwp_geom.declared.Frame.{Frame}
 use Rattle.hwp_core_task.specs.hwp_geom.declared.Layout.{Layout}
 use Rattle.hwp_core_task.specs.hwp_geom.declared.VSlot.{VSlot}
-use Rattle.hwp_core_task.specs.hwp_geom.declared.Who.{Who}
 use Rattle.hwp_core_task.specs.hwp_core_rule.declared.SharedWord.{SharedWord}
 use Rattle.hwp_core_task.specs.hwp_core_rule.declared.SharedWord.TheVariants as shared
 use Rattle.hwp_core_task.specs.hwp_core_rule.declared.State.{State}
@@ -26,20 +25,19 @@ use Rattle.hwp_core_task.specs.hwp_core_rule.Words.{IsPlace, index, size, words_
 use Rattle.hwp_core_task.specs.Calls.{CanMake}
 use Rattle.hwp_core_task.proofs.of_hwp_core_rule.Lists.{at_map, set-set, set_again, set_here}
 use Rattle.hwp_core_task.proofs.of_hwp_core_rule.WordsByKind.{index-within, words-read}
-use Rattle.hwp_tlb_rule.specs.Caching.{Caching}
 use Rattle.hwp_tlb_rule.specs.Rule.{CachesAgree, Seat, frames_of}
 use Rattle.hwp_tlb_rule.specs.Steps.{IsGuarded, caching_after, hit}
-use Rattle.hwp_tlb_rule.specs.Words.{entry_named, entry_reading, hit_of, hit_to}
+use Rattle.hwp_tlb_rule.specs.Words.{hit_of, hit_to}
 use Rattle.hwp_tlb_rule.proofs.Agrees.{agree-hit}
 use Rattle.hwp_tlb_rule.proofs.Named.{hit-word}
-use Rattle.hwp_table_words.specs.CachePlays.{CanLook, HasFound, IsEntry, IsHit, IsLooked, Look}
-use Rattle.hwp_table_words.specs.Known.{Known, Knowing, times}
-use Rattle.hwp_table_words.specs.Order.{in_rule, in_table}
+use Rattle.hwp_table_words.specs.CachePlays.{CanLook, HasFound, IsEntry, IsLooked, Look}
+use Rattle.hwp_table_words.specs.Known.{Knowing, times}
+use Rattle.hwp_table_words.specs.Order.{in_table}
 use Rattle.hwp_table_words.specs.Plays.{Call, IsFront, IsMade, Makes}
-use Rattle.hwp_table_words.specs.Rules.{Kept, Reached, cache_seat}
+use Rattle.hwp_table_words.specs.Rules.{Kept, cache_seat}
 use Rattle.hwp_table_words.specs.Seats.{CanPlay, IsTableOf}
 use Rattle.hwp_table_words.specs.Stands.{CachedTable, Content, Me, Table, first_me, first_part, stand}
-use Rattle.hwp_table_words.proofs.EntryAsks.{at-entry, holds, kept-then}
+use Rattle.hwp_table_words.proofs.EntryAsks.{at-entry, holds}
 use Rattle.hwp_table_words.proofs.FirstParts.{kept-of}
 use Rattle.hwp_table_words.proofs.ListReads.{as-slice}
 use Rattle.hwp_table_words.proofs.OperationAsks.{allowed-as}
@@ -152,13 +150,19 @@ module _ (ways : ℕ) (call : Call) (slot : VSlot) (step-is : call.step ≡ step
       kept-hit : Kept ways layout next
       kept-hit = kept-of ways layout next (first_part layout loaded) kept-loaded.reached first-is
           (subst (λ (l : List ℕ). CachesAgree ways layout s-loaded (drop (size layout) l) (map cache_seat next.views)) (sym (set-get_or st.words here 0))
-              (subst (λ (l : List Seat). CachesAgree ways layout s-loaded (drop (size layout) st.words) l) seats-are (agree-hit ways layout s-loaded (drop (size layout) st.words) (map cache_seat loaded.views) kept-loaded.agree id w.known.mines w.caching at-loaded)))
+          (subst (λ (l : List Seat). CachesAgree ways layout s-loaded (drop (size layout) st.words) l) seats-are (agree-hit ways layout s-loaded (drop (size layout) st.words) (map cache_seat loaded.views) kept-loaded.agree id w.known.mines w.caching at-loaded)))
 
       pub hit-answers : Answers (Some f)
-      hit-answers = (w', a, valid, kept-hit, record {
-        makes = subst (λ (n : ℕ). Makes call (first_me m) n (w.known, carried_after m.1 a)) (found f is) made.makes;
-        caching = ap hit (made.caching ∙ ap (λ (n : ℕ). caching_after call.places call.step n (frames_of call.mine.locks) m.0.caching) (found f is));
-      })
+      hit-answers = (
+        w',
+        a,
+        valid,
+        kept-hit,
+        record {
+          makes = subst (λ (n : ℕ). Makes call (first_me m) n (w.known, carried_after m.1 a)) (found f is) made.makes;
+          caching = ap hit (made.caching ∙ ap (λ (n : ℕ). caching_after call.places call.step n (frames_of call.mine.locks) m.0.caching) (found f is));
+        },
+      )
 
     none-answers : Answers None
     none-answers = (m.0, keeps, tt, kept-none, refl)
@@ -206,14 +210,14 @@ pub look-allowed : (ways : ℕ) (key : Layout) (look : Look) (count id : ℕ) (m
     → Allows (Kept ways key) count id m word (λ n. n) (IsLooked look word m)
 look-allowed ways key look count id m word tid of entry can =
     subst (λ (k : Layout). Allows (Kept ways k) count id m word (λ n. n) (IsLooked look word m)) can.layout_is
-        (subst (λ (i : ℕ). Allows (Kept ways look.call.layout) count id m i (λ n. n) (IsLooked look i m)) (sym word-is)
-            (look-at ways look.call look.slot can.step_is can.put_is look.place inside count id m tid of
-                (look-plays ways look.call look.slot can.step_is can.put_is look.place inside count id m tid of
-                    (subst (λ (k : Layout). CanMake k look.call.who look.call.step None look.call.mine) (sym can.layout_is) can.can)
-                    (subst (λ (k : Layout). IsTableOf ways k tid) (sym can.layout_is) entry.table)
-                    entry.same
-                    (can.places ∙ ap (λ (k : Layout). ways * k.cpus) (sym can.layout_is))
-                    can.view can.right can.guarded)))
+    (subst (λ (i : ℕ). Allows (Kept ways look.call.layout) count id m i (λ n. n) (IsLooked look i m)) (sym word-is)
+    (look-at ways look.call look.slot can.step_is can.put_is look.place inside count id m tid of
+    (look-plays ways look.call look.slot can.step_is can.put_is look.place inside count id m tid of
+    (subst (λ (k : Layout). CanMake k look.call.who look.call.step None look.call.mine) (sym can.layout_is) can.can)
+    (subst (λ (k : Layout). IsTableOf ways k tid) (sym can.layout_is) entry.table)
+    entry.same
+    (can.places ∙ ap (λ (k : Layout). ways * k.cpus) (sym can.layout_is))
+    can.view can.right can.guarded)))
   where
     word-is : word ≡ size look.call.layout + look.place
     word-is = entry.word_is ∙ ap (λ (k : Layout). size k + look.place) (sym can.layout_is)

@@ -1,5 +1,5 @@
 -- What a look tells: the word that the load finds, where an entry of the translation answers it.
-use Rattle.std.proofs.Common.{◌≡◌, ℕ, ◌+◌, ◌*◌, ◌<◌, ◌≤◌, List, [], ◌∷◌, slice_get, refl, sym, ap, ◌∙◌, subst}
+use Rattle.std.proofs.Common.{◌≡◌, ℕ, ◌+◌, ◌*◌, ◌≤◌, List, slice_get, refl, sym, ap, subst}
 use Rattle.std.specs.Prelude.{Option, Some, None, IfSome}
 use Rattle.atomic_table.specs.Seated.{TableId}
 use Rattle.hwp_core_task.specs.hwp_geom.declared.Frame.{Frame}
@@ -8,16 +8,14 @@ use Rattle.hwp_core_task.specs.hwp_geom.declared.VSlot.{VSlot}
 use Rattle.hwp_core_task.specs.hwp_geom.declared.Who.{Who}
 use Rattle.hwp_core_task.specs.hwp_core_rule.declared.Step.{Step}
 use Rattle.hwp_core_task.specs.hwp_core_rule.declared.View.{View}
-use Rattle.hwp_core_task.specs.hwp_core_rule.Words.{size}
 use Rattle.hwp_core_task.specs.Calls.{CanMake}
 use Rattle.hwp_tlb_rule.specs.Steps.{IsGuarded}
 use Rattle.hwp_tlb_rule.specs.Words.{hit_of}
-use Rattle.hwp_table_words.specs.CachePlays.{CanLook, HasFound, IsEntry, IsHit, IsLooked, Look}
+use Rattle.hwp_table_words.specs.CachePlays.{CanLook, HasFound, IsHit, IsLooked, Look}
 use Rattle.hwp_table_words.specs.Caches.{HasLooked, IsAtTable, call_of, load_of, word_to}
 use Rattle.hwp_table_words.specs.Plays.{Call}
 use Rattle.hwp_table_words.specs.Seats.{HasRight, IsSeat, cpu_of, mine_of}
 use Rattle.hwp_table_words.specs.Stands.{Content, Me, first_me}
-use Rattle.hwp_table_words.proofs.EntryAsks.{entry-of}
 
 -- a load puts no body home
 load-can : (layout : Layout) (who : Who) (slot : VSlot) (v : View) (body : Content) → CanMake layout who (load_of slot) body v → CanMake layout who (load_of slot) None v

@@ -23,7 +23,7 @@ use Rattle.hwp_core_task.specs.Calls.{FitsLayout}
 use Rattle.hwp_plain_words.specs.Openings.{home_with}
 use Rattle.hwp_table_words.specs.Known.{Known, Whole, first_known, first_knowing, times, views_for}
 use Rattle.hwp_table_words.specs.Order.{IsOpened, in_rule}
-use Rattle.hwp_table_words.specs.Rules.{IsOwn, IsWhole, Kept, Reached, Ruled, cache_seat}
+use Rattle.hwp_table_words.specs.Rules.{IsOwn, IsWhole, Kept, Reached, Ruled}
 use Rattle.hwp_table_words.specs.Stands.{CachedTable, Content, Table, first_part, home_of, stand, AreOfLayout}
 use Rattle.hwp_table_words.proofs.SeatMoves.{first-own}
 use Rattle.hwp_table_words.proofs.ListReads.{as-slice}

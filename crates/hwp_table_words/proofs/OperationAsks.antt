@@ -1,5 +1,5 @@
 -- What each operation on the table asks of its rule: a step of any kind goes on with the history.
-use Rattle.std.proofs.Common.{◌≡◌, ℕ, ◌+◌, ◌*◌, ◌^◌, ◌<◌, true, false, cond, List, ◌∷◌, drop, map, set, length, take, slice_get, slice_index, refl, sym, ap, ◌∙◌, subst, inl, inr, arith}
+use Rattle.std.proofs.Common.{◌≡◌, ℕ, ◌+◌, ◌*◌, ◌^◌, ◌<◌, false, cond, List, ◌∷◌, drop, map, set, length, take, slice_get, slice_index, refl, sym, ap, ◌∙◌, subst, inl, inr, arith}
 use Rattle.std.specs.Prelude.{Option as Maybe, Some, None}
 use mathlib.Core.Option.{Option, some, none, some-injective, some-ne-none}
 use lib.ListN.{get_elem?}
@@ -31,7 +31,7 @@ use Rattle.hwp_table_words.specs.Order.{in_rule, in_table}
 use Rattle.hwp_table_words.specs.Plays.{Call, rec, carried, IsFront, Finds, IsMade, Makes}
 use Rattle.hwp_table_words.specs.Rules.{Kept, Reached, Ruled, cache_seat}
 use Rattle.hwp_table_words.specs.Seats.{CanPlay}
-use Rattle.hwp_table_words.specs.Stands.{CachedTable, Content, FirstMe, Me, Table, first_me, first_part, home_of, stand, AreOfLayout}
+use Rattle.hwp_table_words.specs.Stands.{CachedTable, Content, Me, Table, first_me, first_part, home_of, stand, AreOfLayout}
 use Rattle.hwp_table_words.proofs.TableKeeps.{reached-holds, run-seats}
 use Rattle.hwp_core_task.proofs.of_hwp_core_rule.MetWords.{asks-content, slot-home}
 use Rattle.hwp_core_task.proofs.of_hwp_core_rule.Lists.{at_map}
@@ -294,8 +294,8 @@ module _ (ways : ℕ) (call : Call) (id : ℕ) (m : Me) (word : ℕ) (tid of : T
       agree : CachesAgree ways call.layout (stand p.after.views then-first) (drop (size call.layout) then-all.words) (map cache_seat then-all.views)
       agree = subst (λ (l : List Seat). CachesAgree ways call.layout (stand p.after.views then-first) (drop (size call.layout) then-all.words) l) seats-are
           (subst (λ (l : List ℕ). CachesAgree ways call.layout (stand p.after.views then-first) l (set seats id seat-then)) entries-are
-              (agree-moved ways call.layout (stand h.reached.views first) entries seats h.agree (reached-holds call.layout first h.reached) views-had id m.0.known.mines m.0.caching (at_map cache_seat st.views id m.0 (as-slice st.views id m.0 at))
-                  call.cpu call.mine p.went.r (stand p.after.views then-first) p.went.move p.went.view_is can.view guarded))
+          (agree-moved ways call.layout (stand h.reached.views first) entries seats h.agree (reached-holds call.layout first h.reached) views-had id m.0.known.mines m.0.caching (at_map cache_seat st.views id m.0 (as-slice st.views id m.0 at))
+          call.cpu call.mine p.went.r (stand p.after.views then-first) p.went.move p.went.view_is can.view guarded))
         where
           guarded : IsGuarded (ways * call.layout.cpus) call.mine m.0.caching
           guarded = subst (λ (n : ℕ). IsGuarded n call.mine m.0.caching) can.places can.guarded

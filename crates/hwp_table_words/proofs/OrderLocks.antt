@@ -1,12 +1,10 @@
 -- What the order of the slots that a seat carries says of its locks: a slot below the number of frames is a frame's, one from there on
 -- is a page's.
-use Rattle.std.proofs.Common.{◌≡◌, ℕ, zero, suc, ◌+◌, ◌<◌, ◌≤◌, ◌==◌, Bool, true, false, Any, List, [], ◌∷◌, ◌++◌, Some, map, length, slice_get, refl, sym, ap, ◌∙◌, subst, arith}
+use Rattle.std.proofs.Common.{◌≡◌, ℕ, suc, ◌+◌, ◌<◌, ◌≤◌, ◌==◌, Bool, true, false, Any, List, [], ◌∷◌, Some, map, length, slice_get, refl, sym, ap, ◌∙◌, subst, arith}
 use Rattle.std.specs.Int.{from_bool}
 use Rattle.std.proofs.lemmas.Bool.{eqb-true}
 use Rattle.std.proofs.lemmas.List.{length-map}
 use Rattle.hwp_core_task.specs.hwp_geom.declared.Layout.{Layout}
-use Rattle.hwp_core_task.specs.hwp_geom.declared.VSlot.{VSlot}
-use Rattle.hwp_core_task.specs.hwp_core_rule.declared.FrameLock.{FrameLock}
 use Rattle.hwp_core_task.specs.hwp_core_rule.declared.PageLock.{PageLock}
 use Rattle.hwp_core_task.specs.hwp_core_rule.declared.View.{View}
 use Rattle.hwp_core_task.specs.hwp_core_rule.Views.{locks_on}
@@ -14,7 +12,7 @@ use Rattle.hwp_core_task.proofs.of_hwp_core_rule.Lists.{term-le, from_bool-other
 use Rattle.hwp_tlb_rule.specs.Rule.{frames_of, times}
 use Rattle.hwp_tlb_rule.proofs.LockSlots.{pages_of}
 use Rattle.hwp_tlb_rule.proofs.LockTimes.{times-append, times-cons, times-frames}
-use Rattle.hwp_table_words.specs.Seats.{Carries, slots_of}
+use Rattle.hwp_table_words.specs.Seats.{Carries}
 use Rattle.hwp_table_words.specs.Stands.{Content}
 
 -- a number that is in a list has a place there

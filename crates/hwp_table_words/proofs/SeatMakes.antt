@@ -1,6 +1,6 @@
 -- A step of a seat: an entry answers it, or it is made as a move of the frame rule, which a fill or a sweep follows.
-use Rattle.std.proofs.Common.{◌≡◌, ◌⊎◌, ℕ, ◌+◌, ◌-◌, ◌*◌, ◌^◌, ◌<◌, ◌≤◌, ◌==◌, Bool, true, false, cond, List, [], ◌∷◌, ◌++◌, min, map, length, inl, inr, refl, sym, ap, ◌∙◌, subst, arith}
-use Rattle.std.specs.Prelude.{Some, None}
+use Rattle.std.proofs.Common.{◌≡◌, ℕ, ◌+◌, ◌-◌, ◌*◌, ◌^◌, ◌<◌, ◌≤◌, Bool, true, false, cond, List, [], ◌∷◌, ◌++◌, min, map, length, inl, inr, refl, sym, ap, ◌∙◌, subst}
+use Rattle.std.specs.Prelude.{None}
 use Rattle.std.proofs.lemmas.Bool.{true≢false}
 use Rattle.std.proofs.lemmas.Option.{none-some}
 use Rattle.atomic_table.specs.Seated.{TableId}
@@ -9,7 +9,6 @@ use Rattle.hwp_core_task.specs.hwp_geom.declared.Layout.{Layout}
 use Rattle.hwp_core_task.specs.hwp_geom.declared.Page.{Page}
 use Rattle.hwp_core_task.specs.hwp_geom.declared.VSlot.{VSlot}
 use Rattle.hwp_core_task.specs.hwp_geom.declared.Who.{Who}
-use Rattle.hwp_core_task.specs.hwp_core_rule.declared.FrameLock.{FrameLock}
 use Rattle.hwp_core_task.specs.hwp_core_rule.declared.Rec.{Rec}
 use Rattle.hwp_core_task.specs.hwp_core_rule.declared.SharedWord.{SharedWord}
 use Rattle.hwp_core_task.specs.hwp_core_rule.declared.SharedWord.TheVariants as shared
@@ -20,21 +19,20 @@ use Rattle.hwp_core_task.specs.hwp_core_rule.Moves.{Told}
 use Rattle.hwp_core_task.specs.hwp_core_rule.SlotMoves.{slot_move, takes}
 use Rattle.hwp_core_task.specs.hwp_core_rule.Steps.{goes}
 use Rattle.hwp_core_task.specs.hwp_core_rule.Views.{locks_on, noted, view_after}
-use Rattle.hwp_core_task.specs.Calls.{CanMake, FitsLayout, GoesHome, Steps, logs, rec_of}
+use Rattle.hwp_core_task.specs.Calls.{CanMake, GoesHome, Steps, logs, rec_of}
 use Rattle.hwp_core_task.proofs.of_hwp_core_rule.Lists.{same-number}
 use Rattle.hwp_tlb_rule.specs.declared.TlbCounts.{TlbCounts}
 use Rattle.hwp_tlb_rule.specs.Caching.{Caching, upto_of}
 use Rattle.hwp_tlb_rule.specs.Rule.{frames_of}
-use Rattle.hwp_tlb_rule.specs.Steps.{IsGuarded, caching_after, hit}
+use Rattle.hwp_tlb_rule.specs.Steps.{IsGuarded, caching_after}
 use Rattle.hwp_tlb_rule.proofs.LockSlots.{locks-after, locks_then, pages-after, pages_of, pages_then}
 use Rattle.hwp_table_words.specs.CacheCounts.{capped, told_counts}
 use Rattle.hwp_table_words.specs.CachePlays.{IsHit, with_caching}
 use Rattle.hwp_table_words.specs.Caches.{IsAlmostGuarded, IsListed, IsToSweep, call_of, follow_of, load_of}
-use Rattle.hwp_table_words.specs.declared.follow.Follow.{Follow}
 use Rattle.hwp_table_words.specs.declared.follow.Follow.TheVariants as follows
-use Rattle.hwp_table_words.specs.Known.{Known, Knowing, known_after, mine_after, times}
+use Rattle.hwp_table_words.specs.Known.{Known, mine_after, times}
 use Rattle.hwp_table_words.specs.Plays.{Call, Makes, carried, rec}
-use Rattle.hwp_table_words.specs.Seats.{HasCache, IsSeat, Moves, SeatValue, cpu_of, mine, mine_of, slots_of, value_of}
+use Rattle.hwp_table_words.specs.Seats.{HasCache, IsSeat, Moves, SeatValue, cpu_of, mine_of, slots_of, value_of}
 use Rattle.hwp_table_words.specs.Stands.{Content, FirstMe, Me, first_me}
 use Rattle.hwp_table_words.proofs.Guarded.{almost-guarded, lock-taken}
 use Rattle.hwp_table_words.proofs.Sweeps.{one-more}
@@ -137,10 +135,10 @@ module _ (ways : ℕ) (layout key : Layout) (id of : TableId) (me : Me) (order :
 
     pub guard-hit : IsGuarded (ways * layout.cpus) (mine_of then.0.known.mines) then.0.caching
     guard-hit some f listed = elim (almost-guarded layout (rec_of layout who step (logs body) found None) view (mine_of then.0.known.mines) told-hit (ways * layout.cpus) me.0.caching (frames_of view.locks) (λ g. ⊥) guarded
-            (λ frame e went. no-lock (steps.LockFrame frame) e refl) (λ page e went g less. no-lock (steps.LockPage page) e refl) some f listed) [
-      | inl bad ↦ absurd bad
-      | inr far ↦ subst (λ (k : Caching). ways * layout.cpus ≤ upto_of f k.cleared) (sym hits.caching) far
-    ]
+        (λ frame e went. no-lock (steps.LockFrame frame) e refl) (λ page e went g less. no-lock (steps.LockPage page) e refl) some f listed) [
+          | inl bad ↦ absurd bad
+          | inr far ↦ subst (λ (k : Caching). ways * layout.cpus ≤ upto_of f k.cleared) (sym hits.caching) far
+        ]
 
     pub cache-hit : (counts : TlbCounts) (n : ℕ) → counts ≡ told_counts me.0.caching.counts → n ≡ min (counts.hits + 1) (2 ^ 64 - 1) → HasCache (ways * layout.cpus) (record counts { hits = n }) then.0
     cache-hit counts n counted one = record {

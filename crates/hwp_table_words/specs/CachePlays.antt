@@ -5,7 +5,6 @@ use Rattle.hwp_core_task.specs.hwp_geom.declared.Frame.{Frame}
 use Rattle.hwp_core_task.specs.hwp_geom.declared.Layout.{Layout}
 use Rattle.hwp_core_task.specs.hwp_geom.declared.VSlot.{VSlot}
 use Rattle.hwp_core_task.specs.hwp_core_rule.declared.SharedWord.TheVariants as shared
-use Rattle.hwp_core_task.specs.hwp_core_rule.declared.Step.{Step}
 use Rattle.hwp_core_task.specs.hwp_core_rule.declared.Step.TheVariants as steps
 use Rattle.hwp_core_task.specs.hwp_core_rule.declared.View.{View}
 use Rattle.hwp_core_task.specs.hwp_core_rule.Lists.{SomeMember}
@@ -14,7 +13,7 @@ use Rattle.hwp_core_task.specs.Calls.{CanMake}
 use Rattle.hwp_tlb_rule.specs.Caching.{Caching, upto_of}
 use Rattle.hwp_tlb_rule.specs.Rule.{frames_of, locks_in, times}
 use Rattle.hwp_tlb_rule.specs.Steps.{IsGuarded, caching_after, filled, flushed, hit, looked}
-use Rattle.hwp_tlb_rule.specs.Words.{entry_word, hit_of}
+use Rattle.hwp_tlb_rule.specs.Words.{hit_of}
 use Rattle.hwp_table_words.specs.Plays.{Call, Makes, no_call}
 use Rattle.hwp_table_words.specs.Seats.{IsTableOf}
 use Rattle.hwp_table_words.specs.Stands.{Me, first_me}

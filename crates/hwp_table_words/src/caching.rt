@@ -97,9 +97,7 @@ pub(crate) fn follow<W: Ways>(
     match follow_of(step, found) {
         Follow::Nothing => {}
         Follow::Fill(slot) => {
-            fill_loaded(
-                sheet, layout, seat, order, filled, counts, who, slot, found,
-            );
+            fill_loaded(sheet, layout, seat, order, filled, counts, who, slot, found);
         }
         Follow::Sweep(frame) => sweep_locked(sheet, layout, seat, order, counts, frame),
         Follow::SweepAll => sweep_all(sheet, layout, seat, order, counts),

@@ -14,7 +14,13 @@ use hwp_core_task::SlotMove;
 pub type Order = ArrayVec<usize, 3>;
 
 /// Before a step that frees a lock: the lock's slot comes to the front, and the body into it.
-pub(crate) fn lay<W: Ways>(sheet: &Sheet<W>, seat: &mut Pass, order: &mut Order, to: SlotMove, body: Slot)
+pub(crate) fn lay<W: Ways>(
+    sheet: &Sheet<W>,
+    seat: &mut Pass,
+    order: &mut Order,
+    to: SlotMove,
+    body: Slot,
+)
     requires fits { seat.old.table_id ≡ sheet.now.table_id }
     requires empty { seat.old.me.1 ≡ vacant order.old.items }
     requires there { IsCarried to order.old.items }

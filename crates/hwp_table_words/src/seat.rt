@@ -115,7 +115,14 @@ impl<'a, W: Ways> SeatOps<'a, W> {
         ensures told { Steps self.old.layout who step.now (logs body) (mine self.old) (mine self.new) result.found result.body }
         ensures moved { Moves self.old (rec_of self.old.layout who step.now (logs body) result.found result.body) self.new }
     {
-        if let Some(found) = look(self.sheet, self.layout, &mut self.seat, &self.filled, who, step) {
+        if let Some(found) = look(
+            self.sheet,
+            self.layout,
+            &mut self.seat,
+            &self.filled,
+            who,
+            step,
+        ) {
             self.counts.hits = self.counts.hits.saturating_add(1);
             return Met { found, body: None };
         }

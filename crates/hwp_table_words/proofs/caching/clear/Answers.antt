@@ -1,5 +1,5 @@
 use Rattle.std.proofs.Common.{sym, ◌∙◌}
-use Rattle.hwp_table_words.proofs.Sweeps.{gone-cleared, gone-on, passed-cleared, passed-counts, passed-on, seen-before, seen-counts, seen-glimpse}
+use Rattle.hwp_table_words.proofs.Sweeps.{gone-cleared, gone-on, passed-cleared, passed-on}
 use Rattle.hwp_table_words.proofs.caching.clear.Goals as goal
 
 pub returns-then-names-clause-rest : goal.returns-then-names-clause-rest

@@ -1,4 +1,4 @@
-use Rattle.std.proofs.Common.{◌≡◌, ℕ, ◌*◌, ◌<◌, ◌≤◌, sym, ap, ◌∙◌, subst}
+use Rattle.std.proofs.Common.{ℕ, ◌*◌, ◌<◌, ◌≤◌, sym, ap, ◌∙◌, subst}
 use Rattle.hwp_core_task.specs.hwp_core_rule.declared.Step.{Step}
 use Rattle.hwp_tlb_rule.specs.Rule.{frames_of}
 use Rattle.hwp_tlb_rule.specs.Steps.{shown_after}
@@ -16,7 +16,7 @@ returns-then-ways-eq0-clause-guarded g c = guard-bare g.W.Ways.ways c.args.layou
 pub returns-in-Nothing-clause-guarded : goal.returns-in-Nothing-clause-guarded
 returns-in-Nothing-clause-guarded g c =
     guard-still (g.W.Ways.ways * c.args.layout.now.cpus) c.args.layout.now.frames follows.Nothing (mine_of c.args.seat.now.me.0.known.mines) c.args.seat.now.me.0.caching (λ f none. none)
-        (subst (λ (o : Follow). IsAlmostGuarded (g.W.Ways.ways * c.args.layout.now.cpus) c.args.layout.now.frames o (mine_of c.args.seat.now.me.0.known.mines) c.args.seat.now.me.0.caching) (sym c.follow_of.ensures ∙ c.in-Nothing.is) c.requires.guarded)
+    (subst (λ (o : Follow). IsAlmostGuarded (g.W.Ways.ways * c.args.layout.now.cpus) c.args.layout.now.frames o (mine_of c.args.seat.now.me.0.known.mines) c.args.seat.now.me.0.caching) (sym c.follow_of.ensures ∙ c.in-Nothing.is) c.requires.guarded)
 
 pub fill_loaded-requires-clause-at : goal.fill_loaded-requires-clause-at
 fill_loaded-requires-clause-at g c =
@@ -32,7 +32,7 @@ fill_loaded-requires-clause-shown g c =
 pub fill_loaded-requires-clause-guarded : goal.fill_loaded-requires-clause-guarded
 fill_loaded-requires-clause-guarded g c =
     guard-still (g.W.Ways.ways * c.args.layout.now.cpus) c.args.layout.now.frames (follows.Fill c.in-Fill.slot) (mine_of c.args.seat.now.me.0.known.mines) c.args.seat.now.me.0.caching (λ f none. none)
-        (subst (λ (o : Follow). IsAlmostGuarded (g.W.Ways.ways * c.args.layout.now.cpus) c.args.layout.now.frames o (mine_of c.args.seat.now.me.0.known.mines) c.args.seat.now.me.0.caching) (sym c.follow_of.ensures ∙ c.in-Fill.is) c.requires.guarded)
+    (subst (λ (o : Follow). IsAlmostGuarded (g.W.Ways.ways * c.args.layout.now.cpus) c.args.layout.now.frames o (mine_of c.args.seat.now.me.0.known.mines) c.args.seat.now.me.0.caching) (sym c.follow_of.ensures ∙ c.in-Fill.is) c.requires.guarded)
 
 pub sweep_locked-requires-clause-at : goal.sweep_locked-requires-clause-at
 sweep_locked-requires-clause-at g c =
@@ -62,4 +62,4 @@ returns-in-SweepAll-clause-rest g c = c.sweep_all.ensures.rest.rest
 pub returns-in-SweepAll-clause-guarded : goal.returns-in-SweepAll-clause-guarded
 returns-in-SweepAll-clause-guarded g c =
     guard-all c.args.layout.now c.args.seat.now.me c.args.order.now c.requires.seat.carries (g.W.Ways.ways * c.args.layout.now.cpus) c.sweep_all.new.seat.me c.sweep_all.ensures.rest
-        (subst (λ (o : Follow). IsAlmostGuarded (g.W.Ways.ways * c.args.layout.now.cpus) c.args.layout.now.frames o (mine_of c.args.seat.now.me.0.known.mines) c.args.seat.now.me.0.caching) (sym c.follow_of.ensures ∙ c.in-SweepAll.is) c.requires.guarded) c.sweep_all.ensures.swept
+    (subst (λ (o : Follow). IsAlmostGuarded (g.W.Ways.ways * c.args.layout.now.cpus) c.args.layout.now.frames o (mine_of c.args.seat.now.me.0.known.mines) c.args.seat.now.me.0.caching) (sym c.follow_of.ensures ∙ c.in-SweepAll.is) c.requires.guarded) c.sweep_all.ensures.swept

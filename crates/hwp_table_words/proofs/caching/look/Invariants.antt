@@ -1,5 +1,4 @@
 use Rattle.std.proofs.Common.{◌*◌}
-use Rattle.std.specs.Prelude.{None}
 use Rattle.hwp_table_words.specs.Caches.{call_of, load_of}
 use Rattle.hwp_table_words.proofs.caching.look.Given as goal
 

@@ -22,7 +22,7 @@ invariant_of-ended g c =
     let at-end : IsEnd g.W.Ways.ways c.args.table.shared.key c.args.pass.me.0.known (in_rule (take (size c.args.table.shared.key) words)) (slots_items c.close_with-closed.result.slots) (entries_in c.args.table.shared.key words) =
     ended g.W.Ways.ways c.args.table.shared.key c.args.pass.id c.args.pass.me.0 words (slots_items c.close_with-closed.result.slots) c.close_with-closed.ensures.values.2 (subst (λ (l : Layout). HasAll l c.args.pass.me.0.known) (sym key-is) c.requires.all) in
     subst (λ (k : Layout). IsEnd g.W.Ways.ways k c.of-of_pass.result.value.me.0.known c.read_words.new.words.items c.of.result.value.items (entries_in k (slots_items c.of-of_closed.result.value.words))) (sym (ap (λ t. t.shared.key) c.of-of_table.ensures))
-        (subst (λ (v : Known). IsEnd g.W.Ways.ways c.args.table.shared.key v c.read_words.new.words.items c.of.result.value.items (entries_in c.args.table.shared.key (slots_items c.of-of_closed.result.value.words))) (sym (ap (λ p. p.me.0.known) c.of-of_pass.ensures))
-        (subst (λ (ws : List ℕ). IsEnd g.W.Ways.ways c.args.table.shared.key c.args.pass.me.0.known ws c.of.result.value.items (entries_in c.args.table.shared.key (slots_items c.of-of_closed.result.value.words))) (sym (c.read_words.ensures ∙ ap (λ (n : ℕ). in_rule (take n words)) count))
-        (subst (λ (ws : List ℕ). IsEnd g.W.Ways.ways c.args.table.shared.key c.args.pass.me.0.known (in_rule (take (size c.args.table.shared.key) words)) c.of.result.value.items (entries_in c.args.table.shared.key ws)) (sym (ap (λ (e : _). slots_items e.words) c.of-of_closed.ensures))
-        (subst (λ (xs : _). IsEnd g.W.Ways.ways c.args.table.shared.key c.args.pass.me.0.known (in_rule (take (size c.args.table.shared.key) words)) xs (entries_in c.args.table.shared.key words)) (sym (ap (λ v. v.items) c.of.ensures ∙ c.take_slots.ensures.taken)) at-end))))
+    (subst (λ (v : Known). IsEnd g.W.Ways.ways c.args.table.shared.key v c.read_words.new.words.items c.of.result.value.items (entries_in c.args.table.shared.key (slots_items c.of-of_closed.result.value.words))) (sym (ap (λ p. p.me.0.known) c.of-of_pass.ensures))
+    (subst (λ (ws : List ℕ). IsEnd g.W.Ways.ways c.args.table.shared.key c.args.pass.me.0.known ws c.of.result.value.items (entries_in c.args.table.shared.key (slots_items c.of-of_closed.result.value.words))) (sym (c.read_words.ensures ∙ ap (λ (n : ℕ). in_rule (take n words)) count))
+    (subst (λ (ws : List ℕ). IsEnd g.W.Ways.ways c.args.table.shared.key c.args.pass.me.0.known (in_rule (take (size c.args.table.shared.key) words)) c.of.result.value.items (entries_in c.args.table.shared.key ws)) (sym (ap (λ (e : _). slots_items e.words) c.of-of_closed.ensures))
+    (subst (λ (xs : _). IsEnd g.W.Ways.ways c.args.table.shared.key c.args.pass.me.0.known (in_rule (take (size c.args.table.shared.key) words)) xs (entries_in c.args.table.shared.key words)) (sym (ap (λ v. v.items) c.of.ensures ∙ c.take_slots.ensures.taken)) at-end))))

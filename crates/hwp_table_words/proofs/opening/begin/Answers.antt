@@ -22,7 +22,7 @@ returns-in-Ok-clause-table g c =
     let same : c.deref-declared.result.now ≡ arc_value c.args.layout.now = c.deref-declared.ensures in
     let words-are : IsOpened (arc_value c.args.layout.now) (g.W.Ways.ways * (arc_value c.args.layout.now).cpus) c.as_slice.result.now =
     subst (λ (l : Layout). IsOpened l (g.W.Ways.ways * l.cpus) c.as_slice.result.now) same
-        (subst (λ (l : List ℕ). IsOpened c.deref-declared.result.now (g.W.Ways.ways * c.deref-declared.result.now.cpus) l) (sym c.as_slice.ensures.value) c.in_ok-words.ensures) in
+    (subst (λ (l : List ℕ). IsOpened c.deref-declared.result.now (g.W.Ways.ways * c.deref-declared.result.now.cpus) l) (sym c.as_slice.ensures.value) c.in_ok-words.ensures) in
     let e = c.in-Ok.ensures.ok in (
       record {
         sound = c.requires.sound;

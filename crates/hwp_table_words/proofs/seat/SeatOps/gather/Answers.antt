@@ -18,6 +18,6 @@ invariant_of-self g c = (
 pub returns : goal.returns
 returns g c =
     ap (λ (k : Knowing). value_of c.self.inside.sheet.now.table_id c.self.inside.layout.now k)
-        (gathered g.W.Ways.ways c.self.inside.layout.now c.self.inside.sheet.now.key c.self.inside.sheet.now.table_id c.self.inside.seat.table_id c.join.new.seat.table_id c.self.inside.seat.me c.join.new.seat.me c.self.inside.order.items
-            c.self.invariant.0 c.join.ensures.same c.args.note.me.0 c.requires.note.0 c.requires.note.1 c.join.ensures.seat)
+    (gathered g.W.Ways.ways c.self.inside.layout.now c.self.inside.sheet.now.key c.self.inside.sheet.now.table_id c.self.inside.seat.table_id c.join.new.seat.table_id c.self.inside.seat.me c.join.new.seat.me c.self.inside.order.items
+    c.self.invariant.0 c.join.ensures.same c.args.note.me.0 c.requires.note.0 c.requires.note.1 c.join.ensures.seat)
     ∙ ap (λ (v : SeatValue). record v { known = with_note v.known c.args.note.me.0.known }) c.self.view_is
