@@ -9,4 +9,4 @@ use Rattle.hwp_tlb.specs.Law.{NoneHandled}
 
 pub kept-none-handled : NoneHandled
 kept-none-handled layout t kept =
-    none-handled 16 layout (stand kept.reached.views (first_part layout t)) (drop (size layout) t.words) (map cache_seat t.views) kept.agree (reached-holds layout (first_part layout t) kept.reached)
+    none-handled layout (stand kept.reached.views (first_part layout t)) (reached-holds layout (first_part layout t) kept.reached) 16 (drop (size layout) t.words) (map cache_seat t.views) kept.agree

@@ -9,5 +9,5 @@ pub cached-end : (ways : ℕ) (ended : EndValue) → IsEnd ways ended.layout end
 cached-end ways ended end = record {
   count = end.entry_count;
   leads = end.lead;
-  in_use = none-handled ways ended.layout (board_of ended.words ended.slots end.views) ended.entries [] (record { count = end.entry_count; lead = end.lead; knows = λ i x e. absurd (none-some x e) }) end.holds;
+  in_use = none-handled ended.layout (board_of ended.words ended.slots end.views) end.holds ways ended.entries [] (record { count = end.entry_count; lead = end.lead; knows = λ i x e. absurd (none-some x e) });
 }
