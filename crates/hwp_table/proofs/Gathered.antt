@@ -1,5 +1,5 @@
 -- One seat takes all that the others have, from the last on.
-use Rattle.std.proofs.Common.{◌≡◌, ◌≢◌, ℕ, ◌+◌, ◌<◌, ◌==◌, List, [], ◌∷◌, ◌++◌, inl, inr, length, map, slice_get, sym, ap, ◌∙◌, subst, arith}
+use Rattle.std.proofs.Common.{◌≡◌, ◌≢◌, ℕ, ◌+◌, ◌<◌, ◌==◌, List, [], ◌∷◌, ◌++◌, inl, inr, length, map, slice_get, refl, sym, ap, ◌∙◌, subst, arith}
 use Rattle.std.specs.Prelude.{Option, Some, None}
 use Rattle.std.proofs.lemmas.List.{append_assoc, append-nil, length-append}
 use Rattle.std.proofs.lemmas.List.Sums.{sum_by-append, sum_by-cons}
@@ -22,6 +22,11 @@ use Rattle.hwp_table.specs.Boards.{IsAtTable, state_of, whole_then}
 use Rattle.hwp_table.specs.Seats.{AreThese, CanGather, Gathering, IsGathered, IsSeatOf, whole_at}
 use Rattle.hwp_table.specs.Turns.{played}
 use Rattle.hwp_table.proofs.Played.{moves-played}
+
+-- a list of no length is empty
+pub none-left : {A : Type 0} (xs : List A) → length xs ≡ 0 → xs ≡ []
+none-left [] none = refl
+none-left (x ∷ xs) none = absurd (omega (arith, none))
 
 module _ (id : TableId) (layout : Layout) (all : List SeatValue) (holder : ℕ) (w : Whole) (can : CanGather id layout all holder w) where
   abbrev views : List View

@@ -1,9 +1,10 @@
-use Rattle.std.proofs.Common.{List, [], ◌∷◌, ◌++◌, refl, sym, ap, ◌∙◌, arith}
+use Rattle.std.proofs.Common.{List, [], ◌∷◌, ◌++◌, refl, sym, ap, ◌∙◌, subst, arith}
 use Rattle.std.proofs.lemmas.List.{append-nil}
 use Rattle.atomic_table.specs.Seated.{TableId}
 use Rattle.hwp_table_words.specs.Known.{Knowing, joining}
 use Rattle.hwp_table_words.specs.Seats.{SeatValue}
-use Rattle.hwp_table.proofs.Gathered.{of-s, none-carried, first, more}
+use Rattle.hwp_table.specs.Seats.{IsGathered}
+use Rattle.hwp_table.proofs.Gathered.{of-s, none-carried, first, more, none-left}
 use Rattle.hwp_table.proofs.dealing.gather_seats.Goals as goal
 
 pub loop-seat-init : goal.loop-seat-init
@@ -38,3 +39,9 @@ loop-seat-preserved g c t these =
     let front = w.front ∙ ap (λ (l : List SeatValue). l ++ w.rest) c.in-Some-pop.ensures.items in
     more t.table t.layout c.args.seats.items t.holder t.whole these.can c.pop-in-loop-seat.new.self.items c.in-Some-pop.seat w.rest front c.loop-seat.seats.items c.loop-seat.pass.table_id c.join.new.seat.table_id c.loop-seat.pass.me c.join.new.seat.me
     c.in-Some-pop.ensures.items w c.join.ensures.same (c.join.ensures.seat ∙ ap (λ (k : Knowing). (joining c.loop-seat.pass.me.0 k, c.loop-seat.pass.me.1)) c.pass.ensures.same.1)
+
+pub returns : goal.returns
+returns g c t these =
+    let o = c.loop-seat.seats.ok in
+    let none = c.in_default-pop.ensures.cases in
+    subst (λ (l : List SeatValue). IsGathered t.table t.layout c.args.seats.items t.holder t.whole l c.loop-seat.pass.table_id c.loop-seat.pass.me) (none-left c.loop-seat.seats.items (omega (arith, o, none.0))) (c.loop-seat.invariant t these)
