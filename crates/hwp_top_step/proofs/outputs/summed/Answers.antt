@@ -7,10 +7,12 @@ use Rattle.hwp_top_step.proofs.outputs.summed.Goals as goal
 
 pub returns-clause-output : goal.returns-clause-output
 returns-clause-output c =
-    let same : c.in-Ok.script ≡ generated c.args.seed = c.in-Ok.ensures.script in
-    (record {
-      report_of = subst (λ (s : Script). IsReportOfRun s c.in-Ok-run_in_turns.run'.report c.in-Ok-run_in_turns.run'.ended) same
-          (record { run = c.in-Ok-run_in_turns.ensures.of_run; lawful = c.in-Ok-run_in_turns.ensures.lawful; core = c.in-Ok-run_in_turns.ensures.core; table = c.in-Ok-run_in_turns.ensures.ended });
-      status_is = refl;
-      text_is = c.in-Ok-print.ensures ∙ ap (summary_text c.args.seed) c.summary.ensures;
-    }, refl)
+    let same : c.in-Ok.script ≡ generated c.args.seed = c.in-Ok.ensures.script in (
+      record {
+        report_of = subst (λ (s : Script). IsReportOfRun s c.in-Ok-run_in_turns.run'.report c.in-Ok-run_in_turns.run'.ended) same
+            (record { run = c.in-Ok-run_in_turns.ensures.of_run; lawful = c.in-Ok-run_in_turns.ensures.lawful; core = c.in-Ok-run_in_turns.ensures.core; table = c.in-Ok-run_in_turns.ensures.ended });
+        status_is = refl;
+        text_is = c.in-Ok-print.ensures ∙ ap (summary_text c.args.seed) c.summary.ensures;
+      },
+      refl,
+    )
