@@ -36,9 +36,13 @@ noted_row threshold row = if sum row + 1 == threshold then replicate (length row
 abbrev pub noted_in : Counters → ℕ → Counters
 noted_in c frame = record c { counts = slice_set c.counts frame (noted_row c.threshold (row_of c frame)) }
 
--- the counters after a round: each frame has none in the new one, and its last count is forgotten
+-- a frame's counts after a round: none in the new one, and the last is forgotten
+abbrev pub next_row : List ℕ → List ℕ
+next_row row = take (length row) (0 ∷ row)
+
+-- the counters after a round
 abbrev pub rounded : Counters → Counters
-rounded c = record c { counts = map (λ row. take (length row) (0 ∷ row)) c.counts }
+rounded c = record c { counts = map next_row c.counts }
 
 -- the answer to a note with which so many are in the window
 abbrev pub answer : ℕ → ℕ → Noted

@@ -1,8 +1,8 @@
-ghost use Rattle.std.specs.Prelude.{◌≡◌, ◌<◌, ◌≤◌, [], ◌∷◌, ◌++◌, List, IfOk, length};
+ghost use Rattle.std.specs.Prelude.{◌≡◌, ◌<◌, ◌≤◌, ◌+◌, [], ◌∷◌, ◌++◌, List, IfOk, length, sum};
 ghost use Rattle.hwp_cec.specs.Limits.{threshold_limit, window_limit};
 ghost use Rattle.hwp_cec.specs.Ages.{CecEvent, Note, Round, live};
 ghost use Rattle.hwp_cec.specs.Counting.{counted};
-ghost use Rattle.hwp_cec.specs.Counters.{Counters, StandsFor, begun, noted_in, rounded, answer};
+ghost use Rattle.hwp_cec.specs.Counters.{Counters, StandsFor, IsCounted, begun, row_of, noted_in, rounded, answer};
 
 use crate::ring::Ring;
 use hwp_geom::{Frame, OutOfMemory};
@@ -92,6 +92,16 @@ impl Collector {
         ensures live { (events : List CecEvent) → StandsFor events self.old → result ≡ answer self.old.threshold (live self.old.threshold self.old.window events frame.0) }
         // or, which is the same, counted from scratch.
         ensures counted { (events : List CecEvent) → StandsFor events self.old → result ≡ answer self.old.threshold (counted self.old.threshold self.old.window events frame) }
+    {
+        self.tally(frame)
+    }
+
+    /// Counts the note, or forgets the frame's notes where it is the one that makes the threshold.
+    fn tally(&mut self, frame: Frame) -> Noted
+        requires { frame.0 < length self.old.counts }
+        ensures counts { self.new ≡ noted_in self.old frame.0 }
+        ensures answer { result ≡ answer self.old.threshold (sum (row_of self.old frame.0) + 1) }
+        ensures counted { IsCounted self.old }
     {
         let ring = &mut self.rings[usize::from(frame.0)];
         let count = ring.total() + 1;

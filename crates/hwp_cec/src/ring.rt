@@ -16,7 +16,7 @@ pub struct Ring {
     counts: [u16; ROOM],
     window: u8,
     /// The place of the current round. The round before it stands at the next place, and the first place follows on the last.
-    now: u8,
+    first: u8,
 }
 
 impl Model for Ring {
@@ -26,9 +26,9 @@ impl Model for Ring {
 
     ghost Value = { List ℕ };
 
-    ghost view = { λ r. turned r.now (take r.window r.counts) };
+    ghost view = { λ r. turned r.first (take r.window r.counts) };
 
-    ghost invariant = { λ r. (r.now < r.window) × (r.window ≤ window_limit) };
+    ghost invariant = { λ r. (r.first < r.window) × (r.window ≤ window_limit) };
 }
 
 impl Ring {
@@ -41,7 +41,7 @@ impl Ring {
         Ring {
             counts: [0; ROOM],
             window,
-            now: 0,
+            first: 0,
         }
     }
 
@@ -50,7 +50,7 @@ impl Ring {
         requires { sum self.now < 2 ^ 16 }
         ensures { result ≡ sum self.now }
     {
-        self.counts[..usize::from(self.window)].iter().sum()
+        sum_of(&self.counts[..usize::from(self.window)])
     }
 
     /// Counts one more note in the current round.
@@ -58,7 +58,7 @@ impl Ring {
         requires { slice_index self.old 0 + 1 < 2 ^ 16 }
         ensures { self.new ≡ slice_set self.old 0 (slice_index self.old 0 + 1) }
     {
-        self.counts[usize::from(self.now)] += 1;
+        self.counts[usize::from(self.first)] += 1;
     }
 
     /// Forgets all notes.
@@ -72,8 +72,15 @@ impl Ring {
     pub fn turn(&mut self)
         ensures { self.new ≡ take (length self.old) (0 ∷ self.old) }
     {
-        let behind = if self.now == 0 { self.window } else { self.now };
-        self.now = behind - 1;
-        self.counts[usize::from(self.now)] = 0;
+        let behind = if self.first == 0 { self.window } else { self.first };
+        self.first = behind - 1;
+        self.counts[usize::from(self.first)] = 0;
     }
+}
+
+fn sum_of(counts: &[u16]) -> u16
+    requires { sum counts.now < 2 ^ 16 }
+    ensures { result ≡ sum counts.now }
+{
+    counts.iter().sum()
 }
