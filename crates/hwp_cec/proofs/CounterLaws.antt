@@ -2,7 +2,9 @@
 use Rattle.std.proofs.Common.{◌≡◌, ◌≢◌, ℕ, zero, suc, ◌+◌, ◌-◌, ◌<◌, ◌≤◌, ◌==◌, nat_lt, Bool, true, false, cond, List, [], ◌∷◌, ◌++◌, All, length, get_or, set, take, drop, replicate, map, sum, count_by, if◌then◌else◌, refl, sym, ap, subst, ◌∙◌, inl, inr, eq-eqb, arith}
 use Rattle.std.proofs.lemmas.Bool.{cases_eq, ne_eqb, both_ways}
 use Rattle.std.proofs.lemmas.Bool.Decides.{nat_tests}
-use Rattle.std.proofs.lemmas.List.{get_or-replicate, get_or-set_same, get_or-set_other, get_or-take, length-set, length-map, length-replicate, length-take-le, get_or-append_right, get_or-drop, drop_more, set_at, append_assoc}
+use Rattle.std.proofs.lemmas.List.{get_or-replicate, get_or-set_same, get_or-set_other, get_or-take, length-set, length-map, length-replicate, length-take-le, get_or-append_right, get_or-drop, drop_more, drop_all, take_more, take_all, set_at, append-nil, append_assoc, map-append, replicate-append-replicate, with_items_is}
+use Rattle.std.specs.Vec.{with_items}
+use Rattle.std.specs.Prelude.{Vec}
 use Rattle.std.proofs.lemmas.List.Elements.{All-replicate, All-get_or, All-set, All-map, All-weaker}
 use Rattle.std.proofs.lemmas.List.Sums.{sum_by-cons, sum_by-set, sum_by-take-le}
 use Rattle.hwp_geom.specs.declared.Frame.{Frame}
@@ -10,7 +12,7 @@ use Rattle.hwp_cec.specs.declared.collector.Noted.{Noted}
 use Rattle.hwp_cec.specs.Limits.{threshold_limit, window_limit}
 use Rattle.hwp_cec.specs.Ages.{CecEvent, Note, Round, young, aged, ages_after, live}
 use Rattle.hwp_cec.specs.Counting.{counted}
-use Rattle.hwp_cec.specs.Counters.{Counters, row_of, counter, StandsFor, begun, noted_row, noted_in, rounded, answer, IsRow, IsCounted}
+use Rattle.hwp_cec.specs.Counters.{Counters, row_of, counter, StandsFor, begun, noted_row, noted_in, next_row, rounded, answer, IsRow, IsCounted}
 use Rattle.hwp_cec.proofs.Counts.{one, count-push, count-map, count-same, count-none}
 use Rattle.hwp_cec.proofs.AgeLaws.{ages-append, sum-young}
 use Rattle.hwp_cec.proofs.CountingLaws.{counted-live}
@@ -192,3 +194,42 @@ pub rows-more : (ys xs : List (List ℕ)) (i : ℕ) (y : List ℕ) → length ys
 rows-more ys xs i y long within =
     ap (λ (l : List (List ℕ)). set (ys ++ l) i y) (drop_more xs i [] within)
     ∙ (set_at ys (get_or xs i []) (drop (i + 1) xs) y i long ∙ sym (append_assoc ys (y ∷ []) (drop (i + 1) xs)))
+
+pub begun-more : (w i : ℕ) (items xs : List (List ℕ)) (y : List ℕ) → items ≡ replicate i (replicate w 0) ++ drop i xs → i < length xs → y ≡ replicate w 0
+    → set items i y ≡ replicate (i + 1) (replicate w 0) ++ drop (i + 1) xs
+begun-more w i items xs y are within is =
+    let zero_row : List ℕ = replicate w 0 in
+    let rows : List (List ℕ) = replicate i zero_row in
+    ap (λ (l : List (List ℕ)). set l i y) are
+    ∙ (rows-more rows xs i y (length-replicate i zero_row) within
+      ∙ ap (λ (l : List (List ℕ)). l ++ drop (i + 1) xs) (ap (λ (r : List ℕ). rows ++ r ∷ []) is ∙ replicate-append-replicate i 1 zero_row))
+
+pub rounded-more : (i : ℕ) (items xs : List (List ℕ)) (old y : List ℕ) → items ≡ map next_row (take i xs) ++ drop i xs → i < length xs
+    → old ≡ get_or items i [] → y ≡ next_row old → set items i y ≡ map next_row (take (i + 1) xs) ++ drop (i + 1) xs
+rounded-more i items xs old y are within was is =
+    let rows : List (List ℕ) = map next_row (take i xs) in
+    let long : length rows ≡ i = length-map (take i xs) next_row ∙ length-take-le i xs (omega (arith, within)) in
+    let read : old ≡ get_or xs i [] = was ∙ (ap (λ (l : List (List ℕ)). get_or l i []) are ∙ row-before rows xs i [] long) in
+    let made : rows ++ y ∷ [] ≡ map next_row (take (i + 1) xs) =
+      ap (λ (r : List ℕ). rows ++ r ∷ []) (is ∙ ap next_row read)
+      ∙ (sym (map-append next_row (take i xs) (get_or xs i [] ∷ [])) ∙ sym (ap (map next_row) (take_more xs i [] within))) in
+    ap (λ (l : List (List ℕ)). set l i y) are
+    ∙ (rows-more rows xs i y long within ∙ ap (λ (l : List (List ℕ)). l ++ drop (i + 1) xs) made)
+
+pub rounded-all : (i : ℕ) (items xs : List (List ℕ)) → items ≡ map next_row (take i xs) ++ drop i xs → length xs ≤ i → items ≡ map next_row xs
+rounded-all i items xs are past =
+    are
+    ∙ (ap (λ (l : List (List ℕ)). map next_row (take i xs) ++ l) (drop_all i xs past)
+      ∙ (append-nil (map next_row (take i xs)) ∙ ap (map next_row) (take_all i xs past)))
+
+abbrev pub with_rows : ℕ → ℕ → List (List ℕ) → Counters
+with_rows threshold window rows = record { threshold = threshold; window = window; counts = rows }
+
+-- the counters when the loop has ended
+pub rounded-whole : {Z : Type 0} (threshold window i : ℕ) (rings : Vec (List ℕ) Z) (made : List (List ℕ)) (v : Counters)
+    → with_rows threshold window rings.items ≡ v → made ≡ map next_row (take i v.counts) ++ drop i v.counts → length rings.items ≤ i → length made ≡ rings.len
+    → with_rows threshold window (with_items rings made).items ≡ rounded v
+rounded-whole threshold window i rings made v view are past same =
+    let long : length rings.items ≡ length v.counts = ap (λ (u : Counters). length u.counts) view in
+    ap (with_rows threshold window) (with_items_is rings made same ∙ rounded-all i made v.counts are (omega (arith, past, long)))
+    ∙ ap (λ (u : Counters). record u { counts = map next_row v.counts }) view

@@ -72,7 +72,7 @@ view-added first window v counts within room is =
 
 turned-replicate : (n m : ℕ) → n ≤ m → turned n (replicate m 0) ≡ replicate m 0
 turned-replicate n m within =
-    let long : length (replicate m 0) ≡ m = length-replicate m 0 in
+    let long : length {A = ℕ} (replicate m 0) ≡ m = length-replicate m 0 in
     let all : length (turned n (replicate m 0)) ≡ m = length-turned n (replicate m 0) (omega (arith, long, within)) ∙ long in
     same_lists (turned n (replicate m 0)) (replicate m 0) (all ∙ sym long) (λ k d h. grind (arith, places))
 

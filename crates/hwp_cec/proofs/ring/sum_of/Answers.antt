@@ -1,4 +1,0 @@
-use Rattle.hwp_cec.proofs.Counts
-use Rattle.hwp_cec.proofs.AgeLaws
-use Rattle.hwp_cec.proofs.CountingLaws
-use Rattle.hwp_cec.proofs.CounterLaws
