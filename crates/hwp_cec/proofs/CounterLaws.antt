@@ -34,9 +34,9 @@ pub begun-stands : (t w frames : ℕ) → StandsFor [] (begun t w frames)
 begun-stands t w frames =
     record {
       each = λ frame k in_frames in_window.
-        let zero_row : List ℕ = replicate w 0 in
-        ap (λ (row : List ℕ). get_or row k 0) (get_or-replicate frames frame zero_row [] (omega (arith, in_frames, length-replicate frames zero_row)))
-        ∙ get_or-replicate w k 0 0 in_window;
+          let zero_row : List ℕ = replicate w 0 in
+          ap (λ (row : List ℕ). get_or row k 0) (get_or-replicate frames frame zero_row [] (omega (arith, in_frames, length-replicate frames zero_row)))
+          ∙ get_or-replicate w k 0 0 in_window;
     }
 
 -- a note
@@ -72,10 +72,10 @@ noted_here c events frame k in_frames row stands in_window =
     let total : sum (row_of c frame.0) ≡ young w ages = sum-live c events frame.0 in_frames row stands in
     ap (λ (r : List ℕ). get_or r k 0) (get_or-set_same c.counts frame.0 (noted_row t (row_of c frame.0)) [] in_frames)
     ∙ (noted_count (row_of c frame.0) ages k (sum (row_of c frame.0) + 1 == t) (omega (arith, row.whole, in_window)) (λ j h. stands.each frame.0 j in_frames (omega (arith, h, row.whole)))
-      ∙ (ap (λ (n : ℕ). count_by (λ age. age == k) (if n + 1 == t then [] else ages ++ 0 ∷ [])) total
-        ∙ sym (ap (λ (l : List ℕ). count_by (λ age. age == k) l)
-          (ages-append t w frame.0 [] events (Note frame ∷ [])
-            ∙ ap (λ (b : Bool). if b then aged t w ages else ages) (eq-eqb frame.0 frame.0 refl)))))
+    ∙ (ap (λ (n : ℕ). count_by (λ age. age == k) (if n + 1 == t then [] else ages ++ 0 ∷ [])) total
+    ∙ sym (ap (λ (l : List ℕ). count_by (λ age. age == k) l)
+    (ages-append t w frame.0 [] events (Note frame ∷ [])
+    ∙ ap (λ (b : Bool). if b then aged t w ages else ages) (eq-eqb frame.0 frame.0 refl)))))
 
 noted_elsewhere : (c : Counters) (events : List CecEvent) (frame : Frame) (g k : ℕ) → g < length c.counts → g ≢ frame.0 → StandsFor events c → k < c.window
     → counter (noted_in c frame.0) g k ≡ count_by (λ age. age == k) (ages_after c.threshold c.window g [] (events ++ Note frame ∷ []))
@@ -83,24 +83,24 @@ noted_elsewhere c events frame g k in_frames other stands in_window =
     let ages : List ℕ = ages_after c.threshold c.window g [] events in
     ap (λ (r : List ℕ). get_or r k 0) (get_or-set_other c.counts frame.0 g (noted_row c.threshold (row_of c frame.0)) [] other)
     ∙ (stands.each g k in_frames in_window
-      ∙ sym (ap (λ (l : List ℕ). count_by (λ age. age == k) l)
-        (ages-append c.threshold c.window g [] events (Note frame ∷ [])
-          ∙ ap (λ (b : Bool). if b then aged c.threshold c.window ages else ages) (ne_eqb frame.0 g (λ h. other (sym h))))))
+    ∙ sym (ap (λ (l : List ℕ). count_by (λ age. age == k) l)
+    (ages-append c.threshold c.window g [] events (Note frame ∷ [])
+    ∙ ap (λ (b : Bool). if b then aged c.threshold c.window ages else ages) (ne_eqb frame.0 g (λ h. other (sym h))))))
 
 pub noted-stands : (c : Counters) (events : List CecEvent) (frame : Frame) → frame.0 < length c.counts → IsRow c.threshold c.window (row_of c frame.0)
     → StandsFor events c → StandsFor (events ++ Note frame ∷ []) (noted_in c frame.0)
 noted-stands c events frame in_frames row stands =
     record {
       each = λ g k g_in in_window.
-        let within : g < length c.counts = omega (arith, g_in, length-set c.counts frame.0 (noted_row c.threshold (row_of c frame.0))) in
-        elim (cases_eq g frame.0) [
-          | inl same ↦
-            subst
-            (λ (h : ℕ). counter (noted_in c frame.0) h k ≡ count_by (λ age. age == k) (ages_after c.threshold c.window h [] (events ++ Note frame ∷ [])))
-            (sym same)
-            (noted_here c events frame k in_frames row stands in_window)
-          | inr other ↦ noted_elsewhere c events frame g k within other stands in_window
-        ];
+          let within : g < length c.counts = omega (arith, g_in, length-set c.counts frame.0 (noted_row c.threshold (row_of c frame.0))) in
+          elim (cases_eq g frame.0) [
+            | inl same ↦
+                subst
+                (λ (h : ℕ). counter (noted_in c frame.0) h k ≡ count_by (λ age. age == k) (ages_after c.threshold c.window h [] (events ++ Note frame ∷ [])))
+                (sym same)
+                (noted_here c events frame k in_frames row stands in_window)
+            | inr other ↦ noted_elsewhere c events frame g k within other stands in_window
+          ];
     }
 
 -- what is answered by the counters is what the notes in the window come to
@@ -121,7 +121,7 @@ noted_row-counted t w row true is some has =
     record { whole = length-replicate (length row) 0 ∙ has.whole; below = omega (arith, sum-zeros (length row), has.below) }
 noted_row-counted t w row false is some has =
     let more : sum (set row 0 (get_or row 0 0 + 1)) + get_or row 0 0 ≡ sum row + (get_or row 0 0 + 1) =
-      sum_by-set (λ x. x) row 0 (get_or row 0 0 + 1) 0 (omega (arith, some, has.whole)) in
+    sum_by-set (λ x. x) row 0 (get_or row 0 0 + 1) 0 (omega (arith, some, has.whole)) in
     let less : sum row + 1 ≢ t = λ h. both_ways (sum row + 1 == t) is (eq-eqb (sum row + 1) t h) in
     record { whole = length-set row 0 (get_or row 0 0 + 1) ∙ has.whole; below = omega (arith, more, less, has.below) }
 
@@ -133,7 +133,7 @@ noted-counted c f within is =
       some_rounds = is.some_rounds;
       rounds_within = is.rounds_within;
       rows = All-set (IsRow c.threshold c.window) c.counts f (noted_row c.threshold (row_of c f))
-        (noted_row-counted c.threshold c.window (row_of c f) (sum (row_of c f) + 1 == c.threshold) refl is.some_rounds row) is.rows;
+          (noted_row-counted c.threshold c.window (row_of c f) (sum (row_of c f) + 1 == c.threshold) refl is.some_rounds row) is.rows;
     }
 
 -- a round
@@ -151,18 +151,18 @@ older_count row ages zero within each =
 older_count row ages (suc k) within each =
     get_or-take (length row) (0 ∷ row) (suc k) 0 within
     ∙ (each k (omega (arith, within))
-      ∙ sym (count-map (λ age. age == suc k) (λ age. age + 1) ages
-        ∙ count-same (λ age. (age + 1) == suc k) (λ age. age == k) ages (λ age. grind (arith, nat_tests))))
+    ∙ sym (count-map (λ age. age == suc k) (λ age. age + 1) ages
+    ∙ count-same (λ age. (age + 1) == suc k) (λ age. age == k) ages (λ age. grind (arith, nat_tests))))
 
 pub rounded-stands : (c : Counters) (events : List CecEvent) → IsCounted c → StandsFor events c → StandsFor (events ++ Round ∷ []) (rounded c)
 rounded-stands c events is stands =
     record {
       each = λ f k f_in in_window.
-        let within : f < length c.counts = omega (arith, f_in, length-map c.counts (λ (row : List ℕ). take (length row) (0 ∷ row))) in
-        let has : IsRow c.threshold c.window (row_of c f) = All-get_or (IsRow c.threshold c.window) c.counts f [] within is.rows in
-        let ages : List ℕ = ages_after c.threshold c.window f [] events in
-        ap (λ (r : List ℕ). get_or r k 0) (get_or-map (λ (row : List ℕ). take (length row) (0 ∷ row)) c.counts f [] [] within)
-        ∙ (older_count (row_of c f) ages k (omega (arith, has.whole, in_window)) (λ j h. stands.each f j within (omega (arith, h, has.whole)))
+          let within : f < length c.counts = omega (arith, f_in, length-map c.counts (λ (row : List ℕ). take (length row) (0 ∷ row))) in
+          let has : IsRow c.threshold c.window (row_of c f) = All-get_or (IsRow c.threshold c.window) c.counts f [] within is.rows in
+          let ages : List ℕ = ages_after c.threshold c.window f [] events in
+          ap (λ (r : List ℕ). get_or r k 0) (get_or-map (λ (row : List ℕ). take (length row) (0 ∷ row)) c.counts f [] [] within)
+          ∙ (older_count (row_of c f) ages k (omega (arith, has.whole, in_window)) (λ j h. stands.each f j within (omega (arith, h, has.whole)))
           ∙ sym (ap (λ (l : List ℕ). count_by (λ age. age == k) l) (ages-append c.threshold c.window f [] events (Round ∷ []))));
     }
 
@@ -182,7 +182,7 @@ rounded-counted c is =
       some_rounds = is.some_rounds;
       rounds_within = is.rounds_within;
       rows = All-map (IsRow c.threshold c.window) (λ (row : List ℕ). take (length row) (0 ∷ row)) c.counts
-        (All-weaker (IsRow c.threshold c.window) (λ row. IsRow c.threshold c.window (take (length row) (0 ∷ row))) (rounded_row c.threshold c.window) c.counts is.rows);
+          (All-weaker (IsRow c.threshold c.window) (λ row. IsRow c.threshold c.window (take (length row) (0 ∷ row))) (rounded_row c.threshold c.window) c.counts is.rows);
     }
 
 -- in a loop over all rows: the first i have been made anew, and the rest is as it was
@@ -202,7 +202,7 @@ begun-more w i items xs y are within is =
     let rows : List (List ℕ) = replicate i zero_row in
     ap (λ (l : List (List ℕ)). set l i y) are
     ∙ (rows-more rows xs i y (length-replicate i zero_row) within
-      ∙ ap (λ (l : List (List ℕ)). l ++ drop (i + 1) xs) (ap (λ (r : List ℕ). rows ++ r ∷ []) is ∙ replicate-append-replicate i 1 zero_row))
+    ∙ ap (λ (l : List (List ℕ)). l ++ drop (i + 1) xs) (ap (λ (r : List ℕ). rows ++ r ∷ []) is ∙ replicate-append-replicate i 1 zero_row))
 
 pub rounded-more : (i : ℕ) (items xs : List (List ℕ)) (old y : List ℕ) → items ≡ map next_row (take i xs) ++ drop i xs → i < length xs
     → old ≡ get_or items i [] → y ≡ next_row old → set items i y ≡ map next_row (take (i + 1) xs) ++ drop (i + 1) xs
@@ -211,8 +211,8 @@ rounded-more i items xs old y are within was is =
     let long : length rows ≡ i = length-map (take i xs) next_row ∙ length-take-le i xs (omega (arith, within)) in
     let read : old ≡ get_or xs i [] = was ∙ (ap (λ (l : List (List ℕ)). get_or l i []) are ∙ row-before rows xs i [] long) in
     let made : rows ++ y ∷ [] ≡ map next_row (take (i + 1) xs) =
-      ap (λ (r : List ℕ). rows ++ r ∷ []) (is ∙ ap next_row read)
-      ∙ (sym (map-append next_row (take i xs) (get_or xs i [] ∷ [])) ∙ sym (ap (map next_row) (take_more xs i [] within))) in
+    ap (λ (r : List ℕ). rows ++ r ∷ []) (is ∙ ap next_row read)
+    ∙ (sym (map-append next_row (take i xs) (get_or xs i [] ∷ [])) ∙ sym (ap (map next_row) (take_more xs i [] within))) in
     ap (λ (l : List (List ℕ)). set l i y) are
     ∙ (rows-more rows xs i y long within ∙ ap (λ (l : List (List ℕ)). l ++ drop (i + 1) xs) made)
 
@@ -220,7 +220,7 @@ pub rounded-all : (i : ℕ) (items xs : List (List ℕ)) → items ≡ map next_
 rounded-all i items xs are past =
     are
     ∙ (ap (λ (l : List (List ℕ)). map next_row (take i xs) ++ l) (drop_all i xs past)
-      ∙ (append-nil (map next_row (take i xs)) ∙ ap (map next_row) (take_all i xs past)))
+    ∙ (append-nil (map next_row (take i xs)) ∙ ap (map next_row) (take_all i xs past)))
 
 abbrev pub with_rows : ℕ → ℕ → List (List ℕ) → Counters
 with_rows threshold window rows = record { threshold = threshold; window = window; counts = rows }

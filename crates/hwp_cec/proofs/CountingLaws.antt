@@ -43,20 +43,20 @@ notes-young w f (Note g ∷ older) some =
 notes-young w f (Round ∷ older) some =
     elim (cases_eq w 1) [
       | inl last ↦
-        ap (λ (b : Bool). count_by (is_note f) (cond b [] (Round ∷ after_round (w - 1) older))) (eq-eqb w 1 last)
-        ∙ sym (young-older w (ages_of f older) ∙ (ap (λ (v : ℕ). young v (ages_of f older)) (omega (arith, last)) ∙ none_young (ages_of f older)))
+          ap (λ (b : Bool). count_by (is_note f) (cond b [] (Round ∷ after_round (w - 1) older))) (eq-eqb w 1 last)
+          ∙ sym (young-older w (ages_of f older) ∙ (ap (λ (v : ℕ). young v (ages_of f older)) (omega (arith, last)) ∙ none_young (ages_of f older)))
       | inr not_last ↦
-        ap (λ (b : Bool). count_by (is_note f) (cond b [] (Round ∷ after_round (w - 1) older))) (ne_eqb w 1 not_last)
-        ∙ (sum_by-cons (λ event. one (is_note f event)) Round (after_round (w - 1) older)
+          ap (λ (b : Bool). count_by (is_note f) (cond b [] (Round ∷ after_round (w - 1) older))) (ne_eqb w 1 not_last)
+          ∙ (sum_by-cons (λ event. one (is_note f event)) Round (after_round (w - 1) older)
           ∙ (zero-add (notes_of (w - 1) f older)
-            ∙ (notes-young (w - 1) f older (omega (arith, some, not_last)) ∙ sym (young-older w (ages_of f older)))))
+          ∙ (notes-young (w - 1) f older (omega (arith, some, not_last)) ∙ sym (young-older w (ages_of f older)))))
     ]
 
 -- with a note that isn't of the frame, or isn't offlining, its age is added; with an offlining note no age is left
 noted : (p : ℕ → Bool) (t f y : ℕ) (g : Frame) (ages : List ℕ) (since : List CecEvent) (b : Bool) → (g.0 == f) ≡ b
     → ((q : ℕ → Bool) → count_by q ages ≡ count_by q (ages_of f since))
     → count_by p (if b then (if y + 1 == t then [] else ages ++ 0 ∷ []) else ages)
-      ≡ count_by p (ages_of f (if b && (one b + y == t) then [] else Note g ∷ since))
+    ≡ count_by p (ages_of f (if b && (one b + y == t) then [] else Note g ∷ since))
 noted p t f y g ages since false is same =
     same p ∙ sym (ap (λ (b : Bool). count_by p (if b then 0 ∷ ages_of f since else ages_of f since)) is)
 noted p t f y g ages since true is same =
@@ -65,11 +65,11 @@ noted p t f y g ages since true is same =
     at : (c : Bool) → count_by p (if c then [] else ages ++ 0 ∷ []) ≡ count_by p (ages_of f (if c then [] else Note g ∷ since))
     at true = refl
     at false =
-      count-push p ages 0
-      ∙ (ap (λ (n : ℕ). n + one (p 0)) (same p)
+        count-push p ages 0
+        ∙ (ap (λ (n : ℕ). n + one (p 0)) (same p)
         ∙ (omega arith
-          ∙ (sym (count-cons p 0 (ages_of f since))
-            ∙ sym (ap (λ (b : Bool). count_by p (if b then 0 ∷ ages_of f since else ages_of f since)) is))))
+        ∙ (sym (count-cons p 0 (ages_of f since))
+        ∙ sym (ap (λ (b : Bool). count_by p (if b then 0 ∷ ages_of f since else ages_of f since)) is))))
 
 -- the ages that are kept event by event are those of the notes after the last offlining one
 ages-scratch : (t w f : ℕ) (newest_first : List CecEvent) → 1 ≤ w → (p : ℕ → Bool)
@@ -79,29 +79,29 @@ ages-scratch t w f (Round ∷ older) some p =
     let before : List ℕ = ages_after t w f [] (reverse older) in
     ap (λ (events : List CecEvent). count_by p (ages_after t w f [] events)) (reverse_onto older Round [])
     ∙ (ap (count_by p) (ages-append t w f [] (reverse older) (Round ∷ []))
-      ∙ (count-map p (λ age. age + 1) before
-        ∙ (ages-scratch t w f older some (λ age. p (age + 1))
-          ∙ sym (count-map p (λ age. age + 1) (ages_of f (after_offlining t w f older))))))
+    ∙ (count-map p (λ age. age + 1) before
+    ∙ (ages-scratch t w f older some (λ age. p (age + 1))
+    ∙ sym (count-map p (λ age. age + 1) (ages_of f (after_offlining t w f older))))))
 ages-scratch t w f (Note g ∷ older) some p =
     let before : List ℕ = ages_after t w f [] (reverse older) in
     let since : List CecEvent = after_offlining t w f older in
     let same : (q : ℕ → Bool) → count_by q before ≡ count_by q (ages_of f since) = λ q. ages-scratch t w f older some q in
     let notes : notes_of w f (Note g ∷ since) ≡ one (g.0 == f) + young w before =
-      notes-note w f g since
-      ∙ ap (λ (n : ℕ). one (g.0 == f) + n) (notes-young w f since some ∙ sym (same (λ age. nat_lt age w))) in
+    notes-note w f g since
+    ∙ ap (λ (n : ℕ). one (g.0 == f) + n) (notes-young w f since some ∙ sym (same (λ age. nat_lt age w))) in
     ap (λ (events : List CecEvent). count_by p (ages_after t w f [] events)) (reverse_onto older (Note g) [])
     ∙ (ap (count_by p) (ages-append t w f [] (reverse older) (Note g ∷ []))
-      ∙ (noted p t f (young w before) g before since (g.0 == f) refl same
-        ∙ sym (ap (λ (n : ℕ). count_by p (ages_of f (if (g.0 == f) && (n == t) then [] else Note g ∷ since))) notes)))
+    ∙ (noted p t f (young w before) g before since (g.0 == f) refl same
+    ∙ sym (ap (λ (n : ℕ). count_by p (ages_of f (if (g.0 == f) && (n == t) then [] else Note g ∷ since))) notes)))
 
 -- counting from scratch comes to the same as counting by ages
 pub counted-live : (t w : ℕ) (events : List CecEvent) (frame : Frame) → 1 ≤ w → counted t w events frame ≡ live t w events frame.0
 counted-live t w events frame some =
     let since : List CecEvent = after_offlining t w frame.0 (reverse events) in
     let same : young w (ages_after t w frame.0 [] (reverse (reverse events))) ≡ young w (ages_of frame.0 since) =
-      ages-scratch t w frame.0 (reverse events) some (λ age. nat_lt age w) in
+    ages-scratch t w frame.0 (reverse events) some (λ age. nat_lt age w) in
     let whole : young w (ages_after t w frame.0 [] (reverse (reverse events))) ≡ young w (ages_after t w frame.0 [] events) =
-      ap (λ (l : List CecEvent). young w (ages_after t w frame.0 [] l)) (reverse-reverse events) in
+    ap (λ (l : List CecEvent). young w (ages_after t w frame.0 [] l)) (reverse-reverse events) in
     let first : notes_of w frame.0 (Note frame ∷ since) ≡ one (frame.0 == frame.0) + notes_of w frame.0 since = notes-note w frame.0 frame since in
     let one_here : one (frame.0 == frame.0) ≡ 1 = ap one (eq-eqb frame.0 frame.0 refl) in
     let rest : notes_of w frame.0 since ≡ young w (ages_of frame.0 since) = notes-young w frame.0 since some in

@@ -42,14 +42,14 @@ take-behind (suc n) k (x ∷ a) b same = ap (λ (l : List ℕ). x ∷ l) (take-b
 take_one_less : (m n : ℕ) (xs : List ℕ) → length xs ≡ suc m → suc n ≤ suc m → drop (suc n) xs ++ take n xs ≡ take m (turned (suc n) xs)
 take_one_less m n xs long within =
     sym (take-behind m n (drop (suc n) xs) (take (suc n) xs) (omega (arith, length-drop (suc n) xs, long))
-      ∙ ap (λ (l : List ℕ). drop (suc n) xs ++ l) (take-take n (suc n) xs (omega arith)))
+    ∙ ap (λ (l : List ℕ). drop (suc n) xs ++ l) (take-take n (suc n) xs (omega arith)))
 
 -- the place before the one that was read first is read first, and has a new number: the last one is gone
 pub turned-back : (n : ℕ) (xs : List ℕ) (y : ℕ) → suc n ≤ length xs → turned n (set xs n y) ≡ take (length xs) (y ∷ turned (suc n) xs)
 turned-back n [] y within = absurd (omega (arith, within))
 turned-back n (x ∷ xs) y within =
     rw (drop-set_here n (x ∷ xs) y (omega (arith, within)), take-set)
-      (ap (λ (l : List ℕ). y ∷ l) (take_one_less (length xs) n (x ∷ xs) refl within))
+    (ap (λ (l : List ℕ). y ∷ l) (take_one_less (length xs) n (x ∷ xs) refl within))
 
 -- the same where the first place was read first: then the last place is
 pub turned-round : (n : ℕ) (xs : List ℕ) (y : ℕ) → length xs ≡ suc n → turned n (set xs n y) ≡ take (length xs) (y ∷ turned 0 xs)
@@ -97,7 +97,7 @@ back place window counts within room =
     let long : length (take window counts) ≡ window = length-take-le window counts room in
     ap (turned place) (take-set-lt window counts place 0 (omega (arith, within)))
     ∙ (turned-back place (take window counts) 0 (omega (arith, long, within))
-      ∙ ap (λ (m : ℕ). take m (0 ∷ turned (suc place) (take window counts))) (long ∙ sym (length-view (suc place) window counts within room)))
+    ∙ ap (λ (m : ℕ). take m (0 ∷ turned (suc place) (take window counts))) (long ∙ sym (length-view (suc place) window counts within room)))
 
 -- a turn, where the place before the one that was read first is read first
 pub view-back : (place first window : ℕ) (counts : List ℕ) → suc place ≡ first → first < window → window ≤ length counts
@@ -114,7 +114,7 @@ round place counts room =
     let long : length (take (suc place) counts) ≡ suc place = length-take-le (suc place) counts room in
     ap (turned place) (take-set-lt (suc place) counts place 0 (omega arith))
     ∙ (turned-round place (take (suc place) counts) 0 long
-      ∙ ap (λ (m : ℕ). take m (0 ∷ turned 0 (take (suc place) counts))) (long ∙ sym (length-view 0 (suc place) counts (omega arith) room)))
+    ∙ ap (λ (m : ℕ). take m (0 ∷ turned 0 (take (suc place) counts))) (long ∙ sym (length-view 0 (suc place) counts (omega arith) room)))
 
 -- a turn, where the last place is
 pub view-round : (place first window : ℕ) (counts : List ℕ) → first ≡ 0 → suc place ≡ window → window ≤ length counts

@@ -46,7 +46,12 @@ impl Collector {
     ///
     /// # Errors
     /// `OutOfMemory` where there is none.
-    pub fn new(alloc: Global, threshold: u16, window: u8, frames: u16) -> Result<Collector, OutOfMemory>
+    pub fn new(
+        alloc: Global,
+        threshold: u16,
+        window: u8,
+        frames: u16,
+    ) -> Result<Collector, OutOfMemory>
         requires some { 1 ≤ threshold }
         requires within { threshold ≤ threshold_limit }
         requires some_rounds { 1 ≤ window }

@@ -72,7 +72,11 @@ impl Ring {
     pub fn turn(&mut self)
         ensures { self.new ≡ take (length self.old) (0 ∷ self.old) }
     {
-        let behind = if self.first == 0 { self.window } else { self.first };
+        let behind = if self.first == 0 {
+            self.window
+        } else {
+            self.first
+        };
         self.first = behind - 1;
         self.counts[usize::from(self.first)] = 0;
     }

@@ -71,7 +71,13 @@ impl Guest {
     /// The guest's machine check for an access that met a bad line. The event goes into the guest's bank and is graded, with RIPV and
     /// EIPV set, by the severity table. In user mode it is row S9, required, and the frame is bad from then on. In kernel mode it is row
     /// S10, and the guest is stopped. Then the bank is empty again.
-    pub fn take(&mut self, slot: VSlot, line: Line, access: Access, mode: Mode) -> (Event, Grade, Taken)
+    pub fn take(
+        &mut self,
+        slot: VSlot,
+        line: Line,
+        access: Access,
+        mode: Mode,
+    ) -> (Event, Grade, Taken)
         requires admitted { admitted self.old slot.0 ≡ Admit.Yes }
         requires within { slot.0 < slot_limit }
         ensures event { result.0 ≡ own_event (origin_of access) (guest_frame slot) line }

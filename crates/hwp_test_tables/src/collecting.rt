@@ -20,8 +20,11 @@ enum Step {
 }
 
 const ONE: Noted = Noted::Counted(1);
+
 const TWO: Noted = Noted::Counted(2);
+
 const THREE: Noted = Noted::Counted(3);
+
 const OFF: Noted = Noted::Offline;
 
 fn is_within(threshold: u16, window: u8) -> bool {

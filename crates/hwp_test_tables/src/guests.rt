@@ -57,7 +57,13 @@ fn takes(rt: &impl Abort, guest: &mut Guest, meeting: &Meeting) {
         misc: 0x86,
     };
     assert!(rt; event == told);
-    assert!(rt; grade == Grade { severity: meeting.severity, row: meeting.row });
+    assert!(rt;
+        grade
+            == Grade {
+                severity: meeting.severity,
+                row: meeting.row
+            }
+    );
     assert!(rt; taken == meeting.taken);
 }
 
