@@ -1,8 +1,13 @@
-//! Tests of the small crates: numbers and lists, sources and sinks, packed words, banks, and the grading of a machine check.
+//! Tests of the small crates: numbers and lists, sources and sinks, packed words, banks, the grading of a machine check,
+//! the collector of corrected errors, and guests.
 #![tactic(auto)]
 
 #[cfg(test)]
 mod banks;
+#[cfg(test)]
+mod collecting;
+#[cfg(test)]
+mod guests;
 #[cfg(test)]
 mod handling;
 #[cfg(test)]

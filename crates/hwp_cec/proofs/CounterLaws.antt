@@ -1,0 +1,235 @@
+-- The counters stand for one event more after a note and after a round, and what is so of them at any time stays so.
+use Rattle.std.proofs.Common.{◌≡◌, ◌≢◌, ℕ, zero, suc, ◌+◌, ◌-◌, ◌<◌, ◌≤◌, ◌==◌, nat_lt, Bool, true, false, cond, List, [], ◌∷◌, ◌++◌, All, length, get_or, set, take, drop, replicate, map, sum, count_by, if◌then◌else◌, refl, sym, ap, subst, ◌∙◌, inl, inr, eq-eqb, arith}
+use Rattle.std.proofs.lemmas.Bool.{cases_eq, ne_eqb, both_ways}
+use Rattle.std.proofs.lemmas.Bool.Decides.{nat_tests}
+use Rattle.std.proofs.lemmas.List.{get_or-replicate, get_or-set_same, get_or-set_other, get_or-take, length-set, length-map, length-replicate, length-take-le, get_or-append_right, get_or-drop, drop_more, drop_all, take_more, take_all, set_at, append-nil, append_assoc, map-append, replicate-append-replicate, with_items_is}
+use Rattle.std.specs.Vec.{with_items}
+use Rattle.std.specs.Prelude.{Vec}
+use Rattle.std.proofs.lemmas.List.Elements.{All-replicate, All-get_or, All-set, All-map, All-weaker}
+use Rattle.std.proofs.lemmas.List.Sums.{sum_by-cons, sum_by-set, sum_by-take-le}
+use Rattle.hwp_geom.specs.declared.Frame.{Frame}
+use Rattle.hwp_cec.specs.declared.collector.Noted.{Noted}
+use Rattle.hwp_cec.specs.Limits.{threshold_limit, window_limit}
+use Rattle.hwp_cec.specs.Ages.{CecEvent, Note, Round, young, aged, ages_after, live}
+use Rattle.hwp_cec.specs.Counting.{counted}
+use Rattle.hwp_cec.specs.Counters.{Counters, row_of, counter, StandsFor, begun, noted_row, noted_in, next_row, rounded, answer, IsRow, IsCounted}
+use Rattle.hwp_cec.proofs.Counts.{one, count-push, count-map, count-same, count-none}
+use Rattle.hwp_cec.proofs.AgeLaws.{ages-append, sum-young}
+use Rattle.hwp_cec.proofs.CountingLaws.{counted-live}
+
+-- without a note
+
+sum-zeros : (n : ℕ) → sum (replicate n 0) ≡ 0
+sum-zeros zero = refl
+sum-zeros (suc n) = sum_by-cons (λ x. x) 0 (replicate n 0) ∙ (ap (λ (m : ℕ). 0 + m) (sum-zeros n) ∙ omega arith)
+
+zeros : (t w : ℕ) → 1 ≤ t → IsRow t w (replicate w 0)
+zeros t w some = record { whole = length-replicate w 0; below = omega (arith, some, sum-zeros w) }
+
+pub begun-counted : (t w frames : ℕ) → 1 ≤ t → t ≤ threshold_limit → 1 ≤ w → w ≤ window_limit → IsCounted (begun t w frames)
+begun-counted t w frames some low some_rounds within =
+    record { low = low; some_rounds = some_rounds; rounds_within = within; rows = All-replicate (IsRow t w) frames (replicate w 0) (zeros t w some) }
+
+pub begun-stands : (t w frames : ℕ) → StandsFor [] (begun t w frames)
+begun-stands t w frames =
+    record {
+      each = λ frame k in_frames in_window.
+          let zero_row : List ℕ = replicate w 0 in
+          ap (λ (row : List ℕ). get_or row k 0) (get_or-replicate frames frame zero_row [] (omega (arith, in_frames, length-replicate frames zero_row)))
+          ∙ get_or-replicate w k 0 0 in_window;
+    }
+
+-- a note
+
+-- a frame's counts are together the notes in the window
+sum-live : (c : Counters) (events : List CecEvent) (f : ℕ) → f < length c.counts → IsRow c.threshold c.window (row_of c f) → StandsFor events c
+    → sum (row_of c f) ≡ young c.window (ages_after c.threshold c.window f [] events)
+sum-live c events f in_frames row stands =
+    let ages : List ℕ = ages_after c.threshold c.window f [] events in
+    sum-young (row_of c f) ages (λ k h. stands.each f k in_frames (omega (arith, h, row.whole)))
+    ∙ ap (λ (n : ℕ). young n ages) row.whole
+
+noted_count : (row ages : List ℕ) (k : ℕ) (b : Bool) → k < length row → ((j : ℕ) → j < length row → get_or row j 0 ≡ count_by (λ age. age == j) ages)
+    → get_or (if b then replicate (length row) 0 else set row 0 (get_or row 0 0 + 1)) k 0 ≡ count_by (λ age. age == k) (if b then [] else ages ++ 0 ∷ [])
+noted_count row ages k true within each = get_or-replicate (length row) k 0 0 within
+noted_count row ages zero false within each =
+    get_or-set_same row 0 (get_or row 0 0 + 1) 0 within
+    ∙ (ap (λ (n : ℕ). n + 1) (each 0 within) ∙ sym (count-push (λ age. age == 0) ages 0))
+noted_count row ages (suc k) false within each =
+    let more : count_by (λ age. age == suc k) (ages ++ 0 ∷ []) ≡ count_by (λ age. age == suc k) ages + one (0 == suc k) = count-push (λ age. age == suc k) ages 0 in
+    let none : one (0 == suc k) ≡ 0 = ap one (ne_eqb 0 (suc k) (λ h. absurd (omega (arith, h)))) in
+    get_or-set_other row 0 (suc k) (get_or row 0 0 + 1) 0 (λ h. absurd (omega (arith, h)))
+    ∙ (each (suc k) within ∙ omega (arith, more, none))
+
+noted_here : (c : Counters) (events : List CecEvent) (frame : Frame) (k : ℕ) → frame.0 < length c.counts → IsRow c.threshold c.window (row_of c frame.0)
+    → StandsFor events c → k < c.window
+    → counter (noted_in c frame.0) frame.0 k ≡ count_by (λ age. age == k) (ages_after c.threshold c.window frame.0 [] (events ++ Note frame ∷ []))
+noted_here c events frame k in_frames row stands in_window =
+    let f : ℕ = frame.0 in
+    let t : ℕ = c.threshold in
+    let w : ℕ = c.window in
+    let ages : List ℕ = ages_after t w frame.0 [] events in
+    let total : sum (row_of c frame.0) ≡ young w ages = sum-live c events frame.0 in_frames row stands in
+    ap (λ (r : List ℕ). get_or r k 0) (get_or-set_same c.counts frame.0 (noted_row t (row_of c frame.0)) [] in_frames)
+    ∙ (noted_count (row_of c frame.0) ages k (sum (row_of c frame.0) + 1 == t) (omega (arith, row.whole, in_window)) (λ j h. stands.each frame.0 j in_frames (omega (arith, h, row.whole)))
+    ∙ (ap (λ (n : ℕ). count_by (λ age. age == k) (if n + 1 == t then [] else ages ++ 0 ∷ [])) total
+    ∙ sym (ap (λ (l : List ℕ). count_by (λ age. age == k) l)
+    (ages-append t w frame.0 [] events (Note frame ∷ [])
+    ∙ ap (λ (b : Bool). if b then aged t w ages else ages) (eq-eqb frame.0 frame.0 refl)))))
+
+noted_elsewhere : (c : Counters) (events : List CecEvent) (frame : Frame) (g k : ℕ) → g < length c.counts → g ≢ frame.0 → StandsFor events c → k < c.window
+    → counter (noted_in c frame.0) g k ≡ count_by (λ age. age == k) (ages_after c.threshold c.window g [] (events ++ Note frame ∷ []))
+noted_elsewhere c events frame g k in_frames other stands in_window =
+    let ages : List ℕ = ages_after c.threshold c.window g [] events in
+    ap (λ (r : List ℕ). get_or r k 0) (get_or-set_other c.counts frame.0 g (noted_row c.threshold (row_of c frame.0)) [] other)
+    ∙ (stands.each g k in_frames in_window
+    ∙ sym (ap (λ (l : List ℕ). count_by (λ age. age == k) l)
+    (ages-append c.threshold c.window g [] events (Note frame ∷ [])
+    ∙ ap (λ (b : Bool). if b then aged c.threshold c.window ages else ages) (ne_eqb frame.0 g (λ h. other (sym h))))))
+
+pub noted-stands : (c : Counters) (events : List CecEvent) (frame : Frame) → frame.0 < length c.counts → IsRow c.threshold c.window (row_of c frame.0)
+    → StandsFor events c → StandsFor (events ++ Note frame ∷ []) (noted_in c frame.0)
+noted-stands c events frame in_frames row stands =
+    record {
+      each = λ g k g_in in_window.
+          let within : g < length c.counts = omega (arith, g_in, length-set c.counts frame.0 (noted_row c.threshold (row_of c frame.0))) in
+          elim (cases_eq g frame.0) [
+            | inl same ↦
+                subst
+                (λ (h : ℕ). counter (noted_in c frame.0) h k ≡ count_by (λ age. age == k) (ages_after c.threshold c.window h [] (events ++ Note frame ∷ [])))
+                (sym same)
+                (noted_here c events frame k in_frames row stands in_window)
+            | inr other ↦ noted_elsewhere c events frame g k within other stands in_window
+          ];
+    }
+
+-- what is answered by the counters is what the notes in the window come to
+pub answer-live : (c : Counters) (events : List CecEvent) (frame : Frame) → frame.0 < length c.counts → IsRow c.threshold c.window (row_of c frame.0)
+    → StandsFor events c → answer c.threshold (sum (row_of c frame.0) + 1) ≡ answer c.threshold (live c.threshold c.window events frame.0)
+answer-live c events frame in_frames row stands =
+    ap (λ (n : ℕ). answer c.threshold (n + 1)) (sum-live c events frame.0 in_frames row stands)
+
+pub answer-counted : (c : Counters) (events : List CecEvent) (frame : Frame) → 1 ≤ c.window → frame.0 < length c.counts
+    → IsRow c.threshold c.window (row_of c frame.0) → StandsFor events c
+    → answer c.threshold (sum (row_of c frame.0) + 1) ≡ answer c.threshold (counted c.threshold c.window events frame)
+answer-counted c events frame some in_frames row stands =
+    answer-live c events frame in_frames row stands ∙ sym (ap (answer c.threshold) (counted-live c.threshold c.window events frame some))
+
+noted_row-counted : (t w : ℕ) (row : List ℕ) (b : Bool) → (sum row + 1 == t) ≡ b → 1 ≤ w → IsRow t w row
+    → IsRow t w (if b then replicate (length row) 0 else set row 0 (get_or row 0 0 + 1))
+noted_row-counted t w row true is some has =
+    record { whole = length-replicate (length row) 0 ∙ has.whole; below = omega (arith, sum-zeros (length row), has.below) }
+noted_row-counted t w row false is some has =
+    let more : sum (set row 0 (get_or row 0 0 + 1)) + get_or row 0 0 ≡ sum row + (get_or row 0 0 + 1) =
+    sum_by-set (λ x. x) row 0 (get_or row 0 0 + 1) 0 (omega (arith, some, has.whole)) in
+    let less : sum row + 1 ≢ t = λ h. both_ways (sum row + 1 == t) is (eq-eqb (sum row + 1) t h) in
+    record { whole = length-set row 0 (get_or row 0 0 + 1) ∙ has.whole; below = omega (arith, more, less, has.below) }
+
+pub noted-counted : (c : Counters) (f : ℕ) → f < length c.counts → IsCounted c → IsCounted (noted_in c f)
+noted-counted c f within is =
+    let row : IsRow c.threshold c.window (row_of c f) = All-get_or (IsRow c.threshold c.window) c.counts f [] within is.rows in
+    record {
+      low = is.low;
+      some_rounds = is.some_rounds;
+      rounds_within = is.rounds_within;
+      rows = All-set (IsRow c.threshold c.window) c.counts f (noted_row c.threshold (row_of c f))
+          (noted_row-counted c.threshold c.window (row_of c f) (sum (row_of c f) + 1 == c.threshold) refl is.some_rounds row) is.rows;
+    }
+
+-- a round
+
+get_or-map : (f : List ℕ → List ℕ) (rows : List (List ℕ)) (i : ℕ) (d e : List ℕ) → i < length rows → get_or (map f rows) i d ≡ f (get_or rows i e)
+get_or-map f [] i d e within = absurd (omega (arith, within))
+get_or-map f (row ∷ rows) zero d e within = refl
+get_or-map f (row ∷ rows) (suc i) d e within = get_or-map f rows i d e (omega (arith, within))
+
+older_count : (row ages : List ℕ) (k : ℕ) → k < length row → ((j : ℕ) → j < length row → get_or row j 0 ≡ count_by (λ age. age == j) ages)
+    → get_or (take (length row) (0 ∷ row)) k 0 ≡ count_by (λ age. age == k) (map (λ age. age + 1) ages)
+older_count row ages zero within each =
+    get_or-take (length row) (0 ∷ row) 0 0 within
+    ∙ sym (count-map (λ age. age == 0) (λ age. age + 1) ages ∙ count-none (λ age. (age + 1) == 0) ages (λ age. grind (arith, nat_tests)))
+older_count row ages (suc k) within each =
+    get_or-take (length row) (0 ∷ row) (suc k) 0 within
+    ∙ (each k (omega (arith, within))
+    ∙ sym (count-map (λ age. age == suc k) (λ age. age + 1) ages
+    ∙ count-same (λ age. (age + 1) == suc k) (λ age. age == k) ages (λ age. grind (arith, nat_tests))))
+
+pub rounded-stands : (c : Counters) (events : List CecEvent) → IsCounted c → StandsFor events c → StandsFor (events ++ Round ∷ []) (rounded c)
+rounded-stands c events is stands =
+    record {
+      each = λ f k f_in in_window.
+          let within : f < length c.counts = omega (arith, f_in, length-map c.counts (λ (row : List ℕ). take (length row) (0 ∷ row))) in
+          let has : IsRow c.threshold c.window (row_of c f) = All-get_or (IsRow c.threshold c.window) c.counts f [] within is.rows in
+          let ages : List ℕ = ages_after c.threshold c.window f [] events in
+          ap (λ (r : List ℕ). get_or r k 0) (get_or-map (λ (row : List ℕ). take (length row) (0 ∷ row)) c.counts f [] [] within)
+          ∙ (older_count (row_of c f) ages k (omega (arith, has.whole, in_window)) (λ j h. stands.each f j within (omega (arith, h, has.whole)))
+          ∙ sym (ap (λ (l : List ℕ). count_by (λ age. age == k) l) (ages-append c.threshold c.window f [] events (Round ∷ []))));
+    }
+
+rounded_row : (t w : ℕ) (row : List ℕ) → IsRow t w row → IsRow t w (take (length row) (0 ∷ row))
+rounded_row t w row has =
+    let less : sum (take (length row) (0 ∷ row)) ≤ sum (0 ∷ row) = sum_by-take-le (λ x. x) (0 ∷ row) (length row) in
+    let same : sum (0 ∷ row) ≡ 0 + sum row = sum_by-cons (λ x. x) 0 row in
+    record {
+      whole = length-take-le (length row) (0 ∷ row) (omega arith) ∙ has.whole;
+      below = omega (arith, less, same, has.below);
+    }
+
+pub rounded-counted : (c : Counters) → IsCounted c → IsCounted (rounded c)
+rounded-counted c is =
+    record {
+      low = is.low;
+      some_rounds = is.some_rounds;
+      rounds_within = is.rounds_within;
+      rows = All-map (IsRow c.threshold c.window) (λ (row : List ℕ). take (length row) (0 ∷ row)) c.counts
+          (All-weaker (IsRow c.threshold c.window) (λ row. IsRow c.threshold c.window (take (length row) (0 ∷ row))) (rounded_row c.threshold c.window) c.counts is.rows);
+    }
+
+-- in a loop over all rows: the first i have been made anew, and the rest is as it was
+
+pub row-before : (ys xs : List (List ℕ)) (i : ℕ) (d : List ℕ) → length ys ≡ i → get_or (ys ++ drop i xs) i d ≡ get_or xs i d
+row-before ys xs i d long = get_or-append_right ys (drop i xs) i i d long (omega arith) ∙ (get_or-drop i xs (i - i) d ∙ ap (λ (k : ℕ). get_or xs k d) (omega arith))
+
+pub rows-more : (ys xs : List (List ℕ)) (i : ℕ) (y : List ℕ) → length ys ≡ i → i < length xs → set (ys ++ drop i xs) i y ≡ (ys ++ y ∷ []) ++ drop (i + 1) xs
+rows-more ys xs i y long within =
+    ap (λ (l : List (List ℕ)). set (ys ++ l) i y) (drop_more xs i [] within)
+    ∙ (set_at ys (get_or xs i []) (drop (i + 1) xs) y i long ∙ sym (append_assoc ys (y ∷ []) (drop (i + 1) xs)))
+
+pub begun-more : (w i : ℕ) (items xs : List (List ℕ)) (y : List ℕ) → items ≡ replicate i (replicate w 0) ++ drop i xs → i < length xs → y ≡ replicate w 0
+    → set items i y ≡ replicate (i + 1) (replicate w 0) ++ drop (i + 1) xs
+begun-more w i items xs y are within is =
+    let zero_row : List ℕ = replicate w 0 in
+    let rows : List (List ℕ) = replicate i zero_row in
+    ap (λ (l : List (List ℕ)). set l i y) are
+    ∙ (rows-more rows xs i y (length-replicate i zero_row) within
+    ∙ ap (λ (l : List (List ℕ)). l ++ drop (i + 1) xs) (ap (λ (r : List ℕ). rows ++ r ∷ []) is ∙ replicate-append-replicate i 1 zero_row))
+
+pub rounded-more : (i : ℕ) (items xs : List (List ℕ)) (old y : List ℕ) → items ≡ map next_row (take i xs) ++ drop i xs → i < length xs
+    → old ≡ get_or items i [] → y ≡ next_row old → set items i y ≡ map next_row (take (i + 1) xs) ++ drop (i + 1) xs
+rounded-more i items xs old y are within was is =
+    let rows : List (List ℕ) = map next_row (take i xs) in
+    let long : length rows ≡ i = length-map (take i xs) next_row ∙ length-take-le i xs (omega (arith, within)) in
+    let read : old ≡ get_or xs i [] = was ∙ (ap (λ (l : List (List ℕ)). get_or l i []) are ∙ row-before rows xs i [] long) in
+    let made : rows ++ y ∷ [] ≡ map next_row (take (i + 1) xs) =
+    ap (λ (r : List ℕ). rows ++ r ∷ []) (is ∙ ap next_row read)
+    ∙ (sym (map-append next_row (take i xs) (get_or xs i [] ∷ [])) ∙ sym (ap (map next_row) (take_more xs i [] within))) in
+    ap (λ (l : List (List ℕ)). set l i y) are
+    ∙ (rows-more rows xs i y long within ∙ ap (λ (l : List (List ℕ)). l ++ drop (i + 1) xs) made)
+
+pub rounded-all : (i : ℕ) (items xs : List (List ℕ)) → items ≡ map next_row (take i xs) ++ drop i xs → length xs ≤ i → items ≡ map next_row xs
+rounded-all i items xs are past =
+    are
+    ∙ (ap (λ (l : List (List ℕ)). map next_row (take i xs) ++ l) (drop_all i xs past)
+    ∙ (append-nil (map next_row (take i xs)) ∙ ap (map next_row) (take_all i xs past)))
+
+abbrev pub with_rows : ℕ → ℕ → List (List ℕ) → Counters
+with_rows threshold window rows = record { threshold = threshold; window = window; counts = rows }
+
+-- the counters when the loop has ended
+pub rounded-whole : {Z : Type 0} (threshold window i : ℕ) (rings : Vec (List ℕ) Z) (made : List (List ℕ)) (v : Counters)
+    → with_rows threshold window rings.items ≡ v → made ≡ map next_row (take i v.counts) ++ drop i v.counts → length rings.items ≤ i → length made ≡ rings.len
+    → with_rows threshold window (with_items rings made).items ≡ rounded v
+rounded-whole threshold window i rings made v view are past same =
+    let long : length rings.items ≡ length v.counts = ap (λ (u : Counters). length u.counts) view in
+    ap (with_rows threshold window) (with_items_is rings made same ∙ rounded-all i made v.counts are (omega (arith, past, long)))
+    ∙ ap (λ (u : Counters). record u { counts = map next_row v.counts }) view

@@ -1,0 +1,99 @@
+//! The collector of corrected errors: what it answers to notes of two frames, with rounds between them.
+
+use hwp_cec::{Collector, Frame, MAX_THRESHOLD, MAX_WINDOW, Noted};
+use std::alloc::Global;
+use std::process::Abort;
+
+const FRAMES: u16 = 2;
+
+/// What is told to a collector, and what it has to answer.
+#[derive(Clone, Copy)]
+enum Step {
+    /// A note of the frame, which isn't 2 or above.
+    Note(u16, Noted),
+    /// So many notes of frame 0, which are the first, the second, .. in the window.
+    Notes(u16),
+    /// So many rounds end.
+    Rounds(u8),
+    /// It begins anew, with this threshold and window.
+    Restart(u16, u8),
+}
+
+const ONE: Noted = Noted::Counted(1);
+
+const TWO: Noted = Noted::Counted(2);
+
+const THREE: Noted = Noted::Counted(3);
+
+const OFF: Noted = Noted::Offline;
+
+fn is_within(threshold: u16, window: u8) -> bool {
+    1 <= threshold && threshold <= MAX_THRESHOLD && 1 <= window && window <= MAX_WINDOW
+}
+
+/// The steps are answered so.
+fn answers(rt: &impl Abort, alloc: Global, threshold: u16, window: u8, steps: &[Step]) {
+    assert!(rt; is_within(threshold, window));
+    let mut collector = Collector::new(alloc, threshold, window, FRAMES).expect(rt, "memory");
+    for step in steps {
+        match *step {
+            Step::Note(frame, answer) => {
+                assert!(rt; frame < FRAMES);
+                assert!(rt; collector.note(Frame(frame)) == answer);
+            }
+            Step::Notes(count) => {
+                for before in 0..count {
+                    assert!(rt; collector.note(Frame(0)) == Noted::Counted(before + 1));
+                }
+            }
+            Step::Rounds(count) => {
+                for _ in 0..count {
+                    collector.round();
+                }
+            }
+            Step::Restart(threshold, window) => {
+                assert!(rt; is_within(threshold, window));
+                collector.restart(threshold, window);
+            }
+        }
+    }
+}
+
+/// A threshold, a window, and the steps with what they are answered.
+type Row = (u16, u8, &'static [Step]);
+
+/// Worked out by hand: the notes that a frame has in the current round and the `window - 1` rounds before it, since its last `Offline`.
+#[rattlefmt::skip]
+const ROWS: [Row; 9] = [
+    // Each note is the one that makes the threshold.
+    (1, 1, &[Step::Note(0, OFF), Step::Note(0, OFF), Step::Rounds(1), Step::Note(0, OFF)]),
+    // The note of the round before counts, and `Offline` forgets both.
+    (2, 2, &[Step::Note(0, ONE), Step::Rounds(1), Step::Note(0, OFF), Step::Note(0, ONE), Step::Rounds(1), Step::Note(0, OFF)]),
+    // With a window of one round it doesn't.
+    (2, 1, &[Step::Note(0, ONE), Step::Rounds(1), Step::Note(0, ONE), Step::Note(0, OFF)]),
+    // Two rounds on, it doesn't with a window of two; what `Offline` forgot doesn't come back.
+    (2, 2, &[Step::Note(0, ONE), Step::Rounds(2), Step::Note(0, ONE), Step::Rounds(1), Step::Note(0, OFF), Step::Rounds(1), Step::Note(0, ONE)]),
+    // Each frame has its own count: frame 0 is offlined, and frame 1 isn't; its first note falls out of the window.
+    (3, 2, &[
+        Step::Note(0, ONE), Step::Note(1, ONE), Step::Note(0, TWO), Step::Rounds(1), Step::Note(0, OFF), Step::Note(1, TWO),
+        Step::Rounds(1), Step::Note(1, TWO), Step::Note(0, ONE),
+    ]),
+    // The ring turns more than once: one note in each round, of which the last three count.
+    (10, 3, &[
+        Step::Note(0, ONE), Step::Rounds(1), Step::Note(0, TWO), Step::Rounds(1), Step::Note(0, THREE), Step::Rounds(1), Step::Note(0, THREE),
+        Step::Rounds(1), Step::Note(0, THREE), Step::Rounds(2), Step::Note(0, TWO),
+    ]),
+    // The highest threshold.
+    (1000, 64, &[Step::Notes(999), Step::Note(0, OFF), Step::Note(0, ONE)]),
+    // The longest window: the first note still counts 63 rounds later, and no more one round after that.
+    (1000, 64, &[Step::Note(0, ONE), Step::Rounds(63), Step::Note(0, TWO), Step::Rounds(1), Step::Note(0, TWO)]),
+    // Begun anew, it has no note, and another threshold and window.
+    (5, 1, &[Step::Notes(4), Step::Restart(2, 3), Step::Note(0, ONE), Step::Rounds(2), Step::Note(0, OFF)]),
+];
+
+#[test]
+fn a_collector_counts_the_notes_of_the_last_rounds(rt: HostRuntime) {
+    for (threshold, window, steps) in ROWS {
+        answers(&rt, rt.alloc(), threshold, window, steps);
+    }
+}
