@@ -42,8 +42,7 @@ impl Processor {
         let list = List::from_vec(Vec::from_slice(alloc, commands)?);
         let rows = Vec::with_capacity(alloc, commands.len())?;
         let mut local = Local::new(alloc, layout.files)?;
-        let mut job = None;
-        begin(alloc, &layout, cpu, commands, 0, &mut local, &mut job);
+        let job = first(alloc, &layout, cpu, commands, &mut local);
         Ok(Processor {
             alloc,
             layout,
@@ -94,7 +93,7 @@ impl Processor {
         let number = self.rows.len();
         self.rows.push_reserved(row);
         let commands = self.commands.as_slice();
-        begin(
+        begin_next(
             self.alloc,
             &self.layout,
             self.cpu,
@@ -106,9 +105,29 @@ impl Processor {
     }
 }
 
-/// The command of this number at its beginning, in place of the one that is there; `None` past the last. It takes what the banks hold,
-/// if it can add to that, and gets the number of its file's handle.
-fn begin(
+/// The first command at its beginning; `None` where there is none. It takes what the banks hold, if it can add to that, and gets the
+/// number of its file's handle.
+fn first(
+    alloc: Global,
+    layout: &Layout,
+    cpu: Cpu,
+    commands: &[Command],
+    local: &mut Local,
+) -> Option<Job>
+    requires sound { IsSound layout.now }
+    requires commands { AreCommands layout.now cpu commands.now }
+    ensures begins { BeginsAt layout.now (at_number cpu 0) (slice_get commands.now 0) local.old result }
+    ensures local { local.new ≡ left_of result local.old }
+{
+    let Some(command) = commands.get(0) else {
+        return None;
+    };
+    let who = Who { cpu, seq: 0 };
+    Some(Job::new(alloc, layout, who, *command, local))
+}
+
+/// The command of this number begins in the same way, in place of the one that runs; past the last none runs.
+fn begin_next(
     alloc: Global,
     layout: &Layout,
     cpu: Cpu,
@@ -120,26 +139,29 @@ fn begin(
     requires sound { IsSound layout.now }
     requires commands { AreCommands layout.now cpu commands.now }
     requires inside { number ≤ length commands.now }
+    requires running { IsSome job.old }
     ensures begins { BeginsAt layout.now (at_number cpu number) (slice_get commands.now number) local.old job.new }
     ensures local { local.new ≡ left_of job.new local.old }
 {
     let Some(command) = commands.get(number) else {
-        set(job, None);
+        end(job);
         return;
     };
     let who = Who {
         cpu,
         seq: number as u32,
     };
-    let next = Job::new(alloc, layout, who, *command, local);
-    set(job, Some(next));
+    match job {
+        Some(running) => running.begin_next(alloc, layout, who, *command, local),
+        None => unreachable!(),
+    }
 }
 
-/// The value lies in the place, and the one before it is let go there.
-fn set<T: Drop>(place: &mut T, value: T)
-    ensures { place.new ≡ value }
+/// None runs. The one that ran is let go where it lies.
+fn end<T: Drop>(job: &mut Option<T>)
+    ensures { job.new ≡ None }
 {
-    *place = value;
+    *job = None;
 }
 
 impl Task for Processor {
