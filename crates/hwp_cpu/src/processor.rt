@@ -9,7 +9,6 @@ use hwp_cpu_row::{
     Task, Turn, Who,
 };
 use std::alloc::{AllocError, Global};
-use std::mem;
 use std::sync::Arc;
 
 /// The commands of one processor, which run one after the other. Each comes to a row.
@@ -43,7 +42,7 @@ impl Processor {
         let list = List::from_vec(Vec::from_slice(alloc, commands)?);
         let rows = Vec::with_capacity(alloc, commands.len())?;
         let mut local = Local::new(alloc, layout.files)?;
-        let job = begin(alloc, &layout, cpu, commands, 0, &mut local);
+        let job = first(alloc, &layout, cpu, commands, &mut local);
         Ok(Processor {
             alloc,
             layout,
@@ -87,50 +86,82 @@ impl Processor {
         requires room { length self.old.rows.items < length self.old.commands }
         ensures { IsSomeAnd self.old.job (λ j. IsAnswered self.old j answer self.new) }
     {
-        let Some(job) = self.job.take() else {
+        let Some(job) = &mut self.job else {
             return;
         };
         let row = job.finish(self.alloc, answer, &mut self.local);
         let number = self.rows.len();
         self.rows.push_reserved(row);
         let commands = self.commands.as_slice();
-        let next = begin(
+        begin_next(
             self.alloc,
             &self.layout,
             self.cpu,
             commands,
             number + 1,
             &mut self.local,
+            &mut self.job,
         );
-        // in one call, and not part by part
-        drop(mem::replace(&mut self.job, next));
     }
 }
 
-/// The command of this number at its beginning; `None` past the last. It takes what the banks hold, if it can add to that, and gets
-/// the number of its file's handle.
-fn begin(
+/// The first command at its beginning; `None` where there is none. It takes what the banks hold, if it can add to that, and gets the
+/// number of its file's handle.
+fn first(
+    alloc: Global,
+    layout: &Layout,
+    cpu: Cpu,
+    commands: &[Command],
+    local: &mut Local,
+) -> Option<Job>
+    requires sound { IsSound layout.now }
+    requires commands { AreCommands layout.now cpu commands.now }
+    ensures begins { BeginsAt layout.now (at_number cpu 0) (slice_get commands.now 0) local.old result }
+    ensures local { local.new ≡ left_of result local.old }
+{
+    let Some(command) = commands.get(0) else {
+        return None;
+    };
+    let who = Who { cpu, seq: 0 };
+    Some(Job::new(alloc, layout, who, *command, local))
+}
+
+/// The command of this number begins in the same way, in place of the one that runs; past the last none runs.
+fn begin_next(
     alloc: Global,
     layout: &Layout,
     cpu: Cpu,
     commands: &[Command],
     number: usize,
     local: &mut Local,
-) -> Option<Job>
+    job: &mut Option<Job>,
+)
     requires sound { IsSound layout.now }
     requires commands { AreCommands layout.now cpu commands.now }
     requires inside { number ≤ length commands.now }
-    ensures begins { BeginsAt layout.now (at_number cpu number) (slice_get commands.now number) local.old result }
-    ensures local { local.new ≡ left_of result local.old }
+    requires running { IsSome job.old }
+    ensures begins { BeginsAt layout.now (at_number cpu number) (slice_get commands.now number) local.old job.new }
+    ensures local { local.new ≡ left_of job.new local.old }
 {
     let Some(command) = commands.get(number) else {
-        return None;
+        end(job);
+        return;
     };
     let who = Who {
         cpu,
         seq: number as u32,
     };
-    Some(Job::new(alloc, layout, who, *command, local))
+    match job {
+        Some(running) => running.begin_next(alloc, layout, who, *command, local),
+        None => unreachable!(),
+    }
+}
+
+/// None runs. The one that ran is let go where it lies.
+fn end<T: Drop>(job: &mut Option<T>)
+    ensures { job.new ≡ None }
+{
+    *job = None;
 }
 
 impl Task for Processor {

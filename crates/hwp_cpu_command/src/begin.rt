@@ -8,7 +8,12 @@ ghost use Rattle.hwp_cpu_row.specs.hwp_banks.Banks.{empty_banks};
 ghost use Rattle.hwp_cpu_row.specs.hwp_banks.Banks.{raw_event};
 ghost use Rattle.hwp_cpu_row.specs.Locals.{number_in};
 ghost use Rattle.hwp_cpu_row.specs.hwp_law.Policies.{arguments};
+ghost use Rattle.hwp_cpu_control.specs.Nesteds as nesteds;
 ghost use Rattle.hwp_cpu_control.specs.Spoils as spoils;
+ghost use Rattle.hwp_soft.specs.hwp_claim.Injects as injects;
+ghost use Rattle.hwp_soft.specs.Softs as softs;
+ghost use Rattle.hwp_soft.specs.hwp_soft_unpoison.Unpoisons as unpoisons;
+ghost use Rattle.hwp_scrub.specs.Scrubs as scrubs;
 ghost use Rattle.hwp_evict.specs.Fsyncs as fsyncs;
 ghost use Rattle.hwp_cpu_raise.specs.Logs as logs;
 ghost use Rattle.hwp_cpu_raise.specs.Raises as raises;
@@ -44,6 +49,26 @@ impl Job {
         ensures handle { HasHandle local.old.handles result }
         ensures local { local.new ≡ local_left result local.old }
     {
+        let mut job = Job::Nested(Nested::new(who));
+        job.begin_next(alloc, layout, who, command, local);
+        job
+    }
+
+    /// The same in place of the command that is there, which is let go: what it carries lies where the other one lay.
+    pub fn begin_next(
+        &mut self,
+        alloc: Global,
+        layout: &Layout,
+        who: Who,
+        command: Command,
+        local: &mut Local,
+    )
+        requires sound { IsSound layout.now }
+        requires of { IsCommandOf layout.now who.cpu.0 command }
+        ensures begins { Begins layout.now who command local.old.banks self.new }
+        ensures handle { HasHandle local.old.handles self.new }
+        ensures local { local.new ≡ local_left self.new local.old }
+    {
         begin(
             alloc,
             layout,
@@ -51,11 +76,13 @@ impl Job {
             command,
             &mut local.banks,
             &local.handles,
-        )
+            self,
+        );
     }
 }
 
-/// The command at its beginning, of a processor with these banks and handles.
+/// The command at its beginning, of a processor with these banks and handles, in place of the one that is there. What a kind of command
+/// needs room for stands in a function of its own.
 fn begin(
     alloc: Global,
     layout: &Layout,
@@ -63,22 +90,33 @@ fn begin(
     command: Command,
     banks: &mut [Bank; BANKS],
     handles: &Handles,
-) -> Job
+    job: &mut Job,
+)
     requires sound { IsSound layout.now }
     requires of { IsCommandOf layout.now who.cpu.0 command }
-    ensures begins { Begins layout.now who command banks.old result }
-    ensures handle { HasHandle handles.now result }
-    ensures banks { banks.new ≡ left_in result banks.old }
+    ensures begins { Begins layout.now who command banks.old job.new }
+    ensures handle { HasHandle handles.now job.new }
+    ensures banks { banks.new ≡ left_in job.new banks.old }
 {
     match command {
         Command::Load { thread, slot, line } => {
-            access(alloc, layout, who, thread, slot, line, LOAD, banks)
+            access(alloc, layout, who, thread, slot, line, LOAD, banks, job)
         }
         Command::Fetch { thread, slot, line } => {
-            access(alloc, layout, who, thread, slot, line, FETCH, banks)
+            access(alloc, layout, who, thread, slot, line, FETCH, banks, job)
         }
         Command::KLoad { thread, slot, line } => {
-            access(alloc, layout, who, thread, slot, line, KERNEL_LOAD, banks)
+            access(
+                alloc,
+                layout,
+                who,
+                thread,
+                slot,
+                line,
+                KERNEL_LOAD,
+                banks,
+                job,
+            )
         }
         Command::Store {
             thread,
@@ -88,30 +126,91 @@ fn begin(
         } => {
             let kind = AccessKind::Store { word };
             let store = Manner { kind, ..LOAD };
-            access(alloc, layout, who, thread, slot, line, store, banks)
+            access(alloc, layout, who, thread, slot, line, store, banks, job);
         }
-        Command::Free { slot } => { Job::Evict(Evict::free_slot(who, slot, page_of(layout, slot))) }
-        Command::Drop { page } => Job::Evict(Evict::drop_page(who, page)),
-        Command::Sync { page } => Job::Evict(Evict::sync_page(who, page)),
-        Command::Out { page } => Job::Evict(Evict::out_page(who, page)),
-        Command::Fsync { file } => ask(who, file, handles, false),
-        Command::Open { file } => ask(who, file, handles, true),
-        Command::Prctl { thread, args } => call(layout, who, thread, args),
-        Command::Bad { frame, line } => spoil_line(who, frame, line, Damage::Bad),
-        Command::Weak { frame, line } => spoil_line(who, frame, line, Damage::Weak),
-        Command::Scrub { first, last } => {
-            Job::Scrub(Scrub::new(alloc, who, first, last, taken(banks)))
-        }
-        Command::Log { status, addr, misc } => log_event(who, status, addr, misc, banks),
+        Command::Free { slot } => evict(Evict::free_slot(who, slot, page_of(layout, slot)), job),
+        Command::Drop { page } => evict(Evict::drop_page(who, page), job),
+        Command::Sync { page } => evict(Evict::sync_page(who, page), job),
+        Command::Out { page } => evict(Evict::out_page(who, page), job),
+        Command::Fsync { file } => ask(who, file, handles, false, job),
+        Command::Open { file } => ask(who, file, handles, true, job),
+        Command::Prctl { thread, args } => call(layout, who, thread, args, job),
+        Command::Bad { frame, line } => spoil_line(who, frame, line, Damage::Bad, job),
+        Command::Weak { frame, line } => spoil_line(who, frame, line, Damage::Weak, job),
+        Command::Scrub { first, last } => { scrub(alloc, who, first, last, banks, job) }
+        Command::Log { status, addr, misc } => { log_event(who, status, addr, misc, banks, job) }
         Command::RaiseUser { thread, ripv, eipv } => {
-            raise_user(alloc, layout, who, thread, McgBits { ripv, eipv }, banks)
+            raise_user(
+                alloc,
+                layout,
+                who,
+                thread,
+                McgBits { ripv, eipv },
+                banks,
+                job,
+            )
         }
-        Command::RaiseKernel { ripv, eipv } => raise_kernel(alloc, who, ripv, eipv, banks),
-        Command::RaiseNested => Job::Nested(Nested::new(who)),
-        Command::Inject { frame } => Job::Inject(Inject::new(alloc, who, frame)),
-        Command::Soft { frame } => Job::Soft(Soft::new(who, frame)),
-        Command::Unpoison { frame } => Job::Unpoison(Unpoison::new(who, frame)),
+        Command::RaiseKernel { ripv, eipv } => raise_kernel(alloc, who, ripv, eipv, banks, job),
+        Command::RaiseNested => nested(who, job),
+        Command::Inject { frame } => inject(alloc, who, frame, job),
+        Command::Soft { frame } => soft(who, frame, job),
+        Command::Unpoison { frame } => unpoison(who, frame, job),
     }
+}
+
+/// The value lies in the place, and the one before it is let go there.
+fn set<T: Drop>(place: &mut T, value: T)
+    ensures { place.new ≡ value }
+{
+    *place = value;
+}
+
+fn evict(evict: Evict, job: &mut Job)
+    ensures { job.new ≡ jobs.Evict evict }
+{
+    set(job, Job::Evict(evict));
+}
+
+fn nested(who: Who, job: &mut Job)
+    ensures { job.new ≡ jobs.Nested (nesteds.begin who) }
+{
+    set(job, Job::Nested(Nested::new(who)));
+}
+
+fn inject(alloc: Global, who: Who, frame: Frame, job: &mut Job)
+    ensures { job.new ≡ jobs.Inject (injects.begin alloc who frame) }
+{
+    set(job, Job::Inject(Inject::new(alloc, who, frame)));
+}
+
+fn soft(who: Who, frame: Frame, job: &mut Job)
+    ensures { job.new ≡ jobs.Soft (softs.begin who frame) }
+{
+    set(job, Job::Soft(Soft::new(who, frame)));
+}
+
+fn unpoison(who: Who, frame: Frame, job: &mut Job)
+    ensures { job.new ≡ jobs.Unpoison (unpoisons.begin who frame) }
+{
+    set(job, Job::Unpoison(Unpoison::new(who, frame)));
+}
+
+/// A scrub at its beginning, which takes what the banks hold.
+fn scrub(
+    alloc: Global,
+    who: Who,
+    first: Frame,
+    last: Frame,
+    banks: &mut [Bank; BANKS],
+    job: &mut Job,
+)
+    ensures begins { job.new ≡ jobs.Scrub (scrubs.begin alloc who first last banks.old) }
+    ensures banks { banks.new ≡ empty_banks }
+{
+    set(
+        job,
+        Job::Scrub(Scrub::new(alloc, who, first, last, taken(banks))),
+    );
 }
 
 /// What the banks hold, which leaves them empty.
@@ -123,10 +222,13 @@ fn taken(banks: &mut [Bank; BANKS]) -> [Bank; BANKS]
 }
 
 /// An `fsync` at its beginning, or where it opens the handle an `open`, with the number of the processor's handle of the file.
-fn ask(who: Who, file: FileNo, handles: &Handles, opens: bool) -> Job
-    ensures { result ≡ jobs.Fsync (fsyncs.begin who file (number_in handles.now file) opens) }
+fn ask(who: Who, file: FileNo, handles: &Handles, opens: bool, job: &mut Job)
+    ensures { job.new ≡ jobs.Fsync (fsyncs.begin who file (number_in handles.now file) opens) }
 {
-    Job::Fsync(Fsync::new(who, file, handles.number(file), opens))
+    set(
+        job,
+        Job::Fsync(Fsync::new(who, file, handles.number(file), opens)),
+    );
 }
 
 /// The page that a translation leads to.
@@ -206,15 +308,16 @@ fn access(
     line: Line,
     manner: Manner,
     banks: &mut [Bank; BANKS],
-) -> Job
+    job: &mut Job,
+)
     requires sound { IsSound layout.now }
     requires of { IsAccess layout.now who.cpu.0 thread slot }
     requires line { line < line_limit }
-    ensures begins { BeginsAccess layout.now who thread slot line manner.kind manner.origin manner.mode banks.old result }
+    ensures begins { BeginsAccess layout.now who thread slot line manner.kind manner.origin manner.mode banks.old job.new }
     ensures banks { banks.new ≡ empty_banks }
 {
     let request = request(layout, who, thread, slot, line, manner.kind);
-    instruction(alloc, request, manner.origin, manner.mode, banks)
+    instruction(alloc, request, manner.origin, manner.mode, banks, job);
 }
 
 /// The instruction of a request at its beginning, which takes what the banks hold.
@@ -224,27 +327,32 @@ fn instruction(
     origin: Origin,
     mode: Mode,
     banks: &mut [Bank; BANKS],
-) -> Job
-    ensures begins { result ≡ begun_access alloc request origin mode banks.old }
+    job: &mut Job,
+)
+    ensures begins { job.new ≡ begun_access alloc request origin mode banks.old }
     ensures banks { banks.new ≡ empty_banks }
 {
-    Job::Instruction(Instruction::new(alloc, request, origin, mode, taken(banks)))
+    let banks = taken(banks);
+    set(
+        job,
+        Job::Instruction(Instruction::new(alloc, request, origin, mode, banks)),
+    );
 }
 
 /// A line of the frame is damaged.
-fn spoil_line(who: Who, frame: Frame, line: Line, damage: Damage) -> Job
-    ensures { result ≡ jobs.Spoil (spoils.begin who frame line damage) }
+fn spoil_line(who: Who, frame: Frame, line: Line, damage: Damage, job: &mut Job)
+    ensures { job.new ≡ jobs.Spoil (spoils.begin who frame line damage) }
 {
-    Job::Spoil(Spoil::new(who, frame, line, damage))
+    set(job, Job::Spoil(Spoil::new(who, frame, line, damage)));
 }
 
 /// A raw event is logged, with what the banks hold.
-fn log_event(who: Who, status: u64, addr: u64, misc: u64, banks: &mut [Bank; BANKS]) -> Job
-    ensures begins { result ≡ jobs.Log (logs.begin who (raw_event status addr misc) banks.old) }
+fn log_event(who: Who, status: u64, addr: u64, misc: u64, banks: &mut [Bank; BANKS], job: &mut Job)
+    ensures begins { job.new ≡ jobs.Log (logs.begin who (raw_event status addr misc) banks.old) }
     ensures banks { banks.new ≡ empty_banks }
 {
     let event = raw_event(status, addr, misc);
-    Job::Log(Log::new(who, event, taken(banks)))
+    set(job, Job::Log(Log::new(who, event, taken(banks))));
 }
 
 /// A raw event of these registers.
@@ -266,10 +374,11 @@ fn raise_user(
     thread: Thread,
     mcg: McgBits,
     banks: &mut [Bank; BANKS],
-) -> Job
+    job: &mut Job,
+)
     requires sound { IsSound layout.now }
     requires of { IsThreadOf layout.now who.cpu.0 thread }
-    ensures begins { BeginsRaiseUser layout.now who thread mcg banks.old result }
+    ensures begins { BeginsRaiseUser layout.now who thread mcg banks.old job.new }
     ensures banks { banks.new ≡ empty_banks }
 {
     let decl = layout.threads.as_slice()[usize::from(thread.0)];
@@ -277,26 +386,42 @@ fn raise_user(
         thread,
         process: decl.process,
     };
-    Job::Raise(Raise::new(alloc, who, Some(raiser), mcg, taken(banks)))
+    set(
+        job,
+        Job::Raise(Raise::new(alloc, who, Some(raiser), mcg, taken(banks))),
+    );
 }
 
 /// A machine check by the kernel, at its beginning, which takes what the banks hold.
-fn raise_kernel(alloc: Global, who: Who, ripv: bool, eipv: bool, banks: &mut [Bank; BANKS]) -> Job
-    ensures begins { result ≡ jobs.Raise (raises.begin alloc who None (record { ripv = ripv; eipv = eipv }) banks.old) }
+fn raise_kernel(
+    alloc: Global,
+    who: Who,
+    ripv: bool,
+    eipv: bool,
+    banks: &mut [Bank; BANKS],
+    job: &mut Job,
+)
+    ensures begins { job.new ≡ jobs.Raise (raises.begin alloc who None (record { ripv = ripv; eipv = eipv }) banks.old) }
     ensures banks { banks.new ≡ empty_banks }
 {
     let mcg = McgBits { ripv, eipv };
-    Job::Raise(Raise::new(alloc, who, None, mcg, taken(banks)))
+    set(
+        job,
+        Job::Raise(Raise::new(alloc, who, None, mcg, taken(banks))),
+    );
 }
 
 /// A call of prctl(2) by a thread of the processor, at its beginning.
-fn call(layout: &Layout, who: Who, thread: Thread, args: PrctlArgs) -> Job
+fn call(layout: &Layout, who: Who, thread: Thread, args: PrctlArgs, job: &mut Job)
     requires sound { IsSound layout.now }
     requires of { IsThreadOf layout.now who.cpu.0 thread }
-    ensures { BeginsPrctl layout.now who thread args result }
+    ensures { BeginsPrctl layout.now who thread args job.new }
 {
     let decl = layout.threads.as_slice()[usize::from(thread.0)];
-    Job::Prctl(Prctl::new(who, thread, decl.process, arguments_of(args)))
+    set(
+        job,
+        Job::Prctl(Prctl::new(who, thread, decl.process, arguments_of(args))),
+    );
 }
 
 /// The five arguments of a prctl command in their order.

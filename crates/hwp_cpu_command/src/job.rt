@@ -79,9 +79,9 @@ impl Job {
 
     /// The row of a command that is over, with this answer. The banks get back what the command took from them, and has left, and the
     /// handle of a file gets the number that the command saw.
-    pub fn finish(self, alloc: Global, answer: Answer, local: &mut Local) -> Row
-        ensures row { result ≡ row_of self answer }
-        ensures local { local.new ≡ local_after self local.old }
+    pub fn finish(&mut self, alloc: Global, answer: Answer, local: &mut Local) -> Row
+        ensures row { result ≡ row_of self.old answer }
+        ensures local { local.new ≡ local_after self.old local.old }
     {
         match self {
             Job::Instruction(instruction) => row(
@@ -93,31 +93,28 @@ impl Job {
             Job::Scrub(scrub) => row(scrub.finish(&mut local.banks), None, answer),
             Job::Log(log) => {
                 log.finish(&mut local.banks);
-                row(List::new(alloc), None, answer)
+                answered(alloc, answer)
             }
             Job::Inject(inject) => {
                 let own = own_of(inject.frame(), inject.answer());
-                drop(inject);
                 row(List::new(alloc), own, answer)
             }
             Job::Soft(soft) => {
                 let own = offlined_of(soft.frame(), soft.answer());
-                drop(soft);
                 row(List::new(alloc), own, answer)
             }
             Job::Unpoison(unpoison) => {
                 let own = revived_of(unpoison.frame(), unpoison.answer());
-                drop(unpoison);
                 row(List::new(alloc), own, answer)
             }
-            Job::Evict(evict) => answered(alloc, evict, answer),
             Job::Fsync(fsync) => {
                 local.handles.set(fsync.file(), fsync.number());
-                answered(alloc, fsync, answer)
+                answered(alloc, answer)
             }
-            Job::Prctl(prctl) => answered(alloc, prctl, answer),
-            Job::Spoil(spoil) => answered(alloc, spoil, answer),
-            Job::Nested(nested) => answered(alloc, nested, answer),
+            Job::Evict(_) => answered(alloc, answer),
+            Job::Prctl(_) => answered(alloc, answer),
+            Job::Spoil(_) => answered(alloc, answer),
+            Job::Nested(_) => answered(alloc, answer),
         }
     }
 }
@@ -134,10 +131,9 @@ fn row(told: List<EventOutcome>, own: Option<FrameChange>, answer: Answer) -> Ro
 }
 
 /// The row of a command that comes to no more than its answer.
-fn answered<T: Drop>(alloc: Global, task: T, answer: Answer) -> Row
+fn answered(alloc: Global, answer: Answer) -> Row
     ensures { result ≡ row [] None answer }
 {
-    drop(task);
     row(List::new(alloc), None, answer)
 }
 

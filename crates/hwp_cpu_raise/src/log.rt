@@ -3,6 +3,7 @@ ghost use Rattle.hwp_cpu_raise.specs.Logs.{answer, begin};
 
 use hwp_cpu_check::{BANKS, Bank, Body, Event, Layout, Ranked, Scheduled, Step, Task, Turn, Who};
 use hwp_cpu_control::{ReadStop, ReadStopAnswer};
+use std::mem;
 use std::snapshot::Snapshot;
 
 /// The bank of a raw event (this project's rule).
@@ -39,11 +40,10 @@ impl Log {
     }
 
     /// Its processor has its banks back, once it is over.
-    pub fn finish(self, banks: &mut [Bank; BANKS])
-        ensures { banks.new ≡ self.banks }
+    pub fn finish(&mut self, banks: &mut [Bank; BANKS])
+        ensures { banks.new ≡ self.old.banks }
     {
-        let Log { banks: left, .. } = self;
-        *banks = left;
+        mem::swap(banks, &mut self.banks);
     }
 }
 

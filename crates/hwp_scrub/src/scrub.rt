@@ -95,19 +95,12 @@ impl Scrub {
     }
 
     /// The same as a list, and its processor's banks are put back, once it is over.
-    pub fn finish(self, banks: &mut [Bank; BANKS]) -> List<EventOutcome>
-        ensures told { result ≡ self.lines.told }
-        ensures banks { banks.new ≡ self.banks }
+    pub fn finish(&mut self, banks: &mut [Bank; BANKS]) -> List<EventOutcome>
+        ensures told { result ≡ self.old.lines.told }
+        ensures banks { banks.new ≡ self.old.banks }
     {
-        let Scrub {
-            banks: left,
-            lines,
-            at,
-            ..
-        } = self;
-        *banks = left;
-        drop(at);
-        lines.into_list()
+        mem::swap(banks, &mut self.banks);
+        mem::replace(&mut self.lines, ToldLines::new(self.alloc)).into_list()
     }
 
     /// What follows the stop word.
