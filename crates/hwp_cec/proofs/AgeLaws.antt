@@ -21,18 +21,18 @@ younger n ages =
 none_young : (ages : List ℕ) → young 0 ages ≡ 0
 none_young ages = count-none (λ age. nat_lt age 0) ages (λ age. grind (arith, nat_tests))
 
-sum_up_to : (n : ℕ) (row ages : List ℕ) → n ≤ length row → ((k : ℕ) → k < length row → get_or row k 0 ≡ count_by (λ age. age == k) ages)
-    → sum (take n row) ≡ young n ages
-sum_up_to zero row ages within each = sym (none_young ages)
-sum_up_to (suc n) row ages within each =
-    let before : sum (take n row) ≡ young n ages = sum_up_to n row ages (omega (arith, within)) each in
-    let one_more : sum (take (n + 1) row) ≡ sum (take n row) + get_or row n 0 = sum_by_more (λ x. x) row n 0 (omega (arith, within)) in
-    let here : get_or row n 0 ≡ count_by (λ age. age == n) ages = each n (omega (arith, within)) in
+sum_up_to : (n : ℕ) (cells ages : List ℕ) → n ≤ length cells → ((k : ℕ) → k < length cells → get_or cells k 0 ≡ count_by (λ age. age == k) ages)
+    → sum (take n cells) ≡ young n ages
+sum_up_to zero cells ages within each = sym (none_young ages)
+sum_up_to (suc n) cells ages within each =
+    let before : sum (take n cells) ≡ young n ages = sum_up_to n cells ages (omega (arith, within)) each in
+    let one_more : sum (take (n + 1) cells) ≡ sum (take n cells) + get_or cells n 0 = sum_by_more (λ x. x) cells n 0 (omega (arith, within)) in
+    let here : get_or cells n 0 ≡ count_by (λ age. age == n) ages = each n (omega (arith, within)) in
     let same : suc n ≡ n + 1 = omega arith in
-    let next : sum (take (suc n) row) ≡ sum (take (n + 1) row) = ap (λ (m : ℕ). sum (take m row)) same in
+    let next : sum (take (suc n) cells) ≡ sum (take (n + 1) cells) = ap (λ (m : ℕ). sum (take m cells)) same in
     omega (arith, before, one_more, here, next, younger n ages)
 
 -- the counts of all rounds of the window are together the notes in the window
-pub sum-young : (row ages : List ℕ) → ((k : ℕ) → k < length row → get_or row k 0 ≡ count_by (λ age. age == k) ages) → sum row ≡ young (length row) ages
-sum-young row ages each =
-    sym (ap sum (take_all (length row) row (omega arith))) ∙ sum_up_to (length row) row ages (omega arith) each
+pub sum-young : (cells ages : List ℕ) → ((k : ℕ) → k < length cells → get_or cells k 0 ≡ count_by (λ age. age == k) ages) → sum cells ≡ young (length cells) ages
+sum-young cells ages each =
+    sym (ap sum (take_all (length cells) cells (omega arith))) ∙ sum_up_to (length cells) cells ages (omega arith) each

@@ -35,7 +35,7 @@ begun-stands t w frames =
     record {
       each = λ frame k in_frames in_window.
           let zero_row : List ℕ = replicate w 0 in
-          ap (λ (row : List ℕ). get_or row k 0) (get_or-replicate frames frame zero_row [] (omega (arith, in_frames, length-replicate frames zero_row)))
+          ap (λ (cells : List ℕ). get_or cells k 0) (get_or-replicate frames frame zero_row [] (omega (arith, in_frames, length-replicate frames zero_row)))
           ∙ get_or-replicate w k 0 0 in_window;
     }
 
@@ -44,34 +44,34 @@ begun-stands t w frames =
 -- a frame's counts are together the notes in the window
 sum-live : (c : Counters) (events : List CecEvent) (f : ℕ) → f < length c.counts → IsRow c.threshold c.window (row_of c f) → StandsFor events c
     → sum (row_of c f) ≡ young c.window (ages_after c.threshold c.window f [] events)
-sum-live c events f in_frames row stands =
+sum-live c events f in_frames cells stands =
     let ages : List ℕ = ages_after c.threshold c.window f [] events in
-    sum-young (row_of c f) ages (λ k h. stands.each f k in_frames (omega (arith, h, row.whole)))
-    ∙ ap (λ (n : ℕ). young n ages) row.whole
+    sum-young (row_of c f) ages (λ k h. stands.each f k in_frames (omega (arith, h, cells.whole)))
+    ∙ ap (λ (n : ℕ). young n ages) cells.whole
 
-noted_count : (row ages : List ℕ) (k : ℕ) (b : Bool) → k < length row → ((j : ℕ) → j < length row → get_or row j 0 ≡ count_by (λ age. age == j) ages)
-    → get_or (if b then replicate (length row) 0 else set row 0 (get_or row 0 0 + 1)) k 0 ≡ count_by (λ age. age == k) (if b then [] else ages ++ 0 ∷ [])
-noted_count row ages k true within each = get_or-replicate (length row) k 0 0 within
-noted_count row ages zero false within each =
-    get_or-set_same row 0 (get_or row 0 0 + 1) 0 within
+noted_count : (cells ages : List ℕ) (k : ℕ) (b : Bool) → k < length cells → ((j : ℕ) → j < length cells → get_or cells j 0 ≡ count_by (λ age. age == j) ages)
+    → get_or (if b then replicate (length cells) 0 else set cells 0 (get_or cells 0 0 + 1)) k 0 ≡ count_by (λ age. age == k) (if b then [] else ages ++ 0 ∷ [])
+noted_count cells ages k true within each = get_or-replicate (length cells) k 0 0 within
+noted_count cells ages zero false within each =
+    get_or-set_same cells 0 (get_or cells 0 0 + 1) 0 within
     ∙ (ap (λ (n : ℕ). n + 1) (each 0 within) ∙ sym (count-push (λ age. age == 0) ages 0))
-noted_count row ages (suc k) false within each =
+noted_count cells ages (suc k) false within each =
     let more : count_by (λ age. age == suc k) (ages ++ 0 ∷ []) ≡ count_by (λ age. age == suc k) ages + one (0 == suc k) = count-push (λ age. age == suc k) ages 0 in
     let none : one (0 == suc k) ≡ 0 = ap one (ne_eqb 0 (suc k) (λ h. absurd (omega (arith, h)))) in
-    get_or-set_other row 0 (suc k) (get_or row 0 0 + 1) 0 (λ h. absurd (omega (arith, h)))
+    get_or-set_other cells 0 (suc k) (get_or cells 0 0 + 1) 0 (λ h. absurd (omega (arith, h)))
     ∙ (each (suc k) within ∙ omega (arith, more, none))
 
 noted_here : (c : Counters) (events : List CecEvent) (frame : Frame) (k : ℕ) → frame.0 < length c.counts → IsRow c.threshold c.window (row_of c frame.0)
     → StandsFor events c → k < c.window
     → counter (noted_in c frame.0) frame.0 k ≡ count_by (λ age. age == k) (ages_after c.threshold c.window frame.0 [] (events ++ Note frame ∷ []))
-noted_here c events frame k in_frames row stands in_window =
+noted_here c events frame k in_frames cells stands in_window =
     let f : ℕ = frame.0 in
     let t : ℕ = c.threshold in
     let w : ℕ = c.window in
     let ages : List ℕ = ages_after t w frame.0 [] events in
-    let total : sum (row_of c frame.0) ≡ young w ages = sum-live c events frame.0 in_frames row stands in
+    let total : sum (row_of c frame.0) ≡ young w ages = sum-live c events frame.0 in_frames cells stands in
     ap (λ (r : List ℕ). get_or r k 0) (get_or-set_same c.counts frame.0 (noted_row t (row_of c frame.0)) [] in_frames)
-    ∙ (noted_count (row_of c frame.0) ages k (sum (row_of c frame.0) + 1 == t) (omega (arith, row.whole, in_window)) (λ j h. stands.each frame.0 j in_frames (omega (arith, h, row.whole)))
+    ∙ (noted_count (row_of c frame.0) ages k (sum (row_of c frame.0) + 1 == t) (omega (arith, cells.whole, in_window)) (λ j h. stands.each frame.0 j in_frames (omega (arith, h, cells.whole)))
     ∙ (ap (λ (n : ℕ). count_by (λ age. age == k) (if n + 1 == t then [] else ages ++ 0 ∷ [])) total
     ∙ sym (ap (λ (l : List ℕ). count_by (λ age. age == k) l)
     (ages-append t w frame.0 [] events (Note frame ∷ [])
@@ -89,7 +89,7 @@ noted_elsewhere c events frame g k in_frames other stands in_window =
 
 pub noted-stands : (c : Counters) (events : List CecEvent) (frame : Frame) → frame.0 < length c.counts → IsRow c.threshold c.window (row_of c frame.0)
     → StandsFor events c → StandsFor (events ++ Note frame ∷ []) (noted_in c frame.0)
-noted-stands c events frame in_frames row stands =
+noted-stands c events frame in_frames cells stands =
     record {
       each = λ g k g_in in_window.
           let within : g < length c.counts = omega (arith, g_in, length-set c.counts frame.0 (noted_row c.threshold (row_of c frame.0))) in
@@ -98,7 +98,7 @@ noted-stands c events frame in_frames row stands =
                 subst
                 (λ (h : ℕ). counter (noted_in c frame.0) h k ≡ count_by (λ age. age == k) (ages_after c.threshold c.window h [] (events ++ Note frame ∷ [])))
                 (sym same)
-                (noted_here c events frame k in_frames row stands in_window)
+                (noted_here c events frame k in_frames cells stands in_window)
             | inr other ↦ noted_elsewhere c events frame g k within other stands in_window
           ];
     }
@@ -106,50 +106,50 @@ noted-stands c events frame in_frames row stands =
 -- what is answered by the counters is what the notes in the window come to
 pub answer-live : (c : Counters) (events : List CecEvent) (frame : Frame) → frame.0 < length c.counts → IsRow c.threshold c.window (row_of c frame.0)
     → StandsFor events c → answer c.threshold (sum (row_of c frame.0) + 1) ≡ answer c.threshold (live c.threshold c.window events frame.0)
-answer-live c events frame in_frames row stands =
-    ap (λ (n : ℕ). answer c.threshold (n + 1)) (sum-live c events frame.0 in_frames row stands)
+answer-live c events frame in_frames cells stands =
+    ap (λ (n : ℕ). answer c.threshold (n + 1)) (sum-live c events frame.0 in_frames cells stands)
 
 pub answer-counted : (c : Counters) (events : List CecEvent) (frame : Frame) → 1 ≤ c.window → frame.0 < length c.counts
     → IsRow c.threshold c.window (row_of c frame.0) → StandsFor events c
     → answer c.threshold (sum (row_of c frame.0) + 1) ≡ answer c.threshold (counted c.threshold c.window events frame)
-answer-counted c events frame some in_frames row stands =
-    answer-live c events frame in_frames row stands ∙ sym (ap (answer c.threshold) (counted-live c.threshold c.window events frame some))
+answer-counted c events frame some in_frames cells stands =
+    answer-live c events frame in_frames cells stands ∙ sym (ap (answer c.threshold) (counted-live c.threshold c.window events frame some))
 
-noted_row-counted : (t w : ℕ) (row : List ℕ) (b : Bool) → (sum row + 1 == t) ≡ b → 1 ≤ w → IsRow t w row
-    → IsRow t w (if b then replicate (length row) 0 else set row 0 (get_or row 0 0 + 1))
-noted_row-counted t w row true is some has =
-    record { whole = length-replicate (length row) 0 ∙ has.whole; below = omega (arith, sum-zeros (length row), has.below) }
-noted_row-counted t w row false is some has =
-    let more : sum (set row 0 (get_or row 0 0 + 1)) + get_or row 0 0 ≡ sum row + (get_or row 0 0 + 1) =
-    sum_by-set (λ x. x) row 0 (get_or row 0 0 + 1) 0 (omega (arith, some, has.whole)) in
-    let less : sum row + 1 ≢ t = λ h. both_ways (sum row + 1 == t) is (eq-eqb (sum row + 1) t h) in
-    record { whole = length-set row 0 (get_or row 0 0 + 1) ∙ has.whole; below = omega (arith, more, less, has.below) }
+noted_row-counted : (t w : ℕ) (cells : List ℕ) (b : Bool) → (sum cells + 1 == t) ≡ b → 1 ≤ w → IsRow t w cells
+    → IsRow t w (if b then replicate (length cells) 0 else set cells 0 (get_or cells 0 0 + 1))
+noted_row-counted t w cells true is some has =
+    record { whole = length-replicate (length cells) 0 ∙ has.whole; below = omega (arith, sum-zeros (length cells), has.below) }
+noted_row-counted t w cells false is some has =
+    let more : sum (set cells 0 (get_or cells 0 0 + 1)) + get_or cells 0 0 ≡ sum cells + (get_or cells 0 0 + 1) =
+    sum_by-set (λ x. x) cells 0 (get_or cells 0 0 + 1) 0 (omega (arith, some, has.whole)) in
+    let less : sum cells + 1 ≢ t = λ h. both_ways (sum cells + 1 == t) is (eq-eqb (sum cells + 1) t h) in
+    record { whole = length-set cells 0 (get_or cells 0 0 + 1) ∙ has.whole; below = omega (arith, more, less, has.below) }
 
 pub noted-counted : (c : Counters) (f : ℕ) → f < length c.counts → IsCounted c → IsCounted (noted_in c f)
 noted-counted c f within is =
-    let row : IsRow c.threshold c.window (row_of c f) = All-get_or (IsRow c.threshold c.window) c.counts f [] within is.rows in
+    let cells : IsRow c.threshold c.window (row_of c f) = All-get_or (IsRow c.threshold c.window) c.counts f [] within is.rows in
     record {
       low = is.low;
       some_rounds = is.some_rounds;
       rounds_within = is.rounds_within;
       rows = All-set (IsRow c.threshold c.window) c.counts f (noted_row c.threshold (row_of c f))
-          (noted_row-counted c.threshold c.window (row_of c f) (sum (row_of c f) + 1 == c.threshold) refl is.some_rounds row) is.rows;
+          (noted_row-counted c.threshold c.window (row_of c f) (sum (row_of c f) + 1 == c.threshold) refl is.some_rounds cells) is.rows;
     }
 
 -- a round
 
 get_or-map : (f : List ℕ → List ℕ) (rows : List (List ℕ)) (i : ℕ) (d e : List ℕ) → i < length rows → get_or (map f rows) i d ≡ f (get_or rows i e)
 get_or-map f [] i d e within = absurd (omega (arith, within))
-get_or-map f (row ∷ rows) zero d e within = refl
-get_or-map f (row ∷ rows) (suc i) d e within = get_or-map f rows i d e (omega (arith, within))
+get_or-map f (cells ∷ rows) zero d e within = refl
+get_or-map f (cells ∷ rows) (suc i) d e within = get_or-map f rows i d e (omega (arith, within))
 
-older_count : (row ages : List ℕ) (k : ℕ) → k < length row → ((j : ℕ) → j < length row → get_or row j 0 ≡ count_by (λ age. age == j) ages)
-    → get_or (take (length row) (0 ∷ row)) k 0 ≡ count_by (λ age. age == k) (map (λ age. age + 1) ages)
-older_count row ages zero within each =
-    get_or-take (length row) (0 ∷ row) 0 0 within
+older_count : (cells ages : List ℕ) (k : ℕ) → k < length cells → ((j : ℕ) → j < length cells → get_or cells j 0 ≡ count_by (λ age. age == j) ages)
+    → get_or (take (length cells) (0 ∷ cells)) k 0 ≡ count_by (λ age. age == k) (map (λ age. age + 1) ages)
+older_count cells ages zero within each =
+    get_or-take (length cells) (0 ∷ cells) 0 0 within
     ∙ sym (count-map (λ age. age == 0) (λ age. age + 1) ages ∙ count-none (λ age. (age + 1) == 0) ages (λ age. grind (arith, nat_tests)))
-older_count row ages (suc k) within each =
-    get_or-take (length row) (0 ∷ row) (suc k) 0 within
+older_count cells ages (suc k) within each =
+    get_or-take (length cells) (0 ∷ cells) (suc k) 0 within
     ∙ (each k (omega (arith, within))
     ∙ sym (count-map (λ age. age == suc k) (λ age. age + 1) ages
     ∙ count-same (λ age. (age + 1) == suc k) (λ age. age == k) ages (λ age. grind (arith, nat_tests))))
@@ -158,20 +158,20 @@ pub rounded-stands : (c : Counters) (events : List CecEvent) → IsCounted c →
 rounded-stands c events is stands =
     record {
       each = λ f k f_in in_window.
-          let within : f < length c.counts = omega (arith, f_in, length-map c.counts (λ (row : List ℕ). take (length row) (0 ∷ row))) in
+          let within : f < length c.counts = omega (arith, f_in, length-map c.counts (λ (cells : List ℕ). take (length cells) (0 ∷ cells))) in
           let has : IsRow c.threshold c.window (row_of c f) = All-get_or (IsRow c.threshold c.window) c.counts f [] within is.rows in
           let ages : List ℕ = ages_after c.threshold c.window f [] events in
-          ap (λ (r : List ℕ). get_or r k 0) (get_or-map (λ (row : List ℕ). take (length row) (0 ∷ row)) c.counts f [] [] within)
+          ap (λ (r : List ℕ). get_or r k 0) (get_or-map (λ (cells : List ℕ). take (length cells) (0 ∷ cells)) c.counts f [] [] within)
           ∙ (older_count (row_of c f) ages k (omega (arith, has.whole, in_window)) (λ j h. stands.each f j within (omega (arith, h, has.whole)))
           ∙ sym (ap (λ (l : List ℕ). count_by (λ age. age == k) l) (ages-append c.threshold c.window f [] events (Round ∷ []))));
     }
 
-rounded_row : (t w : ℕ) (row : List ℕ) → IsRow t w row → IsRow t w (take (length row) (0 ∷ row))
-rounded_row t w row has =
-    let less : sum (take (length row) (0 ∷ row)) ≤ sum (0 ∷ row) = sum_by-take-le (λ x. x) (0 ∷ row) (length row) in
-    let same : sum (0 ∷ row) ≡ 0 + sum row = sum_by-cons (λ x. x) 0 row in
+rounded_row : (t w : ℕ) (cells : List ℕ) → IsRow t w cells → IsRow t w (take (length cells) (0 ∷ cells))
+rounded_row t w cells has =
+    let less : sum (take (length cells) (0 ∷ cells)) ≤ sum (0 ∷ cells) = sum_by-take-le (λ x. x) (0 ∷ cells) (length cells) in
+    let same : sum (0 ∷ cells) ≡ 0 + sum cells = sum_by-cons (λ x. x) 0 cells in
     record {
-      whole = length-take-le (length row) (0 ∷ row) (omega arith) ∙ has.whole;
+      whole = length-take-le (length cells) (0 ∷ cells) (omega arith) ∙ has.whole;
       below = omega (arith, less, same, has.below);
     }
 
@@ -181,14 +181,14 @@ rounded-counted c is =
       low = is.low;
       some_rounds = is.some_rounds;
       rounds_within = is.rounds_within;
-      rows = All-map (IsRow c.threshold c.window) (λ (row : List ℕ). take (length row) (0 ∷ row)) c.counts
-          (All-weaker (IsRow c.threshold c.window) (λ row. IsRow c.threshold c.window (take (length row) (0 ∷ row))) (rounded_row c.threshold c.window) c.counts is.rows);
+      rows = All-map (IsRow c.threshold c.window) (λ (cells : List ℕ). take (length cells) (0 ∷ cells)) c.counts
+          (All-weaker (IsRow c.threshold c.window) (λ cells. IsRow c.threshold c.window (take (length cells) (0 ∷ cells))) (rounded_row c.threshold c.window) c.counts is.rows);
     }
 
 -- in a loop over all rows: the first i have been made anew, and the rest is as it was
 
-pub row-before : (ys xs : List (List ℕ)) (i : ℕ) (d : List ℕ) → length ys ≡ i → get_or (ys ++ drop i xs) i d ≡ get_or xs i d
-row-before ys xs i d long = get_or-append_right ys (drop i xs) i i d long (omega arith) ∙ (get_or-drop i xs (i - i) d ∙ ap (λ (k : ℕ). get_or xs k d) (omega arith))
+pub cells-before : (ys xs : List (List ℕ)) (i : ℕ) (d : List ℕ) → length ys ≡ i → get_or (ys ++ drop i xs) i d ≡ get_or xs i d
+cells-before ys xs i d long = get_or-append_right ys (drop i xs) i i d long (omega arith) ∙ (get_or-drop i xs (i - i) d ∙ ap (λ (k : ℕ). get_or xs k d) (omega arith))
 
 pub rows-more : (ys xs : List (List ℕ)) (i : ℕ) (y : List ℕ) → length ys ≡ i → i < length xs → set (ys ++ drop i xs) i y ≡ (ys ++ y ∷ []) ++ drop (i + 1) xs
 rows-more ys xs i y long within =
@@ -209,7 +209,7 @@ pub rounded-more : (i : ℕ) (items xs : List (List ℕ)) (old y : List ℕ) →
 rounded-more i items xs old y are within was is =
     let rows : List (List ℕ) = map next_row (take i xs) in
     let long : length rows ≡ i = length-map (take i xs) next_row ∙ length-take-le i xs (omega (arith, within)) in
-    let read : old ≡ get_or xs i [] = was ∙ (ap (λ (l : List (List ℕ)). get_or l i []) are ∙ row-before rows xs i [] long) in
+    let read : old ≡ get_or xs i [] = was ∙ (ap (λ (l : List (List ℕ)). get_or l i []) are ∙ cells-before rows xs i [] long) in
     let made : rows ++ y ∷ [] ≡ map next_row (take (i + 1) xs) =
     ap (λ (r : List ℕ). rows ++ r ∷ []) (is ∙ ap next_row read)
     ∙ (sym (map-append next_row (take i xs) (get_or xs i [] ∷ [])) ∙ sym (ap (map next_row) (take_more xs i [] within))) in

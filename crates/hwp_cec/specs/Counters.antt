@@ -30,7 +30,7 @@ begun threshold window frames = record { threshold = threshold; window = window;
 
 -- a frame's counts after a note of it
 abbrev pub noted_row : ℕ → List ℕ → List ℕ
-noted_row threshold row = if sum row + 1 == threshold then replicate (length row) 0 else slice_set row 0 (slice_index row 0 + 1)
+noted_row threshold cells = if sum cells + 1 == threshold then replicate (length cells) 0 else slice_set cells 0 (slice_index cells 0 + 1)
 
 -- the counters after a note of a frame
 abbrev pub noted_in : Counters → ℕ → Counters
@@ -38,7 +38,7 @@ noted_in c frame = record c { counts = slice_set c.counts frame (noted_row c.thr
 
 -- a frame's counts after a round: none in the new one, and the last is forgotten
 abbrev pub next_row : List ℕ → List ℕ
-next_row row = take (length row) (0 ∷ row)
+next_row cells = take (length cells) (0 ∷ cells)
 
 -- the counters after a round
 abbrev pub rounded : Counters → Counters
@@ -49,9 +49,9 @@ abbrev pub answer : ℕ → ℕ → Noted
 answer threshold count = if count == threshold then Offline else Counted count
 
 -- a frame's counts: one for each round, and together below the threshold
-pub record IsRow (threshold window : ℕ) (row : List ℕ) : Type 0 where
-  pub whole : length row ≡ window
-  pub below : sum row < threshold
+pub record IsRow (threshold window : ℕ) (cells : List ℕ) : Type 0 where
+  pub whole : length cells ≡ window
+  pub below : sum cells < threshold
 
 -- what is so of the counters at any time
 pub record IsCounted (c : Counters) : Type 0 where
