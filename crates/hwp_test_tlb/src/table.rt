@@ -34,12 +34,7 @@ fn two_frames(rt: &impl Abort, alloc: Global) -> Layout
 }
 
 /// A seat of processor 1 that was parted from the one of a table at opening, and joined to it again. It counts nothing.
-fn parted(
-    rt: &impl Abort,
-    sheet: &TlbShared,
-    layout: &Layout,
-    pass: TlbPass,
-) -> TlbPass
+fn parted(rt: &impl Abort, sheet: &TlbShared, layout: &Layout, pass: TlbPass) -> TlbPass
     requires table { IsTableOf 16 layout.now sheet.now.table_id × (sheet.now.key ≡ layout.now) }
     requires seat { (pass.table_id ≡ sheet.now.table_id) × (pass.me ≡ (first_knowing layout.now, [])) }
     requires two { layout.now.cpus ≡ 2 }

@@ -4,5 +4,4 @@ ghost use Rattle.hwp_tlb.specs.Law.{NoneHandled};
 /// atomic steps of any threads. Proof only: a call tells its clause.
 pub fn no_entry_names_a_handled_frame()
     ensures none_handled { NoneHandled }
-{
-}
+{}
