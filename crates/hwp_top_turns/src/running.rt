@@ -63,6 +63,7 @@ fn play_at_table<W: Ways>(
     let Ok((ended, slots)) = close(alloc, &script.layout, table, pass) else {
         return Err(AllocError);
     };
+    ended.reached();
     Ok((ended, slots, rows))
 }
 
