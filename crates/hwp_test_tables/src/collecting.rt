@@ -27,13 +27,12 @@ const THREE: Noted = Noted::Counted(3);
 
 const OFF: Noted = Noted::Offline;
 
-fn is_within(threshold: u16, window: u8) -> bool {
-    1 <= threshold && threshold <= MAX_THRESHOLD && 1 <= window && window <= MAX_WINDOW
-}
-
 /// The steps are answered so.
 fn answers(rt: &impl Abort, alloc: Global, threshold: u16, window: u8, steps: &[Step]) {
-    assert!(rt; is_within(threshold, window));
+    assert!(rt; 1 <= threshold);
+    assert!(rt; threshold <= MAX_THRESHOLD);
+    assert!(rt; 1 <= window);
+    assert!(rt; window <= MAX_WINDOW);
     let mut collector = Collector::new(alloc, threshold, window, FRAMES).expect(rt, "memory");
     for step in steps {
         match *step {
@@ -52,7 +51,10 @@ fn answers(rt: &impl Abort, alloc: Global, threshold: u16, window: u8, steps: &[
                 }
             }
             Step::Restart(threshold, window) => {
-                assert!(rt; is_within(threshold, window));
+                assert!(rt; 1 <= threshold);
+                assert!(rt; threshold <= MAX_THRESHOLD);
+                assert!(rt; 1 <= window);
+                assert!(rt; window <= MAX_WINDOW);
                 collector.restart(threshold, window);
             }
         }

@@ -2,10 +2,10 @@ use Rattle.std.proofs.Common.{◌≡◌, length}
 use Rattle.hwp_test_tables.proofs.collecting.answers.Given as goal
 
 abbrev pub invariant-loop-step : goal.invariant-loop-step
-invariant-loop-step l = length l.collector.counts ≡ 2
+invariant-loop-step g l = length l.collector.counts ≡ 2
 
 abbrev pub invariant-loop-before : goal.invariant-loop-before
-invariant-loop-before l = length l.collector.counts ≡ 2
+invariant-loop-before g l = length l.collector.counts ≡ 2
 
 abbrev pub invariant-loop : goal.invariant-loop
-invariant-loop l = length l.collector.counts ≡ 2
+invariant-loop g l = length l.collector.counts ≡ 2
