@@ -16,7 +16,7 @@ use std::sync::Wait;
 use std::thread::Threads;
 
 /// The run on threads of the script that a source gives, and the text of its report.
-fn report_of<R: Threads + Wait + Sync, W: Ways, S: Source, G: Gate + Sync>(
+fn report_of<R: Threads + Wait + Sync, W: Ways + Send, S: Source, G: Gate + Sync>(
     rt: &R,
     alloc: Global,
     src: &mut S,

@@ -18,7 +18,7 @@ use std::sync::{Arc, Wait};
 use std::thread::Threads;
 
 /// All turns of a script's processors, each on a thread of its own: the one seat that has all views again, and the tasks.
-fn run_crew<R: Threads + Wait + Sync, W: Ways, G: Gate + Sync>(
+fn run_crew<R: Threads + Wait + Sync, W: Ways + Send, G: Gate + Sync>(
     rt: &R,
     alloc: Global,
     sheet: &Sheet<W>,
@@ -40,7 +40,7 @@ fn run_crew<R: Threads + Wait + Sync, W: Ways, G: Gate + Sync>(
 
 /// The turns of a script's processors at a table of their own: what the table was closed with, the bodies that were in its
 /// slots, and the rows of each processor.
-fn play_on_threads<R: Threads + Wait + Sync, W: Ways, G: Gate + Sync>(
+fn play_on_threads<R: Threads + Wait + Sync, W: Ways + Send, G: Gate + Sync>(
     rt: &R,
     alloc: Global,
     script: &Script,
@@ -66,7 +66,7 @@ fn play_on_threads<R: Threads + Wait + Sync, W: Ways, G: Gate + Sync>(
 ///
 /// # Errors
 /// `OutOfMemory` where memory was refused, also to a turn of a processor.
-pub fn run_on_threads<R: Threads + Wait + Sync, W: Ways, G: Gate + Sync>(
+pub fn run_on_threads<R: Threads + Wait + Sync, W: Ways + Send, G: Gate + Sync>(
     rt: &R,
     alloc: Global,
     script: &Script,
