@@ -7,7 +7,7 @@ ghost use Rattle.hwp_tlb.specs.hwp_table_words.Seats.{IsTableOf};
 
 use crate::machine::script;
 use hwp_script_read::{List, Script};
-use hwp_tlb::{OfTable, TlbBoard, TlbCounts, TlbPass, TlbSeat, TlbShared, begin};
+use hwp_tlb::{OfTable, OutOfMemory, TlbBoard, TlbCounts, TlbPass, TlbSeat, TlbShared, begin};
 use hwp_top_turns::{Bare, Cached, play, print, run_in_turns};
 use std::alloc::Global;
 use std::marker::Brand;
@@ -48,20 +48,19 @@ const WORKED: &[Worked<'static>] = &[
 
 /// The seats of the script's processors, behind all their turns.
 fn played<'a, N: OfTable>(
-    rt: &impl Abort,
     alloc: Global,
     sheet: &'a TlbShared,
     script: &'a Script,
     pass: TlbPass,
-) -> List<TlbSeat<'a>>
+) -> Result<List<TlbSeat<'a>>, OutOfMemory>
     requires valid { IsValid script.now }
     requires named { N.table ≡ sheet.now.table_id }
     requires table { IsTableOf 16 script.now.layout sheet.now.table_id × (sheet.now.key ≡ script.now.layout) }
     requires seat { (pass.table_id ≡ sheet.now.table_id) × (pass.me ≡ (first_knowing script.now.layout, [])) }
 {
-    let mut board = TlbBoard::<N>::new(alloc, sheet, &script.layout, pass).expect(rt, "memory");
-    play(alloc, script, &mut board).expect(rt, "memory");
-    board.seats()
+    let mut board = TlbBoard::<N>::new(alloc, sheet, &script.layout, pass)?;
+    play(alloc, script, &mut board)?;
+    Ok(board.seats())
 }
 
 /// Each seat counts what is due.
@@ -83,7 +82,7 @@ fn counts_are(rt: &impl Abort, alloc: Global, bytes: &[u8], due: &[[u64; 3]]) {
     let layout = script.layout.copy(alloc).expect(rt, "memory");
     let layout = Arc::new(alloc, layout).expect(rt, "memory");
     let (table, pass) = begin(alloc, &layout).expect(rt, "memory");
-    let seats = played::<Brand>(rt, alloc, &table.shared, &script, pass);
+    let seats = played::<Brand>(alloc, &table.shared, &script, pass).expect(rt, "memory");
     count(rt, seats.as_slice(), due);
 }
 
