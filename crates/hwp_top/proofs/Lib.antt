@@ -1,3 +1,4 @@
 mod ReportLevel
+mod RunLevel
 pub mod Statuses
 pub mod Completes

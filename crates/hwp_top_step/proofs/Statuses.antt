@@ -1,6 +1,7 @@
 -- The statuses of the top call are those of its list.
 use Rattle.std.specs.Prelude.{◌≡◌, ℕ, List, [], ◌∷◌, Contains, Bool, true, false, if◌then◌else◌, is_some, ◌⊎◌, Option, Some, None}
-use Rattle.std.proofs.Common.{lit<, refl, subst, sym, inl, inr}
+use Rattle.std.proofs.Common.{lit<, refl, subst, sym, ◌∙◌, inl, inr, ◌≢◌}
+use Rattle.std.proofs.lemmas.Option.{none-some, same_Some}
 use Rattle.hwp_report_summary.specs.hwp_report_text.declared.Report.{Report}
 use Rattle.hwp_top_turns.specs.hwp_table_words.Ends.{EndValue}
 use Rattle.hwp_top_step.specs.declared.served.Call.{Call}
@@ -9,7 +10,7 @@ use Rattle.hwp_check.specs.hwp_check_rules.declared.verdicts.Verdict.{Verdict}
 use Rattle.hwp_check.specs.hwp_check_rules.declared.verdicts.Verdict.TheVariants as verdicts
 use Rattle.hwp_top_step.specs.Checked.{verdict_status}
 use Rattle.hwp_top_step.specs.Outputs.{IsOutputOf}
-use Rattle.hwp_top_step.specs.Top.{IsDone, done_status}
+use Rattle.hwp_top_step.specs.Top.{IsDone, done_status, told_text, write_fault_text}
 
 abbrev Listed : ℕ → Type 0
 Listed n = Contains (0 ∷ 1 ∷ 2 ∷ 3 ∷ 4 ∷ 5 ∷ 6 ∷ 8 ∷ []) n
@@ -36,7 +37,7 @@ verdict_is_done verdicts.Legal = inl refl
 verdict_is_done (verdicts.Not line rule) = inr (inl refl)
 
 -- an output has the status of a call that is done
-output_is_done : (call : Call) (left left' : Option (List ℕ)) (status : ℕ) (text : List ℕ) (report : Option Report) (ended tlb : Option EndValue) → IsOutputOf call left left' status text report ended tlb → IsDone status
+pub output_is_done : (call : Call) (left left' : Option (List ℕ)) (status : ℕ) (text : List ℕ) (report : Option Report) (ended tlb : Option EndValue) → IsOutputOf call left left' status text report ended tlb → IsDone status
 output_is_done calls.Step left left' status text (Some report) (Some ended) tlb o = subst IsDone (sym o.0.status_is) (report_is_done report)
 output_is_done calls.Step left left' status text (Some report) None tlb o = absurd o.0
 output_is_done calls.Step left left' status text None ended tlb o = absurd o.0
@@ -53,6 +54,18 @@ output_is_done (calls.Sum seed) left left' status text None ended tlb o = absurd
 pub output_is_listed : (call : Call) (left left' : Option (List ℕ)) (status n : ℕ) (text : List ℕ) (report : Option Report) (ended tlb : Option EndValue) → IsOutputOf call left left' status text report ended tlb → (n ≡ status) ⊎ (n ≡ 5) → Listed n
 output_is_listed call left left' status n text report ended tlb o (inl whole) = subst Listed (sym whole) (done_is_listed status (output_is_done call left left' status text report ended tlb o))
 output_is_listed call left left' status n text report ended tlb o (inr cut) = subst Listed (sym cut) (5, lit< tt, refl)
+
+-- what is delivered is written, or a part of it is
+pub delivered_somehow : (status n : ℕ) → IsDone status → (n ≡ status) ⊎ (n ≡ 5) → (IsDone n → ⊥) → n ≢ 5 → ⊥
+delivered_somehow status n done (inl whole) not_done not_cut = not_done (subst IsDone (sym whole) done)
+delivered_somehow status n done (inr cut) not_done not_cut = not_cut cut
+
+-- the text that is told where a delivery fails is that of a failed write, and where it doesn't there is none
+pub told_of_delivery : (told : List ℕ → Type 0) (status n : ℕ) (text : List ℕ) → IsDone status → (n ≡ status) ⊎ (n ≡ 5) → (n ≡ 5 → told write_fault_text) → told_text n ≡ Some text → told text
+told_of_delivery told status n text (inl zero) (inl whole) cut is = absurd (none-some text (subst (λ (m : ℕ). told_text m ≡ Some text) (whole ∙ zero) is))
+told_of_delivery told status n text (inr (inl one)) (inl whole) cut is = absurd (none-some text (subst (λ (m : ℕ). told_text m ≡ Some text) (whole ∙ one) is))
+told_of_delivery told status n text (inr (inr eight)) (inl whole) cut is = absurd (none-some text (subst (λ (m : ℕ). told_text m ≡ Some text) (whole ∙ eight) is))
+told_of_delivery told status n text done (inr five) cut is = subst told (same_Some write_fault_text text (subst (λ (m : ℕ). told_text m ≡ Some text) five is)) (cut five)
 
 -- the statuses of a call that gives one run, by its report or its trace: all of the list but 1, which is a verdict's
 abbrev pub RunStatus : ℕ → Type 0
