@@ -1,11 +1,10 @@
 -- The ages of a frame's notes after one event more, and their sum over the rounds.
-use Rattle.std.proofs.Common.{◌≡◌, ℕ, zero, suc, ◌+◌, ◌<◌, ◌≤◌, ◌==◌, nat_lt, Bool, true, false, cond, List, [], ◌∷◌, ◌++◌, length, get_or, take, map, sum, count_by, if◌then◌else◌, refl, sym, ap, ◌∙◌, arith}
+use Rattle.std.proofs.Common.{◌≡◌, ℕ, zero, suc, ◌+◌, ◌<◌, ◌≤◌, ◌==◌, nat_lt, List, [], ◌∷◌, ◌++◌, length, get_or, take, map, sum, count_by, if◌then◌else◌, refl, sym, ap, ◌∙◌, arith}
 use Rattle.std.proofs.lemmas.List.{take_all}
 use Rattle.std.proofs.lemmas.List.Sums.{sum_by_more}
 use Rattle.std.proofs.lemmas.Bool.Decides.{nat_tests}
-use Rattle.hwp_geom.specs.declared.Frame.{Frame}
 use Rattle.hwp_cec.specs.Ages.{CecEvent, Note, Round, young, aged, ages_after}
-use Rattle.hwp_cec.proofs.Counts.{one, count-none, count-either}
+use Rattle.hwp_cec.proofs.Counts.{count-none, count-either}
 
 pub ages-append : (t w f : ℕ) (ages : List ℕ) (events more : List CecEvent)
     → ages_after t w f ages (events ++ more) ≡ ages_after t w f (ages_after t w f ages events) more

@@ -1,5 +1,5 @@
 -- The counters stand for one event more after a note and after a round, and what is so of them at any time stays so.
-use Rattle.std.proofs.Common.{◌≡◌, ◌≢◌, ℕ, zero, suc, ◌+◌, ◌-◌, ◌<◌, ◌≤◌, ◌==◌, nat_lt, Bool, true, false, cond, List, [], ◌∷◌, ◌++◌, All, length, get_or, set, take, drop, replicate, map, sum, count_by, if◌then◌else◌, refl, sym, ap, subst, ◌∙◌, inl, inr, eq-eqb, arith}
+use Rattle.std.proofs.Common.{◌≡◌, ◌≢◌, ℕ, zero, suc, ◌+◌, ◌-◌, ◌<◌, ◌≤◌, ◌==◌, Bool, true, false, List, [], ◌∷◌, ◌++◌, length, get_or, set, take, drop, replicate, map, sum, count_by, if◌then◌else◌, refl, sym, ap, subst, ◌∙◌, inl, inr, eq-eqb, arith}
 use Rattle.std.proofs.lemmas.Bool.{cases_eq, ne_eqb, both_ways}
 use Rattle.std.proofs.lemmas.Bool.Decides.{nat_tests}
 use Rattle.std.proofs.lemmas.List.{get_or-replicate, get_or-set_same, get_or-set_other, get_or-take, length-set, length-map, length-replicate, length-take-le, get_or-append_right, get_or-drop, drop_more, drop_all, take_more, take_all, set_at, append-nil, append_assoc, map-append, replicate-append-replicate, with_items_is}
@@ -8,7 +8,6 @@ use Rattle.std.specs.Prelude.{Vec}
 use Rattle.std.proofs.lemmas.List.Elements.{All-replicate, All-get_or, All-set, All-map, All-weaker}
 use Rattle.std.proofs.lemmas.List.Sums.{sum_by-cons, sum_by-set, sum_by-take-le}
 use Rattle.hwp_geom.specs.declared.Frame.{Frame}
-use Rattle.hwp_cec.specs.declared.collector.Noted.{Noted}
 use Rattle.hwp_cec.specs.Limits.{threshold_limit, window_limit}
 use Rattle.hwp_cec.specs.Ages.{CecEvent, Note, Round, young, aged, ages_after, live}
 use Rattle.hwp_cec.specs.Counting.{counted}

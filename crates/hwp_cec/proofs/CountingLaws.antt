@@ -1,12 +1,12 @@
 -- Counting from scratch comes to the same as counting by ages.
-use Rattle.std.proofs.Common.{◌≡◌, ◌≢◌, ℕ, ◌+◌, ◌-◌, ◌≤◌, ◌==◌, nat_lt, Bool, true, false, cond, ◌&&◌, List, [], ◌∷◌, ◌++◌, map, reverse, count_by, if◌then◌else◌, refl, sym, ap, ◌∙◌, inl, inr, zero-add, eq-eqb, arith}
+use Rattle.std.proofs.Common.{◌≡◌, ℕ, ◌+◌, ◌-◌, ◌≤◌, ◌==◌, nat_lt, Bool, true, false, cond, ◌&&◌, List, [], ◌∷◌, ◌++◌, map, reverse, count_by, if◌then◌else◌, refl, sym, ap, ◌∙◌, inl, inr, zero-add, eq-eqb, arith}
 use Rattle.std.proofs.lemmas.List.{reverse-reverse}
 use Rattle.std.proofs.lemmas.Grind.{reverse_onto}
 use Rattle.std.proofs.lemmas.Bool.{cases_eq, lt-ltb, ne_eqb}
 use Rattle.std.proofs.lemmas.List.Sums.{sum_by-cons}
 use Rattle.std.proofs.lemmas.Bool.Decides.{nat_tests}
 use Rattle.hwp_geom.specs.declared.Frame.{Frame}
-use Rattle.hwp_cec.specs.Ages.{CecEvent, Note, Round, young, aged, ages_after, live}
+use Rattle.hwp_cec.specs.Ages.{CecEvent, Note, Round, young, ages_after, live}
 use Rattle.hwp_cec.specs.Counting.{is_note, after_round, notes_of, after_offlining, counted}
 use Rattle.hwp_cec.proofs.Counts.{one, count-cons, count-push, count-map, count-same, count-none}
 use Rattle.hwp_cec.proofs.AgeLaws.{ages-append}

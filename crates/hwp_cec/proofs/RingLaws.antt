@@ -1,5 +1,5 @@
 -- A ring read from one of its places on: its sum, what a write at that place does, and a turn.
-use Rattle.std.proofs.Common.{◌≡◌, ℕ, zero, suc, ◌+◌, ◌-◌, ◌<◌, ◌≤◌, List, [], ◌∷◌, ◌++◌, length, get_or, set, take, drop, sum, replicate, refl, sym, ap, subst, ◌∙◌, rules, arith}
+use Rattle.std.proofs.Common.{◌≡◌, ℕ, zero, suc, ◌+◌, ◌<◌, ◌≤◌, List, [], ◌∷◌, ◌++◌, length, get_or, set, take, drop, sum, replicate, refl, sym, ap, subst, ◌∙◌, arith}
 use Rattle.std.proofs.Math.Seq.{take-set-lt}
 use Rattle.std.proofs.lemmas.List.{places, same_lists, append-nil, length-append, length-take-le, length-drop, length-replicate, get_or-take, take-set, take-take, take_all, drop_all}
 use Rattle.std.proofs.lemmas.List.Sums.{sum_by-append, sum_by-take-drop}

@@ -1,4 +1,4 @@
-use Rattle.std.proofs.Common.{sym, ap, ◌∙◌, arith, replicate}
+use Rattle.std.proofs.Common.{arith}
 use Rattle.hwp_cec.proofs.RingLaws.{view-cleared, length-view}
 use Rattle.hwp_cec.proofs.ring.Ring.clear.Goals as goal
 

@@ -1,4 +1,4 @@
-use Rattle.std.proofs.Common.{◌≡◌, sym, ap, ◌∙◌, take, sum, arith}
+use Rattle.std.proofs.Common.{◌≡◌, sym, ap, ◌∙◌, take, sum}
 use Rattle.hwp_cec.proofs.RingLaws.{sum-turned}
 use Rattle.hwp_cec.proofs.ring.Ring.total.Goals as goal
 
