@@ -1,0 +1,4 @@
+use Rattle.hwp_test_tlb.proofs.worked.counts_are.Given as goal
+
+abbrev pub ghosts-played : goal.ghosts-played
+ghosts-played g a = record { table = a.sheet.now.table_id }
