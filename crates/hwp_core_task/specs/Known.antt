@@ -82,9 +82,13 @@ deeds who view = filter (is_by who) view.made
 abbrev pub such_deeds : (What → Bool) → Who → View → List Made
 such_deeds test who view = filter (λ (m : Made). test m.entry.what) (deeds who view)
 
+-- the command has made these entries, and none beside them
+abbrev pub HasMadeNoneBeside : List Made → View → Who → Type 0
+HasMadeNoneBeside base view who = deeds who view ≡ base
+
 -- the command has made no entry
 abbrev pub HasMadeNone : View → Who → Type 0
-HasMadeNone view who = deeds who view ≡ []
+HasMadeNone view who = HasMadeNoneBeside [] view who
 
 -- the entry that was made stands at this place of the page's history
 abbrev pub IsAt : Page → ℕ → What → Made → Type 0
@@ -111,10 +115,18 @@ Precedes page slot line m = ((m.page ≡ page) × IsOnTheWay slot line m.entry.w
 abbrev pub HasOnly : (Made → Type 0) → View → Who → Type 0
 HasOnly Such view who = EachMember Such (deeds who view)
 
--- the command made such entries, and then one more at this place of the page's history
-pub record HasMade (Such : Made → Type 0) (view : View) (who : Who) (page : Page) (place : ℕ) (what : What) : Type 0 where
+-- beside these entries it has made such alone
+abbrev pub HasOnlyBeside : List Made → (Made → Type 0) → View → Who → Type 0
+HasOnlyBeside base Such view who = (own : List Made) × (deeds who view ≡ base ++ own) × EachMember Such own
+
+-- beside these entries the command made such, and then one more at this place of the page's history
+pub record HasMadeBeside (base : List Made) (Such : Made → Type 0) (view : View) (who : Who) (page : Page) (place : ℕ) (what : What) : Type 0 where
   pub before : List Made
   pub last : Made
-  pub all : deeds who view ≡ before ++ last ∷ []
+  pub all : deeds who view ≡ base ++ (before ++ last ∷ [])
   pub such : EachMember Such before
   pub at : IsAt page place what last
+
+-- the command made such entries, and then one more at this place
+abbrev pub HasMade : (Made → Type 0) → View → Who → Page → ℕ → What → Type 0
+HasMade Such view who page place what = HasMadeBeside [] Such view who page place what
