@@ -2,8 +2,9 @@
 -- more.
 use Rattle.std.proofs.Common.{◌≡◌, ◌≢◌, ℕ, zero, suc, ◌<◌, ◌≤◌, ◌==◌, ◌&&◌, Bool, true, false, cond, List, [], ◌∷◌, ◌++◌, Option, Some, None, filter, length, slice_get, append-nil, refl, sym, ap, ◌∙◌, subst, arith}
 use Rattle.std.proofs.lemmas.Bool.{both_ways, eqb-true}
+use Rattle.std.proofs.lemmas.List.{append_assoc}
 use Rattle.std.proofs.lemmas.List.Elements.{filter-append}
-use Rattle.std.proofs.lemmas.Option.{same_Some}
+use Rattle.std.proofs.lemmas.Option.{none-some, same_Some}
 use Rattle.std.specs.declared.snapshot.Snapshot.{Snapshot}
 use Rattle.hwp_core_rule.specs.hwp_geom.declared.Cpu.{Cpu}
 use Rattle.hwp_core_rule.specs.hwp_geom.declared.FileNo.{FileNo}
@@ -31,11 +32,11 @@ use Rattle.hwp_core_rule.specs.Rule.{Holds}
 use Rattle.hwp_core_rule.specs.Steps.{goes}
 use Rattle.hwp_core_rule.specs.Views.{body_of, killed_by, listed, listed_of, loaded, made_from, more_of, noted, put_home, sighted, stamp_of, taken, view_by}
 use Rattle.hwp_core_rule.specs.parts.Holdings.{IsPast}
-use Rattle.hwp_core_rule.proofs.Lists.{same-number}
-use Rattle.hwp_core_rule.proofs.MoreEntries.{made-each}
+use Rattle.hwp_core_rule.proofs.Lists.{each-push, same-number}
+use Rattle.hwp_core_rule.proofs.MoreEntries.{each-append, made-each}
 use Rattle.hwp_core_task.specs.Calls.{CanMake, IsLater, Steps, logs}
 use Rattle.hwp_core_task.proofs.StepLeaves.{content_of}
-use Rattle.hwp_core_task.specs.Known.{IsAt, HasMade, HasMadeNone, HasOnly, deeds, is_by, such_deeds}
+use Rattle.hwp_core_task.specs.Known.{IsAt, HasMade, HasMadeBeside, HasMadeNone, HasMadeNoneBeside, HasOnly, HasOnlyBeside, deeds, is_by, such_deeds}
 
 -- ---- a step that puts no body
 
@@ -175,17 +176,46 @@ module _ (who : Who) {old new : View} {stamp : Stamp} {body : InHand} {log : Log
 
 -- ---- what a command made
 
-module _ (who : Who) {Such : Made → Type 0} (old new : View) where
+module _ (who : Who) {base : List Made} {Such : Made → Type 0} (old new : View) where
   -- what a command made it has made where it has no entry more
-  pub has-made-stays : {page : Page} {place : ℕ} {what : What} → deeds who new ≡ deeds who old → HasMade Such old who page place what → HasMade Such new who page place what
+  pub has-made-stays : {page : Page} {place : ℕ} {what : What} → deeds who new ≡ deeds who old → HasMadeBeside base Such old who page place what → HasMadeBeside base Such new who page place what
   has-made-stays is has = record { before = has.before; last = has.last; all = is ∙ has.all; such = has.such; at = has.at }
 
+  pub only-beside-stays : deeds who new ≡ deeds who old → HasOnlyBeside base Such old who → HasOnlyBeside base Such new who
+  only-beside-stays is has = record { own = has.own; all = is ∙ has.all; such = has.such }
+
+  -- with such entries more it has made such alone
+  pub only-beside-more : (more : List Made) → deeds who new ≡ deeds who old ++ more → EachMember Such more → HasOnlyBeside base Such old who → HasOnlyBeside base Such new who
+  only-beside-more more is each has = record { own = has.own ++ more; all = is ∙ ap (λ (l : List Made). l ++ more) has.all ∙ append_assoc base has.own more; such = each-append Such has.own more has.such each }
+
+  -- and with one entry more it has made that one last
+  pub has-made-beside : (m : Made) {page : Page} {place : ℕ} {what : What} → deeds who new ≡ deeds who old ++ m ∷ [] → IsAt page place what m → HasOnlyBeside base Such old who → HasMadeBeside base Such new who page place what
+  has-made-beside m is at only = record { before = only.own; last = m; all = is ∙ ap (λ (l : List Made). l ++ m ∷ []) only.all ∙ append_assoc base only.own (m ∷ []); such = only.such; at = at }
+
+module _ (who : Who) {Such : Made → Type 0} (old new : View) where
+  -- the same of a command that had made nothing before
   pub has-only-stays : deeds who new ≡ deeds who old → HasOnly Such old who → HasOnly Such new who
   has-only-stays is has = subst (EachMember Such) (sym is) has
 
-  -- and with one entry more it has made that one last
   pub has-made : (m : Made) {page : Page} {place : ℕ} {what : What} → deeds who new ≡ deeds who old ++ m ∷ [] → IsAt page place what m → HasOnly Such old who → HasMade Such new who page place what
   has-made m is at only = record { before = deeds who old; last = m; all = is; such = only; at = at }
+
+module _ {base : List Made} {Such : Made → Type 0} (view : View) (who : Who) where
+  -- where it has made none beside these, it has made such alone
+  pub only-of-none : HasMadeNoneBeside base view who → HasOnlyBeside base Such view who
+  only-of-none none = record { own = []; all = none ∙ sym (append-nil base); such = λ i m there. absurd (none-some m there) }
+
+  -- and where the last one is such too
+  pub only-of-made : {page : Page} {place : ℕ} {what : What} (has : HasMadeBeside base Such view who page place what) → Such has.last → HasOnlyBeside base Such view who
+  only-of-made has last = record { own = has.before ++ has.last ∷ []; all = has.all; such = each-push Such has.before has.last last has.such }
+
+module _ {Such : Made → Type 0} (view : View) (who : Who) where
+  -- beside no entries such alone are all that it has made
+  pub only-beside : HasOnly Such view who → HasOnlyBeside [] Such view who
+  only-beside only = record { own = deeds who view; all = refl; such = only }
+
+  pub beside-only : HasOnlyBeside [] Such view who → HasOnly Such view who
+  beside-only has = subst (EachMember Such) (sym has.all) has.such
 
 -- ---- other commands
 

@@ -116,8 +116,10 @@ abbrev pub HasOnly : (Made → Type 0) → View → Who → Type 0
 HasOnly Such view who = EachMember Such (deeds who view)
 
 -- beside these entries it has made such alone
-abbrev pub HasOnlyBeside : List Made → (Made → Type 0) → View → Who → Type 0
-HasOnlyBeside base Such view who = (own : List Made) × (deeds who view ≡ base ++ own) × EachMember Such own
+pub record HasOnlyBeside (base : List Made) (Such : Made → Type 0) (view : View) (who : Who) : Type 0 where
+  pub own : List Made
+  pub all : deeds who view ≡ base ++ own
+  pub such : EachMember Such own
 
 -- beside these entries the command made such, and then one more at this place of the page's history
 pub record HasMadeBeside (base : List Made) (Such : Made → Type 0) (view : View) (who : Who) (page : Page) (place : ℕ) (what : What) : Type 0 where
