@@ -1,4 +1,5 @@
 pub mod Acts
+pub mod Offlines
 pub mod Terms
 pub mod ReportText
 pub use Rattle.hwp_severity.specs.hwp_banks as hwp_banks

@@ -30,7 +30,10 @@ use Rattle.hwp_report_text.specs.declared.lines.Answer.TheVariants as answers
 use Rattle.hwp_report_text.specs.declared.lines.CpuLine.{CpuLine}
 use Rattle.hwp_report_text.specs.declared.lines.CpuLine.TheVariants as lines
 use Rattle.hwp_report_text.specs.declared.lines.EventLine.{EventLine}
-use Rattle.hwp_report_text.specs.Terms.{acted_word, code_word, flag_number, mode_word, origin_word, outcome_word, policy_word, situation_word, version_word}
+use Rattle.hwp_report_text.specs.declared.lines.GuestLine.{GuestLine}
+use Rattle.hwp_report_text.specs.declared.lines.OfflinedLine.{OfflinedLine}
+use Rattle.hwp_report_text.specs.Offlines.{offline_answer}
+use Rattle.hwp_report_text.specs.Terms.{acted_word, code_word, flag_number, guest_word, mode_word, origin_word, outcome_word, policy_word, situation_word, version_word}
 
 -- the lines of each item of a list, with its number, counted from n
 abbrev pub numbered : {A : Type 0} → (ℕ → A → List (List (List ℕ))) → ℕ → List A → List (List (List ℕ))
@@ -182,14 +185,26 @@ answer_words answers.HardwareSeen = codes "hardwareseen" ∷ []
 answer_words (answers.InUse count) = codes "inuse" ∷ decimal count ∷ []
 answer_words (answers.Scrubbed events) = codes "scrubbed" ∷ decimal events ∷ []
 answer_words (answers.Raised events) = codes "raised" ∷ decimal events ∷ []
+answer_words answers.GuestStopped = codes "gueststopped" ∷ []
+answer_words answers.GuestBad = codes "guestbad" ∷ []
 
 -- an event: the command's number, and `event BANK STATUS ADDR MISC ROW OUTCOME`
 abbrev pub event_words : EventLine → List (List ℕ)
 event_words e = decimal e.seq ∷ codes "event" ∷ decimal e.bank ∷ hex e.status ∷ hex e.addr ∷ hex e.misc ∷ row_word e.row ∷ acted_word e.acted ∷ []
 
--- a line of a processor: an event, or the command's number and its answer
+-- a frame that a command takes out of use: its number, and `offlined F RESULT`
+abbrev pub offlined_words : OfflinedLine → List (List ℕ)
+offlined_words o = decimal o.seq ∷ codes "offlined" ∷ decimal o.frame.0 ∷ answer_words (offline_answer o.result)
+
+-- the machine check of a guest: the command's number, and `guest BANK STATUS ADDR MISC ROW OUTCOME`
+abbrev pub guest_words : GuestLine → List (List ℕ)
+guest_words g = decimal g.seq ∷ codes "guest" ∷ decimal g.bank ∷ hex g.status ∷ hex g.addr ∷ hex g.misc ∷ row_word g.row ∷ guest_word g.stops ∷ []
+
+-- a line of a processor: an event, a frame taken out of use, a machine check of a guest, or the command's number and its answer
 abbrev pub cpu_line_words : CpuLine → List (List ℕ)
 cpu_line_words (lines.Event event) = event_words event
+cpu_line_words (lines.Offlined offlined) = offlined_words offlined
+cpu_line_words (lines.Guest guest) = guest_words guest
 cpu_line_words (lines.Answer seq answer) = decimal seq ∷ answer_words answer
 
 -- `cpu C N` with the number of its lines, and the lines

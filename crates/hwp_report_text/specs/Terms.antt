@@ -79,3 +79,8 @@ acted_word acts.Outside = codes "outside"
 acted_word acts.Stop = codes "stop"
 acted_word acts.Panic = codes "panic"
 acted_word acts.Held = codes "held"
+
+-- what the machine check of a guest did: it stopped the guest, or its address is bad
+abbrev pub guest_word : Bool → List ℕ
+guest_word true = codes "stop"
+guest_word false = codes "bad"

@@ -14,7 +14,7 @@ pub use hwp_page::{
     Version, What, Who, prctl,
 };
 pub use hwp_severity::{Arrival, Decision, Grade, McgBits, Severity, grade, handle};
-pub use lines::{Acted, Answer, CpuLine, EventLine};
+pub use lines::{Acted, Answer, CpuLine, EventLine, GuestLine, OfflineResult, OfflinedLine};
 pub use printing::print;
 pub use report::{Report, Stop, StopCause};
-pub use terms::{acted_word, outcome_word, policy_word, situation_word};
+pub use terms::{acted_word, guest_word, outcome_word, policy_word, situation_word};

@@ -113,6 +113,10 @@ pub enum Answer {
     Scrubbed(u64),
     /// The machine check found this many events.
     Raised(u64),
+    /// The guest had stopped.
+    GuestStopped,
+    /// The guest had met a machine check at this address, and uses it no more.
+    GuestBad,
 }
 
 /// The event of a bank in a machine check: what the bank held, the row of the severity table, and what was done.
@@ -134,11 +138,81 @@ pub struct EventLine {
     pub acted: Acted,
 }
 
+/// What came of taking a frame out of use, for its corrected errors.
+#[derive(Clone, Copy)]
+pub enum OfflineResult {
+    /// Its content moved to this frame, by this entry.
+    Moved(Frame, At),
+    /// It had no page, and was taken.
+    TakenFree,
+    /// It was poisoned already.
+    Already,
+    /// It has these bad lines.
+    HasBad(Mask),
+    /// No other frame was free.
+    NoFrame,
+    /// The machine had stopped.
+    Stopped,
+}
+
+impl OfflineResult {
+    ghost use Rattle.std.specs.Prelude.{◌≡◌};
+    ghost use Rattle.hwp_report_text.specs.Offlines.{offline_answer};
+
+    /// The answer of `soft` that says the same.
+    pub fn answer(self) -> Answer
+        ensures { result ≡ offline_answer self }
+    {
+        match self {
+            OfflineResult::Moved(frame, at) => Answer::Moved(frame, at),
+            OfflineResult::TakenFree => Answer::TakenFree,
+            OfflineResult::Already => Answer::Already,
+            OfflineResult::HasBad(mask) => Answer::HasBad(mask),
+            OfflineResult::NoFrame => Answer::NoFrame,
+            OfflineResult::Stopped => Answer::Stopped,
+        }
+    }
+}
+
+/// A frame that a command took out of use, or tried to, beside its own answer.
+#[derive(Clone, Copy)]
+pub struct OfflinedLine {
+    /// The number of the processor's command, from 0.
+    pub seq: u32,
+    /// The frame.
+    pub frame: Frame,
+    /// What came of it.
+    pub result: OfflineResult,
+}
+
+/// The machine check of a guest: what its bank held, the row of the severity table, and what was done.
+#[derive(Clone, Copy)]
+pub struct GuestLine {
+    /// The number of the processor's command, from 0.
+    pub seq: u32,
+    /// The number of the guest's bank.
+    pub bank: u8,
+    /// What the bank's MCi_STATUS held (Intel SDM vol. 3B).
+    pub status: u64,
+    /// What its MCi_ADDR held: an address of the guest.
+    pub addr: u64,
+    /// What its MCi_MISC held.
+    pub misc: u64,
+    /// The row of the severity table that graded it.
+    pub row: u8,
+    /// Whether it stopped the guest. If not, the guest uses the address no more.
+    pub stops: bool,
+}
+
 /// A line of a processor.
 #[derive(Clone, Copy)]
 pub enum CpuLine {
     /// An event of a machine check.
     Event(EventLine),
+    /// A frame taken out of use beside the command's answer.
+    Offlined(OfflinedLine),
+    /// The machine check of a guest.
+    Guest(GuestLine),
     /// The answer of the command number `seq`, from 0.
     Answer { seq: u32, answer: Answer },
 }

@@ -107,3 +107,10 @@ pub fn acted_word(acted: Acted) -> &'static str
         Acted::Held => "held",
     }
 }
+
+/// The word of what the machine check of a guest did: it stopped the guest, or its address is bad.
+pub fn guest_word(stops: bool) -> &'static str
+    ensures { result.now ≡ terms.guest_word stops }
+{
+    if stops { "stop" } else { "bad" }
+}

@@ -1,10 +1,10 @@
 ghost use Rattle.std.specs.Prelude.{◌≡◌, ◌∷◌, [], ◌++◌, OnOk, string_bytes, codes, decimal, map};
 ghost use Rattle.std.specs.List.{flat_map};
 ghost use Rattle.hwp_page.specs.hwp_geom.Words.{line, hex};
-ghost use Rattle.hwp_report_text.specs.ReportText.{answer_words, cpu_line_words, event_words, placed};
+ghost use Rattle.hwp_report_text.specs.ReportText.{answer_words, cpu_line_words, event_words, guest_words, offlined_words, placed};
 
-use crate::lines::{Answer, CpuLine, EventLine};
-use crate::terms::acted_word;
+use crate::lines::{Answer, CpuLine, EventLine, GuestLine, OfflineResult, OfflinedLine};
+use crate::terms::{acted_word, guest_word};
 use hwp_page::{At, Frame, Mask, OutOfMemory};
 
 /// The lines below a processor.
@@ -22,6 +22,8 @@ fn put_cpu_line(out: &mut String, item: CpuLine) -> Result<(), OutOfMemory>
 {
     match item {
         CpuLine::Event(event) => put_event(out, event),
+        CpuLine::Offlined(offlined) => put_offlined(out, offlined),
+        CpuLine::Guest(guest) => put_guest(out, guest),
         CpuLine::Answer { seq, answer } => put_answer(out, seq, answer),
     }
 }
@@ -42,6 +44,70 @@ fn put_event(out: &mut String, event: EventLine) -> Result<(), OutOfMemory>
     writeln!(
         out,
         "{seq} event {bank} {status:x} {addr:x} {misc:x} S{row} {acted}"
+    )
+}
+
+fn put_guest(out: &mut String, guest: GuestLine) -> Result<(), OutOfMemory>
+    ensures { OnOk result (string_bytes out.new ≡ string_bytes out.old ++ line (guest_words guest)) }
+{
+    let GuestLine {
+        seq,
+        bank,
+        status,
+        addr,
+        misc,
+        row,
+        stops,
+    } = guest;
+    let outcome = guest_word(stops);
+    writeln!(
+        out,
+        "{seq} guest {bank} {status:x} {addr:x} {misc:x} S{row} {outcome}"
+    )
+}
+
+fn put_offlined(out: &mut String, offlined: OfflinedLine) -> Result<(), OutOfMemory>
+    ensures { OnOk result (string_bytes out.new ≡ string_bytes out.old ++ line (offlined_words offlined)) }
+{
+    let OfflinedLine { seq, frame, result } = offlined;
+    match result {
+        OfflineResult::Moved(to, at) => put_offlined_moved(out, seq, frame, to, at),
+        OfflineResult::TakenFree => put_offlined_word(out, seq, frame, "takenfree"),
+        OfflineResult::Already => put_offlined_word(out, seq, frame, "already"),
+        OfflineResult::HasBad(mask) => {
+            writeln!(out, "{seq} offlined {} hasbad {:x}", frame.0, mask.0)
+        }
+        OfflineResult::NoFrame => put_offlined_word(out, seq, frame, "noframe"),
+        OfflineResult::Stopped => put_offlined_word(out, seq, frame, "stopped"),
+    }
+}
+
+fn put_offlined_word(
+    out: &mut String,
+    seq: u32,
+    frame: Frame,
+    word: &str,
+) -> Result<(), OutOfMemory>
+    ensures { OnOk result (string_bytes out.new ≡ string_bytes out.old
+        ++ line (decimal seq ∷ codes "offlined" ∷ decimal frame.0 ∷ word.now ∷ [])) }
+{
+    writeln!(out, "{seq} offlined {} {word}", frame.0)
+}
+
+fn put_offlined_moved(
+    out: &mut String,
+    seq: u32,
+    frame: Frame,
+    to: Frame,
+    at: At,
+) -> Result<(), OutOfMemory>
+    ensures { OnOk result (string_bytes out.new ≡ string_bytes out.old
+        ++ line (decimal seq ∷ codes "offlined" ∷ decimal frame.0 ∷ codes "moved" ∷ decimal to.0 ∷ decimal at.page.0 ∷ decimal at.entry ∷ [])) }
+{
+    writeln!(
+        out,
+        "{seq} offlined {} moved {} {} {}",
+        frame.0, to.0, at.page.0, at.entry
     )
 }
 
@@ -80,6 +146,8 @@ fn put_answer(out: &mut String, seq: u32, answer: Answer) -> Result<(), OutOfMem
         Answer::InUse(count) => put_number(out, seq, "inuse", count),
         Answer::Scrubbed(events) => put_number(out, seq, "scrubbed", events),
         Answer::Raised(events) => put_number(out, seq, "raised", events),
+        Answer::GuestStopped => put_word(out, seq, "gueststopped"),
+        Answer::GuestBad => put_word(out, seq, "guestbad"),
     }
 }
 
