@@ -22,7 +22,8 @@ use Rattle.hwp_law.specs.hwp_report_text.declared.FrameLine.{FrameLine}
 use Rattle.hwp_law.specs.hwp_report_text.declared.Report.{Report}
 use Rattle.hwp_law.specs.Frames.{IsFrameLine}
 use Rattle.hwp_law.specs.Law.{IsLawful}
-use Rattle.hwp_law.specs.Losses.{IsNumber, answered, tells_number}
+use Rattle.hwp_law.specs.Lines.{answered}
+use Rattle.hwp_law.specs.Losses.{IsNumber, tells_number}
 use Rattle.hwp_law.specs.PageHistory.{IsHistory}
 use Rattle.hwp_check_rules.specs.Rules.{AnswersFit, FramesFit, HistoriesFit, LossesFit, MarksFit, SeenFit, ShapeFits, StopFits}
 use Rattle.hwp_check_rules.specs.declared.verdicts.Rule.{Rule}

@@ -25,7 +25,8 @@ use Rattle.hwp_law.specs.Events.{AreEvents}
 use Rattle.hwp_law.specs.Frames.{IsPlaced, WasDone, poisoned_count}
 use Rattle.hwp_law.specs.Halts.{IsStopOf}
 use Rattle.hwp_law.specs.History.{AreOrdered}
-use Rattle.hwp_law.specs.Losses.{IsNumber, answered, is_lost, losses_such, tells_number}
+use Rattle.hwp_law.specs.Lines.{answered}
+use Rattle.hwp_law.specs.Losses.{IsNumber, is_lost, losses_such, tells_number}
 use Rattle.hwp_law.specs.Pairings.{AreRecorded}
 use Rattle.hwp_law.specs.Records.{IsFrameRecord, ends_poisoned}
 use Rattle.hwp_law.specs.PageHistory.{is_of}

@@ -14,7 +14,8 @@ use Rattle.hwp_check_rules.specs.hwp_report_text.declared.Answer.TheVariants as 
 use Rattle.hwp_check_rules.specs.hwp_report_text.declared.CpuLine.{CpuLine}
 use Rattle.hwp_check_rules.specs.hwp_report_text.declared.Report.{Report}
 use Rattle.hwp_check_rules.specs.hwp_law.Causes.{AreCaused}
-use Rattle.hwp_check_rules.specs.hwp_law.Losses.{IsNumber, answered, is_lost, is_lost_before, losses_such, numbers_after, tells_number}
+use Rattle.hwp_check_rules.specs.hwp_law.Lines.{answered}
+use Rattle.hwp_check_rules.specs.hwp_law.Losses.{IsNumber, is_lost, is_lost_before, losses_such, numbers_after, tells_number}
 use Rattle.hwp_check_rules.specs.Faults.{IsLossFault}
 use Rattle.hwp_check_rules.specs.Firsts.{sooner_if, soonest}
 use Rattle.hwp_check_rules.specs.Rules.{AnswersFit, IsTold, LossesFit, ShapeFits}

@@ -15,7 +15,8 @@ use Rattle.hwp_check_rules.specs.hwp_report_text.declared.CpuLine.{CpuLine}
 use Rattle.hwp_check_rules.specs.hwp_report_text.declared.CpuLine.TheVariants as lines
 use Rattle.hwp_check_rules.specs.hwp_report_text.declared.Report.{Report}
 use Rattle.hwp_check_rules.specs.hwp_law.Causes.{AreCaused}
-use Rattle.hwp_check_rules.specs.hwp_law.Losses.{answered, is_lost, is_lost_before, losses_such, number_by, numbers_after, tells_number}
+use Rattle.hwp_check_rules.specs.hwp_law.Lines.{answered}
+use Rattle.hwp_check_rules.specs.hwp_law.Losses.{is_lost, is_lost_before, losses_such, number_by, numbers_after, tells_number}
 use Rattle.hwp_check_rules.specs.Firsts.{soonest}
 use Rattle.hwp_check_state.specs.declared.told.Told.{Told}
 use Rattle.hwp_check_state.specs.Handles.{IsFirst, IsToldWrong}

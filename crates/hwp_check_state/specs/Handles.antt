@@ -7,7 +7,8 @@ use Rattle.hwp_check_rules.specs.hwp_script_read.declared.Script.{Script}
 use Rattle.hwp_check_rules.specs.hwp_report_text.declared.Answer.{Answer}
 use Rattle.hwp_check_rules.specs.hwp_report_text.declared.CpuLine.{CpuLine}
 use Rattle.hwp_check_rules.specs.hwp_report_text.declared.Report.{Report}
-use Rattle.hwp_check_rules.specs.hwp_law.Losses.{answered, is_lost, losses_such, numbers_after, tells_number}
+use Rattle.hwp_check_rules.specs.hwp_law.Lines.{answered}
+use Rattle.hwp_check_rules.specs.hwp_law.Losses.{is_lost, losses_such, numbers_after, tells_number}
 use Rattle.hwp_check_rules.specs.Firsts.{IsLeast}
 use Rattle.hwp_check_state.specs.Told.{is_good}
 

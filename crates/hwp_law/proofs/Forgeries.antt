@@ -214,14 +214,27 @@ pub made_by_mark : IsMadeBy script (record { 0 = 0 }) (record { who = command 1;
 made_by_mark made = made.0
 
 -- no thread has a setting that its processor's commands don't make
-pub setting_unmade : (policy : Policy) → IsPolicySeen script (record { thread = record { 0 = 0 }; policy = policy; n = 1 }) → ⊥
+pub setting_unmade : (policy : Policy) → IsPolicySeen script report (record { thread = record { 0 = 0 }; policy = policy; n = 1 }) → ⊥
 setting_unmade policy seen = let few : 1 ≤ 0 = seen.made in absurd (omega arith)
+
+-- nor one by a call of prctl(2) that was answered `stopped`, where the same call answered `done` is one
+abbrev setting : Script
+setting = record script { lists = (commands.Prctl (record { 0 = 0 }) (record { operation = 33; arg2 = 1; arg3 = 1; arg4 = 0; arg5 = 0 }) ∷ []) ∷ [] }
+
+abbrev told : Answer → Report
+told answer = record report { cpus = (lines.Answer 0 answer ∷ []) ∷ [] }
+
+pub setting_stopped : (policy : Policy) → IsPolicySeen setting (told answers.Stopped) (record { thread = record { 0 = 0 }; policy = policy; n = 1 }) → ⊥
+setting_stopped policy seen = let few : 1 ≤ 0 = seen.made in absurd (omega arith)
+
+pub setting_done : IsPolicySeen setting (told answers.Done) (record { thread = record { 0 = 0 }; policy = policies.Early; n = 1 })
+setting_done = record { made = omega arith; policy = refl }
 
 abbrev is_default : Policy → Bool
 is_default policies.Default = true
 is_default _ = false
 
-pub other_policy : IsPolicySeen script (record { thread = record { 0 = 0 }; policy = policies.Early; n = 0 }) → ⊥
+pub other_policy : IsPolicySeen script report (record { thread = record { 0 = 0 }; policy = policies.Early; n = 0 }) → ⊥
 other_policy seen = true≢false (sym (ap is_default seen.policy))
 
 -- ---- losses

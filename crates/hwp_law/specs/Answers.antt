@@ -25,9 +25,8 @@ use Rattle.hwp_report_text.specs.declared.CpuLine.{CpuLine}
 use Rattle.hwp_report_text.specs.declared.CpuLine.TheVariants as lines
 use Rattle.hwp_report_text.specs.hwp_kill.declared.Reply.{Reply}
 use Rattle.hwp_report_text.specs.hwp_kill.declared.Reply.TheVariants as replies
-use Rattle.hwp_report_text.specs.hwp_kill.Prctl.{policy_number, reply}
+use Rattle.hwp_report_text.specs.hwp_kill.Prctl.{policy_number}
 use Rattle.hwp_law.specs.Places.{entry_at}
-use Rattle.hwp_law.specs.Policies.{arguments, policy_before}
 use Rattle.hwp_law.specs.States.{HadState, IsInWindow, entry_named, state_named}
 
 -- the frame that a command names to go bad, to fail or to go out of use
@@ -102,7 +101,6 @@ IsAnswer script pages stop who (commands.Out page) (answers.Locked at) =
 IsAnswer script pages stop who (commands.Out page) answer = IsPageAnswer script.layout pages who page entries.Out answer
 IsAnswer script pages stop who (commands.Fsync file) answers.Done = Unit {0}
 IsAnswer script pages stop who (commands.Open file) (answers.Opened lost) = Unit {0}
-IsAnswer script pages stop who (commands.Prctl thread args) answer = answer ≡ reply_answer (reply (policy_before script who thread) (arguments args))
 IsAnswer script pages stop who (commands.Log status addr misc) answers.Done = Unit {0}
 IsAnswer script pages stop who _ _ = ⊥
 

@@ -10,6 +10,7 @@ use Rattle.hwp_script_read.specs.hwp_geom.declared.Thread.{Thread}
 use Rattle.hwp_script_read.specs.hwp_geom.declared.Who.{Who}
 use Rattle.hwp_report_text.specs.hwp_kill.declared.Code.TheVariants.{Ar}
 use Rattle.hwp_report_text.specs.hwp_kill.declared.Signal.{Signal}
+use Rattle.hwp_report_text.specs.hwp_kill.Prctl.{reply}
 use Rattle.hwp_report_text.specs.hwp_page.declared.At.{At}
 use Rattle.hwp_report_text.specs.hwp_page.declared.Entry.{Entry}
 use Rattle.hwp_report_text.specs.hwp_page.declared.Met.TheVariants.{Sigbus}
@@ -32,12 +33,13 @@ use Rattle.hwp_report_text.specs.declared.How.TheVariants as hows
 use Rattle.hwp_report_text.specs.declared.MarkLine.{MarkLine}
 use Rattle.hwp_report_text.specs.declared.MarkLine.TheVariants as marks
 use Rattle.hwp_report_text.specs.declared.Report.{Report}
-use Rattle.hwp_law.specs.Answers.{IsAnswer, StandsAt, is_ample}
+use Rattle.hwp_law.specs.Answers.{IsAnswer, StandsAt, is_ample, reply_answer}
 use Rattle.hwp_report_text.specs.Acts.{is_panic, is_stopping}
 use Rattle.hwp_law.specs.Commands.{current_thread, is_kernels}
 use Rattle.hwp_law.specs.Endings.{IsGone}
 use Rattle.hwp_law.specs.Lines.{bad_lines_of, events_of, marks_of}
 use Rattle.hwp_law.specs.Places.{entry_at}
+use Rattle.hwp_law.specs.Policies.{arguments, policy_before}
 use Rattle.hwp_law.specs.Records.{WasPoisoned, how_in, is_by_hardware, outcome_in, who_in}
 use Rattle.hwp_law.specs.States.{HadState}
 
@@ -142,6 +144,7 @@ IsCaused script report who (commands.Sync page) answer = IsCopyAnswer script rep
 IsCaused script report who (commands.Out page) answer = IsOutAnswer script report who page answer
 IsCaused script report who (commands.Fsync file) (answers.Eio lost) = 0 < lost
 IsCaused script report who (commands.Prctl thread args) (answers.Gone page) = IsGone script report who page
+IsCaused script report who (commands.Prctl thread args) answer = answer ≡ reply_answer (reply (policy_before script report who thread) (arguments args))
 IsCaused script report who (commands.Bad frame line) answers.Done = Unit {0}
 IsCaused script report who (commands.Weak frame line) answers.Done = Unit {0}
 IsCaused script report who (commands.Scrub first last) (answers.Scrubbed n) = IsEventCount report who n

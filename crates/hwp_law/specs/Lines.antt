@@ -1,7 +1,8 @@
 -- The lines of a report: what a processor's lines say of one command, and what a frame's line says.
-use Rattle.std.specs.Prelude.{ℕ, ◌==◌, ◌&&◌, Bool, List, [], Option, Some, None, filter, filter_map, slice_get, option_map, unwrap_or}
-use Rattle.std.specs.List.{find}
+use Rattle.std.specs.Prelude.{ℕ, ◌==◌, ◌&&◌, Bool, List, [], Option, Some, None, filter, filter_map, map, slice_get, option_map, unwrap_or}
+use Rattle.std.specs.List.{find, zip}
 use Rattle.hwp_script_read.specs.hwp_geom.declared.Who.{Who}
+use Rattle.hwp_script_read.specs.declared.Command.{Command}
 use Rattle.hwp_report_text.specs.declared.Answer.{Answer}
 use Rattle.hwp_report_text.specs.declared.CpuLine.{CpuLine}
 use Rattle.hwp_report_text.specs.declared.CpuLine.TheVariants as lines
@@ -44,6 +45,10 @@ answer_among rows seq = option_map (λ (l : AnswerLine). l.answer) (find (λ (l 
 
 abbrev pub answer_of : Report → Who → Option Answer
 answer_of report who = answer_among (rows_of report who) who.seq
+
+-- the commands of a processor with the answers of its lines
+abbrev pub answered : List Command → List CpuLine → List (Command × Answer)
+answered list rows = zip list (map (λ (l : AnswerLine). l.answer) (filter_map answer_in rows))
 
 -- the record of a frame
 abbrev pub marks_of : Report → ℕ → List MarkLine

@@ -1,7 +1,7 @@
 -- The lost content of files, and what each processor was told of it. A handle is a processor together with a file: it has a number,
 -- the losses of the file that the processor knows of, which is 0 at first. `fsync` tells the losses past it, and `open` passes them over: after each the number is what the
 -- command saw.
-use Rattle.std.specs.Prelude.{◌≡◌, ℕ, ◌+◌, ◌<◌, ◌≤◌, ◌==◌, ◌&&◌, Bool, true, false, cond, nat_lt, List, [], ◌∷◌, Some, length, map, filter_map, slice_get, take}
+use Rattle.std.specs.Prelude.{◌≡◌, ℕ, ◌+◌, ◌<◌, ◌≤◌, ◌==◌, ◌&&◌, Bool, true, false, cond, nat_lt, List, [], ◌∷◌, Some, length, slice_get, take}
 use Rattle.std.specs.Int.{from_bool}
 use Rattle.std.specs.List.{sum_by, zip}
 use Rattle.hwp_script_read.specs.hwp_geom.declared.Cpu.{Cpu}
@@ -17,11 +17,7 @@ use Rattle.hwp_report_text.specs.declared.Answer.{Answer}
 use Rattle.hwp_report_text.specs.declared.Answer.TheVariants as answers
 use Rattle.hwp_report_text.specs.declared.CpuLine.{CpuLine}
 use Rattle.hwp_report_text.specs.declared.Report.{Report}
-use Rattle.hwp_law.specs.Lines.{AnswerLine, answer_in}
-
--- the commands of a processor with the answers of its lines
-abbrev pub answered : List Command → List CpuLine → List (Command × Answer)
-answered list rows = zip list (map (λ (l : AnswerLine). l.answer) (filter_map answer_in rows))
+use Rattle.hwp_law.specs.Lines.{answered}
 
 -- the number that a handle of the file has after a command with this answer, where it had n
 abbrev pub number_by : FileNo → ℕ → Command → Answer → ℕ

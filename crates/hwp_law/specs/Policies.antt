@@ -1,5 +1,7 @@
--- The policies that a processor's commands set.
+-- The policies that a processor's commands set. A setting of a thread is a call of prctl(2) by it that was answered `done` and whose
+-- arguments set a policy.
 use Rattle.std.specs.Prelude.{ℕ, ◌==◌, cond, List, [], ◌∷◌, Option, None, take, fold, filter_map, slice_get, unwrap_or}
+use Rattle.hwp_script_read.specs.hwp_geom.declared.Cpu.{Cpu}
 use Rattle.hwp_script_read.specs.hwp_geom.declared.Thread.{Thread}
 use Rattle.hwp_script_read.specs.hwp_geom.declared.Who.{Who}
 use Rattle.hwp_report_text.specs.hwp_kill.declared.Policy.{Policy}
@@ -9,32 +11,35 @@ use Rattle.hwp_script_read.specs.declared.PrctlArgs.{PrctlArgs}
 use Rattle.hwp_script_read.specs.declared.Command.{Command}
 use Rattle.hwp_script_read.specs.declared.Command.TheVariants as commands
 use Rattle.hwp_script_read.specs.declared.Script.{Script}
+use Rattle.hwp_report_text.specs.declared.Answer.{Answer}
+use Rattle.hwp_report_text.specs.declared.Answer.TheVariants as answers
+use Rattle.hwp_report_text.specs.declared.Report.{Report}
+use Rattle.hwp_law.specs.Lines.{answered}
 
 -- the five arguments in their order
 abbrev pub arguments : PrctlArgs → List ℕ
 arguments args = args.operation ∷ args.arg2 ∷ args.arg3 ∷ args.arg4 ∷ args.arg5 ∷ []
 
--- the policy that a command sets for the thread, if it sets one
-abbrev pub setting_of : Thread → Command → Option Policy
-setting_of thread (commands.Prctl other args) = cond (other.0 == thread.0) (policy_set (arguments args)) None
-setting_of thread _ = None
+-- the policy that a command with this answer set for the thread, if it set one: a call of prctl(2) by the thread that was answered `done`
+abbrev pub setting_of : Thread → Command → Answer → Option Policy
+setting_of thread (commands.Prctl other args) answers.Done = cond (other.0 == thread.0) (policy_set (arguments args)) None
+setting_of thread _ _ = None
 
--- the policies that commands set for the thread, in order
-abbrev pub settings : Thread → List Command → List Policy
-settings thread list = filter_map (setting_of thread) list
+-- the policies that were set for the thread, in order, by commands with these answers
+abbrev pub settings : Thread → List (Command × Answer) → List Policy
+settings thread list = filter_map (λ (p : Command × Answer). setting_of thread p.0 p.1) list
 
 -- the last of some policies, or the system default where there is none
 abbrev pub last_policy : List Policy → Policy
 last_policy policies = fold (λ earlier later. later) Default policies
 
--- the policy of a thread after its n-th setting
-abbrev pub policy_after : List Command → Thread → ℕ → Policy
-policy_after list thread n = last_policy (take n (settings thread list))
+-- the commands of a processor with their answers, and those before one of them
+abbrev pub answered_on : Script → Report → Cpu → List (Command × Answer)
+answered_on script report cpu = answered (unwrap_or (slice_get script.lists cpu.0) []) (unwrap_or (slice_get report.cpus cpu.0) [])
 
--- the commands of a processor before one of them
-abbrev pub commands_before : Script → Who → List Command
-commands_before script who = take who.seq (unwrap_or (slice_get script.lists who.cpu.0) [])
+abbrev pub answered_before : Script → Report → Who → List (Command × Answer)
+answered_before script report who = take who.seq (answered_on script report who.cpu)
 
 -- the policy of a thread before a command of its processor
-abbrev pub policy_before : Script → Who → Thread → Policy
-policy_before script who thread = last_policy (settings thread (commands_before script who))
+abbrev pub policy_before : Script → Report → Who → Thread → Policy
+policy_before script report who thread = last_policy (settings thread (answered_before script report who))

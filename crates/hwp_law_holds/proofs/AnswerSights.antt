@@ -29,8 +29,8 @@ use Rattle.hwp_law_run.specs.hwp_report_text.declared.Answer.TheVariants as answ
 use Rattle.hwp_law_run.specs.hwp_report_text.declared.Report.{Report}
 use Rattle.hwp_law_run.specs.hwp_banks.Banks.{Banks}
 use Rattle.hwp_law_run.specs.hwp_law.Commands.{current_thread, process_at, process_of_thread, thread_of}
-use Rattle.hwp_law_run.specs.hwp_law.Lines.{answer_of, events_of}
-use Rattle.hwp_law_run.specs.hwp_law.Losses.{answered, numbers_after}
+use Rattle.hwp_law_run.specs.hwp_law.Lines.{answer_of, answered, events_of}
+use Rattle.hwp_law_run.specs.hwp_law.Losses.{numbers_after}
 use Rattle.hwp_law_run.specs.hwp_law.Places.{command_at}
 use Rattle.hwp_law_run.specs.hwp_law.Records.{outcome_act}
 use Rattle.hwp_soft.specs.hwp_claim.declared.Found.{Found}

@@ -37,7 +37,8 @@ use Rattle.hwp_law_run.specs.hwp_script_read.declared.Script.{Script}
 use Rattle.hwp_law_run.specs.hwp_report_text.declared.Answer.{Answer}
 use Rattle.hwp_law_run.specs.hwp_report_text.declared.CpuLine.{CpuLine}
 use Rattle.hwp_law_run.specs.hwp_report_text.declared.Report.{Report}
-use Rattle.hwp_law_run.specs.hwp_law.Losses.{IsNumber, LossesAgree, answered, found_in, is_lost, is_lost_before, losses_such, numbers_after, tells_number}
+use Rattle.hwp_law_run.specs.hwp_law.Lines.{answered}
+use Rattle.hwp_law_run.specs.hwp_law.Losses.{IsNumber, LossesAgree, found_in, is_lost, is_lost_before, losses_such, numbers_after, tells_number}
 use Rattle.hwp_law_run.proofs.Histories.{balanced, no-bodies}
 use Rattle.hwp_law_run.proofs.Homes.{there-is}
 use Rattle.hwp_law_holds.specs.Runs.{IsRunOf}

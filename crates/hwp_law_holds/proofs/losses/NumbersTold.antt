@@ -17,8 +17,8 @@ use Rattle.hwp_law_run.specs.hwp_report_text.declared.Answer.{Answer}
 use Rattle.hwp_law_run.specs.hwp_report_text.declared.Answer.TheVariants as answers
 use Rattle.hwp_law_run.specs.hwp_report_text.declared.CpuLine.{CpuLine}
 use Rattle.hwp_law_run.specs.hwp_report_text.declared.Report.{Report}
-use Rattle.hwp_law_run.specs.hwp_law.Lines.{AnswerLine, answer_in}
-use Rattle.hwp_law_run.specs.hwp_law.Losses.{answered, number_by, numbers_after, tells_number}
+use Rattle.hwp_law_run.specs.hwp_law.Lines.{AnswerLine, answer_in, answered}
+use Rattle.hwp_law_run.specs.hwp_law.Losses.{number_by, numbers_after, tells_number}
 use Rattle.hwp_law_run.proofs.Homes.{there-is}
 use Rattle.hwp_cpu_row.specs.declared.Row.{Row}
 use Rattle.hwp_law_holds.specs.Handles.{KnowsNumber, KnowsNumbers, answers_by}
