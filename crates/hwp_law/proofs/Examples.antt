@@ -1,6 +1,7 @@
 -- One memory failure on one processor, by hand: a thread stores 77 at line 5, the line goes bad in frame 0, a load of it is a
 -- machine check that takes the frame and sends the thread SIGBUS, and so is a later load. The report has these lines.
-use Rattle.std.proofs.Common.{◌≡◌, ℕ, suc, zero, true, false, List, [], ◌∷◌, Some, None, refl, sym, subst, inr, lit<, lit≤, true≢false, IsBitSet, arith}
+use Rattle.std.proofs.Common.{◌≡◌, ℕ, suc, zero, Bool, true, false, List, [], ◌∷◌, Some, None, refl, sym, subst, inr, lit<, lit≤, true≢false, IsBitSet, arith}
+use Rattle.std.specs.List.{count_by}
 use Rattle.std.proofs.lemmas.Option.{same_Some, none-some}
 use Rattle.hwp_script_read.specs.hwp_geom.declared.Layout.{Layout}
 use Rattle.hwp_script_read.specs.hwp_geom.declared.PageKind.TheVariants.{Anon}
@@ -26,8 +27,8 @@ use Rattle.hwp_report_text.specs.declared.Report.{Report}
 use Rattle.hwp_report_text.specs.hwp_banks.Banks.{empty_banks}
 use Rattle.hwp_law.specs.Commands.{arrival_of}
 use Rattle.hwp_law.specs.Events.{AreEventsOf}
-use Rattle.hwp_law.specs.Lines.{events_of}
-use Rattle.hwp_law.specs.Pairings.{AreRecorded, entries_of, has_page, is_failure, is_failure_mark, is_required, marks_in, urgent_from}
+use Rattle.hwp_law.specs.Lines.{events_of, marks_of}
+use Rattle.hwp_law.specs.Pairings.{AreRecorded, entries_of, has_page, is_failure, is_failure_mark, is_required, is_soft_mark, marks_in, urgent_from}
 use Rattle.hwp_law.specs.Records.{Alternates, HaveEvents, IsMarkAt}
 
 -- two frames, and one anonymous page of one process whose thread has a handler
@@ -122,11 +123,22 @@ failure_recorded situations.LockedClean paged = (refl, refl)
 failure_recorded situations.LockedFile paged = (refl, refl)
 failure_recorded situations.LockedAnon paged = (refl, refl)
 
-pub failing_recorded : AreRecorded report (command 2)
+-- it took no frame out of use
+abbrev NoneSoft : ℕ → Bool → Type 0
+NoneSoft frame moved = count_by (is_soft_mark (command 2) moved) (marks_of report frame) ≡ 0
+
+none_soft : (frame : ℕ) (moved : Bool) → NoneSoft frame moved
+none_soft zero true = refl
+none_soft zero false = refl
+none_soft (suc zero) moved = refl
+none_soft (suc (suc frame)) moved = refl
+
+pub failing_recorded : AreRecorded script report (command 2)
 failing_recorded = record {
   failures = λ situation paged. (failure_recorded situation paged).0;
   required = λ situation paged. (failure_recorded situation paged).1;
   moves = refl;
+  softs = λ frame moved. none_soft frame.0 moved;
   one = lit≤ tt;
 }
 

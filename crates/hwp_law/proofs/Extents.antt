@@ -90,6 +90,8 @@ IsMadeBy-plain script page e plain made =
 pub answer_there : (rows : List CpuLine) (seq : ℕ) (answer : Answer) → answer_among rows seq ≡ Some answer → (i : ℕ) × (slice_get rows i ≡ Some (lines.Answer seq answer))
 answer_there [] seq answer is = absurd (none-some answer is)
 answer_there (lines.Event event ∷ rows) seq answer is = let later = answer_there rows seq answer is in (suc later.0, later.1)
+answer_there (lines.Offlined line ∷ rows) seq answer is = let later = answer_there rows seq answer is in (suc later.0, later.1)
+answer_there (lines.Guest line ∷ rows) seq answer is = let later = answer_there rows seq answer is in (suc later.0, later.1)
 answer_there (lines.Answer n other ∷ rows) seq answer is =
     let by_test : Bool → Option Answer = λ test. option_map (λ (l : AnswerLine). l.answer)
     (cond test (Some (record { seq = n; answer = other })) (find (λ (l : AnswerLine). seq == l.seq) (filter_map answer_in rows))) in

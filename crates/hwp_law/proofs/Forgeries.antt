@@ -31,14 +31,18 @@ use Rattle.hwp_report_text.specs.declared.Acted.{Acted}
 use Rattle.hwp_report_text.specs.declared.Acted.TheVariants as acts
 use Rattle.hwp_report_text.specs.declared.Answer.{Answer}
 use Rattle.hwp_report_text.specs.declared.Answer.TheVariants as answers
+use Rattle.hwp_report_text.specs.declared.CpuLine.{CpuLine}
 use Rattle.hwp_report_text.specs.declared.CpuLine.TheVariants as lines
 use Rattle.hwp_report_text.specs.declared.EventLine.{EventLine}
 use Rattle.hwp_report_text.specs.declared.How.TheVariants as hows
 use Rattle.hwp_report_text.specs.declared.MarkLine.{MarkLine}
 use Rattle.hwp_report_text.specs.declared.MarkLine.TheVariants as marks
+use Rattle.hwp_report_text.specs.declared.OfflinedLine.{OfflinedLine}
+use Rattle.hwp_report_text.specs.declared.OfflineResult.TheVariants as results
 use Rattle.hwp_report_text.specs.declared.Whereabouts.TheVariants as places
 use Rattle.hwp_report_text.specs.declared.Report.{Report}
-use Rattle.hwp_law.specs.Causes.{IsCaused}
+use Rattle.hwp_law.specs.Answers.{IsNamed}
+use Rattle.hwp_law.specs.Causes.{AreCaused, IsCaused}
 use Rattle.hwp_law.specs.Checks.{IsFailureAct}
 use Rattle.hwp_report_text.specs.Acts.{is_stopping}
 use Rattle.hwp_report_text.specs.hwp_banks.Banks.{Banks, empty_banks}
@@ -49,6 +53,7 @@ use Rattle.hwp_law.specs.Events.{AreEventsOf, IsDamaged, MeetsMarked}
 use Rattle.hwp_law.specs.Frames.{IsPlaced}
 use Rattle.hwp_law.specs.Halts.{IsStoppedBy}
 use Rattle.hwp_law.specs.Law.{HasShape}
+use Rattle.hwp_law.specs.Lines.{seq_of}
 use Rattle.hwp_law.specs.Losses.{IsNumber, LossesAgree}
 use Rattle.hwp_law.specs.Pairings.{AreRecorded}
 use Rattle.hwp_law.specs.Records.{Alternates, HaveEvents, WasPoisoned, ends_poisoned}
@@ -82,14 +87,27 @@ pub other_command : HaveEvents (marked (marks.Poisoned 0 (command 1) (hows.Failu
 other_command same = true≢false (sym (ap first_recovered same))
 
 -- a failure's mark has its entry, of the same situation; and where the row is S9 the entry says that a thread needed the page
-pub no_entry : AreRecorded (record report { pages = (take 4 history) ∷ [] }) (command 2) → ⊥
+pub no_entry : AreRecorded script (record report { pages = (take 4 history) ∷ [] }) (command 2) → ⊥
 no_entry recorded = let same : ◌≡◌ {A = ℕ} 0 1 = recorded.failures situations.AnonOnly refl in absurd (omega arith)
 
-pub other_situation : AreRecorded (marked (marks.Poisoned 0 (command 2) (hows.Failure true situations.SwapClean outcomes.Recovered))) (command 2) → ⊥
+pub other_situation : AreRecorded script (marked (marks.Poisoned 0 (command 2) (hows.Failure true situations.SwapClean outcomes.Recovered))) (command 2) → ⊥
 other_situation recorded = let same : ◌≡◌ {A = ℕ} 0 1 = recorded.failures situations.SwapClean refl in absurd (omega arith)
 
-pub optional_entry : AreRecorded (record report { pages = ((record { who = command 2; what = entries.Fail situations.AnonOnly None [] [] }) ∷ []) ∷ [] }) (command 2) → ⊥
+pub optional_entry : AreRecorded script (record report { pages = ((record { who = command 2; what = entries.Fail situations.AnonOnly None [] [] }) ∷ []) ∷ [] }) (command 2) → ⊥
 optional_entry recorded = let same : ◌≡◌ {A = ℕ} 0 1 = recorded.required situations.AnonOnly refl in absurd (omega arith)
+
+-- a mark of a soft offline has a line of its command that says so, and each such line has its mark
+pub unsaid_move : AreRecorded script (marked (marks.Poisoned 0 (command 2) hows.Moved)) (command 2) → ⊥
+unsaid_move recorded = let same : ◌≡◌ {A = ℕ} 1 0 = recorded.softs (record { 0 = 0 }) true in absurd (omega arith)
+
+abbrev softened : Script
+softened = record script { lists = (commands.Soft (record { 0 = 1 }) ∷ []) ∷ [] }
+
+pub unmarked_take : AreRecorded softened (record report { cpus = (lines.Answer 0 answers.TakenFree ∷ []) ∷ [] }) (command 0) → ⊥
+unmarked_take recorded = let same : ◌≡◌ {A = ℕ} 0 1 = recorded.softs (record { 0 = 1 }) false in absurd (omega arith)
+
+pub unmarked_offline : AreRecorded script (record report { cpus = (lines.Offlined (record { seq = 2; frame = record { 0 = 1 }; result = results.TakenFree }) ∷ []) ∷ [] }) (command 2) → ⊥
+unmarked_offline recorded = let same : ◌≡◌ {A = ℕ} 0 1 = recorded.softs (record { 0 = 1 }) false in absurd (omega arith)
 
 -- `already` has a poisoning before it, which no earlier command of the processor took back
 pub never_poisoned : WasPoisoned [] (command 3) true → ⊥
@@ -189,6 +207,11 @@ nested_raised caused = caused
 pub freed_without : IsCaused script report (command 0) (commands.Free (record { 0 = 0 })) answers.Done → ⊥
 freed_without caused = caused
 
+-- no report has a line of a frame taken out of use yet
+pub offlined_beside : (n : ℕ) (cpu : Cpu) (list : List Command) (line : OfflinedLine) (rest : List CpuLine) → AreCaused script report cpu n list (lines.Offlined line ∷ rest) → ⊥
+offlined_beside n cpu [] line rest caused = caused
+offlined_beside n cpu (command ∷ list) line rest caused = caused
+
 -- a thread without a handler that was signalled makes no later access
 pub lives_on : EndingsStay (record script { layout = record layout { threads = (record { process = record { 0 = 0 }; cpu = record { 0 = 0 }; handler = false }) ∷ [] } }) report → ⊥
 lives_on stay = stay (command 2) (command 3) (record { 0 = 0 }) (answers.Sigbus (record { page = record { 0 = 0 }; entry = 5 }))
@@ -203,6 +226,11 @@ past_later window = let is : 4 ≤ 3 = window.before_later (after_entries 3) _ r
 
 pub not_past_earlier : IsInWindow report.pages [] (command 3) (after_entries 4) → ⊥
 not_past_earlier window = let is : 4 < 4 = window.past_earlier (after_entries 4) _ refl refl refl (lit< tt) in absurd (omega arith)
+
+-- the line of another command names no entry
+pub named_by_other : IsNamed ((lines.Answer 1 (answers.Stored (after_entries 2)) ∷ []) ∷ []) (after_entries 2) (record { who = command 0; what = entries.Store (record { 0 = 0 }) 5 (Word (record { 0 = 0 }) 77) }) → ⊥
+named_by_other (line, zero, there, own, names) = let is : ◌≡◌ {A = ℕ} 1 0 = ap seq_of (same_Some _ line there) ∙ own in absurd (omega arith)
+named_by_other (line, suc i, there, own, names) = none-some line there
 
 -- ---- entries
 

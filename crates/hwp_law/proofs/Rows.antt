@@ -9,8 +9,8 @@ same_answer m n a b same = (ap (number m) same, ap (answer_of a) same)
   where
     number : ℕ → CpuLine → ℕ
     number d (lines.Answer n answer) = n
-    number d (lines.Event event) = d
+    number d line = d
 
     answer_of : Answer → CpuLine → Answer
     answer_of d (lines.Answer n answer) = answer
-    answer_of d (lines.Event event) = d
+    answer_of d line = d

@@ -21,11 +21,13 @@ use Rattle.hwp_script_read.specs.declared.Script.{Script}
 use Rattle.hwp_report_text.specs.declared.Answer.{Answer}
 use Rattle.hwp_report_text.specs.declared.Answer.TheVariants as answers
 use Rattle.hwp_report_text.specs.declared.Stop.{Stop}
+use Rattle.hwp_report_text.specs.Offlines.{offline_answer}
 use Rattle.hwp_report_text.specs.declared.CpuLine.{CpuLine}
 use Rattle.hwp_report_text.specs.declared.CpuLine.TheVariants as lines
 use Rattle.hwp_report_text.specs.hwp_kill.declared.Reply.{Reply}
 use Rattle.hwp_report_text.specs.hwp_kill.declared.Reply.TheVariants as replies
 use Rattle.hwp_report_text.specs.hwp_kill.Prctl.{policy_number}
+use Rattle.hwp_law.specs.Lines.{seq_of}
 use Rattle.hwp_law.specs.Places.{entry_at}
 use Rattle.hwp_law.specs.States.{HadState, IsInWindow, entry_named, state_named}
 
@@ -104,7 +106,7 @@ IsAnswer script pages stop who (commands.Open file) (answers.Opened lost) = Unit
 IsAnswer script pages stop who (commands.Log status addr misc) answers.Done = Unit {0}
 IsAnswer script pages stop who _ _ = ⊥
 
--- an entry that its command's answer has to name
+-- an entry that a line of its command has to name
 abbrev pub is_answering : What → Bool
 is_answering entries.FaultIn = false
 is_answering (entries.Map slot) = false
@@ -112,14 +114,21 @@ is_answering (entries.Mce slot line mask) = false
 is_answering (entries.Fail situation required seen signals) = false
 is_answering _ = true
 
--- among the lines of the entry's processor stands the answer of its command, and it names the place
+-- the place of the entry that a line names: its answer's, or that of the result of taking a frame out of use
+abbrev pub named_in : CpuLine → Option At
+named_in (lines.Event event) = None
+named_in (lines.Offlined line) = entry_named (offline_answer line.result)
+named_in (lines.Guest line) = None
+named_in (lines.Answer seq answer) = entry_named answer
+
+-- among the lines of the entry's processor stands one of its command that names the place
 abbrev pub IsNamed : List (List CpuLine) → At → Entry → Type 0
 IsNamed cpus at e =
-    (answer : Answer) × (i : ℕ)
-    × IsSomeAnd (slice_get cpus e.who.cpu.0) (λ (rows : List CpuLine). slice_get rows i ≡ Some (lines.Answer e.who.seq answer))
-    × (entry_named answer ≡ Some at)
+    (line : CpuLine) × (i : ℕ)
+    × IsSomeAnd (slice_get cpus e.who.cpu.0) (λ (rows : List CpuLine). slice_get rows i ≡ Some line)
+    × (seq_of line ≡ e.who.seq) × (named_in line ≡ Some at)
 
--- each entry that answers a command is the one that the command's answer names
+-- each entry that answers a command is one that a line of the command names
 abbrev pub AreNamed : List (List Entry) → List (List CpuLine) → Type 0
 AreNamed pages cpus = (at : At) (e : Entry) → entry_at pages at ≡ Some e → IsTrue (is_answering e.what) → IsNamed cpus at e
 

@@ -50,7 +50,7 @@ pub record AnswersFit (script : Script) (report : Report) : Type 0 where
 -- the lines of frames, what their records have beside them, and how many are poisoned
 pub record FramesFit (script : Script) (report : Report) : Type 0 where
   pub lines : (frame : Frame) (kernel : Bool) (line : FrameLine) → slice_get script.layout.kernel frame.0 ≡ Some kernel → slice_get report.frames frame.0 ≡ Some line → IsFrameLine script report kernel frame line
-  pub recorded : (who : Who) → AreRecorded report who
+  pub recorded : (who : Who) → AreRecorded script report who
   pub count : report.count ≡ poisoned_count report.frames
 
 -- the report is one of a run of the script

@@ -9,6 +9,7 @@ use Rattle.hwp_report_text.specs.declared.CpuLine.TheVariants as lines
 use Rattle.hwp_report_text.specs.declared.EventLine.{EventLine}
 use Rattle.hwp_report_text.specs.declared.FrameLine.{FrameLine}
 use Rattle.hwp_report_text.specs.declared.MarkLine.{MarkLine}
+use Rattle.hwp_report_text.specs.declared.OfflinedLine.{OfflinedLine}
 use Rattle.hwp_report_text.specs.declared.Report.{Report}
 
 -- the line of an answer
@@ -18,11 +19,28 @@ pub record AnswerLine : Type 0 where
 
 abbrev pub event_in : CpuLine → Option EventLine
 event_in (lines.Event event) = Some event
+event_in (lines.Offlined line) = None
+event_in (lines.Guest line) = None
 event_in (lines.Answer seq answer) = None
+
+abbrev pub offlined_in : CpuLine → Option OfflinedLine
+offlined_in (lines.Event event) = None
+offlined_in (lines.Offlined line) = Some line
+offlined_in (lines.Guest line) = None
+offlined_in (lines.Answer seq answer) = None
 
 abbrev pub answer_in : CpuLine → Option AnswerLine
 answer_in (lines.Event event) = None
+answer_in (lines.Offlined line) = None
+answer_in (lines.Guest line) = None
 answer_in (lines.Answer seq answer) = Some (record { seq = seq; answer = answer })
+
+-- the number of the command that a line is of
+abbrev pub seq_of : CpuLine → ℕ
+seq_of (lines.Event event) = event.seq
+seq_of (lines.Offlined line) = line.seq
+seq_of (lines.Guest line) = line.seq
+seq_of (lines.Answer seq answer) = seq
 
 -- the two are one command of one processor
 abbrev pub is_same_command : Who → Who → Bool
@@ -38,6 +56,13 @@ events_among rows seq = filter (λ (l : EventLine). seq == l.seq) (filter_map ev
 
 abbrev pub events_of : Report → Who → List EventLine
 events_of report who = events_among (rows_of report who) who.seq
+
+-- the lines of a command that tell of frames taken out of use beside its answer, in order
+abbrev pub offlined_among : List CpuLine → ℕ → List OfflinedLine
+offlined_among rows seq = filter (λ (l : OfflinedLine). seq == l.seq) (filter_map offlined_in rows)
+
+abbrev pub offlined_of : Report → Who → List OfflinedLine
+offlined_of report who = offlined_among (rows_of report who) who.seq
 
 -- the answer of a command
 abbrev pub answer_among : List CpuLine → ℕ → Option Answer

@@ -1,5 +1,5 @@
 -- The records of frames: how often each was poisoned and unpoisoned, by which command, and what each mark has beside it.
-use Rattle.std.specs.Prelude.{◌≡◌, ℕ, ◌/◌, ◌%◌, ◌<◌, ◌≤◌, ◌==◌, ◌&&◌, Bool, true, false, List, Option, Some, None, is_some, fold, length, take, filter, filter_map, slice_get}
+use Rattle.std.specs.Prelude.{◌≡◌, ℕ, ◌/◌, ◌%◌, ◌<◌, ◌≤◌, ◌==◌, ◌&&◌, not, Bool, true, false, List, Option, Some, None, is_some, fold, length, take, filter, filter_map, slice_get}
 use Rattle.hwp_script_read.specs.hwp_geom.declared.Frame.{Frame}
 use Rattle.hwp_script_read.specs.hwp_geom.declared.Who.{Who}
 use Rattle.hwp_report_text.specs.hwp_banks.Addresses.{frame_at}
@@ -46,6 +46,13 @@ abbrev pub is_by_hardware : MarkLine → Bool
 is_by_hardware (marks.Poisoned cycle who (hows.Failure hardware situation outcome)) = hardware
 is_by_hardware _ = false
 
+-- an `inject` or an `unpoison` made the mark: a failure that no bank's event caused, or the poison taken back
+abbrev pub is_commanded : MarkLine → Bool
+is_commanded (marks.Poisoned cycle who (hows.Failure hardware situation outcome)) = not hardware
+is_commanded (marks.Poisoned cycle who hows.Moved) = false
+is_commanded (marks.Poisoned cycle who hows.TakenFree) = false
+is_commanded (marks.Unpoisoned cycle who) = true
+
 -- the frame is poisoned after these marks
 abbrev pub ends_poisoned : List MarkLine → Bool
 ends_poisoned list = fold (λ (before : Bool) (m : MarkLine). is_poisoning m) false list
@@ -80,18 +87,23 @@ outcome_answer outcomes.Recovered = answers.Recovered
 outcome_answer outcomes.Delayed = answers.Delayed
 outcome_answer outcomes.Ignored = answers.Ignored
 
--- the answer says that the content moved
+-- the answer says that the content moved, or that nothing was in the frame
 abbrev pub is_moved : Option Answer → Bool
 is_moved (Some (answers.Moved frame at)) = true
 is_moved _ = false
 
--- the answer beside a mark that no bank's event caused: of the command that made it, which names the frame
+abbrev pub is_taken : Option Answer → Bool
+is_taken (Some answers.TakenFree) = true
+is_taken _ = false
+
+-- the answer beside a mark by `inject` or `unpoison`: of the command that made it, which names the frame (marks that a bank's event caused
+-- have an event line, and those of soft offlines are counted)
 abbrev pub IsAnswered : Script → Report → Frame → MarkLine → Type 0
 IsAnswered script report frame (marks.Poisoned cycle who (hows.Failure true situation outcome)) = Unit {0}
 IsAnswered script report frame (marks.Poisoned cycle who (hows.Failure false situation outcome)) =
     (command_at script who ≡ Some (commands.Inject frame)) × (answer_of report who ≡ Some (outcome_answer outcome))
-IsAnswered script report frame (marks.Poisoned cycle who hows.Moved) = (command_at script who ≡ Some (commands.Soft frame)) × (is_moved (answer_of report who) ≡ true)
-IsAnswered script report frame (marks.Poisoned cycle who hows.TakenFree) = (command_at script who ≡ Some (commands.Soft frame)) × (answer_of report who ≡ Some answers.TakenFree)
+IsAnswered script report frame (marks.Poisoned cycle who hows.Moved) = Unit {0}
+IsAnswered script report frame (marks.Poisoned cycle who hows.TakenFree) = Unit {0}
 IsAnswered script report frame (marks.Unpoisoned cycle who) = (command_at script who ≡ Some (commands.Unpoison frame)) × (answer_of report who ≡ Some answers.Done)
 
 -- how a frame's record says the result of an event, and an event line, where it says one
