@@ -11,7 +11,7 @@ use Rattle.hwp_report_cpu_lines.specs.declared.replies.Valued.{Valued}
 use Rattle.hwp_report_cpu_lines.specs.declared.replies.Valued.TheVariants as valued
 
 abbrev pub all_short : List Short
-all_short = short.NoFrame ∷ short.Stopped ∷ short.Done ∷ short.Einval ∷ short.Recovered ∷ short.Delayed ∷ short.Ignored ∷ short.Already ∷ short.TakenFree ∷ short.Kernel ∷ short.NotPoisoned ∷ short.HardwareSeen ∷ []
+all_short = short.NoFrame ∷ short.Stopped ∷ short.Done ∷ short.Einval ∷ short.Recovered ∷ short.Delayed ∷ short.Ignored ∷ short.Already ∷ short.TakenFree ∷ short.Kernel ∷ short.NotPoisoned ∷ short.HardwareSeen ∷ short.GuestStopped ∷ short.GuestBad ∷ []
 
 pub short_listed : (x : Short) → IsListed all_short short.NoFrame x
 short_listed short.NoFrame = record { place = 0; fits = omega arith; is = refl }
@@ -26,6 +26,8 @@ short_listed short.TakenFree = record { place = 8; fits = omega arith; is = refl
 short_listed short.Kernel = record { place = 9; fits = omega arith; is = refl }
 short_listed short.NotPoisoned = record { place = 10; fits = omega arith; is = refl }
 short_listed short.HardwareSeen = record { place = 11; fits = omega arith; is = refl }
+short_listed short.GuestStopped = record { place = 12; fits = omega arith; is = refl }
+short_listed short.GuestBad = record { place = 13; fits = omega arith; is = refl }
 
 abbrev pub all_counted : List Counted
 all_counted = counted.Gone ∷ counted.Eio ∷ counted.Opened ∷ counted.Is ∷ counted.HasBad ∷ counted.InUse ∷ counted.Scrubbed ∷ counted.Raised ∷ []

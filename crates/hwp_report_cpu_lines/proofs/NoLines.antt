@@ -1,5 +1,5 @@
 -- Words that are no line of a processor, by what is missing.
-use Rattle.std.proofs.Common.{◌≡◌, ℕ, List, [], ◌∷◌, length, get_or, drop, codes, decimal, ap, arith}
+use Rattle.std.proofs.Common.{◌≡◌, ℕ, Bool, List, [], ◌∷◌, length, get_or, drop, codes, decimal, sym, ap, ◌∙◌, arith}
 use Rattle.hwp_report_text.specs.hwp_geom.declared.Mode.{Mode}
 use Rattle.hwp_report_text.specs.hwp_page.declared.At.{At}
 use Rattle.hwp_report_text.specs.declared.Acted.{Acted}
@@ -7,8 +7,10 @@ use Rattle.hwp_report_text.specs.declared.Answer.{Answer}
 use Rattle.hwp_report_text.specs.declared.Answer.TheVariants as answers
 use Rattle.hwp_report_text.specs.declared.CpuLine.{CpuLine}
 use Rattle.hwp_report_text.specs.declared.CpuLine.TheVariants as lines
+use Rattle.hwp_report_text.specs.declared.OfflineResult.{OfflineResult}
 use Rattle.hwp_report_text.specs.declared.StopCause.{StopCause}
 use Rattle.hwp_report_text.specs.declared.StopCause.TheVariants as causes
+use Rattle.hwp_report_text.specs.Offlines.{offline_answer}
 use Rattle.hwp_report_text.specs.ReportText.{answer_words, cause_words, cpu_line_words}
 use Rattle.hwp_report_text.specs.hwp_severity.declared.McgBits.{McgBits}
 use Rattle.hwp_report_words.specs.Words.{AtFits, at_words}
@@ -23,7 +25,8 @@ use Rattle.hwp_report_cpu_lines.specs.declared.replies.Valued.{Valued}
 use Rattle.hwp_report_cpu_lines.specs.declared.replies.Valued.TheVariants as valued
 use Rattle.hwp_report_cpu_lines.specs.Answers.{counted_text, placed_text, short_text, valued_text}
 use Rattle.hwp_report_cpu_lines.specs.Fits.{AnswerFits, CauseFits, CpuLineFits}
-use Rattle.hwp_report_cpu_lines.specs.Words.{EndFits, bits_words, end_words}
+use Rattle.hwp_report_cpu_lines.specs.Words.{EndFits, GuestEndFits, bits_words, end_words, guest_end_words}
+use Rattle.hwp_report_cpu_lines.proofs.SameWords.{same_answer}
 
 -- the line of an event
 no_event_answer : (answer : Answer) → codes "event" ≡ get_or (answer_words answer) 0 [] → ⊥
@@ -34,12 +37,42 @@ pub no_event : (seq : ℕ) (ws : List (List ℕ)) → ((end : ℕ × ℕ × Acte
     → (line : CpuLine) → CpuLineFits line → decimal seq ∷ codes "event" ∷ ws ≡ cpu_line_words line → ⊥
 no_event seq ws none (lines.Event event) fits e = none (event.misc, event.row, event.acted) (fits.1.3, fits.1.4) (ap (drop 5) e)
 no_event seq ws none (lines.Answer seq2 answer) fits e = no_event_answer answer (word_at 1 e)
+no_event seq ws none line fits e = absurd (omega (arith, ap (tag_at 1) e))
+
+-- the line of a frame that is taken out of use
+no_offlined_answer : (answer : Answer) → codes "offlined" ≡ get_or (answer_words answer) 0 [] → ⊥
+no_offlined_answer answers.NoFrame e = omega (arith, ap tag e)
+no_offlined_answer answer e = omega (arith, ap tag e)
+
+pub no_offlined : (seq : ℕ) (ws : List (List ℕ)) → ((result : OfflineResult) → AnswerFits (offline_answer result) → drop 1 ws ≡ answer_words (offline_answer result) → ⊥)
+    → (line : CpuLine) → CpuLineFits line → decimal seq ∷ codes "offlined" ∷ ws ≡ cpu_line_words line → ⊥
+no_offlined seq ws none (lines.Offlined offlined) fits e = none offlined.result fits.1.1 (ap (drop 3) e)
+no_offlined seq ws none (lines.Answer seq2 answer) fits e = no_offlined_answer answer (word_at 1 e)
+no_offlined seq ws none line fits e = absurd (omega (arith, ap (tag_at 1) e))
+
+-- the line of a guest's machine check
+no_guest_answer : (answer : Answer) → codes "guest" ≡ get_or (answer_words answer) 0 [] → ⊥
+no_guest_answer answers.NoFrame e = omega (arith, ap tag e)
+no_guest_answer answer e = omega (arith, ap tag e)
+
+pub no_guest : (seq : ℕ) (ws : List (List ℕ)) → ((end : ℕ × ℕ × Bool) → GuestEndFits end → drop 3 ws ≡ guest_end_words end → ⊥)
+    → (line : CpuLine) → CpuLineFits line → decimal seq ∷ codes "guest" ∷ ws ≡ cpu_line_words line → ⊥
+no_guest seq ws none (lines.Guest guest) fits e = none (guest.misc, guest.row, guest.stops) (fits.1.3, fits.1.4) (ap (drop 5) e)
+no_guest seq ws none (lines.Answer seq2 answer) fits e = no_guest_answer answer (word_at 1 e)
+no_guest seq ws none line fits e = absurd (omega (arith, ap (tag_at 1) e))
 
 -- an answer
-pub no_answer : (seq : ℕ) (ws : List (List ℕ)) → (get_or ws 0 [] ≡ codes "event" → ⊥)
+pub no_answer : (seq : ℕ) (ws : List (List ℕ)) → (get_or ws 0 [] ≡ codes "event" → ⊥) → (get_or ws 0 [] ≡ codes "offlined" → ⊥) → (get_or ws 0 [] ≡ codes "guest" → ⊥)
     → ((answer : Answer) → AnswerFits answer → ws ≡ answer_words answer → ⊥) → (line : CpuLine) → CpuLineFits line → decimal seq ∷ ws ≡ cpu_line_words line → ⊥
-no_answer seq ws other none (lines.Event event) fits e = other (word_at 1 e)
-no_answer seq ws other none (lines.Answer seq2 answer) fits e = none answer fits.1 (ap (drop 1) e)
+no_answer seq ws no_event no_offlined no_guest none (lines.Event event) fits e = no_event (word_at 1 e)
+no_answer seq ws no_event no_offlined no_guest none (lines.Offlined offlined) fits e = no_offlined (word_at 1 e)
+no_answer seq ws no_event no_offlined no_guest none (lines.Guest guest) fits e = no_guest (word_at 1 e)
+no_answer seq ws no_event no_offlined no_guest none (lines.Answer seq2 answer) fits e = none answer fits.1 (ap (drop 1) e)
+
+-- a result of taking a frame out of use: an answer that says none
+pub no_result : (answer : Answer) → AnswerFits answer → ((result : OfflineResult) → answer ≡ offline_answer result → ⊥) → (ws : List (List ℕ)) → ws ≡ answer_words answer
+    → (result : OfflineResult) → AnswerFits (offline_answer result) → ws ≡ answer_words (offline_answer result) → ⊥
+no_result answer fits none ws is result fits2 e = none result (same_answer answer (offline_answer result) fits fits2 (sym is ∙ e))
 
 -- what the severity table graded
 pub no_graded : (ws : List (List ℕ)) → ((bits : McgBits × Mode) → drop 3 ws ≡ bits_words bits → ⊥)
@@ -62,6 +95,8 @@ no_short word none answers.TakenFree e = none short.TakenFree (word_at 0 e)
 no_short word none answers.Kernel e = none short.Kernel (word_at 0 e)
 no_short word none answers.NotPoisoned e = none short.NotPoisoned (word_at 0 e)
 no_short word none answers.HardwareSeen e = none short.HardwareSeen (word_at 0 e)
+no_short word none answers.GuestStopped e = none short.GuestStopped (word_at 0 e)
+no_short word none answers.GuestBad e = none short.GuestBad (word_at 0 e)
 no_short word none answer e = absurd (omega (arith, ap length e))
 
 -- an answer with a place

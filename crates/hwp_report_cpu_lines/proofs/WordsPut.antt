@@ -9,8 +9,9 @@ use Rattle.hwp_report_text.specs.declared.CpuLine.TheVariants as lines
 use Rattle.hwp_report_text.specs.declared.Stop.{Stop}
 use Rattle.hwp_report_text.specs.declared.StopCause.{StopCause}
 use Rattle.hwp_report_text.specs.declared.StopCause.TheVariants as causes
+use Rattle.hwp_report_text.specs.Offlines.{offline_answer}
 use Rattle.hwp_report_text.specs.ReportText.{row_word, cause_words, stop_words, answer_words, cpu_line_words}
-use Rattle.hwp_report_words.proofs.WordsPut.{put_small, put_flag, put_mode, put_acted, put_u8, put_u16, put_u32, put_u64, put_mask, put_place}
+use Rattle.hwp_report_words.proofs.WordsPut.{put_small, put_flag, put_mode, put_acted, put_guest, put_u8, put_u16, put_u32, put_u64, put_mask, put_place}
 use Rattle.hwp_report_cpu_lines.specs.Fits.{CauseFits, StopFits, AnswerFits, CpuLineFits}
 
 put_row : (n : ℕ) → n < 2 ^ 8 → IsPut (row_word n)
@@ -58,8 +59,13 @@ put_answer answers.HardwareSeen h = then (fixed _ _ refl) nothing
 put_answer (answers.InUse count) h = then (fixed _ _ refl) (then (put_u64 h) nothing)
 put_answer (answers.Scrubbed events) h = then (fixed _ _ refl) (then (put_u64 h) nothing)
 put_answer (answers.Raised events) h = then (fixed _ _ refl) (then (put_u64 h) nothing)
+put_answer answers.GuestStopped h = then (fixed _ _ refl) nothing
+put_answer answers.GuestBad h = then (fixed _ _ refl) nothing
 
 pub put_cpu_line : (item : CpuLine) → CpuLineFits item → ArePut (cpu_line_words item)
 put_cpu_line (lines.Event event) h =
     then (put_u32 h.0) (then (fixed _ _ refl) (then (put_u8 h.1.0) (then (put_mask h.1.1) (then (put_mask h.1.2) (then (put_mask h.1.3) (then (put_row event.row h.1.4) (then (put_acted event.acted) nothing)))))))
+put_cpu_line (lines.Offlined offlined) h = then (put_u32 h.0) (then (fixed _ _ refl) (then (put_u16 h.1.0) (put_answer (offline_answer offlined.result) h.1.1)))
+put_cpu_line (lines.Guest guest) h =
+    then (put_u32 h.0) (then (fixed _ _ refl) (then (put_u8 h.1.0) (then (put_mask h.1.1) (then (put_mask h.1.2) (then (put_mask h.1.3) (then (put_row guest.row h.1.4) (then (put_guest guest.stops) nothing)))))))
 put_cpu_line (lines.Answer seq answer) h = then (put_u32 h.0) (put_answer answer h.1)

@@ -23,6 +23,8 @@ short_text short.TakenFree = codes "takenfree"
 short_text short.Kernel = codes "kernel"
 short_text short.NotPoisoned = codes "notpoisoned"
 short_text short.HardwareSeen = codes "hardwareseen"
+short_text short.GuestStopped = codes "gueststopped"
+short_text short.GuestBad = codes "guestbad"
 
 -- a word of an answer that a number follows
 abbrev pub counted_text : Counted → List ℕ

@@ -8,6 +8,9 @@ use Rattle.hwp_report_text.specs.declared.Answer.TheVariants as answers
 use Rattle.hwp_report_text.specs.declared.CpuLine.{CpuLine}
 use Rattle.hwp_report_text.specs.declared.CpuLine.TheVariants as lines
 use Rattle.hwp_report_text.specs.declared.EventLine.{EventLine}
+use Rattle.hwp_report_text.specs.declared.GuestLine.{GuestLine}
+use Rattle.hwp_report_text.specs.declared.OfflinedLine.{OfflinedLine}
+use Rattle.hwp_report_text.specs.Offlines.{offline_answer}
 use Rattle.hwp_report_words.specs.Words.{AtFits, WhoFits}
 
 -- what stopped the machine
@@ -46,7 +49,17 @@ AnswerFits answer = Unit {0}
 abbrev pub EventFits : EventLine → Type 0
 EventFits e = (e.bank < 2 ^ 8) × (e.status < 2 ^ 64) × (e.addr < 2 ^ 64) × (e.misc < 2 ^ 64) × (e.row < 2 ^ 8)
 
+-- a frame taken out of use, and what came of it
+abbrev pub OfflinedFits : OfflinedLine → Type 0
+OfflinedFits o = (o.frame.0 < 2 ^ 16) × AnswerFits (offline_answer o.result)
+
+-- what the bank of a guest held
+abbrev pub GuestFits : GuestLine → Type 0
+GuestFits g = (g.bank < 2 ^ 8) × (g.status < 2 ^ 64) × (g.addr < 2 ^ 64) × (g.misc < 2 ^ 64) × (g.row < 2 ^ 8)
+
 -- a line of a processor
 abbrev pub CpuLineFits : CpuLine → Type 0
 CpuLineFits (lines.Event event) = (event.seq < 2 ^ 32) × EventFits event
+CpuLineFits (lines.Offlined offlined) = (offlined.seq < 2 ^ 32) × OfflinedFits offlined
+CpuLineFits (lines.Guest guest) = (guest.seq < 2 ^ 32) × GuestFits guest
 CpuLineFits (lines.Answer seq answer) = (seq < 2 ^ 32) × AnswerFits answer

@@ -6,6 +6,8 @@ ghost use Rattle.hwp_report_cpu_lines.specs.Answers.{placed_text, short_text};
 ghost use Rattle.hwp_report_cpu_lines.specs.Fits.{AnswerFits, CpuLineFits};
 ghost use Rattle.hwp_report_cpu_lines.specs.Words.{EndFits, end_words, IsLineOf};
 
+use crate::guests::read_guest;
+use crate::offlines::read_offlined;
 use crate::replies::{
     Counted, Placed, Short, Valued, read_counted, read_placed, read_short, read_valued,
 };
@@ -33,6 +35,8 @@ fn short_answer(kind: Short) -> Answer
         Short::Kernel => Answer::Kernel,
         Short::NotPoisoned => Answer::NotPoisoned,
         Short::HardwareSeen => Answer::HardwareSeen,
+        Short::GuestStopped => Answer::GuestStopped,
+        Short::GuestBad => Answer::GuestBad,
     }
 }
 
@@ -116,7 +120,7 @@ fn read_valued_answer(word: &[u8], value: &[u8], page: &[u8], entry: &[u8]) -> O
 }
 
 /// An answer.
-fn read_answer(words: &[&[u8]]) -> Option<Answer>
+pub(crate) fn read_answer(words: &[&[u8]]) -> Option<Answer>
     ensures { IsReadAs AnswerFits answer_words (map (λ w. w.now) words.now) result }
 {
     match words {
@@ -179,7 +183,9 @@ fn read_event(seq: u32, words: &[&[u8]]) -> Option<CpuLine>
 
 /// The answer of this command, by the words behind its number.
 fn read_answer_line(seq: u32, words: &[&[u8]]) -> Option<CpuLine>
-    requires { get_or (map (λ w. w.now) words.now) 0 [] ≢ codes "event" }
+    requires no_event { get_or (map (λ w. w.now) words.now) 0 [] ≢ codes "event" }
+    requires no_offlined { get_or (map (λ w. w.now) words.now) 0 [] ≢ codes "offlined" }
+    requires no_guest { get_or (map (λ w. w.now) words.now) 0 [] ≢ codes "guest" }
     ensures { IsLineOf seq (map (λ w. w.now) words.now) result }
 {
     let Some(answer) = read_answer(words) else {
@@ -192,11 +198,17 @@ fn read_answer_line(seq: u32, words: &[&[u8]]) -> Option<CpuLine>
 fn read_line_of(seq: u32, words: &[&[u8]]) -> Option<CpuLine>
     ensures { IsLineOf seq (map (λ w. w.now) words.now) result }
 {
-    let [first, event @ ..] = words else {
+    let [first, rest @ ..] = words else {
         return None;
     };
     if is_text(first, "event") {
-        return read_event(seq, event);
+        return read_event(seq, rest);
+    }
+    if is_text(first, "offlined") {
+        return read_offlined(seq, rest);
+    }
+    if is_text(first, "guest") {
+        return read_guest(seq, rest);
     }
     read_answer_line(seq, words)
 }

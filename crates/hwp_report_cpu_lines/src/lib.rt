@@ -2,6 +2,8 @@
 #![tactic(auto)]
 
 mod answers;
+mod guests;
+mod offlines;
 mod replies;
 mod stops;
 

@@ -18,6 +18,8 @@ pub(crate) enum Short {
     Kernel,
     NotPoisoned,
     HardwareSeen,
+    GuestStopped,
+    GuestBad,
 }
 
 /// A word of an answer that a number follows.
@@ -55,7 +57,7 @@ pub(crate) enum Valued {
 }
 
 /// The words that are answers.
-const SHORT: [Short; 12] = [
+const SHORT: [Short; 14] = [
     Short::NoFrame,
     Short::Stopped,
     Short::Done,
@@ -68,6 +70,8 @@ const SHORT: [Short; 12] = [
     Short::Kernel,
     Short::NotPoisoned,
     Short::HardwareSeen,
+    Short::GuestStopped,
+    Short::GuestBad,
 ];
 
 /// The words of answers that a number follows.
@@ -114,6 +118,8 @@ impl HasWord for Short {
             Short::Kernel => "kernel",
             Short::NotPoisoned => "notpoisoned",
             Short::HardwareSeen => "hardwareseen",
+            Short::GuestStopped => "gueststopped",
+            Short::GuestBad => "guestbad",
         }
     }
 }

@@ -67,6 +67,8 @@ decimal_low n h = let numeral = (decimal_is_IsNumeral n (omega arith)).0 in firs
 
 pub cpu_line_low : (line : CpuLine) → CpuLineFits line → first_byte (cpu_line_words line) < 58
 cpu_line_low (lines.Event event) h = decimal_low event.seq h.0
+cpu_line_low (lines.Offlined offlined) h = decimal_low offlined.seq h.0
+cpu_line_low (lines.Guest guest) h = decimal_low guest.seq h.0
 cpu_line_low (lines.Answer seq answer) h = decimal_low seq h.0
 
 numbered : (line : CpuLine) → CpuLineFits line → IsNumbered (forms.CpuLine line)

@@ -15,10 +15,10 @@ use Rattle.hwp_report_summary.specs.declared.counts.Summary.{Summary}
 abbrev pub capped : ℕ → ℕ
 capped n = min n (2 ^ 64 - 1)
 
--- the line is the answer of a command; the others are events
+-- the line is the answer of a command; the others are events, frames taken out of use and machine checks of guests
 abbrev pub is_answer : CpuLine → Bool
-is_answer (lines.Event event) = false
 is_answer (lines.Answer seq answer) = true
+is_answer _ = false
 
 -- no frame was free: of all commands, accesses and soft offlinings alone give this answer
 abbrev pub has_no_frame : Answer → Bool
@@ -26,8 +26,8 @@ has_no_frame answers.NoFrame = true
 has_no_frame _ = false
 
 abbrev pub is_without_frame : CpuLine → Bool
-is_without_frame (lines.Event event) = false
 is_without_frame (lines.Answer seq answer) = has_no_frame answer
+is_without_frame _ = false
 
 -- the answers among a processor's lines, one for each of its commands
 abbrev pub answers_in : List CpuLine → ℕ

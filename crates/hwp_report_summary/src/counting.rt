@@ -34,7 +34,7 @@ fn is_without_frame(row: &CpuLine) -> bool
 {
     match row {
         CpuLine::Answer { answer, .. } => matches!(answer, Answer::NoFrame),
-        CpuLine::Event(_) => false,
+        CpuLine::Event(_) | CpuLine::Offlined(_) | CpuLine::Guest(_) => false,
     }
 }
 

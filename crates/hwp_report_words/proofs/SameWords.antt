@@ -19,7 +19,7 @@ use Rattle.hwp_report_text.specs.hwp_page.declared.Outcome.{Outcome}
 use Rattle.hwp_report_text.specs.hwp_page.declared.Outcome.TheVariants as outcomes
 use Rattle.hwp_report_text.specs.declared.Acted.{Acted}
 use Rattle.hwp_report_text.specs.declared.Acted.TheVariants as acts
-use Rattle.hwp_report_text.specs.Terms.{flag_number, mode_word, policy_word, code_word, situation_word, outcome_word, origin_word, acted_word, version_word}
+use Rattle.hwp_report_text.specs.Terms.{flag_number, mode_word, policy_word, code_word, situation_word, outcome_word, origin_word, acted_word, guest_word, version_word}
 use Rattle.hwp_report_words.specs.Words.{AtFits}
 
 -- a word as a number
@@ -98,6 +98,12 @@ same_origin true true e = refl
 same_origin true b e = absurd (omega (arith, ap tag e))
 same_origin false false e = refl
 same_origin false b e = absurd (omega (arith, ap tag e))
+
+pub same_guest : (a b : Bool) → guest_word a ≡ guest_word b → a ≡ b
+same_guest true true e = refl
+same_guest true b e = absurd (omega (arith, ap tag e))
+same_guest false false e = refl
+same_guest false b e = absurd (omega (arith, ap tag e))
 
 pub same_acted : (a b : Acted) → acted_word a ≡ acted_word b → a ≡ b
 same_acted acts.None acts.None e = refl

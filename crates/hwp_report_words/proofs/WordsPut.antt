@@ -17,7 +17,7 @@ use Rattle.hwp_report_text.specs.hwp_page.declared.Outcome.{Outcome}
 use Rattle.hwp_report_text.specs.hwp_page.declared.Outcome.TheVariants as outcomes
 use Rattle.hwp_report_text.specs.declared.Acted.{Acted}
 use Rattle.hwp_report_text.specs.declared.Acted.TheVariants as acts
-use Rattle.hwp_report_text.specs.Terms.{flag_number, mode_word, policy_word, code_word, situation_word, outcome_word, origin_word, acted_word, version_word}
+use Rattle.hwp_report_text.specs.Terms.{flag_number, mode_word, policy_word, code_word, situation_word, outcome_word, origin_word, acted_word, guest_word, version_word}
 use Rattle.hwp_report_words.specs.Words.{AtFits}
 
 -- a small number
@@ -65,6 +65,10 @@ put_outcome outcomes.Ignored = fixed _ _ refl
 pub put_origin : (b : Bool) → IsPut (origin_word b)
 put_origin true = fixed _ _ refl
 put_origin false = fixed _ _ refl
+
+pub put_guest : (b : Bool) → IsPut (guest_word b)
+put_guest true = fixed _ _ refl
+put_guest false = fixed _ _ refl
 
 pub put_acted : (a : Acted) → IsPut (acted_word a)
 put_acted acts.None = fixed _ _ refl

@@ -10,7 +10,7 @@ pub use numbers::{
     read_who,
 };
 pub use terms::{
-    read_acted, read_code, read_flag, read_mode, read_origin, read_outcome, read_policy,
-    read_situation, read_version,
+    read_acted, read_code, read_flag, read_guest_outcome, read_mode, read_origin, read_outcome,
+    read_policy, read_situation, read_version,
 };
 pub use words::{HasWord, named};

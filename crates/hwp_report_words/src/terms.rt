@@ -166,3 +166,16 @@ pub fn read_acted(word: &[u8]) -> Option<Acted>
 {
     named(word, &ACTED)
 }
+
+/// Whether a word says that the machine check of a guest stopped the guest, and not that its address is bad.
+pub fn read_guest_outcome(word: &[u8]) -> Option<bool>
+    ensures { IsNamedBy terms.guest_word word.now result }
+{
+    if is_text(word, "stop") {
+        return Some(true);
+    }
+    if is_text(word, "bad") {
+        return Some(false);
+    }
+    None
+}
