@@ -1,5 +1,5 @@
 -- Each turn of an access lowers its cost, and its class tells what it holds.
-use Rattle.std.proofs.Common.{◌≡◌, ◌≢◌, ℕ, ◌+◌, ◌*◌, ◌/◌, ◌<◌, ◌≤◌, ◌==◌, ◌||◌, ◌⊎◌, inl, inr, Bool, true, false, cond, [], Option, Some, None, is_none, is_some, length, slice_get, slice_index, refl, sym, ap, ◌∙◌, subst, arith}
+use Rattle.std.proofs.Common.{◌≡◌, ◌≢◌, ℕ, ◌+◌, ◌*◌, ◌/◌, ◌<◌, ◌≤◌, ◌==◌, ◌||◌, ◌⊎◌, inl, inr, Bool, true, false, cond, List, [], Option, Some, None, is_none, is_some, length, slice_get, slice_index, refl, sym, ap, ◌∙◌, subst, arith}
 use Rattle.std.proofs.lemmas.Bool.{both_ways, eqb-true, ne_eqb}
 use Rattle.std.proofs.lemmas.List.{length-set}
 use Rattle.std.proofs.lemmas.Option.{none-some, same_Some, slice_get-get_or}
@@ -13,6 +13,7 @@ use Rattle.hwp_page.specs.History.{BodyValue}
 use Rattle.hwp_core.specs.hwp_words.Frames.{is_locked, lock_of, count_of, is_handled}
 use Rattle.hwp_core.specs.hwp_words.Names.{page_named}
 use Rattle.hwp_core.specs.hwp_words.Stops.{is_stopped}
+use Rattle.hwp_core.specs.hwp_core_rule.declared.Made.{Made as Deed}
 use Rattle.hwp_core.specs.hwp_core_rule.declared.SharedWord.{SharedWord}
 use Rattle.hwp_core.specs.hwp_core_rule.declared.SharedWord.TheVariants as places
 use Rattle.hwp_core.specs.hwp_core_rule.declared.State.{State}
@@ -221,7 +222,7 @@ module _ {layout : Layout} {seat : ℕ} {a b : State} {s t : Access} {turn : Tur
   puts {other} e = words-after made ∙ ap (λ (x : Step). put_word (place_of x) (word_after made.step made.found) w) (sym (same_Some other made.step e))
 
   trans-there : slice_get w.trans r.slot.0 ≡ Some (slice_index w.trans r.slot.0)
-  trans-there = slice_get-get_or w.trans r.slot.0 0 (subst (λ (n : ℕ). r.slot.0 < n) (sym (shaped layout a made.rule).trans) (slot-within layout r made.fits.names))
+  trans-there = slice_get-get_or w.trans r.slot.0 0 (subst (λ (n : ℕ). r.slot.0 < n) (sym (shaped layout a made.rule).trans) (slot-within layout r made.fits.1.names))
 
   -- a frame that is gone isn't where the translation leads
   gone-away : (frame : Frame) → frame.0 < layout.frames → read (places.Frame frame) w ≡ made.found → is_gone made.found ≡ true → leads_to frame (slice_index w.trans r.slot.0) ≡ false
@@ -230,7 +231,7 @@ module _ {layout : Layout} {seat : ℕ} {a b : State} {s t : Access} {turn : Tur
       which : (c : Bool) → leads_to frame (slice_index w.trans r.slot.0) ≡ c → leads_to frame (slice_index w.trans r.slot.0) ≡ false
       which false e = e
       which true e = absurd (both_ways (is_gone made.found) (not-gone made.found
-          (named-referenced layout a made.rule r.slot made.fits.names.decl made.fits.names.declared (slice_index w.trans r.slot.0) trans-there frame (named-now frame (slice_index w.trans r.slot.0) e) made.found frame-there)) gone)
+          (named-referenced layout a made.rule r.slot made.fits.1.names.decl made.fits.1.names.declared (slice_index w.trans r.slot.0) trans-there frame (named-now frame (slice_index w.trans r.slot.0) e) made.found frame-there)) gone)
         where
           frame-there : slice_get w.frames frame.0 ≡ Some made.found
           frame-there = slice_get-get_or w.frames frame.0 0 (subst (λ (n : ℕ). frame.0 < n) (sym (shaped layout a made.rule).frames) inside) ∙ ap (λ (n : ℕ). Some n) is
@@ -350,7 +351,7 @@ module _ {layout : Layout} {seat : ℕ} {a b : State} {s t : Access} {turn : Tur
   -- ---- every state
 
   -- a step of the fault
-  fault-made : (f g : Fault) → IsFaulting layout (view_of a seat) r f → faults.plan f ≡ Some made.step → Move layout seat (rec_of layout r.who made.step (logs (faults.put f)) made.found made.got) a b
+  fault-made : (f g : Fault) → IsFaulting made.fits.0 layout (view_of a seat) r f → faults.plan f ≡ Some made.step → Move layout seat (rec_of layout r.who made.step (logs (faults.put f)) made.found made.got) a b
       → faults.Follows layout (faults.bare f) made.found made.got g turn → Made faults.task layout seat a b f g turn
   fault-made f g has e move follows = record {
     step = made.step;
@@ -358,21 +359,21 @@ module _ {layout : Layout} {seat : ℕ} {a b : State} {s t : Access} {turn : Tur
     got = made.got;
     rule = made.rule;
     kept = made.kept;
-    fits = has.fault;
+    fits = (made.fits.0, has.fault);
     planned = e;
     move = subst (λ (by : Who). Move layout seat (rec_of layout by made.step (logs (faults.put f)) made.found made.got) a b) (sym has.own) move;
     brings = made.brings;
     follows = follows;
   }
 
-  after-step : (f : Fault) (y : AccessAt) → IsFaulting layout (view_of a seat) r f → (next : FaultStepped layout (faults.bare f) made.found made.got y turn) → faults.cost next.after now < faults.cost f w → cost_at r.slot y now < faults.cost f w
+  after-step : (f : Fault) (y : AccessAt) → IsFaulting made.fits.0 layout (view_of a seat) r f → (next : FaultStepped layout (faults.bare f) made.found made.got y turn) → faults.cost next.after now < faults.cost f w → cost_at r.slot y now < faults.cost f w
   after-step f y has next less =
       let most : cost_at r.slot y now ≤ faults.cost next.after now =
       subst (λ (x : AccessAt). cost_at r.slot x now ≤ faults.cost next.after now) (sym next.next_is)
       (subst (λ (slot : VSlot). cost_at slot (after_fault next.after) now ≤ faults.cost next.after now) (ap (λ (x : Fault). x.slot) next.follows.after_is ∙ has.slot_is) (fault-ended next.after now)) in
       omega (arith, less, most)
 
-  falls-at : (x y : AccessAt) → plan_at r x ≡ Some made.step → FitsAt layout (view_of a seat) r x → Move layout seat (rec_of layout r.who made.step (logs (put_at x)) made.found made.got) a b
+  falls-at : (x y : AccessAt) → plan_at r x ≡ Some made.step → FitsAt made.fits.0 layout (view_of a seat) r x → Move layout seat (rec_of layout r.who made.step (logs (put_at x)) made.found made.got) a b
       → NextAt layout r (bare_at x) made.found made.got y turn → is_waits turn ≡ false → (cost_at r.slot y now < cost_at r.slot x w) ⊎ (failures_left now < failures_left w)
   falls-at at.LoadStop y e has move next goes = inl (subst (λ (z : AccessAt). cost_at r.slot z now < faults.again r.slot w + 2) (sym next.0) (subst (λ (n : Words). cost_at r.slot (at_start made.found) n < faults.again r.slot w + 2) (sym (load-kept e)) after-stop))
   falls-at at.LoadProcess y e has move next goes = inl (subst (λ (z : AccessAt). cost_at r.slot z now < faults.again r.slot w + 1) (sym next.0) (subst (λ (n : Words). cost_at r.slot (at_process made.found) n < faults.again r.slot w + 1) (sym (load-kept e)) after-proc))
@@ -394,7 +395,7 @@ module _ {layout : Layout} {seat : ℕ} {a b : State} {s t : Access} {turn : Tur
   request-is = ap (λ (x : Access). x.request) made.follows.rest
 
   pub cost-falls : is_waits turn ≡ false → CostFalls access-task layout a b s t ⊎ HasFailed access-task layout a b s t
-  cost-falls goes = elim (falls-at s.at t.at made.planned made.fits.at made.move made.follows.at goes) [
+  cost-falls goes = elim (falls-at s.at t.at made.planned made.fits.1.at made.move made.follows.at goes) [
     | inl less ↦ inl (subst (λ (q : Request). cost_at q.slot t.at now < cost s w) (sym request-is) less)
     | inr fewer ↦ inr (failed fewer (access-below now t (few-frees layout b made.kept)))
   ]
@@ -404,7 +405,7 @@ module _ {layout : Layout} {seat : ℕ} {a b : State} {s t : Access} {turn : Tur
   unmoved : (other : Turn) → is_waits other ≡ false → turn ≡ other → is_waits turn ≡ true → ⊥
   unmoved other goes is waits = both_ways (is_waits turn) (ap is_waits is ∙ goes) waits
 
-  lock-free : (frame : Frame) (y : AccessAt) → Some (steps.LockFrame frame) ≡ Some made.step → IsPinned layout (view_of a seat) r frame → turn ≡ cond (is_locked made.found) (Waits made.found) Moved → is_waits turn ≡ true → Quiet 4 layout a seat → ⊥
+  lock-free : (frame : Frame) (y : AccessAt) → Some (steps.LockFrame frame) ≡ Some made.step → IsPinned made.fits.0 layout (view_of a seat) r frame → turn ≡ cond (is_locked made.found) (Waits made.found) Moved → is_waits turn ≡ true → Quiet 4 layout a seat → ⊥
   lock-free frame y e has is waits quiet = which (is_locked made.found) refl
     where
       unlocked-word : lock_of made.found ≡ 0
@@ -415,7 +416,7 @@ module _ {layout : Layout} {seat : ℕ} {a b : State} {s t : Access} {turn : Tur
       which true e = let one : lock_of made.found ≡ 1 = eqb-true (lock_of made.found) 1 e in absurd (omega (arith, one, unlocked-word))
       which false e = unmoved Moved refl (is ∙ ap (λ (c : Bool). cond c (Waits made.found) Moved) e) waits
 
-  waits-at : (x y : AccessAt) → plan_at r x ≡ Some made.step → FitsAt layout (view_of a seat) r x → Move layout seat (rec_of layout r.who made.step (logs (put_at x)) made.found made.got) a b
+  waits-at : (x y : AccessAt) → plan_at r x ≡ Some made.step → FitsAt made.fits.0 layout (view_of a seat) r x → Move layout seat (rec_of layout r.who made.step (logs (put_at x)) made.found made.got) a b
       → NextAt layout r (bare_at x) made.found made.got y turn → is_waits turn ≡ true → Quiet (class_at x) layout a seat → cost_at r.slot y now < cost_at r.slot x w
   waits-at at.LoadStop y e has move next waits quiet = absurd (unmoved Moved refl next.1 waits)
   waits-at at.LoadProcess y e has move next waits quiet = absurd (unmoved Moved refl next.1 waits)
@@ -434,7 +435,7 @@ module _ {layout : Layout} {seat : ℕ} {a b : State} {s t : Access} {turn : Tur
   waits-at (at.Over answer) y e has move next waits quiet = absurd (none-some made.step e)
 
   pub cost-waits : is_waits turn ≡ true → Quiet (class s) layout a seat → CostFalls access-task layout a b s t
-  cost-waits waits quiet = subst (λ (q : Request). cost_at q.slot t.at now < cost s w) (sym request-is) (waits-at s.at t.at made.planned made.fits.at made.move made.follows.at waits quiet)
+  cost-waits waits quiet = subst (λ (q : Request). cost_at q.slot t.at now < cost s w) (sym request-is) (waits-at s.at t.at made.planned made.fits.1.at made.move made.follows.at waits quiet)
 
 -- none of its steps poisons a frame or takes its poison back
 pub access-mild : (a : Access) (step : Step) → plan a ≡ Some step → IsMild step
@@ -505,29 +506,29 @@ tells-frame view step pages = (λ has. (refl, planned step (Some step) refl), λ
 unlocking : (layout : Layout) (view : View) (u : Unlock) → unlocks.Fits layout view u → is_none (unlocks.plan u) ≡ false → Tells view (unlocks.plan u) (unlocks.class u)
 unlocking layout view u fits on = let told = unlock-tells layout view u fits on in (λ has. (told.0 has, going (unlocks.plan u) on), λ has. absurd (has told.1))
 
-tells-at : (layout : Layout) (view : View) (r : Request) (x : AccessAt) → FitsAt layout view r x → Tells view (plan_at r x) (class_at x)
-tells-at layout view r at.LoadStop has = tells-none view _ _ _ has.hand_is refl refl refl refl
-tells-at layout view r at.LoadProcess has = tells-none view _ _ _ has.hand_is refl refl refl refl
-tells-at layout view r at.LoadTranslation has = tells-none view _ _ _ has.hand_is refl refl refl refl
-tells-at layout view r (at.Pin p) has = tells-none view _ _ _ has.hand_is refl refl refl refl
-tells-at layout view r (at.LockFrame frame) has = tells-none view _ _ _ has.hand_is refl refl refl refl
-tells-at layout view r (at.LoadAgain frame None) has = tells-frame view _ (ap (λ (h : Hand). h.pages) has.locked.hand_is)
-tells-at layout view r (at.LoadAgain frame (Some body)) has = tells-frame view _ (ap (λ (h : Hand). h.pages) has.locked.hand_is)
-tells-at layout view r (at.LoadBad frame body) has = tells-frame view _ (ap (λ (h : Hand). h.pages) has.taken.hand_is)
-tells-at layout view r (at.Unlock u then) has = unlocking layout view u has.unlock has.under_way
-tells-at layout view r (at.Fault f) has = faulting.tells layout view f has.fault
-tells-at layout view r (at.GiveUp g) has = which g.at has.give_up.at has.of_frame
+tells-at : (base : List Deed) (layout : Layout) (view : View) (r : Request) (x : AccessAt) → FitsAt base layout view r x → Tells view (plan_at r x) (class_at x)
+tells-at base layout view r at.LoadStop has = tells-none view _ _ _ has.hand_is refl refl refl refl
+tells-at base layout view r at.LoadProcess has = tells-none view _ _ _ has.hand_is refl refl refl refl
+tells-at base layout view r at.LoadTranslation has = tells-none view _ _ _ has.hand_is refl refl refl refl
+tells-at base layout view r (at.Pin p) has = tells-none view _ _ _ has.hand_is refl refl refl refl
+tells-at base layout view r (at.LockFrame frame) has = tells-none view _ _ _ has.hand_is refl refl refl refl
+tells-at base layout view r (at.LoadAgain frame None) has = tells-frame view _ (ap (λ (h : Hand). h.pages) has.locked.hand_is)
+tells-at base layout view r (at.LoadAgain frame (Some body)) has = tells-frame view _ (ap (λ (h : Hand). h.pages) has.locked.hand_is)
+tells-at base layout view r (at.LoadBad frame body) has = tells-frame view _ (ap (λ (h : Hand). h.pages) has.taken.hand_is)
+tells-at base layout view r (at.Unlock u then) has = unlocking layout view u has.unlock has.under_way
+tells-at base layout view r (at.Fault f) has = faulting.tells layout view f has.fault
+tells-at base layout view r (at.GiveUp g) has = which g.at has.give_up.at has.of_frame
   where
     which : (x : GiveUpAt) → give_ups.FitsAt layout view g.who x → IsOfFrame x → Tells view (give_ups.plan_at x) (give_ups.class_at x)
     which (give_up_at.Unhold u) has of = absurd of
     which (give_up_at.Unlock u) has of = unlocking layout view u has.unlock has.under_way
     which give_up_at.GiveUp has of = tells-none view _ _ _ has refl refl refl refl
     which give_up_at.Over has of = tells-none view _ _ _ has refl refl refl refl
-tells-at layout view r (at.Over answer) has = tells-none view _ _ _ has.hand_is refl refl refl refl
+tells-at base layout view r (at.Over answer) has = tells-none view _ _ _ has.hand_is refl refl refl refl
 
 pub access-tells : TellsClass access-task
 access-tells = record {
-  frame = λ layout view s fits has. (tells-at layout view s.request s.at fits.at).0 has;
-  page = λ layout view s fits has. (tells-at layout view s.request s.at fits.at).1 has;
+  frame = λ layout view s fits has. (tells-at fits.0 layout view s.request s.at fits.1.at).0 has;
+  page = λ layout view s fits has. (tells-at fits.0 layout view s.request s.at fits.1.at).1 has;
   claim = λ layout view s frame cycle fits none. absurd (none-some (frame, cycle) none);
 }

@@ -35,8 +35,8 @@ use Rattle.hwp_core.proofs.of_hwp_core_rule.Lists.{same-number}
 use Rattle.hwp_core.specs.hwp_core_task.Calls.{IsOnTurn, Steps}
 use Rattle.hwp_core.specs.hwp_core_task.Hands.{Hand, body_in, hand_of, killing, listing, listing_of}
 use Rattle.hwp_core.proofs.of_hwp_core_task.StepLeaves.{hand-made}
-use Rattle.hwp_core.specs.hwp_core_task.Known.{HasMade, HasOnly, IsAt, Precedes, deeds}
-use Rattle.hwp_core.proofs.of_hwp_core_task.MadeEntries.{deeds-one, has-made, kill-lists}
+use Rattle.hwp_core.specs.hwp_core_task.Known.{HasMadeBeside, HasOnlyBeside, IsAt, Precedes, deeds}
+use Rattle.hwp_core.proofs.of_hwp_core_task.MadeEntries.{deeds-one, has-made-beside, kill-lists}
 use Rattle.hwp_core.specs.Holds.{HoldsPage, held, page_lock}
 use Rattle.hwp_core.specs.Unholds as unholds
 use Rattle.hwp_core.specs.Unholds.{HoldsAhead, holding}
@@ -306,8 +306,8 @@ module _ {layout : Layout} {view : View} {page : Page} {frame : Option Frame} {b
         lets-go-killed on inside = lets-go new gone hand-now gone-home has.body_is.page_is on inside
 
       -- the entry is the last one that the command made
-      pub refusal-made : HasOnly (Precedes page slot touch.line) view who → HasMade (Precedes page slot touch.line) new who page (length before.log) (refusal slot touch)
-      refusal-made only = has-made who view new one.0 one.1 (subst (λ (p : Page). IsAt p (length before.log) (refusal slot touch) one.0) has.body_is.page_is one.2) only
+      pub refusal-made : {base : List Made} → HasOnlyBeside base (Precedes page slot touch.line) view who → HasMadeBeside base (Precedes page slot touch.line) new who page (length before.log) (refusal slot touch)
+      refusal-made only = has-made-beside who view new one.0 one.1 (subst (λ (p : Page). IsAt p (length before.log) (refusal slot touch) one.0) has.body_is.page_is one.2) only
         where
           one : (m : Made) × (deeds who new ≡ deeds who view ++ m ∷ []) × IsAt before.page (length before.log) (refusal slot touch) m
           one = deeds-one who (kill-lists (in-hand has) made) entry one-more refl

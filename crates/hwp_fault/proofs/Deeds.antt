@@ -27,13 +27,13 @@ use Rattle.hwp_core.specs.hwp_core_rule.declared.View.{View}
 use Rattle.hwp_core.specs.hwp_core_rule.Lists.{EachMember}
 use Rattle.hwp_core.specs.hwp_core_rule.Logs.{log_of}
 use Rattle.hwp_core.specs.hwp_core_rule.Views.{body_of, is_body_of, made_from, more_of}
-use Rattle.hwp_core.proofs.of_hwp_core_rule.MoreEntries.{each-append, made-each}
+use Rattle.hwp_core.proofs.of_hwp_core_rule.MoreEntries.{made-each}
 use Rattle.hwp_core.proofs.of_hwp_core_rule.ListDrops.{find-is}
 use Rattle.hwp_core.specs.hwp_core_task.Calls.{CanMake, Steps, logs}
 use Rattle.hwp_core.specs.hwp_core_task.Hands.{body_in, hand_of}
 use Rattle.hwp_core.proofs.of_hwp_core_task.StepLeaves.{hand-planned, steps-planned}
-use Rattle.hwp_core.specs.hwp_core_task.Known.{HasMade, HasOnly, IsAt, IsOnTheWay, Precedes, deeds, is_by}
-use Rattle.hwp_core.proofs.of_hwp_core_task.MadeEntries.{Lists, ListsNone, deeds-none, deeds-one, deeds-same, each-filter, frame-lists, has-made, has-made-stays, has-only-stays, page-lists}
+use Rattle.hwp_core.specs.hwp_core_task.Known.{HasMadeBeside, HasOnlyBeside, IsAt, IsOnTheWay, Precedes, deeds, is_by}
+use Rattle.hwp_core.proofs.of_hwp_core_task.MadeEntries.{Lists, ListsNone, deeds-none, deeds-one, deeds-same, each-filter, frame-lists, has-made-beside, has-made-stays, only-beside-more, only-beside-stays, page-lists}
 use Rattle.hwp_fault_fill.specs.declared.Fill.{Fill}
 use Rattle.hwp_fault_fill.specs.declared.fill.FillAt.{FillAt}
 use Rattle.hwp_fault_fill.specs.declared.fill.FillAt.TheVariants as fill_at
@@ -133,11 +133,11 @@ on-the-way : (slot : VSlot) (line : ℕ) (what : What) → (what ≡ entries.Fau
 on-the-way slot line what (inl is) = subst (IsOnTheWay slot line) (sym is) tt
 on-the-way slot line what (inr is) = subst (IsOnTheWay slot line) (sym is) refl
 
-module _ (who : Who) (page : Page) (slot : VSlot) (line : ℕ) {old new : View} (only : HasOnly (Precedes page slot line) old who) where
-  listed : (body : BodyValue) (b : InHand) {stamp : Stamp} → body_of body.page old ≡ Some b → Lists old new stamp b (log_of body) → AddsOnly old page slot body → HasOnly (Precedes page slot line) new who
-  listed body b {stamp} there lists adds = subst (EachMember (Precedes page slot line)) (sym (ap (filter (is_by who)) lists.made_is ∙ filter-append (is_by who) old.made more))
-      (each-append (Precedes page slot line) (deeds who old) (filter (is_by who) more) only
-      (each-filter (Precedes page slot line) (is_by who) more (made-each (Precedes page slot line) stamp body.page b.frame (length b.log.entries) (more_of b (log_of body)) (λ i e listed n. inl (adds.of, on-the-way slot line e.what (each i e listed))))))
+module _ (who : Who) (page : Page) (slot : VSlot) (line : ℕ) {base : List Made} {old new : View} (only : HasOnlyBeside base (Precedes page slot line) old who) where
+  listed : (body : BodyValue) (b : InHand) {stamp : Stamp} → body_of body.page old ≡ Some b → Lists old new stamp b (log_of body) → AddsOnly old page slot body → HasOnlyBeside base (Precedes page slot line) new who
+  listed body b {stamp} there lists adds = only-beside-more who old new (filter (is_by who) more) (ap (filter (is_by who)) lists.made_is ∙ filter-append (is_by who) old.made more)
+      (each-filter (Precedes page slot line) (is_by who) more (made-each (Precedes page slot line) stamp body.page b.frame (length b.log.entries) (more_of b (log_of body)) (λ i e listed n. inl (adds.of, on-the-way slot line e.what (each i e listed)))))
+      only
     where
       more : List Made
       more = made_from stamp body.page b.frame (length b.log.entries) (more_of b (log_of body))
@@ -145,35 +145,35 @@ module _ (who : Who) (page : Page) (slot : VSlot) (line : ℕ) {old new : View} 
       each : EachMember (IsBringing slot) (more_of b (log_of body))
       each = let in-hand = find-is (is_body_of body.page) old.bodies b there in adds.only in-hand.0 b in-hand.1
 
-module _ {layout : Layout} {who : Who} (page : Page) (slot : VSlot) (line : ℕ) {old new : View} {found : ℕ} {got : Option BodyValue} (only : HasOnly (Precedes page slot line) old who) where
-  only-kept : {step : Step} → ListsNone step → Steps layout who step None old new found got → HasOnly (Precedes page slot line) new who
-  only-kept lists made = has-only-stays who old new (deeds-same who lists made) only
+module _ {layout : Layout} {who : Who} (page : Page) (slot : VSlot) (line : ℕ) {base : List Made} {old new : View} {found : ℕ} {got : Option BodyValue} (only : HasOnlyBeside base (Precedes page slot line) old who) where
+  only-kept : {step : Step} → ListsNone step → Steps layout who step None old new found got → HasOnlyBeside base (Precedes page slot line) new who
+  only-kept lists made = only-beside-stays who old new (deeds-same who lists made) only
 
   frame-puts : {frame : Frame} (body : Option BodyValue) → CanMake layout who (steps.UnlockFrame frame) body old → Steps layout who (steps.UnlockFrame frame) (logs body) old new found got → ((b : BodyValue) → body ≡ Some b → AddsOnly old page slot b)
-      → HasOnly (Precedes page slot line) new who
-  frame-puts None can made adds = has-only-stays who old new (deeds-same who tt made) only
+      → HasOnlyBeside base (Precedes page slot line) new who
+  frame-puts None can made adds = only-beside-stays who old new (deeds-same who tt made) only
   frame-puts (Some b) can made adds = listed who page slot line only b can.asks.kind.put.body can.asks.kind.put.body_is (frame-lists can.asks.kind.put.body_is made) (adds b refl)
 
   page-puts : {freed : Page} (body : Option BodyValue) → CanMake layout who (steps.UnlockPage freed) body old → Steps layout who (steps.UnlockPage freed) (logs body) old new found got → ((b : BodyValue) → body ≡ Some b → AddsOnly old page slot b)
-      → HasOnly (Precedes page slot line) new who
-  page-puts None can made adds = has-only-stays who old new (deeds-same who tt made) only
+      → HasOnlyBeside base (Precedes page slot line) new who
+  page-puts None can made adds = only-beside-stays who old new (deeds-same who tt made) only
   page-puts (Some b) can made adds = listed who page slot line only b can.asks.kind.put.body can.asks.kind.put.body_is (page-lists can.asks.kind.put.body_is made) (adds b refl)
 
   unhold-only : {step : Step} (u : Unhold) (x : UnholdAt) → unholds.plan_at u.page x ≡ Some step → CanMake layout who step (unholds.put_at x) old → Steps layout who step (logs (unholds.put_at x)) old new found got
-      → ((b : BodyValue) → unholds.put_at x ≡ Some b → AddsOnly old page slot b) → HasOnly (Precedes page slot line) new who
+      → ((b : BodyValue) → unholds.put_at x ≡ Some b → AddsOnly old page slot b) → HasOnlyBeside base (Precedes page slot line) new who
   unhold-only {step} u (unhold_at.UnlockFrame frame count body) e can made adds = frame-puts body (can-planned e can) (steps-planned e made) adds
   unhold-only {step} u (unhold_at.Release r) e can made adds = only-kept (release-lists r step e) made
   unhold-only {step} u (unhold_at.UnlockPage body) e can made adds = page-puts body (can-planned e can) (steps-planned e made) adds
   unhold-only {step} u unhold_at.Over e can made adds = absurd (none-some step e)
 
   unlock-only : {step : Step} (x : UnlockAt) → unlocks.plan_at x ≡ Some step → CanMake layout who step (unlocks.put_at x) old → Steps layout who step (logs (unlocks.put_at x)) old new found got
-      → ((b : BodyValue) → unlocks.put_at x ≡ Some b → AddsOnly old page slot b) → HasOnly (Precedes page slot line) new who
+      → ((b : BodyValue) → unlocks.put_at x ≡ Some b → AddsOnly old page slot b) → HasOnlyBeside base (Precedes page slot line) new who
   unlock-only {step} (unlock_at.UnlockFrame frame body) e can made adds = frame-puts body (can-planned e can) (steps-planned e made) adds
   unlock-only {step} (unlock_at.Release r) e can made adds = only-kept (release-lists r step e) made
   unlock-only {step} unlock_at.Over e can made adds = absurd (none-some step e)
 
   give-up-only : {step : Step} (x : GiveUpAt) → give_ups.plan_at x ≡ Some step → CanMake layout who step (give_ups.put_at x) old → Steps layout who step (logs (give_ups.put_at x)) old new found got
-      → ((b : BodyValue) → give_ups.put_at x ≡ Some b → AddsOnly old page slot b) → HasOnly (Precedes page slot line) new who
+      → ((b : BodyValue) → give_ups.put_at x ≡ Some b → AddsOnly old page slot b) → HasOnlyBeside base (Precedes page slot line) new who
   give-up-only {step} (give_up_at.Unhold u) e can made adds = unhold-only u u.at e can made adds
   give-up-only {step} (give_up_at.Unlock u) e can made adds = unlock-only u.at e can made adds
   give-up-only {step} give_up_at.GiveUp e can made adds = only-kept (subst ListsNone (same_Some steps.GiveUp step e) tt) made
@@ -238,31 +238,31 @@ put-begins who page None body = refl
 put-begins who page (Some frame) body = refl
 
 -- once the body is home, the command has made the entry
-entry-made : {who : Who} {page : Page} {slot : VSlot} {touch : Touch} {old new : View} {place : ℕ} {put : Option BodyValue} (has : HasToList old who page slot touch put place) {stamp : Stamp} → Lists old new stamp has.taken (log_of has.body) → HasMade (Precedes page slot touch.line) new who page place (refusal slot touch)
-entry-made {who} {page} {slot} {touch} {old} {new} {place} has lists = has-made who old new one.0 one.1
+entry-made : {base : List Made} {who : Who} {page : Page} {slot : VSlot} {touch : Touch} {old new : View} {place : ℕ} {put : Option BodyValue} (has : HasToList base old who page slot touch put place) {stamp : Stamp} → Lists old new stamp has.taken (log_of has.body) → HasMadeBeside base (Precedes page slot touch.line) new who page place (refusal slot touch)
+entry-made {base} {who} {page} {slot} {touch} {old} {new} {place} has lists = has-made-beside who old new one.0 one.1
     (subst (λ (n : ℕ). IsAt page n (refusal slot touch) one.0) has.place_is (subst (λ (p : Page). IsAt p (length has.taken.log.entries) (refusal slot touch) one.0) has.page_is one.2)) has.only
   where
     one : (m : Made) × (deeds who new ≡ deeds who old ++ m ∷ []) × IsAt has.body.page (length has.taken.log.entries) (refusal slot touch) m
     one = deeds-one who lists (refusal_entry who slot touch) has.more refl
 
-module _ {layout : Layout} {who : Who} {page : Page} {slot : VSlot} {touch : Touch} {old new : View} {found : ℕ} {got : Option BodyValue} {place : ℕ} where
-  frame-entry : (frame : Frame) (body : Option BodyValue) → HasToList old who page slot touch body place → Steps layout who (steps.UnlockFrame frame) (logs body) old new found got → HasMade (Precedes page slot touch.line) new who page place (refusal slot touch)
+module _ {layout : Layout} {who : Who} {page : Page} {slot : VSlot} {touch : Touch} {base : List Made} {old new : View} {found : ℕ} {got : Option BodyValue} {place : ℕ} where
+  frame-entry : (frame : Frame) (body : Option BodyValue) → HasToList base old who page slot touch body place → Steps layout who (steps.UnlockFrame frame) (logs body) old new found got → HasMadeBeside base (Precedes page slot touch.line) new who page place (refusal slot touch)
   frame-entry frame body has made = entry-made has (frame-lists has.taken_is (subst (λ (b : Option BodyValue). Steps layout who (steps.UnlockFrame frame) (logs b) old new found got) has.put_is made))
 
-  page-entry : (freed : Page) (body : Option BodyValue) → HasToList old who page slot touch body place → Steps layout who (steps.UnlockPage freed) (logs body) old new found got → HasMade (Precedes page slot touch.line) new who page place (refusal slot touch)
+  page-entry : (freed : Page) (body : Option BodyValue) → HasToList base old who page slot touch body place → Steps layout who (steps.UnlockPage freed) (logs body) old new found got → HasMadeBeside base (Precedes page slot touch.line) new who page place (refusal slot touch)
   page-entry freed body has made = entry-made has (page-lists has.taken_is (subst (λ (b : Option BodyValue). Steps layout who (steps.UnlockPage freed) (logs b) old new found got) has.put_is made))
 
   -- and where it had made it, it has
-  frame-rest : (frame : Frame) (body : Option BodyValue) → HasListed old who page slot touch body place → Steps layout who (steps.UnlockFrame frame) (logs body) old new found got → HasMade (Precedes page slot touch.line) new who page place (refusal slot touch)
+  frame-rest : (frame : Frame) (body : Option BodyValue) → HasListed base old who page slot touch body place → Steps layout who (steps.UnlockFrame frame) (logs body) old new found got → HasMadeBeside base (Precedes page slot touch.line) new who page place (refusal slot touch)
   frame-rest frame None has made = has-made-stays who old new (deeds-same who tt made) has.made
   frame-rest frame (Some b) has made = let rest = has.rest b refl in has-made-stays who old new (deeds-none who (frame-lists rest.1 made) rest.2) has.made
 
-  page-rest : (freed : Page) (body : Option BodyValue) → HasListed old who page slot touch body place → Steps layout who (steps.UnlockPage freed) (logs body) old new found got → HasMade (Precedes page slot touch.line) new who page place (refusal slot touch)
+  page-rest : (freed : Page) (body : Option BodyValue) → HasListed base old who page slot touch body place → Steps layout who (steps.UnlockPage freed) (logs body) old new found got → HasMadeBeside base (Precedes page slot touch.line) new who page place (refusal slot touch)
   page-rest freed None has made = has-made-stays who old new (deeds-same who tt made) has.made
   page-rest freed (Some b) has made = let rest = has.rest b refl in has-made-stays who old new (deeds-none who (page-lists rest.1 made) rest.2) has.made
 
-  refusal-on : {step : Step} (u : Unhold) (x : UnholdAt) → unholds.plan_at u.page x ≡ Some step → HasToList old who page slot touch (unholds.put_at x) place ⊎ HasListed old who page slot touch (unholds.put_at x) place
-      → Steps layout who step (logs (unholds.put_at x)) old new found got → HasMade (Precedes page slot touch.line) new who page place (refusal slot touch)
+  refusal-on : {step : Step} (u : Unhold) (x : UnholdAt) → unholds.plan_at u.page x ≡ Some step → HasToList base old who page slot touch (unholds.put_at x) place ⊎ HasListed base old who page slot touch (unholds.put_at x) place
+      → Steps layout who step (logs (unholds.put_at x)) old new found got → HasMadeBeside base (Precedes page slot touch.line) new who page place (refusal slot touch)
   refusal-on u (unhold_at.UnlockFrame frame count body) e (inl has) made = frame-entry frame body has (steps-planned e made)
   refusal-on u (unhold_at.UnlockFrame frame count body) e (inr has) made = frame-rest frame body has (steps-planned e made)
   refusal-on u (unhold_at.Release r) e (inl has) made = absurd (none-some has.body has.put_is)
@@ -273,9 +273,9 @@ module _ {layout : Layout} {who : Who} {page : Page} {slot : VSlot} {touch : Tou
 
 -- ---- what follows each step
 
-module _ (layout : Layout) (who : Who) (page : Page) (slot : VSlot) (touch : Touch) (new : View) (only : HasOnly (Precedes page slot touch.line) new who) where
+module _ (layout : Layout) (who : Who) (page : Page) (slot : VSlot) (touch : Touch) {base : List Made} (new : View) (only : HasOnlyBeside base (Precedes page slot touch.line) new who) where
   abbrev MadeNow : FaultAt → Type 0
-  MadeNow x = MadeAt new who page slot touch x
+  MadeNow x = MadeAt base new who page slot touch x
 
   hold-made : (h : Hold) (z : HoldAt) → MadeNow (after_hold_at h z)
   hold-made h hold_at.LockPage = only
@@ -347,11 +347,11 @@ module _ (layout : Layout) (who : Who) (page : Page) (slot : VSlot) (touch : Tou
     pte-made ptes.Poison spare = refuse-made spare
 
 -- once the entry of a refusal is made, it stays so
-sigbus-made : (who : Who) (page : Page) (slot : VSlot) (touch : Touch) (new : View) (u : Unhold) (place : At) → HasMade (Precedes page slot touch.line) new who page place.entry (refusal slot touch) → unholds.put u ≡ None
-    → MadeAt new who page slot touch (after_unhold u (answers.Sigbus place))
-sigbus-made who page slot touch new u place made none = by (is_none (unholds.plan u))
+sigbus-made : {base : List Made} (who : Who) (page : Page) (slot : VSlot) (touch : Touch) (new : View) (u : Unhold) (place : At) → HasMadeBeside base (Precedes page slot touch.line) new who page place.entry (refusal slot touch) → unholds.put u ≡ None
+    → MadeAt base new who page slot touch (after_unhold u (answers.Sigbus place))
+sigbus-made {base} who page slot touch new u place made none = by (is_none (unholds.plan u))
   where
-    by : (over : Bool) → MadeAt new who page slot touch (cond over (at.Over (Some (answers.Sigbus place))) (at.Unhold u (answers.Sigbus place)))
+    by : (over : Bool) → MadeAt base new who page slot touch (cond over (at.Over (Some (answers.Sigbus place))) (at.Unhold u (answers.Sigbus place)))
     by true = made
     by false = inr (record { made = made; rest = λ b e. absurd (none-some b (sym none ∙ e)) })
 
@@ -359,20 +359,20 @@ sigbus-made who page slot touch new u place made none = by (is_none (unholds.pla
 pub page-still : {layout : Layout} {old new : View} {page : Page} {frame : Option Frame} {body : BodyValue} → hand_of new ≡ hand_of old → HoldsPage layout old page frame body → HoldsPage layout new page frame body
 page-still same has = record { seen = has.seen; handled = has.handled; poisoned = has.poisoned; hand_is = same ∙ has.hand_is; within = has.within; body_is = has.body_is }
 
-module _ (layout : Layout) (who : Who) (page : Page) (slot : VSlot) (touch : Touch) (old new : View) (step : Step) (found : ℕ) (got : Option BodyValue) where
+module _ (base : List Made) (layout : Layout) (who : Who) (page : Page) (slot : VSlot) (touch : Touch) (old new : View) (step : Step) (found : ℕ) (got : Option BodyValue) where
   -- after the process was ended
-  kill-made : (frame : Option Frame) (body : BodyValue) (place : At) → IsEnding layout old who page slot touch frame body place → HasOnly (Precedes page slot touch.line) old who
-      → Steps layout who (steps.Kill touch.process page (as_snapshot body)) None old new found got → MadeAt new who page slot touch (let_go who page frame body (answers.Sigbus place))
+  kill-made : (frame : Option Frame) (body : BodyValue) (place : At) → IsEnding layout old who page slot touch frame body place → HasOnlyBeside base (Precedes page slot touch.line) old who
+      → Steps layout who (steps.Kill touch.process page (as_snapshot body)) None old new found got → MadeAt base new who page slot touch (let_go who page frame body (answers.Sigbus place))
   kill-made frame body place has only made = inr (record {
-    made = subst (λ (n : ℕ). HasMade (Precedes page slot touch.line) new who page n (refusal slot touch)) (sym (ap (λ (p : At). p.entry) has.place_is)) (refusal-made who slot touch has.held has.allowed has.ending own only);
+    made = subst (λ (n : ℕ). HasMadeBeside base (Precedes page slot touch.line) new who page n (refusal slot touch)) (sym (ap (λ (p : At). p.entry) has.place_is)) (refusal-made who slot touch has.held has.allowed has.ending own only);
     rest = λ b e. none-left who slot touch has.held has.allowed has.ending own b (same_Some b body (sym e ∙ put-begins who page frame body) ∙ has.body_is);
   })
     where
       own : Steps layout who (steps.Kill touch.process page (as_snapshot (refused who slot touch has.before))) None old new found got
       own = subst (λ (b : BodyValue). Steps layout who (steps.Kill touch.process page (as_snapshot b)) None old new found got) has.body_is made
 
-  pub made-next : (x : FaultAt) (spare : Option ℕ) → MadeAt old who page slot touch x → FitsAt layout old who page slot touch x → plan_at page slot touch x ≡ Some step → CanMake layout who step (put_at x) old
-      → Steps layout who step (logs (put_at x)) old new found got → MadeAt new who page slot touch (next_at layout who page slot touch (bare_at x) found got spare)
+  pub made-next : (x : FaultAt) (spare : Option ℕ) → MadeAt base old who page slot touch x → FitsAt layout old who page slot touch x → plan_at page slot touch x ≡ Some step → CanMake layout who step (put_at x) old
+      → Steps layout who step (logs (put_at x)) old new found got → MadeAt base new who page slot touch (next_at layout who page slot touch (bare_at x) found got spare)
   made-next (at.Hold h) spare was has e can made = hold-made layout who page slot touch new (only-kept page slot touch.line was (hold-lists h step e) made) (holds.next h found got) (holds.next_at h.who h.at found got)
   made-next (at.LoadPte frame body) spare was has e can made = pte-made layout who page slot touch new (only-kept page slot touch.line was (subst ListsNone (same_Some (steps.Load (places.Trans slot)) step e) tt) made) frame body
       (page-still (hand-planned made e refl) has.held) (pte_reading found) spare

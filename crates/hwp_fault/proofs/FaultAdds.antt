@@ -1,5 +1,5 @@
 -- What a step of a fault, and of an access, adds to the entries of its command, and that no loss more is owed after it.
-use Rattle.std.proofs.Common.{◌≡◌, ◌⊎◌, inl, inr, ℕ, ◌&&◌, Bool, true, false, cond, [], ◌∷◌, Option, Some, None, is_none, filter, refl, sym, ap, ◌∙◌, subst}
+use Rattle.std.proofs.Common.{◌≡◌, ◌⊎◌, inl, inr, ℕ, ◌&&◌, Bool, true, false, cond, List, [], ◌∷◌, Option, Some, None, is_none, filter, refl, sym, ap, ◌∙◌, subst}
 use Rattle.std.proofs.Math.Seq.{drop-append_seam}
 use Rattle.std.proofs.lemmas.Option.{none-some, same_Some}
 use Rattle.hwp_page.specs.hwp_geom.declared.Frame.{Frame}
@@ -70,7 +70,7 @@ use Rattle.hwp_fault.specs.declared.touch.AccessKind.{AccessKind}
 use Rattle.hwp_fault.specs.declared.touch.AccessKind.TheVariants as kinds
 use Rattle.hwp_fault.specs.declared.touch.Touch.{Touch}
 use Rattle.hwp_fault.specs.Accesses as accesses
-use Rattle.hwp_fault.specs.Accesses.{Fits, FitsAt, FitsThen, HasLocked, HasToList, LooksOf, Next, NextAt, Prepares, after_fault_at, after_process, at_start, bare, bare_at, check_of, ended, entry_of, is_bad, leading, leads_to, met_by, place_in, plan, plan_at, put, put_at, reached, reply_by, reply_where, unlocked, what_by, what_of, word_in}
+use Rattle.hwp_fault.specs.Accesses.{FitsFrom, FitsAt, FitsThen, HasLocked, HasToList, LooksOf, Next, NextAt, Prepares, after_fault_at, after_process, at_start, bare, bare_at, check_of, ended, entry_of, is_bad, leading, leads_to, met_by, place_in, plan, plan_at, put, put_at, reached, reply_by, reply_where, unlocked, what_by, what_of, word_in}
 use Rattle.hwp_fault.specs.Adds.{Adds, AddsNone, Skips, has_checked, is_checked, is_home, is_listed}
 use Rattle.hwp_fault.specs.Faults as faults
 use Rattle.hwp_fault.specs.Faults.{AddsOnly, MadeAt}
@@ -114,8 +114,8 @@ module _ (test : What → Bool) where
     adding-passes view page slot given adds body is taken there i e at =
         let held = find-is (is_body_of body.page) view.bodies taken there in bringing-passed slot e.what ((adds body is).only held.0 taken held.1 i e at)
 
-    refusing-passes : {who : Who} {page : Page} {slot : VSlot} {touch : Touch} {place : ℕ} (view : View) (given : Option BodyValue) → faults.HasToList view who page slot touch given place → PassesAll view given
-    refusing-passes {who} {page} {slot} {touch} view given has body is taken there =
+    refusing-passes : {base : List Made} {who : Who} {page : Page} {slot : VSlot} {touch : Touch} {place : ℕ} (view : View) (given : Option BodyValue) → faults.HasToList base view who page slot touch given place → PassesAll view given
+    refusing-passes {base} {who} {page} {slot} {touch} view given has body is taken there =
         subst (EachMember IsPassed) (sym more) (each-one IsPassed (refusal_entry who slot touch) (refusal-passed touch.kind slot touch.line touch.thread))
       where
         same : has.body ≡ body
@@ -179,7 +179,7 @@ module _ (test : What → Bool) where
 
 -- ---- a fault
 
-module _ (layout : Layout) (old new : View) (f : Fault) (step : Step) (found : ℕ) (got : Option BodyValue) (fits : faults.Fits layout old f) where
+module _ {base : List Made} (layout : Layout) (old new : View) (f : Fault) (step : Step) (found : ℕ) (got : Option BodyValue) (fits : faults.FitsFrom base layout old f) where
   -- the entry that the access was answered by SIGBUS, as the process is ended
   kill-passes : (test : What → Bool) → Skips test → (frame : Option Frame) (body : BodyValue) (place : At) → faults.IsEnding layout old f.who f.page f.slot f.touch frame body place
       → Steps layout f.who (steps.Kill f.touch.process f.page (as_snapshot body)) None old new found got → Passes test f.who old new
@@ -203,7 +203,7 @@ module _ (layout : Layout) (old new : View) (f : Fault) (step : Step) (found : �
   fault-passes : faults.plan f ≡ Some step → Steps layout f.who step (logs (faults.put f)) old new found got → (test : What → Bool) → Skips test → Passes test f.who old new
   fault-passes is made test skips = which f.at is fits.made fits.at (faulting.can layout old f step fits is) made
     where
-      which : (x : FaultAt) → faults.plan_at f.page f.slot f.touch x ≡ Some step → MadeAt old f.who f.page f.slot f.touch x → faults.FitsAt layout old f.who f.page f.slot f.touch x → CanMake layout f.who step (faults.put_at x) old
+      which : (x : FaultAt) → faults.plan_at f.page f.slot f.touch x ≡ Some step → MadeAt base old f.who f.page f.slot f.touch x → faults.FitsAt layout old f.who f.page f.slot f.touch x → CanMake layout f.who step (faults.put_at x) old
           → Steps layout f.who step (logs (faults.put_at x)) old new found got → Passes test f.who old new
       which (fault_at.Hold h) e was has can made = none-listed test f.who (hold-lists h step e) made
       which (fault_at.LoadPte frame body) e was has can made = none-listed test f.who (subst ListsNone (same_Some (steps.Load (places.Trans f.slot)) step e) tt) made
@@ -314,10 +314,10 @@ module _ (a : Request) {layout : Layout} {old new : View} {found : ℕ} {got : O
   quiet lists made test skips = (none-listed test a.who lists made).found
 
   -- the body goes home with the entry
-  entry-added : (frame : Frame) (body : Option BodyValue) (answer : AccessAnswer) → HasToList layout old a frame body answer → Steps layout a.who (steps.UnlockFrame frame) (logs body) old new found got
+  entry-added : (base : List Made) (frame : Frame) (body : Option BodyValue) (answer : AccessAnswer) → HasToList base layout old a frame body answer → Steps layout a.who (steps.UnlockFrame frame) (logs body) old new found got
       → Adds a old new false (is_checked answer)
-  entry-added frame None answer has made = absurd has
-  entry-added frame (Some b) answer has made = subst (Adds a old new false) (sym (ap is_checked has.answer_is)) (by (is_bad has.mask a.line) lists (one-more has.taken a has.mask))
+  entry-added base frame None answer has made = absurd has
+  entry-added base frame (Some b) answer has made = subst (Adds a old new false) (sym (ap is_checked has.answer_is)) (by (is_bad has.mask a.line) lists (one-more has.taken a has.mask))
     where
       lists : Lists old new (stamp_of a.who old) (body_in (Some frame) (log_of has.before) has.taken.seen) (log_of (reached a has.mask has.before))
       lists = frame-lists (in-hand has.taken) (subst (λ (x : BodyValue). Steps layout a.who (steps.UnlockFrame frame) (Some (log_of x)) old new found got) has.body_is made)
@@ -339,22 +339,22 @@ module _ (a : Request) {layout : Layout} {old new : View} {found : ℕ} {got : O
   none-added frame None has made = quiet tt made
   none-added frame (Some b) has made = λ test skips. such-kept a.who test (frame-lists (in-hand has) made) (subst (EachMember (λ (e : Entry). test e.what ≡ false)) (sym (still-more has a.who)) (λ i e at. absurd (none-some e at)))
 
-  unlock-adds : {step : Step} (x : UnlockAt) (then : Option AccessAnswer) → unlocks.plan_at x ≡ Some step → FitsThen layout old a x then → Steps layout a.who step (logs (unlocks.put_at x)) old new found got
+  unlock-adds : (base : List Made) {step : Step} (x : UnlockAt) (then : Option AccessAnswer) → unlocks.plan_at x ≡ Some step → FitsThen base layout old a x then → Steps layout a.who step (logs (unlocks.put_at x)) old new found got
       → Adds a old new (is_listed x then) (is_told then)
-  unlock-adds {step} (unlock_at.UnlockFrame frame body) None e has made = inl (none-added frame body has.1 (steps-planned e made), refl)
-  unlock-adds {step} (unlock_at.UnlockFrame frame body) (Some answer) e has made = entry-added frame body answer has (steps-planned e made)
-  unlock-adds {step} (unlock_at.Release r) None e has made = inl (quiet (release-lists r step e) made, refl)
-  unlock-adds {step} (unlock_at.Release r) (Some answer) e has made = inl (quiet (release-lists r step e) made, refl)
-  unlock-adds {step} unlock_at.Over then e has made = absurd (none-some step e)
+  unlock-adds base {step} (unlock_at.UnlockFrame frame body) None e has made = inl (none-added frame body has.1 (steps-planned e made), refl)
+  unlock-adds base {step} (unlock_at.UnlockFrame frame body) (Some answer) e has made = entry-added base frame body answer has (steps-planned e made)
+  unlock-adds base {step} (unlock_at.Release r) None e has made = inl (quiet (release-lists r step e) made, refl)
+  unlock-adds base {step} (unlock_at.Release r) (Some answer) e has made = inl (quiet (release-lists r step e) made, refl)
+  unlock-adds base {step} unlock_at.Over then e has made = absurd (none-some step e)
 
-pub access-adds : (layout : Layout) (old new : View) (a : Access) (step : Step) (found : ℕ) (got : Option BodyValue) → Fits layout old a → plan a ≡ Some step → Steps layout a.request.who step (logs (put a)) old new found got
+pub access-adds : {base : List Made} (layout : Layout) (old new : View) (a : Access) (step : Step) (found : ℕ) (got : Option BodyValue) → FitsFrom base layout old a → plan a ≡ Some step → Steps layout a.request.who step (logs (put a)) old new found got
     → (after : Access) (turn : Turn) → Next layout (bare a) found got after turn → Adds a.request old new (has_checked a.at) (has_checked after.at)
-access-adds layout old new a step found got fits is made after turn next = which a.at is fits.at (can layout old a step fits is) made after.at next.at
+access-adds {base} layout old new a step found got fits is made after turn next = which a.at is fits.at (can layout old a step fits is) made after.at next.at
   where
     r : Request
     r = a.request
 
-    which : (x : AccessAt) → plan_at a.request x ≡ Some step → FitsAt layout old a.request x → CanMake layout a.request.who step (put_at x) old → Steps layout a.request.who step (logs (put_at x)) old new found got
+    which : (x : AccessAt) → plan_at a.request x ≡ Some step → FitsAt base layout old a.request x → CanMake layout a.request.who step (put_at x) old → Steps layout a.request.who step (logs (put_at x)) old new found got
         → (y : AccessAt) → NextAt layout a.request (bare_at x) found got y turn → Adds a.request old new (has_checked x) (has_checked y)
     which at.LoadStop e has can made y next = inl (quiet a.request (subst ListsNone (same_Some (steps.Load places.Stop) step e) tt) made, ap has_checked next.0 ∙ start-unchecked found)
     which at.LoadProcess e has can made y next = inl (quiet a.request (subst ListsNone (same_Some (steps.Load (places.Process a.request.process)) step e) tt) made, ap has_checked next.0 ∙ process-unchecked (page_named found))
@@ -363,7 +363,7 @@ access-adds layout old new a step found got fits is made after turn next = which
     which (at.LockFrame frame) e has can made y next = inl (quiet a.request (subst ListsNone (same_Some (steps.LockFrame frame) step e) tt) made, ap has_checked next.0 ∙ lock-unchecked (is_locked found) frame got)
     which (at.LoadAgain frame body) e has can made y next = inl (quiet a.request (subst ListsNone (same_Some (steps.Load (places.Trans a.request.slot)) step e) tt) made, looks-unchecked (leads_to frame found) a.request frame body y next.0)
     which (at.LoadBad frame body) e has can made y next = inl (quiet a.request (subst ListsNone (same_Some (steps.Load (places.Bad frame)) step e) tt) made, ap has_checked next.0)
-    which (at.Unlock u then) e has can made y next = subst (Adds a.request old new (is_listed u.at then)) (sym (ap has_checked next.0 ∙ unlock-tells u found then)) (unlock-adds a.request u.at then e has.goal made)
+    which (at.Unlock u then) e has can made y next = subst (Adds a.request old new (is_listed u.at then)) (sym (ap has_checked next.0 ∙ unlock-tells u found then)) (unlock-adds a.request base u.at then e has.goal made)
     which (at.Fault f) e has can made y next = inl (
       subst (λ (w : Who). AddsNone w old new) has.own (λ test skips. (fault-passes layout old new f step found got has.fault e (subst (λ (w : Who). Steps layout w step (logs (faults.put f)) old new found got) (sym has.own) made) test skips).found),
       ap has_checked next.next_is ∙ fault-unchecked next.after (faults.answer next.after),
@@ -385,24 +385,24 @@ module _ (a : Request) {layout : Layout} {old new : View} {found : ℕ} {got : O
   still-owes frame None has made = losses-same tt made
   still-owes frame (Some b) has made = frame-owes (in-hand has) (subst (EachMember (λ (e : Entry). is_loss e.what ≡ false)) (sym (still-more has a.who)) (λ i e at. absurd (none-some e at))) made
 
-  entry-owes : (frame : Frame) (body : Option BodyValue) (answer : AccessAnswer) → HasToList layout old a frame body answer → Steps layout a.who (steps.UnlockFrame frame) (logs body) old new found got → new.owed.losses ≡ old.owed.losses
-  entry-owes frame None answer has made = absurd has
-  entry-owes frame (Some b) answer has made = frame-owes (in-hand has.taken)
+  entry-owes : (base : List Made) (frame : Frame) (body : Option BodyValue) (answer : AccessAnswer) → HasToList base layout old a frame body answer → Steps layout a.who (steps.UnlockFrame frame) (logs body) old new found got → new.owed.losses ≡ old.owed.losses
+  entry-owes base frame None answer has made = absurd has
+  entry-owes base frame (Some b) answer has made = frame-owes (in-hand has.taken)
       (subst (EachMember (λ (e : Entry). is_loss e.what ≡ false)) (sym (one-more has.taken a has.mask))
       (each-one (λ (e : Entry). is_loss e.what ≡ false) (entry_of a (met_by (is_bad has.mask a.line) a has.mask (word_in a has.before))) (met-lossless a has.mask (word_in a has.before) (is_bad has.mask a.line))))
       (subst (λ (x : BodyValue). Steps layout a.who (steps.UnlockFrame frame) (Some (log_of x)) old new found got) has.body_is made)
 
-  unlock-owes : {step : Step} (x : UnlockAt) (then : Option AccessAnswer) → unlocks.plan_at x ≡ Some step → FitsThen layout old a x then → Steps layout a.who step (logs (unlocks.put_at x)) old new found got → new.owed.losses ≡ old.owed.losses
-  unlock-owes {step} (unlock_at.UnlockFrame frame body) None e has made = still-owes frame body has.1 (steps-planned e made)
-  unlock-owes {step} (unlock_at.UnlockFrame frame body) (Some answer) e has made = entry-owes frame body answer has (steps-planned e made)
-  unlock-owes {step} (unlock_at.Release r) then e has made = losses-same (release-lists r step e) made
-  unlock-owes {step} unlock_at.Over then e has made = absurd (none-some step e)
+  unlock-owes : (base : List Made) {step : Step} (x : UnlockAt) (then : Option AccessAnswer) → unlocks.plan_at x ≡ Some step → FitsThen base layout old a x then → Steps layout a.who step (logs (unlocks.put_at x)) old new found got → new.owed.losses ≡ old.owed.losses
+  unlock-owes base {step} (unlock_at.UnlockFrame frame body) None e has made = still-owes frame body has.1 (steps-planned e made)
+  unlock-owes base {step} (unlock_at.UnlockFrame frame body) (Some answer) e has made = entry-owes base frame body answer has (steps-planned e made)
+  unlock-owes base {step} (unlock_at.Release r) then e has made = losses-same (release-lists r step e) made
+  unlock-owes base {step} unlock_at.Over then e has made = absurd (none-some step e)
 
-pub access-owes : (layout : Layout) (old new : View) (a : Access) (step : Step) (found : ℕ) (got : Option BodyValue) → Fits layout old a → plan a ≡ Some step → Steps layout a.request.who step (logs (put a)) old new found got
+pub access-owes : {base : List Made} (layout : Layout) (old new : View) (a : Access) (step : Step) (found : ℕ) (got : Option BodyValue) → FitsFrom base layout old a → plan a ≡ Some step → Steps layout a.request.who step (logs (put a)) old new found got
     → new.owed.losses ≡ old.owed.losses
-access-owes layout old new a step found got fits is made = which a.at is fits.at (can layout old a step fits is) made
+access-owes {base} layout old new a step found got fits is made = which a.at is fits.at (can layout old a step fits is) made
   where
-    which : (x : AccessAt) → plan_at a.request x ≡ Some step → FitsAt layout old a.request x → CanMake layout a.request.who step (put_at x) old → Steps layout a.request.who step (logs (put_at x)) old new found got → new.owed.losses ≡ old.owed.losses
+    which : (x : AccessAt) → plan_at a.request x ≡ Some step → FitsAt base layout old a.request x → CanMake layout a.request.who step (put_at x) old → Steps layout a.request.who step (logs (put_at x)) old new found got → new.owed.losses ≡ old.owed.losses
     which at.LoadStop e has can made = losses-same (subst ListsNone (same_Some (steps.Load places.Stop) step e) tt) made
     which at.LoadProcess e has can made = losses-same (subst ListsNone (same_Some (steps.Load (places.Process a.request.process)) step e) tt) made
     which at.LoadTranslation e has can made = losses-same (subst ListsNone (same_Some (steps.Load (places.Trans a.request.slot)) step e) tt) made
@@ -410,7 +410,7 @@ access-owes layout old new a step found got fits is made = which a.at is fits.at
     which (at.LockFrame frame) e has can made = losses-same (subst ListsNone (same_Some (steps.LockFrame frame) step e) tt) made
     which (at.LoadAgain frame body) e has can made = losses-same (subst ListsNone (same_Some (steps.Load (places.Trans a.request.slot)) step e) tt) made
     which (at.LoadBad frame body) e has can made = losses-same (subst ListsNone (same_Some (steps.Load (places.Bad frame)) step e) tt) made
-    which (at.Unlock u then) e has can made = unlock-owes a.request u.at then e has.goal made
+    which (at.Unlock u then) e has can made = unlock-owes a.request base u.at then e has.goal made
     which (at.Fault f) e has can made =
         (fault-passes layout old new f step found got has.fault e (subst (λ (w : Who). Steps layout w step (logs (faults.put f)) old new found got) (sym has.own) made) is_loss skips-loss).owed (λ what none. none)
     which (at.GiveUp g) e has can made = (give-up-passes is_loss a.request.who g.at e can made (still-passes is_loss old (give_ups.put g) has.still)).owed (λ what none. none)

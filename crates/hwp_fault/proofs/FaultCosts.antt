@@ -250,7 +250,7 @@ module _ {layout : Layout} {seat : ℕ} {a b : State} {f t : Fault} {turned : Tu
   -- a word that was loaded
   pte-falls : (frame : Option Frame) (body : BodyValue) (spare : Option ℕ) → FitsAt layout (view_of a seat) f.who f.page f.slot f.touch (at.LoadPte frame body) → Some (steps.Load (places.Trans f.slot)) ≡ Some made.step
       → cost_at f.slot (after_pte layout f.who f.page f.slot f.touch frame body (pte_reading made.found) spare) now < length w.frees + 14 + owed
-  pte-falls frame body spare has e = elim (pte-met f.slot has.held made.fits.slot a made.rule seat (me made) made.found at-met) [
+  pte-falls frame body spare has e = elim (pte-met f.slot has.held made.fits.1.slot a made.rule seat (me made) made.found at-met) [
     | inl nowhere ↦ subst (λ (p : Pte). cost_at f.slot (after_pte layout f.who f.page f.slot f.touch frame body p spare) now < length w.frees + 14 + owed) (sym (ap pte_reading nowhere.zero))
         (let less : cost_at f.slot (after_pte layout f.who f.page f.slot f.touch frame body ptes.Empty spare) now ≤ length now.frees + 13 + owed = empty-cost layout f.who f.page f.slot f.touch frame body spare now in omega (arith, less, same-number-of))
     | inr (inl barred) ↦ subst (λ (p : Pte). cost_at f.slot (after_pte layout f.who f.page f.slot f.touch frame body p spare) now < length w.frees + 14 + owed) (sym (ap pte_reading barred.poison ∙ reads-poison))
@@ -276,7 +276,7 @@ module _ {layout : Layout} {seat : ℕ} {a b : State} {f t : Fault} {turned : Tu
         after = words-after made ∙ ap (λ (s : Step). put_word (place_of s) (word_after s made.found) w) (sym (same_Some (steps.SetPte m.slot (ptes.At m.frame)) made.step e))
 
         within : m.slot.0 < length w.trans
-        within = subst (λ (n : ℕ). m.slot.0 < n) (sym (shaped layout a made.rule).trans) (subst (λ (s : VSlot). s.0 < length layout.trans) (sym has.slot_is) (slot-within layout f.page f.slot made.fits.slot))
+        within = subst (λ (n : ℕ). m.slot.0 < n) (sym (shaped layout a made.rule).trans) (subst (λ (s : VSlot). s.0 < length layout.trans) (sym has.slot_is) (slot-within layout f.page f.slot made.fits.1.slot))
 
         here : slice_get (set w.trans m.slot.0 (pte_word (ptes.At m.frame))) m.slot.0 ≡ Some (pte_word (ptes.At m.frame))
         here = set_here w.trans m.slot.0 (pte_word (ptes.At m.frame)) (slice_index w.trans m.slot.0) (slice_get-get_or w.trans m.slot.0 0 within)
@@ -395,7 +395,7 @@ module _ {layout : Layout} {seat : ℕ} {a b : State} {f t : Fault} {turned : Tu
   fault-falls : Lowers turned (class f) layout a seat → Lowered turned layout a b (cost t now) (cost f w)
   fault-falls lowers = subst (λ (x : Turn). Lowered x layout a b (cost t now) (cost f w)) (sym made.follows.turn_is)
       (subst (λ (x : Fault). Lowered (turn_at (bare_at f.at) made.found) layout a b (cost x now) (cost f w)) (sym made.follows.after_is)
-      (which-falls f.at made.follows.spare made.fits.at made.planned made.move (subst (λ (x : Turn). Lowers x (class f) layout a seat) made.follows.turn_is lowers)))
+      (which-falls f.at made.follows.spare made.fits.1.at made.planned made.move (subst (λ (x : Turn). Lowers x (class f) layout a seat) made.follows.turn_is lowers)))
 
 -- ---- costs are small
 

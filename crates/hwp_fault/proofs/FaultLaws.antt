@@ -1,5 +1,5 @@
 -- The laws of `Fault`, and what stands before it and after it.
-use Rattle.std.proofs.Common.{◌≡◌, ◌≢◌, ◌⊎◌, inl, inr, ℕ, ◌+◌, ◌<◌, ◌≤◌, ◌==◌, Bool, true, false, not, cond, [], ◌∷◌, Option, Some, None, is_none, length, slice_get, IsSomeAnd, refl, sym, ap, ◌∙◌, subst, arith}
+use Rattle.std.proofs.Common.{◌≡◌, ◌≢◌, ◌⊎◌, inl, inr, ℕ, ◌+◌, ◌<◌, ◌≤◌, ◌==◌, Bool, true, false, not, cond, List, [], ◌∷◌, Option, Some, None, is_none, length, slice_get, IsSomeAnd, refl, sym, ap, ◌∙◌, subst, arith}
 use Rattle.std.proofs.Math.Seq.{drop-append_seam}
 use Rattle.std.proofs.lemmas.Bool.{both_ways, ne_eqb}
 use Rattle.std.proofs.lemmas.List.{drop_all}
@@ -24,6 +24,7 @@ use Rattle.hwp_core.specs.hwp_words.Names.{frame_name}
 use Rattle.hwp_core.specs.hwp_words.Translations.{pte_reading}
 use Rattle.hwp_core.specs.hwp_core_rule.declared.InHand.{InHand}
 use Rattle.hwp_core.specs.hwp_core_rule.declared.Log.{Log}
+use Rattle.hwp_core.specs.hwp_core_rule.declared.Made.{Made}
 use Rattle.hwp_core.specs.hwp_core_rule.declared.SharedWord.TheVariants as places
 use Rattle.hwp_core.specs.hwp_core_rule.declared.Step.{Step}
 use Rattle.hwp_core.specs.hwp_core_rule.declared.Step.TheVariants as steps
@@ -37,7 +38,8 @@ use Rattle.hwp_core.specs.hwp_core_task.Calls.{CanMake, Steps, IsOnTurn, logs}
 use Rattle.hwp_core.specs.hwp_core_task.Hands.{Hand, hand_of, body_in, empty}
 use Rattle.hwp_core.proofs.of_hwp_core_task.StepLeaves.{on-turn-after, hand-planned, steps-planned, can-make}
 use Rattle.hwp_core.specs.hwp_core_task.Ranks.{HasFrame, HasPage}
-use Rattle.hwp_core.specs.hwp_core_task.Known.{SawLog, HasOnly, Precedes}
+use Rattle.hwp_core.specs.hwp_core_task.Turns.{IsTask}
+use Rattle.hwp_core.specs.hwp_core_task.Known.{SawLog, HasOnlyBeside, Precedes}
 use Rattle.hwp_core.proofs.of_hwp_core_task.SightKeeps.{saw-stays, saw-log-stays, saw-state-stays}
 use Rattle.hwp_fault_fill.specs.declared.Fill.{Fill}
 use Rattle.hwp_fault_fill.specs.declared.fill.FillAt.{FillAt}
@@ -83,7 +85,7 @@ use Rattle.hwp_fault.specs.declared.map_in.MapInAt.TheVariants as map_in_at
 use Rattle.hwp_fault.specs.declared.touch.Touch.{Touch}
 use Rattle.hwp_fault.specs.MapIns as map_ins
 use Rattle.hwp_fault.specs.MapIns.{IsBringing, HoldsWithFrame, CanMapIn, added}
-use Rattle.hwp_fault.specs.Faults.{begin, plan, plan_at, put, put_at, bare, bare_at, answer, answer_at, let_go, refuse, with_room, after_hold, after_pte, is_refused, after_fill, after_map_in, after_unhold, after_give_up, next, next_at, IsRoom, Follows, Shows, ShowsAt, AddsOnly, IsEnding, IsFree, IsHeld, IsWhy, FitsOver, Fits, FitsAt, MadeAt, class, class_at}
+use Rattle.hwp_fault.specs.Faults.{begin, plan, plan_at, put, put_at, bare, bare_at, answer, answer_at, let_go, refuse, with_room, after_hold, after_pte, is_refused, after_fill, after_map_in, after_unhold, after_give_up, next, next_at, IsRoom, Follows, Shows, ShowsAt, AddsOnly, IsEnding, IsFree, IsHeld, IsWhy, FitsOver, FitsFrom, FitsAt, MadeAt, class, class_at, task as fault-task}
 use Rattle.hwp_fault.specs.Touches.{IsTouch, as_snapshot, refused}
 use Rattle.hwp_fault.proofs.FaultEntries.{each-one, state-more, ahead-with-frame}
 use Rattle.hwp_fault.proofs.Deeds.{give-up-bare, made-next, page-still, unhold-bare}
@@ -93,7 +95,7 @@ use Rattle.hwp_fault.proofs.AccessRefusals.{can-kill, lets-go-at-once, lets-go-k
 
 -- ---- the steps can be made
 
-pub can : (layout : Layout) (view : View) (f : Fault) (step : Step) → Fits layout view f → plan f ≡ Some step → CanMake layout f.who step (put f) view
+pub can : {base : List Made} (layout : Layout) (view : View) (f : Fault) (step : Step) → FitsFrom base layout view f → plan f ≡ Some step → CanMake layout f.who step (put f) view
 can layout view f step fits is = which f.at fits.at is
   where
     which : (x : FaultAt) → FitsAt layout view f.who f.page f.slot f.touch x → plan_at f.page f.slot f.touch x ≡ Some step → CanMake layout f.who step (put_at x) view
@@ -372,7 +374,7 @@ why-stays by page (answers.NoFrame place) made why = (why.0, saw-stays made why.
 why-stays by page (answers.Sigbus place) made why = why
 
 -- a step shows what is needed, and what follows fits again
-module _ (layout : Layout) (old new : View) (f : Fault) (step : Step) (found : ℕ) (got : Option BodyValue) (fits : Fits layout old f) (is : plan f ≡ Some step) (made : Steps layout f.who step (logs (put f)) old new found got) where
+module _ {base : List Made} (layout : Layout) (old new : View) (f : Fault) (step : Step) (found : ℕ) (got : Option BodyValue) (fits : FitsFrom base layout old f) (is : plan f ≡ Some step) (made : Steps layout f.who step (logs (put f)) old new found got) where
   on : IsOnTurn new f.who
   on = on-turn-after fits.on_turn made
 
@@ -430,7 +432,7 @@ module _ (layout : Layout) (old new : View) (f : Fault) (step : Step) (found : �
   )
   which (at.Over answer) has e made = absurd (none-some step e)
 
-  pub both : Shows (bare f) found got × ((spare : Option ℕ) → IsRoom spare → Fits layout new (next layout (bare f) found got spare))
+  pub both : Shows (bare f) found got × ((spare : Option ℕ) → IsRoom spare → FitsFrom base layout new (next layout (bare f) found got spare))
   both =
       let all : Given f.at = which f.at fits.at is made in (
         all.0,
@@ -439,21 +441,28 @@ module _ (layout : Layout) (old new : View) (f : Fault) (step : Step) (found : �
           page = fits.page;
           slot = fits.slot;
           touch = fits.touch;
-          made = made-next layout f.who f.page f.slot f.touch old new step found got f.at spare fits.made fits.at is (can layout old f step fits is) made;
+          made = made-next base layout f.who f.page f.slot f.touch old new step found got f.at spare fits.made fits.at is (can layout old f step fits is) made;
           at = all.1 spare room;
         },
       )
 
-pub stays : (layout : Layout) (old new : View) (f : Fault) (step : Step) (found : ℕ) (got : Option BodyValue) → Fits layout old f → plan f ≡ Some step → Steps layout f.who step (logs (put f)) old new found got
-    → Shows (bare f) found got × ((after : Fault) (result : Turn) → Follows layout (bare f) found got after result → Fits layout new after × (after.who.cpu ≡ f.who.cpu))
-stays layout old new f step found got fits is made =
+pub stays : {base : List Made} (layout : Layout) (old new : View) (f : Fault) (step : Step) (found : ℕ) (got : Option BodyValue) → FitsFrom base layout old f → plan f ≡ Some step → Steps layout f.who step (logs (put f)) old new found got
+    → Shows (bare f) found got × ((after : Fault) (result : Turn) → Follows layout (bare f) found got after result → FitsFrom base layout new after × (after.who.cpu ≡ f.who.cpu))
+stays {base} layout old new f step found got fits is made =
     let all = both layout old new f step found got fits is made in
-    (all.0, λ after result follows. (subst (Fits layout new) (sym follows.after_is) (all.1 follows.spare follows.room), ap (λ (x : Fault). x.who.cpu) follows.after_is))
+    (all.0, λ after result follows. (subst (FitsFrom base layout new) (sym follows.after_is) (all.1 follows.spare follows.room), ap (λ (x : Fault). x.who.cpu) follows.after_is))
 
 -- ---- before it and after it
 
-pub begins : {layout : Layout} {view : View} {who : Who} {page : Page} {slot : VSlot} {touch : Touch} → IsOnTurn view who → page.0 < length layout.pages → IsOf layout page slot → IsTouch layout slot touch → hand_of view ≡ empty
-    → HasOnly (Precedes page slot touch.line) view who → Fits layout view (begin who page slot touch)
+-- the law of the task, whatever its command had made before
+pub law : IsTask fault-task
+law = record {
+  can = λ layout view s step fits is. can layout view s step fits.1 is;
+  stays = λ layout old new s step found got fits is made. let all = stays layout old new s step found got fits.1 is made in (all.0, λ after turn follows. let kept = all.1 after turn follows in ((fits.0, kept.0), kept.1));
+}
+
+pub begins : {base : List Made} {layout : Layout} {view : View} {who : Who} {page : Page} {slot : VSlot} {touch : Touch} → IsOnTurn view who → page.0 < length layout.pages → IsOf layout page slot → IsTouch layout slot touch → hand_of view ≡ empty
+    → HasOnlyBeside base (Precedes page slot touch.line) view who → FitsFrom base layout view (begin who page slot touch)
 begins on inside of names none only = record {
   on_turn = on;
   page = inside;
@@ -464,7 +473,7 @@ begins on inside of names none only = record {
 }
 
 -- when it is over nothing is held, and the command saw why
-pub over-fits : {layout : Layout} {view : View} (f : Fault) → is_none (plan f) ≡ true → Fits layout view f → FitsOver layout view f.who f.page (answer f)
+pub over-fits : {base : List Made} {layout : Layout} {view : View} (f : Fault) → is_none (plan f) ≡ true → FitsFrom base layout view f → FitsOver layout view f.who f.page (answer f)
 over-fits {layout} {view} f over fits = which f.at over fits.at
   where
     which : (x : FaultAt) → is_none (plan_at f.page f.slot f.touch x) ≡ true → FitsAt layout view f.who f.page f.slot f.touch x → FitsOver layout view f.who f.page (answer_at x)
@@ -478,11 +487,11 @@ over-fits {layout} {view} f over fits = which f.at over fits.at
     which (at.Over answer) over has = has
 
 -- and what it has made
-pub over-made : {layout : Layout} {view : View} (f : Fault) (x : FaultAnswer) → answer f ≡ Some x → Fits layout view f → MadeAt view f.who f.page f.slot f.touch (at.Over (Some x))
-over-made {layout} {view} f x is fits = which f.at is fits.made
+pub over-made : {base : List Made} {layout : Layout} {view : View} (f : Fault) (x : FaultAnswer) → answer f ≡ Some x → FitsFrom base layout view f → MadeAt base view f.who f.page f.slot f.touch (at.Over (Some x))
+over-made {base} {layout} {view} f x is fits = which f.at is fits.made
   where
-    which : (y : FaultAt) → answer_at y ≡ Some x → MadeAt view f.who f.page f.slot f.touch y → MadeAt view f.who f.page f.slot f.touch (at.Over (Some x))
-    which (at.Over a) e made = subst (λ (o : Option FaultAnswer). MadeAt view f.who f.page f.slot f.touch (at.Over o)) e made
+    which : (y : FaultAt) → answer_at y ≡ Some x → MadeAt base view f.who f.page f.slot f.touch y → MadeAt base view f.who f.page f.slot f.touch (at.Over (Some x))
+    which (at.Over a) e made = subst (λ (o : Option FaultAnswer). MadeAt base view f.who f.page f.slot f.touch (at.Over o)) e made
     which (at.Hold h) e made = absurd (none-some x e)
     which (at.LoadPte frame body) e made = absurd (none-some x e)
     which (at.Kill frame body place) e made = absurd (none-some x e)
@@ -519,7 +528,7 @@ fill-tells layout view f fits on = which f.at fits.at on
     which (fill_at.SetCache frame) has on = frame-tells view
     which (fill_at.Over frame) has on = absurd (both_ways true on refl)
 
-pub tells : (layout : Layout) (view : View) (f : Fault) → Fits layout view f → (HasFrame view → (class f ≡ 1) × (plan f ≢ None)) × (HasPage view → (class f ≤ 2) × (plan f ≢ None))
+pub tells : {base : List Made} (layout : Layout) (view : View) (f : Fault) → FitsFrom base layout view f → (HasFrame view → (class f ≡ 1) × (plan f ≢ None)) × (HasPage view → (class f ≤ 2) × (plan f ≢ None))
 tells layout view f fits = which f.at fits.at
   where
     nothing : hand_of view ≡ empty → (class : ℕ) (planned : Option Step) → (HasFrame view → (class ≡ 1) × (planned ≢ None)) × (HasPage view → (class ≤ 2) × (planned ≢ None))

@@ -1,5 +1,5 @@
 -- An access: the task's states, its steps and what they come to.
-use Rattle.std.specs.Prelude.{◌≡◌, ℕ, ◌+◌, ◌-◌, ◌^◌, ◌<◌, ◌≤◌, ◌==◌, Bool, true, false, not, bit_and, cond, [], ◌∷◌, ◌++◌, Option, Some, None, is_some, is_none, length, slice_get, slice_index, IsBitSet, IsTrue}
+use Rattle.std.specs.Prelude.{◌≡◌, ℕ, ◌+◌, ◌-◌, ◌^◌, ◌<◌, ◌≤◌, ◌==◌, Bool, true, false, not, bit_and, cond, List, [], ◌∷◌, ◌++◌, Option, Some, None, is_some, is_none, length, slice_get, slice_index, IsBitSet, IsTrue}
 use Rattle.std.specs.FinSet as set
 use Rattle.hwp_page.specs.hwp_geom.declared.Frame.{Frame}
 use Rattle.hwp_page.specs.hwp_geom.declared.Layout.{Layout}
@@ -21,6 +21,7 @@ use Rattle.hwp_core.specs.hwp_words.Frames.{is_locked}
 use Rattle.hwp_core.specs.hwp_words.Names.{page_named}
 use Rattle.hwp_core.specs.hwp_words.Stops.{is_stopped}
 use Rattle.hwp_core.specs.hwp_core_rule.declared.InHand.{InHand}
+use Rattle.hwp_core.specs.hwp_core_rule.declared.Made.{Made}
 use Rattle.hwp_core.specs.hwp_core_rule.declared.SharedWord.TheVariants as places
 use Rattle.hwp_core.specs.hwp_core_rule.declared.Step.{Step}
 use Rattle.hwp_core.specs.hwp_core_rule.declared.Step.TheVariants as steps
@@ -33,7 +34,7 @@ use Rattle.hwp_core.specs.hwp_core_task.declared.Turn.TheVariants.{Moved, Waits}
 use Rattle.hwp_core.specs.hwp_core_task.Calls.{IsOnTurn}
 use Rattle.hwp_core.specs.hwp_core_task.Hands.{hand_of, empty, body_in}
 use Rattle.hwp_core.specs.hwp_core_task.Ranks.{stale}
-use Rattle.hwp_core.specs.hwp_core_task.Known.{Saw, SawStop, HasMadeNone, Precedes, HasOnly, HasMade}
+use Rattle.hwp_core.specs.hwp_core_task.Known.{Saw, SawStop, HasMadeNoneBeside, Precedes, HasOnlyBeside, HasMadeBeside}
 use Rattle.hwp_core.specs.hwp_core_task.Pages.{SawState}
 use Rattle.hwp_core.specs.hwp_core_task.Turns.{Member}
 use Rattle.hwp_core.specs.declared.GiveUp.{GiveUp}
@@ -296,40 +297,40 @@ answer a = answer_at a.at
 -- ---- what the command knows and has made
 
 -- so far it has made only entries that may stand before its answer, and the process goes on
-pub record GoesOn (a : Request) (view : View) : Type 0 where
+pub record GoesOn (base : List Made) (a : Request) (view : View) : Type 0 where
   pub alive : Saw view a.who (places.Process a.process) 0
-  pub only : HasOnly (Precedes a.page a.slot a.line) view a.who
+  pub only : HasOnlyBeside base (Precedes a.page a.slot a.line) view a.who
 
 -- the entry of a load of this word, or of a store, is the last one that the command made
-pub record HasReached (a : Request) (view : View) (word place : ℕ) : Type 0 where
+pub record HasReached (base : List Made) (a : Request) (view : View) (word place : ℕ) : Type 0 where
   pub alive : Saw view a.who (places.Process a.process) 0
   pub mask : ℕ
   pub good : ¬ IsBitSet mask a.line
-  pub made : HasMade (Precedes a.page a.slot a.line) view a.who a.page place (what_of a mask word)
+  pub made : HasMadeBeside base (Precedes a.page a.slot a.line) view a.who a.page place (what_of a mask word)
 
 -- the entry that the line was bad in this frame, as a step of the command showed, is the last one that the command made
-pub record HasChecked (layout : Layout) (a : Request) (view : View) (frame : Frame) (place : ℕ) : Type 0 where
+pub record HasChecked (base : List Made) (layout : Layout) (a : Request) (view : View) (frame : Frame) (place : ℕ) : Type 0 where
   pub alive : Saw view a.who (places.Process a.process) 0
   pub mask : ℕ
   pub bad : IsBitSet mask a.line
   pub saw : Saw view a.who (places.Bad frame) mask
   pub within : frame.0 < layout.frames
-  pub made : HasMade (Precedes a.page a.slot a.line) view a.who a.page place (check_of a mask)
+  pub made : HasMadeBeside base (Precedes a.page a.slot a.line) view a.who a.page place (check_of a mask)
 
 -- the entry that the access was answered by SIGBUS is the last one that the command made
-pub record HasRefusal (a : Request) (view : View) (place : ℕ) : Type 0 where
+pub record HasRefusal (base : List Made) (a : Request) (view : View) (place : ℕ) : Type 0 where
   pub alive : Saw view a.who (places.Process a.process) 0
-  pub made : HasMade (Precedes a.page a.slot a.line) view a.who a.page place (refusal a.slot (touch_of a))
+  pub made : HasMadeBeside base (Precedes a.page a.slot a.line) view a.who a.page place (refusal a.slot (touch_of a))
 
 -- each answer rests on what the command was shown, and on the entry that it made
-abbrev pub Answered : Layout → View → Request → AccessAnswer → Type 0
-Answered layout view a (answers.Value word place) = (a.kind ≡ kinds.Load) × (place.page ≡ a.page) × HasReached a view word place.entry
-Answered layout view a (answers.Stored place) = (stored : ℕ) × (a.kind ≡ kinds.Store stored) × (place.page ≡ a.page) × HasReached a view stored place.entry
-Answered layout view a (answers.Checked frame place) = (place.page ≡ a.page) × HasChecked layout a view frame place.entry
-Answered layout view a (answers.Sigbus place) = (place.page ≡ a.page) × HasRefusal a view place.entry
-Answered layout view a answers.NoFrame = GoesOn a view × Saw view a.who places.Available 0 × (place : ℕ) × SawState layout view a.who a.page place IsAway
-Answered layout view a (answers.Gone page) = Saw view a.who (places.Process a.process) (page.0 + 1) × HasOnly (Precedes a.page a.slot a.line) view a.who
-Answered layout view a answers.Stopped = SawStop view a.who × HasMadeNone view a.who
+abbrev pub Answered : List Made → Layout → View → Request → AccessAnswer → Type 0
+Answered base layout view a (answers.Value word place) = (a.kind ≡ kinds.Load) × (place.page ≡ a.page) × HasReached base a view word place.entry
+Answered base layout view a (answers.Stored place) = (stored : ℕ) × (a.kind ≡ kinds.Store stored) × (place.page ≡ a.page) × HasReached base a view stored place.entry
+Answered base layout view a (answers.Checked frame place) = (place.page ≡ a.page) × HasChecked base layout a view frame place.entry
+Answered base layout view a (answers.Sigbus place) = (place.page ≡ a.page) × HasRefusal base a view place.entry
+Answered base layout view a answers.NoFrame = GoesOn base a view × Saw view a.who places.Available 0 × (place : ℕ) × SawState layout view a.who a.page place IsAway
+Answered base layout view a (answers.Gone page) = Saw view a.who (places.Process a.process) (page.0 + 1) × HasOnlyBeside base (Precedes a.page a.slot a.line) view a.who
+Answered base layout view a answers.Stopped = SawStop view a.who × HasMadeNoneBeside base view a.who
 
 -- ---- what is held
 
@@ -349,15 +350,15 @@ HasLocked layout view frame None = unlocks.HoldsEmptyFrame layout view frame
 HasLocked layout view frame (Some body) = HasTaken layout view frame body
 
 -- the translation leads to the frame, in which the page's body was, and there is room for the entry
-pub record IsReady (layout : Layout) (view : View) (a : Request) (frame : Frame) (body : BodyValue) : Type 0 where
+pub record IsReady (base : List Made) (layout : Layout) (view : View) (a : Request) (frame : Frame) (body : BodyValue) : Type 0 where
   pub taken : HasTaken layout view frame body
   pub page_is : body.page ≡ a.page
   pub used : IsTrue (set.contains body.state.maps a.slot.0)
   pub spare : 1 ≤ body.spare
-  pub on : GoesOn a view
+  pub on : GoesOn base a view
 
 -- the body goes home with the entry; once it is home, the command has made it
-pub record IsReached (layout : Layout) (view : View) (a : Request) (frame : Frame) (body : BodyValue) (answer : AccessAnswer) : Type 0 where
+pub record IsReached (base : List Made) (layout : Layout) (view : View) (a : Request) (frame : Frame) (body : BodyValue) (answer : AccessAnswer) : Type 0 where
   pub before : BodyValue
   pub mask : ℕ
   pub taken : HasTaken layout view frame before
@@ -365,71 +366,71 @@ pub record IsReached (layout : Layout) (view : View) (a : Request) (frame : Fram
   pub saw : Saw view a.who (places.Bad frame) mask
   pub body_is : body ≡ reached a mask before
   pub answer_is : answer ≡ reply a frame mask before
-  pub on : GoesOn a view
+  pub on : GoesOn base a view
 
-abbrev pub HasToList : Layout → View → Request → Frame → Option BodyValue → AccessAnswer → Type 0
-HasToList layout view a frame None answer = ⊥
-HasToList layout view a frame (Some body) answer = IsReached layout view a frame body answer
+abbrev pub HasToList : List Made → Layout → View → Request → Frame → Option BodyValue → AccessAnswer → Type 0
+HasToList base layout view a frame None answer = ⊥
+HasToList base layout view a frame (Some body) answer = IsReached base layout view a frame body answer
 
 -- a frame that is let go for another look holds what it held when it was taken
 abbrev pub HoldsStill : Layout → View → UnlockAt → Type 0
 HoldsStill layout view (unlock_at.UnlockFrame frame body) = HasLocked layout view frame body
 HoldsStill layout view _ = Unit {0}
 
-abbrev pub HoldsReached : Layout → View → Request → UnlockAt → AccessAnswer → Type 0
-HoldsReached layout view a (unlock_at.UnlockFrame frame body) answer = HasToList layout view a frame body answer
-HoldsReached layout view a _ answer = Answered layout view a answer
+abbrev pub HoldsReached : List Made → Layout → View → Request → UnlockAt → AccessAnswer → Type 0
+HoldsReached base layout view a (unlock_at.UnlockFrame frame body) answer = HasToList base layout view a frame body answer
+HoldsReached base layout view a _ answer = Answered base layout view a answer
 
-abbrev pub FitsThen : Layout → View → Request → UnlockAt → Option AccessAnswer → Type 0
-FitsThen layout view a x None = GoesOn a view × HoldsStill layout view x
-FitsThen layout view a x (Some answer) = HoldsReached layout view a x answer
+abbrev pub FitsThen : List Made → Layout → View → Request → UnlockAt → Option AccessAnswer → Type 0
+FitsThen base layout view a x None = GoesOn base a view × HoldsStill layout view x
+FitsThen base layout view a x (Some answer) = HoldsReached base layout view a x answer
 
 -- ---- what fits
 
 -- nothing is held, and no entry is made
-pub record IsBegun (view : View) (a : Request) : Type 0 where
+pub record IsBegun (base : List Made) (view : View) (a : Request) : Type 0 where
   pub hand_is : hand_of view ≡ empty
-  pub none : HasMadeNone view a.who
+  pub none : HasMadeNoneBeside base view a.who
 
 -- nothing is held, and no other entry is made but such as may stand before the answer
-pub record IsAnew (view : View) (a : Request) : Type 0 where
+pub record IsAnew (base : List Made) (view : View) (a : Request) : Type 0 where
   pub hand_is : hand_of view ≡ empty
-  pub only : HasOnly (Precedes a.page a.slot a.line) view a.who
+  pub only : HasOnlyBeside base (Precedes a.page a.slot a.line) view a.who
 
 -- nothing is held, and the process goes on
-pub record IsLooking (view : View) (a : Request) : Type 0 where
+pub record IsLooking (base : List Made) (view : View) (a : Request) : Type 0 where
   pub hand_is : hand_of view ≡ empty
-  pub on : GoesOn a view
+  pub on : GoesOn base a view
 
 -- a reference to the frame is on its way
-pub record IsPinning (layout : Layout) (view : View) (a : Request) (p : Pin) : Type 0 where
+pub record IsPinning (base : List Made) (layout : Layout) (view : View) (a : Request) (p : Pin) : Type 0 where
   pub hand_is : hand_of view ≡ empty
   pub pin : pins.Fits layout view p
   pub own : p.who ≡ a.who
   pub under_way : is_none (pins.plan p) ≡ false
-  pub on : GoesOn a view
+  pub on : GoesOn base a view
 
 -- it is taken
-pub record IsPinned (layout : Layout) (view : View) (a : Request) (frame : Frame) : Type 0 where
+pub record IsPinned (base : List Made) (layout : Layout) (view : View) (a : Request) (frame : Frame) : Type 0 where
   pub hand_is : hand_of view ≡ record empty { refs = one_ref frame }
   pub within : frame.0 < layout.frames
-  pub on : GoesOn a view
+  pub on : GoesOn base a view
 
 -- and the frame is locked
-pub record IsLocked (layout : Layout) (view : View) (a : Request) (frame : Frame) (body : Option BodyValue) : Type 0 where
+pub record IsLocked (base : List Made) (layout : Layout) (view : View) (a : Request) (frame : Frame) (body : Option BodyValue) : Type 0 where
   pub locked : HasLocked layout view frame body
-  pub on : GoesOn a view
+  pub on : GoesOn base a view
 
 -- the frame is let go
-pub record IsUnlocking (layout : Layout) (view : View) (a : Request) (u : Unlock) (then : Option AccessAnswer) : Type 0 where
+pub record IsUnlocking (base : List Made) (layout : Layout) (view : View) (a : Request) (u : Unlock) (then : Option AccessAnswer) : Type 0 where
   pub unlock : unlocks.Fits layout view u
   pub own : u.who ≡ a.who
   pub under_way : is_none (unlocks.plan u) ≡ false
-  pub goal : FitsThen layout view a u.at then
+  pub goal : FitsThen base layout view a u.at then
 
 -- the page is being brought in
-pub record IsFaulting (layout : Layout) (view : View) (a : Request) (f : Fault) : Type 0 where
-  pub fault : faults.Fits layout view f
+pub record IsFaulting (base : List Made) (layout : Layout) (view : View) (a : Request) (f : Fault) : Type 0 where
+  pub fault : faults.FitsFrom base layout view f
   pub own : f.who ≡ a.who
   pub page_is : f.page ≡ a.page
   pub slot_is : f.slot ≡ a.slot
@@ -450,22 +451,22 @@ pub record IsGivingUp (layout : Layout) (view : View) (a : Request) (g : GiveUp)
   pub still : (body : BodyValue) → give_ups.put g ≡ Some body → (taken : InHand) × (body_of body.page view ≡ Some taken) × (more_of taken (log_of body) ≡ [])
 
 -- nothing is held any more, and the answer has its cause
-pub record IsAnswered (layout : Layout) (view : View) (a : Request) (answer : AccessAnswer) : Type 0 where
+pub record IsAnswered (base : List Made) (layout : Layout) (view : View) (a : Request) (answer : AccessAnswer) : Type 0 where
   pub hand_is : hand_of view ≡ empty
-  pub answered : Answered layout view a answer
+  pub answered : Answered base layout view a answer
 
-abbrev pub FitsAt : Layout → View → Request → AccessAt → Type 0
-FitsAt layout view a at.LoadStop = IsBegun view a
-FitsAt layout view a at.LoadProcess = IsAnew view a
-FitsAt layout view a at.LoadTranslation = IsLooking view a
-FitsAt layout view a (at.Pin p) = IsPinning layout view a p
-FitsAt layout view a (at.LockFrame frame) = IsPinned layout view a frame
-FitsAt layout view a (at.LoadAgain frame body) = IsLocked layout view a frame body
-FitsAt layout view a (at.LoadBad frame body) = IsReady layout view a frame body
-FitsAt layout view a (at.Unlock u then) = IsUnlocking layout view a u then
-FitsAt layout view a (at.Fault f) = IsFaulting layout view a f
-FitsAt layout view a (at.GiveUp g) = IsGivingUp layout view a g
-FitsAt layout view a (at.Over answer) = IsAnswered layout view a answer
+abbrev pub FitsAt : List Made → Layout → View → Request → AccessAt → Type 0
+FitsAt base layout view a at.LoadStop = IsBegun base view a
+FitsAt base layout view a at.LoadProcess = IsAnew base view a
+FitsAt base layout view a at.LoadTranslation = IsLooking base view a
+FitsAt base layout view a (at.Pin p) = IsPinning base layout view a p
+FitsAt base layout view a (at.LockFrame frame) = IsPinned base layout view a frame
+FitsAt base layout view a (at.LoadAgain frame body) = IsLocked base layout view a frame body
+FitsAt base layout view a (at.LoadBad frame body) = IsReady base layout view a frame body
+FitsAt base layout view a (at.Unlock u then) = IsUnlocking base layout view a u then
+FitsAt base layout view a (at.Fault f) = IsFaulting base layout view a f
+FitsAt base layout view a (at.GiveUp g) = IsGivingUp layout view a g
+FitsAt base layout view a (at.Over answer) = IsAnswered base layout view a answer
 
 -- the names are of the layout: the thread and the translation are of the process, and the translation is of the page
 pub record IsDeclared (layout : Layout) (a : Request) : Type 0 where
@@ -480,11 +481,15 @@ pub record IsDeclared (layout : Layout) (a : Request) : Type 0 where
   pub thread_of : thread.process ≡ a.process
   pub line : a.line < line_limit
 
--- the processor holds nothing at first and in the end
-pub record Fits (layout : Layout) (view : View) (a : Access) : Type 0 where
+-- the processor holds nothing at first and in the end, and the command had made these entries before the access
+pub record FitsFrom (base : List Made) (layout : Layout) (view : View) (a : Access) : Type 0 where
   pub on_turn : IsOnTurn view a.request.who
   pub names : IsDeclared layout a.request
-  pub at : FitsAt layout view a.request a.at
+  pub at : FitsAt base layout view a.request a.at
+
+-- whatever entries those are
+abbrev pub Fits : Layout → View → Access → Type 0
+Fits layout view a = (base : List Made) × FitsFrom base layout view a
 
 -- ---- the rank
 

@@ -1,6 +1,6 @@
 -- A page brought in, and a translation of it into use, or the access refused: the task's states, its steps and what they
 -- come to.
-use Rattle.std.specs.Prelude.{◌≡◌, ◌⊎◌, ℕ, ◌+◌, ◌<◌, ◌≤◌, Bool, true, false, cond, [], ◌∷◌, Option, Some, None, is_some, is_none, length, slice_index}
+use Rattle.std.specs.Prelude.{◌≡◌, ◌⊎◌, ℕ, ◌+◌, ◌<◌, ◌≤◌, Bool, true, false, cond, List, [], ◌∷◌, Option, Some, None, is_some, is_none, length, slice_index}
 use Rattle.std.specs.FinSet as set
 use Rattle.hwp_page.specs.hwp_geom.declared.Frame.{Frame}
 use Rattle.hwp_page.specs.hwp_geom.declared.Layout.{Layout}
@@ -17,6 +17,7 @@ use Rattle.hwp_core.specs.hwp_words.declared.Pte.{Pte}
 use Rattle.hwp_core.specs.hwp_words.declared.Pte.TheVariants as ptes
 use Rattle.hwp_core.specs.hwp_words.Translations.{pte_reading}
 use Rattle.hwp_core.specs.hwp_core_rule.declared.InHand.{InHand}
+use Rattle.hwp_core.specs.hwp_core_rule.declared.Made.{Made}
 use Rattle.hwp_core.specs.hwp_core_rule.declared.SharedWord.TheVariants as places
 use Rattle.hwp_core.specs.hwp_core_rule.declared.Step.{Step}
 use Rattle.hwp_core.specs.hwp_core_rule.declared.Step.TheVariants as steps
@@ -30,7 +31,7 @@ use Rattle.hwp_core.specs.hwp_core_task.declared.Turn.TheVariants.{Moved}
 use Rattle.hwp_core.specs.hwp_core_task.Calls.{IsOnTurn}
 use Rattle.hwp_core.specs.hwp_core_task.Hands.{hand_of, empty}
 use Rattle.hwp_core.specs.hwp_core_task.Ranks.{stale, stale_weight}
-use Rattle.hwp_core.specs.hwp_core_task.Known.{Saw, SawLog, HasOnly, HasMade, Precedes}
+use Rattle.hwp_core.specs.hwp_core_task.Known.{Saw, SawLog, HasOnlyBeside, HasMadeBeside, Precedes}
 use Rattle.hwp_core.specs.hwp_core_task.Pages.{SawState}
 use Rattle.hwp_core.specs.hwp_core_task.Turns.{Member}
 use Rattle.hwp_fault_fill.specs.declared.Fill.{Fill}
@@ -360,8 +361,8 @@ FitsAt layout view who page slot touch (at.Over answer) = FitsOver layout view w
 
 -- the command has made no entries but those that may stand before its answer; and the body that goes home has that of the refusal
 -- more
-pub record HasToList (view : View) (who : Who) (page : Page) (slot : VSlot) (touch : Touch) (put : Option BodyValue) (place : ℕ) : Type 0 where
-  pub only : HasOnly (Precedes page slot touch.line) view who
+pub record HasToList (base : List Made) (view : View) (who : Who) (page : Page) (slot : VSlot) (touch : Touch) (put : Option BodyValue) (place : ℕ) : Type 0 where
+  pub only : HasOnlyBeside base (Precedes page slot touch.line) view who
   pub body : BodyValue
   pub put_is : put ≡ Some body
   pub taken : InHand
@@ -371,24 +372,29 @@ pub record HasToList (view : View) (who : Who) (page : Page) (slot : VSlot) (tou
   pub place_is : length taken.log.entries ≡ place
 
 -- the command has made the entry of the refusal, and a body that goes home has none more
-pub record HasListed (view : View) (who : Who) (page : Page) (slot : VSlot) (touch : Touch) (put : Option BodyValue) (place : ℕ) : Type 0 where
-  pub made : HasMade (Precedes page slot touch.line) view who page place (refusal slot touch)
+pub record HasListed (base : List Made) (view : View) (who : Who) (page : Page) (slot : VSlot) (touch : Touch) (put : Option BodyValue) (place : ℕ) : Type 0 where
+  pub made : HasMadeBeside base (Precedes page slot touch.line) view who page place (refusal slot touch)
   pub rest : (body : BodyValue) → put ≡ Some body → (taken : InHand) × (body_of body.page view ≡ Some taken) × (more_of taken (log_of body) ≡ [])
 
 -- what the command has made: entries that may stand before its answer; and then, where the access was refused, the one that it was
-abbrev pub MadeAt : View → Who → Page → VSlot → Touch → FaultAt → Type 0
-MadeAt view who page slot touch (at.Unhold u (answers.Sigbus place)) = HasToList view who page slot touch (unholds.put u) place.entry ⊎ HasListed view who page slot touch (unholds.put u) place.entry
-MadeAt view who page slot touch (at.Over (Some (answers.Sigbus place))) = HasMade (Precedes page slot touch.line) view who page place.entry (refusal slot touch)
-MadeAt view who page slot touch _ = HasOnly (Precedes page slot touch.line) view who
+abbrev pub MadeAt : List Made → View → Who → Page → VSlot → Touch → FaultAt → Type 0
+MadeAt base view who page slot touch (at.Unhold u (answers.Sigbus place)) = HasToList base view who page slot touch (unholds.put u) place.entry ⊎ HasListed base view who page slot touch (unholds.put u) place.entry
+MadeAt base view who page slot touch (at.Over (Some (answers.Sigbus place))) = HasMadeBeside base (Precedes page slot touch.line) view who page place.entry (refusal slot touch)
+MadeAt base view who page slot touch _ = HasOnlyBeside base (Precedes page slot touch.line) view who
 
--- The processor holds nothing at first and in the end. The translation is one of the page, and the names are of the layout.
-pub record Fits (layout : Layout) (view : View) (f : Fault) : Type 0 where
+-- The processor holds nothing at first and in the end. The translation is one of the page, the names are of the layout, and the
+-- command had made these entries before the access.
+pub record FitsFrom (base : List Made) (layout : Layout) (view : View) (f : Fault) : Type 0 where
   pub on_turn : IsOnTurn view f.who
   pub page : f.page.0 < length layout.pages
   pub slot : IsOf layout f.page f.slot
   pub touch : IsTouch layout f.slot f.touch
-  pub made : MadeAt view f.who f.page f.slot f.touch f.at
+  pub made : MadeAt base view f.who f.page f.slot f.touch f.at
   pub at : FitsAt layout view f.who f.page f.slot f.touch f.at
+
+-- whatever entries those are
+abbrev pub Fits : Layout → View → Fault → Type 0
+Fits layout view f = (base : List Made) × FitsFrom base layout view f
 
 abbrev pub class_at : FaultAt → ℕ
 class_at (at.Hold h) = holds.class h

@@ -1,5 +1,5 @@
 use Rattle.hwp_fault.proofs.fault.FaultTask.who.Goals as goal
-use Rattle.hwp_fault.proofs.FaultLaws.{can, stays}
+use Rattle.hwp_fault.proofs.FaultLaws.{law}
 
 pub returns-clause-law : goal.returns-clause-law
-returns-clause-law c = record { can = can; stays = stays }
+returns-clause-law c = law
