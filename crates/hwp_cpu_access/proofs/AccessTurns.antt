@@ -131,11 +131,11 @@ module _ {layout : Layout} {seat : ℕ} {a b : State} {s t : Access} {turn : Tur
   look-plain frame body e looks = which (leads_to frame made.found) refl body looks
     where
       there : slice_get w.trans r.slot.0 ≡ Some made.found
-      there = slice_get-get_or w.trans r.slot.0 0 (subst (λ (n : ℕ). r.slot.0 < n) (sym (shaped layout a made.rule).trans) (slot-within layout r made.fits.names)) ∙ ap Some (met-own w made.found e (met made))
+      there = slice_get-get_or w.trans r.slot.0 0 (subst (λ (n : ℕ). r.slot.0 < n) (sym (shaped layout a made.rule).trans) (slot-within layout r made.fits.1.names)) ∙ ap Some (met-own w made.found e (met made))
 
       ready : leads_to frame made.found ≡ true → (x : BodyValue) (y : AccessAt) → Prepares r frame x y → IsPlain y now
       ready leads x (at.LoadBad of b) is = ap (λ (f : Frame). past_cost (word_of f now)) is.0 ∙ ap (λ (n : Words). past_cost (word_of frame n)) (load-kept e)
-          ∙ none-past layout a made.rule r.slot made.fits.names.decl made.fits.names.declared made.found there frame (named-now frame made.found leads)
+          ∙ none-past layout a made.rule r.slot made.fits.1.names.decl made.fits.1.names.declared made.found there frame (named-now frame made.found leads)
       ready leads x (at.GiveUp g) is = refl
       ready leads x at.LoadStop is = absurd is
       ready leads x at.LoadProcess is = absurd is
@@ -172,7 +172,7 @@ module _ {layout : Layout} {seat : ℕ} {a b : State} {s t : Access} {turn : Tur
       most false = let none : check_cost (at.Unlock (unlocks.begin r.who frame (Some (reached r made.found body))) (Some (reply_by r.kind (word_in r body) (place_in r body)))) now ≡ 0 = by-kind r.kind (unlocks.begin r.who frame (Some (reached r made.found body))) in omega (arith, none)
 
   -- the frame let go
-  unlock-lowers : (u : Unlock) (then : Option AccessAnswer) → s.at ≡ at.Unlock u then → FitsAt layout (view_of a seat) r (at.Unlock u then) → unlocks.plan u ≡ Some made.step → Next_to (at.Unlock u then) → OwnFalls → Lowers
+  unlock-lowers : (u : Unlock) (then : Option AccessAnswer) → s.at ≡ at.Unlock u then → FitsAt made.fits.0 layout (view_of a seat) r (at.Unlock u then) → unlocks.plan u ≡ Some made.step → Next_to (at.Unlock u then) → OwnFalls → Lowers
   unlock-lowers u then own has e next goes = which then own next.0
     where
       after : Unlock
@@ -213,12 +213,12 @@ module _ {layout : Layout} {seat : ℕ} {a b : State} {s t : Access} {turn : Tur
           was = ap (λ (x : AccessAt). check_cost x w) at_is
 
   pub access-lowers : OwnFalls → Lowers
-  access-lowers goes = which s.at refl made.fits.at made.planned made.follows.at
+  access-lowers goes = which s.at refl made.fits.1.at made.planned made.follows.at
     where
       by-next : (y : AccessAt) → t.at ≡ y → IsPlain y now → Lowers
       by-next y is plain = plainly goes (ap (λ (x : AccessAt). check_cost x now) is ∙ plain)
 
-      which : (x : AccessAt) → s.at ≡ x → FitsAt layout (view_of a seat) r x → plan_at r x ≡ Some made.step → Next_to x → Lowers
+      which : (x : AccessAt) → s.at ≡ x → FitsAt made.fits.0 layout (view_of a seat) r x → plan_at r x ≡ Some made.step → Next_to x → Lowers
       which at.LoadStop own has e next = by-next (at_start made.found) next.0 (start-plain made.found now)
       which at.LoadProcess own has e next = by-next (after_process (page_named made.found)) next.0 (process-plain (page_named made.found) now)
       which at.LoadTranslation own has e next = by-next (leading r (frame_in made.found)) next.0 (leading-plain r (frame_in made.found) now)

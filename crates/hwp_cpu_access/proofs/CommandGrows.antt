@@ -23,14 +23,14 @@ use Rattle.hwp_fault.specs.hwp_core_rule.declared.SharedWord.{SharedWord}
 use Rattle.hwp_fault.specs.hwp_core_rule.declared.Step.{Step}
 use Rattle.hwp_fault.specs.hwp_core_rule.declared.Step.TheVariants as steps
 use Rattle.hwp_fault.specs.hwp_core_rule.declared.View.{View}
-use Rattle.hwp_fault.specs.hwp_core_rule.Lists.{EachMember, SomeMember}
+use Rattle.hwp_fault.specs.hwp_core_rule.Lists.{SomeMember}
 use Rattle.hwp_fault.specs.hwp_core_rule.Logs.{log_of}
 use Rattle.hwp_fault.specs.hwp_core_rule.Views.{body_of, killed_by, listed, listed_of, noted, put_home, sighted}
 use Rattle.hwp_fault.specs.hwp_core_rule.declared.SharedWord.TheVariants as places
 use Rattle.hwp_fault.proofs.of_hwp_core_rule.Lists.{at_longer, each-push}
 use Rattle.hwp_fault.specs.hwp_core_task.Calls.{Steps, logs}
-use Rattle.hwp_fault.specs.hwp_core_task.Known.{HasMade, HasOnly, IsOnTheWay, Precedes, Saw, deeds, is_by, is_failure}
-use Rattle.hwp_fault.proofs.of_hwp_core_task.MadeEntries.{made-kept}
+use Rattle.hwp_fault.specs.hwp_core_task.Known.{HasMadeBeside, HasOnlyBeside, IsOnTheWay, Precedes, Saw, deeds, is_by, is_failure}
+use Rattle.hwp_fault.proofs.of_hwp_core_task.MadeEntries.{made-kept, only-beside-more, only-beside-stays, only-of-made}
 use Rattle.hwp_fault.proofs.of_hwp_core_task.SightKeeps.{saw-stays}
 use Rattle.hwp_cpu_check.specs.hwp_claim_act.declared.Failed.{Failed}
 use Rattle.hwp_cpu_check.specs.hwp_claim_act.Abandoned.{AddsFailure, failed_in, failed_of}
@@ -167,15 +167,13 @@ count-kept who old new (inr some) =
     omega (arith, now, more)
 
 -- the entries that a failure adds may stand before the one that answers the command
-pub only-kept : (a : Request) (old new : View) {before after : List Failed} → AddsFailure a.who old new before after → HasOnly (Precedes a.page a.slot a.line) old a.who → HasOnly (Precedes a.page a.slot a.line) new a.who
-only-kept a old new (inl none) only = subst (EachMember (Precedes a.page a.slot a.line)) (sym none.0) only
-only-kept a old new (inr some) only =
-    subst (EachMember (Precedes a.page a.slot a.line)) (sym some.2) (each-push (Precedes a.page a.slot a.line) (deeds a.who old) some.0 (inr (failed-is some.0 some.1 some.3).0) only)
+pub only-kept : {base : List Made} (a : Request) (old new : View) {before after : List Failed} → AddsFailure a.who old new before after → HasOnlyBeside base (Precedes a.page a.slot a.line) old a.who → HasOnlyBeside base (Precedes a.page a.slot a.line) new a.who
+only-kept a old new (inl none) only = only-beside-stays a.who old new none.0 only
+only-kept a old new (inr some) only = only-beside-more a.who old new (some.0 ∷ []) some.2 (each-push (Precedes a.page a.slot a.line) [] some.0 (inr (failed-is some.0 some.1 some.3).0) (λ i m there. absurd (none-some m there))) only
 
 -- so may the entry of a machine check
-pub only-checked : (a : Request) (view : View) (place mask : ℕ) → HasMade (Precedes a.page a.slot a.line) view a.who a.page place (check_of a mask) → HasOnly (Precedes a.page a.slot a.line) view a.who
-only-checked a view place mask has = subst (EachMember (Precedes a.page a.slot a.line)) (sym has.all)
-    (each-push (Precedes a.page a.slot a.line) has.before has.last (inl (has.at.0, subst (IsOnTheWay a.slot a.line) (sym has.at.2) (refl, refl))) has.such)
+pub only-checked : {base : List Made} (a : Request) (view : View) (place mask : ℕ) → HasMadeBeside base (Precedes a.page a.slot a.line) view a.who a.page place (check_of a mask) → HasOnlyBeside base (Precedes a.page a.slot a.line) view a.who
+only-checked a view place mask has = only-of-made view a.who has (inl (has.at.0, subst (IsOnTheWay a.slot a.line) (sym has.at.2) (refl, refl)))
 
 -- ---- the failures among entries
 

@@ -23,9 +23,9 @@ use Rattle.hwp_fault.specs.hwp_core_task.Hands.{hand_of, empty}
 use Rattle.hwp_fault.proofs.of_hwp_core_task.StepLeaves.{can-make, hand-planned, on-turn-after, steps-planned}
 use Rattle.hwp_cpu_check.specs.hwp_claim_act.Abandoned.{AddsFailure}
 use Rattle.hwp_fault.specs.hwp_core_rule.declared.Made.{Made}
-use Rattle.hwp_fault.specs.hwp_core_rule.Lists.{EachMember}
-use Rattle.hwp_fault.specs.hwp_core_task.Known.{HasMadeNone, Precedes, deeds}
-use Rattle.hwp_fault.proofs.of_hwp_core_task.MadeEntries.{deeds-same}
+use Rattle.hwp_fault.specs.hwp_core_task.Known.{HasMadeNoneBeside, deeds}
+use Rattle.hwp_fault.specs.hwp_core_task.Turns.{IsTask}
+use Rattle.hwp_fault.proofs.of_hwp_core_task.MadeEntries.{deeds-same, only-beside-stays}
 use Rattle.hwp_fault.proofs.of_hwp_core_task.SightKeeps.{saw-stays}
 use Rattle.hwp_fault.specs.declared.Access.{Access}
 use Rattle.hwp_fault.specs.declared.AccessAnswer.{AccessAnswer}
@@ -60,7 +60,7 @@ use Rattle.hwp_cpu_check.proofs.EventTells.{events-stay, kept}
 use Rattle.hwp_cpu_check.specs.Lines.{with_lines}
 use Rattle.hwp_cpu_check.specs.Checks.{Check, left_by, lines_of, restarting, with_own}
 use Rattle.hwp_cpu_access.specs.Checks.{AreChecks, IsCheck, SawBad}
-use Rattle.hwp_cpu_access.specs.Fits.{Fits, FitsAt, HasHandler, HasOnlyBefore, IsAccessing, IsEnd, IsGoing, IsOfAccess, IsOwnEnd, IsWaiting, LetsGoOn, banks_at, checks_made}
+use Rattle.hwp_cpu_access.specs.Fits.{FitsAt, FitsFrom, HasHandler, HasOnlyBefore, IsAccessing, IsEnd, IsGoing, IsOfAccess, IsOwnEnd, IsWaiting, LetsGoOn, banks_at, checks_in, checks_made, task as instruction-task}
 use Rattle.hwp_cpu_access.specs.Instructions.{AfterAccess, AfterAccessBy, BeginsCheck, Follows, FollowsAt, Shows, ShowsAt, after_handler, after_handler_by, after_load, after_stop, bare, bare_at, begin, emptied, handler_of, is_pending, plan, plan_at, put, put_at, restarted}
 use Rattle.hwp_cpu_access.specs.declared.instruction.Instruction.{Instruction}
 use Rattle.hwp_cpu_access.specs.declared.instruction.InstructionAnswer.{InstructionAnswer}
@@ -72,10 +72,10 @@ use Rattle.hwp_cpu_access.proofs.CommandGrows.{access-stay, bad-stays, checks-st
 
 -- ---- the steps can be made
 
-pub can : (layout : Layout) (view : View) (i : Instruction) (step : Step) → Fits layout view i → plan i ≡ Some step → CanMake layout i.request.who step (put i) view
-can layout view i step fits is = which i.at fits.at is
+pub can : {past : List Made} (layout : Layout) (view : View) (i : Instruction) (step : Step) → FitsFrom past layout view i → plan i ≡ Some step → CanMake layout i.request.who step (put i) view
+can {past} layout view i step fits is = which i.at fits.at is
   where
-    which : (x : InstructionAt) → FitsAt layout view i fits.checks x → plan_at x ≡ Some step → CanMake layout i.request.who step (put_at x) view
+    which : (x : InstructionAt) → FitsAt past layout view i fits.checks x → plan_at x ≡ Some step → CanMake layout i.request.who step (put_at x) view
     which (at.Access a) has e = subst (λ (r : Request). CanMake layout r.who step (accesses.put a) view) has.own (access-can layout view a step has.access e)
     which (at.Handle frame h) has e = subst (λ (w : Who). CanMake layout w step (handlers.put h) view) has.has.own (handler-can layout view h step has.has.handler e)
     which (at.LoadFrame frame) has e = can-make fits.on_turn e has.within tt
@@ -95,7 +95,7 @@ pub record Base (layout : Layout) (view : View) (i : Instruction) (checks : List
   pub checked : AreChecks layout view i.request i.origin i.mode i.before.value checks
   pub told_is : i.lines.told ≡ lines_of checks
 
-module _ {layout : Layout} {old new : View} {i : Instruction} {step : Step} {found : ℕ} {got : Option BodyValue} (fits : Fits layout old i) (made : Steps layout i.request.who step (logs (put i)) old new found got) where
+module _ {past : List Made} {layout : Layout} {old new : View} {i : Instruction} {step : Step} {found : ℕ} {got : Option BodyValue} (fits : FitsFrom past layout old i) (made : Steps layout i.request.who step (logs (put i)) old new found got) where
   base-after : Stay i.request.who old new → Base layout new i fits.checks
   base-after stay = record {
     on_turn = on-turn-after fits.on_turn made;
@@ -108,10 +108,10 @@ module _ {layout : Layout} {old new : View} {i : Instruction} {step : Step} {fou
   }
 
 -- the same in another state
-still-handler : {layout : Layout} {view : View} {checks : List Check} {frame : Frame} {h : Handler} (i : Instruction) (x : InstructionAt) → HasHandler layout view i checks frame h → HasHandler layout view (record i { at = x }) checks frame h
+still-handler : {past : List Made} {layout : Layout} {view : View} {checks : List Check} {frame : Frame} {h : Handler} (i : Instruction) (x : InstructionAt) → HasHandler past layout view i checks frame h → HasHandler past layout view (record i { at = x }) checks frame h
 still-handler i x has = record { handler = has.handler; own = has.own; thread_is = has.thread_is; going = has.going; bad = has.bad; events = has.events; room = has.room; lets = has.lets; only = has.only; made = has.made }
 
-still-waiting : {layout : Layout} {view : View} {checks : List Check} {frame : Frame} (i : Instruction) (x : InstructionAt) → IsWaiting layout view i checks frame → IsWaiting layout view (record i { at = x }) checks frame
+still-waiting : {past : List Made} {layout : Layout} {view : View} {checks : List Check} {frame : Frame} (i : Instruction) (x : InstructionAt) → IsWaiting past layout view i checks frame → IsWaiting past layout view (record i { at = x }) checks frame
 still-waiting i x has = record { hand_is = has.hand_is; paid = has.paid; lets = has.lets; only = has.only; made = has.made; within = has.within; empty_are = has.empty_are }
 
 -- the banks after each machine check are three
@@ -124,7 +124,7 @@ own-three i frame banks three = length-set banks (bank_of i.origin) _ ∙ three
 
 -- ---- a machine check that is over
 
-module _ {layout : Layout} {view : View} {i : Instruction} {checks : List Check} {frame : Frame} {h : Handler} (base : Base layout view i checks) (empty_are : i.banks ≡ empty_banks) (has : HasHandler layout view i checks frame h) where
+module _ {past : List Made} {layout : Layout} {view : View} {i : Instruction} {checks : List Check} {frame : Frame} {h : Handler} (base : Base layout view i checks) (empty_are : i.banks ≡ empty_banks) (has : HasHandler past layout view i checks frame h) where
   abbrev now-banks : Banks
   now-banks = with_own i.origin frame i.request.line (left_by i.before.value checks)
 
@@ -153,12 +153,15 @@ module _ {layout : Layout} {view : View} {i : Instruction} {checks : List Check}
   told-all : i.lines.told ++ h.events.told ≡ lines_of all
   told-all = ap (λ (l : List EventOutcome). l ++ h.events.told) base.told_is ∙ sym (lines-more checks latest)
 
-  count-all : checks_made i.request.who view ≡ length all
-  count-all = has.made ∙ sym (count-more checks latest)
+  count-all : checks_made i.request.who view ≡ length all + checks_in past
+  count-all =
+      let made : checks_made i.request.who view ≡ length checks + checks_in past + 1 = has.made in
+      let more : length all ≡ length checks + 1 = count-more checks latest in
+      omega (arith, made, more)
 
   -- what follows, where nothing is held any more
-  over-fits : h.events.left ≡ [] → (x : InstructionAt) → banks_at i.before.value all x ≡ left_by i.before.value all → FitsAt layout view (record i { lines = with_lines i.lines h.events.told; at = x }) all x
-      → Fits layout view (record i { lines = with_lines i.lines h.events.told; at = x })
+  over-fits : h.events.left ≡ [] → (x : InstructionAt) → banks_at i.before.value all x ≡ left_by i.before.value all → FitsAt past layout view (record i { lines = with_lines i.lines h.events.told; at = x }) all x
+      → FitsFrom past layout view (record i { lines = with_lines i.lines h.events.told; at = x })
   over-fits none x held fits = record {
     on_turn = base.on_turn;
     sound = base.sound;
@@ -172,7 +175,7 @@ module _ {layout : Layout} {view : View} {i : Instruction} {checks : List Check}
     at = fits;
   }
 
-  stopped-fits : handler_fits.IsAllTold view h.events true → handler_fits.IsStoppedIf true view h.who → Fits layout view (after_handler_by i frame h (Some true))
+  stopped-fits : handler_fits.IsAllTold view h.events true → handler_fits.IsStoppedIf true view h.who → FitsFrom past layout view (after_handler_by i frame h (Some true))
   stopped-fits told stopped = over-fits told.none_left (at.Over (Some answers.Stopped)) refl (record {
     hand_is = told.rest.hand_is;
     paid = told.rest.paid;
@@ -185,7 +188,7 @@ module _ {layout : Layout} {view : View} {i : Instruction} {checks : List Check}
   })
 
   module _ (told : handler_fits.IsAllTold view h.events false) where
-    signalled-fits : (place : At) → first_signal h.events.told ≡ Some place → Fits layout view (record i { lines = with_lines i.lines h.events.told; at = at.Over (Some (answers.Sigbus place)) })
+    signalled-fits : (place : At) → first_signal h.events.told ≡ Some place → FitsFrom past layout view (record i { lines = with_lines i.lines h.events.told; at = at.Over (Some (answers.Sigbus place)) })
     signalled-fits place is = over-fits told.none_left (at.Over (Some (answers.Sigbus place))) refl (record {
       hand_is = told.rest.hand_is;
       paid = told.rest.paid;
@@ -198,7 +201,7 @@ module _ {layout : Layout} {view : View} {i : Instruction} {checks : List Check}
       });
     })
 
-    waiting-fits : first_signal h.events.told ≡ None → Fits layout view (record i { lines = with_lines i.lines h.events.told; at = at.LoadFrame frame })
+    waiting-fits : first_signal h.events.told ≡ None → FitsFrom past layout view (record i { lines = with_lines i.lines h.events.told; at = at.LoadFrame frame })
     waiting-fits none = over-fits told.none_left (at.LoadFrame frame) refl (record {
       hand_is = told.rest.hand_is;
       paid = told.rest.paid;
@@ -209,26 +212,26 @@ module _ {layout : Layout} {view : View} {i : Instruction} {checks : List Check}
       empty_are = empty_are;
     })
 
-    again-fits : first_signal h.events.told ≡ None → Fits layout view (record i { lines = with_lines i.lines h.events.told; at = restarted i })
+    again-fits : first_signal h.events.told ≡ None → FitsFrom past layout view (record i { lines = with_lines i.lines h.events.told; at = restarted i })
     again-fits none = over-fits told.none_left (restarted i) refl (record {
       access = begins-again layout view i.request base.on_turn base.names told.rest.hand_is has.only;
       own = refl;
       unanswered = refl;
       paid = told.rest.paid;
       lets = lets-more i.lines.told h.events.told has.lets told.halts_is none;
-      made = let count : checks_made i.request.who view ≡ length all = count-all in omega (arith, count);
+      made = let count : checks_made i.request.who view ≡ length all + checks_in past = count-all in omega (arith, count);
     })
 
-    goes-fits : Fits layout view (after_handler_by i frame h (Some false))
+    goes-fits : FitsFrom past layout view (after_handler_by i frame h (Some false))
     goes-fits = which (first_signal h.events.told) refl (was_poisoned frame h.events.told)
       where
         which : (o : Option At) → first_signal h.events.told ≡ o → (b : Bool)
-            → Fits layout view (record i { lines = with_lines i.lines h.events.told; at = unwrap_or (option_map (λ (place : At). at.Over (Some (answers.Sigbus place))) o) (cond b (at.LoadFrame frame) (restarted i)) })
+            → FitsFrom past layout view (record i { lines = with_lines i.lines h.events.told; at = unwrap_or (option_map (λ (place : At). at.Over (Some (answers.Sigbus place))) o) (cond b (at.LoadFrame frame) (restarted i)) })
         which (Some place) is b = signalled-fits place is
         which None is true = waiting-fits is
         which None is false = again-fits is
 
-  going-fits : handlers.answer h ≡ None → Fits layout view (record i { at = at.Handle frame h })
+  going-fits : handlers.answer h ≡ None → FitsFrom past layout view (record i { at = at.Handle frame h })
   going-fits none = record {
     on_turn = base.on_turn;
     sound = base.sound;
@@ -243,10 +246,10 @@ module _ {layout : Layout} {view : View} {i : Instruction} {checks : List Check}
   }
 
   -- the machine check goes on, or is over
-  pub after-handler-fits : Fits layout view (after_handler i frame h)
+  pub after-handler-fits : FitsFrom past layout view (after_handler i frame h)
   after-handler-fits = which h.at refl has.handler.at
     where
-      which : (x : HandlerAt) → h.at ≡ x → handler_fits.FitsAt layout view h.who h.thread h.stops h.events x → Fits layout view (after_handler_by i frame h (handlers.answer_at x))
+      which : (x : HandlerAt) → h.at ≡ x → handler_fits.FitsAt layout view h.who h.thread h.stops h.events x → FitsFrom past layout view (after_handler_by i frame h (handlers.answer_at x))
       which handler_at.Stop is told = going-fits (ap handlers.answer_at is)
       which (handler_at.Fail f) is told = going-fits (ap handlers.answer_at is)
       which handler_at.GaveUp is told = going-fits (ap handlers.answer_at is)
@@ -255,9 +258,9 @@ module _ {layout : Layout} {view : View} {i : Instruction} {checks : List Check}
 
 -- ---- an access that went on, or has its answer
 
-module _ {layout : Layout} {view : View} {i : Instruction} {checks : List Check} (base : Base layout view i checks) (banks_are : i.banks ≡ left_by i.before.value checks) where
+module _ (past : List Made) {layout : Layout} {view : View} {i : Instruction} {checks : List Check} (base : Base layout view i checks) (banks_are : i.banks ≡ left_by i.before.value checks) where
   -- in each state but that of a machine check
-  plain-fits : (x : InstructionAt) → banks_at i.before.value checks x ≡ left_by i.before.value checks → FitsAt layout view (record i { at = x }) checks x → Fits layout view (record i { at = x })
+  plain-fits : (x : InstructionAt) → banks_at i.before.value checks x ≡ left_by i.before.value checks → FitsAt past layout view (record i { at = x }) checks x → FitsFrom past layout view (record i { at = x })
   plain-fits x held fits = record {
     on_turn = base.on_turn;
     sound = base.sound;
@@ -273,8 +276,8 @@ module _ {layout : Layout} {view : View} {i : Instruction} {checks : List Check}
 
   module _ (paid : view.owed.losses ≡ []) (lets : LetsGoOn i.lines.told) where
     -- the machine check of a line that was bad in the frame
-    module _ (frame : Frame) (going : IsGoing view i.request) (bad : SawBad layout view i.request frame) (hand_is : hand_of view ≡ empty) (only : HasOnlyBefore view i.request) (made : checks_made i.request.who view ≡ length checks + 1) where
-      begun : (spare : ℕ) → bank_count ≤ spare → HasHandler layout view (emptied i spare) checks frame (handler_of layout i frame)
+    module _ (frame : Frame) (going : IsGoing view i.request) (bad : SawBad layout view i.request frame) (hand_is : hand_of view ≡ empty) (only : HasOnlyBefore past view i.request) (made : checks_made i.request.who view ≡ length checks + checks_in past + 1) where
+      begun : (spare : ℕ) → bank_count ≤ spare → HasHandler past layout view (emptied i spare) checks frame (handler_of layout i frame)
       begun spare room = record {
         handler = begins-fit layout view i.alloc i.request.who (Some i.request.thread) (restarting i.mode) (with_own i.origin frame i.request.line i.banks) (own-three i frame i.banks (ap length banks_are ∙ left-three i.before.value checks base.three)) base.on_turn base.sound (record { hand_is = hand_is; paid = paid });
         own = refl;
@@ -292,17 +295,17 @@ module _ {layout : Layout} {view : View} {i : Instruction} {checks : List Check}
       emptied-base : (spare : ℕ) → Base layout view (emptied i spare) checks
       emptied-base spare = record { on_turn = base.on_turn; sound = base.sound; names = base.names; origin = base.origin; three = base.three; checked = base.checked; told_is = base.told_is }
 
-      check-fits : (after : Instruction) → BeginsCheck layout i frame after → Fits layout view after
-      check-fits after (inl refused) = subst (Fits layout view) (sym refused) (plain-fits at.GiveUp refl hand_is)
-      check-fits after (inr (spare, room, is)) = subst (Fits layout view) (sym is) (after-handler-fits (emptied-base spare) refl (begun spare room))
+      check-fits : (after : Instruction) → BeginsCheck layout i frame after → FitsFrom past layout view after
+      check-fits after (inl refused) = subst (FitsFrom past layout view) (sym refused) (plain-fits at.GiveUp refl hand_is)
+      check-fits after (inr (spare, room, is)) = subst (FitsFrom past layout view) (sym is) (after-handler-fits (emptied-base spare) refl (begun spare room))
 
-    module _ (a : Access) (fits : accesses.Fits layout view a) (own : a.request ≡ i.request) (made : checks_made i.request.who view ≡ length checks + from_bool (has_checked a.at)) where
+    module _ (a : Access) (fits : accesses.FitsFrom past layout view a) (own : a.request ≡ i.request) (made : checks_made i.request.who view ≡ length checks + checks_in past + from_bool (has_checked a.at)) where
       -- its answer
       module _ (x : AccessAnswer) (is : accesses.answer a ≡ Some x) where
-        ended : accesses.IsAnswered layout view i.request x
-        ended = subst (λ (r : Request). accesses.IsAnswered layout view r x) own (access-answered layout view a x fits is)
+        ended : accesses.IsAnswered past layout view i.request x
+        ended = subst (λ (r : Request). accesses.IsAnswered past layout view r x) own (access-answered layout view a x fits is)
 
-        own-end : IsOwnEnd layout view i.request i.lines.told x
+        own-end : IsOwnEnd past layout view i.request i.lines.told x
         own-end = record { answered = ended.answered; lets = lets }
 
         checked-is : has_checked a.at ≡ is_checked x
@@ -321,7 +324,7 @@ module _ {layout : Layout} {view : View} {i : Instruction} {checks : List Check}
             which (access_at.Fault f) e = absurd (none-some x e)
             which (access_at.GiveUp g) e = absurd (none-some x e)
 
-        answer-fits : (answer : InstructionAnswer) → is_checked x ≡ false → IsEnd layout view i.request i.lines.told answer → Fits layout view (record i { at = at.Over (Some answer) })
+        answer-fits : (answer : InstructionAnswer) → is_checked x ≡ false → IsEnd past layout view i.request i.lines.told answer → FitsFrom past layout view (record i { at = at.Over (Some answer) })
         answer-fits answer unchecked end = plain-fits (at.Over (Some answer)) refl (record {
           hand_is = ended.hand_is;
           paid = paid;
@@ -329,51 +332,51 @@ module _ {layout : Layout} {view : View} {i : Instruction} {checks : List Check}
           ended = end;
         })
 
-      after-access-fits : (after : Instruction) → AfterAccess layout i a after → Fits layout view after
+      after-access-fits : (after : Instruction) → AfterAccess layout i a after → FitsFrom past layout view after
       after-access-fits after = which (accesses.answer a) refl
         where
-          which : (o : Option AccessAnswer) → accesses.answer a ≡ o → AfterAccessBy layout i a o after → Fits layout view after
-          which None is next = subst (Fits layout view) (sym next) (plain-fits (at.Access a) refl (record { access = fits; own = own; unanswered = is; paid = paid; lets = lets; made = made }))
+          which : (o : Option AccessAnswer) → accesses.answer a ≡ o → AfterAccessBy layout i a o after → FitsFrom past layout view after
+          which None is next = subst (FitsFrom past layout view) (sym next) (plain-fits (at.Access a) refl (record { access = fits; own = own; unanswered = is; paid = paid; lets = lets; made = made }))
           which (Some (access_answers.Checked frame place)) is next =
               let end = ended (access_answers.Checked frame place) is in let has = end.answered.1 in
               check-fits frame has.alive (record { mask = has.mask; bad = has.bad; saw = has.saw; within = has.within }) end.hand_is (only-checked i.request view place.entry has.mask has.made)
-              (made ∙ ap (λ (b : Bool). length checks + from_bool b) (checked-is (access_answers.Checked frame place) is)) after next
-          which (Some (access_answers.Value word place)) is next = subst (Fits layout view) (sym next) (answer-fits (access_answers.Value word place) is (answers.Value word place) refl (own-end (access_answers.Value word place) is))
-          which (Some (access_answers.Stored place)) is next = subst (Fits layout view) (sym next) (answer-fits (access_answers.Stored place) is (answers.Stored place) refl (own-end (access_answers.Stored place) is))
-          which (Some (access_answers.Sigbus place)) is next = subst (Fits layout view) (sym next) (answer-fits (access_answers.Sigbus place) is (answers.Sigbus place) refl (inl (own-end (access_answers.Sigbus place) is)))
-          which (Some access_answers.NoFrame) is next = subst (Fits layout view) (sym next) (answer-fits access_answers.NoFrame is answers.NoFrame refl (own-end access_answers.NoFrame is))
-          which (Some (access_answers.Gone page)) is next = subst (Fits layout view) (sym next) (answer-fits (access_answers.Gone page) is (answers.Gone page) refl (own-end (access_answers.Gone page) is))
-          which (Some access_answers.Stopped) is next = subst (Fits layout view) (sym next) (answer-fits access_answers.Stopped is answers.Stopped refl (inl (own-end access_answers.Stopped is)))
+              (made ∙ ap (λ (b : Bool). length checks + checks_in past + from_bool b) (checked-is (access_answers.Checked frame place) is)) after next
+          which (Some (access_answers.Value word place)) is next = subst (FitsFrom past layout view) (sym next) (answer-fits (access_answers.Value word place) is (answers.Value word place) refl (own-end (access_answers.Value word place) is))
+          which (Some (access_answers.Stored place)) is next = subst (FitsFrom past layout view) (sym next) (answer-fits (access_answers.Stored place) is (answers.Stored place) refl (own-end (access_answers.Stored place) is))
+          which (Some (access_answers.Sigbus place)) is next = subst (FitsFrom past layout view) (sym next) (answer-fits (access_answers.Sigbus place) is (answers.Sigbus place) refl (inl (own-end (access_answers.Sigbus place) is)))
+          which (Some access_answers.NoFrame) is next = subst (FitsFrom past layout view) (sym next) (answer-fits access_answers.NoFrame is answers.NoFrame refl (own-end access_answers.NoFrame is))
+          which (Some (access_answers.Gone page)) is next = subst (FitsFrom past layout view) (sym next) (answer-fits (access_answers.Gone page) is (answers.Gone page) refl (own-end (access_answers.Gone page) is))
+          which (Some access_answers.Stopped) is next = subst (FitsFrom past layout view) (sym next) (answer-fits access_answers.Stopped is answers.Stopped refl (inl (own-end access_answers.Stopped is)))
 
 -- ---- each step
 
-module _ (layout : Layout) (old new : View) (i : Instruction) (step : Step) (found : ℕ) (got : Option BodyValue) (fits : Fits layout old i) where
+module _ {past : List Made} (layout : Layout) (old new : View) (i : Instruction) (step : Step) (found : ℕ) (got : Option BodyValue) (fits : FitsFrom past layout old i) where
   abbrev Then : InstructionAt → Type 0
-  Then x = ShowsAt i.lines.spare (bare_at x) found got × ((after : Instruction) (turn : Turn) → FollowsAt layout (bare i) (bare_at x) found got after turn → Fits layout new after)
+  Then x = ShowsAt i.lines.spare (bare_at x) found got × ((after : Instruction) (turn : Turn) → FollowsAt layout (bare i) (bare_at x) found got after turn → FitsFrom past layout new after)
 
   -- a step of the access
-  access-moved : (a : Access) → i.at ≡ at.Access a → IsAccessing layout old i fits.checks a → accesses.plan a ≡ Some step → Steps layout i.request.who step (logs (accesses.put a)) old new found got → Then (at.Access a)
+  access-moved : (a : Access) → i.at ≡ at.Access a → IsAccessing past layout old i fits.checks a → accesses.plan a ≡ Some step → Steps layout i.request.who step (logs (accesses.put a)) old new found got → Then (at.Access a)
   access-moved a is has e made = (
     moved.0,
-    λ after turn next. after-access-fits (base-after fits (subst (λ (x : InstructionAt). Steps layout i.request.who step (logs (put_at x)) old new found got) (sym is) made) stay)
+    λ after turn next. after-access-fits past (base-after fits (subst (λ (x : InstructionAt). Steps layout i.request.who step (logs (put_at x)) old new found got) (sym is) made) stay)
         (fits.banks_are ∙ ap (banks_at i.before.value fits.checks) is)
         (access-owes layout old new a step found got has.access e own ∙ has.paid) has.lets next.access (moved.1 next.access turn next.follows).0 (ap (λ (x : Access). x.request) next.follows.rest ∙ has.own)
-        (subst (λ (r : Request). checks_made r.who new ≡ length fits.checks + from_bool (has_checked next.access.at)) has.own
-        (count-after a.request old new (has_checked a.at) (has_checked next.access.at) (access-adds layout old new a step found got has.access e own next.access turn next.follows) (length fits.checks) (subst (λ (r : Request). checks_made r.who old ≡ length fits.checks + from_bool (has_checked a.at)) (sym has.own) has.made)))
+        (subst (λ (r : Request). checks_made r.who new ≡ length fits.checks + checks_in past + from_bool (has_checked next.access.at)) has.own
+        (count-after a.request old new (has_checked a.at) (has_checked next.access.at) (access-adds layout old new a step found got has.access e own next.access turn next.follows) (length fits.checks + checks_in past) (subst (λ (r : Request). checks_made r.who old ≡ length fits.checks + checks_in past + from_bool (has_checked a.at)) (sym has.own) has.made)))
         after next.next_is,
   )
     where
       own : Steps layout a.request.who step (logs (accesses.put a)) old new found got
       own = subst (λ (r : Request). Steps layout r.who step (logs (accesses.put a)) old new found got) (sym has.own) made
 
-      moved : accesses.Shows (accesses.bare a) found got × ((after : Access) (result : Turn) → accesses.Next layout (accesses.bare a) found got after result → accesses.Fits layout new after × (after.request.who.cpu ≡ a.request.who.cpu))
+      moved : accesses.Shows (accesses.bare a) found got × ((after : Access) (result : Turn) → accesses.Next layout (accesses.bare a) found got after result → accesses.FitsFrom past layout new after × (after.request.who.cpu ≡ a.request.who.cpu))
       moved = access-stays layout old new a step found got has.access e own
 
       stay : Stay i.request.who old new
       stay = subst (λ (r : Request). Stay r.who old new) has.own (access-stay a e own)
 
   -- a step of the machine check
-  module _ (frame : Frame) (h : Handler) (has : HasHandler layout old i fits.checks frame h) (e : handlers.plan h ≡ Some step) (made : Steps layout i.request.who step (logs (handlers.put h)) old new found got) where
+  module _ (frame : Frame) (h : Handler) (has : HasHandler past layout old i fits.checks frame h) (e : handlers.plan h ≡ Some step) (made : Steps layout i.request.who step (logs (handlers.put h)) old new found got) where
     handler-own : Steps layout h.who step (logs (handlers.put h)) old new found got
     handler-own = subst (λ (w : Who). Steps layout w step (logs (handlers.put h)) old new found got) (sym has.own) made
 
@@ -387,7 +390,7 @@ module _ (layout : Layout) (old new : View) (i : Instruction) (step : Step) (fou
       failure-added : AddsFailure i.request.who old new (handler_done.failed_now h) (handler_done.failed_now after)
       failure-added = subst (λ (w : Who). AddsFailure w old new (handler_done.failed_now h) (handler_done.failed_now after)) has.own handler-done.failed
 
-      handler-goes : HasHandler layout new i fits.checks frame after
+      handler-goes : HasHandler past layout new i fits.checks frame after
       handler-goes = let left = kept layout (handlers.bare h) found got after turn next in record {
         handler = ((handler-stays layout old new h step found got has.handler e handler-own).1 after turn next).0;
         own = left.who ∙ has.own;
@@ -404,7 +407,7 @@ module _ (layout : Layout) (old new : View) (i : Instruction) (step : Step) (fou
     handler-moved : i.at ≡ at.Handle frame h → Then (at.Handle frame h)
     handler-moved is = (
       shows-within h i.lines.spare found got has.handler.found has.room (handler-stays layout old new h step found got has.handler e handler-own).0,
-      λ after turn next. subst (Fits layout new) (sym next.next_is)
+      λ after turn next. subst (FitsFrom past layout new) (sym next.next_is)
           (after-handler-fits (base-after fits (subst (λ (x : InstructionAt). Steps layout i.request.who step (logs (put_at x)) old new found got) (sym is) made) (handler-stay next.handler turn next.follows))
           (fits.banks_are ∙ ap (banks_at i.before.value fits.checks) is) (handler-goes next.handler turn next.follows)),
     )
@@ -422,26 +425,26 @@ module _ (layout : Layout) (old new : View) (i : Instruction) (step : Step) (fou
     quiet-base : Base layout new i fits.checks
     quiet-base = base-after fits here (quiet-stay made leaves.marks leaves.entries)
 
-    module _ (frame : Frame) (has : IsWaiting layout old i fits.checks frame) (hand_is : hand_of new ≡ empty) where
-      waits-on : IsWaiting layout new i fits.checks frame
+    module _ (frame : Frame) (has : IsWaiting past layout old i fits.checks frame) (hand_is : hand_of new ≡ empty) where
+      waits-on : IsWaiting past layout new i fits.checks frame
       waits-on = record {
         hand_is = hand_is;
         paid = leaves.losses ∙ has.paid;
         lets = has.lets;
-        only = subst (EachMember (Precedes i.request.page i.request.slot i.request.line)) (sym leaves.entries) has.only;
+        only = only-beside-stays i.request.who old new leaves.entries has.only;
         made = ap (λ (l : List Made). length (filter (λ (m : Made). is_check m.entry.what) l)) leaves.entries ∙ has.made;
         within = has.within;
         empty_are = has.empty_are;
       }
 
-      restarts : IsAccessing layout new (record i { at = restarted i }) fits.checks (accesses.again i.request)
+      restarts : IsAccessing past layout new (record i { at = restarted i }) fits.checks (accesses.again i.request)
       restarts = record {
         access = begins-again layout new i.request quiet-base.on_turn quiet-base.names hand_is waits-on.only;
         own = refl;
         unanswered = refl;
         paid = waits-on.paid;
         lets = has.lets;
-        made = let count : checks_made i.request.who new ≡ length fits.checks = waits-on.made in omega (arith, count);
+        made = let count : checks_made i.request.who new ≡ length fits.checks + checks_in past = waits-on.made in omega (arith, count);
       }
 
   frame-leaves : (frame : Frame) → Steps layout i.request.who (steps.Load (places.Frame frame)) None old new found got → Leaves
@@ -456,7 +459,7 @@ module _ (layout : Layout) (old new : View) (i : Instruction) (step : Step) (fou
   banks-now : (x : InstructionAt) → i.at ≡ x → i.banks ≡ banks_at i.before.value fits.checks x
   banks-now x is = fits.banks_are ∙ ap (banks_at i.before.value fits.checks) is
 
-  frame-loaded : (frame : Frame) → i.at ≡ at.LoadFrame frame → IsWaiting layout old i fits.checks frame → Some (steps.Load (places.Frame frame)) ≡ Some step → Steps layout i.request.who step None old new found got → Fits layout new (after_load i frame found)
+  frame-loaded : (frame : Frame) → i.at ≡ at.LoadFrame frame → IsWaiting past layout old i fits.checks frame → Some (steps.Load (places.Frame frame)) ≡ Some step → Steps layout i.request.who step None old new found got → FitsFrom past layout new (after_load i frame found)
   frame-loaded frame is has e made = which (is_pending found)
     where
       leaves : Leaves
@@ -468,11 +471,11 @@ module _ (layout : Layout) (old new : View) (i : Instruction) (step : Step) (fou
       hand : hand_of new ≡ empty
       hand = hand-planned made e has.hand_is
 
-      which : (b : Bool) → Fits layout new (record i { at = cond b (at.LoadStop frame) (restarted i) })
-      which true = plain-fits base (banks-now (at.LoadFrame frame) is) (at.LoadStop frame) refl (still-waiting i (at.LoadStop frame) (waits-on (at.LoadFrame frame) is refl made leaves frame has hand))
-      which false = plain-fits base (banks-now (at.LoadFrame frame) is) (restarted i) refl (restarts (at.LoadFrame frame) is refl made leaves frame has hand)
+      which : (b : Bool) → FitsFrom past layout new (record i { at = cond b (at.LoadStop frame) (restarted i) })
+      which true = plain-fits past base (banks-now (at.LoadFrame frame) is) (at.LoadStop frame) refl (still-waiting i (at.LoadStop frame) (waits-on (at.LoadFrame frame) is refl made leaves frame has hand))
+      which false = plain-fits past base (banks-now (at.LoadFrame frame) is) (restarted i) refl (restarts (at.LoadFrame frame) is refl made leaves frame has hand)
 
-  stop-loaded : (frame : Frame) → i.at ≡ at.LoadStop frame → IsWaiting layout old i fits.checks frame → Some (steps.Load places.Stop) ≡ Some step → Steps layout i.request.who step None old new found got → Fits layout new (after_stop i frame found)
+  stop-loaded : (frame : Frame) → i.at ≡ at.LoadStop frame → IsWaiting past layout old i fits.checks frame → Some (steps.Load places.Stop) ≡ Some step → Steps layout i.request.who step None old new found got → FitsFrom past layout new (after_stop i frame found)
   stop-loaded frame is has e made = which (has_no_memory found)
     where
       leaves : Leaves
@@ -484,23 +487,23 @@ module _ (layout : Layout) (old new : View) (i : Instruction) (step : Step) (fou
       hand : hand_of new ≡ empty
       hand = hand-planned made e has.hand_is
 
-      which : (b : Bool) → Fits layout new (record i { at = cond b (at.Over None) (at.LoadFrame frame) })
-      which true = plain-fits base (banks-now (at.LoadStop frame) is) (at.Over None) refl hand
-      which false = plain-fits base (banks-now (at.LoadStop frame) is) (at.LoadFrame frame) refl (still-waiting i (at.LoadFrame frame) (waits-on (at.LoadStop frame) is refl made leaves frame has hand))
+      which : (b : Bool) → FitsFrom past layout new (record i { at = cond b (at.Over None) (at.LoadFrame frame) })
+      which true = plain-fits past base (banks-now (at.LoadStop frame) is) (at.Over None) refl hand
+      which false = plain-fits past base (banks-now (at.LoadStop frame) is) (at.LoadFrame frame) refl (still-waiting i (at.LoadFrame frame) (waits-on (at.LoadStop frame) is refl made leaves frame has hand))
 
-  given-up : i.at ≡ at.GiveUp → hand_of old ≡ empty → Some steps.GiveUp ≡ Some step → Steps layout i.request.who step None old new found got → Fits layout new (record i { at = at.Over None })
-  given-up is has e made = plain-fits (quiet-base at.GiveUp is refl made (give-up-leaves (steps-planned e made))) (banks-now at.GiveUp is) (at.Over None) refl (hand-planned made e has)
+  given-up : i.at ≡ at.GiveUp → hand_of old ≡ empty → Some steps.GiveUp ≡ Some step → Steps layout i.request.who step None old new found got → FitsFrom past layout new (record i { at = at.Over None })
+  given-up is has e made = plain-fits past (quiet-base at.GiveUp is refl made (give-up-leaves (steps-planned e made))) (banks-now at.GiveUp is) (at.Over None) refl (hand-planned made e has)
 
-both : (layout : Layout) (old new : View) (i : Instruction) (step : Step) (found : ℕ) (got : Option BodyValue) → Fits layout old i → plan i ≡ Some step → Steps layout i.request.who step (logs (put i)) old new found got
-    → Shows (bare i) found got × ((after : Instruction) (turn : Turn) → Follows layout (bare i) found got after turn → Fits layout new after)
-both layout old new i step found got fits is made = which i.at refl fits.at is made
+both : {past : List Made} (layout : Layout) (old new : View) (i : Instruction) (step : Step) (found : ℕ) (got : Option BodyValue) → FitsFrom past layout old i → plan i ≡ Some step → Steps layout i.request.who step (logs (put i)) old new found got
+    → Shows (bare i) found got × ((after : Instruction) (turn : Turn) → Follows layout (bare i) found got after turn → FitsFrom past layout new after)
+both {past} layout old new i step found got fits is made = which i.at refl fits.at is made
   where
-    which : (x : InstructionAt) → i.at ≡ x → FitsAt layout old i fits.checks x → plan_at x ≡ Some step → Steps layout i.request.who step (logs (put_at x)) old new found got → Then layout old new i step found got fits x
+    which : (x : InstructionAt) → i.at ≡ x → FitsAt past layout old i fits.checks x → plan_at x ≡ Some step → Steps layout i.request.who step (logs (put_at x)) old new found got → Then layout old new i step found got fits x
     which (at.Access a) at_is has e made = access-moved layout old new i step found got fits a at_is has e made
     which (at.Handle frame h) at_is has e made = handler-moved layout old new i step found got fits frame h has.has e made at_is
-    which (at.LoadFrame frame) at_is has e made = (tt, λ after turn next. subst (Fits layout new) (sym next.0) (frame-loaded layout old new i step found got fits frame at_is has e made))
-    which (at.LoadStop frame) at_is has e made = (tt, λ after turn next. subst (Fits layout new) (sym next.0) (stop-loaded layout old new i step found got fits frame at_is has e made))
-    which at.GiveUp at_is has e made = (tt, λ after turn next. subst (Fits layout new) (sym next.0) (given-up layout old new i step found got fits at_is has e made))
+    which (at.LoadFrame frame) at_is has e made = (tt, λ after turn next. subst (FitsFrom past layout new) (sym next.0) (frame-loaded layout old new i step found got fits frame at_is has e made))
+    which (at.LoadStop frame) at_is has e made = (tt, λ after turn next. subst (FitsFrom past layout new) (sym next.0) (stop-loaded layout old new i step found got fits frame at_is has e made))
+    which at.GiveUp at_is has e made = (tt, λ after turn next. subst (FitsFrom past layout new) (sym next.0) (given-up layout old new i step found got fits at_is has e made))
     which (at.Over answer) at_is has e made = absurd (none-some step e)
 
 -- an instruction stays of its command
@@ -535,17 +538,24 @@ own-after layout i found got after turn follows = which i.at follows
     which at.GiveUp next = ap (λ (x : Instruction). x.request) next.0
     which (at.Over answer) next = ap (λ (x : Instruction). x.request) next.0
 
-pub stays : (layout : Layout) (old new : View) (i : Instruction) (step : Step) (found : ℕ) (got : Option BodyValue) → Fits layout old i → plan i ≡ Some step → Steps layout i.request.who step (logs (put i)) old new found got
-    → Shows (bare i) found got × ((after : Instruction) (turn : Turn) → Follows layout (bare i) found got after turn → Fits layout new after × (after.request.who.cpu ≡ i.request.who.cpu))
-stays layout old new i step found got fits is made = let all = both layout old new i step found got fits is made in
+pub stays : {past : List Made} (layout : Layout) (old new : View) (i : Instruction) (step : Step) (found : ℕ) (got : Option BodyValue) → FitsFrom past layout old i → plan i ≡ Some step → Steps layout i.request.who step (logs (put i)) old new found got
+    → Shows (bare i) found got × ((after : Instruction) (turn : Turn) → Follows layout (bare i) found got after turn → FitsFrom past layout new after × (after.request.who.cpu ≡ i.request.who.cpu))
+stays {past} layout old new i step found got fits is made = let all = both layout old new i step found got fits is made in
     (all.0, λ after turn follows. (all.1 after turn follows, ap (λ (r : Request). r.who.cpu) (own-after layout (bare i) found got after turn follows)))
+
+-- the law of the task, whatever its command had made before
+pub law : IsTask instruction-task
+law = record {
+  can = λ layout view s step fits is. can layout view s step fits.1 is;
+  stays = λ layout old new s step found got fits is made. let all = stays layout old new s step found got fits.1 is made in (all.0, λ after turn follows. let kept = all.1 after turn follows in ((fits.0, kept.0), kept.1));
+}
 
 -- ---- before it
 
--- an instruction fits at its beginning, where its processor holds and owes nothing, and its command has made nothing
-pub begins : (layout : Layout) (view : View) (i : Instruction) → i ≡ begin i.alloc i.request i.origin i.mode i.banks → IsOnTurn view i.request.who → IsSound layout → accesses.IsDeclared layout i.request → IsOfAccess i.origin → length i.banks ≡ bank_count
-    → hand_of view ≡ empty → view.owed.losses ≡ [] → HasMadeNone view i.request.who → Fits layout view i
-begins layout view i is on sound names origin three hand paid none = subst (Fits layout view) (sym is) (record {
+-- an instruction fits at its beginning, where its processor holds and owes nothing, and its command has made nothing in this part
+pub begins : {past : List Made} (layout : Layout) (view : View) (i : Instruction) → i ≡ begin i.alloc i.request i.origin i.mode i.banks → IsOnTurn view i.request.who → IsSound layout → accesses.IsDeclared layout i.request → IsOfAccess i.origin → length i.banks ≡ bank_count
+    → hand_of view ≡ empty → view.owed.losses ≡ [] → HasMadeNoneBeside past view i.request.who → FitsFrom past layout view i
+begins {past} layout view i is on sound names origin three hand paid none = subst (FitsFrom past layout view) (sym is) (record {
   on_turn = on;
   sound = sound;
   names = names;
@@ -561,6 +571,6 @@ begins layout view i is on sound names origin three hand paid none = subst (Fits
     unanswered = refl;
     paid = paid;
     lets = record { halts_none = refl; signals_none = refl };
-    made = ap (λ (l : List Made). length (filter (λ (m : Made). is_check m.entry.what) l)) none;
+    made = let same : checks_made i.request.who view ≡ checks_in past = ap checks_in none in omega (arith, same);
   };
 })

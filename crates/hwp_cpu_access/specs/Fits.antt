@@ -1,5 +1,5 @@
 -- What is held and known while an instruction accesses a line, and acts on the machine checks that it meets.
-use Rattle.std.specs.Prelude.{◌≡◌, ◌⊎◌, ℕ, ◌+◌, ◌<◌, ◌≤◌, true, false, List, [], Some, None, length}
+use Rattle.std.specs.Prelude.{◌≡◌, ◌⊎◌, ℕ, ◌+◌, ◌<◌, ◌≤◌, true, false, List, [], Some, None, filter, length}
 use Rattle.std.specs.Int.{from_bool}
 use Rattle.hwp_fault.specs.hwp_geom.declared.Frame.{Frame}
 use Rattle.hwp_fault.specs.hwp_geom.declared.Layout.{Layout}
@@ -9,11 +9,12 @@ use Rattle.hwp_cpu_check.specs.hwp_banks.declared.Origin.{Origin}
 use Rattle.hwp_cpu_check.specs.hwp_banks.declared.Origin.TheVariants as origins
 use Rattle.hwp_cpu_check.specs.hwp_banks.Events.{bank_count}
 use Rattle.hwp_fault.specs.hwp_page.declared.At.{At}
+use Rattle.hwp_fault.specs.hwp_core_rule.declared.Made.{Made}
 use Rattle.hwp_fault.specs.hwp_core_rule.declared.SharedWord.TheVariants as places
 use Rattle.hwp_fault.specs.hwp_core_rule.declared.View.{View}
 use Rattle.hwp_fault.specs.hwp_core_task.Calls.{IsOnTurn}
 use Rattle.hwp_fault.specs.hwp_core_task.Hands.{hand_of, empty}
-use Rattle.hwp_fault.specs.hwp_core_task.Known.{HasOnly, Precedes, Saw, such_deeds}
+use Rattle.hwp_fault.specs.hwp_core_task.Known.{HasOnlyBeside, Precedes, Saw, deeds}
 use Rattle.hwp_fault.specs.hwp_core_task.Turns.{Member}
 use Rattle.hwp_fault.specs.declared.Access.{Access}
 use Rattle.hwp_fault.specs.declared.AccessAnswer.{AccessAnswer}
@@ -41,17 +42,20 @@ use Rattle.hwp_cpu_access.specs.declared.instruction.InstructionAnswer.TheVarian
 use Rattle.hwp_cpu_access.specs.declared.instruction.InstructionAt.{InstructionAt}
 use Rattle.hwp_cpu_access.specs.declared.instruction.InstructionAt.TheVariants as at
 
--- the command made only such entries as may stand before the one that answers it
-abbrev pub HasOnlyBefore : View → Request → Type 0
-HasOnlyBefore view a = HasOnly (Precedes a.page a.slot a.line) view a.who
+-- beside these entries the command made only such as may stand before the one that answers it
+abbrev pub HasOnlyBefore : List Made → View → Request → Type 0
+HasOnlyBefore base view a = HasOnlyBeside base (Precedes a.page a.slot a.line) view a.who
 
 -- a step of the command showed that the thread's process hasn't ended
 abbrev pub IsGoing : View → Request → Type 0
 IsGoing view a = Saw view a.who (places.Process a.process) 0
 
--- the machine checks of the command, by the entries that it made
+-- the machine checks among entries, and those of the command, by the entries that it made
+abbrev pub checks_in : List Made → ℕ
+checks_in made = length (filter (λ (m : Made). is_check m.entry.what) made)
+
 abbrev pub checks_made : Who → View → ℕ
-checks_made who view = length (such_deeds is_check who view)
+checks_made who view = checks_in (deeds who view)
 
 -- the lines tell of no event that stopped the machine, and of no failure that signalled the thread
 pub record LetsGoOn (told : List EventOutcome) : Type 0 where
@@ -61,44 +65,44 @@ pub record LetsGoOn (told : List EventOutcome) : Type 0 where
 -- ---- how it ends
 
 -- by the answer of its access
-pub record IsOwnEnd (layout : Layout) (view : View) (a : Request) (told : List EventOutcome) (answer : AccessAnswer) : Type 0 where
-  pub answered : accesses.Answered layout view a answer
+pub record IsOwnEnd (base : List Made) (layout : Layout) (view : View) (a : Request) (told : List EventOutcome) (answer : AccessAnswer) : Type 0 where
+  pub answered : accesses.Answered base layout view a answer
   pub lets : LetsGoOn told
 
 -- by the first failure that signalled the thread
-pub record IsSignalled (view : View) (a : Request) (told : List EventOutcome) (place : At) : Type 0 where
+pub record IsSignalled (base : List Made) (view : View) (a : Request) (told : List EventOutcome) (place : At) : Type 0 where
   pub first : first_signal told ≡ Some place
   pub halts_none : halts told ≡ false
   pub going : IsGoing view a
-  pub only : HasOnlyBefore view a
+  pub only : HasOnlyBefore base view a
 
 -- because one of its events stopped the machine
-pub record IsHalted (view : View) (a : Request) (told : List EventOutcome) : Type 0 where
+pub record IsHalted (base : List Made) (view : View) (a : Request) (told : List EventOutcome) : Type 0 where
   pub halted : halts told ≡ true
   pub stopped : IsStopped view a.who
-  pub only : HasOnlyBefore view a
+  pub only : HasOnlyBefore base view a
 
-abbrev pub IsEnd : Layout → View → Request → List EventOutcome → InstructionAnswer → Type 0
-IsEnd layout view a told (answers.Value word place) = IsOwnEnd layout view a told (access_answers.Value word place)
-IsEnd layout view a told (answers.Stored place) = IsOwnEnd layout view a told (access_answers.Stored place)
-IsEnd layout view a told (answers.Sigbus place) = IsOwnEnd layout view a told (access_answers.Sigbus place) ⊎ IsSignalled view a told place
-IsEnd layout view a told answers.NoFrame = IsOwnEnd layout view a told access_answers.NoFrame
-IsEnd layout view a told (answers.Gone page) = IsOwnEnd layout view a told (access_answers.Gone page)
-IsEnd layout view a told answers.Stopped = IsOwnEnd layout view a told access_answers.Stopped ⊎ IsHalted view a told
+abbrev pub IsEnd : List Made → Layout → View → Request → List EventOutcome → InstructionAnswer → Type 0
+IsEnd base layout view a told (answers.Value word place) = IsOwnEnd base layout view a told (access_answers.Value word place)
+IsEnd base layout view a told (answers.Stored place) = IsOwnEnd base layout view a told (access_answers.Stored place)
+IsEnd base layout view a told (answers.Sigbus place) = IsOwnEnd base layout view a told (access_answers.Sigbus place) ⊎ IsSignalled base view a told place
+IsEnd base layout view a told answers.NoFrame = IsOwnEnd base layout view a told access_answers.NoFrame
+IsEnd base layout view a told (answers.Gone page) = IsOwnEnd base layout view a told (access_answers.Gone page)
+IsEnd base layout view a told answers.Stopped = IsOwnEnd base layout view a told access_answers.Stopped ⊎ IsHalted base view a told
 
 -- ---- what is held
 
 -- the access goes on, perhaps after machine checks
-pub record IsAccessing (layout : Layout) (view : View) (i : Instruction) (checks : List Check) (a : Access) : Type 0 where
-  pub access : accesses.Fits layout view a
+pub record IsAccessing (base : List Made) (layout : Layout) (view : View) (i : Instruction) (checks : List Check) (a : Access) : Type 0 where
+  pub access : accesses.FitsFrom base layout view a
   pub own : a.request ≡ i.request
   pub unanswered : accesses.answer a ≡ None
   pub paid : view.owed.losses ≡ []
   pub lets : LetsGoOn i.lines.told
-  pub made : checks_made i.request.who view ≡ length checks + from_bool (has_checked a.at)
+  pub made : checks_made i.request.who view ≡ length checks + checks_in base + from_bool (has_checked a.at)
 
 -- the machine check of a line that was bad in the frame, after others
-pub record HasHandler (layout : Layout) (view : View) (i : Instruction) (checks : List Check) (frame : Frame) (h : Handler) : Type 0 where
+pub record HasHandler (base : List Made) (layout : Layout) (view : View) (i : Instruction) (checks : List Check) (frame : Frame) (h : Handler) : Type 0 where
   pub handler : handler_fits.Fits layout view h
   pub own : h.who ≡ i.request.who
   pub thread_is : h.thread ≡ Some i.request.thread
@@ -107,38 +111,38 @@ pub record HasHandler (layout : Layout) (view : View) (i : Instruction) (checks 
   pub events : events_of h.events ≡ held_in (restarting i.mode) (with_own i.origin frame i.request.line (left_by i.before.value checks))
   pub room : bank_count ≤ i.lines.spare
   pub lets : LetsGoOn i.lines.told
-  pub only : HasOnlyBefore view i.request
-  pub made : checks_made i.request.who view ≡ length checks + 1
+  pub only : HasOnlyBefore base view i.request
+  pub made : checks_made i.request.who view ≡ length checks + checks_in base + 1
 
-pub record IsHandling (layout : Layout) (view : View) (i : Instruction) (checks : List Check) (frame : Frame) (h : Handler) : Type 0 where
-  pub has : HasHandler layout view i checks frame h
+pub record IsHandling (base : List Made) (layout : Layout) (view : View) (i : Instruction) (checks : List Check) (frame : Frame) (h : Handler) : Type 0 where
+  pub has : HasHandler base layout view i checks frame h
   pub unanswered : handlers.answer h ≡ None
 
 -- the end of the frame's failure is awaited
-pub record IsWaiting (layout : Layout) (view : View) (i : Instruction) (checks : List Check) (frame : Frame) : Type 0 where
+pub record IsWaiting (base : List Made) (layout : Layout) (view : View) (i : Instruction) (checks : List Check) (frame : Frame) : Type 0 where
   pub hand_is : hand_of view ≡ empty
   pub paid : view.owed.losses ≡ []
   pub lets : LetsGoOn i.lines.told
-  pub only : HasOnlyBefore view i.request
-  pub made : checks_made i.request.who view ≡ length checks
+  pub only : HasOnlyBefore base view i.request
+  pub made : checks_made i.request.who view ≡ length checks + checks_in base
   pub within : frame.0 < layout.frames
   pub empty_are : i.banks ≡ empty_banks
 
 -- nothing is held any more, and the answer has its cause
-pub record IsAnswered (layout : Layout) (view : View) (i : Instruction) (checks : List Check) (answer : InstructionAnswer) : Type 0 where
+pub record IsAnswered (base : List Made) (layout : Layout) (view : View) (i : Instruction) (checks : List Check) (answer : InstructionAnswer) : Type 0 where
   pub hand_is : hand_of view ≡ empty
   pub paid : view.owed.losses ≡ []
-  pub made : checks_made i.request.who view ≡ length checks
-  pub ended : IsEnd layout view i.request i.lines.told answer
+  pub made : checks_made i.request.who view ≡ length checks + checks_in base
+  pub ended : IsEnd base layout view i.request i.lines.told answer
 
-abbrev pub FitsAt : Layout → View → Instruction → List Check → InstructionAt → Type 0
-FitsAt layout view i checks (at.Access a) = IsAccessing layout view i checks a
-FitsAt layout view i checks (at.Handle frame h) = IsHandling layout view i checks frame h
-FitsAt layout view i checks (at.LoadFrame frame) = IsWaiting layout view i checks frame
-FitsAt layout view i checks (at.LoadStop frame) = IsWaiting layout view i checks frame
-FitsAt layout view i checks at.GiveUp = hand_of view ≡ empty
-FitsAt layout view i checks (at.Over None) = hand_of view ≡ empty
-FitsAt layout view i checks (at.Over (Some answer)) = IsAnswered layout view i checks answer
+abbrev pub FitsAt : List Made → Layout → View → Instruction → List Check → InstructionAt → Type 0
+FitsAt base layout view i checks (at.Access a) = IsAccessing base layout view i checks a
+FitsAt base layout view i checks (at.Handle frame h) = IsHandling base layout view i checks frame h
+FitsAt base layout view i checks (at.LoadFrame frame) = IsWaiting base layout view i checks frame
+FitsAt base layout view i checks (at.LoadStop frame) = IsWaiting base layout view i checks frame
+FitsAt base layout view i checks at.GiveUp = hand_of view ≡ empty
+FitsAt base layout view i checks (at.Over None) = hand_of view ≡ empty
+FitsAt base layout view i checks (at.Over (Some answer)) = IsAnswered base layout view i checks answer
 
 -- an access of data, or of an instruction
 abbrev pub IsOfAccess : Origin → Type 0
@@ -151,8 +155,8 @@ abbrev pub banks_at : Banks → List Check → InstructionAt → Banks
 banks_at before checks (at.Handle frame h) = empty_banks
 banks_at before checks x = left_by before checks
 
--- the machine checks so far, the lines that tell of them, and what they left in the banks
-pub record Fits (layout : Layout) (view : View) (i : Instruction) : Type 0 where
+-- the machine checks so far, the lines that tell of them, and what they left in the banks; the command had made these entries before
+pub record FitsFrom (base : List Made) (layout : Layout) (view : View) (i : Instruction) : Type 0 where
   pub on_turn : IsOnTurn view i.request.who
   pub sound : IsSound layout
   pub names : accesses.IsDeclared layout i.request
@@ -162,7 +166,11 @@ pub record Fits (layout : Layout) (view : View) (i : Instruction) : Type 0 where
   pub checked : AreChecks layout view i.request i.origin i.mode i.before.value checks
   pub told_is : i.lines.told ≡ lines_of checks
   pub banks_are : i.banks ≡ banks_at i.before.value checks i.at
-  pub at : FitsAt layout view i checks i.at
+  pub at : FitsAt base layout view i checks i.at
+
+-- whatever entries those are
+abbrev pub Fits : Layout → View → Instruction → Type 0
+Fits layout view i = (base : List Made) × FitsFrom base layout view i
 
 -- the task, as the laws of tasks read it
 abbrev pub task : Member Instruction

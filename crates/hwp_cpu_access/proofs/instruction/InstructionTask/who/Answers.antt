@@ -1,5 +1,5 @@
 use Rattle.hwp_cpu_access.proofs.instruction.InstructionTask.who.Goals as goal
-use Rattle.hwp_cpu_access.proofs.InstructionLaws.{can, stays}
+use Rattle.hwp_cpu_access.proofs.InstructionLaws.{law}
 
 pub returns-clause-law : goal.returns-clause-law
-returns-clause-law c = record { can = can; stays = stays }
+returns-clause-law c = law
