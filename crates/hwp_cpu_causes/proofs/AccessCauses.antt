@@ -26,6 +26,7 @@ use Rattle.hwp_law_holds.specs.hwp_report_text.declared.Answer.{Answer}
 use Rattle.hwp_law_holds.specs.hwp_banks.Banks.{Banks}
 use Rattle.hwp_law_holds.specs.hwp_law.Commands.{Access, access, access_of, can_fail}
 use Rattle.hwp_law_holds.specs.hwp_core_task.Known.{HasMade, HasOnly, IsOnTheWay, Precedes, Saw}
+use Rattle.hwp_cpu_command.proofs.of_hwp_core_task.MadeEntries.{beside-only}
 use Rattle.hwp_cpu_command.specs.hwp_fault.declared.AccessAnswer.TheVariants as access_answers
 use Rattle.hwp_cpu_command.specs.hwp_fault.declared.AccessKind.{AccessKind}
 use Rattle.hwp_cpu_command.specs.hwp_fault.declared.AccessKind.TheVariants as kinds
@@ -62,7 +63,7 @@ pub record KnowsAccess (layout : Layout) (view : View) (who : Who) (thread : Thr
   pub request_is : task.request ≡ request_of who thread slot line kind page process
   pub origin_is : task.origin ≡ origin
   pub mode_is : task.mode ≡ mode
-  pub fits : instruction_fits.Fits layout view task
+  pub fits : instruction_fits.FitsFrom [] layout view task
   pub own : InstructionAnswer
   pub said : instructions.answer task ≡ Some own
   pub answer_is : instruction_answer own ≡ answer
@@ -124,14 +125,14 @@ module _ (layout : Layout) (view : View) (r : Request) (names : IsDeclared layou
     made = subst (λ (p : Page). HasMade (Precedes p r.slot r.line) view r.who p place.entry what) (sym same) (subst (HasMade (Precedes r.page r.slot r.line) view r.who r.page place.entry) entry made);
   }
 
-  refused : (kind : AccessKind) → r.kind ≡ kind → (place : At) → Answered layout view r (access_answers.Sigbus place) → Reached layout view r.who r.thread r.slot r.line place (refusal_by kind r.slot r.line r.thread)
+  refused : (kind : AccessKind) → r.kind ≡ kind → (place : At) → Answered [] layout view r (access_answers.Sigbus place) → Reached layout view r.who r.thread r.slot r.line place (refusal_by kind r.slot r.line r.thread)
   refused kind is place has = reached place (refusal r.slot (touch_of r)) (refusal_by kind r.slot r.line r.thread) has.0 (ap (λ (k : AccessKind). refusal_by k r.slot r.line r.thread) is) has.1.alive has.1.made
 
-  no-frame : Answered layout view r access_answers.NoFrame → FoundNoFrame layout view r.who r.thread r.slot r.line
-  no-frame has = record { going = going has.0.alive; available = has.1; page = r.page; page_is = page-is; place = has.2; away = has.3; only = has.0.only }
+  no-frame : Answered [] layout view r access_answers.NoFrame → FoundNoFrame layout view r.who r.thread r.slot r.line
+  no-frame has = record { going = going has.0.alive; available = has.1; page = r.page; page_is = page-is; place = has.2; away = has.3; only = beside-only view r.who has.0.only }
 
-  gone : (page : Page) → Answered layout view r (access_answers.Gone page) → FoundGone layout view r.who r.thread page × HasOnlyBegun layout view r.who r.slot r.line
-  gone page has = (record { ended = going has.0 }, record { page = r.page; page_is = page-is; only = has.1 })
+  gone : (page : Page) → Answered [] layout view r (access_answers.Gone page) → FoundGone layout view r.who r.thread page × HasOnlyBegun layout view r.who r.slot r.line
+  gone page has = (record { ended = going has.0 }, record { page = r.page; page_is = page-is; only = beside-only view r.who has.1 })
 
   -- the command is the access
   module _ (command : Command) (of : access_of command ≡ Some (access r.thread r.slot r.line)) (fails : can_fail command ≡ true) where
@@ -142,23 +143,23 @@ module _ (layout : Layout) (view : View) (r : Request) (names : IsDeclared layou
     only-met : HasOnly (Precedes r.page r.slot r.line) view r.who → HasOnlyMet layout view r.who command
     only-met only i m there = met m (only i m there)
 
-    stopped : (told : List EventOutcome) → IsEnd layout view r told answers.Stopped → FoundStopped layout view r.who command
+    stopped : (told : List EventOutcome) → IsEnd [] layout view r told answers.Stopped → FoundStopped layout view r.who command
     stopped told (inl end) = found-stopped layout command view r.who (inl end.answered.0) end.answered.1
-    stopped told (inr end) = record { stopped = end.stopped; only = only-met end.only }
+    stopped told (inr end) = record { stopped = end.stopped; only = only-met (beside-only view r.who end.only) }
 
-    signalled : (told : List EventOutcome) (place : At) → IsSignalled view r told place → WasSignalled layout view r.who command r.thread told place
-    signalled told place end = record { going = going end.going; first = end.first; only = only-met end.only }
+    signalled : (told : List EventOutcome) (place : At) → IsSignalled [] view r told place → WasSignalled layout view r.who command r.thread told place
+    signalled told place end = record { going = going end.going; first = end.first; only = only-met (beside-only view r.who end.only) }
 
 module _ (layout : Layout) (list : List Command) (view : View) (r : Request) (names : IsDeclared layout r) (told : List EventOutcome) (did : Option FrameChange) where
   module _ (is : r.kind ≡ kinds.Load) where
-    load-value : (word : ℕ) (place : At) → Answered layout view r (access_answers.Value word place) → IsAnswerCaused layout list view r.who (commands.Load r.thread r.slot r.line) told did (instruction_answer (answers.Value word place))
+    load-value : (word : ℕ) (place : At) → Answered [] layout view r (access_answers.Value word place) → IsAnswerCaused layout list view r.who (commands.Load r.thread r.slot r.line) told did (instruction_answer (answers.Value word place))
     load-value word place has = (
       record { 0 = has.2.mask },
       reached layout view r names place (what_of r has.2.mask word) (entries.Load r.slot r.line (Word (record { 0 = has.2.mask }) word)) has.1
           (ap (λ (k : AccessKind). what_by k r.slot r.line (record { 0 = has.2.mask }) word) is) has.2.alive has.2.made,
     )
 
-    load : (x : InstructionAnswer) → IsEnd layout view r told x → IsAnswerCaused layout list view r.who (commands.Load r.thread r.slot r.line) told did (instruction_answer x)
+    load : (x : InstructionAnswer) → IsEnd [] layout view r told x → IsAnswerCaused layout list view r.who (commands.Load r.thread r.slot r.line) told did (instruction_answer x)
     load (answers.Value word place) end = load-value word place end.answered
     load (answers.Stored place) end = absurd (load-no-store end.answered.0 is end.answered.1)
     load (answers.Sigbus place) (inl end) = inl (refused layout view r names kinds.Load is place end.answered)
@@ -167,7 +168,7 @@ module _ (layout : Layout) (list : List Command) (view : View) (r : Request) (na
     load (answers.Gone page) end = gone layout view r names page end.answered
     load answers.Stopped end = stopped layout view r names (commands.Load r.thread r.slot r.line) refl refl told end
 
-    fetch : (x : InstructionAnswer) → IsEnd layout view r told x → IsAnswerCaused layout list view r.who (commands.Fetch r.thread r.slot r.line) told did (instruction_answer x)
+    fetch : (x : InstructionAnswer) → IsEnd [] layout view r told x → IsAnswerCaused layout list view r.who (commands.Fetch r.thread r.slot r.line) told did (instruction_answer x)
     fetch (answers.Value word place) end = load-value word place end.answered
     fetch (answers.Stored place) end = absurd (load-no-store end.answered.0 is end.answered.1)
     fetch (answers.Sigbus place) (inl end) = inl (refused layout view r names kinds.Load is place end.answered)
@@ -176,7 +177,7 @@ module _ (layout : Layout) (list : List Command) (view : View) (r : Request) (na
     fetch (answers.Gone page) end = gone layout view r names page end.answered
     fetch answers.Stopped end = stopped layout view r names (commands.Fetch r.thread r.slot r.line) refl refl told end
 
-    kload : (x : InstructionAnswer) → IsEnd layout view r told x → IsAnswerCaused layout list view r.who (commands.KLoad r.thread r.slot r.line) told did (instruction_answer x)
+    kload : (x : InstructionAnswer) → IsEnd [] layout view r told x → IsAnswerCaused layout list view r.who (commands.KLoad r.thread r.slot r.line) told did (instruction_answer x)
     kload (answers.Value word place) end = load-value word place end.answered
     kload (answers.Stored place) end = absurd (load-no-store end.answered.0 is end.answered.1)
     kload (answers.Sigbus place) (inl end) = inl (refused layout view r names kinds.Load is place end.answered)
@@ -186,7 +187,7 @@ module _ (layout : Layout) (list : List Command) (view : View) (r : Request) (na
     kload answers.Stopped end = stopped layout view r names (commands.KLoad r.thread r.slot r.line) refl refl told end
 
   module _ (word : ℕ) (is : r.kind ≡ kinds.Store word) where
-    store : (x : InstructionAnswer) → IsEnd layout view r told x → IsAnswerCaused layout list view r.who (commands.Store r.thread r.slot r.line word) told did (instruction_answer x)
+    store : (x : InstructionAnswer) → IsEnd [] layout view r told x → IsAnswerCaused layout list view r.who (commands.Store r.thread r.slot r.line word) told did (instruction_answer x)
     store (answers.Value found place) end = absurd (load-no-store word end.answered.0 is)
     store (answers.Stored place) end = let has = end.answered in (
       record { 0 = has.3.mask },
@@ -238,7 +239,7 @@ module _ {layout : Layout} {view : View} {who : Who} {thread : Thread} {slot : V
       (subst (λ (o : Origin). IsAccessTold layout view who thread line o k.task.mode k.task.before.value k.task.lines.told k.task.banks) k.origin_is
       (subst (λ (r : Request). IsAccessTold layout view r.who r.thread r.line k.task.origin k.task.mode k.task.before.value k.task.lines.told k.task.banks) k.request_is task-told)))
 
-  task-heeded : (told : List EventOutcome) (x : InstructionAnswer) → IsEnd layout view k.task.request told x → halts told ≡ true → instruction_answer x ≡ instruction_answer answers.Stopped
+  task-heeded : (told : List EventOutcome) (x : InstructionAnswer) → IsEnd [] layout view k.task.request told x → halts told ≡ true → instruction_answer x ≡ instruction_answer answers.Stopped
   task-heeded told (answers.Value word place) end halted = goes-on told end.lets.halts_none halted
   task-heeded told (answers.Stored place) end halted = goes-on told end.lets.halts_none halted
   task-heeded told (answers.Sigbus place) (inl end) halted = goes-on told end.lets.halts_none halted

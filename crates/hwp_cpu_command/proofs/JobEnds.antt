@@ -1,9 +1,10 @@
 -- A command that is answered makes no more steps, and its processor holds nothing.
-use Rattle.std.proofs.Common.{◌≡◌, ◌⊎◌, inl, inr, true, false, [], Option, Some, None, refl, sym, ap, ◌∙◌, subst}
+use Rattle.std.proofs.Common.{◌≡◌, ◌⊎◌, inl, inr, true, false, List, [], Option, Some, None, refl, sym, ap, ◌∙◌, subst}
 use Rattle.std.specs.Option.{option_map}
 use Rattle.std.proofs.lemmas.Option.{none-some, same_Some}
 use Rattle.hwp_cpu_control.specs.hwp_geom.declared.Layout.{Layout}
 use Rattle.hwp_cpu_row.specs.hwp_report_text.declared.Answer.{Answer}
+use Rattle.hwp_cpu_control.specs.hwp_core_rule.declared.Made.{Made}
 use Rattle.hwp_cpu_control.specs.hwp_core_rule.declared.View.{View}
 use Rattle.hwp_cpu_control.specs.hwp_core_task.Hands.{hand_of, empty}
 use Rattle.hwp_cpu_control.specs.declared.nested.NestedAt.{NestedAt}
@@ -207,8 +208,8 @@ inject-ended {layout} {view} i {x} fits is = which i.at refl fits.at is
 -- ---- a command that is answered
 
 -- an instruction that is answered has its end, after its machine checks
-pub instruction-ended : {layout : Layout} {view : View} (i : Instruction) {x : InstructionAnswer} (fits : instruction_fits.Fits layout view i) → instructions.answer i ≡ Some x → instruction_fits.IsAnswered layout view i fits.checks x
-instruction-ended {layout} {view} i fits is = subst (instruction_fits.FitsAt layout view i fits.checks) (instruction-over i is) fits.at
+pub instruction-ended : {base : List Made} {layout : Layout} {view : View} (i : Instruction) {x : InstructionAnswer} (fits : instruction_fits.FitsFrom base layout view i) → instructions.answer i ≡ Some x → instruction_fits.IsAnswered base layout view i fits.checks x
+instruction-ended {base} {layout} {view} i fits is = subst (instruction_fits.FitsAt base layout view i fits.checks) (instruction-over i is) fits.at
 
 -- and so has a machine check that was raised
 pub raise-ended : {layout : Layout} {view : View} (r : Raise) {x : RaiseAnswer} → raise_fits.Fits layout view r → raises.answer r ≡ Some x → IsAtRest view × raise_fits.IsEnd layout view r x

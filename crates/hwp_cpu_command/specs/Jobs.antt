@@ -122,7 +122,7 @@ Next layout (jobs.Soft s) found got after turn = (k : Soft) × (after ≡ jobs.S
 Next layout (jobs.Unpoison u) found got after turn = (after ≡ jobs.Unpoison (unpoisons.next u found)) × (turn ≡ unpoisons.turn u found)
 
 abbrev pub Fits : Layout → View → Job → Type 0
-Fits layout view (jobs.Instruction i) = instruction_fits.Fits layout view i
+Fits layout view (jobs.Instruction i) = instruction_fits.FitsFrom [] layout view i
 Fits layout view (jobs.Evict e) = evicts.Fits layout view e
 Fits layout view (jobs.Fsync f) = fsyncs.Fits layout view f
 Fits layout view (jobs.Prctl p) = prctls.Fits layout view p

@@ -404,7 +404,7 @@ replied (replies.Is policy) = refl
 replied replies.Einval = refl
 
 module _ (layout : Layout) (view : View) where
-  instruction-halts : (a : Request) (told : _) (x : InstructionAnswer) → IsEnd layout view a told x → instruction_answer x ≡ answers.Stopped → IsHalted view
+  instruction-halts : (a : Request) (told : _) (x : InstructionAnswer) → IsEnd [] layout view a told x → instruction_answer x ≡ answers.Stopped → IsHalted view
   instruction-halts a told instruction_answers.Stopped (inl own) is = halts own.answered.0
   instruction-halts a told instruction_answers.Stopped (inr halted) is = stops halted.stopped
   instruction-halts a told (instruction_answers.Value word place) ended is = absurd (other _ refl (ap (λ (y : Answer). Some y) is))
