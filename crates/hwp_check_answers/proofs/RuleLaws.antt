@@ -17,10 +17,9 @@ use Rattle.hwp_check_evidence.specs.hwp_report_text.declared.CpuLine.{CpuLine}
 use Rattle.hwp_check_evidence.specs.hwp_report_text.declared.CpuLine.TheVariants as lines
 use Rattle.hwp_check_evidence.specs.hwp_report_text.declared.Report.{Report}
 use Rattle.hwp_check_evidence.specs.hwp_law.Answers.{AreInWindows, AreNamed}
-use Rattle.hwp_check_evidence.specs.hwp_law.Commands.{process_at, process_of_thread, thread_of}
+use Rattle.hwp_check_evidence.specs.hwp_law_commands.Commands.{command_at, process_at, process_of_thread, thread_of}
 use Rattle.hwp_check_evidence.specs.hwp_law.Endings.{EndingsStay, IsOver}
 use Rattle.hwp_check_evidence.specs.hwp_law.Lines.{AnswerLine, answer_among, answer_in}
-use Rattle.hwp_check_evidence.specs.hwp_law.Places.{command_at}
 use Rattle.hwp_check_evidence.specs.hwp_law.States.{IsInWindow, entry_named}
 use Rattle.hwp_check_evidence.specs.Named.{is_at}
 use Rattle.hwp_check_evidence.proofs.NamedLaws.{at-is, named-at}

@@ -11,7 +11,7 @@ use Rattle.hwp_check_evidence.specs.hwp_kill.Prctl.{policy_set}
 use Rattle.hwp_check_evidence.specs.hwp_script_read.declared.Command.{Command}
 use Rattle.hwp_check_evidence.specs.hwp_script_read.declared.Command.TheVariants as commands
 use Rattle.hwp_check_evidence.specs.hwp_script_read.declared.PrctlArgs.{PrctlArgs}
-use Rattle.hwp_check_evidence.specs.hwp_law.Policies.{arguments, setting_of, settings}
+use Rattle.hwp_check_evidence.specs.hwp_law_commands.Settings.{arguments, setting_of, settings}
 use Rattle.hwp_check_causes.specs.Befores.{AreBefore, policies_before, policy_of, set_by, set_to, thread_numbers}
 
 -- the last of some policies behind one

@@ -6,7 +6,7 @@ use Rattle.hwp_check_evidence.specs.hwp_kill.declared.Policy.TheVariants.{Defaul
 use Rattle.hwp_check_evidence.specs.hwp_script_read.declared.Command.{Command}
 use Rattle.hwp_check_evidence.specs.hwp_script_read.declared.Command.TheVariants as commands
 use Rattle.hwp_check_evidence.specs.hwp_script_read.declared.PrctlArgs.{PrctlArgs}
-use Rattle.hwp_check_evidence.specs.hwp_law.Policies.{last_policy, setting_of, settings}
+use Rattle.hwp_check_evidence.specs.hwp_law_commands.Settings.{last_policy, setting_of, settings}
 
 -- the numbers that a thread can have
 abbrev pub thread_numbers : ℕ

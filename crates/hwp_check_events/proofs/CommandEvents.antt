@@ -17,9 +17,9 @@ use Rattle.hwp_law.specs.hwp_report_text.declared.EventLine.{EventLine}
 use Rattle.hwp_law.specs.hwp_report_text.declared.Report.{Report}
 use Rattle.hwp_law.specs.Checks.{IsCheck}
 use Rattle.hwp_banks.specs.Banks.{Banks, empty_banks}
-use Rattle.hwp_law.specs.Commands.{arrival_of}
+use Rattle.hwp_law.specs.hwp_law_commands.Commands.{arrival_of, is_check}
 use Rattle.hwp_law.specs.hwp_severity.declared.Arrival.{Arrival}
-use Rattle.hwp_law.specs.Events.{AreEventsOf, AreScrubbed, IsAccessChecked, IsDamaged, IsRaise, is_check, is_raised, logged_if_done}
+use Rattle.hwp_law.specs.Events.{AreEventsOf, AreScrubbed, IsAccessChecked, IsDamaged, IsRaise, is_raised, logged_if_done}
 use Rattle.hwp_banks.specs.Banks.{raw_event}
 use Rattle.hwp_law.specs.Lines.{answer_of}
 use Rattle.hwp_law.specs.Pairings.{entries_of}

@@ -9,7 +9,7 @@ use Rattle.hwp_law.specs.hwp_script_read.declared.Command.{Command}
 use Rattle.hwp_law.specs.hwp_script_read.declared.Script.{Script}
 use Rattle.hwp_law.specs.hwp_report_text.declared.Report.{Report}
 use Rattle.hwp_law.specs.hwp_severity.declared.Arrival.{Arrival}
-use Rattle.hwp_law.specs.Events.{is_check}
+use Rattle.hwp_law.specs.hwp_law_commands.Commands.{is_check}
 use Rattle.hwp_law.specs.hwp_report_text.declared.EventLine.{EventLine}
 use Rattle.hwp_law.specs.Pairings.{entries_of}
 use Rattle.hwp_law.specs.Policies.{commands_before}

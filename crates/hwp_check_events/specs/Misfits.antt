@@ -16,8 +16,8 @@ use Rattle.hwp_law.specs.hwp_report_text.declared.Answer.{Answer}
 use Rattle.hwp_law.specs.hwp_report_text.declared.Answer.TheVariants as answers
 use Rattle.hwp_law.specs.hwp_report_text.declared.EventLine.{EventLine}
 use Rattle.hwp_law.specs.hwp_report_text.declared.Report.{Report}
-use Rattle.hwp_law.specs.Commands.{arrival_of}
-use Rattle.hwp_law.specs.Events.{is_check, is_raised}
+use Rattle.hwp_law.specs.hwp_law_commands.Commands.{arrival_of, is_check}
+use Rattle.hwp_law.specs.Events.{is_raised}
 use Rattle.hwp_banks.specs.Banks.{raw_event}
 use Rattle.hwp_law.specs.Lines.{answer_of, events_of}
 use Rattle.hwp_law.specs.Pairings.{entries_of}

@@ -1,6 +1,5 @@
 ghost use Rattle.std.specs.Prelude.{◌≡◌, ◌≤◌, ◌+◌, ◌<◌, ◌^◌, true, false, length};
-ghost use Rattle.hwp_law.specs.Commands.{arrival_of};
-ghost use Rattle.hwp_law.specs.Events.{is_check};
+ghost use Rattle.hwp_law.specs.hwp_law_commands.Commands.{arrival_of, is_check};
 ghost use Rattle.hwp_law.specs.Lines.{answer_of};
 ghost use Rattle.hwp_law.specs.Pairings.{entries_of};
 ghost use Rattle.hwp_check_event_line.specs.Firsts.{IsScanned, shown_lines};

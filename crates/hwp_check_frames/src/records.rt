@@ -1,5 +1,6 @@
 ghost use Rattle.std.specs.Prelude.{◌≡◌, ◌≤◌, ◌↔◌, ℕ, Some, IsTrue, MatchBool, length, take};
-ghost use Rattle.hwp_check_rules.specs.hwp_law.Records.{IsAnswered, IsFound, IsMarkAt, is_moved, outcome_act, outcome_answer};
+ghost use Rattle.hwp_check_rules.specs.hwp_law_commands.Outcomes.{outcome_act, outcome_answer};
+ghost use Rattle.hwp_check_rules.specs.hwp_law.Records.{IsAnswered, IsFound, IsMarkAt, is_moved};
 ghost use Rattle.hwp_check_frames.specs.Counts.{at_key};
 ghost use Rattle.hwp_check_frames.specs.Given.{AreGiven};
 ghost use Rattle.hwp_check_frames.specs.Index.{IsIndex, acted_in};

@@ -13,10 +13,10 @@ use Rattle.hwp_law.specs.hwp_report_text.declared.CpuLine.{CpuLine}
 use Rattle.hwp_law.specs.hwp_report_text.declared.CpuLine.TheVariants as lines
 use Rattle.hwp_law.specs.hwp_report_text.declared.Report.{Report}
 use Rattle.hwp_law.specs.Answers.{is_answering}
-use Rattle.hwp_law.specs.Commands.{process_at}
+use Rattle.hwp_law.specs.hwp_law_commands.Commands.{command_at, process_at}
 use Rattle.hwp_law.specs.Endings.{HasEnded, IsOver, WasGone}
 use Rattle.hwp_law.specs.Lines.{events_of}
-use Rattle.hwp_law.specs.Places.{command_at, entry_at}
+use Rattle.hwp_law.specs.Places.{entry_at}
 use Rattle.hwp_law.specs.States.{IsInWindow, entry_named, state_named}
 use Rattle.hwp_check_events.specs.Misfits.{IsWrong, Lacks, found_by}
 use Rattle.hwp_check_rules.specs.Answered.{HasAnswer, IsInPlace, IsRight, is_answer, seq_of}

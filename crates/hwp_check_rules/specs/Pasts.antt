@@ -8,7 +8,7 @@ use Rattle.hwp_law.specs.hwp_report_text.declared.CpuLine.{CpuLine}
 use Rattle.hwp_law.specs.hwp_report_text.declared.CpuLine.TheVariants as lines
 use Rattle.hwp_law.specs.hwp_report_text.declared.Report.{Report}
 use Rattle.hwp_law.specs.Lines.{answer_among}
-use Rattle.hwp_law.specs.Policies.{setting_of, settings}
+use Rattle.hwp_law.specs.hwp_law_commands.Settings.{setting_of, settings}
 use Rattle.hwp_law.specs.SeenPolicies.{commands_around, cpu_of_thread, is_done}
 use Rattle.hwp_check_rules.specs.declared.pasts.ThreadPolicies.{ThreadPolicies}
 

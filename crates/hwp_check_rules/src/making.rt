@@ -1,9 +1,8 @@
 ghost use Rattle.std.specs.Prelude.{◌≡◌, ◌⊎◌, ◌↔◌, IsTrue, IsSomeAnd, None};
 ghost use Rattle.hwp_law.specs.hwp_page.Step.{IsOf};
-ghost use Rattle.hwp_law.specs.Commands.{access_of, can_fail, current_thread};
+ghost use Rattle.hwp_law.specs.hwp_law_commands.Commands.{access_of, can_fail, command_at, current_thread};
 ghost use Rattle.hwp_law.specs.Entries.{CanStandIn, IsAccessAt, IsMadeBy, IsRequiredBy, Makes};
 ghost use Rattle.hwp_law.specs.History.{Fits, FitsAccess, FitsLoad, FitsStore, IsMetBy, IsStoredBy, Names};
-ghost use Rattle.hwp_law.specs.Places.{command_at};
 
 use hwp_law::{Command, Entry, Layout, Line, Met, Page, Script, Thread, VSlot, What, Who};
 

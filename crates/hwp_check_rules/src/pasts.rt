@@ -1,7 +1,7 @@
 ghost use Rattle.std.specs.Prelude.{◌≡◌, ◌≤◌, ◌++◌, ◌&&◌, Some, is_some, length, IfOk, OnOk};
 ghost use Rattle.std.specs.Int.{from_bool};
 ghost use Rattle.std.specs.Option.{option_to_list};
-ghost use Rattle.hwp_law.specs.Policies.{setting_of, settings};
+ghost use Rattle.hwp_law.specs.hwp_law_commands.Settings.{setting_of, settings};
 ghost use Rattle.hwp_law.specs.SeenPolicies.{cpu_of_thread};
 ghost use Rattle.hwp_check_rules.specs.Pasts.{AreDone, ArePasts, IsPast, counts, noted};
 

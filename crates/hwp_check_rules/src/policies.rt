@@ -1,6 +1,6 @@
 ghost use Rattle.std.specs.Prelude.{◌≡◌};
 ghost use Rattle.hwp_law.specs.hwp_kill.Prctl.{policy_set};
-ghost use Rattle.hwp_law.specs.Policies.{arguments, setting_of};
+ghost use Rattle.hwp_law.specs.hwp_law_commands.Settings.{arguments, setting_of};
 
 use hwp_law::{Command, Policy, PrctlArgs, Thread};
 

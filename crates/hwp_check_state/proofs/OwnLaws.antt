@@ -13,7 +13,8 @@ use Rattle.hwp_check_rules.specs.hwp_script_read.declared.Script.{Script}
 use Rattle.hwp_check_rules.specs.hwp_report_text.declared.CpuLine.{CpuLine}
 use Rattle.hwp_check_rules.specs.hwp_report_text.declared.Report.{Report}
 use Rattle.hwp_check_rules.specs.hwp_law.Lines.{answer_among, rows_of}
-use Rattle.hwp_check_rules.specs.hwp_law.Policies.{commands_before, setting_of}
+use Rattle.hwp_check_rules.specs.hwp_law_commands.Settings.{setting_of}
+use Rattle.hwp_check_rules.specs.hwp_law.Policies.{commands_before}
 use Rattle.hwp_check_rules.specs.hwp_law.SeenPolicies.{IsOwnCount, commands_around, is_done, settings_done}
 use Rattle.hwp_check_rules.specs.declared.ThreadPolicies.{ThreadPolicies}
 use Rattle.hwp_check_rules.specs.Pasts.{IsPast, counts}

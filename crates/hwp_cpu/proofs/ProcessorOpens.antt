@@ -20,7 +20,7 @@ use Rattle.hwp_cpu_command_laws.proofs.CommandStops.{begins-stop}
 use Rattle.hwp_cpu_row.specs.hwp_banks.Banks.{Banks, empty_banks}
 use Rattle.hwp_cpu_row.specs.declared.Local.{Local}
 use Rattle.hwp_cpu_row.specs.Locals.{first_local}
-use Rattle.hwp_cpu_row.specs.hwp_law.Policies.{settings}
+use Rattle.hwp_cpu_row.specs.hwp_law_commands.Settings.{settings}
 use Rattle.hwp_cpu_causes.specs.hwp_law_holds.Served.{AreRowsServed}
 use Rattle.hwp_cpu_causes.proofs.of_hwp_law_holds.Handles.{numbers-begin}
 use Rattle.hwp_cpu_causes.proofs.of_hwp_law_holds.lines.ScrubBank.{empty-free}

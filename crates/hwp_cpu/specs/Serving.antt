@@ -22,7 +22,7 @@ use Rattle.hwp_cpu_row.specs.hwp_claim_frame.Done.{marking_of}
 use Rattle.hwp_cpu_row.specs.declared.Local.{Local}
 use Rattle.hwp_cpu_row.specs.declared.Row.{Row}
 use Rattle.hwp_cpu_row.specs.hwp_banks.Banks.{Banks, empty_banks}
-use Rattle.hwp_cpu_row.specs.hwp_law.Policies.{settings}
+use Rattle.hwp_cpu_row.specs.hwp_law_commands.Settings.{settings}
 use Rattle.hwp_cpu_command.specs.declared.job.Job.{Job}
 use Rattle.hwp_cpu_command.specs.Done.{HasCounted, can_fail, failed_now, marked_now, policies_now}
 use Rattle.hwp_cpu_command.specs.FileHandles.{HasHandle}

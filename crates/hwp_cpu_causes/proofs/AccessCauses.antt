@@ -24,7 +24,7 @@ use Rattle.hwp_law_holds.specs.hwp_script_lines.declared.Command.{Command}
 use Rattle.hwp_law_holds.specs.hwp_script_lines.declared.Command.TheVariants as commands
 use Rattle.hwp_law_holds.specs.hwp_report_text.declared.Answer.{Answer}
 use Rattle.hwp_law_holds.specs.hwp_banks.Banks.{Banks}
-use Rattle.hwp_law_holds.specs.hwp_law.Commands.{Access, access, access_of, can_fail}
+use Rattle.hwp_law_holds.specs.hwp_law_commands.Commands.{Access, access, access_of, can_fail}
 use Rattle.hwp_law_holds.specs.hwp_core_task.Known.{HasMade, HasOnly, IsOnTheWay, Precedes, Saw}
 use Rattle.hwp_cpu_command.proofs.of_hwp_core_task.MadeEntries.{beside-only}
 use Rattle.hwp_cpu_command.specs.hwp_fault.declared.AccessAnswer.TheVariants as access_answers

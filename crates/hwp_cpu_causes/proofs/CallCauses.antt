@@ -26,11 +26,11 @@ use Rattle.hwp_law_holds.specs.hwp_script_lines.declared.Command.{Command}
 use Rattle.hwp_law_holds.specs.hwp_script_lines.declared.Command.TheVariants as commands
 use Rattle.hwp_law_holds.specs.hwp_script_lines.declared.PrctlArgs.{PrctlArgs}
 use Rattle.hwp_law_holds.specs.hwp_report_text.declared.Answer.{Answer}
-use Rattle.hwp_law_holds.specs.hwp_law.Answers.{reply_answer}
+use Rattle.hwp_law_holds.specs.hwp_law_commands.Outcomes.{reply_answer}
 use Rattle.hwp_law_holds.specs.hwp_banks.Banks.{Banks}
 use Rattle.hwp_law_holds.specs.hwp_banks.Banks.{raw_event}
-use Rattle.hwp_law_holds.specs.hwp_law.Policies.{arguments, settings}
-use Rattle.hwp_law_holds.specs.hwp_law.Policies as laws
+use Rattle.hwp_law_holds.specs.hwp_law_commands.Settings.{arguments, settings}
+use Rattle.hwp_law_holds.specs.hwp_law_commands.Settings as laws
 use Rattle.hwp_law_holds.specs.hwp_core_task.Known.{HasMadeNone, Saw}
 use Rattle.hwp_cpu_command.specs.hwp_cpu_control.declared.NestedAnswer.{NestedAnswer}
 use Rattle.hwp_cpu_command.specs.hwp_cpu_control.declared.NestedAnswer.TheVariants as nested_answers

@@ -18,7 +18,7 @@ pub use hwp_claim_frame::{
     Ranked, Scheduled, SharedWord, Step, StopWord, Task, Text, Thread, Turn, Who, index,
     is_stopped, lowest_bit,
 };
-pub use hwp_law::{
+pub use hwp_law_commands::{
     Acted, Answer, Command, CpuLine, Decision, EventLine, FrameLine, How, MAX_SCRIPT, MarkLine,
     McgBits, PrctlArgs, Report, Script, Stop, StopCause, Version, Whereabouts, grade, handle,
     is_text, kind_name, policy_word, print, read_number,

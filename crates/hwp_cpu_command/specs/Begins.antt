@@ -25,9 +25,9 @@ use Rattle.hwp_cpu_row.specs.hwp_script_lines.declared.Command.{Command}
 use Rattle.hwp_cpu_row.specs.hwp_script_lines.declared.Command.TheVariants as commands
 use Rattle.hwp_cpu_row.specs.hwp_script_lines.declared.PrctlArgs.{PrctlArgs}
 use Rattle.hwp_cpu_row.specs.hwp_banks.Banks.{Banks}
-use Rattle.hwp_cpu_row.specs.hwp_law.Commands.{arrival_of}
+use Rattle.hwp_cpu_row.specs.hwp_law_commands.Commands.{arrival_of}
 use Rattle.hwp_cpu_row.specs.hwp_banks.Banks.{raw_event}
-use Rattle.hwp_cpu_row.specs.hwp_law.Policies.{arguments}
+use Rattle.hwp_cpu_row.specs.hwp_law_commands.Settings.{arguments}
 use Rattle.hwp_cpu_control.specs.Nesteds as nesteds
 use Rattle.hwp_cpu_control.specs.Prctls as prctls
 use Rattle.hwp_cpu_control.specs.Spoils as spoils

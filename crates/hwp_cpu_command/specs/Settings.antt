@@ -13,7 +13,7 @@ use Rattle.hwp_cpu_control.specs.declared.PrctlAnswer.TheVariants as answers
 use Rattle.hwp_cpu_control.specs.declared.prctl.PrctlAt.{PrctlAt}
 use Rattle.hwp_cpu_control.specs.declared.prctl.PrctlAt.TheVariants as at
 use Rattle.hwp_cpu_control.specs.Prctls as prctls
-use Rattle.hwp_cpu_row.specs.hwp_law.Policies.{settings}
+use Rattle.hwp_cpu_row.specs.hwp_law_commands.Settings.{settings}
 use Rattle.hwp_cpu_command.specs.declared.job.Job.{Job}
 use Rattle.hwp_cpu_command.specs.declared.job.Job.TheVariants as jobs
 

@@ -20,8 +20,8 @@ use Rattle.hwp_cpu_control.specs.hwp_core_task.declared.Turn.{Turn}
 use Rattle.hwp_cpu_control.specs.hwp_core_task.Calls.{Steps, logs}
 use Rattle.hwp_cpu_row.specs.hwp_script_lines.declared.Command.{Command}
 use Rattle.hwp_cpu_row.specs.hwp_report_text.declared.Answer.TheVariants as answers
-use Rattle.hwp_cpu_row.specs.hwp_law.Commands.{process_of_thread}
-use Rattle.hwp_cpu_row.specs.hwp_law.Policies.{settings}
+use Rattle.hwp_cpu_row.specs.hwp_law_commands.Commands.{process_of_thread}
+use Rattle.hwp_cpu_row.specs.hwp_law_commands.Settings.{settings}
 use Rattle.hwp_cpu_control.specs.declared.NestedAnswer.TheVariants as nested_answers
 use Rattle.hwp_cpu_control.specs.declared.PrctlAnswer.TheVariants as prctl_answers
 use Rattle.hwp_cpu_control.specs.declared.SpoilAnswer.TheVariants as spoil_answers

@@ -7,7 +7,7 @@ ghost use Rattle.hwp_cpu_row.specs.hwp_script_read.Valid.{IsAccess, IsCommandOf,
 ghost use Rattle.hwp_cpu_row.specs.hwp_banks.Banks.{empty_banks};
 ghost use Rattle.hwp_cpu_row.specs.hwp_banks.Banks.{raw_event};
 ghost use Rattle.hwp_cpu_row.specs.Locals.{number_in};
-ghost use Rattle.hwp_cpu_row.specs.hwp_law.Policies.{arguments};
+ghost use Rattle.hwp_cpu_row.specs.hwp_law_commands.Settings.{arguments};
 ghost use Rattle.hwp_cpu_control.specs.Nesteds as nesteds;
 ghost use Rattle.hwp_cpu_control.specs.Spoils as spoils;
 ghost use Rattle.hwp_soft.specs.hwp_claim.Injects as injects;

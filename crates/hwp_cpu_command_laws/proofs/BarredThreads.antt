@@ -23,7 +23,7 @@ use Rattle.hwp_cpu_command.proofs.of_hwp_core_rule.WordsByKind.{words-read}
 use Rattle.hwp_cpu_command.specs.hwp_core_task.Calls.{Steps}
 use Rattle.hwp_cpu_command.proofs.of_hwp_core_task.StepLeaves.{steps-planned}
 use Rattle.hwp_cpu_command.proofs.of_hwp_core_task.SightKeeps.{saw-stays}
-use Rattle.hwp_cpu_command.specs.hwp_law.Commands.{process_of_thread}
+use Rattle.hwp_cpu_command.specs.hwp_law_commands.Commands.{process_of_thread}
 use Rattle.hwp_cpu_command.specs.hwp_cpu_control.declared.Prctl.{Prctl}
 use Rattle.hwp_cpu_command.specs.hwp_cpu_control.declared.PrctlAnswer.TheVariants as prctl_answers
 use Rattle.hwp_cpu_command.specs.hwp_cpu_control.declared.prctl.PrctlAt.{PrctlAt}

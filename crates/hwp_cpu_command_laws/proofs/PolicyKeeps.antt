@@ -25,8 +25,8 @@ use Rattle.hwp_cpu_command.specs.hwp_script_lines.declared.Command.TheVariants a
 use Rattle.hwp_cpu_command.specs.hwp_script_lines.declared.PrctlArgs.{PrctlArgs}
 use Rattle.hwp_cpu_command.specs.hwp_report_text.declared.Answer.{Answer}
 use Rattle.hwp_cpu_command.specs.hwp_report_text.declared.Answer.TheVariants as answers
-use Rattle.hwp_cpu_command.specs.hwp_law.Answers.{reply_answer}
-use Rattle.hwp_cpu_command.specs.hwp_law.Policies.{arguments, setting_of, settings}
+use Rattle.hwp_cpu_command.specs.hwp_law_commands.Outcomes.{reply_answer}
+use Rattle.hwp_cpu_command.specs.hwp_law_commands.Settings.{arguments, setting_of, settings}
 use Rattle.hwp_cpu_command.specs.hwp_cpu_control.declared.Prctl.{Prctl}
 use Rattle.hwp_cpu_command.specs.hwp_cpu_control.declared.PrctlAnswer.{PrctlAnswer}
 use Rattle.hwp_cpu_command.specs.hwp_cpu_control.declared.PrctlAnswer.TheVariants as prctl_answers

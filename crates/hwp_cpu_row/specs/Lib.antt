@@ -9,7 +9,7 @@ pub use Rattle.hwp_cpu_check.specs.hwp_core_task as hwp_core_task
 pub use Rattle.hwp_cpu_check.specs as hwp_cpu_check
 pub use Rattle.hwp_cpu_check.specs.hwp_evict as hwp_evict
 pub use Rattle.hwp_cpu_check.specs.hwp_geom as hwp_geom
-pub use Rattle.hwp_cpu_check.specs.hwp_law as hwp_law
+pub use Rattle.hwp_cpu_check.specs.hwp_law_commands as hwp_law_commands
 pub use Rattle.hwp_cpu_check.specs.hwp_page as hwp_page
 pub use Rattle.hwp_cpu_check.specs.hwp_report_text as hwp_report_text
 pub use Rattle.hwp_cpu_check.specs.hwp_script_lines as hwp_script_lines

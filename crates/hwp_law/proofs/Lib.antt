@@ -2,4 +2,4 @@ pub mod Rows
 pub mod Extents
 pub mod Examples
 pub mod Forgeries
-pub use Rattle.hwp_report_text.proofs.of_hwp_page as of_hwp_page
+pub use Rattle.hwp_law_commands.proofs.of_hwp_page as of_hwp_page

@@ -7,7 +7,6 @@ pub mod Stops
 pub mod PageHistory
 pub mod Runs
 pub mod Lines
-pub mod Commands
 pub mod Entries
 pub mod SeenPolicies
 pub mod Records
@@ -20,11 +19,12 @@ pub mod Events
 pub mod Halts
 pub mod Causes
 pub mod Law
-pub use Rattle.hwp_report_text.specs.hwp_banks as hwp_banks
-pub use Rattle.hwp_script_read.specs.hwp_geom as hwp_geom
-pub use Rattle.hwp_report_text.specs.hwp_kill as hwp_kill
-pub use Rattle.hwp_report_text.specs.hwp_page as hwp_page
-pub use Rattle.hwp_report_text.specs as hwp_report_text
-pub use Rattle.hwp_script_read.specs.hwp_script_lines as hwp_script_lines
-pub use Rattle.hwp_script_read.specs as hwp_script_read
-pub use Rattle.hwp_report_text.specs.hwp_severity as hwp_severity
+pub use Rattle.hwp_law_commands.specs.hwp_banks as hwp_banks
+pub use Rattle.hwp_law_commands.specs.hwp_geom as hwp_geom
+pub use Rattle.hwp_law_commands.specs.hwp_kill as hwp_kill
+pub use Rattle.hwp_law_commands.specs as hwp_law_commands
+pub use Rattle.hwp_law_commands.specs.hwp_page as hwp_page
+pub use Rattle.hwp_law_commands.specs.hwp_report_text as hwp_report_text
+pub use Rattle.hwp_law_commands.specs.hwp_script_lines as hwp_script_lines
+pub use Rattle.hwp_law_commands.specs.hwp_script_read as hwp_script_read
+pub use Rattle.hwp_law_commands.specs.hwp_severity as hwp_severity

@@ -1,37 +1,15 @@
--- The policies that a processor's commands set. A setting of a thread is a call of prctl(2) by it that was answered `done` and whose
--- arguments set a policy.
-use Rattle.std.specs.Prelude.{ℕ, ◌==◌, cond, List, [], ◌∷◌, Option, None, take, fold, filter_map, slice_get, unwrap_or}
-use Rattle.hwp_script_read.specs.hwp_geom.declared.Cpu.{Cpu}
-use Rattle.hwp_script_read.specs.hwp_geom.declared.Thread.{Thread}
-use Rattle.hwp_script_read.specs.hwp_geom.declared.Who.{Who}
-use Rattle.hwp_report_text.specs.hwp_kill.declared.Policy.{Policy}
-use Rattle.hwp_report_text.specs.hwp_kill.declared.Policy.TheVariants.{Default}
-use Rattle.hwp_report_text.specs.hwp_kill.Prctl.{policy_set}
-use Rattle.hwp_script_read.specs.declared.PrctlArgs.{PrctlArgs}
-use Rattle.hwp_script_read.specs.declared.Command.{Command}
-use Rattle.hwp_script_read.specs.declared.Command.TheVariants as commands
-use Rattle.hwp_script_read.specs.declared.Script.{Script}
-use Rattle.hwp_report_text.specs.declared.Answer.{Answer}
-use Rattle.hwp_report_text.specs.declared.Answer.TheVariants as answers
-use Rattle.hwp_report_text.specs.declared.Report.{Report}
+-- The policies of threads, as a report shows them.
+use Rattle.std.specs.Prelude.{List, [], take, slice_get, unwrap_or}
+use Rattle.hwp_law_commands.specs.hwp_geom.declared.Cpu.{Cpu}
+use Rattle.hwp_law_commands.specs.hwp_geom.declared.Thread.{Thread}
+use Rattle.hwp_law_commands.specs.hwp_geom.declared.Who.{Who}
+use Rattle.hwp_law_commands.specs.hwp_kill.declared.Policy.{Policy}
+use Rattle.hwp_law_commands.specs.hwp_script_read.declared.Command.{Command}
+use Rattle.hwp_law_commands.specs.hwp_script_read.declared.Script.{Script}
+use Rattle.hwp_law_commands.specs.hwp_report_text.declared.Answer.{Answer}
+use Rattle.hwp_law_commands.specs.hwp_report_text.declared.Report.{Report}
+use Rattle.hwp_law_commands.specs.Settings.{last_policy, settings}
 use Rattle.hwp_law.specs.Lines.{answered}
-
--- the five arguments in their order
-abbrev pub arguments : PrctlArgs → List ℕ
-arguments args = args.operation ∷ args.arg2 ∷ args.arg3 ∷ args.arg4 ∷ args.arg5 ∷ []
-
--- the policy that a command with this answer set for the thread, if it set one: a call of prctl(2) by the thread that was answered `done`
-abbrev pub setting_of : Thread → Command → Answer → Option Policy
-setting_of thread (commands.Prctl other args) answers.Done = cond (other.0 == thread.0) (policy_set (arguments args)) None
-setting_of thread _ _ = None
-
--- the policies that were set for the thread, in order, by commands with these answers
-abbrev pub settings : Thread → List (Command × Answer) → List Policy
-settings thread list = filter_map (λ (p : Command × Answer). setting_of thread p.0 p.1) list
-
--- the last of some policies, or the system default where there is none
-abbrev pub last_policy : List Policy → Policy
-last_policy policies = fold (λ earlier later. later) Default policies
 
 -- the commands of a processor with their answers, and those before one of them
 abbrev pub answered_on : Script → Report → Cpu → List (Command × Answer)

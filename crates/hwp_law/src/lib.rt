@@ -2,14 +2,11 @@
 //! alone, and lemmas on how a report grows; the crates above cite them in their contracts.
 #![tactic(auto)]
 
-pub use hwp_report_text::{
-    Acted, Answer, Arrival, At, Code, CpuLine, Decision, Entry, EventLine, FrameLine, Grade,
-    GuestLine, How, MarkLine, McgBits, Met, OfflineResult, OfflinedLine, Outcome, PageState,
-    Policy, Reply, Report, Seen, Severity, Signal, Situation, Slots, Stop, StopCause, Version,
-    What, Whereabouts, grade, handle, policy_word, prctl, print,
-};
-pub use hwp_script_read::{
-    Command, Cpu, FileNo, Frame, Layout, Line, List, MAX_SCRIPT, Mask, Mode, OutOfMemory, Page,
-    PageKind, PrctlArgs, Proc, ReadScript, Script, Text, Thread, ThreadDecl, VSlot, Who, is_text,
-    kind_name, read, read_number, words_in,
+pub use hwp_law_commands::{
+    Acted, Answer, Arrival, At, Code, Command, Cpu, CpuLine, Decision, Entry, EventLine, FileNo,
+    Frame, FrameLine, Grade, GuestLine, How, Layout, Line, List, MAX_SCRIPT, MarkLine, Mask,
+    McgBits, Met, Mode, OfflineResult, OfflinedLine, OutOfMemory, Outcome, Page, PageKind,
+    PageState, Policy, PrctlArgs, Proc, ReadScript, Reply, Report, Script, Seen, Severity, Signal,
+    Situation, Slots, Stop, StopCause, Text, Thread, ThreadDecl, VSlot, Version, What, Whereabouts,
+    Who, grade, handle, is_text, kind_name, policy_word, prctl, print, read, read_number, words_in,
 };

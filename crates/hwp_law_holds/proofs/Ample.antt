@@ -27,7 +27,7 @@ use Rattle.hwp_law_run.specs.hwp_law.Answers.{is_ample, named_frames, usable_fro
 use Rattle.hwp_law_run.proofs.Homes.{there-is}
 use Rattle.hwp_law_run.proofs.of_hwp_core_rule.MoreEntries.{each-append}
 use Rattle.hwp_soft.specs.hwp_claim_frame.Done.{Marking, marking_of, poisoning}
-use Rattle.hwp_law_run.specs.hwp_law.Places.{command_at}
+use Rattle.hwp_law_run.specs.hwp_law_commands.Commands.{command_at}
 use Rattle.hwp_soft.specs.hwp_claim.declared.Found.{Found}
 use Rattle.hwp_cpu_row.specs.declared.FrameChange.{FrameChange}
 use Rattle.hwp_cpu_row.specs.declared.FrameChange.TheVariants as owns

@@ -28,11 +28,10 @@ use Rattle.hwp_law_run.specs.hwp_report_text.declared.Answer.{Answer}
 use Rattle.hwp_law_run.specs.hwp_report_text.declared.Answer.TheVariants as answers
 use Rattle.hwp_law_run.specs.hwp_report_text.declared.Report.{Report}
 use Rattle.hwp_law_run.specs.hwp_banks.Banks.{Banks}
-use Rattle.hwp_law_run.specs.hwp_law.Commands.{current_thread, process_at, process_of_thread, thread_of}
+use Rattle.hwp_law_run.specs.hwp_law_commands.Commands.{command_at, current_thread, process_at, process_of_thread, thread_of}
 use Rattle.hwp_law_run.specs.hwp_law.Lines.{answer_of, answered, events_of}
 use Rattle.hwp_law_run.specs.hwp_law.Losses.{numbers_after}
-use Rattle.hwp_law_run.specs.hwp_law.Places.{command_at}
-use Rattle.hwp_law_run.specs.hwp_law.Records.{outcome_act}
+use Rattle.hwp_law_run.specs.hwp_law_commands.Outcomes.{outcome_act}
 use Rattle.hwp_soft.specs.hwp_claim.declared.Found.{Found}
 use Rattle.hwp_cpu_row.specs.declared.Row.{Row}
 use Rattle.hwp_cpu_row.specs.hwp_cpu_check.declared.EventOutcome.{EventOutcome}

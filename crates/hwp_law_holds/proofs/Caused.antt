@@ -16,9 +16,8 @@ use Rattle.hwp_law_run.specs.hwp_report_text.declared.CpuLine.TheVariants as lin
 use Rattle.hwp_law_run.specs.hwp_report_text.declared.Report.{Report}
 use Rattle.hwp_law_run.specs.hwp_report_text.declared.Stop.{Stop}
 use Rattle.hwp_law_run.specs.hwp_law.Causes.{AreCaused, IsHeeded, IsCaused as IsLawCaused, ends_machine}
-use Rattle.hwp_law_run.specs.hwp_law.Commands.{current_thread}
+use Rattle.hwp_law_run.specs.hwp_law_commands.Commands.{command_at, current_thread}
 use Rattle.hwp_law_run.specs.hwp_law.Halts.{CanStop as CanStopFor, IsStopOf, StopAgrees}
-use Rattle.hwp_law_run.specs.hwp_law.Places.{command_at}
 use Rattle.hwp_law_run.specs.hwp_law.Stops.{StaysStopped}
 use Rattle.hwp_cpu_row.specs.declared.Row.{Row}
 use Rattle.hwp_cpu_row.specs.hwp_cpu_check.declared.EventOutcome.{EventOutcome}

@@ -43,11 +43,10 @@ use Rattle.hwp_law_run.specs.hwp_script_read.declared.PrctlArgs.{PrctlArgs}
 use Rattle.hwp_law_run.specs.hwp_script_read.declared.Script.{Script}
 use Rattle.hwp_law_run.specs.hwp_report_text.declared.Answer.{Answer}
 use Rattle.hwp_law_run.specs.hwp_report_text.declared.Answer.TheVariants as answers
-use Rattle.hwp_law_run.specs.hwp_law.Answers.{reply_answer}
+use Rattle.hwp_law_run.specs.hwp_law_commands.Outcomes.{reply_answer}
 use Rattle.hwp_law_run.specs.hwp_report_text.declared.Acted.TheVariants as acts
-use Rattle.hwp_law_run.specs.hwp_law.Commands.{Access, access_of, process_at, process_of_thread, thread_of}
-use Rattle.hwp_law_run.specs.hwp_law.Places.{command_at}
-use Rattle.hwp_law_run.specs.hwp_law.Policies.{arguments, last_policy, settings}
+use Rattle.hwp_law_run.specs.hwp_law_commands.Commands.{Access, access_of, command_at, process_at, process_of_thread, thread_of}
+use Rattle.hwp_law_run.specs.hwp_law_commands.Settings.{arguments, last_policy, settings}
 use Rattle.hwp_law_run.specs.hwp_law.Runs.{slot_of}
 use Rattle.hwp_cpu_row.specs.declared.FrameChange.{FrameChange}
 use Rattle.hwp_cpu_row.specs.hwp_cpu_check.declared.EventOutcome.{EventOutcome}

@@ -27,10 +27,10 @@ use Rattle.hwp_law_run.specs.hwp_report_text.declared.Report.{Report}
 use Rattle.hwp_law_run.specs.hwp_report_text.declared.StopCause.{StopCause}
 use Rattle.hwp_law_run.specs.hwp_law.Causes.{ends_machine}
 use Rattle.hwp_law_run.specs.hwp_report_text.Acts.{is_panic, is_stopping}
-use Rattle.hwp_law_run.specs.hwp_law.Commands.{arrival_of}
+use Rattle.hwp_law_run.specs.hwp_law_commands.Commands.{arrival_of}
 use Rattle.hwp_law_run.specs.hwp_law.Halts.{CanStop as CanStopFor, Panics, is_panic_of}
 use Rattle.hwp_law_run.specs.hwp_law.Lines.{events_of}
-use Rattle.hwp_law_run.specs.hwp_law.Records.{outcome_act}
+use Rattle.hwp_law_run.specs.hwp_law_commands.Outcomes.{outcome_act}
 use Rattle.hwp_soft.specs.hwp_claim.declared.Found.{Found}
 use Rattle.hwp_cpu_row.specs.hwp_cpu_check.declared.EventOutcome.{EventOutcome}
 use Rattle.hwp_cpu_row.specs.hwp_cpu_check.Fits.{IsDone, IsFailed}

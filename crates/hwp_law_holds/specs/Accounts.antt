@@ -24,9 +24,10 @@ use Rattle.hwp_law_run.specs.hwp_report_text.declared.How.{How}
 use Rattle.hwp_law_run.specs.hwp_report_text.declared.How.TheVariants as hows
 use Rattle.hwp_law_run.specs.hwp_report_text.declared.MarkLine.{MarkLine}
 use Rattle.hwp_law_run.specs.hwp_report_text.declared.MarkLine.TheVariants as marks
-use Rattle.hwp_law_run.specs.hwp_law.Commands.{current_thread}
-use Rattle.hwp_law_run.specs.hwp_law.Policies.{arguments}
-use Rattle.hwp_law_run.specs.hwp_law.Records.{is_moved, outcome_answer}
+use Rattle.hwp_law_run.specs.hwp_law_commands.Commands.{current_thread}
+use Rattle.hwp_law_run.specs.hwp_law_commands.Settings.{arguments}
+use Rattle.hwp_law_run.specs.hwp_law_commands.Outcomes.{outcome_answer}
+use Rattle.hwp_law_run.specs.hwp_law.Records.{is_moved}
 use Rattle.hwp_soft.specs.hwp_claim.declared.Found.{Found}
 use Rattle.hwp_cpu_row.specs.declared.FrameChange.{FrameChange}
 use Rattle.hwp_cpu_row.specs.declared.FrameChange.TheVariants as owns

@@ -22,7 +22,7 @@ use Rattle.hwp_law_run.specs.hwp_script_read.declared.Command.{Command}
 use Rattle.hwp_law_run.specs.hwp_script_read.declared.Command.TheVariants as commands
 use Rattle.hwp_law_run.specs.hwp_report_text.declared.Answer.TheVariants as answers
 use Rattle.hwp_law_run.specs.hwp_banks.Banks.{Banks, empty_banks}
-use Rattle.hwp_law_run.specs.hwp_law.Policies.{settings}
+use Rattle.hwp_law_run.specs.hwp_law_commands.Settings.{settings}
 use Rattle.hwp_law_run.specs.hwp_words.Stops.{is_stopped}
 use Rattle.hwp_cpu_row.specs.declared.Row.{Row}
 use Rattle.hwp_cpu_row.specs.hwp_cpu_check.declared.EventOutcome.{EventOutcome}

@@ -32,10 +32,9 @@ use Rattle.hwp_law.specs.hwp_report_text.declared.Answer.TheVariants as answers
 use Rattle.hwp_law.specs.hwp_report_text.declared.CpuLine.{CpuLine}
 use Rattle.hwp_law.specs.hwp_report_text.declared.EventLine.{EventLine}
 use Rattle.hwp_law.specs.hwp_report_text.declared.Report.{Report}
-use Rattle.hwp_law.specs.Commands.{process_at}
+use Rattle.hwp_law.specs.hwp_law_commands.Commands.{command_at, process_at}
 use Rattle.hwp_law.specs.Lines.{answer_of, answered, events_of}
 use Rattle.hwp_law.specs.Losses.{numbers_after, tells_number}
-use Rattle.hwp_law.specs.Places.{command_at}
 use Rattle.hwp_law.specs.Runs.{slot_of}
 use Rattle.hwp_law_run.specs.Turns.{Finds, FindsBad, SawPage, TurnBy}
 

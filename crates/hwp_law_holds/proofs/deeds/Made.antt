@@ -15,7 +15,8 @@ use Rattle.hwp_law_run.specs.hwp_report_text.declared.CpuLine.TheVariants as lin
 use Rattle.hwp_law_run.specs.hwp_report_text.declared.Report.{Report}
 use Rattle.hwp_law_run.specs.hwp_law.Answers.{AreNamed, is_answering}
 use Rattle.hwp_law_run.specs.hwp_law.Entries.{AreMadeBy, CanStandIn, Makes}
-use Rattle.hwp_law_run.specs.hwp_law.Places.{command_at, entry_at}
+use Rattle.hwp_law_run.specs.hwp_law_commands.Commands.{command_at}
+use Rattle.hwp_law_run.specs.hwp_law.Places.{entry_at}
 use Rattle.hwp_law_run.specs.hwp_law.States.{entry_named}
 use Rattle.hwp_law_run.proofs.Reported.{entry-listed}
 use Rattle.hwp_cpu_row.specs.declared.Row.{Row}

@@ -24,7 +24,7 @@ use Rattle.hwp_law_run.specs.hwp_script_read.declared.Script.{Script}
 use Rattle.hwp_law_run.specs.hwp_report_text.declared.Answer.{Answer}
 use Rattle.hwp_law_run.specs.hwp_report_text.declared.Answer.TheVariants as answers
 use Rattle.hwp_law_run.specs.hwp_report_text.declared.Report.{Report}
-use Rattle.hwp_law_run.specs.hwp_law.Commands.{Access, access_of, process_of_thread, thread_of}
+use Rattle.hwp_law_run.specs.hwp_law_commands.Commands.{Access, access_of, process_of_thread, thread_of}
 use Rattle.hwp_law_run.specs.hwp_law.Endings.{EndingsStay, HasEnded, IsOver, WasGone}
 use Rattle.hwp_law_run.proofs.Reported.{entry-listed}
 use Rattle.hwp_cpu_row.specs.declared.FrameChange.{FrameChange}

@@ -24,9 +24,8 @@ use Rattle.hwp_law_run.specs.hwp_core_task.Boards.{view_of}
 use Rattle.hwp_law_run.specs.hwp_script_read.declared.Command.{Command}
 use Rattle.hwp_law_run.specs.hwp_script_read.declared.Script.{Script}
 use Rattle.hwp_law_run.specs.hwp_report_text.declared.Report.{Report}
-use Rattle.hwp_law_run.specs.hwp_law.Commands.{process_of_thread, thread_of}
+use Rattle.hwp_law_run.specs.hwp_law_commands.Commands.{command_at, process_of_thread, thread_of}
 use Rattle.hwp_law_run.specs.hwp_law.Endings.{HasEnding, IsGone}
-use Rattle.hwp_law_run.specs.hwp_law.Places.{command_at}
 use Rattle.hwp_law_run.proofs.Homes.{there-is}
 use Rattle.hwp_law_run.proofs.Reported.{home-of}
 use Rattle.hwp_law_holds.specs.Causes.{FoundGone}

@@ -25,9 +25,9 @@ use Rattle.hwp_law_run.specs.hwp_report_text.declared.EventLine.{EventLine}
 use Rattle.hwp_law_run.specs.hwp_report_text.declared.Report.{Report}
 use Rattle.hwp_law_run.specs.hwp_law.Checks.{IsCheck}
 use Rattle.hwp_law_run.specs.hwp_banks.Banks.{Banks, empty_banks}
-use Rattle.hwp_law_run.specs.hwp_law.Commands.{arrival_of}
+use Rattle.hwp_law_run.specs.hwp_law_commands.Commands.{arrival_of, is_check}
 use Rattle.hwp_law_run.specs.hwp_severity.declared.Arrival.{Arrival}
-use Rattle.hwp_law_run.specs.hwp_law.Events.{AreAccessChecks, AreEvents, AreEventsFrom, AreEventsOf, AreScrubbed, IsAccessChecked, IsDamaged, IsRaise, is_check, logged_if_done}
+use Rattle.hwp_law_run.specs.hwp_law.Events.{AreAccessChecks, AreEvents, AreEventsFrom, AreEventsOf, AreScrubbed, IsAccessChecked, IsDamaged, IsRaise, logged_if_done}
 use Rattle.hwp_law_run.specs.hwp_banks.Banks.{raw_event}
 use Rattle.hwp_law_run.specs.hwp_law.Events as law
 use Rattle.hwp_law_run.specs.hwp_law.Lines.{answer_of, events_of}

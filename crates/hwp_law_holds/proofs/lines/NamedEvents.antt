@@ -41,11 +41,10 @@ use Rattle.hwp_law_run.specs.hwp_core_rule.Lists.{EachMember}
 use Rattle.hwp_law_run.proofs.of_hwp_core_rule.Lists.{each-set}
 use Rattle.hwp_law_run.proofs.of_hwp_core_rule.MoreEntries.{each-append}
 use Rattle.hwp_law_run.specs.hwp_banks.Banks.{Banks, empty_banks, held_from, log_in}
-use Rattle.hwp_law_run.specs.hwp_law.Commands.{arrival_of}
+use Rattle.hwp_law_run.specs.hwp_law_commands.Commands.{arrival_of, command_at}
 use Rattle.hwp_law_run.specs.hwp_severity.declared.Arrival.{Arrival}
 use Rattle.hwp_law_run.specs.hwp_law.Events.{logged_if_done}
 use Rattle.hwp_law_run.specs.hwp_banks.Banks.{raw_bank, raw_event}
-use Rattle.hwp_law_run.specs.hwp_law.Places.{command_at}
 use Rattle.hwp_soft.specs.hwp_claim.declared.Found.{Found}
 use Rattle.hwp_cpu_row.specs.hwp_cpu_check.declared.Held.{Held}
 use Rattle.hwp_cpu_row.specs.declared.Row.{Row}

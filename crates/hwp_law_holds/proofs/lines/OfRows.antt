@@ -25,8 +25,9 @@ use Rattle.hwp_law_run.specs.hwp_script_read.declared.Script.{Script}
 use Rattle.hwp_law_run.specs.hwp_report_text.declared.Answer.{Answer}
 use Rattle.hwp_law_run.specs.hwp_report_text.declared.Answer.TheVariants as answers
 use Rattle.hwp_law_run.specs.hwp_report_text.declared.Report.{Report}
-use Rattle.hwp_law_run.specs.hwp_law.Commands.{current_thread}
-use Rattle.hwp_law_run.specs.hwp_law.Records.{is_kernel_found, is_moved, outcome_answer}
+use Rattle.hwp_law_run.specs.hwp_law_commands.Commands.{current_thread}
+use Rattle.hwp_law_run.specs.hwp_law_commands.Outcomes.{outcome_answer}
+use Rattle.hwp_law_run.specs.hwp_law.Records.{is_kernel_found, is_moved}
 use Rattle.hwp_law_run.proofs.Homes.{there-is}
 use Rattle.hwp_soft.specs.hwp_claim.declared.Found.{Found}
 use Rattle.hwp_cpu_row.specs.declared.FrameChange.{FrameChange}

@@ -31,9 +31,8 @@ use Rattle.hwp_law_run.specs.hwp_report_text.declared.MarkLine.{MarkLine}
 use Rattle.hwp_law_run.specs.hwp_report_text.declared.Report.{Report}
 use Rattle.hwp_law_run.specs.hwp_law.Causes.{HasMark}
 use Rattle.hwp_law_run.specs.hwp_law.Checks.{IsResult}
-use Rattle.hwp_law_run.specs.hwp_law.Commands.{current_thread}
+use Rattle.hwp_law_run.specs.hwp_law_commands.Commands.{command_at, current_thread}
 use Rattle.hwp_law_run.specs.hwp_law.Lines.{answer_of, marks_of}
-use Rattle.hwp_law_run.specs.hwp_law.Places.{command_at}
 use Rattle.hwp_law_run.specs.hwp_law.Records.{HaveEvents, is_kernel_found, IsAnswered, IsFound, IsFrameRecord, IsMarkAt, hardware_marks, how_in, is_by_hardware, is_moved, line_results, mark_results, result_lines, result_of, who_in}
 use Rattle.hwp_soft.specs.hwp_claim.declared.Found.{Found}
 use Rattle.hwp_cpu_row.specs.declared.FrameChange.{FrameChange}

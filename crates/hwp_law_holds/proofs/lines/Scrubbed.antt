@@ -27,7 +27,7 @@ use Rattle.hwp_law_run.specs.hwp_report_text.declared.Report.{Report}
 use Rattle.hwp_law_run.specs.hwp_banks.Banks.{Banks}
 use Rattle.hwp_law_run.specs.hwp_law.Events.{AreScrubbed, IsBadFound, IsScrubbed, IsWeakFound}
 use Rattle.hwp_law_run.specs.hwp_law.Lines.{answer_of}
-use Rattle.hwp_law_run.specs.hwp_law.Places.{command_at}
+use Rattle.hwp_law_run.specs.hwp_law_commands.Commands.{command_at}
 use Rattle.hwp_cpu_row.specs.declared.FrameChange.{FrameChange}
 use Rattle.hwp_cpu_row.specs.declared.Row.{Row}
 use Rattle.hwp_cpu_row.specs.hwp_cpu_check.declared.EventOutcome.{EventOutcome}

@@ -36,7 +36,7 @@ use Rattle.hwp_law_run.proofs.of_hwp_core_task.StepLeaves.{content_of}
 use Rattle.hwp_law_run.specs.hwp_core_task.Known.{deeds, is_by}
 use Rattle.hwp_law_run.proofs.of_hwp_core_task.MadeEntries.{PutsNone}
 use Rattle.hwp_law_run.specs.hwp_script_read.declared.Command.{Command}
-use Rattle.hwp_law_run.specs.hwp_law.Commands.{can_fail}
+use Rattle.hwp_law_run.specs.hwp_law_commands.Commands.{can_fail}
 use Rattle.hwp_law_run.specs.hwp_law.Entries.{Makes}
 use Rattle.hwp_cpu_row.specs.declared.Row.{Row}
 use Rattle.hwp_law_holds.specs.Accounts.{IsAccounted}

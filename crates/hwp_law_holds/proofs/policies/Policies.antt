@@ -37,11 +37,12 @@ use Rattle.hwp_law_run.specs.hwp_script_read.declared.Script.{Script}
 use Rattle.hwp_law_run.specs.hwp_report_text.declared.Answer.{Answer}
 use Rattle.hwp_law_run.specs.hwp_report_text.declared.CpuLine.{CpuLine}
 use Rattle.hwp_law_run.specs.hwp_report_text.declared.Report.{Report}
-use Rattle.hwp_law_run.specs.hwp_law.Commands.{can_fail}
+use Rattle.hwp_law_run.specs.hwp_law_commands.Commands.{can_fail}
 use Rattle.hwp_law_run.specs.hwp_law.Entries.{Makes}
 use Rattle.hwp_law_run.specs.hwp_law.Lines.{answer_among, answer_of, rows_of}
 use Rattle.hwp_law_run.specs.hwp_law.Places.{entry_at}
-use Rattle.hwp_law_run.specs.hwp_law.Policies.{commands_before, last_policy, setting_of, settings}
+use Rattle.hwp_law_run.specs.hwp_law_commands.Settings.{last_policy, setting_of, settings}
+use Rattle.hwp_law_run.specs.hwp_law.Policies.{commands_before}
 use Rattle.hwp_law_run.specs.hwp_law.SeenPolicies.{AreSeen, IsOwnCount, IsPolicySeen, SeenNeverFalls, commands_around, cpu_of_thread, is_done, seen_in, settings_done}
 use Rattle.hwp_law_run.proofs.Reported.{entry-listed}
 use Rattle.hwp_law_holds.specs.Accounts.{is_same, set_by}

@@ -18,7 +18,7 @@ use Rattle.hwp_law_run.specs.hwp_report_text.declared.Answer.{Answer}
 use Rattle.hwp_law_run.specs.hwp_report_text.declared.Answer.TheVariants as answers
 use Rattle.hwp_law_run.specs.hwp_report_text.declared.CpuLine.{CpuLine}
 use Rattle.hwp_law_run.specs.hwp_law.Lines.{answer_among}
-use Rattle.hwp_law_run.specs.hwp_law.Policies.{arguments, setting_of}
+use Rattle.hwp_law_run.specs.hwp_law_commands.Settings.{arguments, setting_of}
 use Rattle.hwp_law_run.specs.hwp_law.SeenPolicies.{is_done, settings_done}
 use Rattle.hwp_law_run.proofs.Homes.{there-is}
 use Rattle.hwp_law_holds.specs.Accounts.{is_same, set_by, set_for}

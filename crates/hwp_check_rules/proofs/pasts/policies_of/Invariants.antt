@@ -1,5 +1,5 @@
 use Rattle.std.proofs.Common.{◌≡◌, take}
-use Rattle.hwp_law.specs.Policies.{settings}
+use Rattle.hwp_law.specs.hwp_law_commands.Settings.{settings}
 use Rattle.hwp_check_rules.proofs.pasts.policies_of.Given as goal
 
 abbrev pub invariant-loop-command : goal.invariant-loop-command

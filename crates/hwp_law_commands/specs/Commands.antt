@@ -1,5 +1,5 @@
 -- What commands are: which access, in which thread and process, and in which state of the processor their machine checks come.
-use Rattle.std.specs.Prelude.{ℕ, Bool, true, false, Option, Some, None, slice_get, slice_index_or, option_and_then, option_map}
+use Rattle.std.specs.Prelude.{ℕ, Bool, true, false, List, Option, Some, None, slice_get, slice_index_or, option_and_then, option_map}
 use Rattle.hwp_script_read.specs.hwp_geom.declared.Frame.{Frame}
 use Rattle.hwp_script_read.specs.hwp_geom.declared.Layout.{Layout}
 use Rattle.hwp_script_read.specs.hwp_geom.declared.Mode.{Mode}
@@ -12,8 +12,13 @@ use Rattle.hwp_script_read.specs.hwp_geom.declared.Who.{Who}
 use Rattle.hwp_script_read.specs.declared.Command.{Command}
 use Rattle.hwp_script_read.specs.declared.Command.TheVariants as commands
 use Rattle.hwp_script_read.specs.declared.Script.{Script}
+use Rattle.hwp_report_text.specs.hwp_page.declared.What.{What}
+use Rattle.hwp_report_text.specs.hwp_page.declared.What.TheVariants as entries
 use Rattle.hwp_report_text.specs.hwp_severity.declared.Arrival.{Arrival}
-use Rattle.hwp_law.specs.Places.{command_at}
+
+-- the command of a processor with a number
+abbrev pub command_at : Script → Who → Option Command
+command_at script who = option_and_then (λ (list : List Command). slice_get list who.seq) (slice_get script.lists who.cpu.0)
 
 -- an access: its thread, the translation and the line
 pub record Access : Type 0 where
@@ -30,6 +35,11 @@ access_of (commands.Fetch thread slot line) = Some (access thread slot line)
 access_of (commands.KLoad thread slot line) = Some (access thread slot line)
 access_of (commands.Store thread slot line word) = Some (access thread slot line)
 access_of _ = None
+
+-- the entry is a machine check of an access
+abbrev pub is_check : What → Bool
+is_check (entries.Mce slot line mask) = true
+is_check _ = false
 
 -- the thread that a command's machine check comes in
 abbrev pub current_thread : Command → Option Thread

@@ -1,0 +1,1 @@
+pub use Rattle.hwp_report_text.proofs.of_hwp_page as of_hwp_page

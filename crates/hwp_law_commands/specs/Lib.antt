@@ -1,0 +1,11 @@
+pub mod Commands
+pub mod Settings
+pub mod Outcomes
+pub use Rattle.hwp_report_text.specs.hwp_banks as hwp_banks
+pub use Rattle.hwp_script_read.specs.hwp_geom as hwp_geom
+pub use Rattle.hwp_report_text.specs.hwp_kill as hwp_kill
+pub use Rattle.hwp_report_text.specs.hwp_page as hwp_page
+pub use Rattle.hwp_report_text.specs as hwp_report_text
+pub use Rattle.hwp_script_read.specs.hwp_script_lines as hwp_script_lines
+pub use Rattle.hwp_script_read.specs as hwp_script_read
+pub use Rattle.hwp_report_text.specs.hwp_severity as hwp_severity

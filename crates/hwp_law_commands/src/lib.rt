@@ -1,0 +1,15 @@
+//! What a command is apart from any report: its access, its thread and process, how its machine checks arrive, and which
+//! policies it sets. This crate has definitions alone; the tasks of commands cite them, and so does the report law.
+#![tactic(auto)]
+
+pub use hwp_report_text::{
+    Acted, Answer, Arrival, At, Code, CpuLine, Decision, Entry, EventLine, FrameLine, Grade,
+    GuestLine, How, MarkLine, McgBits, Met, OfflineResult, OfflinedLine, Outcome, PageState,
+    Policy, Reply, Report, Seen, Severity, Signal, Situation, Slots, Stop, StopCause, Version,
+    What, Whereabouts, grade, handle, policy_word, prctl, print,
+};
+pub use hwp_script_read::{
+    Command, Cpu, FileNo, Frame, Layout, Line, List, MAX_SCRIPT, Mask, Mode, OutOfMemory, Page,
+    PageKind, PrctlArgs, Proc, ReadScript, Script, Text, Thread, ThreadDecl, VSlot, Who, is_text,
+    kind_name, read, read_number, words_in,
+};
