@@ -44,7 +44,7 @@ def outcome(report: str) -> Outcome:
             found.append(("stop", " ".join(words[1:])))
         elif words[0] == "cpu":
             cpu = words[1]
-        elif cpu and words[0].isdigit() and words[1] != "event":
+        elif cpu and words[0].isdigit() and words[1] not in ("event", "offlined", "guest"):
             answer = words[1:]
             places = 2 if answer[0] == "done" and len(answer) == 3 else PLACES.get(answer[0], 0)
             found.append((f"{cpu} {words[0]}", " ".join(answer[: len(answer) - places])))

@@ -4,7 +4,7 @@ from __future__ import annotations
 from dataclasses import dataclass, field
 from typing import Iterator, NamedTuple, Optional
 
-from hwp_view.report import Entry, Line, Report
+from hwp_view.report import BESIDE_ANSWERS, Entry, Line, Report
 from hwp_view.script import Command, Script
 
 SIGNALLED = ("filedirty", "anononly", "lockedfile", "lockedanon")
@@ -128,7 +128,7 @@ def steps_of(script: Script, report: Report) -> list[Step]:
             who = (cpu, line.of("seq"))
             if line.words[1] == "event":
                 events.setdefault(who, []).append(event_of(line))
-            else:
+            elif line.words[1] not in BESIDE_ANSWERS:
                 answers[who] = line
     steps = {who: Step(script.commands[who[0]][who[1]], answers[who], events.get(who, []), [], []) for who in order_of(script)}
     for page, history in enumerate(report.pages):

@@ -5,7 +5,7 @@ import re
 from typing import Callable, Iterator, NamedTuple, Optional, Sequence
 
 from hwp_view.forms import NUMBER, Malformed, shown
-from hwp_view.report import Report
+from hwp_view.report import BESIDE_ANSWERS, Report
 from hwp_view.script import Script
 
 Words = tuple[str, ...]
@@ -64,7 +64,7 @@ def _fits(wanted: Words, said: Words, whole: bool) -> bool:
 
 def _answer(outcome: Outcome, numbers: Sequence[int]) -> list[Words]:
     """The answer of a command."""
-    return [words[1:] for words in _cpu_lines(outcome, numbers) if words[1] != "event"]
+    return [words[1:] for words in _cpu_lines(outcome, numbers) if words[1] != "event" and words[1] not in BESIDE_ANSWERS]
 
 
 def _events(outcome: Outcome, numbers: Sequence[int]) -> list[Words]:

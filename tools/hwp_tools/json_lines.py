@@ -6,7 +6,7 @@ import re
 from typing import Iterable, Iterator, NamedTuple, Optional, Sequence
 
 from hwp_view.forms import Malformed, lines_of_mask, shown
-from hwp_view.report import ANSWERS, Line, Report
+from hwp_view.report import ANSWERS, BESIDE_ANSWERS, Line, Report
 from hwp_view.script import Command, Page, Script
 from hwp_view.trace import WORDS, Fields, Turn, read_value, turn_text, value_text
 
@@ -44,6 +44,12 @@ FORMS: dict[str, list[str]] = {
     "signal": ["signal {process} {thread} {code} {trans}"],
     "cpu": ["cpu {cpu} {lines}"],
     "event": ["{command} event {bank} {status} {address} {misc} {row} {outcome}"],
+    "offlined": [
+        "{command} offlined {frame} {result:moved} {to} {page} {at}",
+        "{command} offlined {frame} {result:hasbad} {bad}",
+        "{command} offlined {frame} {result:takenfree,already,noframe,stopped}",
+    ],
+    "guest": ["{command} guest {bank} {status} {address} {misc} {row} {outcome}"],
     "answer": [],
     "end": ["end"],
 }
@@ -163,7 +169,8 @@ def report_records(script: Script, report: Report) -> Iterator[Json]:
     for cpu, lines in enumerate(report.cpus):
         yield {"record": "cpu", "cpu": cpu, "lines": len(lines)}
         for line in lines:
-            told = record("event" if line.words[1] == "event" else "answer", line.words)
+            kind = line.words[1] if line.words[1] == "event" or line.words[1] in BESIDE_ANSWERS else "answer"
+            told = record(kind, line.words)
             yield {"record": told.pop("record"), "cpu": cpu, **told, **_does(script.commands[cpu][line.of("seq")])}
     yield {"record": "end"}
 

@@ -5,7 +5,7 @@ import re
 from typing import NamedTuple, Optional, Sequence
 
 from hwp_view.forms import Malformed, fitted, value
-from hwp_view.report import CPU_LINE_SHAPES, ENTRIES, read_report
+from hwp_view.report import BESIDE_ANSWERS, CPU_LINE_SHAPES, ENTRIES, read_report
 from hwp_view.run import AFTER_ENTRIES
 from hwp_view.script import Command, Script, read_script
 
@@ -113,7 +113,7 @@ class Told:
         if self.words(place)[0] != "cpu":
             return None
         below = next((at for at in range(place + 1, len(self.lines)) if self.lines[at][0] == "cpu"), len(self.lines))
-        answered = {words[0] for words in self.lines[place + 1 : below] if words[1:2] != ["event"]}
+        answered = {words[0] for words in self.lines[place + 1 : below] if not set(words[1:2]) & {"event", *BESIDE_ANSWERS}}
         first = self._command([*self.lines[place][1:2], "0"])
         row = [] if first is None else self.script.commands[first.cpu]
         return next((command for command in row if str(command.seq) not in answered), None)

@@ -14,7 +14,7 @@ from hwp_tools.calling import Call, Folder, call
 from hwp_tools.json_cli import main
 from hwp_tools.json_lines import line_of, record
 from hwp_view.forms import CHOICES
-from hwp_view.report import CPU_LINE_SHAPES, ENTRIES, FRAMES, MARKS, SEEN, SIGNAL, STOPS
+from hwp_view.report import BESIDE_ANSWERS, CPU_LINE_SHAPES, ENTRIES, FRAMES, MARKS, SEEN, SIGNAL, STOPS
 
 HOME = Path(__file__).resolve().parents[2]
 # The kind of a line of a report, the line, and its record.
@@ -68,6 +68,15 @@ RECORDS: list[tuple[str, str, dict[str, object]]] = [
         "2 event 0 bd80000000000134 140 86 S9 recovered",
         {"command": 2, "bank": 0, "status": "0xbd80000000000134", "address": "0x140", "misc": "0x86", "row": "S9", "outcome": "recovered"},
     ),
+    ("offlined", "1 offlined 5 takenfree", {"command": 1, "frame": 5, "result": "takenfree"}),
+    ("offlined", "1 offlined 5 hasbad 3", {"command": 1, "frame": 5, "result": "hasbad", "bad": [0, 1]}),
+    ("offlined", "1 offlined 5 moved 6 0 4", {"command": 1, "frame": 5, "result": "moved", "to": 6, "page": 0, "at": 4}),
+    (
+        "guest",
+        "2 guest 0 bd80000000000134 140 86 S9 bad",
+        {"command": 2, "bank": 0, "status": "0xbd80000000000134", "address": "0x140", "misc": "0x86", "row": "S9", "outcome": "bad"},
+    ),
+    ("answer", "1 guestbad", {"command": 1, "answer": "guestbad"}),
     ("answer", "1 value 77 0 3", {"command": 1, "answer": "value", "content": "77", "page": 0, "at": 3}),
     ("answer", "1 moved 5 0 4", {"command": 1, "answer": "moved", "frame": 5, "page": 0, "at": 4}),
     ("answer", "1 done", {"command": 1, "answer": "done"}),
@@ -168,7 +177,8 @@ class Lines(Folder):
         shapes = [("stop", shape) for shape in STOPS] + [("frame", shape) for shape in FRAMES]
         shapes += [(shape.split()[0].strip("'"), shape) for shape in [*MARKS, *SEEN, SIGNAL[0]]]
         shapes += [("entry", f"'{verb} cpu seq {rest}") for verb, rests in ENTRIES.items() for rest in rests]
-        shapes += [("answer" if verb != "event" else "event", shape) for verb, rests in CPU_LINE_SHAPES.items() for shape in rests]
+        own = {"event", *BESIDE_ANSWERS}
+        shapes += [(verb if verb in own else "answer", shape) for verb, rests in CPU_LINE_SHAPES.items() for shape in rests]
         samples = {"row": "S9", "mask": "20", "status": "bd", "address": "1000", "misc": "86"}
         samples.update({slot: sorted(words)[0] for slot, words in CHOICES.items()})
         for kind, shape in shapes:

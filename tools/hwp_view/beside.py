@@ -51,7 +51,7 @@ def is_difference(row: Row) -> bool:
 
 
 def _commands(works: list[Work]) -> list[Cell]:
-    return [Cell(work.command.text, tuple(work.events + work.answers)) for work in works]
+    return [Cell(work.command.text, tuple(work.lines)) for work in works]
 
 
 def parts_of(one: Run, other: Run) -> list[tuple[str, list[Row]]]:

@@ -18,6 +18,7 @@ CHOICES: dict[str, frozenset[str]] = {
     "situation": frozenset("free kernel fileclean filedirty anononly swapclean swapdirty lockedclean lockedfile lockedanon".split()),
     "result": frozenset("recovered delayed ignored".split()),
     "outcome": frozenset("none keep deferred logged recovered delayed ignored already outside stop panic held".split()),
+    "taken": frozenset("bad stop".split()),
     "policy": frozenset("late early default".split()),
     "code": frozenset("ar ao".split()),
     "mode": frozenset("user kernel".split()),

@@ -8,7 +8,7 @@ from . import plain
 from .markup import badge, esc, item, plural, sources, tie
 from .order import Order
 from .report import Entry, Line
-from .run import Place, Run, Work, entry_named, sight_of, word_of
+from .run import Place, Run, Work, entry_named, moved_by, sight_of, word_of
 from .script import Command
 from .locks import Hold, Trace, Wait
 from .trace import turn_text, value_text
@@ -106,17 +106,17 @@ class Lanes:
         yield from self._lane(f"cpu{cpu}", f"Processor {cpu}", esc(about), map(self._command, works), "No commands.")
 
     def _command(self, work: Work) -> str:
-        """A command with its events and its answer."""
+        """A command with its events, what stands beside its answer, and its answer."""
         command = work.command
-        kinds = {plain.event_kind(event) for event in work.events} | {
-            plain.answer_kind(word_of(answer)) for answer in work.answers
-        }
+        kinds = {plain.event_kind(event) for event in work.events} | {plain.beside_kind(line) for line in work.beside}
+        kinds |= {plain.answer_kind(word_of(answer)) for answer in work.answers}
         kind = next((kind for kind in KINDS if kind in kinds), "fine" if work.answers else "refusal")
         says = plain.command_says(self.run.script, command)
         lines = [f'<b class="no">{command.seq}</b> <code>{esc(command.text)}</code>{self._frame_of(command)}']
         if self.is_aligned:
             lines[0] += f' <span class="why gloss">{esc(says)}</span>'
         lines += [f'<span class="ans">{self._event(event)}</span>' for event in work.events]
+        lines += [f'<span class="ans">{self._beside(line)}</span>' for line in work.beside]
         lines += [f'<span class="ans">{self._answer(answer, command)}</span>' for answer in work.answers]
         if not work.answers:
             lines.append(f'<span class="ans">{badge("refusal", "no answer")}in the report</span>')
@@ -127,7 +127,7 @@ class Lanes:
             "com waited" if self._waits(command) else "com",
             "\n".join(lines),
             script=f"{command.line} {command.text}",
-            report=sources(work.events + work.answers),
+            report=sources(work.lines),
             trace="\n".join(f"{wait.turn.number + 2} {turn_text(wait.turn)}" for wait in self._waits(command)),
             says=says,
             rows=self._rows(*self.order.spans[command.cpu][command.seq]),
@@ -174,6 +174,15 @@ class Lanes:
         link = "" if frame is None else tie(f"f{frame}", f"frame {frame}")
         status = f'<span class="why">{esc(plain.status_says(event.of("status")))}</span>'
         return f"{badge(plain.event_kind(event), 'event')}{esc(plain.event_says(event))} {status} {link}"
+
+    def _beside(self, line: Line) -> str:
+        """A frame that was taken out of use, or a machine check of a guest."""
+        shown = f"{badge(plain.beside_kind(line), word_of(line))}{esc(plain.beside_says(line))}"
+        if word_of(line) == "guest":
+            return f'{shown} <span class="why">{esc(plain.status_says(line.of("status")))}</span>'
+        frame, moved = line.of("frame"), moved_by(line)
+        link = "" if moved is None else " " + self._to_entry(moved, f"page {moved[0]} · {moved[1]}", "named")
+        return f"{shown} {tie(f'f{frame}', f'frame {frame}')}{link}"
 
     def _answer(self, answer: Line, command: Command) -> str:
         """An answer, and where it points."""

@@ -32,6 +32,8 @@ ANSWERS = {
     "hardwareseen": "some frame has failed by hardware",
     "gone": "its process was ended by a signal",
     "stopped": "the machine has stopped",
+    "gueststopped": "the guest has stopped",
+    "guestbad": "the guest uses this address no more",
     "takenfree": "no page was in the frame",
     "delayed": "the content is lost, nobody told yet",
     "ignored": "it stays in use",
@@ -146,6 +148,20 @@ def bad_lines(mask: int, kind: str = "bad") -> str:
     """The lines of a mask: `bad line 5`, `bad lines 5 to 8`."""
     lines = lines_of_mask(mask)
     return f"{kind} line{'' if len(lines) == 1 else 's'} {ranges(lines)}" if lines else f"no {kind} line"
+
+
+def beside_kind(line: Line) -> str:
+    """The kind of what stands beside an answer: a frame by what came of it, a guest's machine check as a failure."""
+    return "failure" if line.words[1] == "guest" else answer_kind(line.words[3])
+
+
+def beside_says(line: Line) -> str:
+    """What stands beside an answer: a frame and what came of it, or a guest's bank, the row of its event, and what was done."""
+    if line.words[1] == "guest":
+        return f"guest's bank {line.of('bank')}, {line.words[6]}: {line.words[7]}"
+    mask = line.get("mask")
+    found = "" if mask is None else f", {bad_lines(mask)}"
+    return f"frame {line.of('frame')}: {line.words[3]}{f' to frame {line.values[2]}' if line.words[3] == 'moved' else found}"
 
 
 def event_kind(event: Line) -> str:

@@ -37,6 +37,14 @@ ENTRIES = {
 SEEN = ["'seen thread policy count"]
 SIGNAL = ["'signal proc thread code trans"]
 EVENT = ["seq 'event bank status address misc row outcome"]
+# what stands beside the answer of a command: frames that it took out of use, and machine checks of a guest
+BESIDE_ANSWERS = {
+    "offlined": [
+        f"seq 'offlined frame {result}"
+        for result in ("'moved frame page entry", "'hasbad mask", "'takenfree", "'already", "'noframe", "'stopped")
+    ],
+    "guest": ["seq 'guest bank status address misc row taken"],
+}
 ANSWERS = {
     "value": ["word page entry"],
     "stored": ["page entry"],
@@ -58,7 +66,7 @@ ANSWERS = {
     "scrubbed": ["word"],
     "raised": ["word"],
 }
-BARE = "noframe stopped einval recovered delayed ignored already takenfree kernel notpoisoned hardwareseen"
+BARE = "noframe stopped einval recovered delayed ignored already takenfree kernel notpoisoned hardwareseen gueststopped guestbad"
 ANSWERS.update({word: [""] for word in BARE.split()})
 BOUNDS = {"line": 64, "bit": 2, "bank": 1 << 8, "row": 1 << 8, "cycle": 1 << 32, "signals": 17}
 
@@ -209,13 +217,13 @@ class _Reader:
         return Entry(line, seen, signals)
 
     def processor(self, number: int) -> tuple[Line, ...]:
-        """Reads the events and answers of a processor."""
+        """Reads the events and answers of a processor, and what stands beside them."""
         head = self.numbered(["'cpu cpu count"], f"the line of processor {number}", "cpu", number)
         self.cpu = number
         return tuple(self.cpu_line(number) for _ in range(head.of("count")))
 
     def cpu_line(self, number: int) -> Line:
-        """Reads an event or an answer."""
+        """Reads an event, an answer, or what stands beside an answer."""
         words = self.peek().split(" ")
         verb = words[1] if len(words) > 1 else ""
         return self.take(CPU_LINE_SHAPES.get(verb, []), f"an answer or an event of processor {number}")
@@ -238,10 +246,11 @@ class _Reader:
         return Report(stop, poisoned, files, frames, pages, cpus)
 
 
-_WORD_SLOTS = frozenset("situation result outcome policy code mode".split())
+_WORD_SLOTS = frozenset("situation result outcome taken policy code mode".split())
 _ENTRY_SHAPES = {verb: [f"'{verb} {WHO}{rest}".rstrip() for rest in shapes] for verb, shapes in ENTRIES.items()}
 CPU_LINE_SHAPES = {verb: [f"seq '{verb} {rest}".rstrip() for rest in shapes] for verb, shapes in ANSWERS.items()}
 CPU_LINE_SHAPES["event"] = EVENT
+CPU_LINE_SHAPES.update(BESIDE_ANSWERS)
 
 
 def read_report(data: bytes, script: Script) -> Report:

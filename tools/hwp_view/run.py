@@ -5,7 +5,7 @@ from collections import defaultdict
 from dataclasses import dataclass, field
 from typing import NamedTuple, Optional
 
-from .report import Line, Report
+from .report import BESIDE_ANSWERS, Line, Report
 from .script import Command, Script
 
 NAMES_ENTRY = frozenset("value stored sigbus done moved".split())
@@ -22,13 +22,20 @@ class Sight(NamedTuple):
 
 @dataclass
 class Work:
-    """A command with all that the report has of it: answers, events, the places of its entries and of its marks."""
+    """A command with all that the report has of it: answers, events, what stands beside its answer, the places of its
+    entries and of its marks."""
 
     command: Command
     answers: list[Line] = field(default_factory=list)
     events: list[Line] = field(default_factory=list)
+    beside: list[Line] = field(default_factory=list)
     entries: list[Place] = field(default_factory=list)
     marks: list[Place] = field(default_factory=list)
+
+    @property
+    def lines(self) -> list[Line]:
+        """Its lines below its processor."""
+        return self.events + self.beside + self.answers
 
     @property
     def answer(self) -> Optional[Line]:
@@ -45,6 +52,11 @@ def entry_named(answer: Line) -> Optional[Place]:
     """The place of the entry that an answer names."""
     named = word_of(answer) in NAMES_ENTRY and answer.get("entry") is not None
     return (answer.of("page"), answer.of("entry")) if named else None
+
+
+def moved_by(line: Line) -> Optional[Place]:
+    """The place of the entry by which a frame's page was moved, of a line that tells of a frame taken out of use."""
+    return (line.of("page"), line.of("entry")) if line.get("entry") is not None else None
 
 
 def sight_of(answer: Line) -> Optional[Sight]:
@@ -82,6 +94,12 @@ class Run:
                 work = self.works[cpu][line.of("seq")]
                 if word_of(line) == "event":
                     work.events.append(line)
+                    continue
+                if word_of(line) in BESIDE_ANSWERS:
+                    work.beside.append(line)
+                    moved = moved_by(line)
+                    if moved is not None:
+                        self.named_by[moved].append(work.command)
                     continue
                 work.answers.append(line)
                 named, sight = entry_named(line), sight_of(line)

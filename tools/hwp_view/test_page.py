@@ -16,7 +16,7 @@ from hwp_view.page import page_html
 from hwp_view.report import read_report
 from hwp_view.run import Run
 from hwp_view.script import read_script
-from hwp_view.test_readers import EXAMPLES, REPORT, SCRIPT
+from hwp_view.test_readers import BESIDE, EXAMPLES, REPORT, SCRIPT
 
 PROGRAM = Path(__file__).resolve().parents[2] / "bin" / "hwp-view"
 VOID = frozenset("meta link br input".split())
@@ -127,6 +127,15 @@ end
         )
         # `out 0` saw the page before it came into a frame; the second failure found what `unpoison 1` had taken back.
         self.assertEqual(Order(run_of(script, report)).spans, [[(2, 4), (5, 5), (7, 7)], [(1, 1), (6, 6)]])
+
+    def test_what_stands_beside_an_answer_is_shown(self) -> None:
+        read = read_script(SCRIPT.encode())
+        report = read_report((REPORT.split("cpu 0 ")[0] + BESIDE).encode(), read)
+        page, tree = "".join(page_html(read, report, "x")), Tree()
+        tree.feed(page)
+        self.assertTrue(tree.is_nested and not tree.open)
+        for text in ("frame 0: moved to frame 1", "frame 0: hasbad, bad lines 1, 3, 5", "guest&#x27;s bank 0, S10: stop", "guestbad"):
+            self.assertIn(text, page)
 
     def test_an_access_reaches_down_to_the_stop_that_it_answers(self) -> None:
         # Processor 1 met the bad line first, but the machine check of processor 0 stopped the machine.

@@ -6,7 +6,9 @@ import unittest
 from pathlib import Path
 
 from hwp_view.forms import Malformed
+from hwp_view.plain import beside_says
 from hwp_view.report import read_report
+from hwp_view.run import Run
 from hwp_view.script import read_script
 
 EXAMPLES = sorted((Path(__file__).resolve().parents[2] / "examples").glob("*.hwp"))
@@ -113,10 +115,34 @@ REPORTS = [
     ("0 stored 0 2", "0 stored 1 2", 12),
     ("1 value 77", "1 valued 77", 13),
     ("1 value 77 0 3", "1 event 0 bd 0 86 9 keep", 13),
+    ("1 value 77 0 3", "1 event 0 bd 0 86 S9 bad", 13),
+    ("1 value 77 0 3", "1 guest 0 bd 0 86 S9 keep", 13),
+    ("1 value 77 0 3", "1 guest 0 bd 0 86 S9", 13),
+    ("1 value 77 0 3", "1 guestbad 0", 13),
+    ("1 value 77 0 3", "1 offlined 0", 13),
+    ("1 value 77 0 3", "1 offlined 0 done", 13),
+    ("1 value 77 0 3", "1 offlined 2 takenfree", 13),
+    ("1 value 77 0 3", "1 offlined 0 moved 2 0 3", 13),
+    ("1 value 77 0 3", "1 offlined 0 moved 1 0", 13),
     ("end\n", "", 14),
     ("end\n", "end", 14),
     ("end\n", "end\n\n", 15),
 ]
+# Lines that may stand beside the answers of a processor, and answers of a guest, though no run has one yet.
+BESIDE = """cpu 0 11
+0 event 2 9c000000000000c0 40 86 S4 keep
+0 offlined 0 moved 1 0 3
+0 offlined 1 takenfree
+0 offlined 0 already
+0 offlined 0 hasbad 2a
+0 offlined 0 noframe
+0 offlined 0 stopped
+0 guestbad
+1 guest 0 bd80000000000134 140 86 S9 bad
+1 guest 0 bd80000000000150 140 86 S10 stop
+1 gueststopped
+end
+"""
 
 
 def count(pattern: str, text: str) -> int:
@@ -176,6 +202,17 @@ class Readers(unittest.TestCase):
                 said = self.refusal(lambda: read_report(REPORT.replace(old, new, 1).encode(), script))
                 self.assertTrue(said.startswith(f"report line {line}: "), said)
                 self.assertNotIn("\n", said)
+
+    def test_lines_beside_answers_are_read(self) -> None:
+        script = read_script(SCRIPT.encode())
+        run = Run(script, read_report((REPORT.split("cpu 0 ")[0] + BESIDE).encode(), script))
+        first, second = run.works[0]
+        self.assertEqual((len(first.events), len(first.beside), first.answer and first.answer.text), (1, 6, "0 guestbad"))
+        self.assertEqual((len(second.events), len(second.beside), second.answer and second.answer.text), (0, 2, "1 gueststopped"))
+        self.assertEqual([command.seq for command in run.named_by[(0, 3)]], [0])
+        said = [beside_says(line) for line in [*first.beside[:4], second.beside[0]]]
+        frames = ["frame 0: moved to frame 1", "frame 1: takenfree", "frame 0: already", "frame 0: hasbad, bad lines 1, 3, 5"]
+        self.assertEqual(said, [*frames, "guest's bank 0, S9: bad"])
 
     def test_every_byte_of_a_report_counts(self) -> None:
         script = read_script(SCRIPT.encode())

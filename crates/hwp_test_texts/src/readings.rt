@@ -18,6 +18,12 @@ const MARKED: &str =
 const ANSWERED: &str =
     "hwp-report 1\nstop 0 2 severity S8 1 fd800000000000c0 1 0 user\ncount 0\ncpu 0 4\n2 event 0 fd800000000000c0 1040 86 S9 recovered\n2 event 1 fd800000000000c0 1040 86 S8 stop\n2 event 2 fd800000000000c0 1040 86 S1 none\n2 event 0 fd800000000000c0 1040 86 S255 held\ncpu 1 28\n0 sigbus 255 10\n1 gone 255\n2 stopped\n3 done\n4 done 255 10\n5 notresident 255 10\n6 notmapped 255 10\n7 dirty 255 10\n8 mapped 255 10\n9 badlines 2a 255 10\n10 eio 10\n11 is 2\n12 einval\n13 recovered\n14 delayed\n15 ignored\n16 already\n17 moved 1 255 10\n18 takenfree\n19 kernel\n20 hasbad a\n21 notpoisoned\n22 hardwareseen\n23 inuse 10\n24 scrubbed 10\n25 raised 3\n26 opened 10\n27 locked 255 10\nend\n";
 
+const BESIDE: &str =
+    "hwp-report 2\nstop none\ncount 0\ncpu 0 10\n4 event 2 9c000000000000c0 40 86 S4 keep\n4 offlined 0 moved 1 0 3\n4 offlined 65535 takenfree\n4 offlined 2 already\n4 offlined 2 hasbad ffffffffffffffff\n4 offlined 3 noframe\n4 offlined 3 stopped\n4 scrubbed 1\n2 guest 0 bd80000000000134 140 86 S9 bad\n2 sigbus 0 4\ncpu 1 3\n2 guest 255 bd80000000000134 140 86 S10 stop\n3 guestbad\n3 gueststopped\nend\n";
+
+const BESIDE_OF_OLD: &str =
+    "hwp-report 1\nstop none\ncount 0\ncpu 0 4\n0 offlined 0 takenfree\n0 guest 0 bd80000000000134 140 86 S9 bad\n0 guestbad\n1 gueststopped\nend\n";
+
 /// The report that a text is read as is printed as the text.
 fn is_read(rt: &impl Abort, alloc: Global, text: &str) {
     let report = read(alloc, text.as_bytes()).ok().expect(rt, "a report");
@@ -31,6 +37,8 @@ fn a_report_is_read_as_it_is_printed(rt: HostRuntime) {
     is_read(&rt, rt.alloc(), FAILED);
     is_read(&rt, rt.alloc(), MARKED);
     is_read(&rt, rt.alloc(), ANSWERED);
+    is_read(&rt, rt.alloc(), BESIDE);
+    is_read(&rt, rt.alloc(), BESIDE_OF_OLD);
 }
 
 /// Texts that are no report's, and the line at which each is at fault.
@@ -119,4 +127,43 @@ fn are_at_fault(rt: &impl Abort, alloc: Global, rows: &[(&[u8], u64)]) {
 #[test]
 fn the_first_line_that_does_not_follow_is_at_fault(rt: HostRuntime) {
     are_at_fault(&rt, rt.alloc(), FAULTS);
+}
+
+/// What is no line of a processor: frames taken out of use and machine checks of guests that lack a word or have one more, and
+/// numbers and outcomes that these lines don't have.
+const NO_LINES: &[&[u8]] = &[
+    b"0 offlined\n",
+    b"0 offlined 0\n",
+    b"0 offlined 0 moved 1 0\n",
+    b"0 offlined 0 takenfree 1\n",
+    b"0 offlined 0 done\n",
+    b"0 offlined 0 kernel\n",
+    b"0 offlined 65536 takenfree\n",
+    b"0 offlined 00 already\n",
+    b"0 offlined 0 hasbad 0A\n",
+    b"0 guest 0 bd80000000000134 140 86 S9\n",
+    b"0 guest 0 bd80000000000134 140 86 S9 bad 0\n",
+    b"0 guest 0 bd80000000000134 140 86 S9 recovered\n",
+    b"0 guest 256 bd80000000000134 140 86 S9 bad\n",
+    b"0 event 0 bd80000000000134 140 86 S9 bad\n",
+    b"0 guestbad 0\n",
+    b"0 gueststopped 0 0\n",
+];
+
+/// Each is at fault where it stands as the first line of a processor.
+fn are_no_lines(rt: &impl Abort, alloc: Global, lines: &[&[u8]]) {
+    for line in lines {
+        let mut text = b"hwp-report 2\nstop none\ncount 0\ncpu 0 1\n"
+            .to_vec(alloc)
+            .expect(rt, "memory");
+        text.extend_from_slice(line).expect(rt, "memory");
+        text.extend_from_slice(b"end\n").expect(rt, "memory");
+        let fault = read(alloc, text.as_slice()).err();
+        assert!(rt; fault == Some(BadReport::Line(5)));
+    }
+}
+
+#[test]
+fn a_line_beside_an_answer_has_its_words_alone(rt: HostRuntime) {
+    are_no_lines(&rt, rt.alloc(), NO_LINES);
 }

@@ -1,8 +1,9 @@
 //! Reports beside their texts, written by hand: each kind of line, and the largest numbers.
 
 use hwp_report_text::{
-    Acted, Answer, At, Code, CpuLine, Entry, EventLine, FrameLine, How, MarkLine, McgBits, Outcome,
-    Policy, Report, Seen, Signal, Situation, Stop, StopCause, Version, What, Whereabouts, print,
+    Acted, Answer, At, Code, CpuLine, Entry, EventLine, FrameLine, GuestLine, How, MarkLine,
+    McgBits, OfflineResult, OfflinedLine, Outcome, Policy, Report, Seen, Signal, Situation, Stop,
+    StopCause, Version, What, Whereabouts, print,
 };
 use hwp_script_read::{Cpu, Frame, Line, List, Mask, Mode, Page, Proc, Thread, VSlot, Who};
 use std::alloc::Global;
@@ -412,4 +413,105 @@ fn a_report_with_each_kind_of_answer(rt: HostRuntime) {
     report.cpus.push(events(&rt, alloc)).expect(&rt, "memory");
     report.cpus.push(answers(&rt, alloc)).expect(&rt, "memory");
     is_printed(&rt, alloc, &report, ANSWERED);
+}
+
+/// Frames taken out of use beside the answers of commands, the machine checks of a guest, and the answers to what a guest does then.
+const BESIDE: &str = "hwp-report 2
+stop none
+count 0
+cpu 0 12
+4 event 2 9c000000000000c0 40 86 S4 keep
+4 offlined 0 moved 1 0 3
+4 offlined 1 takenfree
+4 offlined 2 already
+4 offlined 255 hasbad 2a
+4 offlined 3 noframe
+4 offlined 4 stopped
+4 scrubbed 1
+5 guest 0 bd80000000000134 140 86 S9 bad
+6 guest 255 bd80000000000150 141 0 S10 stop
+7 guestbad
+8 gueststopped
+end
+";
+
+/// What came of taking frames out of use.
+const OFFLINED: [(u16, OfflineResult); 6] = [
+    (0, OfflineResult::Moved(Frame(1), MOVE)),
+    (1, OfflineResult::TakenFree),
+    (2, OfflineResult::Already),
+    (255, OfflineResult::HasBad(Mask(0x2a))),
+    (3, OfflineResult::NoFrame),
+    (4, OfflineResult::Stopped),
+];
+
+const MOVE: At = At {
+    page: Page(0),
+    entry: 3,
+};
+
+const CORRECTED: CpuLine = CpuLine::Event(EventLine {
+    seq: 4,
+    bank: 2,
+    status: 0x9c00_0000_0000_00c0,
+    addr: 0x40,
+    misc: 0x86,
+    row: 4,
+    acted: Acted::Keep,
+});
+
+/// What stands behind the frames.
+const GUESTS: [CpuLine; 5] = [
+    CpuLine::Answer {
+        seq: 4,
+        answer: Answer::Scrubbed(1),
+    },
+    CpuLine::Guest(GuestLine {
+        seq: 5,
+        bank: 0,
+        status: 0xbd80_0000_0000_0134,
+        addr: 0x140,
+        misc: 0x86,
+        row: 9,
+        stops: false,
+    }),
+    CpuLine::Guest(GuestLine {
+        seq: 6,
+        bank: 255,
+        status: 0xbd80_0000_0000_0150,
+        addr: 0x141,
+        misc: 0,
+        row: 10,
+        stops: true,
+    }),
+    CpuLine::Answer {
+        seq: 7,
+        answer: Answer::GuestBad,
+    },
+    CpuLine::Answer {
+        seq: 8,
+        answer: Answer::GuestStopped,
+    },
+];
+
+#[test]
+fn a_report_with_lines_beside_the_answers(rt: HostRuntime) {
+    let alloc = rt.alloc();
+    let mut lines = List::new(alloc);
+    lines.push(CORRECTED).expect(&rt, "memory");
+    for (frame, result) in OFFLINED.iter() {
+        let line = OfflinedLine {
+            seq: 4,
+            frame: Frame(*frame),
+            result: *result,
+        };
+        lines.push(CpuLine::Offlined(line)).expect(&rt, "memory");
+    }
+    for line in GUESTS.iter() {
+        lines.push(*line).expect(&rt, "memory");
+    }
+    let mut report = empty(alloc);
+    report.version = Version::Two;
+    report.cpus.push(lines).expect(&rt, "memory");
+    is_printed(&rt, alloc, &report, BESIDE);
 }
