@@ -13,9 +13,10 @@ use Rattle.hwp_law_run.specs.hwp_report_text.declared.Answer.{Answer}
 use Rattle.hwp_law_run.specs.hwp_report_text.declared.CpuLine.{CpuLine}
 use Rattle.hwp_law_run.specs.hwp_report_text.declared.CpuLine.TheVariants as lines
 use Rattle.hwp_law_run.specs.hwp_report_text.declared.EventLine.{EventLine}
+use Rattle.hwp_law_run.specs.hwp_report_text.declared.OfflinedLine.{OfflinedLine}
 use Rattle.hwp_law_run.specs.hwp_report_text.declared.Report.{Report}
 use Rattle.hwp_law_run.proofs.of_hwp_law.Rows.{same_answer}
-use Rattle.hwp_law_run.specs.hwp_law.Lines.{AnswerLine, answer_among, answer_in, answer_of, event_in, events_among, events_of}
+use Rattle.hwp_law_run.specs.hwp_law.Lines.{AnswerLine, answer_among, answer_in, answer_of, event_in, events_among, events_of, offlined_among, offlined_in, offlined_of}
 use Rattle.hwp_cpu_row.specs.declared.Row.{Row}
 use Rattle.hwp_cpu_row.specs.hwp_cpu_check.declared.EventOutcome.{EventOutcome}
 use Rattle.hwp_law_holds.specs.Rows.{event_at, event_line, lines_from, row_lines}
@@ -53,8 +54,8 @@ first-of (x ∷ xs) ys zero y there = there
 first-of (x ∷ xs) ys (suc i) y there = first-of xs ys i y there
 
 abbrev is_answer : CpuLine → Bool
-is_answer (lines.Event event) = false
 is_answer (lines.Answer seq answer) = true
+is_answer line = false
 
 -- a row has one answer, which stands last
 in-row : (seq : ℕ) (answer : Answer) (told : List EventOutcome) (i m : ℕ) (a : Answer) → slice_get (map (event_line seq) told ++ lines.Answer seq answer ∷ []) i ≡ Some (lines.Answer m a) → (i ≡ length told) × (seq ≡ m) × (answer ≡ a)
@@ -130,6 +131,20 @@ events-in n row = by row.told
     by : (told : List EventOutcome) → filter_map event_in (map (event_line n) told ++ lines.Answer n row.answer ∷ []) ≡ map (event_at n) told
     by [] = refl
     by (t ∷ ts) = ap (λ (l : List EventLine). event_at n t ∷ l) (by ts)
+
+offlined-in : (n : ℕ) (row : Row) → filter_map offlined_in (row_lines n row) ≡ []
+offlined-in n row = by row.told
+  where
+    by : (told : List EventOutcome) → filter_map offlined_in (map (event_line n) told ++ lines.Answer n row.answer ∷ []) ≡ []
+    by [] = refl
+    by (t ∷ ts) = by ts
+
+-- no row tells of a frame taken out of use beside its answer
+offlined-at : (m n : ℕ) (rows : List Row) → offlined_among (lines_from n rows) m ≡ []
+offlined-at m n [] = refl
+offlined-at m n (row ∷ rows) =
+    ap (filter (λ (l : OfflinedLine). m == l.seq)) (filter_map-append offlined_in (row_lines n row) (lines_from (n + 1) rows) ∙ ap (λ (l : List OfflinedLine). l ++ filter_map offlined_in (lines_from (n + 1) rows)) (offlined-in n row))
+    ∙ offlined-at m (n + 1) rows
 
 pub answers-split : (n : ℕ) (row : Row) (rows : List Row) → filter_map answer_in (lines_from n (row ∷ rows)) ≡ record { seq = n; answer = row.answer } ∷ filter_map answer_in (lines_from (n + 1) rows)
 answers-split n row rows = filter_map-append answer_in (row_lines n row) (lines_from (n + 1) rows) ∙ ap (λ (l : List AnswerLine). l ++ filter_map answer_in (lines_from (n + 1) rows)) (answers-in n row)
@@ -221,3 +236,12 @@ module _ (script : Script) (seat : Cpu → ℕ) (last : State) (report : Report)
       which (Some own) some =
           let list = list-of script seat last report end who.cpu (subst (λ (n : ℕ). who.cpu.0 < n) end.rows_fit (slice_get_within end.rows who.cpu.0 own some)) in
           ap (λ (o : Option (List CpuLine)). events_among (unwrap_or o []) who.seq) (served-of script seat last report end who.cpu list.0 own list.1 some).1 ∙ past own (slice_get own who.seq) refl
+
+  pub none-offlined : (who : Who) → offlined_of report who ≡ []
+  none-offlined who = which (slice_get report.cpus who.cpu.0) refl
+    where
+      which : (o : Option (List CpuLine)) → slice_get report.cpus who.cpu.0 ≡ o → offlined_among (unwrap_or o []) who.seq ≡ []
+      which None none = refl
+      which (Some found) there =
+          let has = rows-of-lines script seat last report end who.cpu found there in
+          ap (λ (l : List CpuLine). offlined_among l who.seq) has.lines_are ∙ offlined-at who.seq 0 has.own

@@ -16,6 +16,7 @@ pub mod FrameRecords
 pub mod RecordLines
 pub mod LineOrder
 pub mod Records
+pub mod SoftLines
 pub mod FrameLines
 pub mod Recorded
 pub mod Framed

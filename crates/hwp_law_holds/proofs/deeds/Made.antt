@@ -1,5 +1,5 @@
--- Each entry of the report is one that its command makes, and the one that answers it is named.
-use Rattle.std.proofs.Common.{◌≡◌, ℕ, List, Option, Some, IsTrue, slice_get, option_and_then, sym, ap, ◌∙◌, subst, arith}
+-- Each entry of the report is one that its command makes, and one that answers it is named.
+use Rattle.std.proofs.Common.{◌≡◌, ℕ, List, Option, Some, IsTrue, slice_get, option_and_then, refl, sym, ap, ◌∙◌, subst, arith}
 use Rattle.std.specs.Prelude.{IsSomeAnd}
 use Rattle.hwp_law_run.specs.hwp_geom.declared.Cpu.{Cpu}
 use Rattle.hwp_law_run.specs.hwp_geom.declared.Page.{Page}
@@ -66,9 +66,10 @@ module _ (script : Script) (seat : Cpu → ℕ) (last : State) (report : Report)
   entries-named at e is answers =
       let d = does at e is in
       let line = answer-line 0 d.of.own e.who.seq e.who.seq d.of.row d.of.row_is (omega arith) in (
-        d.of.row.answer,
+        lines.Answer e.who.seq d.of.row.answer,
         line.0,
         some-so (λ (rows : List CpuLine). slice_get rows line.0 ≡ Some (lines.Answer e.who.seq d.of.row.answer)) (slice_get report.cpus e.who.cpu.0) (lines_from 0 d.of.own)
             (served-of script seat last report end e.who.cpu d.of.list d.of.own d.of.list_is d.of.own_is).1 line.1,
+        refl,
         d.named answers,
       )

@@ -1,5 +1,6 @@
 -- What the marks of a command have in the histories: an entry for each failure that found a page in its frame, with a thread that needed
--- the page exactly where row S9 graded the event, and one for each soft offline that moved a page; and its answer for one at most.
+-- the page exactly where row S9 graded the event, and one for each soft offline that moved a page; and in its lines: one for each soft
+-- offline of a frame, and its answer for one mark of an `inject` or `unpoison` at most.
 use Rattle.std.proofs.Common.{◌≡◌, inl, inr, ℕ, suc, ◌+◌, ◌<◌, ◌≤◌, ◌==◌, ◌&&◌, not, Bool, true, false, cond, List, [], ◌∷◌, ◌++◌, Option, Some, None, is_some, filter_map, length, map, option_and_then, option_map, slice_get, refl, sym, ap, ◌∙◌, subst, arith, true≢false}
 use Rattle.std.specs.List.{cons_option, count_by, sum_by, zip}
 use Rattle.std.proofs.lemmas.Bool.{and_left, and_right, cases_lt, false_from_ne_true}
@@ -28,15 +29,19 @@ use Rattle.hwp_law_run.specs.hwp_core_task.Known.{deeds, is_by}
 use Rattle.hwp_soft.specs.hwp_claim_act.declared.Failed.{Failed}
 use Rattle.hwp_soft.specs.hwp_claim_act.Abandoned as abandoned
 use Rattle.hwp_soft.specs.hwp_claim.Fails.{IsPageless}
+use Rattle.hwp_law_run.specs.hwp_script_read.declared.Command.{Command}
 use Rattle.hwp_law_run.specs.hwp_script_read.declared.Script.{Script}
+use Rattle.hwp_law_run.specs.hwp_report_text.declared.Answer.{Answer}
 use Rattle.hwp_law_run.specs.hwp_report_text.declared.FrameLine.{FrameLine}
 use Rattle.hwp_law_run.specs.hwp_report_text.declared.MarkLine.{MarkLine}
+use Rattle.hwp_law_run.specs.hwp_report_text.declared.OfflinedLine.{OfflinedLine}
 use Rattle.hwp_law_run.specs.hwp_report_text.declared.Report.{Report}
-use Rattle.hwp_law_run.specs.hwp_law_commands.Commands.{current_thread}
+use Rattle.hwp_law_run.specs.hwp_report_text.Offlines.{offline_answer}
+use Rattle.hwp_law_run.specs.hwp_law_commands.Commands.{command_at, current_thread}
 use Rattle.hwp_law_run.specs.hwp_report_text.declared.EventLine.{EventLine}
-use Rattle.hwp_law_run.specs.hwp_law.Lines.{is_same_command}
-use Rattle.hwp_law_run.specs.hwp_law.Pairings.{AreRecorded, entries_of, finds, has_page, is_commands, is_failure, is_failure_mark, is_move, is_move_mark, is_required, is_soft, is_urgent, marks_in, situation_number, urgent_from}
-use Rattle.hwp_law_run.specs.hwp_law.Records.{hardware_marks, how_in, is_by_hardware, result_lines, who_in}
+use Rattle.hwp_law_run.specs.hwp_law.Lines.{answer_of, is_same_command, marks_of, offlined_of}
+use Rattle.hwp_law_run.specs.hwp_law.Pairings.{AreRecorded, entries_of, finds, has_page, is_commands, is_failure, is_failure_mark, is_move, is_move_mark, is_required, is_soft, is_soft_mark, is_soft_of, is_take, is_urgent, marks_in, says_soft, situation_number, soft_lines, urgent_from}
+use Rattle.hwp_law_run.specs.hwp_law.Records.{hardware_marks, how_in, is_commanded, result_lines, who_in}
 use Rattle.hwp_law_run.proofs.Homes.{there-is}
 use Rattle.hwp_soft.specs.hwp_claim.declared.Found.{Found}
 use Rattle.hwp_cpu_row.specs.declared.FrameChange.{FrameChange}
@@ -50,18 +55,20 @@ use Rattle.hwp_cpu_row.specs.hwp_cpu_check.Told.{frame_of, required_by}
 use Rattle.hwp_law_holds.specs.Accounts.{failures_in, own_failure}
 use Rattle.hwp_law_holds.specs.Rows.{Note, note_by, note_of, own_note, told_note}
 use Rattle.hwp_law_holds.specs.Runs.{row_at}
-use Rattle.hwp_law_holds.proofs.RunEnds.{IsEnd, list-of, rows-of, served-of}
+use Rattle.hwp_law_holds.proofs.RunEnds.{IsEnd, command-of, list-of, rows-of, served-of}
 use Rattle.hwp_law_holds.proofs.PoisonMarks.{same-who}
-use Rattle.hwp_law_holds.proofs.RowLines.{told_at}
+use Rattle.hwp_law_holds.proofs.RowLines.{answer-told, none-offlined, told_at}
 use Rattle.hwp_law_holds.proofs.Seen.{filter-is}
 use Rattle.hwp_law_holds.proofs.Sums.{below-front, below-same, sum-same}
 use Rattle.hwp_law_holds.proofs.deeds.CountedEntries.{entries-inside, entries-outside}
+use Rattle.hwp_law_holds.proofs.deeds.Made.{command-is}
 use Rattle.hwp_law_holds.proofs.deeds.Softs.{moves_by, softs-counted}
-use Rattle.hwp_law_holds.proofs.marks.CountedMarks.{marks-of-command}
+use Rattle.hwp_law_holds.proofs.marks.CountedMarks.{marks-of-command, marks-on-frame}
 use Rattle.hwp_law_holds.proofs.marks.RowNotes.{notes_at}
 use Rattle.hwp_law_holds.proofs.lines.OfRows.{OfRow, own-of, right-of, row-of}
 use Rattle.hwp_law_holds.proofs.lines.RecordLines.{same-situation}
 use Rattle.hwp_law_holds.proofs.lines.Records.{hardware-are, results-of, told-line}
+use Rattle.hwp_law_holds.proofs.lines.SoftLines.{no-soft, soft_by, soft-said}
 use Rattle.hwp_law_holds.proofs.lines.RowEvents.{found_on, hardware_line, on-frames, urgent-counts, urgent_weight, weigh}
 use Rattle.hwp_law_holds.proofs.lines.ToldRight.{IsRight}
 
@@ -93,6 +100,19 @@ count-more {A} f test l o =
     let picked : count_by test (filter_map f l) ≡ sum_by (λ (x : A). counts test (f x)) l = count-picked f test l in
     let last : count_by test (cons_option o []) ≡ counts test o + 0 = count-option test o [] in
     omega (arith, both, picked, last)
+
+-- ---- the soft offlines of a frame
+
+-- the lines and the notes that say so, and the number of lines by what the command is and says
+abbrev is_soft_line : Bool → MarkLine → Bool
+is_soft_line moved x = cond moved (is_move (how_in x)) (is_take (how_in x))
+
+abbrev on_frame : Frame → Bool → Note → Bool
+on_frame frame moved n = (n.0.0 == frame.0) && is_soft_line moved n.1
+
+abbrev by_lines : Frame → Bool → Option Command → Option Answer → List OfflinedLine → ℕ
+by_lines frame moved command answer list =
+    cond (is_soft_of frame command && says_soft moved answer) 1 0 + count_by (λ (l : OfflinedLine). (l.frame.0 == frame.0) && says_soft moved (Some (offline_answer l.result))) list
 
 -- ---- the entries of a command
 
@@ -227,6 +247,23 @@ module _ (script : Script) (seat : Cpu → ℕ) (last : State) (report : Report)
   marks-without : (test : MarkLine → Bool) → row_at end.rows who ≡ None → marks_in report (λ (x : MarkLine). is_same_command who (who_in x) && test x) ≡ 0
   marks-without test none = marks-of-command script seat last report end who test ∙ ap (λ (o : Option Row). count_by (λ (n : Note). test n.1) (notes_at who o)) none
 
+  -- and its lines, of which there are none, say nothing
+  softs-without : (frame : Frame) (moved : Bool) → row_at end.rows who ≡ None → count_by (is_soft_mark who moved) (marks_of report frame.0) ≡ soft_lines script report who frame moved
+  softs-without frame moved none =
+      marks-on-frame script seat last report end who frame (is_soft_line moved) ∙ ap (λ (o : Option Row). count_by (on_frame frame moved) (notes_at who o)) none
+      ∙ sym (ap (λ (o : Option Command). by_lines frame moved o (answer_of report who) (offlined_of report who)) (no-command (command_at script who) refl)
+      ∙ ap (by_lines frame moved None (answer_of report who)) (none-offlined script seat last report end who))
+    where
+      listed : (command : Command) (o : Option (List Command)) → slice_get script.lists who.cpu.0 ≡ o → option_and_then (λ (l : List Command). slice_get l who.seq) o ≡ Some command → ⊥
+      listed command None list_is is = none-some command is
+      listed command (Some list) list_is is =
+          let has = command-of script seat last report end who list command list_is is in
+          none-some has.row (sym none ∙ ap (λ (o : Option (List Row)). option_and_then (λ (l : List Row). slice_get l who.seq) o) has.own_is ∙ has.row_is)
+
+      no-command : (o : Option Command) → command_at script who ≡ o → command_at script who ≡ None
+      no-command None is = is
+      no-command (Some command) is = absurd (listed command (slice_get script.lists who.cpu.0) refl is)
+
   -- ---- with one
 
   module _ (row : Row) (row_is : row_at end.rows who ≡ Some row) where
@@ -289,22 +326,48 @@ module _ (script : Script) (seat : Cpu → ℕ) (last : State) (report : Report)
 
     one-with : marks_in report (is_commands who) ≤ 1
     one-with =
-        let all : marks_in report (is_commands who) ≡ sum_by (λ (t : EventOutcome). counts (λ (n : Note). not (is_by_hardware n.1)) (told_note who t)) row.told + counts (λ (n : Note). not (is_by_hardware n.1)) (own_note who row.own) = marks-are (λ (x : MarkLine). not (is_by_hardware x)) in
-        let told : sum_by (λ (t : EventOutcome). counts (λ (n : Note). not (is_by_hardware n.1)) (told_note who t)) row.told ≡ 0 = sum-zero (λ (t : EventOutcome). counts (λ (n : Note). not (is_by_hardware n.1)) (told_note who t)) row.told (λ i t there. still t.found t) in
-        let own : counts (λ (n : Note). not (is_by_hardware n.1)) (own_note who row.own) ≤ 1 = one row.own in
+        let all : marks_in report (is_commands who) ≡ sum_by (λ (t : EventOutcome). counts (λ (n : Note). is_commanded n.1) (told_note who t)) row.told + counts (λ (n : Note). is_commanded n.1) (own_note who row.own) = marks-are (λ (x : MarkLine). is_commanded x) in
+        let told : sum_by (λ (t : EventOutcome). counts (λ (n : Note). is_commanded n.1) (told_note who t)) row.told ≡ 0 = sum-zero (λ (t : EventOutcome). counts (λ (n : Note). is_commanded n.1) (told_note who t)) row.told (λ i t there. still t.found t) in
+        let own : counts (λ (n : Note). is_commanded n.1) (own_note who row.own) ≤ 1 = one row.own in
         omega (arith, all, told, own)
       where
-        still : (o : Option Found) (t : EventOutcome) → counts (λ (n : Note). not (is_by_hardware n.1)) (option_map (note_of who true (frame_of t.held)) o) ≡ 0
+        still : (o : Option Found) (t : EventOutcome) → counts (λ (n : Note). is_commanded n.1) (option_map (note_of who true (frame_of t.held)) o) ≡ 0
         still None t = refl
         still (Some found) t = refl
 
-        one : (o : Option FrameChange) → counts (λ (n : Note). not (is_by_hardware n.1)) (own_note who o) ≤ 1
+        one : (o : Option FrameChange) → counts (λ (n : Note). is_commanded n.1) (own_note who o) ≤ 1
         one None = omega arith
-        one (Some own) = few (is_by_hardware (note_by who own).1)
+        one (Some own) = few (is_commanded (note_by who own).1)
           where
-            few : (b : Bool) → flag (not b) ≤ 1
+            few : (b : Bool) → flag b ≤ 1
             few true = omega arith
             few false = omega arith
+
+    -- for a frame its answer says so, where it did so to the frame itself
+    softs-with : (frame : Frame) (moved : Bool) → count_by (is_soft_mark who moved) (marks_of report frame.0) ≡ soft_lines script report who frame moved
+    softs-with frame moved =
+        let all : count_by (is_soft_mark who moved) (marks_of report frame.0) ≡ sum_by (λ (t : EventOutcome). counts (on_frame frame moved) (told_note who t)) row.told + counts (on_frame frame moved) (own_note who row.own)
+        = marks-on-frame script seat last report end who frame (is_soft_line moved) ∙ ap (λ (o : Option Row). count_by (on_frame frame moved) (notes_at who o)) row_is ∙ count-more (told_note who) (on_frame frame moved) row.told (own_note who row.own) in
+        let told : sum_by (λ (t : EventOutcome). counts (on_frame frame moved) (told_note who t)) row.told ≡ 0 = sum-zero (λ (t : EventOutcome). counts (on_frame frame moved) (told_note who t)) row.told (λ i t there. still t.found t) in
+        let own : counts (on_frame frame moved) (own_note who row.own) ≡ soft_by frame moved row.own = softs row.own in
+        let said : soft_by frame moved row.own ≡ cond (is_soft_of frame (Some of.of.command) && says_soft moved (Some of.of.row.answer)) 1 0
+        = ap (λ (r : Row). soft_by frame moved r.own) (sym of.same) ∙ soft-said frame moved script.layout of.of.list view who of.of.command of.of.row.told of.of.row.own of.of.row.answer of.of.served.caused of.of.served.accounted.own in
+        let lines : soft_lines script report who frame moved ≡ cond (is_soft_of frame (Some of.of.command) && says_soft moved (Some of.of.row.answer)) 1 0 + 0
+        = ap (λ (o : Option Command). by_lines frame moved o (answer_of report who) (offlined_of report who)) (command-is script who of.of.list of.of.command of.of.list_is of.of.command_is)
+        ∙ ap (λ (o : Option Answer). by_lines frame moved (Some of.of.command) o (offlined_of report who)) (answer-told script seat last report end view who of.of)
+        ∙ ap (by_lines frame moved (Some of.of.command) (Some of.of.row.answer)) (none-offlined script seat last report end who) in
+        omega (arith, all, told, own, said, lines)
+      where
+        still : (o : Option Found) (t : EventOutcome) → counts (on_frame frame moved) (option_map (note_of who true (frame_of t.held)) o) ≡ 0
+        still None t = refl
+        still (Some found) t = no-soft ((frame_of t.held).0 == frame.0) moved
+
+        softs : (o : Option FrameChange) → counts (on_frame frame moved) (own_note who o) ≡ soft_by frame moved o
+        softs None = refl
+        softs (Some (owns.Failed f found)) = no-soft (f.0 == frame.0) moved
+        softs (Some (owns.Offlined f cycle true)) = refl
+        softs (Some (owns.Offlined f cycle false)) = refl
+        softs (Some (owns.Revived f cycle)) = no-soft (f.0 == frame.0) moved
 
     within : EachMember (λ (t : EventOutcome). (found : Found) → t.found ≡ Some found → frame_at t.held.event.addr < length report.frames) row.told
     within i t there found some = let line = told-line script seat last report end who row row_is i t found there some in slice_get_within report.frames (frame_at t.held.event.addr) line.0 line.1
@@ -326,21 +389,23 @@ module _ (script : Script) (seat : Cpu → ℕ) (last : State) (report : Report)
       subst (λ (k : ℕ). count_by (is_urgent situation) (zip (hardware_marks who l.marks) (result_lines report who k)) ≡ weight k) (sym same) (urgent-is situation i l there)))
       ∙ below-same (λ i. weight (0 + i)) weight (length report.frames) (λ i before. ap weight (let same : 0 + i ≡ i = omega arith in same))
 
-  pub recorded : AreRecorded report who
+  pub recorded : AreRecorded script report who
   recorded = which (row_at end.rows who) refl
     where
-      which : (o : Option Row) → row_at end.rows who ≡ o → AreRecorded report who
+      which : (o : Option Row) → row_at end.rows who ≡ o → AreRecorded script report who
       which None none = record {
         failures = λ situation page. entries-without (is_failure situation) none ∙ sym (marks-without (λ (x : MarkLine). finds situation (how_in x)) none);
         required = λ situation page. entries-without (is_required situation) none ∙ sym (all-urgent situation ∙ ap (λ (o : Option Row). sum_below (λ i. sum_by (urgent_weight situation) (found_on i (told_at o))) (length report.frames)) none
             ∙ on-frames (urgent_weight situation) (length report.frames) [] (λ i t there. absurd (none-some t there)));
         moves = entries-without is_soft none ∙ sym (marks-without (λ (x : MarkLine). is_move (how_in x)) none);
-        one = (let few : marks_in report (is_commands who) ≡ 0 = marks-without (λ (x : MarkLine). not (is_by_hardware x)) none in omega (arith, few));
+        softs = λ frame moved. softs-without frame moved none;
+        one = (let few : marks_in report (is_commands who) ≡ 0 = marks-without (λ (x : MarkLine). is_commanded x) none in omega (arith, few));
       }
       which (Some row) some = record {
         failures = failures-with row some;
         required = λ situation page. required-with row some situation page
             ∙ sym (all-urgent situation ∙ ap (λ (o : Option Row). sum_below (λ i. sum_by (urgent_weight situation) (found_on i (told_at o))) (length report.frames)) some ∙ on-frames (urgent_weight situation) (length report.frames) row.told (within row some));
         moves = moves-with row some;
+        softs = softs-with row some;
         one = one-with row some;
       }

@@ -1,5 +1,5 @@
--- The record of a frame: each line is of a failure of the frame, with what it found and its result, or of a soft offline; a command's
--- own is its answer, and those of its events stand beside the event lines that tell them.
+-- The record of a frame: each line is of a failure of the frame, with what it found and its result, or of a soft offline; that of an
+-- `inject` or `unpoison` is its answer, and those of a command's events stand beside the event lines that tell them.
 use Rattle.std.proofs.Common.{◌≡◌, inl, inr, ℕ, zero, suc, ◌==◌, ◌&&◌, Bool, true, false, cond, List, [], ◌∷◌, ◌++◌, Option, Some, None, filter, filter_map, is_some, length, map, option_map, slice_get, unwrap_or, refl, sym, ap, ◌∙◌, subst}
 use Rattle.std.specs.List.{cons_option}
 use Rattle.std.proofs.lemmas.Bool.{eq-eqb}
@@ -33,7 +33,7 @@ use Rattle.hwp_law_run.specs.hwp_law.Causes.{HasMark}
 use Rattle.hwp_law_run.specs.hwp_law.Checks.{IsResult}
 use Rattle.hwp_law_run.specs.hwp_law_commands.Commands.{command_at, current_thread}
 use Rattle.hwp_law_run.specs.hwp_law.Lines.{answer_of, marks_of}
-use Rattle.hwp_law_run.specs.hwp_law.Records.{HaveEvents, is_kernel_found, IsAnswered, IsFound, IsFrameRecord, IsMarkAt, hardware_marks, how_in, is_by_hardware, is_moved, line_results, mark_results, result_lines, result_of, who_in}
+use Rattle.hwp_law_run.specs.hwp_law.Records.{HaveEvents, is_kernel_found, IsAnswered, IsFound, IsFrameRecord, IsMarkAt, hardware_marks, how_in, is_by_hardware, line_results, mark_results, result_lines, result_of, who_in}
 use Rattle.hwp_soft.specs.hwp_claim.declared.Found.{Found}
 use Rattle.hwp_cpu_row.specs.declared.FrameChange.{FrameChange}
 use Rattle.hwp_cpu_row.specs.declared.FrameChange.TheVariants as owns
@@ -155,10 +155,8 @@ module _ (script : Script) (seat : Cpu → ℕ) (last : State) (report : Report)
         → IsAnswered script report frame (note_by who own).1
     own-answered who command answer (owns.Failed f found) right frame_is at told =
         (at ∙ ap (λ (c : Command). Some c) right.command_is ∙ ap (λ (y : Frame). Some (commands.Inject y)) frame_is, told ∙ ap (λ (a : Answer). Some a) right.answer_is)
-    own-answered who command answer (owns.Offlined f cycle true) right frame_is at told =
-        (at ∙ ap (λ (c : Command). Some c) right.command_is ∙ ap (λ (y : Frame). Some (commands.Soft y)) frame_is, ap is_moved told ∙ right.answer_is)
-    own-answered who command answer (owns.Offlined f cycle false) right frame_is at told =
-        (at ∙ ap (λ (c : Command). Some c) right.command_is ∙ ap (λ (y : Frame). Some (commands.Soft y)) frame_is, told ∙ ap (λ (a : Answer). Some a) right.answer_is)
+    own-answered who command answer (owns.Offlined f cycle true) right frame_is at told = tt
+    own-answered who command answer (owns.Offlined f cycle false) right frame_is at told = tt
     own-answered who command answer (owns.Revived f cycle) right frame_is at told =
         (at ∙ ap (λ (c : Command). Some c) right.command_is ∙ ap (λ (y : Frame). Some (commands.Unpoison y)) frame_is, told ∙ ap (λ (a : Answer). Some a) right.answer_is)
 

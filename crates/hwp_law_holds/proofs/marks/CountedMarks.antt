@@ -1,8 +1,9 @@
--- How many lines of the records tell of a command: as many as the notes of its row.
-use Rattle.std.proofs.Common.{◌≡◌, ℕ, ◌+◌, ◌<◌, ◌==◌, ◌&&◌, Bool, true, false, cond, List, [], ◌∷◌, Some, filter, length, slice_get, refl, sym, ap, ◌∙◌, subst, arith}
+-- How many lines of the records tell of a command: as many as the notes of its row, in all records and in that of one frame.
+use Rattle.std.proofs.Common.{◌≡◌, ℕ, ◌+◌, ◌<◌, ◌==◌, ◌&&◌, Bool, true, false, cond, List, [], ◌∷◌, Option, None, Some, filter, length, option_map, slice_get, unwrap_or, refl, sym, ap, ◌∙◌, subst, arith}
 use Rattle.std.specs.List.{count_by, sum_by}
+use Rattle.std.proofs.lemmas.Bool.{ne_eqb}
 use Rattle.std.proofs.lemmas.List.Sums.{sum_by-cons}
-use Rattle.std.proofs.lemmas.Option.{slice_get_within}
+use Rattle.std.proofs.lemmas.Option.{none-some, slice_get_within}
 use Rattle.hwp_law_run.specs.hwp_geom.declared.Cpu.{Cpu}
 use Rattle.hwp_law_run.specs.hwp_geom.declared.Frame.{Frame}
 use Rattle.hwp_law_run.specs.hwp_geom.declared.Who.{Who}
@@ -11,16 +12,17 @@ use Rattle.hwp_law_run.specs.hwp_core_rule.declared.View.{View}
 use Rattle.hwp_law_run.specs.hwp_core_rule.Lists.{EachMember}
 use Rattle.hwp_law_run.specs.hwp_core_rule.Words.{sum_below, words_of}
 use Rattle.hwp_law_run.proofs.of_hwp_core_rule.CountsBelow.{below-swap}
-use Rattle.hwp_law_run.proofs.of_hwp_core_rule.Lists.{at_map}
+use Rattle.hwp_law_run.proofs.of_hwp_core_rule.Lists.{at_map, sum-zero}
 use Rattle.hwp_law_run.proofs.of_hwp_core_rule.MoveKeeps.{shaped}
 use Rattle.hwp_law_run.specs.hwp_core_task.Boards.{view_of}
 use Rattle.hwp_law_run.specs.hwp_script_read.declared.Script.{Script}
 use Rattle.hwp_law_run.specs.hwp_report_text.declared.FrameLine.{FrameLine}
 use Rattle.hwp_law_run.specs.hwp_report_text.declared.MarkLine.{MarkLine}
 use Rattle.hwp_law_run.specs.hwp_report_text.declared.Report.{Report}
-use Rattle.hwp_law_run.specs.hwp_law.Lines.{is_same_command}
+use Rattle.hwp_law_run.specs.hwp_law.Lines.{is_same_command, marks_of}
 use Rattle.hwp_law_run.specs.hwp_law.Pairings.{marks_in}
 use Rattle.hwp_law_run.specs.hwp_law.Records.{who_in}
+use Rattle.hwp_law_run.proofs.Homes.{there-is}
 use Rattle.hwp_law_holds.specs.Accounts.{IsNote}
 use Rattle.hwp_law_holds.specs.Rows.{Note}
 use Rattle.hwp_law_holds.specs.Runs.{notes_of, notes_on, row_at}
@@ -36,16 +38,22 @@ cond-and true b = refl
 cond-and false b = refl
 
 -- the notes of a command that pass a test
-noted-count : (who : Who) (test : MarkLine → Bool) (own : List Note) → count_by (λ (n : Note). is_same_command who (who_in n.1) && test n.1) own ≡ count_by (λ (n : Note). test n.1) (filter (is_noted who) own)
+noted-count : (who : Who) (test : Note → Bool) (own : List Note) → count_by (λ (n : Note). is_same_command who (who_in n.1) && test n) own ≡ count_by test (filter (is_noted who) own)
 noted-count who test [] = refl
 noted-count who test (n ∷ ns) =
-    sum_by-cons (λ (x : Note). cond (is_same_command who (who_in x.1) && test x.1) 1 0) n ns
-    ∙ ap (λ (k : ℕ). cond (is_same_command who (who_in n.1) && test n.1) 1 0 + k) (noted-count who test ns)
+    sum_by-cons (λ (x : Note). cond (is_same_command who (who_in x.1) && test x) 1 0) n ns
+    ∙ ap (λ (k : ℕ). cond (is_same_command who (who_in n.1) && test n) 1 0 + k) (noted-count who test ns)
     ∙ which (is_same_command who (who_in n.1)) (filter (is_noted who) ns)
   where
-    which : (b : Bool) (left : List Note) → cond (b && test n.1) 1 0 + count_by (λ (x : Note). test x.1) left ≡ count_by (λ (x : Note). test x.1) (cond b (n ∷ left) left)
-    which true left = sym (sum_by-cons (λ (x : Note). cond (test x.1) 1 0) n left)
+    which : (b : Bool) (left : List Note) → cond (b && test n) 1 0 + count_by test left ≡ count_by test (cond b (n ∷ left) left)
+    which true left = sym (sum_by-cons (λ (x : Note). cond (test x) 1 0) n left)
     which false left = omega arith
+
+and-swap : (a b c : Bool) → (a && (b && c)) ≡ (b && (a && c))
+and-swap true true c = refl
+and-swap true false c = refl
+and-swap false true c = refl
+and-swap false false c = refl
 
 module _ (script : Script) (seat : Cpu → ℕ) (last : State) (report : Report) (end : IsEnd script seat last report) where
   -- the frame of a note is one of the report
@@ -78,5 +86,28 @@ module _ (script : Script) (seat : Cpu → ℕ) (last : State) (report : Report)
   marks-of-command who test =
       marks-notes (λ (x : MarkLine). is_same_command who (who_in x) && test x)
       ∙ sym (flat-sum (λ (n : Note). cond (is_same_command who (who_in n.1) && test n.1) 1 0) (λ (own : List Note). own) (notes_of 0 end.rows))
-      ∙ noted-count who test (all_notes (notes_of 0 end.rows))
+      ∙ noted-count who (λ (n : Note). test n.1) (all_notes (notes_of 0 end.rows))
       ∙ ap (count_by (λ (n : Note). test n.1)) (notes-of-command who end.rows)
+
+  -- the lines of a frame's record that pass a test are as many as its notes that do, also where the report has no such frame
+  frame-notes : (frame : Frame) (test : MarkLine → Bool) → count_by test (marks_of report frame.0) ≡ sum_by (notes_on frame test) (notes_of 0 end.rows)
+  frame-notes frame test = which (slice_get report.frames frame.0) refl
+    where
+      which : (o : Option FrameLine) → slice_get report.frames frame.0 ≡ o → count_by test (unwrap_or (option_map (λ (l : FrameLine). l.marks) o) []) ≡ sum_by (notes_on frame test) (notes_of 0 end.rows)
+      which None none =
+          sym (sum-zero (notes_on frame test) (notes_of 0 end.rows) (λ c own there. sum-zero (λ (n : Note). cond ((n.0.0 == frame.0) && test n.1) 1 0) own (λ j n at.
+          ap (λ (b : Bool). cond (b && test n.1) 1 0) (ne_eqb n.0.0 frame.0 (λ is.
+          let line = there-is report.frames frame.0 (subst (λ (k : ℕ). k < length report.frames) is (framed c own there j n at)) in
+          none-some line.0 (sym none ∙ line.1))))))
+      which (Some line) there = record-same (notes_of 0 end.rows) frame line.marks test (end.records frame line there)
+
+  -- those of a command are the notes of its row
+  pub marks-on-frame : (who : Who) (frame : Frame) (test : MarkLine → Bool)
+      → count_by (λ (x : MarkLine). is_same_command who (who_in x) && test x) (marks_of report frame.0) ≡ count_by (λ (n : Note). (n.0.0 == frame.0) && test n.1) (notes_at who (row_at end.rows who))
+  marks-on-frame who frame test =
+      frame-notes frame (λ (x : MarkLine). is_same_command who (who_in x) && test x)
+      ∙ sym (flat-sum (λ (n : Note). cond ((n.0.0 == frame.0) && (is_same_command who (who_in n.1) && test n.1)) 1 0) (λ (own : List Note). own) (notes_of 0 end.rows))
+      ∙ sum-same (λ (n : Note). cond ((n.0.0 == frame.0) && (is_same_command who (who_in n.1) && test n.1)) 1 0) (λ (n : Note). cond (is_same_command who (who_in n.1) && ((n.0.0 == frame.0) && test n.1)) 1 0) (all_notes (notes_of 0 end.rows))
+      (λ j n at. ap (λ (b : Bool). cond b 1 0) (and-swap (n.0.0 == frame.0) (is_same_command who (who_in n.1)) (test n.1)))
+      ∙ noted-count who (λ (n : Note). (n.0.0 == frame.0) && test n.1) (all_notes (notes_of 0 end.rows))
+      ∙ ap (count_by (λ (n : Note). (n.0.0 == frame.0) && test n.1)) (notes-of-command who end.rows)
