@@ -14,13 +14,12 @@ use Rattle.hwp_core.specs.hwp_core_rule.declared.Stamp.{Stamp}
 use Rattle.hwp_core.specs.hwp_core_rule.declared.Step.{Step}
 use Rattle.hwp_core.specs.hwp_core_rule.declared.Step.TheVariants as steps
 use Rattle.hwp_core.specs.hwp_core_rule.declared.View.{View}
-use Rattle.hwp_core.specs.hwp_core_rule.Lists.{EachMember}
 use Rattle.hwp_core.specs.hwp_core_rule.Logs.{log_of}
 use Rattle.hwp_core.specs.hwp_core_rule.Views.{is_body_of}
 use Rattle.std.specs.List.{find}
 use Rattle.hwp_core.specs.hwp_core_task.Calls.{Steps, logs}
-use Rattle.hwp_core.specs.hwp_core_task.Known.{HasMade, IsAt, deeds}
-use Rattle.hwp_core.proofs.of_hwp_core_task.MadeEntries.{Lists, ListsNone, deeds-none, deeds-one, deeds-same, frame-lists, has-made, has-made-stays, page-lists}
+use Rattle.hwp_core.specs.hwp_core_task.Known.{HasMadeBeside, IsAt, deeds}
+use Rattle.hwp_core.proofs.of_hwp_core_task.MadeEntries.{Lists, ListsNone, deeds-none, deeds-one, deeds-same, frame-lists, has-made-beside, has-made-stays, only-of-none, page-lists}
 use Rattle.hwp_core.proofs.of_hwp_core_task.SightKeeps.{saw-bad-of-stays, saw-stays, saw-state-stays}
 use Rattle.hwp_core.specs.declared.release.Release.{Release}
 use Rattle.hwp_core.specs.declared.release.ReleaseAt.{ReleaseAt}
@@ -53,10 +52,10 @@ module _ {layout : Layout} {by : Who} {step : Step} {put : Option Log} {old new 
   refusal-stays {who} {page} {what} {refusal} saw = record { page_is = saw.page_is; state = saw-state-stays made saw.state; lines = lines-stay who page refusal saw.lines }
 
   -- where no entry more is the command's, what it answers stays so
-  pub caused-stays : (who : Who) (page : Page) (what : Eviction) (answer : EvictAnswer) → deeds who new ≡ deeds who old → IsCaused layout old who page what answer → IsCaused layout new who page what answer
-  caused-stays who page what answers.Stopped same is = (same ∙ is.0, record { word = is.1.word; saw = saw-stays made is.1.saw; stopped = is.1.stopped })
-  caused-stays who page what (answers.Done at) same is = (is.0, has-made-stays who old new same is.1)
-  caused-stays who page what (answers.Refused refusal at) same is = (same ∙ is.0, refusal-stays is.1)
+  pub caused-stays : (base : List Made) (who : Who) (page : Page) (what : Eviction) (answer : EvictAnswer) → deeds who new ≡ deeds who old → IsCaused base layout old who page what answer → IsCaused base layout new who page what answer
+  caused-stays base who page what answers.Stopped same is = (same ∙ is.0, record { word = is.1.word; saw = saw-stays made is.1.saw; stopped = is.1.stopped })
+  caused-stays base who page what (answers.Done at) same is = (is.0, has-made-stays who old new same is.1)
+  caused-stays base who page what (answers.Refused refusal at) same is = (same ∙ is.0, refusal-stays is.1)
 
   -- and what it will answer too, while its body stays in hand
   comes-stay : (who : Who) (page : Page) (what : Eviction) (answer : EvictAnswer) (taken : InHand) (body : BodyValue) → Comes layout old who page what answer taken body → Comes layout new who page what answer taken body
@@ -64,8 +63,8 @@ module _ {layout : Layout} {by : Who} {step : Step} {put : Option Log} {old new 
   comes-stay who page what (answers.Done at) taken body comes = comes
   comes-stay who page what (answers.Refused refusal at) taken body comes = (comes.0, refusal-stays comes.1)
 
-  pub ahead-stays : {who : Who} {page : Page} {what : Eviction} {answer : EvictAnswer} {body : BodyValue} → deeds who new ≡ deeds who old → new.bodies ≡ old.bodies → IsAhead layout old who page what answer body → IsAhead layout new who page what answer body
-  ahead-stays {who} {page} {what} {answer} {body} same bodies ahead = record {
+  pub ahead-stays : {base : List Made} {who : Who} {page : Page} {what : Eviction} {answer : EvictAnswer} {body : BodyValue} → deeds who new ≡ deeds who old → new.bodies ≡ old.bodies → IsAhead base layout old who page what answer body → IsAhead base layout new who page what answer body
+  ahead-stays {base} {who} {page} {what} {answer} {body} same bodies ahead = record {
     taken = ahead.taken;
     there = subst (λ (l : List InHand). find (is_body_of body.page) l ≡ Some ahead.taken) (sym bodies) ahead.there;
     page_is = ahead.page_is;
@@ -75,29 +74,26 @@ module _ {layout : Layout} {by : Who} {step : Step} {put : Option Log} {old new 
 
 -- when the body is home, the command has made what it answers
 module _ {layout : Layout} {who : Who} {page : Page} {what : Eviction} {step : Step} {put : Option Log} {old new : View} {found : ℕ} {got : Option BodyValue} {stamp : Stamp} {body : BodyValue} (made : Steps layout who step put old new found got) where
-  comes-home : (answer : EvictAnswer) (ahead : IsAhead layout old who page what answer body) → Lists old new stamp ahead.taken (log_of body) → IsCaused layout new who page what answer
-  comes-home answer ahead lists = which answer ahead.comes
+  comes-home : {base : List Made} (answer : EvictAnswer) (ahead : IsAhead base layout old who page what answer body) → Lists old new stamp ahead.taken (log_of body) → IsCaused base layout new who page what answer
+  comes-home {base} answer ahead lists = which answer ahead.comes
     where
-      none : EachMember (λ (m : Made). ⊥) (deeds who old)
-      none = subst (EachMember (λ (m : Made). ⊥)) (sym ahead.made_none) (λ i m at. none-some m at)
-
-      which : (a : EvictAnswer) → Comes layout old who page what a ahead.taken body → IsCaused layout new who page what a
+      which : (a : EvictAnswer) → Comes layout old who page what a ahead.taken body → IsCaused base layout new who page what a
       which answers.Stopped comes = absurd comes
       which (answers.Refused refusal at) comes = (deeds-none who lists comes.0 ∙ ahead.made_none, refusal-stays made comes.1)
-      which (answers.Done at) comes = subst (λ (a : At). (a.page ≡ page) × HasMade (λ (m : Made). ⊥) new who page a.entry (entry_of what)) (sym comes.1) (
+      which (answers.Done at) comes = subst (λ (a : At). (a.page ≡ page) × HasMadeBeside base (λ (m : Made). ⊥) new who page a.entry (entry_of what)) (sym comes.1) (
         refl,
-        has-made who old new one.0 one.1
-            (subst (λ (p : Page). IsAt p (length ahead.taken.log.entries) (entry_of what) one.0) ahead.page_is one.2) none,
+        has-made-beside who old new one.0 one.1 (subst (λ (p : Page). IsAt p (length ahead.taken.log.entries) (entry_of what) one.0) ahead.page_is one.2)
+            (only-of-none old who ahead.made_none),
       )
         where
           one : (m : Made) × (deeds who new ≡ deeds who old ++ m ∷ []) × IsAt body.page (length ahead.taken.log.entries) (entry_of what) m
           one = deeds-one who lists (record { who = who; what = entry_of what }) comes.0 refl
 
-module _ {layout : Layout} {who : Who} {page : Page} {what : Eviction} {old new : View} {found : ℕ} {got : Option BodyValue} {answer : EvictAnswer} {body : BodyValue} (ahead : IsAhead layout old who page what answer body) where
-  pub home-by-frame : {frame : Frame} → Steps layout who (steps.UnlockFrame frame) (Some (log_of body)) old new found got → IsCaused layout new who page what answer
+module _ {base : List Made} {layout : Layout} {who : Who} {page : Page} {what : Eviction} {old new : View} {found : ℕ} {got : Option BodyValue} {answer : EvictAnswer} {body : BodyValue} (ahead : IsAhead base layout old who page what answer body) where
+  pub home-by-frame : {frame : Frame} → Steps layout who (steps.UnlockFrame frame) (Some (log_of body)) old new found got → IsCaused base layout new who page what answer
   home-by-frame made = comes-home made answer ahead (frame-lists ahead.there made)
 
-  pub home-by-page : {other : Page} → Steps layout who (steps.UnlockPage other) (Some (log_of body)) old new found got → IsCaused layout new who page what answer
+  pub home-by-page : {other : Page} → Steps layout who (steps.UnlockPage other) (Some (log_of body)) old new found got → IsCaused base layout new who page what answer
   home-by-page made = comes-home made answer ahead (page-lists ahead.there made)
 
 -- once the page is being let go, its body has gone home
@@ -122,14 +118,14 @@ home-after u found = which u.at
     which unhold_at.Over = refl
 
 -- a step by which a page is let go leaves the answer caused, or causes it
-pub unhold-causes : {layout : Layout} {old new : View} (page : Page) (what : Eviction) (u : Unhold) {step : Step} {found : ℕ} {got : Option BodyValue} (answer : EvictAnswer) → unholds.plan u ≡ Some step
-    → Steps layout u.who step (logs (unholds.put u)) old new found got → KnowsPut layout old u.who page what answer (unholds.put u) → IsCaused layout new u.who page what answer
-unhold-causes {layout} {old} {new} page what u {step} {found} {got} answer is made knows = which u.at is made knows
+pub unhold-causes : (base : List Made) {layout : Layout} {old new : View} (page : Page) (what : Eviction) (u : Unhold) {step : Step} {found : ℕ} {got : Option BodyValue} (answer : EvictAnswer) → unholds.plan u ≡ Some step
+    → Steps layout u.who step (logs (unholds.put u)) old new found got → KnowsPut base layout old u.who page what answer (unholds.put u) → IsCaused base layout new u.who page what answer
+unhold-causes base {layout} {old} {new} page what u {step} {found} {got} answer is made knows = which u.at is made knows
   where
-    which : (x : UnholdAt) → unholds.plan_at u.page x ≡ Some step → Steps layout u.who step (logs (unholds.put_at x)) old new found got → KnowsPut layout old u.who page what answer (unholds.put_at x) → IsCaused layout new u.who page what answer
-    which (unhold_at.UnlockFrame frame count None) e made knows = caused-stays made u.who page what answer (deeds-same u.who (subst ListsNone (same_Some (steps.UnlockFrame frame) step e) tt) made) knows
+    which : (x : UnholdAt) → unholds.plan_at u.page x ≡ Some step → Steps layout u.who step (logs (unholds.put_at x)) old new found got → KnowsPut base layout old u.who page what answer (unholds.put_at x) → IsCaused base layout new u.who page what answer
+    which (unhold_at.UnlockFrame frame count None) e made knows = caused-stays made base u.who page what answer (deeds-same u.who (subst ListsNone (same_Some (steps.UnlockFrame frame) step e) tt) made) knows
     which (unhold_at.UnlockFrame frame count (Some body)) e made knows = home-by-frame knows (steps-planned e made)
-    which (unhold_at.Release r) e made knows = caused-stays made u.who page what answer (deeds-same u.who (release-lists r step e) made) knows
-    which (unhold_at.UnlockPage None) e made knows = caused-stays made u.who page what answer (deeds-same u.who (subst ListsNone (same_Some (steps.UnlockPage u.page) step e) tt) made) knows
+    which (unhold_at.Release r) e made knows = caused-stays made base u.who page what answer (deeds-same u.who (release-lists r step e) made) knows
+    which (unhold_at.UnlockPage None) e made knows = caused-stays made base u.who page what answer (deeds-same u.who (subst ListsNone (same_Some (steps.UnlockPage u.page) step e) tt) made) knows
     which (unhold_at.UnlockPage (Some body)) e made knows = home-by-page knows (steps-planned e made)
     which unhold_at.Over e made knows = absurd (none-some step e)

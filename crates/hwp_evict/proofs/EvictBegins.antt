@@ -1,5 +1,5 @@
 -- What fits once the page is held: the command is refused, gives up, or has made its entry.
-use Rattle.std.proofs.Common.{◌≡◌, ℕ, ◌+◌, ◌<◌, ◌≤◌, Bool, false, cond, [], ◌∷◌, Option, Some, None, is_none, length, drop, refl, sym, ap, ◌∙◌, subst, arith}
+use Rattle.std.proofs.Common.{◌≡◌, ℕ, ◌+◌, ◌<◌, ◌≤◌, Bool, false, cond, [], ◌∷◌, Option, Some, None, is_none, length, drop, refl, sym, ap, ◌∙◌, subst, arith, List}
 use Rattle.std.proofs.lemmas.List.{drop_all}
 use Rattle.std.proofs.lemmas.Option.{same_Some}
 use Rattle.std.specs.FinSet as set
@@ -10,6 +10,7 @@ use Rattle.hwp_core.specs.hwp_geom.declared.Page.{Page}
 use Rattle.hwp_core.specs.hwp_geom.declared.Who.{Who}
 use Rattle.hwp_core.specs.hwp_geom.Layout.{IsSound}
 use Rattle.hwp_core.specs.hwp_page.History.{BodyValue}
+use Rattle.hwp_core.specs.hwp_core_rule.declared.Made.{Made}
 use Rattle.hwp_core.specs.hwp_core_rule.declared.InHand.{InHand}
 use Rattle.hwp_core.specs.hwp_core_rule.declared.Log.{Log}
 use Rattle.hwp_core.specs.hwp_core_rule.declared.View.{View}
@@ -20,7 +21,7 @@ use Rattle.hwp_core.specs.hwp_core_rule.parts.Fits.{FitsWords}
 use Rattle.hwp_core.proofs.of_hwp_core_rule.Lists.{same-number}
 use Rattle.hwp_core.specs.hwp_core_task.Calls.{IsOnTurn}
 use Rattle.hwp_core.specs.hwp_core_task.Hands.{Hand, body_in}
-use Rattle.hwp_core.specs.hwp_core_task.Known.{HasMadeNone, SawLog}
+use Rattle.hwp_core.specs.hwp_core_task.Known.{HasMadeNoneBeside, SawLog}
 use Rattle.hwp_core.specs.Holds.{HoldsPage, held, page_lock}
 use Rattle.hwp_core.specs.Unholds as unholds
 use Rattle.hwp_core.proofs.GiveUpLaws.{page-given-up}
@@ -50,13 +51,13 @@ begins-with who page (Some frame) count body = (refl, refl)
 
 module _ {layout : Layout} {view : View} {who : Who} {page : Page} (what : Eviction) (on : IsOnTurn view who) (inside : page.0 < length layout.pages) where
   -- ---- a refusal
-  pub refused-fits : (frame : Option Frame) (body : BodyValue) (refusal : Refusal) → HoldsPage layout view page frame body → SawLog view who (log_of body) → HasMadeNone view who → IsWhy what refusal (state_of layout (log_of body)) → SawLines layout view who page refusal
-      → FitsAt layout view who page what (refused who page frame body refusal)
-  refused-fits frame body refusal has saw none why lines = record {
+  pub refused-fits : {base : List Made} (frame : Option Frame) (body : BodyValue) (refusal : Refusal) → HoldsPage layout view page frame body → SawLog view who (log_of body) → HasMadeNoneBeside base view who → IsWhy what refusal (state_of layout (log_of body)) → SawLines layout view who page refusal
+      → FitsAt base layout view who page what (refused who page frame body refusal)
+  refused-fits {base} frame body refusal has saw none why lines = record {
     unhold = held-unholds layout view who page frame body on inside has;
     own = refl;
     under_way = (begins-with who page frame 1 body).1;
-    knows = subst (λ (b : Option BodyValue). KnowsPut layout view who page what (answers.Refused refusal (place page body)) b) (sym (begins-with who page frame 1 body).0) (record {
+    knows = subst (λ (b : Option BodyValue). KnowsPut base layout view who page what (answers.Refused refusal (place page body)) b) (sym (begins-with who page frame 1 body).0) (record {
       taken = body_in frame (log_of body) has.seen;
       there = in-hand view (body_in frame (log_of body) has.seen) (ap (λ (h : Hand). h.bodies) has.hand_is ∙ held-bodies layout page frame (log_of body) has.seen has.handled has.poisoned) refl;
       page_is = has.body_is.page_is;
@@ -69,8 +70,8 @@ module _ {layout : Layout} {view : View} {who : Who} {page : Page} (what : Evict
   }
 
   -- ---- the entry
-  module _ (frame : Frame) (body : BodyValue) (has : HoldsPage layout view page (Some frame) body) (none : HasMadeNone view who) (kind : IsOfKind layout page what) (passes : Passes what body.state) where
-    pub given-up-fits : FitsAt layout view who page what (given_up who page frame body)
+  module _ {base : List Made} (frame : Frame) (body : BodyValue) (has : HoldsPage layout view page (Some frame) body) (none : HasMadeNoneBeside base view who) (kind : IsOfKind layout page what) (passes : Passes what body.state) where
+    pub given-up-fits : FitsAt base layout view who page what (given_up who page frame body)
     given-up-fits = record { give_up = page-given-up layout view who page (Some frame) 1 body (held-unholds layout view who page (Some frame) body on inside has); own = refl }
 
     pub has-entry : (spare : ℕ) → HasEntry layout who page what (log_of body) (place page body) (with_entry who (entry_of what) body spare)
@@ -94,7 +95,7 @@ module _ {layout : Layout} {view : View} {who : Who} {page : Page} (what : Evict
     within = has.within frame refl
 
     -- what the command makes with the body
-    ahead : (now : BodyValue) → HasEntry layout who page what (log_of body) (place page body) now → IsAhead layout view who page what (answers.Done (place page body)) now
+    ahead : (now : BodyValue) → HasEntry layout who page what (log_of body) (place page body) now → IsAhead base layout view who page what (answers.Done (place page body)) now
     ahead now entry = record {
       taken = body_in (Some frame) (log_of body) has.seen;
       there = in-hand view (body_in (Some frame) (log_of body) has.seen) bodies (sym (ap (λ (l : Log). l.page) entry.log_is));
@@ -106,7 +107,7 @@ module _ {layout : Layout} {view : View} {who : Who} {page : Page} (what : Evict
     module _ (sound : IsSound layout) (few : has.seen ≤ length view.sights) (saw : HasSeen (drop has.seen view.sights) who (Some frame) (entry_of what)) where
       -- the content is written, and the page is let go
       pub let-go : (now : BodyValue) → HasEntry layout who page what (log_of body) (place page body) now → FitsWords layout (log_of now) (frame.0 + 1) (words (has-entry 0) frame has.seen)
-          → FitsAt layout view who page what (at.Unhold (unholds.begin who page (Some frame) 1 now) (answers.Done (place page body)))
+          → FitsAt base layout view who page what (at.Unhold (unholds.begin who page (Some frame) 1 now) (answers.Done (place page body)))
       let-go now entry fits = record {
         unhold = ahead-unholds layout view who page (Some frame) 1 now on inside (record {
           body = now;
@@ -128,7 +129,7 @@ module _ {layout : Layout} {view : View} {who : Who} {page : Page} (what : Evict
 
       -- the page leaves its frame
       pub leaves : (now : BodyValue) → HasEntry layout who page what (log_of body) (place page body) now → FitsWords layout (log_of now) 0 (words (has-entry 0) frame has.seen) → (state_of layout (log_of now)).maps ≡ set.empty
-          → FitsAt layout view who page what (at.Vacate (vacates.begin who page frame 2 now) (place page body))
+          → FitsAt base layout view who page what (at.Vacate (vacates.begin who page frame 2 now) (place page body))
       leaves now entry fits unmapped = record {
         vacate = record {
           on_turn = on;

@@ -211,7 +211,7 @@ after-goes (at.Over answer) = refl
 module _ {layout : Layout} {seat : ℕ} {a b : State} {s t : Evict} {turn : Turn} (made : Made evict-task layout seat a b s t turn) where
   cost-falls : is_waits turn ≡ false → CostFalls evict-task layout a b s t
   cost-falls goes = evict-falls (words_at layout a) (words_at layout b) s made.step made.found made.got t turn made.planned
-      (both layout (view_of a seat) _ s made.step made.found made.got made.fits made.planned (steps-on made)).0 (met made) (words-kept made) made.follows goes
+      (both layout (view_of a seat) _ s made.step made.found made.got made.fits.1 made.planned (steps-on made)).0 (met made) (words-kept made) made.follows goes
 
   waits-falls : is_waits turn ≡ true → Quiet (class s) layout a seat → CostFalls evict-task layout a b s t
   waits-falls is quiet = which s.at made quiet
@@ -227,9 +227,9 @@ module _ {layout : Layout} {seat : ℕ} {a b : State} {s t : Evict} {turn : Turn
         got = m.got;
         rule = m.rule;
         kept = m.kept;
-        fits = m.fits.at.hold;
+        fits = m.fits.1.at.hold;
         planned = m.planned;
-        move = subst (λ (w : Who). Move layout seat (rec_of layout w m.step None m.found m.got) a b) (sym m.fits.at.own) m.move;
+        move = subst (λ (w : Who). Move layout seat (rec_of layout w m.step None m.found m.got) a b) (sym m.fits.1.at.own) m.move;
         brings = m.brings;
         follows = (refl, m.follows.1.1);
       }) is quiet)
@@ -290,9 +290,9 @@ gave-up layout view g fits over = which g.at fits.at over
     which give_up_at.Over has over = has
 
 tells-at : (layout : Layout) (view : View) (e : Evict) → Fits layout view e → TellsAt view e.at
-tells-at layout view e fits = which e.at fits.at
+tells-at layout view e fits = which e.at fits.1.at
   where
-    which : (x : EvictAt) → FitsAt layout view e.who e.page e.what x → TellsAt view x
+    which : (x : EvictAt) → FitsAt fits.0 layout view e.who e.page e.what x → TellsAt view x
     which at.LoadStop has = nothing-tells view at.LoadStop has.0
     which (at.Hold h) has = under-way view (at.Hold h) (hold-tells layout view h has.hold has.under_way) (goes (holds.plan h) has.under_way)
     which (at.LoadBad frame body) has = under-way view (at.LoadBad frame body) (frame-tells view) (goes (plan_at (at.LoadBad frame body)) refl)

@@ -1,5 +1,5 @@
 -- The laws of `Evict`.
-use Rattle.std.proofs.Common.{◌≡◌, ℕ, ◌<◌, Bool, true, false, cond, Option, Some, None, is_none, length, slice_get, refl, sym, ap, ◌∙◌, subst}
+use Rattle.std.proofs.Common.{◌≡◌, ℕ, ◌<◌, Bool, true, false, cond, Option, Some, None, is_none, length, slice_get, refl, sym, ap, ◌∙◌, subst, List}
 use Rattle.std.proofs.lemmas.Bool.{both_ways}
 use Rattle.std.proofs.lemmas.Option.{none-some, slice_get_within}
 use Rattle.hwp_core.specs.hwp_geom.declared.Layout.{Layout}
@@ -11,6 +11,7 @@ use Rattle.hwp_core.specs.hwp_page.declared.At.{At}
 use Rattle.hwp_core.specs.hwp_page.History.{BodyValue}
 use Rattle.hwp_core.specs.hwp_page.Step.{IsOf}
 use Rattle.hwp_core.specs.hwp_words.Stops.{is_stopped}
+use Rattle.hwp_core.specs.hwp_core_rule.declared.Made.{Made}
 use Rattle.hwp_core.specs.hwp_core_rule.declared.SharedWord.TheVariants as places
 use Rattle.hwp_core.specs.hwp_core_rule.declared.Step.{Step}
 use Rattle.hwp_core.specs.hwp_core_rule.declared.Step.TheVariants as steps
@@ -19,7 +20,8 @@ use Rattle.hwp_core.specs.hwp_core_task.declared.Turn.{Turn}
 use Rattle.hwp_core.specs.hwp_core_task.Calls.{CanMake, IsOnTurn, Steps, logs}
 use Rattle.hwp_core.specs.hwp_core_task.Hands.{hand_of, empty}
 use Rattle.hwp_core.proofs.of_hwp_core_task.StepLeaves.{on-turn-after, hand-planned, steps-planned, can-make}
-use Rattle.hwp_core.specs.hwp_core_task.Known.{HasMadeNone}
+use Rattle.hwp_core.specs.hwp_core_task.Known.{HasMadeNoneBeside}
+use Rattle.hwp_core.specs.hwp_core_task.Turns.{IsTask}
 use Rattle.hwp_core.proofs.of_hwp_core_task.MadeEntries.{ListsNone, deeds-same}
 use Rattle.hwp_core.proofs.of_hwp_core_task.SightKeeps.{saw-load}
 use Rattle.hwp_core.specs.declared.release.Release.{Release}
@@ -45,7 +47,7 @@ use Rattle.hwp_evict.specs.declared.vacate.Vacate.{Vacate}
 use Rattle.hwp_evict.specs.declared.vacate.VacateAt.{VacateAt}
 use Rattle.hwp_evict.specs.declared.vacate.VacateAt.TheVariants as vacate_at
 use Rattle.hwp_evict.specs.Evictions.{IsCaused, IsOfKind}
-use Rattle.hwp_evict.specs.Evicts.{plan, plan_at, put, put_at, bare, bare_at, after_stop, after_unhold, after_vacate, Follows, FollowsAt, Shows, ShowsAt, IsAhead, IsFreeing, IsLettingGo, IsVacating, KnowsPut, Fits, FitsAt}
+use Rattle.hwp_evict.specs.Evicts.{plan, plan_at, put, put_at, bare, bare_at, after_stop, after_unhold, after_vacate, Follows, FollowsAt, Shows, ShowsAt, IsAhead, IsFreeing, IsLettingGo, IsVacating, KnowsPut, FitsAt, FitsFrom, task as evict-task}
 use Rattle.hwp_evict.specs.Vacates as vacates
 use Rattle.hwp_evict.proofs.AnswerCauses.{ahead-stays, home-after, home-by-page, unhold-causes}
 use Rattle.hwp_evict.proofs.EvictSteps.{bad-fits, held-enters, hold-fits, recent-held}
@@ -64,14 +66,14 @@ slot-within layout page slot own =
     let decl : (t : TransDecl) × (slice_get layout.trans slot.0 ≡ Some t) × (t.page ≡ page) = declared-of (λ (t : TransDecl). t.page ≡ page) (slice_get layout.trans slot.0) own in
     slice_get_within layout.trans slot.0 decl.0 decl.1
 
-pub can : (layout : Layout) (view : View) (e : Evict) (step : Step) → Fits layout view e → plan e ≡ Some step → CanMake layout e.who step (put e) view
-can layout view e step fits is = which e.at fits.at is
+pub can : {base : List Made} (layout : Layout) (view : View) (e : Evict) (step : Step) → FitsFrom base layout view e → plan e ≡ Some step → CanMake layout e.who step (put e) view
+can {base} layout view e step fits is = which e.at fits.at is
   where
-    which : (x : EvictAt) → FitsAt layout view e.who e.page e.what x → plan_at x ≡ Some step → CanMake layout e.who step (put_at x) view
+    which : (x : EvictAt) → FitsAt base layout view e.who e.page e.what x → plan_at x ≡ Some step → CanMake layout e.who step (put_at x) view
     which at.LoadStop has p = can-make fits.on_turn p tt tt
     which (at.Hold h) has p = subst (λ (w : Who). CanMake layout w step None view) has.own (holding_laws.can layout view h step has.hold p)
     which (at.LoadBad frame body) has p = can-make fits.on_turn p (has.page_held.within frame refl) tt
-    which (at.SetPte slot frame body done) has p = can-make fits.on_turn p (slot-within layout e.page slot own) (can-write (subst (λ (w : Eviction). IsFreeing layout view e.who e.page w frame body done) has.0 has.1) own)
+    which (at.SetPte slot frame body done) has p = can-make fits.on_turn p (slot-within layout e.page slot own) (can-write (subst (λ (w : Eviction). IsFreeing base layout view e.who e.page w frame body done) has.0 has.1) own)
       where
         own : IsOf layout e.page slot
         own = subst (IsOfKind layout e.page) has.0 fits.kind
@@ -85,24 +87,24 @@ can layout view e step fits is = which e.at fits.at is
 
 module _ {layout : Layout} {old new : View} {who : Who} {page : Page} {found : ℕ} {got : Option BodyValue} where
   -- the stop word is read
-  stop-fits : (what : Eviction) → IsOnTurn new who → page.0 < length layout.pages → hand_of old ≡ empty → HasMadeNone old who → Steps layout who (steps.Load places.Stop) None old new found got → FitsAt layout new who page what (after_stop who page found)
-  stop-fits what on inside hand none made = which (is_stopped found) refl
+  stop-fits : {base : List Made} (what : Eviction) → IsOnTurn new who → page.0 < length layout.pages → hand_of old ≡ empty → HasMadeNoneBeside base old who → Steps layout who (steps.Load places.Stop) None old new found got → FitsAt base layout new who page what (after_stop who page found)
+  stop-fits {base} what on inside hand none made = which (is_stopped found) refl
     where
       still : hand_of new ≡ empty
       still = hand-planned made refl hand
 
-      none-still : HasMadeNone new who
+      none-still : HasMadeNoneBeside base new who
       none-still = deeds-same who tt made ∙ none
 
-      which : (b : Bool) → is_stopped found ≡ b → FitsAt layout new who page what (cond b (at.Over answers.Stopped) (at.Hold (holds.begin who page)))
+      which : (b : Bool) → is_stopped found ≡ b → FitsAt base layout new who page what (cond b (at.Over answers.Stopped) (at.Hold (holds.begin who page)))
       which true is = (still, (none-still, record { word = found; saw = saw-load made; stopped = is }))
       which false is = record { hold = record { on_turn = on; page = inside; at = still }; own = refl; page_is = refl; under_way = refl; made_none = none-still }
 
 module _ {layout : Layout} {old new : View} {who : Who} {page : Page} {what : Eviction} {step : Step} {found : ℕ} {got : Option BodyValue} where
   -- a step by which the page is let go
-  unhold-fits : (u : Unhold) (answer : EvictAnswer) → IsLettingGo layout old who page what u answer → unholds.plan u ≡ Some step → Steps layout who step (logs (unholds.put u)) old new found got
-      → FitsAt layout new who page what (after_unhold (unholds.next (unholds.bare u) found) answer)
-  unhold-fits u answer has is made = which (is_none (unholds.plan after)) refl
+  unhold-fits : {base : List Made} (u : Unhold) (answer : EvictAnswer) → IsLettingGo base layout old who page what u answer → unholds.plan u ≡ Some step → Steps layout who step (logs (unholds.put u)) old new found got
+      → FitsAt base layout new who page what (after_unhold (unholds.next (unholds.bare u) found) answer)
+  unhold-fits {base} u answer has is made = which (is_none (unholds.plan after)) refl
     where
       after : Unhold
       after = unholds.next (unholds.bare u) found
@@ -113,13 +115,13 @@ module _ {layout : Layout} {old new : View} {who : Who} {page : Page} {what : Ev
       fits : unholds.Fits layout new (unholds.next (unholds.bare u) found)
       fits = unholding.moved layout old new u step found got has.unhold is own
 
-      caused : IsCaused layout new who page what answer
-      caused = subst (λ (w : Who). IsCaused layout new w page what answer) has.own
-          (unhold-causes page what u answer is own (subst (λ (w : Who). KnowsPut layout old w page what answer (unholds.put u)) (sym has.own) has.knows))
+      caused : IsCaused base layout new who page what answer
+      caused = subst (λ (w : Who). IsCaused base layout new w page what answer) has.own
+          (unhold-causes base page what u answer is own (subst (λ (w : Who). KnowsPut base layout old w page what answer (unholds.put u)) (sym has.own) has.knows))
 
-      which : (b : Bool) → is_none (unholds.plan (unholds.next (unholds.bare u) found)) ≡ b → FitsAt layout new who page what (cond b (at.Over answer) (at.Unhold (unholds.next (unholds.bare u) found) answer))
+      which : (b : Bool) → is_none (unholds.plan (unholds.next (unholds.bare u) found)) ≡ b → FitsAt base layout new who page what (cond b (at.Over answer) (at.Unhold (unholds.next (unholds.bare u) found) answer))
       which true over = (nothing-left layout new (unholds.next (unholds.bare u) found) over fits, caused)
-      which false on = record { unhold = fits; own = has.own; under_way = on; knows = subst (KnowsPut layout new who page what answer) (sym (home-after u found)) caused }
+      which false on = record { unhold = fits; own = has.own; under_way = on; knows = subst (KnowsPut base layout new who page what answer) (sym (home-after u found)) caused }
 
 -- ---- the page leaves its frame
 
@@ -133,13 +135,13 @@ release-goes v r (release_at.Retire word) over = both_ways true (sym over) refl
 release-goes v r (release_at.Back word) over = both_ways true (sym over) refl
 
 -- while it is under way its body stays in hand, and when it is over the body is home
-abbrev Ends : Layout → View → Page → Eviction → EvictAnswer → BodyValue → Vacate → ℕ → VacateAt → Type 0
-Ends layout view page what answer body v found x =
-    (is_none (vacates.plan_at v.page v.frame (vacates.next_at v.who v.frame v.count x found)) ≡ true → IsCaused layout view v.who page what answer)
-    × (is_none (vacates.plan_at v.page v.frame (vacates.next_at v.who v.frame v.count x found)) ≡ false → (vacates.left_at v.body x ≡ Some body) × IsAhead layout view v.who page what answer body)
+abbrev Ends : List Made → Layout → View → Page → Eviction → EvictAnswer → BodyValue → Vacate → ℕ → VacateAt → Type 0
+Ends base layout view page what answer body v found x =
+    (is_none (vacates.plan_at v.page v.frame (vacates.next_at v.who v.frame v.count x found)) ≡ true → IsCaused base layout view v.who page what answer)
+    × (is_none (vacates.plan_at v.page v.frame (vacates.next_at v.who v.frame v.count x found)) ≡ false → (vacates.left_at v.body x ≡ Some body) × IsAhead base layout view v.who page what answer body)
 
-module _ {layout : Layout} {old new : View} {page : Page} {what : Eviction} {answer : EvictAnswer} {body : BodyValue} (v : Vacate) {step : Step} {found : ℕ} {got : Option BodyValue} (ahead : IsAhead layout old v.who page what answer body) (given : v.body ≡ Some body) (lists : ListsNone step) where
-  stays-ahead : Steps layout v.who step None old new found got → new.bodies ≡ old.bodies → IsAhead layout new v.who page what answer body
+module _ {base : List Made} {layout : Layout} {old new : View} {page : Page} {what : Eviction} {answer : EvictAnswer} {body : BodyValue} (v : Vacate) {step : Step} {found : ℕ} {got : Option BodyValue} (ahead : IsAhead base layout old v.who page what answer body) (given : v.body ≡ Some body) (lists : ListsNone step) where
+  stays-ahead : Steps layout v.who step None old new found got → new.bodies ≡ old.bodies → IsAhead base layout new v.who page what answer body
   stays-ahead made bodies = ahead-stays made (deeds-same v.who lists made) bodies ahead
 
   release-bodies : (r : Release) → releases.plan r ≡ Some step → Steps layout v.who step None old new found got → new.bodies ≡ old.bodies
@@ -153,7 +155,7 @@ module _ {layout : Layout} {old new : View} {page : Page} {what : Eviction} {ans
       which (release_at.Retire word) e = ap (λ (x : View). x.bodies) (steps-planned e made).told.next
       which (release_at.Back word) e = absurd (none-some step e)
 
-  pub vacate-ends : (x : VacateAt) → vacates.plan_at v.page v.frame x ≡ Some step → Steps layout v.who step (logs (vacates.put_at v.body x)) old new found got → Ends layout new page what answer body v found x
+  pub vacate-ends : (x : VacateAt) → vacates.plan_at v.page v.frame x ≡ Some step → Steps layout v.who step (logs (vacates.put_at v.body x)) old new found got → Ends base layout new page what answer body v found x
   vacate-ends vacate_at.SetCache e made = ((λ over. absurd (both_ways true (sym over) refl)), (λ on. (given, stays-ahead made (ap (λ (x : View). x.bodies) (steps-planned e made).told.next))))
   vacate-ends vacate_at.SetOwner e made = ((λ over. absurd (both_ways true (sym over) refl)), (λ on. (given, stays-ahead made (ap (λ (x : View). x.bodies) (steps-planned e made).told.next))))
   vacate-ends vacate_at.UnlockFrame e made = ((λ over. absurd (both_ways true (sym over) refl)), (λ on. (given, stays-ahead made (ap (λ (x : View). x.bodies) (steps-planned e made).told.next))))
@@ -175,9 +177,9 @@ vacate-left layout view v over fits = which v.at over fits.at
     which vacate_at.Over over has = has
 
 module _ {layout : Layout} {old new : View} {who : Who} {page : Page} {what : Eviction} {step : Step} {found : ℕ} {got : Option BodyValue} where
-  vacate-fits : (v : Vacate) (done : At) → IsVacating layout old who page what v done → vacates.plan v ≡ Some step → Steps layout who step (logs (vacates.put v)) old new found got
-      → FitsAt layout new who page what (after_vacate (vacates.next (vacates.bare v) found) done)
-  vacate-fits v done has is made = which (is_none (vacates.plan (vacates.next (vacates.bare v) found))) refl
+  vacate-fits : {base : List Made} (v : Vacate) (done : At) → IsVacating base layout old who page what v done → vacates.plan v ≡ Some step → Steps layout who step (logs (vacates.put v)) old new found got
+      → FitsAt base layout new who page what (after_vacate (vacates.next (vacates.bare v) found) done)
+  vacate-fits {base} v done has is made = which (is_none (vacates.plan (vacates.next (vacates.bare v) found))) refl
     where
       own : Steps layout v.who step (logs (vacates.put v)) old new found got
       own = subst (λ (w : Who). Steps layout w step (logs (vacates.put v)) old new found got) (sym has.own) made
@@ -185,34 +187,34 @@ module _ {layout : Layout} {old new : View} {who : Who} {page : Page} {what : Ev
       fits : vacates.Fits layout new (vacates.next (vacates.bare v) found)
       fits = vacating.moved layout old new v step found got has.vacate is own
 
-      ends : (is_none (vacates.plan (vacates.next (vacates.bare v) found)) ≡ true → IsCaused layout new v.who page what (answers.Done done))
-          × (is_none (vacates.plan (vacates.next (vacates.bare v) found)) ≡ false → (vacates.left_at v.body v.at ≡ Some has.body) × IsAhead layout new v.who page what (answers.Done done) has.body)
-      ends = vacate-ends v (subst (λ (w : Who). IsAhead layout old w page what (answers.Done done) has.body) (sym has.own) has.ahead) has.body_is (vacate-lists v step is) v.at is own
+      ends : (is_none (vacates.plan (vacates.next (vacates.bare v) found)) ≡ true → IsCaused base layout new v.who page what (answers.Done done))
+          × (is_none (vacates.plan (vacates.next (vacates.bare v) found)) ≡ false → (vacates.left_at v.body v.at ≡ Some has.body) × IsAhead base layout new v.who page what (answers.Done done) has.body)
+      ends = vacate-ends v (subst (λ (w : Who). IsAhead base layout old w page what (answers.Done done) has.body) (sym has.own) has.ahead) has.body_is (vacate-lists v step is) v.at is own
 
-      which : (b : Bool) → is_none (vacates.plan (vacates.next (vacates.bare v) found)) ≡ b → FitsAt layout new who page what (cond b (at.Over (answers.Done done)) (at.Vacate (vacates.next (vacates.bare v) found) done))
-      which true over = (vacate-left layout new (vacates.next (vacates.bare v) found) over fits, subst (λ (w : Who). IsCaused layout new w page what (answers.Done done)) has.own (ends.0 over))
+      which : (b : Bool) → is_none (vacates.plan (vacates.next (vacates.bare v) found)) ≡ b → FitsAt base layout new who page what (cond b (at.Over (answers.Done done)) (at.Vacate (vacates.next (vacates.bare v) found) done))
+      which true over = (vacate-left layout new (vacates.next (vacates.bare v) found) over fits, subst (λ (w : Who). IsCaused base layout new w page what (answers.Done done)) has.own (ends.0 over))
       which false on = record {
         vacate = fits;
         own = has.own;
         under_way = on;
         body = has.body;
         body_is = (ends.1 on).0;
-        ahead = subst (λ (w : Who). IsAhead layout new w page what (answers.Done done) has.body) has.own (ends.1 on).1;
+        ahead = subst (λ (w : Who). IsAhead base layout new w page what (answers.Done done) has.body) has.own (ends.1 on).1;
       }
 
 -- a step shows what is needed, and what follows fits again
-pub both : (layout : Layout) (old new : View) (e : Evict) (step : Step) (found : ℕ) (got : Option BodyValue) → Fits layout old e → plan e ≡ Some step → Steps layout e.who step (logs (put e)) old new found got
-    → Shows (bare e) found got × ((y : EvictAt) (turn : Turn) → FollowsAt e.who e.page e.what (bare_at e.at) found got y turn → FitsAt layout new e.who e.page e.what y)
-both layout old new e step found got fits is made = which e.at is fits.at made
+pub both : {base : List Made} (layout : Layout) (old new : View) (e : Evict) (step : Step) (found : ℕ) (got : Option BodyValue) → FitsFrom base layout old e → plan e ≡ Some step → Steps layout e.who step (logs (put e)) old new found got
+    → Shows (bare e) found got × ((y : EvictAt) (turn : Turn) → FollowsAt e.who e.page e.what (bare_at e.at) found got y turn → FitsAt base layout new e.who e.page e.what y)
+both {base} layout old new e step found got fits is made = which e.at is fits.at made
   where
     on : IsOnTurn new e.who
     on = on-turn-after fits.on_turn made
 
-    to : {x y : EvictAt} → y ≡ x → FitsAt layout new e.who e.page e.what x → FitsAt layout new e.who e.page e.what y
-    to is has = subst (FitsAt layout new e.who e.page e.what) (sym is) has
+    to : {x y : EvictAt} → y ≡ x → FitsAt base layout new e.who e.page e.what x → FitsAt base layout new e.who e.page e.what y
+    to is has = subst (FitsAt base layout new e.who e.page e.what) (sym is) has
 
-    which : (x : EvictAt) → plan_at x ≡ Some step → FitsAt layout old e.who e.page e.what x → Steps layout e.who step (logs (put_at x)) old new found got
-        → ShowsAt e.what (bare_at x) found got × ((y : EvictAt) (turn : Turn) → FollowsAt e.who e.page e.what (bare_at x) found got y turn → FitsAt layout new e.who e.page e.what y)
+    which : (x : EvictAt) → plan_at x ≡ Some step → FitsAt base layout old e.who e.page e.what x → Steps layout e.who step (logs (put_at x)) old new found got
+        → ShowsAt e.what (bare_at x) found got × ((y : EvictAt) (turn : Turn) → FollowsAt e.who e.page e.what (bare_at x) found got y turn → FitsAt base layout new e.who e.page e.what y)
     which at.LoadStop p has made = (tt, λ y turn follows. to follows.0 (stop-fits e.what on fits.page has.0 has.1 (steps-planned p made)))
     which (at.Hold h) p has made = (
       (all.0, held-enters e.what (holds.next h found got) has.page_is fits.kind all.1),
@@ -226,14 +228,14 @@ both layout old new e step found got fits is made = which e.at is fits.at made
         all : holds.Shows h found got × holds.Fits layout new (holds.next h found got)
         all = holding_laws.both layout old new h step found got has.hold p own
 
-        none : HasMadeNone new e.who
+        none : HasMadeNoneBeside base new e.who
         none = deeds-same e.who (hold-lists h step p) made ∙ has.made_none
     which (at.LoadBad frame body) p has made = (can-enter e.what has.page_held.body_is fits.kind has.passes, λ y turn follows. bad-fits on fits.page fits.kind has (steps-planned p made) y follows.0)
     which (at.SetPte slot frame body done) p has made = (
       tt,
       λ y turn follows. to follows.0
-          (subst (λ (w : Eviction). FitsAt layout new e.who e.page w (at.Unhold (unholds.begin e.who e.page (Some frame) 2 body) (answers.Done done))) (sym has.0)
-          (freed (subst (λ (w : Eviction). IsFreeing layout old e.who e.page w frame body done) has.0 has.1) own on fits.page (slot-within layout e.page slot own) (steps-planned p made))),
+          (subst (λ (w : Eviction). FitsAt base layout new e.who e.page w (at.Unhold (unholds.begin e.who e.page (Some frame) 2 body) (answers.Done done))) (sym has.0)
+          (freed (subst (λ (w : Eviction). IsFreeing base layout old e.who e.page w frame body done) has.0 has.1) own on fits.page (slot-within layout e.page slot own) (steps-planned p made))),
     )
       where
         own : IsOf layout e.page slot
@@ -253,12 +255,20 @@ both layout old new e step found got fits is made = which e.at is fits.at made
     )
     which (at.Over answer) p has made = absurd (none-some step p)
 
-pub stays : (layout : Layout) (old new : View) (e : Evict) (step : Step) (found : ℕ) (got : Option BodyValue) → Fits layout old e → plan e ≡ Some step → Steps layout e.who step (logs (put e)) old new found got
-    → Shows (bare e) found got × ((after : Evict) (turn : Turn) → Follows (bare e) found got after turn → Fits layout new after × (after.who.cpu ≡ e.who.cpu))
-stays layout old new e step found got fits is made = let all = both layout old new e step found got fits is made in (
+pub stays : {base : List Made} (layout : Layout) (old new : View) (e : Evict) (step : Step) (found : ℕ) (got : Option BodyValue) → FitsFrom base layout old e → plan e ≡ Some step → Steps layout e.who step (logs (put e)) old new found got
+    → Shows (bare e) found got × ((after : Evict) (turn : Turn) → Follows (bare e) found got after turn → FitsFrom base layout new after × (after.who.cpu ≡ e.who.cpu))
+stays {base} layout old new e step found got fits is made = let all = both layout old new e step found got fits is made in (
   all.0,
   λ after turn follows. (
-    subst (Fits layout new) (sym follows.0) (record { on_turn = on-turn-after fits.on_turn made; page = fits.page; kind = fits.kind; at = all.1 after.at turn follows.1 }),
+    subst (FitsFrom base layout new) (sym follows.0) (record { on_turn = on-turn-after fits.on_turn made; page = fits.page; kind = fits.kind; at = all.1 after.at turn follows.1 }),
     ap (λ (x : Evict). x.who.cpu) follows.0,
   ),
 )
+
+-- whatever the command had made before
+pub lawful : IsTask evict-task
+lawful = record {
+  can = λ layout view e step fits is. can layout view e step fits.1 is;
+  stays = λ layout old new e step found got fits is made.
+      let all = stays layout old new e step found got fits.1 is made in (all.0, λ after turn follows. let next = all.1 after turn follows in ((fits.0, next.0), next.1));
+}

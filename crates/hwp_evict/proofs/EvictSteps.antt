@@ -10,6 +10,7 @@ use Rattle.hwp_core.specs.hwp_geom.declared.Who.{Who}
 use Rattle.hwp_core.specs.hwp_geom.Layout.{IsSound}
 use Rattle.hwp_core.specs.hwp_page.declared.PageState.{PageState}
 use Rattle.hwp_core.specs.hwp_page.History.{BodyValue}
+use Rattle.hwp_core.specs.hwp_core_rule.declared.Made.{Made}
 use Rattle.hwp_core.specs.hwp_core_rule.declared.FrameLock.{FrameLock}
 use Rattle.hwp_core.specs.hwp_core_rule.declared.InHand.{InHand}
 use Rattle.hwp_core.specs.hwp_core_rule.declared.Log.{Log}
@@ -26,7 +27,7 @@ use Rattle.hwp_core.proofs.of_hwp_core_rule.Lists.{some-last}
 use Rattle.hwp_core.specs.hwp_core_task.Calls.{IsOnTurn, Steps}
 use Rattle.hwp_core.specs.hwp_core_task.Hands.{Hand, body_in, hand_of, taking}
 use Rattle.hwp_core.proofs.of_hwp_core_task.StepLeaves.{content_of, hand-planned, steps-planned}
-use Rattle.hwp_core.specs.hwp_core_task.Known.{HasMadeNone, SawLog}
+use Rattle.hwp_core.specs.hwp_core_task.Known.{HasMadeNoneBeside, SawLog}
 use Rattle.hwp_core.proofs.of_hwp_core_task.MadeEntries.{deeds-same}
 use Rattle.hwp_core.proofs.of_hwp_core_task.SightKeeps.{saw-bad-of-load, saw-log-stays}
 use Rattle.hwp_core.specs.declared.hold.Hold.{Hold}
@@ -138,28 +139,28 @@ sees-nothing sights who frame evictions.Sync is = absurd (both_ways true is refl
 sees-nothing sights who frame evictions.Drop is = tt
 sees-nothing sights who frame evictions.Out is = absurd (both_ways true is refl)
 
-module _ {layout : Layout} {view : View} {who : Who} {page : Page} (what : Eviction) (on : IsOnTurn view who) (inside : page.0 < length layout.pages) (sound : IsSound layout) (kind : IsOfKind layout page what) (none : HasMadeNone view who) where
+module _ {base : List Made} {layout : Layout} {view : View} {who : Who} {page : Page} (what : Eviction) (on : IsOnTurn view who) (inside : page.0 < length layout.pages) (sound : IsSound layout) (kind : IsOfKind layout page what) (none : HasMadeNoneBeside base view who) where
   -- ---- the page is held
-  held-fits : (frame : Option Frame) (body : BodyValue) → HoldsPage layout view page frame body → SawLog view who (log_of body) → IsRecent view (hold_at.Held frame body) → (y : EvictAt) → AfterHeld who page what frame body y → FitsAt layout view who page what y
-  held-fits None body has saw recent y follows = subst (FitsAt layout view who page what) (sym follows) (refused-fits what on inside None body (absence what) has saw none (away-why what has.body_is) (away-lines layout view who page what))
-  held-fits (Some frame) body has saw recent y (inr barred) = subst (FitsAt layout view who page what) (sym barred.next_is)
+  held-fits : (frame : Option Frame) (body : BodyValue) → HoldsPage layout view page frame body → SawLog view who (log_of body) → IsRecent view (hold_at.Held frame body) → (y : EvictAt) → AfterHeld who page what frame body y → FitsAt base layout view who page what y
+  held-fits None body has saw recent y follows = subst (FitsAt base layout view who page what) (sym follows) (refused-fits what on inside None body (absence what) has saw none (away-why what has.body_is) (away-lines layout view who page what))
+  held-fits (Some frame) body has saw recent y (inr barred) = subst (FitsAt base layout view who page what) (sym barred.next_is)
       (refused-fits what on inside (Some frame) body barred.refusal has saw none (bars-why what barred.refusal has.body_is barred.bars) (bars-lines layout view who page what body.state barred.refusal barred.bars))
   held-fits (Some frame) body has saw recent y (inl (passes, goes)) = which (copies what) refl goes
     where
       few : has.seen ≤ length view.sights
       few = recent (body_in (Some frame) (log_of body) has.seen) (ap (λ (h : Hand). slice_get h.bodies 0) has.hand_is)
 
-      which : (b : Bool) → copies what ≡ b → MatchBool b (y ≡ at.LoadBad frame body) (Enters who page what frame body y) → FitsAt layout view who page what y
-      which true is goes = subst (FitsAt layout view who page what) (sym goes) (record { copying = is; passes = passes; page_held = has; few = few; saw = saw; made_none = none })
+      which : (b : Bool) → copies what ≡ b → MatchBool b (y ≡ at.LoadBad frame body) (Enters who page what frame body y) → FitsAt base layout view who page what y
+      which true is goes = subst (FitsAt base layout view who page what) (sym goes) (record { copying = is; passes = passes; page_held = has; few = few; saw = saw; made_none = none })
       which false is goes = enters-fits on inside sound frame body has none what kind passes few (sees-nothing (drop has.seen view.sights) who frame what is) y goes
 
-  pub hold-fits : (h : Hold) → h.who ≡ who → h.page ≡ page → holds.Fits layout view h → IsRecent view h.at → (y : EvictAt) → AfterHold who page what h y → FitsAt layout view who page what y
+  pub hold-fits : (h : Hold) → h.who ≡ who → h.page ≡ page → holds.Fits layout view h → IsRecent view h.at → (y : EvictAt) → AfterHold who page what h y → FitsAt base layout view who page what y
   hold-fits h own its fits recent y follows = which h.at fits recent follows
     where
-      still : (x : HoldAt) → holds.Fits layout view (record h { at = x }) → is_none (holds.plan_at h.page x) ≡ false → y ≡ at.Hold (record h { at = x }) → FitsAt layout view who page what y
-      still x fits on is = subst (FitsAt layout view who page what) (sym is) (record { hold = fits; own = own; page_is = its; under_way = on; made_none = none })
+      still : (x : HoldAt) → holds.Fits layout view (record h { at = x }) → is_none (holds.plan_at h.page x) ≡ false → y ≡ at.Hold (record h { at = x }) → FitsAt base layout view who page what y
+      still x fits on is = subst (FitsAt base layout view who page what) (sym is) (record { hold = fits; own = own; page_is = its; under_way = on; made_none = none })
 
-      which : (x : HoldAt) → holds.Fits layout view (record h { at = x }) → IsRecent view x → AfterHoldAt who page what (record h { at = x }) x y → FitsAt layout view who page what y
+      which : (x : HoldAt) → holds.Fits layout view (record h { at = x }) → IsRecent view x → AfterHoldAt who page what (record h { at = x }) x y → FitsAt base layout view who page what y
       which hold_at.LockPage fits recent follows = still hold_at.LockPage fits refl follows
       which (hold_at.LoadCache body) fits recent follows = still (hold_at.LoadCache body) fits refl follows
       which (hold_at.Pin p) fits recent follows = still (hold_at.Pin p) fits fits.at.under_way follows
@@ -194,7 +195,7 @@ mask-seen sights who frame evictions.Sync is seen = seen
 mask-seen sights who frame evictions.Out is seen = seen
 mask-seen sights who frame evictions.Drop is seen = tt
 
-module _ {layout : Layout} {old new : View} {who : Who} {page : Page} {what : Eviction} {frame : Frame} {body : BodyValue} {found : ℕ} {got : Option BodyValue} (on : IsOnTurn new who) (inside : page.0 < length layout.pages) (kind : IsOfKind layout page what) (has : IsReading layout old who page what frame body) (made : Steps layout who (steps.Load (places.Bad frame)) None old new found got) where
+module _ {base : List Made} {layout : Layout} {old new : View} {who : Who} {page : Page} {what : Eviction} {frame : Frame} {body : BodyValue} {found : ℕ} {got : Option BodyValue} (on : IsOnTurn new who) (inside : page.0 < length layout.pages) (kind : IsOfKind layout page what) (has : IsReading base layout old who page what frame body) (made : Steps layout who (steps.Load (places.Bad frame)) None old new found got) where
   more : new.sights ≡ old.sights ++ (record { stamp = stamp_of who (noted who old); place = places.Bad frame; word = found }) ∷ []
   more = ap (λ (v : View). v.sights) made.told.next
 
@@ -211,7 +212,7 @@ module _ {layout : Layout} {old new : View} {who : Who} {page : Page} {what : Ev
   few-still : has.page_held.seen ≤ length new.sights
   few-still = let all : length new.sights ≡ length old.sights + 1 = ap (λ (l : List Sight). length l) more ∙ length-append old.sights _ in let few : _ = has.few in omega (arith, all, few)
 
-  none-still : HasMadeNone new who
+  none-still : HasMadeNoneBeside base new who
   none-still = deeds-same who tt made ∙ has.made_none
 
   seen-zero : found ≡ 0 → SomeMember (Shows who frame (places.Bad frame) 0) (drop has.page_held.seen new.sights)
@@ -223,11 +224,11 @@ module _ {layout : Layout} {old new : View} {who : Who} {page : Page} {what : Ev
         word_is = zero;
       }))
 
-  pub bad-fits : (y : EvictAt) → AfterBad who page what frame body found y → FitsAt layout new who page what y
+  pub bad-fits : (y : EvictAt) → AfterBad who page what frame body found y → FitsAt base layout new who page what y
   bad-fits y follows = which (found == 0) refl follows
     where
-      which : (b : Bool) → (found == 0) ≡ b → MatchBool b (Enters who page what frame body y) (y ≡ refused who page (Some frame) body (refusals.BadLines (record { 0 = found }))) → FitsAt layout new who page what y
+      which : (b : Bool) → (found == 0) ≡ b → MatchBool b (Enters who page what frame body y) (y ≡ refused who page (Some frame) body (refusals.BadLines (record { 0 = found }))) → FitsAt base layout new who page what y
       which true zero follows = enters-fits on inside made.told.rule.sound frame body page-still none-still what kind has.passes few-still
           (mask-seen (drop has.page_held.seen new.sights) who frame what has.copying (seen-zero (eqb-true found 0 zero))) y follows
-      which false some follows = subst (FitsAt layout new who page what) (sym follows) (refused-fits what on inside (Some frame) body (refusals.BadLines (record { 0 = found })) page-still (saw-log-stays made has.saw) none-still
+      which false some follows = subst (FitsAt base layout new who page what) (sym follows) (refused-fits what on inside (Some frame) body (refusals.BadLines (record { 0 = found })) page-still (saw-log-stays made has.saw) none-still
           (lines-why what found (state_of layout (log_of body)) has.copying (subst (Passes what) (sym (state-is has.page_held.body_is)) has.passes) (is-cached has.page_held.body_is)) (eqb-false found 0 some, (frame, has.page_held.within frame refl, saw-bad-of-load made page (record { frame = frame; owner = page.0 + 1; handled = has.page_held.handled; poisoned = has.page_held.poisoned }) (ap (λ (h : Hand). slice_get h.locks 0) has.page_held.hand_is) refl refl)))

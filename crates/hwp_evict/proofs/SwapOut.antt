@@ -18,6 +18,7 @@ use Rattle.hwp_core.specs.hwp_page.declared.What.TheVariants as entries
 use Rattle.hwp_core.specs.hwp_page.History.{BodyValue}
 use Rattle.hwp_core.specs.hwp_words.Translations.{pte_word}
 use Rattle.hwp_core.specs.hwp_words.declared.Pte.TheVariants as ptes
+use Rattle.hwp_core.specs.hwp_core_rule.declared.Made.{Made}
 use Rattle.hwp_core.specs.hwp_core_rule.declared.InHand.{InHand}
 use Rattle.hwp_core.specs.hwp_core_rule.declared.Log.{Log}
 use Rattle.hwp_core.specs.hwp_core_rule.declared.Sight.{Sight}
@@ -32,7 +33,7 @@ use Rattle.hwp_core.proofs.of_hwp_core_rule.Lists.{same-number}
 use Rattle.hwp_core.specs.hwp_core_task.Calls.{IsOnTurn, Steps}
 use Rattle.hwp_core.specs.hwp_core_task.Hands.{Hand, hand_of, body_in}
 use Rattle.hwp_core.proofs.of_hwp_core_task.StepLeaves.{steps-planned}
-use Rattle.hwp_core.specs.hwp_core_task.Known.{HasMadeNone}
+use Rattle.hwp_core.specs.hwp_core_task.Known.{HasMadeNoneBeside}
 use Rattle.hwp_core.proofs.of_hwp_core_task.MadeEntries.{deeds-same}
 use Rattle.hwp_core.specs.Holds.{HoldsPage}
 use Rattle.hwp_evict.specs.declared.clear.Clear.{Clear}
@@ -92,8 +93,8 @@ module _ {layout : Layout} {view : View} {who : Who} {page : Page} {log : Log} {
             ∙ sym (target slot ∙ ap (λ (b : Bool). cond b (pte_word ptes.Poison) 0) (replay-apart entry.replay slot some))
         by slot false none = ap (λ (b : Bool). cond b 0 (cond (set.contains state.bar slot) (pte_word ptes.Poison) 0)) none ∙ sym (target slot)
 
-    ahead : HasMadeNone view who → IsAhead layout view who page evictions.Out (answers.Done done) body
-    ahead none = record {
+    ahead : {base : List Made} → HasMadeNoneBeside base view who → IsAhead base layout view who page evictions.Out (answers.Done done) body
+    ahead {base} none = record {
       taken = body_in (Some c.frame) log seen;
       there = ap (find (is_body_of body.page)) bodies ∙ ap (λ (b : Bool). cond b (Some (body_in (Some c.frame) log seen)) None) (same-number log.page.0 body.page.0 (sym (ap (λ (l : Log). l.page.0) entry.log_is)));
       page_is = body-page entry c.frame seen;
@@ -101,8 +102,8 @@ module _ {layout : Layout} {view : View} {who : Who} {page : Page} {log : Log} {
       comes = (one-more entry c.frame seen, entry.done_is);
     }
 
-    leaves : IsSound layout → c.frame.0 < layout.frames → seen ≤ length view.sights → HasSeen (drop seen view.sights) who (Some c.frame) entries.Out → HasMadeNone view who → FitsAt layout view who page evictions.Out (at.Vacate (vacates.begin who page c.frame c.count body) done)
-    leaves sound within few saw none = record {
+    leaves : {base : List Made} → IsSound layout → c.frame.0 < layout.frames → seen ≤ length view.sights → HasSeen (drop seen view.sights) who (Some c.frame) entries.Out → HasMadeNoneBeside base view who → FitsAt base layout view who page evictions.Out (at.Vacate (vacates.begin who page c.frame c.count body) done)
+    leaves {base} sound within few saw none = record {
       vacate = record {
         on_turn = on;
         sound = sound;
@@ -139,11 +140,11 @@ module _ {layout : Layout} {view : View} {who : Who} {page : Page} {log : Log} {
 
   -- ---- more are to be written, or all are
 
-  pub clears-on : (c : Clear) (seen : ℕ) → clears.Fits layout view c → c.who ≡ who → c.page ≡ page → c.barred ≡ false → view.bodies ≡ body_in (Some c.frame) log seen ∷ [] → seen ≤ length view.sights → HasSeen (drop seen view.sights) who (Some c.frame) entries.Out
-      → HasMadeNone view who → FitsAt layout view who page evictions.Out (after_clear who page c body done)
-  clears-on c seen fit own its empties bodies few saw none = which c.next fit
+  pub clears-on : {base : List Made} (c : Clear) (seen : ℕ) → clears.Fits layout view c → c.who ≡ who → c.page ≡ page → c.barred ≡ false → view.bodies ≡ body_in (Some c.frame) log seen ∷ [] → seen ≤ length view.sights → HasSeen (drop seen view.sights) who (Some c.frame) entries.Out
+      → HasMadeNoneBeside base view who → FitsAt base layout view who page evictions.Out (after_clear who page c body done)
+  clears-on {base} c seen fit own its empties bodies few saw none = which c.next fit
     where
-      which : (n : Option VSlot) → clears.Fits layout view (record c { next = n }) → FitsAt layout view who page evictions.Out (after_clear who page (record c { next = n }) body done)
+      which : (n : Option VSlot) → clears.Fits layout view (record c { next = n }) → FitsAt base layout view who page evictions.Out (after_clear who page (record c { next = n }) body done)
       which None fit = leaves c seen fit.at its empties bodies fit.sound fit.frame few saw none
       which (Some slot) fit = record {
         clear = fit;
@@ -210,15 +211,15 @@ module _ {layout : Layout} {view : View} {who : Who} {page : Page} (on : IsOnTur
       member None none slot is = absurd (none-some slot is)
       member (Some v) low slot is = subst (λ (x : VSlot). set.contains body.state.maps x.0 ≡ true) (same_Some v slot is) low.1.member
 
-  pub starts : has.seen ≤ length view.sights → HasSeen (drop has.seen view.sights) who (Some frame) entries.Out → HasMadeNone view who → (x : EvictAt) → StartsClearing who page frame body.state.maps now (place page body) x → FitsAt layout view who page evictions.Out x
-  starts few saw none x is = subst (FitsAt layout view who page evictions.Out) (sym is.next_is) (subst (λ (c : Clear). FitsAt layout view who page evictions.Out (after_clear who page c now (place page body))) (sym is.begun.is)
+  pub starts : {base : List Made} → has.seen ≤ length view.sights → HasSeen (drop has.seen view.sights) who (Some frame) entries.Out → HasMadeNoneBeside base view who → (x : EvictAt) → StartsClearing who page frame body.state.maps now (place page body) x → FitsAt base layout view who page evictions.Out x
+  starts {base} few saw none x is = subst (FitsAt base layout view who page evictions.Out) (sym is.next_is) (subst (λ (c : Clear). FitsAt base layout view who page evictions.Out (after_clear who page c now (place page body))) (sym is.begun.is)
       (clears-on on inside entry (clears.begin who page frame body.state.maps false is.clear.next) has.seen
       (record { on_turn = on; sound = sound; page = inside; frame = has.within frame refl; at = begun is.clear.next is.begun.lowest })
       refl refl refl (ap (λ (h : Hand). h.bodies) has.hand_is) few saw none))
 
 -- ---- a translation more is written
 
-module _ {layout : Layout} {old new : View} {who : Who} {page : Page} {what : Eviction} (c : Clear) {body : BodyValue} {done : At} {step : Step} {found : ℕ} {got : Option BodyValue} (on : IsOnTurn new who) (inside : page.0 < length layout.pages) (has : IsClearingOut layout old who page what c body done) (is : clears.plan c ≡ Some step)
+module _ {base : List Made} {layout : Layout} {old new : View} {who : Who} {page : Page} {what : Eviction} (c : Clear) {body : BodyValue} {done : At} {step : Step} {found : ℕ} {got : Option BodyValue} (on : IsOnTurn new who) (inside : page.0 < length layout.pages) (has : IsClearingOut base layout old who page what c body done) (is : clears.plan c ≡ Some step)
     (made : Steps layout c.who step None old new found got) where
   sights-same : new.sights ≡ old.sights
   sights-same = which c.next is
@@ -237,8 +238,8 @@ module _ {layout : Layout} {old new : View} {who : Who} {page : Page} {what : Ev
   pub clear-shows : clears.Shows c
   clear-shows = (clearing.both layout old new c step found got has.clear is made).0
 
-  pub clear-fits : (y : EvictAt) → IsCleared who page c body done y → FitsAt layout new who page what y
-  clear-fits y follows = subst (λ (w : Eviction). FitsAt layout new who page w y) (sym has.out) (subst (FitsAt layout new who page evictions.Out) (sym follows.next_is)
+  pub clear-fits : (y : EvictAt) → IsCleared who page c body done y → FitsAt base layout new who page what y
+  clear-fits y follows = subst (λ (w : Eviction). FitsAt base layout new who page w y) (sym has.out) (subst (FitsAt base layout new who page evictions.Out) (sym follows.next_is)
       (clears-on on inside (subst (λ (w : Eviction). HasEntry layout who page w has.log done body) has.out has.entry) follows.after has.seen ((clearing.both layout old new c step found got has.clear is made).1 follows.after follows.follows)
       (same.who ∙ has.own) (same.page ∙ has.page_is) (same.barred ∙ has.empties)
       (bodies-same ∙ has.bodies_are ∙ ap (λ (f : Frame). body_in (Some f) has.log has.seen ∷ []) (sym same.frame))

@@ -16,6 +16,7 @@ use Rattle.hwp_core.specs.hwp_page.History.{BodyValue}
 use Rattle.hwp_core.specs.hwp_page.Step.{IsOf}
 use Rattle.hwp_core.specs.hwp_words.Translations.{pte_word}
 use Rattle.hwp_core.specs.hwp_words.declared.Pte.TheVariants as ptes
+use Rattle.hwp_core.specs.hwp_core_rule.declared.Made.{Made}
 use Rattle.hwp_core.specs.hwp_core_rule.declared.InHand.{InHand}
 use Rattle.hwp_core.specs.hwp_core_rule.declared.Log.{Log}
 use Rattle.hwp_core.specs.hwp_core_rule.declared.SharedWord.TheVariants as places
@@ -59,7 +60,7 @@ pub trans-word : (layout : Layout) (s : State) (h : Holds layout s) (slot : VSlo
 trans-word layout s h slot found inside met =
     slice_get-get_or (words_of layout s.words).trans slot.0 0 (subst (λ (n : ℕ). slot.0 < n) (sym (shaped layout s h).trans) inside) ∙ ap (λ (n : ℕ). Some n) (words-read layout s.words (places.Trans slot) inside ∙ sym met)
 
-module _ {layout : Layout} {old : View} {who : Who} {page : Page} {slot : VSlot} {frame : Frame} {body : BodyValue} {done : At} (has : IsFreeing layout old who page (evictions.Free slot) frame body done) (own : IsOf layout page slot) where
+module _ {base : List Made} {layout : Layout} {old : View} {who : Who} {page : Page} {slot : VSlot} {frame : Frame} {body : BodyValue} {done : At} (has : IsFreeing base layout old who page (evictions.Free slot) frame body done) (own : IsOf layout page slot) where
   abbrev state : PageState
   state = state_of layout has.log
 
@@ -152,7 +153,7 @@ module _ {layout : Layout} {old : View} {who : Who} {page : Page} {slot : VSlot}
             word-is has.entry frame has.seen v w t declared its (sym (set_else before slot.0 v 0 other) ∙ there)
             ∙ sym (target v (set.contains state.maps v) (set.contains state.bar v) (maps-now v ∙ ap (λ (b : Bool). not b && set.contains state.maps v) (ne_eqb v slot.0 other)) (bar-now v))
 
-    pub freed : FitsAt layout new who page (evictions.Free slot) (at.Unhold (unholds.begin who page (Some frame) 2 body) (answers.Done done))
+    pub freed : FitsAt base layout new who page (evictions.Free slot) (at.Unhold (unholds.begin who page (Some frame) 2 body) (answers.Done done))
     freed = record {
       unhold = ahead-unholds layout new who page (Some frame) 2 body on inside (record {
         body = body;

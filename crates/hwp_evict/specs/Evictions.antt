@@ -1,5 +1,5 @@
 -- What the commands ask by which a page, or a part of it, leaves its frame: the entry that each makes, and why it is refused.
-use Rattle.std.specs.Prelude.{◌≡◌, ◌≢◌, ◌<◌, Bool, true, false, Option, slice_get, IsTrue, IsSomeAnd, MatchOption}
+use Rattle.std.specs.Prelude.{◌≡◌, ◌≢◌, ◌<◌, Bool, true, false, List, Option, slice_get, IsTrue, IsSomeAnd, MatchOption}
 use Rattle.std.specs.FinSet as set
 use Rattle.hwp_core.specs.hwp_geom.declared.Frame.{Frame}
 use Rattle.hwp_core.specs.hwp_geom.declared.Layout.{Layout}
@@ -12,8 +12,9 @@ use Rattle.hwp_core.specs.hwp_page.declared.What.{What}
 use Rattle.hwp_core.specs.hwp_page.declared.What.TheVariants as entries
 use Rattle.hwp_core.specs.hwp_page.Refusals.{IsAway, IsDirty, IsLockedIn, IsMapped, IsUnsaved, IsUnused}
 use Rattle.hwp_core.specs.hwp_page.Step.{IsOf, is_file}
+use Rattle.hwp_core.specs.hwp_core_rule.declared.Made.{Made}
 use Rattle.hwp_core.specs.hwp_core_rule.declared.View.{View}
-use Rattle.hwp_core.specs.hwp_core_task.Known.{HasMade, HasMadeNone, SawBadOf, SawStop}
+use Rattle.hwp_core.specs.hwp_core_task.Known.{HasMadeBeside, HasMadeNoneBeside, SawBadOf, SawStop}
 use Rattle.hwp_core.specs.hwp_core_task.Pages.{SawState}
 use Rattle.hwp_evict.specs.declared.evict.EvictAnswer.{EvictAnswer}
 use Rattle.hwp_evict.specs.declared.evict.EvictAnswer.TheVariants as answers
@@ -94,8 +95,8 @@ pub record SawRefusal (layout : Layout) (view : View) (who : Who) (page : Page) 
   pub state : SawState layout view who page at.entry (IsWhy what refusal)
   pub lines : SawLines layout view who page refusal
 
--- why the command answers so: what a step of it showed, or the one entry that it made
-abbrev pub IsCaused : Layout → View → Who → Page → Eviction → EvictAnswer → Type 0
-IsCaused layout view who page what answers.Stopped = HasMadeNone view who × SawStop view who
-IsCaused layout view who page what (answers.Done at) = (at.page ≡ page) × HasMade (λ m. ⊥) view who page at.entry (entry_of what)
-IsCaused layout view who page what (answers.Refused refusal at) = HasMadeNone view who × SawRefusal layout view who page what refusal at
+-- why the command answers so: what a step of it showed, or the one entry that it made beside those that it had made before
+abbrev pub IsCaused : List Made → Layout → View → Who → Page → Eviction → EvictAnswer → Type 0
+IsCaused base layout view who page what answers.Stopped = HasMadeNoneBeside base view who × SawStop view who
+IsCaused base layout view who page what (answers.Done at) = (at.page ≡ page) × HasMadeBeside base (λ m. ⊥) view who page at.entry (entry_of what)
+IsCaused base layout view who page what (answers.Refused refusal at) = HasMadeNoneBeside base view who × SawRefusal layout view who page what refusal at

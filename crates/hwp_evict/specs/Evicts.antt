@@ -1,5 +1,5 @@
 -- A page, or a part of it, that leaves its frame: the task's states, its steps and what they come to.
-use Rattle.std.specs.Prelude.{◌≡◌, ◌⊎◌, ℕ, ◌+◌, ◌<◌, ◌≤◌, ◌==◌, Bool, true, false, cond, [], ◌∷◌, ◌++◌, Option, Some, None, is_none, length, drop, MatchBool}
+use Rattle.std.specs.Prelude.{◌≡◌, ◌⊎◌, ℕ, ◌+◌, ◌<◌, ◌≤◌, ◌==◌, Bool, true, false, cond, List, [], ◌∷◌, ◌++◌, Option, Some, None, is_none, length, drop, MatchBool}
 use Rattle.std.specs.FinSet as set
 use Rattle.std.specs.Ordering.{nat_cmp}
 use Rattle.hwp_core.specs.hwp_geom.declared.Frame.{Frame}
@@ -15,6 +15,7 @@ use Rattle.hwp_core.specs.hwp_words.Stops.{is_stopped}
 use Rattle.hwp_core.specs.hwp_words.declared.Pte.TheVariants as ptes
 use Rattle.hwp_core.specs.hwp_core_rule.declared.InHand.{InHand}
 use Rattle.hwp_core.specs.hwp_core_rule.declared.Log.{Log}
+use Rattle.hwp_core.specs.hwp_core_rule.declared.Made.{Made}
 use Rattle.hwp_core.specs.hwp_core_rule.declared.SharedWord.TheVariants as places
 use Rattle.hwp_core.specs.hwp_core_rule.declared.Step.{Step}
 use Rattle.hwp_core.specs.hwp_core_rule.declared.Step.TheVariants as steps
@@ -27,7 +28,7 @@ use Rattle.hwp_core.specs.hwp_core_task.declared.Turn.{Turn}
 use Rattle.hwp_core.specs.hwp_core_task.declared.Turn.TheVariants.{Moved, Answered}
 use Rattle.hwp_core.specs.hwp_core_task.Calls.{IsOnTurn}
 use Rattle.hwp_core.specs.hwp_core_task.Hands.{hand_of, empty, body_in}
-use Rattle.hwp_core.specs.hwp_core_task.Known.{HasMadeNone, SawLog}
+use Rattle.hwp_core.specs.hwp_core_task.Known.{HasMadeNoneBeside, SawLog}
 use Rattle.hwp_core.specs.hwp_core_task.Turns.{Member}
 use Rattle.hwp_core.specs.hwp_core_task.Ranks.{pass}
 use Rattle.hwp_core.specs.declared.give_up.GiveUp.{GiveUp}
@@ -234,24 +235,24 @@ IsLeaving (at.Vacate v done) = Unit {0}
 IsLeaving (at.Unhold u answer) = Unit {0}
 IsLeaving _ = ⊥
 
--- ---- what is held and known
+-- ---- what is held and known, where the command had made the entries of `base` before
 
 -- the page is being held
-pub record IsHolding (layout : Layout) (view : View) (who : Who) (page : Page) (h : Hold) : Type 0 where
+pub record IsHolding (base : List Made) (layout : Layout) (view : View) (who : Who) (page : Page) (h : Hold) : Type 0 where
   pub hold : holds.Fits layout view h
   pub own : h.who ≡ who
   pub page_is : h.page ≡ page
   pub under_way : is_none (holds.plan h) ≡ false
-  pub made_none : HasMadeNone view who
+  pub made_none : HasMadeNoneBeside base view who
 
 -- the page is held, lets the command go on, and the command saw its history
-pub record IsReading (layout : Layout) (view : View) (who : Who) (page : Page) (what : Eviction) (frame : Frame) (body : BodyValue) : Type 0 where
+pub record IsReading (base : List Made) (layout : Layout) (view : View) (who : Who) (page : Page) (what : Eviction) (frame : Frame) (body : BodyValue) : Type 0 where
   pub copying : copies what ≡ true
   pub passes : Passes what body.state
   pub page_held : HoldsPage layout view page (Some frame) body
   pub few : page_held.seen ≤ length view.sights
   pub saw : SawLog view who (log_of body)
-  pub made_none : HasMadeNone view who
+  pub made_none : HasMadeNoneBeside base view who
 
 -- the body is one of this history with the command's entry, which the page's state allowed in a frame
 pub record HasEntry (layout : Layout) (who : Who) (page : Page) (what : Eviction) (log : Log) (done : At) (body : BodyValue) : Type 0 where
@@ -264,7 +265,7 @@ pub record HasEntry (layout : Layout) (who : Who) (page : Page) (what : Eviction
   pub done_is : done ≡ record { page = page; entry = length log.entries }
 
 -- the page is held, its body has the entry, and its translation isn't written yet
-pub record IsFreeing (layout : Layout) (view : View) (who : Who) (page : Page) (what : Eviction) (frame : Frame) (body : BodyValue) (done : At) : Type 0 where
+pub record IsFreeing (base : List Made) (layout : Layout) (view : View) (who : Who) (page : Page) (what : Eviction) (frame : Frame) (body : BodyValue) (done : At) : Type 0 where
   pub log : Log
   pub seen : ℕ
   pub handled : Bool
@@ -273,7 +274,7 @@ pub record IsFreeing (layout : Layout) (view : View) (who : Who) (page : Page) (
   pub entry : HasEntry layout who page what log done body
   pub sound : IsSound layout
   pub within : frame.0 < layout.frames
-  pub made_none : HasMadeNone view who
+  pub made_none : HasMadeNoneBeside base view who
 
 -- what the body that goes home has more than when it was taken: the one entry, or nothing
 abbrev pub Comes : Layout → View → Who → Page → Eviction → EvictAnswer → InHand → BodyValue → Type 0
@@ -282,35 +283,35 @@ Comes layout view who page what (answers.Done done) taken body =
     (more_of taken (log_of body) ≡ (record { who = who; what = entry_of what }) ∷ []) × (done ≡ record { page = page; entry = length taken.log.entries })
 Comes layout view who page what (answers.Refused refusal left) taken body = (more_of taken (log_of body) ≡ []) × SawRefusal layout view who page what refusal left
 
--- the command has made no entry yet, and with the body it makes what it answers
-pub record IsAhead (layout : Layout) (view : View) (who : Who) (page : Page) (what : Eviction) (answer : EvictAnswer) (body : BodyValue) : Type 0 where
+-- the command has made no entry more yet, and with the body it makes what it answers
+pub record IsAhead (base : List Made) (layout : Layout) (view : View) (who : Who) (page : Page) (what : Eviction) (answer : EvictAnswer) (body : BodyValue) : Type 0 where
   pub taken : InHand
   pub there : body_of body.page view ≡ Some taken
   pub page_is : body.page ≡ page
-  pub made_none : HasMadeNone view who
+  pub made_none : HasMadeNoneBeside base view who
   pub comes : Comes layout view who page what answer taken body
 
 -- the answer has its cause, or has it once the body is home
-abbrev pub KnowsPut : Layout → View → Who → Page → Eviction → EvictAnswer → Option BodyValue → Type 0
-KnowsPut layout view who page what answer None = IsCaused layout view who page what answer
-KnowsPut layout view who page what answer (Some body) = IsAhead layout view who page what answer body
+abbrev pub KnowsPut : List Made → Layout → View → Who → Page → Eviction → EvictAnswer → Option BodyValue → Type 0
+KnowsPut base layout view who page what answer None = IsCaused base layout view who page what answer
+KnowsPut base layout view who page what answer (Some body) = IsAhead base layout view who page what answer body
 
-pub record IsLettingGo (layout : Layout) (view : View) (who : Who) (page : Page) (what : Eviction) (u : Unhold) (answer : EvictAnswer) : Type 0 where
+pub record IsLettingGo (base : List Made) (layout : Layout) (view : View) (who : Who) (page : Page) (what : Eviction) (u : Unhold) (answer : EvictAnswer) : Type 0 where
   pub unhold : unholds.Fits layout view u
   pub own : u.who ≡ who
   pub under_way : is_none (unholds.plan u) ≡ false
-  pub knows : KnowsPut layout view who page what answer (unholds.put u)
+  pub knows : KnowsPut base layout view who page what answer (unholds.put u)
 
-pub record IsVacating (layout : Layout) (view : View) (who : Who) (page : Page) (what : Eviction) (v : Vacate) (done : At) : Type 0 where
+pub record IsVacating (base : List Made) (layout : Layout) (view : View) (who : Who) (page : Page) (what : Eviction) (v : Vacate) (done : At) : Type 0 where
   pub vacate : vacates.Fits layout view v
   pub own : v.who ≡ who
   pub under_way : is_none (vacates.plan v) ≡ false
   pub body : BodyValue
   pub body_is : v.body ≡ Some body
-  pub ahead : IsAhead layout view who page what (answers.Done done) body
+  pub ahead : IsAhead base layout view who page what (answers.Done done) body
 
 -- the page is held, its body has the entry, and its translations are being written
-pub record IsClearingOut (layout : Layout) (view : View) (who : Who) (page : Page) (what : Eviction) (c : Clear) (body : BodyValue) (done : At) : Type 0 where
+pub record IsClearingOut (base : List Made) (layout : Layout) (view : View) (who : Who) (page : Page) (what : Eviction) (c : Clear) (body : BodyValue) (done : At) : Type 0 where
   pub clear : clears.Fits layout view c
   pub own : c.who ≡ who
   pub page_is : c.page ≡ page
@@ -323,29 +324,33 @@ pub record IsClearingOut (layout : Layout) (view : View) (who : Who) (page : Pag
   pub entry : HasEntry layout who page what log done body
   pub few : seen ≤ length view.sights
   pub saw : HasSeen (drop seen view.sights) who (Some c.frame) (entry_of what)
-  pub made_none : HasMadeNone view who
+  pub made_none : HasMadeNoneBeside base view who
 
 pub record IsGivingUp (layout : Layout) (view : View) (who : Who) (g : GiveUp) : Type 0 where
   pub give_up : give_ups.Fits layout view g
   pub own : g.who ≡ who
 
-abbrev pub FitsAt : Layout → View → Who → Page → Eviction → EvictAt → Type 0
-FitsAt layout view who page what at.LoadStop = (hand_of view ≡ empty) × HasMadeNone view who
-FitsAt layout view who page what (at.Hold h) = IsHolding layout view who page h
-FitsAt layout view who page what (at.LoadBad frame body) = IsReading layout view who page what frame body
-FitsAt layout view who page what (at.SetPte slot frame body done) = (what ≡ evictions.Free slot) × IsFreeing layout view who page what frame body done
-FitsAt layout view who page what (at.Clear c body done) = IsClearingOut layout view who page what c body done
-FitsAt layout view who page what (at.Vacate v done) = IsVacating layout view who page what v done
-FitsAt layout view who page what (at.Unhold u answer) = IsLettingGo layout view who page what u answer
-FitsAt layout view who page what (at.GiveUp g) = IsGivingUp layout view who g
-FitsAt layout view who page what (at.Over answer) = (hand_of view ≡ empty) × IsCaused layout view who page what answer
+abbrev pub FitsAt : List Made → Layout → View → Who → Page → Eviction → EvictAt → Type 0
+FitsAt base layout view who page what at.LoadStop = (hand_of view ≡ empty) × HasMadeNoneBeside base view who
+FitsAt base layout view who page what (at.Hold h) = IsHolding base layout view who page h
+FitsAt base layout view who page what (at.LoadBad frame body) = IsReading base layout view who page what frame body
+FitsAt base layout view who page what (at.SetPte slot frame body done) = (what ≡ evictions.Free slot) × IsFreeing base layout view who page what frame body done
+FitsAt base layout view who page what (at.Clear c body done) = IsClearingOut base layout view who page what c body done
+FitsAt base layout view who page what (at.Vacate v done) = IsVacating base layout view who page what v done
+FitsAt base layout view who page what (at.Unhold u answer) = IsLettingGo base layout view who page what u answer
+FitsAt base layout view who page what (at.GiveUp g) = IsGivingUp layout view who g
+FitsAt base layout view who page what (at.Over answer) = (hand_of view ≡ empty) × IsCaused base layout view who page what answer
 
 -- the processor holds nothing at first and in the end, and knows why the command answers so
-pub record Fits (layout : Layout) (view : View) (e : Evict) : Type 0 where
+pub record FitsFrom (base : List Made) (layout : Layout) (view : View) (e : Evict) : Type 0 where
   pub on_turn : IsOnTurn view e.who
   pub page : e.page.0 < length layout.pages
   pub kind : IsOfKind layout e.page e.what
-  pub at : FitsAt layout view e.who e.page e.what e.at
+  pub at : FitsAt base layout view e.who e.page e.what e.at
+
+-- whatever the command had made before
+abbrev pub Fits : Layout → View → Evict → Type 0
+Fits layout view e = (base : List Made) × FitsFrom base layout view e
 
 -- that of what is being done
 abbrev pub class_at : EvictAt → ℕ

@@ -11,6 +11,7 @@ use Rattle.hwp_evict.specs.hwp_page.declared.PageState.{PageState}
 use Rattle.hwp_evict.specs.hwp_page.History.{BodyValue}
 use Rattle.hwp_evict.specs.hwp_words.Stops.{is_stopped}
 use Rattle.hwp_evict.specs.hwp_core_rule.declared.FrameLock.{FrameLock}
+use Rattle.hwp_evict.specs.hwp_core_rule.declared.Made.{Made}
 use Rattle.hwp_evict.specs.hwp_core_rule.declared.SharedWord.TheVariants as places
 use Rattle.hwp_evict.specs.hwp_core_rule.declared.Sight.{Sight}
 use Rattle.hwp_evict.specs.hwp_core_rule.declared.Step.{Step}
@@ -24,7 +25,7 @@ use Rattle.hwp_evict.proofs.of_hwp_core_rule.Lists.{some-last}
 use Rattle.hwp_evict.specs.hwp_core_task.Calls.{IsOnTurn, Steps, logs}
 use Rattle.hwp_evict.specs.hwp_core_task.Hands.{Hand, empty, hand_of}
 use Rattle.hwp_evict.proofs.of_hwp_core_task.StepLeaves.{hand-planned}
-use Rattle.hwp_evict.specs.hwp_core_task.Known.{HasMadeNone, is_by}
+use Rattle.hwp_evict.specs.hwp_core_task.Known.{HasMadeNoneBeside, is_by}
 use Rattle.hwp_evict.proofs.of_hwp_core_task.MadeEntries.{deeds-same, made-kept}
 use Rattle.hwp_evict.proofs.of_hwp_core_task.SightKeeps.{saw-bad-of-load, saw-load}
 use Rattle.hwp_evict.specs.hwp_core.Holds.{HoldsPage, held}
@@ -54,8 +55,8 @@ use Rattle.hwp_soft.proofs.SpareFrame.{page-let-go}
 
 -- ---- the command has made nothing yet
 
-made-from : (who : Who) (old new : View) → new.made ≡ old.made → HasMadeNone old who → HasMadeNone new who
-made-from who old new same none = ap (filter (is_by who)) same ∙ none
+made-from : {base : List Made} (who : Who) (old new : View) → new.made ≡ old.made → HasMadeNoneBeside base old who → HasMadeNoneBeside base new who
+made-from {base} who old new same none = ap (filter (is_by who)) same ∙ none
 
 pub seize-only : (z : Seize) (step : Step) → seizes.plan z ≡ Some step → OnlyHolds step
 seize-only z step is = which z.at is
@@ -71,11 +72,11 @@ seize-only z step is = which z.at is
     which (seize_at.Owned page body) e = absurd (none-some step e)
 
 module _ {layout : Layout} {old new : View} {who : Who} {step : Step} {found : ℕ} {got : Option BodyValue} where
-  pub seize-makes-none : (z : Seize) → z.who ≡ who → seizes.Fits layout old z → seizes.plan z ≡ Some step → Steps layout who step (logs (seizes.put z)) old new found got → HasMadeNone old who → HasMadeNone new who
-  seize-makes-none z own fits e made = made-from who old new (ap (λ (a : Account). a.made) (kept (seizes.put z) (seize-only z step e) (seizing.puts-as-taken layout old z fits) made))
+  pub seize-makes-none : {base : List Made} (z : Seize) → z.who ≡ who → seizes.Fits layout old z → seizes.plan z ≡ Some step → Steps layout who step (logs (seizes.put z)) old new found got → HasMadeNoneBeside base old who → HasMadeNoneBeside base new who
+  seize-makes-none {base} z own fits e made = made-from who old new (ap (λ (a : Account). a.made) (kept (seizes.put z) (seize-only z step e) (seizing.puts-as-taken layout old z fits) made))
 
-  pub discard-makes-none : (d : Discard) → discards.Fits layout old d → discards.plan d ≡ Some step → Steps layout who step (logs (discards.put d)) old new found got → HasMadeNone old who → HasMadeNone new who
-  discard-makes-none d fits e made = made-from who old new (which d.at fits.at e made)
+  pub discard-makes-none : {base : List Made} (d : Discard) → discards.Fits layout old d → discards.plan d ≡ Some step → Steps layout who step (logs (discards.put d)) old new found got → HasMadeNoneBeside base old who → HasMadeNoneBeside base new who
+  discard-makes-none {base} d fits e made = made-from who old new (which d.at fits.at e made)
     where
       plain : {other : Step} → Some other ≡ Some step → OnlyHolds other → Steps layout who step None old new found got → new.made ≡ old.made
       plain is only m = ap (λ (a : Account). a.made) (kept None (planned is only) (λ b some. absurd (none-some b some)) m)
@@ -90,20 +91,20 @@ module _ {layout : Layout} {old new : View} {who : Who} {step : Step} {found : �
 -- ---- the frame is seized
 
 module _ {layout : Layout} {new : View} {who : Who} {frame : Frame} (on : IsOnTurn new who) (within : frame.0 < layout.frames) where
-  pub stop-read : {old : View} {found : ℕ} {got : Option BodyValue} → Steps layout who (steps.Load places.Stop) None old new found got → hand_of new ≡ empty → HasMadeNone new who → FitsAt layout new who frame (after_stop who frame found)
-  stop-read {old} {found} made held none = by (is_stopped found) refl
+  pub stop-read : {base : List Made} {old : View} {found : ℕ} {got : Option BodyValue} → Steps layout who (steps.Load places.Stop) None old new found got → hand_of new ≡ empty → HasMadeNoneBeside base new who → FitsAt base layout new who frame (after_stop who frame found)
+  stop-read {base} {old} {found} made held none = by (is_stopped found) refl
     where
-      by : (b : Bool) → is_stopped found ≡ b → FitsAt layout new who frame (cond b (at.Over answers.Stopped) (at.Seize (seizes.begin who frame)))
+      by : (b : Bool) → is_stopped found ≡ b → FitsAt base layout new who frame (cond b (at.Over answers.Stopped) (at.Seize (seizes.begin who frame)))
       by true is = (held, (none, record { word = found; stopped = is; saw = saw-load made }))
       by false is = (record { seize = record { on_turn = on; frame = within; at = held }; own = refl; frame_is = refl; under_way = refl }, none)
 
-  pub seized : (z : Seize) → seizes.Fits layout new z → z.who ≡ who → z.frame ≡ frame → HasMadeNone new who → FitsAt layout new who frame (after_seize who frame z)
-  seized z fits own frame_is none = which z.at fits (subst (λ (w : Who). seizes.FitsAt layout new w frame z.at) own (subst (λ (f : Frame). seizes.FitsAt layout new z.who f z.at) frame_is fits.at))
+  pub seized : {base : List Made} (z : Seize) → seizes.Fits layout new z → z.who ≡ who → z.frame ≡ frame → HasMadeNoneBeside base new who → FitsAt base layout new who frame (after_seize who frame z)
+  seized {base} z fits own frame_is none = which z.at fits (subst (λ (w : Who). seizes.FitsAt layout new w frame z.at) own (subst (λ (f : Frame). seizes.FitsAt layout new z.who f z.at) frame_is fits.at))
     where
-      on-way : (x : SeizeAt) → seizes.Fits layout new (record z { at = x }) → is_none (seizes.plan_at z.frame x) ≡ false → FitsAt layout new who frame (at.Seize (record z { at = x }))
+      on-way : (x : SeizeAt) → seizes.Fits layout new (record z { at = x }) → is_none (seizes.plan_at z.frame x) ≡ false → FitsAt base layout new who frame (at.Seize (record z { at = x }))
       on-way x fit going = (record { seize = fit; own = own; frame_is = frame_is; under_way = going }, none)
 
-      which : (x : SeizeAt) → seizes.Fits layout new (record z { at = x }) → seizes.FitsAt layout new who frame x → FitsAt layout new who frame (after_seize who frame (record z { at = x }))
+      which : (x : SeizeAt) → seizes.Fits layout new (record z { at = x }) → seizes.FitsAt layout new who frame x → FitsAt base layout new who frame (after_seize who frame (record z { at = x }))
       which seize_at.Look fit has = on-way seize_at.Look fit refl
       which (seize_at.Grab g) fit has = on-way (seize_at.Grab g) fit fit.at.0.under_way
       which (seize_at.Meet m) fit has = on-way (seize_at.Meet m) fit fit.at.0.under_way
@@ -113,13 +114,13 @@ module _ {layout : Layout} {new : View} {who : Who} {frame : Frame} (on : IsOnTu
       which seize_at.Free fit has = (record { discard = record { on_turn = on; frame = within; at = has.0 }; own = refl; frame_is = refl; under_way = refl }, has.1, none)
       which (seize_at.Owned page body) fit has = (has.0, has.1, none)
 
-  pub discarded : (d : Discard) → discards.Fits layout new d → d.who ≡ who → d.frame ≡ frame → IsUsers layout frame → HasMadeNone new who → FitsAt layout new who frame (after_discard d)
-  discarded d fits own frame_is users none = which d.at fits (subst (λ (w : Who). discards.FitsAt layout new w frame d.at) own (subst (λ (f : Frame). discards.FitsAt layout new d.who f d.at) frame_is fits.at))
+  pub discarded : {base : List Made} (d : Discard) → discards.Fits layout new d → d.who ≡ who → d.frame ≡ frame → IsUsers layout frame → HasMadeNoneBeside base new who → FitsAt base layout new who frame (after_discard d)
+  discarded {base} d fits own frame_is users none = which d.at fits (subst (λ (w : Who). discards.FitsAt layout new w frame d.at) own (subst (λ (f : Frame). discards.FitsAt layout new d.who f d.at) frame_is fits.at))
     where
-      on-way : (x : DiscardAt) → discards.Fits layout new (record d { at = x }) → is_none (discards.plan_at d.frame x) ≡ false → FitsAt layout new who frame (at.Discard (record d { at = x }))
+      on-way : (x : DiscardAt) → discards.Fits layout new (record d { at = x }) → is_none (discards.plan_at d.frame x) ≡ false → FitsAt base layout new who frame (at.Discard (record d { at = x }))
       on-way x fit going = (record { discard = fit; own = own; frame_is = frame_is; under_way = going }, users, none)
 
-      which : (x : DiscardAt) → discards.Fits layout new (record d { at = x }) → discards.FitsAt layout new who frame x → FitsAt layout new who frame (after_discard (record d { at = x }))
+      which : (x : DiscardAt) → discards.Fits layout new (record d { at = x }) → discards.FitsAt layout new who frame x → FitsAt base layout new who frame (after_discard (record d { at = x }))
       which (discard_at.Poison used) fit has = on-way (discard_at.Poison used) fit refl
       which (discard_at.Count cycle) fit has = on-way (discard_at.Count cycle) fit refl
       which (discard_at.Retire cycle) fit has = on-way (discard_at.Retire cycle) fit refl
@@ -129,7 +130,7 @@ module _ {layout : Layout} {new : View} {who : Who} {frame : Frame} (on : IsOnTu
 
 -- ---- the bad lines are read
 
-module _ {layout : Layout} {old new : View} {who : Who} {frame : Frame} {page : Page} {body : BodyValue} {found : ℕ} {got : Option BodyValue} (on : IsOnTurn new who) (within : frame.0 < layout.frames) (has : HoldsMet layout old who page frame None body) (users : IsUsers layout frame) (none : HasMadeNone old who)
+module _ {base : List Made} {layout : Layout} {old new : View} {who : Who} {frame : Frame} {page : Page} {body : BodyValue} {found : ℕ} {got : Option BodyValue} (on : IsOnTurn new who) (within : frame.0 < layout.frames) (has : HoldsMet layout old who page frame None body) (users : IsUsers layout frame) (none : HasMadeNoneBeside base old who)
     (made : Steps layout who (steps.Load (places.Bad frame)) None old new found got) where
   more : new.sights ≡ old.sights ++ (record { stamp = stamp_of who (noted who old); place = places.Bad frame; word = found }) ∷ []
   more = ap (λ (v : View). v.sights) made.told.next
@@ -150,7 +151,7 @@ module _ {layout : Layout} {old new : View} {who : Who} {frame : Frame} {page : 
   few-still : has.holds.seen ≤ length new.sights
   few-still = let all : length new.sights ≡ length old.sights + 1 = ap (λ (l : List Sight). length l) more ∙ length-append old.sights _ in let few : _ = has.few in omega (arith, all, few)
 
-  none-still : HasMadeNone new who
+  none-still : HasMadeNoneBeside base new who
   none-still = deeds-same who tt made ∙ none
 
   seen-zero : found ≡ 0 → SomeMember (Shows who frame (places.Bad frame) 0) (drop has.holds.seen new.sights)
@@ -165,8 +166,8 @@ module _ {layout : Layout} {old new : View} {who : Who} {frame : Frame} {page : 
   cached : body.state.cached ≡ true
   cached = ap (λ (s : PageState). s.cached) (sym (state-is has.holds.body_is)) ∙ is-cached has.holds.body_is
 
-  takes-one : found ≡ 0 → (x : SoftAt) → TakesOne who page body x → FitsAt layout new who frame x
-  takes-one zero x is = subst (FitsAt layout new who frame) (sym is.next_is) (record {
+  takes-one : found ≡ 0 → (x : SoftAt) → TakesOne who page body x → FitsAt base layout new who frame x
+  takes-one zero x is = subst (FitsAt base layout new who frame) (sym is.next_is) (record {
     good = record {
       seen = has.holds.seen;
       poisoned = has.holds.poisoned;
@@ -185,20 +186,20 @@ module _ {layout : Layout} {old new : View} {who : Who} {frame : Frame} {page : 
     under_way = refl;
   })
 
-  pub bad-read : (x : SoftAt) → AfterBad who frame page body found x → FitsAt layout new who frame x
+  pub bad-read : (x : SoftAt) → AfterBad who frame page body found x → FitsAt base layout new who frame x
   bad-read x follows = which (found == 0) refl follows
     where
-      gives-up : x ≡ given_up who frame page body → FitsAt layout new who frame x
-      gives-up is = subst (FitsAt layout new who frame) (sym is) (record {
+      gives-up : x ≡ given_up who frame page body → FitsAt base layout new who frame x
+      gives-up is = subst (FitsAt base layout new who frame) (sym is) (record {
         give_up = page-given-up layout new who page (Some frame) 1 body (held-unholds layout new who page (Some frame) body on has.inside page-still);
         own = refl;
         as_taken = one-taken layout who new (Some frame) body has.holds.seen (ap (λ (h : Hand). h.bodies) hand);
       })
 
-      which : (b : Bool) → (found == 0) ≡ b → MatchBool b ((x ≡ given_up who frame page body) ⊎ TakesOne who page body x) (x ≡ let_go who frame page body (answers.HasBad (record { 0 = found }))) → FitsAt layout new who frame x
+      which : (b : Bool) → (found == 0) ≡ b → MatchBool b ((x ≡ given_up who frame page body) ⊎ TakesOne who page body x) (x ≡ let_go who frame page body (answers.HasBad (record { 0 = found }))) → FitsAt base layout new who frame x
       which true zero (inl is) = gives-up is
       which true zero (inr is) = takes-one (eqb-true found 0 zero) x is
-      which false some is = subst (FitsAt layout new who frame) (sym is) (page-let-go on within (answers.HasBad (record { 0 = found })) has.inside page-still (
+      which false some is = subst (FitsAt base layout new who frame) (sym is) (page-let-go on within (answers.HasBad (record { 0 = found })) has.inside page-still (
         none-still,
         record {
           page = page;

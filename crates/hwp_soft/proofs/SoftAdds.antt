@@ -11,6 +11,7 @@ use Rattle.hwp_evict.specs.hwp_geom.declared.Who.{Who}
 use Rattle.hwp_evict.specs.hwp_page.History.{BodyValue}
 use Rattle.hwp_evict.specs.hwp_words.Frames.{cycle_of, is_poisoned}
 use Rattle.hwp_evict.specs.hwp_words.Stops.{is_stopped}
+use Rattle.hwp_evict.specs.hwp_core_rule.declared.Made.{Made}
 use Rattle.hwp_evict.specs.hwp_core_rule.declared.Log.{Log}
 use Rattle.hwp_evict.specs.hwp_core_rule.declared.Mark.{Mark}
 use Rattle.hwp_evict.specs.hwp_core_rule.declared.Step.{Step}
@@ -63,7 +64,7 @@ use Rattle.hwp_soft.specs.declared.soft.SoftAnswer.TheVariants as answers
 use Rattle.hwp_soft.specs.declared.soft.SoftAt.{SoftAt}
 use Rattle.hwp_soft.specs.declared.soft.SoftAt.TheVariants as at
 use Rattle.hwp_soft.specs.Done.{Adds, marked_at, owed_at, relocate_owed}
-use Rattle.hwp_soft.specs.Offline.{Fits, FitsAt, IsDiscarding, IsRelocating}
+use Rattle.hwp_soft.specs.Offline.{FitsFrom, FitsAt, IsDiscarding, IsRelocating}
 use Rattle.hwp_soft.specs.Softs.{Follows, FollowsAt, Moves, TakesOne, after_discard, after_relocate, after_release, after_seize, after_take, after_unhold, bare, bare_at, given_up, let_go, plan, plan_at, put, put_at}
 use Rattle.hwp_soft.proofs.SeizeSteps.{seize-only}
 
@@ -298,9 +299,9 @@ module _ {layout : Layout} {old new : View} {step : Step} {found : ℕ} {got : O
       which (discard_at.Unlock u) fit e made = quietly _ _ e (quiet.unlock u.at) made (unlocked (unlocks.next (unlocks.bare u) found))
       which (discard_at.Over cycle) fit e made = absurd (none-some step e)
 
-  relocate-adds : (r : Relocate) (answer : SoftAnswer) → IsRelocating layout old who frame r answer → relocations.plan r ≡ Some step → Steps layout who step (logs (relocations.put r)) old new found got → (after : Relocate) (turn : Turn) → relocations.FollowsAt r.transfer r.maps r.at found after.at turn
+  relocate-adds : {base : List Made} (r : Relocate) (answer : SoftAnswer) → IsRelocating base layout old who frame r answer → relocations.plan r ≡ Some step → Steps layout who step (logs (relocations.put r)) old new found got → (after : Relocate) (turn : Turn) → relocations.FollowsAt r.transfer r.maps r.at found after.at turn
       → Adds old new who frame (at.Relocate r answer) (after_relocate after answer)
-  relocate-adds r answer has e made after turn follows = which r.at has.relocate.at e made
+  relocate-adds {base} r answer has e made after turn follows = which r.at has.relocate.at e made
     where
       after-done : done-in frame (after_relocate after answer) ≡ done-in frame (at.Over answer)
       after-done = relocate-done frame after answer (owes-none r.transfer r.maps r.at after.at found turn follows)
@@ -308,11 +309,11 @@ module _ {layout : Layout} {old new : View} {step : Step} {found : ℕ} {got : O
       moving : (x : RelocateAt) → HasCounted x → relocate_owed x ≡ 0 → relocations.plan_at r.transfer x ≡ Some step → Steps layout who step (logs (relocations.put_at r.body x)) old new found got → Adds old new who frame (at.Relocate (record r { at = x }) answer) (after_relocate after answer)
       moving x counted paid e made = quietly (at.Relocate (record r { at = x }) answer) (after_relocate after answer) e (relocate r.transfer x counted) made (after-done ∙ ap (λ (n : ℕ). (marked_at frame (at.Over answer), n)) (sym paid))
 
-      counted-now : Steps layout who (steps.CountPoison false) None old new found got → relocating.FitsAt layout old r.transfer r.maps r.done r.body relocate_at.Count → Adds old new who frame (at.Relocate (record r { at = relocate_at.Count }) answer) (after_relocate after answer)
+      counted-now : Steps layout who (steps.CountPoison false) None old new found got → relocating.FitsAt base layout old r.transfer r.maps r.done r.body relocate_at.Count → Adds old new who frame (at.Relocate (record r { at = relocate_at.Count }) answer) (after_relocate after answer)
       counted-now made fit = claiming who frame {x = claim_at.Count has.cycle} {y = claim_at.Look has.cycle} (at.Relocate (record r { at = relocate_at.Count }) answer) (after_relocate after answer)
           (ap (λ (d : SoftAnswer). (marked_at frame (at.Over d), 1)) has.answer_is) (after-done ∙ ap (λ (d : SoftAnswer). (marked_at frame (at.Over d), 0)) has.answer_is) (count-adds who frame false has.cycle made fit.1)
 
-      which : (x : RelocateAt) → relocating.FitsAt layout old r.transfer r.maps r.done r.body x → relocations.plan_at r.transfer x ≡ Some step → Steps layout who step (logs (relocations.put_at r.body x)) old new found got → Adds old new who frame (at.Relocate (record r { at = x }) answer) (after_relocate after answer)
+      which : (x : RelocateAt) → relocating.FitsAt base layout old r.transfer r.maps r.done r.body x → relocations.plan_at r.transfer x ≡ Some step → Steps layout who step (logs (relocations.put_at r.body x)) old new found got → Adds old new who frame (at.Relocate (record r { at = x }) answer) (after_relocate after answer)
       which relocate_at.Count fit e made = counted-now (steps-planned e made) fit
       which relocate_at.SetOwner fit e made = moving relocate_at.SetOwner tt refl e made
       which (relocate_at.Refer f) fit e made = moving (relocate_at.Refer f) tt refl e made
@@ -333,11 +334,11 @@ poison-here found who frame page body to x false is follows made = claiming who 
     (ap (done-in frame) follows.next_is ∙ ap (λ (r : Relocate). (poisoning frame false (cycle_of found) ∷ [], relocate_owed r.at)) follows.begun.is)
     (poison-adds who frame false made false is)
 
-pub soft-adds : (layout : Layout) (old new : View) (s : Soft) (step : Step) (found : ℕ) (got : Option BodyValue) → Fits layout old s → plan s ≡ Some step → Steps layout s.who step (logs (put s)) old new found got
+pub soft-adds : {base : List Made} (layout : Layout) (old new : View) (s : Soft) (step : Step) (found : ℕ) (got : Option BodyValue) → FitsFrom base layout old s → plan s ≡ Some step → Steps layout s.who step (logs (put s)) old new found got
     → (after : Soft) (turn : Turn) → Follows layout (bare s) found got after turn → Adds old new s.who s.frame s.at after.at
-soft-adds layout old new s step found got fits is made after turn follows = which s.at fits.at is made follows.1
+soft-adds {base} layout old new s step found got fits is made after turn follows = which s.at fits.at is made follows.1
   where
-    which : (x : SoftAt) → FitsAt layout old s.who s.frame x → plan_at s.frame x ≡ Some step → Steps layout s.who step (logs (put_at x)) old new found got → FollowsAt layout s.who s.frame (bare_at x) found got after.at turn → Adds old new s.who s.frame x after.at
+    which : (x : SoftAt) → FitsAt base layout old s.who s.frame x → plan_at s.frame x ≡ Some step → Steps layout s.who step (logs (put_at x)) old new found got → FollowsAt layout s.who s.frame (bare_at x) found got after.at turn → Adds old new s.who s.frame x after.at
     which at.LoadStop has e made next = quietly s.who s.frame at.LoadStop after.at e tt made (ap (done-in s.frame) next.0 ∙ stopped-done s.frame s.who (is_stopped found))
     which (at.Seize z) has e made next = quietly s.who s.frame (at.Seize z) after.at e (subst PlansQuiet (sym e) (only-quiet step (seize-only z step e))) made (ap (done-in s.frame) next.0 ∙ seize-done s.frame s.who (seizes.next (seizes.bare z) found got))
     which (at.Discard d) has e made next = subst (Adds old new s.who s.frame (at.Discard d)) (sym next.0) (discard-adds s.who s.frame d has.0 e made)

@@ -1,11 +1,12 @@
 -- The laws of `Soft`: its steps can be made.
-use Rattle.std.proofs.Common.{◌≡◌, Some, None, refl, ap, subst, arith}
+use Rattle.std.proofs.Common.{◌≡◌, Some, None, refl, ap, subst, arith, List}
 use Rattle.std.proofs.lemmas.Option.{none-some}
 use Rattle.hwp_evict.specs.hwp_geom.declared.Frame.{Frame}
 use Rattle.hwp_evict.specs.hwp_geom.declared.Layout.{Layout}
 use Rattle.hwp_evict.specs.hwp_geom.declared.Page.{Page}
 use Rattle.hwp_evict.specs.hwp_geom.declared.Who.{Who}
 use Rattle.hwp_evict.specs.hwp_page.History.{BodyValue}
+use Rattle.hwp_evict.specs.hwp_core_rule.declared.Made.{Made}
 use Rattle.hwp_evict.specs.hwp_core_rule.declared.Step.{Step}
 use Rattle.hwp_evict.specs.hwp_core_rule.declared.View.{View}
 use Rattle.hwp_evict.specs.hwp_core_rule.Asks.{CanUnlockFrame}
@@ -23,7 +24,7 @@ use Rattle.hwp_soft.specs.declared.soft.Soft.{Soft}
 use Rattle.hwp_soft.specs.declared.soft.SoftAt.{SoftAt}
 use Rattle.hwp_soft.specs.declared.soft.SoftAt.TheVariants as at
 use Rattle.hwp_soft_move.specs.Discards as discards
-use Rattle.hwp_soft.specs.Offline.{Fits, FitsAt, HoldsSpare}
+use Rattle.hwp_soft.specs.Offline.{FitsFrom, FitsAt, HoldsSpare}
 use Rattle.hwp_soft_move.specs.Relocations as relocations
 use Rattle.hwp_soft_move.specs.Seizes as seizes
 use Rattle.hwp_soft.specs.Softs.{plan, plan_at, put, put_at}
@@ -33,18 +34,18 @@ use Rattle.hwp_soft_move.proofs.RemapLaws.{lock-two}
 use Rattle.hwp_soft_move.proofs.SeizeLaws as seizing
 
 -- the other frame has no owner, and nothing is put into it
-unlocks-spare : (layout : Layout) (view : View) (who : Who) (frame : Frame) (page : Page) (body : BodyValue) (to : Frame) → HoldsSpare layout view who frame page body to → CanUnlockFrame layout who view to None
-unlocks-spare layout view who frame page body to has = record {
+unlocks-spare : {base : List Made} (layout : Layout) (view : View) (who : Who) (frame : Frame) (page : Page) (body : BodyValue) (to : Frame) → HoldsSpare base layout view who frame page body to → CanUnlockFrame layout who view to None
+unlocks-spare {base} layout view who frame page body to has = record {
   has = lock-two (new_lock to) _ (ap (λ (h : Hand). h.locks) has.good.hand_is) refl;
   named = refl;
   cached = λ lock listed owner. absurd (omega (arith, owner));
   put = tt;
 }
 
-pub can : (layout : Layout) (view : View) (s : Soft) (step : Step) → Fits layout view s → plan s ≡ Some step → CanMake layout s.who step (put s) view
-can layout view s step fits is = which s.at fits.at is
+pub can : {base : List Made} (layout : Layout) (view : View) (s : Soft) (step : Step) → FitsFrom base layout view s → plan s ≡ Some step → CanMake layout s.who step (put s) view
+can {base} layout view s step fits is = which s.at fits.at is
   where
-    which : (x : SoftAt) → FitsAt layout view s.who s.frame x → plan_at s.frame x ≡ Some step → CanMake layout s.who step (put_at x) view
+    which : (x : SoftAt) → FitsAt base layout view s.who s.frame x → plan_at s.frame x ≡ Some step → CanMake layout s.who step (put_at x) view
     which at.LoadStop has e = can-make fits.on_turn e tt tt
     which (at.Seize z) has e = subst (λ (w : Who). CanMake layout w step (seizes.put z) view) has.0.own (seizing.can layout view z step has.0.seize e)
     which (at.Discard d) has e = subst (λ (w : Who). CanMake layout w step (discards.put d) view) has.0.own (discarding.can layout view d step has.0.discard e)

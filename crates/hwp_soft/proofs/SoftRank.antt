@@ -360,7 +360,7 @@ module _ {layout : Layout} {seat : ℕ} {a b : State} {s t : Soft} {turned : Tur
       inl (below (after_take s.who s.frame page body (takes.next layout p made.found)) (takes.cost p w + move_most) is (omega (arith, less, ends)))
   take-lowers page body p y is (inr retires) = inr (retire-fails made retires.0 retires.1)
 
-  falls-at : (x : SoftAt) → FitsAt layout (view_of a seat) s.who s.frame x → plan_at s.frame x ≡ Some made.step → Moves-by (put_at x) → ShowsAt (bare_at x) made.found made.got → FollowsAt layout s.who s.frame (bare_at x) made.found made.got t.at turned → is_waits turned ≡ false → Falls x t.at
+  falls-at : (x : SoftAt) → FitsAt made.fits.0 layout (view_of a seat) s.who s.frame x → plan_at s.frame x ≡ Some made.step → Moves-by (put_at x) → ShowsAt (bare_at x) made.found made.got → FollowsAt layout s.who s.frame (bare_at x) made.found made.got t.at turned → is_waits turned ≡ false → Falls x t.at
   falls-at at.LoadStop has e move shows follows goes = inl (below (cond (is_stopped made.found) (at.Over answers.Stopped) (at.Seize (seizes.begin s.who s.frame))) (seized_most + 10) follows.0 (stopped (is_stopped made.found)))
   falls-at (at.Seize z) has e move shows follows goes =
       let less : seizes.cost_with seized_most (next-seize z).at now < seizes.cost_with seized_most z.at w
@@ -391,14 +391,14 @@ module _ {layout : Layout} {seat : ℕ} {a b : State} {s t : Soft} {turned : Tur
   falls-at (at.Over answer) has e move shows follows goes = absurd (none-some made.step e)
 
   soft-falls : is_waits turned ≡ false → Falls s.at t.at
-  soft-falls goes = falls-at s.at made.fits.at made.planned made.move (both layout (view_of a seat) _ s made.step made.found made.got made.fits made.planned (steps-on made)).0 made.follows.1 goes
+  soft-falls goes = falls-at s.at made.fits.1.at made.planned made.move (both layout (view_of a seat) _ s made.step made.found made.got made.fits.1 made.planned (steps-on made)).0 made.follows.1 goes
 
   -- ---- a turn that waits
 
   abbrev Waits : SoftAt → SoftAt → Type 0
   Waits x y = (cost_at y now < cost_at x w) ⊎ ((aborts_at y ≡ true) × OtherHand a seat)
 
-  waits-at : (x : SoftAt) → FitsAt layout (view_of a seat) s.who s.frame x → plan_at s.frame x ≡ Some made.step → Moves-by (put_at x) → FollowsAt layout s.who s.frame (bare_at x) made.found made.got t.at turned → is_waits turned ≡ true → Quiet (class_at x) layout a seat → Waits x t.at
+  waits-at : (x : SoftAt) → FitsAt made.fits.0 layout (view_of a seat) s.who s.frame x → plan_at s.frame x ≡ Some made.step → Moves-by (put_at x) → FollowsAt layout s.who s.frame (bare_at x) made.found made.got t.at turned → is_waits turned ≡ true → Quiet (class_at x) layout a seat → Waits x t.at
   waits-at at.LoadStop has e move follows waits quiet = absurd (never (cond (is_stopped made.found) (at.Over answers.Stopped) (at.Seize (seizes.begin s.who s.frame))) follows.1 waits)
   waits-at (at.Seize z) has e move follows waits quiet =
       let ends : cost_at (after_seize s.who s.frame (next-seize z)) now ≤ seizes.cost_with seized_most (next-seize z).at now = seize-ends s.who s.frame (next-seize z) now in
@@ -418,7 +418,7 @@ module _ {layout : Layout} {seat : ℕ} {a b : State} {s t : Soft} {turned : Tur
   waits-at (at.Over answer) has e move follows waits quiet = absurd (none-some made.step e)
 
   soft-waits : is_waits turned ≡ true → Quiet (class s) layout a seat → Waits s.at t.at
-  soft-waits waits quiet = waits-at s.at made.fits.at made.planned made.move made.follows.1 waits quiet
+  soft-waits waits quiet = waits-at s.at made.fits.1.at made.planned made.move made.follows.1 waits quiet
 
   -- ---- a turn that gives the frame's reservation back
 
@@ -455,10 +455,10 @@ module _ {layout : Layout} {seat : ℕ} {a b : State} {s t : Soft} {turned : Tur
     same-claim y is = inr (inl (sym is))
 
     -- the old frame is retired once all is moved
-    relocate-keeps : relocating.Fits layout (view_of a seat) r → r.transfer.from ≡ s.frame → relocations.plan r ≡ Some made.step → (y : RelocateAt) (turn : Turn) → relocations.FollowsAt r.transfer r.maps r.at made.found y turn → Kept r.at y
+    relocate-keeps : relocating.FitsFrom made.fits.0 layout (view_of a seat) r → r.transfer.from ≡ s.frame → relocations.plan r ≡ Some made.step → (y : RelocateAt) (turn : Turn) → relocations.FollowsAt r.transfer r.maps r.at made.found y turn → Kept r.at y
     relocate-keeps fits frame_is e y turn follows = which r.at fits.at e follows
       where
-        which : (x : RelocateAt) → relocating.FitsAt layout (view_of a seat) r.transfer r.maps r.done r.body x → relocations.plan_at r.transfer x ≡ Some made.step → relocations.FollowsAt r.transfer r.maps x made.found y turn → Kept x y
+        which : (x : RelocateAt) → relocating.FitsAt made.fits.0 layout (view_of a seat) r.transfer r.maps r.done r.body x → relocations.plan_at r.transfer x ≡ Some made.step → relocations.FollowsAt r.transfer r.maps x made.found y turn → Kept x y
         which relocate_at.Count has e f = same-claim y (ap claimed-now f.0)
         which relocate_at.SetOwner has e f = same-claim y (ap claimed-now f.0)
         which (relocate_at.Refer g) has e f = same-claim y (referred s.frame (relocations.bare r) to place cycle (refers.next g made.found) (refers.next g made.found).at y f.0)
@@ -469,7 +469,7 @@ module _ {layout : Layout} {seat : ℕ} {a b : State} {s t : Soft} {turned : Tur
         which (relocate_at.Release l) has e f = same-claim y (ap claimed-now f.0 ∙ released s.frame (relocations.bare r) to place cycle (releases.next l made.found))
         which relocate_at.PutRef has e f = same-claim y (ap claimed-now f.0)
         which relocate_at.Retire has e f = drops-now w now (claimed-now y) s.frame cycle
-            (retired made s.frame made.fits.frame (ap (λ (g : Frame). Some (steps.Retire g)) (sym frame_is) ∙ e) (old_lock r.transfer.from 0) frame_is refl (ap (λ (h : Hand). slice_get h.locks 0) has.0) cycle)
+            (retired made s.frame made.fits.1.frame (ap (λ (g : Frame). Some (steps.Retire g)) (sym frame_is) ∙ e) (old_lock r.transfer.from 0) frame_is refl (ap (λ (h : Hand). slice_get h.locks 0) has.0) cycle)
         which relocate_at.UnlockPage has e f = inl refl
         which relocate_at.Over has e f = inl refl
 
@@ -481,20 +481,20 @@ module _ {layout : Layout} {seat : ℕ} {a b : State} {s t : Soft} {turned : Tur
     kept old new mild keeps = owned-by w now old new frame cycle keeps (pending-kept made mild frame cycle pending) pending
 
     poisoned : (page : Page) (body : BodyValue) (to : Frame) → MatchBool (is_poisoned made.found) (t.at ≡ at.UnlockSpare page body to) (Moves s.who s.frame page body to (cycle_of made.found) t.at) → Some (steps.Poison s.frame false) ≡ Some made.step → Owns None (claims_at s.frame t.at)
-    poisoned page body to follows e = elim (poison-owns made s.frame false made.fits.frame e frame cycle pending) [
+    poisoned page body to follows e = elim (poison-owns made s.frame false made.fits.1.frame e frame cycle pending) [
       | inl own ↦
           let moves : Moves s.who s.frame page body to (cycle_of made.found) t.at = subst (λ (c : Bool). MatchBool c (t.at ≡ at.UnlockSpare page body to) (Moves s.who s.frame page body to (cycle_of made.found) t.at)) own.0 follows in
           inl (ap (claims_at s.frame) moves.next_is ∙ ap (λ (r : Relocate). claim_of s.frame (answers.Moved to (record { page = page; entry = length body.log }) (cycle_of made.found)) r.at) moves.begun.is ∙ own.1)
       | inr before ↦ inr (before, λ is. none-some (frame, cycle) is)
     ]
 
-    relocates : (r : Relocate) (answer : SoftAnswer) (x : SoftAt) → IsRelocating layout (view_of a seat) s.who s.frame r answer → relocations.plan r ≡ Some made.step → (after : Relocate) (turn : Turn) → relocations.Follows (relocations.bare r) made.found after turn → x ≡ after_relocate after answer
+    relocates : (r : Relocate) (answer : SoftAnswer) (x : SoftAt) → IsRelocating made.fits.0 layout (view_of a seat) s.who s.frame r answer → relocations.plan r ≡ Some made.step → (after : Relocate) (turn : Turn) → relocations.Follows (relocations.bare r) made.found after turn → x ≡ after_relocate after answer
         → Owns (claim_of s.frame answer r.at) (claims_at s.frame x)
     relocates r answer x has e after turn follows is = subst (λ (n : Option (Frame × ℕ)). Owns (claim_of s.frame answer r.at) n) (sym (ap (claims_at s.frame) is ∙ ap (λ (z : Relocate). claims_at s.frame (after_relocate z answer)) follows.0)) (kept (claim_of s.frame answer r.at) (claims_at s.frame (after_relocate (record (relocations.bare r) { at = after.at }) answer)) (relocate-mild r made.step e)
         (subst (λ (d : SoftAnswer). Keeps w now (claim_of s.frame d r.at) (claims_at s.frame (after_relocate (record (relocations.bare r) { at = after.at }) d))) (sym has.answer_is)
         (relocate-keeps r r.transfer.to r.done has.cycle has.relocate has.frame_is e after.at turn follows.1)))
 
-    owns-at : (x : SoftAt) → FitsAt layout (view_of a seat) s.who s.frame x → plan_at s.frame x ≡ Some made.step → Moves-by (put_at x) → FollowsAt layout s.who s.frame (bare_at x) made.found made.got t.at turned → Owns (claims_at s.frame x) (claims_at s.frame t.at)
+    owns-at : (x : SoftAt) → FitsAt made.fits.0 layout (view_of a seat) s.who s.frame x → plan_at s.frame x ≡ Some made.step → Moves-by (put_at x) → FollowsAt layout s.who s.frame (bare_at x) made.found made.got t.at turned → Owns (claims_at s.frame x) (claims_at s.frame t.at)
     owns-at at.LoadStop has e move follows = kept None (claims_at s.frame t.at) (mild-planned e tt) (inl refl)
     owns-at (at.Seize z) has e move follows = kept None (claims_at s.frame t.at) (seize-mild z made.step e) (inl refl)
     owns-at (at.Discard d) has e move follows = subst (λ (n : Option (Frame × ℕ)). Owns (discards.claims d) n) (sym (ap (claims_at s.frame) follows.0 ∙ discard-claims s.frame (next-discard d))) (discard-owns (discard-made d has.0 e move) frame cycle pending)
@@ -509,7 +509,7 @@ module _ {layout : Layout} {seat : ℕ} {a b : State} {s t : Soft} {turned : Tur
     owns-at (at.Over answer) has e move follows = absurd (none-some made.step e)
 
     soft-owns : (claims t ≡ Some (frame, cycle)) ⊎ (Pending w frame cycle × (claims s ≢ Some (frame, cycle)))
-    soft-owns = subst (λ (f : Frame). (claims_at f t.at ≡ Some (frame, cycle)) ⊎ (Pending w frame cycle × (claims s ≢ Some (frame, cycle)))) (sym (ap (λ (x : Soft). x.frame) made.follows.0)) (owns-at s.at made.fits.at made.planned made.move made.follows.1)
+    soft-owns = subst (λ (f : Frame). (claims_at f t.at ≡ Some (frame, cycle)) ⊎ (Pending w frame cycle × (claims s ≢ Some (frame, cycle)))) (sym (ap (λ (x : Soft). x.frame) made.follows.0)) (owns-at s.at made.fits.1.at made.planned made.move made.follows.1)
 
 -- ---- classes and bounds
 

@@ -1,9 +1,10 @@
 -- The class of a `Soft` tells what it holds, and a failure that it claims isn't over.
-use Rattle.std.proofs.Common.{◌≡◌, ◌≢◌, ℕ, ◌≤◌, Bool, true, false, Option, Some, None, is_none, refl, sym, ap, ◌∙◌, subst, arith}
+use Rattle.std.proofs.Common.{◌≡◌, ◌≢◌, ℕ, ◌≤◌, Bool, true, false, Option, Some, None, is_none, refl, sym, ap, ◌∙◌, subst, arith, List}
 use Rattle.std.proofs.lemmas.Bool.{both_ways}
 use Rattle.std.proofs.lemmas.Option.{none-some, same_Some}
 use Rattle.hwp_evict.specs.hwp_geom.declared.Frame.{Frame}
 use Rattle.hwp_evict.specs.hwp_geom.declared.Layout.{Layout}
+use Rattle.hwp_evict.specs.hwp_core_rule.declared.Made.{Made}
 use Rattle.hwp_evict.specs.hwp_core_rule.declared.SharedWord.TheVariants as places
 use Rattle.hwp_evict.specs.hwp_core_rule.declared.Step.{Step}
 use Rattle.hwp_evict.specs.hwp_core_rule.declared.Step.TheVariants as steps
@@ -35,7 +36,7 @@ use Rattle.hwp_soft_move.proofs.SeizeLaws.{seize-tells}
 use Rattle.hwp_soft.specs.declared.soft.Soft.{Soft}
 use Rattle.hwp_soft.specs.declared.soft.SoftAt.{SoftAt}
 use Rattle.hwp_soft.specs.declared.soft.SoftAt.TheVariants as at
-use Rattle.hwp_soft.specs.Offline.{Fits, FitsAt, task as soft-task}
+use Rattle.hwp_soft.specs.Offline.{FitsFrom, FitsAt, task as soft-task}
 use Rattle.hwp_soft.specs.Softs.{claims, claims_at, class, class_at, plan, plan_at}
 
 -- no step comes of what is under way
@@ -60,10 +61,10 @@ give-up-told layout view g fits = by (is_none (give_ups.plan g)) refl
     by true is = empty-tells view (give_ups.class g) (given-up layout view g fits is)
     by false is = give-up-tells layout view g fits is
 
-pub soft-tells : (layout : Layout) (view : View) (s : Soft) → Fits layout view s → Tells view (class s)
-soft-tells layout view s fits = which s.at fits.at
+pub soft-tells : {base : List Made} (layout : Layout) (view : View) (s : Soft) → FitsFrom base layout view s → Tells view (class s)
+soft-tells {base} layout view s fits = which s.at fits.at
   where
-    which : (x : SoftAt) → FitsAt layout view s.who s.frame x → Tells view (class_at x)
+    which : (x : SoftAt) → FitsAt base layout view s.who s.frame x → Tells view (class_at x)
     which at.LoadStop has = empty-tells view 4 has.0
     which (at.Seize z) has = seize-tells layout view z has.0.seize
     which (at.Discard d) has = discard-tells layout view d has.0.discard has.0.under_way
@@ -78,10 +79,10 @@ soft-tells layout view s fits = which s.at fits.at
     which (at.Over answer) has = empty-tells view 4 has.0
 
 -- without a step nothing is held
-idle : (layout : Layout) (view : View) (s : Soft) → Fits layout view s → plan s ≡ None → hand_of view ≡ empty
-idle layout view s fits none = which s.at fits.at none
+idle : {base : List Made} (layout : Layout) (view : View) (s : Soft) → FitsFrom base layout view s → plan s ≡ None → hand_of view ≡ empty
+idle {base} layout view s fits none = which s.at fits.at none
   where
-    which : (x : SoftAt) → FitsAt layout view s.who s.frame x → plan_at s.frame x ≡ None → hand_of view ≡ empty
+    which : (x : SoftAt) → FitsAt base layout view s.who s.frame x → plan_at s.frame x ≡ None → hand_of view ≡ empty
     which at.LoadStop has none = absurd (stuck refl none)
     which (at.Seize z) has none = absurd (stuck has.0.under_way none)
     which (at.Discard d) has none = absurd (stuck has.0.under_way none)
@@ -124,10 +125,10 @@ relocate-low r on = which r.at on
     which relocate_at.PutRef on = omega arith
     which relocate_at.Retire on = omega arith
 
-claims-on : (layout : Layout) (view : View) (s : Soft) (frame : Frame) (cycle : ℕ) → Fits layout view s → claims s ≡ Some (frame, cycle) → (class s ≤ 3) × (plan s ≢ None)
-claims-on layout view s frame cycle fits is = which s.at fits.at is
+claims-on : {base : List Made} (layout : Layout) (view : View) (s : Soft) (frame : Frame) (cycle : ℕ) → FitsFrom base layout view s → claims s ≡ Some (frame, cycle) → (class s ≤ 3) × (plan s ≢ None)
+claims-on {base} layout view s frame cycle fits is = which s.at fits.at is
   where
-    which : (x : SoftAt) → FitsAt layout view s.who s.frame x → claims_at s.frame x ≡ Some (frame, cycle) → (class_at x ≤ 3) × (plan_at s.frame x ≢ None)
+    which : (x : SoftAt) → FitsAt base layout view s.who s.frame x → claims_at s.frame x ≡ Some (frame, cycle) → (class_at x ≤ 3) × (plan_at s.frame x ≢ None)
     which (at.Discard d) has is = (discard-claims-on d frame cycle is, λ none. stuck has.0.under_way none)
     which (at.Relocate r answer) has is = (relocate-low r has.under_way, λ none. stuck has.under_way none)
     which at.LoadStop has is = absurd (none-some (frame, cycle) is)
@@ -143,9 +144,9 @@ claims-on layout view s frame cycle fits is = which s.at fits.at is
 
 pub soft-tells-class : TellsClass soft-task
 soft-tells-class = record {
-  frame = λ layout view s fits some. ((soft-tells layout view s fits).0 some, λ none. no-frame view (idle layout view s fits none) refl refl refl some);
-  page = λ layout view s fits some. ((soft-tells layout view s fits).1 some, λ none. no-page view (idle layout view s fits none) refl some);
-  claim = λ layout view s frame cycle fits is. claims-on layout view s frame cycle fits is;
+  frame = λ layout view s fits some. ((soft-tells layout view s fits.1).0 some, λ none. no-frame view (idle layout view s fits.1 none) refl refl refl some);
+  page = λ layout view s fits some. ((soft-tells layout view s fits.1).1 some, λ none. no-page view (idle layout view s fits.1 none) refl some);
+  claim = λ layout view s frame cycle fits is. claims-on layout view s frame cycle fits.1 is;
 }
 
 -- none of its steps takes a frame's poison back

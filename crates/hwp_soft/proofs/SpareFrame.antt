@@ -8,6 +8,7 @@ use Rattle.hwp_evict.specs.hwp_geom.declared.Page.{Page}
 use Rattle.hwp_evict.specs.hwp_geom.declared.Who.{Who}
 use Rattle.hwp_evict.specs.hwp_page.History.{BodyValue}
 use Rattle.hwp_evict.specs.hwp_words.Frames.{count_of, is_kernel, is_poisoned}
+use Rattle.hwp_evict.specs.hwp_core_rule.declared.Made.{Made}
 use Rattle.hwp_evict.specs.hwp_core_rule.declared.SharedWord.{SharedWord}
 use Rattle.hwp_evict.specs.hwp_core_rule.declared.SharedWord.TheVariants as places
 use Rattle.hwp_evict.specs.hwp_core_rule.declared.Ref.{Ref}
@@ -52,8 +53,8 @@ use Rattle.hwp_soft.specs.Offline.{HoldsGood, IsCaused, IsLettingGo, locked_in, 
 use Rattle.hwp_soft_move.proofs.RelocateSteps.{apart-from, saw-grown}
 
 -- what is held of the page and its frame
-abbrev pub base : Layout → Frame → Page → BodyValue → ℕ → Bool → Hand
-base layout frame page body seen poisoned = held layout page (Some frame) (log_of body) seen false poisoned
+abbrev pub page-alone : Layout → Frame → Page → BodyValue → ℕ → Bool → Hand
+page-alone layout frame page body seen poisoned = held layout page (Some frame) (log_of body) seen false poisoned
 
 -- ---- a frame is taken
 
@@ -91,31 +92,31 @@ number-kept false found h = refl
 
 module _ (layout : Layout) (frame : Frame) (page : Page) (body : BodyValue) (seen : ℕ) (poisoned : Bool) where
   abbrev b : Hand
-  b = base layout frame page body seen poisoned
+  b = page-alone layout frame page body seen poisoned
 
-  pub take-on : (x : TakeAt) (found : ℕ) → ((to : Frame) → locked_in x ≡ Some to → frame.0 ≢ to.0) → is_none (takes.plan_at x) ≡ false → takes.hand_next_at x found (with_take x (base layout frame page body seen poisoned)) ≡ with_take (takes.next_at layout x found) (base layout frame page body seen poisoned)
-  take-on take_at.LoadAvailable found apart on = number-kept (found == 0) found (base layout frame page body seen poisoned)
+  pub take-on : (x : TakeAt) (found : ℕ) → ((to : Frame) → locked_in x ≡ Some to → frame.0 ≢ to.0) → is_none (takes.plan_at x) ≡ false → takes.hand_next_at x found (with_take x (page-alone layout frame page body seen poisoned)) ≡ with_take (takes.next_at layout x found) (page-alone layout frame page body seen poisoned)
+  take-on take_at.LoadAvailable found apart on = number-kept (found == 0) found (page-alone layout frame page body seen poisoned)
   take-on (take_at.Reserve word) found apart on = by (found == word)
     where
-      by : (c : Bool) → cond c (record (base layout frame page body seen poisoned) { reserved = 1 }) (base layout frame page body seen poisoned) ≡ with_take (cond c (take_at.LoadFree 0) (takes.at_available found)) (base layout frame page body seen poisoned)
+      by : (c : Bool) → cond c (record (page-alone layout frame page body seen poisoned) { reserved = 1 }) (page-alone layout frame page body seen poisoned) ≡ with_take (cond c (take_at.LoadFree 0) (takes.at_available found)) (page-alone layout frame page body seen poisoned)
       by true = refl
-      by false = number-kept (found == 0) found (base layout frame page body seen poisoned)
+      by false = number-kept (found == 0) found (page-alone layout frame page body seen poisoned)
   take-on (take_at.LoadFree number) found apart on = by (found == 0)
     where
-      by : (c : Bool) → record (base layout frame page body seen poisoned) { reserved = 1 } ≡ with_take (cond c (take_at.LoadFree (takes.after_word layout number)) (take_at.TakeBit (takes.lowest_free number found))) (base layout frame page body seen poisoned)
+      by : (c : Bool) → record (page-alone layout frame page body seen poisoned) { reserved = 1 } ≡ with_take (cond c (take_at.LoadFree (takes.after_word layout number)) (take_at.TakeBit (takes.lowest_free number found))) (page-alone layout frame page body seen poisoned)
       by true = refl
       by false = refl
   take-on (take_at.TakeBit to) found apart on = by (takes.has_bit to found)
     where
-      by : (c : Bool) → cond c (record (base layout frame page body seen poisoned) { reserved = 1 - 1; hands = [] ++ unpoisoned to ∷ [] }) (record (base layout frame page body seen poisoned) { reserved = 1 })
-          ≡ with_take (cond c (take_at.Adopt to) (take_at.LoadFree (to.0 / 64))) (base layout frame page body seen poisoned)
+      by : (c : Bool) → cond c (record (page-alone layout frame page body seen poisoned) { reserved = 1 - 1; hands = [] ++ unpoisoned to ∷ [] }) (record (page-alone layout frame page body seen poisoned) { reserved = 1 })
+          ≡ with_take (cond c (take_at.Adopt to) (take_at.LoadFree (to.0 / 64))) (page-alone layout frame page body seen poisoned)
       by true = refl
       by false = refl
   take-on (take_at.Adopt to) found apart on =
-      ap (λ (c : Bool). record (base layout frame page body seen poisoned) { hands = cond c [] (unpoisoned to ∷ []); refs = with_refs to 1 (one_ref frame); locks = (base layout frame page body seen poisoned).locks ++ adopted_lock to (is_poisoned found) ∷ [] }) (same-number to.0 to.0 refl)
+      ap (λ (c : Bool). record (page-alone layout frame page body seen poisoned) { hands = cond c [] (unpoisoned to ∷ []); refs = with_refs to 1 (one_ref frame); locks = (page-alone layout frame page body seen poisoned).locks ++ adopted_lock to (is_poisoned found) ∷ [] }) (same-number to.0 to.0 refl)
       ∙ by (is_poisoned found)
     where
-      by : (c : Bool) → record (base layout frame page body seen poisoned) { refs = with_refs to 1 (one_ref frame); locks = (base layout frame page body seen poisoned).locks ++ adopted_lock to c ∷ [] } ≡ with_take (cond c (take_at.Retire to) (take_at.Over (Some to))) (base layout frame page body seen poisoned)
+      by : (c : Bool) → record (page-alone layout frame page body seen poisoned) { refs = with_refs to 1 (one_ref frame); locks = (page-alone layout frame page body seen poisoned).locks ++ adopted_lock to c ∷ [] } ≡ with_take (cond c (take_at.Retire to) (take_at.Over (Some to))) (page-alone layout frame page body seen poisoned)
       by true = refl
       by false = refl
   take-on (take_at.Retire to) found apart on =
@@ -126,15 +127,15 @@ module _ (layout : Layout) (frame : Frame) (page : Page) (body : BodyValue) (see
 
   -- ---- it is given back
 
-  pub release-on : (to : Frame) (x : ReleaseAt) (found : ℕ) → frame.0 ≢ to.0 → is_none (releases.plan_at to 1 x) ≡ false → releases.hand_next_at to 1 x found (releasing to x (base layout frame page body seen poisoned)) ≡ releasing to (releases.next_at 1 x found) (base layout frame page body seen poisoned)
+  pub release-on : (to : Frame) (x : ReleaseAt) (found : ℕ) → frame.0 ≢ to.0 → is_none (releases.plan_at to 1 x) ≡ false → releases.hand_next_at to 1 x found (releasing to x (page-alone layout frame page body seen poisoned)) ≡ releasing to (releases.next_at 1 x found) (page-alone layout frame page body seen poisoned)
   release-on to release_at.Put found apart on =
-      ap (λ (refs : List Ref). record (base layout frame page body seen poisoned) { refs = refs; hands = cond (is_last 1 found) ([] ++ (record { frame = to; poisoned = is_poisoned found }) ∷ []) [] }) none
+      ap (λ (refs : List Ref). record (page-alone layout frame page body seen poisoned) { refs = refs; hands = cond (is_last 1 found) ([] ++ (record { frame = to; poisoned = is_poisoned found }) ∷ []) [] }) none
       ∙ by (is_last 1 found) (is_poisoned found)
     where
       none : less_refs to 1 (with_refs to 1 (one_ref frame)) ≡ one_ref frame
       none = let other : (frame.0 == to.0) ≡ false = apart-from apart in let same : (to.0 == to.0) ≡ true = same-number to.0 to.0 refl in grind arith
 
-      by : (c p : Bool) → record (base layout frame page body seen poisoned) { hands = cond c ([] ++ (record { frame = to; poisoned = p }) ∷ []) [] } ≡ releasing to (cond c (cond p (release_at.Adopt found) (release_at.Give found)) (release_at.Back found)) (base layout frame page body seen poisoned)
+      by : (c p : Bool) → record (page-alone layout frame page body seen poisoned) { hands = cond c ([] ++ (record { frame = to; poisoned = p }) ∷ []) [] } ≡ releasing to (cond c (cond p (release_at.Adopt found) (release_at.Give found)) (release_at.Back found)) (page-alone layout frame page body seen poisoned)
       by true true = refl
       by true false = refl
       by false p = refl
@@ -147,7 +148,7 @@ module _ (layout : Layout) (frame : Frame) (page : Page) (body : BodyValue) (see
 -- ---- what is known stays
 
 module _ {layout : Layout} {old new : View} {who : Who} {frame : Frame} {page : Page} {body : BodyValue} where
-  abbrev pub good-on : {more : Hand → Hand} (less : Hand → Hand) (poisoned : Bool) (has : HoldsGood layout old who frame page body more) → hand_of new ≡ less (base layout frame page body has.seen poisoned) → Grown old.sights new.sights → deeds who new ≡ deeds who old → HoldsGood layout new who frame page body less
+  abbrev pub good-on : {base : List Made} {more : Hand → Hand} (less : Hand → Hand) (poisoned : Bool) (has : HoldsGood base layout old who frame page body more) → hand_of new ≡ less (page-alone layout frame page body has.seen poisoned) → Grown old.sights new.sights → deeds who new ≡ deeds who old → HoldsGood base layout new who frame page body less
   good-on less poisoned has hand grown same = record {
     seen = has.seen;
     poisoned = poisoned;
@@ -163,8 +164,8 @@ module _ {layout : Layout} {old new : View} {who : Who} {frame : Frame} {page : 
 
 module _ {layout : Layout} {view : View} {who : Who} {frame : Frame} {page : Page} {body : BodyValue} (on : IsOnTurn view who) (within : frame.0 < layout.frames) where
   -- a page that is held goes home as it was taken
-  pub page-let-go : (answer : SoftAnswer) → page.0 < length layout.pages → HoldsPage layout view page (Some frame) body → IsCaused layout view who frame answer → IsLettingGo layout view who frame (unholds.begin who page (Some frame) 1 body) answer
-  page-let-go answer inside has caused = record {
+  pub page-let-go : {base : List Made} (answer : SoftAnswer) → page.0 < length layout.pages → HoldsPage layout view page (Some frame) body → IsCaused base layout view who frame answer → IsLettingGo base layout view who frame (unholds.begin who page (Some frame) 1 body) answer
+  page-let-go {base} answer inside has caused = record {
     unhold = held-unholds layout view who page (Some frame) body on inside has;
     own = refl;
     under_way = refl;
@@ -172,8 +173,8 @@ module _ {layout : Layout} {view : View} {who : Who} {frame : Frame} {page : Pag
     caused = caused;
   }
 
-  pub good-holds : HoldsGood layout view who frame page body (λ h. h) → HoldsPage layout view page (Some frame) body
-  good-holds has = record {
+  pub good-holds : {base : List Made} → HoldsGood base layout view who frame page body (λ h. h) → HoldsPage layout view page (Some frame) body
+  good-holds {base} has = record {
     seen = has.seen;
     handled = false;
     poisoned = has.poisoned;

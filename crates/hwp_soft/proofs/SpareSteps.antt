@@ -13,6 +13,7 @@ use Rattle.hwp_evict.specs.hwp_page.declared.PageState.{PageState}
 use Rattle.hwp_evict.specs.hwp_page.History.{BodyValue}
 use Rattle.hwp_evict.specs.hwp_words.Frames.{cycle_of, is_poisoned}
 use Rattle.hwp_evict.specs.hwp_core_rule.declared.FrameLock.{FrameLock}
+use Rattle.hwp_evict.specs.hwp_core_rule.declared.Made.{Made}
 use Rattle.hwp_evict.specs.hwp_core_rule.declared.Log.{Log}
 use Rattle.hwp_evict.specs.hwp_core_rule.declared.MarkKind.TheVariants as mark_kinds
 use Rattle.hwp_evict.specs.hwp_core_rule.declared.SharedWord.TheVariants as places
@@ -64,7 +65,7 @@ use Rattle.hwp_soft.specs.Softs.{AfterPoison, Moves, after_release, after_take, 
 use Rattle.hwp_soft_move.proofs.SetCounts.{few-on}
 use Rattle.hwp_soft_move.proofs.RelocateSteps.{apart-from, apart-to}
 use Rattle.hwp_soft_move.proofs.RemapLaws.{two_refs}
-use Rattle.hwp_soft.proofs.SpareFrame.{adopt-apart, adopt-free, base, either-grows, good-holds, good-on, page-let-go, release-grows, release-on, take-grows, take-on}
+use Rattle.hwp_soft.proofs.SpareFrame.{adopt-apart, adopt-free, page-alone, either-grows, good-holds, good-on, page-let-go, release-grows, release-on, take-grows, take-on}
 
 pub free-stays : {layout : Layout} {who by : Who} {step : Step} {put : Option Log} {old new : View} {found : ℕ} {got : Option BodyValue} {frame : Frame} {word : ℕ} → Steps layout by step put old new found got → WasFree old who frame word → WasFree new who frame word
 free-stays made has = record { saw = saw-adopted-stays made has.saw; bare = has.bare; uncounted = has.uncounted }
@@ -91,7 +92,7 @@ take-lists t step is = which t.at is
     which (take_at.Over to) e = absurd (none-some step e)
 
 module _ {layout : Layout} {old new : View} {who : Who} {frame : Frame} {page : Page} {body : BodyValue} {found : ℕ} {got : Option BodyValue} (on : IsOnTurn new who) (within : frame.0 < layout.frames) where
-  module _ {step : Step} (t : Take) (has : IsTaking layout old who frame page body t) (e : takes.plan t ≡ Some step) (made : Steps layout who step None old new found got) where
+  module _ {base : List Made} {step : Step} (t : Take) (has : IsTaking base layout old who frame page body t) (e : takes.plan t ≡ Some step) (made : Steps layout who step None old new found got) where
     own : Steps layout t.who step None old new found got
     own = subst (λ (w : Who). Steps layout w step None old new found got) (sym has.own) made
 
@@ -101,8 +102,8 @@ module _ {layout : Layout} {old new : View} {who : Who} {frame : Frame} {page : 
     pub take-shows : takes.Shows t found got
     take-shows = child.0
 
-    hand : hand_of new ≡ with_take (takes.next layout t found).at (base layout frame page body has.good.seen has.good.poisoned)
-    hand = taking.held-after t e own (with_take t.at (base layout frame page body has.good.seen has.good.poisoned)) has.take has.good.hand_is
+    hand : hand_of new ≡ with_take (takes.next layout t found).at (page-alone layout frame page body has.good.seen has.good.poisoned)
+    hand = taking.held-after t e own (with_take t.at (page-alone layout frame page body has.good.seen has.good.poisoned)) has.take has.good.hand_is
         ∙ take-on layout frame page body has.good.seen has.good.poisoned t.at found has.apart has.under_way
 
     same : deeds who new ≡ deeds who old
@@ -120,7 +121,7 @@ module _ {layout : Layout} {old new : View} {who : Who} {frame : Frame} {page : 
         number true = refl
         number false = refl
 
-        which : (x : TakeAt) → takes.plan_at x ≡ Some step → takes.FitsAt layout old t.who x → hand_of old ≡ with_take x (base layout frame page body has.good.seen has.good.poisoned) → locked_in (takes.next_at layout x found) ≡ Some to → (frame.0 ≢ to.0) × ((word : ℕ) × WasFree new who to word)
+        which : (x : TakeAt) → takes.plan_at x ≡ Some step → takes.FitsAt layout old t.who x → hand_of old ≡ with_take x (page-alone layout frame page body has.good.seen has.good.poisoned) → locked_in (takes.next_at layout x found) ≡ Some to → (frame.0 ≢ to.0) × ((word : ℕ) × WasFree new who to word)
         which take_at.LoadAvailable e fit hand is = none-of _ (number (found == 0)) is
         which (take_at.Reserve seen) e fit hand is = none-of _ (by (found == seen)) is
           where
@@ -148,18 +149,18 @@ module _ {layout : Layout} {old new : View} {who : Who} {frame : Frame} {page : 
         which (take_at.Retire other) e fit hand is = absurd (none-some to is)
         which (take_at.Over other) e fit hand is = absurd (none-some step e)
 
-    pub took : FitsAt layout new who frame (after_take who frame page body (takes.next layout t found))
+    pub took : FitsAt base layout new who frame (after_take who frame page body (takes.next layout t found))
     took = which (takes.next layout t found).at child.1 hand spare-of
       where
-        good : (z : TakeAt) → hand_of new ≡ with_take z (base layout frame page body has.good.seen has.good.poisoned) → HoldsGood layout new who frame page body (with_take z)
+        good : (z : TakeAt) → hand_of new ≡ with_take z (page-alone layout frame page body has.good.seen has.good.poisoned) → HoldsGood base layout new who frame page body (with_take z)
         good z hand = good-on (with_take z) has.good.poisoned has.good hand (take-grows t e own) same
 
-        on-way : (z : TakeAt) → takes.Fits layout new (record t { at = z }) → hand_of new ≡ with_take z (base layout frame page body has.good.seen has.good.poisoned) → ((to : Frame) → locked_in z ≡ Some to → (frame.0 ≢ to.0) × ((word : ℕ) × WasFree new who to word))
-            → is_none (takes.plan_at z) ≡ false → FitsAt layout new who frame (at.Take page body (record t { at = z }))
+        on-way : (z : TakeAt) → takes.Fits layout new (record t { at = z }) → hand_of new ≡ with_take z (page-alone layout frame page body has.good.seen has.good.poisoned) → ((to : Frame) → locked_in z ≡ Some to → (frame.0 ≢ to.0) × ((word : ℕ) × WasFree new who to word))
+            → is_none (takes.plan_at z) ≡ false → FitsAt base layout new who frame (at.Take page body (record t { at = z }))
         on-way z fit hand spare going = record { good = good z hand; apart = λ to is. (spare to is).0; take = fit; own = has.own; under_way = going }
 
-        which : (z : TakeAt) → takes.Fits layout new (record t { at = z }) → hand_of new ≡ with_take z (base layout frame page body has.good.seen has.good.poisoned) → ((to : Frame) → locked_in z ≡ Some to → (frame.0 ≢ to.0) × ((word : ℕ) × WasFree new who to word))
-            → FitsAt layout new who frame (after_take who frame page body (record t { at = z }))
+        which : (z : TakeAt) → takes.Fits layout new (record t { at = z }) → hand_of new ≡ with_take z (page-alone layout frame page body has.good.seen has.good.poisoned) → ((to : Frame) → locked_in z ≡ Some to → (frame.0 ≢ to.0) × ((word : ℕ) × WasFree new who to word))
+            → FitsAt base layout new who frame (after_take who frame page body (record t { at = z }))
         which take_at.LoadAvailable fit hand spare = on-way take_at.LoadAvailable fit hand spare refl
         which (take_at.Reserve seen) fit hand spare = on-way (take_at.Reserve seen) fit hand spare refl
         which (take_at.LoadFree n) fit hand spare = on-way (take_at.LoadFree n) fit hand spare refl
@@ -168,19 +169,19 @@ module _ {layout : Layout} {old new : View} {who : Who} {frame : Frame} {page : 
         which (take_at.Retire to) fit hand spare = on-way (take_at.Retire to) fit hand spare refl
         which (take_at.Over (Some to)) fit hand spare = record { good = good (take_at.Over (Some to)) hand; within = fit.at; apart = (spare to refl).0; word = (spare to refl).1.0; free = (spare to refl).1.1 }
         which (take_at.Over None) fit hand spare =
-            let still : HoldsGood layout new who frame page body (λ h. h) = good-on (λ h. h) has.good.poisoned has.good hand (take-grows t e own) same in
+            let still : HoldsGood base layout new who frame page body (λ h. h) = good-on (λ h. h) has.good.poisoned has.good hand (take-grows t e own) same in
             page-let-go on within answers.NoFrame has.good.inside (good-holds on within still) (still.made_none, subst (λ (w : Who). Saw new w places.Available 0) has.own fit.at, has.good.users)
 
   -- ---- it is given back
 
-  module _ (to : Frame) (has : HoldsSpare layout old who frame page body to) (saw : SawPoison old who frame) (made : Steps layout who (steps.UnlockFrame to) None old new found got) where
-    freed-hand : hand_of new ≡ releasing to release_at.Put (base layout frame page body has.good.seen has.good.poisoned)
+  module _ {base : List Made} (to : Frame) (has : HoldsSpare base layout old who frame page body to) (saw : SawPoison old who frame) (made : Steps layout who (steps.UnlockFrame to) None old new found got) where
+    freed-hand : hand_of new ≡ releasing to release_at.Put (page-alone layout frame page body has.good.seen has.good.poisoned)
     freed-hand = hand-planned made refl has.good.hand_is ∙ unlocked
       where
-        unlocked : record (with_take (take_at.Over (Some to)) (base layout frame page body has.good.seen has.good.poisoned)) { locks = without (is_lock_of to) (with_take (take_at.Over (Some to)) (base layout frame page body has.good.seen has.good.poisoned)).locks } ≡ releasing to release_at.Put (base layout frame page body has.good.seen has.good.poisoned)
+        unlocked : record (with_take (take_at.Over (Some to)) (page-alone layout frame page body has.good.seen has.good.poisoned)) { locks = without (is_lock_of to) (with_take (take_at.Over (Some to)) (page-alone layout frame page body has.good.seen has.good.poisoned)).locks } ≡ releasing to release_at.Put (page-alone layout frame page body has.good.seen has.good.poisoned)
         unlocked = let other : (frame.0 == to.0) ≡ false = apart-from has.apart in let same : (to.0 == to.0) ≡ true = same-number to.0 to.0 refl in grind arith
 
-    pub spare-freed : FitsAt layout new who frame (at.ReleaseSpare page body (releases.begin who to 1))
+    pub spare-freed : FitsAt base layout new who frame (at.ReleaseSpare page body (releases.begin who to 1))
     spare-freed = (
       record {
         good = good-on (releasing to release_at.Put) has.good.poisoned has.good freed-hand (inl (ap (λ (v : View). v.sights) made.told.next)) (deeds-same who tt made);
@@ -201,54 +202,54 @@ module _ {layout : Layout} {old new : View} {who : Who} {frame : Frame} {page : 
       record { word = saw.word; poisoned = saw.poisoned; saw = saw-stays made saw.saw },
     )
       where
-        locks : locks_on to.0 (base layout frame page body has.good.seen has.good.poisoned).locks ≡ 0
+        locks : locks_on to.0 (page-alone layout frame page body has.good.seen has.good.poisoned).locks ≡ 0
         locks = let other : (frame.0 == to.0) ≡ false = apart-from has.apart in grind arith
 
-  module _ {step : Step} (r : Release) (has : IsReleasing layout old who frame page body r) (saw : SawPoison old who frame) (e : releases.plan r ≡ Some step) (made : Steps layout who step None old new found got) where
+  module _ {base : List Made} {step : Step} (r : Release) (has : IsReleasing base layout old who frame page body r) (saw : SawPoison old who frame) (e : releases.plan r ≡ Some step) (made : Steps layout who step None old new found got) where
     of-release : Steps layout r.who step None old new found got
     of-release = subst (λ (w : Who). Steps layout w step None old new found got) (sym has.own) made
 
     going : is_none (releases.plan_at r.frame 1 r.at) ≡ false
     going = ap (λ (n : ℕ). is_none (releases.plan_at r.frame n r.at)) (sym has.count_is) ∙ has.under_way
 
-    released-hand : hand_of new ≡ releasing r.frame (releases.next r found).at (base layout frame page body has.good.seen has.good.poisoned)
-    released-hand = releasing_laws.held-after r e of-release has.release (releasing r.frame r.at (base layout frame page body has.good.seen has.good.poisoned)) has.good.hand_is
-        ∙ ap (λ (n : ℕ). releases.hand_next_at r.frame n r.at found (releasing r.frame r.at (base layout frame page body has.good.seen has.good.poisoned))) has.count_is
+    released-hand : hand_of new ≡ releasing r.frame (releases.next r found).at (page-alone layout frame page body has.good.seen has.good.poisoned)
+    released-hand = releasing_laws.held-after r e of-release has.release (releasing r.frame r.at (page-alone layout frame page body has.good.seen has.good.poisoned)) has.good.hand_is
+        ∙ ap (λ (n : ℕ). releases.hand_next_at r.frame n r.at found (releasing r.frame r.at (page-alone layout frame page body has.good.seen has.good.poisoned))) has.count_is
         ∙ release-on layout frame page body has.good.seen has.good.poisoned r.frame r.at found has.apart going
-        ∙ ap (λ (n : ℕ). releasing r.frame (releases.next_at n r.at found) (base layout frame page body has.good.seen has.good.poisoned)) (sym has.count_is)
+        ∙ ap (λ (n : ℕ). releasing r.frame (releases.next_at n r.at found) (page-alone layout frame page body has.good.seen has.good.poisoned)) (sym has.count_is)
 
     still-saw : SawPoison new who frame
     still-saw = record { word = saw.word; poisoned = saw.poisoned; saw = saw-stays made saw.saw }
 
-    pub spare-released : FitsAt layout new who frame (after_release who frame page body (releases.next r found))
+    pub spare-released : FitsAt base layout new who frame (after_release who frame page body (releases.next r found))
     spare-released = which (releases.next r found).at (releasing_laws.moved r e of-release has.release) released-hand
       where
-        good : (less : Hand → Hand) → hand_of new ≡ less (base layout frame page body has.good.seen has.good.poisoned) → HoldsGood layout new who frame page body less
+        good : (less : Hand → Hand) → hand_of new ≡ less (page-alone layout frame page body has.good.seen has.good.poisoned) → HoldsGood base layout new who frame page body less
         good less hand = good-on less has.good.poisoned has.good hand (release-grows r e of-release) (deeds-same who (release-lists r step e) made)
 
-        on-way : (y : ReleaseAt) → releases.Fits layout new (record r { at = y }) → hand_of new ≡ releasing r.frame y (base layout frame page body has.good.seen has.good.poisoned) → is_none (releases.plan_at r.frame r.count y) ≡ false → FitsAt layout new who frame (at.ReleaseSpare page body (record r { at = y }))
+        on-way : (y : ReleaseAt) → releases.Fits layout new (record r { at = y }) → hand_of new ≡ releasing r.frame y (page-alone layout frame page body has.good.seen has.good.poisoned) → is_none (releases.plan_at r.frame r.count y) ≡ false → FitsAt base layout new who frame (at.ReleaseSpare page body (record r { at = y }))
         on-way y fit hand goes = (record { good = good (releasing r.frame y) hand; apart = has.apart; release = fit; own = has.own; count_is = has.count_is; under_way = goes }, still-saw)
 
-        which : (y : ReleaseAt) → releases.Fits layout new (record r { at = y }) → hand_of new ≡ releasing r.frame y (base layout frame page body has.good.seen has.good.poisoned) → FitsAt layout new who frame (after_release who frame page body (record r { at = y }))
+        which : (y : ReleaseAt) → releases.Fits layout new (record r { at = y }) → hand_of new ≡ releasing r.frame y (page-alone layout frame page body has.good.seen has.good.poisoned) → FitsAt base layout new who frame (after_release who frame page body (record r { at = y }))
         which release_at.Put fit hand = on-way release_at.Put fit hand refl
         which (release_at.Give word) fit hand = on-way (release_at.Give word) fit hand refl
         which (release_at.Unreserve word) fit hand = on-way (release_at.Unreserve word) fit hand refl
         which (release_at.Adopt word) fit hand = on-way (release_at.Adopt word) fit hand refl
         which (release_at.Retire word) fit hand = on-way (release_at.Retire word) fit hand refl
         which (release_at.Back word) fit hand =
-            let still : HoldsGood layout new who frame page body (λ h. h) = good (λ h. h) hand in
+            let still : HoldsGood base layout new who frame page body (λ h. h) = good (λ h. h) hand in
             page-let-go on within answers.Already has.good.inside (good-holds on within still) (still.made_none, still-saw, has.good.users)
 
   -- ---- the frame is poisoned
 
-  module _ (to : Frame) (has : HoldsSpare layout old who frame page body to) (made : Steps layout who (steps.Poison frame false) None old new found got) where
-    abbrev poisoned-base : Hand
-    poisoned-base = base layout frame page body has.good.seen true
+  module _ {base : List Made} (to : Frame) (has : HoldsSpare base layout old who frame page body to) (made : Steps layout who (steps.Poison frame false) None old new found got) where
+    abbrev poisoned-alone : Hand
+    poisoned-alone = page-alone layout frame page body has.good.seen true
 
-    hand-poisoned : hand_of new ≡ with_take (take_at.Over (Some to)) (base layout frame page body has.good.seen true)
+    hand-poisoned : hand_of new ≡ with_take (take_at.Over (Some to)) (page-alone layout frame page body has.good.seen true)
     hand-poisoned = hand-planned made refl has.good.hand_is
-        ∙ ap (λ (b : Bool). record (with_take (take_at.Over (Some to)) (base layout frame page body has.good.seen true)) { locks = cond b (locked-by frame page true) (locked-by frame page has.good.poisoned) ∷ cond (to.0 == frame.0) (record (new_lock to) { poisoned = true }) (new_lock to) ∷ [] }) (same-number frame.0 frame.0 refl)
-        ∙ ap (λ (b : Bool). record (with_take (take_at.Over (Some to)) (base layout frame page body has.good.seen true)) { locks = locked-by frame page true ∷ cond b (record (new_lock to) { poisoned = true }) (new_lock to) ∷ [] }) (apart-to has.apart)
+        ∙ ap (λ (b : Bool). record (with_take (take_at.Over (Some to)) (page-alone layout frame page body has.good.seen true)) { locks = cond b (locked-by frame page true) (locked-by frame page has.good.poisoned) ∷ cond (to.0 == frame.0) (record (new_lock to) { poisoned = true }) (new_lock to) ∷ [] }) (same-number frame.0 frame.0 refl)
+        ∙ ap (λ (b : Bool). record (with_take (take_at.Over (Some to)) (page-alone layout frame page body has.good.seen true)) { locks = locked-by frame page true ∷ cond b (record (new_lock to) { poisoned = true }) (new_lock to) ∷ [] }) (apart-to has.apart)
 
     none-made : deeds who new ≡ deeds who old
     none-made = ap (filter (is_by who)) (made-kept made tt)
@@ -258,7 +259,7 @@ module _ {layout : Layout} {old new : View} {who : Who} {frame : Frame} {page : 
         (either-grows (goes (steps.Poison frame false) found) (record (marked who frame found (mark_kinds.Poisoned false) (noted who old)) { owed = owing_count false old.owed }) (sighted who (places.Frame frame) found (noted who old)) old
         (record { stamp = stamp_of who (noted who old); place = places.Frame frame; word = found }) refl refl)
 
-    still : HoldsSpare layout new who frame page body to
+    still : HoldsSpare base layout new who frame page body to
     still = record {
       good = good-on (with_take (take_at.Over (Some to))) true has.good hand-poisoned grown none-made;
       within = has.within;
@@ -267,7 +268,7 @@ module _ {layout : Layout} {old new : View} {who : Who} {frame : Frame} {page : 
       free = free-stays made has.free;
     }
 
-    abbrev now : HoldsGood layout new who frame page body (with_take (take_at.Over (Some to)))
+    abbrev now : HoldsGood base layout new who frame page body (with_take (take_at.Over (Some to)))
     now = good-on (with_take (take_at.Over (Some to))) true has.good hand-poisoned grown none-made
 
     abbrev words : List ℕ
@@ -291,11 +292,11 @@ module _ {layout : Layout} {old new : View} {who : Who} {frame : Frame} {page : 
       few-maps : begun.number ≤ length layout.trans
       few-maps = let few = few-on body.state.maps (length layout.trans) members-declared begun.counted.0 0 begun.number begun.counted.1 begun.counted.2 in omega (arith, few)
 
-      ahead : relocating.IsAhead layout new moving body.state.maps (place page body) (Some (with_entry who body)) relocate_at.Count frame
+      ahead : relocating.IsAhead base layout new moving body.state.maps (place page body) (Some (with_entry who body)) relocate_at.Count frame
       ahead = record {
         trans = words;
         taken = body_in (Some frame) (log_of body) has.good.seen;
-        hand_is = hand-poisoned ∙ ap (λ (refs : List Ref). record (with_take (take_at.Over (Some to)) (base layout frame page body has.good.seen true)) { refs = refs }) refs-both;
+        hand_is = hand-poisoned ∙ ap (λ (refs : List Ref). record (with_take (take_at.Over (Some to)) (page-alone layout frame page body has.good.seen true)) { refs = refs }) refs-both;
         carries = record {
           log = log_of body;
           seen = has.good.seen;
@@ -319,8 +320,8 @@ module _ {layout : Layout} {old new : View} {who : Who} {frame : Frame} {page : 
             ∙ ap (λ (n : ℕ). Some (fitting_word (state_of layout (log_of body)) (frame.0 + 1) n)) (let first : 0 + slot ≡ slot = omega arith in first);
       }
 
-      relocates : is_poisoned found ≡ false → relocating.Fits layout new relocate
-      relocates clear = subst (relocating.Fits layout new) (sym begun.is) (record {
+      relocates : is_poisoned found ≡ false → relocating.FitsFrom base layout new relocate
+      relocates clear = subst (relocating.FitsFrom base layout new) (sym begun.is) (record {
         on_turn = on;
         sound = made.told.rule.sound;
         page = has.good.inside;
@@ -335,7 +336,7 @@ module _ {layout : Layout} {old new : View} {who : Who} {frame : Frame} {page : 
         at = (ahead, owes-count frame false made clear);
       })
 
-      pub moves : is_poisoned found ≡ false → FitsAt layout new who frame (at.Relocate relocate (answers.Moved to (place page body) (cycle_of found)))
+      pub moves : is_poisoned found ≡ false → FitsAt base layout new who frame (at.Relocate relocate (answers.Moved to (place page body) (cycle_of found)))
       moves clear = record {
         relocate = relocates clear;
         own = ap (λ (r : Relocate). r.transfer.who) begun.is;
@@ -349,9 +350,9 @@ module _ {layout : Layout} {old new : View} {who : Who} {frame : Frame} {page : 
         users = has.good.users;
       }
 
-    pub frame-poisoned : (x : SoftAt) → AfterPoison who frame page body to found x → FitsAt layout new who frame x
+    pub frame-poisoned : (x : SoftAt) → AfterPoison who frame page body to found x → FitsAt base layout new who frame x
     frame-poisoned x follows = which (is_poisoned found) refl follows
       where
-        which : (b : Bool) → is_poisoned found ≡ b → MatchBool b (x ≡ at.UnlockSpare page body to) (Moves who frame page body to (cycle_of found) x) → FitsAt layout new who frame x
-        which true set is = subst (FitsAt layout new who frame) (sym is) (still, saw-poison frame false made set)
-        which false clear is = subst (FitsAt layout new who frame) (sym is.next_is) (moves is.relocate is.begun clear)
+        which : (b : Bool) → is_poisoned found ≡ b → MatchBool b (x ≡ at.UnlockSpare page body to) (Moves who frame page body to (cycle_of found) x) → FitsAt base layout new who frame x
+        which true set is = subst (FitsAt base layout new who frame) (sym is) (still, saw-poison frame false made set)
+        which false clear is = subst (FitsAt base layout new who frame) (sym is.next_is) (moves is.relocate is.begun clear)

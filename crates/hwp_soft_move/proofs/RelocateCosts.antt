@@ -1,11 +1,12 @@
 -- Each turn of a `Relocate` lowers its cost, and its class tells what is held.
-use Rattle.std.proofs.Common.{◌≡◌, ℕ, ◌+◌, ◌-◌, ◌<◌, ◌≤◌, true, false, Option, Some, None, is_none, refl, sym, ap, ◌∙◌, subst, arith}
+use Rattle.std.proofs.Common.{◌≡◌, ℕ, ◌+◌, ◌-◌, ◌<◌, ◌≤◌, true, false, Option, Some, None, is_none, refl, sym, ap, ◌∙◌, subst, arith, List}
 use Rattle.std.proofs.lemmas.Bool.{both_ways}
 use Rattle.std.proofs.lemmas.Option.{none-some, same_Some}
 use Rattle.std.specs.FinSet as set
 use Rattle.std.specs.Ordering.{nat_cmp}
 use Rattle.hwp_claim_frame.specs.hwp_geom.declared.Layout.{Layout}
 use Rattle.hwp_claim_frame.specs.hwp_geom.declared.VSlot.{VSlot}
+use Rattle.hwp_claim_frame.specs.hwp_core_rule.declared.Made.{Made}
 use Rattle.hwp_claim_frame.specs.hwp_core_rule.declared.Step.{Step}
 use Rattle.hwp_claim_frame.specs.hwp_core_rule.declared.Step.TheVariants as steps
 use Rattle.hwp_claim_frame.specs.hwp_core_rule.declared.View.{View}
@@ -33,7 +34,7 @@ use Rattle.hwp_soft_move.specs.declared.relocate.RelocateAt.TheVariants as at
 use Rattle.hwp_soft_move.specs.declared.relocate.Transfer.{Transfer}
 use Rattle.hwp_soft_move.specs.declared.remap.Remap.{Remap}
 use Rattle.hwp_soft_move.specs.Relocations.{plan, plan_at, bare, after_remap, after_release, AfterReferAt, FollowsAt, Follows, Shows, ShowsAt, class, class_at, cost, cost_at, relocate_most}
-use Rattle.hwp_soft_move.specs.Relocating.{Fits, FitsAt, task as relocate-task}
+use Rattle.hwp_soft_move.specs.Relocating.{FitsAt, FitsFrom, task as relocate-task}
 use Rattle.hwp_soft_move.specs.Remaps as remaps
 use Rattle.hwp_soft_move.proofs.RelocateLaws.{both}
 use Rattle.hwp_soft_move.proofs.RemapLaws.{remap-mild, remap-small, remaps-fall}
@@ -164,16 +165,16 @@ relocate-mild r step is = which r.at is
 pub relocate-ranked : IsRanked relocate-task
 relocate-ranked = rank-of relocate-task (λ s. refl) relocate-class (λ layout a seat s rule fits. let few : _ = relocate-small (words_at layout a) s in omega (arith, few))
     (λ layout seat a b s t turn made goes. relocate-falls (words_at layout a) (words_at layout b) s made.step made.found t turn made.planned
-    (both layout (view_of a seat) _ s made.step made.found made.got made.fits made.planned (steps-on made)).0 made.follows (met made) (words-kept made))
+    (both layout (view_of a seat) _ s made.step made.found made.got made.fits.1 made.planned (steps-on made)).0 made.follows (met made) (words-kept made))
     (λ layout seat a b s t turn made is quiet. absurd (both_ways true (sym is ∙ relocate-goes s made.found t turn made.follows) refl))
     (λ s. refl) relocate-mild
 
 -- ---- the class
 
-pub relocate-tells : (layout : Layout) (view : View) (r : Relocate) → Fits layout view r → is_none (plan r) ≡ false → Tells view (class r)
-relocate-tells layout view r fits on = which r.at fits.at on
+pub relocate-tells : {base : List Made} (layout : Layout) (view : View) (r : Relocate) → FitsFrom base layout view r → is_none (plan r) ≡ false → Tells view (class r)
+relocate-tells {base} layout view r fits on = which r.at fits.at on
   where
-    which : (x : RelocateAt) → FitsAt layout view r.transfer r.maps r.done r.body x → is_none (plan_at r.transfer x) ≡ false → Tells view (class_at x)
+    which : (x : RelocateAt) → FitsAt base layout view r.transfer r.maps r.done r.body x → is_none (plan_at r.transfer x) ≡ false → Tells view (class_at x)
     which at.Count has on = frame-tells view
     which at.SetOwner has on = frame-tells view
     which (at.Refer f) has on = frame-tells view

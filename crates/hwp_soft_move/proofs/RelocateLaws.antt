@@ -19,6 +19,7 @@ use Rattle.hwp_claim_frame.specs.hwp_words.Translations.{pte_word}
 use Rattle.hwp_claim_frame.specs.hwp_words.declared.Pte.TheVariants as ptes
 use Rattle.hwp_claim_frame.specs.hwp_core_rule.declared.InHand.{InHand}
 use Rattle.hwp_claim_frame.specs.hwp_core_rule.declared.PageLock.{PageLock}
+use Rattle.hwp_claim_frame.specs.hwp_core_rule.declared.Made.{Made}
 use Rattle.hwp_claim_frame.specs.hwp_core_rule.declared.SharedWord.TheVariants as places
 use Rattle.hwp_claim_frame.specs.hwp_core_rule.declared.Sight.{Sight}
 use Rattle.hwp_claim_frame.specs.hwp_core_rule.declared.Step.{Step}
@@ -34,6 +35,7 @@ use Rattle.hwp_claim_frame.specs.hwp_core_task.Calls.{CanMake, IsOnTurn, Steps, 
 use Rattle.hwp_claim_frame.specs.hwp_core_task.Hands.{Hand, empty, hand_of}
 use Rattle.hwp_claim_frame.proofs.of_hwp_core_task.StepLeaves.{on-turn-after, steps-planned, can-make, can-put}
 use Rattle.hwp_claim_frame.specs.hwp_core_task.Known.{deeds}
+use Rattle.hwp_claim_frame.specs.hwp_core_task.Turns.{IsTask}
 use Rattle.hwp_claim_frame.proofs.of_hwp_core_task.MadeEntries.{ListsNone, deeds-same, has-made-stays}
 use Rattle.hwp_claim_frame.specs.hwp_core.declared.refer.Refer.{Refer}
 use Rattle.hwp_claim_frame.specs.hwp_core.declared.refer.ReferAt.{ReferAt}
@@ -59,7 +61,7 @@ use Rattle.hwp_soft_move.specs.declared.relocate.RelocateAt.TheVariants as at
 use Rattle.hwp_soft_move.specs.declared.relocate.Transfer.{Transfer}
 use Rattle.hwp_soft_move.specs.declared.remap.Remap.{Remap}
 use Rattle.hwp_soft_move.specs.Relocations.{plan, plan_at, put, put_at, bare, left_at, after_remap, after_release, AfterReferAt, FollowsAt, Follows, IsReferred, IsRemapped, Shows, ShowsAt, StartsRemap}
-use Rattle.hwp_soft_move.specs.Relocating.{Carries, Fits, FitsAt, HasMoved, IsAhead, IsReferring, IsReleasing, IsWriting, referred, releasing}
+use Rattle.hwp_soft_move.specs.Relocating.{Carries, FitsAt, FitsFrom, HasMoved, IsAhead, IsReferring, IsReleasing, IsWriting, referred, releasing, task as relocate-task}
 use Rattle.hwp_soft_move.specs.Remaps as remaps
 use Rattle.hwp_soft_move.specs.Remaps.{CountsOn, IsCount, IsRemapping, old_lock, with_both, word_now}
 use Rattle.hwp_soft_move.proofs.SetCounts.{one-next}
@@ -81,8 +83,8 @@ page-held {page} frame {trans} {taken} pages bodies own = record {
   trans_is = refl;
 }
 
-taken-page : {layout : Layout} {view : View} {t : Transfer} {maps : set.FinSet nat_cmp} {done : At} {given : Option BodyValue} {taken : InHand} → Carries layout view t maps done given taken → taken.log.page ≡ t.page
-taken-page has = ap (λ (x : InHand). x.log.page) has.taken_is ∙ has.entry.page_is
+taken-page : {base : List Made} {layout : Layout} {view : View} {t : Transfer} {maps : set.FinSet nat_cmp} {done : At} {given : Option BodyValue} {taken : InHand} → Carries base layout view t maps done given taken → taken.log.page ≡ t.page
+taken-page {base} has = ap (λ (x : InHand). x.log.page) has.taken_is ∙ has.entry.page_is
 
 -- no translation leads to the old frame any more
 leads-none : (s : PageState) (from to : Frame) (slot : ℕ) → from.0 ≢ to.0 → from.0 < 2 ^ 16 → fitting_word s (to.0 + 1) slot ≢ from.0 + 1
@@ -93,7 +95,7 @@ leads-none s from to slot apart small = by (set.contains s.maps slot) (set.conta
     by false true e = let far : pte_word ptes.Poison ≡ 2 ^ 63 = refl in omega (arith, e, far, small)
     by false false e = omega (arith, e)
 
-module _ {layout : Layout} {view : View} (r : Relocate) (fits : Fits layout view r) where
+module _ {base : List Made} {layout : Layout} {view : View} (r : Relocate) (fits : FitsFrom base layout view r) where
   abbrev t : Transfer
   t = r.transfer
 
@@ -103,7 +105,7 @@ module _ {layout : Layout} {view : View} (r : Relocate) (fits : Fits layout view
   some : 2 ≤ r.transfer.count
   some = let is : _ = fits.count_is in omega (arith, is)
 
-  can-cache : IsAhead layout view r.transfer r.maps r.done r.body at.SetCache r.transfer.to → {step : Step} → Some (steps.SetCache r.transfer.page (Some r.transfer.to)) ≡ Some step → CanMake layout r.transfer.who step None view
+  can-cache : IsAhead base layout view r.transfer r.maps r.done r.body at.SetCache r.transfer.to → {step : Step} → Some (steps.SetCache r.transfer.page (Some r.transfer.to)) ≡ Some step → CanMake layout r.transfer.who step None view
   can-cache has e = can-make fits.on_turn e fits.page (record {
     page_held = page-held r.transfer.from (ap (λ (h : Hand). h.pages) has.hand_is) (ap (λ (h : Hand). h.bodies) has.hand_is) (taken-page has.carries);
     frames = (
@@ -120,7 +122,7 @@ module _ {layout : Layout} {view : View} (r : Relocate) (fits : Fits layout view
     );
   })
 
-  can-clear : IsAhead layout view r.transfer r.maps r.done r.body at.ClearOwner r.transfer.to → {step : Step} → Some (steps.SetOwner r.transfer.from r.transfer.page false) ≡ Some step → CanMake layout r.transfer.who step None view
+  can-clear : IsAhead base layout view r.transfer r.maps r.done r.body at.ClearOwner r.transfer.to → {step : Step} → Some (steps.SetOwner r.transfer.from r.transfer.page false) ≡ Some step → CanMake layout r.transfer.who step None view
   can-clear has e = can-make fits.on_turn e fits.from (
     fits.page,
     record {
@@ -133,7 +135,7 @@ module _ {layout : Layout} {view : View} (r : Relocate) (fits : Fits layout view
     },
   )
 
-  can-unlock : IsAhead layout view r.transfer r.maps r.done r.body at.UnlockFrame r.transfer.to → CanUnlockFrame layout r.transfer.who view r.transfer.to (logs r.body)
+  can-unlock : IsAhead base layout view r.transfer r.maps r.done r.body at.UnlockFrame r.transfer.to → CanUnlockFrame layout r.transfer.who view r.transfer.to (logs r.body)
   can-unlock has = subst (λ (b : Option BodyValue). CanUnlockFrame layout r.transfer.who view r.transfer.to (logs b)) (sym has.carries.given_is) (record {
     has = lock-two _ _ (ap (λ (h : Hand). h.locks) has.hand_is) refl;
     named = ap (λ (p : Page). p.0 + 1) (body-page has.carries.entry r.transfer.from has.carries.seen);
@@ -142,16 +144,16 @@ module _ {layout : Layout} {view : View} (r : Relocate) (fits : Fits layout view
         (words-fit has.carries.entry r.transfer.from has.carries.seen r.transfer.to has.trans has.words) has.carries.saw;
   })
 
-  body-fits : IsAhead layout view r.transfer r.maps r.done r.body at.UnlockFrame r.transfer.to → (b : BodyValue) → r.body ≡ Some b → b.layout ≡ layout
+  body-fits : IsAhead base layout view r.transfer r.maps r.done r.body at.UnlockFrame r.transfer.to → (b : BodyValue) → r.body ≡ Some b → b.layout ≡ layout
   body-fits has b is = ap (λ (x : BodyValue). x.layout) (same_Some b has.carries.body (sym is ∙ has.carries.given_is)) ∙ has.carries.entry.layout_is
 
 one-lock : (from : Frame) (owner : ℕ) → locks_on from.0 (old_lock from owner ∷ []) ≡ 1
 one-lock from owner = let same = same-number from.0 from.0 refl in grind arith
 
-pub can : (layout : Layout) (view : View) (r : Relocate) (step : Step) → Fits layout view r → plan r ≡ Some step → CanMake layout r.transfer.who step (put r) view
-can layout view r step fits is = which r.at fits.at is
+pub can : {base : List Made} (layout : Layout) (view : View) (r : Relocate) (step : Step) → FitsFrom base layout view r → plan r ≡ Some step → CanMake layout r.transfer.who step (put r) view
+can {base} layout view r step fits is = which r.at fits.at is
   where
-    which : (x : RelocateAt) → FitsAt layout view r.transfer r.maps r.done r.body x → plan_at r.transfer x ≡ Some step → CanMake layout r.transfer.who step (put_at r.body x) view
+    which : (x : RelocateAt) → FitsAt base layout view r.transfer r.maps r.done r.body x → plan_at r.transfer x ≡ Some step → CanMake layout r.transfer.who step (put_at r.body x) view
     which at.Count has e = can-make fits.on_turn e tt has.1
     which at.SetOwner has e = can-make fits.on_turn e fits.to (
       fits.page,
@@ -192,8 +194,8 @@ can layout view r step fits is = which r.at fits.at is
 -- ---- the translations begin to be written, and all are
 
 module _ {layout : Layout} {view : View} (t : Transfer) (maps : set.FinSet nat_cmp) (done : At) (given : Option BodyValue) (on : IsOnTurn view t.who) (sound : IsSound layout) (inside : t.page.0 < length layout.pages) (from : t.from.0 < layout.frames) (to : t.to.0 < layout.frames) (apart : t.from.0 ≢ t.to.0) (room : t.count ≤ length layout.trans + 2) where
-  all-written : (taken : InHand) → view.bodies ≡ taken ∷ [] → Carries layout view t maps done given taken → (m : Remap) → IsRemapping layout view (record m { next = None }) → m.page ≡ t.page → m.from ≡ t.from → m.to ≡ t.to → m.count ≡ t.count → FitsAt layout view t maps done given at.SetCache
-  all-written taken bodies carries m has page_is from_is to_is count_is = record {
+  all-written : {base : List Made} (taken : InHand) → view.bodies ≡ taken ∷ [] → Carries base layout view t maps done given taken → (m : Remap) → IsRemapping layout view (record m { next = None }) → m.page ≡ t.page → m.from ≡ t.from → m.to ≡ t.to → m.count ≡ t.count → FitsAt base layout view t maps done given at.SetCache
+  all-written {base} taken bodies carries m has page_is from_is to_is count_is = record {
     trans = has.trans;
     taken = taken;
     hand_is = has.hand_is
@@ -212,10 +214,10 @@ module _ {layout : Layout} {view : View} (t : Transfer) (maps : set.FinSet nat_c
       taken-is : has.taken ≡ taken
       taken-is = same_Some has.taken taken (sym (ap (λ (h : Hand). slice_get h.bodies 0) has.hand_is) ∙ ap (λ l. slice_get l 0) bodies)
 
-  writes-on : (taken : InHand) → view.bodies ≡ taken ∷ [] → Carries layout view t maps done given taken → (m : Remap) → remaps.Fits layout view m → m.who ≡ t.who → m.page ≡ t.page → m.from ≡ t.from → m.to ≡ t.to → m.count ≡ t.count → m.slots.value ≡ maps → FitsAt layout view t maps done given (after_remap m)
-  writes-on taken bodies carries m fit own page_is from_is to_is count_is slots_are = which m.next fit
+  writes-on : {base : List Made} (taken : InHand) → view.bodies ≡ taken ∷ [] → Carries base layout view t maps done given taken → (m : Remap) → remaps.Fits layout view m → m.who ≡ t.who → m.page ≡ t.page → m.from ≡ t.from → m.to ≡ t.to → m.count ≡ t.count → m.slots.value ≡ maps → FitsAt base layout view t maps done given (after_remap m)
+  writes-on {base} taken bodies carries m fit own page_is from_is to_is count_is slots_are = which m.next fit
     where
-      which : (n : Option VSlot) → remaps.Fits layout view (record m { next = n }) → FitsAt layout view t maps done given (after_remap (record m { next = n }))
+      which : (n : Option VSlot) → remaps.Fits layout view (record m { next = n }) → FitsAt base layout view t maps done given (after_remap (record m { next = n }))
       which None fit = all-written taken bodies carries m fit.at page_is from_is to_is count_is
       which (Some slot) fit = record { remap = fit; own = own; page_is = page_is; from_is = from_is; to_is = to_is; count_is = count_is; slots_are = slots_are; taken = taken; bodies_are = bodies; carries = carries; under_way = refl }
 
@@ -231,10 +233,10 @@ module _ {layout : Layout} {view : View} (t : Transfer) (maps : set.FinSet nat_c
   abbrev first-refs : List ℕ → InHand → Hand
   first-refs trans taken = with_both t.from (t.page.0 + 1) 1 t.to (t.page.0 + 1) t.count (page_held t.page (Some t.from) trans taken)
 
-  begun : (number : ℕ) → IsCount maps number → t.count ≡ number + 2 → (trans : List ℕ) (taken : InHand) → hand_of view ≡ first-refs trans taken → (carries : Carries layout view t maps done given taken)
+  begun : {base : List Made} (number : ℕ) → IsCount maps number → t.count ≡ number + 2 → (trans : List ℕ) (taken : InHand) → hand_of view ≡ first-refs trans taken → (carries : Carries base layout view t maps done given taken)
       → ((slot : ℕ) (d : TransDecl) → slice_get layout.trans slot ≡ Some d → d.page ≡ t.page → slice_get trans slot ≡ Some (fitting_word (state_of layout carries.log) (t.from.0 + 1) slot))
       → (next : Option VSlot) → IsNextFrom maps 0 next → IsRemapping layout view (remaps.begin t.who t.page t.from t.to maps t.count next)
-  begun number counts count_is trans taken hand carries words next lowest = record {
+  begun {base} number counts count_is trans taken hand carries words next lowest = record {
     trans = trans;
     taken = taken;
     left = number;
@@ -264,10 +266,10 @@ module _ {layout : Layout} {view : View} (t : Transfer) (maps : set.FinSet nat_c
       member None none slot is = absurd (none-some slot is)
       member (Some v) low slot is = subst (λ (x : VSlot). set.contains maps x.0 ≡ true) (same_Some v slot is) low.1.member
 
-  starts : (number : ℕ) → IsCount maps number → t.count ≡ number + 2 → (trans : List ℕ) (taken : InHand) → hand_of view ≡ first-refs trans taken → (carries : Carries layout view t maps done given taken)
+  starts : {base : List Made} (number : ℕ) → IsCount maps number → t.count ≡ number + 2 → (trans : List ℕ) (taken : InHand) → hand_of view ≡ first-refs trans taken → (carries : Carries base layout view t maps done given taken)
       → ((slot : ℕ) (d : TransDecl) → slice_get layout.trans slot ≡ Some d → d.page ≡ t.page → slice_get trans slot ≡ Some (fitting_word (state_of layout carries.log) (t.from.0 + 1) slot))
-      → (x : RelocateAt) → StartsRemap t maps x → FitsAt layout view t maps done given x
-  starts number counts count_is trans taken hand carries words x is = subst (FitsAt layout view t maps done given) (sym is.next_is) (subst (λ (m : Remap). FitsAt layout view t maps done given (after_remap m)) (sym is.begun.is)
+      → (x : RelocateAt) → StartsRemap t maps x → FitsAt base layout view t maps done given x
+  starts {base} number counts count_is trans taken hand carries words x is = subst (FitsAt base layout view t maps done given) (sym is.next_is) (subst (λ (m : Remap). FitsAt base layout view t maps done given (after_remap m)) (sym is.begun.is)
       (writes-on taken (ap (λ (h : Hand). h.bodies) hand) carries (remaps.begin t.who t.page t.from t.to maps t.count is.remap.next)
       (record { on_turn = on; sound = sound; page = inside; from = from; to = to; apart = apart; room = room; at = begun number counts count_is trans taken hand carries words is.remap.next is.begun.lowest })
       refl refl refl refl refl refl))
@@ -317,13 +319,13 @@ same-remap m after follows = which m.next follows
     which None is = of m.next is
     which (Some slot) is = of after.next is.0
 
-abbrev now : Layout → View → Relocate → RelocateAt → Type 0
-now layout view r x = FitsAt layout view r.transfer r.maps r.done r.body x
+abbrev now : List Made → Layout → View → Relocate → RelocateAt → Type 0
+now base layout view r x = FitsAt base layout view r.transfer r.maps r.done r.body x
 
-module _ {layout : Layout} {old new : View} (r : Relocate) {step : Step} {found : ℕ} {got : Option BodyValue} (fits : Fits layout old r) (on : IsOnTurn new r.transfer.who) where
+module _ {base : List Made} {layout : Layout} {old new : View} (r : Relocate) {step : Step} {found : ℕ} {got : Option BodyValue} (fits : FitsFrom base layout old r) (on : IsOnTurn new r.transfer.who) where
   -- ---- references
 
-  module _ (f : Refer) (has : IsReferring layout old r.transfer r.maps r.done r.body f) (e : refers.plan f ≡ Some step) (made : Steps layout r.transfer.who step None old new found got) where
+  module _ (f : Refer) (has : IsReferring base layout old r.transfer r.maps r.done r.body f) (e : refers.plan f ≡ Some step) (made : Steps layout r.transfer.who step None old new found got) where
     own : Steps layout f.who step None old new found got
     own = subst (λ (w : Who). Steps layout w step None old new found got) (sym has.own) made
 
@@ -342,17 +344,17 @@ module _ {layout : Layout} {old new : View} (r : Relocate) {step : Step} {found 
         ∙ ap (λ (n : ℕ). refers.hand_next_at r.transfer.to n f.at found (refs-of r.transfer has.ahead.trans has.ahead.taken (referred r.transfer.count f.at))) has.count_is
         ∙ refer-on r.transfer has.ahead.trans has.ahead.taken f.at found (let two = some r fits in omega (arith, two)) fits.apart under-way
 
-    after-refer : (y : ReferAt) → refers.Fits layout new (record f { at = y }) → hand_of new ≡ refs-of r.transfer has.ahead.trans has.ahead.taken (referred r.transfer.count y) → (x : RelocateAt) → AfterReferAt r.transfer r.maps (record f { at = y }) y x → now layout new r x
-    after-refer refer_at.Load fit hand x is = subst (now layout new r) (sym is) (record { ahead = ahead-on has.ahead hand grown same; refer = fit; own = has.own; frame_is = has.frame_is; count_is = has.count_is; under_way = refl })
-    after-refer (refer_at.Get seen) fit hand x is = subst (now layout new r) (sym is) (record { ahead = ahead-on has.ahead hand grown same; refer = fit; own = has.own; frame_is = has.frame_is; count_is = has.count_is; under_way = refl })
+    after-refer : (y : ReferAt) → refers.Fits layout new (record f { at = y }) → hand_of new ≡ refs-of r.transfer has.ahead.trans has.ahead.taken (referred r.transfer.count y) → (x : RelocateAt) → AfterReferAt r.transfer r.maps (record f { at = y }) y x → now base layout new r x
+    after-refer refer_at.Load fit hand x is = subst (now base layout new r) (sym is) (record { ahead = ahead-on has.ahead hand grown same; refer = fit; own = has.own; frame_is = has.frame_is; count_is = has.count_is; under_way = refl })
+    after-refer (refer_at.Get seen) fit hand x is = subst (now base layout new r) (sym is) (record { ahead = ahead-on has.ahead hand grown same; refer = fit; own = has.own; frame_is = has.frame_is; count_is = has.count_is; under_way = refl })
     after-refer refer_at.Over fit hand x is = starts r.transfer r.maps r.done r.body on fits.sound fits.page fits.from fits.to fits.apart fits.room fits.number fits.counted fits.count_is has.ahead.trans has.ahead.taken hand (carry-on has.ahead.carries grown same) has.ahead.words x is
 
-    refer-fits : (x : RelocateAt) (turn : Turn) → IsReferred r.transfer r.maps f found x turn → now layout new r x
+    refer-fits : (x : RelocateAt) (turn : Turn) → IsReferred r.transfer r.maps f found x turn → now base layout new r x
     refer-fits x turn is = after-refer (refers.next f found).at (referring.both layout old new f step found got has.refer e own) hand x is.0
 
   -- ---- translations
 
-  module _ (m : Remap) (has : IsWriting layout old r.transfer r.maps r.done r.body m) (e : remaps.plan m ≡ Some step) (made : Steps layout r.transfer.who step None old new found got) where
+  module _ (m : Remap) (has : IsWriting base layout old r.transfer r.maps r.done r.body m) (e : remaps.plan m ≡ Some step) (made : Steps layout r.transfer.who step None old new found got) where
     its : Steps layout m.who step None old new found got
     its = subst (λ (w : Who). Steps layout w step None old new found got) (sym has.own) made
 
@@ -373,8 +375,8 @@ module _ {layout : Layout} {old new : View} (r : Relocate) {step : Step} {found 
     remap-shows : remaps.Shows m
     remap-shows = (remapping.both layout old new m step found got has.remap e its).0
 
-    remap-fits : (x : RelocateAt) → IsRemapped m x → now layout new r x
-    remap-fits x is = subst (now layout new r) (sym is.next_is)
+    remap-fits : (x : RelocateAt) → IsRemapped m x → now base layout new r x
+    remap-fits x is = subst (now base layout new r) (sym is.next_is)
         (writes-on r.transfer r.maps r.done r.body on fits.sound fits.page fits.from fits.to fits.apart fits.room has.taken (bodies-same ∙ has.bodies_are)
         (carry-on has.carries (inl sights-same) (deeds-same r.transfer.who (remapping.remap-lists m step e) made)) is.after
         ((remapping.both layout old new m step found got has.remap e its).1 is.after is.follows)
@@ -385,7 +387,7 @@ module _ {layout : Layout} {old new : View} (r : Relocate) {step : Step} {found 
 
   -- ---- the new frame released
 
-  module _ (l : Release) (has : IsReleasing layout old r.transfer r.done l) (e : releases.plan l ≡ Some step) (made : Steps layout r.transfer.who step None old new found got) where
+  module _ (l : Release) (has : IsReleasing base layout old r.transfer r.done l) (e : releases.plan l ≡ Some step) (made : Steps layout r.transfer.who step None old new found got) where
     of-release : Steps layout l.who step None old new found got
     of-release = subst (λ (w : Who). Steps layout w step None old new found got) (sym has.own) made
 
@@ -399,10 +401,10 @@ module _ {layout : Layout} {old new : View} (r : Relocate) {step : Step} {found 
         ∙ released r.transfer l.at found fits.apart on-its-way
         ∙ ap (λ (n : ℕ). releasing r.transfer (releases.next_at n l.at found)) (sym has.count_is)
 
-    still-moved : HasMoved new r.transfer.who r.done
+    still-moved : HasMoved base new r.transfer.who r.done
     still-moved = has-made-stays r.transfer.who old new (deeds-same r.transfer.who (release-lists l step e) made) has.moved
 
-    after-release : (y : ReleaseAt) → releases.Fits layout new (record l { at = y }) → hand_of new ≡ releasing r.transfer y → now layout new r (after_release (record l { at = y }))
+    after-release : (y : ReleaseAt) → releases.Fits layout new (record l { at = y }) → hand_of new ≡ releasing r.transfer y → now base layout new r (after_release (record l { at = y }))
     after-release release_at.Put fit hand = record { hand_is = hand; release = fit; own = has.own; frame_is = has.frame_is; count_is = has.count_is; under_way = refl; moved = still-moved }
     after-release (release_at.Give word) fit hand = record { hand_is = hand; release = fit; own = has.own; frame_is = has.frame_is; count_is = has.count_is; under_way = refl; moved = still-moved }
     after-release (release_at.Unreserve word) fit hand = record { hand_is = hand; release = fit; own = has.own; frame_is = has.frame_is; count_is = has.count_is; under_way = refl; moved = still-moved }
@@ -410,7 +412,7 @@ module _ {layout : Layout} {old new : View} (r : Relocate) {step : Step} {found 
     after-release (release_at.Retire word) fit hand = record { hand_is = hand; release = fit; own = has.own; frame_is = has.frame_is; count_is = has.count_is; under_way = refl; moved = still-moved }
     after-release (release_at.Back word) fit hand = (hand, still-moved)
 
-    release-fits : now layout new r (after_release (releases.next l found))
+    release-fits : now base layout new r (after_release (releases.next l found))
     release-fits = after-release (releases.next l found).at (releasing_laws.moved l e of-release has.release) released-hand
 
 -- the new frame, unlocked, can be released
@@ -428,63 +430,63 @@ released-begins {layout} {new} t on to apart hand = record {
     unlocked-so : locks_on t.to.0 (old_lock t.from 0 ∷ []) ≡ 0
     unlocked-so = let other : (t.from.0 == t.to.0) ≡ false = ne_eqb t.from.0 t.to.0 apart in grind arith
 
-pub both : (layout : Layout) (old new : View) (r : Relocate) (step : Step) (found : ℕ) (got : Option BodyValue) → Fits layout old r → plan r ≡ Some step → Steps layout r.transfer.who step (logs (put r)) old new found got
-    → Shows (bare r) × ((x : RelocateAt) (turn : Turn) → FollowsAt r.transfer r.maps r.at found x turn → FitsAt layout new r.transfer r.maps r.done (left_at r.body r.at) x)
-both layout old new r step found got fits is made = which r.at is fits.at made
+pub both : {base : List Made} (layout : Layout) (old new : View) (r : Relocate) (step : Step) (found : ℕ) (got : Option BodyValue) → FitsFrom base layout old r → plan r ≡ Some step → Steps layout r.transfer.who step (logs (put r)) old new found got
+    → Shows (bare r) × ((x : RelocateAt) (turn : Turn) → FollowsAt r.transfer r.maps r.at found x turn → FitsAt base layout new r.transfer r.maps r.done (left_at r.body r.at) x)
+both {base} layout old new r step found got fits is made = which r.at is fits.at made
   where
     on : IsOnTurn new r.transfer.who
     on = on-turn-after fits.on_turn made
 
-    refer-begins : (has : IsAhead layout new r.transfer r.maps r.done r.body (at.Refer (refers.begin r.transfer.who r.transfer.to (r.transfer.count - 1))) r.transfer.from) → refers.Fits layout new (refers.begin r.transfer.who r.transfer.to (r.transfer.count - 1))
+    refer-begins : (has : IsAhead base layout new r.transfer r.maps r.done r.body (at.Refer (refers.begin r.transfer.who r.transfer.to (r.transfer.count - 1))) r.transfer.from) → refers.Fits layout new (refers.begin r.transfer.who r.transfer.to (r.transfer.count - 1))
     refer-begins has =
         let two = some r fits in
         let room : _ = fits.room in
         let refs : refs_on r.transfer.to.0 new.refs ≡ 1 = ap (λ (h : Hand). refs_on r.transfer.to.0 h.refs) has.hand_is ∙ refs-to r.transfer.from r.transfer.to 1 1 fits.apart in
         record { on_turn = on; frame = fits.to; at = record { some = omega (arith, refs); more = omega (arith, two); room = omega (arith, refs, two, room) } }
 
-    which : (x : RelocateAt) → plan_at r.transfer x ≡ Some step → FitsAt layout old r.transfer r.maps r.done r.body x → Steps layout r.transfer.who step (logs (put_at r.body x)) old new found got
-        → ShowsAt r.maps x × ((y : RelocateAt) (turn : Turn) → FollowsAt r.transfer r.maps x found y turn → FitsAt layout new r.transfer r.maps r.done (left_at r.body x) y)
-    which at.Count e has made = (tt, λ y turn follows. subst (FitsAt layout new r.transfer r.maps r.done r.body) (sym follows.0) (counted r.transfer r.maps r.done r.body fits.apart (steps-planned e made) has.0))
+    which : (x : RelocateAt) → plan_at r.transfer x ≡ Some step → FitsAt base layout old r.transfer r.maps r.done r.body x → Steps layout r.transfer.who step (logs (put_at r.body x)) old new found got
+        → ShowsAt r.maps x × ((y : RelocateAt) (turn : Turn) → FollowsAt r.transfer r.maps x found y turn → FitsAt base layout new r.transfer r.maps r.done (left_at r.body x) y)
+    which at.Count e has made = (tt, λ y turn follows. subst (FitsAt base layout new r.transfer r.maps r.done r.body) (sym follows.0) (counted r.transfer r.maps r.done r.body fits.apart (steps-planned e made) has.0))
     which at.SetOwner e has made = (
       tt,
       λ y turn follows.
           let ahead = owner-set r.transfer r.maps r.done r.body fits.apart (steps-planned e made) has in
-          subst (FitsAt layout new r.transfer r.maps r.done r.body) (sym follows.0) (record { ahead = ahead; refer = refer-begins ahead; own = refl; frame_is = refl; count_is = refl; under_way = refl }),
+          subst (FitsAt base layout new r.transfer r.maps r.done r.body) (sym follows.0) (record { ahead = ahead; refer = refer-begins ahead; own = refl; frame_is = refl; count_is = refl; under_way = refl }),
     )
     which (at.Refer f) e has made = (tt, λ y turn follows. refer-fits r fits on f has e made y turn follows)
     which (at.Remap m) e has made = ((remap-shows r fits on m has e made, has.slots_are), λ y turn follows. remap-fits r fits on m has e made y follows.0)
-    which at.SetCache e has made = (tt, λ y turn follows. subst (FitsAt layout new r.transfer r.maps r.done r.body) (sym follows.0) (cache-set r.transfer r.maps r.done r.body fits.apart (small r fits) (some r fits) fits.page (steps-planned e made) has))
-    which at.ClearOwner e has made = (tt, λ y turn follows. subst (FitsAt layout new r.transfer r.maps r.done r.body) (sym follows.0) (owner-cleared r.transfer r.maps r.done r.body fits.apart (steps-planned e made) has))
+    which at.SetCache e has made = (tt, λ y turn follows. subst (FitsAt base layout new r.transfer r.maps r.done r.body) (sym follows.0) (cache-set r.transfer r.maps r.done r.body fits.apart (small r fits) (some r fits) fits.page (steps-planned e made) has))
+    which at.ClearOwner e has made = (tt, λ y turn follows. subst (FitsAt base layout new r.transfer r.maps r.done r.body) (sym follows.0) (owner-cleared r.transfer r.maps r.done r.body fits.apart (steps-planned e made) has))
     which at.UnlockFrame e has made = (
       tt,
       λ y turn follows.
           let home = unlocked r.transfer r.maps r.done r.body fits.apart (steps-planned e made) has in
-          subst (FitsAt layout new r.transfer r.maps r.done None) (sym follows.0) (record { hand_is = home.0; release = released-begins r.transfer on fits.to fits.apart home.0; own = refl; frame_is = refl; count_is = refl; under_way = refl; moved = home.1 }),
+          subst (FitsAt base layout new r.transfer r.maps r.done None) (sym follows.0) (record { hand_is = home.0; release = released-begins r.transfer on fits.to fits.apart home.0; own = refl; frame_is = refl; count_is = refl; under_way = refl; moved = home.1 }),
     )
-    which (at.Release l) e has made = (tt, λ y turn follows. subst (FitsAt layout new r.transfer r.maps r.done r.body) (sym follows.0) (release-fits r fits on l has e made))
+    which (at.Release l) e has made = (tt, λ y turn follows. subst (FitsAt base layout new r.transfer r.maps r.done r.body) (sym follows.0) (release-fits r fits on l has e made))
     which at.PutRef e has made = (
       tt,
-      λ y turn follows. subst (FitsAt layout new r.transfer r.maps r.done r.body) (sym follows.0)
+      λ y turn follows. subst (FitsAt base layout new r.transfer r.maps r.done r.body) (sym follows.0)
           (refs-put r.transfer r.maps r.done r.body fits.apart fits.from (some r fits) (steps-planned e made) has.0, has-made-stays r.transfer.who old new (deeds-same r.transfer.who tt (steps-planned e made)) has.1),
     )
     which at.Retire e has made = (
       tt,
-      λ y turn follows. subst (FitsAt layout new r.transfer r.maps r.done r.body) (sym follows.0)
+      λ y turn follows. subst (FitsAt base layout new r.transfer r.maps r.done r.body) (sym follows.0)
           (retired r.transfer r.maps r.done r.body fits.apart (steps-planned e made) has.0, has-made-stays r.transfer.who old new (deeds-same r.transfer.who tt (steps-planned e made)) has.1),
     )
     which at.UnlockPage e has made = (
       tt,
-      λ y turn follows. subst (FitsAt layout new r.transfer r.maps r.done r.body) (sym follows.0)
+      λ y turn follows. subst (FitsAt base layout new r.transfer r.maps r.done r.body) (sym follows.0)
           (let-go r.transfer r.maps r.done r.body fits.apart (steps-planned e made) has.0, has-made-stays r.transfer.who old new (deeds-same r.transfer.who tt (steps-planned e made)) has.1),
     )
     which at.Over e has made = absurd (none-some step e)
 
-pub stays : (layout : Layout) (old new : View) (r : Relocate) (step : Step) (found : ℕ) (got : Option BodyValue) → Fits layout old r → plan r ≡ Some step → Steps layout r.transfer.who step (logs (put r)) old new found got
-    → Shows (bare r) × ((after : Relocate) (turn : Turn) → Follows (bare r) found after turn → Fits layout new after × (after.transfer.who.cpu ≡ r.transfer.who.cpu))
-stays layout old new r step found got fits is made = let all = both layout old new r step found got fits is made in (
+pub stays : {base : List Made} (layout : Layout) (old new : View) (r : Relocate) (step : Step) (found : ℕ) (got : Option BodyValue) → FitsFrom base layout old r → plan r ≡ Some step → Steps layout r.transfer.who step (logs (put r)) old new found got
+    → Shows (bare r) × ((after : Relocate) (turn : Turn) → Follows (bare r) found after turn → FitsFrom base layout new after × (after.transfer.who.cpu ≡ r.transfer.who.cpu))
+stays {base} layout old new r step found got fits is made = let all = both layout old new r step found got fits is made in (
   all.0,
   λ after turn follows. (
-    subst (Fits layout new) (sym follows.0) (record {
+    subst (FitsFrom base layout new) (sym follows.0) (record {
       on_turn = on-turn-after fits.on_turn made;
       sound = fits.sound;
       page = fits.page;
@@ -502,13 +504,21 @@ stays layout old new r step found got fits is made = let all = both layout old n
   ),
 )
 
+-- whatever the command had made before
+pub lawful : IsTask relocate-task
+lawful = record {
+  can = λ layout view r step fits is. can layout view r step fits.1 is;
+  stays = λ layout old new r step found got fits is made.
+      let all = stays layout old new r step found got fits.1 is made in (all.0, λ after turn follows. let next = all.1 after turn follows in ((fits.0, next.0), next.1));
+}
+
 -- ---- what the parent gets
 
 -- once it is over nothing is held, and the command made its entry
-pub relocated : (layout : Layout) (view : View) (r : Relocate) → Fits layout view r → is_none (plan r) ≡ true → (hand_of view ≡ empty) × HasMoved view r.transfer.who r.done
-relocated layout view r fits over = which r.at fits.at over
+pub relocated : {base : List Made} (layout : Layout) (view : View) (r : Relocate) → FitsFrom base layout view r → is_none (plan r) ≡ true → (hand_of view ≡ empty) × HasMoved base view r.transfer.who r.done
+relocated {base} layout view r fits over = which r.at fits.at over
   where
-    which : (x : RelocateAt) → FitsAt layout view r.transfer r.maps r.done r.body x → is_none (plan_at r.transfer x) ≡ true → (hand_of view ≡ empty) × HasMoved view r.transfer.who r.done
+    which : (x : RelocateAt) → FitsAt base layout view r.transfer r.maps r.done r.body x → is_none (plan_at r.transfer x) ≡ true → (hand_of view ≡ empty) × HasMoved base view r.transfer.who r.done
     which at.Count has is = absurd (both_ways true (sym is) refl)
     which at.SetOwner has is = absurd (both_ways true (sym is) refl)
     which (at.Refer f) has is = absurd (both_ways true (sym is ∙ has.under_way) refl)

@@ -36,7 +36,7 @@ use Rattle.hwp_claim_frame.specs.hwp_core_task.Calls.{Steps, logs}
 use Rattle.hwp_claim_frame.specs.hwp_core_task.Hands.{Hand, empty, hand_of, putting}
 use Rattle.hwp_claim_frame.proofs.of_hwp_core_task.StepLeaves.{hand-planned}
 use Rattle.hwp_claim_frame.specs.hwp_core_task.Known.{IsAt, deeds}
-use Rattle.hwp_claim_frame.proofs.of_hwp_core_task.MadeEntries.{deeds-one, deeds-same, frame-lists, has-made}
+use Rattle.hwp_claim_frame.proofs.of_hwp_core_task.MadeEntries.{deeds-one, deeds-same, frame-lists, has-made-beside, only-of-none}
 use Rattle.hwp_claim_frame.specs.hwp_core.declared.refer.ReferAt.{ReferAt}
 use Rattle.hwp_claim_frame.specs.hwp_core.declared.refer.ReferAt.TheVariants as refer_at
 use Rattle.hwp_claim_frame.specs.hwp_core.declared.release.ReleaseAt.{ReleaseAt}
@@ -141,7 +141,7 @@ saw-grown {old} {new} n who frame (inr more) few has = subst (λ (l : List Sight
     (subst (λ (l : List Sight). HasSeen l who frame entries.Soft) (sym (drop-append-le n old (more.0 ∷ []) few)) (seen-more (drop n old) more.0 who frame entries.Soft has))
 
 module _ {layout : Layout} {old new : View} {t : Transfer} {maps : set.FinSet nat_cmp} {done : At} {given : Option BodyValue} where
-  abbrev pub carry-on : {taken : InHand} → Carries layout old t maps done given taken → Grown old.sights new.sights → deeds t.who new ≡ deeds t.who old → Carries layout new t maps done given taken
+  abbrev pub carry-on : {base : List Made} {taken : InHand} → Carries base layout old t maps done given taken → Grown old.sights new.sights → deeds t.who new ≡ deeds t.who old → Carries base layout new t maps done given taken
   carry-on has more same = record {
     log = has.log;
     seen = has.seen;
@@ -155,22 +155,22 @@ module _ {layout : Layout} {old new : View} {t : Transfer} {maps : set.FinSet na
     made_none = same ∙ has.made_none;
   }
 
-  abbrev pub ahead-on : {x y : RelocateAt} {frame : Frame} (has : IsAhead layout old t maps done given x frame) → hand_of new ≡ hand_at t y has.trans has.taken → Grown old.sights new.sights → deeds t.who new ≡ deeds t.who old → IsAhead layout new t maps done given y frame
+  abbrev pub ahead-on : {base : List Made} {x y : RelocateAt} {frame : Frame} (has : IsAhead base layout old t maps done given x frame) → hand_of new ≡ hand_at t y has.trans has.taken → Grown old.sights new.sights → deeds t.who new ≡ deeds t.who old → IsAhead base layout new t maps done given y frame
   ahead-on has hand more same = record { trans = has.trans; taken = has.taken; hand_is = hand; carries = carry-on has.carries more same; words = has.words }
 
 module _ {layout : Layout} {old new : View} (t : Transfer) (maps : set.FinSet nat_cmp) (done : At) (given : Option BodyValue) {found : ℕ} {got : Option BodyValue} (apart : t.from.0 ≢ t.to.0) where
-  pub counted : Steps layout t.who (steps.CountPoison false) None old new found got → IsAhead layout old t maps done given at.Count t.from → IsAhead layout new t maps done given at.SetOwner t.from
-  counted made has = ahead-on has (hand-planned made refl has.hand_is) (inl (ap (λ (x : View). x.sights) made.told.next)) (deeds-same t.who tt made)
+  pub counted : {base : List Made} → Steps layout t.who (steps.CountPoison false) None old new found got → IsAhead base layout old t maps done given at.Count t.from → IsAhead base layout new t maps done given at.SetOwner t.from
+  counted {base} made has = ahead-on has (hand-planned made refl has.hand_is) (inl (ap (λ (x : View). x.sights) made.told.next)) (deeds-same t.who tt made)
 
   -- the page is the new frame's owner
-  pub owner-set : Steps layout t.who (steps.SetOwner t.to t.page true) None old new found got → IsAhead layout old t maps done given at.SetOwner t.from → IsAhead layout new t maps done given (at.Refer (refers.begin t.who t.to (t.count - 1))) t.from
-  owner-set made has = ahead-on has
+  pub owner-set : {base : List Made} → Steps layout t.who (steps.SetOwner t.to t.page true) None old new found got → IsAhead base layout old t maps done given at.SetOwner t.from → IsAhead base layout new t maps done given (at.Refer (refers.begin t.who t.to (t.count - 1))) t.from
+  owner-set {base} made has = ahead-on has
       (hand-planned made refl has.hand_is ∙ ap (λ (l : List FrameLock). record (hand_at t at.SetOwner has.trans has.taken) { locks = l }) (owner-to t.from t.to (t.page.0 + 1) 0 (t.page.0 + 1) apart))
       (inl (ap (λ (x : View). x.sights) made.told.next)) (deeds-same t.who tt made)
 
   -- the cache word names the new frame
-  pub cache-set : t.from.0 < 2 ^ 16 → 2 ≤ t.count → t.page.0 < length layout.pages → Steps layout t.who (steps.SetCache t.page (Some t.to)) None old new found got → IsAhead layout old t maps done given at.SetCache t.to → IsAhead layout new t maps done given at.ClearOwner t.to
-  cache-set small some inside made has = ahead-on has hand (inl (ap (λ (x : View). x.sights) made.told.next)) (deeds-same t.who tt made)
+  pub cache-set : {base : List Made} → t.from.0 < 2 ^ 16 → 2 ≤ t.count → t.page.0 < length layout.pages → Steps layout t.who (steps.SetCache t.page (Some t.to)) None old new found got → IsAhead base layout old t maps done given at.SetCache t.to → IsAhead base layout new t maps done given at.ClearOwner t.to
+  cache-set {base} small some inside made has = ahead-on has hand (inl (ap (λ (x : View). x.sights) made.told.next)) (deeds-same t.who tt made)
     where
       word : found ≡ t.from.0 + 1
       word = same_Some found (t.from.0 + 1) (sym (cache-word layout made.told.board made.told.rule t.page found inside made.told.met)
@@ -185,14 +185,14 @@ module _ {layout : Layout} {old new : View} (t : Transfer) (maps : set.FinSet na
           ∙ ap (λ (n : ℕ). cached-now t has.trans has.taken (two_refs t.from n t.to 1) true) (let all : t.count - 1 + 1 ≡ t.count = omega (arith, some) in all)
 
   -- the old frame has no owner
-  pub owner-cleared : Steps layout t.who (steps.SetOwner t.from t.page false) None old new found got → IsAhead layout old t maps done given at.ClearOwner t.to → IsAhead layout new t maps done given at.UnlockFrame t.to
-  owner-cleared made has = ahead-on has
+  pub owner-cleared : {base : List Made} → Steps layout t.who (steps.SetOwner t.from t.page false) None old new found got → IsAhead base layout old t maps done given at.ClearOwner t.to → IsAhead base layout new t maps done given at.UnlockFrame t.to
+  owner-cleared {base} made has = ahead-on has
       (hand-planned made refl has.hand_is ∙ ap (λ (l : List FrameLock). record (hand_at t at.ClearOwner has.trans has.taken) { locks = l }) (owner-from t.from t.to (t.page.0 + 1) (t.page.0 + 1) 0 apart))
       (inl (ap (λ (x : View). x.sights) made.told.next)) (deeds-same t.who tt made)
 
   -- the body is home, and with it the entry is listed
-  pub unlocked : Steps layout t.who (steps.UnlockFrame t.to) (logs given) old new found got → IsAhead layout old t maps done given at.UnlockFrame t.to → (hand_of new ≡ releasing t release_at.Put) × HasMoved new t.who done
-  unlocked made has = (hand-planned own refl has.hand_is ∙ body-home t has.trans has.taken (log_of has.carries.body) (body-page has.carries.entry t.from has.carries.seen) its apart, moved)
+  pub unlocked : {base : List Made} → Steps layout t.who (steps.UnlockFrame t.to) (logs given) old new found got → IsAhead base layout old t maps done given at.UnlockFrame t.to → (hand_of new ≡ releasing t release_at.Put) × HasMoved base new t.who done
+  unlocked {base} made has = (hand-planned own refl has.hand_is ∙ body-home t has.trans has.taken (log_of has.carries.body) (body-page has.carries.entry t.from has.carries.seen) its apart, moved)
     where
       own : Steps layout t.who (steps.UnlockFrame t.to) (Some (log_of has.carries.body)) old new found got
       own = subst (λ (b : Option BodyValue). Steps layout t.who (steps.UnlockFrame t.to) (logs b) old new found got) has.carries.given_is made
@@ -210,12 +210,12 @@ module _ {layout : Layout} {old new : View} (t : Transfer) (maps : set.FinSet na
       deed : (m : Made) × (deeds t.who new ≡ deeds t.who old ++ m ∷ []) × IsAt (log_of has.carries.body).page (length has.taken.log.entries) entries.Soft m
       deed = deeds-one t.who (frame-lists there own) (entry_by t.who) one refl
 
-      moved : HasMoved new t.who done
-      moved = has-made t.who old new deed.0 deed.1 (
+      moved : HasMoved base new t.who done
+      moved = has-made-beside t.who old new deed.0 deed.1 (
         deed.2.0 ∙ body-page has.carries.entry t.from has.carries.seen ∙ sym (ap (λ (d : At). d.page) has.carries.entry.done_is),
         deed.2.1 ∙ ap (λ (x : InHand). length x.log.entries) has.carries.taken_is ∙ sym (ap (λ (d : At). d.entry) has.carries.entry.done_is),
         deed.2.2,
-      ) (λ i m e. none-some m (sym (ap (λ (l : List Made). slice_get l i) has.carries.made_none) ∙ e))
+      ) (only-of-none old t.who has.carries.made_none)
 
   -- all references to the old frame but one go back
   pub refs-put : t.from.0 < layout.frames → 2 ≤ t.count → Steps layout t.who (steps.PutRef t.from (t.count - 1)) None old new found got → hand_of old ≡ leaving t t.count → hand_of new ≡ leaving t 1

@@ -12,6 +12,7 @@ use Rattle.hwp_claim_frame.specs.hwp_page.declared.At.{At}
 use Rattle.hwp_claim_frame.specs.hwp_page.declared.What.TheVariants as entries
 use Rattle.hwp_claim_frame.specs.hwp_page.History.{BodyValue, IsReplay}
 use Rattle.hwp_claim_frame.specs.hwp_core_rule.declared.InHand.{InHand}
+use Rattle.hwp_claim_frame.specs.hwp_core_rule.declared.Made.{Made}
 use Rattle.hwp_claim_frame.specs.hwp_core_rule.declared.Log.{Log}
 use Rattle.hwp_claim_frame.specs.hwp_core_rule.declared.View.{View}
 use Rattle.hwp_claim_frame.specs.hwp_core_rule.Asks.{OwesCount}
@@ -20,7 +21,7 @@ use Rattle.hwp_claim_frame.specs.hwp_core_rule.Views.{unpoisoned}
 use Rattle.hwp_claim_frame.specs.hwp_core_rule.parts.Entries.{HasSeen}
 use Rattle.hwp_claim_frame.specs.hwp_core_task.Calls.{IsOnTurn}
 use Rattle.hwp_claim_frame.specs.hwp_core_task.Hands.{Hand, body_in, empty, hand_of}
-use Rattle.hwp_claim_frame.specs.hwp_core_task.Known.{HasMade, HasMadeNone}
+use Rattle.hwp_claim_frame.specs.hwp_core_task.Known.{HasMadeBeside, HasMadeNoneBeside}
 use Rattle.hwp_claim_frame.specs.hwp_core_task.Turns.{Member}
 use Rattle.hwp_claim_frame.specs.hwp_core.declared.refer.Refer.{Refer}
 use Rattle.hwp_claim_frame.specs.hwp_core.declared.refer.ReferAt.{ReferAt}
@@ -50,8 +51,9 @@ pub record HasEntry (layout : Layout) (who : Who) (page : Page) (log : Log) (don
   pub replay : IsReplay layout page log.entries (state_of layout log)
   pub done_is : done ≡ record { page = page; entry = length log.entries }
 
--- the body in hand, as it was taken out of the old frame, gets home with the entry, which rests on a frame without bad lines
-pub record Carries (layout : Layout) (view : View) (t : Transfer) (maps : set.FinSet nat_cmp) (done : At) (given : Option BodyValue) (taken : InHand) : Type 0 where
+-- the body in hand, as it was taken out of the old frame, gets home with the entry, which rests on a frame without bad lines; the
+-- command had made the entries of `base` before
+pub record Carries (base : List Made) (layout : Layout) (view : View) (t : Transfer) (maps : set.FinSet nat_cmp) (done : At) (given : Option BodyValue) (taken : InHand) : Type 0 where
   pub log : Log
   pub seen : ℕ
   pub body : BodyValue
@@ -61,7 +63,7 @@ pub record Carries (layout : Layout) (view : View) (t : Transfer) (maps : set.Fi
   pub maps_are : maps ≡ (state_of layout log).maps
   pub few : seen ≤ length view.sights
   pub saw : HasSeen (drop seen view.sights) t.who (Some t.from) entries.Soft
-  pub made_none : HasMadeNone view t.who
+  pub made_none : HasMadeNoneBeside base view t.who
 
 -- the references to the new frame, while more are taken
 abbrev pub referred : ℕ → ReferAt → ℕ
@@ -79,16 +81,16 @@ hand_at t at.UnlockFrame trans taken = with_both t.from 0 t.count t.to (t.page.0
 hand_at t _ trans taken = empty
 
 -- the page is held with both frames; its translation words are those of a page in this frame
-pub record IsAhead (layout : Layout) (view : View) (t : Transfer) (maps : set.FinSet nat_cmp) (done : At) (given : Option BodyValue) (x : RelocateAt) (frame : Frame) : Type 0 where
+pub record IsAhead (base : List Made) (layout : Layout) (view : View) (t : Transfer) (maps : set.FinSet nat_cmp) (done : At) (given : Option BodyValue) (x : RelocateAt) (frame : Frame) : Type 0 where
   pub trans : List ℕ
   pub taken : InHand
   pub hand_is : hand_of view ≡ hand_at t x trans taken
-  pub carries : Carries layout view t maps done given taken
+  pub carries : Carries base layout view t maps done given taken
   pub words : (slot : ℕ) (d : TransDecl) → slice_get layout.trans slot ≡ Some d → d.page ≡ t.page → slice_get trans slot ≡ Some (fitting_word (state_of layout carries.log) (frame.0 + 1) slot)
 
 -- and references to the new frame are being taken
-pub record IsReferring (layout : Layout) (view : View) (t : Transfer) (maps : set.FinSet nat_cmp) (done : At) (given : Option BodyValue) (f : Refer) : Type 0 where
-  pub ahead : IsAhead layout view t maps done given (at.Refer f) t.from
+pub record IsReferring (base : List Made) (layout : Layout) (view : View) (t : Transfer) (maps : set.FinSet nat_cmp) (done : At) (given : Option BodyValue) (f : Refer) : Type 0 where
+  pub ahead : IsAhead base layout view t maps done given (at.Refer f) t.from
   pub refer : refers.Fits layout view f
   pub own : f.who ≡ t.who
   pub frame_is : f.frame ≡ t.to
@@ -96,7 +98,7 @@ pub record IsReferring (layout : Layout) (view : View) (t : Transfer) (maps : se
   pub under_way : is_none (refers.plan f) ≡ false
 
 -- or the translations are being written
-pub record IsWriting (layout : Layout) (view : View) (t : Transfer) (maps : set.FinSet nat_cmp) (done : At) (given : Option BodyValue) (m : Remap) : Type 0 where
+pub record IsWriting (base : List Made) (layout : Layout) (view : View) (t : Transfer) (maps : set.FinSet nat_cmp) (done : At) (given : Option BodyValue) (m : Remap) : Type 0 where
   pub remap : remaps.Fits layout view m
   pub own : m.who ≡ t.who
   pub page_is : m.page ≡ t.page
@@ -106,7 +108,7 @@ pub record IsWriting (layout : Layout) (view : View) (t : Transfer) (maps : set.
   pub slots_are : m.slots.value ≡ maps
   pub taken : InHand
   pub bodies_are : view.bodies ≡ taken ∷ []
-  pub carries : Carries layout view t maps done given taken
+  pub carries : Carries base layout view t maps done given taken
   pub under_way : is_none m.next ≡ false
 
 -- the page alone is locked, with its old frame, to which there are so many references
@@ -125,35 +127,35 @@ releasing t (release_at.Retire word) = record (leaving t t.count) {
 }
 releasing t (release_at.Back word) = leaving t t.count
 
--- the command made the one entry
-abbrev pub HasMoved : View → Who → At → Type 0
-HasMoved view who done = HasMade (λ m. ⊥) view who done.page done.entry entries.Soft
+-- the command made the one entry beside those that it had made before
+abbrev pub HasMoved : List Made → View → Who → At → Type 0
+HasMoved base view who done = HasMadeBeside base (λ m. ⊥) view who done.page done.entry entries.Soft
 
-pub record IsReleasing (layout : Layout) (view : View) (t : Transfer) (done : At) (l : Release) : Type 0 where
+pub record IsReleasing (base : List Made) (layout : Layout) (view : View) (t : Transfer) (done : At) (l : Release) : Type 0 where
   pub hand_is : hand_of view ≡ releasing t l.at
   pub release : releases.Fits layout view l
   pub own : l.who ≡ t.who
   pub frame_is : l.frame ≡ t.to
   pub count_is : l.count ≡ 1
   pub under_way : is_none (releases.plan l) ≡ false
-  pub moved : HasMoved view t.who done
+  pub moved : HasMoved base view t.who done
 
-abbrev pub FitsAt : Layout → View → Transfer → set.FinSet nat_cmp → At → Option BodyValue → RelocateAt → Type 0
-FitsAt layout view t maps done given at.Count = IsAhead layout view t maps done given at.Count t.from × OwesCount view false
-FitsAt layout view t maps done given at.SetOwner = IsAhead layout view t maps done given at.SetOwner t.from
-FitsAt layout view t maps done given (at.Refer f) = IsReferring layout view t maps done given f
-FitsAt layout view t maps done given (at.Remap m) = IsWriting layout view t maps done given m
-FitsAt layout view t maps done given at.SetCache = IsAhead layout view t maps done given at.SetCache t.to
-FitsAt layout view t maps done given at.ClearOwner = IsAhead layout view t maps done given at.ClearOwner t.to
-FitsAt layout view t maps done given at.UnlockFrame = IsAhead layout view t maps done given at.UnlockFrame t.to
-FitsAt layout view t maps done given (at.Release l) = IsReleasing layout view t done l
-FitsAt layout view t maps done given at.PutRef = (hand_of view ≡ leaving t t.count) × HasMoved view t.who done
-FitsAt layout view t maps done given at.Retire = (hand_of view ≡ leaving t 1) × HasMoved view t.who done
-FitsAt layout view t maps done given at.UnlockPage = (hand_of view ≡ named t.page t.to []) × HasMoved view t.who done
-FitsAt layout view t maps done given at.Over = (hand_of view ≡ empty) × HasMoved view t.who done
+abbrev pub FitsAt : List Made → Layout → View → Transfer → set.FinSet nat_cmp → At → Option BodyValue → RelocateAt → Type 0
+FitsAt base layout view t maps done given at.Count = IsAhead base layout view t maps done given at.Count t.from × OwesCount view false
+FitsAt base layout view t maps done given at.SetOwner = IsAhead base layout view t maps done given at.SetOwner t.from
+FitsAt base layout view t maps done given (at.Refer f) = IsReferring base layout view t maps done given f
+FitsAt base layout view t maps done given (at.Remap m) = IsWriting base layout view t maps done given m
+FitsAt base layout view t maps done given at.SetCache = IsAhead base layout view t maps done given at.SetCache t.to
+FitsAt base layout view t maps done given at.ClearOwner = IsAhead base layout view t maps done given at.ClearOwner t.to
+FitsAt base layout view t maps done given at.UnlockFrame = IsAhead base layout view t maps done given at.UnlockFrame t.to
+FitsAt base layout view t maps done given (at.Release l) = IsReleasing base layout view t done l
+FitsAt base layout view t maps done given at.PutRef = (hand_of view ≡ leaving t t.count) × HasMoved base view t.who done
+FitsAt base layout view t maps done given at.Retire = (hand_of view ≡ leaving t 1) × HasMoved base view t.who done
+FitsAt base layout view t maps done given at.UnlockPage = (hand_of view ≡ named t.page t.to []) × HasMoved base view t.who done
+FitsAt base layout view t maps done given at.Over = (hand_of view ≡ empty) × HasMoved base view t.who done
 
 -- the processor holds the page with both frames, and in the end nothing; then the command made its entry
-pub record Fits (layout : Layout) (view : View) (r : Relocate) : Type 0 where
+pub record FitsFrom (base : List Made) (layout : Layout) (view : View) (r : Relocate) : Type 0 where
   pub on_turn : IsOnTurn view r.transfer.who
   pub sound : IsSound layout
   pub page : r.transfer.page.0 < length layout.pages
@@ -165,7 +167,11 @@ pub record Fits (layout : Layout) (view : View) (r : Relocate) : Type 0 where
   pub counted : IsCount r.maps number
   pub count_is : r.transfer.count ≡ number + 2
   pub room : r.transfer.count ≤ length layout.trans + 2
-  pub at : FitsAt layout view r.transfer r.maps r.done r.body r.at
+  pub at : FitsAt base layout view r.transfer r.maps r.done r.body r.at
+
+-- whatever the command had made before
+abbrev pub Fits : Layout → View → Relocate → Type 0
+Fits layout view r = (base : List Made) × FitsFrom base layout view r
 
 -- the task, as the laws of tasks read it
 abbrev pub task : Member Relocate

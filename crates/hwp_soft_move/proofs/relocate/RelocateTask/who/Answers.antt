@@ -1,5 +1,5 @@
-use Rattle.hwp_soft_move.proofs.RelocateLaws.{can, stays}
+use Rattle.hwp_soft_move.proofs.RelocateLaws.{lawful}
 use Rattle.hwp_soft_move.proofs.relocate.RelocateTask.who.Goals as goal
 
 pub returns-clause-law : goal.returns-clause-law
-returns-clause-law c = record { can = can; stays = stays }
+returns-clause-law c = lawful
