@@ -1,5 +1,5 @@
 -- A command that is answered makes no more steps, and its processor holds nothing.
-use Rattle.std.proofs.Common.{◌≡◌, ◌⊎◌, inl, inr, true, false, List, [], Option, Some, None, refl, sym, ap, ◌∙◌, subst}
+use Rattle.std.proofs.Common.{◌≡◌, ◌⊎◌, inl, inr, true, false, [], Option, Some, None, refl, sym, ap, ◌∙◌, subst, List}
 use Rattle.std.specs.Option.{option_map}
 use Rattle.std.proofs.lemmas.Option.{none-some, same_Some}
 use Rattle.hwp_cpu_control.specs.hwp_geom.declared.Layout.{Layout}
@@ -86,7 +86,7 @@ use Rattle.hwp_cpu_command.specs.declared.job.Job.{Job}
 use Rattle.hwp_cpu_command.specs.declared.job.Job.TheVariants as jobs
 use Rattle.hwp_cpu_command.specs.Answers.{fail_answer}
 use Rattle.hwp_cpu_command.specs.Done.{failed_now, marked_at, marked_now}
-use Rattle.hwp_cpu_command.specs.Jobs.{Fits, answer, plan}
+use Rattle.hwp_cpu_command.specs.Jobs.{FitsFrom, answer, plan}
 
 -- the answer of the task itself
 pub mapped : {A B : Type 0} (f : A → B) (o : Option A) {b : B} → option_map f o ≡ Some b → (a : A) × (o ≡ Some a) × (f a ≡ b)
@@ -224,12 +224,12 @@ scrub-rests layout view s scrub_answers.Scrubbed ended = ended.rest
 scrub-rests layout view s scrub_answers.Stopped (inl unbegun) = unbegun.0.rest
 scrub-rests layout view s scrub_answers.Stopped (inr halted) = halted.1.rest
 
-pub evict-caused : {layout : Layout} {view : View} (e : Evict) {x : EvictAnswer} → evicts.Fits layout view e → evicts.answer e ≡ Some x → (hand_of view ≡ empty) × IsCaused layout view e.who e.page e.what x
-evict-caused {layout} {view} e fits is = subst (evicts.FitsAt layout view e.who e.page e.what) (evict-over e is) fits.at
+pub evict-caused : {base : List Made} {layout : Layout} {view : View} (e : Evict) {x : EvictAnswer} → evicts.FitsFrom base layout view e → evicts.answer e ≡ Some x → (hand_of view ≡ empty) × IsCaused base layout view e.who e.page e.what x
+evict-caused {base} {layout} {view} e fits is = subst (evicts.FitsAt base layout view e.who e.page e.what) (evict-over e is) fits.at
 
 -- a frame that was to be taken out of use
-pub soft-ended : {layout : Layout} {view : View} (s : Soft) {x : SoftAnswer} → offline.Fits layout view s → softs.answer s ≡ Some x → (hand_of view ≡ empty) × offline.IsCaused layout view s.who s.frame x
-soft-ended {layout} {view} s fits is = subst (offline.FitsAt layout view s.who s.frame) (soft-over s is) fits.at
+pub soft-ended : {base : List Made} {layout : Layout} {view : View} (s : Soft) {x : SoftAnswer} → offline.FitsFrom base layout view s → softs.answer s ≡ Some x → (hand_of view ≡ empty) × offline.IsCaused base layout view s.who s.frame x
+soft-ended {base} {layout} {view} s fits is = subst (offline.FitsAt base layout view s.who s.frame) (soft-over s is) fits.at
 
 -- a frame whose poison was to be taken back
 pub unpoison-ended : {layout : Layout} {view : View} (u : Unpoison) {x : UnpoisonAnswer} → unpoisons.Fits layout view u → unpoisons.answer u ≡ Some x → (hand_of view ≡ empty) × unpoisons.IsCaused view u.who u.frame x
@@ -260,27 +260,27 @@ answered-over {a} (jobs.Inject i) is = which i.at is
     which inject_at.Stopped said = refl
 
 -- and its processor holds nothing
-empty-handed : (layout : Layout) (view : View) (j : Job) {a : Answer} → Fits layout view j → answer j ≡ Some a → hand_of view ≡ empty
-empty-handed layout view (jobs.Instruction i) fits is = (instruction-ended i fits (mapped _ (instructions.answer i) is).1).hand_is
-empty-handed layout view (jobs.Evict e) fits is = (evict-caused e fits (mapped _ (evicts.answer e) is).1).0
-empty-handed layout view (jobs.Fsync f) fits is = fits.hand_is
-empty-handed layout view (jobs.Prctl p) fits is = fits.hand_is
-empty-handed layout view (jobs.Log l) fits is = fits.read.hand_is
-empty-handed layout view (jobs.Raise r) fits is = (raise-ended r fits (mapped _ (raises.answer r) is).1).0.hand_is
-empty-handed layout view (jobs.Scrub s) fits is = let own = mapped _ (scrubs.answer s) is in (scrub-rests layout view s own.0 (scrub-ended s fits own.1)).hand_is
-empty-handed layout view (jobs.Spoil s) fits is = fits.hand_is
-empty-handed layout view (jobs.Nested n) fits is = fits.hand_is
-empty-handed layout view (jobs.Inject i) fits is = (inject-ended i fits (mapped _ (injects.answer i) is).1).hand_is
-empty-handed layout view (jobs.Soft s) fits is = (soft-ended s fits (mapped _ (softs.answer s) is).1).0
-empty-handed layout view (jobs.Unpoison u) fits is = (unpoison-ended u fits (mapped _ (unpoisons.answer u) is).1).0
+empty-handed : (base : List Made) (layout : Layout) (view : View) (j : Job) {a : Answer} → FitsFrom base layout view j → answer j ≡ Some a → hand_of view ≡ empty
+empty-handed base layout view (jobs.Instruction i) fits is = (instruction-ended i fits (mapped _ (instructions.answer i) is).1).hand_is
+empty-handed base layout view (jobs.Evict e) fits is = (evict-caused e fits (mapped _ (evicts.answer e) is).1).0
+empty-handed base layout view (jobs.Fsync f) fits is = fits.1.hand_is
+empty-handed base layout view (jobs.Prctl p) fits is = fits.1.hand_is
+empty-handed base layout view (jobs.Log l) fits is = fits.1.read.hand_is
+empty-handed base layout view (jobs.Raise r) fits is = (raise-ended r fits.1 (mapped _ (raises.answer r) is).1).0.hand_is
+empty-handed base layout view (jobs.Scrub s) fits is = let own = mapped _ (scrubs.answer s) is in (scrub-rests layout view s own.0 (scrub-ended s fits.1 own.1)).hand_is
+empty-handed base layout view (jobs.Spoil s) fits is = fits.1.hand_is
+empty-handed base layout view (jobs.Nested n) fits is = fits.1.hand_is
+empty-handed base layout view (jobs.Inject i) fits is = (inject-ended i fits.1 (mapped _ (injects.answer i) is).1).hand_is
+empty-handed base layout view (jobs.Soft s) fits is = (soft-ended s fits (mapped _ (softs.answer s) is).1).0
+empty-handed base layout view (jobs.Unpoison u) fits is = (unpoison-ended u fits.1 (mapped _ (unpoisons.answer u) is).1).0
 
-pub ends : (layout : Layout) (view : View) (j : Job) {a : Answer} → Fits layout view j → answer j ≡ Some a → (hand_of view ≡ empty) × (plan j ≡ None)
-ends layout view j fits is = (empty-handed layout view j fits is, answered-over j is)
+pub ends : (base : List Made) (layout : Layout) (view : View) (j : Job) {a : Answer} → FitsFrom base layout view j → answer j ≡ Some a → (hand_of view ≡ empty) × (plan j ≡ None)
+ends base layout view j fits is = (empty-handed base layout view j fits is, answered-over j is)
 
 -- a command of which memory can fail owes no loss, once it is answered
-pub paid-at-end : (layout : Layout) (view : View) (j : Job) {a : Answer} → Fits layout view j → answer j ≡ Some a → (view.owed.losses ≡ []) ⊎ (failed_now j ≡ [])
-paid-at-end layout view (jobs.Instruction i) fits is = inl (instruction-ended i fits (mapped _ (instructions.answer i) is).1).paid
-paid-at-end layout view (jobs.Raise r) fits is = inl (raise-ended r fits (mapped _ (raises.answer r) is).1).0.paid
-paid-at-end layout view (jobs.Scrub s) fits is = inl (let own = mapped _ (scrubs.answer s) is in (scrub-rests layout view s own.0 (scrub-ended s fits own.1)).paid)
-paid-at-end layout view (jobs.Inject i) fits is = inl (inject-ended i fits (mapped _ (injects.answer i) is).1).paid
-paid-at-end layout view _ fits is = inr refl
+pub paid-at-end : (base : List Made) (layout : Layout) (view : View) (j : Job) {a : Answer} → FitsFrom base layout view j → answer j ≡ Some a → (view.owed.losses ≡ []) ⊎ (failed_now j ≡ [])
+paid-at-end base layout view (jobs.Instruction i) fits is = inl (instruction-ended i fits (mapped _ (instructions.answer i) is).1).paid
+paid-at-end base layout view (jobs.Raise r) fits is = inl (raise-ended r fits.1 (mapped _ (raises.answer r) is).1).0.paid
+paid-at-end base layout view (jobs.Scrub s) fits is = inl (let own = mapped _ (scrubs.answer s) is in (scrub-rests layout view s own.0 (scrub-ended s fits.1 own.1)).paid)
+paid-at-end base layout view (jobs.Inject i) fits is = inl (inject-ended i fits.1 (mapped _ (injects.answer i) is).1).paid
+paid-at-end base layout view _ fits is = inr refl

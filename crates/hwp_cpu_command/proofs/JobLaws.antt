@@ -1,11 +1,12 @@
 -- A command as one task keeps the laws that the task of its kind keeps.
-use Rattle.std.proofs.Common.{◌≡◌, ◌≢◌, ℕ, ◌+◌, ◌*◌, ◌<◌, ◌≤◌, ◌⊎◌, inl, inr, Bool, true, false, [], Option, Some, None, length, option_map, refl, sym, ap, ◌∙◌, subst, arith}
+use Rattle.std.proofs.Common.{◌≡◌, ◌≢◌, ℕ, ◌+◌, ◌*◌, ◌<◌, ◌≤◌, ◌⊎◌, inl, inr, Bool, true, false, Option, Some, None, length, option_map, refl, sym, ap, ◌∙◌, subst, arith, List}
 use Rattle.std.proofs.lemmas.Bool.{both_ways, false_from_ne_true}
 use Rattle.std.proofs.lemmas.Option.{none-some, same_Some}
 use Rattle.hwp_cpu_control.specs.hwp_geom.declared.Frame.{Frame}
 use Rattle.hwp_cpu_control.specs.hwp_geom.declared.Layout.{Layout}
 use Rattle.hwp_cpu_control.specs.hwp_page.History.{BodyValue}
 use Rattle.hwp_cpu_row.specs.hwp_report_text.declared.Answer.{Answer}
+use Rattle.hwp_cpu_control.specs.hwp_core_rule.declared.Made.{Made as Deed}
 use Rattle.hwp_cpu_control.specs.hwp_core_rule.declared.SharedWord.TheVariants as places
 use Rattle.hwp_cpu_control.specs.hwp_core_rule.declared.State.{State}
 use Rattle.hwp_cpu_control.specs.hwp_core_rule.declared.Step.{Step}
@@ -19,7 +20,7 @@ use Rattle.hwp_cpu_control.specs.hwp_core_task.Boards.{view_of}
 use Rattle.hwp_cpu_control.specs.hwp_core_task.Calls.{CanMake, Steps, logs}
 use Rattle.hwp_cpu_control.specs.hwp_core_task.Classes.{TellsClass}
 use Rattle.hwp_cpu_control.specs.hwp_core_task.Ranks.{Made, CostFalls, HasFailed, HasFrame, HasPage, IsRanked, OtherHand, PaysRevival, Pending, Quiet, failure_weight, failures_left, is_refused, is_waits, top, words_at}
-use Rattle.hwp_cpu_control.specs.hwp_core_task.Turns.{Member}
+use Rattle.hwp_cpu_control.specs.hwp_core_task.Turns.{IsTask, Member}
 use Rattle.hwp_cpu_control.proofs.of_hwp_core_task.Failures.{mild-leaves}
 use Rattle.hwp_cpu_control.proofs.of_hwp_core_task.StepRanks.{failures-kept, pending-kept}
 use Rattle.hwp_cpu_control.specs.declared.Nested.{Nested}
@@ -96,67 +97,80 @@ use Rattle.hwp_soft.proofs.SoftTells.{soft-lasting, soft-tells-class}
 use Rattle.hwp_cpu_command.specs.declared.job.Job.{Job}
 use Rattle.hwp_cpu_command.specs.declared.job.Job.TheVariants as jobs
 use Rattle.hwp_cpu_command.specs.Answers.{fail_answer, instruction_answer, raise_answer, scrub_answer, soft_answer}
-use Rattle.hwp_cpu_command.specs.Jobs.{Fits, Next, Shows, aborts, answer, bare, claims, class, cost, plan, put, task as job-task, who}
+use Rattle.hwp_cpu_command.specs.Jobs.{Fits, FitsFrom, Next, Shows, aborts, answer, bare, claims, class, cost, plan, put, task as job-task, who}
 use Rattle.hwp_cpu_command.proofs.JobRefusals.{handler-unanswered, refused-unanswered, soft-unanswered, unpoison-goes}
 
 -- ---- tasks
 
-pub can : (layout : Layout) (view : View) (j : Job) (step : Step) → Fits layout view j → plan j ≡ Some step → CanMake layout (who j) step (put j) view
-can layout view (jobs.Instruction x) step fits is = instructing.can layout view x step fits is
-can layout view (jobs.Evict x) step fits is = evicting.can layout view x step fits is
-can layout view (jobs.Fsync x) step fits is = fsyncing.can layout view x step fits is
-can layout view (jobs.Prctl x) step fits is = calling.can layout view x step fits is
-can layout view (jobs.Log x) step fits is = logging.can layout view x step fits is
-can layout view (jobs.Raise x) step fits is = raising.can layout view x step fits is
-can layout view (jobs.Scrub x) step fits is = scrubbing.can layout view x step fits is
-can layout view (jobs.Spoil x) step fits is = spoiling.can layout view x step fits is
-can layout view (jobs.Nested x) step fits is = nesting.can layout view x step fits is
-can layout view (jobs.Inject x) step fits is = injecting.can layout view x step fits is
-can layout view (jobs.Soft x) step fits is = offlining.can layout view x step fits is
-can layout view (jobs.Unpoison x) step fits is = reviving.can layout view x step fits is
+pub can : (base : List Deed) (layout : Layout) (view : View) (j : Job) (step : Step) → FitsFrom base layout view j → plan j ≡ Some step → CanMake layout (who j) step (put j) view
+can base layout view (jobs.Instruction x) step fits is = instructing.can layout view x step fits is
+can base layout view (jobs.Evict x) step fits is = evicting.can layout view x step fits is
+can base layout view (jobs.Fsync x) step fits is = fsyncing.can layout view x step fits.1 is
+can base layout view (jobs.Prctl x) step fits is = calling.can layout view x step fits.1 is
+can base layout view (jobs.Log x) step fits is = logging.can layout view x step fits.1 is
+can base layout view (jobs.Raise x) step fits is = raising.can layout view x step fits.1 is
+can base layout view (jobs.Scrub x) step fits is = scrubbing.can layout view x step fits.1 is
+can base layout view (jobs.Spoil x) step fits is = spoiling.can layout view x step fits.1 is
+can base layout view (jobs.Nested x) step fits is = nesting.can layout view x step fits.1 is
+can base layout view (jobs.Inject x) step fits is = injecting.can layout view x step fits.1 is
+can base layout view (jobs.Soft x) step fits is = offlining.can layout view x step fits is
+can base layout view (jobs.Unpoison x) step fits is = reviving.can layout view x step fits.1 is
 
 -- what follows is of the same kind
-follows-so : {T : Type 0} (of : T → Job) (layout : Layout) (new : View) (j after : Job) (t : T) → after ≡ of t → Fits layout new (of t) × ((who (of t)).cpu ≡ (who j).cpu) → Fits layout new after × ((who after).cpu ≡ (who j).cpu)
-follows-so of layout new j after t is fits = (subst (Fits layout new) (sym is) fits.0, ap (λ (x : Job). (who x).cpu) is ∙ fits.1)
+follows-so : {T : Type 0} (of : T → Job) (base : List Deed) (layout : Layout) (new : View) (j after : Job) (t : T) → after ≡ of t → FitsFrom base layout new (of t) × ((who (of t)).cpu ≡ (who j).cpu)
+    → FitsFrom base layout new after × ((who after).cpu ≡ (who j).cpu)
+follows-so of base layout new j after t is fits = (subst (FitsFrom base layout new) (sym is) fits.0, ap (λ (x : Job). (who x).cpu) is ∙ fits.1)
 
-pub stays : (layout : Layout) (old new : View) (j : Job) (step : Step) (found : ℕ) (got : Option BodyValue) → Fits layout old j → plan j ≡ Some step → Steps layout (who j) step (logs (put j)) old new found got
-    → Shows (bare j) found got × ((after : Job) (turn : Turn) → Next layout (bare j) found got after turn → Fits layout new after × ((who after).cpu ≡ (who j).cpu))
-stays layout old new (jobs.Instruction x) step found got fits is made =
+-- and of the one part that there is
+alone : {base : List Deed} {A B : Type 0} → base ≡ [] → A × B → ((base ≡ []) × A) × B
+alone none both = ((none, both.0), both.1)
+
+pub stays : (base : List Deed) (layout : Layout) (old new : View) (j : Job) (step : Step) (found : ℕ) (got : Option BodyValue) → FitsFrom base layout old j → plan j ≡ Some step → Steps layout (who j) step (logs (put j)) old new found got
+    → Shows (bare j) found got × ((after : Job) (turn : Turn) → Next layout (bare j) found got after turn → FitsFrom base layout new after × ((who after).cpu ≡ (who j).cpu))
+stays base layout old new (jobs.Instruction x) step found got fits is made =
     let s = instructing.stays layout old new x step found got fits is made in
-    (s.0, λ after turn next. follows-so jobs.Instruction layout new (jobs.Instruction x) after next.0 next.1 (s.1 next.0 turn next.2))
-stays layout old new (jobs.Evict x) step found got fits is made =
+    (s.0, λ after turn next. follows-so jobs.Instruction base layout new (jobs.Instruction x) after next.0 next.1 (s.1 next.0 turn next.2))
+stays base layout old new (jobs.Evict x) step found got fits is made =
     let s = evicting.stays layout old new x step found got fits is made in
-    (s.0, λ after turn next. follows-so jobs.Evict layout new (jobs.Evict x) after next.0 next.1 (s.1 next.0 turn next.2))
-stays layout old new (jobs.Fsync x) step found got fits is made =
-    let s = fsyncing.stays layout old new x step found got fits is made in
-    (s.0, λ after turn next. follows-so jobs.Fsync layout new (jobs.Fsync x) after (fsyncs.next x found) next.0 (s.1 (fsyncs.next x found) turn (refl, next.1)))
-stays layout old new (jobs.Prctl x) step found got fits is made =
-    let s = calling.stays layout old new x step found got fits is made in
-    (s.0, λ after turn next. follows-so jobs.Prctl layout new (jobs.Prctl x) after (prctls.next x found) next.0 (s.1 (prctls.next x found) turn (refl, next.1)))
-stays layout old new (jobs.Log x) step found got fits is made =
-    let s = logging.stays layout old new x step found got fits is made in
-    (s.0, λ after turn next. follows-so jobs.Log layout new (jobs.Log x) after (logs.next x found) next.0 (s.1 (logs.next x found) turn (refl, next.1)))
-stays layout old new (jobs.Raise x) step found got fits is made =
-    let s = raising.stays layout old new x step found got fits is made in
-    (s.0, λ after turn next. follows-so jobs.Raise layout new (jobs.Raise x) after next.0 next.1 (s.1 next.0 turn next.2))
-stays layout old new (jobs.Scrub x) step found got fits is made =
-    let s = scrubbing.stays layout old new x step found got fits is made in
-    (s.0, λ after turn next. follows-so jobs.Scrub layout new (jobs.Scrub x) after next.0 next.1 (s.1 next.0 turn next.2))
-stays layout old new (jobs.Spoil x) step found got fits is made =
-    let s = spoiling.stays layout old new x step found got fits is made in
-    (s.0, λ after turn next. follows-so jobs.Spoil layout new (jobs.Spoil x) after (spoils.next x found) next.0 (s.1 (spoils.next x found) turn (refl, next.1)))
-stays layout old new (jobs.Nested x) step found got fits is made =
-    let s = nesting.stays layout old new x step found got fits is made in
-    (s.0, λ after turn next. follows-so jobs.Nested layout new (jobs.Nested x) after (nesteds.next x found) next.0 (s.1 (nesteds.next x found) turn (refl, next.1)))
-stays layout old new (jobs.Inject x) step found got fits is made =
-    let s = injecting.stays layout old new x step found got fits is made in
-    (s.0, λ after turn next. follows-so jobs.Inject layout new (jobs.Inject x) after next.0 next.1 (s.1 next.0 turn next.2))
-stays layout old new (jobs.Soft x) step found got fits is made =
+    (s.0, λ after turn next. follows-so jobs.Evict base layout new (jobs.Evict x) after next.0 next.1 (s.1 next.0 turn next.2))
+stays base layout old new (jobs.Fsync x) step found got fits is made =
+    let s = fsyncing.stays layout old new x step found got fits.1 is made in
+    (s.0, λ after turn next. follows-so jobs.Fsync base layout new (jobs.Fsync x) after (fsyncs.next x found) next.0 (alone fits.0 (s.1 (fsyncs.next x found) turn (refl, next.1))))
+stays base layout old new (jobs.Prctl x) step found got fits is made =
+    let s = calling.stays layout old new x step found got fits.1 is made in
+    (s.0, λ after turn next. follows-so jobs.Prctl base layout new (jobs.Prctl x) after (prctls.next x found) next.0 (alone fits.0 (s.1 (prctls.next x found) turn (refl, next.1))))
+stays base layout old new (jobs.Log x) step found got fits is made =
+    let s = logging.stays layout old new x step found got fits.1 is made in
+    (s.0, λ after turn next. follows-so jobs.Log base layout new (jobs.Log x) after (logs.next x found) next.0 (alone fits.0 (s.1 (logs.next x found) turn (refl, next.1))))
+stays base layout old new (jobs.Raise x) step found got fits is made =
+    let s = raising.stays layout old new x step found got fits.1 is made in
+    (s.0, λ after turn next. follows-so jobs.Raise base layout new (jobs.Raise x) after next.0 next.1 (alone fits.0 (s.1 next.0 turn next.2)))
+stays base layout old new (jobs.Scrub x) step found got fits is made =
+    let s = scrubbing.stays layout old new x step found got fits.1 is made in
+    (s.0, λ after turn next. follows-so jobs.Scrub base layout new (jobs.Scrub x) after next.0 next.1 (alone fits.0 (s.1 next.0 turn next.2)))
+stays base layout old new (jobs.Spoil x) step found got fits is made =
+    let s = spoiling.stays layout old new x step found got fits.1 is made in
+    (s.0, λ after turn next. follows-so jobs.Spoil base layout new (jobs.Spoil x) after (spoils.next x found) next.0 (alone fits.0 (s.1 (spoils.next x found) turn (refl, next.1))))
+stays base layout old new (jobs.Nested x) step found got fits is made =
+    let s = nesting.stays layout old new x step found got fits.1 is made in
+    (s.0, λ after turn next. follows-so jobs.Nested base layout new (jobs.Nested x) after (nesteds.next x found) next.0 (alone fits.0 (s.1 (nesteds.next x found) turn (refl, next.1))))
+stays base layout old new (jobs.Inject x) step found got fits is made =
+    let s = injecting.stays layout old new x step found got fits.1 is made in
+    (s.0, λ after turn next. follows-so jobs.Inject base layout new (jobs.Inject x) after next.0 next.1 (alone fits.0 (s.1 next.0 turn next.2)))
+stays base layout old new (jobs.Soft x) step found got fits is made =
     let s = softening.stays layout old new x step found got fits is made in
-    (s.0, λ after turn next. follows-so jobs.Soft layout new (jobs.Soft x) after next.0 next.1 (s.1 next.0 turn next.2))
-stays layout old new (jobs.Unpoison x) step found got fits is made =
-    let s = reviving.stays layout old new x step found got fits is made in
-    (s.0, λ after turn next. follows-so jobs.Unpoison layout new (jobs.Unpoison x) after (unpoisons.next x found) next.0 (s.1 (unpoisons.next x found) turn (refl, next.1)))
+    (s.0, λ after turn next. follows-so jobs.Soft base layout new (jobs.Soft x) after next.0 next.1 (s.1 next.0 turn next.2))
+stays base layout old new (jobs.Unpoison x) step found got fits is made =
+    let s = reviving.stays layout old new x step found got fits.1 is made in
+    (s.0, λ after turn next. follows-so jobs.Unpoison base layout new (jobs.Unpoison x) after (unpoisons.next x found) next.0 (alone fits.0 (s.1 (unpoisons.next x found) turn (refl, next.1))))
+
+-- whatever the command had made before
+pub lawful : IsTask job-task
+lawful = record {
+  can = λ layout view j step fits is. can fits.0 layout view j step fits.1 is;
+  stays = λ layout old new j step found got fits is made.
+      let all = stays fits.0 layout old new j step found got fits.1 is made in (all.0, λ after turn follows. let next = all.1 after turn follows in ((fits.0, next.0), next.1));
+}
 
 -- ---- the rank
 
@@ -171,7 +185,7 @@ module _ {layout : Layout} {seat : ℕ} {a b : State} {t : Job} {turn : Turn} wh
   of-instruction made = record {
     after = made.follows.0;
     after_is = made.follows.1;
-    made = record { step = made.step; found = made.found; got = made.got; rule = made.rule; kept = made.kept; fits = ([], made.fits); planned = made.planned; move = made.move; brings = made.brings; follows = made.follows.2 };
+    made = record { step = made.step; found = made.found; got = made.got; rule = made.rule; kept = made.kept; fits = made.fits; planned = made.planned; move = made.move; brings = made.brings; follows = made.follows.2 };
   }
 
   of-evict : {x : Evict} → Made job-task layout seat a b (jobs.Evict x) t turn → IsTurnOf evict-task jobs.Evict layout seat a b x t turn
@@ -185,56 +199,56 @@ module _ {layout : Layout} {seat : ℕ} {a b : State} {t : Job} {turn : Turn} wh
   of-fsync {x} made = record {
     after = fsyncs.next x made.found;
     after_is = made.follows.0;
-    made = record { step = made.step; found = made.found; got = made.got; rule = made.rule; kept = made.kept; fits = made.fits; planned = made.planned; move = made.move; brings = made.brings; follows = (refl, made.follows.1) };
+    made = record { step = made.step; found = made.found; got = made.got; rule = made.rule; kept = made.kept; fits = made.fits.1.1; planned = made.planned; move = made.move; brings = made.brings; follows = (refl, made.follows.1) };
   }
 
   of-prctl : {x : Prctl} → Made job-task layout seat a b (jobs.Prctl x) t turn → IsTurnOf prctls.task jobs.Prctl layout seat a b x t turn
   of-prctl {x} made = record {
     after = prctls.next x made.found;
     after_is = made.follows.0;
-    made = record { step = made.step; found = made.found; got = made.got; rule = made.rule; kept = made.kept; fits = made.fits; planned = made.planned; move = made.move; brings = made.brings; follows = (refl, made.follows.1) };
+    made = record { step = made.step; found = made.found; got = made.got; rule = made.rule; kept = made.kept; fits = made.fits.1.1; planned = made.planned; move = made.move; brings = made.brings; follows = (refl, made.follows.1) };
   }
 
   of-log : {x : Log} → Made job-task layout seat a b (jobs.Log x) t turn → IsTurnOf logs.task jobs.Log layout seat a b x t turn
   of-log {x} made = record {
     after = logs.next x made.found;
     after_is = made.follows.0;
-    made = record { step = made.step; found = made.found; got = made.got; rule = made.rule; kept = made.kept; fits = made.fits; planned = made.planned; move = made.move; brings = made.brings; follows = (refl, made.follows.1) };
+    made = record { step = made.step; found = made.found; got = made.got; rule = made.rule; kept = made.kept; fits = made.fits.1.1; planned = made.planned; move = made.move; brings = made.brings; follows = (refl, made.follows.1) };
   }
 
   of-raise : {x : Raise} → Made job-task layout seat a b (jobs.Raise x) t turn → IsTurnOf raise-task jobs.Raise layout seat a b x t turn
   of-raise made = record {
     after = made.follows.0;
     after_is = made.follows.1;
-    made = record { step = made.step; found = made.found; got = made.got; rule = made.rule; kept = made.kept; fits = made.fits; planned = made.planned; move = made.move; brings = made.brings; follows = made.follows.2 };
+    made = record { step = made.step; found = made.found; got = made.got; rule = made.rule; kept = made.kept; fits = made.fits.1.1; planned = made.planned; move = made.move; brings = made.brings; follows = made.follows.2 };
   }
 
   of-scrub : {x : Scrub} → Made job-task layout seat a b (jobs.Scrub x) t turn → IsTurnOf scrub-task jobs.Scrub layout seat a b x t turn
   of-scrub made = record {
     after = made.follows.0;
     after_is = made.follows.1;
-    made = record { step = made.step; found = made.found; got = made.got; rule = made.rule; kept = made.kept; fits = made.fits; planned = made.planned; move = made.move; brings = made.brings; follows = made.follows.2 };
+    made = record { step = made.step; found = made.found; got = made.got; rule = made.rule; kept = made.kept; fits = made.fits.1.1; planned = made.planned; move = made.move; brings = made.brings; follows = made.follows.2 };
   }
 
   of-spoil : {x : Spoil} → Made job-task layout seat a b (jobs.Spoil x) t turn → IsTurnOf spoils.task jobs.Spoil layout seat a b x t turn
   of-spoil {x} made = record {
     after = spoils.next x made.found;
     after_is = made.follows.0;
-    made = record { step = made.step; found = made.found; got = made.got; rule = made.rule; kept = made.kept; fits = made.fits; planned = made.planned; move = made.move; brings = made.brings; follows = (refl, made.follows.1) };
+    made = record { step = made.step; found = made.found; got = made.got; rule = made.rule; kept = made.kept; fits = made.fits.1.1; planned = made.planned; move = made.move; brings = made.brings; follows = (refl, made.follows.1) };
   }
 
   of-nested : {x : Nested} → Made job-task layout seat a b (jobs.Nested x) t turn → IsTurnOf nesteds.task jobs.Nested layout seat a b x t turn
   of-nested {x} made = record {
     after = nesteds.next x made.found;
     after_is = made.follows.0;
-    made = record { step = made.step; found = made.found; got = made.got; rule = made.rule; kept = made.kept; fits = made.fits; planned = made.planned; move = made.move; brings = made.brings; follows = (refl, made.follows.1) };
+    made = record { step = made.step; found = made.found; got = made.got; rule = made.rule; kept = made.kept; fits = made.fits.1.1; planned = made.planned; move = made.move; brings = made.brings; follows = (refl, made.follows.1) };
   }
 
   of-inject : {x : Inject} → Made job-task layout seat a b (jobs.Inject x) t turn → IsTurnOf injects.task jobs.Inject layout seat a b x t turn
   of-inject made = record {
     after = made.follows.0;
     after_is = made.follows.1;
-    made = record { step = made.step; found = made.found; got = made.got; rule = made.rule; kept = made.kept; fits = made.fits; planned = made.planned; move = made.move; brings = made.brings; follows = made.follows.2 };
+    made = record { step = made.step; found = made.found; got = made.got; rule = made.rule; kept = made.kept; fits = made.fits.1.1; planned = made.planned; move = made.move; brings = made.brings; follows = made.follows.2 };
   }
 
   of-soft : {x : Soft} → Made job-task layout seat a b (jobs.Soft x) t turn → IsTurnOf soft-task jobs.Soft layout seat a b x t turn
@@ -248,7 +262,7 @@ module _ {layout : Layout} {seat : ℕ} {a b : State} {t : Job} {turn : Turn} wh
   of-unpoison {x} made = record {
     after = unpoisons.next x made.found;
     after_is = made.follows.0;
-    made = record { step = made.step; found = made.found; got = made.got; rule = made.rule; kept = made.kept; fits = made.fits; planned = made.planned; move = made.move; brings = made.brings; follows = (refl, made.follows.1) };
+    made = record { step = made.step; found = made.found; got = made.got; rule = made.rule; kept = made.kept; fits = made.fits.1.1; planned = made.planned; move = made.move; brings = made.brings; follows = (refl, made.follows.1) };
   }
 
 -- so its cost falls as that task's does
@@ -315,18 +329,18 @@ classes (jobs.Soft x) = soft-ranked.classes x
 classes (jobs.Unpoison x) = unpoisoning.ranked.classes x
 
 small : (layout : Layout) (a : State) (seat : ℕ) (j : Job) → Holds layout a → Fits layout (view_of a seat) j → cost j (words_at layout a) < top
-small layout a seat (jobs.Instruction x) rule fits = instruction-ranked.small layout a seat x rule ([], fits)
+small layout a seat (jobs.Instruction x) rule fits = instruction-ranked.small layout a seat x rule fits
 small layout a seat (jobs.Evict x) rule fits = evict-ranked.small layout a seat x rule fits
-small layout a seat (jobs.Fsync x) rule fits = fsync-ranked.small layout a seat x rule fits
-small layout a seat (jobs.Prctl x) rule fits = calling.ranked.small layout a seat x rule fits
-small layout a seat (jobs.Log x) rule fits = logging.ranked.small layout a seat x rule fits
-small layout a seat (jobs.Raise x) rule fits = raise-ranked.small layout a seat x rule fits
-small layout a seat (jobs.Scrub x) rule fits = scrub-ranked.small layout a seat x rule fits
-small layout a seat (jobs.Spoil x) rule fits = spoiling.ranked.small layout a seat x rule fits
-small layout a seat (jobs.Nested x) rule fits = nesting.ranked.small layout a seat x rule fits
-small layout a seat (jobs.Inject x) rule fits = inject-ranked.small layout a seat x rule fits
+small layout a seat (jobs.Fsync x) rule fits = fsync-ranked.small layout a seat x rule fits.1.1
+small layout a seat (jobs.Prctl x) rule fits = calling.ranked.small layout a seat x rule fits.1.1
+small layout a seat (jobs.Log x) rule fits = logging.ranked.small layout a seat x rule fits.1.1
+small layout a seat (jobs.Raise x) rule fits = raise-ranked.small layout a seat x rule fits.1.1
+small layout a seat (jobs.Scrub x) rule fits = scrub-ranked.small layout a seat x rule fits.1.1
+small layout a seat (jobs.Spoil x) rule fits = spoiling.ranked.small layout a seat x rule fits.1.1
+small layout a seat (jobs.Nested x) rule fits = nesting.ranked.small layout a seat x rule fits.1.1
+small layout a seat (jobs.Inject x) rule fits = inject-ranked.small layout a seat x rule fits.1.1
 small layout a seat (jobs.Soft x) rule fits = soft-ranked.small layout a seat x rule fits
-small layout a seat (jobs.Unpoison x) rule fits = unpoisoning.ranked.small layout a seat x rule fits
+small layout a seat (jobs.Unpoison x) rule fits = unpoisoning.ranked.small layout a seat x rule fits.1.1
 
 -- a command that claims a frame alone can give up what it has begun, and then it looks at its frame again
 leaves : (layout : Layout) (seat : ℕ) (a b : State) (s t : Job) (turn : Turn) → Made job-task layout seat a b s t turn → aborts s ≡ true → (plan t ≡ None) ⊎ (1 < class t)
@@ -536,37 +550,37 @@ pub tells : TellsClass job-task
 tells = record { frame = frame; page = page; claim = claim }
   where
     frame : (layout : Layout) (view : View) (j : Job) → Fits layout view j → HasFrame view → (class j ≡ 1) × (plan j ≢ None)
-    frame layout view (jobs.Instruction x) fits has = instruction-tells.frame layout view x ([], fits) has
+    frame layout view (jobs.Instruction x) fits has = instruction-tells.frame layout view x fits has
     frame layout view (jobs.Evict x) fits has = evict-tells.frame layout view x fits has
-    frame layout view (jobs.Fsync x) fits has = fsync-tells.frame layout view x fits has
-    frame layout view (jobs.Prctl x) fits has = calling.tells.frame layout view x fits has
-    frame layout view (jobs.Log x) fits has = logging.tells.frame layout view x fits has
-    frame layout view (jobs.Raise x) fits has = raise-tells.frame layout view x fits has
-    frame layout view (jobs.Scrub x) fits has = scrub-tells.frame layout view x fits has
-    frame layout view (jobs.Spoil x) fits has = spoiling.tells.frame layout view x fits has
-    frame layout view (jobs.Nested x) fits has = nesting.tells.frame layout view x fits has
-    frame layout view (jobs.Inject x) fits has = inject-tells.frame layout view x fits has
+    frame layout view (jobs.Fsync x) fits has = fsync-tells.frame layout view x fits.1.1 has
+    frame layout view (jobs.Prctl x) fits has = calling.tells.frame layout view x fits.1.1 has
+    frame layout view (jobs.Log x) fits has = logging.tells.frame layout view x fits.1.1 has
+    frame layout view (jobs.Raise x) fits has = raise-tells.frame layout view x fits.1.1 has
+    frame layout view (jobs.Scrub x) fits has = scrub-tells.frame layout view x fits.1.1 has
+    frame layout view (jobs.Spoil x) fits has = spoiling.tells.frame layout view x fits.1.1 has
+    frame layout view (jobs.Nested x) fits has = nesting.tells.frame layout view x fits.1.1 has
+    frame layout view (jobs.Inject x) fits has = inject-tells.frame layout view x fits.1.1 has
     frame layout view (jobs.Soft x) fits has = soft-tells-class.frame layout view x fits has
-    frame layout view (jobs.Unpoison x) fits has = unpoisoning.tells.frame layout view x fits has
+    frame layout view (jobs.Unpoison x) fits has = unpoisoning.tells.frame layout view x fits.1.1 has
 
     page : (layout : Layout) (view : View) (j : Job) → Fits layout view j → HasPage view → (class j ≤ 2) × (plan j ≢ None)
-    page layout view (jobs.Instruction x) fits has = instruction-tells.page layout view x ([], fits) has
+    page layout view (jobs.Instruction x) fits has = instruction-tells.page layout view x fits has
     page layout view (jobs.Evict x) fits has = evict-tells.page layout view x fits has
-    page layout view (jobs.Fsync x) fits has = fsync-tells.page layout view x fits has
-    page layout view (jobs.Prctl x) fits has = calling.tells.page layout view x fits has
-    page layout view (jobs.Log x) fits has = logging.tells.page layout view x fits has
-    page layout view (jobs.Raise x) fits has = raise-tells.page layout view x fits has
-    page layout view (jobs.Scrub x) fits has = scrub-tells.page layout view x fits has
-    page layout view (jobs.Spoil x) fits has = spoiling.tells.page layout view x fits has
-    page layout view (jobs.Nested x) fits has = nesting.tells.page layout view x fits has
-    page layout view (jobs.Inject x) fits has = inject-tells.page layout view x fits has
+    page layout view (jobs.Fsync x) fits has = fsync-tells.page layout view x fits.1.1 has
+    page layout view (jobs.Prctl x) fits has = calling.tells.page layout view x fits.1.1 has
+    page layout view (jobs.Log x) fits has = logging.tells.page layout view x fits.1.1 has
+    page layout view (jobs.Raise x) fits has = raise-tells.page layout view x fits.1.1 has
+    page layout view (jobs.Scrub x) fits has = scrub-tells.page layout view x fits.1.1 has
+    page layout view (jobs.Spoil x) fits has = spoiling.tells.page layout view x fits.1.1 has
+    page layout view (jobs.Nested x) fits has = nesting.tells.page layout view x fits.1.1 has
+    page layout view (jobs.Inject x) fits has = inject-tells.page layout view x fits.1.1 has
     page layout view (jobs.Soft x) fits has = soft-tells-class.page layout view x fits has
-    page layout view (jobs.Unpoison x) fits has = unpoisoning.tells.page layout view x fits has
+    page layout view (jobs.Unpoison x) fits has = unpoisoning.tells.page layout view x fits.1.1 has
 
     claim : (layout : Layout) (view : View) (j : Job) (f : Frame) (cycle : ℕ) → Fits layout view j → claims j ≡ Some (f, cycle) → (class j ≤ 3) × (plan j ≢ None)
-    claim layout view (jobs.Instruction x) f cycle fits has = instruction-tells.claim layout view x f cycle ([], fits) has
-    claim layout view (jobs.Raise x) f cycle fits has = raise-tells.claim layout view x f cycle fits has
-    claim layout view (jobs.Scrub x) f cycle fits has = scrub-tells.claim layout view x f cycle fits has
-    claim layout view (jobs.Inject x) f cycle fits has = inject-tells.claim layout view x f cycle fits has
+    claim layout view (jobs.Instruction x) f cycle fits has = instruction-tells.claim layout view x f cycle fits has
+    claim layout view (jobs.Raise x) f cycle fits has = raise-tells.claim layout view x f cycle fits.1.1 has
+    claim layout view (jobs.Scrub x) f cycle fits has = scrub-tells.claim layout view x f cycle fits.1.1 has
+    claim layout view (jobs.Inject x) f cycle fits has = inject-tells.claim layout view x f cycle fits.1.1 has
     claim layout view (jobs.Soft x) f cycle fits has = soft-tells-class.claim layout view x f cycle fits has
     claim layout view _ f cycle fits has = absurd (none-some (f, cycle) has)

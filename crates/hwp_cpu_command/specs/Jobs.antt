@@ -5,6 +5,7 @@ use Rattle.hwp_cpu_control.specs.hwp_geom.declared.Layout.{Layout}
 use Rattle.hwp_cpu_control.specs.hwp_geom.declared.Who.{Who}
 use Rattle.hwp_cpu_control.specs.hwp_page.History.{BodyValue}
 use Rattle.hwp_cpu_row.specs.hwp_report_text.declared.Answer.{Answer}
+use Rattle.hwp_cpu_control.specs.hwp_core_rule.declared.Made.{Made}
 use Rattle.hwp_cpu_control.specs.hwp_core_rule.declared.Step.{Step}
 use Rattle.hwp_cpu_control.specs.hwp_core_rule.declared.View.{View}
 use Rattle.hwp_cpu_control.specs.hwp_core_rule.Words.{Words}
@@ -121,19 +122,25 @@ Next layout (jobs.Inject i) found got after turn = (k : Inject) × (after ≡ jo
 Next layout (jobs.Soft s) found got after turn = (k : Soft) × (after ≡ jobs.Soft k) × softs.Follows layout s found got k turn
 Next layout (jobs.Unpoison u) found got after turn = (after ≡ jobs.Unpoison (unpoisons.next u found)) × (turn ≡ unpoisons.turn u found)
 
+-- The task fits where its command had made these entries before. An instruction, an eviction and a soft offline may be a later part of
+-- their command; each other command is one part, and had made none.
+abbrev pub FitsFrom : List Made → Layout → View → Job → Type 0
+FitsFrom base layout view (jobs.Instruction i) = instruction_fits.FitsFrom base layout view i
+FitsFrom base layout view (jobs.Evict e) = evicts.FitsFrom base layout view e
+FitsFrom base layout view (jobs.Fsync f) = (base ≡ []) × fsyncs.Fits layout view f
+FitsFrom base layout view (jobs.Prctl p) = (base ≡ []) × prctls.Fits layout view p
+FitsFrom base layout view (jobs.Log l) = (base ≡ []) × logs.Fits layout view l
+FitsFrom base layout view (jobs.Raise r) = (base ≡ []) × raise_fits.Fits layout view r
+FitsFrom base layout view (jobs.Scrub s) = (base ≡ []) × scrub_fits.Fits layout view s
+FitsFrom base layout view (jobs.Spoil s) = (base ≡ []) × spoils.Fits layout view s
+FitsFrom base layout view (jobs.Nested n) = (base ≡ []) × nesteds.Fits layout view n
+FitsFrom base layout view (jobs.Inject i) = (base ≡ []) × injects.Fits layout view i
+FitsFrom base layout view (jobs.Soft s) = offline.FitsFrom base layout view s
+FitsFrom base layout view (jobs.Unpoison u) = (base ≡ []) × unpoisons.Fits layout view u
+
+-- whatever it had made
 abbrev pub Fits : Layout → View → Job → Type 0
-Fits layout view (jobs.Instruction i) = instruction_fits.FitsFrom [] layout view i
-Fits layout view (jobs.Evict e) = evicts.Fits layout view e
-Fits layout view (jobs.Fsync f) = fsyncs.Fits layout view f
-Fits layout view (jobs.Prctl p) = prctls.Fits layout view p
-Fits layout view (jobs.Log l) = logs.Fits layout view l
-Fits layout view (jobs.Raise r) = raise_fits.Fits layout view r
-Fits layout view (jobs.Scrub s) = scrub_fits.Fits layout view s
-Fits layout view (jobs.Spoil s) = spoils.Fits layout view s
-Fits layout view (jobs.Nested n) = nesteds.Fits layout view n
-Fits layout view (jobs.Inject i) = injects.Fits layout view i
-Fits layout view (jobs.Soft s) = offline.Fits layout view s
-Fits layout view (jobs.Unpoison u) = unpoisons.Fits layout view u
+Fits layout view j = (base : List Made) × FitsFrom base layout view j
 
 abbrev pub class : Job → ℕ
 class (jobs.Instruction i) = instruction_costs.class i

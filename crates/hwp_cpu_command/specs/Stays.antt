@@ -56,7 +56,7 @@ use Rattle.hwp_soft.specs.declared.soft.SoftAt.TheVariants as soft_at
 use Rattle.hwp_soft.specs.hwp_soft_unpoison.declared.unpoison.UnpoisonAt.TheVariants as unpoison_at
 use Rattle.hwp_cpu_command.specs.declared.job.Job.{Job}
 use Rattle.hwp_cpu_command.specs.declared.job.Job.TheVariants as jobs
-use Rattle.hwp_cpu_command.specs.Jobs.{Fits, Next, answer, bare, plan, put, who}
+use Rattle.hwp_cpu_command.specs.Jobs.{FitsFrom, Next, answer, bare, plan, put, who}
 use Rattle.hwp_cpu_command.specs.Settings.{IsCounted, policies_in, set_now}
 
 -- the command made the step that came, and what follows is told
@@ -65,7 +65,7 @@ pub record Stepped (layout : Layout) (old new : View) (j after : Job) : Type 0 w
   pub found : ℕ
   pub got : Option BodyValue
   pub turn : Turn
-  pub fits : Fits layout old j
+  pub fits : FitsFrom [] layout old j
   pub planned : plan j ≡ Some step
   pub made : Steps layout (who j) step (logs (put j)) old new found got
   pub follows : Next layout (bare j) found got after turn
