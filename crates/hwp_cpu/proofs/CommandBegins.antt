@@ -172,7 +172,7 @@ module _ (layout : Layout) (old new : View) (cpu : Cpu) (list : List Command) (r
       later = (subst (IsOnTurn old) (own layout old new cpu list rows local j k run made) (on-turn layout old j run.fits)).later
 
   nothing : hand_of new ≡ empty
-  nothing = (ends layout new k now.fits has).0
+  nothing = (ends [] layout new k now.fits has).0
 
   done : slice_get list (n + 1) ≡ None → IsDone layout new cpu list longer after
   done none = record {

@@ -1,5 +1,5 @@
 -- What is so of each kind of command.
-use Rattle.std.proofs.Common.{◌≡◌, ℕ, true, sym, ap, ◌∙◌, subst}
+use Rattle.std.proofs.Common.{◌≡◌, ℕ, true, sym, ap, ◌∙◌, subst, []}
 use Rattle.hwp_cpu_row.specs.hwp_geom.declared.Damage.{Damage}
 use Rattle.hwp_cpu_row.specs.hwp_geom.declared.Damage.TheVariants as damages
 use Rattle.hwp_cpu_row.specs.hwp_geom.declared.Frame.{Frame}
@@ -26,19 +26,19 @@ use Rattle.hwp_cpu_command_laws.proofs.CommandStops.{unrecovered}
 use Rattle.hwp_cpu_causes.specs.hwp_law_holds.Served.{CanStop, spoiling}
 
 -- a command that fits is that of the turn
-pub on-turn : (layout : Layout) (view : View) (j : Job) → jobs.Fits layout view j → IsOnTurn view (jobs.who j)
+pub on-turn : (layout : Layout) (view : View) (j : Job) → jobs.FitsFrom [] layout view j → IsOnTurn view (jobs.who j)
 on-turn layout view (kinds.Instruction i) fits = fits.on_turn
 on-turn layout view (kinds.Evict e) fits = fits.on_turn
-on-turn layout view (kinds.Fsync f) fits = fits.on_turn
-on-turn layout view (kinds.Prctl p) fits = fits.on_turn
-on-turn layout view (kinds.Log l) fits = fits.read.on_turn
-on-turn layout view (kinds.Raise r) fits = fits.on_turn
-on-turn layout view (kinds.Scrub s) fits = fits.on_turn
-on-turn layout view (kinds.Spoil s) fits = fits.on_turn
-on-turn layout view (kinds.Nested n) fits = fits.on_turn
-on-turn layout view (kinds.Inject i) fits = fits.on_turn
+on-turn layout view (kinds.Fsync f) fits = fits.1.on_turn
+on-turn layout view (kinds.Prctl p) fits = fits.1.on_turn
+on-turn layout view (kinds.Log l) fits = fits.1.read.on_turn
+on-turn layout view (kinds.Raise r) fits = fits.1.on_turn
+on-turn layout view (kinds.Scrub s) fits = fits.1.on_turn
+on-turn layout view (kinds.Spoil s) fits = fits.1.on_turn
+on-turn layout view (kinds.Nested n) fits = fits.1.on_turn
+on-turn layout view (kinds.Inject i) fits = fits.1.on_turn
 on-turn layout view (kinds.Soft s) fits = fits.on_turn
-on-turn layout view (kinds.Unpoison u) fits = fits.on_turn
+on-turn layout view (kinds.Unpoison u) fits = fits.1.on_turn
 
 -- ---- a command that stops the machine
 
@@ -54,7 +54,7 @@ module _ (j : Job) (has : stays.HasStopped j) where
   scrub-halts is = let task = of-scrub j is in ap (λ (k : Job). halts (jobs.told_of k)) task.1 ∙ (subst stays.HasStopped task.1 has).1
 
 -- is one that can
-pub can-stop : (layout : Layout) (view : View) (who : Who) (command : Command) (j : Job) → Runs layout who command j → jobs.Fits layout view j → stays.HasStopped j → CanStop layout command (jobs.told_of j)
+pub can-stop : (layout : Layout) (view : View) (who : Who) (command : Command) (j : Job) → Runs layout who command j → jobs.FitsFrom [] layout view j → stays.HasStopped j → CanStop layout command (jobs.told_of j)
 can-stop layout view who (commands.Load thread slot line) j runs fits has = instruction-halts j has runs.job_is
 can-stop layout view who (commands.Fetch thread slot line) j runs fits has = instruction-halts j has runs.job_is
 can-stop layout view who (commands.KLoad thread slot line) j runs fits has = instruction-halts j has runs.job_is
@@ -63,7 +63,7 @@ can-stop layout view who (commands.RaiseUser thread ripv eipv) j runs fits has =
 can-stop layout view who (commands.RaiseKernel ripv eipv) j runs fits has = raise-halts j has runs.job_is
 can-stop layout view who (commands.Scrub first last) j runs fits has = scrub-halts j has runs.job_is
 can-stop layout view who commands.RaiseNested j runs fits has = tt
-can-stop layout view who (commands.Inject frame) j runs fits has = let task = of-inject j runs.job_is in unrecovered layout view task.0 (subst (jobs.Fits layout view) task.1 fits) (subst stays.HasStopped task.1 has)
+can-stop layout view who (commands.Inject frame) j runs fits has = let task = of-inject j runs.job_is in unrecovered layout view task.0 (subst (jobs.FitsFrom [] layout view) task.1 fits).1 (subst stays.HasStopped task.1 has)
 can-stop layout view who (commands.Free slot) j runs fits has = absurd (subst stays.HasStopped (of-evict j runs.1.job_is).1 has)
 can-stop layout view who (commands.Drop page) j runs fits has = absurd (subst stays.HasStopped (of-evict j runs.job_is).1 has)
 can-stop layout view who (commands.Sync page) j runs fits has = absurd (subst stays.HasStopped (of-evict j runs.job_is).1 has)

@@ -69,7 +69,7 @@ module _ {layout : Layout} {seat : ℕ} {a b : State} {p q : Processor} {turn : 
       (move : Move layout seat (rec_of layout (jobs.who j) made.step (logs (jobs.put j)) made.found made.got) a b) where
     -- the turn of the command that runs
     of-job : (k : Job) (t : Turn) → jobs.Next layout (jobs.bare j) made.found made.got k t → Made jobs.task layout seat a b j k t
-    of-job k t next = record { step = made.step; found = made.found; got = made.got; rule = made.rule; kept = made.kept; fits = at.fits; planned = planned; move = move; brings = made.brings; follows = next }
+    of-job k t next = record { step = made.step; found = made.found; got = made.got; rule = made.rule; kept = made.kept; fits = ([], at.fits); planned = planned; move = move; brings = made.brings; follows = next }
 
     falls-on : (k : Job) (t : Turn) → jobs.Next layout (jobs.bare j) made.found made.got k t → (o : Option Answer) → Follows (bare p) k o t q turn → is_waits turn ≡ false
         → Lowers (command_weight * (length p.commands - length rows) + jobs.cost j (words_at layout a))
@@ -158,7 +158,7 @@ small layout a seat p rule fits =
     omega (arith, few, below)
   where
     which : (x : Option Job) → FitsAt layout (view_of a seat) p.cpu p.commands p.rows.items p.local x → cost_of x (words_at layout a) < command_weight
-    which (Some j) at = job-below layout a (view_of a seat) j rule at.fits
+    which (Some j) at = job-below layout a (view_of a seat) j rule ([], at.fits)
     which None at = omega arith
 
 leaves : (layout : Layout) (seat : ℕ) (a b : State) (p q : Processor) (turn : Turn) → Made task layout seat a b p q turn → aborts p ≡ true → (plan q ≡ None) ⊎ (1 < class q)

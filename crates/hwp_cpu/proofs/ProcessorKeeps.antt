@@ -1,5 +1,5 @@
 -- A step of the command that runs leaves what the processor keeps.
-use Rattle.std.proofs.Common.{◌≡◌, ◌≢◌, ℕ, ◌⊎◌, inl, inr, false, List, Some, length, slice_get, refl, subst, sym, ap, ◌∙◌, arith}
+use Rattle.std.proofs.Common.{◌≡◌, ◌≢◌, ℕ, ◌⊎◌, inl, inr, false, List, Some, length, slice_get, refl, subst, sym, ap, ◌∙◌, arith, []}
 use Rattle.std.proofs.lemmas.Option.{none-some}
 use Rattle.hwp_cpu_row.specs.hwp_geom.declared.Cpu.{Cpu}
 use Rattle.hwp_cpu_row.specs.hwp_geom.declared.Layout.{Layout}
@@ -42,7 +42,7 @@ over rows who j step it is = none-some step (sym (answered-over j (has-stopped j
 
 module _ (layout : Layout) (old new : View) (cpu : Cpu) (list : List Command) (rows : List Row) (local : Local) (j k : Job) (run : IsRunning layout old cpu list rows local j) (made : Stepped layout old new j k) where
   pub can : CanMake layout (jobs.who j) made.step (jobs.put j) old
-  can = jobbing.can layout old j made.step made.fits made.planned
+  can = jobbing.can [] layout old j made.step made.fits made.planned
 
   pub own : jobs.who j ≡ at_number cpu (length rows)
   own = runs-who layout (at_number cpu (length rows)) run.command j run.runs
@@ -108,7 +108,7 @@ module _ (layout : Layout) (old new : View) (cpu : Cpu) (list : List Command) (r
     there = run.there;
     runs = runs-still;
     handle = handle-stays layout local.handles j k made.found made.got made.turn made.follows run.handle;
-    fits = ((jobbing.stays layout old new j made.step made.found made.got made.fits made.planned made.made).1 k made.turn made.follows).0;
+    fits = ((jobbing.stays [] layout old new j made.step made.found made.got made.fits made.planned made.made).1 k made.turn made.follows).0;
     policies = policies-stay made list (at_number cpu (length rows)) run.policies;
     stopped = λ some. (halted-stays made (run.serves.halted some) (run.stopped some)).1;
     looked = looked;

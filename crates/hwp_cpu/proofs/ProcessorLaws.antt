@@ -31,7 +31,7 @@ pub can : (layout : Layout) (view : View) (p : Processor) (step : Step) → Fits
 can layout view p step fits is = which p.job fits.at is
   where
     which : (x : Option Job) → FitsAt layout view p.cpu p.commands p.rows.items p.local x → plan_of x ≡ Some step → CanMake layout (who_of p.cpu x) step (put_of x) view
-    which (Some j) at e = jobbing.can layout view j step at.fits e
+    which (Some j) at e = jobbing.can [] layout view j step at.fits e
     which None at e = absurd (none-some step e)
 
 -- the command is one of the processor
@@ -62,7 +62,7 @@ module _ (layout : Layout) (old new : View) (p : Processor) (step : Step) (found
   follows k t next None has after turn (after_is, turn_is) =
       subst (λ (q : Processor). Fits layout new q × ((who q).cpu ≡ (jobs.who j).cpu)) (sym after_is) (
         record { ready = record { sound = ready.sound; commands = ready.commands; room = ready.room }; layout_is = same; at = carried layout old new p.cpu p.commands rows p.local j k at (stepped k t next) },
-        ((jobbing.stays layout old new j step found got at.fits is made).1 k t next).1,
+        ((jobbing.stays [] layout old new j step found got at.fits is made).1 k t next).1,
       )
   follows k t next (Some a) has after turn (answered, turn_is) = (
     record { ready = ready-after p after k a ready those; layout_is = answered.layout_is ∙ same; at = there },
@@ -93,7 +93,7 @@ module _ (layout : Layout) (old new : View) (p : Processor) (step : Step) (found
   running : ShowsOf (bare p) (Some (jobs.bare j)) found got
       × ((after : Processor) (turn : Turn) → NextOf layout (bare p) (Some (jobs.bare j)) found got after turn → Fits layout new after × ((who after).cpu ≡ (jobs.who j).cpu))
   running = (
-    ((jobbing.stays layout old new j step found got at.fits is made).0, record { sound = ready.sound; commands = ready.commands; room = ready.room }, slice_get_within p.commands (length rows) at.command at.there),
+    ((jobbing.stays [] layout old new j step found got at.fits is made).0, record { sound = ready.sound; commands = ready.commands; room = ready.room }, slice_get_within p.commands (length rows) at.command at.there),
     λ after turn next. follows next.0 next.1 next.2 (jobs.answer next.0) refl after turn next.3,
   )
 

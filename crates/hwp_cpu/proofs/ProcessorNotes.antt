@@ -245,18 +245,18 @@ unfailed-lossless view who none = sum-zero loss_of (deeds who view) (λ i m at. 
     by page place what is = refl
 
 -- when a command is answered its failures are those that it knows of
-pub failed-end : (layout : Layout) (view : View) (who : Who) (j : Job) (a : Answer) → jobs.Fits layout view j → jobs.answer j ≡ Some a → jobs.who j ≡ who → HasAccount view who j → failures who view ≡ failed_now j
+pub failed-end : (layout : Layout) (view : View) (who : Who) (j : Job) (a : Answer) → jobs.FitsFrom [] layout view j → jobs.answer j ≡ Some a → jobs.who j ≡ who → HasAccount view who j → failures who view ≡ failed_now j
 failed-end layout view who j a fits has own account = subst (λ (w : Who). failures w view ≡ failed_now j) own (failures-at-end layout view j fits has (λ fails. subst (λ (w : Who). failures w view ≡ failed_now j) (sym own) (account.failed fails)))
 
 -- a command that is answered owes no loss: one that may make some owes none by then, and the others make none
-no-loss : (layout : Layout) (view : View) (who : Who) (j : Job) (a : Answer) → jobs.Fits layout view j → jobs.answer j ≡ Some a → jobs.who j ≡ who → HasAccount view who j → length view.owed.losses ≡ 0
-no-loss layout view who j a fits has own account = elim (paid-at-end layout view j fits has) [
+no-loss : (layout : Layout) (view : View) (who : Who) (j : Job) (a : Answer) → jobs.FitsFrom [] layout view j → jobs.answer j ≡ Some a → jobs.who j ≡ who → HasAccount view who j → length view.owed.losses ≡ 0
+no-loss layout view who j a fits has own account = elim (paid-at-end [] layout view j fits has) [
   | inl paid ↦ ap length paid
   | inr none ↦ let made : losses_by who view ≡ 0 = unfailed-lossless view who (failed-end layout view who j a fits has own account ∙ none) in let owes : length view.owed.losses ≤ losses_by who view = account.losses in omega (arith, owes, made)
 ]
 
 -- nothing is owed
-pub owes-nothing : (layout : Layout) (view : View) (who : Who) (j : Job) (a : Answer) → jobs.Fits layout view j → jobs.answer j ≡ Some a → jobs.who j ≡ who → HasAccount view who j → view.owed ≡ no_debts
+pub owes-nothing : (layout : Layout) (view : View) (who : Who) (j : Job) (a : Answer) → jobs.FitsFrom [] layout view j → jobs.answer j ≡ Some a → jobs.who j ≡ who → HasAccount view who j → view.owed ≡ no_debts
 owes-nothing layout view who j a fits has own account =
     let none : counts_owed view ≡ 0 = account.counted ∙ unowed-at-end j has in
     λ t. record { counts = counts none t; hardware = hardware none t; uncounts = uncounts none t; losses = nil_from_length view.owed.losses (no-loss layout view who j a fits has own account) t }

@@ -1,5 +1,5 @@
 -- The class of a processor tells what it holds.
-use Rattle.std.proofs.Common.{◌≡◌, ◌≢◌, ℕ, ◌≤◌, Option, Some, None}
+use Rattle.std.proofs.Common.{◌≡◌, ◌≢◌, ℕ, ◌≤◌, Option, Some, None, []}
 use Rattle.std.proofs.lemmas.Option.{none-some}
 use Rattle.hwp_cpu_row.specs.hwp_geom.declared.Frame.{Frame}
 use Rattle.hwp_cpu_row.specs.hwp_geom.declared.Layout.{Layout}
@@ -20,19 +20,19 @@ tells = record { frame = frame; page = page; claim = claim }
     frame layout view p fits has = which p.job fits.at
       where
         which : (x : Option Job) → FitsAt layout view p.cpu p.commands p.rows.items p.local x → (class_of x ≡ 1) × (plan_of x ≢ None)
-        which (Some j) at = jobbing.tells.frame layout view j at.fits has
+        which (Some j) at = jobbing.tells.frame layout view j ([], at.fits) has
         which None at = absurd (no-frame view at.hand_is has)
 
     page : (layout : Layout) (view : View) (p : Processor) → Fits layout view p → HasPage view → (class p ≤ 2) × (plan p ≢ None)
     page layout view p fits has = which p.job fits.at
       where
         which : (x : Option Job) → FitsAt layout view p.cpu p.commands p.rows.items p.local x → (class_of x ≤ 2) × (plan_of x ≢ None)
-        which (Some j) at = jobbing.tells.page layout view j at.fits has
+        which (Some j) at = jobbing.tells.page layout view j ([], at.fits) has
         which None at = absurd (no-page view at.hand_is has)
 
     claim : (layout : Layout) (view : View) (p : Processor) (f : Frame) (cycle : ℕ) → Fits layout view p → claims p ≡ Some (f, cycle) → (class p ≤ 3) × (plan p ≢ None)
     claim layout view p f cycle fits has = which p.job fits.at has
       where
         which : (x : Option Job) → FitsAt layout view p.cpu p.commands p.rows.items p.local x → claims_of x ≡ Some (f, cycle) → (class_of x ≤ 3) × (plan_of x ≢ None)
-        which (Some j) at is = jobbing.tells.claim layout view j f cycle at.fits is
+        which (Some j) at is = jobbing.tells.claim layout view j f cycle ([], at.fits) is
         which None at is = absurd (none-some (f, cycle) is)

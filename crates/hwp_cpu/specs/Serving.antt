@@ -1,5 +1,5 @@
 -- What a processor keeps while it runs its commands.
-use Rattle.std.specs.Prelude.{◌≡◌, ℕ, ◌+◌, ◌<◌, ◌≤◌, ◌⊎◌, true, List, ◌++◌, Option, Some, None, length, map, slice_get}
+use Rattle.std.specs.Prelude.{◌≡◌, ℕ, ◌+◌, ◌<◌, ◌≤◌, ◌⊎◌, true, List, ◌++◌, Option, Some, None, length, map, slice_get, []}
 use Rattle.std.specs.Arc.{arc_value}
 use Rattle.hwp_cpu_row.specs.hwp_geom.declared.Cpu.{Cpu}
 use Rattle.hwp_cpu_row.specs.hwp_geom.declared.FileNo.{FileNo}
@@ -95,7 +95,7 @@ pub record IsRunning (layout : Layout) (view : View) (cpu : Cpu) (list : List Co
   pub there : slice_get list (length rows) ≡ Some command
   pub runs : Runs layout (at_number cpu (length rows)) command j
   pub handle : HasHandle local.handles j
-  pub fits : jobs.Fits layout view j
+  pub fits : jobs.FitsFrom [] layout view j
   pub policies : KnowsPolicies layout list view (at_number cpu (length rows)) j
   pub stopped : HasStopped rows → EndsStopped j
   pub looked : EndsStopped j ⊎ SawRunning view (at_number cpu (length rows))

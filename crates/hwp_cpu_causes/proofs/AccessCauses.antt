@@ -46,7 +46,7 @@ use Rattle.hwp_cpu_command.specs.declared.Job.{Job}
 use Rattle.hwp_cpu_command.specs.declared.Job.TheVariants as jobs
 use Rattle.hwp_cpu_command.specs.Answers.{instruction_answer}
 use Rattle.hwp_cpu_command.specs.Begins.{BeginsAccess, request_of}
-use Rattle.hwp_cpu_command.specs.Jobs.{Fits, answer, banks_after, banks_before, told_of}
+use Rattle.hwp_cpu_command.specs.Jobs.{FitsFrom, answer, banks_after, banks_before, told_of}
 use Rattle.hwp_cpu_command.specs.Runs.{anew}
 use Rattle.hwp_cpu_command.proofs.JobEnds.{instruction-ended, instruction-over, mapped}
 use Rattle.hwp_cpu_command.proofs.OfKind.{of-instruction}
@@ -68,7 +68,7 @@ pub record KnowsAccess (layout : Layout) (view : View) (who : Who) (thread : Thr
   pub said : instructions.answer task ≡ Some own
   pub answer_is : instruction_answer own ≡ answer
 
-pub knows-access : {layout : Layout} {view : View} {who : Who} {thread : Thread} {slot : VSlot} {line : ℕ} {kind : AccessKind} {origin : Origin} {mode : Mode} (j : Job) {a : Answer} → BeginsAccess layout who thread slot line kind origin mode (banks_before j []) (anew j) → Fits layout view j → answer j ≡ Some a
+pub knows-access : {layout : Layout} {view : View} {who : Who} {thread : Thread} {slot : VSlot} {line : ℕ} {kind : AccessKind} {origin : Origin} {mode : Mode} (j : Job) {a : Answer} → BeginsAccess layout who thread slot line kind origin mode (banks_before j []) (anew j) → FitsFrom [] layout view j → answer j ≡ Some a
     → KnowsAccess layout view who thread slot line kind origin mode j a
 knows-access {layout} {view} {who} {thread} {slot} {line} {kind} {origin} {mode} j {a} runs fits is = record {
   page = runs.page;
@@ -78,7 +78,7 @@ knows-access {layout} {view} {who} {thread} {slot} {line} {kind} {origin} {mode}
   request_is = ap (λ (i : Instruction). i.request) task.2;
   origin_is = ap (λ (i : Instruction). i.origin) task.2;
   mode_is = ap (λ (i : Instruction). i.mode) task.2;
-  fits = subst (Fits layout view) task.1 fits;
+  fits = subst (FitsFrom [] layout view) task.1 fits;
   own = own.0;
   said = own.1;
   answer_is = own.2;

@@ -66,7 +66,7 @@ use Rattle.hwp_cpu_command.specs.declared.Job.TheVariants as jobs
 use Rattle.hwp_cpu_command.specs.Answers.{fsync_answer, nested_answer, prctl_answer, read_stop_answer, spoil_answer}
 use Rattle.hwp_cpu_command.specs.Begins.{BeginsFsync, BeginsLog, BeginsPrctl, BeginsSpoil}
 use Rattle.hwp_cpu_command.specs.FileHandles.{HasHandle, IsToldBy}
-use Rattle.hwp_cpu_command.specs.Jobs.{Fits, answer}
+use Rattle.hwp_cpu_command.specs.Jobs.{FitsFrom, answer}
 use Rattle.hwp_cpu_command.specs.Runs.{anew}
 use Rattle.hwp_cpu_command.specs.Settings.{HasReplied, IsCounted, policies_in, set_at}
 use Rattle.hwp_cpu_command.proofs.JobEnds.{fsync-over, mapped, nested-over, prctl-over, read-over, spoil-over}
@@ -87,7 +87,7 @@ pub record KnowsLosses (layout : Layout) (view : View) (who : Who) (file : FileN
   pub told : IsToldBy opens (fsync_at.Over own number)
   pub made_none : HasMadeNone view who
 
-pub knows-losses : {layout : Layout} {view : View} {who : Who} {file : FileNo} {opens : Bool} (j : Job) {a : Answer} → BeginsFsync layout who file opens (anew j) → Fits layout view j → answer j ≡ Some a → (handles : List ℕ) → HasHandle handles j
+pub knows-losses : {layout : Layout} {view : View} {who : Who} {file : FileNo} {opens : Bool} (j : Job) {a : Answer} → BeginsFsync layout who file opens (anew j) → FitsFrom [] layout view j → answer j ≡ Some a → (handles : List ℕ) → HasHandle handles j
     → KnowsLosses layout view who file opens a
 knows-losses {layout} {view} {who} {file} {opens} j {a} runs fits is handles has = subst (λ (f : Fsync). KnowsLosses layout view f.who f.file f.opens a) task.2 (record {
   own = own.0;
@@ -106,7 +106,7 @@ knows-losses {layout} {view} {who} {file} {opens} j {a} runs fits is handles has
     own = mapped fsync_answer (fsyncs.answer task.0) (sym (ap answer task.1) ∙ is)
 
     fit : fsyncs.Fits layout view task.0
-    fit = subst (Fits layout view) task.1 fits
+    fit = (subst (FitsFrom [] layout view) task.1 fits).1
 
     over : task.0.at ≡ fsync_at.Over own.0 (fsyncs.number task.0)
     over = fsync-over task.0 own.1
@@ -133,7 +133,7 @@ module _ {layout : Layout} (list : List Command) {view : View} {who : Who} {file
 
 -- ---- commands of machine checks
 
-pub log-caused : (layout : Layout) (list : List Command) (view : View) (told : List EventOutcome) (did : Option FrameChange) {who : Who} {status addr misc : ℕ} {banks : Banks} (j : Job) {a : Answer} → BeginsLog layout who (raw_event status addr misc) banks (anew j) → Fits layout view j → answer j ≡ Some a
+pub log-caused : (layout : Layout) (list : List Command) (view : View) (told : List EventOutcome) (did : Option FrameChange) {who : Who} {status addr misc : ℕ} {banks : Banks} (j : Job) {a : Answer} → BeginsLog layout who (raw_event status addr misc) banks (anew j) → FitsFrom [] layout view j → answer j ≡ Some a
     → IsAnswerCaused layout list view who (commands.Log status addr misc) told did a
 log-caused layout list view told did {who} {status} {addr} {misc} {banks} j {a} runs fits is =
     subst (λ (l : Log). IsAnswerCaused layout list view l.read.who (commands.Log status addr misc) told did a) task.2
@@ -146,13 +146,13 @@ log-caused layout list view told did {who} {status} {addr} {misc} {banks} j {a} 
     own = mapped read_stop_answer (logs.answer task.0) (sym (ap answer task.1) ∙ is)
 
     fit : logs.Fits layout view task.0
-    fit = subst (Fits layout view) task.1 fits
+    fit = (subst (FitsFrom [] layout view) task.1 fits).1
 
     by : (x : ReadStopAnswer) → read_stops.FitsAt view task.0.read.who (read_at.Over x) → IsAnswerCaused layout list view task.0.read.who (commands.Log status addr misc) told did (read_stop_answer x)
     by read_answers.Stopped has = found-stopped layout (commands.Log status addr misc) view task.0.read.who (inl has) fit.read.made
     by read_answers.Done has = fit.read.made
 
-pub nested-caused : (layout : Layout) (list : List Command) (view : View) (told : List EventOutcome) (did : Option FrameChange) {who : Who} (j : Job) {a : Answer} → anew j ≡ jobs.Nested (nesteds.begin who) → Fits layout view j → answer j ≡ Some a → IsAnswerCaused layout list view who commands.RaiseNested told did a
+pub nested-caused : (layout : Layout) (list : List Command) (view : View) (told : List EventOutcome) (did : Option FrameChange) {who : Who} (j : Job) {a : Answer} → anew j ≡ jobs.Nested (nesteds.begin who) → FitsFrom [] layout view j → answer j ≡ Some a → IsAnswerCaused layout list view who commands.RaiseNested told did a
 nested-caused layout list view told did {who} j {a} runs fits is =
     subst (λ (n : Nested). IsAnswerCaused layout list view n.who commands.RaiseNested told did a) task.2
     (subst (IsAnswerCaused layout list view task.0.who commands.RaiseNested told did) own.2 (by own.0 (subst (nesteds.FitsAt view task.0.who) (nested-over task.0 own.1) fit.at)))
@@ -164,7 +164,7 @@ nested-caused layout list view told did {who} j {a} runs fits is =
     own = mapped nested_answer (nesteds.answer task.0) (sym (ap answer task.1) ∙ is)
 
     fit : nesteds.Fits layout view task.0
-    fit = subst (Fits layout view) task.1 fits
+    fit = (subst (FitsFrom [] layout view) task.1 fits).1
 
     by : (x : NestedAnswer) → nesteds.FitsAt view task.0.who (nested_at.Over (Some x)) → IsAnswerCaused layout list view task.0.who commands.RaiseNested told did (nested_answer x)
     by nested_answers.Shutdown has = found-stopped layout commands.RaiseNested view task.0.who (inr has) fit.made
@@ -172,7 +172,7 @@ nested-caused layout list view told did {who} j {a} runs fits is =
 
 -- ---- damage to a line
 
-pub spoil-caused : (layout : Layout) (list : List Command) (view : View) (told : List EventOutcome) (did : Option FrameChange) {who : Who} {frame : Frame} {line : ℕ} {damage : Damage} (j : Job) {a : Answer} → BeginsSpoil layout who frame line damage (anew j) → Fits layout view j → answer j ≡ Some a
+pub spoil-caused : (layout : Layout) (list : List Command) (view : View) (told : List EventOutcome) (did : Option FrameChange) {who : Who} {frame : Frame} {line : ℕ} {damage : Damage} (j : Job) {a : Answer} → BeginsSpoil layout who frame line damage (anew j) → FitsFrom [] layout view j → answer j ≡ Some a
     → IsAnswerCaused layout list view who (spoiling damage frame line) told did a
 spoil-caused layout list view told did {who} {frame} {line} {damage} j {a} runs fits is =
     subst (λ (s : Spoil). IsAnswerCaused layout list view s.who (spoiling s.damage s.frame s.line) told did a) task.2
@@ -186,7 +186,7 @@ spoil-caused layout list view told did {who} {frame} {line} {damage} j {a} runs 
     own = mapped spoil_answer (spoils.answer task.0) (sym (ap answer task.1) ∙ is)
 
     fit : spoils.Fits layout view task.0
-    fit = subst (Fits layout view) task.1 fits
+    fit = (subst (FitsFrom [] layout view) task.1 fits).1
 
     inside : task.0.line < line_limit
     inside = subst (λ (s : Spoil). s.line < line_limit) (sym task.2) runs.inside
@@ -261,7 +261,7 @@ pub record KnowsPrctl (layout : Layout) (view : View) (who : Who) (thread : Thre
   pub answer_is : prctl_answer own ≡ answer
   pub fits : prctls.Fits layout view task
 
-pub knows-prctl : {layout : Layout} {view : View} {who : Who} {thread : Thread} {args : PrctlArgs} (j : Job) {a : Answer} → BeginsPrctl layout who thread args (anew j) → Fits layout view j → answer j ≡ Some a → KnowsPrctl layout view who thread args j a
+pub knows-prctl : {layout : Layout} {view : View} {who : Who} {thread : Thread} {args : PrctlArgs} (j : Job) {a : Answer} → BeginsPrctl layout who thread args (anew j) → FitsFrom [] layout view j → answer j ≡ Some a → KnowsPrctl layout view who thread args j a
 knows-prctl {layout} {view} {who} {thread} {args} j {a} runs fits is = record {
   task = task.0;
   job_is = task.1;
@@ -272,7 +272,7 @@ knows-prctl {layout} {view} {who} {thread} {args} j {a} runs fits is = record {
   said = own.1;
   over = prctl-over task.0 own.1;
   answer_is = own.2;
-  fits = subst (Fits layout view) task.1 fits;
+  fits = (subst (FitsFrom [] layout view) task.1 fits).1;
 }
   where
     task : (p : Prctl) × (j ≡ jobs.Prctl p) × (prctls.begin p.who p.thread p.process p.arguments ≡ prctls.begin who thread runs.decl.process (arguments args))
@@ -281,7 +281,7 @@ knows-prctl {layout} {view} {who} {thread} {args} j {a} runs fits is = record {
     own : (x : PrctlAnswer) × (prctls.answer task.0 ≡ Some x) × (prctl_answer x ≡ a)
     own = mapped prctl_answer (prctls.answer task.0) (sym (ap answer task.1) ∙ is)
 
-pub prctl-caused : {layout : Layout} (list : List Command) (view : View) (told : List EventOutcome) (did : Option FrameChange) {who : Who} {thread : Thread} {args : PrctlArgs} (j : Job) {a : Answer} → BeginsPrctl layout who thread args (anew j) → Fits layout view j → answer j ≡ Some a
+pub prctl-caused : {layout : Layout} (list : List Command) (view : View) (told : List EventOutcome) (did : Option FrameChange) {who : Who} {thread : Thread} {args : PrctlArgs} (j : Job) {a : Answer} → BeginsPrctl layout who thread args (anew j) → FitsFrom [] layout view j → answer j ≡ Some a
     → ((t : Thread) → HasReplied j t → IsCounted list view who j t) → IsAnswerCaused layout list view who (commands.Prctl thread args) told did a
 prctl-caused {layout} list view told did {who} {thread} {args} j {a} runs fits is counted =
     subst (λ (w : Who). IsAnswerCaused layout list view w (commands.Prctl thread args) told did a) k.who_is

@@ -1,5 +1,5 @@
 -- A command that is answered is answered for a reason.
-use Rattle.std.proofs.Common.{◌≡◌, ℕ, List, Some}
+use Rattle.std.proofs.Common.{◌≡◌, ℕ, List, Some, []}
 use Rattle.hwp_law_holds.specs.hwp_geom.declared.Layout.{Layout}
 use Rattle.hwp_law_holds.specs.hwp_geom.declared.Thread.{Thread}
 use Rattle.hwp_law_holds.specs.hwp_geom.declared.Who.{Who}
@@ -9,7 +9,7 @@ use Rattle.hwp_law_holds.specs.hwp_script_lines.declared.Command.TheVariants as 
 use Rattle.hwp_law_holds.specs.hwp_report_text.declared.Answer.{Answer}
 use Rattle.hwp_cpu_command.specs.declared.Job.{Job}
 use Rattle.hwp_cpu_command.specs.FileHandles.{HasHandle}
-use Rattle.hwp_cpu_command.specs.Jobs.{Fits, answer, own_of, row_of, told_of}
+use Rattle.hwp_cpu_command.specs.Jobs.{FitsFrom, answer, own_of, row_of, told_of}
 use Rattle.hwp_cpu_command.specs.Runs.{Runs}
 use Rattle.hwp_cpu_command.specs.Settings.{HasReplied, IsCounted}
 use Rattle.hwp_law_holds.specs.Causes.{IsCaused}
@@ -22,7 +22,7 @@ use Rattle.hwp_cpu_causes.proofs.RaiseCauses.{kernel-caused, knows-kernel-raise,
 use Rattle.hwp_cpu_causes.proofs.ScrubCauses.{knows-scrub, scrub-caused}
 use Rattle.hwp_cpu_causes.proofs.UnpoisonCauses.{knows-unpoison, unpoison-caused}
 
-pub caused : (layout : Layout) (list : List Command) (view : View) (who : Who) (command : Command) (j : Job) {a : Answer} → Runs layout who command j → Fits layout view j → answer j ≡ Some a
+pub caused : (layout : Layout) (list : List Command) (view : View) (who : Who) (command : Command) (j : Job) {a : Answer} → Runs layout who command j → FitsFrom [] layout view j → answer j ≡ Some a
     → ((thread : Thread) → HasReplied j thread → IsCounted list view who j thread) → (handles : List ℕ) → HasHandle handles j → IsCaused layout list view who command (row_of j a)
 caused layout list view who (commands.Load thread slot line) j runs fits is counted handles has = load-caused list (own_of j) (knows-access j runs fits is)
 caused layout list view who (commands.Fetch thread slot line) j runs fits is counted handles has = fetch-caused list (own_of j) (knows-access j runs fits is)

@@ -20,7 +20,7 @@ use Rattle.hwp_cpu_command.specs.declared.Job.{Job}
 use Rattle.hwp_cpu_command.specs.declared.Job.TheVariants as jobs
 use Rattle.hwp_cpu_command.specs.Answers.{read_stop_answer}
 use Rattle.hwp_cpu_command.specs.Begins.{BeginsLog}
-use Rattle.hwp_cpu_command.specs.Jobs.{Fits, answer, banks_after, banks_before, told_of}
+use Rattle.hwp_cpu_command.specs.Jobs.{FitsFrom, answer, banks_after, banks_before, told_of}
 use Rattle.hwp_cpu_command.specs.Runs.{Runs, anew}
 use Rattle.hwp_cpu_command.proofs.JobEnds.{mapped}
 use Rattle.hwp_cpu_command.proofs.OfKind.{of-evict, of-fsync, of-inject, of-log, of-nested, of-prctl, of-soft, of-spoil, of-unpoison}
@@ -42,7 +42,7 @@ module _ {layout : Layout} {view : View} {who : Who} {a : Answer} (kept : Banks)
     heeded = λ halted. absurd (true≢false (sym halted ∙ ap (λ (q : Job). halts (told_of q)) is ∙ ap halts none));
   }
 
-  log-told : {status addr misc : ℕ} {banks : Banks} (j : Job) → BeginsLog layout who (raw_event status addr misc) banks (anew j) → Fits layout view j → answer j ≡ Some a → TellsRight layout view who (commands.Log status addr misc) j a kept
+  log-told : {status addr misc : ℕ} {banks : Banks} (j : Job) → BeginsLog layout who (raw_event status addr misc) banks (anew j) → FitsFrom [] layout view j → answer j ≡ Some a → TellsRight layout view who (commands.Log status addr misc) j a kept
   log-told {status} {addr} {misc} {banks} j runs fits is = by-kind (commands.Log status addr misc) task.1 refl (
     refl,
     fit.banks_are ∙ ap (λ (o : Option ReadStopAnswer). logs.logged_by o task.0.event task.0.before.value) own.1
@@ -56,13 +56,13 @@ module _ {layout : Layout} {view : View} {who : Who} {a : Answer} (kept : Banks)
       own = mapped read_stop_answer (logs.answer task.0) (sym (ap answer task.1) ∙ is)
 
       fit : logs.Fits layout view task.0
-      fit = subst (Fits layout view) task.1 fits
+      fit = (subst (FitsFrom [] layout view) task.1 fits).1
 
       by : (x : ReadStopAnswer) (event : Event) → logs.logged_by (Some x) event task.0.before.value ≡ logged_if_done (Some (read_stop_answer x)) event task.0.before.value
       by read_answers.Done event = refl
       by read_answers.Stopped event = refl
 
-pub tells : (layout : Layout) (view : View) (who : Who) (command : Command) (j : Job) {a : Answer} (kept : Banks) → Runs layout who command j → Fits layout view j → answer j ≡ Some a → TellsRight layout view who command j a kept
+pub tells : (layout : Layout) (view : View) (who : Who) (command : Command) (j : Job) {a : Answer} (kept : Banks) → Runs layout who command j → FitsFrom [] layout view j → answer j ≡ Some a → TellsRight layout view who command j a kept
 tells layout view who (commands.Load thread slot line) j kept runs fits is = let k = knows-access j runs fits is in record { told = access-told k kept; heeded = access-heeded k }
 tells layout view who (commands.Fetch thread slot line) j kept runs fits is = let k = knows-access j runs fits is in record { told = access-told k kept; heeded = access-heeded k }
 tells layout view who (commands.KLoad thread slot line) j kept runs fits is = let k = knows-access j runs fits is in record { told = access-told k kept; heeded = access-heeded k }

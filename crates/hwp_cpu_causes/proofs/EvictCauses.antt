@@ -1,5 +1,5 @@
 -- Why a command by which a page, or a part of it, leaves its frame is answered so.
-use Rattle.std.proofs.Common.{◌≡◌, List, Option, Some, sym, ap, ◌∙◌, subst, inl}
+use Rattle.std.proofs.Common.{◌≡◌, List, Option, Some, sym, ap, ◌∙◌, subst, inl, []}
 use Rattle.hwp_law_holds.specs.hwp_geom.declared.Layout.{Layout}
 use Rattle.hwp_law_holds.specs.hwp_geom.declared.Mask.{Mask}
 use Rattle.hwp_law_holds.specs.hwp_geom.declared.Page.{Page}
@@ -28,7 +28,7 @@ use Rattle.hwp_cpu_command.specs.declared.Job.{Job}
 use Rattle.hwp_cpu_command.specs.declared.Job.TheVariants as jobs
 use Rattle.hwp_cpu_command.specs.Answers.{evict_answer}
 use Rattle.hwp_cpu_command.specs.Begins.{BeginsEviction}
-use Rattle.hwp_cpu_command.specs.Jobs.{Fits, answer}
+use Rattle.hwp_cpu_command.specs.Jobs.{FitsFrom, answer}
 use Rattle.hwp_cpu_command.specs.Runs.{anew}
 use Rattle.hwp_cpu_command.proofs.JobEnds.{evict-caused, mapped}
 use Rattle.hwp_cpu_command.proofs.OfKind.{of-evict}
@@ -39,13 +39,13 @@ use Rattle.hwp_cpu_causes.proofs.StopCauses.{found-stopped}
 pub record KnowsEviction (layout : Layout) (view : View) (who : Who) (page : Page) (what : Eviction) (answer : Answer) : Type 0 where
   pub own : EvictAnswer
   pub answer_is : evict_answer own ≡ answer
-  pub caused : IsEvictCaused layout view who page what own
+  pub caused : IsEvictCaused [] layout view who page what own
 
-pub knows-eviction : {layout : Layout} {view : View} {who : Who} {page : Page} {what : Eviction} (j : Job) {a : Answer} → BeginsEviction layout who page what (anew j) → Fits layout view j → answer j ≡ Some a → KnowsEviction layout view who page what a
+pub knows-eviction : {layout : Layout} {view : View} {who : Who} {page : Page} {what : Eviction} (j : Job) {a : Answer} → BeginsEviction layout who page what (anew j) → FitsFrom [] layout view j → answer j ≡ Some a → KnowsEviction layout view who page what a
 knows-eviction {layout} {view} {who} {page} {what} j {a} runs fits is = record {
   own = own.0;
   answer_is = own.2;
-  caused = subst (λ (e : Evict). IsEvictCaused layout view e.who e.page e.what own.0) task.2 (evict-caused task.0 (subst (Fits layout view) task.1 fits) own.1).1;
+  caused = subst (λ (e : Evict). IsEvictCaused [] layout view e.who e.page e.what own.0) task.2 (evict-caused task.0 (subst (FitsFrom [] layout view) task.1 fits) own.1).1;
 }
   where
     task : (e : Evict) × (j ≡ jobs.Evict e) × (evicts.begin e.who e.page e.what ≡ evicts.begin who page what)
@@ -55,20 +55,20 @@ knows-eviction {layout} {view} {who} {page} {what} j {a} runs fits is = record {
     own = mapped evict_answer (evicts.answer task.0) (sym (ap answer task.1) ∙ is)
 
 module _ (layout : Layout) (view : View) (who : Who) (page : Page) where
-  stopped : (command : Command) (what : Eviction) → IsEvictCaused layout view who page what answers.Stopped → FoundStopped layout view who command
+  stopped : (command : Command) (what : Eviction) → IsEvictCaused [] layout view who page what answers.Stopped → FoundStopped layout view who command
   stopped command what has = found-stopped layout command view who (inl has.1) has.0
 
-  made-one : (what : Eviction) (at : At) → IsEvictCaused layout view who page what (answers.Done at) → MadeOne view who at (entry_of what)
+  made-one : (what : Eviction) (at : At) → IsEvictCaused [] layout view who page what (answers.Done at) → MadeOne view who at (entry_of what)
   made-one what at has = record { made = subst (λ (p : Page). HasMade (λ m. ⊥) view who p at.entry (entry_of what)) (sym has.0) has.1 }
 
-  found-state : (what : Eviction) (refusal : Refusal) (at : At) → IsEvictCaused layout view who page what (answers.Refused refusal at) → FoundState layout view who at (IsWhy what refusal)
+  found-state : (what : Eviction) (refusal : Refusal) (at : At) → IsEvictCaused [] layout view who page what (answers.Refused refusal at) → FoundState layout view who at (IsWhy what refusal)
   found-state what refusal at has = record { made = has.0; saw = subst (λ (p : Page). SawState layout view who p at.entry (IsWhy what refusal)) (sym has.1.page_is) has.1.state }
 
-  bad-lines : (what : Eviction) (mask : Mask) (at : At) → IsEvictCaused layout view who page what (answers.Refused (refusals.BadLines mask) at) → SawBadLines layout view who page mask
+  bad-lines : (what : Eviction) (mask : Mask) (at : At) → IsEvictCaused [] layout view who page what (answers.Refused (refusals.BadLines mask) at) → SawBadLines layout view who page mask
   bad-lines what mask at has = let lines = has.1.lines in record { some = lines.0; frame = lines.1.0; inside = lines.1.1; saw = lines.1.2 }
 
 module _ (layout : Layout) (list : List Command) (view : View) (who : Who) (page : Page) (told : List EventOutcome) (did : Option FrameChange) where
-  free : (slot : VSlot) → IsOf layout page slot → (x : EvictAnswer) → IsEvictCaused layout view who page (evictions.Free slot) x → IsAnswerCaused layout list view who (commands.Free slot) told did (evict_answer x)
+  free : (slot : VSlot) → IsOf layout page slot → (x : EvictAnswer) → IsEvictCaused [] layout view who page (evictions.Free slot) x → IsAnswerCaused layout list view who (commands.Free slot) told did (evict_answer x)
   free slot kind answers.Stopped has = stopped layout view who page (commands.Free slot) (evictions.Free slot) has
   free slot kind (answers.Done at) has = (subst (λ (p : Page). IsOf layout p slot) (sym has.0) kind, made-one layout view who page (evictions.Free slot) at has)
   free slot kind (answers.Refused refusals.NotMapped at) has = (subst (λ (p : Page). IsOf layout p slot) (sym has.1.page_is) kind, found-state layout view who page (evictions.Free slot) refusals.NotMapped at has)
@@ -78,7 +78,7 @@ module _ (layout : Layout) (list : List Command) (view : View) (who : Who) (page
   free slot kind (answers.Refused refusals.Mapped at) has = absurd has.1.state.such
   free slot kind (answers.Refused (refusals.BadLines mask) at) has = absurd has.1.state.such
 
-  drop : (x : EvictAnswer) → IsEvictCaused layout view who page evictions.Drop x → IsAnswerCaused layout list view who (commands.Drop page) told did (evict_answer x)
+  drop : (x : EvictAnswer) → IsEvictCaused [] layout view who page evictions.Drop x → IsAnswerCaused layout list view who (commands.Drop page) told did (evict_answer x)
   drop answers.Stopped has = stopped layout view who page (commands.Drop page) evictions.Drop has
   drop (answers.Done at) has = (has.0, made-one layout view who page evictions.Drop at has)
   drop (answers.Refused refusals.NotMapped at) has = absurd has.1.state.such
@@ -88,7 +88,7 @@ module _ (layout : Layout) (list : List Command) (view : View) (who : Who) (page
   drop (answers.Refused refusals.Mapped at) has = (has.1.page_is, found-state layout view who page evictions.Drop refusals.Mapped at has)
   drop (answers.Refused (refusals.BadLines mask) at) has = absurd has.1.state.such
 
-  sync : (x : EvictAnswer) → IsEvictCaused layout view who page evictions.Sync x → IsAnswerCaused layout list view who (commands.Sync page) told did (evict_answer x)
+  sync : (x : EvictAnswer) → IsEvictCaused [] layout view who page evictions.Sync x → IsAnswerCaused layout list view who (commands.Sync page) told did (evict_answer x)
   sync answers.Stopped has = stopped layout view who page (commands.Sync page) evictions.Sync has
   sync (answers.Done at) has = (has.0, made-one layout view who page evictions.Sync at has)
   sync (answers.Refused refusals.NotMapped at) has = absurd has.1.state.such
@@ -98,7 +98,7 @@ module _ (layout : Layout) (list : List Command) (view : View) (who : Who) (page
   sync (answers.Refused refusals.Mapped at) has = absurd has.1.state.such
   sync (answers.Refused (refusals.BadLines mask) at) has = (has.1.page_is, found-state layout view who page evictions.Sync (refusals.BadLines mask) at has, bad-lines layout view who page evictions.Sync mask at has)
 
-  out : (x : EvictAnswer) → IsEvictCaused layout view who page evictions.Out x → IsAnswerCaused layout list view who (commands.Out page) told did (evict_answer x)
+  out : (x : EvictAnswer) → IsEvictCaused [] layout view who page evictions.Out x → IsAnswerCaused layout list view who (commands.Out page) told did (evict_answer x)
   out answers.Stopped has = stopped layout view who page (commands.Out page) evictions.Out has
   out (answers.Done at) has = (has.0, made-one layout view who page evictions.Out at has)
   out (answers.Refused refusals.NotMapped at) has = absurd has.1.state.such

@@ -1,6 +1,6 @@
 -- When a command is answered, each handle of its processor has the number that the answer gives it, and where the answer tells the
 -- number a step of the command showed it.
-use Rattle.std.proofs.Common.{◌≡◌, ℕ, ◌+◌, ◌<◌, ◌==◌, eq-eqb, Bool, true, false, cond, List, Some, slice_get, slice_set, unwrap_or, refl, sym, ap, ◌∙◌, subst, arith}
+use Rattle.std.proofs.Common.{◌≡◌, ℕ, ◌+◌, ◌<◌, ◌==◌, eq-eqb, Bool, true, false, cond, List, Some, slice_get, slice_set, unwrap_or, refl, sym, ap, ◌∙◌, subst, arith, []}
 use Rattle.std.proofs.lemmas.Bool.{both_ways, eqb-true}
 use Rattle.hwp_law_holds.specs.hwp_geom.declared.FileNo.{FileNo}
 use Rattle.hwp_law_holds.specs.hwp_geom.declared.Layout.{Layout}
@@ -24,7 +24,7 @@ use Rattle.hwp_cpu_command.specs.declared.Job.TheVariants as jobs
 use Rattle.hwp_cpu_command.specs.Answers.{fsync_answer}
 use Rattle.hwp_cpu_command.specs.Begins.{BeginsFsync}
 use Rattle.hwp_cpu_command.specs.FileHandles.{HasHandle, IsToldBy, handles_after}
-use Rattle.hwp_cpu_command.specs.Jobs.{Fits, answer}
+use Rattle.hwp_cpu_command.specs.Jobs.{FitsFrom, answer}
 use Rattle.hwp_cpu_command.specs.Runs.{Runs, anew}
 use Rattle.hwp_cpu_command.proofs.JobEnds.{fsync-over, mapped}
 use Rattle.hwp_cpu_command.proofs.OfKind.{of-evict, of-fsync, of-inject, of-instruction, of-log, of-nested, of-prctl, of-raise, of-scrub, of-soft, of-spoil, of-unpoison}
@@ -136,7 +136,7 @@ tells-inside layout who command j a file runs is = absurd (both_ways false refl 
 
 -- ---- each command
 
-module _ (layout : Layout) (view : View) (who : Who) (j : Job) {a : Answer} (fits : Fits layout view j) (is : answer j ≡ Some a) (handles : List ℕ) (file : FileNo) (m : ℕ) (there : slice_get handles file.0 ≡ Some m) where
+module _ (layout : Layout) (view : View) (who : Who) (j : Job) {a : Answer} (fits : FitsFrom [] layout view j) (is : answer j ≡ Some a) (handles : List ℕ) (file : FileNo) (m : ℕ) (there : slice_get handles file.0 ≡ Some m) where
   -- one that is no `fsync` and no `open` leaves the handles
   leaves : (command : Command) {k : Job} → j ≡ k → handles_after k handles ≡ handles → number_by file m command a ≡ m → tells_number file command a ≡ false → IsNumbered layout view who command a file m (handles_after j handles)
   leaves command same kept number untold = record {
@@ -158,7 +158,7 @@ module _ (layout : Layout) (view : View) (who : Who) (j : Job) {a : Answer} (fit
       own = mapped fsync_answer (fsyncs.answer task.0) (sym (ap answer task.1) ∙ is)
 
       fit : fsyncs.Fits layout view task.0
-      fit = subst (Fits layout view) task.1 fits
+      fit = (subst (FitsFrom [] layout view) task.1 fits).1
 
       over : task.0.at ≡ fsync_at.Over own.0 (fsyncs.number task.0)
       over = fsync-over task.0 own.1

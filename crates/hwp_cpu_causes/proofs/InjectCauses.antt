@@ -31,7 +31,7 @@ use Rattle.hwp_cpu_command.specs.declared.Job.{Job}
 use Rattle.hwp_cpu_command.specs.declared.Job.TheVariants as jobs
 use Rattle.hwp_cpu_command.specs.Answers.{fail_answer}
 use Rattle.hwp_cpu_command.specs.Begins.{BeginsInject}
-use Rattle.hwp_cpu_command.specs.Jobs.{Fits, answer, own_by, own_of}
+use Rattle.hwp_cpu_command.specs.Jobs.{FitsFrom, answer, own_by, own_of}
 use Rattle.hwp_cpu_command.specs.Runs.{anew}
 use Rattle.hwp_cpu_command.proofs.JobEnds.{InjectEnded, inject-ended, mapped}
 use Rattle.hwp_cpu_command.proofs.OfKind.{of-inject}
@@ -49,7 +49,7 @@ pub record KnowsFailure (layout : Layout) (view : View) (who : Who) (frame : Fra
   pub answer_is : fail_answer own ≡ answer
   pub ended : InjectEnded layout view inject own
 
-pub knows-failure : {layout : Layout} {view : View} {who : Who} {frame : Frame} (j : Job) {a : Answer} → BeginsInject layout who frame (anew j) → Fits layout view j → answer j ≡ Some a → KnowsFailure layout view who frame j a
+pub knows-failure : {layout : Layout} {view : View} {who : Who} {frame : Frame} (j : Job) {a : Answer} → BeginsInject layout who frame (anew j) → FitsFrom [] layout view j → answer j ≡ Some a → KnowsFailure layout view who frame j a
 knows-failure {layout} {view} {who} {frame} j {a} runs fits is = record {
   inject = task.0;
   job_is = task.1;
@@ -58,7 +58,7 @@ knows-failure {layout} {view} {who} {frame} j {a} runs fits is = record {
   own = own.0;
   said = own.1;
   answer_is = own.2;
-  ended = inject-ended task.0 (subst (Fits layout view) task.1 fits) own.1;
+  ended = inject-ended task.0 (subst (FitsFrom [] layout view) task.1 fits).1 own.1;
 }
   where
     task : (i : Inject) × (j ≡ jobs.Inject i) × (injects.begin i.alloc i.who i.frame ≡ injects.begin runs.alloc who frame)

@@ -1,5 +1,5 @@
 -- Why a soft offline of a frame is answered so.
-use Rattle.std.proofs.Common.{◌≡◌, inl, List, Option, Some, refl, sym, ap, ◌∙◌, subst}
+use Rattle.std.proofs.Common.{◌≡◌, inl, List, Option, Some, refl, sym, ap, ◌∙◌, subst, []}
 use Rattle.std.specs.Prelude.{option_and_then}
 use Rattle.hwp_law_holds.specs.hwp_geom.declared.Frame.{Frame}
 use Rattle.hwp_law_holds.specs.hwp_geom.declared.Layout.{Layout}
@@ -19,7 +19,7 @@ use Rattle.hwp_cpu_command.specs.declared.Job.{Job}
 use Rattle.hwp_cpu_command.specs.declared.Job.TheVariants as jobs
 use Rattle.hwp_cpu_command.specs.Answers.{soft_answer}
 use Rattle.hwp_cpu_command.specs.Begins.{BeginsSoft}
-use Rattle.hwp_cpu_command.specs.Jobs.{Fits, answer, offlined_by, own_of}
+use Rattle.hwp_cpu_command.specs.Jobs.{FitsFrom, answer, offlined_by, own_of}
 use Rattle.hwp_cpu_command.specs.Runs.{anew}
 use Rattle.hwp_cpu_command.proofs.JobEnds.{mapped, soft-ended}
 use Rattle.hwp_cpu_command.proofs.OfKind.{of-soft}
@@ -34,9 +34,9 @@ pub record KnowsSoft (layout : Layout) (view : View) (who : Who) (frame : Frame)
   pub own : SoftAnswer
   pub said : softs.answer task ≡ Some own
   pub answer_is : soft_answer own ≡ answer
-  pub caused : offline.IsCaused layout view task.who task.frame own
+  pub caused : offline.IsCaused [] layout view task.who task.frame own
 
-pub knows-soft : {layout : Layout} {view : View} {who : Who} {frame : Frame} (j : Job) {a : Answer} → BeginsSoft layout who frame (anew j) → Fits layout view j → answer j ≡ Some a → KnowsSoft layout view who frame j a
+pub knows-soft : {layout : Layout} {view : View} {who : Who} {frame : Frame} (j : Job) {a : Answer} → BeginsSoft layout who frame (anew j) → FitsFrom [] layout view j → answer j ≡ Some a → KnowsSoft layout view who frame j a
 knows-soft {layout} {view} {who} {frame} j {a} runs fits is = record {
   task = task.0;
   job_is = task.1;
@@ -44,7 +44,7 @@ knows-soft {layout} {view} {who} {frame} j {a} runs fits is = record {
   own = own.0;
   said = own.1;
   answer_is = own.2;
-  caused = (soft-ended task.0 (subst (Fits layout view) task.1 fits) own.1).1;
+  caused = (soft-ended task.0 (subst (FitsFrom [] layout view) task.1 fits) own.1).1;
 }
   where
     task : (s : Soft) × (j ≡ jobs.Soft s) × (softs.begin s.who s.frame ≡ softs.begin who frame)
@@ -54,7 +54,7 @@ knows-soft {layout} {view} {who} {frame} j {a} runs fits is = record {
     own = mapped soft_answer (softs.answer task.0) (sym (ap answer task.1) ∙ is)
 
 -- what the task knows is a cause of what the report says
-offlined : (layout : Layout) (list : List Command) (view : View) (who : Who) (frame : Frame) (told : List EventOutcome) (x : SoftAnswer) → offline.IsCaused layout view who frame x
+offlined : (layout : Layout) (list : List Command) (view : View) (who : Who) (frame : Frame) (told : List EventOutcome) (x : SoftAnswer) → offline.IsCaused [] layout view who frame x
     → IsAnswerCaused layout list view who (commands.Soft frame) told (offlined_by frame x) (soft_answer x)
 offlined layout list view who frame told answers.Stopped has = found-stopped layout (commands.Soft frame) view who (inl has.1) has.0
 offlined layout list view who frame told answers.Kernel has = (has.1, has.0, refl)

@@ -29,7 +29,7 @@ use Rattle.hwp_cpu_command.specs.declared.Job.{Job}
 use Rattle.hwp_cpu_command.specs.declared.Job.TheVariants as jobs
 use Rattle.hwp_cpu_command.specs.Answers.{raise_answer}
 use Rattle.hwp_cpu_command.specs.Begins.{BeginsRaiseKernel, BeginsRaiseUser}
-use Rattle.hwp_cpu_command.specs.Jobs.{Fits, answer, banks_after, banks_before, told_of}
+use Rattle.hwp_cpu_command.specs.Jobs.{FitsFrom, answer, banks_after, banks_before, told_of}
 use Rattle.hwp_cpu_command.specs.Runs.{anew}
 use Rattle.hwp_cpu_command.proofs.JobEnds.{mapped, raise-ended}
 use Rattle.hwp_cpu_command.proofs.OfKind.{of-raise}
@@ -49,7 +49,7 @@ pub record KnowsRaise (layout : Layout) (view : View) (who : Who) (raiser : Opti
   pub answer_is : raise_answer (length task.lines.told) own ≡ answer
   pub ended : IsEnd layout view task own
 
-knows-raise : {layout : Layout} {view : View} {who : Who} {raiser : Option Raiser} {mcg : McgBits} (alloc : Global) (banks : Banks) (j : Job) {a : Answer} → anew j ≡ jobs.Raise (raises.begin alloc who raiser mcg banks) → Fits layout view j → answer j ≡ Some a
+knows-raise : {layout : Layout} {view : View} {who : Who} {raiser : Option Raiser} {mcg : McgBits} (alloc : Global) (banks : Banks) (j : Job) {a : Answer} → anew j ≡ jobs.Raise (raises.begin alloc who raiser mcg banks) → FitsFrom [] layout view j → answer j ≡ Some a
     → KnowsRaise layout view who raiser mcg j a
 knows-raise {layout} {view} {who} {raiser} {mcg} alloc banks j {a} begun fits is = record {
   task = task.0;
@@ -60,7 +60,7 @@ knows-raise {layout} {view} {who} {raiser} {mcg} alloc banks j {a} begun fits is
   own = own.0;
   said = own.1;
   answer_is = own.2;
-  ended = (raise-ended task.0 (subst (Fits layout view) task.1 fits) own.1).1;
+  ended = (raise-ended task.0 (subst (FitsFrom [] layout view) task.1 fits).1 own.1).1;
 }
   where
     task : (r : Raise) × (j ≡ jobs.Raise r) × (raises.begin r.alloc r.who r.raiser r.mcg r.before.value ≡ raises.begin alloc who raiser mcg banks)
@@ -75,14 +75,14 @@ pub record KnowsUserRaise (layout : Layout) (view : View) (who : Who) (thread : 
   pub process_is : process_of_thread layout thread ≡ Some process
   pub knows : KnowsRaise layout view who (Some (record { thread = thread; process = process })) mcg j answer
 
-pub knows-user-raise : {layout : Layout} {view : View} {who : Who} {thread : Thread} {mcg : McgBits} {banks : Banks} (j : Job) {a : Answer} → BeginsRaiseUser layout who thread mcg banks (anew j) → Fits layout view j → answer j ≡ Some a → KnowsUserRaise layout view who thread mcg j a
+pub knows-user-raise : {layout : Layout} {view : View} {who : Who} {thread : Thread} {mcg : McgBits} {banks : Banks} (j : Job) {a : Answer} → BeginsRaiseUser layout who thread mcg banks (anew j) → FitsFrom [] layout view j → answer j ≡ Some a → KnowsUserRaise layout view who thread mcg j a
 knows-user-raise {banks = banks} j runs fits is = record {
   process = runs.decl.process;
   process_is = ap (option_map (λ (t : ThreadDecl). t.process)) runs.declared;
   knows = knows-raise runs.alloc banks j runs.job_is fits is;
 }
 
-pub knows-kernel-raise : {layout : Layout} {view : View} {who : Who} {mcg : McgBits} {banks : Banks} (j : Job) {a : Answer} → BeginsRaiseKernel layout who mcg banks (anew j) → Fits layout view j → answer j ≡ Some a → KnowsRaise layout view who None mcg j a
+pub knows-kernel-raise : {layout : Layout} {view : View} {who : Who} {mcg : McgBits} {banks : Banks} (j : Job) {a : Answer} → BeginsRaiseKernel layout who mcg banks (anew j) → FitsFrom [] layout view j → answer j ≡ Some a → KnowsRaise layout view who None mcg j a
 knows-kernel-raise {banks = banks} j runs fits is = knows-raise runs.alloc banks j runs.job_is fits is
 
 -- ---- why it is answered so

@@ -70,7 +70,7 @@ use Rattle.hwp_cpu_command.specs.declared.Job.{Job}
 use Rattle.hwp_cpu_command.specs.declared.Job.TheVariants as jobs
 use Rattle.hwp_cpu_command.specs.Answers.{fail_answer, fsync_answer, prctl_answer, soft_answer, unpoison_answer}
 use Rattle.hwp_cpu_command.specs.Done.{failed_at, failed_now, marked_now, policies_now}
-use Rattle.hwp_cpu_command.specs.Jobs.{Fits, answer, offlined_by, own_by, own_of, revived_by, row_of, told_of}
+use Rattle.hwp_cpu_command.specs.Jobs.{FitsFrom, answer, offlined_by, own_by, own_of, revived_by, row_of, told_of}
 use Rattle.hwp_cpu_command.specs.Runs.{Runs, anew}
 use Rattle.hwp_cpu_command.specs.Settings.{set_at}
 use Rattle.hwp_cpu_command.proofs.JobEnds.{fsync-over, instruction-over, mapped, raise-over, scrub-over, soft-over, unpoison-over}
@@ -270,7 +270,7 @@ by-kind {command} {j} {k} {a} is none set own = record {
   own = subst (IsOwn command a) (sym (ap own_of is ∙ none.1)) own;
 }
 
-pub does : (layout : Layout) (view : View) (who : Who) (command : Command) (j : Job) {a : Answer} → Runs layout who command j → Fits layout view j → answer j ≡ Some a → DoesSo command j a
+pub does : (layout : Layout) (view : View) (who : Who) (command : Command) (j : Job) {a : Answer} → Runs layout who command j → FitsFrom [] layout view j → answer j ≡ Some a → DoesSo command j a
 does layout view who (commands.Load thread slot line) j runs fits is = access-does (commands.Load thread slot line) refl refl tt (knows-access j runs fits is)
 does layout view who (commands.Fetch thread slot line) j runs fits is = access-does (commands.Fetch thread slot line) refl refl tt (knows-access j runs fits is)
 does layout view who (commands.KLoad thread slot line) j runs fits is = access-does (commands.KLoad thread slot line) refl refl tt (knows-access j runs fits is)

@@ -1,5 +1,5 @@
 -- A command that is answered has served its row.
-use Rattle.std.proofs.Common.{◌≡◌, ◌⊎◌, ℕ, List, Some, ◌∙◌}
+use Rattle.std.proofs.Common.{◌≡◌, ◌⊎◌, ℕ, List, Some, ◌∙◌, []}
 use Rattle.hwp_law_holds.specs.hwp_geom.declared.Layout.{Layout}
 use Rattle.hwp_law_holds.specs.hwp_geom.declared.Thread.{Thread}
 use Rattle.hwp_law_holds.specs.hwp_geom.declared.Who.{Who}
@@ -11,7 +11,7 @@ use Rattle.hwp_law_holds.specs.hwp_banks.Banks.{Banks}
 use Rattle.hwp_cpu_command.specs.declared.Job.{Job}
 use Rattle.hwp_cpu_command.specs.Done.{failed_now, marked_now, policies_now}
 use Rattle.hwp_cpu_command.specs.FileHandles.{HasHandle}
-use Rattle.hwp_cpu_command.specs.Jobs.{Fits, answer, banks_after, banks_before, row_of}
+use Rattle.hwp_cpu_command.specs.Jobs.{FitsFrom, answer, banks_after, banks_before, row_of}
 use Rattle.hwp_cpu_command.specs.Runs.{Runs}
 use Rattle.hwp_cpu_command.specs.Settings.{HasReplied, IsCounted}
 use Rattle.hwp_law_holds.specs.Accounts.{failures, markings, policies_set}
@@ -22,7 +22,7 @@ use Rattle.hwp_cpu_causes.proofs.CommandTells.{tells}
 
 -- where the view lists of the command what it has done, and the command saw the machine running or is answered `stopped`, the row
 -- that it gives is served
-pub row-served : (layout : Layout) (list : List Command) (view : View) (who : Who) (command : Command) (j : Job) {a : Answer} (kept : Banks) → Runs layout who command j → Fits layout view j → answer j ≡ Some a
+pub row-served : (layout : Layout) (list : List Command) (view : View) (who : Who) (command : Command) (j : Job) {a : Answer} (kept : Banks) → Runs layout who command j → FitsFrom [] layout view j → answer j ≡ Some a
     → ((thread : Thread) → HasReplied j thread → IsCounted list view who j thread) → (a ≡ answers.Stopped) ⊎ SawRunning view who
     → markings who view ≡ marked_now j → failures who view ≡ failed_now j → policies_set who view ≡ policies_now j
     → (handles : List ℕ) → HasHandle handles j → IsRowServed layout list view who command (banks_before j kept) (row_of j a) (banks_after j kept)

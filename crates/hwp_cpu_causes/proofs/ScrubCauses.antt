@@ -1,5 +1,5 @@
 -- Why a scrub is answered so, and what it tells.
-use Rattle.std.proofs.Common.{◌≡◌, inl, inr, ℕ, ◌+◌, ◌≤◌, true, List, Option, Some, length, refl, sym, ap, ◌∙◌, subst, arith, true≢false}
+use Rattle.std.proofs.Common.{◌≡◌, inl, inr, ℕ, ◌+◌, ◌≤◌, true, List, Option, Some, length, refl, sym, ap, ◌∙◌, subst, arith, true≢false, []}
 use Rattle.std.specs.declared.alloc.Global.{Global}
 use Rattle.hwp_law_holds.specs.hwp_geom.declared.Frame.{Frame}
 use Rattle.hwp_law_holds.specs.hwp_geom.declared.Layout.{Layout}
@@ -22,7 +22,7 @@ use Rattle.hwp_cpu_command.specs.declared.Job.{Job}
 use Rattle.hwp_cpu_command.specs.declared.Job.TheVariants as jobs
 use Rattle.hwp_cpu_command.specs.Answers.{scrub_answer}
 use Rattle.hwp_cpu_command.specs.Begins.{BeginsScrub}
-use Rattle.hwp_cpu_command.specs.Jobs.{Fits, answer, banks_after, banks_before, told_of}
+use Rattle.hwp_cpu_command.specs.Jobs.{FitsFrom, answer, banks_after, banks_before, told_of}
 use Rattle.hwp_cpu_command.specs.Runs.{anew}
 use Rattle.hwp_cpu_command.proofs.JobEnds.{mapped, scrub-ended}
 use Rattle.hwp_cpu_command.proofs.OfKind.{of-scrub}
@@ -42,7 +42,7 @@ pub record KnowsScrub (layout : Layout) (view : View) (who : Who) (first last : 
   pub answer_is : scrub_answer (length task.lines.told) own ≡ answer
   pub ended : IsEnd layout view task own
 
-pub knows-scrub : {layout : Layout} {view : View} {who : Who} {first last : Frame} {banks : Banks} (j : Job) {a : Answer} → BeginsScrub layout who first last banks (anew j) → Fits layout view j → answer j ≡ Some a → KnowsScrub layout view who first last j a
+pub knows-scrub : {layout : Layout} {view : View} {who : Who} {first last : Frame} {banks : Banks} (j : Job) {a : Answer} → BeginsScrub layout who first last banks (anew j) → FitsFrom [] layout view j → answer j ≡ Some a → KnowsScrub layout view who first last j a
 knows-scrub {layout} {view} {who} {first} {last} {banks} j {a} runs fits is = record {
   task = task.0;
   job_is = task.1;
@@ -52,7 +52,7 @@ knows-scrub {layout} {view} {who} {first} {last} {banks} j {a} runs fits is = re
   own = own.0;
   said = own.1;
   answer_is = own.2;
-  ended = scrub-ended task.0 (subst (Fits layout view) task.1 fits) own.1;
+  ended = scrub-ended task.0 (subst (FitsFrom [] layout view) task.1 fits).1 own.1;
 }
   where
     task : (s : Scrub) × (j ≡ jobs.Scrub s) × (scrubs.begin s.alloc s.who s.first s.last s.before.value ≡ scrubs.begin runs.alloc who first last banks)

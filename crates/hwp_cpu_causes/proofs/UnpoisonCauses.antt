@@ -1,5 +1,5 @@
 -- Why a command that takes a frame's poison back is answered so.
-use Rattle.std.proofs.Common.{◌≡◌, ◌==◌, ◌&&◌, not, ℕ, ◌<◌, false, true, inl, List, Option, Some, refl, sym, ap, ◌∙◌, subst, true≢false}
+use Rattle.std.proofs.Common.{◌≡◌, ◌==◌, ◌&&◌, not, ℕ, ◌<◌, false, true, inl, List, Option, Some, refl, sym, ap, ◌∙◌, subst, true≢false, []}
 use Rattle.std.specs.Prelude.{option_and_then}
 use Rattle.std.proofs.lemmas.Bool.{and_from, and_parts, eq-eqb, eqb-true}
 use Rattle.hwp_law_holds.specs.hwp_geom.declared.Frame.{Frame}
@@ -22,7 +22,7 @@ use Rattle.hwp_cpu_command.specs.declared.Job.{Job}
 use Rattle.hwp_cpu_command.specs.declared.Job.TheVariants as jobs
 use Rattle.hwp_cpu_command.specs.Answers.{unpoison_answer}
 use Rattle.hwp_cpu_command.specs.Begins.{BeginsUnpoison}
-use Rattle.hwp_cpu_command.specs.Jobs.{Fits, answer, own_of, revived_by}
+use Rattle.hwp_cpu_command.specs.Jobs.{FitsFrom, answer, own_of, revived_by}
 use Rattle.hwp_cpu_command.specs.Runs.{anew}
 use Rattle.hwp_cpu_command.proofs.JobEnds.{mapped, unpoison-ended}
 use Rattle.hwp_cpu_command.proofs.OfKind.{of-unpoison}
@@ -41,7 +41,7 @@ pub record KnowsUnpoison (layout : Layout) (view : View) (who : Who) (frame : Fr
   pub answer_is : unpoison_answer own ≡ answer
   pub caused : unpoisons.IsCaused view task.who task.frame own
 
-pub knows-unpoison : {layout : Layout} {view : View} {who : Who} {frame : Frame} (j : Job) {a : Answer} → BeginsUnpoison layout who frame (anew j) → Fits layout view j → answer j ≡ Some a → KnowsUnpoison layout view who frame j a
+pub knows-unpoison : {layout : Layout} {view : View} {who : Who} {frame : Frame} (j : Job) {a : Answer} → BeginsUnpoison layout who frame (anew j) → FitsFrom [] layout view j → answer j ≡ Some a → KnowsUnpoison layout view who frame j a
 knows-unpoison {layout} {view} {who} {frame} j {a} runs fits is = record {
   task = task.0;
   job_is = task.1;
@@ -57,7 +57,7 @@ knows-unpoison {layout} {view} {who} {frame} j {a} runs fits is = record {
     task = of-unpoison j runs.job_is
 
     fit : unpoisons.Fits layout view task.0
-    fit = subst (Fits layout view) task.1 fits
+    fit = (subst (FitsFrom [] layout view) task.1 fits).1
 
     own : (x : UnpoisonAnswer) × (unpoisons.answer task.0 ≡ Some x) × (unpoison_answer x ≡ a)
     own = mapped unpoison_answer (unpoisons.answer task.0) (sym (ap answer task.1) ∙ is)

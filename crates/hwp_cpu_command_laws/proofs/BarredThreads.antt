@@ -77,7 +77,7 @@ module _ {layout : Layout} {old new : View} {p : Prctl} {after : Job} (s : Stepp
       starts false = tt
 
       declared : process_of_thread layout thread ≡ Some p.process
-      declared = ap (process_of_thread layout) (sym own) ∙ process-declared layout p.thread s.fits.decl s.fits.declared ∙ ap (λ (q : Proc). Some q) s.fits.process_is
+      declared = ap (process_of_thread layout) (sym own) ∙ process-declared layout p.thread s.fits.1.decl s.fits.1.declared ∙ ap (λ (q : Proc). Some q) s.fits.1.process_is
 
       which : (x : PrctlAt) → prctls.plan_at p.thread p.process x ≡ Some s.step → IsNotPast x → IsNotPast (prctls.next_at p.arguments x s.found)
       which prctl_at.LoadStop e not_ = starts (is_stopped s.found)

@@ -85,13 +85,13 @@ wider : {n : ℕ} → n < failure_weight → n < command_weight
 wider {n} less = let few : n < failure_weight = less in omega (arith, few)
 
 pub job-below : (layout : Layout) (a : State) (view : View) (j : Job) → Holds layout a → Fits layout view j → cost j (words_at layout a) < command_weight
-job-below layout a view (jobs.Instruction i) rule fits = wider (instruction-below layout a view i rule fits)
+job-below layout a view (jobs.Instruction i) rule fits = wider (instruction-below layout a view i rule fits.1)
 job-below layout a view (jobs.Evict e) rule fits = wider (evict-below (words_at layout a) e)
 job-below layout a view (jobs.Fsync f) rule fits = let most = fsync-below f (words_at layout a) in omega (arith, most)
 job-below layout a view (jobs.Prctl p) rule fits = let most = calling.small p in omega (arith, most)
 job-below layout a view (jobs.Log l) rule fits = let most = reading.small l.read in omega (arith, most)
-job-below layout a view (jobs.Raise r) rule fits = wider (raise-below layout view r (words_at layout a) fits)
-job-below layout a view (jobs.Scrub c) rule fits = wider (scrub-below layout view c (words_at layout a) fits)
+job-below layout a view (jobs.Raise r) rule fits = wider (raise-below layout view r (words_at layout a) fits.1.1)
+job-below layout a view (jobs.Scrub c) rule fits = wider (scrub-below layout view c (words_at layout a) fits.1.1)
 job-below layout a view (jobs.Spoil s) rule fits = let most = spoiling.small s in omega (arith, most)
 job-below layout a view (jobs.Nested n) rule fits = let most = nesting.small n in omega (arith, most)
 job-below layout a view (jobs.Inject i) rule fits = let most = inject-below i (words_at layout a) in omega (arith, most)

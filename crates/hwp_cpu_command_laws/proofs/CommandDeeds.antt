@@ -97,7 +97,7 @@ use Rattle.hwp_cpu_command.specs.declared.job.Job.{Job}
 use Rattle.hwp_cpu_command.specs.declared.job.Job.TheVariants as jobs
 use Rattle.hwp_cpu_command.specs.Answers.{fail_answer}
 use Rattle.hwp_cpu_command.specs.Done.{HasDone, can_fail, failed_at, failed_now, marked_at, marked_now, owed_at, owed_now, policies_now}
-use Rattle.hwp_cpu_command.specs.Jobs.{Fits, answer, who}
+use Rattle.hwp_cpu_command.specs.Jobs.{FitsFrom, answer, who}
 use Rattle.hwp_cpu_command.specs.Settings.{set_at}
 use Rattle.hwp_cpu_command.specs.Stays.{IsAtStop, Stepped}
 use Rattle.hwp_cpu_command.proofs.JobEnds.{evict-caused, instruction-over, mapped, raise-over, scrub-over, soft-ended, soft-over, unpoison-over}
@@ -249,13 +249,13 @@ module _ {layout : Layout} {old new : View} {i : Instruction} {after : Job} (s :
 module _ {layout : Layout} {old new : View} {r : Raise} {after : Job} (s : Stepped layout old new (jobs.Raise r) after) where
   raise-done-so : HasDone old new r.who (jobs.Raise r) after
   raise-done-so = subst (HasDone old new r.who (jobs.Raise r)) (sym s.follows.1)
-      (let adds = raise-adds layout old new r s.step s.found s.got s.fits s.planned s.made s.follows.0 s.turn s.follows.2 in
+      (let adds = raise-adds layout old new r s.step s.found s.got s.fits.1 s.planned s.made s.follows.0 s.turn s.follows.2 in
       adds-done (record { marked = adds.marked; failed = failures-grow r.who old new adds.failed; counted = adds.counted }) (raise-left s).rest refl)
 
 module _ {layout : Layout} {old new : View} {c : Scrub} {after : Job} (s : Stepped layout old new (jobs.Scrub c) after) where
   scrub-done-so : HasDone old new c.who (jobs.Scrub c) after
   scrub-done-so = subst (HasDone old new c.who (jobs.Scrub c)) (sym s.follows.1)
-      (let adds = scrub-adds layout old new c s.step s.found s.got s.fits s.planned s.made s.follows.0 s.turn s.follows.2 in
+      (let adds = scrub-adds layout old new c s.step s.found s.got s.fits.1 s.planned s.made s.follows.0 s.turn s.follows.2 in
       adds-done (record { marked = adds.marked; failed = failures-grow c.who old new adds.failed; counted = adds.counted }) (scrub-left s).rest refl)
 
 module _ {layout : Layout} {old new : View} {i : Inject} {after : Job} (s : Stepped layout old new (jobs.Inject i) after) where
@@ -294,7 +294,7 @@ module _ {layout : Layout} {old new : View} {i : Inject} {after : Job} (s : Step
       adds = fail-adds layout old new f s.step s.found s.got has.fail e (subst (λ (w : Who). Steps layout w s.step (logs (fails.put f)) old new s.found s.got) (sym has.own) made) g turn follows
 
   inject-adds : AddsAt i.at injected.at
-  inject-adds = which i.at s.fits.at s.planned s.made s.follows.2.1
+  inject-adds = which i.at s.fits.1.at s.planned s.made s.follows.2.1
     where
       which : (x : InjectAt) → injects.FitsAt layout old i.who i.frame x → injects.plan_at x ≡ Some s.step → Steps layout i.who s.step (logs (injects.put_at x)) old new s.found s.got
           → injects.FollowsAt layout i.alloc i.who i.frame (injects.bare_at x) s.found s.got injected.at s.turn → AddsAt x injected.at
@@ -344,7 +344,7 @@ module _ {layout : Layout} {old new : View} {u : Unpoison} {after : Job} (s : St
   })
     where
       adds : unpoison_done.Adds old new u.who u.frame u.at (unpoisons.next_at u.at s.found)
-      adds = unpoison-adds layout old new u s.step s.found s.got s.fits s.planned s.made
+      adds = unpoison-adds layout old new u s.step s.found s.got s.fits.1 s.planned s.made
 
       left : Left old new
       left = unpoison-leaves u s.planned s.made
@@ -429,7 +429,7 @@ evict-unfailed page place evictions.Drop = refl
 evict-unfailed page place evictions.Sync = refl
 evict-unfailed page place evictions.Out = refl
 
-evict-failures : (layout : Layout) (view : View) (who : Who) (page : Page) (what : Eviction) (x : EvictAnswer) → IsCaused layout view who page what x → failures_by who view ≡ []
+evict-failures : (layout : Layout) (view : View) (who : Who) (page : Page) (what : Eviction) (x : EvictAnswer) → IsCaused [] layout view who page what x → failures_by who view ≡ []
 evict-failures layout view who page what evict_answers.Stopped caused = ap (filter_map failed_in) caused.0
 evict-failures layout view who page what (evict_answers.Refused refusal at) caused = ap (filter_map failed_in) caused.0
 evict-failures layout view who page what (evict_answers.Done at) caused =
@@ -438,7 +438,7 @@ evict-failures layout view who page what (evict_answers.Done at) caused =
     ∙ ap (λ (o : Option Failed). cons_option o []) (ap (failed_of has.last.page has.last.place) has.at.2 ∙ evict-unfailed has.last.page has.last.place what)
 
 -- nor does a command that takes a frame out of use
-soft-failures : (layout : Layout) (view : View) (who : Who) (frame : Frame) (x : SoftAnswer) → offline.IsCaused layout view who frame x → failures_by who view ≡ []
+soft-failures : (layout : Layout) (view : View) (who : Who) (frame : Frame) (x : SoftAnswer) → offline.IsCaused [] layout view who frame x → failures_by who view ≡ []
 soft-failures layout view who frame soft_answers.Stopped caused = ap (filter_map failed_in) caused.0
 soft-failures layout view who frame soft_answers.Kernel caused = ap (filter_map failed_in) caused.0
 soft-failures layout view who frame soft_answers.Already caused = ap (filter_map failed_in) caused.0
@@ -451,19 +451,19 @@ soft-failures layout view who frame (soft_answers.Moved to place cycle) caused =
     ∙ ap (λ (o : Option Failed). cons_option o []) (ap (failed_of has.last.page has.last.place) has.at.2)
 
 -- its failures are those that its entries tell
-pub failures-at-end : (layout : Layout) (view : View) (j : Job) {a : Answer} → Fits layout view j → answer j ≡ Some a → (can_fail j ≡ true → failures_by (who j) view ≡ failed_now j) → failures_by (who j) view ≡ failed_now j
+pub failures-at-end : (layout : Layout) (view : View) (j : Job) {a : Answer} → FitsFrom [] layout view j → answer j ≡ Some a → (can_fail j ≡ true → failures_by (who j) view ≡ failed_now j) → failures_by (who j) view ≡ failed_now j
 failures-at-end layout view (jobs.Instruction i) fits is has = has refl
 failures-at-end layout view (jobs.Raise r) fits is has = has refl
 failures-at-end layout view (jobs.Scrub c) fits is has = has refl
 failures-at-end layout view (jobs.Inject i) fits is has = has refl
 failures-at-end layout view (jobs.Evict e) fits is has = let own = mapped _ (evicts.answer e) is in evict-failures layout view e.who e.page e.what own.0 (evict-caused e fits own.1).1
-failures-at-end layout view (jobs.Fsync f) fits is has = ap (filter_map failed_in) fits.made_none
-failures-at-end layout view (jobs.Prctl p) fits is has = ap (filter_map failed_in) fits.made
-failures-at-end layout view (jobs.Log l) fits is has = ap (filter_map failed_in) fits.read.made
-failures-at-end layout view (jobs.Spoil s) fits is has = ap (filter_map failed_in) fits.made
-failures-at-end layout view (jobs.Nested n) fits is has = ap (filter_map failed_in) fits.made
+failures-at-end layout view (jobs.Fsync f) fits is has = ap (filter_map failed_in) fits.1.made_none
+failures-at-end layout view (jobs.Prctl p) fits is has = ap (filter_map failed_in) fits.1.made
+failures-at-end layout view (jobs.Log l) fits is has = ap (filter_map failed_in) fits.1.read.made
+failures-at-end layout view (jobs.Spoil s) fits is has = ap (filter_map failed_in) fits.1.made
+failures-at-end layout view (jobs.Nested n) fits is has = ap (filter_map failed_in) fits.1.made
 failures-at-end layout view (jobs.Soft s) fits is has = let own = mapped _ (softs.answer s) is in soft-failures layout view s.who s.frame own.0 (soft-ended s fits own.1).1
-failures-at-end layout view (jobs.Unpoison u) fits is has = ap (filter_map failed_in) fits.made
+failures-at-end layout view (jobs.Unpoison u) fits is has = ap (filter_map failed_in) fits.1.made
 
 -- ---- what a view lists of a command
 

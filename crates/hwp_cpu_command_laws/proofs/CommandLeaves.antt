@@ -141,7 +141,7 @@ module _ {layout : Layout} {old new : View} {r : Raise} {after : Job} (s : Stepp
       by (inr has) = inr (record { stopping = (h, at, has.stopping); has = subst HasStopped (sym s.follows.1) (halted has); stops_are = has.stops_are ∙ ap (λ (w : Who). old.stops ++ w ∷ []) is.own })
 
   pub raise-left : IsLeft (jobs.Raise r) after old new
-  raise-left = which r.at refl s.fits.at s.planned s.made s.follows.2
+  raise-left = which r.at refl s.fits.1.at s.planned s.made s.follows.2
     where
       which : (x : RaiseAt) → r.at ≡ x → raise_fits.FitsAt layout old r x → raises.plan_at x ≡ Some s.step → Steps layout r.who s.step (logs (raises.put_at x)) old new s.found s.got
           → raises.FollowsAt layout (raises.bare r) (raises.bare_at x) s.found s.got raised s.turn → IsLeft (jobs.Raise r) after old new
@@ -171,7 +171,7 @@ module _ {layout : Layout} {old new : View} {c : Scrub} {after : Job} (s : Stepp
       by (inr has) = inr (record { stopping = (frame, h, at, has.stopping); has = subst HasStopped (sym s.follows.1) (halted has); stops_are = has.stops_are ∙ ap (λ (w : Who). old.stops ++ w ∷ []) is.own })
 
   pub scrub-left : IsLeft (jobs.Scrub c) after old new
-  scrub-left = which c.at refl s.fits.at s.planned s.made s.follows.2
+  scrub-left = which c.at refl s.fits.1.at s.planned s.made s.follows.2
     where
       which : (x : ScrubAt) → c.at ≡ x → scrub_fits.FitsAt layout old c x → scrubs.plan_at x ≡ Some s.step → Steps layout c.who s.step (logs (scrubs.put_at x)) old new s.found s.got
           → scrubs.FollowsAt layout (scrubs.bare c) (scrubs.bare_at x) s.found s.got scrubbed s.turn → IsLeft (jobs.Scrub c) after old new
@@ -261,7 +261,7 @@ module _ {layout : Layout} {old new : View} {i : Inject} {after : Job} (s : Step
         which false lost = let c = stopping-claim f lost e in by-stop c.0 c.1 c.2 e made
 
   pub inject-left : IsLeft (jobs.Inject i) after old new
-  inject-left = which i.at refl s.fits.at s.planned s.made s.follows.2.1
+  inject-left = which i.at refl s.fits.1.at s.planned s.made s.follows.2.1
     where
       which : (x : InjectAt) → i.at ≡ x → injects.FitsAt layout old i.who i.frame x → injects.plan_at x ≡ Some s.step → Steps layout i.who s.step (logs (injects.put_at x)) old new s.found s.got
           → injects.FollowsAt layout i.alloc i.who i.frame (injects.bare_at x) s.found s.got injected.at s.turn → IsLeft (jobs.Inject i) after old new

@@ -57,7 +57,7 @@ use Rattle.hwp_cpu_command.specs.declared.job.Job.{Job}
 use Rattle.hwp_cpu_command.specs.declared.job.Job.TheVariants as jobs
 use Rattle.hwp_cpu_command.specs.Begins.{Begins, BeginsAccess, BeginsEviction, BeginsFsync, BeginsInject, BeginsLog, BeginsPrctl, BeginsRaiseKernel, BeginsRaiseUser, BeginsScrub, BeginsSoft, BeginsSpoil, BeginsUnpoison, request_of}
 use Rattle.hwp_cpu_command.specs.Done.{can_fail}
-use Rattle.hwp_cpu_command.specs.Jobs.{Fits, Next, banks_before, bare, claims, class, left_in, who}
+use Rattle.hwp_cpu_command.specs.Jobs.{FitsFrom, Next, banks_before, bare, claims, class, left_in, who}
 use Rattle.hwp_cpu_command.specs.FileHandles.{KnowsHandle}
 use Rattle.hwp_cpu_command.specs.Runs.{AtRest, Runs, anew}
 use Rattle.hwp_cpu_command.specs.Stays.{IsAtStop}
@@ -294,80 +294,95 @@ runs-who layout by command j runs = sym (anew-who j) ∙ (has-begun layout by co
 -- ---- a command that may begin
 
 module _ {layout : Layout} {view : View} {who : Who} (rest : AtRest view who) {j : Job} where
-  access-fits : {thread : Thread} {slot : VSlot} {line : ℕ} {kind : AccessKind} {origin : Origin} {mode : Mode} {banks : Banks} → IsOfAccess origin → BeginsAccess layout who thread slot line kind origin mode banks j → Fits layout view j
-  access-fits {thread} {slot} {line} {kind} {origin} {mode} {banks} of begun = subst (Fits layout view) (sym begun.job_is)
+  access-fits : {thread : Thread} {slot : VSlot} {line : ℕ} {kind : AccessKind} {origin : Origin} {mode : Mode} {banks : Banks} → IsOfAccess origin → BeginsAccess layout who thread slot line kind origin mode banks j → FitsFrom [] layout view j
+  access-fits {thread} {slot} {line} {kind} {origin} {mode} {banks} of begun = subst (FitsFrom [] layout view) (sym begun.job_is)
       (instructing.begins layout view (instructions.begin begun.alloc (request_of who thread slot line kind begun.page begun.process) origin mode banks) refl rest.on_turn begun.sound begun.names of begun.three rest.hand_is rest.paid rest.made)
 
-  eviction-fits : {page : Page} {what : Eviction} → BeginsEviction layout who page what j → Fits layout view j
-  eviction-fits begun = subst (Fits layout view) (sym begun.job_is) (record { on_turn = rest.on_turn; page = begun.within; kind = begun.kind; at = (rest.hand_is, rest.made) })
+  eviction-fits : {page : Page} {what : Eviction} → BeginsEviction layout who page what j → FitsFrom [] layout view j
+  eviction-fits begun = subst (FitsFrom [] layout view) (sym begun.job_is) (record { on_turn = rest.on_turn; page = begun.within; kind = begun.kind; at = (rest.hand_is, rest.made) })
 
-  prctl-fits : {thread : Thread} {args : PrctlArgs} → BeginsPrctl layout who thread args j → Fits layout view j
-  prctl-fits {thread} begun = subst (Fits layout view) (sym begun.job_is) (record {
+  prctl-fits : {thread : Thread} {args : PrctlArgs} → BeginsPrctl layout who thread args j → FitsFrom [] layout view j
+  prctl-fits {thread} begun = subst (FitsFrom [] layout view) (sym begun.job_is) (
+    refl,
+    record {
+      on_turn = rest.on_turn;
+      hand_is = rest.hand_is;
+      made = rest.made;
+      decl = begun.decl;
+      declared = begun.declared;
+      own = begun.own;
+      process_is = refl;
+      process = begun.within;
+      at = rest.left thread;
+    },
+  )
+
+  spoil-fits : {frame : Frame} {line : ℕ} {damage : Damage} → BeginsSpoil layout who frame line damage j → FitsFrom [] layout view j
+  spoil-fits begun = subst (FitsFrom [] layout view) (sym begun.job_is) (refl, record { on_turn = rest.on_turn; hand_is = rest.hand_is; made = rest.made; frame = begun.within; at = tt })
+
+  log-fits : {event : Event} {banks : Banks} → BeginsLog layout who event banks j → FitsFrom [] layout view j
+  log-fits begun = subst (FitsFrom [] layout view) (sym begun.job_is) (refl, record { read = record { on_turn = rest.on_turn; hand_is = rest.hand_is; made = rest.made; at = tt }; three = begun.three; banks_are = refl })
+
+  raise-user-fits : {thread : Thread} {mcg : McgBits} {banks : Banks} → BeginsRaiseUser layout who thread mcg banks j → FitsFrom [] layout view j
+  raise-user-fits begun = subst (FitsFrom [] layout view) (sym begun.job_is) (
+    refl,
+    record {
+      on_turn = rest.on_turn;
+      sound = begun.sound;
+      raiser = record { decl = begun.decl; declared = begun.declared; process_is = refl; process = begun.within };
+      three = begun.three;
+      at = record { rest = record { hand_is = rest.hand_is; paid = rest.paid }; unchecked = record { told_none = refl; banks_are = refl; made = rest.made } };
+    },
+  )
+
+  raise-kernel-fits : {mcg : McgBits} {banks : Banks} → BeginsRaiseKernel layout who mcg banks j → FitsFrom [] layout view j
+  raise-kernel-fits begun = subst (FitsFrom [] layout view) (sym begun.job_is) (
+    refl,
+    record {
+      on_turn = rest.on_turn;
+      sound = begun.sound;
+      raiser = tt;
+      three = begun.three;
+      at = record { rest = record { hand_is = rest.hand_is; paid = rest.paid }; unchecked = record { told_none = refl; banks_are = refl; made = rest.made } };
+    },
+  )
+
+  scrub-fits : {first last : Frame} {banks : Banks} → BeginsScrub layout who first last banks j → AreBanks banks → FitsFrom [] layout view j
+  scrub-fits {first} {last} {banks} begun free = subst (FitsFrom [] layout view) (sym begun.job_is)
+      (refl, scrubbing.begins layout view (scrubs.begin begun.alloc who first last banks) refl rest.on_turn begun.sound begun.frames free (record { hand_is = rest.hand_is; paid = rest.paid }) rest.made)
+
+  inject-fits : {frame : Frame} → BeginsInject layout who frame j → FitsFrom [] layout view j
+  inject-fits begun = subst (FitsFrom [] layout view) (sym begun.job_is) (
+    refl,
+    record {
+      on_turn = rest.on_turn;
+      sound = begun.sound;
+      frame = begun.within;
+      at = record { hand_is = rest.hand_is; paid = rest.paid; made = rest.made; unmarked = rest.unmarked };
+    },
+  )
+
+  soft-fits : {frame : Frame} → BeginsSoft layout who frame j → FitsFrom [] layout view j
+  soft-fits begun = subst (FitsFrom [] layout view) (sym begun.job_is) (record { on_turn = rest.on_turn; frame = begun.within; at = (rest.hand_is, rest.made) })
+
+  unpoison-fits : {frame : Frame} → BeginsUnpoison layout who frame j → FitsFrom [] layout view j
+  unpoison-fits begun = subst (FitsFrom [] layout view) (sym begun.job_is) (refl, record { on_turn = rest.on_turn; hand_is = rest.hand_is; made = rest.made; frame = begun.within; at = rest.revivals })
+
+fsync-fits : (layout : Layout) (view : View) (who : Who) (file : FileNo) (opens : Bool) (j : Job) → BeginsFsync layout who file opens j → AtRest view who → KnowsHandle view j → FitsFrom [] layout view j
+fsync-fits layout view who file opens j begun rest known = subst (FitsFrom [] layout view) (sym begun.2) (
+  refl,
+  record {
     on_turn = rest.on_turn;
+    file = begun.0;
     hand_is = rest.hand_is;
-    made = rest.made;
-    decl = begun.decl;
-    declared = begun.declared;
-    own = begun.own;
-    process_is = refl;
-    process = begun.within;
-    at = rest.left thread;
-  })
+    paid = rest.paid;
+    made_none = rest.made;
+    handle = subst (KnowsHandle view) begun.2 known;
+    at = tt;
+  },
+)
 
-  spoil-fits : {frame : Frame} {line : ℕ} {damage : Damage} → BeginsSpoil layout who frame line damage j → Fits layout view j
-  spoil-fits begun = subst (Fits layout view) (sym begun.job_is) (record { on_turn = rest.on_turn; hand_is = rest.hand_is; made = rest.made; frame = begun.within; at = tt })
-
-  log-fits : {event : Event} {banks : Banks} → BeginsLog layout who event banks j → Fits layout view j
-  log-fits begun = subst (Fits layout view) (sym begun.job_is) (record { read = record { on_turn = rest.on_turn; hand_is = rest.hand_is; made = rest.made; at = tt }; three = begun.three; banks_are = refl })
-
-  raise-user-fits : {thread : Thread} {mcg : McgBits} {banks : Banks} → BeginsRaiseUser layout who thread mcg banks j → Fits layout view j
-  raise-user-fits begun = subst (Fits layout view) (sym begun.job_is) (record {
-    on_turn = rest.on_turn;
-    sound = begun.sound;
-    raiser = record { decl = begun.decl; declared = begun.declared; process_is = refl; process = begun.within };
-    three = begun.three;
-    at = record { rest = record { hand_is = rest.hand_is; paid = rest.paid }; unchecked = record { told_none = refl; banks_are = refl; made = rest.made } };
-  })
-
-  raise-kernel-fits : {mcg : McgBits} {banks : Banks} → BeginsRaiseKernel layout who mcg banks j → Fits layout view j
-  raise-kernel-fits begun = subst (Fits layout view) (sym begun.job_is) (record {
-    on_turn = rest.on_turn;
-    sound = begun.sound;
-    raiser = tt;
-    three = begun.three;
-    at = record { rest = record { hand_is = rest.hand_is; paid = rest.paid }; unchecked = record { told_none = refl; banks_are = refl; made = rest.made } };
-  })
-
-  scrub-fits : {first last : Frame} {banks : Banks} → BeginsScrub layout who first last banks j → AreBanks banks → Fits layout view j
-  scrub-fits {first} {last} {banks} begun free = subst (Fits layout view) (sym begun.job_is)
-      (scrubbing.begins layout view (scrubs.begin begun.alloc who first last banks) refl rest.on_turn begun.sound begun.frames free (record { hand_is = rest.hand_is; paid = rest.paid }) rest.made)
-
-  inject-fits : {frame : Frame} → BeginsInject layout who frame j → Fits layout view j
-  inject-fits begun = subst (Fits layout view) (sym begun.job_is) (record {
-    on_turn = rest.on_turn;
-    sound = begun.sound;
-    frame = begun.within;
-    at = record { hand_is = rest.hand_is; paid = rest.paid; made = rest.made; unmarked = rest.unmarked };
-  })
-
-  soft-fits : {frame : Frame} → BeginsSoft layout who frame j → Fits layout view j
-  soft-fits begun = subst (Fits layout view) (sym begun.job_is) (record { on_turn = rest.on_turn; frame = begun.within; at = (rest.hand_is, rest.made) })
-
-  unpoison-fits : {frame : Frame} → BeginsUnpoison layout who frame j → Fits layout view j
-  unpoison-fits begun = subst (Fits layout view) (sym begun.job_is) (record { on_turn = rest.on_turn; hand_is = rest.hand_is; made = rest.made; frame = begun.within; at = rest.revivals })
-
-fsync-fits : (layout : Layout) (view : View) (who : Who) (file : FileNo) (opens : Bool) (j : Job) → BeginsFsync layout who file opens j → AtRest view who → KnowsHandle view j → Fits layout view j
-fsync-fits layout view who file opens j begun rest known = subst (Fits layout view) (sym begun.2) (record {
-  on_turn = rest.on_turn;
-  file = begun.0;
-  hand_is = rest.hand_is;
-  paid = rest.paid;
-  made_none = rest.made;
-  handle = subst (KnowsHandle view) begun.2 known;
-  at = tt;
-})
-
-pub begins-fits : (layout : Layout) (view : View) (who : Who) (command : Command) (banks : Banks) (j : Job) → Begins layout who command banks j → AreBanks banks → AtRest view who → KnowsHandle view j → Fits layout view j
+pub begins-fits : (layout : Layout) (view : View) (who : Who) (command : Command) (banks : Banks) (j : Job) → Begins layout who command banks j → AreBanks banks → AtRest view who → KnowsHandle view j → FitsFrom [] layout view j
 begins-fits layout view by (commands.Load thread slot line) banks j begun free rest known = access-fits rest tt begun
 begins-fits layout view by (commands.Fetch thread slot line) banks j begun free rest known = access-fits rest tt begun
 begins-fits layout view by (commands.KLoad thread slot line) banks j begun free rest known = access-fits rest tt begun
@@ -387,5 +402,5 @@ begins-fits layout view by (commands.RaiseUser thread ripv eipv) banks j begun f
 begins-fits layout view by (commands.RaiseKernel ripv eipv) banks j begun free rest known = raise-kernel-fits rest begun
 begins-fits layout view by (commands.Inject frame) banks j begun free rest known = inject-fits rest begun
 begins-fits layout view by (commands.Soft frame) banks j begun free rest known = soft-fits rest begun
-begins-fits layout view by commands.RaiseNested banks j begun free rest known = subst (Fits layout view) (sym begun) (record { on_turn = rest.on_turn; hand_is = rest.hand_is; made = rest.made; at = tt })
+begins-fits layout view by commands.RaiseNested banks j begun free rest known = subst (FitsFrom [] layout view) (sym begun) (refl, record { on_turn = rest.on_turn; hand_is = rest.hand_is; made = rest.made; at = tt })
 begins-fits layout view by (commands.Unpoison frame) banks j begun free rest known = unpoison-fits rest begun

@@ -121,7 +121,7 @@ use Rattle.hwp_cpu_command.specs.declared.job.Job.{Job}
 use Rattle.hwp_cpu_command.specs.declared.job.Job.TheVariants as jobs
 use Rattle.hwp_cpu_command.specs.Answers.{evict_answer, fail_answer, fsync_answer, instruction_answer, nested_answer, prctl_answer, raise_answer, read_stop_answer, refusal_answer, scrub_answer, soft_answer, spoil_answer, unpoison_answer}
 use Rattle.hwp_cpu_command.specs.Begins.{Begins}
-use Rattle.hwp_cpu_command.specs.Jobs.{Fits, answer, plan, put, who}
+use Rattle.hwp_cpu_command.specs.Jobs.{FitsFrom, answer, plan, put, who}
 use Rattle.hwp_cpu_command.specs.Stays.{EndsStopped, HasSpoiled, HasStopped, IsAtStop, IsHalted, IsStopping, Stepped, StopsItself}
 use Rattle.hwp_cpu_command.proofs.JobEnds.{InjectEnded, answered-over, inject-ended, instruction-ended, mapped, raise-ended, scrub-ended, soft-ended, unpoison-ended}
 use Rattle.hwp_cpu_command_laws.proofs.CommandLeaves.{StopsLeft, evict-left, fsync-left, inject-left, instruction-left, log-left, nested-left, prctl-left, raise-left, scrub-left, soft-left, spoil-left, unpoison-left}
@@ -428,7 +428,7 @@ module _ (layout : Layout) (view : View) where
   spoil-halts s (spoil_at.Over spoil_answers.Done) fits is = absurd (other _ refl is)
   spoil-halts s _ fits is = absurd (none-some _ is)
 
-  evict-halts : (e : Evict) (x : EvictAt) → evicts.FitsAt layout view e.who e.page e.what x → option_map evict_answer (evicts.answer_at x) ≡ Some answers.Stopped → IsHalted view
+  evict-halts : (e : Evict) (x : EvictAt) → evicts.FitsAt [] layout view e.who e.page e.what x → option_map evict_answer (evicts.answer_at x) ≡ Some answers.Stopped → IsHalted view
   evict-halts e (evict_at.Over evict_answers.Stopped) fits is = halts fits.1.1
   evict-halts e (evict_at.Over (evict_answers.Done at)) fits is = absurd (other _ refl is)
   evict-halts e (evict_at.Over (evict_answers.Refused refusal at)) fits is = absurd (other _ (refused refusal at) is)
@@ -467,7 +467,7 @@ module _ (layout : Layout) (view : View) where
   inject-halts i fail_answers.Already ended is = absurd (other _ refl (ap (λ (a : Answer). Some a) is))
   inject-halts i (fail_answers.Done found) ended is = absurd (other _ (came (outcome_of found.situation)) (ap (λ (a : Answer). Some a) is))
 
-  soft-halts : (s : Soft) (x : SoftAnswer) → offline.IsCaused layout view s.who s.frame x → soft_answer x ≡ answers.Stopped → IsHalted view
+  soft-halts : (s : Soft) (x : SoftAnswer) → offline.IsCaused [] layout view s.who s.frame x → soft_answer x ≡ answers.Stopped → IsHalted view
   soft-halts s soft_answers.Stopped caused is = halts caused.1
   soft-halts s soft_answers.Kernel caused is = absurd (other _ refl (ap (λ (y : Answer). Some y) is))
   soft-halts s soft_answers.Already caused is = absurd (other _ refl (ap (λ (y : Answer). Some y) is))
@@ -485,16 +485,16 @@ module _ (layout : Layout) (view : View) where
   unpoison-halts u (unpoison_answers.InUse count) caused is = absurd (other _ refl (ap (λ (y : Answer). Some y) is))
 
 -- a command that is answered `stopped` shows that the machine has stopped
-pub stopped-halts : (layout : Layout) (view : View) (j : Job) → Fits layout view j → answer j ≡ Some answers.Stopped → IsHalted view
+pub stopped-halts : (layout : Layout) (view : View) (j : Job) → FitsFrom [] layout view j → answer j ≡ Some answers.Stopped → IsHalted view
 stopped-halts layout view (jobs.Instruction i) fits is = let own = mapped _ (instructions.answer i) is in instruction-halts layout view i.request i.lines.told own.0 (instruction-ended i fits own.1).ended own.2
 stopped-halts layout view (jobs.Evict e) fits is = evict-halts layout view e e.at fits.at is
-stopped-halts layout view (jobs.Fsync f) fits is = fsync-halts layout view f f.at fits.at is
-stopped-halts layout view (jobs.Prctl p) fits is = prctl-halts layout view p p.at fits.at is
-stopped-halts layout view (jobs.Log l) fits is = read-halts layout view l.read l.read.at fits.read.at is
-stopped-halts layout view (jobs.Raise r) fits is = let own = mapped _ (raises.answer r) is in raise-halts layout view r own.0 (raise-ended r fits own.1).1 own.2
-stopped-halts layout view (jobs.Scrub c) fits is = let own = mapped _ (scrubs.answer c) is in scrub-halts layout view c own.0 (scrub-ended c fits own.1) own.2
-stopped-halts layout view (jobs.Spoil s) fits is = spoil-halts layout view s s.at fits.at is
-stopped-halts layout view (jobs.Nested n) fits is = nested-halts layout view n n.at fits.at is
-stopped-halts layout view (jobs.Inject i) fits is = let own = mapped _ (injects.answer i) is in inject-halts layout view i own.0 (inject-ended i fits own.1) own.2
+stopped-halts layout view (jobs.Fsync f) fits is = fsync-halts layout view f f.at fits.1.at is
+stopped-halts layout view (jobs.Prctl p) fits is = prctl-halts layout view p p.at fits.1.at is
+stopped-halts layout view (jobs.Log l) fits is = read-halts layout view l.read l.read.at fits.1.read.at is
+stopped-halts layout view (jobs.Raise r) fits is = let own = mapped _ (raises.answer r) is in raise-halts layout view r own.0 (raise-ended r fits.1 own.1).1 own.2
+stopped-halts layout view (jobs.Scrub c) fits is = let own = mapped _ (scrubs.answer c) is in scrub-halts layout view c own.0 (scrub-ended c fits.1 own.1) own.2
+stopped-halts layout view (jobs.Spoil s) fits is = spoil-halts layout view s s.at fits.1.at is
+stopped-halts layout view (jobs.Nested n) fits is = nested-halts layout view n n.at fits.1.at is
+stopped-halts layout view (jobs.Inject i) fits is = let own = mapped _ (injects.answer i) is in inject-halts layout view i own.0 (inject-ended i fits.1 own.1) own.2
 stopped-halts layout view (jobs.Soft s) fits is = let own = mapped _ (softs.answer s) is in soft-halts layout view s own.0 (soft-ended s fits own.1).1 own.2
-stopped-halts layout view (jobs.Unpoison u) fits is = let own = mapped _ (unpoisons.answer u) is in unpoison-halts layout view u own.0 (unpoison-ended u fits own.1).1 own.2
+stopped-halts layout view (jobs.Unpoison u) fits is = let own = mapped _ (unpoisons.answer u) is in unpoison-halts layout view u own.0 (unpoison-ended u fits.1 own.1).1 own.2

@@ -39,7 +39,7 @@ use Rattle.hwp_cpu_command.specs.declared.job.Job.{Job}
 use Rattle.hwp_cpu_command.specs.declared.job.Job.TheVariants as jobs
 use Rattle.hwp_cpu_command.specs.Answers.{prctl_answer}
 use Rattle.hwp_cpu_command.specs.Begins.{BeginsPrctl}
-use Rattle.hwp_cpu_command.specs.Jobs.{Fits, answer, banks_before}
+use Rattle.hwp_cpu_command.specs.Jobs.{FitsFrom, answer, banks_before}
 use Rattle.hwp_cpu_command.specs.Runs.{Runs, anew}
 use Rattle.hwp_cpu_command.specs.Settings.{HasReplied, IsCounted, policies_in, set_at, set_now}
 use Rattle.hwp_cpu_command.specs.Stays.{CannotReply, HasEnded, HasNotReplied, IsAtStop, IsBarred, IsNotPast, KnowsPolicies, Stepped}
@@ -145,7 +145,7 @@ prctl_in d (jobs.Prctl p) = p
 prctl_in d _ = d
 
 module _ (layout : Layout) (view : View) (by : Who) (thread : Thread) where
-  call-leaves : (other : Thread) (args : PrctlArgs) (p : Prctl) (a : Answer) → BeginsPrctl layout by other args (anew (jobs.Prctl p)) → Fits layout view (jobs.Prctl p) → answer (jobs.Prctl p) ≡ Some a → Leaves layout view thread (commands.Prctl other args) (jobs.Prctl p)
+  call-leaves : (other : Thread) (args : PrctlArgs) (p : Prctl) (a : Answer) → BeginsPrctl layout by other args (anew (jobs.Prctl p)) → FitsFrom [] layout view (jobs.Prctl p) → answer (jobs.Prctl p) ≡ Some a → Leaves layout view thread (commands.Prctl other args) (jobs.Prctl p)
   call-leaves other args p a begins fits is = by-thread (p.thread.0 == thread.0) refl
     where
       begun : Prctl
@@ -170,13 +170,13 @@ module _ (layout : Layout) (view : View) (by : Who) (thread : Thread) where
       ended : (p.thread.0 == thread.0) ≡ true → (page : Page) → prctls.FitsOver view p.who p.thread p.process p.arguments (prctl_answers.Gone page) → HasEnded layout view thread
       ended is_ page saw = record {
         process = p.process;
-        process_is = ap (λ (n : ℕ). option_map (λ (t : ThreadDecl). t.process) (slice_get layout.threads n)) (sym (eqb-true p.thread.0 thread.0 is_)) ∙ process-declared layout p.thread fits.decl fits.declared ∙ ap (λ (q : Proc). Some q) fits.process_is;
+        process_is = ap (λ (n : ℕ). option_map (λ (t : ThreadDecl). t.process) (slice_get layout.threads n)) (sym (eqb-true p.thread.0 thread.0 is_)) ∙ process-declared layout p.thread fits.1.decl fits.1.declared ∙ ap (λ (q : Proc). Some q) fits.1.process_is;
         shown = (saw.0, saw.1, saw.2, (saw.3.1, λ none. let word : saw.1.word ≡ page.0 + 1 = saw.3.2 in omega (arith, none)));
       }
 
       by-thread : (b : Bool) → (p.thread.0 == thread.0) ≡ b → Leaves layout view thread (commands.Prctl other args) (jobs.Prctl p)
       by-thread false is_ = inr (said false is_ ∙ sym (set false is_))
-      by-thread true is_ = which p.at refl fits.at is
+      by-thread true is_ = which p.at refl fits.1.at is
         where
           which : (x : PrctlAt) → p.at ≡ x → prctls.FitsAt view p.who p.thread p.process p.arguments x → option_map prctl_answer (prctls.answer_at x) ≡ Some a → Leaves layout view thread (commands.Prctl other args) (jobs.Prctl p)
           which (prctl_at.Over prctl_answers.Stopped) at saw e = inl (inl (stopped-halts layout view (jobs.Prctl p) fits (ap (λ (y : PrctlAt). option_map prctl_answer (prctls.answer_at y)) at)), set true is_ ∙ ap set_at at)
@@ -187,10 +187,10 @@ module _ (layout : Layout) (view : View) (by : Who) (thread : Thread) where
   other-leaves : (command : Command) (j : Job) → Runs layout by command j → is_prctl command ≡ false → Leaves layout view thread command j
   other-leaves command j runs none = inr (ap (λ (o : Option Policy). cons_option o []) (no-setting thread command none) ∙ sym (no-call thread j (runs-call layout by command j runs ∙ none)))
 
-  leaves : (command : Command) (j : Job) (a : Answer) → Runs layout by command j → Fits layout view j → answer j ≡ Some a → Leaves layout view thread command j
+  leaves : (command : Command) (j : Job) (a : Answer) → Runs layout by command j → FitsFrom [] layout view j → answer j ≡ Some a → Leaves layout view thread command j
   leaves (commands.Prctl other args) j a runs fits is = which j runs fits is (runs-call layout by (commands.Prctl other args) j runs)
     where
-      which : (k : Job) → Runs layout by (commands.Prctl other args) k → Fits layout view k → answer k ≡ Some a → is_call k ≡ true → Leaves layout view thread (commands.Prctl other args) k
+      which : (k : Job) → Runs layout by (commands.Prctl other args) k → FitsFrom [] layout view k → answer k ≡ Some a → is_call k ≡ true → Leaves layout view thread (commands.Prctl other args) k
       which (jobs.Prctl p) r f e call = call-leaves other args p a r f e
       which _ r f e call = absurd (true≢false (sym call))
   leaves command j a runs fits is = other-leaves command j runs refl
@@ -255,7 +255,7 @@ front-and-rest (suc n) [] = refl
 front-and-rest (suc n) (x ∷ xs) = ap (λ (l : List _). x ∷ l) (front-and-rest n xs)
 
 -- the policies that are set, when a command is answered, are the first of those that the commands say
-pub policies-end : (layout : Layout) (list : List Command) (view : View) (by : Who) (command : Command) (j : Job) (a : Answer) → Runs layout by command j → Fits layout view j → answer j ≡ Some a → slice_get list by.seq ≡ Some command
+pub policies-end : (layout : Layout) (list : List Command) (view : View) (by : Who) (command : Command) (j : Job) (a : Answer) → Runs layout by command j → FitsFrom [] layout view j → answer j ≡ Some a → slice_get list by.seq ≡ Some command
     → KnowsPolicies layout list view by j → (thread : Thread) → StartsWith (policies_in thread view) (settings thread list)
 policies-end layout list view by command j a runs fits is there knows thread = which (leaves layout view by thread command j a runs fits is) (knows.each thread)
   where
@@ -277,7 +277,7 @@ policies-end layout list view by command j a runs fits is there knows thread = w
     which (inr said) (inl cannot) = none (unset layout view thread j cannot)
     which (inr said) (inr counted) = front (policies_in thread view) (counted ∙ ap (λ (l : List Policy). settings thread (take by.seq list) ++ l) (sym said))
 
-pub policies-next : (layout : Layout) (list : List Command) (view : View) (by : Who) (command : Command) (j : Job) (a : Answer) → Runs layout by command j → Fits layout view j → answer j ≡ Some a → slice_get list by.seq ≡ Some command → KnowsPolicies layout list view by j
+pub policies-next : (layout : Layout) (list : List Command) (view : View) (by : Who) (command : Command) (j : Job) (a : Answer) → Runs layout by command j → FitsFrom [] layout view j → answer j ≡ Some a → slice_get list by.seq ≡ Some command → KnowsPolicies layout list view by j
     → (later : Who) (k : Job) → later.seq ≡ by.seq + 1 → IsAtStop k → KnowsPolicies layout list view later k
 policies-next layout list view by command j a runs fits is there knows later k next start = record {
   each = λ thread. each thread (knows.each thread);
