@@ -11,7 +11,8 @@ use Rattle.hwp_check_evidence.specs.hwp_report_text.declared.Answer.TheVariants 
 use Rattle.hwp_check_evidence.specs.hwp_report_text.declared.CpuLine.{CpuLine}
 use Rattle.hwp_check_evidence.specs.hwp_report_text.declared.CpuLine.TheVariants as lines
 use Rattle.hwp_check_evidence.specs.hwp_report_text.declared.Report.{Report}
-use Rattle.hwp_check_evidence.specs.hwp_law.Lines.{answer_among, answer_of}
+use Rattle.hwp_check_evidence.specs.hwp_law.Answers.{named_in}
+use Rattle.hwp_check_evidence.specs.hwp_law.Lines.{answer_among, answer_of, rows_of, seq_of}
 use Rattle.hwp_check_evidence.specs.hwp_law.States.{entry_named}
 use Rattle.hwp_check_evidence.proofs.ListItems.{item_of_take, none_of_take}
 use Rattle.hwp_check_rules.specs.AnswerFaults.{IsOutside, IsRevived, IsUnnamed}
@@ -23,8 +24,8 @@ use Rattle.hwp_check_answers.specs.Sifting.{IsAnswerLine, IsWrongAnswer}
 use Rattle.hwp_check_answers.proofs.NextLaws.{count-rises, next_of}
 
 abbrev told_in : CpuLine → Answer
-told_in (lines.Event event) = answers.Stopped
 told_in (lines.Answer seq answer) = answer
+told_in _ = answers.Stopped
 
 -- an item of a front of a list is one of the list
 of-take : {X : Type 0} (xs : List X) (n i : ℕ) (x : X) → slice_get (take n xs) i ≡ Some x → slice_get xs i ≡ Some x
@@ -62,18 +63,25 @@ module _ (script : Script) (report : Report) (fit : AnswersFit script report) wh
       ap (λ (o : Option (List CpuLine)). answer_among (unwrap_or o []) w.seq) w.of_report ∙ ap (answer_among w.rows) number ∙ next.first w.answer (ap (λ (n : ℕ). lines.Answer n w.answer) number)
 
   no-unnamed : (line : ℕ) (w : IsWrongAnswer script report line) → IsUnnamed report (at_number w.cpu w.seq) w.answer → ⊥
-  no-unnamed line w u = u.other (ap entry_named same ∙ named.3)
+  no-unnamed line w u = by named.0 there named.3 named.4
     where
-      named : (answer : Answer) × (i : ℕ) × IsSomeAnd (slice_get report.cpus w.cpu.0) (λ (rows : List CpuLine). slice_get rows i ≡ Some (lines.Answer w.seq answer)) × (entry_named answer ≡ Some u.at)
+      named : (shown : CpuLine) × (i : ℕ) × IsSomeAnd (slice_get report.cpus w.cpu.0) (λ (rows : List CpuLine). slice_get rows i ≡ Some shown) × (seq_of shown ≡ w.seq) × (named_in shown ≡ Some u.at)
       named = subst
-          (λ (who : Who). (answer : Answer) × (i : ℕ) × IsSomeAnd (slice_get report.cpus who.cpu.0) (λ (rows : List CpuLine). slice_get rows i ≡ Some (lines.Answer who.seq answer)) × (entry_named answer ≡ Some u.at))
+          (λ (who : Who). (shown : CpuLine) × (i : ℕ) × IsSomeAnd (slice_get report.cpus who.cpu.0) (λ (rows : List CpuLine). slice_get rows i ≡ Some shown) × (seq_of shown ≡ who.seq) × (named_in shown ≡ Some u.at))
           u.own (fit.named u.at u.entry u.there u.answering)
 
-      there : slice_get w.rows named.1 ≡ Some (lines.Answer w.seq named.0)
-      there = subst (λ (o : Option (List CpuLine)). IsSomeAnd o (λ (rows : List CpuLine). slice_get rows named.1 ≡ Some (lines.Answer w.seq named.0))) w.of_report named.2
+      there : slice_get w.rows named.1 ≡ Some named.0
+      there = subst (λ (o : Option (List CpuLine)). IsSomeAnd o (λ (rows : List CpuLine). slice_get rows named.1 ≡ Some named.0)) w.of_report named.2
 
-      same : w.answer ≡ named.0
-      same = one-answer w.commands w.rows w.row named.1 w.seq w.answer named.0 (orderly-of w.cpu w.commands w.rows w.of_script w.of_report) w.there there
+      rows_are : rows_of report (at_number w.cpu w.seq) ≡ w.rows
+      rows_are = ap (λ (o : Option (List CpuLine)). unwrap_or o []) w.of_report
+
+      by : (shown : CpuLine) → slice_get w.rows named.1 ≡ Some shown → seq_of shown ≡ w.seq → named_in shown ≡ Some u.at → ⊥
+      by (lines.Event event) at own names = none-some u.at names
+      by (lines.Offlined offlined) at own names = u.beside named.1 offlined (subst (λ (r : List CpuLine). slice_get r named.1 ≡ Some (lines.Offlined offlined)) (sym rows_are) at) own names
+      by (lines.Guest guest) at own names = none-some u.at names
+      by (lines.Answer seq answer) at own names =
+          u.other (ap entry_named (one-answer w.commands w.rows w.row named.1 w.seq w.answer answer (orderly-of w.cpu w.commands w.rows w.of_script w.of_report) w.there (at ∙ ap (λ (n : ℕ). Some (lines.Answer n answer)) own)) ∙ names)
 
   no-outside : (line : ℕ) (w : IsWrongAnswer script report line) → IsOutside report (take w.row w.rows) (at_number w.cpu w.seq) w.answer → ⊥
   no-outside line w o =

@@ -14,10 +14,10 @@ use Rattle.hwp_check_evidence.specs.hwp_report_text.declared.CpuLine.{CpuLine}
 use Rattle.hwp_check_evidence.specs.hwp_report_text.declared.CpuLine.TheVariants as lines
 use Rattle.hwp_check_evidence.specs.hwp_report_text.declared.Report.{Report}
 use Rattle.hwp_check_evidence.specs.hwp_law_commands.Commands.{process_at}
-use Rattle.hwp_check_evidence.specs.hwp_law.Lines.{answer_among, answer_of}
+use Rattle.hwp_check_evidence.specs.hwp_law.Lines.{answer_among, answer_of, seq_of}
 use Rattle.hwp_check_evidence.specs.Windows.{AreOfEarlier, floors_of, raised}
 use Rattle.hwp_check_evidence.proofs.ListItems.{item_of_push}
-use Rattle.hwp_check_rules.specs.Answered.{is_answer, seq_of}
+use Rattle.hwp_check_rules.specs.Answered.{is_answer}
 use Rattle.hwp_check_answers.specs.declared.judging.Course.{Course}
 use Rattle.hwp_check_answers.specs.Judging.{HadGone, IsCourse, IsNextOf, gone_after, gone_by, next_seq, process_numbers}
 
@@ -139,6 +139,18 @@ module _ (script : Script) (report : Report) (cpu : Cpu) (rows : List CpuLine) (
   course_next row seq (lines.Event line) course after there next is floors gone = record {
     floors = floors ∙ ap (λ (f : List ℕ). raised f (lines.Event line)) is.floors ∙ sym (floors-next row (lines.Event line) there);
     earlier = earlier-event row seq (lines.Event line) there refl is.earlier;
+    many = ap length gone ∙ is.many;
+    gone = λ process small. (λ set. (is.gone process small).0 (sym (ap (λ (l : List Bool). get_or l process.0 false) gone) ∙ set), λ had. ap (λ (l : List Bool). get_or l process.0 false) gone ∙ (is.gone process small).1 had);
+  }
+  course_next row seq (lines.Offlined line) course after there next is floors gone = record {
+    floors = floors ∙ ap (λ (f : List ℕ). raised f (lines.Offlined line)) is.floors ∙ sym (floors-next row (lines.Offlined line) there);
+    earlier = earlier-event row seq (lines.Offlined line) there refl is.earlier;
+    many = ap length gone ∙ is.many;
+    gone = λ process small. (λ set. (is.gone process small).0 (sym (ap (λ (l : List Bool). get_or l process.0 false) gone) ∙ set), λ had. ap (λ (l : List Bool). get_or l process.0 false) gone ∙ (is.gone process small).1 had);
+  }
+  course_next row seq (lines.Guest line) course after there next is floors gone = record {
+    floors = floors ∙ ap (λ (f : List ℕ). raised f (lines.Guest line)) is.floors ∙ sym (floors-next row (lines.Guest line) there);
+    earlier = earlier-event row seq (lines.Guest line) there refl is.earlier;
     many = ap length gone ∙ is.many;
     gone = λ process small. (λ set. (is.gone process small).0 (sym (ap (λ (l : List Bool). get_or l process.0 false) gone) ∙ set), λ had. ap (λ (l : List Bool). get_or l process.0 false) gone ∙ (is.gone process small).1 had);
   }

@@ -7,7 +7,8 @@ use Rattle.hwp_check_evidence.specs.hwp_script_read.declared.Command.{Command}
 use Rattle.hwp_check_evidence.specs.hwp_report_text.declared.Answer.{Answer}
 use Rattle.hwp_check_evidence.specs.hwp_report_text.declared.CpuLine.{CpuLine}
 use Rattle.hwp_check_evidence.specs.hwp_report_text.declared.CpuLine.TheVariants as lines
-use Rattle.hwp_check_rules.specs.Answered.{HasAnswer, IsInPlace, is_answer, seq_of}
+use Rattle.hwp_check_rules.specs.Answered.{HasAnswer, IsInPlace, is_answer}
+use Rattle.hwp_check_rules.specs.hwp_law.Lines.{seq_of}
 use Rattle.hwp_check_answers.specs.Placing.{AreInPlace, AreSet, FirstInPlace, HasNone, HaveAnswers, IsFirstOut, IsOfNext, TellAnswers, marked}
 
 below-next : (n i : ℕ) → i < n + 1 → (i < n) ⊎ (i ≡ n)
@@ -26,7 +27,7 @@ in-place-next commands rows n answered line here many next before = λ row other
   | inl low ↦ before row other low there
   | inr same ↦
       let line_is : line ≡ other = at-same rows n row line other same here there in
-      let place : IsInPlace commands rows n line = record { of_next = next.0 ∙ many; of_some = next.1 } in
+      let place : IsInPlace commands rows n line = record { of_next = next.0 ∙ many; of_some = next.1; of_kind = next.2 } in
       subst (λ (k : ℕ). IsInPlace commands rows k other) (sym same) (subst (λ (l : CpuLine). IsInPlace commands rows n l) line_is place)
 ]
 
@@ -36,7 +37,7 @@ pub first-out-is : (commands : List Command) (rows : List CpuLine) (n answered :
 first-out-is commands rows n answered line here many out before = record {
   line = line;
   there = here;
-  out = λ place. out (place.of_next ∙ sym many, place.of_some);
+  out = λ place. out (place.of_next ∙ sym many, place.of_some, place.of_kind);
   before = before;
 }
 
@@ -82,6 +83,22 @@ so-far-next n rows i flags (lines.Event event) there so = record {
   whole = λ s row answer less is unset. elim (below-next i row less) [
     | inl low ↦ so.whole s row answer low is unset
     | inr same ↦ absurd (true≢false (sym (ap is_answer (at-same rows i row (lines.Event event) (lines.Answer s answer) same there is))))
+  ];
+}
+so-far-next n rows i flags (lines.Offlined offlined) there so = record {
+  size = so.size;
+  right = so.right;
+  whole = λ s row answer less is unset. elim (below-next i row less) [
+    | inl low ↦ so.whole s row answer low is unset
+    | inr same ↦ absurd (true≢false (sym (ap is_answer (at-same rows i row (lines.Offlined offlined) (lines.Answer s answer) same there is))))
+  ];
+}
+so-far-next n rows i flags (lines.Guest guest) there so = record {
+  size = so.size;
+  right = so.right;
+  whole = λ s row answer less is unset. elim (below-next i row less) [
+    | inl low ↦ so.whole s row answer low is unset
+    | inr same ↦ absurd (true≢false (sym (ap is_answer (at-same rows i row (lines.Guest guest) (lines.Answer s answer) same there is))))
   ];
 }
 so-far-next n rows i flags (lines.Answer seq answer) there so = record {

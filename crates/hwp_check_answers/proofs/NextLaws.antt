@@ -32,6 +32,8 @@ first-answer : (rows : List CpuLine) (row seq : ℕ) (answer : Answer) → slice
 first-answer [] row seq answer is none = absurd (none-some _ is)
 first-answer (x ∷ rs) zero seq answer is none = subst (λ (l : CpuLine). answer_among (l ∷ rs) seq ≡ Some answer) (sym (same_Some _ _ is)) (among-own seq seq answer rs refl)
 first-answer (lines.Event event ∷ rs) (suc row) seq answer is none = first-answer rs row seq answer is (λ r t a low there. none (suc r) t a (omega (arith, low)) there)
+first-answer (lines.Offlined offlined ∷ rs) (suc row) seq answer is none = first-answer rs row seq answer is (λ r t a low there. none (suc r) t a (omega (arith, low)) there)
+first-answer (lines.Guest guest ∷ rs) (suc row) seq answer is none = first-answer rs row seq answer is (λ r t a low there. none (suc r) t a (omega (arith, low)) there)
 first-answer (lines.Answer s b ∷ rs) (suc row) seq answer is none =
     among-other s seq b rs (none 0 s b (omega arith) refl) ∙ first-answer rs row seq answer is (λ r t a low there. none (suc r) t a (omega (arith, low)) there)
 

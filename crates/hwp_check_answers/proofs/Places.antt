@@ -1,5 +1,5 @@
 -- Where the event lines of a command stand among its processor's lines.
-use Rattle.std.proofs.Common.{◌≡◌, ◌⊎◌, inl, inr, ℕ, zero, suc, ◌+◌, ◌==◌, ◌&&◌, Bool, true, false, not, cond, List, [], ◌∷◌, ◌++◌, Some, slice_get, take, true≢false, refl, sym, ap, ◌∙◌, subst, arith}
+use Rattle.std.proofs.Common.{◌≡◌, ◌⊎◌, inl, inr, ℕ, zero, suc, ◌+◌, ◌==◌, ◌&&◌, Bool, true, false, cond, List, [], ◌∷◌, ◌++◌, Some, slice_get, take, true≢false, refl, sym, ap, ◌∙◌, subst, arith}
 use Rattle.std.proofs.lemmas.Bool.{cases_eq, eq-eqb, ne_eqb}
 use Rattle.std.proofs.lemmas.List.Sums.{sum_by-cons}
 use Rattle.std.proofs.lemmas.Option.{none-some, same_Some}
@@ -8,11 +8,12 @@ use Rattle.hwp_check_evidence.specs.hwp_report_text.declared.CpuLine.TheVariants
 use Rattle.hwp_check_rules.specs.hwp_check_events.Indexed.{shown_from}
 use Rattle.hwp_check_rules.specs.hwp_check_event_line.declared.Shown.{Shown}
 use Rattle.hwp_check_rules.specs.AnswerFaults.{events_before}
-use Rattle.hwp_check_rules.specs.Answered.{is_answer, seq_of}
+use Rattle.hwp_check_rules.specs.Answered.{is_event}
+use Rattle.hwp_check_rules.specs.hwp_law.Lines.{seq_of}
 
 module _ (seq : ℕ) where
   abbrev own : CpuLine → Bool
-  own l = not (is_answer l) && (seq_of l == seq)
+  own l = is_event l && (seq_of l == seq)
 
   -- a line in front
   counted : (x : CpuLine) (xs : List CpuLine) (k : ℕ) → events_before (x ∷ xs) (suc k) seq ≡ cond (own x) 1 0 + events_before xs k seq
@@ -39,6 +40,22 @@ module _ (seq : ℕ) where
         there = rest.there;
         seq_is = rest.seq_is;
         number_is = let c : events_before (lines.Answer n answer ∷ rs) (suc rest.k) seq ≡ 0 + events_before rs rest.k seq = counted (lines.Answer n answer) rs rest.k in let m : events_before rs rest.k seq ≡ number = rest.number_is in omega (arith, c, m);
+      }
+  stands (lines.Offlined offlined ∷ rs) place number s there =
+      let rest = stands rs (place + 1) number s there in record {
+        k = suc rest.k;
+        place_is = let p : s.place ≡ place + 1 + rest.k = rest.place_is in omega (arith, p);
+        there = rest.there;
+        seq_is = rest.seq_is;
+        number_is = let c : events_before (lines.Offlined offlined ∷ rs) (suc rest.k) seq ≡ 0 + events_before rs rest.k seq = counted (lines.Offlined offlined) rs rest.k in let m : events_before rs rest.k seq ≡ number = rest.number_is in omega (arith, c, m);
+      }
+  stands (lines.Guest guest ∷ rs) place number s there =
+      let rest = stands rs (place + 1) number s there in record {
+        k = suc rest.k;
+        place_is = let p : s.place ≡ place + 1 + rest.k = rest.place_is in omega (arith, p);
+        there = rest.there;
+        seq_is = rest.seq_is;
+        number_is = let c : events_before (lines.Guest guest ∷ rs) (suc rest.k) seq ≡ 0 + events_before rs rest.k seq = counted (lines.Guest guest) rs rest.k in let m : events_before rs rest.k seq ≡ number = rest.number_is in omega (arith, c, m);
       }
   stands (lines.Event event ∷ rs) place number s there = by (cases_eq seq event.seq) (stands rs (place + 1)) number there
     where
@@ -82,13 +99,27 @@ module _ (seq : ℕ) where
     pub there : slice_get (shown_from seq place rows) (events_before rows k seq) ≡ Some shown
     pub place_is : shown.place ≡ place + k
 
-  pub is-shown : (rows : List CpuLine) (place k : ℕ) (l : CpuLine) → slice_get rows k ≡ Some l → is_answer l ≡ false → seq_of l ≡ seq → IsShown rows place k
+  pub is-shown : (rows : List CpuLine) (place k : ℕ) (l : CpuLine) → slice_get rows k ≡ Some l → is_event l ≡ true → seq_of l ≡ seq → IsShown rows place k
   is-shown [] place k l there event is = absurd (none-some l there)
-  is-shown (lines.Answer n answer ∷ rs) place zero l there event is = absurd (true≢false (ap is_answer (same_Some _ _ there) ∙ event))
+  is-shown (lines.Answer n answer ∷ rs) place zero l there event is = absurd (true≢false (sym event ∙ sym (ap is_event (same_Some _ _ there))))
   is-shown (lines.Answer n answer ∷ rs) place (suc k) l there event is =
       let rest = is-shown rs (place + 1) k l there event is in record {
         shown = rest.shown;
         there = ap (slice_get (shown_from seq (place + 1) rs)) (let c : events_before (lines.Answer n answer ∷ rs) (suc k) seq ≡ 0 + events_before rs k seq = counted (lines.Answer n answer) rs k in let e : events_before (lines.Answer n answer ∷ rs) (suc k) seq ≡ events_before rs k seq = omega (arith, c) in e) ∙ rest.there;
+        place_is = let p : rest.shown.place ≡ place + 1 + k = rest.place_is in omega (arith, p);
+      }
+  is-shown (lines.Offlined offlined ∷ rs) place zero l there event is = absurd (true≢false (sym event ∙ sym (ap is_event (same_Some _ _ there))))
+  is-shown (lines.Offlined offlined ∷ rs) place (suc k) l there event is =
+      let rest = is-shown rs (place + 1) k l there event is in record {
+        shown = rest.shown;
+        there = ap (slice_get (shown_from seq (place + 1) rs)) (let c : events_before (lines.Offlined offlined ∷ rs) (suc k) seq ≡ 0 + events_before rs k seq = counted (lines.Offlined offlined) rs k in let e : events_before (lines.Offlined offlined ∷ rs) (suc k) seq ≡ events_before rs k seq = omega (arith, c) in e) ∙ rest.there;
+        place_is = let p : rest.shown.place ≡ place + 1 + k = rest.place_is in omega (arith, p);
+      }
+  is-shown (lines.Guest guest ∷ rs) place zero l there event is = absurd (true≢false (sym event ∙ sym (ap is_event (same_Some _ _ there))))
+  is-shown (lines.Guest guest ∷ rs) place (suc k) l there event is =
+      let rest = is-shown rs (place + 1) k l there event is in record {
+        shown = rest.shown;
+        there = ap (slice_get (shown_from seq (place + 1) rs)) (let c : events_before (lines.Guest guest ∷ rs) (suc k) seq ≡ 0 + events_before rs k seq = counted (lines.Guest guest) rs k in let e : events_before (lines.Guest guest ∷ rs) (suc k) seq ≡ events_before rs k seq = omega (arith, c) in e) ∙ rest.there;
         place_is = let p : rest.shown.place ≡ place + 1 + k = rest.place_is in omega (arith, p);
       }
   is-shown (lines.Event line ∷ rs) place zero l there event is = record {

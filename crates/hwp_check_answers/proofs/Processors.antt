@@ -10,12 +10,12 @@ use Rattle.hwp_check_evidence.specs.hwp_report_text.declared.CpuLine.TheVariants
 use Rattle.hwp_check_evidence.specs.hwp_report_text.declared.Report.{Report}
 use Rattle.hwp_check_evidence.specs.hwp_banks.Banks.{empty_banks}
 use Rattle.hwp_check_evidence.specs.hwp_law.Events.{AreEventsFrom}
-use Rattle.hwp_check_evidence.specs.hwp_law.Lines.{events_of}
+use Rattle.hwp_check_evidence.specs.hwp_law.Lines.{events_of, seq_of}
 use Rattle.hwp_check_rules.specs.hwp_check_events.Misfits.{AreTold, IsWrong, Lacks, found_by}
 use Rattle.hwp_check_rules.specs.hwp_check_events.Walked.{AllRight, IsFirstRow, IsProcessorJudged, IsWalked, IsWrongRow, LacksSome, is_clean}
 use Rattle.hwp_check_rules.specs.hwp_check_events.declared.Misfits.{Misfits}
 use Rattle.hwp_check_rules.specs.AnswerFaults.{IsEventWrong, LacksEvents, events_before}
-use Rattle.hwp_check_rules.specs.Answered.{is_answer, seq_of}
+use Rattle.hwp_check_rules.specs.Answered.{is_event}
 use Rattle.hwp_check_rules.specs.Standing.{cpu_line}
 use Rattle.hwp_check_answers.specs.Facts.{at_number}
 use Rattle.hwp_check_answers.specs.Joining.{IsEventLine, IsWrongEvent}
@@ -103,7 +103,7 @@ module _ (script : Script) (report : Report) (n : ℕ) (commands : List Command)
   line-wrong line w here = by w.cpu (λ i. record { 0 = here i }) w.commands w.rows w.row w.shown w.command w.of_script w.of_report w.there w.event w.made w.wrong
     where
       by : (cpu : Cpu) → cpu ≡ cpu_of n → (cs : List Command) (rs : List CpuLine) (row : ℕ) (shown : CpuLine) (command : Command) → slice_get script.lists cpu.0 ≡ Some cs → slice_get report.cpus cpu.0 ≡ Some rs → slice_get rs row ≡ Some shown
-          → is_answer shown ≡ false → slice_get cs (seq_of shown) ≡ Some command → IsEventWrong script report rs row (at_number cpu (seq_of shown)) command → WrongAt row
+          → is_event shown ≡ true → slice_get cs (seq_of shown) ≡ Some command → IsEventWrong script report rs row (at_number cpu (seq_of shown)) command → WrongAt row
       by cpu is cs rs row shown command one other there event made wrong = record {
         seq = seq_of shown;
         command = command;

@@ -9,7 +9,8 @@ use Rattle.hwp_check_evidence.specs.hwp_report_text.declared.CpuLine.TheVariants
 use Rattle.hwp_check_evidence.specs.hwp_report_text.declared.Report.{Report}
 use Rattle.hwp_check_evidence.specs.hwp_law.Events.{AreEvents}
 use Rattle.hwp_check_rules.specs.AnswerFaults.{IsAnswerFault, IsEventWrong, IsLineWrong, IsRowFault}
-use Rattle.hwp_check_rules.specs.Answered.{is_answer, seq_of}
+use Rattle.hwp_check_rules.specs.Answered.{is_event}
+use Rattle.hwp_check_rules.specs.hwp_law.Lines.{seq_of}
 use Rattle.hwp_check_rules.specs.Firsts.{IsLeast, soonest}
 use Rattle.hwp_check_rules.specs.Rules.{AnswersFit}
 use Rattle.hwp_check_rules.specs.declared.Rule.TheVariants.{Answers}
@@ -51,6 +52,8 @@ module _ (script : Script) (report : Report) where
             line_is = f.line_is;
             wrong = wrong;
           }))
+      by (lines.Offlined offlined) there command made wrong = absurd wrong
+      by (lines.Guest guest) there command made wrong = absurd wrong
 
   fault-line : (line : ℕ) → IsAnswerFault script report line → IsLine line
   fault-line line (inl unanswered) = inl (inl (inl unanswered))
@@ -60,9 +63,11 @@ module _ (script : Script) (report : Report) where
   event-row : (line : ℕ) (w : IsWrongEvent script report line) → IsLineWrong script report w.cpu w.rows w.row w.shown w.command
   event-row line w = by w.shown w.event w.wrong
     where
-      by : (shown : CpuLine) → is_answer shown ≡ false → IsEventWrong script report w.rows w.row (at_number w.cpu (seq_of shown)) w.command → IsLineWrong script report w.cpu w.rows w.row shown w.command
-      by (lines.Answer seq answer) event wrong = absurd (true≢false event)
+      by : (shown : CpuLine) → is_event shown ≡ true → IsEventWrong script report w.rows w.row (at_number w.cpu (seq_of shown)) w.command → IsLineWrong script report w.cpu w.rows w.row shown w.command
       by (lines.Event line) event wrong = wrong
+      by (lines.Offlined offlined) event wrong = absurd (true≢false (sym event))
+      by (lines.Guest guest) event wrong = absurd (true≢false (sym event))
+      by (lines.Answer seq answer) event wrong = absurd (true≢false (sym event))
 
   line-fault : (line : ℕ) → IsLine line → IsAnswerFault script report line
   line-fault line (inl (inl (inl unanswered))) = inl unanswered

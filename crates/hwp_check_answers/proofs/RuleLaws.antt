@@ -1,6 +1,6 @@
 -- Where each line is in place and nothing is wrong about any answer, the rule of answers holds but for the event lines.
 use Rattle.std.proofs.Common.{◌≡◌, ◌≢◌, ◌⊎◌, inl, inr, ℕ, suc, ◌<◌, ◌≤◌, ◌==◌, cond, Bool, true, false, List, [], ◌∷◌, Option, Some, None, IsSomeAnd, count_by, length, option_and_then, option_map, slice_get, take, unwrap_or, refl, sym, ap, ◌∙◌, subst, true≢false, arith}
-use Rattle.std.specs.List.{filter_map, find}
+use Rattle.std.specs.List.{filter_map, find, list_any}
 use Rattle.std.proofs.lemmas.Bool.{cases_lt, eqb-true}
 use Rattle.std.proofs.lemmas.Option.{none-some, same_Some, slice_get_within}
 use Rattle.hwp_check_evidence.specs.hwp_geom.declared.Cpu.{Cpu}
@@ -16,15 +16,16 @@ use Rattle.hwp_check_evidence.specs.hwp_report_text.declared.Answer.TheVariants 
 use Rattle.hwp_check_evidence.specs.hwp_report_text.declared.CpuLine.{CpuLine}
 use Rattle.hwp_check_evidence.specs.hwp_report_text.declared.CpuLine.TheVariants as lines
 use Rattle.hwp_check_evidence.specs.hwp_report_text.declared.Report.{Report}
-use Rattle.hwp_check_evidence.specs.hwp_law.Answers.{AreInWindows, AreNamed}
+use Rattle.hwp_check_evidence.specs.hwp_law.Answers.{AreInWindows, AreNamed, IsNamed}
 use Rattle.hwp_check_evidence.specs.hwp_law_commands.Commands.{command_at, process_at, process_of_thread, thread_of}
 use Rattle.hwp_check_evidence.specs.hwp_law.Endings.{EndingsStay, IsOver}
-use Rattle.hwp_check_evidence.specs.hwp_law.Lines.{AnswerLine, answer_among, answer_in}
+use Rattle.hwp_check_evidence.specs.hwp_law.Lines.{AnswerLine, answer_among, answer_in, rows_of}
 use Rattle.hwp_check_evidence.specs.hwp_law.States.{IsInWindow, entry_named}
-use Rattle.hwp_check_evidence.specs.Named.{is_at}
+use Rattle.hwp_check_evidence.specs.Firsts.{is_at, names_beside}
 use Rattle.hwp_check_evidence.proofs.NamedLaws.{at-is, named-at}
+use Rattle.hwp_check_evidence.proofs.NameLaws.{beside-some, some-beside}
 use Rattle.hwp_check_evidence.proofs.ListItems.{item_at, item_of_take}
-use Rattle.hwp_check_rules.specs.Answered.{AreAnswered, is_answer}
+use Rattle.hwp_check_rules.specs.Answered.{AreAnswered, HasAnswer, is_answer}
 use Rattle.hwp_check_rules.specs.declared.Rule.TheVariants.{Histories, Shape}
 use Rattle.hwp_check_rules.specs.Verdicts.{HoldBelow}
 use Rattle.hwp_check_answers.specs.Disorders.{AreOrderly}
@@ -47,6 +48,8 @@ over answer = inr (λ o. o)
 answer-line : (rows : List CpuLine) (seq : ℕ) (answer : Answer) → answer_among rows seq ≡ Some answer → (row : ℕ) × (slice_get rows row ≡ Some (lines.Answer seq answer))
 answer-line [] seq answer is = absurd (none-some answer is)
 answer-line (lines.Event event ∷ rs) seq answer is = let r = answer-line rs seq answer is in (suc r.0, r.1)
+answer-line (lines.Offlined offlined ∷ rs) seq answer is = let r = answer-line rs seq answer is in (suc r.0, r.1)
+answer-line (lines.Guest guest ∷ rs) seq answer is = let r = answer-line rs seq answer is in (suc r.0, r.1)
 answer-line (lines.Answer s a ∷ rs) seq answer is = which (seq == s) refl is (λ more. answer-line rs seq answer more)
   where
     which : (b : Bool) → (seq == s) ≡ b → option_map (λ (l : AnswerLine). l.answer) (cond b (Some (record { seq = s; answer = a })) (find (λ (l : AnswerLine). seq == l.seq) (filter_map answer_in rs))) ≡ Some answer
@@ -133,20 +136,40 @@ module _ (script : Script) (report : Report) (valid : IsValid script) (below : H
     }
 
     pub all_named : AreNamed report.pages report.cpus
-    all_named at e there answering =
-        let command = some-there (command_at script e.who) _ ((below Histories (omega arith)).made at e there) in
-        let m = made e.who command.0 command.1 in
-        let has = (all.orderly e.who.cpu.0 m.list m.rows m.of_script m.of_report).each e.who.seq (slice_get_within m.list e.who.seq command.0 m.there) in
-        let good = good-at e.who.cpu m.list m.rows has.row e.who.seq has.answer command.0 m.of_script m.of_report has.there m.there in (
-          has.answer,
-          has.row,
-          subst (λ (o : Option (List CpuLine)). IsSomeAnd o (λ (rows : List CpuLine). slice_get rows has.row ≡ Some (lines.Answer e.who.seq has.answer))) (sym m.of_report) has.there,
-          named (is_at (entry_named has.answer) at) has.answer refl (λ other. good.named (record { at = at; entry = e; there = there; own = refl; answering = answering; other = other })),
-        )
+    all_named at e there answering = which (is_at (entry_named has.answer) at) (list_any (names_beside e.who.seq at) m.rows) refl refl
       where
-        named : (b : Bool) (answer : Answer) → is_at (entry_named answer) at ≡ b → ((entry_named answer ≢ Some at) → ⊥) → entry_named answer ≡ Some at
-        named true answer is not-other = at-is (entry_named answer) at is
-        named false answer is not-other = absurd (not-other (λ same. true≢false (sym (named-at (entry_named answer) at same) ∙ is)))
+        command : (command : Command) × (command_at script e.who ≡ Some command)
+        command = some-there (command_at script e.who) _ ((below Histories (omega arith)).made at e there)
+
+        m : Made e.who command.0
+        m = made e.who command.0 command.1
+
+        has : HasAnswer m.rows e.who.seq
+        has = (all.orderly e.who.cpu.0 m.list m.rows m.of_script m.of_report).each e.who.seq (slice_get_within m.list e.who.seq command.0 m.there)
+
+        good : IsGood script report (take has.row m.rows) (at_number e.who.cpu e.who.seq) command.0 has.answer
+        good = good-at e.who.cpu m.list m.rows has.row e.who.seq has.answer command.0 m.of_script m.of_report has.there m.there
+
+        shown : (i : ℕ) (line : CpuLine) → slice_get m.rows i ≡ Some line → IsSomeAnd (slice_get report.cpus e.who.cpu.0) (λ (rows : List CpuLine). slice_get rows i ≡ Some line)
+        shown i line is = subst (λ (o : Option (List CpuLine)). IsSomeAnd o (λ (rows : List CpuLine). slice_get rows i ≡ Some line)) (sym m.of_report) is
+
+        rows_are : rows_of report e.who ≡ m.rows
+        rows_are = ap (λ (o : Option (List CpuLine)). unwrap_or o []) m.of_report
+
+        which : (answered beside : Bool) → is_at (entry_named has.answer) at ≡ answered → list_any (names_beside e.who.seq at) m.rows ≡ beside → IsNamed report.cpus at e
+        which true beside is any = (lines.Answer e.who.seq has.answer, has.row, shown has.row (lines.Answer e.who.seq has.answer) has.there, refl, at-is (entry_named has.answer) at is)
+        which false true is any =
+            let b = some-beside e.who.seq at m.rows any in (lines.Offlined b.line, b.i, shown b.i (lines.Offlined b.line) b.there, b.own, b.names)
+        which false false is any =
+            absurd (good.named (record {
+              at = at;
+              entry = e;
+              there = there;
+              own = refl;
+              answering = answering;
+              other = λ same. true≢false (sym (named-at (entry_named has.answer) at same) ∙ is);
+              beside = λ row line at_row own names. true≢false (sym (beside-some e.who.seq at m.rows row line (subst (λ (r : List CpuLine). slice_get r row ≡ Some (lines.Offlined line)) rows_are at_row) own names) ∙ any);
+            }))
 
     pub all_windows : AreInWindows report.pages report.cpus
     all_windows cpu rows i seq answer at of_report there names =

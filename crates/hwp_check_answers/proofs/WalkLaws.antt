@@ -18,6 +18,12 @@ pub next_count : (rows : List CpuLine) (row : ℕ) (line : CpuLine) → slice_ge
 next_count rows row (lines.Event event) there =
     sym (count_by_more_no is_answer rows row (lines.Event event) (slice_get_within rows row (lines.Event event) there)
     (ap is_answer (get_or_from_slice_get rows row (lines.Event event) (lines.Event event) there)))
+next_count rows row (lines.Offlined offlined) there =
+    sym (count_by_more_no is_answer rows row (lines.Offlined offlined) (slice_get_within rows row (lines.Offlined offlined) there)
+    (ap is_answer (get_or_from_slice_get rows row (lines.Offlined offlined) (lines.Offlined offlined) there)))
+next_count rows row (lines.Guest guest) there =
+    sym (count_by_more_no is_answer rows row (lines.Guest guest) (slice_get_within rows row (lines.Guest guest) there)
+    (ap is_answer (get_or_from_slice_get rows row (lines.Guest guest) (lines.Guest guest) there)))
 next_count rows row (lines.Answer seq answer) there =
     sym (count_by_more_yes is_answer rows row (lines.Answer seq answer) (slice_get_within rows row (lines.Answer seq answer) there)
     (ap is_answer (get_or_from_slice_get rows row (lines.Answer seq answer) (lines.Answer seq answer) there)))

@@ -10,7 +10,7 @@ use Rattle.hwp_check_evidence.specs.hwp_report_text.declared.CpuLine.TheVariants
 use Rattle.hwp_check_evidence.specs.hwp_report_text.declared.Report.{Report}
 use Rattle.hwp_check_evidence.specs.hwp_law.Lines.{answer_among}
 use Rattle.hwp_check_evidence.specs.Counts.{AreCounts, AreFlags}
-use Rattle.hwp_check_evidence.specs.Firsts.{entry_of}
+use Rattle.hwp_check_evidence.specs.Firsts.{AreNames, is_named}
 use Rattle.hwp_check_evidence.specs.Named.{flagged_pages}
 use Rattle.hwp_check_rules.specs.AnswerFaults.{IsAnswerWrong}
 use Rattle.hwp_check_causes.specs.Befores.{AreBefore}
@@ -29,11 +29,11 @@ pub record AreFacts (commands : List Command) (rows : List CpuLine) (facts : Fac
   pub ends_many : length facts.ends.items ≡ length commands
   pub ends : AreFlags rows facts.ends.items
 
--- the entries that the commands' answers name
+-- the entries that the commands' lines name
 pub record AreNamings (report : Report) (cpu : Cpu) (commands : List Command) (rows : List CpuLine) (naming : Naming) : Type 0 where
-  pub named : (seq : ℕ) → seq < length commands → slice_index_or naming.named.items seq None ≡ entry_of (answer_among rows seq)
+  pub names : AreNames (length commands) rows naming.names
   pub many : length naming.others.items ≡ length commands
-  pub others : naming.others.items ≡ flagged_pages naming.named.items cpu (replicate (length commands) false) 0 report.pages
+  pub others : naming.others.items ≡ flagged_pages (is_named naming.names) cpu (replicate (length commands) false) 0 report.pages
 
 -- where the line is the answer of a command, nothing is wrong about it; or something is
 abbrev pub at_number : Cpu → ℕ → Who

@@ -7,7 +7,8 @@ use Rattle.hwp_check_evidence.specs.hwp_report_text.declared.CpuLine.{CpuLine}
 use Rattle.hwp_check_evidence.specs.hwp_report_text.declared.Report.{Report}
 use Rattle.hwp_check_evidence.specs.hwp_law.Events.{AreEvents}
 use Rattle.hwp_check_rules.specs.AnswerFaults.{IsEventWrong, LacksEvents}
-use Rattle.hwp_check_rules.specs.Answered.{is_answer, seq_of}
+use Rattle.hwp_check_rules.specs.Answered.{is_event}
+use Rattle.hwp_check_rules.specs.hwp_law.Lines.{seq_of}
 use Rattle.hwp_check_rules.specs.Standing.{row_line}
 use Rattle.hwp_check_answers.specs.Facts.{at_number}
 
@@ -22,7 +23,7 @@ pub record IsWrongEvent (script : Script) (report : Report) (line : ℕ) : Type 
   pub of_script : slice_get script.lists cpu.0 ≡ Some commands
   pub of_report : slice_get report.cpus cpu.0 ≡ Some rows
   pub there : slice_get rows row ≡ Some shown
-  pub event : is_answer shown ≡ false
+  pub event : is_event shown ≡ true
   pub made : slice_get commands (seq_of shown) ≡ Some command
   pub line_is : line ≡ row_line report cpu.0 row
   pub wrong : IsEventWrong script report rows row (at_number cpu (seq_of shown)) command

@@ -1,8 +1,10 @@
 -- What is wrong about an answer, and what is not, where the lines before it are known.
 use Rattle.std.specs.Prelude.{◌≡◌, ◌↔◌, ◌+◌, ◌<◌, ℕ, Bool, true, false, List, Option, Some, None, length, replicate, slice_index_or, slice_set}
+use Rattle.std.specs.List.{list_any}
 use Rattle.hwp_check_evidence.specs.hwp_geom.declared.Cpu.{Cpu}
 use Rattle.hwp_check_evidence.specs.hwp_geom.declared.Proc.{Proc}
 use Rattle.hwp_check_evidence.specs.hwp_geom.declared.Who.{Who}
+use Rattle.hwp_check_evidence.specs.hwp_page.declared.At.{At}
 use Rattle.hwp_check_evidence.specs.hwp_page.Orders.{IsEarlier}
 use Rattle.hwp_check_evidence.specs.hwp_script_read.declared.Command.{Command}
 use Rattle.hwp_check_evidence.specs.hwp_script_read.declared.Script.{Script}
@@ -13,12 +15,13 @@ use Rattle.hwp_check_evidence.specs.hwp_report_text.declared.CpuLine.TheVariants
 use Rattle.hwp_check_evidence.specs.hwp_report_text.declared.Report.{Report}
 use Rattle.hwp_check_evidence.specs.hwp_law_commands.Commands.{process_at}
 use Rattle.hwp_check_evidence.specs.hwp_law.Endings.{WasGone}
-use Rattle.hwp_check_evidence.specs.hwp_law.Lines.{answer_among}
+use Rattle.hwp_check_evidence.specs.hwp_law.Lines.{answer_among, rows_of, seq_of}
 use Rattle.hwp_check_evidence.specs.hwp_law.States.{entry_named}
+use Rattle.hwp_check_evidence.specs.Firsts.{is_named, is_noted, names_beside}
 use Rattle.hwp_check_evidence.specs.Named.{flagged_pages}
 use Rattle.hwp_check_evidence.specs.Windows.{AreOfEarlier, floors_of}
 use Rattle.hwp_check_rules.specs.AnswerFaults.{IsOutside, IsRevived, IsUnnamed}
-use Rattle.hwp_check_rules.specs.Answered.{IsRight, seq_of}
+use Rattle.hwp_check_rules.specs.Answered.{IsRight}
 use Rattle.hwp_check_answers.specs.declared.judging.Course.{Course}
 use Rattle.hwp_check_answers.specs.declared.judging.Naming.{Naming}
 
@@ -47,11 +50,15 @@ gone_after gone _ _ = gone
 -- the same after a line
 abbrev pub gone_by : Script → Cpu → List Bool → CpuLine → List Bool
 gone_by script cpu gone (lines.Event event) = gone
+gone_by script cpu gone (lines.Offlined offlined) = gone
+gone_by script cpu gone (lines.Guest guest) = gone
 gone_by script cpu gone (lines.Answer seq answer) = gone_after gone (process_at script (record { cpu = cpu; seq = seq })) answer
 
 -- the number of the command whose answer comes next, after a line
 abbrev pub next_seq : ℕ → CpuLine → ℕ
 next_seq seq (lines.Event event) = seq
+next_seq seq (lines.Offlined offlined) = seq
+next_seq seq (lines.Guest guest) = seq
 next_seq seq (lines.Answer s answer) = seq + 1
 
 -- the line is of the command whose answer comes next, and if it is an answer it is the command's first
@@ -66,11 +73,12 @@ pub record IsGood (script : Script) (report : Report) (before : List CpuLine) (w
   pub within : IsOutside report before who answer → ⊥
   pub stays : IsRevived script report who answer → ⊥
 
--- what is known of a processor's commands by their numbers: the places that their answers name, and for which of them some entry is elsewhere
+-- what is known of a processor's commands by their numbers: the places that their lines name, and for which of them some entry is elsewhere
 pub record IsNaming (report : Report) (who : Who) (answer : Answer) (naming : Naming) : Type 0 where
   pub inside : who.seq < length naming.others.items
-  pub named : slice_index_or naming.named.items who.seq None ≡ entry_named answer
-  pub others : naming.others.items ≡ flagged_pages naming.named.items who.cpu (replicate (length naming.others.items) false) 0 report.pages
+  pub named : slice_index_or naming.names.answers.items who.seq None ≡ entry_named answer
+  pub beside : (at : At) → is_noted naming.names.beside who.seq at ≡ list_any (names_beside who.seq at) (rows_of report who)
+  pub others : naming.others.items ≡ flagged_pages (is_named naming.names) who.cpu (replicate (length naming.others.items) false) 0 report.pages
 
 -- what is known of an answer, and of the lines before it, is right
 pub record IsKnownAnswer (script : Script) (report : Report) (before : List CpuLine) (who : Who) (answer : Answer) (course : Course) (naming : Naming) : Type 0 where

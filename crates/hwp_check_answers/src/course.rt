@@ -31,7 +31,7 @@ fn flag_by(script: &Script, cpu: Cpu, gone: &mut Vec<bool>, row: &CpuLine)
     ensures { gone.new.items ≡ gone_by script.now cpu gone.old.items row.now }
 {
     match row {
-        CpuLine::Event(_) => {}
+        CpuLine::Event(_) | CpuLine::Offlined(_) | CpuLine::Guest(_) => {}
         CpuLine::Answer { seq, answer } => {
             let who = Who { cpu, seq: *seq };
             flag(gone, process_at(script, who), answer);

@@ -6,7 +6,7 @@ ghost use Rattle.hwp_check_causes.specs.Knowing.{IsOwn};
 
 use crate::judging::Naming;
 use hwp_check_causes::{CommandFacts, ProcessorFacts, own_of, policies_before};
-use hwp_check_evidence::{entries_named, event_counts, event_ends, first_answers};
+use hwp_check_evidence::{event_counts, event_ends, names_of};
 use hwp_check_rules::{Command, Cpu, CpuLine, OutOfMemory, Policy, Report, Script};
 use std::alloc::Global;
 
@@ -39,7 +39,7 @@ pub(crate) fn facts_of(
     })
 }
 
-/// What is known of a report for the answers of a processor, and the entries that its commands' answers name.
+/// What is known of a report for the answers of a processor, and the entries that its commands' lines name.
 pub(crate) fn own_and_naming(
     alloc: Global,
     script: &Script,
@@ -52,11 +52,10 @@ pub(crate) fn own_and_naming(
     ensures own { IfOk result (λ known. IsOwn script.now report.now cpu known.0) }
     ensures naming { IfOk result (λ known. AreNamings report.now cpu commands.now rows.now known.1) }
 {
-    let answers = first_answers(alloc, commands.len(), rows)?;
-    let named = entries_named(alloc, answers.as_slice())?;
     let count = commands.len();
-    let (own, others) = own_of(alloc, script, report, cpu, count, named.as_slice())?;
-    Ok((own, Naming { named, others }))
+    let names = names_of(alloc, count, rows)?;
+    let (own, others) = own_of(alloc, script, report, cpu, count, &names)?;
+    Ok((own, Naming { names, others }))
 }
 
 /// The policy at a number.

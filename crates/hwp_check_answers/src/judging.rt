@@ -9,7 +9,7 @@ ghost use Rattle.hwp_check_answers.specs.Walk.{IsRightlyGiven, IsWronglyGiven};
 
 use crate::given::GivenAnswer;
 use hwp_check_causes::{is_right, named_state, process_at};
-use hwp_check_evidence::{had_ended, is_elsewhere, is_in_span, is_not_below};
+use hwp_check_evidence::{Names, had_ended, is_elsewhere, is_in_span, is_not_below};
 use hwp_check_rules::{Answer, At, Proc};
 
 /// What the lines before an answer tell.
@@ -24,9 +24,9 @@ pub struct Course {
 /// What is known of a processor's commands, by their numbers.
 #[derive(Drop)]
 pub struct Naming {
-    /// The places of the entries that their answers name.
-    pub named: Vec<Option<At>>,
-    /// Whether they have an entry elsewhere that their answer has to name.
+    /// The places of the entries that their lines name.
+    pub names: Names,
+    /// Whether they have an entry that one of their lines has to name, and none does.
     pub others: Vec<bool>,
 }
 
@@ -108,16 +108,15 @@ fn is_outside(given: &GivenAnswer<'_>) -> bool
     }
 }
 
-/// Whether the command has an entry that its answer has to name, and doesn't.
+/// Whether the command has an entry that a line of it has to name, and none does.
 #[tactic(auto, using(crate::proofs::JudgeLaws::unnamed_is, crate::proofs::JudgeLaws::is_unnamed))]
 fn is_unnamed(given: &GivenAnswer<'_>) -> bool
     ensures { IsTrue result ↔ IsUnnamed given.now.report given.now.who given.now.answer }
 {
     let pages = given.case.report().pages.as_slice();
-    let named = given.naming.named.as_slice();
     is_elsewhere(
         pages,
-        named,
+        &given.naming.names,
         given.naming.others.as_slice(),
         given.case.who(),
     )

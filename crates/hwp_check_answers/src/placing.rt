@@ -1,5 +1,6 @@
 ghost use Rattle.std.specs.Prelude.{◌≡◌, ◌↔◌, IsTrue, IfOk, MatchOption, Some, false, slice_get};
-ghost use Rattle.hwp_check_rules.specs.Answered.{seq_of};
+ghost use Rattle.hwp_check_rules.specs.Answered.{is_event_or_answer};
+ghost use Rattle.hwp_check_rules.specs.hwp_law.Lines.{seq_of};
 ghost use Rattle.hwp_check_answers.specs.Placing.{AreInPlace, AreSet, HasNone, HaveAnswers, IsFirstOut, IsOfNext, TellAnswers, marked};
 
 use hwp_check_rules::{Command, CpuLine, OutOfMemory, is_answer};
@@ -11,16 +12,28 @@ fn seq_of(row: &CpuLine) -> u32
 {
     match row {
         CpuLine::Event(event) => event.seq,
+        CpuLine::Offlined(offlined) => offlined.seq,
+        CpuLine::Guest(guest) => guest.seq,
         CpuLine::Answer { seq, .. } => *seq,
     }
 }
 
-/// Whether the line is of the command that comes next, where so many were answered.
+/// Whether the line is an event line or an answer.
+fn is_event_or_answer(row: &CpuLine) -> bool
+    ensures { result ≡ is_event_or_answer row.now }
+{
+    match row {
+        CpuLine::Event(_) | CpuLine::Answer { .. } => true,
+        CpuLine::Offlined(_) | CpuLine::Guest(_) => false,
+    }
+}
+
+/// Whether the line is of the command that comes next, where so many were answered, and of a kind that commands have.
 fn is_of_next(answered: usize, commands: usize, row: &CpuLine) -> bool
     ensures { IsTrue result ↔ IsOfNext answered commands row.now }
 {
     let seq = seq_of(row) as usize;
-    seq == answered && seq < commands
+    seq == answered && seq < commands && is_event_or_answer(row)
 }
 
 /// The number of the first line of a processor that is not of the command whose answer comes next.
@@ -43,7 +56,7 @@ fn mark(flags: &mut Vec<bool>, row: &CpuLine)
     ensures { flags.new.items ≡ marked row.now flags.old.items }
 {
     match row {
-        CpuLine::Event(_) => {}
+        CpuLine::Event(_) | CpuLine::Offlined(_) | CpuLine::Guest(_) => {}
         CpuLine::Answer { seq, .. } => {
             let at = *seq as usize;
             if at < flags.len() {

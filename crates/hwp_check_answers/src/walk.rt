@@ -67,7 +67,7 @@ fn is_good_row(
     ensures { MatchBool result (IsGoodLine processor.now number row.now) (IsBadLine processor.now number row.now) }
 {
     match row {
-        CpuLine::Event(_) => true,
+        CpuLine::Event(_) | CpuLine::Offlined(_) | CpuLine::Guest(_) => true,
         CpuLine::Answer { seq, answer } => {
             is_good_answer(processor, number, course, *seq, answer)
         }

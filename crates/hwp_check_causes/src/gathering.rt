@@ -1,15 +1,16 @@
 ghost use Rattle.std.specs.Prelude.{◌≡◌, ◌≤◌, false, replicate, IfOk, length};
 ghost use Rattle.hwp_check_evidence.specs.hwp_geom.Limits.{page_limit};
 ghost use Rattle.hwp_check_evidence.specs.Glances.{AreLegalSteps};
+ghost use Rattle.hwp_check_evidence.specs.Firsts.{is_named};
 ghost use Rattle.hwp_check_evidence.specs.Named.{flagged_pages};
 ghost use Rattle.hwp_check_causes.specs.Knowing.{IsKnown, IsOwn};
 ghost use Rattle.hwp_check_rules.specs.Verdicts.{HoldBelow};
 ghost use Rattle.hwp_check_evidence.specs.hwp_script_read.Valid.{IsValid};
 
 use crate::facts::{ProcessorFacts, ReportFacts};
-use hwp_check_evidence::{Findings, findings_of, glances_of, is_ample, reported};
+use hwp_check_evidence::{Findings, Names, findings_of, glances_of, is_ample, reported};
 use hwp_check_poison::{past_of, results_of};
-use hwp_check_rules::{At, Cpu, OutOfMemory, Report, Script};
+use hwp_check_rules::{Cpu, OutOfMemory, Report, Script};
 use std::alloc::Global;
 
 /// What is known of a report whose histories are legal.
@@ -24,26 +25,26 @@ pub fn known_of(alloc: Global, script: &Script, report: &Report) -> Result<Repor
     Ok(ReportFacts { ample, glances })
 }
 
-/// What is known of it for the answers of so many commands of one processor, which name these places; and which of the commands
-/// have an entry that their answers have to name, and don't.
+/// What is known of it for the answers of so many commands of one processor, whose lines name these places; and which of the
+/// commands have an entry that one of their lines has to name, and none does.
 pub fn own_of(
     alloc: Global,
     script: &Script,
     report: &Report,
     cpu: Cpu,
     commands: usize,
-    named: &[Option<At>],
+    names: &Names,
 ) -> Result<(ProcessorFacts, Vec<bool>), OutOfMemory>
     requires { length report.now.pages ≤ page_limit }
     ensures own { IfOk result (λ known. IsOwn script.now report.now cpu known.0) }
-    ensures others { IfOk result (λ known. known.1.items ≡ flagged_pages named.now cpu (replicate commands false) 0 report.now.pages) }
+    ensures others { IfOk result (λ known. known.1.items ≡ flagged_pages (is_named names.now) cpu (replicate commands false) 0 report.now.pages) }
     ensures many { IfOk result (λ known. length known.1.items ≡ commands) }
 {
     let pages = report.pages.as_slice();
     let reported = reported(cpu, report.frames.as_slice());
     let past = past_of(alloc, cpu, report.frames.as_slice())?;
     let results = results_of(alloc, cpu, report.frames.as_slice())?;
-    let found = findings_of(alloc, &script.layout, cpu, commands, named, pages)?;
+    let found = findings_of(alloc, &script.layout, cpu, commands, names, pages)?;
     let Findings {
         ends,
         ended,

@@ -13,6 +13,8 @@ use Rattle.hwp_check_events.specs.Indexed.{AreFirst, answer_here, first_answer, 
 -- a line more at the front, and at the end
 front-answer : (seq : ℕ) (row : CpuLine) (rows : List CpuLine) → answer_among (row ∷ rows) seq ≡ first_answer (answer_here seq row) (answer_among rows seq)
 front-answer seq (lines.Event event) rows = refl
+front-answer seq (lines.Offlined offlined) rows = refl
+front-answer seq (lines.Guest guest) rows = refl
 front-answer seq (lines.Answer s answer) rows = by (seq == s)
   where
     by : (b : Bool) → option_map (λ (l : AnswerLine). l.answer) (cond b (Some (record { seq = s; answer = answer })) (find (λ (l : AnswerLine). seq == l.seq) (filter_map answer_in rows)))
@@ -39,10 +41,14 @@ Firsts rows count n answers = AreFirst (take n rows) count answers
 
 with-size : (row : CpuLine) (answers : List (Option Answer)) → length (with_answer row answers) ≡ length answers
 with-size (lines.Event event) answers = refl
+with-size (lines.Offlined offlined) answers = refl
+with-size (lines.Guest guest) answers = refl
 with-size (lines.Answer s answer) answers = length-set answers s (first_answer (slice_index_or answers s None) (Some answer))
 
 with-each : (row : CpuLine) (answers : List (Option Answer)) (seq : ℕ) (answer before : Option Answer) → slice_get (with_answer row answers) seq ≡ Some answer → ((a : Option Answer) → slice_get answers seq ≡ Some a → a ≡ before) → answer ≡ first_answer before (answer_here seq row)
 with-each (lines.Event event) answers seq answer before there each = each answer there ∙ sym (first-none before)
+with-each (lines.Offlined offlined) answers seq answer before there each = each answer there ∙ sym (first-none before)
+with-each (lines.Guest guest) answers seq answer before there each = each answer there ∙ sym (first-none before)
 with-each (lines.Answer s own) answers seq answer before there each = which (cases_eq seq s)
   where
     within : seq < length answers

@@ -93,6 +93,8 @@ so-last rows count n lists all so = subst (λ (r : List CpuLine). AreShown r cou
 told-from : (seq : ℕ) (rows : List CpuLine) (place : ℕ) → shown_lines (shown_from seq place rows) ≡ events_among rows seq
 told-from seq [] place = refl
 told-from seq (lines.Answer s answer ∷ rows) place = told-from seq rows (place + 1)
+told-from seq (lines.Offlined offlined ∷ rows) place = told-from seq rows (place + 1)
+told-from seq (lines.Guest guest ∷ rows) place = told-from seq rows (place + 1)
 told-from seq (lines.Event event ∷ rows) place = by (told-from seq rows (place + 1)) (seq == event.seq)
   where
     now : Shown

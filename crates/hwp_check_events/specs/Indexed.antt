@@ -13,6 +13,8 @@ use Rattle.hwp_check_event_line.specs.declared.Shown.{Shown}
 -- the event that a line shows, which stands at this place
 abbrev pub shown_at : ℕ → CpuLine → Option Shown
 shown_at place (lines.Event event) = Some (record { place = place; line = event })
+shown_at place (lines.Offlined offlined) = None
+shown_at place (lines.Guest guest) = None
 shown_at place (lines.Answer seq answer) = None
 
 -- the event with its place where it is of the command with this number
@@ -38,6 +40,8 @@ pub record AreShown (rows : List CpuLine) (count : ℕ) (lists : List (List Show
 -- what a line answers to the command with this number; the first answer of two; the first that lines give it
 abbrev pub answer_here : ℕ → CpuLine → Option Answer
 answer_here seq (lines.Event event) = None
+answer_here seq (lines.Offlined offlined) = None
+answer_here seq (lines.Guest guest) = None
 answer_here seq (lines.Answer s answer) = cond (seq == s) (Some answer) None
 
 abbrev pub first_answer : Option Answer → Option Answer → Option Answer
@@ -47,6 +51,8 @@ first_answer (Some answer) other = Some answer
 -- a line more in the first answers of the commands
 abbrev pub with_answer : CpuLine → List (Option Answer) → List (Option Answer)
 with_answer (lines.Event event) answers = answers
+with_answer (lines.Offlined offlined) answers = answers
+with_answer (lines.Guest guest) answers = answers
 with_answer (lines.Answer s answer) answers = slice_set answers s (first_answer (slice_index_or answers s None) (Some answer))
 
 -- for each command its first answer

@@ -11,7 +11,7 @@ fn shown_at(place: usize, row: &CpuLine) -> Option<Shown>
 {
     match *row {
         CpuLine::Event(line) => Some(Shown { place, line }),
-        CpuLine::Answer { .. } => None,
+        CpuLine::Offlined(_) | CpuLine::Guest(_) | CpuLine::Answer { .. } => None,
     }
 }
 

@@ -17,6 +17,8 @@ one_if false = 0
 
 pub count-many : (counts : List ℕ) (row : CpuLine) → length (counted counts row) ≡ length counts
 count-many counts (lines.Event event) = length-set counts event.seq (get_or counts event.seq 0 + 1)
+count-many counts (lines.Offlined offlined) = refl
+count-many counts (lines.Guest guest) = refl
 count-many counts (lines.Answer seq answer) = refl
 
 flag-many : (flags : List Bool) (row : CpuLine) → length (flagged_by flags row) ≡ length flags
@@ -25,11 +27,15 @@ flag-many flags (lines.Event event) = which (is_stopping event.acted || is_panic
     which : (b : Bool) → length (cond b (set flags event.seq true) flags) ≡ length flags
     which true = length-set flags event.seq true
     which false = refl
+flag-many flags (lines.Offlined offlined) = refl
+flag-many flags (lines.Guest guest) = refl
 flag-many flags (lines.Answer seq answer) = refl
 
 -- one line more is one event more at most
 pub few_more : (n : ℕ) (counts : List ℕ) (row : CpuLine) → AreFew n counts → AreFew (n + 1) (counted counts row)
 few_more n counts (lines.Answer seq answer) few = λ k. let low : get_or counts k 0 ≤ n = few k in omega (arith, low)
+few_more n counts (lines.Offlined offlined) few = λ k. let low : get_or counts k 0 ≤ n = few k in omega (arith, low)
+few_more n counts (lines.Guest guest) few = λ k. let low : get_or counts k 0 ≤ n = few k in omega (arith, low)
 few_more n counts (lines.Event event) few = λ k. elim (cases_eq k event.seq) [
   | inl here ↦ elim (cases_lt k (length counts)) [
     | inl inside ↦
@@ -64,6 +70,8 @@ module _ (seq : ℕ) where
   counts-law : (rows : List CpuLine) (counts : List ℕ) → seq < length counts → get_or (fold counted counts rows) seq 0 ≡ get_or counts seq 0 + length (events_among rows seq)
   counts-law [] counts inside = omega arith
   counts-law (lines.Answer s answer ∷ rs) counts inside = counts-law rs counts inside
+  counts-law (lines.Offlined offlined ∷ rs) counts inside = counts-law rs counts inside
+  counts-law (lines.Guest guest ∷ rs) counts inside = counts-law rs counts inside
   counts-law (lines.Event event ∷ rs) counts inside =
       by (counts-law rs (set counts event.seq (get_or counts event.seq 0 + 1)) (subst (λ (m : ℕ). seq < m) (sym (length-set counts event.seq (get_or counts event.seq 0 + 1))) inside))
     where
@@ -120,6 +128,8 @@ module _ (seq : ℕ) where
   flags-law : (rows : List CpuLine) (flags : List Bool) → seq < length flags → get_or (fold flagged_by flags rows) seq false ≡ (get_or flags seq false || list_any ends_machine (events_among rows seq))
   flags-law [] flags inside = sym (or-false (get_or flags seq false))
   flags-law (lines.Answer s answer ∷ rs) flags inside = flags-law rs flags inside
+  flags-law (lines.Offlined offlined ∷ rs) flags inside = flags-law rs flags inside
+  flags-law (lines.Guest guest ∷ rs) flags inside = flags-law rs flags inside
   flags-law (lines.Event event ∷ rs) flags inside =
       flags-law rs (flagged_by flags (lines.Event event)) (subst (λ (m : ℕ). seq < m) (sym (flag-many flags (lines.Event event))) inside)
       ∙ ap (λ (b : Bool). b || list_any ends_machine (events_among rs seq)) (flag-at flags event.seq (is_stopping event.acted || is_panic event.acted) inside)

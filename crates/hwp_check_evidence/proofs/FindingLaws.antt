@@ -1,5 +1,5 @@
 -- What was found in the first pages and is found in the others is what is found in all.
-use Rattle.std.proofs.Common.{◌≡◌, ℕ, ◌+◌, ◌<◌, ◌≤◌, Bool, false, List, [], ◌∷◌, ◌++◌, Option, Some, append_assoc, drop, fold, get_or, length, map, option_map, replicate, slice_get, refl, sym, ap, ◌∙◌, subst, arith}
+use Rattle.std.proofs.Common.{◌≡◌, ℕ, ◌+◌, ◌<◌, ◌≤◌, Bool, false, List, [], ◌∷◌, ◌++◌, Some, append_assoc, drop, fold, get_or, length, map, option_map, replicate, slice_get, refl, sym, ap, ◌∙◌, subst, arith}
 use Rattle.std.proofs.lemmas.List.{append-nil, at_drop_all, at_drop_more, length-map, length_push}
 use Rattle.std.proofs.lemmas.Option.{none-some, same_Some, slice_get-map, slice_get_read}
 use Rattle.hwp_law.specs.hwp_geom.declared.Cpu.{Cpu}
@@ -27,7 +27,7 @@ list-next f made all xs n x low is so =
     ∙ sym (at_drop_more (λ (l : List _). made ++ map f l) xs n x low)
     ∙ so
 
-module _ (layout : Layout) (named : List (Option At)) (cpu : Cpu) (commands : ℕ) (pages : List (List Entry)) where
+module _ (layout : Layout) (named : ℕ → At → Bool) (cpu : Cpu) (commands : ℕ) (pages : List (List Entry)) where
   -- what was found in the first pages
   pub record IsFoundUpTo (n : ℕ) (found : Findings) : Type 0 where
     pub ends : found.ends.items ++ map (page_ends layout cpu) (drop n pages) ≡ map (page_ends layout cpu) pages

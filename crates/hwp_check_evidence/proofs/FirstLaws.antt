@@ -12,6 +12,8 @@ use Rattle.hwp_check_evidence.specs.Firsts.{AreAnswersOf, answered_by}
 
 by-many : (list : List (Option Answer)) (row : CpuLine) → length (answered_by list row) ≡ length list
 by-many list (lines.Event event) = refl
+by-many list (lines.Offlined offlined) = refl
+by-many list (lines.Guest guest) = refl
 by-many list (lines.Answer seq answer) = length-set list seq (option_or (get_or list seq None) (Some answer))
 
 all-many : (rows : List CpuLine) (list : List (Option Answer)) → length (fold answered_by list rows) ≡ length list
@@ -37,6 +39,8 @@ module _ (seq : ℕ) where
   answers-law : (rows : List CpuLine) (list : List (Option Answer)) → seq < length list → get_or (fold answered_by list rows) seq None ≡ option_or (get_or list seq None) (answer_among rows seq)
   answers-law [] list inside = sym (or-none (get_or list seq None))
   answers-law (lines.Event event ∷ rs) list inside = answers-law rs list inside
+  answers-law (lines.Offlined offlined ∷ rs) list inside = answers-law rs list inside
+  answers-law (lines.Guest guest ∷ rs) list inside = answers-law rs list inside
   answers-law (lines.Answer s answer ∷ rs) list inside =
       answers-law rs (answered_by list (lines.Answer s answer)) (subst (λ (m : ℕ). seq < m) (sym (by-many list (lines.Answer s answer))) inside)
       ∙ step ∙ ap (option_or (get_or list seq None)) (sym (among-is s answer rs))

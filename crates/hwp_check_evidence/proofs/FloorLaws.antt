@@ -69,6 +69,8 @@ same-page a b is = λ i. record { 0 = is i }
 
 answer-row : (row : CpuLine) (bt : At) → named_in row ≡ Some bt → (seq : ℕ) × (answer : Answer) × (row ≡ lines.Answer seq answer) × (place_named answer ≡ Some bt)
 answer-row (lines.Event event) bt named = absurd (none-some bt named)
+answer-row (lines.Offlined offlined) bt named = absurd (none-some bt named)
+answer-row (lines.Guest guest) bt named = absurd (none-some bt named)
 answer-row (lines.Answer seq answer) bt named = (seq, answer, refl, named)
 
 module _ (pages : ℕ) (rows : List CpuLine) (who : Who) (at : At) (small : at.page.0 < pages) where

@@ -11,4 +11,5 @@ mod MarkLaws
 pub mod NamedLaws
 mod CountLaws
 mod FirstLaws
+pub mod NameLaws
 mod FindingLaws

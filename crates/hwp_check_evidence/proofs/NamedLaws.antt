@@ -1,4 +1,4 @@
--- A command is flagged exactly where one of its entries that its answer has to name is elsewhere.
+-- A command is flagged exactly where no line of it names one of its entries that has to be named.
 use Rattle.std.proofs.Common.{◌≡◌, ◌≢◌, ◌⊎◌, inl, inr, ℕ, zero, suc, ◌+◌, ◌<◌, ◌==◌, ◌&&◌, not, Bool, true, false, cond, List, [], ◌∷◌, Option, Some, None, get_or, set, replicate, length, slice_get, refl, sym, ap, ◌∙◌, subst, true≢false, arith}
 use Rattle.std.proofs.lemmas.Bool.{cases_eq, eq-eqb, eqb-true}
 use Rattle.std.proofs.lemmas.List.{get_or-set_same, get_or-set_other, get_or-replicate, length-replicate, length-set}
@@ -9,7 +9,8 @@ use Rattle.hwp_law.specs.hwp_geom.declared.Who.{Who}
 use Rattle.hwp_law.specs.hwp_page.declared.At.{At}
 use Rattle.hwp_law.specs.hwp_page.declared.Entry.{Entry}
 use Rattle.hwp_law.specs.Answers.{is_answering}
-use Rattle.hwp_check_evidence.specs.Named.{HasOther, flagged, flagged_page, flagged_pages, is_at, is_other}
+use Rattle.hwp_check_evidence.specs.Firsts.{is_at}
+use Rattle.hwp_check_evidence.specs.Named.{HasOther, flagged, flagged_page, flagged_pages, is_other}
 use Rattle.hwp_check_evidence.proofs.WindowLaws.{entry-is, is-entry}
 
 both : (a b : Bool) → (a && b) ≡ true → (a ≡ true) × (b ≡ true)
@@ -20,13 +21,9 @@ and-true : (a b : Bool) → a ≡ true → b ≡ true → (a && b) ≡ true
 and-true true b one other = other
 and-true false b one other = absurd (true≢false (sym one))
 
-not-is : (b : Bool) → (not b) ≡ true → b ≡ true → ⊥
-not-is true e is = true≢false (sym e)
-not-is false e is = true≢false (sym is)
-
-is-not : (b : Bool) → (b ≡ true → ⊥) → (not b) ≡ true
-is-not true none = absurd (none refl)
-is-not false none = refl
+not-false : (b : Bool) → (not b) ≡ true → b ≡ false
+not-false true e = absurd (true≢false (sym e))
+not-false false e = refl
 
 same-at : (a b : At) → a.page.0 ≡ b.page.0 → a.entry ≡ b.entry → a ≡ b
 same-at a b page entry = λ i. record { page = record { 0 = page i }; entry = entry i }
@@ -41,30 +38,30 @@ named-at (Some a) at is =
     let same : a ≡ at = same_Some _ _ is in
     and-true (a.page.0 == at.page.0) (a.entry == at.entry) (eq-eqb a.page.0 at.page.0 (ap (λ (x : At). x.page.0) same)) (eq-eqb a.entry at.entry (ap (λ (x : At). x.entry) same))
 
-module _ (named : List (Option At)) (cpu : Cpu) (seq : ℕ) where
+module _ (named : ℕ → At → Bool) (cpu : Cpu) (seq : ℕ) where
   -- the entry at the place flags the command
   record Flags (at : At) (e : Entry) : Type 0 where
     own_cpu : e.who.cpu.0 ≡ cpu.0
     own_seq : e.who.seq ≡ seq
     answering : is_answering e.what ≡ true
-    other : get_or named seq None ≢ Some at
+    other : named seq at ≡ false
 
   flags-is : (at : At) (e : Entry) → is_other named cpu at e ≡ true → e.who.seq ≡ seq → Flags at e
   flags-is at e is own =
-      let p = both ((e.who.cpu.0 == cpu.0) && is_answering e.what) (not (is_at (get_or named e.who.seq None) at)) is in
+      let p = both ((e.who.cpu.0 == cpu.0) && is_answering e.what) (not (named e.who.seq at)) is in
       let q = both (e.who.cpu.0 == cpu.0) (is_answering e.what) p.0 in
       record {
         own_cpu = eqb-true e.who.cpu.0 cpu.0 q.0;
         own_seq = own;
         answering = q.1;
-        other = λ same. not-is (is_at (get_or named e.who.seq None) at) p.1 (named-at (get_or named e.who.seq None) at (ap (λ (n : ℕ). get_or named n None) own ∙ same));
+        other = ap (λ (n : ℕ). named n at) (sym own) ∙ not-false (named e.who.seq at) p.1;
       }
 
   is-flags : (at : At) (e : Entry) → Flags at e → is_other named cpu at e ≡ true
   is-flags at e f =
-      and-true ((e.who.cpu.0 == cpu.0) && is_answering e.what) (not (is_at (get_or named e.who.seq None) at))
+      and-true ((e.who.cpu.0 == cpu.0) && is_answering e.what) (not (named e.who.seq at))
       (and-true (e.who.cpu.0 == cpu.0) (is_answering e.what) (eq-eqb e.who.cpu.0 cpu.0 f.own_cpu) f.answering)
-      (is-not (is_at (get_or named e.who.seq None) at) (λ same. f.other (sym (ap (λ (n : ℕ). get_or named n None) f.own_seq) ∙ at-is (get_or named e.who.seq None) at same)))
+      (ap not (ap (λ (n : ℕ). named n at) f.own_seq ∙ f.other))
 
   abbrev IsSet : List Bool → Type 0
   IsSet flags = get_or flags seq false ≡ true
@@ -175,17 +172,17 @@ module _ (named : List (Option At)) (cpu : Cpu) (seq : ℕ) where
       new-pages rest (n + 1) (flagged_page named cpu (record { 0 = n }) flags 0 x) p i list e (inside-page (record { 0 = n }) x flags inside) at there
       (subst (λ (m : ℕ). Flags (record { page = record { 0 = m }; entry = i }) e) (let z : n + suc p ≡ n + 1 + p = omega arith in z) f)
 
-flagged-length : (named : List (Option At)) (cpu : Cpu) (pages : List (List Entry)) (n : ℕ) (flags : List Bool) → length (flagged_pages named cpu flags n pages) ≡ length flags
+flagged-length : (named : ℕ → At → Bool) (cpu : Cpu) (pages : List (List Entry)) (n : ℕ) (flags : List Bool) → length (flagged_pages named cpu flags n pages) ≡ length flags
 flagged-length named cpu [] n flags = refl
 flagged-length named cpu (x ∷ rest) n flags = flagged-length named cpu rest (n + 1) (flagged_page named cpu (record { 0 = n }) flags 0 x) ∙ page-many named cpu 0 (record { 0 = n }) x 0 flags
 
-pub others_many : (named : List (Option At)) (cpu : Cpu) (pages : List (List Entry)) (commands : ℕ) → length (flagged_pages named cpu (replicate commands false) 0 pages) ≡ commands
+pub others_many : (named : ℕ → At → Bool) (cpu : Cpu) (pages : List (List Entry)) (commands : ℕ) → length (flagged_pages named cpu (replicate commands false) 0 pages) ≡ commands
 others_many named cpu pages commands = flagged-length named cpu pages 0 (replicate commands false) ∙ length-replicate {A = Bool} commands false
 
 same-who : (a b : Who) → a.cpu.0 ≡ b.cpu.0 → a.seq ≡ b.seq → a ≡ b
 same-who a b cpu seq = λ i. record { cpu = record { 0 = cpu i }; seq = seq i }
 
-module _ (pages : List (List Entry)) (named : List (Option At)) (commands : ℕ) (who : Who) (inside : who.seq < commands) where
+module _ (pages : List (List Entry)) (named : ℕ → At → Bool) (commands : ℕ) (who : Who) (inside : who.seq < commands) where
   abbrev none : List Bool
   none = replicate commands false
 
@@ -193,7 +190,7 @@ module _ (pages : List (List Entry)) (named : List (Option At)) (commands : ℕ)
   within = subst (λ (m : ℕ). who.seq < m) (sym (length-replicate {A = Bool} commands false)) inside
 
   -- a flagged command has such an entry
-  pub flagged-other : get_or (flagged_pages named who.cpu none 0 pages) who.seq false ≡ true → HasOther pages who (get_or named who.seq None)
+  pub flagged-other : get_or (flagged_pages named who.cpu none 0 pages) who.seq false ≡ true → HasOther pages who (named who.seq)
   flagged-other is = elim (pages-flagged named who.cpu who.seq pages 0 none is) [
     | inl old ↦ absurd (true≢false (sym old ∙ get_or-replicate {A = Bool} commands who.seq false false inside))
     | inr f ↦ record {
@@ -202,16 +199,16 @@ module _ (pages : List (List Entry)) (named : List (Option At)) (commands : ℕ)
       there = entry-is pages (record { 0 = f.p }) f.flag.i f.list f.flag.e f.at f.flag.there;
       own = same-who f.flag.e.who who f.flag.flags.own_cpu f.flag.flags.own_seq;
       answering = f.flag.flags.answering;
-      other = λ is. f.flag.flags.other (is ∙ ap Some (same-at (record { page = record { 0 = f.p }; entry = f.flag.i }) (record { page = record { 0 = 0 + f.p }; entry = 0 + f.flag.i }) (omega arith) (omega arith)));
+      other = ap (named who.seq) (same-at (record { page = record { 0 = f.p }; entry = f.flag.i }) (record { page = record { 0 = 0 + f.p }; entry = 0 + f.flag.i }) (omega arith) (omega arith)) ∙ f.flag.flags.other;
     }
   ]
 
-  pub other-flagged : HasOther pages who (get_or named who.seq None) → get_or (flagged_pages named who.cpu none 0 pages) who.seq false ≡ true
+  pub other-flagged : HasOther pages who (named who.seq) → get_or (flagged_pages named who.cpu none 0 pages) who.seq false ≡ true
   other-flagged h =
       let f = is-entry pages h.at h.entry h.there in
       new-pages named who.cpu who.seq pages 0 none h.at.page.0 h.at.entry f.entries h.entry within f.page f.there (record {
         own_cpu = ap (λ (w : Who). w.cpu.0) h.own;
         own_seq = ap (λ (w : Who). w.seq) h.own;
         answering = h.answering;
-        other = λ is. h.other (is ∙ ap Some (same-at (record { page = record { 0 = 0 + h.at.page.0 }; entry = h.at.entry }) h.at (omega arith) refl));
+        other = ap (named who.seq) (same-at (record { page = record { 0 = 0 + h.at.page.0 }; entry = h.at.entry }) h.at (omega arith) refl) ∙ h.other;
       })

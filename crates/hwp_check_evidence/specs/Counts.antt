@@ -10,11 +10,15 @@ use Rattle.hwp_law.specs.Lines.{events_among}
 -- the counts with a line more
 abbrev pub counted : List ℕ → CpuLine → List ℕ
 counted counts (lines.Event event) = slice_set counts event.seq (slice_index_or counts event.seq 0 + 1)
+counted counts (lines.Offlined offlined) = counts
+counted counts (lines.Guest guest) = counts
 counted counts (lines.Answer seq answer) = counts
 
 -- and the flags
 abbrev pub flagged_by : List Bool → CpuLine → List Bool
 flagged_by flags (lines.Event event) = cond (is_stopping event.acted || is_panic event.acted) (slice_set flags event.seq true) flags
+flagged_by flags (lines.Offlined offlined) = flags
+flagged_by flags (lines.Guest guest) = flags
 flagged_by flags (lines.Answer seq answer) = flags
 
 -- no command has more than so many

@@ -1,5 +1,5 @@
 -- What the histories tell of the commands of one processor.
-use Rattle.std.specs.Prelude.{◌≡◌, ℕ, false, List, [], ◌∷◌, ◌++◌, Option, length, replicate}
+use Rattle.std.specs.Prelude.{◌≡◌, ℕ, Bool, false, List, [], ◌∷◌, ◌++◌, length, replicate}
 use Rattle.hwp_law.specs.hwp_geom.declared.Cpu.{Cpu}
 use Rattle.hwp_law.specs.hwp_geom.declared.Layout.{Layout}
 use Rattle.hwp_law.specs.hwp_geom.declared.Page.{Page}
@@ -12,7 +12,7 @@ use Rattle.hwp_check_evidence.specs.declared.findings.Findings.{Findings}
 use Rattle.hwp_check_evidence.specs.declared.windows.Span.{Span}
 
 -- what was found with one page more
-pub record IsAdded (layout : Layout) (named : List (Option At)) (cpu : Cpu) (page : Page) (entries : List Entry) (old new : Findings) : Type 0 where
+pub record IsAdded (layout : Layout) (named : ℕ → At → Bool) (cpu : Cpu) (page : Page) (entries : List Entry) (old new : Findings) : Type 0 where
   pub ends : new.ends.items ≡ old.ends.items ++ page_ends layout cpu entries ∷ []
   pub ended : new.ended.items ≡ own_page_ends layout cpu old.ended.items entries
   pub span : Span
@@ -20,8 +20,8 @@ pub record IsAdded (layout : Layout) (named : List (Option At)) (cpu : Cpu) (pag
   pub spans : new.spans.items ≡ old.spans.items ++ span ∷ []
   pub others : new.others.items ≡ flagged_page named cpu page old.others.items 0 entries
 
--- and with all pages, of so many commands whose answers name these places
-pub record AreFound (layout : Layout) (named : List (Option At)) (cpu : Cpu) (commands : ℕ) (pages : List (List Entry)) (found : Findings) : Type 0 where
+-- and with all pages, of so many commands whose lines name these places
+pub record AreFound (layout : Layout) (named : ℕ → At → Bool) (cpu : Cpu) (commands : ℕ) (pages : List (List Entry)) (found : Findings) : Type 0 where
   pub ends : ArePageEnds layout cpu pages found.ends.items
   pub ended : found.ended.items ≡ own_ends layout cpu pages
   pub spans : AreSpans cpu pages found.spans.items

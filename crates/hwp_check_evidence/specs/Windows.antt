@@ -67,6 +67,8 @@ raised_by (Some at) floors = slice_set floors at.page.0 (max (slice_index_or flo
 
 abbrev pub named_in : CpuLine → Option At
 named_in (lines.Event event) = None
+named_in (lines.Offlined offlined) = None
+named_in (lines.Guest guest) = None
 named_in (lines.Answer seq answer) = place_named answer
 
 abbrev pub raised : List ℕ → CpuLine → List ℕ

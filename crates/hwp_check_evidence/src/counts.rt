@@ -16,7 +16,7 @@ fn count(counts: &mut Vec<u64>, row: &CpuLine)
                 counts[at] += 1;
             }
         }
-        CpuLine::Answer { .. } => {}
+        CpuLine::Offlined(_) | CpuLine::Guest(_) | CpuLine::Answer { .. } => {}
     }
 }
 
@@ -48,7 +48,7 @@ fn flag(flags: &mut Vec<bool>, row: &CpuLine)
                 flags[at] = true;
             }
         }
-        CpuLine::Answer { .. } => {}
+        CpuLine::Offlined(_) | CpuLine::Guest(_) | CpuLine::Answer { .. } => {}
     }
 }
 

@@ -1,11 +1,13 @@
 ghost use Rattle.std.specs.Prelude.{◌≡◌, ◌≤◌, [], false, fold, replicate, IfOk, OnOk, length};
 ghost use Rattle.hwp_law.specs.hwp_geom.Limits.{page_limit};
 ghost use Rattle.hwp_check_evidence.specs.Ends.{any_ended, never, own_page_ends, process_numbers};
+ghost use Rattle.hwp_check_evidence.specs.Firsts.{is_named};
 ghost use Rattle.hwp_check_evidence.specs.Findings.{AreFound, IsAdded};
 ghost use Rattle.hwp_check_evidence.specs.Named.{flagged_page};
 
 use crate::ends::{end_any, end_own, no_ends, process_numbers};
 use crate::named::flag;
+use crate::names::Names;
 use crate::windows::{Span, page_span};
 use hwp_law::{At, Cpu, Entry, Layout, List, OutOfMemory, Page};
 use std::alloc::Global;
@@ -19,24 +21,24 @@ pub struct Findings {
     pub ended: Vec<u64>,
     /// Where its commands stand in each page.
     pub spans: Vec<Span>,
-    /// Which of its commands have an entry that their answers have to name, and don't.
+    /// Which of its commands have an entry that one of their lines has to name, and none does.
     pub others: Vec<bool>,
 }
 
-/// Notes what the entries of a page end, and whose answers don't name them, in one pass over the entries.
+/// Notes what the entries of a page end, and which of them no line of their command names, in one pass over the entries.
 fn note_page(
     ends: &mut Vec<u64>,
     ended: &mut Vec<u64>,
     others: &mut Vec<bool>,
     layout: &Layout,
-    named: &[Option<At>],
+    names: &Names,
     cpu: Cpu,
     page: Page,
     entries: &[Entry],
 )
     ensures any { ends.new.items ≡ fold (any_ended layout.now cpu) ends.old.items entries.now }
     ensures own { ended.new.items ≡ own_page_ends layout.now cpu ended.old.items entries.now }
-    ensures others { others.new.items ≡ flagged_page named.now cpu page others.old.items 0 entries.now }
+    ensures others { others.new.items ≡ flagged_page (is_named names.now) cpu page others.old.items 0 entries.now }
 {
     let mut number = 0;
     for entry in entries {
@@ -44,7 +46,7 @@ fn note_page(
         end_own(ended, layout, cpu, entry);
         flag(
             others,
-            named,
+            names,
             cpu,
             At {
                 page,
@@ -61,14 +63,14 @@ fn add_page(
     alloc: Global,
     found: &mut Findings,
     layout: &Layout,
-    named: &[Option<At>],
+    names: &Names,
     cpu: Cpu,
     processes: usize,
     page: Page,
     entries: &[Entry],
 ) -> Result<(), OutOfMemory>
     requires { processes ≡ process_numbers layout.now }
-    ensures { OnOk result (IsAdded layout.now named.now cpu page entries.now found.old found.new) }
+    ensures { OnOk result (IsAdded layout.now (is_named names.now) cpu page entries.now found.old found.new) }
 {
     let mut ends = no_ends(alloc, processes)?;
     note_page(
@@ -76,7 +78,7 @@ fn add_page(
         &mut found.ended,
         &mut found.others,
         layout,
-        named,
+        names,
         cpu,
         page,
         entries,
@@ -110,18 +112,18 @@ fn nothing(alloc: Global, commands: usize, processes: usize) -> Result<Findings,
     })
 }
 
-/// What the histories tell of so many commands of a processor, whose answers name these places. Each page is read once while it
+/// What the histories tell of so many commands of a processor, whose lines name these places. Each page is read once while it
 /// is at hand, since the entries of a long report are far more than a processor's cache holds.
 pub fn findings_of(
     alloc: Global,
     layout: &Layout,
     cpu: Cpu,
     commands: usize,
-    named: &[Option<At>],
+    names: &Names,
     pages: &[List<Entry>],
 ) -> Result<Findings, OutOfMemory>
     requires { length pages.now ≤ page_limit }
-    ensures { IfOk result (λ found. AreFound layout.now named.now cpu commands pages.now found) }
+    ensures { IfOk result (λ found. AreFound layout.now (is_named names.now) cpu commands pages.now found) }
 {
     let processes = processes_of(layout);
     let mut found = nothing(alloc, commands, processes)?;
@@ -131,7 +133,7 @@ pub fn findings_of(
             alloc,
             &mut found,
             layout,
-            named,
+            names,
             cpu,
             processes,
             Page(number),

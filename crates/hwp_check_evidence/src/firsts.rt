@@ -10,7 +10,7 @@ fn note(list: &mut Vec<Option<Answer>>, row: &CpuLine)
     ensures { list.new.items ≡ answered_by list.old.items row.now }
 {
     match *row {
-        CpuLine::Event(_) => {}
+        CpuLine::Event(_) | CpuLine::Offlined(_) | CpuLine::Guest(_) => {}
         CpuLine::Answer { seq, answer } => {
             let at = seq as usize;
             if at < list.len() {
@@ -22,7 +22,7 @@ fn note(list: &mut Vec<Option<Answer>>, row: &CpuLine)
 
 /// The first answer of each of so many commands of a processor.
 #[tactic(auto, using(crate::proofs::FirstLaws::answers_many, crate::proofs::FirstLaws::answers_are))]
-pub fn first_answers(
+pub(crate) fn first_answers(
     alloc: Global,
     commands: usize,
     rows: &[CpuLine],
@@ -38,7 +38,7 @@ pub fn first_answers(
 }
 
 /// The place of the entry that an answer names.
-fn named_by(answer: &Answer) -> Option<At>
+pub(crate) fn named_by(answer: &Answer) -> Option<At>
     ensures { result ≡ entry_named answer.now }
 {
     match *answer {
@@ -62,7 +62,10 @@ fn entry_of(answer: Option<Answer>) -> Option<At>
 }
 
 /// The places of the entries that answers name.
-pub fn entries_named(alloc: Global, list: &[Option<Answer>]) -> Result<Vec<Option<At>>, OutOfMemory>
+pub(crate) fn entries_named(
+    alloc: Global,
+    list: &[Option<Answer>],
+) -> Result<Vec<Option<At>>, OutOfMemory>
     ensures { IfOk result (λ places. places.items ≡ map entry_of list.now) }
 {
     let mut places = Vec::new(alloc);

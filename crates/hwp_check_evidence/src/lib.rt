@@ -10,6 +10,7 @@ mod firsts;
 mod glances;
 mod marked;
 mod named;
+mod names;
 mod repeats;
 mod windows;
 
@@ -17,12 +18,12 @@ pub use ample::is_ample;
 pub use counts::{event_counts, event_ends};
 pub use ends::{had_ended, has_ending};
 pub use findings::{Findings, findings_of};
-pub use firsts::{entries_named, first_answers};
 pub use glances::{
     Glance, PageGlances, glances_of, was_away, was_cached, was_dirty, was_locked, was_mapped,
     was_unused,
 };
 pub use marked::{reported, was_hardware_seen};
 pub use named::is_elsewhere;
+pub use names::{Names, names_of};
 pub use repeats::Repeats;
 pub use windows::{Span, is_in_span, is_not_below, no_floors, raise};

@@ -159,7 +159,7 @@ fn named_in(row: &CpuLine) -> Option<At>
     ensures { result ≡ named_in row.now }
 {
     match row {
-        CpuLine::Event(_) => None,
+        CpuLine::Event(_) | CpuLine::Offlined(_) | CpuLine::Guest(_) => None,
         CpuLine::Answer { answer, .. } => named_place(answer),
     }
 }

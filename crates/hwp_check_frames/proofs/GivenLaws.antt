@@ -17,6 +17,8 @@ use Rattle.hwp_check_frames.proofs.CountRises.{eqb-swap}
 some-stays : (cpu seq : ℕ) (answer : Answer) (rows : List CpuLine) → rows_given cpu (cpu, seq) (Some answer) rows ≡ Some answer
 some-stays cpu seq answer [] = refl
 some-stays cpu seq answer (lines.Event event ∷ rest) = some-stays cpu seq answer rest
+some-stays cpu seq answer (lines.Offlined offlined ∷ rest) = some-stays cpu seq answer rest
+some-stays cpu seq answer (lines.Guest guest ∷ rest) = some-stays cpu seq answer rest
 some-stays cpu seq answer (lines.Answer s other ∷ rest) = ap (λ (o : Option Answer). rows_given cpu (cpu, seq) o rest) (by (is_pair (cpu, s) (cpu, seq))) ∙ some-stays cpu seq answer rest
   where
     by : (b : Bool) → cond b (Some answer) (Some answer) ≡ Some answer
@@ -26,6 +28,8 @@ some-stays cpu seq answer (lines.Answer s other ∷ rest) = ap (λ (o : Option A
 rows-first : (cpu seq : ℕ) (rows : List CpuLine) → rows_given cpu (cpu, seq) None rows ≡ answer_among rows seq
 rows-first cpu seq [] = refl
 rows-first cpu seq (lines.Event event ∷ rest) = rows-first cpu seq rest
+rows-first cpu seq (lines.Offlined offlined ∷ rest) = rows-first cpu seq rest
+rows-first cpu seq (lines.Guest guest ∷ rest) = rows-first cpu seq rest
 rows-first cpu seq (lines.Answer s answer ∷ rest) =
     let same : is_pair (cpu, s) (cpu, seq) ≡ (seq == s) = ap (λ (b : Bool). b && (s == seq)) (eq-eqb cpu cpu refl) ∙ eqb-swap s seq in
     ap (λ (b : Bool). rows_given cpu (cpu, seq) (cond b (Some answer) None) rest) same ∙ by (seq == s) (rows-first cpu seq rest)
@@ -40,6 +44,8 @@ rows-first cpu seq (lines.Answer s answer ∷ rest) =
 other-rows : (cpu : ℕ) (q : ℕ × ℕ) (found : Option Answer) (rows : List CpuLine) → (cpu == q.0) ≡ false → rows_given cpu q found rows ≡ found
 other-rows cpu q found [] other = refl
 other-rows cpu q found (lines.Event event ∷ rest) other = other-rows cpu q found rest other
+other-rows cpu q found (lines.Offlined offlined ∷ rest) other = other-rows cpu q found rest other
+other-rows cpu q found (lines.Guest guest ∷ rest) other = other-rows cpu q found rest other
 other-rows cpu q found (lines.Answer s answer ∷ rest) other =
     ap (λ (o : Option Answer). rows_given cpu q o rest) (ap (λ (b : Bool). cond (b && (s == q.1)) (Some (first_of found answer)) found) other) ∙ other-rows cpu q found rest other
 

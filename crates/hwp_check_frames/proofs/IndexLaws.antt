@@ -75,6 +75,8 @@ module _ {S : Type 0} {T : Type 0} (report : Report) (many : HashMap ((ℕ × �
   module _ (own : HashMap ((ℕ × ℕ) × ℕ) ℕ S) (own_are : (q : (ℕ × ℕ) × ℕ) → at_key own q ≡ frames_own 0 q report.frames) where
     row-same : (all : List CpuLine) (cpu frame : ℕ) (r : CpuLine) → slice_get report.cpus cpu ≡ Some all → row_flag own many cpu frame r ≡ row_beyond (marks_of report frame) all frame cpu r
     row-same all cpu frame (lines.Answer s answer) there = refl
+    row-same all cpu frame (lines.Offlined offlined) there = refl
+    row-same all cpu frame (lines.Guest guest) there = refl
     row-same all cpu frame (lines.Event event) there =
         let who : Who = record { cpu = record { 0 = cpu }; seq = event.seq } in
         ap (λ (n : ℕ). (is_some (result_of event.acted) && (frame == frame_at event.addr)) && nat_lt n (at_key many ((cpu, event.seq), frame))) (own_are ((cpu, event.seq), frame) ∙ own-is report who frame)

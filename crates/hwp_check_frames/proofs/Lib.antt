@@ -4,6 +4,7 @@ mod Results
 pub mod RecordLaws
 pub mod SaidLaws
 mod OwnLaws
+pub mod SoftLaws
 mod GivenLaws
 mod FlagLaws
 mod IndexLaws

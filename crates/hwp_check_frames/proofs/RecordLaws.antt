@@ -1,4 +1,4 @@
--- Where the records of frames are wrong first, in themselves or by the answers and events beside them.
+-- Where the records of frames are wrong first, in themselves or by the lines of commands beside them.
 use Rattle.std.proofs.Common.{◌≡◌, ◌⊎◌, inl, inr, ℕ, ◌+◌, ◌<◌, ◌≤◌, Bool, true, false, List, [], Option, Some, None, get_or, length, slice_get, sum_by, take, true≢false, unwrap_or, refl, sym, ap, ◌∙◌, subst, arith}
 use Rattle.std.proofs.Math.Nat.{zero-add}
 use Rattle.std.proofs.lemmas.Bool.{cases_lt}
@@ -17,15 +17,16 @@ use Rattle.hwp_check_rules.specs.hwp_report_text.declared.MarkLine.{MarkLine}
 use Rattle.hwp_check_rules.specs.hwp_report_text.declared.MarkLine.TheVariants as marks
 use Rattle.hwp_check_rules.specs.hwp_report_text.declared.Report.{Report}
 use Rattle.hwp_check_rules.specs.hwp_law.Lines.{is_same_command, marks_of, rows_of}
-use Rattle.hwp_check_rules.specs.hwp_law_commands.Outcomes.{outcome_act}
 use Rattle.hwp_check_rules.specs.hwp_law.Records.{IsAnswered, IsFound, IsFrameRecord, IsMarkAt, hardware_act, hardware_marks, how_in, is_by_hardware, line_results, result_lines, who_in}
-use Rattle.hwp_check_rules.specs.MarkFaults.{HasNoEvent, IsEventBeyond, IsMisfound}
-use Rattle.hwp_check_frames.specs.MarkScans.{AreRightMarks, FindsRight, FrameFits, HasEvent, IsClear, IsFirstFault, IsFrameFaultAt, IsRecordFault, IsRecordWrong, IsRightMark, IsWrongMark, NoneBeyond, RecordsFit, results_in}
+use Rattle.hwp_check_rules.specs.hwp_law_commands.Outcomes.{outcome_act}
+use Rattle.hwp_check_rules.specs.MarkFaults.{HasNoEvent, IsEventBeyond, IsMisfound, IsUnsaid}
+use Rattle.hwp_check_frames.specs.MarkScans.{AreRightMarks, FindsRight, FrameFits, HasEvent, IsClear, IsFirstFault, IsFrameFaultAt, IsRecordFault, IsRecordWrong, IsRightMark, IsWrongMark, NoneBeyond, RecordFits, RecordsFit, results_in}
 use Rattle.hwp_check_rules.specs.Rules.{ShapeFits}
 use Rattle.hwp_check_rules.specs.Standing.{frame_height, frame_line, last_line}
 use Rattle.hwp_check_rules.specs.declared.Rule.TheVariants.{Shape}
 use Rattle.hwp_check_rules.specs.Verdicts.{HoldBelow}
 use Rattle.hwp_check_frames.proofs.Results.{act-at, acts-many, agree, none-beyond, own, results-are, results-many, some-beyond}
+use Rattle.hwp_check_frames.proofs.SoftLaws.{all-said, not-said, said-all, said-not}
 use Rattle.hwp_check_frames.proofs.FramePlaces.{and-both, and-left, and-right, frame-next, frame-rises, marks-are, same-self, same-who, shown-in}
 
 finds-from : (kernel : Bool) (mark : MarkLine) → FindsRight kernel mark → (how : How) → how_in mark ≡ Some how → IsFound kernel how
@@ -89,8 +90,8 @@ whose : (who : Who) (m : MarkLine) → own who m ≡ true → who_in m ≡ who
 whose who m mine = same-who who (who_in m) (and-left _ _ mine)
 
 -- the record of a frame whose marks are right, with no result beyond them
-record-of : (script : Script) (report : Report) (kernel : Bool) (frame : Frame) → FrameFits script report kernel frame (marks_of report frame.0) → IsFrameRecord script report kernel frame
-record-of script report kernel frame fits = record {
+kept-of : (script : Script) (report : Report) (kernel : Bool) (frame : Frame) → FrameFits script report kernel frame (marks_of report frame.0) → IsFrameRecord script report kernel frame
+kept-of script report kernel frame fits = record {
   alternates = λ place mark there. (fits.1 place mark (slice_get_within (marks_of report frame.0) place mark there) there).in_place;
   found = λ place mark how there is. finds-from kernel mark (fits.1 place mark (slice_get_within (marks_of report frame.0) place mark there) there).found how is;
   answered = λ place mark there. (fits.1 place mark (slice_get_within (marks_of report frame.0) place mark there) there).answered;
@@ -112,25 +113,33 @@ record-of script report kernel frame fits = record {
         subst (λ n. slice_get (line_results (result_lines report who frame.0)) n ≡ hardware_act m) (sym (zero-add (length (hardware_marks who (take p (marks_of report frame.0))))))
         (subst (λ (w : Who). slice_get (line_results (result_lines report w frame.0)) (length (hardware_marks w (take p (marks_of report frame.0)))) ≡ hardware_act m) is next)
 
+record-of : (script : Script) (report : Report) (kernel : Bool) (frame : Frame) → FrameFits script report kernel frame (marks_of report frame.0) → RecordFits script report kernel frame
+record-of script report kernel frame fits = record {
+  kept = kept-of script report kernel frame fits;
+  said = said-all script report frame (λ place mark there. (fits.1 place mark (slice_get_within (marks_of report frame.0) place mark there) there).said);
+}
+
 -- a right mark is none of the wrong ones
 right-is : (script : Script) (report : Report) (kernel : Bool) (frame : Frame) (place : ℕ) (mark : MarkLine) → IsRightMark script report kernel frame (marks_of report frame.0) place mark
-    → ((IsMarkAt place mark → ⊥) ⊎ IsMisfound kernel mark ⊎ (IsAnswered script report frame mark → ⊥) ⊎ HasNoEvent report frame place mark) → ⊥
+    → ((IsMarkAt place mark → ⊥) ⊎ IsMisfound kernel mark ⊎ (IsAnswered script report frame mark → ⊥) ⊎ IsUnsaid script report frame place mark ⊎ HasNoEvent report frame place mark) → ⊥
 right-is script report kernel frame place mark right wrong = elim wrong [
   | inl off ↦ off right.in_place
   | inr (inl misfound) ↦ misfound.wrong (finds-from kernel mark right.found misfound.how misfound.how_is)
   | inr (inr (inl not)) ↦ not right.answered
-  | inr (inr (inr lacks)) ↦ lacks.wrong (event-next report frame (take place (marks_of report frame.0)) mark right.event lacks.by_hardware)
+  | inr (inr (inr (inl unsaid))) ↦ said-not script report frame place mark right.said unsaid
+  | inr (inr (inr (inr lacks))) ↦ lacks.wrong (event-next report frame (take place (marks_of report frame.0)) mark right.event lacks.by_hardware)
 ]
 
 -- the marks of a record that is right are right
-right-of : (script : Script) (report : Report) (kernel : Bool) (frame : Frame) → IsFrameRecord script report kernel frame
+right-of : (script : Script) (report : Report) (kernel : Bool) (frame : Frame) → RecordFits script report kernel frame
     → (place : ℕ) (mark : MarkLine) → slice_get (marks_of report frame.0) place ≡ Some mark → IsRightMark script report kernel frame (marks_of report frame.0) place mark
 right-of script report kernel frame fits place mark there = record {
-  in_place = fits.alternates place mark there;
-  found = finds-of kernel mark (λ how is. fits.found place mark how there is);
-  answered = fits.answered place mark there;
+  in_place = fits.kept.alternates place mark there;
+  found = finds-of kernel mark (λ how is. fits.kept.found place mark how there is);
+  answered = fits.kept.answered place mark there;
+  said = all-said script report frame fits.said place mark there;
   event = next-event report frame (take place (marks_of report frame.0)) mark (λ is.
-      ap (λ (xs : List Acted). slice_get xs (length (hardware_marks (who_in mark) (take place (marks_of report frame.0))))) (sym (fits.events (who_in mark)))
+      ap (λ (xs : List Acted). slice_get xs (length (hardware_marks (who_in mark) (take place (marks_of report frame.0))))) (sym (fits.kept.events (who_in mark)))
       ∙ act-at (who_in mark) (marks_of report frame.0) place mark there (and-both _ _ (same-self (who_in mark)) is));
 }
 
@@ -146,12 +155,13 @@ pub record KeptBelow (script : Script) (report : Report) (n heading : ℕ) : Typ
   pub heading_is : heading ≡ frame_line report n
 
 wrong-of : (script : Script) (report : Report) (kernel : Bool) (frame : Frame) (place : ℕ) (mark : MarkLine) → IsWrongMark script report kernel frame (marks_of report frame.0) place mark
-    → (IsMarkAt place mark → ⊥) ⊎ IsMisfound kernel mark ⊎ (IsAnswered script report frame mark → ⊥) ⊎ HasNoEvent report frame place mark
+    → (IsMarkAt place mark → ⊥) ⊎ IsMisfound kernel mark ⊎ (IsAnswered script report frame mark → ⊥) ⊎ IsUnsaid script report frame place mark ⊎ HasNoEvent report frame place mark
 wrong-of script report kernel frame place mark wrong = elim wrong [
   | inl off ↦ inl off
   | inr (inl not) ↦ inr (inl (misfound kernel mark not))
   | inr (inr (inl not)) ↦ inr (inr (inl not))
-  | inr (inr (inr not)) ↦ inr (inr (inr (no-event report frame place mark not)))
+  | inr (inr (inr (inl not))) ↦ inr (inr (inr (inl (not-said script report frame place mark not))))
+  | inr (inr (inr (inr not))) ↦ inr (inr (inr (inr (no-event report frame place mark not))))
 ]
 
 -- a faulty frame's line is above the next frame's heading
@@ -234,12 +244,12 @@ kept-first script report n heading line kernel shown below each declared there f
   ];
 }
   where
-    refuted : IsFrameRecord script report kernel (record { 0 = n }) → IsFrameFaultAt script report kernel (record { 0 = n }) (marks_of report n) heading line → ⊥
+    refuted : RecordFits script report kernel (record { 0 = n }) → IsFrameFaultAt script report kernel (record { 0 = n }) (marks_of report n) heading line → ⊥
     refuted fits (inl (some, is)) =
         let found = some-beyond (marks_of report n) some.1 n some.0 some.3 in
         let rows_are : rows_of report (record { cpu = record { 0 = some.0 }; seq = found.0 }) ≡ some.1 = ap (λ (o : Option (List CpuLine)). unwrap_or o []) some.2 in
         let many : length (results_in found.0 n (rows_of report (record { cpu = record { 0 = some.0 }; seq = found.0 }))) ≡ length (hardware_marks (record { cpu = record { 0 = some.0 }; seq = found.0 }) (marks_of report n)) =
-        few-of script report kernel (record { 0 = n }) fits (record { cpu = record { 0 = some.0 }; seq = found.0 }) in
+        few-of script report kernel (record { 0 = n }) fits.kept (record { cpu = record { 0 = some.0 }; seq = found.0 }) in
         let same : length (results_in found.0 n (rows_of report (record { cpu = record { 0 = some.0 }; seq = found.0 }))) ≡ length (results_in found.0 n some.1) = ap (λ (rows : List CpuLine). length (results_in found.0 n rows)) rows_are in
         let more : length (hardware_marks (record { cpu = record { 0 = some.0 }; seq = found.0 }) (marks_of report n)) < length (results_in found.0 n some.1) = found.1 in
         omega (arith, many, same, more)

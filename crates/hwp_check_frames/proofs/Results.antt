@@ -60,6 +60,8 @@ module _ (seq frame : ℕ) (event : EventLine) (rows : List CpuLine) (rest : Bot
 both-say : (seq frame : ℕ) (rows : List CpuLine) → BothSay seq frame rows
 both-say seq frame [] = (refl, refl)
 both-say seq frame (lines.Answer s answer ∷ rows) = both-say seq frame rows
+both-say seq frame (lines.Offlined offlined ∷ rows) = both-say seq frame rows
+both-say seq frame (lines.Guest guest ∷ rows) = both-say seq frame rows
 both-say seq frame (lines.Event event ∷ rows) = says-own seq frame event rows (both-say seq frame rows) event.acted (seq == event.seq)
 
 pub results-are : (report : Report) (who : Who) (frame : ℕ) → line_results (result_lines report who frame) ≡ results_in who.seq frame (rows_of report who)
@@ -164,6 +166,8 @@ agree who said (m ∷ ms) k each few = elim (cases_Bool (own who m)) [
 row-says : (list : List MarkLine) (all : List CpuLine) (frame cpu seq : ℕ) (r : CpuLine) → row_beyond list all frame cpu r ≡ false
     → (result_in seq frame r ≡ None) ⊎ (is_beyond list all frame cpu seq ≡ false)
 row-says list all frame cpu seq (lines.Answer s answer) none = inl refl
+row-says list all frame cpu seq (lines.Offlined offlined) none = inl refl
+row-says list all frame cpu seq (lines.Guest guest) none = inl refl
 row-says list all frame cpu seq (lines.Event event) none = elim (cases_Bool (seq == event.seq)) [
   | inr other ↦ inl (ap (λ (o : Bool). cond (o && (frame == frame_at event.addr)) (result_of event.acted) None) other)
   | inl mine ↦
@@ -197,6 +201,8 @@ none-beyond list rows frame cpu seq none = elim (none-says list rows frame cpu s
 -- where some line is, the command is
 row-beyond : (list : List MarkLine) (all : List CpuLine) (frame cpu : ℕ) (r : CpuLine) → row_beyond list all frame cpu r ≡ true → (seq : ℕ) × (is_beyond list all frame cpu seq ≡ true)
 row-beyond list all frame cpu (lines.Answer s answer) is = absurd (true≢false (sym is))
+row-beyond list all frame cpu (lines.Offlined offlined) is = absurd (true≢false (sym is))
+row-beyond list all frame cpu (lines.Guest guest) is = absurd (true≢false (sym is))
 row-beyond list all frame cpu (lines.Event event) is = (event.seq, and-right _ _ is)
 
 some-says : (list : List MarkLine) (all : List CpuLine) (frame cpu : ℕ) (rows : List CpuLine) → rows_beyond list all frame cpu rows ≡ true → (seq : ℕ) × (is_beyond list all frame cpu seq ≡ true)

@@ -98,6 +98,8 @@ rows-next cpu list i d f many rows within noted =
 other-said : (cpu : ℕ) (q : (ℕ × ℕ) × ℕ) (rows : List CpuLine) → (cpu == q.0.0) ≡ false → rows_said cpu q rows ≡ []
 other-said cpu q [] other = refl
 other-said cpu q (lines.Answer s answer ∷ rest) other = other-said cpu q rest other
+other-said cpu q (lines.Offlined offlined ∷ rest) other = other-said cpu q rest other
+other-said cpu q (lines.Guest guest ∷ rest) other = other-said cpu q rest other
 other-said cpu q (lines.Event event ∷ rest) other =
     ap (λ (b : Bool). cond (is_some (result_of event.acted) && ((b && (event.seq == q.0.1)) && (frame_at event.addr == q.1))) (record { row = event.row; acted = event.acted } ∷ []) [] ++ rows_said cpu q rest) other ∙ ap (λ (l : List Noted). l ++ rows_said cpu q rest) (never (is_some (result_of event.acted))) ∙ other-said cpu q rest other
   where
@@ -133,6 +135,8 @@ below-next report n list many rows are noted = noted-same (λ q. said_below n re
 said-low : (cpu : ℕ) (q : (ℕ × ℕ) × ℕ) (rows : List CpuLine) → length (rows_said cpu q rows) ≤ length rows
 said-low cpu q [] = omega arith
 said-low cpu q (lines.Answer s answer ∷ rest) = let low : length (rows_said cpu q rest) ≤ length rest = said-low cpu q rest in omega (arith, low)
+said-low cpu q (lines.Offlined offlined ∷ rest) = let low : length (rows_said cpu q rest) ≤ length rest = said-low cpu q rest in omega (arith, low)
+said-low cpu q (lines.Guest guest ∷ rest) = let low : length (rows_said cpu q rest) ≤ length rest = said-low cpu q rest in omega (arith, low)
 said-low cpu q (lines.Event event ∷ rest) = by (is_some (result_of event.acted) && is_key ((cpu, event.seq), frame_at event.addr) q) (said-low cpu q rest)
   where
     by : (b : Bool) → length (rows_said cpu q rest) ≤ length rest → length (cond b (record { row = event.row; acted = event.acted } ∷ []) [] ++ rows_said cpu q rest) ≤ suc (length rest)
@@ -174,6 +178,8 @@ row-in l = record { row = l.row; acted = l.acted }
 rows-are : (cpu seq frame : ℕ) (rows : List CpuLine) → rows_said cpu ((cpu, seq), frame) rows ≡ map row-in (filter (of_frame frame) (events_among rows seq))
 rows-are cpu seq frame [] = refl
 rows-are cpu seq frame (lines.Answer s answer ∷ rest) = rows-are cpu seq frame rest
+rows-are cpu seq frame (lines.Offlined offlined ∷ rest) = rows-are cpu seq frame rest
+rows-are cpu seq frame (lines.Guest guest ∷ rest) = rows-are cpu seq frame rest
 rows-are cpu seq frame (lines.Event event ∷ rest) =
     let mine : ((cpu == cpu) && (event.seq == seq)) ≡ (seq == event.seq) = ap (λ (b : Bool). b && (event.seq == seq)) (eq-eqb cpu cpu refl) ∙ eqb-swap event.seq seq in
     ap (λ (b : Bool). cond (is_some (result_of event.acted) && (b && (frame_at event.addr == frame))) (record { row = event.row; acted = event.acted } ∷ []) [] ++ rows_said cpu ((cpu, seq), frame) rest) mine

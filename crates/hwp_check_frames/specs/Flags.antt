@@ -13,6 +13,8 @@ abbrev pub row_flag : {S : Type 0} → HashMap ((ℕ × ℕ) × ℕ) ℕ S → H
 row_flag own many cpu frame (lines.Event event) =
     (is_some (result_of event.acted) && (frame == frame_at event.addr)) && nat_lt (at_key own ((cpu, event.seq), frame)) (at_key many ((cpu, event.seq), frame))
 row_flag own many cpu frame (lines.Answer seq answer) = false
+row_flag own many cpu frame (lines.Offlined offlined) = false
+row_flag own many cpu frame (lines.Guest guest) = false
 
 abbrev pub rows_flag : {S : Type 0} → HashMap ((ℕ × ℕ) × ℕ) ℕ S → HashMap ((ℕ × ℕ) × ℕ) ℕ S → ℕ → ℕ → List CpuLine → Bool
 rows_flag own many cpu frame [] = false

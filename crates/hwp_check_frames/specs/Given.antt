@@ -20,6 +20,8 @@ first_of (Some found) answer = found
 
 abbrev pub row_given : ℕ → ℕ × ℕ → Option Answer → CpuLine → Option Answer
 row_given cpu q found (lines.Event event) = found
+row_given cpu q found (lines.Offlined offlined) = found
+row_given cpu q found (lines.Guest guest) = found
 row_given cpu q found (lines.Answer seq answer) = cond (is_pair (cpu, seq) q) (Some (first_of found answer)) found
 
 abbrev pub rows_given : ℕ → ℕ × ℕ → Option Answer → List CpuLine → Option Answer

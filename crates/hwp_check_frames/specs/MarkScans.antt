@@ -1,5 +1,5 @@
 -- How the records of frames are judged, mark by mark, and the lines of processors beside them.
-use Rattle.std.specs.Prelude.{◌≡◌, ◌⊎◌, ℕ, ◌+◌, ◌<◌, ◌≤◌, ◌==◌, ◌&&◌, ◌||◌, nat_lt, Bool, true, false, cond, List, [], ◌∷◌, Option, Some, None, filter_map, is_some, length, slice_get, take}
+use Rattle.std.specs.Prelude.{◌≡◌, ◌⊎◌, ℕ, ◌+◌, ◌<◌, ◌≤◌, ◌==◌, ◌&&◌, ◌||◌, nat_lt, Bool, true, false, cond, List, [], ◌∷◌, Option, Some, None, count_by, filter_map, is_some, length, slice_get, take}
 use Rattle.hwp_check_rules.specs.hwp_geom.declared.Frame.{Frame}
 use Rattle.hwp_check_rules.specs.hwp_geom.declared.Who.{Who}
 use Rattle.hwp_check_rules.specs.hwp_banks.Addresses.{frame_at}
@@ -12,22 +12,32 @@ use Rattle.hwp_check_rules.specs.hwp_report_text.declared.Answer.TheVariants as 
 use Rattle.hwp_check_rules.specs.hwp_report_text.declared.CpuLine.{CpuLine}
 use Rattle.hwp_check_rules.specs.hwp_report_text.declared.CpuLine.TheVariants as lines
 use Rattle.hwp_check_rules.specs.hwp_report_text.declared.FrameLine.{FrameLine}
+use Rattle.hwp_check_rules.specs.hwp_report_text.declared.How.{How}
 use Rattle.hwp_check_rules.specs.hwp_report_text.declared.How.TheVariants as hows
 use Rattle.hwp_check_rules.specs.hwp_report_text.declared.MarkLine.{MarkLine}
 use Rattle.hwp_check_rules.specs.hwp_report_text.declared.MarkLine.TheVariants as marks
 use Rattle.hwp_check_rules.specs.hwp_report_text.declared.Report.{Report}
 use Rattle.hwp_check_rules.specs.hwp_law.Lines.{answer_of, marks_of, rows_of}
+use Rattle.hwp_check_rules.specs.hwp_law.Pairings.{is_soft_mark, soft_lines}
 use Rattle.hwp_check_rules.specs.hwp_law_commands.Commands.{command_at}
+use Rattle.hwp_check_rules.specs.hwp_law.Records.{IsAnswered, IsFound, IsFrameRecord, IsMarkAt, hardware_marks, result_of}
 use Rattle.hwp_check_rules.specs.hwp_law_commands.Outcomes.{outcome_act, outcome_answer}
-use Rattle.hwp_check_rules.specs.hwp_law.Records.{IsAnswered, IsFound, IsFrameRecord, IsMarkAt, hardware_marks, is_moved, result_of}
-use Rattle.hwp_check_rules.specs.MarkFaults.{HasNoEvent, IsEventBeyond, IsMisfound}
+use Rattle.hwp_check_rules.specs.MarkFaults.{HasNoEvent, IsEventBeyond, IsMisfound, IsUnsaid}
 use Rattle.hwp_check_rules.specs.Standing.{mark_line}
 
--- each frame's record is right: the first half of the rule
-abbrev pub RecordsFit : Script → Report → Type 0
-RecordsFit script report = (frame : Frame) (kernel : Bool) (line : FrameLine) → slice_get script.layout.kernel frame.0 ≡ Some kernel → slice_get report.frames frame.0 ≡ Some line → IsFrameRecord script report kernel frame
+-- no command has more marks of soft offlines with a result in the frame than lines that say so
+abbrev pub AreSaid : Script → Report → Frame → Type 0
+AreSaid script report frame = (who : Who) (moved : Bool) → count_by (is_soft_mark who moved) (marks_of report frame.0) ≤ soft_lines script report who frame moved
 
--- a mark that is wrong in its record, or by the answer or the event beside it
+-- each frame's record is right: the first half of the rule
+pub record RecordFits (script : Script) (report : Report) (kernel : Bool) (frame : Frame) : Type 0 where
+  pub kept : IsFrameRecord script report kernel frame
+  pub said : AreSaid script report frame
+
+abbrev pub RecordsFit : Script → Report → Type 0
+RecordsFit script report = (frame : Frame) (kernel : Bool) (line : FrameLine) → slice_get script.layout.kernel frame.0 ≡ Some kernel → slice_get report.frames frame.0 ≡ Some line → RecordFits script report kernel frame
+
+-- a mark that is wrong in its record, or by the lines beside it
 pub record IsRecordWrong (script : Script) (report : Report) (line : ℕ) : Type 0 where
   pub frame : Frame
   pub kernel : Bool
@@ -36,7 +46,7 @@ pub record IsRecordWrong (script : Script) (report : Report) (line : ℕ) : Type
   pub declared : slice_get script.layout.kernel frame.0 ≡ Some kernel
   pub there : slice_get (marks_of report frame.0) place ≡ Some mark
   pub line_is : line ≡ mark_line report frame.0 place
-  pub wrong : (IsMarkAt place mark → ⊥) ⊎ IsMisfound kernel mark ⊎ (IsAnswered script report frame mark → ⊥) ⊎ HasNoEvent report frame place mark
+  pub wrong : (IsMarkAt place mark → ⊥) ⊎ IsMisfound kernel mark ⊎ (IsAnswered script report frame mark → ⊥) ⊎ IsUnsaid script report frame place mark ⊎ HasNoEvent report frame place mark
 
 -- which lines break the first half of the rule
 abbrev pub IsRecordFault : Script → Report → ℕ → Type 0
@@ -62,22 +72,12 @@ FindsRight kernel (marks.Unpoisoned cycle who) = Unit {0}
 abbrev pub WasInjected : Script → Report → Who → Frame → Outcome → Type 0
 WasInjected script report who frame outcome = (command_at script who ≡ Some (commands.Inject frame)) × (answer_of report who ≡ Some (outcome_answer outcome))
 
--- it took the frame softly out of use, and its content moved; or it had none
-abbrev pub WasMoved : Script → Report → Who → Frame → Type 0
-WasMoved script report who frame = (command_at script who ≡ Some (commands.Soft frame)) × (is_moved (answer_of report who) ≡ true)
-
-abbrev pub WasTakenFree : Script → Report → Who → Frame → Type 0
-WasTakenFree script report who frame = (command_at script who ≡ Some (commands.Soft frame)) × (answer_of report who ≡ Some answers.TakenFree)
-
 -- it made the frame no longer poisoned
 abbrev pub WasUnpoisoned : Script → Report → Who → Frame → Type 0
 WasUnpoisoned script report who frame = (command_at script who ≡ Some (commands.Unpoison frame)) × (answer_of report who ≡ Some answers.Done)
 
 abbrev pub IsInject : Frame → Option Command → Type 0
 IsInject frame command = command ≡ Some (commands.Inject frame)
-
-abbrev pub IsSoft : Frame → Option Command → Type 0
-IsSoft frame command = command ≡ Some (commands.Soft frame)
 
 abbrev pub IsUnpoison : Frame → Option Command → Type 0
 IsUnpoison frame command = command ≡ Some (commands.Unpoison frame)
@@ -86,6 +86,8 @@ IsUnpoison frame command = command ≡ Some (commands.Unpoison frame)
 abbrev pub result_in : ℕ → ℕ → CpuLine → Option Acted
 result_in seq frame (lines.Event event) = cond ((seq == event.seq) && (frame == frame_at event.addr)) (result_of event.acted) None
 result_in seq frame (lines.Answer s answer) = None
+result_in seq frame (lines.Offlined offlined) = None
+result_in seq frame (lines.Guest guest) = None
 
 -- all that its lines say
 abbrev pub results_in : ℕ → ℕ → List CpuLine → List Acted
@@ -103,16 +105,31 @@ HasEvent report frame before (marks.Poisoned cycle who hows.Moved) = Unit {0}
 HasEvent report frame before (marks.Poisoned cycle who hows.TakenFree) = Unit {0}
 HasEvent report frame before (marks.Unpoisoned cycle who) = Unit {0}
 
+-- behind these marks the command has a line more that says so of a soft offline
+abbrev pub IsSaidMore : Script → Report → Frame → List MarkLine → Who → Bool → Type 0
+IsSaidMore script report frame before who moved = count_by (is_soft_mark who moved) before < soft_lines script report who frame moved
+
+abbrev pub IsSaidHow : Script → Report → Frame → List MarkLine → Who → How → Type 0
+IsSaidHow script report frame before who (hows.Failure hardware situation outcome) = Unit {0}
+IsSaidHow script report frame before who hows.Moved = IsSaidMore script report frame before who true
+IsSaidHow script report frame before who hows.TakenFree = IsSaidMore script report frame before who false
+
+-- a mark of a soft offline has such a line
+abbrev pub IsSaid : Script → Report → Frame → List MarkLine → MarkLine → Type 0
+IsSaid script report frame before (marks.Poisoned cycle who how) = IsSaidHow script report frame before who how
+IsSaid script report frame before (marks.Unpoisoned cycle who) = Unit {0}
+
 -- the mark is right
 pub record IsRightMark (script : Script) (report : Report) (kernel : Bool) (frame : Frame) (list : List MarkLine) (place : ℕ) (mark : MarkLine) : Type 0 where
   pub in_place : IsMarkAt place mark
   pub found : FindsRight kernel mark
   pub answered : IsAnswered script report frame mark
+  pub said : IsSaid script report frame (take place list) mark
   pub event : HasEvent report frame (take place list) mark
 
 abbrev pub IsWrongMark : Script → Report → Bool → Frame → List MarkLine → ℕ → MarkLine → Type 0
 IsWrongMark script report kernel frame list place mark =
-    (IsMarkAt place mark → ⊥) ⊎ (FindsRight kernel mark → ⊥) ⊎ (IsAnswered script report frame mark → ⊥) ⊎ (HasEvent report frame (take place list) mark → ⊥)
+    (IsMarkAt place mark → ⊥) ⊎ (FindsRight kernel mark → ⊥) ⊎ (IsAnswered script report frame mark → ⊥) ⊎ (IsSaid script report frame (take place list) mark → ⊥) ⊎ (HasEvent report frame (take place list) mark → ⊥)
 
 -- so many first marks of a record are right
 abbrev pub AreRightMarks : Script → Report → Bool → Frame → List MarkLine → ℕ → Type 0
@@ -134,6 +151,8 @@ abbrev pub row_beyond : List MarkLine → List CpuLine → ℕ → ℕ → CpuLi
 row_beyond list rows frame cpu (lines.Event event) =
     is_some (result_in event.seq frame (lines.Event event)) && is_beyond list rows frame cpu event.seq
 row_beyond list rows frame cpu (lines.Answer s answer) = false
+row_beyond list rows frame cpu (lines.Offlined offlined) = false
+row_beyond list rows frame cpu (lines.Guest guest) = false
 
 abbrev pub rows_beyond : List MarkLine → List CpuLine → ℕ → ℕ → List CpuLine → Bool
 rows_beyond list rows frame cpu [] = false

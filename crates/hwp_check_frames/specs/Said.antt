@@ -21,6 +21,8 @@ row_at m p = hash.get is_place m p
 abbrev pub row_said : ℕ → (ℕ × ℕ) × ℕ → CpuLine → List Noted
 row_said cpu q (lines.Event event) = cond (is_some (result_of event.acted) && is_key ((cpu, event.seq), frame_at event.addr) q) (record { row = event.row; acted = event.acted } ∷ []) []
 row_said cpu q (lines.Answer seq answer) = []
+row_said cpu q (lines.Offlined offlined) = []
+row_said cpu q (lines.Guest guest) = []
 
 abbrev pub rows_said : ℕ → (ℕ × ℕ) × ℕ → List CpuLine → List Noted
 rows_said cpu q [] = []

@@ -9,6 +9,7 @@ ghost use Rattle.hwp_check_rules.specs.Verdicts.{HoldBelow};
 use crate::index::{Index, index_of};
 use crate::own::add_own;
 use crate::records::is_right;
+use crate::softs::add_soft;
 use hwp_check_rules::{Frame, MarkLine, OutOfMemory, Report, Script};
 use std::alloc::Global;
 use std::collections::HashMap;
@@ -38,13 +39,15 @@ fn first_wrong(
     ensures { IfOk result (λ found. MatchOption found (AreRightMarks script.now report.now kernel frame marks.now (length marks.now)) (λ place. IsFirstWrongMark script.now report.now kernel frame marks.now place)) }
 {
     let mut had = HashMap::new(alloc);
+    let mut softs = HashMap::new(alloc);
     for (place, mark) in marks.iter().enumerate() {
         if !is_right(
-            script, report, index, &had, kernel, frame, marks, place, mark,
+            script, report, index, &had, &softs, kernel, frame, marks, place, mark,
         ) {
             return Ok(Some(place));
         }
         add_own(&mut had, frame.0, mark)?;
+        add_soft(&mut softs, mark)?;
     }
     Ok(None)
 }
@@ -76,7 +79,7 @@ fn frame_fault(
     }
 }
 
-/// The first line of the frames' records that is wrong in its record, or by the answers and the events beside it.
+/// The first line of the frames' records that is wrong in its record, or by the lines of commands beside it.
 pub fn kept(alloc: Global, script: &Script, report: &Report) -> Result<Option<u64>, OutOfMemory>
     requires valid { IsValid script.now }
     requires room { last_line report.now < 2 ^ 64 }

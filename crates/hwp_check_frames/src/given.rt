@@ -44,7 +44,7 @@ fn give_row(given: &mut Given, cpu: u8, row: &CpuLine) -> Result<(), OutOfMemory
 {
     match *row {
         CpuLine::Answer { seq, answer } => give(given, (cpu, seq), answer),
-        CpuLine::Event(_) => Ok(()),
+        CpuLine::Event(_) | CpuLine::Offlined(_) | CpuLine::Guest(_) => Ok(()),
     }
 }
 

@@ -1,6 +1,6 @@
 ghost use Rattle.std.specs.Prelude.{◌≡◌, ◌<◌, ◌^◌, length, IfOk};
 ghost use Rattle.hwp_check_rules.specs.Standing.{last_line};
-ghost use Rattle.hwp_check_frames.specs.Index.{IsIndex};
+ghost use Rattle.hwp_check_frames.specs.Index.{IsIndex, NoneOfflined};
 
 use crate::flags::flags_of;
 use crate::given::{Given, given_of};
@@ -30,6 +30,7 @@ pub(crate) fn index_of(
     requires cpus { length report.now.cpus ≡ script.now.layout.cpus }
     requires frames { length report.now.frames ≡ script.now.layout.frames }
     requires room { last_line report.now < 2 ^ 64 }
+    requires beside { NoneOfflined report.now }
     ensures { IfOk result (λ index. IsIndex report.now index) }
 {
     let (cpus, frames) = (script.layout.cpus, script.layout.frames);

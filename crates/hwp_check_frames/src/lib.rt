@@ -10,6 +10,7 @@ mod noted;
 mod own;
 mod records;
 mod said;
+mod softs;
 
 pub use counts::{Counts, Key, add, add_if, count};
 pub use frames::kept;

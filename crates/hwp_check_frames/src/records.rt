@@ -1,17 +1,20 @@
 ghost use Rattle.std.specs.Prelude.{◌≡◌, ◌≤◌, ◌↔◌, ℕ, Some, IsTrue, MatchBool, length, take};
+ghost use Rattle.hwp_check_rules.specs.hwp_law.Pairings.{is_soft_of, says_soft, soft_lines};
+ghost use Rattle.hwp_check_rules.specs.hwp_law.Records.{IsAnswered, IsFound, IsMarkAt, is_moved, is_taken};
 ghost use Rattle.hwp_check_rules.specs.hwp_law_commands.Outcomes.{outcome_act, outcome_answer};
-ghost use Rattle.hwp_check_rules.specs.hwp_law.Records.{IsAnswered, IsFound, IsMarkAt, is_moved};
 ghost use Rattle.hwp_check_frames.specs.Counts.{at_key};
 ghost use Rattle.hwp_check_frames.specs.Given.{AreGiven};
 ghost use Rattle.hwp_check_frames.specs.Index.{IsIndex, acted_in};
 ghost use Rattle.hwp_check_frames.specs.Own.{marks_own};
-ghost use Rattle.hwp_check_frames.specs.MarkScans.{FindsRight, HasEvent, IsInject, IsNextResult, IsRightMark, IsSoft, IsUnpoison, IsWrongMark, WasInjected, WasMoved, WasTakenFree, WasUnpoisoned};
+ghost use Rattle.hwp_check_frames.specs.Softs.{marks_soft};
+ghost use Rattle.hwp_check_frames.specs.MarkScans.{FindsRight, HasEvent, IsInject, IsNextResult, IsRightMark, IsSaid, IsSaidHow, IsSaidMore, IsUnpoison, IsWrongMark, WasInjected, WasUnpoisoned};
 
 use crate::counts::{Counts, count};
 use crate::given::{Given, answer_in};
 use crate::index::Index;
 use crate::noted::Noted;
 use crate::said::row_of;
+use crate::softs::soft_key;
 use hwp_check_rules::{
     Acted, Answer, Command, Frame, How, MarkLine, Outcome, Report, Script, Situation, Who,
     command_of,
@@ -62,11 +65,11 @@ fn is_inject(command: Option<Command>, frame: Frame) -> bool
 }
 
 /// Whether the command takes the frame softly out of use.
-fn is_soft(command: Option<Command>, frame: Frame) -> bool
-    ensures { IsTrue result ↔ IsSoft frame command }
+fn is_soft_of(command: Option<Command>, frame: Frame) -> bool
+    ensures { result ≡ is_soft_of frame command }
 {
     match command {
-        Some(Command::Soft { frame: other }) => other == frame,
+        Some(Command::Soft { frame: other }) => other.0 == frame.0,
         _ => false,
     }
 }
@@ -115,21 +118,103 @@ fn is_moved(answer: Option<Answer>) -> bool
     matches!(answer, Some(Answer::Moved(..)))
 }
 
-/// Whether the command took the frame out of use, and its content moved.
-fn was_moved(script: &Script, report: &Report, given: &Given, who: Who, frame: Frame) -> bool
-    requires given { AreGiven report.now given.now }
-    ensures { IsTrue result ↔ WasMoved script.now report.now who frame }
+/// Whether the answer says that a free frame was taken.
+fn is_taken(answer: Option<Answer>) -> bool
+    ensures { result ≡ is_taken answer }
 {
-    is_soft(command_of(script, who), frame) && is_moved(answer_in(report, given, who))
+    matches!(answer, Some(Answer::TakenFree))
 }
 
-/// Whether the command took the frame out of use, and it had no page.
-fn was_taken_free(script: &Script, report: &Report, given: &Given, who: Who, frame: Frame) -> bool
-    requires given { AreGiven report.now given.now }
-    ensures { IsTrue result ↔ WasTakenFree script.now report.now who frame }
+/// Whether the answer says that a soft offline moved the content, or that it took a free frame.
+fn says_soft(moved: bool, answer: Option<Answer>) -> bool
+    ensures { result ≡ says_soft moved answer }
 {
-    is_soft(command_of(script, who), frame)
-        && matches!(answer_in(report, given, who), Some(Answer::TakenFree))
+    if moved {
+        is_moved(answer)
+    } else {
+        is_taken(answer)
+    }
+}
+
+/// How many lines of the command say so of the frame: its answer alone, since a report has no other lines that say it.
+fn soft_lines(
+    script: &Script,
+    report: &Report,
+    index: &Index,
+    who: Who,
+    frame: Frame,
+    moved: bool,
+) -> u64
+    requires { IsIndex report.now index.now }
+    ensures { result ≡ soft_lines script.now report.now who frame moved }
+{
+    let answer = answer_in(report, &index.given, who);
+    let said = is_soft_of(command_of(script, who), frame) && says_soft(moved, answer);
+    u64::from(said)
+}
+
+/// Whether behind these marks the command has a line more that says so.
+fn is_said_more(
+    script: &Script,
+    report: &Report,
+    index: &Index,
+    softs: &Counts,
+    frame: Frame,
+    before: &[MarkLine],
+    who: Who,
+    moved: bool,
+) -> bool
+    requires index { IsIndex report.now index.now }
+    requires softs { (q : (ℕ × ℕ) × ℕ) → at_key softs.now q ≡ marks_soft q before.now }
+    ensures { IsTrue result ↔ IsSaidMore script.now report.now frame before.now who moved }
+{
+    let _before = before;
+    let lines = soft_lines(script, report, index, who, frame, moved);
+    count(softs, soft_key(who, moved)) < lines
+}
+
+/// Whether a poisoning, if it is a soft offline, has a line of its command that says so, beside those of the marks before it.
+fn is_said_how(
+    script: &Script,
+    report: &Report,
+    index: &Index,
+    softs: &Counts,
+    frame: Frame,
+    before: &[MarkLine],
+    who: Who,
+    how: How,
+) -> bool
+    requires index { IsIndex report.now index.now }
+    requires softs { (q : (ℕ × ℕ) × ℕ) → at_key softs.now q ≡ marks_soft q before.now }
+    ensures { IsTrue result ↔ IsSaidHow script.now report.now frame before.now who how }
+{
+    match how {
+        How::Failure { .. } => true,
+        How::Moved => is_said_more(script, report, index, softs, frame, before, who, true),
+        How::TakenFree => is_said_more(script, report, index, softs, frame, before, who, false),
+    }
+}
+
+/// Whether the mark, if it is of a soft offline, has such a line.
+fn is_said(
+    script: &Script,
+    report: &Report,
+    index: &Index,
+    softs: &Counts,
+    frame: Frame,
+    before: &[MarkLine],
+    mark: &MarkLine,
+) -> bool
+    requires index { IsIndex report.now index.now }
+    requires softs { (q : (ℕ × ℕ) × ℕ) → at_key softs.now q ≡ marks_soft q before.now }
+    ensures { IsTrue result ↔ IsSaid script.now report.now frame before.now mark.now }
+{
+    match *mark {
+        MarkLine::Poisoned { who, how, .. } => {
+            is_said_how(script, report, index, softs, frame, before, who, how)
+        }
+        MarkLine::Unpoisoned { .. } => true,
+    }
 }
 
 /// Whether the command unpoisoned the frame.
@@ -141,7 +226,7 @@ fn was_unpoisoned(script: &Script, report: &Report, given: &Given, who: Who, fra
         && matches!(answer_in(report, given, who), Some(Answer::Done))
 }
 
-/// Whether the mark, where no bank's event caused it, has its command's answer beside it.
+/// Whether the mark, if an `inject` or an `unpoison` made it, has its command's answer beside it.
 fn is_answered(
     script: &Script,
     report: &Report,
@@ -160,8 +245,7 @@ fn is_answered(
                 outcome,
                 ..
             } => was_injected(script, report, given, who, frame, outcome),
-            How::Moved => was_moved(script, report, given, who, frame),
-            How::TakenFree => was_taken_free(script, report, given, who, frame),
+            How::Moved | How::TakenFree => true,
         },
         MarkLine::Unpoisoned { who, .. } => was_unpoisoned(script, report, given, who, frame),
     }
@@ -246,6 +330,7 @@ pub(crate) fn is_right(
     report: &Report,
     index: &Index,
     had: &Counts,
+    softs: &Counts,
     kernel: bool,
     frame: Frame,
     marks: &[MarkLine],
@@ -254,6 +339,7 @@ pub(crate) fn is_right(
 ) -> bool
     requires index { IsIndex report.now index.now }
     requires had { (q : (ℕ × ℕ) × ℕ) → at_key had.now q ≡ marks_own frame.0 q (take place marks.now) }
+    requires softs { (q : (ℕ × ℕ) × ℕ) → at_key softs.now q ≡ marks_soft q (take place marks.now) }
     requires within { place ≤ length marks.now }
     ensures { MatchBool result (IsRightMark script.now report.now kernel frame marks.now place mark.now) (IsWrongMark script.now report.now kernel frame marks.now place mark.now) }
 {
@@ -266,5 +352,9 @@ pub(crate) fn is_right(
     if !is_answered(script, report, &index.given, frame, mark) {
         return false;
     }
-    has_event(report, index, had, frame, &marks[..place], mark)
+    let before = &marks[..place];
+    if !is_said(script, report, index, softs, frame, before, mark) {
+        return false;
+    }
+    has_event(report, index, had, frame, before, mark)
 }

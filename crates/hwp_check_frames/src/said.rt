@@ -57,7 +57,7 @@ fn note_row(said: &mut Said, cpu: u8, row: &CpuLine) -> Result<(), OutOfMemory>
             }
             Ok(())
         }
-        CpuLine::Answer { .. } => Ok(()),
+        CpuLine::Offlined(_) | CpuLine::Guest(_) | CpuLine::Answer { .. } => Ok(()),
     }
 }
 

@@ -7,4 +7,5 @@ mod LackLaws
 mod NeededLaws
 mod UrgentLaws
 mod MisLaws
+mod SoftRule
 mod MarkRule

@@ -45,6 +45,8 @@ rows-merged : (cpu seq : ℕ) (low : Option ℕ) (rows : List CpuLine) → rows_
 unfolding merged
 rows-merged cpu seq low [] = refl
 rows-merged cpu seq low (lines.Answer s answer ∷ rest) = rows-merged cpu seq low rest
+rows-merged cpu seq low (lines.Offlined offlined ∷ rest) = rows-merged cpu seq low rest
+rows-merged cpu seq low (lines.Guest guest ∷ rest) = rows-merged cpu seq low rest
 rows-merged cpu seq low (lines.Event event ∷ rest) =
     let same : is_pair (cpu, event.seq) (cpu, seq) ≡ (seq == event.seq) = ap (λ (b : Bool). b && (event.seq == seq)) (eq-eqb cpu cpu refl) ∙ eqb-swap event.seq seq in
     rows-merged cpu seq (row_low cpu (cpu, seq) low (lines.Event event)) rest
@@ -58,6 +60,8 @@ rows-lowest cpu seq rows = rows-merged cpu seq None rows ∙ none-merged (lowest
 pub other-rows : (cpu : ℕ) (q : ℕ × ℕ) (low : Option ℕ) (rows : List CpuLine) → (cpu == q.0) ≡ false → rows_low cpu q low rows ≡ low
 other-rows cpu q low [] other = refl
 other-rows cpu q low (lines.Answer s answer ∷ rest) other = other-rows cpu q low rest other
+other-rows cpu q low (lines.Offlined offlined ∷ rest) other = other-rows cpu q low rest other
+other-rows cpu q low (lines.Guest guest ∷ rest) other = other-rows cpu q low rest other
 other-rows cpu q low (lines.Event event ∷ rest) other =
     ap (λ (l : Option ℕ). rows_low cpu q l rest) (ap (λ (b : Bool). cond (is_some (result_of event.acted) && (b && (event.seq == q.1))) (Some (lower (frame_at event.addr) low)) low) other ∙ never (is_some (result_of event.acted))) ∙ other-rows cpu q low rest other
   where

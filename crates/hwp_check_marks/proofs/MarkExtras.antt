@@ -37,9 +37,8 @@ module _ {S : Type 0} (report : Report) (above : List FrameLine) (before : List 
   over-is (marks.Poisoned cycle who (hows.Failure hardware situation outcome)) =
       ap (λ (b : Bool). (has_page situation && b) || (not hardware && is_reached entries had who kinds.Commanded)) (reached-is who (kinds.Failure situation))
       ∙ ap (λ (b : Bool). (has_page situation && exceeds report who (kinds.Failure situation) above before) || (not hardware && b)) (reached-is who kinds.Commanded)
-  over-is (marks.Poisoned cycle who hows.Moved) =
-      ap (λ (b : Bool). b || is_reached entries had who kinds.Commanded) (reached-is who kinds.Moved) ∙ ap (λ (b : Bool). exceeds report who kinds.Moved above before || b) (reached-is who kinds.Commanded)
-  over-is (marks.Poisoned cycle who hows.TakenFree) = reached-is who kinds.Commanded
+  over-is (marks.Poisoned cycle who hows.Moved) = reached-is who kinds.Moved
+  over-is (marks.Poisoned cycle who hows.TakenFree) = refl
   over-is (marks.Unpoisoned cycle who) = reached-is who kinds.Commanded
 
 -- a mark more is counted

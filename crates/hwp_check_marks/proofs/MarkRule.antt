@@ -1,10 +1,11 @@
 -- The rule of marks holds where none of its four parts finds a line, and else the lowest of the lines found is the first that
 -- breaks it.
-use Rattle.std.proofs.Common.{◌≡◌, ◌≢◌, ◌⊎◌, inl, inr, ℕ, ◌+◌, ◌<◌, ◌≤◌, ◌==◌, ◌&&◌, min, Bool, true, false, cond, List, [], ◌∷◌, Option, Some, None, MatchOption, count_by, get_or, length, option_and_then, slice_get, sum_by, true≢false, refl, sym, ap, ◌∙◌, subst, arith}
+use Rattle.std.proofs.Common.{◌≡◌, ◌≢◌, ◌⊎◌, inl, inr, ℕ, ◌+◌, ◌<◌, ◌≤◌, ◌==◌, ◌&&◌, min, Bool, true, false, cond, List, [], ◌∷◌, Option, Some, None, MatchOption, count_by, get_or, length, option_and_then, option_map, slice_get, sum_by, unwrap_or, true≢false, refl, sym, ap, ◌∙◌, subst, arith}
 use Rattle.std.specs.List.{zip}
 use Rattle.std.proofs.lemmas.Bool.{cases_Bool, cases_lt, eqb-false, eqb-true}
 use Rattle.std.proofs.lemmas.List.Sums.{sum_by-cons}
 use Rattle.std.proofs.lemmas.Option.{none-some, slice_get-get_or, slice_get_within}
+use Rattle.hwp_check_rules.specs.hwp_geom.declared.Frame.{Frame}
 use Rattle.hwp_check_rules.specs.hwp_geom.declared.Who.{Who}
 use Rattle.hwp_check_rules.specs.hwp_page.declared.At.{At}
 use Rattle.hwp_check_rules.specs.hwp_page.declared.Entry.{Entry}
@@ -16,12 +17,12 @@ use Rattle.hwp_check_rules.specs.hwp_report_text.declared.FrameLine.{FrameLine}
 use Rattle.hwp_check_rules.specs.hwp_report_text.declared.MarkLine.{MarkLine}
 use Rattle.hwp_check_rules.specs.hwp_report_text.declared.Report.{Report}
 use Rattle.hwp_check_rules.specs.hwp_report_text.declared.EventLine.{EventLine}
-use Rattle.hwp_check_rules.specs.hwp_law.Lines.{is_same_command}
-use Rattle.hwp_check_rules.specs.hwp_law.Pairings.{AreRecorded, entries_of, finds, has_page, is_failure, is_failure_mark, is_move_mark, is_required, is_soft, is_urgent, marks_in, urgent_from}
+use Rattle.hwp_check_rules.specs.hwp_law.Lines.{is_same_command, marks_of}
+use Rattle.hwp_check_rules.specs.hwp_law.Pairings.{AreRecorded, entries_of, finds, has_page, is_failure, is_failure_mark, is_move_mark, is_required, is_soft, is_soft_mark, is_urgent, marks_in, soft_lines, urgent_from}
 use Rattle.hwp_check_rules.specs.hwp_law.Places.{entry_at}
 use Rattle.hwp_check_rules.specs.hwp_law.Records.{IsAnswered, IsMarkAt, hardware_marks, how_in, is_by_hardware, result_lines, who_in}
 use Rattle.hwp_check_rules.specs.Firsts.{sooner, soonest}
-use Rattle.hwp_check_rules.specs.MarkFaults.{HasNoEvent, IsMarkFault, IsMarkLacking, IsMisfound, IsMisrequired, LacksMarks, home_of}
+use Rattle.hwp_check_rules.specs.MarkFaults.{HasNoEvent, IsMarkFault, IsMarkLacking, IsMisfound, IsMisrequired, IsUnsaid, LacksMarks, home_of}
 use Rattle.hwp_check_rules.specs.Rules.{MarksFit}
 use Rattle.hwp_check_rules.specs.Standing.{entry_line, frame_line}
 use Rattle.hwp_check_rules.specs.declared.Rule.TheVariants.{Marks}
@@ -152,7 +153,8 @@ module _ (script : Script) (report : Report) where
   equal-or : (a b : ℕ) → (a ≢ b → ⊥) → a ≡ b
   equal-or a b not_apart = elim (cases_Bool (a == b)) [ inl is ↦ eqb-true a b is | inr is ↦ absurd (not_apart (eqb-false a b is)) ]
 
-  module _ (few : AllFew report) (none_lacks : (line : ℕ) → IsMarkLacking script report line → ⊥) (none_differs : (line : ℕ) → IsMisrequired report line → ⊥) where
+  module _ (few : AllFew report) (none_lacks : (line : ℕ) → IsMarkLacking script report line → ⊥) (none_differs : (line : ℕ) → IsMisrequired report line → ⊥)
+      (are_softs : (who : Who) (frame : Frame) (moved : Bool) → count_by (is_soft_mark who moved) (marks_of report frame.0) ≡ soft_lines script report who frame moved) where
     no-lack : (who : Who) → LacksMarks report who → ⊥
     no-lack who lacks = none_lacks (frame_line report (home_of script report who)) (record { who = who; lacks = lacks; line_is = refl })
 
@@ -183,8 +185,8 @@ module _ (script : Script) (report : Report) where
           ]
         ]
 
-    recorded : (who : Who) → AreRecorded report who
-    recorded who = record { failures = failures-are who; required = required-are who; moves = moves-are who; one = (few who).one }
+    recorded : (who : Who) → AreRecorded script report who
+    recorded who = record { failures = failures-are who; required = required-are who; moves = moves-are who; softs = are_softs who; one = (few who).one }
 
   -- a rule that holds has no such lines
   few-of : MarksFit script report → AllFew report
@@ -204,6 +206,31 @@ module _ (script : Script) (report : Report) where
   none-differing : MarksFit script report → (line : ℕ) → IsMisrequired report line → ⊥
   none-differing fits line m = m.wrong ((fits.recorded m.entry.who).required m.situation m.of_page)
 
+  -- where no command has too few marks of soft offlines, and none too many in any frame of the script, they are as many as its lines say
+  softs-are : length report.frames ≤ length script.layout.kernel → RecordsFit script report → ((who : Who) (frame : Frame) (moved : Bool) → soft_lines script report who frame moved ≤ count_by (is_soft_mark who moved) (marks_of report frame.0))
+      → (who : Who) (frame : Frame) (moved : Bool) → count_by (is_soft_mark who moved) (marks_of report frame.0) ≡ soft_lines script report who frame moved
+  softs-are many fits low who frame moved = by (slice_get report.frames frame.0) refl
+    where
+      least : soft_lines script report who frame moved ≤ count_by (is_soft_mark who moved) (marks_of report frame.0)
+      least = low who frame moved
+
+      by : (o : Option FrameLine) → slice_get report.frames frame.0 ≡ o → count_by (is_soft_mark who moved) (marks_of report frame.0) ≡ soft_lines script report who frame moved
+      by (Some line) is =
+          let within : frame.0 < length report.frames = slice_get_within report.frames frame.0 line is in
+          let declared = slice_get-get_or script.layout.kernel frame.0 false (omega (arith, within, many)) in
+          let most : count_by (is_soft_mark who moved) (marks_of report frame.0) ≤ soft_lines script report who frame moved = (fits frame _ line declared is).said who moved in
+          omega (arith, least, most)
+      by None is =
+          let none : count_by (is_soft_mark who moved) (marks_of report frame.0) ≡ 0 = ap (λ (o : Option FrameLine). count_by (is_soft_mark who moved) (unwrap_or (option_map (λ (l : FrameLine). l.marks) o) [])) is in
+          omega (arith, least, none)
+
+  -- a rule that holds has them in each frame
+  records-of : MarksFit script report → RecordsFit script report
+  records-of fits frame kernel line declared there = record {
+    kept = fits.kept frame kernel line declared there;
+    said = λ who moved. let are : count_by (is_soft_mark who moved) (marks_of report frame.0) ≡ soft_lines script report who frame moved = (fits.recorded who).softs frame moved in omega (arith, are);
+  }
+
   -- the lines that the four parts name are those that break the rule
   abbrev Parts : ℕ → Type 0
   Parts line = (IsRecordFault script report line ⊎ IsExtra report line) ⊎ (IsMarkLacking script report line ⊎ IsMisrequired report line)
@@ -211,11 +238,12 @@ module _ (script : Script) (report : Report) where
   parts-fault : length report.frames ≤ length script.layout.kernel → (line : ℕ) → Parts line → IsMarkFault script report line
   parts-fault many line (inl (inl (inl w))) = inl (record { frame = w.frame; kernel = w.kernel; place = w.place; mark = w.mark; declared = w.declared; there = w.there; line_is = w.line_is; wrong = wider w.wrong })
     where
-      wider : {A B C D E : Type 0} → A ⊎ B ⊎ C ⊎ D → A ⊎ B ⊎ C ⊎ D ⊎ E
+      wider : {A B C D E F : Type 0} → A ⊎ B ⊎ C ⊎ D ⊎ E → A ⊎ B ⊎ C ⊎ D ⊎ E ⊎ F
       wider (inl a) = inl a
       wider (inr (inl b)) = inr (inl b)
       wider (inr (inr (inl c))) = inr (inr (inl c))
-      wider (inr (inr (inr d))) = inr (inr (inr (inl d)))
+      wider (inr (inr (inr (inl d)))) = inr (inr (inr (inl d)))
+      wider (inr (inr (inr (inr e)))) = inr (inr (inr (inr (inl e))))
   parts-fault many line (inl (inl (inr beyond))) = inr (inl beyond)
   parts-fault many line (inl (inr x)) =
       let s = shown-in report x.frame.0 x.place x.mark x.there in
@@ -228,7 +256,7 @@ module _ (script : Script) (report : Report) where
         declared = slice_get-get_or script.layout.kernel x.frame.0 false (omega (arith, within, many));
         there = x.there;
         line_is = x.line_is;
-        wrong = inr (inr (inr (inr x.wrong)));
+        wrong = inr (inr (inr (inr (inr x.wrong))));
       })
   parts-fault many line (inr (inl l)) = inr (inr (inl l))
   parts-fault many line (inr (inr m)) = inr (inr (inr m))
@@ -236,17 +264,18 @@ module _ (script : Script) (report : Report) where
   fault-parts : (line : ℕ) → IsMarkFault script report line → Parts line
   fault-parts line (inl w) = by w.wrong
     where
-      by : (IsMarkAt w.place w.mark → ⊥) ⊎ IsMisfound w.kernel w.mark ⊎ (IsAnswered script report w.frame w.mark → ⊥) ⊎ HasNoEvent report w.frame w.place w.mark ⊎ IsTooMany report w.frame w.place w.mark → Parts line
+      by : (IsMarkAt w.place w.mark → ⊥) ⊎ IsMisfound w.kernel w.mark ⊎ (IsAnswered script report w.frame w.mark → ⊥) ⊎ IsUnsaid script report w.frame w.place w.mark ⊎ HasNoEvent report w.frame w.place w.mark ⊎ IsTooMany report w.frame w.place w.mark → Parts line
       by (inl a) = inl (inl (inl (record { frame = w.frame; kernel = w.kernel; place = w.place; mark = w.mark; declared = w.declared; there = w.there; line_is = w.line_is; wrong = inl a })))
       by (inr (inl b)) = inl (inl (inl (record { frame = w.frame; kernel = w.kernel; place = w.place; mark = w.mark; declared = w.declared; there = w.there; line_is = w.line_is; wrong = inr (inl b) })))
       by (inr (inr (inl c))) = inl (inl (inl (record { frame = w.frame; kernel = w.kernel; place = w.place; mark = w.mark; declared = w.declared; there = w.there; line_is = w.line_is; wrong = inr (inr (inl c)) })))
-      by (inr (inr (inr (inl d)))) = inl (inl (inl (record { frame = w.frame; kernel = w.kernel; place = w.place; mark = w.mark; declared = w.declared; there = w.there; line_is = w.line_is; wrong = inr (inr (inr d)) })))
-      by (inr (inr (inr (inr e)))) = inl (inr (record { frame = w.frame; place = w.place; mark = w.mark; there = w.there; line_is = w.line_is; wrong = e }))
+      by (inr (inr (inr (inl d)))) = inl (inl (inl (record { frame = w.frame; kernel = w.kernel; place = w.place; mark = w.mark; declared = w.declared; there = w.there; line_is = w.line_is; wrong = inr (inr (inr (inl d))) })))
+      by (inr (inr (inr (inr (inl l))))) = inl (inl (inl (record { frame = w.frame; kernel = w.kernel; place = w.place; mark = w.mark; declared = w.declared; there = w.there; line_is = w.line_is; wrong = inr (inr (inr (inr l))) })))
+      by (inr (inr (inr (inr (inr e))))) = inl (inr (record { frame = w.frame; place = w.place; mark = w.mark; there = w.there; line_is = w.line_is; wrong = e }))
   fault-parts line (inr (inl beyond)) = inl (inl (inr beyond))
   fault-parts line (inr (inr (inl l))) = inr (inl l)
   fault-parts line (inr (inr (inr m))) = inr (inr m)
 
-  module _ (many : length report.frames ≤ length script.layout.kernel) (kept extra lacks wrong : Option ℕ) (of_kept : MatchOption kept (IsClear (RecordsFit script report) (IsRecordFault script report)) (λ line. IsFirstFault (RecordsFit script report) (IsRecordFault script report) line))
+  module _ (many : length report.frames ≤ length script.layout.kernel) (low : (who : Who) (frame : Frame) (moved : Bool) → soft_lines script report who frame moved ≤ count_by (is_soft_mark who moved) (marks_of report frame.0)) (kept extra lacks wrong : Option ℕ) (of_kept : MatchOption kept (IsClear (RecordsFit script report) (IsRecordFault script report)) (λ line. IsFirstFault (RecordsFit script report) (IsRecordFault script report) line))
       (of_extra : MatchOption extra (IsClear (AllFew report) (IsExtra report)) (λ line. IsFirstFault (AllFew report) (IsExtra report) line)) (of_lacks : IsLowest (IsMarkLacking script report) lacks) (of_wrong : IsLowest (IsMisrequired report) wrong) where
     lowest : IsLowest (IsMarkFault script report) (soonest (soonest kept extra) (soonest lacks wrong))
     lowest =
@@ -261,15 +290,19 @@ module _ (script : Script) (report : Report) where
         let left = none-both kept extra halves.0 in
         let right = none-both lacks wrong halves.1 in
         record {
-          kept = clear-fits (RecordsFit script report) (IsRecordFault script report) kept of_kept left.0;
-          recorded = recorded (clear-fits (AllFew report) (IsExtra report) extra of_extra left.1) (lowest-none (IsMarkLacking script report) lacks of_lacks right.0) (lowest-none (IsMisrequired report) wrong of_wrong right.1);
+          kept = λ frame kernel line declared there. (records left.0 frame kernel line declared there).kept;
+          recorded = recorded (clear-fits (AllFew report) (IsExtra report) extra of_extra left.1) (lowest-none (IsMarkLacking script report) lacks of_lacks right.0) (lowest-none (IsMisrequired report) wrong of_wrong right.1)
+              (softs-are many (records left.0) low);
         }
+      where
+        records : kept ≡ None → RecordsFit script report
+        records none = clear-fits (RecordsFit script report) (IsRecordFault script report) kept of_kept none
 
     clear : MarksFit script report → soonest (soonest kept extra) (soonest lacks wrong) ≡ None
     clear fits =
         ap (λ (o : Option ℕ). soonest (soonest kept extra) (soonest lacks o)) (none-least (IsMisrequired report) wrong of_wrong (none-differing fits))
         ∙ ap (λ (o : Option ℕ). soonest (soonest kept extra) o) (none-least (IsMarkLacking script report) lacks of_lacks (none-lacking fits))
-        ∙ ap (λ (o : Option ℕ). soonest kept o) (fits-clear (AllFew report) (IsExtra report) extra of_extra (few-of fits)) ∙ fits-clear (RecordsFit script report) (IsRecordFault script report) kept of_kept fits.kept
+        ∙ ap (λ (o : Option ℕ). soonest kept o) (fits-clear (AllFew report) (IsExtra report) extra of_extra (few-of fits)) ∙ fits-clear (RecordsFit script report) (IsRecordFault script report) kept of_kept (records-of fits)
 
     pub marks-decided : MatchOption (soonest (soonest kept extra) (soonest lacks wrong)) (MarksFit script report) (IsBroken Marks script report)
     marks-decided = by (soonest (soonest kept extra) (soonest lacks wrong)) refl lowest

@@ -65,8 +65,8 @@ how-one q who (hows.Failure true situation outcome) = let one : raise (key_of wh
 how-one q who (hows.Failure false situation outcome) =
     let low : situation_number situation < 10 = situation-low situation in
     two-kinds who (kinds.Failure situation) kinds.Commanded q (omega (arith, low))
-how-one q who hows.Moved = two-kinds who kinds.Moved kinds.Commanded q (omega arith)
-how-one q who hows.TakenFree = raise-one (key_of who kinds.Commanded) q
+how-one q who hows.Moved = raise-one (key_of who kinds.Moved) q
+how-one q who hows.TakenFree = omega arith
 
 mark-one : (q : (ℕ × ℕ) × ℕ) (m : MarkLine) → mark_raise q m ≤ 1
 mark-one q (marks.Poisoned cycle who how) = how-one q who how
@@ -226,25 +226,12 @@ how-kind cycle v w (hows.Failure false s outcome) kinds.Commanded =
     omega (arith, none, one, is)
 how-kind cycle v w hows.Moved (kinds.Failure t) =
     let low : situation_number t < 10 = situation-low t in
-    let none : raise (key_of v kinds.Moved) (key_of w (kinds.Failure t)) ≡ 0 = raise-none v w kinds.Moved (kinds.Failure t) (other-kind (situation_number t) 10 low).1 in
-    let other : raise (key_of v kinds.Commanded) (key_of w (kinds.Failure t)) ≡ 0 = raise-none v w kinds.Commanded (kinds.Failure t) (other-kind (situation_number t) 11 (omega (arith, low))).1 in
-    let is : 0 ≡ flag (is_same_command w v && false) = and-none (is_same_command w v) in
-    omega (arith, none, other, is)
-how-kind cycle v w hows.Moved kinds.Moved =
-    let one : raise (key_of v kinds.Moved) (key_of w kinds.Moved) ≡ flag (is_same_command w v) = raise-same v w kinds.Moved kinds.Moved refl in
-    let other : raise (key_of v kinds.Commanded) (key_of w kinds.Moved) ≡ 0 = raise-none v w kinds.Commanded kinds.Moved refl in
-    let is : flag (is_same_command w v) ≡ flag (is_same_command w v && true) = and-all (is_same_command w v) in
-    omega (arith, one, other, is)
-how-kind cycle v w hows.Moved kinds.Commanded =
-    let none : raise (key_of v kinds.Moved) (key_of w kinds.Commanded) ≡ 0 = raise-none v w kinds.Moved kinds.Commanded refl in
-    let one : raise (key_of v kinds.Commanded) (key_of w kinds.Commanded) ≡ flag (is_same_command w v) = raise-same v w kinds.Commanded kinds.Commanded refl in
-    let is : flag (is_same_command w v) ≡ flag (is_same_command w v && true) = and-all (is_same_command w v) in
-    omega (arith, none, one, is)
-how-kind cycle v w hows.TakenFree (kinds.Failure t) =
-    let low : situation_number t < 10 = situation-low t in
-    raise-none v w kinds.Commanded (kinds.Failure t) (other-kind (situation_number t) 11 (omega (arith, low))).1 ∙ and-none (is_same_command w v)
-how-kind cycle v w hows.TakenFree kinds.Moved = raise-none v w kinds.Commanded kinds.Moved refl ∙ and-none (is_same_command w v)
-how-kind cycle v w hows.TakenFree kinds.Commanded = raise-same v w kinds.Commanded kinds.Commanded refl ∙ and-all (is_same_command w v)
+    raise-none v w kinds.Moved (kinds.Failure t) (other-kind (situation_number t) 10 low).1 ∙ and-none (is_same_command w v)
+how-kind cycle v w hows.Moved kinds.Moved = raise-same v w kinds.Moved kinds.Moved refl ∙ and-all (is_same_command w v)
+how-kind cycle v w hows.Moved kinds.Commanded = raise-none v w kinds.Moved kinds.Commanded refl ∙ and-none (is_same_command w v)
+how-kind cycle v w hows.TakenFree (kinds.Failure t) = and-none (is_same_command w v)
+how-kind cycle v w hows.TakenFree kinds.Moved = and-none (is_same_command w v)
+how-kind cycle v w hows.TakenFree kinds.Commanded = and-none (is_same_command w v)
 
 mark-kind : (w : Who) (l : Kind) (m : MarkLine) → mark_raise (key_of w l) m ≡ flag (is_kind w l m)
 mark-kind w l (marks.Poisoned cycle v how) = how-kind cycle v w how l

@@ -13,7 +13,7 @@ use Rattle.hwp_check_rules.specs.hwp_report_text.declared.MarkLine.TheVariants a
 use Rattle.hwp_check_rules.specs.hwp_report_text.declared.Report.{Report}
 use Rattle.hwp_check_rules.specs.hwp_law.Lines.{is_same_command, marks_of}
 use Rattle.hwp_check_rules.specs.hwp_law.Pairings.{entries_of, finds, has_page, is_commands, is_failure, is_failure_mark, is_move, is_move_mark, is_soft, marks_in, situation_number}
-use Rattle.hwp_check_rules.specs.hwp_law.Records.{how_in, is_by_hardware, who_in}
+use Rattle.hwp_check_rules.specs.hwp_law.Records.{how_in, is_commanded, who_in}
 use Rattle.hwp_check_marks.specs.declared.kinds.Kind.{Kind}
 use Rattle.hwp_check_marks.specs.declared.kinds.Kind.TheVariants as kinds
 use Rattle.hwp_check_rules.specs.MarkFaults.{marks_before}
@@ -147,11 +147,8 @@ module _ (report : Report) (frame : Frame) (place : ℕ) where
     })
     | inr alone ↦ inr (inr (record { commanded = and-both _ _ (same-self who) (and-left (not hardware) (exceeds report who kinds.Commanded above before) alone); beyond = leb-true _ _ (and-right (not hardware) (exceeds report who kinds.Commanded above before) alone) }))
   ]
-  too-many (marks.Poisoned cycle who hows.Moved) is = elim (or-cases _ _ is) [
-    | inl moved ↦ inr (inl (record { moved = and-both _ _ (same-self who) refl; beyond = leb-true _ _ moved }))
-    | inr alone ↦ inr (inr (record { commanded = and-both _ _ (same-self who) refl; beyond = leb-true _ _ alone }))
-  ]
-  too-many (marks.Poisoned cycle who hows.TakenFree) is = inr (inr (record { commanded = and-both _ _ (same-self who) refl; beyond = leb-true _ _ is }))
+  too-many (marks.Poisoned cycle who hows.Moved) is = inr (inl (record { moved = and-both _ _ (same-self who) refl; beyond = leb-true _ _ is }))
+  too-many (marks.Poisoned cycle who hows.TakenFree) is = absurd (true≢false (sym is))
   too-many (marks.Unpoisoned cycle who) is = inr (inr (record { commanded = and-both _ _ (same-self who) refl; beyond = leb-true _ _ is }))
 
   still-low : (who : Who) (kind : Kind) → exceeds report who kind (take frame.0 report.frames) (take place (marks_of report frame.0)) ≡ false
@@ -176,7 +173,7 @@ module _ (report : Report) (frame : Frame) (place : ℕ) where
   not-moved : (mark : MarkLine) → is_move_mark (who_in mark) mark ≡ true → is_extra report (take frame.0 report.frames) (take place (marks_of report frame.0)) mark ≡ false
       → exceeds report (who_in mark) kinds.Moved (take frame.0 report.frames) (take place (marks_of report frame.0)) ≡ false
   not-moved (marks.Poisoned cycle who (hows.Failure hardware s outcome)) is none = absurd (true≢false (sym (and-right (is_same_command who who) false is)))
-  not-moved (marks.Poisoned cycle who hows.Moved) is none = or-left _ _ none
+  not-moved (marks.Poisoned cycle who hows.Moved) is none = none
   not-moved (marks.Poisoned cycle who hows.TakenFree) is none = absurd (true≢false (sym (and-right (is_same_command who who) false is)))
   not-moved (marks.Unpoisoned cycle who) is none = absurd (true≢false (sym (and-right (is_same_command who who) false is)))
 
@@ -188,8 +185,8 @@ module _ (report : Report) (frame : Frame) (place : ℕ) where
           → exceeds report who kinds.Commanded (take frame.0 report.frames) (take place (marks_of report frame.0)) ≡ false
       alone true by_command not_yet = absurd (true≢false (sym by_command))
       alone false by_command not_yet = not_yet
-  not-second (marks.Poisoned cycle who hows.Moved) is none = or-right _ _ none
-  not-second (marks.Poisoned cycle who hows.TakenFree) is none = none
+  not-second (marks.Poisoned cycle who hows.Moved) is none = absurd (true≢false (sym (and-right (is_same_command who who) false is)))
+  not-second (marks.Poisoned cycle who hows.TakenFree) is none = absurd (true≢false (sym (and-right (is_same_command who who) false is)))
   not-second (marks.Unpoisoned cycle who) is none = none
 
   none-many : (mark : MarkLine) → is_extra report (take frame.0 report.frames) (take place (marks_of report frame.0)) mark ≡ false → IsTooMany report frame place mark → ⊥
@@ -253,7 +250,7 @@ module _ (report : Report) (all : (frame : Frame) (place : ℕ) (mark : MarkLine
     | inr most ↦ most
     | inl more ↦
         let r = beyond-at (is_commands who) 1 more in
-        let same : who_in r.2 ≡ who = same-who who (who_in r.2) (and-left (is_same_command who (who_in r.2)) (not (is_by_hardware r.2)) r.4) in
+        let same : who_in r.2 ≡ who = same-who who (who_in r.2) (and-left (is_same_command who (who_in r.2)) (is_commanded r.2) r.4) in
         let number : marks_before report r.0.0 r.1 (is_commands who) ≡ 1 = r.5 in
         absurd (all r.0 r.1 r.2 r.3 (inr (inr (record {
           commanded = subst (λ (w : Who). is_commands w r.2 ≡ true) (sym same) r.4;

@@ -19,6 +19,8 @@ low_at m q = hash.get is_pair m q
 abbrev pub row_low : ℕ → ℕ × ℕ → Option ℕ → CpuLine → Option ℕ
 row_low cpu q low (lines.Event event) = cond (is_some (result_of event.acted) && is_pair (cpu, event.seq) q) (Some (lower (frame_at event.addr) low)) low
 row_low cpu q low (lines.Answer seq answer) = low
+row_low cpu q low (lines.Offlined offlined) = low
+row_low cpu q low (lines.Guest guest) = low
 
 abbrev pub rows_low : ℕ → ℕ × ℕ → Option ℕ → List CpuLine → Option ℕ
 rows_low cpu q low rows = fold (row_low cpu q) low rows

@@ -27,8 +27,8 @@ key_of who kind = ((who.cpu.0, who.seq), kind_number kind)
 abbrev pub how_raise : (ℕ × ℕ) × ℕ → Who → How → ℕ
 how_raise q who (hows.Failure hardware situation outcome) =
     raise (key_of who (kinds.Failure situation)) q + cond (not hardware) (raise (key_of who kinds.Commanded) q) 0
-how_raise q who hows.Moved = raise (key_of who kinds.Moved) q + raise (key_of who kinds.Commanded) q
-how_raise q who hows.TakenFree = raise (key_of who kinds.Commanded) q
+how_raise q who hows.Moved = raise (key_of who kinds.Moved) q
+how_raise q who hows.TakenFree = 0
 
 abbrev pub mark_raise : (ℕ × ℕ) × ℕ → MarkLine → ℕ
 mark_raise q (marks.Poisoned cycle who how) = how_raise q who how
@@ -76,6 +76,6 @@ is_reached entries had who kind = nat_le (may_have kind (at_key entries (key_of 
 abbrev pub is_over : {S : Type 0} → HashMap ((ℕ × ℕ) × ℕ) ℕ S → HashMap ((ℕ × ℕ) × ℕ) ℕ S → MarkLine → Bool
 is_over entries had (marks.Poisoned cycle who (hows.Failure hardware situation outcome)) =
     (has_page situation && is_reached entries had who (kinds.Failure situation)) || (not hardware && is_reached entries had who kinds.Commanded)
-is_over entries had (marks.Poisoned cycle who hows.Moved) = is_reached entries had who kinds.Moved || is_reached entries had who kinds.Commanded
-is_over entries had (marks.Poisoned cycle who hows.TakenFree) = is_reached entries had who kinds.Commanded
+is_over entries had (marks.Poisoned cycle who hows.Moved) = is_reached entries had who kinds.Moved
+is_over entries had (marks.Poisoned cycle who hows.TakenFree) = false
 is_over entries had (marks.Unpoisoned cycle who) = is_reached entries had who kinds.Commanded

@@ -79,8 +79,8 @@ exceeds report who kind above before = nat_le (allowed report who kind) (before_
 abbrev pub is_extra : Report → List FrameLine → List MarkLine → MarkLine → Bool
 is_extra report above before (marks.Poisoned cycle who (hows.Failure hardware situation outcome)) =
     (has_page situation && exceeds report who (kinds.Failure situation) above before) || (not hardware && exceeds report who kinds.Commanded above before)
-is_extra report above before (marks.Poisoned cycle who hows.Moved) = exceeds report who kinds.Moved above before || exceeds report who kinds.Commanded above before
-is_extra report above before (marks.Poisoned cycle who hows.TakenFree) = exceeds report who kinds.Commanded above before
+is_extra report above before (marks.Poisoned cycle who hows.Moved) = exceeds report who kinds.Moved above before
+is_extra report above before (marks.Poisoned cycle who hows.TakenFree) = false
 is_extra report above before (marks.Unpoisoned cycle who) = exceeds report who kinds.Commanded above before
 
 -- so many first marks of a record, below these frames, are none too many; and this is the first that is

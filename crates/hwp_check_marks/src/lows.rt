@@ -42,7 +42,7 @@ fn lower_row(lows: &mut Lows, cpu: u8, row: &CpuLine) -> Result<(), OutOfMemory>
                 Ok(())
             }
         }
-        CpuLine::Answer { .. } => Ok(()),
+        CpuLine::Offlined(_) | CpuLine::Guest(_) | CpuLine::Answer { .. } => Ok(()),
     }
 }
 

@@ -25,11 +25,8 @@ fn add_how(counts: &mut Counts, who: Who, how: How) -> Result<(), OutOfMemory>
             add(counts, key_of(who, Kind::Failure(situation)))?;
             add_if(counts, !hardware, key_of(who, Kind::Commanded))
         }
-        How::Moved => {
-            add(counts, key_of(who, Kind::Moved))?;
-            add(counts, key_of(who, Kind::Commanded))
-        }
-        How::TakenFree => add(counts, key_of(who, Kind::Commanded)),
+        How::Moved => add(counts, key_of(who, Kind::Moved)),
+        How::TakenFree => Ok(()),
     }
 }
 

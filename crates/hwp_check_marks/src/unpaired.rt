@@ -45,11 +45,8 @@ fn is_over(entries: &Counts, had: &Counts, mark: &MarkLine) -> bool
                 (has_page(situation) && is_reached(entries, had, who, Kind::Failure(situation)))
                     || (!hardware && is_reached(entries, had, who, Kind::Commanded))
             }
-            How::Moved => {
-                is_reached(entries, had, who, Kind::Moved)
-                    || is_reached(entries, had, who, Kind::Commanded)
-            }
-            How::TakenFree => is_reached(entries, had, who, Kind::Commanded),
+            How::Moved => is_reached(entries, had, who, Kind::Moved),
+            How::TakenFree => false,
         },
         MarkLine::Unpoisoned { who, .. } => is_reached(entries, had, who, Kind::Commanded),
     }

@@ -1,5 +1,5 @@
 -- The answers of a processor, told from the first command on, and told line by line: the same.
-use Rattle.std.proofs.Common.{◌≡◌, ℕ, zero, suc, ◌+◌, ◌<◌, Bool, false, cond, true≢false, List, [], ◌∷◌, Some, count_by, get_or, length, slice_get, take, IsSome, refl, sym, ap, ◌∙◌, subst, arith}
+use Rattle.std.proofs.Common.{◌≡◌, ℕ, zero, suc, ◌+◌, ◌<◌, Bool, true, false, cond, true≢false, List, [], ◌∷◌, Some, count_by, get_or, length, slice_get, take, IsSome, refl, sym, ap, ◌∙◌, subst, arith}
 use Rattle.std.proofs.lemmas.Option.{same_Some, none-some}
 use Rattle.std.proofs.lemmas.List.Sums.{sum_by-cons, sum_by_more}
 use Rattle.hwp_law.specs.hwp_geom.declared.Cpu.{Cpu}
@@ -12,7 +12,8 @@ use Rattle.hwp_law.specs.hwp_report_text.declared.CpuLine.{CpuLine}
 use Rattle.hwp_law.specs.hwp_report_text.declared.CpuLine.TheVariants as lines
 use Rattle.hwp_law.specs.hwp_report_text.declared.Report.{Report}
 use Rattle.hwp_law.specs.Causes.{AreCaused, IsCaused, IsHeeded}
-use Rattle.hwp_check_rules.specs.Answered.{AreAnswered, HasAnswer, IsRight, is_answer, seq_of}
+use Rattle.hwp_check_rules.specs.Answered.{AreAnswered, HasAnswer, IsRight, is_answer, is_event_or_answer}
+use Rattle.hwp_law.specs.Lines.{seq_of}
 
 -- the last of the commands that a line is of, and of which command it is, where so many were answered before
 abbrev pub answers_in : ℕ → List CpuLine → ℕ
@@ -55,6 +56,19 @@ module _ (script : Script) (report : Report) (cpu : Cpu) where
       let below : seq_of line < n + 1 + length cs = later.1 in
       let more : answers_in (suc row) (lines.Answer seq answer ∷ rest) ≡ 1 + answers_in row rest = in-more row (lines.Answer seq answer) rest in
       (omega (arith, at, more), omega (arith, below))
+  place-of n (c ∷ cs) (lines.Offlined offlined ∷ rest) h row line is = absurd h
+  place-of n (c ∷ cs) (lines.Guest guest ∷ rest) h row line is = absurd h
+
+  kind-of : (n : ℕ) (commands : List Command) (rows : List CpuLine) → AreCaused script report cpu n commands rows → (row : ℕ) (line : CpuLine) → slice_get rows row ≡ Some line → is_event_or_answer line ≡ true
+  kind-of n [] [] h row line is = absurd (none-some _ is)
+  kind-of n [] (r ∷ rest) h row line is = absurd h
+  kind-of n (c ∷ cs) [] h row line is = absurd h
+  kind-of n (c ∷ cs) (lines.Event event ∷ rest) h zero line is = sym (ap is_event_or_answer (same_Some _ _ is))
+  kind-of n (c ∷ cs) (lines.Event event ∷ rest) h (suc row) line is = kind-of n (c ∷ cs) rest h.1 row line is
+  kind-of n (c ∷ cs) (lines.Answer seq answer ∷ rest) h zero line is = sym (ap is_event_or_answer (same_Some _ _ is))
+  kind-of n (c ∷ cs) (lines.Answer seq answer ∷ rest) h (suc row) line is = kind-of (n + 1) cs rest h.3 row line is
+  kind-of n (c ∷ cs) (lines.Offlined offlined ∷ rest) h row line is = absurd h
+  kind-of n (c ∷ cs) (lines.Guest guest ∷ rest) h row line is = absurd h
 
   each-of : (n : ℕ) (commands : List Command) (rows : List CpuLine) → AreCaused script report cpu n commands rows → (k seq : ℕ) → k < length commands → seq ≡ n + k → HasAnswer rows seq
   each-of n [] rows h k seq less is = absurd (omega arith)
@@ -65,6 +79,8 @@ module _ (script : Script) (report : Report) (cpu : Cpu) where
       let first : s ≡ n = h.0 in let same : s ≡ seq = omega (arith, first, is) in record { row = 0; answer = answer; there = ap (λ (m : ℕ). Some (lines.Answer m answer)) same }
   each-of n (c ∷ cs) (lines.Answer s answer ∷ rest) h (suc k) seq less is =
       let r = each-of (n + 1) cs rest h.3 k seq (omega arith) (omega arith) in record { row = suc r.row; answer = r.answer; there = r.there }
+  each-of n (c ∷ cs) (lines.Offlined offlined ∷ rest) h k seq less is = absurd h
+  each-of n (c ∷ cs) (lines.Guest guest ∷ rest) h k seq less is = absurd h
 
   right-of : (n : ℕ) (commands : List Command) (rows : List CpuLine) → AreCaused script report cpu n commands rows → (row k seq : ℕ) (answer : Answer) (command : Command) → slice_get rows row ≡ Some (lines.Answer seq answer) → seq ≡ n + k → slice_get commands k ≡ Some command → IsCaused script report (who seq) command answer × IsHeeded report (who seq) answer
   right-of n [] [] h row k seq answer command is same there = absurd (none-some _ is)
@@ -81,13 +97,15 @@ module _ (script : Script) (report : Report) (cpu : Cpu) where
       (subst (λ (x : Command). IsCaused script report (who n) x given × IsHeeded report (who n) given) of_command (h.1, h.2)))
     where
       answer_in_line : CpuLine → Answer
-      answer_in_line (lines.Event event) = answers.Stopped
       answer_in_line (lines.Answer s2 a) = a
+      answer_in_line _ = answers.Stopped
   right-of n (c ∷ cs) (lines.Answer s given ∷ rest) h zero (suc k) seq answer command is same there =
       let of_seq : s ≡ seq = ap seq_of (same_Some _ _ is) in let first : s ≡ n = h.0 in absurd (omega (arith, of_seq, first, same))
   right-of n (c ∷ cs) (lines.Answer s given ∷ rest) h (suc row) zero seq answer command is same there =
       let later : seq ≡ n + 1 + answers_in row rest = (place-of (n + 1) cs rest h.3 row (lines.Answer seq answer) is).0 in absurd (omega (arith, later, same))
   right-of n (c ∷ cs) (lines.Answer s given ∷ rest) h (suc row) (suc k) seq answer command is same there = right-of (n + 1) cs rest h.3 row k seq answer command is (omega (arith, same)) there
+  right-of n (c ∷ cs) (lines.Offlined offlined ∷ rest) h row k seq answer command is same there = absurd h
+  right-of n (c ∷ cs) (lines.Guest guest ∷ rest) h row k seq answer command is same there = absurd h
 
   -- told from the first command on, the lines are told one by one
   pub by-rows : (commands : List Command) (rows : List CpuLine) → AreCaused script report cpu 0 commands rows → AreAnswered script report cpu commands rows
@@ -95,7 +113,7 @@ module _ (script : Script) (report : Report) (cpu : Cpu) where
     in_place = λ row line is.
         let p = place-of 0 commands rows h row line is in
         let at : seq_of line ≡ 0 + answers_in row rows = p.0 in let below : seq_of line < 0 + length commands = p.1 in
-        record { of_next = omega (arith, at); of_some = omega (arith, below) };
+        record { of_next = omega (arith, at); of_some = omega (arith, below); of_kind = kind-of 0 commands rows h row line is };
     each = λ seq less. each-of 0 commands rows h seq seq less (omega arith);
     right = λ row seq answer command is there.
         let r = right-of 0 commands rows h row seq seq answer command is (omega arith) there in record { shown = r.0; heeded = r.1 };
@@ -111,14 +129,17 @@ module _ (script : Script) (report : Report) (cpu : Cpu) where
   told-of n (c ∷ cs) (lines.Answer s given ∷ rest) h zero seq is = subst (λ (a : Answer). IsCaused script report (who n) c a) (ap answer_in_line (same_Some _ _ is)) h.1
     where
       answer_in_line : CpuLine → Answer
-      answer_in_line (lines.Event event) = answers.Stopped
       answer_in_line (lines.Answer s2 a) = a
+      answer_in_line _ = answers.Stopped
   told-of n (c ∷ cs) (lines.Answer s given ∷ rest) h (suc row) seq is = told-of (n + 1) cs rest h.3 row seq is
+  told-of n (c ∷ cs) (lines.Offlined offlined ∷ rest) h row seq is = absurd h
+  told-of n (c ∷ cs) (lines.Guest guest ∷ rest) h row seq is = absurd h
 
   -- the lines from one on, told one by one, where so many commands were answered before
   record From (n : ℕ) (commands : List Command) (rows : List CpuLine) : Type 0 where
     at : (row : ℕ) (line : CpuLine) → slice_get rows row ≡ Some line → seq_of line ≡ n + answers_in row rows
     below : (row : ℕ) (line : CpuLine) → slice_get rows row ≡ Some line → seq_of line < n + length commands
+    kinds : (row : ℕ) (line : CpuLine) → slice_get rows row ≡ Some line → is_event_or_answer line ≡ true
     each : (k : ℕ) → k < length commands → HasAnswer rows (n + k)
     right : (row k seq : ℕ) (answer : Answer) (command : Command) → slice_get rows row ≡ Some (lines.Answer seq answer) → seq ≡ n + k → slice_get commands k ≡ Some command → IsRight script report (who seq) command answer
 
@@ -126,6 +147,7 @@ module _ (script : Script) (report : Report) (cpu : Cpu) where
   past-event n commands line rows not_answer f = record {
     at = λ row l is. let e : seq_of l ≡ n + answers_in (suc row) (line ∷ rows) = f.at (suc row) l is in let m : answers_in (suc row) (line ∷ rows) ≡ flag (is_answer line) + answers_in row rows = in-more row line rows in let z : flag (is_answer line) ≡ 0 = ap flag not_answer in omega (arith, e, m, z);
     below = λ row l is. f.below (suc row) l is;
+    kinds = λ row l is. f.kinds (suc row) l is;
     each = λ k less. still line not_answer (f.each k less);
     right = λ row k seq answer command is. f.right (suc row) k seq answer command is;
   }
@@ -141,6 +163,7 @@ module _ (script : Script) (report : Report) (cpu : Cpu) where
   past-answer n c cs s a rest first f = record {
     at = λ row l is. let e : seq_of l ≡ n + answers_in (suc row) (lines.Answer s a ∷ rest) = f.at (suc row) l is in let m : answers_in (suc row) (lines.Answer s a ∷ rest) ≡ 1 + answers_in row rest = in-more row (lines.Answer s a) rest in omega (arith, e, m);
     below = λ row l is. let e : seq_of l < n + length (c ∷ cs) = f.below (suc row) l is in omega (arith, e);
+    kinds = λ row l is. f.kinds (suc row) l is;
     each = λ k less. later (n + suc k) (n + 1 + k) (omega arith) (omega arith) (f.each (suc k) (omega arith));
     right = λ row k seq answer command is same there. f.right (suc row) (suc k) seq answer command is (omega (arith, same)) there;
   }
@@ -164,12 +187,15 @@ module _ (script : Script) (report : Report) (cpu : Cpu) where
       let first : s ≡ n = omega (arith, at) in
       let r = f.right 0 0 n a c (ap (λ (m : ℕ). Some (lines.Answer m a)) first) (omega arith) refl in
       (first, r.shown, r.heeded, from-rows (n + 1) cs rest (past-answer n c cs s a rest first f))
+  from-rows n (c ∷ cs) (lines.Offlined offlined ∷ rest) f = absurd (true≢false (sym (f.kinds 0 _ refl)))
+  from-rows n (c ∷ cs) (lines.Guest guest ∷ rest) f = absurd (true≢false (sym (f.kinds 0 _ refl)))
 
   -- told one by one, the lines are told from the first command on
   pub rows-by : (commands : List Command) (rows : List CpuLine) → AreAnswered script report cpu commands rows → AreCaused script report cpu 0 commands rows
   rows-by commands rows h = from-rows 0 commands rows (record {
     at = λ row l is. let e : seq_of l ≡ answers_in row rows = (h.in_place row l is).of_next in omega (arith, e);
     below = λ row l is. let e : seq_of l < length commands = (h.in_place row l is).of_some in omega (arith, e);
+    kinds = λ row l is. (h.in_place row l is).of_kind;
     each = λ k less. let zero_and : k ≡ 0 + k = omega arith in subst (HasAnswer rows) zero_and (h.each k less);
     right = λ row k seq answer command is same there. h.right row seq answer command is (ap (slice_get commands) (omega (arith, same)) ∙ there);
   })

@@ -42,7 +42,7 @@ replay-same layout page entries t u one other =
     leads-same layout page (opening_of other.kind (is_locked layout page)) entries t u (subst (λ (k : PageKind). Leads layout page (opening_of k (is_locked layout page)) entries t) kind one.leads) other.leads
 
 -- of two lists that are as long as each other, both have an item at a place
-both_there : {X Y : Type 0} (xs : List X) (ys : List Y) (i : ℕ) (x : X) → length xs ≡ length ys → slice_get xs i ≡ Some x → (y : Y) × (slice_get ys i ≡ Some y)
+pub both_there : {X Y : Type 0} (xs : List X) (ys : List Y) (i : ℕ) (x : X) → length xs ≡ length ys → slice_get xs i ≡ Some x → (y : Y) × (slice_get ys i ≡ Some y)
 both_there [] ys i x same is = absurd (none-some _ is)
 both_there (a ∷ xs) [] i x same is = let e : suc (length xs) ≡ 0 = same in absurd (omega (arith, e))
 both_there (a ∷ xs) (b ∷ ys) zero x same is = (b, refl)

@@ -47,10 +47,14 @@ other-answer seq answer rest k other =
 -- one line more, from the last one on
 noted-length : (row : CpuLine) (flags : List Bool) → length (noted row flags) ≡ length flags
 noted-length (lines.Event event) flags = refl
+noted-length (lines.Offlined offlined) flags = refl
+noted-length (lines.Guest guest) flags = refl
 noted-length (lines.Answer seq answer) flags = length-set flags seq (is_done (Some answer))
 
 noted-done : (row : CpuLine) (rest : List CpuLine) (flags : List Bool) → AreDone rest flags → AreDone (row ∷ rest) (noted row flags)
 noted-done (lines.Event event) rest flags are = are
+noted-done (lines.Offlined offlined) rest flags are = are
+noted-done (lines.Guest guest) rest flags are = are
 noted-done (lines.Answer seq answer) rest flags are = λ k d less. which k d (subst (λ (n : ℕ). k < n) (length-set flags seq (is_done (Some answer))) less) (cases_eq k seq)
   where
     which : (k : ℕ) (d : Bool) → k < length flags → (k ≡ seq) ⊎ (k ≡ seq → ⊥)

@@ -1,5 +1,5 @@
 -- Which lines of a report break the rule of answers and events.
-use Rattle.std.specs.Prelude.{◌≡◌, ◌≢◌, ◌⊎◌, ℕ, ◌<◌, ◌==◌, ◌&&◌, true, not, List, Some, count_by, length, slice_get, take}
+use Rattle.std.specs.Prelude.{◌≡◌, ◌≢◌, ◌⊎◌, ℕ, ◌<◌, ◌==◌, ◌&&◌, true, List, Some, count_by, length, slice_get, take}
 use Rattle.hwp_law.specs.hwp_geom.declared.Cpu.{Cpu}
 use Rattle.hwp_law.specs.hwp_geom.declared.Proc.{Proc}
 use Rattle.hwp_law.specs.hwp_geom.declared.Who.{Who}
@@ -11,15 +11,17 @@ use Rattle.hwp_law.specs.hwp_script_read.declared.Script.{Script}
 use Rattle.hwp_law.specs.hwp_report_text.declared.Answer.{Answer}
 use Rattle.hwp_law.specs.hwp_report_text.declared.CpuLine.{CpuLine}
 use Rattle.hwp_law.specs.hwp_report_text.declared.CpuLine.TheVariants as lines
+use Rattle.hwp_law.specs.hwp_report_text.declared.OfflinedLine.{OfflinedLine}
+use Rattle.hwp_law.specs.hwp_report_text.Offlines.{offline_answer}
 use Rattle.hwp_law.specs.hwp_report_text.declared.Report.{Report}
 use Rattle.hwp_law.specs.Answers.{is_answering}
 use Rattle.hwp_law.specs.hwp_law_commands.Commands.{command_at, process_at}
 use Rattle.hwp_law.specs.Endings.{HasEnded, IsOver, WasGone}
-use Rattle.hwp_law.specs.Lines.{events_of}
+use Rattle.hwp_law.specs.Lines.{events_of, rows_of, seq_of}
 use Rattle.hwp_law.specs.Places.{entry_at}
 use Rattle.hwp_law.specs.States.{IsInWindow, entry_named, state_named}
 use Rattle.hwp_check_events.specs.Misfits.{IsWrong, Lacks, found_by}
-use Rattle.hwp_check_rules.specs.Answered.{HasAnswer, IsInPlace, IsRight, is_answer, seq_of}
+use Rattle.hwp_check_rules.specs.Answered.{HasAnswer, IsInPlace, IsRight, is_event}
 use Rattle.hwp_check_rules.specs.Standing.{cpu_line, row_line}
 
 -- a command has no answer
@@ -42,7 +44,7 @@ pub record LacksEvents (script : Script) (report : Report) (line : ℕ) : Type 0
   pub lacks : Lacks script report who command (found_by script report who) (events_of report who)
   pub line_is : line ≡ cpu_line report who.cpu.0
 
--- an entry that answers the command is not the one that its answer names
+-- an entry that answers the command is not the one that its answer names, nor does another line of the command name it
 pub record IsUnnamed (report : Report) (who : Who) (answer : Answer) : Type 0 where
   pub at : At
   pub entry : Entry
@@ -50,6 +52,7 @@ pub record IsUnnamed (report : Report) (who : Who) (answer : Answer) : Type 0 wh
   pub own : entry.who ≡ who
   pub answering : is_answering entry.what ≡ true
   pub other : entry_named answer ≢ Some at
+  pub beside : (row : ℕ) (line : OfflinedLine) → slice_get (rows_of report who) row ≡ Some (lines.Offlined line) → line.seq ≡ who.seq → entry_named (offline_answer line.result) ≢ Some at
 
 -- the answer says what state a page was in when the command can't have seen it, by the lines before
 pub record IsOutside (report : Report) (before : List CpuLine) (who : Who) (answer : Answer) : Type 0 where
@@ -73,16 +76,18 @@ IsAnswerWrong script report before who command answer =
 
 -- how many event lines of the command stand before a row
 abbrev pub events_before : List CpuLine → ℕ → ℕ → ℕ
-events_before rows row seq = count_by (λ (l : CpuLine). not (is_answer l) && (seq_of l == seq)) (take row rows)
+events_before rows row seq = count_by (λ (l : CpuLine). is_event l && (seq_of l == seq)) (take row rows)
 
 -- an event line is not the one that its command's machine checks ask at its place
 pub record IsEventWrong (script : Script) (report : Report) (rows : List CpuLine) (row : ℕ) (who : Who) (command : Command) : Type 0 where
   pub wrong : IsWrong script report who command (found_by script report who) (events_of report who) (events_before rows row who.seq)
 
--- what is wrong about a line of a command: an answer is judged by the lines before it, since of lines that stand wrong the first is named
+-- what is wrong about a line of a command: an answer is judged by the lines before it, since of lines that stand wrong the first is
+-- named; a line that is neither an event line nor an answer is out of place, whatever it says
 abbrev pub IsLineWrong : Script → Report → Cpu → List CpuLine → ℕ → CpuLine → Command → Type 0
 IsLineWrong script report cpu rows row (lines.Answer seq answer) command = IsAnswerWrong script report (take row rows) (record { cpu = cpu; seq = seq }) command answer
 IsLineWrong script report cpu rows row (lines.Event event) command = IsEventWrong script report rows row (record { cpu = cpu; seq = event.seq }) command
+IsLineWrong script report cpu rows row _ command = ⊥
 
 -- a line of a processor that is not in its place, or is wrong
 pub record IsRowFault (script : Script) (report : Report) (line : ℕ) : Type 0 where

@@ -1,5 +1,5 @@
 -- The answers of processors, line by line: each line at its place, and each answer with its cause.
-use Rattle.std.specs.Prelude.{◌≡◌, ℕ, ◌<◌, Bool, true, false, List, Some, count_by, length, slice_get, take}
+use Rattle.std.specs.Prelude.{◌≡◌, ℕ, ◌<◌, ◌||◌, Bool, true, false, List, Some, count_by, length, slice_get, take}
 use Rattle.hwp_law.specs.hwp_geom.declared.Cpu.{Cpu}
 use Rattle.hwp_law.specs.hwp_geom.declared.Who.{Who}
 use Rattle.hwp_law.specs.hwp_script_read.declared.Command.{Command}
@@ -9,20 +9,26 @@ use Rattle.hwp_law.specs.hwp_report_text.declared.CpuLine.{CpuLine}
 use Rattle.hwp_law.specs.hwp_report_text.declared.CpuLine.TheVariants as lines
 use Rattle.hwp_law.specs.hwp_report_text.declared.Report.{Report}
 use Rattle.hwp_law.specs.Causes.{IsCaused, IsHeeded}
-
--- the number of the command that a line is of
-abbrev pub seq_of : CpuLine → ℕ
-seq_of (lines.Event event) = event.seq
-seq_of (lines.Answer seq answer) = seq
+use Rattle.hwp_law.specs.Lines.{seq_of}
 
 abbrev pub is_answer : CpuLine → Bool
-is_answer (lines.Event event) = false
 is_answer (lines.Answer seq answer) = true
+is_answer _ = false
 
--- the line is of the command whose answer comes next: as many answers stand before it as commands before that one
+abbrev pub is_event : CpuLine → Bool
+is_event (lines.Event event) = true
+is_event _ = false
+
+-- lines of other kinds are of no command
+abbrev pub is_event_or_answer : CpuLine → Bool
+is_event_or_answer line = is_event line || is_answer line
+
+-- the line is of the command whose answer comes next: as many answers stand before it as commands before that one; and it is an
+-- event line or an answer
 pub record IsInPlace (commands : List Command) (rows : List CpuLine) (row : ℕ) (line : CpuLine) : Type 0 where
   pub of_next : seq_of line ≡ count_by is_answer (take row rows)
   pub of_some : seq_of line < length commands
+  pub of_kind : is_event_or_answer line ≡ true
 
 -- the command has an answer
 pub record HasAnswer (rows : List CpuLine) (seq : ℕ) : Type 0 where

@@ -16,9 +16,9 @@ use Rattle.hwp_law.specs.hwp_report_text.declared.MarkLine.{MarkLine}
 use Rattle.hwp_law.specs.hwp_report_text.declared.Report.{Report}
 use Rattle.hwp_law.specs.hwp_report_text.declared.EventLine.{EventLine}
 use Rattle.hwp_law.specs.Lines.{events_of, marks_of}
-use Rattle.hwp_law.specs.Pairings.{entries_of, has_page, is_commands, is_failure, is_failure_mark, is_move_mark, is_required, is_soft, marks_in, urgent_from}
-use Rattle.hwp_law.specs.hwp_law_commands.Commands.{command_at}
+use Rattle.hwp_law.specs.Pairings.{entries_of, has_page, is_commands, is_failure, is_failure_mark, is_move_mark, is_required, is_soft, is_soft_mark, marks_in, soft_lines, urgent_from}
 use Rattle.hwp_law.specs.Places.{entry_at}
+use Rattle.hwp_law.specs.hwp_law_commands.Commands.{command_at}
 use Rattle.hwp_law.specs.Records.{IsAnswered, IsFound, IsMarkAt, hardware_act, hardware_marks, how_in, is_by_hardware, line_results, result_lines, result_of, who_in}
 use Rattle.hwp_check_rules.specs.Standing.{entry_line, frame_line, mark_line}
 
@@ -50,10 +50,17 @@ pub record IsMovedOnly (report : Report) (frame : Frame) (place : ℕ) (mark : M
   pub moved : is_move_mark (who_in mark) mark ≡ true
   pub beyond : entries_of report (who_in mark) is_soft ≤ marks_before report frame.0 place (is_move_mark (who_in mark))
 
--- the mark is its command's second that no event caused
+-- the mark is the second that its command made as an `inject` or an `unpoison`
 pub record IsSecond (report : Report) (frame : Frame) (place : ℕ) (mark : MarkLine) : Type 0 where
   pub commanded : is_commands (who_in mark) mark ≡ true
   pub beyond : 1 ≤ marks_before report frame.0 place (is_commands (who_in mark))
+
+-- the mark of a soft offline is one too many of its command, its frame and its result: as many as lines of the command say so stand
+-- before it in the record
+pub record IsUnsaid (script : Script) (report : Report) (frame : Frame) (place : ℕ) (mark : MarkLine) : Type 0 where
+  pub moved : Bool
+  pub soft : is_soft_mark (who_in mark) moved mark ≡ true
+  pub beyond : soft_lines script report (who_in mark) frame moved ≤ count_by (is_soft_mark (who_in mark) moved) (take place (marks_of report frame.0))
 
 -- a mark that is wrong
 pub record IsMarkWrong (script : Script) (report : Report) (line : ℕ) : Type 0 where
@@ -65,7 +72,7 @@ pub record IsMarkWrong (script : Script) (report : Report) (line : ℕ) : Type 0
   pub there : slice_get (marks_of report frame.0) place ≡ Some mark
   pub line_is : line ≡ mark_line report frame.0 place
   pub wrong :
-      (IsMarkAt place mark → ⊥) ⊎ IsMisfound kernel mark ⊎ (IsAnswered script report frame mark → ⊥)
+      (IsMarkAt place mark → ⊥) ⊎ IsMisfound kernel mark ⊎ (IsAnswered script report frame mark → ⊥) ⊎ IsUnsaid script report frame place mark
       ⊎ HasNoEvent report frame place mark ⊎ IsUnpaired report frame place mark ⊎ IsMovedOnly report frame place mark ⊎ IsSecond report frame place mark
 
 -- a command has more event lines with a result for the frame than marks in its record

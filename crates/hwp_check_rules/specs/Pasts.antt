@@ -19,6 +19,8 @@ AreDone rows flags = (k : ℕ) (d : Bool) → k < length flags → slice_index_o
 -- the flags of commands with a line of their processor noted
 abbrev pub noted : CpuLine → List Bool → List Bool
 noted (lines.Event event) flags = flags
+noted (lines.Offlined offlined) flags = flags
+noted (lines.Guest guest) flags = flags
 noted (lines.Answer seq answer) flags = slice_set flags seq (is_done (Some answer))
 
 -- how many of the commands set the thread's policy and were done, before each of them and behind the last

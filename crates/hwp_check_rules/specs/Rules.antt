@@ -61,10 +61,10 @@ pub record SeenFit (script : Script) (report : Report) : Type 0 where
   pub right : AreSeen script report
   pub falls_never : SeenNeverFalls report
 
--- 5: the records of frames alternate, and have beside them entries, answers and events
+-- 5: the records of frames alternate, and have beside them entries, lines of commands and events
 pub record MarksFit (script : Script) (report : Report) : Type 0 where
   pub kept : (frame : Frame) (kernel : Bool) (line : FrameLine) → slice_get script.layout.kernel frame.0 ≡ Some kernel → slice_get report.frames frame.0 ≡ Some line → IsFrameRecord script report kernel frame
-  pub recorded : (who : Who) → AreRecorded report who
+  pub recorded : (who : Who) → AreRecorded script report who
 
 -- 6: the count is the number of frames whose record ends in a poisoning
 abbrev pub CountFits : Report → Type 0

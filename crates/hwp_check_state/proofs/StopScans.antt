@@ -25,10 +25,14 @@ stop-only n _ h = absurd (true≢false h)
 
 other-goes : (r : CpuLine) → goes_on r ≡ true → (n : ℕ) × (a : Answer) × (r ≡ lines.Answer n a) × (a ≢ answers.Stopped)
 other-goes (lines.Event event) h = absurd (true≢false (sym h))
+other-goes (lines.Offlined offlined) h = absurd (true≢false (sym h))
+other-goes (lines.Guest guest) h = absurd (true≢false (sym h))
 other-goes (lines.Answer n a) h = (n, a, refl, λ e. absurd (true≢false (sym h ∙ ap (λ (x : Answer). goes_on (lines.Answer n x)) e)))
 
 stopped-is : (r : CpuLine) → is_stopped r ≡ true → (n : ℕ) × (r ≡ lines.Answer n answers.Stopped)
 stopped-is (lines.Event event) h = absurd (true≢false (sym h))
+stopped-is (lines.Offlined offlined) h = absurd (true≢false (sym h))
+stopped-is (lines.Guest guest) h = absurd (true≢false (sym h))
 stopped-is (lines.Answer n answers.Stopped) h = (n, refl)
 stopped-is (lines.Answer n _) h = absurd (true≢false (sym h))
 
@@ -106,6 +110,8 @@ is-has (r ∷ rs) (suc row) seq is = or-right (is_stopped r) (has_stopped rs) (i
 pub rows-events : (seq row bank status : ℕ) (rows : List CpuLine) → rows_stopped_by seq row bank status rows ≡ stopped_by row bank status (events_among rows seq)
 rows-events seq row bank status [] = refl
 rows-events seq row bank status (lines.Answer s answer ∷ rs) = rows-events seq row bank status rs
+rows-events seq row bank status (lines.Offlined offlined ∷ rs) = rows-events seq row bank status rs
+rows-events seq row bank status (lines.Guest guest ∷ rs) = rows-events seq row bank status rs
 rows-events seq row bank status (lines.Event event ∷ rs) = by (seq == event.seq) (rows-events seq row bank status rs)
   where
     by : (own : Bool) → rows_stopped_by seq row bank status rs ≡ stopped_by row bank status (events_among rs seq) → ((own && is_stopper row bank status event) || cond (own && is_lower bank event) false (rows_stopped_by seq row bank status rs)) ≡ stopped_by row bank status (cond own (event ∷ events_among rs seq) (events_among rs seq))
@@ -115,6 +121,8 @@ rows-events seq row bank status (lines.Event event ∷ rs) = by (seq == event.se
 pub rows_panics : (seq : ℕ) (frame : Frame) (rows : List CpuLine) → rows_panic seq frame rows ≡ list_any (is_panic_of frame) (events_among rows seq)
 rows_panics seq frame [] = refl
 rows_panics seq frame (lines.Answer s answer ∷ rs) = rows_panics seq frame rs
+rows_panics seq frame (lines.Offlined offlined ∷ rs) = rows_panics seq frame rs
+rows_panics seq frame (lines.Guest guest ∷ rs) = rows_panics seq frame rs
 rows_panics seq frame (lines.Event event ∷ rs) = by (seq == event.seq) (rows_panics seq frame rs)
   where
     by : (own : Bool) → rows_panic seq frame rs ≡ list_any (is_panic_of frame) (events_among rs seq) → ((own && is_panic_of frame event) || rows_panic seq frame rs) ≡ list_any (is_panic_of frame) (cond own (event ∷ events_among rs seq) (events_among rs seq))

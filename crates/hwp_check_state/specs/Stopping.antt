@@ -46,6 +46,8 @@ stopped_by row bank status (l ∷ ls) = is_stopper row bank status l || cond (is
 abbrev pub is_of_event : ℕ → (EventLine → Bool) → CpuLine → Bool
 is_of_event seq test (lines.Event event) = (seq == event.seq) && test event
 is_of_event seq test (lines.Answer s answer) = false
+is_of_event seq test (lines.Offlined offlined) = false
+is_of_event seq test (lines.Guest guest) = false
 
 abbrev pub rows_stopped_by : ℕ → ℕ → ℕ → ℕ → List CpuLine → Bool
 rows_stopped_by seq row bank status [] = false

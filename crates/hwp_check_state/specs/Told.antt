@@ -41,10 +41,14 @@ told_to (Some command) answer = told_by command answer
 -- the command of a line, and what the line told
 abbrev pub seq_in : CpuLine → ℕ
 seq_in (lines.Event event) = event.seq
+seq_in (lines.Offlined offlined) = offlined.seq
+seq_in (lines.Guest guest) = guest.seq
 seq_in (lines.Answer seq answer) = seq
 
 abbrev pub told_in : List Command → CpuLine → Option Told
 told_in list (lines.Event event) = None
+told_in list (lines.Offlined offlined) = None
+told_in list (lines.Guest guest) = None
 told_in list (lines.Answer seq answer) = told_to (slice_get list seq) answer
 
 -- a handle's number after this was told, where it was n

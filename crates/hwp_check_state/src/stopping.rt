@@ -16,7 +16,7 @@ fn is_stopped(row: &CpuLine) -> bool
 {
     match row {
         CpuLine::Answer { answer, .. } => matches!(answer, Answer::Stopped),
-        CpuLine::Event(_) => false,
+        CpuLine::Event(_) | CpuLine::Offlined(_) | CpuLine::Guest(_) => false,
     }
 }
 
@@ -26,7 +26,7 @@ fn goes_on(row: &CpuLine) -> bool
 {
     match row {
         CpuLine::Answer { answer, .. } => !matches!(answer, Answer::Stopped),
-        CpuLine::Event(_) => false,
+        CpuLine::Event(_) | CpuLine::Offlined(_) | CpuLine::Guest(_) => false,
     }
 }
 
@@ -76,7 +76,7 @@ fn is_stopper(line: &CpuLine, number: u32, by: Graded) -> bool
                 && event.status == by.status
                 && event.row == by.row
         }
-        CpuLine::Answer { .. } => false,
+        CpuLine::Offlined(_) | CpuLine::Guest(_) | CpuLine::Answer { .. } => false,
     }
 }
 
@@ -88,7 +88,7 @@ fn is_lower(line: &CpuLine, number: u32, by: Graded) -> bool
         CpuLine::Event(event) => {
             number == event.seq && event.acted.is_stopping() && event.bank < by.bank
         }
-        CpuLine::Answer { .. } => false,
+        CpuLine::Offlined(_) | CpuLine::Guest(_) | CpuLine::Answer { .. } => false,
     }
 }
 
@@ -115,7 +115,7 @@ fn is_panic_of(line: &CpuLine, number: u32, frame: Frame) -> bool
         CpuLine::Event(event) => {
             number == event.seq && event.acted.is_panic() && event.addr / 4096 == u64::from(frame.0)
         }
-        CpuLine::Answer { .. } => false,
+        CpuLine::Offlined(_) | CpuLine::Guest(_) | CpuLine::Answer { .. } => false,
     }
 }
 

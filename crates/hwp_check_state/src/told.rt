@@ -56,7 +56,7 @@ fn told_in(commands: &[Command], row: &CpuLine) -> Option<Told>
     ensures { result ≡ told_in commands.now row.now }
 {
     match row {
-        CpuLine::Event(_) => None,
+        CpuLine::Event(_) | CpuLine::Offlined(_) | CpuLine::Guest(_) => None,
         CpuLine::Answer { seq, answer } => match commands.get(*seq as usize) {
             None => None,
             Some(command) => told_by(command, answer),
@@ -70,6 +70,8 @@ fn seq_in(row: &CpuLine) -> u32
 {
     match row {
         CpuLine::Event(event) => event.seq,
+        CpuLine::Offlined(offlined) => offlined.seq,
+        CpuLine::Guest(guest) => guest.seq,
         CpuLine::Answer { seq, .. } => *seq,
     }
 }
