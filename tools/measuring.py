@@ -1,5 +1,5 @@
 """What bench/ and .ci/growths share: the built program, the least time of some runs, a script of many turns, crates that are proved beside
-the repository's, and a library that stands in for the C library's allocator."""
+the repository's, and libraries that stand in for the C library's allocator and threads."""
 from __future__ import annotations
 
 import os
@@ -50,6 +50,38 @@ __attribute__((destructor)) static void tell(void) {
 void _exit(int status) { tell(); for (;;) syscall(231, status); }
 """
 
+# Tells at the program's end how many microseconds lay between the first thread's making and the last one's end.
+TIMER = """
+#define _GNU_SOURCE
+#include <dlfcn.h>
+#include <pthread.h>
+#include <stdio.h>
+#include <sys/syscall.h>
+#include <time.h>
+#include <unistd.h>
+static long first, last;
+static long now(void) {
+  struct timespec at;
+  clock_gettime(CLOCK_MONOTONIC, &at);
+  return at.tv_sec * 1000000L + at.tv_nsec / 1000;
+}
+int pthread_create(pthread_t *thread, const pthread_attr_t *how, void *(*what)(void *), void *with) {
+  int (*real)(pthread_t *, const pthread_attr_t *, void *(*)(void *), void *) = dlsym(RTLD_NEXT, "pthread_create");
+  if (!first) first = now();
+  return real(thread, how, what, with);
+}
+int pthread_join(pthread_t thread, void **result) {
+  int (*real)(pthread_t, void **) = dlsym(RTLD_NEXT, "pthread_join");
+  int ended = real(thread, result);
+  last = now();
+  return ended;
+}
+void _exit(int status) {
+  dprintf(2, "%ld", last - first);
+  for (;;) syscall(SYS_exit_group, status);
+}
+"""
+
 
 class Told(NamedTuple):
     """What the allocator tells: how often memory was asked for, and the most that there was, in bytes."""
@@ -73,6 +105,20 @@ def library(room: str, name: str, text: str, *options: str) -> str:
 def allocator(room: str) -> str:
     """The allocator that counts and refuses, built in a folder."""
     return library(room, "allocator", ALLOCATOR)
+
+
+def timer(room: str) -> str:
+    """The timer of threads, built in a folder. What it runs under is held to some processors by taskset."""
+    if not shutil.which("taskset"):
+        sys.exit("taskset (Debian's package util-linux) is needed")
+    return library(room, "timer", TIMER, "-ldl")
+
+
+def threads_milliseconds(words: Sequence[str], text: bytes, processors: int, timing: str) -> float:
+    """The time of the threads of one run on so many processors of this machine, under that timer."""
+    ran = subprocess.run(["taskset", "-c", f"0-{processors - 1}", "env", f"LD_PRELOAD={timing}", *words], input=text,
+                         stdout=subprocess.DEVNULL, stderr=subprocess.PIPE, check=True)
+    return int(ran.stderr) / 1000
 
 
 def under(allocating: str, refused: int = 0) -> Dict[str, str]:
