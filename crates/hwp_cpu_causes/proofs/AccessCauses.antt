@@ -1,5 +1,5 @@
 -- Why an access is answered so, and what it tells of its machine checks.
-use Rattle.std.proofs.Common.{◌≡◌, ℕ, Bool, true, false, List, [], Option, Some, refl, sym, ap, ◌∙◌, subst, inl, inr, IsSomeAnd, true≢false}
+use Rattle.std.proofs.Common.{◌≡◌, ℕ, Bool, true, false, List, [], Option, Some, refl, sym, ap, ◌∙◌, subst, inl, inr, IsSomeAnd, true≢false, ◌+◌, length, arith}
 use Rattle.std.specs.Option.{option_map}
 use Rattle.std.proofs.lemmas.Bool.{both_ways}
 use Rattle.hwp_law_holds.specs.hwp_geom.declared.Layout.{Layout}
@@ -38,7 +38,7 @@ use Rattle.hwp_law_holds.specs.hwp_cpu_check.Told.{halts}
 use Rattle.hwp_cpu_command.specs.hwp_cpu_access.declared.Instruction.{Instruction}
 use Rattle.hwp_cpu_command.specs.hwp_cpu_access.declared.InstructionAnswer.{InstructionAnswer}
 use Rattle.hwp_cpu_command.specs.hwp_cpu_access.declared.InstructionAnswer.TheVariants as answers
-use Rattle.hwp_cpu_command.specs.hwp_cpu_access.Fits.{IsEnd, IsSignalled}
+use Rattle.hwp_cpu_command.specs.hwp_cpu_access.Fits.{IsEnd, IsSignalled, checks_made}
 use Rattle.hwp_cpu_command.specs.hwp_cpu_access.Fits as instruction_fits
 use Rattle.hwp_cpu_command.specs.hwp_cpu_access.Instructions as instructions
 use Rattle.hwp_law_holds.specs.hwp_cpu_row.declared.FrameChange.{FrameChange}
@@ -227,7 +227,7 @@ module _ {layout : Layout} {view : View} {who : Who} {thread : Thread} {slot : V
   task-told : IsAccessTold layout view k.task.request.who k.task.request.thread k.task.request.line k.task.origin k.task.mode k.task.before.value k.task.lines.told k.task.banks
   task-told = record {
     checks = k.fits.checks;
-    count = sym (instruction-ended k.task k.fits k.said).made;
+    count = let made : checks_made k.task.request.who view ≡ length k.fits.checks + 0 = (instruction-ended k.task k.fits k.said).made in omega (arith, made);
     are = k.fits.checked;
     told_is = k.fits.told_is;
     after_is = k.fits.banks_are ∙ ap (instruction_fits.banks_at k.task.before.value k.fits.checks) (instruction-over k.task k.said);
