@@ -351,7 +351,7 @@ module _ (script : Script) (seat : Cpu → ℕ) (last : State) (report : Report)
         let told : sum_by (λ (t : EventOutcome). counts (on_frame frame moved) (told_note who t)) row.told ≡ 0 = sum-zero (λ (t : EventOutcome). counts (on_frame frame moved) (told_note who t)) row.told (λ i t there. still t.found t) in
         let own : counts (on_frame frame moved) (own_note who row.own) ≡ soft_by frame moved row.own = softs row.own in
         let said : soft_by frame moved row.own ≡ cond (is_soft_of frame (Some of.of.command) && says_soft moved (Some of.of.row.answer)) 1 0
-        = ap (λ (r : Row). soft_by frame moved r.own) (sym of.same) ∙ soft-said frame moved script.layout of.of.list view who of.of.command of.of.row.told of.of.row.own of.of.row.answer of.of.served.caused of.of.served.accounted.own in
+        = ap (λ (r : Row). soft_by frame moved r.own) (sym of.same) ∙ soft-said frame moved script.layout of.of.earlier view who of.of.command of.of.row.told of.of.row.own of.of.row.answer of.of.served.caused of.of.served.accounted.own in
         let lines : soft_lines script report who frame moved ≡ cond (is_soft_of frame (Some of.of.command) && says_soft moved (Some of.of.row.answer)) 1 0 + 0
         = ap (λ (o : Option Command). by_lines frame moved o (answer_of report who) (offlined_of report who)) (command-is script who of.of.list of.of.command of.of.list_is of.of.command_is)
         ∙ ap (λ (o : Option Answer). by_lines frame moved (Some of.of.command) o (offlined_of report who)) (answer-told script seat last report end view who of.of)

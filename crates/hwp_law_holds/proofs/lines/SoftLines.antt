@@ -48,11 +48,11 @@ module _ (frame : Frame) (moved : Bool) where
   stopped-still f (Some (owns.Offlined g cycle false)) is = absurd (true≢false (sym (ap (λ (a : Answer). is_taken (Some a)) is.1)))
   stopped-still f (Some (owns.Revived g cycle)) is = refl
 
-  module _ (layout : Layout) (list : List Command) (view : View) (who : Who) where
+  module _ (layout : Layout) (earlier : List (Command × Answer)) (view : View) (who : Who) where
     none : (f : Frame) (own : Option FrameChange) → own ≡ None → soft_by frame moved own ≡ cond ((f.0 == frame.0) && cond moved false false) 1 0
     none f own is = ap (soft_by frame moved) is ∙ sym (no-soft (f.0 == frame.0) moved)
 
-    offline : (f : Frame) (told : List EventOutcome) (own : Option FrameChange) (answer : Answer) → IsAnswerCaused layout list view who (commands.Soft f) told own answer → IsOwn (commands.Soft f) answer own
+    offline : (f : Frame) (told : List EventOutcome) (own : Option FrameChange) (answer : Answer) → IsAnswerCaused layout earlier view who (commands.Soft f) told own answer → IsOwn (commands.Soft f) answer own
         → soft_by frame moved own ≡ cond ((f.0 == frame.0) && says_soft moved (Some answer)) 1 0
     offline f told own answers.Stopped caused is = stopped-still f own is ∙ sym (no-soft (f.0 == frame.0) moved)
     offline f told own answers.Kernel caused is = none f own caused.2
@@ -63,7 +63,7 @@ module _ (frame : Frame) (moved : Bool) where
     offline f told own answers.NoFrame caused is = none f own caused.1.2
     offline f told own answer caused is = absurd caused.1
 
-    pub soft-said : (command : Command) (told : List EventOutcome) (own : Option FrameChange) (answer : Answer) → IsAnswerCaused layout list view who command told own answer → IsOwn command answer own
+    pub soft-said : (command : Command) (told : List EventOutcome) (own : Option FrameChange) (answer : Answer) → IsAnswerCaused layout earlier view who command told own answer → IsOwn command answer own
         → soft_by frame moved own ≡ cond (is_soft_of frame (Some command) && says_soft moved (Some answer)) 1 0
     soft-said (commands.Soft f) told own answer caused is = offline f told own answer caused is
     soft-said command told own answer caused is = own-still command answer own refl is
