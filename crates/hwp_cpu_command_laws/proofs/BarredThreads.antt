@@ -82,7 +82,7 @@ module _ {layout : Layout} {old new : View} {p : Prctl} {after : Job} (s : Stepp
       which : (x : PrctlAt) → prctls.plan_at p.thread p.process x ≡ Some s.step → IsNotPast x → IsNotPast (prctls.next_at p.arguments x s.found)
       which prctl_at.LoadStop e not_ = starts (is_stopped s.found)
       which prctl_at.LoadProcess e not_ =
-          subst (λ (b : Bool). IsNotPast (prctls.after_process (cond b None (Some (record { 0 = (s.found - 1) % 2 ^ 16 }))))) (sym (ne_eqb s.found 0 (ended-word (steps-planned {other = steps.Load (places.Process p.process)} e s.made) s.fits.process thread declared ended))) tt
+          subst (λ (b : Bool). IsNotPast (prctls.after_process (cond b None (Some (record { 0 = (s.found - 1) % 2 ^ 16 }))))) (sym (ne_eqb s.found 0 (ended-word (steps-planned {other = steps.Load (places.Process p.process)} e s.made) s.fits.1.process thread declared ended))) tt
       which prctl_at.LoadPolicy e not_ = absurd not_
       which (prctl_at.SetPolicy policy settings) e not_ = absurd not_
       which (prctl_at.Over answer) e not_ = absurd (none-some s.step e)
