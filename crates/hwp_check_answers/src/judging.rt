@@ -109,7 +109,6 @@ fn is_outside(given: &GivenAnswer<'_>) -> bool
 }
 
 /// Whether the command has an entry that a line of it has to name, and none does.
-#[tactic(auto, using(crate::proofs::JudgeLaws::unnamed_is, crate::proofs::JudgeLaws::is_unnamed))]
 fn is_unnamed(given: &GivenAnswer<'_>) -> bool
     ensures { IsTrue result ↔ IsUnnamed given.now.report given.now.who given.now.answer }
 {

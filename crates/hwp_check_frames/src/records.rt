@@ -1,5 +1,7 @@
-ghost use Rattle.std.specs.Prelude.{◌≡◌, ◌≤◌, ◌↔◌, ℕ, Some, IsTrue, MatchBool, length, take};
+ghost use Rattle.std.specs.Prelude.{◌≡◌, ◌≤◌, ◌↔◌, ◌&&◌, ℕ, Some, IsTrue, MatchBool, length, take};
+ghost use Rattle.hwp_check_rules.specs.hwp_law.Lines.{answer_of};
 ghost use Rattle.hwp_check_rules.specs.hwp_law.Pairings.{is_soft_of, says_soft, soft_lines};
+ghost use Rattle.hwp_check_rules.specs.hwp_law_commands.Commands.{command_at};
 ghost use Rattle.hwp_check_rules.specs.hwp_law.Records.{IsAnswered, IsFound, IsMarkAt, is_moved, is_taken};
 ghost use Rattle.hwp_check_rules.specs.hwp_law_commands.Outcomes.{outcome_act, outcome_answer};
 ghost use Rattle.hwp_check_frames.specs.Counts.{at_key};
@@ -136,6 +138,21 @@ fn says_soft(moved: bool, answer: Option<Answer>) -> bool
     }
 }
 
+/// Whether the command is a soft offline of the frame, and its answer says so.
+fn is_soft_so(
+    script: &Script,
+    report: &Report,
+    given: &Given,
+    who: Who,
+    frame: Frame,
+    moved: bool,
+) -> bool
+    requires { AreGiven report.now given.now }
+    ensures { result ≡ (is_soft_of frame (command_at script.now who) && says_soft moved (answer_of report.now who)) }
+{
+    is_soft_of(command_of(script, who), frame) && says_soft(moved, answer_in(report, given, who))
+}
+
 /// How many lines of the command say so of the frame: its answer alone, since a report has no other lines that say it.
 fn soft_lines(
     script: &Script,
@@ -148,9 +165,7 @@ fn soft_lines(
     requires { IsIndex report.now index.now }
     ensures { result ≡ soft_lines script.now report.now who frame moved }
 {
-    let answer = answer_in(report, &index.given, who);
-    let said = is_soft_of(command_of(script, who), frame) && says_soft(moved, answer);
-    u64::from(said)
+    u64::from(is_soft_so(script, report, &index.given, who, frame, moved))
 }
 
 /// Whether behind these marks the command has a line more that says so.

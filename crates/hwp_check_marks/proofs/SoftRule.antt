@@ -91,7 +91,7 @@ module _ (script : Script) (report : Report) (valid : IsValid script) (shape : S
   answered-low : (who : Who) (frame : Frame) (moved : Bool) → is_soft_of frame (command_at script who) ≡ true → says_soft moved (answer_of report who) ≡ true → 1 ≤ count_by (is_soft_mark who moved) (marks_of report frame.0)
   answered-low who frame true soft told =
       let to = moved-to (answer_of report who) told in
-      has-one who frame true hows.Moved refl (caused who (commands.Soft frame) (answers.Moved to.to to.at) (is-soft frame (command_at script who) soft) to.is).2
+      has-one who frame true hows.Moved refl (caused who (commands.Soft frame) (answers.Moved to.to to.at) (is-soft frame (command_at script who) soft) to.is).1.1
   answered-low who frame false soft told =
       has-one who frame false hows.TakenFree refl (caused who (commands.Soft frame) answers.TakenFree (is-soft frame (command_at script who) soft) (taken-is (answer_of report who) told)).1
 

@@ -1,5 +1,5 @@
 -- How often the marks and the entries of a report count each key: a command with a kind of marks.
-use Rattle.std.specs.Prelude.{◌≡◌, ℕ, ◌+◌, ◌&&◌, ◌||◌, nat_le, Bool, not, cond, List, sum_by}
+use Rattle.std.specs.Prelude.{◌≡◌, false, ℕ, ◌+◌, ◌&&◌, ◌||◌, nat_le, Bool, not, cond, List, sum_by}
 use Rattle.std.specs.HashMap.{HashMap}
 use Rattle.hwp_check_rules.specs.hwp_geom.declared.Who.{Who}
 use Rattle.hwp_check_rules.specs.hwp_page.declared.Entry.{Entry}
