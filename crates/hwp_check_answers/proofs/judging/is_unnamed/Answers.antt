@@ -1,4 +1,4 @@
-use Rattle.std.proofs.Common.{◌≡◌, ◌↔◌, ◌∙◌, List, IsTrue, ap, subst, sym}
+use Rattle.std.proofs.Common.{◌≡◌, ◌↔◌, ◌∙◌, List, IsTrue, ap, subst}
 use Rattle.hwp_check_evidence.specs.hwp_geom.declared.Who.{Who}
 use Rattle.hwp_check_evidence.specs.hwp_page.declared.Entry.{Entry}
 use Rattle.hwp_check_evidence.specs.hwp_report_text.declared.Report.{Report}
@@ -19,5 +19,5 @@ returns c =
     let told : IsTrue c.is_elsewhere.result ↔ HasOther case.report.pages case.who (is_named naming.names case.who.seq) =
     subst (λ (w : Who). IsTrue c.is_elsewhere.result ↔ HasOther case.report.pages w (is_named naming.names w.seq)) c.who.ensures
     (subst (λ (ps : List (List Entry)). IsTrue c.is_elsewhere.result ↔ HasOther ps c.who.result (is_named naming.names c.who.result.seq)) pages c.is_elsewhere.ensures) in
-    subst (λ (v : AnswerValue). IsTrue c.is_elsewhere.result ↔ IsUnnamed v.report v.who v.answer) (sym c.given.view_is)
+    subst (λ (v : AnswerValue). IsTrue c.is_elsewhere.result ↔ IsUnnamed v.report v.who v.answer) c.given.view_is
     (λ t. unnamed_is case.report case.who answer naming known (told.0 t), λ u. told.1 (is_unnamed case.report case.who answer naming known u))
