@@ -23,7 +23,7 @@ use Rattle.hwp_check_causes.specs.declared.ProcessorFacts.{ProcessorFacts}
 
 -- the policies, the events and the ends of the commands
 pub record AreFacts (commands : List Command) (rows : List CpuLine) (facts : Facts) : Type 0 where
-  pub policies : AreBefore commands facts.policies.items
+  pub policies : AreBefore commands rows facts.policies.items
   pub counts_many : length facts.counts.items ≡ length commands
   pub counts : AreCounts rows facts.counts.items
   pub ends_many : length facts.ends.items ≡ length commands

@@ -29,7 +29,7 @@ pub(crate) fn facts_of(
 ) -> Result<Facts, OutOfMemory>
     ensures { IfOk result (λ facts. AreFacts commands.now rows.now facts) }
 {
-    let policies = policies_before(alloc, commands)?;
+    let policies = policies_before(alloc, commands, rows)?;
     let counts = event_counts(alloc, commands.len(), rows)?;
     let ends = event_ends(alloc, commands.len(), rows)?;
     Ok(Facts {

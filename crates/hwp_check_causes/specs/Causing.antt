@@ -50,7 +50,7 @@ is_last command answer = not (is_by_entry answer || is_by_state answer || is_pla
 
 -- the answer is so
 abbrev pub IsLast : Script → Report → Who → Command → Answer → Type 0
-IsLast script report who (commands.Prctl thread args) answer = answer ≡ reply_answer (reply (policy_before script who thread) (arguments args))
+IsLast script report who (commands.Prctl thread args) answer = answer ≡ reply_answer (reply (policy_before script report who thread) (arguments args))
 IsLast script report who (commands.Inject frame) answer = (script.layout.recovery ≡ true) × IsFailureAnswer report who frame answer
 IsLast script report who (commands.Soft frame) answer = (is_kernels script.layout frame ≡ false) × IsOfflineAnswer script report who frame answer
 IsLast script report who (commands.Unpoison frame) answer = IsUnpoisonAnswer report who frame answer

@@ -40,6 +40,6 @@ pub record IsOwn (script : Script) (report : Report) (cpu : Cpu) (own : Processo
 
 -- and what is known of a command
 pub record IsTold (script : Script) (report : Report) (who : Who) (command : Command) (told : CommandFacts) : Type 0 where
-  pub old : (thread : Thread) (args : PrctlArgs) → thread.0 < thread_numbers → command ≡ commands.Prctl thread args → told.old ≡ policy_before script who thread
+  pub old : (thread : Thread) (args : PrctlArgs) → thread.0 < thread_numbers → command ≡ commands.Prctl thread args → told.old ≡ policy_before script report who thread
   pub events : told.events ≡ length (events_of report who)
   pub ends : told.ends ≡ list_any ends_machine (events_of report who)

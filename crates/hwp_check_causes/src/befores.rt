@@ -2,20 +2,20 @@ ghost use Rattle.std.specs.Prelude.{◌≡◌, IfOk, length, replicate};
 ghost use Rattle.hwp_check_causes.specs.Befores.{AreBefore, policies_before as policies_before_of, policy_of, set_by, thread_numbers};
 ghost use Rattle.hwp_check_evidence.specs.hwp_kill.declared.Policy.TheVariants.{Default};
 
-use hwp_check_rules::{Command, OutOfMemory, Policy, setting_of};
+use hwp_check_rules::{Command, CpuLine, OutOfMemory, Policy, dones_of, set_if};
 use std::alloc::Global;
 
 /// The numbers that a thread can have.
 const THREAD_NUMBERS: usize = 256;
 
-/// Notes the policy that a command sets, if it sets one.
-fn set_by(table: &mut Vec<Policy>, command: &Command)
+/// Notes the policy that a command set, if it was done and set one.
+fn set_by(table: &mut Vec<Policy>, command: &Command, done: bool)
     requires { length table.old.items ≡ thread_numbers }
-    ensures set { table.new.items ≡ set_by table.old.items command.now }
+    ensures set { table.new.items ≡ set_by table.old.items command.now done }
     ensures many { length table.new.items ≡ thread_numbers }
 {
     if let Command::Prctl { thread, .. } = command {
-        if let Some(policy) = setting_of(*thread, command) {
+        if let Some(policy) = set_if(*thread, command, done) {
             table[usize::from(thread.0)] = policy;
         }
     }
@@ -41,23 +41,29 @@ fn defaults(alloc: Global, threads: usize) -> Result<Vec<Policy>, OutOfMemory>
     Ok(table)
 }
 
-/// The policies of the commands' threads, each before its command.
-fn policies(alloc: Global, list: &[Command]) -> Result<Vec<Policy>, OutOfMemory>
-    ensures { IfOk result (λ policies. policies.items ≡ policies_before_of (replicate thread_numbers Default) list.now) }
+/// The policies of the commands' threads, each before its command, of which these were done.
+fn policies(alloc: Global, list: &[Command], done: &[bool]) -> Result<Vec<Policy>, OutOfMemory>
+    requires each { length done.now ≡ length list.now }
+    ensures { IfOk result (λ policies. policies.items ≡ policies_before_of (replicate thread_numbers Default) list.now done.now) }
 {
     let mut table = defaults(alloc, THREAD_NUMBERS)?;
     let mut policies = Vec::new(alloc);
-    for command in list {
-        policies.push(policy_of(table.as_slice(), command))?;
-        set_by(&mut table, command);
+    for number in 0..list.len() {
+        policies.push(policy_of(table.as_slice(), &list[number]))?;
+        set_by(&mut table, &list[number], done[number]);
     }
     Ok(policies)
 }
 
-/// The policies of the commands' threads, each before its command.
+/// The policies of the commands' threads, each before its command, where these are the lines of their processor.
 #[tactic(auto, using(crate::proofs::BeforeLaws::before_is))]
-pub fn policies_before(alloc: Global, list: &[Command]) -> Result<Vec<Policy>, OutOfMemory>
-    ensures { IfOk result (λ policies. AreBefore list.now policies.items) }
+pub fn policies_before(
+    alloc: Global,
+    list: &[Command],
+    rows: &[CpuLine],
+) -> Result<Vec<Policy>, OutOfMemory>
+    ensures { IfOk result (λ policies. AreBefore list.now rows.now policies.items) }
 {
-    policies(alloc, list)
+    let done = dones_of(alloc, list.len(), rows)?;
+    policies(alloc, list, done.as_slice())
 }

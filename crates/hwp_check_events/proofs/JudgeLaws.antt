@@ -23,11 +23,10 @@ use Rattle.hwp_law.specs.hwp_severity.declared.Arrival.{Arrival}
 use Rattle.hwp_law.specs.Events.{is_raised}
 use Rattle.hwp_law.specs.Lines.{answer_of}
 use Rattle.hwp_law.specs.Pairings.{entries_of}
-use Rattle.hwp_law.specs.Policies.{commands_before}
 use Rattle.hwp_check_events.specs.Accesses.{Access, IsAccessLine, IsRaisedLine, access_by, asked_by_access}
 use Rattle.hwp_check_event_line.specs.Firsts.{IsScanned, shown_lines}
 use Rattle.hwp_check_events.specs.Judged.{IsAccessJudged, IsJudged, IsScrubJudged, IsTable}
-use Rattle.hwp_check_events.specs.Misfits.{access_of, course_of, is_scrubbed, low_of}
+use Rattle.hwp_check_events.specs.Misfits.{access_of, commands_before, course_of, is_scrubbed, low_of}
 use Rattle.hwp_check_scrub.specs.Scrubs.{Course, after_all, bound_from, lacking, lowest, reach_from}
 use Rattle.hwp_check_scrub.specs.Scrubbing.{IsRightIn, course_by, low_of as low_by}
 use Rattle.hwp_check_event_line.specs.declared.Faults.{Faults}

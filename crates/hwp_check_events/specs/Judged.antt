@@ -12,10 +12,9 @@ use Rattle.hwp_law.specs.hwp_severity.declared.Arrival.{Arrival}
 use Rattle.hwp_law.specs.hwp_law_commands.Commands.{is_check}
 use Rattle.hwp_law.specs.hwp_report_text.declared.EventLine.{EventLine}
 use Rattle.hwp_law.specs.Pairings.{entries_of}
-use Rattle.hwp_law.specs.Policies.{commands_before}
 use Rattle.hwp_check_events.specs.Accesses.{IsAccessLine, asked_by_access}
 use Rattle.hwp_check_event_line.specs.Firsts.{IsScanned}
-use Rattle.hwp_check_events.specs.Misfits.{IsRightLine, Lacks, access_of, course_of, leaves}
+use Rattle.hwp_check_events.specs.Misfits.{IsRightLine, Lacks, access_of, commands_before, course_of, leaves}
 use Rattle.hwp_check_scrub.specs.Scrubs.{after_all, lacking, lowest, reach_from}
 use Rattle.hwp_check_scrub.specs.Scrubbing.{IsRightIn}
 use Rattle.hwp_check_scrub.specs.declared.Reach.{Reach}

@@ -1,5 +1,5 @@
 -- Which event line of a command isn't the one that its machine checks ask, whether some lack, and what the command leaves in bank 1.
-use Rattle.std.specs.Prelude.{◌≡◌, ℕ, ◌+◌, ◌-◌, ◌<◌, ◌≤◌, ◌==◌, Bool, true, false, cond, List, [], ◌∷◌, Option, Some, None, MatchBool, is_some, length, slice_get}
+use Rattle.std.specs.Prelude.{◌≡◌, ℕ, ◌+◌, ◌-◌, ◌<◌, ◌≤◌, ◌==◌, Bool, true, false, cond, List, [], ◌∷◌, Option, Some, None, MatchBool, is_some, length, slice_get, take, unwrap_or}
 use Rattle.std.specs.Int.{from_bool}
 use Rattle.hwp_banks.specs.hwp_geom.Limits.{line_limit}
 use Rattle.hwp_banks.specs.hwp_geom.declared.Cpu.{Cpu}
@@ -21,7 +21,6 @@ use Rattle.hwp_law.specs.Events.{is_raised}
 use Rattle.hwp_banks.specs.Banks.{raw_event}
 use Rattle.hwp_law.specs.Lines.{answer_of, events_of}
 use Rattle.hwp_law.specs.Pairings.{entries_of}
-use Rattle.hwp_law.specs.Policies.{commands_before}
 use Rattle.hwp_check_event_line.specs.Firsts.{AreRight}
 use Rattle.hwp_check_events.specs.Accesses.{Access, IsAccessLine, IsRaisedLine, asked_by_access}
 use Rattle.hwp_check_scrub.specs.Scrubs.{Course, after_all, bound_from, lacking, lowest, reach_from}
@@ -34,6 +33,10 @@ access_of report who origin at raw = record { origin = origin; at = at; checks =
 abbrev pub is_scrubbed : Option Answer → Bool
 is_scrubbed (Some (answers.Scrubbed n)) = true
 is_scrubbed _ = false
+
+-- the commands of a processor before one of them
+abbrev pub commands_before : Script → Who → List Command
+commands_before script who = take who.seq (unwrap_or (slice_get script.lists who.cpu.0) [])
 
 -- a scrub that went to its end meets a line where an earlier command of its processor marked one, and none above it
 abbrev pub low_of : Script → Report → Who → ℕ → ℕ

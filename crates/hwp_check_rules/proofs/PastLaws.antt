@@ -1,37 +1,60 @@
 -- What is known of a thread: the policies set, the commands done, and the counts of both.
-use Rattle.std.proofs.Common.{◌≡◌, ◌⊎◌, inl, inr, ℕ, ◌+◌, ◌-◌, ◌<◌, ◌≤◌, ◌==◌, Bool, List, [], ◌∷◌, ◌++◌, Option, Some, None, cond, length, take, drop, slice_get, slice_set, slice_index_or, unwrap_or, refl, sym, ap, ◌∙◌, subst, arith}
-use Rattle.std.specs.List.{filter_map, find}
-use Rattle.std.specs.Option.{option_and_then, option_map, option_to_list}
+use Rattle.std.proofs.Common.{◌≡◌, ◌⊎◌, inl, inr, ℕ, zero, suc, ◌+◌, ◌-◌, ◌<◌, ◌≤◌, ◌==◌, min, Bool, false, List, [], ◌∷◌, ◌++◌, Option, Some, None, is_some, cond, length, take, drop, slice_get, slice_index, slice_set, slice_index_or, unwrap_or, refl, sym, ap, ◌∙◌, subst, arith}
+use Rattle.std.specs.Int.{from_bool}
+use Rattle.std.specs.List.{cons_option, filter_map, find, zip}
+use Rattle.std.specs.Option.{option_map, option_to_list}
 use Rattle.std.proofs.lemmas.Bool.{cases_eq, cases_lt, eq-eqb, ne_eqb}
-use Rattle.std.proofs.lemmas.List.{drop_more, get_or-set_other, get_or-set_same, get_or_append_left, get_or_push, length-set, length_push, take_more}
+use Rattle.std.proofs.lemmas.List.{drop_more, get_or-set_other, get_or-set_same, get_or_append_left, get_or_push, length-append, length-set, length_push, take_all, take_min, take_more}
 use Rattle.std.proofs.lemmas.Option.{get_or_from_slice_get, slice_get-get_or, slice_get_within}
 use Rattle.std.proofs.lemmas.List.Elements.{filter_map-append}
 use Rattle.hwp_law.specs.hwp_geom.declared.Cpu.{Cpu}
 use Rattle.hwp_law.specs.hwp_geom.declared.Thread.{Thread}
 use Rattle.hwp_law.specs.hwp_kill.declared.Policy.{Policy}
 use Rattle.hwp_law.specs.hwp_script_read.declared.Command.{Command}
+use Rattle.hwp_law.specs.hwp_script_read.declared.Command.TheVariants as commands
 use Rattle.hwp_law.specs.hwp_script_read.declared.Script.{Script}
 use Rattle.hwp_law.specs.hwp_report_text.declared.Answer.{Answer}
+use Rattle.hwp_law.specs.hwp_report_text.declared.Answer.TheVariants as answers
 use Rattle.hwp_law.specs.hwp_report_text.declared.CpuLine.{CpuLine}
 use Rattle.hwp_law.specs.hwp_report_text.declared.CpuLine.TheVariants as lines
 use Rattle.hwp_law.specs.hwp_report_text.declared.Report.{Report}
-use Rattle.hwp_law.specs.Lines.{AnswerLine, answer_among, answer_in}
+use Rattle.hwp_law.specs.Lines.{AnswerLine, answer_among, answer_in, answered}
 use Rattle.hwp_law.specs.hwp_law_commands.Settings.{setting_of, settings}
-use Rattle.hwp_law.specs.SeenPolicies.{commands_around, cpu_of_thread, is_done}
+use Rattle.hwp_law.specs.Policies.{answered_on}
+use Rattle.hwp_law.specs.SeenPolicies.{cpu_of_thread}
 use Rattle.hwp_check_rules.specs.declared.pasts.ThreadPolicies.{ThreadPolicies}
-use Rattle.hwp_check_rules.specs.Pasts.{AreDone, IsPast, counts, noted}
+use Rattle.hwp_check_rules.specs.Pasts.{AreDone, AreDoneInOrder, IsPast, answers_in, counts, done_in, is_done, noted, set_if, settings_by}
 
--- one command more
-one-set : (o : Option Policy) → filter_map (λ (p : Option Policy). p) (o ∷ []) ≡ option_to_list o
-one-set None = refl
-one-set (Some policy) = refl
+-- one line more
+one-flag : (o : Option Bool) → cons_option o [] ≡ option_to_list o
+one-flag None = refl
+one-flag (Some flag) = refl
 
-pub settings_more : (thread : Thread) (list : List Command) (i : ℕ) (d : Command) → i < length list
-    → settings thread (take (i + 1) list) ≡ settings thread (take i list) ++ option_to_list (setting_of thread (slice_index_or list i d))
-settings_more thread list i d within =
-    ap (λ (l : List Command). settings thread l) (take_more list i d within)
-    ∙ filter_map-append (setting_of thread) (take i list) (slice_index_or list i d ∷ [])
-    ∙ ap (λ (l : List Policy). settings thread (take i list) ++ l) (one-set (setting_of thread (slice_index_or list i d)))
+pub dones_more : (rows : List CpuLine) (i : ℕ) (d : CpuLine) → i < length rows → filter_map done_in (take (i + 1) rows) ≡ filter_map done_in (take i rows) ++ option_to_list (done_in (slice_index_or rows i d))
+dones_more rows i d within =
+    ap (filter_map done_in) (take_more rows i d within)
+    ∙ filter_map-append done_in (take i rows) (slice_index_or rows i d ∷ [])
+    ∙ ap (λ (l : List Bool). filter_map done_in (take i rows) ++ l) (one-flag (done_in (slice_index_or rows i d)))
+
+-- the flag of an answer by its place among them
+pub dones-at : (rows : List CpuLine) (k : ℕ) → slice_index_or (filter_map done_in rows) k false ≡ is_done (slice_get (answers_in rows) k)
+dones-at [] k = refl
+dones-at (lines.Answer seq answer ∷ rows) zero = refl
+dones-at (lines.Answer seq answer ∷ rows) (suc k) = dones-at rows k
+dones-at (row ∷ rows) k = dones-at rows k
+
+-- flags that were copied one by one
+abbrev pub AreCopied : List Bool → ℕ → List Bool → Type 0
+AreCopied told number flags = (k : ℕ) (d : Bool) → k < number → slice_index_or flags k d ≡ slice_index_or told k false
+
+pub copied-more : (told flags : List Bool) (number : ℕ) → length flags ≡ number → AreCopied told number flags → AreCopied told (number + 1) (flags ++ slice_index_or told number false ∷ [])
+copied-more told flags number many are k d less = which (cases_lt k number)
+  where
+    which : (k < number) ⊎ (number ≤ k) → slice_index_or (flags ++ slice_index_or told number false ∷ []) k d ≡ slice_index_or told k false
+    which (inl low) = get_or_append_left flags (slice_index_or told number false ∷ []) d k (subst (λ (n : ℕ). k < n) (sym many) low) ∙ are k d low
+    which (inr high) =
+        let at : k ≡ number = omega (arith, less, high) in
+        get_or_push flags (slice_index_or told number false) d k (many ∙ sym at) ∙ ap (λ (n : ℕ). slice_index_or told n false) (sym at)
 
 -- the first answer of a command is the one in this line, or in those behind it
 same-answer : (seq : ℕ) (answer : Answer) (rest : List CpuLine) (k : ℕ) → k ≡ seq → answer_among (lines.Answer seq answer ∷ rest) k ≡ Some answer
@@ -90,21 +113,125 @@ note_more rows flags after back d within done are = (
     split : drop at rows ≡ row ∷ drop (length rows - back) rows
     split = drop_more rows at d here ∙ (λ i. slice_index_or rows (sym place i) d ∷ drop (next i) rows)
 
+-- ---- the settings of a thread, by the flags
+
+-- these flags are of commands with these answers
+abbrev AreOf : List Answer → List Bool → Type 0
+AreOf told flags = (k : ℕ) (d : Bool) → k < length flags → slice_index_or flags k d ≡ is_done (slice_get told k)
+
+set-by-flag : (thread : Thread) (command : Command) (answer : Answer) → setting_of thread command answer ≡ set_if thread command (is_done (Some answer))
+set-by-flag thread (commands.Prctl other args) answers.Done = refl
+set-by-flag thread (commands.Prctl other args) answer = refl
+set-by-flag thread command answers.Done = refl
+set-by-flag thread command answer = refl
+
+cons-list : (o : Option Policy) (list : List Policy) → cons_option o list ≡ option_to_list o ++ list
+cons-list None list = refl
+cons-list (Some policy) list = refl
+
+abbrev unanswered : List Answer
+unanswered = []
+
+none-answered : (list : List Command) (n : ℕ) → take n (zip list unanswered) ≡ []
+none-answered [] zero = refl
+none-answered [] (suc n) = refl
+none-answered (c ∷ cs) zero = refl
+none-answered (c ∷ cs) (suc n) = refl
+
+flags-settings : (thread : Thread) (list : List Command) (told : List Answer) (flags : List Bool) (n : ℕ) → length flags ≡ length list → AreOf told flags
+    → settings thread (take n (zip list told)) ≡ settings_by thread (take n list) (take n flags)
+flags-settings thread list told flags zero each are = refl
+flags-settings thread [] told flags (suc n) each are = refl
+flags-settings thread (c ∷ cs) told [] (suc n) each are = absurd (omega arith)
+flags-settings thread (c ∷ cs) [] (f ∷ fs) (suc n) each are =
+    ap (settings thread) (sym (none-answered cs n))
+    ∙ flags-settings thread cs [] fs n (omega (arith, each)) (λ k d less. are (suc k) d (omega (arith, less)))
+    ∙ ap (λ (b : Bool). option_to_list (set_if thread c b) ++ settings_by thread (take n cs) (take n fs)) (sym (are 0 f (omega arith)))
+flags-settings thread (c ∷ cs) (a ∷ rest) (f ∷ fs) (suc n) each are =
+    cons-list (setting_of thread c a) (settings thread (take n (zip cs rest)))
+    ∙ ap (λ (o : Option Policy). option_to_list o ++ settings thread (take n (zip cs rest))) (set-by-flag thread c a ∙ ap (set_if thread c) (sym (are 0 f (omega arith))))
+    ∙ ap (λ (l : List Policy). option_to_list (set_if thread c f) ++ l) (flags-settings thread cs rest fs n (omega (arith, each)) (λ k d less. are (suc k) d (omega (arith, less))))
+
+pub settings-flags : (thread : Thread) (list : List Command) (rows : List CpuLine) (flags : List Bool) (n : ℕ) → length flags ≡ length list → AreDoneInOrder rows flags
+    → settings thread (take n (answered list rows)) ≡ settings_by thread (take n list) (take n flags)
+settings-flags thread list rows flags n each are = flags-settings thread list (answers_in rows) flags n each are
+
+-- they are no more than the commands
+zip-most : (list : List Command) (told : List Answer) → length (zip list told) ≤ length list
+zip-most [] told = omega arith
+zip-most (c ∷ cs) [] = omega arith
+zip-most (c ∷ cs) (a ∷ rest) = let few : length (zip cs rest) ≤ length cs = zip-most cs rest in omega (arith, few)
+
+all-settings : (thread : Thread) (list : List Command) (rows : List CpuLine) (flags : List Bool) → length flags ≡ length list → AreDoneInOrder rows flags → settings_by thread list flags ≡ settings thread (answered list rows)
+all-settings thread list rows flags each are =
+    ap (λ (l : List Command). settings_by thread l flags) (sym (take_all (length list) list (omega arith)))
+    ∙ ap (settings_by thread (take (length list) list)) (sym (take_all (length list) flags (omega (arith, each))))
+    ∙ sym (settings-flags thread list rows flags (length list) each are)
+    ∙ ap (settings thread) (take_all {A = Command × Answer} (length list) (answered list rows) (zip-most list (answers_in rows)))
+
+-- ---- how many there are
+
+option-length : (o : Option Policy) → length (option_to_list o) ≡ from_bool (is_some o)
+option-length None = refl
+option-length (Some policy) = refl
+
+counts-length : (thread : Thread) (count : ℕ) (list : List Command) (flags : List Bool) → length flags ≡ length list → length (counts thread count list flags) ≡ length list + 1
+counts-length thread count [] flags each = refl
+counts-length thread count (c ∷ cs) [] each = absurd (omega arith)
+counts-length thread count (c ∷ cs) (f ∷ fs) each =
+    let same : length fs ≡ length cs = omega (arith, each) in
+    let more : length (counts thread (count + from_bool (is_some (set_if thread c f))) cs fs) ≡ length cs + 1 = counts-length thread (count + from_bool (is_some (set_if thread c f))) cs fs same in
+    omega (arith, more)
+
+counts-at : (thread : Thread) (count : ℕ) (list : List Command) (flags : List Bool) (k d : ℕ) → length flags ≡ length list → k ≤ length list
+    → slice_index_or (counts thread count list flags) k d ≡ count + length (settings_by thread (take k list) (take k flags))
+counts-at thread count [] flags zero d each within = omega arith
+counts-at thread count (c ∷ cs) [] zero d each within = omega arith
+counts-at thread count (c ∷ cs) (f ∷ fs) zero d each within = omega arith
+counts-at thread count [] flags (suc k) d each within = absurd (omega arith)
+counts-at thread count (c ∷ cs) [] (suc k) d each within = absurd (omega arith)
+counts-at thread count (c ∷ cs) (f ∷ fs) (suc k) d each within =
+    counts-at thread (count + from_bool (is_some (set_if thread c f))) cs fs k d (omega (arith, each)) (omega (arith, within)) ∙ split
+  where
+    split : (count + from_bool (is_some (set_if thread c f))) + length (settings_by thread (take k cs) (take k fs)) ≡ count + length (option_to_list (set_if thread c f) ++ settings_by thread (take k cs) (take k fs))
+    split =
+        let both : length (option_to_list (set_if thread c f) ++ settings_by thread (take k cs) (take k fs)) ≡ length (option_to_list (set_if thread c f)) + length (settings_by thread (take k cs) (take k fs)) =
+        length-append (option_to_list (set_if thread c f)) (settings_by thread (take k cs) (take k fs)) in
+        let one : length (option_to_list (set_if thread c f)) ≡ from_bool (is_some (set_if thread c f)) = option-length (set_if thread c f) in
+        omega (arith, both, one)
+
+count-before : (thread : Thread) (list : List Command) (rows : List CpuLine) (flags : List Bool) (seq : ℕ) → length flags ≡ length list → AreDoneInOrder rows flags
+    → slice_index (counts thread 0 list flags) (min seq (length list)) ≡ length (settings thread (take seq (answered list rows)))
+count-before thread list rows flags seq each are =
+    counts-at thread 0 list flags (min seq (length list)) 0 each (omega arith)
+    ∙ zero-left (length (settings_by thread (take (min seq (length list)) list) (take (min seq (length list)) flags)))
+    ∙ ap (λ (l : List Command). length (settings_by thread l (take (min seq (length list)) flags))) (take_min seq list)
+    ∙ ap (λ (n : ℕ). length (settings_by thread (take seq list) (take (min seq n) flags))) (sym each)
+    ∙ ap (λ (l : List Bool). length (settings_by thread (take seq list) l)) (take_min seq flags)
+    ∙ ap (λ (l : List Policy). length l) (sym (settings-flags thread list rows flags seq each are))
+  where
+    zero-left : (n : ℕ) → 0 + n ≡ n
+    zero-left n = omega arith
+
 -- what stands in a past
-pub past_is : (script : Script) (report : Report) (thread : Thread) (past : ThreadPolicies) (commands : List Command) (rows : List CpuLine) (flags : List Bool) → cpu_of_thread script thread ≡ Some past.cpu
-    → commands ≡ unwrap_or (slice_get script.lists past.cpu.0) [] → rows ≡ unwrap_or (slice_get report.cpus past.cpu.0) []
-    → length flags ≡ length commands → AreDone rows flags → past.policies ≡ settings thread commands → past.done ≡ counts thread 0 commands flags → IsPast script report thread past
-past_is script report thread past commands rows flags of_cpu commands-are rows-are each done policies counted = record {
-  flags = flags;
+pub past_is : (script : Script) (report : Report) (thread : Thread) (past : ThreadPolicies) (list : List Command) (rows : List CpuLine) (flags : List Bool) → cpu_of_thread script thread ≡ Some past.cpu
+    → list ≡ unwrap_or (slice_get script.lists past.cpu.0) [] → rows ≡ unwrap_or (slice_get report.cpus past.cpu.0) []
+    → length flags ≡ length list → AreDoneInOrder rows flags → past.policies ≡ settings_by thread list flags → past.done ≡ counts thread 0 list flags → IsPast script report thread past
+past_is script report thread past list rows flags of_cpu list-is rows-is each are policies counted = record {
   of_cpu = of_cpu;
-  policies = policies ∙ ap (settings thread) around;
-  each = each ∙ ap length around;
-  are_done = subst (λ (l : List CpuLine). AreDone l flags) rows-are done;
-  done = counted ∙ ap (λ (l : List Command). counts thread 0 l flags) around;
+  policies = policies ∙ all-settings thread list rows flags each are ∙ ap (settings thread) (on ∙ ap (λ (o : Option Cpu). unwrap_or (option_map (answered_on script report) o) []) (sym of_cpu));
+  some = omega (arith, long);
+  done = λ seq. (λ i. slice_index (counted i) (min seq (place i))) ∙ count-before thread list rows flags seq each are ∙ ap (λ (l : List (Command × Answer)). length (settings thread (take seq l))) on;
 }
   where
-    around : commands ≡ commands_around script thread
-    around = commands-are ∙ ap (λ (o : Option Cpu). unwrap_or (option_and_then (λ (cpu : Cpu). slice_get script.lists cpu.0) o) []) (sym of_cpu)
+    on : answered list rows ≡ answered_on script report past.cpu
+    on = λ i. answered (list-is i) (rows-is i)
+
+    long : length past.done ≡ length list + 1
+    long = ap length counted ∙ counts-length thread 0 list flags each
+
+    place : length past.done - 1 ≡ length list
+    place = omega (arith, long)
 
 -- one thread more
 pub pasts-more : (script : Script) (report : Report) (pasts : List ThreadPolicies) (past : ThreadPolicies) (thread : Thread) → length pasts ≡ thread.0

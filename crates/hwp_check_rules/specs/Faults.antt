@@ -89,7 +89,7 @@ pub record IsSeenFault (script : Script) (report : Report) (line : ℕ) : Type 0
   pub there : entry_at report.pages at ≡ Some entry
   pub listed : slice_get (seen_in entry.what) number ≡ Some seen
   pub line_is : line ≡ seen_line report at number
-  pub wrong : (IsPolicySeen script seen → ⊥) ⊎ (IsOwnCount script report entry.who seen → ⊥) ⊎ HasFallen report entry.who seen
+  pub wrong : (IsPolicySeen script report seen → ⊥) ⊎ (IsOwnCount script report entry.who seen → ⊥) ⊎ HasFallen report entry.who seen
 
 abbrev pub IsCountFault : Report → ℕ → Type 0
 IsCountFault report line = (CountFits report → ⊥) × (line ≡ count_line)

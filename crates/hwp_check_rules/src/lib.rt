@@ -19,8 +19,8 @@ pub use hwp_law::{
     words_in,
 };
 pub use making::{command_of, is_made_by, leads_to};
-pub use pasts::{ThreadPolicies, done_of, pasts_of};
-pub use policies::setting_of;
+pub use pasts::{ThreadPolicies, done_of, dones_of, pasts_of};
+pub use policies::set_if;
 pub use rows::{answer_among, answer_of, commands_of, is_answer, rows_of, rows_on};
 pub use standing::{
     cpu_at, entries_height, entry_height, file_at, first_page_line, frame_at, page_at,

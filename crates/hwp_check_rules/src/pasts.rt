@@ -1,48 +1,21 @@
-ghost use Rattle.std.specs.Prelude.{◌≡◌, ◌≤◌, ◌++◌, ◌&&◌, Some, is_some, length, IfOk, OnOk};
+ghost use Rattle.std.specs.Prelude.{◌≡◌, ◌≤◌, ◌++◌, Some, false, filter_map, is_some, length, slice_index_or, IfOk, OnOk};
 ghost use Rattle.std.specs.Int.{from_bool};
 ghost use Rattle.std.specs.Option.{option_to_list};
-ghost use Rattle.hwp_law.specs.hwp_law_commands.Settings.{setting_of, settings};
 ghost use Rattle.hwp_law.specs.SeenPolicies.{cpu_of_thread};
-ghost use Rattle.hwp_check_rules.specs.Pasts.{AreDone, ArePasts, IsPast, counts, noted};
+ghost use Rattle.hwp_check_rules.specs.Pasts.{AreDone, AreDoneInOrder, ArePasts, IsPast, counts, done_in, noted, set_if, settings_by};
 
-use crate::policies::setting_of;
+use crate::policies::set_if;
 use crate::rows::{commands_of, rows_on};
 use hwp_law::{Answer, Command, Cpu, CpuLine, List, OutOfMemory, Policy, Report, Script, Thread};
 use std::alloc::Global;
 
-/// What is known of a thread: its processor, the policies that the processor's commands set, and how many of them were set
-/// by commands that were done, before each command and behind the last.
+/// What is known of a thread: its processor, the policies that the processor's commands set, and how many there are before each
+/// command and behind the last.
 #[derive(Drop)]
 pub struct ThreadPolicies {
     pub cpu: Cpu,
     pub policies: List<Policy>,
     pub done: List<u64>,
-}
-
-/// Adds a policy, if there is one.
-fn add_policy(list: &mut List<Policy>, policy: Option<Policy>) -> Result<(), OutOfMemory>
-    ensures { OnOk result (list.new ≡ list.old ++ option_to_list policy) }
-{
-    if let Some(policy) = policy {
-        list.push(policy)?;
-    }
-    Ok(())
-}
-
-/// The policies that the commands set for the thread, in order.
-#[tactic(auto, using(crate::proofs::PastLaws::settings_more))]
-fn policies_of(
-    alloc: Global,
-    thread: Thread,
-    commands: &[Command],
-) -> Result<List<Policy>, OutOfMemory>
-    ensures { IfOk result (λ list. list ≡ settings thread commands.now) }
-{
-    let mut list = List::new(alloc);
-    for command in commands {
-        add_policy(&mut list, setting_of(thread, command))?;
-    }
-    Ok(list)
 }
 
 /// Notes a line of a processor among the commands that were done.
@@ -70,14 +43,86 @@ pub fn done_of(alloc: Global, count: usize, rows: &[CpuLine]) -> Result<Vec<bool
     Ok(flags)
 }
 
-/// Whether the command sets the thread's policy and was done, as 1 or 0.
-fn sets(thread: Thread, command: &Command, done: bool) -> u64
-    ensures { result ≡ from_bool (is_some (setting_of thread command.now) && done) }
+/// Adds whether the line's answer is `done`, where the line is one.
+fn add_done(flags: &mut Vec<bool>, row: &CpuLine) -> Result<(), OutOfMemory>
+    ensures { OnOk result (flags.new.items ≡ flags.old.items ++ option_to_list (done_in row.now)) }
 {
-    u64::from(setting_of(thread, command).is_some() && done)
+    if let CpuLine::Answer { answer, .. } = row {
+        flags.push(matches!(answer, Answer::Done))?;
+    }
+    Ok(())
 }
 
-/// How many of the commands set the thread's policy and were done, before each of them and behind the last.
+/// Which of the lines' answers are `done`, in order.
+#[tactic(auto, using(crate::proofs::PastLaws::dones_more))]
+fn dones(alloc: Global, rows: &[CpuLine]) -> Result<Vec<bool>, OutOfMemory>
+    ensures { IfOk result (λ flags. flags.items ≡ filter_map done_in rows.now) }
+{
+    let mut flags = Vec::new(alloc);
+    for row in rows {
+        add_done(&mut flags, row)?;
+    }
+    Ok(flags)
+}
+
+/// The flag with this number, where there is one.
+fn flag_at(flags: &[bool], number: usize) -> bool
+    ensures { result ≡ slice_index_or flags.now number false }
+{
+    match flags.get(number) {
+        Some(flag) => *flag,
+        None => false,
+    }
+}
+
+/// Of which of so many commands the answer is `done`, where the answers are theirs in order.
+pub fn dones_of(alloc: Global, count: usize, rows: &[CpuLine]) -> Result<Vec<bool>, OutOfMemory>
+    ensures count { IfOk result (λ flags. length flags.items ≡ count) }
+    ensures done { IfOk result (λ flags. AreDoneInOrder rows.now flags.items) }
+{
+    let told = dones(alloc, rows)?;
+    let mut flags = Vec::new(alloc);
+    for number in 0..count {
+        flags.push(flag_at(told.as_slice(), number))?;
+    }
+    Ok(flags)
+}
+
+/// Adds a policy, if there is one.
+fn add_policy(list: &mut List<Policy>, policy: Option<Policy>) -> Result<(), OutOfMemory>
+    ensures { OnOk result (list.new ≡ list.old ++ option_to_list policy) }
+{
+    if let Some(policy) = policy {
+        list.push(policy)?;
+    }
+    Ok(())
+}
+
+/// The policies that the commands set for the thread, in order, of which these were done.
+fn policies_of(
+    alloc: Global,
+    thread: Thread,
+    commands: &[Command],
+    done: &[bool],
+) -> Result<List<Policy>, OutOfMemory>
+    requires each { length done.now ≡ length commands.now }
+    ensures { IfOk result (λ list. list ≡ settings_by thread commands.now done.now) }
+{
+    let mut list = List::new(alloc);
+    for number in 0..commands.len() {
+        add_policy(&mut list, set_if(thread, &commands[number], done[number]))?;
+    }
+    Ok(list)
+}
+
+/// Whether the command was done and set the thread's policy, as 1 or 0.
+fn sets(thread: Thread, command: &Command, done: bool) -> u64
+    ensures { result ≡ from_bool (is_some (set_if thread command.now done)) }
+{
+    u64::from(set_if(thread, command, done).is_some())
+}
+
+/// How many policies there are before each of the commands and behind the last.
 fn counts_of(
     alloc: Global,
     thread: Thread,
@@ -110,8 +155,8 @@ fn past_of(
     ensures { IfOk result (λ past. IsPast script.now report.now thread past) }
 {
     let commands = commands_of(script, cpu);
-    let flags = done_of(alloc, commands.len(), rows_on(report, cpu))?;
-    let policies = policies_of(alloc, thread, commands)?;
+    let flags = dones_of(alloc, commands.len(), rows_on(report, cpu))?;
+    let policies = policies_of(alloc, thread, commands, flags.as_slice())?;
     let done = counts_of(alloc, thread, commands, flags.as_slice())?;
     Ok(ThreadPolicies {
         cpu,

@@ -1,6 +1,8 @@
 ghost use Rattle.std.specs.Prelude.{◌≡◌};
 ghost use Rattle.hwp_law.specs.hwp_kill.Prctl.{policy_set};
 ghost use Rattle.hwp_law.specs.hwp_law_commands.Settings.{arguments, setting_of};
+ghost use Rattle.hwp_law.specs.hwp_report_text.declared.Answer.TheVariants.{Done};
+ghost use Rattle.hwp_check_rules.specs.Pasts.{set_if};
 
 use hwp_law::{Command, Policy, PrctlArgs, Thread};
 
@@ -20,9 +22,9 @@ fn policy_set(args: &PrctlArgs) -> Option<Policy>
     }
 }
 
-/// The policy that a command sets for the thread, if it sets one.
-pub fn setting_of(thread: Thread, command: &Command) -> Option<Policy>
-    ensures { result ≡ setting_of thread command.now }
+/// The policy that a command that was done set for the thread, if it set one.
+fn setting_of(thread: Thread, command: &Command) -> Option<Policy>
+    ensures { result ≡ setting_of thread command.now Done }
 {
     match command {
         Command::Prctl {
@@ -36,5 +38,16 @@ pub fn setting_of(thread: Thread, command: &Command) -> Option<Policy>
             }
         }
         _ => None,
+    }
+}
+
+/// The policy that a command set for the thread, if it was done and set one.
+pub fn set_if(thread: Thread, command: &Command, done: bool) -> Option<Policy>
+    ensures { result ≡ set_if thread command.now done }
+{
+    if done {
+        setting_of(thread, command)
+    } else {
+        None
     }
 }

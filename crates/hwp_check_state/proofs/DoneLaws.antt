@@ -13,9 +13,8 @@ use Rattle.hwp_check_rules.specs.hwp_report_text.declared.CpuLine.{CpuLine}
 use Rattle.hwp_check_rules.specs.hwp_report_text.declared.Report.{Report}
 use Rattle.hwp_check_rules.specs.hwp_law.Frames.{WasDone}
 use Rattle.hwp_check_rules.specs.hwp_law.Lines.{answer_among}
-use Rattle.hwp_check_rules.specs.hwp_law.SeenPolicies.{is_done}
 use Rattle.hwp_check_state.specs.Frames.{AreDoneBelow, AreDoneOf, WasDoneBelow, flagged}
-use Rattle.hwp_check_rules.specs.Pasts.{AreDone}
+use Rattle.hwp_check_rules.specs.Pasts.{AreDone, is_done}
 use Rattle.hwp_check_state.proofs.SightLaws.{cons-cases, cons-here, nothing}
 
 -- a command that is flagged, by its number

@@ -42,10 +42,10 @@ pub record IsLineOf (Such : Sight → Type 0) (list : List Sight) (line : ℕ) :
 
 -- by itself the policy seen is right
 abbrev pub IsRight : Script → Report → Sight → Type 0
-IsRight script report sight = IsPolicySeen script sight.seen × IsOwnCount script report sight.who sight.seen
+IsRight script report sight = IsPolicySeen script report sight.seen × IsOwnCount script report sight.who sight.seen
 
 abbrev pub IsWrong : Script → Report → Sight → Type 0
-IsWrong script report sight = (IsPolicySeen script sight.seen → ⊥) ⊎ (IsOwnCount script report sight.who sight.seen → ⊥)
+IsWrong script report sight = (IsPolicySeen script report sight.seen → ⊥) ⊎ (IsOwnCount script report sight.who sight.seen → ⊥)
 
 -- all in the list are so, or first the one on the line that was found is such
 abbrev pub IsFirstOf : (Sight → Type 0) → (Sight → Type 0) → List Sight → Option ℕ → Type 0

@@ -32,7 +32,7 @@ fn policy_after(policies: &[Policy], n: usize) -> Policy
 /// Whether the policy is the one after the thread's setting of that number.
 fn is_policy_seen(script: &Script, report: &Report, past: &ThreadPolicies, seen: Seen) -> bool
     requires { IsPast script.now report.now seen.thread past.now }
-    ensures { MatchBool result (IsPolicySeen script.now seen) (IsPolicySeen script.now seen → ⊥) }
+    ensures { MatchBool result (IsPolicySeen script.now report.now seen) (IsPolicySeen script.now report.now seen → ⊥) }
 {
     let policies = past.policies.as_slice();
     let n = seen.n as usize;

@@ -5,12 +5,14 @@ use Rattle.std.proofs.lemmas.Option.{same_Some, slice_get_within}
 use Rattle.hwp_cpu_row.specs.hwp_geom.declared.Cpu.{Cpu}
 use Rattle.hwp_cpu_row.specs.hwp_geom.declared.FileNo.{FileNo}
 use Rattle.hwp_cpu_row.specs.hwp_geom.declared.Layout.{Layout}
+use Rattle.hwp_cpu_row.specs.hwp_geom.declared.Thread.{Thread}
 use Rattle.hwp_cpu_row.specs.hwp_geom.declared.Who.{Who}
 use Rattle.hwp_cpu_row.specs.hwp_geom.Limits.{command_limit}
 use Rattle.hwp_cpu_row.specs.hwp_geom.Pairs.{Pairs}
 use Rattle.hwp_cpu_row.specs.hwp_script_lines.declared.Command.{Command}
 use Rattle.hwp_cpu_row.specs.hwp_report_text.declared.Answer.{Answer}
 use Rattle.hwp_cpu_row.specs.hwp_report_text.declared.Answer.TheVariants as answers
+use Rattle.hwp_cpu_row.specs.hwp_law_commands.Settings.{settings}
 use Rattle.hwp_cpu_row.specs.hwp_core_rule.declared.Debts.{Debts}
 use Rattle.hwp_cpu_row.specs.hwp_core_rule.declared.Mark.{Mark}
 use Rattle.hwp_cpu_row.specs.hwp_core_rule.declared.Part.{Part}
@@ -28,17 +30,17 @@ use Rattle.hwp_cpu_row.specs.hwp_banks.Banks.{Banks, empty_banks}
 use Rattle.hwp_cpu_row.specs.declared.Local.{Local}
 use Rattle.hwp_cpu_command.specs.declared.job.Job.{Job}
 use Rattle.hwp_cpu_command.specs.Begins.{Begins}
-use Rattle.hwp_cpu_command.specs.FileHandles.{HasHandle, handles_after, local_after, local_left}
+use Rattle.hwp_cpu_command.specs.FileHandles.{HasHandle, local_after, local_left}
 use Rattle.hwp_cpu_command.specs.Jobs as jobs
 use Rattle.hwp_cpu_command.specs.Jobs.{banks_before}
 use Rattle.hwp_cpu_command.specs.Runs.{Runs}
-use Rattle.hwp_cpu_command.specs.Stays.{EndsStopped, IsAtStop, IsHalted, KnowsPolicies, Stepped}
+use Rattle.hwp_cpu_command.specs.Settings.{policies_in}
+use Rattle.hwp_cpu_command.specs.Stays.{EndsStopped, IsAtStop, IsHalted, Stepped}
 use Rattle.hwp_cpu_command.proofs.JobEnds.{ends}
 use Rattle.hwp_cpu_command_laws.proofs.CommandRuns.{before-begins, begins-fits, begins-runs, runs-who}
-use Rattle.hwp_cpu_command_laws.proofs.PolicyKeeps.{counted, left, policies-end, policies-next}
 use Rattle.hwp_cpu_command_laws.proofs.CommandStops.{begins-stop, has-stopped, only-stopped, stopped-halts}
 use Rattle.hwp_cpu_causes.specs.hwp_law_holds.Accounts.{IsNote}
-use Rattle.hwp_cpu_causes.specs.hwp_law_holds.Handles.{number_at}
+use Rattle.hwp_cpu_causes.specs.hwp_law_holds.Handles.{answers_by, number_at}
 use Rattle.hwp_cpu_causes.specs.hwp_law_holds.Rows.{notes_from}
 use Rattle.hwp_cpu_causes.specs.hwp_law_holds.Served.{IsOneOf, IsOwnSpoil, IsOwnStop, IsRowServed, SawRunning}
 use Rattle.hwp_cpu_causes.proofs.of_hwp_law_holds.CommandKeeps.{made-none-later}
@@ -52,6 +54,7 @@ use Rattle.hwp_cpu.proofs.ProcessorKeeps.{can, carried, other, own}
 use Rattle.hwp_cpu.proofs.EachKind.{can-stop, on-turn}
 use Rattle.hwp_cpu.proofs.ProcessorNotes.{account-starts, failed-end, noted-end, noted-starts, owes-nothing, spoils-end, unmarked-starts}
 use Rattle.hwp_cpu.proofs.KnownHandles.{handle-known, handles-many}
+use Rattle.hwp_cpu.proofs.KnownPolicies.{counted-ends, counted-starts, setting-left}
 use Rattle.hwp_cpu.proofs.Revivals.{revival-left}
 use Rattle.hwp_cpu.proofs.Rows.{at_front, past-end, rows-more, stays-more, stop-more, stopped-was}
 
@@ -120,8 +123,8 @@ module _ (layout : Layout) (old new : View) (cpu : Cpu) (list : List Command) (r
   running (inl ends) = inl (only-stopped k ends has)
   running (inr saw) = inr saw
 
-  served : IsRowServed layout list new (at_number cpu n) now.command (banks_before k local.banks) row after.banks
-  served = row-served layout list new (at_number cpu n) now.command k local.banks now.runs now.fits has (λ thread replied. counted now.policies thread replied)
+  served : IsRowServed layout (answers_by list rows) new (at_number cpu n) now.command (banks_before k local.banks) row after.banks
+  served = row-served layout (answers_by list rows) new (at_number cpu n) now.command k local.banks now.runs now.fits has now.policies
       (running now.looked) now.account.marked (failed-end layout new (at_number cpu n) k a now.fits has named now.account) now.account.set local.handles now.handle
 
   unowing : new.owed ≡ no_debts
@@ -132,6 +135,10 @@ module _ (layout : Layout) (old new : View) (cpu : Cpu) (list : List Command) (r
 
   spoiling : EachMember (IsOwnSpoil cpu list longer) new.spoiled
   spoiling i s there = spoils-end layout cpu list rows now.command k a s now.there now.runs has (now.spoiled i s there)
+
+  -- what each thread had set is what the commands so far set
+  policies : (thread : Thread) → policies_in thread new ≡ settings thread (answers_by list longer)
+  policies = counted-ends list rows new now.command k row now.policies (sym now.account.set ∙ served.accounted.set) now.there
 
   -- each handle has the number that the answer gives it
   numbering : (file : FileNo) → file.0 < layout.files → IsNumbered layout new (at_number cpu n) now.command a file (number_at file list rows n) after.handles
@@ -145,7 +152,7 @@ module _ (layout : Layout) (old new : View) (cpu : Cpu) (list : List Command) (r
 
   serves : Serves layout new cpu list longer after.banks after.handles
   serves = record {
-    rows_are = rows-more layout list new cpu 0 empty_banks list rows (banks_before k local.banks) n now.command row after.banks (omega arith) now.serves.rows_are now.there served;
+    rows_are = rows-more layout [] new cpu 0 empty_banks list rows (banks_before k local.banks) n now.command row after.banks (omega arith) now.serves.rows_are now.there served;
     stays = stays-more rows row now.serves.stays (λ some. only-stopped k (now.stopped some) has);
     halted = λ some. by (stopped-was rows row some);
     numbers = numbers-more layout new cpu list rows now.command row now.there now.serves.numbers
@@ -185,7 +192,7 @@ module _ (layout : Layout) (old new : View) (cpu : Cpu) (list : List Command) (r
     listed = subst (IsListed new cpu) (let at : length longer ≡ n + 1 = number in let all : length longer ≡ length list = same in omega arith) now.listed;
     noted = noting;
     spoiled = spoiling;
-    policies = policies-end layout list new (at_number cpu n) now.command k a now.runs now.fits has now.there now.policies;
+    policies = policies;
   }
     where
       same : length longer ≡ length list
@@ -202,16 +209,16 @@ module _ (layout : Layout) (old new : View) (cpu : Cpu) (list : List Command) (r
     there = subst (λ (i : ℕ). slice_get list i ≡ Some command) (sym number) there;
     runs = subst (λ (i : ℕ). Runs layout (at_number cpu i) command b) (sym number) (begins-runs layout (at_number cpu (n + 1)) command after.banks b begins);
     handle = has_handle;
-    fits = begins-fits layout new (at_number cpu (n + 1)) command after.banks b begins (banks-free layout list new cpu 0 empty_banks list longer after.banks serves.rows_are empty-free) (record {
+    fits = begins-fits layout new (at_number cpu (n + 1)) command after.banks b begins (banks-free layout [] new cpu 0 empty_banks list longer after.banks serves.rows_are empty-free) (record {
       on_turn = next-turn new cpu n (ap (λ (h : Hand). h.bodies) nothing) (subst (IsOnTurn new) named (on-turn layout new k now.fits));
       hand_is = nothing;
       paid = ap (λ (d : Debts). d.losses) unowing;
       made = later-none (n + 1) (omega arith);
       unmarked = unmarked-starts new cpu (n + 1) now.listed;
-      left = left know start (let within : n + 1 < length list = slice_get_within list (n + 1) command there in omega (arith, few, within));
+      left = setting-left list longer new policies (let within : n + 1 < length list = slice_get_within list (n + 1) command there in omega (arith, few, within, number));
       revivals = revival-left new cpu longer noting (let within : n + 1 < length list = slice_get_within list (n + 1) command there in omega (arith, few, within, number));
     }) (handle-known layout new cpu list longer after.handles b serves.numbers serves.handles_are (let within : n + 1 < length list = slice_get_within list (n + 1) command there in omega (arith, within, number)) has_handle);
-    policies = subst (λ (i : ℕ). KnowsPolicies layout list new (at_number cpu i) b) (sym number) know;
+    policies = counted-starts (λ (thread : Thread). settings thread (answers_by list longer)) new b start policies;
     stopped = λ some. inl start;
     looked = inl (inl start);
     stops = λ i who at. inl (stops i who at);
@@ -227,9 +234,6 @@ module _ (layout : Layout) (old new : View) (cpu : Cpu) (list : List Command) (r
       -- what is of the commands so far is of them and the next one
       later : {A : Type 0} (by : A → Who) (l : List A) → EachMember (λ (x : A). IsOneOf cpu (n + 1) (by x)) l → EachMember (λ (x : A). IsOneOf cpu (n + 1 + 1) (by x)) l
       later by l each i x at = ((each i x at).0, (let less = (each i x at).1 in omega (arith, less)))
-
-      know : KnowsPolicies layout list new (at_number cpu (n + 1)) b
-      know = policies-next layout list new (at_number cpu n) now.command k a now.runs now.fits has now.there now.policies (at_number cpu (n + 1)) b refl start
 
   -- the next command begins, where there is one
   pub settled : (b : Option Job) → BeginsAt layout (at_number cpu (n + 1)) (slice_get list (n + 1)) after b → FitsAt layout new cpu list longer (left_of b after) b

@@ -17,7 +17,6 @@ use Rattle.hwp_cpu_row.specs.hwp_core_rule.declared.View.{View}
 use Rattle.hwp_cpu_row.specs.hwp_core_task.Known.{HasSeenLoss, Saw}
 use Rattle.hwp_cpu_row.specs.hwp_evict.Fsyncs as fsyncs
 use Rattle.hwp_cpu_row.specs.declared.Row.{Row}
-use Rattle.hwp_cpu_row.specs.Locals.{number_in}
 use Rattle.hwp_cpu_command.specs.declared.job.Job.{Job}
 use Rattle.hwp_cpu_command.specs.declared.job.Job.TheVariants as jobs
 use Rattle.hwp_cpu_command.specs.FileHandles.{HasHandle, KnowsHandle, handles_after}

@@ -1,5 +1,6 @@
 pub mod Rows
 pub mod KnownHandles
+pub mod KnownPolicies
 pub mod EachKind
 pub mod ProcessorNotes
 pub mod Revivals

@@ -25,7 +25,7 @@ use Rattle.hwp_cpu_command.proofs.JobLaws as jobbing
 use Rattle.hwp_cpu_command_laws.proofs.Below.{begins-below, job-below}
 use Rattle.hwp_cpu_command_laws.proofs.CommandRuns.{has-begun}
 use Rattle.hwp_cpu.specs.declared.processor.Processor.{Processor}
-use Rattle.hwp_cpu.specs.Processors.{BeginsAt, Follows, IsAnswered, Next, NextOf, aborts, aborts_of, at_number, bare, claims, claims_of, class, class_of, cost, cost_of, plan, plan_of, put, put_of, who, who_of}
+use Rattle.hwp_cpu.specs.Processors.{BeginsAt, Follows, IsAnswered, NextOf, aborts, aborts_of, at_number, bare, claims, claims_of, class, class_of, cost, cost_of, plan, plan_of, put_of, who_of}
 use Rattle.hwp_cpu.specs.Serving.{Fits, FitsAt, IsRunning, task}
 
 -- ---- one command

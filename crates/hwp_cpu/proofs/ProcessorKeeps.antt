@@ -1,11 +1,13 @@
 -- A step of the command that runs leaves what the processor keeps.
-use Rattle.std.proofs.Common.{◌≡◌, ◌≢◌, ℕ, ◌⊎◌, inl, inr, false, List, Some, length, slice_get, refl, subst, sym, ap, ◌∙◌, arith, []}
+use Rattle.std.proofs.Common.{◌≡◌, ◌≢◌, ℕ, ◌⊎◌, inl, inr, false, List, [], Some, length, slice_get, refl, subst, sym, ap, ◌∙◌, arith}
 use Rattle.std.proofs.lemmas.Option.{none-some}
 use Rattle.hwp_cpu_row.specs.hwp_geom.declared.Cpu.{Cpu}
 use Rattle.hwp_cpu_row.specs.hwp_geom.declared.Layout.{Layout}
+use Rattle.hwp_cpu_row.specs.hwp_geom.declared.Thread.{Thread}
 use Rattle.hwp_cpu_row.specs.hwp_geom.declared.Who.{Who}
 use Rattle.hwp_cpu_row.specs.hwp_script_lines.declared.Command.{Command}
 use Rattle.hwp_cpu_row.specs.hwp_report_text.declared.Answer.TheVariants as answers
+use Rattle.hwp_cpu_row.specs.hwp_law_commands.Settings.{settings}
 use Rattle.hwp_cpu_row.specs.hwp_core_rule.declared.SharedWord.TheVariants as places
 use Rattle.hwp_cpu_row.specs.hwp_core_rule.declared.Step.{Step}
 use Rattle.hwp_cpu_row.specs.hwp_core_rule.declared.View.{View}
@@ -26,13 +28,14 @@ use Rattle.hwp_cpu_command.proofs.JobLaws as jobbing
 use Rattle.hwp_cpu_command.proofs.JobEnds.{answered-over}
 use Rattle.hwp_cpu_command_laws.proofs.CommandRuns.{before-stays, runs-on, runs-who}
 use Rattle.hwp_cpu_command_laws.proofs.HandleKeeps.{handle-stays}
-use Rattle.hwp_cpu_command_laws.proofs.PolicyKeeps.{policies-stay}
 use Rattle.hwp_cpu_command_laws.proofs.CommandStops.{halted-stays, has-stopped, looks-first, no-own-stop, stops-after}
+use Rattle.hwp_cpu_causes.specs.hwp_law_holds.Handles.{answers_by}
 use Rattle.hwp_cpu_causes.specs.hwp_law_holds.Served.{AreRowsServed, IsOwnStop, SawRunning}
 use Rattle.hwp_cpu_causes.proofs.of_hwp_law_holds.CommandKeeps.{row-stays, saw-running-stays}
 use Rattle.hwp_cpu_causes.proofs.of_hwp_law_holds.Handles.{numbers-stay}
 use Rattle.hwp_cpu.specs.Processors.{at_number}
 use Rattle.hwp_cpu.specs.Serving.{HasStoppedIt, IsRunning, Serves}
+use Rattle.hwp_cpu.proofs.KnownPolicies.{counted-on}
 use Rattle.hwp_cpu.proofs.ProcessorNotes.{account-on, listed-on, noted-on, spoils-on}
 use Rattle.hwp_cpu.proofs.Rows.{rows-stay}
 
@@ -60,8 +63,8 @@ module _ (layout : Layout) (old new : View) (cpu : Cpu) (list : List Command) (r
 
   serves : Serves layout new cpu list rows (banks_before k local.banks) local.handles
   serves = record {
-    rows_are = subst (AreRowsServed layout list new cpu 0 empty_banks list rows) (sym before) (rows-stay layout list old new cpu (length rows)
-        (λ n c b row d less served. row-stays can made.made (at_number cpu n) (other n (λ same. absurd (omega arith))) list c b row d served) 0 empty_banks list rows (banks_before j local.banks) (omega arith) run.serves.rows_are);
+    rows_are = subst (AreRowsServed layout [] new cpu 0 empty_banks list rows) (sym before) (rows-stay layout old new cpu (length rows)
+        (λ n earlier c b row d less served. row-stays can made.made (at_number cpu n) (other n (λ same. absurd (omega arith))) earlier c b row d served) [] 0 empty_banks list rows (banks_before j local.banks) (omega arith) run.serves.rows_are);
     stays = run.serves.stays;
     halted = λ some. (halted-stays made (run.serves.halted some) (run.stopped some)).0;
     numbers = numbers-stay can made.made cpu list rows (let same : (jobs.who j).seq ≡ length rows = ap (λ (w : Who). w.seq) own in omega (arith, same)) run.serves.numbers;
@@ -109,7 +112,7 @@ module _ (layout : Layout) (old new : View) (cpu : Cpu) (list : List Command) (r
     runs = runs-still;
     handle = handle-stays layout local.handles j k made.found made.got made.turn made.follows run.handle;
     fits = ((jobbing.stays [] layout old new j made.step made.found made.got made.fits made.planned made.made).1 k made.turn made.follows).0;
-    policies = policies-stay made list (at_number cpu (length rows)) run.policies;
+    policies = counted-on made (λ (thread : Thread). settings thread (answers_by list rows)) run.policies;
     stopped = λ some. (halted-stays made (run.serves.halted some) (run.stopped some)).1;
     looked = looked;
     stops = stops;

@@ -47,7 +47,8 @@ use Rattle.hwp_cpu_row.specs.hwp_cpu_check.Done.{marked_in}
 use Rattle.hwp_cpu_row.specs.hwp_cpu_check.Told.{frame_of}
 use Rattle.hwp_cpu_command.specs.hwp_cpu_access.Done.{FailuresGrow}
 use Rattle.hwp_cpu_command.specs.declared.Job.{Job}
-use Rattle.hwp_cpu_command.specs.Done.{HasDone, failed_now, marked_now, policies_now}
+use Rattle.hwp_cpu_command.specs.Done.{HasDone, failed_now, marked_now}
+use Rattle.hwp_cpu_command.specs.Settings.{policies_now}
 use Rattle.hwp_cpu_command.specs.Jobs as jobs
 use Rattle.hwp_cpu_command.specs.Runs.{Runs}
 use Rattle.hwp_cpu_command.specs.Stays.{HasSpoiled, IsAtStop, Stepped}

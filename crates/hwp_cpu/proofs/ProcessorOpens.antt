@@ -1,8 +1,9 @@
 -- At opening a processor fits: it has made no step, and its first command begins.
-use Rattle.std.proofs.Common.{◌≡◌, ℕ, zero, suc, ◌<◌, ◌≤◌, inl, List, [], ◌∷◌, Option, Some, None, length, slice_get, refl, sym, subst, arith}
+use Rattle.std.proofs.Common.{◌≡◌, ℕ, zero, suc, ◌<◌, ◌≤◌, inl, List, [], ◌∷◌, Option, Some, None, length, slice_get, refl, sym, ap, subst, arith}
 use Rattle.std.proofs.lemmas.Option.{none-some, same_Some, slice_get_within}
 use Rattle.hwp_cpu_row.specs.hwp_geom.declared.Cpu.{Cpu}
 use Rattle.hwp_cpu_row.specs.hwp_geom.declared.Layout.{Layout}
+use Rattle.hwp_cpu_row.specs.hwp_geom.declared.Thread.{Thread}
 use Rattle.hwp_cpu_row.specs.hwp_geom.Limits.{command_limit}
 use Rattle.hwp_cpu_row.specs.hwp_script_lines.declared.Command.{Command}
 use Rattle.hwp_cpu_row.specs.hwp_core_rule.declared.Part.{Part}
@@ -13,20 +14,22 @@ use Rattle.hwp_cpu_command.specs.declared.job.Job.{Job}
 use Rattle.hwp_cpu_command.specs.Begins.{Begins}
 use Rattle.hwp_cpu_command.specs.FileHandles.{HasHandle, local_left}
 use Rattle.hwp_cpu_command.specs.Jobs.{banks_before, left_in}
-use Rattle.hwp_cpu_command.specs.Stays.{IsAtStop, KnowsPolicies}
+use Rattle.hwp_cpu_command.specs.Settings.{policies_in}
+use Rattle.hwp_cpu_command.specs.Stays.{IsAtStop}
 use Rattle.hwp_cpu_command_laws.proofs.CommandRuns.{before-begins, begins-fits, begins-runs}
-use Rattle.hwp_cpu_command_laws.proofs.PolicyKeeps.{left, policies-first}
 use Rattle.hwp_cpu_command_laws.proofs.CommandStops.{begins-stop}
 use Rattle.hwp_cpu_row.specs.hwp_banks.Banks.{Banks, empty_banks}
 use Rattle.hwp_cpu_row.specs.declared.Local.{Local}
 use Rattle.hwp_cpu_row.specs.Locals.{first_local}
 use Rattle.hwp_cpu_row.specs.hwp_law_commands.Settings.{settings}
+use Rattle.hwp_cpu_causes.specs.hwp_law_holds.Handles.{answers_by}
 use Rattle.hwp_cpu_causes.specs.hwp_law_holds.Served.{AreRowsServed}
 use Rattle.hwp_cpu_causes.proofs.of_hwp_law_holds.Handles.{numbers-begin}
 use Rattle.hwp_cpu_causes.proofs.of_hwp_law_holds.lines.ScrubBank.{empty-free}
 use Rattle.hwp_cpu.specs.Processors.{BeginsAt, at_number, left_of}
 use Rattle.hwp_cpu.specs.Serving.{FitsAt, IsDone, IsListed, IsRunning, Serves}
 use Rattle.hwp_cpu.proofs.KnownHandles.{handle-known, numbers-first}
+use Rattle.hwp_cpu.proofs.KnownPolicies.{counted-starts, setting-left}
 use Rattle.hwp_cpu.proofs.Rows.{past-end}
 use Rattle.hwp_cpu.proofs.ProcessorNotes.{account-starts, noted-starts}
 use Rattle.hwp_cpu.proofs.Revivals.{revival-left}
@@ -50,6 +53,14 @@ module _ (layout : Layout) (cpu : Cpu) (list : List Command) (few : length list 
   listed : (n : ℕ) → IsListed view cpu n
   listed n = record { marked = λ i m at. absurd (none-some m at); set = λ i s at. absurd (none-some s at) }
 
+  -- no thread has set a policy
+  unset : (thread : Thread) → policies_in thread view ≡ settings thread (answers_by list [])
+  unset thread = ap (settings thread) (none-yet list)
+    where
+      none-yet : (l : List Command) → [] ≡ answers_by l []
+      none-yet [] = refl
+      none-yet (c ∷ cs) = refl
+
   abbrev at-first : Local
   at-first = first_local layout.files
 
@@ -63,7 +74,7 @@ module _ (layout : Layout) (cpu : Cpu) (list : List Command) (few : length list 
     handles_are = numbers-first layout list;
   }
     where
-      by : (l : List Command) → AreRowsServed layout list view cpu 0 empty_banks l [] banks
+      by : (l : List Command) → AreRowsServed layout [] view cpu 0 empty_banks l [] banks
       by [] = none
       by (c ∷ cs) = none
 
@@ -74,9 +85,9 @@ module _ (layout : Layout) (cpu : Cpu) (list : List Command) (few : length list 
     there = there;
     runs = begins-runs layout (at_number cpu 0) command empty_banks j begins;
     handle = has;
-    fits = begins-fits layout view (at_number cpu 0) command empty_banks j begins empty-free (record { on_turn = first-turn; hand_is = refl; paid = refl; made = refl; unmarked = refl; left = left know start (let within : 0 < length list = slice_get_within list 0 command there in omega (arith, few, within)); revivals = revival-left view cpu [] tt (omega arith) })
+    fits = begins-fits layout view (at_number cpu 0) command empty_banks j begins empty-free (record { on_turn = first-turn; hand_is = refl; paid = refl; made = refl; unmarked = refl; left = setting-left list [] view unset (let within : 0 < length list = slice_get_within list 0 command there in omega (arith, few, within)); revivals = revival-left view cpu [] tt (omega arith) })
         (handle-known layout view cpu list [] at-first.handles j (numbers-begin layout view cpu list) (numbers-first layout list) (omega arith) has);
-    policies = know;
+    policies = counted-starts (λ (thread : Thread). settings thread (answers_by list [])) view j start unset;
     stopped = λ some. inl start;
     looked = inl (inl start);
     stops = λ i who at. absurd (none-some who at);
@@ -89,9 +100,6 @@ module _ (layout : Layout) (cpu : Cpu) (list : List Command) (few : length list 
       start : IsAtStop j
       start = begins-stop layout (at_number cpu 0) command empty_banks j begins
 
-      know : KnowsPolicies layout list view (at_number cpu 0) j
-      know = policies-first layout list view (at_number cpu 0) j refl refl start
-
   done : slice_get list 0 ≡ None → IsDone layout view cpu list [] at-first
   done none = record {
     serves = serves empty_banks refl;
@@ -103,7 +111,7 @@ module _ (layout : Layout) (cpu : Cpu) (list : List Command) (few : length list 
     listed = listed (length list);
     noted = tt;
     spoiled = λ i s at. absurd (none-some s at);
-    policies = λ thread. (settings thread list, refl);
+    policies = unset;
   }
 
   pub begun : (x : Option Job) → BeginsAt layout (at_number cpu 0) (slice_get list 0) at-first x → FitsAt layout view cpu list [] (left_of x at-first) x

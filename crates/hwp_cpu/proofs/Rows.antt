@@ -5,12 +5,14 @@ use Rattle.hwp_cpu_row.specs.hwp_geom.declared.Cpu.{Cpu}
 use Rattle.hwp_cpu_row.specs.hwp_geom.declared.Layout.{Layout}
 use Rattle.hwp_cpu_row.specs.hwp_geom.declared.Who.{Who}
 use Rattle.hwp_cpu_row.specs.hwp_script_lines.declared.Command.{Command}
+use Rattle.hwp_cpu_row.specs.hwp_report_text.declared.Answer.{Answer}
 use Rattle.hwp_cpu_row.specs.hwp_report_text.declared.Answer.TheVariants as answers
 use Rattle.hwp_cpu_row.specs.hwp_core_rule.declared.Spoiled.{Spoiled}
 use Rattle.hwp_cpu_row.specs.hwp_core_rule.declared.View.{View}
 use Rattle.hwp_cpu_row.proofs.of_hwp_core_rule.Lists.{at_longer, at_push}
 use Rattle.hwp_cpu_row.specs.declared.Row.{Row}
 use Rattle.hwp_cpu_row.specs.hwp_banks.Banks.{Banks}
+use Rattle.hwp_cpu_causes.specs.hwp_law_holds.Handles.{answers_by}
 use Rattle.hwp_cpu_causes.specs.hwp_law_holds.Rows.{Note, notes_from, row_notes}
 use Rattle.hwp_cpu_causes.specs.hwp_law_holds.Served.{AreRowsServed, IsOwnSpoil, IsOwnStop, IsRowServed, StaysStopped}
 use Rattle.hwp_cpu.specs.Processors.{at_number}
@@ -29,30 +31,32 @@ past-end (x ∷ xs) zero none = absurd (none-some x (sym none))
 past-end (x ∷ xs) (suc i) none = let few : length xs ≤ i = past-end xs i none in omega arith
 
 -- one row more, which goes on from what the banks held
-pub rows-more : (layout : Layout) (list : List Command) (view : View) (cpu : Cpu) (n : ℕ) (before : Banks) (commands : List Command) (rows : List Row) (between : Banks) (m : ℕ) (command : Command) (row : Row) (after : Banks)
-    → m ≡ n + length rows → AreRowsServed layout list view cpu n before commands rows between → slice_get commands (length rows) ≡ Some command
-    → IsRowServed layout list view (at_number cpu m) command between row after → AreRowsServed layout list view cpu n before commands (rows ++ row ∷ []) after
-rows-more layout list view cpu n before [] [] between m command row after is are there served = absurd (none-some command there)
-rows-more layout list view cpu n before [] (r ∷ rs) between m command row after is are there served = absurd (none-some command there)
-rows-more layout list view cpu n before (c ∷ cs) [] between m command row after is are there served = (
+pub rows-more : (layout : Layout) (earlier : List (Command × Answer)) (view : View) (cpu : Cpu) (n : ℕ) (before : Banks) (commands : List Command) (rows : List Row) (between : Banks) (m : ℕ) (command : Command) (row : Row) (after : Banks)
+    → m ≡ n + length rows → AreRowsServed layout earlier view cpu n before commands rows between → slice_get commands (length rows) ≡ Some command
+    → IsRowServed layout (earlier ++ answers_by commands rows) view (at_number cpu m) command between row after → AreRowsServed layout earlier view cpu n before commands (rows ++ row ∷ []) after
+rows-more layout earlier view cpu n before [] [] between m command row after is are there served = absurd (none-some command there)
+rows-more layout earlier view cpu n before [] (r ∷ rs) between m command row after is are there served = absurd (none-some command there)
+rows-more layout earlier view cpu n before (c ∷ cs) [] between m command row after is are there served = (
   after,
-  subst (λ (d : Command). IsRowServed layout list view (at_number cpu n) d before row after) (sym (same_Some c command there))
-      (subst (λ (b : Banks). IsRowServed layout list view (at_number cpu n) command b row after) are
-      (subst (λ (k : ℕ). IsRowServed layout list view (at_number cpu k) command between row after) (let same : m ≡ n = omega arith in same) served)),
+  subst (λ (d : Command). IsRowServed layout earlier view (at_number cpu n) d before row after) (sym (same_Some c command there))
+      (subst (λ (b : Banks). IsRowServed layout earlier view (at_number cpu n) command b row after) are
+      (subst (λ (k : ℕ). IsRowServed layout earlier view (at_number cpu k) command between row after) (let same : m ≡ n = omega arith in same)
+      (subst (λ (l : List (Command × Answer)). IsRowServed layout l view (at_number cpu m) command between row after) (append-nil earlier) served))),
   refl,
 )
-rows-more layout list view cpu n before (c ∷ cs) (r ∷ rs) between m command row after is are there served =
-    (are.0, are.1, rows-more layout list view cpu (n + 1) are.0 cs rs between m command row after (omega arith) are.2 there served)
+rows-more layout earlier view cpu n before (c ∷ cs) (r ∷ rs) between m command row after is are there served =
+    (are.0, are.1, rows-more layout (earlier ++ (c, r.answer) ∷ []) view cpu (n + 1) are.0 cs rs between m command row after (omega arith) are.2 there
+    (subst (λ (l : List (Command × Answer)). IsRowServed layout l view (at_number cpu m) command between row after) (sym (append_assoc earlier ((c, r.answer) ∷ []) (answers_by cs rs))) served))
 
 -- rows stay right where each of them does
-pub rows-stay : (layout : Layout) (list : List Command) (old new : View) (cpu : Cpu) (m : ℕ)
-    → ((k : ℕ) (c : Command) (before : Banks) (row : Row) (after : Banks) → k < m → IsRowServed layout list old (at_number cpu k) c before row after → IsRowServed layout list new (at_number cpu k) c before row after)
-    → (n : ℕ) (before : Banks) (commands : List Command) (rows : List Row) (after : Banks) → n + length rows ≤ m → AreRowsServed layout list old cpu n before commands rows after → AreRowsServed layout list new cpu n before commands rows after
-rows-stay layout list old new cpu m stay n before [] [] after few are = are
-rows-stay layout list old new cpu m stay n before (c ∷ cs) [] after few are = are
-rows-stay layout list old new cpu m stay n before [] (r ∷ rs) after few are = absurd are
-rows-stay layout list old new cpu m stay n before (c ∷ cs) (r ∷ rs) after few are =
-    (are.0, stay n c before r are.0 (omega arith) are.1, rows-stay layout list old new cpu m stay (n + 1) are.0 cs rs after (omega arith) are.2)
+pub rows-stay : (layout : Layout) (old new : View) (cpu : Cpu) (m : ℕ)
+    → ((k : ℕ) (earlier : List (Command × Answer)) (c : Command) (before : Banks) (row : Row) (after : Banks) → k < m → IsRowServed layout earlier old (at_number cpu k) c before row after → IsRowServed layout earlier new (at_number cpu k) c before row after)
+    → (earlier : List (Command × Answer)) (n : ℕ) (before : Banks) (commands : List Command) (rows : List Row) (after : Banks) → n + length rows ≤ m → AreRowsServed layout earlier old cpu n before commands rows after → AreRowsServed layout earlier new cpu n before commands rows after
+rows-stay layout old new cpu m stay earlier n before [] [] after few are = are
+rows-stay layout old new cpu m stay earlier n before (c ∷ cs) [] after few are = are
+rows-stay layout old new cpu m stay earlier n before [] (r ∷ rs) after few are = absurd are
+rows-stay layout old new cpu m stay earlier n before (c ∷ cs) (r ∷ rs) after few are =
+    (are.0, stay n earlier c before r are.0 (omega arith) are.1, rows-stay layout old new cpu m stay (earlier ++ (c, r.answer) ∷ []) (n + 1) are.0 cs rs after (omega arith) are.2)
 
 -- the notes of one row more
 pub notes-more : (cpu : Cpu) (n : ℕ) (rows : List Row) (m : ℕ) (row : Row) → m ≡ n + length rows → notes_from cpu n (rows ++ row ∷ []) ≡ notes_from cpu n rows ++ row_notes (at_number cpu m) row

@@ -1,5 +1,5 @@
 -- What a processor keeps while it runs its commands.
-use Rattle.std.specs.Prelude.{◌≡◌, ℕ, ◌+◌, ◌<◌, ◌≤◌, ◌⊎◌, true, List, ◌++◌, Option, Some, None, length, map, slice_get, []}
+use Rattle.std.specs.Prelude.{◌≡◌, ℕ, ◌+◌, ◌<◌, ◌≤◌, ◌⊎◌, true, List, [], ◌++◌, Option, Some, None, length, map, slice_get}
 use Rattle.std.specs.Arc.{arc_value}
 use Rattle.hwp_cpu_row.specs.hwp_geom.declared.Cpu.{Cpu}
 use Rattle.hwp_cpu_row.specs.hwp_geom.declared.FileNo.{FileNo}
@@ -13,7 +13,7 @@ use Rattle.hwp_cpu_row.specs.hwp_core_rule.declared.Mark.{Mark}
 use Rattle.hwp_cpu_row.specs.hwp_core_rule.declared.Setting.{Setting}
 use Rattle.hwp_cpu_row.specs.hwp_core_rule.declared.Spoiled.{Spoiled}
 use Rattle.hwp_cpu_row.specs.hwp_core_rule.declared.View.{View}
-use Rattle.hwp_cpu_row.specs.hwp_core_rule.Lists.{EachMember, StartsWith}
+use Rattle.hwp_cpu_row.specs.hwp_core_rule.Lists.{EachMember}
 use Rattle.hwp_cpu_row.specs.hwp_core_rule.Views.{no_debts}
 use Rattle.hwp_cpu_row.specs.hwp_core_task.Hands.{hand_of, empty}
 use Rattle.hwp_cpu_row.specs.hwp_core_task.Known.{HasMadeNone}
@@ -24,16 +24,16 @@ use Rattle.hwp_cpu_row.specs.declared.Row.{Row}
 use Rattle.hwp_cpu_row.specs.hwp_banks.Banks.{Banks, empty_banks}
 use Rattle.hwp_cpu_row.specs.hwp_law_commands.Settings.{settings}
 use Rattle.hwp_cpu_command.specs.declared.job.Job.{Job}
-use Rattle.hwp_cpu_command.specs.Done.{HasCounted, can_fail, failed_now, marked_now, policies_now}
+use Rattle.hwp_cpu_command.specs.Done.{HasCounted, can_fail, failed_now, marked_now}
 use Rattle.hwp_cpu_command.specs.FileHandles.{HasHandle}
 use Rattle.hwp_cpu_command.specs.Jobs as jobs
 use Rattle.hwp_cpu_command.specs.Jobs.{banks_before}
 use Rattle.hwp_cpu_command.specs.Runs.{Runs}
-use Rattle.hwp_cpu_command.specs.Settings.{policies_in}
+use Rattle.hwp_cpu_command.specs.Settings.{AreCounted, policies_in, policies_now}
 use Rattle.hwp_cpu_command.specs.Stays as stays
-use Rattle.hwp_cpu_command.specs.Stays.{EndsStopped, HasSpoiled, IsHalted, KnowsPolicies}
+use Rattle.hwp_cpu_command.specs.Stays.{EndsStopped, HasSpoiled, IsHalted}
 use Rattle.hwp_cpu_causes.specs.hwp_law_holds.Accounts.{IsNote, failures, markings, policies_set}
-use Rattle.hwp_cpu_causes.specs.hwp_law_holds.Handles.{KnowsNumbers, number_at}
+use Rattle.hwp_cpu_causes.specs.hwp_law_holds.Handles.{KnowsNumbers, answers_by, number_at}
 use Rattle.hwp_cpu_causes.specs.hwp_law_holds.Owed.{OwesOwn}
 use Rattle.hwp_cpu_causes.specs.hwp_law_holds.Rows.{notes_from}
 use Rattle.hwp_cpu_causes.specs.hwp_law_holds.Served.{AreRowsServed, IsOneOf, IsOwnSpoil, IsOwnStop, SawRunning, StaysStopped}
@@ -75,7 +75,7 @@ pub record AreNumbered (layout : Layout) (list : List Command) (rows : List Row)
 -- what holds of the rows so far, which lead from empty banks to these, and from handles at 0 to these: each is right, and after a
 -- `stopped` all are, on a machine that has stopped; and each number that they tell was shown
 pub record Serves (layout : Layout) (view : View) (cpu : Cpu) (list : List Command) (rows : List Row) (banks : Banks) (handles : List ℕ) : Type 0 where
-  pub rows_are : AreRowsServed layout list view cpu 0 empty_banks list rows banks
+  pub rows_are : AreRowsServed layout [] view cpu 0 empty_banks list rows banks
   pub stays : StaysStopped rows
   pub halted : HasStopped rows → IsHalted view
   pub numbers : KnowsNumbers layout view cpu list rows
@@ -96,7 +96,7 @@ pub record IsRunning (layout : Layout) (view : View) (cpu : Cpu) (list : List Co
   pub runs : Runs layout (at_number cpu (length rows)) command j
   pub handle : HasHandle local.handles j
   pub fits : jobs.FitsFrom [] layout view j
-  pub policies : KnowsPolicies layout list view (at_number cpu (length rows)) j
+  pub policies : AreCounted (λ (thread : Thread). settings thread (answers_by list rows)) view j
   pub stopped : HasStopped rows → EndsStopped j
   pub looked : EndsStopped j ⊎ SawRunning view (at_number cpu (length rows))
   pub stops : EachMember (λ (who : Who). IsOwnStop layout cpu list rows who ⊎ HasStoppedIt rows j who) view.stops
@@ -116,7 +116,7 @@ pub record IsDone (layout : Layout) (view : View) (cpu : Cpu) (list : List Comma
   pub listed : IsListed view cpu (length list)
   pub noted : Pairs IsNote (notes_from cpu 0 rows) view.marks
   pub spoiled : EachMember (IsOwnSpoil cpu list rows) view.spoiled
-  pub policies : (thread : Thread) → StartsWith (policies_in thread view) (settings thread list)
+  pub policies : (thread : Thread) → policies_in thread view ≡ settings thread (answers_by list rows)
 
 abbrev pub FitsAt : Layout → View → Cpu → List Command → List Row → Local → Option Job → Type 0
 FitsAt layout view cpu list rows local (Some j) = IsRunning layout view cpu list rows local j

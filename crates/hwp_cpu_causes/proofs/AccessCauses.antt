@@ -13,7 +13,7 @@ use Rattle.hwp_law_holds.specs.hwp_geom.declared.VSlot.{VSlot}
 use Rattle.hwp_law_holds.specs.hwp_geom.declared.Who.{Who}
 use Rattle.hwp_law_holds.specs.hwp_banks.declared.Origin.{Origin}
 use Rattle.hwp_law_holds.specs.hwp_page.declared.At.{At}
-use Rattle.hwp_law_holds.specs.hwp_page.declared.Met.TheVariants.{Word, Sigbus}
+use Rattle.hwp_law_holds.specs.hwp_page.declared.Met.TheVariants.{Word}
 use Rattle.hwp_law_holds.specs.hwp_page.declared.What.{What}
 use Rattle.hwp_law_holds.specs.hwp_page.declared.What.TheVariants as entries
 use Rattle.hwp_law_holds.specs.hwp_page.Step.{IsOf}
@@ -150,16 +150,16 @@ module _ (layout : Layout) (view : View) (r : Request) (names : IsDeclared layou
     signalled : (told : List EventOutcome) (place : At) → IsSignalled [] view r told place → WasSignalled layout view r.who command r.thread told place
     signalled told place end = record { going = going end.going; first = end.first; only = only-met (beside-only view r.who end.only) }
 
-module _ (layout : Layout) (list : List Command) (view : View) (r : Request) (names : IsDeclared layout r) (told : List EventOutcome) (did : Option FrameChange) where
+module _ (layout : Layout) (earlier : List (Command × Answer)) (view : View) (r : Request) (names : IsDeclared layout r) (told : List EventOutcome) (did : Option FrameChange) where
   module _ (is : r.kind ≡ kinds.Load) where
-    load-value : (word : ℕ) (place : At) → Answered [] layout view r (access_answers.Value word place) → IsAnswerCaused layout list view r.who (commands.Load r.thread r.slot r.line) told did (instruction_answer (answers.Value word place))
+    load-value : (word : ℕ) (place : At) → Answered [] layout view r (access_answers.Value word place) → IsAnswerCaused layout earlier view r.who (commands.Load r.thread r.slot r.line) told did (instruction_answer (answers.Value word place))
     load-value word place has = (
       record { 0 = has.2.mask },
       reached layout view r names place (what_of r has.2.mask word) (entries.Load r.slot r.line (Word (record { 0 = has.2.mask }) word)) has.1
           (ap (λ (k : AccessKind). what_by k r.slot r.line (record { 0 = has.2.mask }) word) is) has.2.alive has.2.made,
     )
 
-    load : (x : InstructionAnswer) → IsEnd [] layout view r told x → IsAnswerCaused layout list view r.who (commands.Load r.thread r.slot r.line) told did (instruction_answer x)
+    load : (x : InstructionAnswer) → IsEnd [] layout view r told x → IsAnswerCaused layout earlier view r.who (commands.Load r.thread r.slot r.line) told did (instruction_answer x)
     load (answers.Value word place) end = load-value word place end.answered
     load (answers.Stored place) end = absurd (load-no-store end.answered.0 is end.answered.1)
     load (answers.Sigbus place) (inl end) = inl (refused layout view r names kinds.Load is place end.answered)
@@ -168,7 +168,7 @@ module _ (layout : Layout) (list : List Command) (view : View) (r : Request) (na
     load (answers.Gone page) end = gone layout view r names page end.answered
     load answers.Stopped end = stopped layout view r names (commands.Load r.thread r.slot r.line) refl refl told end
 
-    fetch : (x : InstructionAnswer) → IsEnd [] layout view r told x → IsAnswerCaused layout list view r.who (commands.Fetch r.thread r.slot r.line) told did (instruction_answer x)
+    fetch : (x : InstructionAnswer) → IsEnd [] layout view r told x → IsAnswerCaused layout earlier view r.who (commands.Fetch r.thread r.slot r.line) told did (instruction_answer x)
     fetch (answers.Value word place) end = load-value word place end.answered
     fetch (answers.Stored place) end = absurd (load-no-store end.answered.0 is end.answered.1)
     fetch (answers.Sigbus place) (inl end) = inl (refused layout view r names kinds.Load is place end.answered)
@@ -177,7 +177,7 @@ module _ (layout : Layout) (list : List Command) (view : View) (r : Request) (na
     fetch (answers.Gone page) end = gone layout view r names page end.answered
     fetch answers.Stopped end = stopped layout view r names (commands.Fetch r.thread r.slot r.line) refl refl told end
 
-    kload : (x : InstructionAnswer) → IsEnd [] layout view r told x → IsAnswerCaused layout list view r.who (commands.KLoad r.thread r.slot r.line) told did (instruction_answer x)
+    kload : (x : InstructionAnswer) → IsEnd [] layout view r told x → IsAnswerCaused layout earlier view r.who (commands.KLoad r.thread r.slot r.line) told did (instruction_answer x)
     kload (answers.Value word place) end = load-value word place end.answered
     kload (answers.Stored place) end = absurd (load-no-store end.answered.0 is end.answered.1)
     kload (answers.Sigbus place) (inl end) = inl (refused layout view r names kinds.Load is place end.answered)
@@ -187,7 +187,7 @@ module _ (layout : Layout) (list : List Command) (view : View) (r : Request) (na
     kload answers.Stopped end = stopped layout view r names (commands.KLoad r.thread r.slot r.line) refl refl told end
 
   module _ (word : ℕ) (is : r.kind ≡ kinds.Store word) where
-    store : (x : InstructionAnswer) → IsEnd [] layout view r told x → IsAnswerCaused layout list view r.who (commands.Store r.thread r.slot r.line word) told did (instruction_answer x)
+    store : (x : InstructionAnswer) → IsEnd [] layout view r told x → IsAnswerCaused layout earlier view r.who (commands.Store r.thread r.slot r.line word) told did (instruction_answer x)
     store (answers.Value found place) end = absurd (load-no-store word end.answered.0 is)
     store (answers.Stored place) end = let has = end.answered in (
       record { 0 = has.3.mask },
@@ -200,22 +200,22 @@ module _ (layout : Layout) (list : List Command) (view : View) (r : Request) (na
     store (answers.Gone page) end = gone layout view r names page end.answered
     store answers.Stopped end = stopped layout view r names (commands.Store r.thread r.slot r.line word) refl refl told end
 
-module _ (list : List Command) {layout : Layout} {view : View} {who : Who} {thread : Thread} {slot : VSlot} {line : ℕ} {origin : Origin} {mode : Mode} {j : Job} {a : Answer} (did : Option FrameChange) where
-  pub load-caused : KnowsAccess layout view who thread slot line kinds.Load origin mode j a → IsAnswerCaused layout list view who (commands.Load thread slot line) (told_of j) did a
-  load-caused k = carried (λ (r : Request) (told : List EventOutcome) (x : Answer). IsAnswerCaused layout list view r.who (commands.Load r.thread r.slot r.line) told did x) k
-      (load layout list view k.task.request k.fits.names k.task.lines.told did (ap (λ (r : Request). r.kind) k.request_is) k.own (instruction-ended k.task k.fits k.said).ended)
+module _ (earlier : List (Command × Answer)) {layout : Layout} {view : View} {who : Who} {thread : Thread} {slot : VSlot} {line : ℕ} {origin : Origin} {mode : Mode} {j : Job} {a : Answer} (did : Option FrameChange) where
+  pub load-caused : KnowsAccess layout view who thread slot line kinds.Load origin mode j a → IsAnswerCaused layout earlier view who (commands.Load thread slot line) (told_of j) did a
+  load-caused k = carried (λ (r : Request) (told : List EventOutcome) (x : Answer). IsAnswerCaused layout earlier view r.who (commands.Load r.thread r.slot r.line) told did x) k
+      (load layout earlier view k.task.request k.fits.names k.task.lines.told did (ap (λ (r : Request). r.kind) k.request_is) k.own (instruction-ended k.task k.fits k.said).ended)
 
-  pub fetch-caused : KnowsAccess layout view who thread slot line kinds.Load origin mode j a → IsAnswerCaused layout list view who (commands.Fetch thread slot line) (told_of j) did a
-  fetch-caused k = carried (λ (r : Request) (told : List EventOutcome) (x : Answer). IsAnswerCaused layout list view r.who (commands.Fetch r.thread r.slot r.line) told did x) k
-      (fetch layout list view k.task.request k.fits.names k.task.lines.told did (ap (λ (r : Request). r.kind) k.request_is) k.own (instruction-ended k.task k.fits k.said).ended)
+  pub fetch-caused : KnowsAccess layout view who thread slot line kinds.Load origin mode j a → IsAnswerCaused layout earlier view who (commands.Fetch thread slot line) (told_of j) did a
+  fetch-caused k = carried (λ (r : Request) (told : List EventOutcome) (x : Answer). IsAnswerCaused layout earlier view r.who (commands.Fetch r.thread r.slot r.line) told did x) k
+      (fetch layout earlier view k.task.request k.fits.names k.task.lines.told did (ap (λ (r : Request). r.kind) k.request_is) k.own (instruction-ended k.task k.fits k.said).ended)
 
-  pub kload-caused : KnowsAccess layout view who thread slot line kinds.Load origin mode j a → IsAnswerCaused layout list view who (commands.KLoad thread slot line) (told_of j) did a
-  kload-caused k = carried (λ (r : Request) (told : List EventOutcome) (x : Answer). IsAnswerCaused layout list view r.who (commands.KLoad r.thread r.slot r.line) told did x) k
-      (kload layout list view k.task.request k.fits.names k.task.lines.told did (ap (λ (r : Request). r.kind) k.request_is) k.own (instruction-ended k.task k.fits k.said).ended)
+  pub kload-caused : KnowsAccess layout view who thread slot line kinds.Load origin mode j a → IsAnswerCaused layout earlier view who (commands.KLoad thread slot line) (told_of j) did a
+  kload-caused k = carried (λ (r : Request) (told : List EventOutcome) (x : Answer). IsAnswerCaused layout earlier view r.who (commands.KLoad r.thread r.slot r.line) told did x) k
+      (kload layout earlier view k.task.request k.fits.names k.task.lines.told did (ap (λ (r : Request). r.kind) k.request_is) k.own (instruction-ended k.task k.fits k.said).ended)
 
-  pub store-caused : {word : ℕ} → KnowsAccess layout view who thread slot line (kinds.Store word) origin mode j a → IsAnswerCaused layout list view who (commands.Store thread slot line word) (told_of j) did a
-  store-caused {word} k = carried (λ (r : Request) (told : List EventOutcome) (x : Answer). IsAnswerCaused layout list view r.who (commands.Store r.thread r.slot r.line word) told did x) k
-      (store layout list view k.task.request k.fits.names k.task.lines.told did word (ap (λ (r : Request). r.kind) k.request_is) k.own (instruction-ended k.task k.fits k.said).ended)
+  pub store-caused : {word : ℕ} → KnowsAccess layout view who thread slot line (kinds.Store word) origin mode j a → IsAnswerCaused layout earlier view who (commands.Store thread slot line word) (told_of j) did a
+  store-caused {word} k = carried (λ (r : Request) (told : List EventOutcome) (x : Answer). IsAnswerCaused layout earlier view r.who (commands.Store r.thread r.slot r.line word) told did x) k
+      (store layout earlier view k.task.request k.fits.names k.task.lines.told did word (ap (λ (r : Request). r.kind) k.request_is) k.own (instruction-ended k.task k.fits k.said).ended)
 
 -- ---- what an access tells
 

@@ -1,7 +1,7 @@
 -- Why a command that makes no entry is answered so: of a file's losses, of an event that is logged, of damage to a line, and of a
 -- thread's policy.
-use Rattle.std.proofs.Common.{◌≡◌, ℕ, ◌<◌, eq-eqb, Bool, false, true, cond, List, [], ◌∷◌, ◌++◌, Option, Some, map, take, refl, sym, ap, ◌∙◌, subst, inl, inr}
-use Rattle.std.specs.List.{fold}
+use Rattle.std.proofs.Common.{◌≡◌, ℕ, ◌<◌, eq-eqb, Bool, false, true, cond, List, [], ◌∷◌, ◌++◌, None, Option, Some, map, refl, sym, ap, ◌∙◌, subst, inl, inr}
+use Rattle.std.specs.List.{cons_option, fold}
 use Rattle.std.specs.Option.{option_map}
 use Rattle.std.proofs.lemmas.List.{append-nil, map-append, same_from_push}
 use Rattle.hwp_law_holds.specs.hwp_geom.declared.Damage.{Damage}
@@ -68,7 +68,7 @@ use Rattle.hwp_cpu_command.specs.Begins.{BeginsFsync, BeginsLog, BeginsPrctl, Be
 use Rattle.hwp_cpu_command.specs.FileHandles.{HasHandle, IsToldBy}
 use Rattle.hwp_cpu_command.specs.Jobs.{FitsFrom, answer}
 use Rattle.hwp_cpu_command.specs.Runs.{anew}
-use Rattle.hwp_cpu_command.specs.Settings.{HasReplied, IsCounted, policies_in, set_at}
+use Rattle.hwp_cpu_command.specs.Settings.{AreCounted, of_thread, policies_in, set_at}
 use Rattle.hwp_cpu_command.proofs.JobEnds.{fsync-over, mapped, nested-over, prctl-over, read-over, spoil-over}
 use Rattle.hwp_cpu_command.proofs.OfKind.{of-fsync, of-log, of-nested, of-prctl, of-spoil}
 use Rattle.hwp_law_holds.specs.Causes.{IsAnswerCaused, IsReplied, SawProcess}
@@ -111,33 +111,33 @@ knows-losses {layout} {view} {who} {file} {opens} j {a} runs fits is handles has
     over : task.0.at ≡ fsync_at.Over own.0 (fsyncs.number task.0)
     over = fsync-over task.0 own.1
 
-module _ (layout : Layout) (list : List Command) (view : View) (who : Who) (file : FileNo) (told : List EventOutcome) (did : Option FrameChange) (handle number : ℕ) (none : HasMadeNone view who) where
-  asked : (x : FsyncAnswer) → fsyncs.IsCaused layout view who file handle number x → IsToldBy false (fsync_at.Over x number) → IsAnswerCaused layout list view who (commands.Fsync file) told did (fsync_answer x)
+module _ (layout : Layout) (earlier : List (Command × Answer)) (view : View) (who : Who) (file : FileNo) (told : List EventOutcome) (did : Option FrameChange) (handle number : ℕ) (none : HasMadeNone view who) where
+  asked : (x : FsyncAnswer) → fsyncs.IsCaused layout view who file handle number x → IsToldBy false (fsync_at.Over x number) → IsAnswerCaused layout earlier view who (commands.Fsync file) told did (fsync_answer x)
   asked fsync_answers.Stopped caused by = found-stopped layout (commands.Fsync file) view who (inl caused.0) none
   asked fsync_answers.Done caused by = none
   asked (fsync_answers.Eio more) caused by = (none, caused.0)
   asked (fsync_answers.Opened lost) caused by = absurd by
 
-  opened : (x : FsyncAnswer) → fsyncs.IsCaused layout view who file handle number x → IsToldBy true (fsync_at.Over x number) → IsAnswerCaused layout list view who (commands.Open file) told did (fsync_answer x)
+  opened : (x : FsyncAnswer) → fsyncs.IsCaused layout view who file handle number x → IsToldBy true (fsync_at.Over x number) → IsAnswerCaused layout earlier view who (commands.Open file) told did (fsync_answer x)
   opened fsync_answers.Stopped caused by = found-stopped layout (commands.Open file) view who (inl caused.0) none
   opened fsync_answers.Done caused by = absurd by
   opened (fsync_answers.Eio more) caused by = absurd by
   opened (fsync_answers.Opened lost) caused by = none
 
-module _ {layout : Layout} (list : List Command) {view : View} {who : Who} {file : FileNo} {a : Answer} (told : List EventOutcome) (did : Option FrameChange) where
-  pub fsync-caused : KnowsLosses layout view who file false a → IsAnswerCaused layout list view who (commands.Fsync file) told did a
-  fsync-caused k = subst (IsAnswerCaused layout list view who (commands.Fsync file) told did) k.answer_is (asked layout list view who file told did k.handle k.number k.made_none k.own k.caused k.told)
+module _ {layout : Layout} (earlier : List (Command × Answer)) {view : View} {who : Who} {file : FileNo} {a : Answer} (told : List EventOutcome) (did : Option FrameChange) where
+  pub fsync-caused : KnowsLosses layout view who file false a → IsAnswerCaused layout earlier view who (commands.Fsync file) told did a
+  fsync-caused k = subst (IsAnswerCaused layout earlier view who (commands.Fsync file) told did) k.answer_is (asked layout earlier view who file told did k.handle k.number k.made_none k.own k.caused k.told)
 
-  pub open-caused : KnowsLosses layout view who file true a → IsAnswerCaused layout list view who (commands.Open file) told did a
-  open-caused k = subst (IsAnswerCaused layout list view who (commands.Open file) told did) k.answer_is (opened layout list view who file told did k.handle k.number k.made_none k.own k.caused k.told)
+  pub open-caused : KnowsLosses layout view who file true a → IsAnswerCaused layout earlier view who (commands.Open file) told did a
+  open-caused k = subst (IsAnswerCaused layout earlier view who (commands.Open file) told did) k.answer_is (opened layout earlier view who file told did k.handle k.number k.made_none k.own k.caused k.told)
 
 -- ---- commands of machine checks
 
-pub log-caused : (layout : Layout) (list : List Command) (view : View) (told : List EventOutcome) (did : Option FrameChange) {who : Who} {status addr misc : ℕ} {banks : Banks} (j : Job) {a : Answer} → BeginsLog layout who (raw_event status addr misc) banks (anew j) → FitsFrom [] layout view j → answer j ≡ Some a
-    → IsAnswerCaused layout list view who (commands.Log status addr misc) told did a
-log-caused layout list view told did {who} {status} {addr} {misc} {banks} j {a} runs fits is =
-    subst (λ (l : Log). IsAnswerCaused layout list view l.read.who (commands.Log status addr misc) told did a) task.2
-    (subst (IsAnswerCaused layout list view task.0.read.who (commands.Log status addr misc) told did) own.2 (by own.0 (subst (read_stops.FitsAt view task.0.read.who) (read-over task.0.read own.1) fit.read.at)))
+pub log-caused : (layout : Layout) (earlier : List (Command × Answer)) (view : View) (told : List EventOutcome) (did : Option FrameChange) {who : Who} {status addr misc : ℕ} {banks : Banks} (j : Job) {a : Answer} → BeginsLog layout who (raw_event status addr misc) banks (anew j) → FitsFrom [] layout view j → answer j ≡ Some a
+    → IsAnswerCaused layout earlier view who (commands.Log status addr misc) told did a
+log-caused layout earlier view told did {who} {status} {addr} {misc} {banks} j {a} runs fits is =
+    subst (λ (l : Log). IsAnswerCaused layout earlier view l.read.who (commands.Log status addr misc) told did a) task.2
+    (subst (IsAnswerCaused layout earlier view task.0.read.who (commands.Log status addr misc) told did) own.2 (by own.0 (subst (read_stops.FitsAt view task.0.read.who) (read-over task.0.read own.1) fit.read.at)))
   where
     task : (l : Log) × (j ≡ jobs.Log l) × (logs.begin l.read.who l.event l.before.value ≡ logs.begin who (raw_event status addr misc) banks)
     task = of-log j runs.job_is
@@ -148,14 +148,14 @@ log-caused layout list view told did {who} {status} {addr} {misc} {banks} j {a} 
     fit : logs.Fits layout view task.0
     fit = (subst (FitsFrom [] layout view) task.1 fits).1
 
-    by : (x : ReadStopAnswer) → read_stops.FitsAt view task.0.read.who (read_at.Over x) → IsAnswerCaused layout list view task.0.read.who (commands.Log status addr misc) told did (read_stop_answer x)
+    by : (x : ReadStopAnswer) → read_stops.FitsAt view task.0.read.who (read_at.Over x) → IsAnswerCaused layout earlier view task.0.read.who (commands.Log status addr misc) told did (read_stop_answer x)
     by read_answers.Stopped has = found-stopped layout (commands.Log status addr misc) view task.0.read.who (inl has) fit.read.made
     by read_answers.Done has = fit.read.made
 
-pub nested-caused : (layout : Layout) (list : List Command) (view : View) (told : List EventOutcome) (did : Option FrameChange) {who : Who} (j : Job) {a : Answer} → anew j ≡ jobs.Nested (nesteds.begin who) → FitsFrom [] layout view j → answer j ≡ Some a → IsAnswerCaused layout list view who commands.RaiseNested told did a
-nested-caused layout list view told did {who} j {a} runs fits is =
-    subst (λ (n : Nested). IsAnswerCaused layout list view n.who commands.RaiseNested told did a) task.2
-    (subst (IsAnswerCaused layout list view task.0.who commands.RaiseNested told did) own.2 (by own.0 (subst (nesteds.FitsAt view task.0.who) (nested-over task.0 own.1) fit.at)))
+pub nested-caused : (layout : Layout) (earlier : List (Command × Answer)) (view : View) (told : List EventOutcome) (did : Option FrameChange) {who : Who} (j : Job) {a : Answer} → anew j ≡ jobs.Nested (nesteds.begin who) → FitsFrom [] layout view j → answer j ≡ Some a → IsAnswerCaused layout earlier view who commands.RaiseNested told did a
+nested-caused layout earlier view told did {who} j {a} runs fits is =
+    subst (λ (n : Nested). IsAnswerCaused layout earlier view n.who commands.RaiseNested told did a) task.2
+    (subst (IsAnswerCaused layout earlier view task.0.who commands.RaiseNested told did) own.2 (by own.0 (subst (nesteds.FitsAt view task.0.who) (nested-over task.0 own.1) fit.at)))
   where
     task : (n : Nested) × (j ≡ jobs.Nested n) × (nesteds.begin n.who ≡ nesteds.begin who)
     task = of-nested j runs
@@ -166,17 +166,17 @@ nested-caused layout list view told did {who} j {a} runs fits is =
     fit : nesteds.Fits layout view task.0
     fit = (subst (FitsFrom [] layout view) task.1 fits).1
 
-    by : (x : NestedAnswer) → nesteds.FitsAt view task.0.who (nested_at.Over (Some x)) → IsAnswerCaused layout list view task.0.who commands.RaiseNested told did (nested_answer x)
+    by : (x : NestedAnswer) → nesteds.FitsAt view task.0.who (nested_at.Over (Some x)) → IsAnswerCaused layout earlier view task.0.who commands.RaiseNested told did (nested_answer x)
     by nested_answers.Shutdown has = found-stopped layout commands.RaiseNested view task.0.who (inr has) fit.made
     by nested_answers.Stopped has = found-stopped layout commands.RaiseNested view task.0.who (inl has) fit.made
 
 -- ---- damage to a line
 
-pub spoil-caused : (layout : Layout) (list : List Command) (view : View) (told : List EventOutcome) (did : Option FrameChange) {who : Who} {frame : Frame} {line : ℕ} {damage : Damage} (j : Job) {a : Answer} → BeginsSpoil layout who frame line damage (anew j) → FitsFrom [] layout view j → answer j ≡ Some a
-    → IsAnswerCaused layout list view who (spoiling damage frame line) told did a
-spoil-caused layout list view told did {who} {frame} {line} {damage} j {a} runs fits is =
-    subst (λ (s : Spoil). IsAnswerCaused layout list view s.who (spoiling s.damage s.frame s.line) told did a) task.2
-    (subst (IsAnswerCaused layout list view task.0.who (spoiling task.0.damage task.0.frame task.0.line) told did) own.2
+pub spoil-caused : (layout : Layout) (earlier : List (Command × Answer)) (view : View) (told : List EventOutcome) (did : Option FrameChange) {who : Who} {frame : Frame} {line : ℕ} {damage : Damage} (j : Job) {a : Answer} → BeginsSpoil layout who frame line damage (anew j) → FitsFrom [] layout view j → answer j ≡ Some a
+    → IsAnswerCaused layout earlier view who (spoiling damage frame line) told did a
+spoil-caused layout earlier view told did {who} {frame} {line} {damage} j {a} runs fits is =
+    subst (λ (s : Spoil). IsAnswerCaused layout earlier view s.who (spoiling s.damage s.frame s.line) told did a) task.2
+    (subst (IsAnswerCaused layout earlier view task.0.who (spoiling task.0.damage task.0.frame task.0.line) told did) own.2
     (by task.0.damage own.0 (subst (spoils.FitsAt view task.0.who task.0.frame task.0.line task.0.damage) (spoil-over task.0 own.1) fit.at)))
   where
     task : (s : Spoil) × (j ≡ jobs.Spoil s) × (spoils.begin s.who s.frame s.line s.damage ≡ spoils.begin who frame line damage)
@@ -191,7 +191,7 @@ spoil-caused layout list view told did {who} {frame} {line} {damage} j {a} runs 
     inside : task.0.line < line_limit
     inside = subst (λ (s : Spoil). s.line < line_limit) (sym task.2) runs.inside
 
-    by : (d : Damage) (x : SpoilAnswer) → spoils.FitsAt view task.0.who task.0.frame task.0.line d (spoil_at.Over x) → IsAnswerCaused layout list view task.0.who (spoiling d task.0.frame task.0.line) told did (spoil_answer x)
+    by : (d : Damage) (x : SpoilAnswer) → spoils.FitsAt view task.0.who task.0.frame task.0.line d (spoil_at.Over x) → IsAnswerCaused layout earlier view task.0.who (spoiling d task.0.frame task.0.line) told did (spoil_answer x)
     by damages.Bad spoil_answers.Stopped has = found-stopped layout (commands.Bad task.0.frame task.0.line) view task.0.who (inl has) fit.made
     by damages.Weak spoil_answers.Stopped has = found-stopped layout (commands.Weak task.0.frame task.0.line) view task.0.who (inl has) fit.made
     by damages.Bad spoil_answers.Done has = record { within = inside; spoiled = has; made = fit.made }
@@ -204,49 +204,55 @@ last-same : (d : Policy) (l : List Setting) → last_policy d l ≡ fold (λ ear
 last-same d [] = refl
 last-same d (s ∷ l) = last-same s.policy l
 
-module _ (list : List Command) (view : View) (p : Prctl) where
-  -- what was set before the call is what the commands before it set
-  before-is : (policy : Policy) (before : List Setting) (last : Setting) → settings_of p.thread view.settings ≡ before ++ last ∷ [] → p.at ≡ prctl_at.Over (prctl_answers.Replied (replies.Set policy)) → IsCounted list view p.who (jobs.Prctl p) p.thread
-      → map (λ (s : Setting). s.policy) before ≡ settings p.thread (take p.who.seq list)
-  before-is policy before last all over counted = (same_from_push (map (λ (s : Setting). s.policy) before) (settings p.thread (take p.who.seq list)) last.policy policy (
+-- what a call has set for its own thread
+own-set : (thread : Thread) (l : List Policy) → of_thread thread (map (λ (policy : Policy). (thread, policy)) l) ≡ l
+own-set thread [] = refl
+own-set thread (x ∷ xs) =
+    ap (λ (b : Bool). cons_option (cond b (Some x) None) (of_thread thread (map (λ (policy : Policy). (thread, policy)) xs))) (eq-eqb thread.0 thread.0 refl)
+    ∙ ap (λ (l : List Policy). x ∷ l) (own-set thread xs)
+
+module _ (earlier : List (Command × Answer)) (view : View) (p : Prctl) (counted : AreCounted (λ (t : Thread). settings t earlier) view (jobs.Prctl p)) where
+  counted-so : policies_in p.thread view ≡ settings p.thread earlier ++ set_at p.at
+  counted-so = counted p.thread ∙ ap (λ (l : List Policy). settings p.thread earlier ++ l) (own-set p.thread (set_at p.at))
+
+  -- what was set before the call is what the earlier commands set
+  before-is : (policy : Policy) (before : List Setting) (last : Setting) → settings_of p.thread view.settings ≡ before ++ last ∷ [] → p.at ≡ prctl_at.Over (prctl_answers.Replied (replies.Set policy))
+      → map (λ (s : Setting). s.policy) before ≡ settings p.thread earlier
+  before-is policy before last all over = (same_from_push (map (λ (s : Setting). s.policy) before) (settings p.thread earlier) last.policy policy (
       sym (map-append (λ (s : Setting). s.policy) before (last ∷ []))
       ∙ sym (ap (map (λ (s : Setting). s.policy)) all)
-      ∙ counted
-      ∙ ap (λ (b : Bool). settings p.thread (take p.who.seq list) ++ cond b (set_at p.at) []) (eq-eqb p.thread.0 p.thread.0 refl)
-      ∙ ap (λ (x : PrctlAt). settings p.thread (take p.who.seq list) ++ set_at x) over
+      ∙ counted-so
+      ∙ ap (λ (x : PrctlAt). settings p.thread earlier ++ set_at x) over
       )).0
 
-  now-is : set_at p.at ≡ [] → IsCounted list view p.who (jobs.Prctl p) p.thread → policies_in p.thread view ≡ settings p.thread (take p.who.seq list)
-  now-is none counted = counted
-      ∙ ap (λ (b : Bool). settings p.thread (take p.who.seq list) ++ cond b (set_at p.at) []) (eq-eqb p.thread.0 p.thread.0 refl)
-      ∙ ap (λ (x : List Policy). settings p.thread (take p.who.seq list) ++ x) none
-      ∙ append-nil (settings p.thread (take p.who.seq list))
+  now-is : set_at p.at ≡ [] → policies_in p.thread view ≡ settings p.thread earlier
+  now-is none = counted-so ∙ ap (λ (x : List Policy). settings p.thread earlier ++ x) none ∙ append-nil (settings p.thread earlier)
 
   -- the reply to the policies that were set before
-  replied-so : (r : Reply) → p.at ≡ prctl_at.Over (prctl_answers.Replied r) → prctls.WasReplied view p.who p.thread p.arguments r → IsCounted list view p.who (jobs.Prctl p) p.thread
-      → r ≡ reply (laws.last_policy (settings p.thread (take p.who.seq list))) p.arguments
-  replied-so (replies.Set policy) over has counted =
-      sym has.says ∙ ap (λ (x : Policy). reply x p.arguments) (last-same policy_names.Default has.before ∙ ap laws.last_policy (before-is policy has.before has.last has.all over counted))
-  replied-so (replies.Is policy) over has counted =
-      sym has ∙ ap (λ (x : Policy). reply x p.arguments) (last-same policy_names.Default (settings_of p.thread view.settings) ∙ ap laws.last_policy (now-is (ap set_at over) counted))
-  replied-so replies.Einval over has counted =
-      sym has ∙ ap (λ (x : Policy). reply x p.arguments) (last-same policy_names.Default (settings_of p.thread view.settings) ∙ ap laws.last_policy (now-is (ap set_at over) counted))
+  replied-so : (r : Reply) → p.at ≡ prctl_at.Over (prctl_answers.Replied r) → prctls.WasReplied view p.who p.thread p.arguments r
+      → r ≡ reply (laws.last_policy (settings p.thread earlier)) p.arguments
+  replied-so (replies.Set policy) over has =
+      sym has.says ∙ ap (λ (x : Policy). reply x p.arguments) (last-same policy_names.Default has.before ∙ ap laws.last_policy (before-is policy has.before has.last has.all over))
+  replied-so (replies.Is policy) over has =
+      sym has ∙ ap (λ (x : Policy). reply x p.arguments) (last-same policy_names.Default (settings_of p.thread view.settings) ∙ ap laws.last_policy (now-is (ap set_at over)))
+  replied-so replies.Einval over has =
+      sym has ∙ ap (λ (x : Policy). reply x p.arguments) (last-same policy_names.Default (settings_of p.thread view.settings) ∙ ap laws.last_policy (now-is (ap set_at over)))
 
-module _ {layout : Layout} (list : List Command) {view : View} (told : List EventOutcome) (did : Option FrameChange) (p : Prctl) (fits : prctls.Fits layout view p) where
+module _ {layout : Layout} (earlier : List (Command × Answer)) {view : View} (told : List EventOutcome) (did : Option FrameChange) (p : Prctl) (fits : prctls.Fits layout view p) where
   going : {word : ℕ} → Saw view p.who (places.Process p.process) word → SawProcess layout view p.who p.thread word
   going saw = record { process = p.process; process_is = ap (option_map (λ (t : ThreadDecl). t.process)) fits.declared ∙ ap Some fits.process_is; saw = saw }
 
-  replied-caused : {args : PrctlArgs} → p.arguments ≡ arguments args → (r : Reply) → IsReplied layout list view p.who p.thread p.arguments (reply_answer r) → IsAnswerCaused layout list view p.who (commands.Prctl p.thread args) told did (reply_answer r)
-  replied-caused same (replies.Set policy) has = subst (λ (given : List ℕ). IsReplied layout list view p.who p.thread given (reply_answer (replies.Set policy))) same has
-  replied-caused same (replies.Is policy) has = subst (λ (given : List ℕ). IsReplied layout list view p.who p.thread given (reply_answer (replies.Is policy))) same has
-  replied-caused same replies.Einval has = subst (λ (given : List ℕ). IsReplied layout list view p.who p.thread given (reply_answer replies.Einval)) same has
+  replied-caused : {args : PrctlArgs} → p.arguments ≡ arguments args → (r : Reply) → IsReplied layout earlier view p.who p.thread p.arguments (reply_answer r) → IsAnswerCaused layout earlier view p.who (commands.Prctl p.thread args) told did (reply_answer r)
+  replied-caused same (replies.Set policy) has = subst (λ (given : List ℕ). IsReplied layout earlier view p.who p.thread given (reply_answer (replies.Set policy))) same has
+  replied-caused same (replies.Is policy) has = subst (λ (given : List ℕ). IsReplied layout earlier view p.who p.thread given (reply_answer (replies.Is policy))) same has
+  replied-caused same replies.Einval has = subst (λ (given : List ℕ). IsReplied layout earlier view p.who p.thread given (reply_answer replies.Einval)) same has
 
-  called : {args : PrctlArgs} → p.arguments ≡ arguments args → (x : PrctlAnswer) → p.at ≡ prctl_at.Over x → prctls.FitsOver view p.who p.thread p.process p.arguments x → ((r : Reply) → x ≡ prctl_answers.Replied r → IsCounted list view p.who (jobs.Prctl p) p.thread)
-      → IsAnswerCaused layout list view p.who (commands.Prctl p.thread args) told did (prctl_answer x)
+  called : {args : PrctlArgs} → p.arguments ≡ arguments args → (x : PrctlAnswer) → p.at ≡ prctl_at.Over x → prctls.FitsOver view p.who p.thread p.process p.arguments x → AreCounted (λ (t : Thread). settings t earlier) view (jobs.Prctl p)
+      → IsAnswerCaused layout earlier view p.who (commands.Prctl p.thread args) told did (prctl_answer x)
   called {args} same prctl_answers.Stopped over has counted = found-stopped layout (commands.Prctl p.thread args) view p.who (inl has) fits.made
   called same (prctl_answers.Gone page) over has counted = (record { ended = going has }, fits.made)
   called same (prctl_answers.Replied r) over has counted =
-      replied-caused same r (record { going = going has.0; made = fits.made; replied = ap reply_answer (replied-so list view p r over has.1 (counted r refl)) })
+      replied-caused same r (record { going = going has.0; made = fits.made; replied = ap reply_answer (replied-so earlier view p counted r over has.1) })
 
 -- what is known of a call that has its answer
 pub record KnowsPrctl (layout : Layout) (view : View) (who : Who) (thread : Thread) (args : PrctlArgs) (j : Job) (answer : Answer) : Type 0 where
@@ -281,17 +287,14 @@ knows-prctl {layout} {view} {who} {thread} {args} j {a} runs fits is = record {
     own : (x : PrctlAnswer) × (prctls.answer task.0 ≡ Some x) × (prctl_answer x ≡ a)
     own = mapped prctl_answer (prctls.answer task.0) (sym (ap answer task.1) ∙ is)
 
-pub prctl-caused : {layout : Layout} (list : List Command) (view : View) (told : List EventOutcome) (did : Option FrameChange) {who : Who} {thread : Thread} {args : PrctlArgs} (j : Job) {a : Answer} → BeginsPrctl layout who thread args (anew j) → FitsFrom [] layout view j → answer j ≡ Some a
-    → ((t : Thread) → HasReplied j t → IsCounted list view who j t) → IsAnswerCaused layout list view who (commands.Prctl thread args) told did a
-prctl-caused {layout} list view told did {who} {thread} {args} j {a} runs fits is counted =
-    subst (λ (w : Who). IsAnswerCaused layout list view w (commands.Prctl thread args) told did a) k.who_is
-    (subst (λ (t : Thread). IsAnswerCaused layout list view k.task.who (commands.Prctl t args) told did a) k.thread_is
-    (subst (IsAnswerCaused layout list view k.task.who (commands.Prctl k.task.thread args) told did) k.answer_is
-    (called list told did k.task k.fits k.arguments_are k.own k.over (subst (prctls.FitsAt view k.task.who k.task.thread k.task.process k.task.arguments) k.over k.fits.at) known)))
+pub prctl-caused : {layout : Layout} (earlier : List (Command × Answer)) (view : View) (told : List EventOutcome) (did : Option FrameChange) {who : Who} {thread : Thread} {args : PrctlArgs} (j : Job) {a : Answer} → BeginsPrctl layout who thread args (anew j) → FitsFrom [] layout view j → answer j ≡ Some a
+    → AreCounted (λ (t : Thread). settings t earlier) view j → IsAnswerCaused layout earlier view who (commands.Prctl thread args) told did a
+prctl-caused {layout} earlier view told did {who} {thread} {args} j {a} runs fits is counted =
+    subst (λ (w : Who). IsAnswerCaused layout earlier view w (commands.Prctl thread args) told did a) k.who_is
+    (subst (λ (t : Thread). IsAnswerCaused layout earlier view k.task.who (commands.Prctl t args) told did a) k.thread_is
+    (subst (IsAnswerCaused layout earlier view k.task.who (commands.Prctl k.task.thread args) told did) k.answer_is
+    (called earlier told did k.task k.fits k.arguments_are k.own k.over (subst (prctls.FitsAt view k.task.who k.task.thread k.task.process k.task.arguments) k.over k.fits.at)
+    (subst (AreCounted (λ (t : Thread). settings t earlier) view) k.job_is counted))))
   where
     k : KnowsPrctl layout view who thread args j a
     k = knows-prctl j runs fits is
-
-    known : (r : Reply) → k.own ≡ prctl_answers.Replied r → IsCounted list view k.task.who (jobs.Prctl k.task) k.task.thread
-    known r replied = subst (λ (q : Job). IsCounted list view k.task.who q k.task.thread) k.job_is
-        (subst (λ (w : Who). IsCounted list view w j k.task.thread) (sym k.who_is) (counted k.task.thread (subst (λ (q : Job). HasReplied q k.task.thread) (sym k.job_is) (refl, r, k.said ∙ ap Some replied))))

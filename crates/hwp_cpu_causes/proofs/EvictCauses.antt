@@ -67,8 +67,8 @@ module _ (layout : Layout) (view : View) (who : Who) (page : Page) where
   bad-lines : (what : Eviction) (mask : Mask) (at : At) → IsEvictCaused [] layout view who page what (answers.Refused (refusals.BadLines mask) at) → SawBadLines layout view who page mask
   bad-lines what mask at has = let lines = has.1.lines in record { some = lines.0; frame = lines.1.0; inside = lines.1.1; saw = lines.1.2 }
 
-module _ (layout : Layout) (list : List Command) (view : View) (who : Who) (page : Page) (told : List EventOutcome) (did : Option FrameChange) where
-  free : (slot : VSlot) → IsOf layout page slot → (x : EvictAnswer) → IsEvictCaused [] layout view who page (evictions.Free slot) x → IsAnswerCaused layout list view who (commands.Free slot) told did (evict_answer x)
+module _ (layout : Layout) (earlier : List (Command × Answer)) (view : View) (who : Who) (page : Page) (told : List EventOutcome) (did : Option FrameChange) where
+  free : (slot : VSlot) → IsOf layout page slot → (x : EvictAnswer) → IsEvictCaused [] layout view who page (evictions.Free slot) x → IsAnswerCaused layout earlier view who (commands.Free slot) told did (evict_answer x)
   free slot kind answers.Stopped has = stopped layout view who page (commands.Free slot) (evictions.Free slot) has
   free slot kind (answers.Done at) has = (subst (λ (p : Page). IsOf layout p slot) (sym has.0) kind, made-one layout view who page (evictions.Free slot) at has)
   free slot kind (answers.Refused refusals.NotMapped at) has = (subst (λ (p : Page). IsOf layout p slot) (sym has.1.page_is) kind, found-state layout view who page (evictions.Free slot) refusals.NotMapped at has)
@@ -78,7 +78,7 @@ module _ (layout : Layout) (list : List Command) (view : View) (who : Who) (page
   free slot kind (answers.Refused refusals.Mapped at) has = absurd has.1.state.such
   free slot kind (answers.Refused (refusals.BadLines mask) at) has = absurd has.1.state.such
 
-  drop : (x : EvictAnswer) → IsEvictCaused [] layout view who page evictions.Drop x → IsAnswerCaused layout list view who (commands.Drop page) told did (evict_answer x)
+  drop : (x : EvictAnswer) → IsEvictCaused [] layout view who page evictions.Drop x → IsAnswerCaused layout earlier view who (commands.Drop page) told did (evict_answer x)
   drop answers.Stopped has = stopped layout view who page (commands.Drop page) evictions.Drop has
   drop (answers.Done at) has = (has.0, made-one layout view who page evictions.Drop at has)
   drop (answers.Refused refusals.NotMapped at) has = absurd has.1.state.such
@@ -88,7 +88,7 @@ module _ (layout : Layout) (list : List Command) (view : View) (who : Who) (page
   drop (answers.Refused refusals.Mapped at) has = (has.1.page_is, found-state layout view who page evictions.Drop refusals.Mapped at has)
   drop (answers.Refused (refusals.BadLines mask) at) has = absurd has.1.state.such
 
-  sync : (x : EvictAnswer) → IsEvictCaused [] layout view who page evictions.Sync x → IsAnswerCaused layout list view who (commands.Sync page) told did (evict_answer x)
+  sync : (x : EvictAnswer) → IsEvictCaused [] layout view who page evictions.Sync x → IsAnswerCaused layout earlier view who (commands.Sync page) told did (evict_answer x)
   sync answers.Stopped has = stopped layout view who page (commands.Sync page) evictions.Sync has
   sync (answers.Done at) has = (has.0, made-one layout view who page evictions.Sync at has)
   sync (answers.Refused refusals.NotMapped at) has = absurd has.1.state.such
@@ -98,7 +98,7 @@ module _ (layout : Layout) (list : List Command) (view : View) (who : Who) (page
   sync (answers.Refused refusals.Mapped at) has = absurd has.1.state.such
   sync (answers.Refused (refusals.BadLines mask) at) has = (has.1.page_is, found-state layout view who page evictions.Sync (refusals.BadLines mask) at has, bad-lines layout view who page evictions.Sync mask at has)
 
-  out : (x : EvictAnswer) → IsEvictCaused [] layout view who page evictions.Out x → IsAnswerCaused layout list view who (commands.Out page) told did (evict_answer x)
+  out : (x : EvictAnswer) → IsEvictCaused [] layout view who page evictions.Out x → IsAnswerCaused layout earlier view who (commands.Out page) told did (evict_answer x)
   out answers.Stopped has = stopped layout view who page (commands.Out page) evictions.Out has
   out (answers.Done at) has = (has.0, made-one layout view who page evictions.Out at has)
   out (answers.Refused refusals.NotMapped at) has = absurd has.1.state.such
@@ -108,15 +108,15 @@ module _ (layout : Layout) (list : List Command) (view : View) (who : Who) (page
   out (answers.Refused refusals.Mapped at) has = absurd has.1.state.such
   out (answers.Refused (refusals.BadLines mask) at) has = (has.1.page_is, found-state layout view who page evictions.Out (refusals.BadLines mask) at has, bad-lines layout view who page evictions.Out mask at has)
 
-module _ {layout : Layout} (list : List Command) {view : View} {who : Who} {page : Page} {a : Answer} (told : List EventOutcome) (did : Option FrameChange) where
-  pub free-caused : {slot : VSlot} → IsOf layout page slot → KnowsEviction layout view who page (evictions.Free slot) a → IsAnswerCaused layout list view who (commands.Free slot) told did a
-  free-caused {slot} kind k = subst (IsAnswerCaused layout list view who (commands.Free slot) told did) k.answer_is (free layout list view who page told did slot kind k.own k.caused)
+module _ {layout : Layout} (earlier : List (Command × Answer)) {view : View} {who : Who} {page : Page} {a : Answer} (told : List EventOutcome) (did : Option FrameChange) where
+  pub free-caused : {slot : VSlot} → IsOf layout page slot → KnowsEviction layout view who page (evictions.Free slot) a → IsAnswerCaused layout earlier view who (commands.Free slot) told did a
+  free-caused {slot} kind k = subst (IsAnswerCaused layout earlier view who (commands.Free slot) told did) k.answer_is (free layout earlier view who page told did slot kind k.own k.caused)
 
-  pub drop-caused : KnowsEviction layout view who page evictions.Drop a → IsAnswerCaused layout list view who (commands.Drop page) told did a
-  drop-caused k = subst (IsAnswerCaused layout list view who (commands.Drop page) told did) k.answer_is (drop layout list view who page told did k.own k.caused)
+  pub drop-caused : KnowsEviction layout view who page evictions.Drop a → IsAnswerCaused layout earlier view who (commands.Drop page) told did a
+  drop-caused k = subst (IsAnswerCaused layout earlier view who (commands.Drop page) told did) k.answer_is (drop layout earlier view who page told did k.own k.caused)
 
-  pub sync-caused : KnowsEviction layout view who page evictions.Sync a → IsAnswerCaused layout list view who (commands.Sync page) told did a
-  sync-caused k = subst (IsAnswerCaused layout list view who (commands.Sync page) told did) k.answer_is (sync layout list view who page told did k.own k.caused)
+  pub sync-caused : KnowsEviction layout view who page evictions.Sync a → IsAnswerCaused layout earlier view who (commands.Sync page) told did a
+  sync-caused k = subst (IsAnswerCaused layout earlier view who (commands.Sync page) told did) k.answer_is (sync layout earlier view who page told did k.own k.caused)
 
-  pub out-caused : KnowsEviction layout view who page evictions.Out a → IsAnswerCaused layout list view who (commands.Out page) told did a
-  out-caused k = subst (IsAnswerCaused layout list view who (commands.Out page) told did) k.answer_is (out layout list view who page told did k.own k.caused)
+  pub out-caused : KnowsEviction layout view who page evictions.Out a → IsAnswerCaused layout earlier view who (commands.Out page) told did a
+  out-caused k = subst (IsAnswerCaused layout earlier view who (commands.Out page) told did) k.answer_is (out layout earlier view who page told did k.own k.caused)

@@ -105,11 +105,11 @@ module _ (layout : Layout) (view : View) (who : Who) (frame : Frame) where
   by-outcome own outcomes.Ignored has = has
 
   -- what comes of a failure is no stop of the machine
-  caused-by : (list : List Command) (told : List EventOutcome) (own : Option FrameChange) (outcome : Outcome) → layout.recovery ≡ true → IsInjectCaused layout view who frame own (outcome_answer outcome)
-      → IsAnswerCaused layout list view who (commands.Inject frame) told own (outcome_answer outcome)
-  caused-by list told own outcomes.Recovered recovers has = (recovers, has)
-  caused-by list told own outcomes.Delayed recovers has = (recovers, has)
-  caused-by list told own outcomes.Ignored recovers has = (recovers, has)
+  caused-by : (earlier : List (Command × Answer)) (told : List EventOutcome) (own : Option FrameChange) (outcome : Outcome) → layout.recovery ≡ true → IsInjectCaused layout view who frame own (outcome_answer outcome)
+      → IsAnswerCaused layout earlier view who (commands.Inject frame) told own (outcome_answer outcome)
+  caused-by earlier told own outcomes.Recovered recovers has = (recovers, has)
+  caused-by earlier told own outcomes.Delayed recovers has = (recovers, has)
+  caused-by earlier told own outcomes.Ignored recovers has = (recovers, has)
 
 abbrev is_stopped_answer : FailAnswer → Bool
 is_stopped_answer answers.Stopped = true
@@ -120,21 +120,21 @@ recovers : {recovery : Bool} (x : FailAnswer) → is_stopped_answer x ≡ false 
 recovers x other (inl is) = absurd (true≢false (sym (ap is_stopped_answer is) ∙ other))
 recovers x other (inr so) = so
 
-failed : (layout : Layout) (list : List Command) (view : View) (told : List EventOutcome) (i : Inject) (x : FailAnswer) → InjectEnded layout view i x → IsAnswerCaused layout list view i.who (commands.Inject i.frame) told (own_by i.frame (Some x)) (fail_answer x)
-failed layout list view told i answers.Stopped ended = found-stopped layout (commands.Inject i.frame) view i.who ended.over.2 ended.over.0
-failed layout list view told i answers.Already ended =
+failed : (layout : Layout) (earlier : List (Command × Answer)) (view : View) (told : List EventOutcome) (i : Inject) (x : FailAnswer) → InjectEnded layout view i x → IsAnswerCaused layout earlier view i.who (commands.Inject i.frame) told (own_by i.frame (Some x)) (fail_answer x)
+failed layout earlier view told i answers.Stopped ended = found-stopped layout (commands.Inject i.frame) view i.who ended.over.2 ended.over.0
+failed layout earlier view told i answers.Already ended =
     (recovers answers.Already refl ended.recovery, (record { word = ended.over.2.word; poisoned = ended.over.2.poisoned; saw = ended.over.2.saw; made = ended.over.0 }, refl))
-failed layout list view told i (answers.Done found) ended =
-    caused-by layout view i.who i.frame list told (own_by i.frame (Some (answers.Done found))) (outcome_of found.situation) (recovers (answers.Done found) refl ended.recovery)
+failed layout earlier view told i (answers.Done found) ended =
+    caused-by layout view i.who i.frame earlier told (own_by i.frame (Some (answers.Done found))) (outcome_of found.situation) (recovers (answers.Done found) refl ended.recovery)
     (by-outcome layout view i.who i.frame (own_by i.frame (Some (answers.Done found))) (outcome_of found.situation)
     (record { found = found; own_is = refl; outcome_is = refl; failed = came layout view i.who i.frame found ended.over.1 }))
 
-pub inject-caused : {layout : Layout} (list : List Command) {view : View} (told : List EventOutcome) {who : Who} {frame : Frame} (j : Job) {a : Answer} → KnowsFailure layout view who frame j a → IsAnswerCaused layout list view who (commands.Inject frame) told (own_of j) a
-inject-caused {layout} list {view} told {who} {frame} j {a} k =
-    subst (λ (own : Option FrameChange). IsAnswerCaused layout list view who (commands.Inject frame) told own a) (sym own-is)
-    (subst (IsAnswerCaused layout list view who (commands.Inject frame) told (own_by frame (Some k.own))) k.answer_is
-    (subst (λ (f : Frame). IsAnswerCaused layout list view who (commands.Inject f) told (own_by f (Some k.own)) (fail_answer k.own)) k.frame_is
-    (subst (λ (w : Who). IsAnswerCaused layout list view w (commands.Inject k.inject.frame) told (own_by k.inject.frame (Some k.own)) (fail_answer k.own)) k.who_is (failed layout list view told k.inject k.own k.ended))))
+pub inject-caused : {layout : Layout} (earlier : List (Command × Answer)) {view : View} (told : List EventOutcome) {who : Who} {frame : Frame} (j : Job) {a : Answer} → KnowsFailure layout view who frame j a → IsAnswerCaused layout earlier view who (commands.Inject frame) told (own_of j) a
+inject-caused {layout} earlier {view} told {who} {frame} j {a} k =
+    subst (λ (own : Option FrameChange). IsAnswerCaused layout earlier view who (commands.Inject frame) told own a) (sym own-is)
+    (subst (IsAnswerCaused layout earlier view who (commands.Inject frame) told (own_by frame (Some k.own))) k.answer_is
+    (subst (λ (f : Frame). IsAnswerCaused layout earlier view who (commands.Inject f) told (own_by f (Some k.own)) (fail_answer k.own)) k.frame_is
+    (subst (λ (w : Who). IsAnswerCaused layout earlier view w (commands.Inject k.inject.frame) told (own_by k.inject.frame (Some k.own)) (fail_answer k.own)) k.who_is (failed layout earlier view told k.inject k.own k.ended))))
   where
     own-is : own_of j ≡ own_by frame (Some k.own)
     own-is = ap own_of k.job_is ∙ ap (own_by k.inject.frame) k.said ∙ ap (λ (f : Frame). own_by f (Some k.own)) k.frame_is

@@ -54,22 +54,22 @@ knows-soft {layout} {view} {who} {frame} j {a} runs fits is = record {
     own = mapped soft_answer (softs.answer task.0) (sym (ap answer task.1) ∙ is)
 
 -- what the task knows is a cause of what the report says
-offlined : (layout : Layout) (list : List Command) (view : View) (who : Who) (frame : Frame) (told : List EventOutcome) (x : SoftAnswer) → offline.IsCaused [] layout view who frame x
-    → IsAnswerCaused layout list view who (commands.Soft frame) told (offlined_by frame x) (soft_answer x)
-offlined layout list view who frame told answers.Stopped has = found-stopped layout (commands.Soft frame) view who (inl has.1) has.0
-offlined layout list view who frame told answers.Kernel has = (has.1, has.0, refl)
-offlined layout list view who frame told answers.Already has = (has.2, (record { word = has.1.word; poisoned = has.1.poisoned; saw = has.1.saw; made = has.0 }, refl))
-offlined layout list view who frame told (answers.HasBad mask) has = (has.2, (record { some = has.1.some; page = has.1.page; saw = has.1.saw; made = has.0 }, refl))
-offlined layout list view who frame told answers.NoFrame has = (has.2, (has.0, has.1, refl))
-offlined layout list view who frame told (answers.TakenFree cycle) has = (has.2, record { cycle = cycle; own_is = refl; made = has.0 })
-offlined layout list view who frame told (answers.Moved to place cycle) has = (has.3, record { cycle = cycle; own_is = refl; word = has.2.0; free = has.2.1; made = record { made = has.0 } })
+offlined : (layout : Layout) (earlier : List (Command × Answer)) (view : View) (who : Who) (frame : Frame) (told : List EventOutcome) (x : SoftAnswer) → offline.IsCaused [] layout view who frame x
+    → IsAnswerCaused layout earlier view who (commands.Soft frame) told (offlined_by frame x) (soft_answer x)
+offlined layout earlier view who frame told answers.Stopped has = found-stopped layout (commands.Soft frame) view who (inl has.1) has.0
+offlined layout earlier view who frame told answers.Kernel has = (has.1, has.0, refl)
+offlined layout earlier view who frame told answers.Already has = (has.2, (record { word = has.1.word; poisoned = has.1.poisoned; saw = has.1.saw; made = has.0 }, refl))
+offlined layout earlier view who frame told (answers.HasBad mask) has = (has.2, (record { some = has.1.some; page = has.1.page; saw = has.1.saw; made = has.0 }, refl))
+offlined layout earlier view who frame told answers.NoFrame has = (has.2, (has.0, has.1, refl))
+offlined layout earlier view who frame told (answers.TakenFree cycle) has = (has.2, record { cycle = cycle; own_is = refl; made = has.0 })
+offlined layout earlier view who frame told (answers.Moved to place cycle) has = (has.3, record { cycle = cycle; own_is = refl; word = has.2.0; free = has.2.1; made = record { made = has.0 } })
 
-pub soft-caused : {layout : Layout} (list : List Command) {view : View} (told : List EventOutcome) {who : Who} {frame : Frame} (j : Job) {a : Answer} → KnowsSoft layout view who frame j a → IsAnswerCaused layout list view who (commands.Soft frame) told (own_of j) a
-soft-caused {layout} list {view} told {who} {frame} j {a} k =
-    subst (λ (s : Soft). IsAnswerCaused layout list view s.who (commands.Soft s.frame) told (own_of j) a) k.begun
-    (subst (λ (own : Option FrameChange). IsAnswerCaused layout list view k.task.who (commands.Soft k.task.frame) told own a) (sym own-is)
-    (subst (IsAnswerCaused layout list view k.task.who (commands.Soft k.task.frame) told (offlined_by k.task.frame k.own)) k.answer_is
-    (offlined layout list view k.task.who k.task.frame told k.own k.caused)))
+pub soft-caused : {layout : Layout} (earlier : List (Command × Answer)) {view : View} (told : List EventOutcome) {who : Who} {frame : Frame} (j : Job) {a : Answer} → KnowsSoft layout view who frame j a → IsAnswerCaused layout earlier view who (commands.Soft frame) told (own_of j) a
+soft-caused {layout} earlier {view} told {who} {frame} j {a} k =
+    subst (λ (s : Soft). IsAnswerCaused layout earlier view s.who (commands.Soft s.frame) told (own_of j) a) k.begun
+    (subst (λ (own : Option FrameChange). IsAnswerCaused layout earlier view k.task.who (commands.Soft k.task.frame) told own a) (sym own-is)
+    (subst (IsAnswerCaused layout earlier view k.task.who (commands.Soft k.task.frame) told (offlined_by k.task.frame k.own)) k.answer_is
+    (offlined layout earlier view k.task.who k.task.frame told k.own k.caused)))
   where
     own-is : own_of j ≡ offlined_by k.task.frame k.own
     own-is = ap own_of k.job_is ∙ ap (λ (o : Option SoftAnswer). option_and_then (offlined_by k.task.frame) o) k.said

@@ -106,27 +106,27 @@ module _ (layout : Layout) (view : View) (r : Raise) (command : Command) (fails 
   raised : IsEnd layout view r answers.Raised → WasRaised layout view r.who command r.lines.told (length r.lines.told)
   raised has = record { count = refl; only = only-met has.only }
 
-module _ (layout : Layout) (list : List Command) (view : View) (r : Raise) (did : Option FrameChange) where
+module _ (layout : Layout) (earlier : List (Command × Answer)) (view : View) (r : Raise) (did : Option FrameChange) where
   module _ (thread : Thread) (ripv eipv : Bool) (process : Proc) (process_is : process_of_thread layout thread ≡ Some process) (is : r.raiser ≡ Some (record { thread = thread; process = process })) where
-    user : (x : RaiseAnswer) → IsEnd layout view r x → IsAnswerCaused layout list view r.who (commands.RaiseUser thread ripv eipv) r.lines.told did (raise_answer (length r.lines.told) x)
+    user : (x : RaiseAnswer) → IsEnd layout view r x → IsAnswerCaused layout earlier view r.who (commands.RaiseUser thread ripv eipv) r.lines.told did (raise_answer (length r.lines.told) x)
     user answers.Raised has = (record { process = process; process_is = process_is; saw = subst (GoesOn view r.who) is has.going }, raised layout view r (commands.RaiseUser thread ripv eipv) refl has)
     user answers.Stopped has = stopped layout view r (commands.RaiseUser thread ripv eipv) refl has
     user (answers.Gone page) has = (record { ended = record { process = process; process_is = process_is; saw = subst (λ (o : Option Raiser). IsGone view r.who o page) is has.1 } }, has.0.made)
 
   module _ (ripv eipv : Bool) (is : r.raiser ≡ None) where
-    kernel : (x : RaiseAnswer) → IsEnd layout view r x → IsAnswerCaused layout list view r.who (commands.RaiseKernel ripv eipv) r.lines.told did (raise_answer (length r.lines.told) x)
+    kernel : (x : RaiseAnswer) → IsEnd layout view r x → IsAnswerCaused layout earlier view r.who (commands.RaiseKernel ripv eipv) r.lines.told did (raise_answer (length r.lines.told) x)
     kernel answers.Raised has = raised layout view r (commands.RaiseKernel ripv eipv) refl has
     kernel answers.Stopped has = stopped layout view r (commands.RaiseKernel ripv eipv) refl has
     kernel (answers.Gone page) has = absurd (subst (λ (o : Option Raiser). IsGone view r.who o page) is has.1)
 
-module _ {layout : Layout} (list : List Command) {view : View} {who : Who} {mcg : McgBits} {j : Job} {a : Answer} (ripv eipv : Bool) (did : Option FrameChange) where
-  pub user-caused : {thread : Thread} → KnowsUserRaise layout view who thread mcg j a → IsAnswerCaused layout list view who (commands.RaiseUser thread ripv eipv) (told_of j) did a
-  user-caused {thread} k = carried (λ (r : Raise) (told : List EventOutcome) (x : Answer). IsAnswerCaused layout list view r.who (commands.RaiseUser thread ripv eipv) told did x) k.knows
-      (user layout list view k.knows.task did thread ripv eipv k.process k.process_is (ap (λ (r : Raise). r.raiser) k.knows.begun) k.knows.own k.knows.ended)
+module _ {layout : Layout} (earlier : List (Command × Answer)) {view : View} {who : Who} {mcg : McgBits} {j : Job} {a : Answer} (ripv eipv : Bool) (did : Option FrameChange) where
+  pub user-caused : {thread : Thread} → KnowsUserRaise layout view who thread mcg j a → IsAnswerCaused layout earlier view who (commands.RaiseUser thread ripv eipv) (told_of j) did a
+  user-caused {thread} k = carried (λ (r : Raise) (told : List EventOutcome) (x : Answer). IsAnswerCaused layout earlier view r.who (commands.RaiseUser thread ripv eipv) told did x) k.knows
+      (user layout earlier view k.knows.task did thread ripv eipv k.process k.process_is (ap (λ (r : Raise). r.raiser) k.knows.begun) k.knows.own k.knows.ended)
 
-  pub kernel-caused : KnowsRaise layout view who None mcg j a → IsAnswerCaused layout list view who (commands.RaiseKernel ripv eipv) (told_of j) did a
-  kernel-caused k = carried (λ (r : Raise) (told : List EventOutcome) (x : Answer). IsAnswerCaused layout list view r.who (commands.RaiseKernel ripv eipv) told did x) k
-      (kernel layout list view k.task did ripv eipv (ap (λ (r : Raise). r.raiser) k.begun) k.own k.ended)
+  pub kernel-caused : KnowsRaise layout view who None mcg j a → IsAnswerCaused layout earlier view who (commands.RaiseKernel ripv eipv) (told_of j) did a
+  kernel-caused k = carried (λ (r : Raise) (told : List EventOutcome) (x : Answer). IsAnswerCaused layout earlier view r.who (commands.RaiseKernel ripv eipv) told did x) k
+      (kernel layout earlier view k.task did ripv eipv (ap (λ (r : Raise). r.raiser) k.begun) k.own k.ended)
 
 -- ---- what it tells
 

@@ -3,7 +3,6 @@ use Rattle.std.proofs.Common.{◌≡◌, ℕ, false, List, [], ◌++◌, Option,
 use Rattle.std.specs.Prelude.{filter_map, option_and_then}
 use Rattle.std.specs.List.{cons_option}
 use Rattle.std.proofs.lemmas.Option.{none-some, same_Some}
-use Rattle.hwp_law_holds.specs.hwp_geom.declared.FileNo.{FileNo}
 use Rattle.hwp_law_holds.specs.hwp_geom.declared.Frame.{Frame}
 use Rattle.hwp_law_holds.specs.hwp_geom.declared.Layout.{Layout}
 use Rattle.hwp_law_holds.specs.hwp_geom.declared.Mode.{Mode}
@@ -68,12 +67,12 @@ use Rattle.hwp_law_holds.specs.hwp_soft_unpoison.Done as unpoison_done
 use Rattle.hwp_law_holds.specs.hwp_cpu_row.declared.FrameChange.{FrameChange}
 use Rattle.hwp_cpu_command.specs.declared.Job.{Job}
 use Rattle.hwp_cpu_command.specs.declared.Job.TheVariants as jobs
-use Rattle.hwp_cpu_command.specs.Answers.{fail_answer, fsync_answer, prctl_answer, soft_answer, unpoison_answer}
-use Rattle.hwp_cpu_command.specs.Done.{failed_at, failed_now, marked_now, policies_now}
+use Rattle.hwp_cpu_command.specs.Answers.{fail_answer, prctl_answer, soft_answer, unpoison_answer}
+use Rattle.hwp_cpu_command.specs.Done.{failed_at, failed_now, marked_now}
 use Rattle.hwp_cpu_command.specs.Jobs.{FitsFrom, answer, offlined_by, own_by, own_of, revived_by, row_of, told_of}
-use Rattle.hwp_cpu_command.specs.Runs.{Runs, anew}
-use Rattle.hwp_cpu_command.specs.Settings.{set_at}
-use Rattle.hwp_cpu_command.proofs.JobEnds.{fsync-over, instruction-over, mapped, raise-over, scrub-over, soft-over, unpoison-over}
+use Rattle.hwp_cpu_command.specs.Runs.{Runs}
+use Rattle.hwp_cpu_command.specs.Settings.{policies_now, set_at}
+use Rattle.hwp_cpu_command.proofs.JobEnds.{instruction-over, raise-over, scrub-over, soft-over, unpoison-over}
 use Rattle.hwp_cpu_command.proofs.OfKind.{of-evict, of-fsync, of-log, of-nested, of-prctl, of-spoil}
 use Rattle.hwp_cpu_causes.proofs.AccessCauses.{KnowsAccess, knows-access}
 use Rattle.hwp_cpu_causes.proofs.CallCauses.{KnowsPrctl, knows-prctl}

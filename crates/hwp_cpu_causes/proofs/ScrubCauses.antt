@@ -69,11 +69,11 @@ carried {layout} {view} {who} {first} {last} {j} {a} C k has =
     (subst (λ (s : Scrub). C s (told_of j) (scrub_answer (length k.task.lines.told) k.own)) k.begun
     (subst (λ (told : List EventOutcome). C (scrubs.begin k.task.alloc k.task.who k.task.first k.task.last k.task.before.value) told (scrub_answer (length k.task.lines.told) k.own)) (sym (ap told_of k.job_is)) has))
 
-module _ (layout : Layout) (list : List Command) (view : View) (s : Scrub) (did : Option FrameChange) where
+module _ (layout : Layout) (earlier : List (Command × Answer)) (view : View) (s : Scrub) (did : Option FrameChange) where
   only-met : HasOnlyFailed view s.who → HasOnlyMet layout view s.who (commands.Scrub s.first s.last)
   only-met only i m there = inr (refl, only i m there)
 
-  task-caused : (x : ScrubAnswer) → IsEnd layout view s x → IsAnswerCaused layout list view s.who (commands.Scrub s.first s.last) s.lines.told did (scrub_answer (length s.lines.told) x)
+  task-caused : (x : ScrubAnswer) → IsEnd layout view s x → IsAnswerCaused layout earlier view s.who (commands.Scrub s.first s.last) s.lines.told did (scrub_answer (length s.lines.told) x)
   task-caused answers.Scrubbed has = record { count = refl; only = only-met has.visited.only }
   task-caused answers.Stopped (inl has) = found-stopped layout (commands.Scrub s.first s.last) view s.who (inl has.1) has.0.made
   task-caused answers.Stopped (inr has) = record { stopped = has.1.stops; only = only-met has.1.visited.only }
@@ -105,8 +105,8 @@ module _ (layout : Layout) (view : View) (s : Scrub) where
   task-heeded answers.Stopped has halted = refl
 
 module _ {layout : Layout} {view : View} {who : Who} {first last : Frame} {j : Job} {a : Answer} (k : KnowsScrub layout view who first last j a) where
-  pub scrub-caused : (list : List Command) (did : Option FrameChange) → IsAnswerCaused layout list view who (commands.Scrub first last) (told_of j) did a
-  scrub-caused list did = carried (λ (s : Scrub) (told : List EventOutcome) (x : Answer). IsAnswerCaused layout list view s.who (commands.Scrub s.first s.last) told did x) k (task-caused layout list view k.task did k.own k.ended)
+  pub scrub-caused : (earlier : List (Command × Answer)) (did : Option FrameChange) → IsAnswerCaused layout earlier view who (commands.Scrub first last) (told_of j) did a
+  scrub-caused earlier did = carried (λ (s : Scrub) (told : List EventOutcome) (x : Answer). IsAnswerCaused layout earlier view s.who (commands.Scrub s.first s.last) told did x) k (task-caused layout earlier view k.task did k.own k.ended)
 
   pub scrub-told : (kept : Banks) → IsScrubTold layout view who first last a (banks_before j kept) (told_of j) (banks_after j kept)
   scrub-told kept = subst (λ (q : Job). IsScrubTold layout view who first last a (banks_before q kept) (told_of j) (banks_after q kept)) (sym k.job_is)

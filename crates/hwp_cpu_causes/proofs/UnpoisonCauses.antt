@@ -81,10 +81,10 @@ in-use : (word : ℕ) → is_revivable word ≡ false → ¬ IsRevivable word
 in-use word used has = true≢false (sym (revivable word has) ∙ used)
 
 -- what the task knows is a cause of what the report says
-unpoisoned : (layout : Layout) (list : List Command) (view : View) (who : Who) (frame : Frame) (told : List EventOutcome) → frame.0 < layout.frames → (x : UnpoisonAnswer) → unpoisons.IsCaused view who frame x
-    → IsAnswerCaused layout list view who (commands.Unpoison frame) told (revived_by frame x) (unpoison_answer x)
-unpoisoned layout list view who frame told inside answers.Stopped has = found-stopped layout (commands.Unpoison frame) view who (inl has.1) has.0
-unpoisoned layout list view who frame told inside (answers.Done cycle) has =
+unpoisoned : (layout : Layout) (earlier : List (Command × Answer)) (view : View) (who : Who) (frame : Frame) (told : List EventOutcome) → frame.0 < layout.frames → (x : UnpoisonAnswer) → unpoisons.IsCaused view who frame x
+    → IsAnswerCaused layout earlier view who (commands.Unpoison frame) told (revived_by frame x) (unpoison_answer x)
+unpoisoned layout earlier view who frame told inside answers.Stopped has = found-stopped layout (commands.Unpoison frame) view who (inl has.1) has.0
+unpoisoned layout earlier view who frame told inside (answers.Done cycle) has =
     let saw = has.1.1 in (
       has.0,
       record {
@@ -95,17 +95,17 @@ unpoisoned layout list view who frame told inside (answers.Done cycle) has =
         bad = saw.bad;
       },
     )
-unpoisoned layout list view who frame told inside answers.NotPoisoned has = (has.0, record { word = has.1.word; sound = has.1.such; saw = has.1.saw })
-unpoisoned layout list view who frame told inside answers.HardwareSeen has = (has.0, record { word = has.1.word; some = has.1.some; saw = has.1.saw })
-unpoisoned layout list view who frame told inside (answers.HasBad mask) has = (has.0, record { inside = inside; some = has.1.0; saw = has.1.1 })
-unpoisoned layout list view who frame told inside (answers.InUse count) has = (has.0, record { word = has.1.word; used = in-use has.1.word has.1.such.1; count_is = has.1.such.2; saw = has.1.saw })
+unpoisoned layout earlier view who frame told inside answers.NotPoisoned has = (has.0, record { word = has.1.word; sound = has.1.such; saw = has.1.saw })
+unpoisoned layout earlier view who frame told inside answers.HardwareSeen has = (has.0, record { word = has.1.word; some = has.1.some; saw = has.1.saw })
+unpoisoned layout earlier view who frame told inside (answers.HasBad mask) has = (has.0, record { inside = inside; some = has.1.0; saw = has.1.1 })
+unpoisoned layout earlier view who frame told inside (answers.InUse count) has = (has.0, record { word = has.1.word; used = in-use has.1.word has.1.such.1; count_is = has.1.such.2; saw = has.1.saw })
 
-pub unpoison-caused : {layout : Layout} (list : List Command) {view : View} (told : List EventOutcome) {who : Who} {frame : Frame} (j : Job) {a : Answer} → KnowsUnpoison layout view who frame j a → IsAnswerCaused layout list view who (commands.Unpoison frame) told (own_of j) a
-unpoison-caused {layout} list {view} told {who} {frame} j {a} k =
-    subst (λ (u : Unpoison). IsAnswerCaused layout list view u.who (commands.Unpoison u.frame) told (own_of j) a) k.begun
-    (subst (λ (own : Option FrameChange). IsAnswerCaused layout list view k.task.who (commands.Unpoison k.task.frame) told own a) (sym own-is)
-    (subst (IsAnswerCaused layout list view k.task.who (commands.Unpoison k.task.frame) told (revived_by k.task.frame k.own)) k.answer_is
-    (unpoisoned layout list view k.task.who k.task.frame told k.inside k.own k.caused)))
+pub unpoison-caused : {layout : Layout} (earlier : List (Command × Answer)) {view : View} (told : List EventOutcome) {who : Who} {frame : Frame} (j : Job) {a : Answer} → KnowsUnpoison layout view who frame j a → IsAnswerCaused layout earlier view who (commands.Unpoison frame) told (own_of j) a
+unpoison-caused {layout} earlier {view} told {who} {frame} j {a} k =
+    subst (λ (u : Unpoison). IsAnswerCaused layout earlier view u.who (commands.Unpoison u.frame) told (own_of j) a) k.begun
+    (subst (λ (own : Option FrameChange). IsAnswerCaused layout earlier view k.task.who (commands.Unpoison k.task.frame) told own a) (sym own-is)
+    (subst (IsAnswerCaused layout earlier view k.task.who (commands.Unpoison k.task.frame) told (revived_by k.task.frame k.own)) k.answer_is
+    (unpoisoned layout earlier view k.task.who k.task.frame told k.inside k.own k.caused)))
   where
     own-is : own_of j ≡ revived_by k.task.frame k.own
     own-is = ap own_of k.job_is ∙ ap (λ (o : Option UnpoisonAnswer). option_and_then (revived_by k.task.frame) o) k.said

@@ -1,10 +1,8 @@
--- What a command has done so far beside what it answers: the frames that it marked, the failures that its entries tell, and the
--- policy that it set.
-use Rattle.std.specs.Prelude.{◌≡◌, ℕ, Bool, true, false, List, [], ◌∷◌, None, map}
+-- What a command has done so far beside what it answers: the frames that it marked, and the failures that its entries tell; and what
+-- a step of it has done, also to policies.
+use Rattle.std.specs.Prelude.{◌≡◌, ℕ, Bool, true, false, List, [], None}
 use Rattle.hwp_cpu_control.specs.hwp_geom.declared.Frame.{Frame}
-use Rattle.hwp_cpu_control.specs.hwp_geom.declared.Thread.{Thread}
 use Rattle.hwp_cpu_control.specs.hwp_geom.declared.Who.{Who}
-use Rattle.hwp_cpu_control.specs.hwp_kill.declared.Policy.{Policy}
 use Rattle.hwp_cpu_control.specs.hwp_core_rule.declared.Mark.{Mark}
 use Rattle.hwp_cpu_control.specs.hwp_core_rule.declared.Setting.{Setting}
 use Rattle.hwp_cpu_control.specs.hwp_core_rule.declared.View.{View}
@@ -21,7 +19,7 @@ use Rattle.hwp_soft.specs.Done as soft_done
 use Rattle.hwp_soft.specs.hwp_soft_unpoison.Done as unpoison_done
 use Rattle.hwp_cpu_command.specs.declared.job.Job.{Job}
 use Rattle.hwp_cpu_command.specs.declared.job.Job.TheVariants as jobs
-use Rattle.hwp_cpu_command.specs.Settings.{set_at}
+use Rattle.hwp_cpu_command.specs.Settings.{policies_now}
 
 -- the marks that the command has made, in order
 abbrev pub marked_at : Frame → InjectAt → List Marking
@@ -56,11 +54,6 @@ can_fail (jobs.Raise r) = true
 can_fail (jobs.Scrub s) = true
 can_fail (jobs.Inject i) = true
 can_fail _ = false
-
--- the policy that it has set, with its thread
-abbrev pub policies_now : Job → List (Thread × Policy)
-policies_now (jobs.Prctl p) = map (λ (policy : Policy). (p.thread, policy)) (set_at p.at)
-policies_now _ = []
 
 -- the counts that it owes of its marks
 abbrev pub owed_at : InjectAt → ℕ

@@ -1,12 +1,8 @@
--- What stays true from one command of a processor to the next: the stop of the machine, what bars a thread from setting its
--- policy, and the policies that are set.
-use Rattle.std.specs.Prelude.{◌≡◌, ◌≢◌, ◌⊎◌, ℕ, ◌+◌, ◌≤◌, true, List, [], ◌∷◌, ◌++◌, Option, Some, length}
+-- What stays true from one command of a processor to the next: the stop of the machine, and damage.
+use Rattle.std.specs.Prelude.{◌≡◌, ◌⊎◌, ℕ, ◌+◌, true, [], ◌∷◌, ◌++◌, Option, Some}
 use Rattle.hwp_cpu_control.specs.hwp_geom.declared.Frame.{Frame}
 use Rattle.hwp_cpu_control.specs.hwp_geom.declared.Layout.{Layout}
-use Rattle.hwp_cpu_control.specs.hwp_geom.declared.Proc.{Proc}
-use Rattle.hwp_cpu_control.specs.hwp_geom.declared.Thread.{Thread}
 use Rattle.hwp_cpu_control.specs.hwp_geom.declared.Who.{Who}
-use Rattle.hwp_cpu_control.specs.hwp_kill.declared.Policy.{Policy}
 use Rattle.hwp_cpu_control.specs.hwp_page.History.{BodyValue}
 use Rattle.hwp_cpu_control.specs.hwp_words.Stops.{is_stopped}
 use Rattle.hwp_cpu_control.specs.hwp_core_rule.declared.SharedWord.TheVariants as places
@@ -14,19 +10,13 @@ use Rattle.hwp_cpu_control.specs.hwp_core_rule.declared.Sight.{Sight}
 use Rattle.hwp_cpu_control.specs.hwp_core_rule.declared.Spoiled.{Spoiled}
 use Rattle.hwp_cpu_control.specs.hwp_core_rule.declared.Step.{Step}
 use Rattle.hwp_cpu_control.specs.hwp_core_rule.declared.View.{View}
-use Rattle.hwp_cpu_control.specs.hwp_core_rule.Lists.{SomeMember, StartsWith}
-use Rattle.hwp_cpu_control.specs.hwp_core_rule.parts.Policies.{settings_of}
+use Rattle.hwp_cpu_control.specs.hwp_core_rule.Lists.{SomeMember}
 use Rattle.hwp_cpu_control.specs.hwp_core_task.declared.Turn.{Turn}
 use Rattle.hwp_cpu_control.specs.hwp_core_task.Calls.{Steps, logs}
-use Rattle.hwp_cpu_row.specs.hwp_script_lines.declared.Command.{Command}
 use Rattle.hwp_cpu_row.specs.hwp_report_text.declared.Answer.TheVariants as answers
-use Rattle.hwp_cpu_row.specs.hwp_law_commands.Commands.{process_of_thread}
-use Rattle.hwp_cpu_row.specs.hwp_law_commands.Settings.{settings}
 use Rattle.hwp_cpu_control.specs.declared.NestedAnswer.TheVariants as nested_answers
-use Rattle.hwp_cpu_control.specs.declared.PrctlAnswer.TheVariants as prctl_answers
 use Rattle.hwp_cpu_control.specs.declared.SpoilAnswer.TheVariants as spoil_answers
 use Rattle.hwp_cpu_control.specs.declared.nested.NestedAt.TheVariants as nested_at
-use Rattle.hwp_cpu_control.specs.declared.prctl.PrctlAt.{PrctlAt}
 use Rattle.hwp_cpu_control.specs.declared.prctl.PrctlAt.TheVariants as prctl_at
 use Rattle.hwp_cpu_control.specs.declared.read_stop.ReadStopAt.TheVariants as read_stop_at
 use Rattle.hwp_cpu_control.specs.declared.spoil.SpoilAt.TheVariants as spoil_at
@@ -57,7 +47,6 @@ use Rattle.hwp_soft.specs.hwp_soft_unpoison.declared.unpoison.UnpoisonAt.TheVari
 use Rattle.hwp_cpu_command.specs.declared.job.Job.{Job}
 use Rattle.hwp_cpu_command.specs.declared.job.Job.TheVariants as jobs
 use Rattle.hwp_cpu_command.specs.Jobs.{FitsFrom, Next, answer, bare, plan, put, who}
-use Rattle.hwp_cpu_command.specs.Settings.{IsCounted, policies_in, set_now}
 
 -- the command made the step that came, and what follows is told
 pub record Stepped (layout : Layout) (old new : View) (j after : Job) : Type 0 where
@@ -126,41 +115,3 @@ pub record StopsItself (j after : Job) (old new : View) : Type 0 where
 abbrev pub HasSpoiled : Job → Spoiled → Type 0
 HasSpoiled (jobs.Spoil s) spoiled = (s.at ≡ spoil_at.Over spoil_answers.Done) × (s.who ≡ spoiled.stamp.who) × (s.frame ≡ spoiled.frame) × (s.line ≡ spoiled.line) × (s.damage ≡ spoiled.damage)
 HasSpoiled _ spoiled = ⊥
-
--- ---- threads that can't set their policy
-
--- a step showed that the thread's process had ended
-pub record HasEnded (layout : Layout) (view : View) (thread : Thread) : Type 0 where
-  pub process : Proc
-  pub process_is : process_of_thread layout thread ≡ Some process
-  pub shown : SomeMember (λ (s : Sight). (s.place ≡ places.Process process) × (s.word ≢ 0)) view.sights
-
--- a call of prctl(2) by the thread that begins now comes to no reply
-abbrev pub IsBarred : Layout → View → Thread → Type 0
-IsBarred layout view thread = IsHalted view ⊎ HasEnded layout view thread
-
--- the call hasn't got past the word of its process
-abbrev pub IsNotPast : PrctlAt → Type 0
-IsNotPast prctl_at.LoadPolicy = ⊥
-IsNotPast (prctl_at.SetPolicy policy settings) = ⊥
-IsNotPast (prctl_at.Over (prctl_answers.Replied reply)) = ⊥
-IsNotPast _ = Unit {0}
-
--- the command is no call by the thread, or is one that hasn't got past the word of the process
-abbrev pub HasNotReplied : Thread → Job → Type 0
-HasNotReplied thread (jobs.Prctl p) = p.thread ≡ thread → IsNotPast p.at
-HasNotReplied thread _ = Unit {0}
-
--- neither this command nor a later one sets the thread's policy or tells it
-abbrev pub CannotReply : Layout → View → Thread → Job → Type 0
-CannotReply layout view thread j = (IsHalted view × EndsStopped j) ⊎ (HasEnded layout view thread × HasNotReplied thread j)
-
--- ---- policies
-
--- What a processor knows of policies while it runs a command of its list: those of each thread are listed as the commands say,
--- but for threads that can't set theirs any more; those listed before this command begin what the commands say; and no thread was
--- set more often than there were commands.
-pub record KnowsPolicies (layout : Layout) (list : List Command) (view : View) (who : Who) (j : Job) : Type 0 where
-  pub each : (thread : Thread) → CannotReply layout view thread j ⊎ IsCounted list view who j thread
-  pub starts : (thread : Thread) → (before : List Policy) × StartsWith before (settings thread list) × (policies_in thread view ≡ before ++ set_now thread j)
-  pub few : (thread : Thread) → length (settings_of thread view.settings) ≤ who.seq + length (set_now thread j)

@@ -1,17 +1,17 @@
 -- What a step of a command does beside entries: it poisons a frame or counts that, sets a policy, or leaves what the view lists of these.
-use Rattle.std.proofs.Common.{◌≡◌, inl, inr, ℕ, suc, ◌+◌, ◌==◌, Bool, true, false, cond, List, [], ◌∷◌, ◌++◌, Option, Some, None, option_map, filter, filter_map, map, refl, sym, ap, ◌∙◌, subst, arith, true≢false}
+use Rattle.std.proofs.Common.{◌≡◌, inl, inr, ℕ, suc, ◌+◌, Bool, true, false, cond, List, [], ◌∷◌, ◌++◌, Option, Some, None, option_map, filter, filter_map, map, refl, sym, ap, ◌∙◌, subst, arith, true≢false}
 use Rattle.std.specs.List.{cons_option}
-use Rattle.std.proofs.lemmas.Bool.{eqb-true}
 use Rattle.std.proofs.lemmas.List.{map-append}
 use Rattle.std.proofs.lemmas.List.Elements.{filter-append}
 use Rattle.std.proofs.lemmas.Option.{none-some}
-use Rattle.hwp_cpu_command.specs.hwp_geom.declared.FileNo.{FileNo}
 use Rattle.hwp_cpu_command.specs.hwp_geom.declared.Frame.{Frame}
 use Rattle.hwp_cpu_command.specs.hwp_geom.declared.Layout.{Layout}
 use Rattle.hwp_cpu_command.specs.hwp_geom.declared.Page.{Page}
 use Rattle.hwp_cpu_command.specs.hwp_geom.declared.Thread.{Thread}
 use Rattle.hwp_cpu_command.specs.hwp_geom.declared.Who.{Who}
 use Rattle.hwp_cpu_command.specs.hwp_kill.declared.Policy.{Policy}
+use Rattle.hwp_cpu_command.specs.hwp_kill.declared.Reply.{Reply}
+use Rattle.hwp_cpu_command.specs.hwp_kill.declared.Reply.TheVariants as replies
 use Rattle.hwp_cpu_command.specs.hwp_kill.Prctl.{reply}
 use Rattle.hwp_cpu_command.specs.hwp_words.Names.{page_named}
 use Rattle.hwp_cpu_command.specs.hwp_words.Policies as words
@@ -32,6 +32,7 @@ use Rattle.hwp_cpu_command.specs.hwp_cpu_control.declared.Prctl.{Prctl}
 use Rattle.hwp_cpu_command.specs.hwp_cpu_control.declared.Spoil.{Spoil}
 use Rattle.hwp_cpu_command.specs.hwp_cpu_control.declared.nested.NestedAt.{NestedAt}
 use Rattle.hwp_cpu_command.specs.hwp_cpu_control.declared.nested.NestedAt.TheVariants as nested_at
+use Rattle.hwp_cpu_command.specs.hwp_cpu_control.declared.PrctlAnswer.TheVariants as prctl_answers
 use Rattle.hwp_cpu_command.specs.hwp_cpu_control.declared.prctl.PrctlAt.{PrctlAt}
 use Rattle.hwp_cpu_command.specs.hwp_cpu_control.declared.prctl.PrctlAt.TheVariants as prctl_at
 use Rattle.hwp_cpu_command.specs.hwp_cpu_control.declared.spoil.SpoilAt.{SpoilAt}
@@ -44,7 +45,6 @@ use Rattle.hwp_cpu_command.specs.hwp_evict.declared.EvictAnswer.TheVariants as e
 use Rattle.hwp_cpu_command.specs.hwp_evict.declared.Eviction.{Eviction}
 use Rattle.hwp_cpu_command.specs.hwp_evict.declared.Eviction.TheVariants as evictions
 use Rattle.hwp_cpu_command.specs.hwp_evict.declared.Fsync.{Fsync}
-use Rattle.hwp_cpu_command.specs.hwp_evict.declared.FsyncAnswer.TheVariants as fsync_answers
 use Rattle.hwp_cpu_command.specs.hwp_evict.declared.fsync.FsyncAt.{FsyncAt}
 use Rattle.hwp_cpu_command.specs.hwp_evict.declared.fsync.FsyncAt.TheVariants as fsync_at
 use Rattle.hwp_cpu_command.specs.hwp_evict.Evictions.{IsCaused, entry_of}
@@ -96,15 +96,14 @@ use Rattle.hwp_cpu_command.proofs.of_hwp_soft_unpoison.UnpoisonAdds.{unpoison-ad
 use Rattle.hwp_cpu_command.specs.declared.job.Job.{Job}
 use Rattle.hwp_cpu_command.specs.declared.job.Job.TheVariants as jobs
 use Rattle.hwp_cpu_command.specs.Answers.{fail_answer}
-use Rattle.hwp_cpu_command.specs.Done.{HasDone, can_fail, failed_at, failed_now, marked_at, marked_now, owed_at, owed_now, policies_now}
+use Rattle.hwp_cpu_command.specs.Done.{HasDone, can_fail, failed_at, failed_now, marked_at, marked_now, owed_at, owed_now}
 use Rattle.hwp_cpu_command.specs.Jobs.{FitsFrom, answer, who}
-use Rattle.hwp_cpu_command.specs.Settings.{set_at}
+use Rattle.hwp_cpu_command.specs.Settings.{policies_now, set_at}
 use Rattle.hwp_cpu_command.specs.Stays.{IsAtStop, Stepped}
 use Rattle.hwp_cpu_command.proofs.JobEnds.{evict-caused, instruction-over, mapped, raise-over, scrub-over, soft-ended, soft-over, unpoison-over}
 use Rattle.hwp_cpu_command_laws.proofs.TaskLeaves.{Left, Rest, soft-leaves, unpoison-leaves}
 use Rattle.hwp_cpu_command_laws.proofs.Quiet.{evict, read}
 use Rattle.hwp_cpu_command_laws.proofs.CommandLeaves.{inject-left, instruction-left, quiet-step, raise-left, scrub-left}
-use Rattle.hwp_cpu_command_laws.proofs.PolicyAdds.{ended, replied, stopped}
 
 -- ---- commands of which no memory fails
 
@@ -148,6 +147,20 @@ module _ {layout : Layout} {old new : View} {f : Fsync} {after : Job} (s : Stepp
           }
       which (fsync_at.Over answer number) e = absurd (none-some s.step e)
 
+-- what follows a step by which a call of prctl(2) sets nothing
+stopped : (b : Bool) → set_at (cond b (prctl_at.Over prctl_answers.Stopped) prctl_at.LoadProcess) ≡ []
+stopped true = refl
+stopped false = refl
+
+ended : (o : Option Page) → set_at (prctls.after_process o) ≡ []
+ended None = refl
+ended (Some page) = refl
+
+replied : (n : ℕ) (r : Reply) → set_at (prctls.after_reply n r) ≡ []
+replied n (replies.Set policy) = refl
+replied n (replies.Is policy) = refl
+replied n replies.Einval = refl
+
 -- the policy of a thread
 module _ {layout : Layout} {old new : View} {p : Prctl} {after : Job} (s : Stepped layout old new (jobs.Prctl p) after) where
   abbrev told_at : PrctlAt → List (Thread × Policy)
@@ -166,10 +179,10 @@ module _ {layout : Layout} {old new : View} {p : Prctl} {after : Job} (s : Stepp
       unset x at before next = now x at ∙ ap (λ (l : List Policy). map (λ (policy : Policy). (p.thread, policy)) l) (next ∙ sym (ap set_at at ∙ before))
 
       which : (x : PrctlAt) → p.at ≡ x → prctls.plan_at p.thread p.process x ≡ Some s.step → HasDone old new p.who (jobs.Prctl p) after
-      which prctl_at.LoadStop at e = nothing s (leaves s.made (quiet-step {o = Some (steps.Load places.Stop)} tt e)) (refl, refl, refl) blank (unset prctl_at.LoadStop at refl (stopped p s.found (is_stopped s.found)))
-      which prctl_at.LoadProcess at e = nothing s (leaves s.made (quiet-step {o = Some (steps.Load (places.Process p.process))} tt e)) (refl, refl, refl) blank (unset prctl_at.LoadProcess at refl (ended p s.found (page_named s.found)))
+      which prctl_at.LoadStop at e = nothing s (leaves s.made (quiet-step {o = Some (steps.Load places.Stop)} tt e)) (refl, refl, refl) blank (unset prctl_at.LoadStop at refl (stopped (is_stopped s.found)))
+      which prctl_at.LoadProcess at e = nothing s (leaves s.made (quiet-step {o = Some (steps.Load (places.Process p.process))} tt e)) (refl, refl, refl) blank (unset prctl_at.LoadProcess at refl (ended (page_named s.found)))
       which prctl_at.LoadPolicy at e = nothing s (leaves s.made (quiet-step {o = Some (steps.Load (places.Policy p.thread))} tt e)) (refl, refl, refl) blank
-          (unset prctl_at.LoadPolicy at refl (replied p s.found (words.settings_of s.found) (reply (words.policy_of s.found) p.arguments)))
+          (unset prctl_at.LoadPolicy at refl (replied (words.settings_of s.found) (reply (words.policy_of s.found) p.arguments)))
       which (prctl_at.SetPolicy policy settings) at e =
           let own = steps-planned {other = steps.SetPolicy p.thread policy settings} e s.made in
           record {

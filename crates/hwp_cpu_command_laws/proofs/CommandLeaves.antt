@@ -272,12 +272,12 @@ module _ {layout : Layout} {old new : View} {i : Inject} {after : Job} (s : Step
 -- ---- commands that set a policy, tell losses or damage a line
 
 module _ {layout : Layout} {old new : View} {f : Fsync} {after : Job} (s : Stepped layout old new (jobs.Fsync f) after) where
-  pub fsync-left : (new.settings ≡ old.settings) × (new.spoiled ≡ old.spoiled) × (new.stops ≡ old.stops)
+  pub fsync-left : (new.spoiled ≡ old.spoiled) × (new.stops ≡ old.stops)
   fsync-left = which f.at s.planned
     where
-      which : (x : FsyncAt) → fsyncs.plan_at f.file x ≡ Some s.step → (new.settings ≡ old.settings) × (new.spoiled ≡ old.spoiled) × (new.stops ≡ old.stops)
-      which fsync_at.LoadStop e = let same = leaves (steps-planned e s.made) tt in (same.settings, same.spoiled, same.stops)
-      which fsync_at.Report e = let own = steps-planned e s.made in (ap (λ (v : View). v.settings) own.told.next, ap (λ (v : View). v.spoiled) own.told.next, ap (λ (v : View). v.stops) own.told.next)
+      which : (x : FsyncAt) → fsyncs.plan_at f.file x ≡ Some s.step → (new.spoiled ≡ old.spoiled) × (new.stops ≡ old.stops)
+      which fsync_at.LoadStop e = let same = leaves (steps-planned e s.made) tt in (same.spoiled, same.stops)
+      which fsync_at.Report e = let own = steps-planned e s.made in (ap (λ (v : View). v.spoiled) own.told.next, ap (λ (v : View). v.stops) own.told.next)
       which (fsync_at.Over answer number) e = absurd (none-some s.step e)
 
 module _ {layout : Layout} {old new : View} {p : Prctl} {after : Job} (s : Stepped layout old new (jobs.Prctl p) after) where
@@ -292,12 +292,12 @@ module _ {layout : Layout} {old new : View} {p : Prctl} {after : Job} (s : Stepp
       which (prctl_at.Over answer) e = absurd (none-some s.step e)
 
 module _ {layout : Layout} {old new : View} {p : Spoil} {after : Job} (s : Stepped layout old new (jobs.Spoil p) after) where
-  pub spoil-left : (new.settings ≡ old.settings) × (new.stops ≡ old.stops)
+  pub spoil-left : new.stops ≡ old.stops
   spoil-left = which p.at s.planned
     where
-      which : (x : SpoilAt) → spoils.plan_at p.frame p.line p.damage x ≡ Some s.step → (new.settings ≡ old.settings) × (new.stops ≡ old.stops)
-      which spoil_at.LoadStop e = let same = leaves (steps-planned e s.made) tt in (same.settings, same.stops)
-      which spoil_at.Spoil e = let own = steps-planned e s.made in (ap (λ (v : View). v.settings) own.told.next, ap (λ (v : View). v.stops) own.told.next)
+      which : (x : SpoilAt) → spoils.plan_at p.frame p.line p.damage x ≡ Some s.step → new.stops ≡ old.stops
+      which spoil_at.LoadStop e = (leaves (steps-planned e s.made) tt).stops
+      which spoil_at.Spoil e = ap (λ (v : View). v.stops) (steps-planned e s.made).told.next
       which (spoil_at.Over answer) e = absurd (none-some s.step e)
 
 -- ---- the others

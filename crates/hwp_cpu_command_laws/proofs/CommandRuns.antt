@@ -230,15 +230,6 @@ runs-on layout by command j after found got turn runs next = let on = goes-on la
 
 -- ---- where it begins
 
--- a call of prctl(2), and other tasks; and commands that are one
-abbrev pub is_call : Job → Bool
-is_call (jobs.Prctl p) = true
-is_call _ = false
-
-abbrev pub is_prctl : Command → Bool
-is_prctl (commands.Prctl thread args) = true
-is_prctl _ = false
-
 -- a task at the beginning of its command
 pub record HasBegun (layout : Layout) (by : Who) (command : Command) (banks : Banks) (j : Job) : Type 0 where
   pub runs : Runs layout by command j
@@ -246,7 +237,6 @@ pub record HasBegun (layout : Layout) (by : Who) (command : Command) (banks : Ba
   pub start : IsAtStop j
   pub before : banks_before j (left_in j banks) ≡ banks
   pub idle : (class j ≡ 4) × (claims j ≡ None)
-  pub call : is_call j ≡ is_prctl command
 
 pub has-begun : (layout : Layout) (by : Who) (command : Command) (banks : Banks) (j : Job) → Begins layout by command banks j → HasBegun layout by command banks j
 has-begun layout by command banks j begun = which command begun
@@ -255,27 +245,27 @@ has-begun layout by command banks j begun = which command begun
     from c x is has b = subst (HasBegun layout by c banks) (sym is) (has (subst (Begins layout by c banks) is b))
 
     which : (c : Command) → Begins layout by c banks j → HasBegun layout by c banks j
-    which (commands.Load thread slot line) b = from (commands.Load thread slot line) _ b.job_is (λ r. record { runs = r; who_is = refl; start = (_, refl, refl, refl); before = refl; idle = (refl, refl); call = refl }) b
-    which (commands.Fetch thread slot line) b = from (commands.Fetch thread slot line) _ b.job_is (λ r. record { runs = r; who_is = refl; start = (_, refl, refl, refl); before = refl; idle = (refl, refl); call = refl }) b
-    which (commands.KLoad thread slot line) b = from (commands.KLoad thread slot line) _ b.job_is (λ r. record { runs = r; who_is = refl; start = (_, refl, refl, refl); before = refl; idle = (refl, refl); call = refl }) b
-    which (commands.Store thread slot line word) b = from (commands.Store thread slot line word) _ b.job_is (λ r. record { runs = r; who_is = refl; start = (_, refl, refl, refl); before = refl; idle = (refl, refl); call = refl }) b
-    which (commands.Free slot) b = from (commands.Free slot) _ b.1.job_is (λ r. record { runs = r; who_is = refl; start = refl; before = refl; idle = (refl, refl); call = refl }) b
-    which (commands.Drop page) b = from (commands.Drop page) _ b.job_is (λ r. record { runs = r; who_is = refl; start = refl; before = refl; idle = (refl, refl); call = refl }) b
-    which (commands.Sync page) b = from (commands.Sync page) _ b.job_is (λ r. record { runs = r; who_is = refl; start = refl; before = refl; idle = (refl, refl); call = refl }) b
-    which (commands.Out page) b = from (commands.Out page) _ b.job_is (λ r. record { runs = r; who_is = refl; start = refl; before = refl; idle = (refl, refl); call = refl }) b
-    which (commands.Fsync file) b = from (commands.Fsync file) _ b.2 (λ r. record { runs = r; who_is = refl; start = refl; before = refl; idle = (refl, refl); call = refl }) b
-    which (commands.Open file) b = from (commands.Open file) _ b.2 (λ r. record { runs = r; who_is = refl; start = refl; before = refl; idle = (refl, refl); call = refl }) b
-    which (commands.Prctl thread args) b = from (commands.Prctl thread args) _ b.job_is (λ r. record { runs = r; who_is = refl; start = refl; before = refl; idle = (refl, refl); call = refl }) b
-    which (commands.Bad frame line) b = from (commands.Bad frame line) _ b.job_is (λ r. record { runs = r; who_is = refl; start = refl; before = refl; idle = (refl, refl); call = refl }) b
-    which (commands.Weak frame line) b = from (commands.Weak frame line) _ b.job_is (λ r. record { runs = r; who_is = refl; start = refl; before = refl; idle = (refl, refl); call = refl }) b
-    which (commands.Scrub first last) b = from (commands.Scrub first last) _ b.job_is (λ r. record { runs = r; who_is = refl; start = (refl, refl); before = refl; idle = (refl, refl); call = refl }) b
-    which (commands.Log status addr misc) b = from (commands.Log status addr misc) _ b.job_is (λ r. record { runs = r; who_is = refl; start = refl; before = refl; idle = (refl, refl); call = refl }) b
-    which (commands.RaiseUser thread ripv eipv) b = from (commands.RaiseUser thread ripv eipv) _ b.job_is (λ r. record { runs = r; who_is = refl; start = (refl, refl); before = refl; idle = (refl, refl); call = refl }) b
-    which (commands.RaiseKernel ripv eipv) b = from (commands.RaiseKernel ripv eipv) _ b.job_is (λ r. record { runs = r; who_is = refl; start = (refl, refl); before = refl; idle = (refl, refl); call = refl }) b
-    which commands.RaiseNested b = from commands.RaiseNested _ b (λ r. record { runs = r; who_is = refl; start = refl; before = refl; idle = (refl, refl); call = refl }) b
-    which (commands.Inject frame) b = from (commands.Inject frame) _ b.job_is (λ r. record { runs = r; who_is = refl; start = refl; before = refl; idle = (refl, refl); call = refl }) b
-    which (commands.Soft frame) b = from (commands.Soft frame) _ b.job_is (λ r. record { runs = r; who_is = refl; start = refl; before = refl; idle = (refl, refl); call = refl }) b
-    which (commands.Unpoison frame) b = from (commands.Unpoison frame) _ b.job_is (λ r. record { runs = r; who_is = refl; start = refl; before = refl; idle = (refl, refl); call = refl }) b
+    which (commands.Load thread slot line) b = from (commands.Load thread slot line) _ b.job_is (λ r. record { runs = r; who_is = refl; start = (_, refl, refl, refl); before = refl; idle = (refl, refl) }) b
+    which (commands.Fetch thread slot line) b = from (commands.Fetch thread slot line) _ b.job_is (λ r. record { runs = r; who_is = refl; start = (_, refl, refl, refl); before = refl; idle = (refl, refl) }) b
+    which (commands.KLoad thread slot line) b = from (commands.KLoad thread slot line) _ b.job_is (λ r. record { runs = r; who_is = refl; start = (_, refl, refl, refl); before = refl; idle = (refl, refl) }) b
+    which (commands.Store thread slot line word) b = from (commands.Store thread slot line word) _ b.job_is (λ r. record { runs = r; who_is = refl; start = (_, refl, refl, refl); before = refl; idle = (refl, refl) }) b
+    which (commands.Free slot) b = from (commands.Free slot) _ b.1.job_is (λ r. record { runs = r; who_is = refl; start = refl; before = refl; idle = (refl, refl) }) b
+    which (commands.Drop page) b = from (commands.Drop page) _ b.job_is (λ r. record { runs = r; who_is = refl; start = refl; before = refl; idle = (refl, refl) }) b
+    which (commands.Sync page) b = from (commands.Sync page) _ b.job_is (λ r. record { runs = r; who_is = refl; start = refl; before = refl; idle = (refl, refl) }) b
+    which (commands.Out page) b = from (commands.Out page) _ b.job_is (λ r. record { runs = r; who_is = refl; start = refl; before = refl; idle = (refl, refl) }) b
+    which (commands.Fsync file) b = from (commands.Fsync file) _ b.2 (λ r. record { runs = r; who_is = refl; start = refl; before = refl; idle = (refl, refl) }) b
+    which (commands.Open file) b = from (commands.Open file) _ b.2 (λ r. record { runs = r; who_is = refl; start = refl; before = refl; idle = (refl, refl) }) b
+    which (commands.Prctl thread args) b = from (commands.Prctl thread args) _ b.job_is (λ r. record { runs = r; who_is = refl; start = refl; before = refl; idle = (refl, refl) }) b
+    which (commands.Bad frame line) b = from (commands.Bad frame line) _ b.job_is (λ r. record { runs = r; who_is = refl; start = refl; before = refl; idle = (refl, refl) }) b
+    which (commands.Weak frame line) b = from (commands.Weak frame line) _ b.job_is (λ r. record { runs = r; who_is = refl; start = refl; before = refl; idle = (refl, refl) }) b
+    which (commands.Scrub first last) b = from (commands.Scrub first last) _ b.job_is (λ r. record { runs = r; who_is = refl; start = (refl, refl); before = refl; idle = (refl, refl) }) b
+    which (commands.Log status addr misc) b = from (commands.Log status addr misc) _ b.job_is (λ r. record { runs = r; who_is = refl; start = refl; before = refl; idle = (refl, refl) }) b
+    which (commands.RaiseUser thread ripv eipv) b = from (commands.RaiseUser thread ripv eipv) _ b.job_is (λ r. record { runs = r; who_is = refl; start = (refl, refl); before = refl; idle = (refl, refl) }) b
+    which (commands.RaiseKernel ripv eipv) b = from (commands.RaiseKernel ripv eipv) _ b.job_is (λ r. record { runs = r; who_is = refl; start = (refl, refl); before = refl; idle = (refl, refl) }) b
+    which commands.RaiseNested b = from commands.RaiseNested _ b (λ r. record { runs = r; who_is = refl; start = refl; before = refl; idle = (refl, refl) }) b
+    which (commands.Inject frame) b = from (commands.Inject frame) _ b.job_is (λ r. record { runs = r; who_is = refl; start = refl; before = refl; idle = (refl, refl) }) b
+    which (commands.Soft frame) b = from (commands.Soft frame) _ b.job_is (λ r. record { runs = r; who_is = refl; start = refl; before = refl; idle = (refl, refl) }) b
+    which (commands.Unpoison frame) b = from (commands.Unpoison frame) _ b.job_is (λ r. record { runs = r; who_is = refl; start = refl; before = refl; idle = (refl, refl) }) b
 
 pub begins-runs : (layout : Layout) (who : Who) (command : Command) (banks : Banks) (j : Job) → Begins layout who command banks j → Runs layout who command j
 begins-runs layout by command banks j begun = (has-begun layout by command banks j begun).runs

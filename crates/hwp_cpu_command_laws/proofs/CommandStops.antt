@@ -237,12 +237,12 @@ stop-word {layout} {by} {body} {old} {new} {found} made halted = ap not (ne_eqb 
 pub stops-after : {layout : Layout} {old new : View} {j after : Job} → Stepped layout old new j after → StopsLeft j after old new
 stops-after {j = jobs.Instruction i} s = (instruction-left s).stops
 stops-after {j = jobs.Evict e} s = (evict-left s).stops
-stops-after {j = jobs.Fsync f} s = inl (fsync-left s).2
+stops-after {j = jobs.Fsync f} s = inl (fsync-left s).1
 stops-after {j = jobs.Prctl p} s = inl (prctl-left s).1
 stops-after {j = jobs.Log l} s = (log-left s).stops
 stops-after {j = jobs.Raise r} s = (raise-left s).stops
 stops-after {j = jobs.Scrub c} s = (scrub-left s).stops
-stops-after {j = jobs.Spoil p} s = inl (spoil-left s).1
+stops-after {j = jobs.Spoil p} s = inl (spoil-left s)
 stops-after {j = jobs.Nested n} s = (nested-left s).stops
 stops-after {j = jobs.Inject i} s = (inject-left s).stops
 stops-after {j = jobs.Soft o} s = (soft-left s).stops
@@ -252,7 +252,7 @@ stops-after {j = jobs.Unpoison u} s = (unpoison-left s).stops
 pub spoils-after : {layout : Layout} {old new : View} {j after : Job} → Stepped layout old new j after → (new.spoiled ≡ old.spoiled) ⊎ ((x : Spoiled) × (new.spoiled ≡ old.spoiled ++ x ∷ []) × HasSpoiled after x)
 spoils-after {j = jobs.Instruction i} s = inl (instruction-left s).rest.spoiled
 spoils-after {j = jobs.Evict e} s = inl (evict-left s).rest.spoiled
-spoils-after {j = jobs.Fsync f} s = inl (fsync-left s).1
+spoils-after {j = jobs.Fsync f} s = inl (fsync-left s).0
 spoils-after {j = jobs.Prctl p} s = inl (prctl-left s).0
 spoils-after {j = jobs.Log l} s = inl (log-left s).rest.spoiled
 spoils-after {j = jobs.Raise r} s = inl (raise-left s).rest.spoiled

@@ -2,10 +2,7 @@ pub mod CommandRuns
 pub mod Quiet
 pub mod TaskLeaves
 pub mod CommandLeaves
-pub mod PolicyAdds
 pub mod CommandStops
-pub mod BarredThreads
-pub mod PolicyKeeps
 pub mod CommandDeeds
 pub mod Below
 pub mod HandleKeeps

@@ -119,13 +119,13 @@ saw-already layout view who thread t (b, right) already = which (at_once layout 
 module _ (script : Script) (seat : Cpu → ℕ) (turns : List Played) (last : State) (report : Report) (run : IsRunOf script seat turns last report) where
   -- a command of the script, with its row and what its seat knows of it
   pub record Serves (who : Who) (command : Command) : Type 0 where
-    pub list : List Command
+    pub earlier : List (Command × Answer)
     pub inside : who.cpu.0 < script.layout.cpus
     pub row : Row
     pub before : Banks
     pub free : AreBanks before
     pub after : Banks
-    pub served : IsRowServed script.layout list (view_of last (seat who.cpu)) who command before row after
+    pub served : IsRowServed script.layout earlier (view_of last (seat who.cpu)) who command before row after
     pub answered : answer_of report who ≡ Some row.answer
     pub events : events_of report who ≡ map (event_at who.seq) row.told
 
@@ -136,35 +136,35 @@ module _ (script : Script) (seat : Cpu → ℕ) (turns : List Played) (last : St
       let of = command-of script seat last report end who has.list command has.list_is has.command_is in
       let same_command : of.command ≡ command = same_Some of.command command (sym of.command_is ∙ ap (λ (l : List Command). slice_get l who.seq) (same_Some of.list has.list (sym of.list_is ∙ has.list_is)) ∙ has.command_is) in
       record {
-        list = of.list;
+        earlier = of.earlier;
         inside = of.inside;
         row = of.row;
         before = of.before;
         free = of.free;
         after = of.after;
-        served = subst (λ (c : Command). IsRowServed script.layout of.list (view_of last (seat who.cpu)) who c of.before of.row of.after) same_command of.served;
+        served = subst (λ (c : Command). IsRowServed script.layout of.earlier (view_of last (seat who.cpu)) who c of.before of.row of.after) same_command of.served;
         answered = answer-told script seat last report end (view_of last (seat who.cpu)) who of;
         events = events-told script seat last report end (view_of last (seat who.cpu)) who of;
       }
 
   -- and with this answer
   pub record Answers (who : Who) (command : Command) (answer : Answer) : Type 0 where
-    pub list : List Command
+    pub earlier : List (Command × Answer)
     pub inside : who.cpu.0 < script.layout.cpus
     pub row : Row
     pub answer_is : row.answer ≡ answer
     pub before : Banks
     pub after : Banks
-    pub served : IsRowServed script.layout list (view_of last (seat who.cpu)) who command before row after
+    pub served : IsRowServed script.layout earlier (view_of last (seat who.cpu)) who command before row after
 
   pub answers-of : (who : Who) (command : Command) (answer : Answer) → command_at script who ≡ Some command → answer_of report who ≡ Some answer → Answers who command answer
   answers-of who command answer at is =
       let a = serves who command at in
-      record { list = a.list; inside = a.inside; row = a.row; answer_is = same_Some a.row.answer answer (sym a.answered ∙ is); before = a.before; after = a.after; served = a.served }
+      record { earlier = a.earlier; inside = a.inside; row = a.row; answer_is = same_Some a.row.answer answer (sym a.answered ∙ is); before = a.before; after = a.after; served = a.served }
 
   -- its answer has its cause
-  pub caused-so : {who : Who} {command : Command} {answer : Answer} (a : Answers who command answer) → IsAnswerCaused script.layout a.list (view_of last (seat who.cpu)) who command a.row.told a.row.own answer
-  caused-so {who} {command} a = subst (IsAnswerCaused script.layout a.list (view_of last (seat who.cpu)) who command a.row.told a.row.own) a.answer_is a.served.caused
+  pub caused-so : {who : Who} {command : Command} {answer : Answer} (a : Answers who command answer) → IsAnswerCaused script.layout a.earlier (view_of last (seat who.cpu)) who command a.row.told a.row.own answer
+  caused-so {who} {command} a = subst (IsAnswerCaused script.layout a.earlier (view_of last (seat who.cpu)) who command a.row.told a.row.own) a.answer_is a.served.caused
 
   said : (cpu : Cpu) → cpu.0 < script.layout.cpus → Said (told script.layout turns) (view_of last (seat cpu))
   said cpu inside = all-told script.layout turns last run.rule run.moves (seat cpu) (view_of last (seat cpu)) (run.seated.there cpu inside)
@@ -178,18 +178,18 @@ module _ (script : Script) (seat : Cpu → ℕ) (turns : List Played) (last : St
       (told-so script.layout view who r.of.command r.of.row.answer r.of.before r.of.row.told r.of.after r.of.served.told) in
       each-map (event_at who.seq) (AlreadyShown script.layout turns who) row.told
       (each-weaken (IsToldRight script.layout view who (current_thread r.of.command)) (λ (t : EventOutcome). AlreadyShown script.layout turns who (event_at who.seq t)) row.told
-      (λ t is. already-shown script turns view (said who.cpu r.of.inside) who r.of.list t who.seq (saw-already script.layout view who (current_thread r.of.command) t is)) right)
+      (λ t is. already-shown script turns view (said who.cpu r.of.inside) who r.of.earlier t who.seq (saw-already script.layout view who (current_thread r.of.command) t is)) right)
 
   -- each answer, each event line, and each number of a handle rests on what its command was shown
   pub report-shown : IsShown script report turns
   report-shown = record {
     answers = λ who command answer at is.
         let a = answers-of who command answer at is in
-        answer-shown script turns (view_of last (seat who.cpu)) (said who.cpu a.inside) who a.list command a.row.told a.row.own answer at (caused-so a);
+        answer-shown script turns (view_of last (seat who.cpu)) (said who.cpu a.inside) who a.earlier command a.row.told a.row.own answer at (caused-so a);
     going = λ who process answer at is.
         let has = process-command script who process at in
         let a = answers-of who has.0 answer has.1 is in
-        goes-shown script turns (view_of last (seat who.cpu)) (said who.cpu a.inside) who a.list process has.0 a.row.told a.row.own answer has.1 at (caused-so a);
+        goes-shown script turns (view_of last (seat who.cpu)) (said who.cpu a.inside) who a.earlier process has.0 a.row.told a.row.own answer has.1 at (caused-so a);
     running = λ who command answer at is.
         let a = answers-of who command answer at is in
         runs-shown script.layout turns (view_of last (seat who.cpu)) (said who.cpu a.inside) who answer (subst (λ (x : Answer). (x ≡ answers.Stopped) ⊎ SawRunning (view_of last (seat who.cpu)) who) a.answer_is a.served.running);

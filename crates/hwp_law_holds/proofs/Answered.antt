@@ -1,5 +1,5 @@
 -- Each command has its answer, in order, and the report shows its cause.
-use Rattle.std.proofs.Common.{◌≡◌, ◌≢◌, ◌⊎◌, inl, inr, ℕ, ◌<◌, Bool, true, false, bit_and, List, [], Option, Some, length, slice_get, option_and_then, option_map, take, unwrap_or, refl, sym, ap, ◌∙◌, subst}
+use Rattle.std.proofs.Common.{◌≡◌, ◌≢◌, ◌⊎◌, inl, inr, ℕ, ◌<◌, Bool, true, false, bit_and, List, Option, Some, length, slice_get, option_and_then, option_map, take, unwrap_or, refl, sym, ap, ◌∙◌, subst}
 use Rattle.std.proofs.lemmas.List.{length-map}
 use Rattle.std.proofs.lemmas.Option.{get_or_from_slice_get, slice_get_within}
 use Rattle.hwp_law_run.specs.hwp_geom.declared.Cpu.{Cpu}
@@ -46,7 +46,7 @@ use Rattle.hwp_law_run.specs.hwp_law_commands.Commands.{command_at, current_thre
 use Rattle.hwp_law_run.specs.hwp_law.Lines.{bad_lines_of, events_of}
 use Rattle.hwp_law_run.specs.hwp_law.Places.{entry_at}
 use Rattle.hwp_law_run.specs.hwp_law_commands.Settings.{arguments, last_policy, settings}
-use Rattle.hwp_law_run.specs.hwp_law.Policies.{policy_before}
+use Rattle.hwp_law_run.specs.hwp_law.Policies.{answered_before, policy_before}
 use Rattle.hwp_law_run.specs.hwp_law.Records.{how_in}
 use Rattle.hwp_law_run.specs.hwp_law.States.{HadState}
 use Rattle.hwp_law_run.proofs.Homes.{there-is}
@@ -67,7 +67,7 @@ use Rattle.hwp_law_holds.proofs.endings.Gone.{is-gone}
 use Rattle.hwp_law_holds.proofs.deeds.Made.{command-is, some-so}
 use Rattle.hwp_law_holds.proofs.lines.Records.{own-mark}
 use Rattle.hwp_law_holds.proofs.marks.RecordPlaces.{was-hardware-seen, was-poisoned}
-use Rattle.hwp_law_holds.proofs.RowLines.{events-told}
+use Rattle.hwp_law_holds.proofs.RowLines.{answered-so, events-told}
 use Rattle.hwp_law_holds.proofs.Seen.{HasSignalled, MadeWhat, has-signalled, made-what}
 use Rattle.hwp_law_holds.proofs.Signalled.{signalled-sends}
 use Rattle.hwp_law_holds.proofs.Stops.{stop-there}
@@ -183,8 +183,8 @@ module _ (script : Script) (seat : Cpu → ℕ) (last : State) (report : Report)
   by-failure who command at has = signalled-sends script seat last report end cpu inside who command at has
 
   -- the policy that prctl(2) met is the one of the report
-  replied : (who : Who) (list : List Command) → slice_get script.lists who.cpu.0 ≡ Some list → (thread : Thread) (args : PrctlArgs) → reply_answer (reply (last_policy (settings thread (take who.seq list))) (arguments args)) ≡ reply_answer (reply (policy_before script who thread) (arguments args))
-  replied who list list_is thread args = ap (λ (l : List Command). reply_answer (reply (last_policy (settings thread (take who.seq l))) (arguments args))) (sym (ap (λ (o : Option (List Command)). unwrap_or o []) list_is))
+  replied : (who : Who) (earlier : List (Command × Answer)) → earlier ≡ answered_before script report who → (thread : Thread) (args : PrctlArgs) → reply_answer (reply (last_policy (settings thread earlier)) (arguments args)) ≡ reply_answer (reply (policy_before script report who thread) (arguments args))
+  replied who earlier before thread args = ap (λ (l : List (Command × Answer)). reply_answer (reply (last_policy (settings thread l)) (arguments args))) before
 
   neither : ⊥ ⊎ ⊥ → ⊥
   neither (inl never) = never
@@ -198,68 +198,69 @@ module _ (script : Script) (seat : Cpu → ℕ) (last : State) (report : Report)
     pub offlined : IsMarkedSo who own
     pub revived : IsRevivedSo who own
 
-  pub law-caused : (who : Who) (list : List Command) → slice_get script.lists who.cpu.0 ≡ Some list → (command : Command) (told : List EventOutcome) (own : Option FrameChange) (answer : Answer) → command_at script who ≡ Some command → HasFacts who command told own
-      → IsAnswerCaused script.layout list view who command told own answer → IsLawCaused script report who command answer
-  law-caused who list list_is command told own answers.Stopped at facts caused = stop-there script seat last report end cpu who command inside caused
-  law-caused who list list_is (commands.Load thread slot line) told own (answers.Value word bt) at facts caused = (caused.0, stands caused.1.made)
-  law-caused who list list_is (commands.Load thread slot line) told own (answers.Sigbus bt) at facts (inl caused) = sigbus who (commands.Load thread slot line) thread bt (entries.Load slot line (Sigbus thread)) refl refl (stands caused.made)
-  law-caused who list list_is (commands.Load thread slot line) told own (answers.Sigbus bt) at facts (inr was) = by-failure who (commands.Load thread slot line) bt (facts.signalled bt was.first)
-  law-caused who list list_is (commands.Load thread slot line) told own answers.NoFrame at facts caused = not-ample script seat last report end cpu inside who caused.available
-  law-caused who list list_is (commands.Load thread slot line) told own (answers.Gone page) at facts caused = is-gone script seat last report end cpu inside who (commands.Load thread slot line) thread page at refl caused.0
-  law-caused who list list_is (commands.Fetch thread slot line) told own (answers.Value word bt) at facts caused = (caused.0, stands caused.1.made)
-  law-caused who list list_is (commands.Fetch thread slot line) told own (answers.Sigbus bt) at facts (inl caused) = sigbus who (commands.Fetch thread slot line) thread bt (entries.Load slot line (Sigbus thread)) refl refl (stands caused.made)
-  law-caused who list list_is (commands.Fetch thread slot line) told own (answers.Sigbus bt) at facts (inr was) = by-failure who (commands.Fetch thread slot line) bt (facts.signalled bt was.first)
-  law-caused who list list_is (commands.Fetch thread slot line) told own answers.NoFrame at facts caused = not-ample script seat last report end cpu inside who caused.available
-  law-caused who list list_is (commands.Fetch thread slot line) told own (answers.Gone page) at facts caused = is-gone script seat last report end cpu inside who (commands.Fetch thread slot line) thread page at refl caused.0
-  law-caused who list list_is (commands.KLoad thread slot line) told own (answers.Value word bt) at facts caused = (caused.0, stands caused.1.made)
-  law-caused who list list_is (commands.KLoad thread slot line) told own (answers.Sigbus bt) at facts (inl caused) = sigbus who (commands.KLoad thread slot line) thread bt (entries.Load slot line (Sigbus thread)) refl refl (stands caused.made)
-  law-caused who list list_is (commands.KLoad thread slot line) told own (answers.Sigbus bt) at facts (inr was) = by-failure who (commands.KLoad thread slot line) bt (facts.signalled bt was.first)
-  law-caused who list list_is (commands.KLoad thread slot line) told own answers.NoFrame at facts caused = not-ample script seat last report end cpu inside who caused.available
-  law-caused who list list_is (commands.KLoad thread slot line) told own (answers.Gone page) at facts caused = is-gone script seat last report end cpu inside who (commands.KLoad thread slot line) thread page at refl caused.0
-  law-caused who list list_is (commands.Store thread slot line word) told own (answers.Stored bt) at facts caused = (caused.0, stands caused.1.made)
-  law-caused who list list_is (commands.Store thread slot line word) told own (answers.Sigbus bt) at facts (inl caused) = sigbus who (commands.Store thread slot line word) thread bt (entries.Store slot line (Sigbus thread)) refl refl (stands caused.made)
-  law-caused who list list_is (commands.Store thread slot line word) told own (answers.Sigbus bt) at facts (inr was) = by-failure who (commands.Store thread slot line word) bt (facts.signalled bt was.first)
-  law-caused who list list_is (commands.Store thread slot line word) told own answers.NoFrame at facts caused = not-ample script seat last report end cpu inside who caused.available
-  law-caused who list list_is (commands.Store thread slot line word) told own (answers.Gone page) at facts caused = is-gone script seat last report end cpu inside who (commands.Store thread slot line word) thread page at refl caused.0
-  law-caused who list list_is (commands.Free slot) told own (answers.DoneAt bt) at facts caused = stands caused.1.made
-  law-caused who list list_is (commands.Free slot) told own (answers.NotMapped bt) at facts caused = (caused.0, had caused.1.saw)
-  law-caused who list list_is (commands.Drop page) told own (answers.DoneAt bt) at facts caused = (caused.0, stands caused.1.made)
-  law-caused who list list_is (commands.Drop page) told own (answers.NotResident bt) at facts caused = (caused.0, had caused.1.saw)
-  law-caused who list list_is (commands.Drop page) told own (answers.Locked bt) at facts caused = (caused.0, had caused.1.saw)
-  law-caused who list list_is (commands.Drop page) told own (answers.Dirty bt) at facts caused = (caused.0, had caused.1.saw)
-  law-caused who list list_is (commands.Drop page) told own (answers.Mapped bt) at facts caused = (caused.0, had caused.1.saw)
-  law-caused who list list_is (commands.Sync page) told own (answers.DoneAt bt) at facts caused = (caused.0, stands caused.1.made)
-  law-caused who list list_is (commands.Sync page) told own (answers.NotResident bt) at facts caused = (caused.0, had caused.1.saw)
-  law-caused who list list_is (commands.Sync page) told own (answers.BadLines mask bt) at facts caused = (caused.0, bad-lines who page mask bt (had caused.1.saw) caused.2)
-  law-caused who list list_is (commands.Out page) told own (answers.DoneAt bt) at facts caused = (caused.0, stands caused.1.made)
-  law-caused who list list_is (commands.Out page) told own (answers.NotResident bt) at facts caused = (caused.0, had caused.1.saw)
-  law-caused who list list_is (commands.Out page) told own (answers.Locked bt) at facts caused = (caused.0, had caused.1.saw)
-  law-caused who list list_is (commands.Out page) told own (answers.BadLines mask bt) at facts caused = out-lines who page mask bt caused.0 (had caused.1.saw) caused.2
-  law-caused who list list_is (commands.Fsync file) told own answers.Done at facts caused = tt
-  law-caused who list list_is (commands.Fsync file) told own (answers.Eio more) at facts caused = caused.1
-  law-caused who list list_is (commands.Open file) told own (answers.Opened word) at facts caused = tt
-  law-caused who list list_is (commands.Prctl thread args) told own (answers.Gone page) at facts caused = is-gone script seat last report end cpu inside who (commands.Prctl thread args) thread page at refl caused.0
-  law-caused who list list_is (commands.Prctl thread args) told own (answers.Sigbus bt) at facts (inl caused) = caused.replied ∙ replied who list list_is thread args
-  law-caused who list list_is (commands.Prctl thread args) told own (answers.Sigbus bt) at facts (inr was) = absurd was
-  law-caused who list list_is (commands.Prctl thread args) told own answer at facts caused = caused.replied ∙ replied who list list_is thread args
-  law-caused who list list_is (commands.Log status addr misc) told own answers.Done at facts caused = tt
-  law-caused who list list_is (commands.Bad frame line) told own answers.Done at facts caused = tt
-  law-caused who list list_is (commands.Weak frame line) told own answers.Done at facts caused = tt
-  law-caused who list list_is (commands.RaiseUser thread ripv eipv) told own (answers.Raised n) at facts caused = caused.1.count ∙ sym facts.count
-  law-caused who list list_is (commands.RaiseUser thread ripv eipv) told own (answers.Gone page) at facts caused = is-gone script seat last report end cpu inside who (commands.RaiseUser thread ripv eipv) thread page at refl caused.0
-  law-caused who list list_is (commands.RaiseKernel ripv eipv) told own (answers.Raised n) at facts caused = caused.count ∙ sym facts.count
-  law-caused who list list_is (commands.Scrub first last_frame) told own (answers.Scrubbed n) at facts caused = caused.count ∙ sym facts.count
-  law-caused who list list_is (commands.Inject frame) told own answer at facts caused = (caused.0, failure who frame own answer facts.marked caused.1)
-  law-caused who list list_is (commands.Soft frame) told own answer at facts caused = soft who frame own answer facts.offlined caused
-  law-caused who list list_is (commands.Unpoison frame) told own answer at facts caused = unpoison who frame own answer facts.revived caused.1
-  law-caused who list list_is command told own (answers.Sigbus bt) at facts caused = absurd (neither caused)
-  law-caused who list list_is command told own answer at facts caused = absurd caused
+  pub law-caused : (who : Who) (earlier : List (Command × Answer)) → earlier ≡ answered_before script report who → (command : Command) (told : List EventOutcome) (own : Option FrameChange) (answer : Answer) → command_at script who ≡ Some command → HasFacts who command told own
+      → IsAnswerCaused script.layout earlier view who command told own answer → IsLawCaused script report who command answer
+  law-caused who earlier before command told own answers.Stopped at facts caused = stop-there script seat last report end cpu who command inside caused
+  law-caused who earlier before (commands.Load thread slot line) told own (answers.Value word bt) at facts caused = (caused.0, stands caused.1.made)
+  law-caused who earlier before (commands.Load thread slot line) told own (answers.Sigbus bt) at facts (inl caused) = sigbus who (commands.Load thread slot line) thread bt (entries.Load slot line (Sigbus thread)) refl refl (stands caused.made)
+  law-caused who earlier before (commands.Load thread slot line) told own (answers.Sigbus bt) at facts (inr was) = by-failure who (commands.Load thread slot line) bt (facts.signalled bt was.first)
+  law-caused who earlier before (commands.Load thread slot line) told own answers.NoFrame at facts caused = not-ample script seat last report end cpu inside who caused.available
+  law-caused who earlier before (commands.Load thread slot line) told own (answers.Gone page) at facts caused = is-gone script seat last report end cpu inside who (commands.Load thread slot line) thread page at refl caused.0
+  law-caused who earlier before (commands.Fetch thread slot line) told own (answers.Value word bt) at facts caused = (caused.0, stands caused.1.made)
+  law-caused who earlier before (commands.Fetch thread slot line) told own (answers.Sigbus bt) at facts (inl caused) = sigbus who (commands.Fetch thread slot line) thread bt (entries.Load slot line (Sigbus thread)) refl refl (stands caused.made)
+  law-caused who earlier before (commands.Fetch thread slot line) told own (answers.Sigbus bt) at facts (inr was) = by-failure who (commands.Fetch thread slot line) bt (facts.signalled bt was.first)
+  law-caused who earlier before (commands.Fetch thread slot line) told own answers.NoFrame at facts caused = not-ample script seat last report end cpu inside who caused.available
+  law-caused who earlier before (commands.Fetch thread slot line) told own (answers.Gone page) at facts caused = is-gone script seat last report end cpu inside who (commands.Fetch thread slot line) thread page at refl caused.0
+  law-caused who earlier before (commands.KLoad thread slot line) told own (answers.Value word bt) at facts caused = (caused.0, stands caused.1.made)
+  law-caused who earlier before (commands.KLoad thread slot line) told own (answers.Sigbus bt) at facts (inl caused) = sigbus who (commands.KLoad thread slot line) thread bt (entries.Load slot line (Sigbus thread)) refl refl (stands caused.made)
+  law-caused who earlier before (commands.KLoad thread slot line) told own (answers.Sigbus bt) at facts (inr was) = by-failure who (commands.KLoad thread slot line) bt (facts.signalled bt was.first)
+  law-caused who earlier before (commands.KLoad thread slot line) told own answers.NoFrame at facts caused = not-ample script seat last report end cpu inside who caused.available
+  law-caused who earlier before (commands.KLoad thread slot line) told own (answers.Gone page) at facts caused = is-gone script seat last report end cpu inside who (commands.KLoad thread slot line) thread page at refl caused.0
+  law-caused who earlier before (commands.Store thread slot line word) told own (answers.Stored bt) at facts caused = (caused.0, stands caused.1.made)
+  law-caused who earlier before (commands.Store thread slot line word) told own (answers.Sigbus bt) at facts (inl caused) = sigbus who (commands.Store thread slot line word) thread bt (entries.Store slot line (Sigbus thread)) refl refl (stands caused.made)
+  law-caused who earlier before (commands.Store thread slot line word) told own (answers.Sigbus bt) at facts (inr was) = by-failure who (commands.Store thread slot line word) bt (facts.signalled bt was.first)
+  law-caused who earlier before (commands.Store thread slot line word) told own answers.NoFrame at facts caused = not-ample script seat last report end cpu inside who caused.available
+  law-caused who earlier before (commands.Store thread slot line word) told own (answers.Gone page) at facts caused = is-gone script seat last report end cpu inside who (commands.Store thread slot line word) thread page at refl caused.0
+  law-caused who earlier before (commands.Free slot) told own (answers.DoneAt bt) at facts caused = stands caused.1.made
+  law-caused who earlier before (commands.Free slot) told own (answers.NotMapped bt) at facts caused = (caused.0, had caused.1.saw)
+  law-caused who earlier before (commands.Drop page) told own (answers.DoneAt bt) at facts caused = (caused.0, stands caused.1.made)
+  law-caused who earlier before (commands.Drop page) told own (answers.NotResident bt) at facts caused = (caused.0, had caused.1.saw)
+  law-caused who earlier before (commands.Drop page) told own (answers.Locked bt) at facts caused = (caused.0, had caused.1.saw)
+  law-caused who earlier before (commands.Drop page) told own (answers.Dirty bt) at facts caused = (caused.0, had caused.1.saw)
+  law-caused who earlier before (commands.Drop page) told own (answers.Mapped bt) at facts caused = (caused.0, had caused.1.saw)
+  law-caused who earlier before (commands.Sync page) told own (answers.DoneAt bt) at facts caused = (caused.0, stands caused.1.made)
+  law-caused who earlier before (commands.Sync page) told own (answers.NotResident bt) at facts caused = (caused.0, had caused.1.saw)
+  law-caused who earlier before (commands.Sync page) told own (answers.BadLines mask bt) at facts caused = (caused.0, bad-lines who page mask bt (had caused.1.saw) caused.2)
+  law-caused who earlier before (commands.Out page) told own (answers.DoneAt bt) at facts caused = (caused.0, stands caused.1.made)
+  law-caused who earlier before (commands.Out page) told own (answers.NotResident bt) at facts caused = (caused.0, had caused.1.saw)
+  law-caused who earlier before (commands.Out page) told own (answers.Locked bt) at facts caused = (caused.0, had caused.1.saw)
+  law-caused who earlier before (commands.Out page) told own (answers.BadLines mask bt) at facts caused = out-lines who page mask bt caused.0 (had caused.1.saw) caused.2
+  law-caused who earlier before (commands.Fsync file) told own answers.Done at facts caused = tt
+  law-caused who earlier before (commands.Fsync file) told own (answers.Eio more) at facts caused = caused.1
+  law-caused who earlier before (commands.Open file) told own (answers.Opened word) at facts caused = tt
+  law-caused who earlier before (commands.Prctl thread args) told own (answers.Gone page) at facts caused = is-gone script seat last report end cpu inside who (commands.Prctl thread args) thread page at refl caused.0
+  law-caused who earlier before (commands.Prctl thread args) told own (answers.Sigbus bt) at facts (inl caused) = caused.replied ∙ replied who earlier before thread args
+  law-caused who earlier before (commands.Prctl thread args) told own (answers.Sigbus bt) at facts (inr was) = absurd was
+  law-caused who earlier before (commands.Prctl thread args) told own answer at facts caused = caused.replied ∙ replied who earlier before thread args
+  law-caused who earlier before (commands.Log status addr misc) told own answers.Done at facts caused = tt
+  law-caused who earlier before (commands.Bad frame line) told own answers.Done at facts caused = tt
+  law-caused who earlier before (commands.Weak frame line) told own answers.Done at facts caused = tt
+  law-caused who earlier before (commands.RaiseUser thread ripv eipv) told own (answers.Raised n) at facts caused = caused.1.count ∙ sym facts.count
+  law-caused who earlier before (commands.RaiseUser thread ripv eipv) told own (answers.Gone page) at facts caused = is-gone script seat last report end cpu inside who (commands.RaiseUser thread ripv eipv) thread page at refl caused.0
+  law-caused who earlier before (commands.RaiseKernel ripv eipv) told own (answers.Raised n) at facts caused = caused.count ∙ sym facts.count
+  law-caused who earlier before (commands.Scrub first last_frame) told own (answers.Scrubbed n) at facts caused = caused.count ∙ sym facts.count
+  law-caused who earlier before (commands.Inject frame) told own answer at facts caused = (caused.0, failure who frame own answer facts.marked caused.1)
+  law-caused who earlier before (commands.Soft frame) told own answer at facts caused = soft who frame own answer facts.offlined caused
+  law-caused who earlier before (commands.Unpoison frame) told own answer at facts caused = unpoison who frame own answer facts.revived caused.1
+  law-caused who earlier before command told own (answers.Sigbus bt) at facts caused = absurd (neither caused)
+  law-caused who earlier before command told own answer at facts caused = absurd caused
 
 -- the report shows the cause of an answer
 pub is-caused : (script : Script) (seat : Cpu → ℕ) (last : State) (report : Report) (end : IsEnd script seat last report) → (who : Who) (of : IsOf script end.rows (view_of last (seat who.cpu)) who) → IsLawCaused script report who of.command of.row.answer
 is-caused script seat last report end who of =
     let row_is : row_at end.rows who ≡ Some of.row = ap (λ (o : Option (List Row)). option_and_then (λ (own : List Row). slice_get own who.seq) o) of.own_is ∙ of.row_is in
-    law-caused script seat last report end who.cpu of.inside who of.list of.list_is of.command of.row.told of.row.own of.row.answer (command-is script who of.list of.command of.list_is of.command_is)
+    let before : of.earlier ≡ answered_before script report who = of.earlier_is ∙ ap (take who.seq) (sym (answered-so script seat last report end who.cpu of.list of.own of.list_is of.own_is)) in
+    law-caused script seat last report end who.cpu of.inside who of.earlier before of.command of.row.told of.row.own of.row.answer (command-is script who of.list of.command of.list_is of.command_is)
     (record {
       signalled = λ at is. has-signalled (view_of last (seat who.cpu)) who of.command of.row at of.served.accounted is;
       count = ap (λ (l : List EventLine). length l) (events-told script seat last report end (view_of last (seat who.cpu)) who of) ∙ length-map of.row.told (event_at who.seq);

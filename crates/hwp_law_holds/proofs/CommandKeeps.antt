@@ -196,8 +196,8 @@ module _ {layout : Layout} {by : Who} {step : Step} {body : Option BodyValue} {o
     made = made-none-later has.made;
   }
 
-  replied-stays : (list : List Command) (thread : Thread) (given : List ℕ) (answer : Answer) → IsReplied layout list old who thread given answer → IsReplied layout list new who thread given answer
-  replied-stays list thread given answer replied = record { going = saw-process-stays thread 0 replied.going; made = made-none-later replied.made; replied = replied.replied }
+  replied-stays : (earlier : List (Command × Answer)) (thread : Thread) (given : List ℕ) (answer : Answer) → IsReplied layout earlier old who thread given answer → IsReplied layout earlier new who thread given answer
+  replied-stays earlier thread given answer replied = record { going = saw-process-stays thread 0 replied.going; made = made-none-later replied.made; replied = replied.replied }
 
   -- ---- failures
 
@@ -261,30 +261,30 @@ module _ {layout : Layout} {by : Who} {step : Step} {body : Option BodyValue} {o
 
   -- ---- the cause of another command's answer
 
-  table-stays : (list : List Command) (command : Command) (answer : Answer) → IsTableCaused layout list old who command answer → IsTableCaused layout list new who command answer
-  table-stays list (commands.Load thread slot line) answer caused = load-stays thread slot line answer caused
-  table-stays list (commands.Fetch thread slot line) answer caused = load-stays thread slot line answer caused
-  table-stays list (commands.KLoad thread slot line) answer caused = load-stays thread slot line answer caused
-  table-stays list (commands.Store thread slot line word) answer caused = store-stays thread slot line word answer caused
-  table-stays list (commands.Free slot) (answers.DoneAt at) caused = (caused.0, one-stays at _ caused.1)
-  table-stays list (commands.Free slot) (answers.NotMapped at) caused = (caused.0, state-stays at _ caused.1)
-  table-stays list (commands.Drop page) (answers.Locked at) caused = (caused.0, state-stays at _ caused.1)
-  table-stays list (commands.Drop page) (answers.Dirty at) caused = (caused.0, state-stays at _ caused.1)
-  table-stays list (commands.Drop page) (answers.Mapped at) caused = (caused.0, state-stays at _ caused.1)
-  table-stays list (commands.Drop page) answer caused = page-stays page entries.Drop answer caused
-  table-stays list (commands.Sync page) answer caused = copy-stays page entries.Sync answer caused
-  table-stays list (commands.Out page) (answers.Locked at) caused = (caused.0, state-stays at _ caused.1)
-  table-stays list (commands.Out page) (answers.BadLines mask at) caused = (caused.0, state-stays at _ caused.1, lines-stay page mask caused.2)
-  table-stays list (commands.Out page) answer caused = copy-stays page entries.Out answer caused
-  table-stays list (commands.Fsync file) answers.Done caused = made-none-later caused
-  table-stays list (commands.Fsync file) (answers.Eio more) caused = (made-none-later caused.0, caused.1)
-  table-stays list (commands.Open file) (answers.Opened word) caused = made-none-later caused
-  table-stays list (commands.Prctl thread args) (answers.Gone page) caused = (gone-stays thread page caused.0, made-none-later caused.1)
-  table-stays list (commands.Prctl thread args) answer caused = replied-stays list thread _ answer caused
-  table-stays list (commands.Log status addr misc) answers.Done caused = made-none-later caused
-  table-stays list (commands.Bad frame line) answers.Done caused = spoiled-stays frame line _ caused
-  table-stays list (commands.Weak frame line) answers.Done caused = spoiled-stays frame line _ caused
-  table-stays list command answer caused = absurd caused
+  table-stays : (earlier : List (Command × Answer)) (command : Command) (answer : Answer) → IsTableCaused layout earlier old who command answer → IsTableCaused layout earlier new who command answer
+  table-stays earlier (commands.Load thread slot line) answer caused = load-stays thread slot line answer caused
+  table-stays earlier (commands.Fetch thread slot line) answer caused = load-stays thread slot line answer caused
+  table-stays earlier (commands.KLoad thread slot line) answer caused = load-stays thread slot line answer caused
+  table-stays earlier (commands.Store thread slot line word) answer caused = store-stays thread slot line word answer caused
+  table-stays earlier (commands.Free slot) (answers.DoneAt at) caused = (caused.0, one-stays at _ caused.1)
+  table-stays earlier (commands.Free slot) (answers.NotMapped at) caused = (caused.0, state-stays at _ caused.1)
+  table-stays earlier (commands.Drop page) (answers.Locked at) caused = (caused.0, state-stays at _ caused.1)
+  table-stays earlier (commands.Drop page) (answers.Dirty at) caused = (caused.0, state-stays at _ caused.1)
+  table-stays earlier (commands.Drop page) (answers.Mapped at) caused = (caused.0, state-stays at _ caused.1)
+  table-stays earlier (commands.Drop page) answer caused = page-stays page entries.Drop answer caused
+  table-stays earlier (commands.Sync page) answer caused = copy-stays page entries.Sync answer caused
+  table-stays earlier (commands.Out page) (answers.Locked at) caused = (caused.0, state-stays at _ caused.1)
+  table-stays earlier (commands.Out page) (answers.BadLines mask at) caused = (caused.0, state-stays at _ caused.1, lines-stay page mask caused.2)
+  table-stays earlier (commands.Out page) answer caused = copy-stays page entries.Out answer caused
+  table-stays earlier (commands.Fsync file) answers.Done caused = made-none-later caused
+  table-stays earlier (commands.Fsync file) (answers.Eio more) caused = (made-none-later caused.0, caused.1)
+  table-stays earlier (commands.Open file) (answers.Opened word) caused = made-none-later caused
+  table-stays earlier (commands.Prctl thread args) (answers.Gone page) caused = (gone-stays thread page caused.0, made-none-later caused.1)
+  table-stays earlier (commands.Prctl thread args) answer caused = replied-stays earlier thread _ answer caused
+  table-stays earlier (commands.Log status addr misc) answers.Done caused = made-none-later caused
+  table-stays earlier (commands.Bad frame line) answers.Done caused = spoiled-stays frame line _ caused
+  table-stays earlier (commands.Weak frame line) answers.Done caused = spoiled-stays frame line _ caused
+  table-stays earlier command answer caused = absurd caused
 
   signalled-stays : (command : Command) (thread : Thread) (told : List EventOutcome) (at : At) → WasSignalled layout old who command thread told at → WasSignalled layout new who command thread told at
   signalled-stays command thread told at was = record { going = saw-process-stays thread 0 was.going; first = was.first; only = met-stays command was.only }
@@ -298,32 +298,32 @@ module _ {layout : Layout} {by : Who} {step : Step} {body : Option BodyValue} {o
   sigbus-stays command told at (Some a) was = signalled-stays command a.thread told at was
   sigbus-stays command told at None was = absurd was
 
-  either-stays : (list : List Command) (command : Command) (told : List EventOutcome) (at : At)
-      → IsTableCaused layout list old who command (answers.Sigbus at) ⊎ IsSomeAnd (access_of command) (λ (a : Access). WasSignalled layout old who command a.thread told at)
-      → IsTableCaused layout list new who command (answers.Sigbus at) ⊎ IsSomeAnd (access_of command) (λ (a : Access). WasSignalled layout new who command a.thread told at)
-  either-stays list command told at (inl caused) = inl (table-stays list command (answers.Sigbus at) caused)
-  either-stays list command told at (inr was) = inr (sigbus-stays command told at (access_of command) was)
+  either-stays : (earlier : List (Command × Answer)) (command : Command) (told : List EventOutcome) (at : At)
+      → IsTableCaused layout earlier old who command (answers.Sigbus at) ⊎ IsSomeAnd (access_of command) (λ (a : Access). WasSignalled layout old who command a.thread told at)
+      → IsTableCaused layout earlier new who command (answers.Sigbus at) ⊎ IsSomeAnd (access_of command) (λ (a : Access). WasSignalled layout new who command a.thread told at)
+  either-stays earlier command told at (inl caused) = inl (table-stays earlier command (answers.Sigbus at) caused)
+  either-stays earlier command told at (inr was) = inr (sigbus-stays command told at (access_of command) was)
 
-  answer-stays : (list : List Command) (command : Command) (told : List EventOutcome) (own : Option FrameChange) (answer : Answer) → IsAnswerCaused layout list old who command told own answer
-      → IsAnswerCaused layout list new who command told own answer
-  answer-stays list command told own answers.Stopped caused = stopped-stays command caused
-  answer-stays list (commands.RaiseUser thread ripv eipv) told own (answers.Raised n) caused = (saw-process-stays thread 0 caused.0, raised-stays _ told n caused.1)
-  answer-stays list (commands.RaiseUser thread ripv eipv) told own (answers.Gone page) caused = (gone-stays thread page caused.0, made-none-later caused.1)
-  answer-stays list (commands.RaiseKernel ripv eipv) told own (answers.Raised n) caused = raised-stays _ told n caused
-  answer-stays list (commands.Scrub first last) told own (answers.Scrubbed n) caused = raised-stays _ told n caused
-  answer-stays list (commands.Inject frame) told own answer caused = (caused.0, inject-stays frame own answer caused.1)
-  answer-stays list (commands.Soft frame) told own answer caused = soft-stays frame own answer caused
-  answer-stays list (commands.Unpoison frame) told own answer caused = (made-none-later caused.0, unpoison-stays frame own answer caused.1)
-  answer-stays list command told own (answers.Sigbus at) caused = either-stays list command told at caused
-  answer-stays list command told own answer caused = table-stays list command answer caused
+  answer-stays : (earlier : List (Command × Answer)) (command : Command) (told : List EventOutcome) (own : Option FrameChange) (answer : Answer) → IsAnswerCaused layout earlier old who command told own answer
+      → IsAnswerCaused layout earlier new who command told own answer
+  answer-stays earlier command told own answers.Stopped caused = stopped-stays command caused
+  answer-stays earlier (commands.RaiseUser thread ripv eipv) told own (answers.Raised n) caused = (saw-process-stays thread 0 caused.0, raised-stays _ told n caused.1)
+  answer-stays earlier (commands.RaiseUser thread ripv eipv) told own (answers.Gone page) caused = (gone-stays thread page caused.0, made-none-later caused.1)
+  answer-stays earlier (commands.RaiseKernel ripv eipv) told own (answers.Raised n) caused = raised-stays _ told n caused
+  answer-stays earlier (commands.Scrub first last) told own (answers.Scrubbed n) caused = raised-stays _ told n caused
+  answer-stays earlier (commands.Inject frame) told own answer caused = (caused.0, inject-stays frame own answer caused.1)
+  answer-stays earlier (commands.Soft frame) told own answer caused = soft-stays frame own answer caused
+  answer-stays earlier (commands.Unpoison frame) told own answer caused = (made-none-later caused.0, unpoison-stays frame own answer caused.1)
+  answer-stays earlier command told own (answers.Sigbus at) caused = either-stays earlier command told at caused
+  answer-stays earlier command told own answer caused = table-stays earlier command answer caused
 
-  pub caused-stays : (list : List Command) (command : Command) (row : Row) → IsCaused layout list old who command row → IsCaused layout list new who command row
-  caused-stays list command row caused = answer-stays list command row.told row.own row.answer caused
+  pub caused-stays : (earlier : List (Command × Answer)) (command : Command) (row : Row) → IsCaused layout earlier old who command row → IsCaused layout earlier new who command row
+  caused-stays earlier command row caused = answer-stays earlier command row.told row.own row.answer caused
 
   -- what another command that is answered has done and told stays
-  pub row-stays : (list : List Command) (command : Command) (before : Banks) (row : Row) (left : Banks) → IsRowServed layout list old who command before row left → IsRowServed layout list new who command before row left
-  row-stays list command before row left served = record {
-    caused = caused-stays list command row served.caused;
+  pub row-stays : (earlier : List (Command × Answer)) (command : Command) (before : Banks) (row : Row) (left : Banks) → IsRowServed layout earlier old who command before row left → IsRowServed layout earlier new who command before row left
+  row-stays earlier command before row left served = record {
+    caused = caused-stays earlier command row served.caused;
     accounted = account-stays made who other same-deeds command row served.accounted;
     told = row-told-stays can made who other command before row left served.told;
     heeded = served.heeded;

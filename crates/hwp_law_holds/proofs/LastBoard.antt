@@ -18,6 +18,7 @@ use Rattle.hwp_law_run.specs.hwp_core_task.Boards.{Played, view_of}
 use Rattle.hwp_law_run.specs.hwp_script_read.declared.Command.{Command}
 use Rattle.hwp_law_run.specs.hwp_script_read.declared.Command.TheVariants as commands
 use Rattle.hwp_law_run.specs.hwp_script_read.declared.Script.{Script}
+use Rattle.hwp_law_run.specs.hwp_report_text.declared.Answer.{Answer}
 use Rattle.hwp_law_run.specs.hwp_report_text.declared.Answer.TheVariants as answers
 use Rattle.hwp_law_run.specs.hwp_report_text.declared.Report.{Report}
 use Rattle.hwp_law_run.specs.hwp_law.Runs.{IsOfRun, StopsFirst, WereOut, slot_of}
@@ -42,12 +43,12 @@ use Rattle.hwp_law_holds.proofs.Stops.{stopper}
 use Rattle.hwp_law_holds.proofs.Windows.{in-window, line-answers}
 
 -- an access that answers `noframe`, of a thread and of the translation that it names
-no-frame-of : (layout : Layout) (list : List Command) (view : View) (who : Who) (command : Command) (told : List EventOutcome) (own : Option FrameChange) (slot : VSlot) → slot_of command ≡ Some slot → IsAnswerCaused layout list view who command told own answers.NoFrame → (thread : Thread) × (line : ℕ) × FoundNoFrame layout view who thread slot line
-no-frame-of layout list view who (commands.Load thread s line) told own slot is caused = (thread, line, subst (λ (t : VSlot). FoundNoFrame layout view who thread t line) (same_Some s slot is) caused)
-no-frame-of layout list view who (commands.Fetch thread s line) told own slot is caused = (thread, line, subst (λ (t : VSlot). FoundNoFrame layout view who thread t line) (same_Some s slot is) caused)
-no-frame-of layout list view who (commands.KLoad thread s line) told own slot is caused = (thread, line, subst (λ (t : VSlot). FoundNoFrame layout view who thread t line) (same_Some s slot is) caused)
-no-frame-of layout list view who (commands.Store thread s line word) told own slot is caused = (thread, line, subst (λ (t : VSlot). FoundNoFrame layout view who thread t line) (same_Some s slot is) caused)
-no-frame-of layout list view who command told own slot is caused = absurd (none-some slot is)
+no-frame-of : (layout : Layout) (earlier : List (Command × Answer)) (view : View) (who : Who) (command : Command) (told : List EventOutcome) (own : Option FrameChange) (slot : VSlot) → slot_of command ≡ Some slot → IsAnswerCaused layout earlier view who command told own answers.NoFrame → (thread : Thread) × (line : ℕ) × FoundNoFrame layout view who thread slot line
+no-frame-of layout earlier view who (commands.Load thread s line) told own slot is caused = (thread, line, subst (λ (t : VSlot). FoundNoFrame layout view who thread t line) (same_Some s slot is) caused)
+no-frame-of layout earlier view who (commands.Fetch thread s line) told own slot is caused = (thread, line, subst (λ (t : VSlot). FoundNoFrame layout view who thread t line) (same_Some s slot is) caused)
+no-frame-of layout earlier view who (commands.KLoad thread s line) told own slot is caused = (thread, line, subst (λ (t : VSlot). FoundNoFrame layout view who thread t line) (same_Some s slot is) caused)
+no-frame-of layout earlier view who (commands.Store thread s line word) told own slot is caused = (thread, line, subst (λ (t : VSlot). FoundNoFrame layout view who thread t line) (same_Some s slot is) caused)
+no-frame-of layout earlier view who command told own slot is caused = absurd (none-some slot is)
 
 module _ (script : Script) (seat : Cpu → ℕ) (turns : List Played) (last : State) (report : Report) (run : IsRunOf script seat turns last report) where
   pub holds : Holds script.layout last
@@ -108,8 +109,8 @@ module _ (script : Script) (seat : Cpu → ℕ) (turns : List Played) (last : St
       let a = line-answers script seat last report ended cpu rows i seq answers.NoFrame rows_is line in
       let who : Who = record { cpu = cpu; seq = seq } in
       let its : slot_of a.of.command ≡ Some slot = sym (ap (λ (o : Option Command). option_and_then slot_of o) a.command_is) ∙ of in
-      let caused = subst (IsAnswerCaused script.layout a.of.list (view_of last (seat cpu)) who a.of.command a.of.row.told a.of.row.own) a.answer_is a.of.served.caused in
-      let found = (no-frame-of script.layout a.of.list (view_of last (seat cpu)) who a.of.command a.of.row.told a.of.row.own slot its caused).2 in
+      let caused = subst (IsAnswerCaused script.layout a.of.earlier (view_of last (seat cpu)) who a.of.command a.of.row.told a.of.row.own) a.answer_is a.of.served.caused in
+      let found = (no-frame-of script.layout a.of.earlier (view_of last (seat cpu)) who a.of.command a.of.row.told a.of.row.own slot its caused).2 in
       record {
         at = record { page = found.page; entry = found.place };
         of_slot = found.page_is;

@@ -1,6 +1,6 @@
 -- The lines of a processor's rows: where the answer and the events of each stand, and what a report says of a command by them.
 use Rattle.std.proofs.Common.{◌≡◌, ◌≢◌, ◌⊎◌, ℕ, zero, suc, ◌+◌, ◌<◌, ◌==◌, Bool, true, false, cond, List, [], ◌∷◌, ◌++◌, Option, Some, None, filter, filter_map, length, map, option_and_then, option_map, slice_get, unwrap_or, refl, sym, ap, ◌∙◌, subst, arith, inl, inr, append-nil, true≢false}
-use Rattle.std.specs.List.{find}
+use Rattle.std.specs.List.{find, zip}
 use Rattle.std.proofs.lemmas.Bool.{eq-eqb, ne_eqb}
 use Rattle.std.proofs.lemmas.List.Elements.{filter-append, filter_map-append}
 use Rattle.std.proofs.lemmas.Option.{none-some, same_Some, slice_get_within}
@@ -8,6 +8,7 @@ use Rattle.hwp_law_run.specs.hwp_geom.declared.Cpu.{Cpu}
 use Rattle.hwp_law_run.specs.hwp_geom.declared.Who.{Who}
 use Rattle.hwp_law_run.specs.hwp_core_rule.declared.State.{State}
 use Rattle.hwp_law_run.specs.hwp_core_rule.declared.View.{View}
+use Rattle.hwp_law_run.specs.hwp_script_read.declared.Command.{Command}
 use Rattle.hwp_law_run.specs.hwp_script_read.declared.Script.{Script}
 use Rattle.hwp_law_run.specs.hwp_report_text.declared.Answer.{Answer}
 use Rattle.hwp_law_run.specs.hwp_report_text.declared.CpuLine.{CpuLine}
@@ -16,9 +17,11 @@ use Rattle.hwp_law_run.specs.hwp_report_text.declared.EventLine.{EventLine}
 use Rattle.hwp_law_run.specs.hwp_report_text.declared.OfflinedLine.{OfflinedLine}
 use Rattle.hwp_law_run.specs.hwp_report_text.declared.Report.{Report}
 use Rattle.hwp_law_run.proofs.of_hwp_law.Rows.{same_answer}
-use Rattle.hwp_law_run.specs.hwp_law.Lines.{AnswerLine, answer_among, answer_in, answer_of, event_in, events_among, events_of, offlined_among, offlined_in, offlined_of}
+use Rattle.hwp_law_run.specs.hwp_law.Lines.{AnswerLine, answer_among, answer_in, answer_of, answered, event_in, events_among, events_of, offlined_among, offlined_in, offlined_of}
+use Rattle.hwp_law_run.specs.hwp_law.Policies.{answered_on}
 use Rattle.hwp_cpu_row.specs.declared.Row.{Row}
 use Rattle.hwp_cpu_row.specs.hwp_cpu_check.declared.EventOutcome.{EventOutcome}
+use Rattle.hwp_law_holds.specs.Handles.{answers_by}
 use Rattle.hwp_law_holds.specs.Rows.{event_at, event_line, lines_from, row_lines}
 use Rattle.hwp_law_holds.specs.Runs.{row_at}
 use Rattle.hwp_law_holds.proofs.RunEnds.{IsEnd, IsOf, list-of, rows-of-lines, served-of}
@@ -149,6 +152,13 @@ offlined-at m n (row ∷ rows) =
 pub answers-split : (n : ℕ) (row : Row) (rows : List Row) → filter_map answer_in (lines_from n (row ∷ rows)) ≡ record { seq = n; answer = row.answer } ∷ filter_map answer_in (lines_from (n + 1) rows)
 answers-split n row rows = filter_map-append answer_in (row_lines n row) (lines_from (n + 1) rows) ∙ ap (λ (l : List AnswerLine). l ++ filter_map answer_in (lines_from (n + 1) rows)) (answers-in n row)
 
+-- the answers in the lines of rows are those of the rows
+pub answers-of-rows : (n : ℕ) (rows : List Row) → map (λ (l : AnswerLine). l.answer) (filter_map answer_in (lines_from n rows)) ≡ map (λ (r : Row). r.answer) rows
+answers-of-rows n [] = refl
+answers-of-rows n (row ∷ rows) =
+    ap (map (λ (l : AnswerLine). l.answer)) (answers-split n row rows)
+    ∙ ap (λ (l : List Answer). row.answer ∷ l) (answers-of-rows (n + 1) rows)
+
 -- the answer of a command among its processor's lines
 pub answer-at : (n : ℕ) (rows : List Row) (k m : ℕ) (row : Row) → slice_get rows k ≡ Some row → m ≡ n + k → answer_among (lines_from n rows) m ≡ Some row.answer
 answer-at n [] k m row there at = absurd (none-some row there)
@@ -245,3 +255,10 @@ module _ (script : Script) (seat : Cpu → ℕ) (last : State) (report : Report)
       which (Some found) there =
           let has = rows-of-lines script seat last report end who.cpu found there in
           ap (λ (l : List CpuLine). offlined_among l who.seq) has.lines_are ∙ offlined-at who.seq 0 has.own
+
+  -- the commands of a processor with their answers in the report are those with its rows' answers
+  pub answered-so : (cpu : Cpu) (list : List Command) (own : List Row) → slice_get script.lists cpu.0 ≡ Some list → slice_get end.rows cpu.0 ≡ Some own → answered_on script report cpu ≡ answers_by list own
+  answered-so cpu list own list_is own_is =
+      ap (λ (o : Option (List Command)). answered (unwrap_or o []) (unwrap_or (slice_get report.cpus cpu.0) [])) list_is
+      ∙ ap (λ (o : Option (List CpuLine)). answered list (unwrap_or o [])) (served-of script seat last report end cpu list own list_is own_is).1
+      ∙ ap (λ (l : List Answer). zip list l) (answers-of-rows 0 own)

@@ -1,5 +1,5 @@
 -- The end of a run of processors that are served.
-use Rattle.std.proofs.Common.{◌≡◌, ℕ, zero, suc, ◌+◌, ◌<◌, ◌==◌, Bool, true, false, cond, List, [], ◌∷◌, Option, Some, filter, length, map, slice_get, refl, sym, ap, ◌∙◌, subst, arith}
+use Rattle.std.proofs.Common.{◌≡◌, ℕ, zero, suc, ◌+◌, ◌<◌, ◌==◌, Bool, true, false, cond, List, [], ◌∷◌, ◌++◌, Option, Some, filter, length, map, slice_get, take, append-nil, append_assoc, refl, sym, ap, ◌∙◌, subst, arith}
 use Rattle.std.proofs.lemmas.Bool.{and_from, eq-eqb}
 use Rattle.std.proofs.lemmas.Option.{none-some, same_Some, slice_get_within}
 use Rattle.hwp_law_run.specs.hwp_geom.declared.Cpu.{Cpu}
@@ -19,6 +19,7 @@ use Rattle.hwp_law_run.specs.hwp_core_task.Boards.{AreSeated, view_of}
 use Rattle.hwp_law_run.specs.hwp_core_task.Known.{deeds, is_by}
 use Rattle.hwp_law_run.specs.hwp_script_read.declared.Command.{Command}
 use Rattle.hwp_law_run.specs.hwp_script_read.declared.Script.{Script}
+use Rattle.hwp_law_run.specs.hwp_report_text.declared.Answer.{Answer}
 use Rattle.hwp_law_run.specs.hwp_report_text.declared.CpuLine.{CpuLine}
 use Rattle.hwp_law_run.specs.hwp_report_text.declared.Report.{Report}
 use Rattle.hwp_law_run.specs.hwp_banks.Banks.{Banks, empty_banks}
@@ -26,6 +27,7 @@ use Rattle.hwp_law_run.proofs.Homes.{there-is}
 use Rattle.hwp_law_run.proofs.Reported.{IsLast}
 use Rattle.hwp_cpu_row.specs.declared.Row.{Row}
 use Rattle.hwp_scrub.specs.Visits.{AreBanks}
+use Rattle.hwp_law_holds.specs.Handles.{answers_by}
 use Rattle.hwp_law_holds.specs.Rows.{lines_from}
 use Rattle.hwp_law_holds.specs.Runs.{AreRecords, AreServed, notes_of}
 use Rattle.hwp_law_holds.specs.Served.{AreRowsServed, IsRowServed, IsServed}
@@ -51,32 +53,34 @@ pub record IsEnd (script : Script) (seat : Cpu → ℕ) (last : State) (report :
   pub spoilers : EachMember (AreOfParts last) last.views
   pub sights : EachMember (AreSights script.layout) last.views
 
--- the row of a command, and what its processor's banks held before it, the scrubber's nothing, and after it
-pub record HasRow (layout : Layout) (all : List Command) (view : View) (who : Who) (command : Command) (there : Option Row) : Type 0 where
+-- the row of a command behind the earlier ones with their answers, and what its processor's banks held before it, the scrubber's
+-- nothing, and after it
+pub record HasRow (layout : Layout) (earlier : List (Command × Answer)) (view : View) (who : Who) (command : Command) (there : Option Row) : Type 0 where
   pub row : Row
   pub row_is : there ≡ Some row
   pub before : Banks
   pub free : AreBanks before
   pub after : Banks
-  pub served : IsRowServed layout all view who command before row after
+  pub served : IsRowServed layout earlier view who command before row after
 
-pub row-at : (layout : Layout) (all : List Command) (view : View) (cpu : Cpu) (n : ℕ) (before : Banks) (list : List Command) (rows : List Row) (after : Banks) (k m : ℕ) (command : Command) → AreRowsServed layout all view cpu n before list rows after → length rows ≡ length list → slice_get list k ≡ Some command
-    → m ≡ n + k → AreBanks before → HasRow layout all view (record { cpu = cpu; seq = m }) command (slice_get rows k)
-row-at layout all view cpu n before [] rows after k m command are fit there at free = absurd (none-some command there)
-row-at layout all view cpu n before (c ∷ cs) [] after k m command are fit there at free = absurd (let none : 0 ≡ suc (length cs) = fit in omega arith)
-row-at layout all view cpu n before (c ∷ cs) (row ∷ rows) after zero m command (between, served, rest) fit there at free =
+pub row-at : (layout : Layout) (earlier : List (Command × Answer)) (view : View) (cpu : Cpu) (n : ℕ) (before : Banks) (list : List Command) (rows : List Row) (after : Banks) (k m : ℕ) (command : Command) → AreRowsServed layout earlier view cpu n before list rows after → length rows ≡ length list → slice_get list k ≡ Some command
+    → m ≡ n + k → AreBanks before → HasRow layout (earlier ++ take k (answers_by list rows)) view (record { cpu = cpu; seq = m }) command (slice_get rows k)
+row-at layout earlier view cpu n before [] rows after k m command are fit there at free = absurd (none-some command there)
+row-at layout earlier view cpu n before (c ∷ cs) [] after k m command are fit there at free = absurd (let none : 0 ≡ suc (length cs) = fit in omega arith)
+row-at layout earlier view cpu n before (c ∷ cs) (row ∷ rows) after zero m command (between, served, rest) fit there at free =
     let same : n ≡ m = omega arith in
-    record {
+    subst (λ (l : List (Command × Answer)). HasRow layout l view (record { cpu = cpu; seq = m }) command (Some row)) (sym (append-nil earlier)) (record {
       row = row;
       row_is = refl;
       before = before;
       free = free;
       after = between;
-      served = subst (λ (x : Command). IsRowServed layout all view (record { cpu = cpu; seq = m }) x before row between) (same_Some c command there) (subst (λ (i : ℕ). IsRowServed layout all view (record { cpu = cpu; seq = i }) c before row between) same served);
-    }
-row-at layout all view cpu n before (c ∷ cs) (row ∷ rows) after (suc k) m command (between, served, rest) fit there at free =
-    row-at layout all view cpu (n + 1) between cs rows after k m command rest (let one : suc (length rows) ≡ suc (length cs) = fit in let same : length rows ≡ length cs = omega arith in same) there (omega arith)
-    (row-free layout view (record { cpu = cpu; seq = n }) c row.answer before row.told between served.told free)
+      served = subst (λ (x : Command). IsRowServed layout earlier view (record { cpu = cpu; seq = m }) x before row between) (same_Some c command there) (subst (λ (i : ℕ). IsRowServed layout earlier view (record { cpu = cpu; seq = i }) c before row between) same served);
+    })
+row-at layout earlier view cpu n before (c ∷ cs) (row ∷ rows) after (suc k) m command (between, served, rest) fit there at free =
+    subst (λ (l : List (Command × Answer)). HasRow layout l view (record { cpu = cpu; seq = m }) command (slice_get rows k)) (append_assoc earlier ((c, row.answer) ∷ []) (take k (answers_by cs rows)))
+    (row-at layout (earlier ++ (c, row.answer) ∷ []) view cpu (n + 1) between cs rows after k m command rest (let one : suc (length rows) ≡ suc (length cs) = fit in let same : length rows ≡ length cs = omega arith in same) there (omega arith)
+    (row-free layout view (record { cpu = cpu; seq = n }) c row.answer before row.told between served.told free))
 
 -- a member that passes the test is one of those that do
 pub filter-has : {A : Type 0} (test : A → Bool) (l : List A) (j : ℕ) (x : A) → slice_get l j ≡ Some x → test x ≡ true → (k : ℕ) × (slice_get (filter test l) k ≡ Some x)
@@ -109,7 +113,9 @@ pub record IsOf (script : Script) (rows : List (List Row)) (view : View) (who : 
   pub before : Banks
   pub free : AreBanks before
   pub after : Banks
-  pub served : IsRowServed script.layout list view who command before row after
+  pub earlier : List (Command × Answer)
+  pub earlier_is : earlier ≡ take who.seq (answers_by list own)
+  pub served : IsRowServed script.layout earlier view who command before row after
 
 -- its row is the one that stands at its number
 pub same-row : {script : Script} {rows : List (List Row)} {view : View} {who : Who} (of : IsOf script rows view who) (own : List Row) (row : Row) → slice_get rows who.cpu.0 ≡ Some own → slice_get own who.seq ≡ Some row → of.row ≡ row
@@ -186,7 +192,7 @@ module _ (script : Script) (seat : Cpu → ℕ) (last : State) (report : Report)
       let inside : who.cpu.0 < script.layout.cpus = subst (λ (n : ℕ). who.cpu.0 < n) end.lists_fit (slice_get_within script.lists who.cpu.0 list list_is) in
       let own = rows-of who.cpu inside in
       let served = (served-of who.cpu list own.0 list_is own.1).0 in
-      let has = row-at script.layout list (view_of last (seat who.cpu)) who.cpu 0 empty_banks list own.0 served.banks who.seq who.seq command served.rows_are served.count command_is (omega arith) empty-free in
+      let has = row-at script.layout [] (view_of last (seat who.cpu)) who.cpu 0 empty_banks list own.0 served.banks who.seq who.seq command served.rows_are served.count command_is (omega arith) empty-free in
       record {
         inside = inside;
         list = list;
@@ -200,6 +206,8 @@ module _ (script : Script) (seat : Cpu → ℕ) (last : State) (report : Report)
         before = has.before;
         free = has.free;
         after = has.after;
+        earlier = take who.seq (answers_by list own.0);
+        earlier_is = refl;
         served = has.served;
       }
 

@@ -1,5 +1,5 @@
 -- What the answer of a command names: an entry that it made, or a number of entries after which it saw the page.
-use Rattle.std.proofs.Common.{◌≡◌, ◌⊎◌, ℕ, zero, suc, Bool, true, false, List, [], ◌∷◌, Option, Some, None, IsSomeAnd, filter, filter_map, length, slice_get, take, cond, refl, sym, ap, ◌∙◌, subst, inl, inr}
+use Rattle.std.proofs.Common.{◌≡◌, ◌⊎◌, ℕ, zero, suc, Bool, true, false, List, [], ◌∷◌, Option, Some, None, IsSomeAnd, filter, filter_map, length, slice_get, cond, refl, sym, ap, ◌∙◌, subst, inl, inr}
 use Rattle.std.specs.List.{cons_option}
 use Rattle.std.specs.Option.{option_or}
 use Rattle.std.proofs.lemmas.Bool.{and_parts, eqb-true}
@@ -213,7 +213,7 @@ has-signalled view who command row at account is =
 pub saw-at : {layout : Layout} {view : View} {who : Who} {at : At} {Such : PageState → Type 0} → SawState layout view who at.page at.entry Such → SawAt view who at
 saw-at saw = record { log = saw.log; saw = saw.saw; page_is = saw.page_is; place_is = saw.place_is }
 
-module _ (layout : Layout) (list : List Command) (view : View) (who : Who) where
+module _ (layout : Layout) (earlier : List (Command × Answer)) (view : View) (who : Who) where
   abbrev Names : Answer → Type 0
   Names answer = (at : At) → place_named answer ≡ Some at → MadeAt view who at ⊎ SawAt view who at
 
@@ -224,7 +224,7 @@ module _ (layout : Layout) (list : List Command) (view : View) (who : Who) where
   saw-one at saw bt is = inr (subst (SawAt view who) (same_Some at bt is) saw)
 
   -- the place that an answer names is one that its command made an entry at, or saw the page at
-  table-place : (command : Command) (answer : Answer) → IsTableCaused layout list view who command answer → Names answer
+  table-place : (command : Command) (answer : Answer) → IsTableCaused layout earlier view who command answer → Names answer
   table-place (commands.Load thread slot line) (answers.Value word bt) caused at is = made-one bt (made-at caused.1.made) at is
   table-place (commands.Load thread slot line) (answers.Sigbus bt) caused at is = made-one bt (made-at caused.made) at is
   table-place (commands.Load thread slot line) answers.NoFrame caused at is = absurd (none-some at is)
@@ -257,7 +257,7 @@ module _ (layout : Layout) (list : List Command) (view : View) (who : Who) where
   table-place (commands.Fsync file) (answers.Eio more) caused at is = absurd (none-some at is)
   table-place (commands.Open file) (answers.Opened word) caused at is = absurd (none-some at is)
   table-place (commands.Prctl thread args) (answers.Gone page) caused at is = absurd (none-some at is)
-  table-place (commands.Prctl thread args) answer caused at is = absurd (replied (reply (last_policy (settings thread (take who.seq list))) (arguments args)) (sym (ap place_named caused.replied) ∙ is))
+  table-place (commands.Prctl thread args) answer caused at is = absurd (replied (reply (last_policy (settings thread earlier)) (arguments args)) (sym (ap place_named caused.replied) ∙ is))
     where
       replied : (r : Reply) → place_named (reply_answer r) ≡ Some at → ⊥
       replied (replies.Set policy) is = none-some at is
@@ -279,7 +279,7 @@ module _ (layout : Layout) (list : List Command) (view : View) (who : Who) where
         let stands = failure-entry has.made.made _ has.made.tells in
         record { j = has.made.j; made = has.made.made; there = has.made.there; own = has.made.own; page_is = stands.page_is; place_is = stands.place_is }
 
-    either-place : (at : At) → IsTableCaused layout list view who command (answers.Sigbus at) ⊎ IsSomeAnd (access_of command) (λ (a : Access). WasSignalled layout view who command a.thread row.told at) → Names (answers.Sigbus at)
+    either-place : (at : At) → IsTableCaused layout earlier view who command (answers.Sigbus at) ⊎ IsSomeAnd (access_of command) (λ (a : Access). WasSignalled layout view who command a.thread row.told at) → Names (answers.Sigbus at)
     either-place at (inl caused) = table-place command (answers.Sigbus at) caused
     either-place at (inr was) = made-one at (signal-place (access_of command) at was)
 
@@ -304,8 +304,8 @@ module _ (layout : Layout) (list : List Command) (view : View) (who : Who) where
   soft-place frame own answer caused at is = offline-place frame own answer caused.1 at is
 
   answer-place : (command : Command) (told : List EventOutcome) (own : Option FrameChange) (answer : Answer)
-      → ((at : At) → IsTableCaused layout list view who command (answers.Sigbus at) ⊎ IsSomeAnd (access_of command) (λ (a : Access). WasSignalled layout view who command a.thread told at) → Names (answers.Sigbus at))
-      → IsAnswerCaused layout list view who command told own answer → Names answer
+      → ((at : At) → IsTableCaused layout earlier view who command (answers.Sigbus at) ⊎ IsSomeAnd (access_of command) (λ (a : Access). WasSignalled layout view who command a.thread told at) → Names (answers.Sigbus at))
+      → IsAnswerCaused layout earlier view who command told own answer → Names answer
   answer-place command told own answers.Stopped either caused at is = absurd (none-some at is)
   answer-place (commands.RaiseUser thread ripv eipv) told own (answers.Raised n) either caused at is = absurd (none-some at is)
   answer-place (commands.RaiseUser thread ripv eipv) told own (answers.Gone page) either caused at is = absurd (none-some at is)
@@ -321,11 +321,11 @@ module _ (layout : Layout) (list : List Command) (view : View) (who : Who) where
   answer-place command told own (answers.Sigbus bt) either caused at is = either bt caused at is
   answer-place command told own answer either caused at is = table-place command answer caused at is
 
-  pub names-place : (command : Command) (row : Row) → IsCaused layout list view who command row → IsAccounted view who command row → Names row.answer
+  pub names-place : (command : Command) (row : Row) → IsCaused layout earlier view who command row → IsAccounted view who command row → Names row.answer
   names-place command row caused account = answer-place command row.told row.own row.answer (either-place command row account) caused
 
   -- where the answer names a number of entries, the command saw the page after as many
-  table-state : (command : Command) (answer : Answer) → IsTableCaused layout list view who command answer → (at : At) → state_named answer ≡ Some at → SawAt view who at
+  table-state : (command : Command) (answer : Answer) → IsTableCaused layout earlier view who command answer → (at : At) → state_named answer ≡ Some at → SawAt view who at
   table-state (commands.Free slot) (answers.NotMapped bt) caused at is = subst (SawAt view who) (same_Some bt at is) (saw-at caused.1.saw)
   table-state (commands.Drop page) (answers.NotResident bt) caused at is = subst (SawAt view who) (same_Some bt at is) (saw-at caused.1.saw)
   table-state (commands.Drop page) (answers.Locked bt) caused at is = subst (SawAt view who) (same_Some bt at is) (saw-at caused.1.saw)
@@ -337,7 +337,7 @@ module _ (layout : Layout) (list : List Command) (view : View) (who : Who) where
   table-state (commands.Sync page) (answers.BadLines mask bt) caused at is = subst (SawAt view who) (same_Some bt at is) (saw-at caused.1.saw)
   table-state (commands.Out page) (answers.BadLines mask bt) caused at is = subst (SawAt view who) (same_Some bt at is) (saw-at caused.1.saw)
   table-state (commands.Prctl thread args) (answers.Gone page) caused at is = absurd (none-some at is)
-  table-state (commands.Prctl thread args) answer caused at is = absurd (replied (reply (last_policy (settings thread (take who.seq list))) (arguments args)) (sym (ap state_named caused.replied) ∙ is))
+  table-state (commands.Prctl thread args) answer caused at is = absurd (replied (reply (last_policy (settings thread earlier)) (arguments args)) (sym (ap state_named caused.replied) ∙ is))
     where
       replied : (r : Reply) → state_named (reply_answer r) ≡ Some at → ⊥
       replied (replies.Set policy) is = none-some at is
@@ -374,7 +374,7 @@ module _ (layout : Layout) (list : List Command) (view : View) (who : Who) where
   soft-state frame own answers.Kernel caused at is = absurd (none-some at is)
   soft-state frame own answer caused at is = offline-state frame own answer caused.1 at is
 
-  answer-state : (command : Command) (told : List EventOutcome) (own : Option FrameChange) (answer : Answer) → IsAnswerCaused layout list view who command told own answer → (at : At) → state_named answer ≡ Some at → SawAt view who at
+  answer-state : (command : Command) (told : List EventOutcome) (own : Option FrameChange) (answer : Answer) → IsAnswerCaused layout earlier view who command told own answer → (at : At) → state_named answer ≡ Some at → SawAt view who at
   answer-state command told own answers.Stopped caused at is = absurd (none-some at is)
   answer-state (commands.RaiseUser thread ripv eipv) told own (answers.Raised n) caused at is = absurd (none-some at is)
   answer-state (commands.RaiseUser thread ripv eipv) told own (answers.Gone page) caused at is = absurd (none-some at is)
@@ -390,5 +390,5 @@ module _ (layout : Layout) (list : List Command) (view : View) (who : Who) where
   answer-state command told own (answers.Sigbus bt) caused at is = absurd (none-some at is)
   answer-state command told own answer caused at is = table-state command answer caused at is
 
-  pub names-state : (command : Command) (row : Row) → IsCaused layout list view who command row → (at : At) → state_named row.answer ≡ Some at → SawAt view who at
+  pub names-state : (command : Command) (row : Row) → IsCaused layout earlier view who command row → (at : At) → state_named row.answer ≡ Some at → SawAt view who at
   names-state command row caused = answer-state command row.told row.own row.answer caused

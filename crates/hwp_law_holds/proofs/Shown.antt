@@ -1,5 +1,5 @@
 -- What a command's cause rests on was shown by turns of the command itself.
-use Rattle.std.proofs.Common.{◌≡◌, ◌≢◌, ◌⊎◌, ℕ, ◌+◌, ◌==◌, not, true, false, List, Option, Some, None, length, take, slice_get, option_and_then, refl, sym, ap, ◌∙◌, subst, inl, inr, true≢false, ◌<◌}
+use Rattle.std.proofs.Common.{◌≡◌, ◌≢◌, ◌⊎◌, ℕ, ◌+◌, ◌==◌, not, true, false, List, Option, Some, None, length, slice_get, option_and_then, refl, sym, ap, ◌∙◌, subst, inl, inr, true≢false, ◌<◌}
 use Rattle.std.specs.Prelude.{IsSomeAnd}
 use Rattle.std.proofs.lemmas.Bool.{eq-eqb, eqb-true, not-false}
 use Rattle.std.proofs.lemmas.Option.{none-some, same_Some}
@@ -159,7 +159,7 @@ module _ (layout : Layout) (turns : List Played) (view : View) (said : Said (tol
   process-shown {word = word} process is saw =
       subst (λ (p : Proc). ProcessShown layout turns who p word) (same_Some saw.process process (sym saw.process_is ∙ is)) (word-shown (λ (found : ℕ). found ≡ word) (places.Process saw.process) word refl saw.saw)
 
-module _ (script : Script) (turns : List Played) (view : View) (said : Said (told script.layout turns) view) (who : Who) (list : List Command) where
+module _ (script : Script) (turns : List Played) (view : View) (said : Said (told script.layout turns) view) (who : Who) (earlier : List (Command × Answer)) where
   -- the process of the command's thread had ended
   gone-shown : (command : Command) (thread : Thread) (page : Page) → command_at script who ≡ Some command → thread_of command ≡ Some thread → FoundGone script.layout view who thread page → GoneShown script turns who page
   gone-shown command thread page at of gone =
@@ -192,7 +192,7 @@ module _ (script : Script) (turns : List Played) (view : View) (said : Said (tol
   )
 
   -- what the answer rests on, where the command brought no failure about
-  table-shown : (command : Command) (answer : Answer) → command_at script who ≡ Some command → IsTableCaused script.layout list view who command answer → AnswerShown script turns who command answer
+  table-shown : (command : Command) (answer : Answer) → command_at script who ≡ Some command → IsTableCaused script.layout earlier view who command answer → AnswerShown script turns who command answer
   table-shown (commands.Load thread slot line) (answers.Value word entry) at caused = tt
   table-shown (commands.Load thread slot line) (answers.Sigbus entry) at caused = tt
   table-shown (commands.Load thread slot line) answers.NoFrame at caused = no-frame-shown (commands.Load thread slot line) thread slot line refl caused
@@ -228,7 +228,7 @@ module _ (script : Script) (turns : List Played) (view : View) (said : Said (tol
   table-shown (commands.Open file) (answers.Opened word) at caused = tt
   table-shown (commands.Prctl thread args) (answers.Gone page) at caused = gone-shown (commands.Prctl thread args) thread page at refl caused.0
   table-shown (commands.Prctl thread args) answer at caused =
-      subst (AnswerShown script turns who (commands.Prctl thread args)) (sym caused.replied) (replied-shown thread args (reply (last_policy (settings thread (take who.seq list))) (arguments args)))
+      subst (AnswerShown script turns who (commands.Prctl thread args)) (sym caused.replied) (replied-shown thread args (reply (last_policy (settings thread earlier)) (arguments args)))
   table-shown (commands.Log status addr misc) answers.Done at caused = tt
   table-shown (commands.Bad frame line) answers.Done at caused = tt
   table-shown (commands.Weak frame line) answers.Done at caused = tt
@@ -276,7 +276,7 @@ module _ (script : Script) (turns : List Played) (view : View) (said : Said (tol
       word-shown script.layout turns view said who (λ (word : ℕ). (¬ IsRevivable word) × (count_of word ≡ count)) (places.Frame frame) caused.word (caused.used, caused.count_is) caused.saw
   unpoison-shown frame own answer caused = absurd caused
 
-  pub answer-shown : (command : Command) (told : List EventOutcome) (own : Option FrameChange) (answer : Answer) → command_at script who ≡ Some command → IsAnswerCaused script.layout list view who command told own answer → AnswerShown script turns who command answer
+  pub answer-shown : (command : Command) (told : List EventOutcome) (own : Option FrameChange) (answer : Answer) → command_at script who ≡ Some command → IsAnswerCaused script.layout earlier view who command told own answer → AnswerShown script turns who command answer
   answer-shown command told own answers.Stopped at caused = stop-shown script.layout turns view said who command caused
   answer-shown (commands.RaiseUser thread ripv eipv) told own (answers.Raised n) at caused = tt
   answer-shown (commands.RaiseUser thread ripv eipv) told own (answers.Gone page) at caused = gone-shown (commands.RaiseUser thread ripv eipv) thread page at refl caused.0
@@ -302,7 +302,7 @@ module _ (script : Script) (turns : List Played) (view : View) (said : Said (tol
     runs-on : (command : Command) (thread : Thread) → thread_of command ≡ Some thread → option_and_then (process_of_thread script.layout) (thread_of command) ≡ Some process → SawProcess script.layout view who thread 0 → ProcessShown script.layout turns who process 0
     runs-on command thread of is saw = process-shown script.layout turns view said who process (sym (ap (λ (o : Option Thread). option_and_then (process_of_thread script.layout) o) of) ∙ is) saw
 
-    goes-table : (command : Command) (answer : Answer) → option_and_then (process_of_thread script.layout) (thread_of command) ≡ Some process → IsTableCaused script.layout list view who command answer → GoesOn script.layout turns who process answer
+    goes-table : (command : Command) (answer : Answer) → option_and_then (process_of_thread script.layout) (thread_of command) ≡ Some process → IsTableCaused script.layout earlier view who command answer → GoesOn script.layout turns who process answer
     goes-table command answers.Stopped is caused = tt
     goes-table command (answers.Gone page) is caused = tt
     goes-table (commands.Load thread slot line) (answers.Value word entry) is caused = runs-on (commands.Load thread slot line) thread refl is caused.1.going
@@ -339,11 +339,11 @@ module _ (script : Script) (turns : List Played) (view : View) (said : Said (tol
     goes-signalled command told at is was = absurd was
 
     goes-sigbus : (command : Command) (told : List EventOutcome) (at : At) → option_and_then (process_of_thread script.layout) (thread_of command) ≡ Some process
-        → IsTableCaused script.layout list view who command (answers.Sigbus at) ⊎ IsSomeAnd (access_of command) (λ (a : Access). WasSignalled script.layout view who command a.thread told at) → ProcessShown script.layout turns who process 0
+        → IsTableCaused script.layout earlier view who command (answers.Sigbus at) ⊎ IsSomeAnd (access_of command) (λ (a : Access). WasSignalled script.layout view who command a.thread told at) → ProcessShown script.layout turns who process 0
     goes-sigbus command told at is (inl caused) = goes-table command (answers.Sigbus at) is caused
     goes-sigbus command told at is (inr was) = goes-signalled command told at is was
 
-    goes : (command : Command) (told : List EventOutcome) (own : Option FrameChange) (answer : Answer) → option_and_then (process_of_thread script.layout) (thread_of command) ≡ Some process → IsAnswerCaused script.layout list view who command told own answer
+    goes : (command : Command) (told : List EventOutcome) (own : Option FrameChange) (answer : Answer) → option_and_then (process_of_thread script.layout) (thread_of command) ≡ Some process → IsAnswerCaused script.layout earlier view who command told own answer
         → GoesOn script.layout turns who process answer
     goes command told own answers.Stopped is caused = tt
     goes command told own (answers.Gone page) is caused = tt
@@ -356,6 +356,6 @@ module _ (script : Script) (turns : List Played) (view : View) (said : Said (tol
     goes command told own (answers.Sigbus at) is caused = goes-sigbus command told at is caused
     goes command told own answer is caused = goes-table command answer is caused
 
-    pub goes-shown : (command : Command) (told : List EventOutcome) (own : Option FrameChange) (answer : Answer) → command_at script who ≡ Some command → process_at script who ≡ Some process → IsAnswerCaused script.layout list view who command told own answer
+    pub goes-shown : (command : Command) (told : List EventOutcome) (own : Option FrameChange) (answer : Answer) → command_at script who ≡ Some command → process_at script who ≡ Some process → IsAnswerCaused script.layout earlier view who command told own answer
         → GoesOn script.layout turns who process answer
     goes-shown command told own answer at is caused = goes command told own answer (sym (process-is script who command at) ∙ is) caused

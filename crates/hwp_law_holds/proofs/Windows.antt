@@ -74,7 +74,7 @@ module _ (script : Script) (seat : Cpu → ℕ) (last : State) (report : Report)
         not_below = λ k n answer bt line earlier named same_page.
             let b = line-answers cpu rows k n answer rows_is line in
             not-below cpu seq at x saw.saw.0 there seen page long cpu_is seq_is n bt earlier same_page
-            (names-place script.layout b.of.list (view_of last (seat cpu)) (record { cpu = cpu; seq = n }) b.of.command b.of.row b.of.served.caused b.of.served.accounted bt (ap place_named b.answer_is ∙ named));
+            (names-place script.layout b.of.earlier (view_of last (seat cpu)) (record { cpu = cpu; seq = n }) b.of.command b.of.row b.of.served.caused b.of.served.accounted bt (ap place_named b.answer_is ∙ named));
       }
     where
       not-below : (cpu : Cpu) (seq : ℕ) (at : At) (x : Length) (j : ℕ) → slice_get last.views (seat cpu) ≡ Some (view_of last (seat cpu)) → slice_get (view_of last (seat cpu)).lengths j ≡ Some x → x.log.page ≡ at.page → length x.log.entries ≡ at.entry
@@ -98,5 +98,5 @@ module _ (script : Script) (seat : Cpu → ℕ) (last : State) (report : Report)
   states-in-windows cpu rows i seq answer at rows_is line state =
       let a = line-answers cpu rows i seq answer rows_is line in
       let there = end.seated.there cpu a.of.inside in
-      let saw = names-state script.layout a.of.list (view_of last (seat cpu)) (record { cpu = cpu; seq = seq }) a.of.command a.of.row a.of.served.caused at (ap state_named a.answer_is ∙ state) in
+      let saw = names-state script.layout a.of.earlier (view_of last (seat cpu)) (record { cpu = cpu; seq = seq }) a.of.command a.of.row a.of.served.caused at (ap state_named a.answer_is ∙ state) in
       in-window cpu rows rows_is seq at there saw

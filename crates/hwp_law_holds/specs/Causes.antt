@@ -1,6 +1,6 @@
 -- Why a command was answered so: by what a processor knows of it, of the words that its steps showed, of the histories that it
 -- saw and of the entries that it made.
-use Rattle.std.specs.Prelude.{◌≡◌, ◌≢◌, ◌⊎◌, ℕ, ◌+◌, ◌<◌, true, false, List, Option, None, Some, length, take, IsSomeAnd}
+use Rattle.std.specs.Prelude.{◌≡◌, ◌≢◌, ◌⊎◌, ℕ, ◌+◌, ◌<◌, true, false, List, Option, None, Some, length, IsSomeAnd}
 use Rattle.hwp_law_run.specs.hwp_geom.declared.Damage.{Damage}
 use Rattle.hwp_law_run.specs.hwp_geom.declared.Damage.TheVariants as damages
 use Rattle.hwp_law_run.specs.hwp_geom.declared.Frame.{Frame}
@@ -150,11 +150,11 @@ pub record HasSpoiledLine (view : View) (who : Who) (frame : Frame) (line : ℕ)
   pub spoiled : SomeMember (λ (s : Spoiled). (s.stamp.who ≡ who) × (s.frame ≡ frame) × (s.line ≡ line) × (s.damage ≡ damage)) view.spoiled
   pub made : HasMadeNone view who
 
--- the reply of prctl(2) to the policy that the processor's commands before this one left the thread
-pub record IsReplied (layout : Layout) (list : List Command) (view : View) (who : Who) (thread : Thread) (given : List ℕ) (answer : Answer) : Type 0 where
+-- the reply of prctl(2) to the policy that the processor's earlier commands, with these answers, left the thread
+pub record IsReplied (layout : Layout) (earlier : List (Command × Answer)) (view : View) (who : Who) (thread : Thread) (given : List ℕ) (answer : Answer) : Type 0 where
   pub going : SawProcess layout view who thread 0
   pub made : HasMadeNone view who
-  pub replied : answer ≡ reply_answer (reply (last_policy (settings thread (take who.seq list))) given)
+  pub replied : answer ≡ reply_answer (reply (last_policy (settings thread earlier)) given)
 
 -- ---- failures
 
@@ -290,46 +290,46 @@ pub record WasRaised (layout : Layout) (view : View) (who : Who) (command : Comm
   pub only : HasOnlyMet layout view who command
 
 -- an answer of a command that brings no failure about
-abbrev pub IsTableCaused : Layout → List Command → View → Who → Command → Answer → Type 0
-IsTableCaused layout list view who (commands.Load thread slot line) answer = IsLoadCaused layout view who thread slot line answer
-IsTableCaused layout list view who (commands.Fetch thread slot line) answer = IsLoadCaused layout view who thread slot line answer
-IsTableCaused layout list view who (commands.KLoad thread slot line) answer = IsLoadCaused layout view who thread slot line answer
-IsTableCaused layout list view who (commands.Store thread slot line word) answer = IsStoreCaused layout view who thread slot line word answer
-IsTableCaused layout list view who (commands.Free slot) (answers.DoneAt at) = IsOf layout at.page slot × MadeOne view who at (entries.Free slot)
-IsTableCaused layout list view who (commands.Free slot) (answers.NotMapped at) = IsOf layout at.page slot × FoundState layout view who at (IsUnused slot)
-IsTableCaused layout list view who (commands.Drop page) (answers.Locked at) = (at.page ≡ page) × FoundState layout view who at IsLockedIn
-IsTableCaused layout list view who (commands.Drop page) (answers.Dirty at) = (at.page ≡ page) × FoundState layout view who at IsDirty
-IsTableCaused layout list view who (commands.Drop page) (answers.Mapped at) = (at.page ≡ page) × FoundState layout view who at IsMapped
-IsTableCaused layout list view who (commands.Drop page) answer = IsPageCaused layout view who page entries.Drop answer
-IsTableCaused layout list view who (commands.Sync page) answer = IsCopyCaused layout view who page entries.Sync answer
-IsTableCaused layout list view who (commands.Out page) (answers.Locked at) = (at.page ≡ page) × FoundState layout view who at IsLockedIn
-IsTableCaused layout list view who (commands.Out page) (answers.BadLines mask at) =
+abbrev pub IsTableCaused : Layout → List (Command × Answer) → View → Who → Command → Answer → Type 0
+IsTableCaused layout earlier view who (commands.Load thread slot line) answer = IsLoadCaused layout view who thread slot line answer
+IsTableCaused layout earlier view who (commands.Fetch thread slot line) answer = IsLoadCaused layout view who thread slot line answer
+IsTableCaused layout earlier view who (commands.KLoad thread slot line) answer = IsLoadCaused layout view who thread slot line answer
+IsTableCaused layout earlier view who (commands.Store thread slot line word) answer = IsStoreCaused layout view who thread slot line word answer
+IsTableCaused layout earlier view who (commands.Free slot) (answers.DoneAt at) = IsOf layout at.page slot × MadeOne view who at (entries.Free slot)
+IsTableCaused layout earlier view who (commands.Free slot) (answers.NotMapped at) = IsOf layout at.page slot × FoundState layout view who at (IsUnused slot)
+IsTableCaused layout earlier view who (commands.Drop page) (answers.Locked at) = (at.page ≡ page) × FoundState layout view who at IsLockedIn
+IsTableCaused layout earlier view who (commands.Drop page) (answers.Dirty at) = (at.page ≡ page) × FoundState layout view who at IsDirty
+IsTableCaused layout earlier view who (commands.Drop page) (answers.Mapped at) = (at.page ≡ page) × FoundState layout view who at IsMapped
+IsTableCaused layout earlier view who (commands.Drop page) answer = IsPageCaused layout view who page entries.Drop answer
+IsTableCaused layout earlier view who (commands.Sync page) answer = IsCopyCaused layout view who page entries.Sync answer
+IsTableCaused layout earlier view who (commands.Out page) (answers.Locked at) = (at.page ≡ page) × FoundState layout view who at IsLockedIn
+IsTableCaused layout earlier view who (commands.Out page) (answers.BadLines mask at) =
     (at.page ≡ page) × FoundState layout view who at (λ (s : PageState). (s.cached ≡ true) × (s.locked ≡ false)) × SawBadLines layout view who page mask
-IsTableCaused layout list view who (commands.Out page) answer = IsCopyCaused layout view who page entries.Out answer
-IsTableCaused layout list view who (commands.Fsync file) answers.Done = HasMadeNone view who
-IsTableCaused layout list view who (commands.Fsync file) (answers.Eio more) = HasMadeNone view who × (0 < more)
-IsTableCaused layout list view who (commands.Open file) (answers.Opened word) = HasMadeNone view who
-IsTableCaused layout list view who (commands.Prctl thread args) (answers.Gone page) = FoundGone layout view who thread page × HasMadeNone view who
-IsTableCaused layout list view who (commands.Prctl thread args) answer = IsReplied layout list view who thread (arguments args) answer
-IsTableCaused layout list view who (commands.Log status addr misc) answers.Done = HasMadeNone view who
-IsTableCaused layout list view who (commands.Bad frame line) answers.Done = HasSpoiledLine view who frame line damages.Bad
-IsTableCaused layout list view who (commands.Weak frame line) answers.Done = HasSpoiledLine view who frame line damages.Weak
-IsTableCaused layout list view who _ _ = ⊥
+IsTableCaused layout earlier view who (commands.Out page) answer = IsCopyCaused layout view who page entries.Out answer
+IsTableCaused layout earlier view who (commands.Fsync file) answers.Done = HasMadeNone view who
+IsTableCaused layout earlier view who (commands.Fsync file) (answers.Eio more) = HasMadeNone view who × (0 < more)
+IsTableCaused layout earlier view who (commands.Open file) (answers.Opened word) = HasMadeNone view who
+IsTableCaused layout earlier view who (commands.Prctl thread args) (answers.Gone page) = FoundGone layout view who thread page × HasMadeNone view who
+IsTableCaused layout earlier view who (commands.Prctl thread args) answer = IsReplied layout earlier view who thread (arguments args) answer
+IsTableCaused layout earlier view who (commands.Log status addr misc) answers.Done = HasMadeNone view who
+IsTableCaused layout earlier view who (commands.Bad frame line) answers.Done = HasSpoiledLine view who frame line damages.Bad
+IsTableCaused layout earlier view who (commands.Weak frame line) answers.Done = HasSpoiledLine view who frame line damages.Weak
+IsTableCaused layout earlier view who _ _ = ⊥
 
 -- the answer of a command among all of its processor's has its cause in what the processor knows of the command: by what the
 -- command told of its machine checks, by what it did to a frame itself, and by its answer
-abbrev pub IsAnswerCaused : Layout → List Command → View → Who → Command → List EventOutcome → Option FrameChange → Answer → Type 0
-IsAnswerCaused layout list view who command told own answers.Stopped = FoundStopped layout view who command
-IsAnswerCaused layout list view who (commands.RaiseUser thread ripv eipv) told own (answers.Raised n) = SawProcess layout view who thread 0 × WasRaised layout view who (commands.RaiseUser thread ripv eipv) told n
-IsAnswerCaused layout list view who (commands.RaiseUser thread ripv eipv) told own (answers.Gone page) = FoundGone layout view who thread page × HasMadeNone view who
-IsAnswerCaused layout list view who (commands.RaiseKernel ripv eipv) told own (answers.Raised n) = WasRaised layout view who (commands.RaiseKernel ripv eipv) told n
-IsAnswerCaused layout list view who (commands.Scrub first last) told own (answers.Scrubbed n) = WasRaised layout view who (commands.Scrub first last) told n
-IsAnswerCaused layout list view who (commands.Inject frame) told own answer = (layout.recovery ≡ true) × IsInjectCaused layout view who frame own answer
-IsAnswerCaused layout list view who (commands.Soft frame) told own answer = IsSoftCaused layout view who frame own answer
-IsAnswerCaused layout list view who (commands.Unpoison frame) told own answer = HasMadeNone view who × IsUnpoisonCaused layout view who frame own answer
-IsAnswerCaused layout list view who command told own (answers.Sigbus at) =
-    IsTableCaused layout list view who command (answers.Sigbus at) ⊎ IsSomeAnd (access_of command) (λ (a : Access). WasSignalled layout view who command a.thread told at)
-IsAnswerCaused layout list view who command told own answer = IsTableCaused layout list view who command answer
+abbrev pub IsAnswerCaused : Layout → List (Command × Answer) → View → Who → Command → List EventOutcome → Option FrameChange → Answer → Type 0
+IsAnswerCaused layout earlier view who command told own answers.Stopped = FoundStopped layout view who command
+IsAnswerCaused layout earlier view who (commands.RaiseUser thread ripv eipv) told own (answers.Raised n) = SawProcess layout view who thread 0 × WasRaised layout view who (commands.RaiseUser thread ripv eipv) told n
+IsAnswerCaused layout earlier view who (commands.RaiseUser thread ripv eipv) told own (answers.Gone page) = FoundGone layout view who thread page × HasMadeNone view who
+IsAnswerCaused layout earlier view who (commands.RaiseKernel ripv eipv) told own (answers.Raised n) = WasRaised layout view who (commands.RaiseKernel ripv eipv) told n
+IsAnswerCaused layout earlier view who (commands.Scrub first last) told own (answers.Scrubbed n) = WasRaised layout view who (commands.Scrub first last) told n
+IsAnswerCaused layout earlier view who (commands.Inject frame) told own answer = (layout.recovery ≡ true) × IsInjectCaused layout view who frame own answer
+IsAnswerCaused layout earlier view who (commands.Soft frame) told own answer = IsSoftCaused layout view who frame own answer
+IsAnswerCaused layout earlier view who (commands.Unpoison frame) told own answer = HasMadeNone view who × IsUnpoisonCaused layout view who frame own answer
+IsAnswerCaused layout earlier view who command told own (answers.Sigbus at) =
+    IsTableCaused layout earlier view who command (answers.Sigbus at) ⊎ IsSomeAnd (access_of command) (λ (a : Access). WasSignalled layout view who command a.thread told at)
+IsAnswerCaused layout earlier view who command told own answer = IsTableCaused layout earlier view who command answer
 
-abbrev pub IsCaused : Layout → List Command → View → Who → Command → Row → Type 0
-IsCaused layout list view who command row = IsAnswerCaused layout list view who command row.told row.own row.answer
+abbrev pub IsCaused : Layout → List (Command × Answer) → View → Who → Command → Row → Type 0
+IsCaused layout earlier view who command row = IsAnswerCaused layout earlier view who command row.told row.own row.answer

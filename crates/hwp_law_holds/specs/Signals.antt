@@ -23,13 +23,13 @@ use Rattle.hwp_law_run.specs.hwp_law.States.{HadState}
 
 -- A failure found the page in a frame, in the situation of the state that the page had at the entry's place. It read the policies
 -- of the threads that the kill table asks about, and sent the signals that the table gives for them; or none of either, where
--- the situation signals nobody. Each policy that it read is the one after some number of its thread's settings in the script.
+-- the situation signals nobody. Each policy that it read is the one after some number of its thread's settings.
 pub record IsFailureAsModel (script : Script) (report : Report) (at : At) (situation : Situation) (required : Option Thread) (seen : List Seen) (signals : List Signal) : Type 0 where
   pub resident : HadState script.layout report.pages at (λ (s : PageState). s.cached ≡ true)
   pub situation_is : HadState script.layout report.pages at (λ (s : PageState). situation ≡ situation_of s)
   pub asked : HadState script.layout report.pages at (λ (s : PageState). IsSeenList script.layout s.maps (is_signalling situation) required seen)
   pub signalled : HadState script.layout report.pages at (λ (s : PageState). Killed script.layout s.maps (is_signalling situation) (always_signals situation) required seen signals)
-  pub had : (one : Seen) → Contains seen one → IsPolicySeen script one
+  pub had : (one : Seen) → Contains seen one → IsPolicySeen script report one
 
 -- Each failure is as the model has it. What the report says is lost of a file are the losses in the histories of its pages, and the
 -- numbers of handles agree with them. The report counts the frames whose record ends poisoned.

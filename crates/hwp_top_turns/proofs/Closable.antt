@@ -1,6 +1,6 @@
 -- Where all processors have served their commands, the run has ended: nothing is held, the marks are noted, who stopped the
 -- machine was answered so, and all rows can be told.
-use Rattle.std.proofs.Common.{◌≡◌, ℕ, ◌+◌, ◌^◌, ◌<◌, ◌≤◌, Bool, true, false, cond, nat_le, List, Option, Some, None, get_or, length, slice_get, option_and_then, refl, sym, ap, ◌∙◌, subst, arith, true≢false}
+use Rattle.std.proofs.Common.{◌≡◌, ℕ, ◌+◌, ◌^◌, ◌<◌, ◌≤◌, Bool, true, false, cond, nat_le, List, [], Option, Some, None, get_or, length, slice_get, option_and_then, refl, sym, ap, ◌∙◌, subst, arith, true≢false}
 use Rattle.std.specs.Prelude.{IfSome}
 use Rattle.std.proofs.lemmas.Bool.{leb-false}
 use Rattle.std.proofs.lemmas.List.Sums.{get_or-le-sum_by}
@@ -157,7 +157,7 @@ module _ (script : Script) (seat : Cpu → ℕ) (last : State) (rows : List (Lis
       named k row at j t told =
           let within : k < length list.0 = let less : k < length own = slice_get_within own k row at in let count : length own ≡ length list.0 = by.count in omega (arith, less, count) in
           let command = there-is list.0 k within in
-          let has = row-at script.layout list.0 (view_of last (seat cpu)) cpu 0 empty_banks list.0 own by.banks k k command.0 by.rows_are by.count command.1 (omega arith) empty-free in
+          let has = row-at script.layout [] (view_of last (seat cpu)) cpu 0 empty_banks list.0 own by.banks k k command.0 by.rows_are by.count command.1 (omega arith) empty-free in
           let same : has.row ≡ row = same_Some has.row row (sym has.row_is ∙ at) in
           let right = told-so script.layout (view_of last (seat cpu)) (record { cpu = cpu; seq = k }) command.0 has.row.answer has.before has.row.told has.after has.served.told j t (ap (λ (r : Row). slice_get r.told j) same ∙ told) in
           told-named script.layout small (view_of last (seat cpu)) (record { cpu = cpu; seq = k }) _ right.0 t right.1

@@ -149,7 +149,7 @@ module _ (view : View) (who : Who) (P : Made → Type 0) where
 
 -- ---- the commands
 
-module _ (layout : Layout) (list : List Command) (view : View) (who : Who) where
+module _ (layout : Layout) (earlier : List (Command × Answer)) (view : View) (who : Who) where
   abbrev Are : Command → Answer → Type 0
   Are command answer = EachMember (IsDeed layout command answer) (deeds who view)
 
@@ -173,7 +173,7 @@ module _ (layout : Layout) (list : List Command) (view : View) (who : Who) where
     one : (answer : Answer) (at : At) (what : What) → Makes command what → CanStandIn layout command at.page what → entry_named answer ≡ Some at → HasMade (λ m. ⊥) view who at.page at.entry what → Are command answer
     one answer at what makes stands named made = made-so view who (IsDeed layout command answer) {Other = λ m. Unit {0}} made (λ i m there. tt) (λ m other no_. absurd no_) (λ m is. answered layout command answer at.page at.entry what m makes stands named is)
 
-  table-deeds : (command : Command) (answer : Answer) → EachMember (λ (m : Made). IsNeeded command m.entry.what) (deeds who view) → IsTableCaused layout list view who command answer → Are command answer
+  table-deeds : (command : Command) (answer : Answer) → EachMember (λ (m : Made). IsNeeded command m.entry.what) (deeds who view) → IsTableCaused layout earlier view who command answer → Are command answer
   table-deeds (commands.Load thread slot line) (answers.Value word at) need caused = reached _ need _ slot line at _ (λ m x. x) (refl, refl, tt) (λ page is. is) refl caused.1.page caused.1.made
   table-deeds (commands.Load thread slot line) (answers.Sigbus at) need caused = reached _ need _ slot line at _ (λ m x. x) (refl, refl, refl) (λ page is. is) refl caused.page caused.made
   table-deeds (commands.Load thread slot line) answers.NoFrame need caused = brings _ need _ slot line caused.page (λ m x. x) caused.page_is caused.only
@@ -234,11 +234,11 @@ module _ (layout : Layout) (list : List Command) (view : View) (who : Who) where
   signalled command told at answer (Some a) need was = only-met command need answer was.only
 
   either : (command : Command) (told : List EventOutcome) (at : At) → EachMember (λ (m : Made). IsNeeded command m.entry.what) (deeds who view)
-      → IsTableCaused layout list view who command (answers.Sigbus at) ⊎ IsSomeAnd (access_of command) (λ (a : Access). WasSignalled layout view who command a.thread told at) → Are command (answers.Sigbus at)
+      → IsTableCaused layout earlier view who command (answers.Sigbus at) ⊎ IsSomeAnd (access_of command) (λ (a : Access). WasSignalled layout view who command a.thread told at) → Are command (answers.Sigbus at)
   either command told at need (inl caused) = table-deeds command (answers.Sigbus at) need caused
   either command told at need (inr was) = signalled command told at (answers.Sigbus at) (access_of command) need was
 
-  answer-deeds : (command : Command) (told : List EventOutcome) (own : Option FrameChange) (answer : Answer) → EachMember (λ (m : Made). IsNeeded command m.entry.what) (deeds who view) → IsAnswerCaused layout list view who command told own answer → Are command answer
+  answer-deeds : (command : Command) (told : List EventOutcome) (own : Option FrameChange) (answer : Answer) → EachMember (λ (m : Made). IsNeeded command m.entry.what) (deeds who view) → IsAnswerCaused layout earlier view who command told own answer → Are command answer
   answer-deeds command told own answers.Stopped need caused = only-met command need _ caused.only
   answer-deeds (commands.RaiseUser thread ripv eipv) told own (answers.Raised n) need caused = only-met _ need _ caused.1.only
   answer-deeds (commands.RaiseUser thread ripv eipv) told own (answers.Gone page) need caused = none view who _ caused.1
@@ -254,5 +254,5 @@ module _ (layout : Layout) (list : List Command) (view : View) (who : Who) where
   answer-deeds command told own (answers.Sigbus at) need caused = either command told at need caused
   answer-deeds command told own answer need caused = table-deeds command answer need caused
 
-  pub are-deeds : (command : Command) (row : Row) → IsCaused layout list view who command row → IsAccounted view who command row → Are command row.answer
+  pub are-deeds : (command : Command) (row : Row) → IsCaused layout earlier view who command row → IsAccounted view who command row → Are command row.answer
   are-deeds command row caused account = answer-deeds command row.told row.own row.answer (needed view who command row account) caused

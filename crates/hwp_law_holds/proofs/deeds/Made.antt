@@ -47,7 +47,7 @@ module _ (script : Script) (seat : Cpu → ℕ) (last : State) (report : Report)
       let made = listed.3 in
       let that = made.3 in
       let of : IsOf script end.rows listed.1 e.who = subst (λ (x : Entry). IsOf script end.rows listed.1 x.who) that.entry_is (of-made script seat last report end listed.0 made.0 listed.1 made.1 listed.2 made.2) in
-      let deed = of-deeds (IsDeed script.layout of.command of.row.answer) listed.1 e.who made.0 made.1 (are-deeds script.layout of.list listed.1 e.who of.command of.row of.served.caused of.served.accounted) made.2 (ap (λ (x : Entry). x.who) that.entry_is) in
+      let deed = of-deeds (IsDeed script.layout of.command of.row.answer) listed.1 e.who made.0 made.1 (are-deeds script.layout of.earlier listed.1 e.who of.command of.row of.served.caused of.served.accounted) made.2 (ap (λ (x : Entry). x.who) that.entry_is) in
       record {
         view = listed.1;
         of = of;

@@ -78,7 +78,7 @@ one-count [] last none is =
     omega (arith, all, one)
 one-count (m ∷ ms) last none is = absurd (none 0 m refl)
 
-module _ (layout : Layout) (list : List Command) (view : View) (who : Who) where
+module _ (layout : Layout) (earlier : List (Command × Answer)) (view : View) (who : Who) where
   none : HasMadeNone view who → (own : Option FrameChange) → own ≡ None → soft_count (deeds who view) ≡ moves_by own
   none made own is = ap soft_count made ∙ sym (ap moves_by is)
 
@@ -86,7 +86,7 @@ module _ (layout : Layout) (list : List Command) (view : View) (who : Who) where
   met-mild frame m (inl is) = absurd is
   met-mild frame m (inr is) = absurd (true≢false (sym is.0))
 
-  offline : (frame : Frame) (told : List EventOutcome) (own : Option FrameChange) (answer : Answer) → IsAnswerCaused layout list view who (commands.Soft frame) told own answer → IsOwn (commands.Soft frame) answer own → soft_count (deeds who view) ≡ moves_by own
+  offline : (frame : Frame) (told : List EventOutcome) (own : Option FrameChange) (answer : Answer) → IsAnswerCaused layout earlier view who (commands.Soft frame) told own answer → IsOwn (commands.Soft frame) answer own → soft_count (deeds who view) ≡ moves_by own
   offline frame told own answers.Stopped caused is = mild-count (deeds who view) (λ i m there. met-mild frame m (caused.only i m there)) ∙ sym (stopped-still frame own is)
   offline frame told own answers.Kernel caused is = none caused.1 own caused.2
   offline frame told own (answers.Moved other at) caused is =
@@ -103,10 +103,10 @@ module _ (layout : Layout) (list : List Command) (view : View) (who : Who) where
       mild-count (deeds who view) (λ i m there. false_from_ne_true (is_soft m.entry.what) (λ soft. true≢false (sym (makes-soft command m.entry.what soft (are i m there).makes) ∙ other)))
       ∙ sym (own-still command answer own other is)
 
-  counted : (command : Command) (told : List EventOutcome) (own : Option FrameChange) (answer : Answer) → IsAnswerCaused layout list view who command told own answer → IsOwn command answer own → EachMember (IsDeed layout command answer) (deeds who view)
+  counted : (command : Command) (told : List EventOutcome) (own : Option FrameChange) (answer : Answer) → IsAnswerCaused layout earlier view who command told own answer → IsOwn command answer own → EachMember (IsDeed layout command answer) (deeds who view)
       → soft_count (deeds who view) ≡ moves_by own
   counted (commands.Soft frame) told own answer caused is are = offline frame told own answer caused is
   counted command told own answer caused is are = plain command answer own refl is are
 
-  pub softs-counted : (command : Command) (row : Row) → IsCaused layout list view who command row → IsAccounted view who command row → count_by (λ (m : Made). is_soft m.entry.what) (deeds who view) ≡ moves_by row.own
-  softs-counted command row caused account = counted command row.told row.own row.answer caused account.own (are-deeds layout list view who command row caused account)
+  pub softs-counted : (command : Command) (row : Row) → IsCaused layout earlier view who command row → IsAccounted view who command row → count_by (λ (m : Made). is_soft m.entry.what) (deeds who view) ≡ moves_by row.own
+  softs-counted command row caused account = counted command row.told row.own row.answer caused account.own (are-deeds layout earlier view who command row caused account)

@@ -39,7 +39,7 @@ use Rattle.hwp_law_holds.proofs.LastBoard.{ended}
 use Rattle.hwp_law_holds.proofs.AnswerSights.{answers-of, process-command}
 use Rattle.hwp_law_holds.proofs.Shown.{process-is}
 
-module _ (layout : Layout) (list : List Command) (view : View) (who : Who) (process : Proc) where
+module _ (layout : Layout) (earlier : List (Command × Answer)) (view : View) (who : Who) (process : Proc) where
   -- the word of the thread's process
   saw-process : (thread : Thread) (word : ℕ) → process_of_thread layout thread ≡ Some process → SawProcess layout view who thread word → Saw view who (places.Process process) word
   saw-process thread word is saw = subst (λ (p : Proc). Saw view who (places.Process p) word) (same_Some saw.process process (sym saw.process_is ∙ is)) saw.saw
@@ -48,7 +48,7 @@ module _ (layout : Layout) (list : List Command) (view : View) (who : Who) (proc
   IsProcess command = option_and_then (process_of_thread layout) (thread_of command) ≡ Some process
 
   -- a command of the process's threads is answered that it is over, or saw it going on
-  table-going : (command : Command) (answer : Answer) → IsProcess command → IsTableCaused layout list view who command answer → IsOver answer ⊎ Saw view who (places.Process process) 0
+  table-going : (command : Command) (answer : Answer) → IsProcess command → IsTableCaused layout earlier view who command answer → IsOver answer ⊎ Saw view who (places.Process process) 0
   table-going command (answers.Gone page) is caused = inl tt
   table-going (commands.Load thread slot line) (answers.Value word bt) is caused = inr (saw-process thread 0 is caused.1.going)
   table-going (commands.Load thread slot line) (answers.Sigbus bt) is caused = inr (saw-process thread 0 is caused.going)
@@ -86,12 +86,12 @@ module _ (layout : Layout) (list : List Command) (view : View) (who : Who) (proc
   signalled-going command told at None access is was = absurd was
   signalled-going command told at (Some a) access is was = saw-process a.thread 0 (sym (ap (option_and_then (process_of_thread layout)) (access-thread command a access)) ∙ is) was.going
 
-  either-going : (command : Command) (told : List EventOutcome) (at : At) → IsProcess command → IsTableCaused layout list view who command (answers.Sigbus at) ⊎ IsSomeAnd (access_of command) (λ (a : Access). WasSignalled layout view who command a.thread told at)
+  either-going : (command : Command) (told : List EventOutcome) (at : At) → IsProcess command → IsTableCaused layout earlier view who command (answers.Sigbus at) ⊎ IsSomeAnd (access_of command) (λ (a : Access). WasSignalled layout view who command a.thread told at)
       → IsOver (answers.Sigbus at) ⊎ Saw view who (places.Process process) 0
   either-going command told at is (inl caused) = table-going command (answers.Sigbus at) is caused
   either-going command told at is (inr was) = inr (signalled-going command told at (access_of command) refl is was)
 
-  going : (command : Command) (told : List EventOutcome) (own : Option FrameChange) (answer : Answer) → IsProcess command → IsAnswerCaused layout list view who command told own answer → IsOver answer ⊎ Saw view who (places.Process process) 0
+  going : (command : Command) (told : List EventOutcome) (own : Option FrameChange) (answer : Answer) → IsProcess command → IsAnswerCaused layout earlier view who command told own answer → IsOver answer ⊎ Saw view who (places.Process process) 0
   going command told own answers.Stopped is caused = inl tt
   going (commands.RaiseUser thread ripv eipv) told own (answers.Raised n) is caused = inr (saw-process thread 0 is caused.0)
   going (commands.RaiseUser thread ripv eipv) told own (answers.Gone page) is caused = inl tt
@@ -104,7 +104,7 @@ module _ (layout : Layout) (list : List Command) (view : View) (who : Who) (proc
   going command told own answer is caused = table-going command answer is caused
 
   -- a command that was answered that the process had ended saw its word
-  table-gone : (command : Command) (page : Page) → IsProcess command → IsTableCaused layout list view who command (answers.Gone page) → Saw view who (places.Process process) (page.0 + 1)
+  table-gone : (command : Command) (page : Page) → IsProcess command → IsTableCaused layout earlier view who command (answers.Gone page) → Saw view who (places.Process process) (page.0 + 1)
   table-gone (commands.Load thread slot line) page is caused = saw-process thread _ is caused.0.ended
   table-gone (commands.Fetch thread slot line) page is caused = saw-process thread _ is caused.0.ended
   table-gone (commands.KLoad thread slot line) page is caused = saw-process thread _ is caused.0.ended
@@ -112,7 +112,7 @@ module _ (layout : Layout) (list : List Command) (view : View) (who : Who) (proc
   table-gone (commands.Prctl thread args) page is caused = saw-process thread _ is caused.0.ended
   table-gone command page is caused = absurd caused
 
-  gone : (command : Command) (told : List EventOutcome) (own : Option FrameChange) (page : Page) → IsProcess command → IsAnswerCaused layout list view who command told own (answers.Gone page) → Saw view who (places.Process process) (page.0 + 1)
+  gone : (command : Command) (told : List EventOutcome) (own : Option FrameChange) (page : Page) → IsProcess command → IsAnswerCaused layout earlier view who command told own (answers.Gone page) → Saw view who (places.Process process) (page.0 + 1)
   gone (commands.RaiseUser thread ripv eipv) told own page is caused = saw-process thread _ is caused.0.ended
   gone (commands.Inject frame) told own page is caused = absurd caused.1
   gone (commands.Soft frame) told own page is caused = absurd (none-some process is)
@@ -150,8 +150,8 @@ module _ (script : Script) (seat : Cpu → ℕ) (turns : List Played) (last : St
     not-gone was =
         let has = process-command script who process was.process_is in
         let a = answers-of script seat turns last report run who has.0 (answers.Gone was.page) has.1 was.answered in
-        let first : Saw (view_of last (seat who.cpu)) who (places.Process process) (was.page.0 + 1) = gone script.layout a.list (view_of last (seat who.cpu)) who process has.0 a.row.told a.row.own was.page (sym (process-is script who has.0 has.1) ∙ was.process_is)
-        (subst (IsAnswerCaused script.layout a.list (view_of last (seat who.cpu)) who has.0 a.row.told a.row.own) a.answer_is a.served.caused) in
+        let first : Saw (view_of last (seat who.cpu)) who (places.Process process) (was.page.0 + 1) = gone script.layout a.earlier (view_of last (seat who.cpu)) who process has.0 a.row.told a.row.own was.page (sym (process-is script who has.0 has.1) ∙ was.process_is)
+        (subst (IsAnswerCaused script.layout a.earlier (view_of last (seat who.cpu)) who has.0 a.row.told a.row.own) a.answer_is a.served.caused) in
         let mine : Saw (view_of last (seat later.cpu)) who (places.Process process) (was.page.0 + 1) = subst (λ (c : Cpu). Saw (view_of last (seat c)) who (places.Process process) (was.page.0 + 1)) earlier.0 first in
         let some : mine.1.word ≢ 0 = λ none. (let no_ : was.page.0 + 1 ≡ 0 = sym mine.3.2 ∙ none in omega (arith, no_)) in
         let before : IsEarlier mine.1.stamp.who saw.1.stamp.who = subst (IsEarlier mine.1.stamp.who) (sym saw.3.0) (subst (λ (w : Who). IsEarlier w later) (sym mine.3.0) earlier) in
@@ -161,8 +161,8 @@ module _ (script : Script) (seat : Cpu → ℕ) (turns : List Played) (last : St
   endings-stay who later process answer how earlier of is =
       let has = process-command script later process of in
       let a = answers-of script seat turns last report run later has.0 answer has.1 is in
-      which how a.inside (going script.layout a.list (view_of last (seat later.cpu)) later process has.0 a.row.told a.row.own answer (sym (process-is script later has.0 has.1) ∙ of)
-      (subst (IsAnswerCaused script.layout a.list (view_of last (seat later.cpu)) later has.0 a.row.told a.row.own) a.answer_is a.served.caused))
+      which how a.inside (going script.layout a.earlier (view_of last (seat later.cpu)) later process has.0 a.row.told a.row.own answer (sym (process-is script later has.0 has.1) ∙ of)
+      (subst (IsAnswerCaused script.layout a.earlier (view_of last (seat later.cpu)) later has.0 a.row.told a.row.own) a.answer_is a.served.caused))
     where
       which : HasEnded script report who process ⊎ WasGone script report who process → later.cpu.0 < script.layout.cpus → IsOver answer ⊎ Saw (view_of last (seat later.cpu)) later (places.Process process) 0 → IsOver answer
       which how inside (inl over) = over

@@ -1,5 +1,5 @@
 -- The event lines of each processor are those of its commands, whose rows lead from what the banks held before to what they hold after.
-use Rattle.std.proofs.Common.{◌≡◌, ℕ, suc, ◌+◌, ◌-◌, ◌<◌, Bool, true, false, List, [], ◌∷◌, Option, Some, None, MatchBool, length, map, option_and_then, slice_get, refl, sym, ap, ◌∙◌, subst, arith}
+use Rattle.std.proofs.Common.{◌≡◌, ℕ, suc, ◌+◌, ◌-◌, ◌<◌, Bool, true, false, List, [], ◌∷◌, ◌++◌, Option, Some, None, MatchBool, length, map, option_and_then, slice_get, refl, sym, ap, ◌∙◌, subst, arith}
 use Rattle.std.proofs.lemmas.List.Sums.{length-filter}
 use Rattle.std.proofs.lemmas.Option.{slice_get_within}
 use Rattle.hwp_law_run.specs.hwp_geom.declared.Cpu.{Cpu}
@@ -116,24 +116,24 @@ module _ (script : Script) (seat : Cpu → ℕ) (turns : List Played) (last : St
         (ap (map (event_at who.seq)) told.0, told.1 ∙ ap (λ (o : Option Answer). logged_if_done o (raw_event status addr misc) before) (sym answered))
     of-command command before after told = untold before after told
 
-  module _ (cpu : Cpu) (inside : cpu.0 < script.layout.cpus) (all : List Command) (own : List Row) (own_is : slice_get end.rows cpu.0 ≡ Some own) where
+  module _ (cpu : Cpu) (inside : cpu.0 < script.layout.cpus) (own : List Row) (own_is : slice_get end.rows cpu.0 ≡ Some own) where
     -- what begins at the n-th member of a list
     abbrev StandsFrom : {A : Type 0} → ℕ → List A → List A → Type 0
     StandsFrom {A} n list whole = (i : ℕ) (x : A) → slice_get list i ≡ Some x → slice_get whole (n + i) ≡ Some x
 
     -- the commands from number n on
-    events-from : (n : ℕ) (before : Banks) (list : List Command) (rows : List Row) (after : Banks) → AreRowsServed script.layout all (view_of last (seat cpu)) cpu n before list rows after → length rows ≡ length list → StandsFrom n rows own
+    events-from : (earlier : List (Command × Answer)) (n : ℕ) (before : Banks) (list : List Command) (rows : List Row) (after : Banks) → AreRowsServed script.layout earlier (view_of last (seat cpu)) cpu n before list rows after → length rows ≡ length list → StandsFrom n rows own
         → AreEventsFrom script report cpu n list before
-    events-from n before [] rows after are fit of_rows = tt
-    events-from n before (c ∷ cs) [] after are fit of_rows = absurd (let none : 0 ≡ suc (length cs) = fit in omega arith)
-    events-from n before (c ∷ cs) (row ∷ rows) after (between, served, rest) fit of_rows =
+    events-from earlier n before [] rows after are fit of_rows = tt
+    events-from earlier n before (c ∷ cs) [] after are fit of_rows = absurd (let none : 0 ≡ suc (length cs) = fit in omega arith)
+    events-from earlier n before (c ∷ cs) (row ∷ rows) after (between, served, rest) fit of_rows =
         let who : Who = record { cpu = cpu; seq = n } in
         let same : n + 0 ≡ n = omega arith in
         let row_is : row_at end.rows who ≡ Some row = ap (λ (o : Option (List Row)). option_and_then (λ (l : List Row). slice_get l n) o) own_is ∙ subst (λ (k : ℕ). slice_get own k ≡ Some row) same (of_rows 0 row refl) in
         let told : events_of report who ≡ map (event_at n) row.told = events-by-row script seat last report end who ∙ ap (λ (o : Option Row). map (event_at n) (told_at o)) row_is in (
           between,
           subst (λ (es : List EventLine). AreEventsOf script report who (arrival_of c) c before es between) (sym told) (of-command who inside row row_is c before between served.told),
-          events-from (n + 1) between cs rows after rest (let one : suc (length rows) ≡ suc (length cs) = fit in let less : length rows ≡ length cs = omega arith in less)
+          events-from (earlier ++ (c, row.answer) ∷ []) (n + 1) between cs rows after rest (let one : suc (length rows) ≡ suc (length cs) = fit in let less : length rows ≡ length cs = omega arith in less)
               (λ i r there. let more : n + suc i ≡ (n + 1) + i = omega arith in subst (λ (k : ℕ). slice_get own k ≡ Some r) more (of_rows (suc i) r there)),
         )
 
@@ -142,5 +142,5 @@ module _ (script : Script) (seat : Cpu → ℕ) (turns : List Played) (last : St
       let inside : cpu.0 < script.layout.cpus = subst (λ (n : ℕ). cpu.0 < n) end.lists_fit (slice_get_within script.lists cpu.0 list list_is) in
       let own = rows-of script seat last report end cpu inside in
       let served = (served-of script seat last report end cpu list own.0 list_is own.1).0 in
-      events-from cpu inside list own.0 own.1 0 empty_banks list own.0 served.banks served.rows_are served.count
+      events-from cpu inside own.0 own.1 [] 0 empty_banks list own.0 served.banks served.rows_are served.count
       (λ i r there. let same : i ≡ 0 + i = omega arith in subst (λ (k : ℕ). slice_get own.0 k ≡ Some r) same there)

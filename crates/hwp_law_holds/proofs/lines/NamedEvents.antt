@@ -1,6 +1,6 @@
 -- Each event that a bank holds, and each failure that a command tells, is of a frame that the script names: a raw event's, or one that
 -- has a bad line.
-use Rattle.std.proofs.Common.{◌≡◌, ◌⊎◌, inl, inr, ℕ, zero, suc, ◌+◌, ◌*◌, ◌<◌, ◌==◌, ◌||◌, Bool, true, false, cond, List, [], ◌∷◌, Option, None, Some, length, slice_get, slice_index_or, refl, sym, ap, ◌∙◌, subst, arith}
+use Rattle.std.proofs.Common.{◌≡◌, ◌⊎◌, inl, inr, ℕ, zero, suc, ◌+◌, ◌*◌, ◌<◌, ◌==◌, ◌||◌, Bool, true, false, cond, List, [], ◌∷◌, ◌++◌, Option, None, Some, length, slice_get, slice_index_or, refl, sym, ap, ◌∙◌, subst, arith}
 use Rattle.std.specs.Int.{bit_at}
 use Rattle.std.specs.List.{cons_option, filter_map, flat_map, list_any}
 use Rattle.std.proofs.lemmas.Bool.{eq-eqb}
@@ -241,13 +241,13 @@ module _ (P : ℕ → Type 0) where
     row-such command answer before told after own raw are is each = untold-such before told after is each
 
   -- of all commands of a processor
-  rows-such : (layout : Layout) (list : List Command) (view : View) (cpu : Cpu) (n : ℕ) (before : Banks) (cs : List Command) (rows : List Row) (after : Banks) → ((who : Who) (line mask : ℕ) (frame : Frame) → bit_at mask line ≡ 1 → Saw view who (places.Bad frame) mask → P (line_address frame line))
-      → ((k status addr misc : ℕ) → slice_get cs k ≡ Some (commands.Log status addr misc) → P addr) → AreBanks before → AreRowsServed layout list view cpu n before cs rows after → HoldSuch P before → EachMember (λ (row : Row). AreSuch P row.told) rows
-  rows-such layout list view cpu n before cs [] after own raw free are each = λ i row there. absurd (none-some row there)
-  rows-such layout list view cpu n before [] (row ∷ rows) after own raw free are each = absurd are
-  rows-such layout list view cpu n before (c ∷ cs) (row ∷ rows) after own raw free (between, served, rest) each =
+  rows-such : (layout : Layout) (earlier : List (Command × Answer)) (view : View) (cpu : Cpu) (n : ℕ) (before : Banks) (cs : List Command) (rows : List Row) (after : Banks) → ((who : Who) (line mask : ℕ) (frame : Frame) → bit_at mask line ≡ 1 → Saw view who (places.Bad frame) mask → P (line_address frame line))
+      → ((k status addr misc : ℕ) → slice_get cs k ≡ Some (commands.Log status addr misc) → P addr) → AreBanks before → AreRowsServed layout earlier view cpu n before cs rows after → HoldSuch P before → EachMember (λ (row : Row). AreSuch P row.told) rows
+  rows-such layout earlier view cpu n before cs [] after own raw free are each = λ i row there. absurd (none-some row there)
+  rows-such layout earlier view cpu n before [] (row ∷ rows) after own raw free are each = absurd are
+  rows-such layout earlier view cpu n before (c ∷ cs) (row ∷ rows) after own raw free (between, served, rest) each =
       let such = row-such layout view (record { cpu = cpu; seq = n }) c row.answer before row.told between (own (record { cpu = cpu; seq = n })) (λ status addr misc is. raw 0 status addr misc (ap (λ (x : Command). Some x) is)) free served.told each in
-      each-cons (λ (r : Row). AreSuch P r.told) row rows such.0 (rows-such layout list view cpu (n + 1) between cs rows after own (λ k status addr misc there. raw (suc k) status addr misc there) (row-free layout view (record { cpu = cpu; seq = n }) c row.answer before row.told between served.told free) rest such.1)
+      each-cons (λ (r : Row). AreSuch P r.told) row rows such.0 (rows-such layout (earlier ++ (c, row.answer) ∷ []) view cpu (n + 1) between cs rows after own (λ k status addr misc there. raw (suc k) status addr misc there) (row-free layout view (record { cpu = cpu; seq = n }) c row.answer before row.told between served.told free) rest such.1)
 
 -- ---- at the end
 
@@ -268,4 +268,4 @@ module _ (script : Script) (seat : Cpu → ℕ) (last : State) (report : Report)
   pub events-named : (cpu : Cpu) (list : List Command) (own : List Row) → cpu.0 < script.layout.cpus → slice_get script.lists cpu.0 ≡ Some list → slice_get end.rows cpu.0 ≡ Some own → EachMember (λ (row : Row). AreSuch IsNamed row.told) own
   events-named cpu list own inside list_is own_is =
       let served = (served-of script seat last report end cpu list own list_is own_is).0 in
-      rows-such IsNamed script.layout list (view_of last (seat cpu)) cpu 0 empty_banks list own served.banks (bad-named cpu inside) (λ k status addr misc there. named-of (frame_at addr) script.lists cpu.0 k list (commands.Log status addr misc) list_is there refl) empty-free served.rows_are (empty-such IsNamed bank_count)
+      rows-such IsNamed script.layout [] (view_of last (seat cpu)) cpu 0 empty_banks list own served.banks (bad-named cpu inside) (λ k status addr misc there. named-of (frame_at addr) script.lists cpu.0 k list (commands.Log status addr misc) list_is there refl) empty-free served.rows_are (empty-such IsNamed bank_count)

@@ -88,32 +88,32 @@ found_or other (owns.Failed frame found) = found
 found_or other (owns.Offlined frame cycle moved) = other
 found_or other (owns.Revived frame cycle) = other
 
-module _ (layout : Layout) (list : List Command) (view : View) (who : Who) (told : List EventOutcome) where
+module _ (layout : Layout) (earlier : List (Command × Answer)) (view : View) (who : Who) (told : List EventOutcome) where
   -- the failure is the one that the answer came from
   come-so : (frame : Frame) (found : Found) (outcome : Outcome) → HasCome layout view who frame (Some (owns.Failed frame found)) outcome → HasFailed layout view who frame found
   come-so frame found outcome come = subst (HasFailed layout view who frame) (ap (found_or found) (same_Some (owns.Failed frame come.found) (owns.Failed frame found) (sym come.own_is))) come.failed
 
-  failed-so : (frame : Frame) (found : Found) (outcome : Outcome) → IsAnswerCaused layout list view who (commands.Inject frame) told (Some (owns.Failed frame found)) (outcome_answer outcome) → HasFailed layout view who frame found
+  failed-so : (frame : Frame) (found : Found) (outcome : Outcome) → IsAnswerCaused layout earlier view who (commands.Inject frame) told (Some (owns.Failed frame found)) (outcome_answer outcome) → HasFailed layout view who frame found
   failed-so frame found outcomes.Recovered caused = come-so frame found outcomes.Recovered caused.1
   failed-so frame found outcomes.Delayed caused = come-so frame found outcomes.Delayed caused.1
   failed-so frame found outcomes.Ignored caused = come-so frame found outcomes.Ignored caused.1
 
   -- the kernel's frames aren't taken out of use
-  users-so : (frame : Frame) (own : Option FrameChange) (moved : Bool) (answer : Answer) → IsOfflined moved answer → IsAnswerCaused layout list view who (commands.Soft frame) told own answer → slice_get layout.kernel frame.0 ≡ Some false
-  users-so frame own false answer is caused = (subst (IsAnswerCaused layout list view who (commands.Soft frame) told own) is caused).0
+  users-so : (frame : Frame) (own : Option FrameChange) (moved : Bool) (answer : Answer) → IsOfflined moved answer → IsAnswerCaused layout earlier view who (commands.Soft frame) told own answer → slice_get layout.kernel frame.0 ≡ Some false
+  users-so frame own false answer is caused = (subst (IsAnswerCaused layout earlier view who (commands.Soft frame) told own) is caused).0
   users-so frame own true answer is caused = which answer is caused
     where
-      which : (a : Answer) → is_moved (Some a) ≡ true → IsAnswerCaused layout list view who (commands.Soft frame) told own a → slice_get layout.kernel frame.0 ≡ Some false
+      which : (a : Answer) → is_moved (Some a) ≡ true → IsAnswerCaused layout earlier view who (commands.Soft frame) told own a → slice_get layout.kernel frame.0 ≡ Some false
       which (answers.Moved other at) is caused = caused.0
       which a is caused = absurd (true≢false (sym is))
 
-  pub own-so : (command : Command) (answer : Answer) (own : FrameChange) → IsOwn command answer (Some own) → IsAnswerCaused layout list view who command told (Some own) answer → IsOwnRight layout view who command answer own
+  pub own-so : (command : Command) (answer : Answer) (own : FrameChange) → IsOwn command answer (Some own) → IsAnswerCaused layout earlier view who command told (Some own) answer → IsOwnRight layout view who command answer own
   own-so (commands.Inject f) answer (owns.Failed frame found) (same, came) caused = record {
     command_is = ap commands.Inject (sym same);
     answer_is = came;
     failed = failed-so frame found (outcome_of found.situation)
-        (subst (λ (x : Frame). IsAnswerCaused layout list view who (commands.Inject x) told (Some (owns.Failed frame found)) (outcome_answer (outcome_of found.situation))) (sym same)
-        (subst (IsAnswerCaused layout list view who (commands.Inject f) told (Some (owns.Failed frame found))) came caused));
+        (subst (λ (x : Frame). IsAnswerCaused layout earlier view who (commands.Inject x) told (Some (owns.Failed frame found)) (outcome_answer (outcome_of found.situation))) (sym same)
+        (subst (IsAnswerCaused layout earlier view who (commands.Inject f) told (Some (owns.Failed frame found))) came caused));
   }
   own-so (commands.Soft f) answer (owns.Offlined frame cycle moved) (same, is) caused = record {
     command_is = ap commands.Soft (sym same);
@@ -154,5 +154,5 @@ module _ (script : Script) (seat : Cpu → ℕ) (last : State) (report : Report)
   pub own-of : (who : Who) (row : Row) (r : OfRow who row) (own : FrameChange) → row.own ≡ Some own → IsOwnRight script.layout (view_of last (seat who.cpu)) who r.of.command r.of.row.answer own
   own-of who row r own own_is =
       let is : r.of.row.own ≡ Some own = ap (λ (x : Row). x.own) r.same ∙ own_is in
-      own-so script.layout r.of.list (view_of last (seat who.cpu)) who r.of.row.told r.of.command r.of.row.answer own (subst (IsOwn r.of.command r.of.row.answer) is r.of.served.accounted.own)
-      (subst (λ (o : Option FrameChange). IsAnswerCaused script.layout r.of.list (view_of last (seat who.cpu)) who r.of.command r.of.row.told o r.of.row.answer) is r.of.served.caused)
+      own-so script.layout r.of.earlier (view_of last (seat who.cpu)) who r.of.row.told r.of.command r.of.row.answer own (subst (IsOwn r.of.command r.of.row.answer) is r.of.served.accounted.own)
+      (subst (λ (o : Option FrameChange). IsAnswerCaused script.layout r.of.earlier (view_of last (seat who.cpu)) who r.of.command r.of.row.told o r.of.row.answer) is r.of.served.caused)

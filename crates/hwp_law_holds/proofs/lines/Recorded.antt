@@ -306,7 +306,7 @@ module _ (script : Script) (seat : Cpu → ℕ) (last : State) (report : Report)
     moves-with : entries_of report who is_soft ≡ marks_in report (is_move_mark who)
     moves-with =
         let entries : entries_of report who is_soft ≡ moves_by of.of.row.own
-        = entries-inside script seat last report end who is_soft of.of.inside ∙ softs-counted script.layout of.of.list view who of.of.command of.of.row of.of.served.caused of.of.served.accounted in
+        = entries-inside script seat last report end who is_soft of.of.inside ∙ softs-counted script.layout of.of.earlier view who of.of.command of.of.row of.of.served.caused of.of.served.accounted in
         let same : moves_by of.of.row.own ≡ moves_by row.own = ap (λ (r : Row). moves_by r.own) of.same in
         let all : marks_in report (is_move_mark who) ≡ sum_by (λ (t : EventOutcome). counts (λ (n : Note). is_move (how_in n.1)) (told_note who t)) row.told + counts (λ (n : Note). is_move (how_in n.1)) (own_note who row.own) = marks-are (λ (x : MarkLine). is_move (how_in x)) in
         let told : sum_by (λ (t : EventOutcome). counts (λ (n : Note). is_move (how_in n.1)) (told_note who t)) row.told ≡ 0 = sum-zero (λ (t : EventOutcome). counts (λ (n : Note). is_move (how_in n.1)) (told_note who t)) row.told (λ i t there. still t.found t) in

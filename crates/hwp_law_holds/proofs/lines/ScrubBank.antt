@@ -1,5 +1,5 @@
 -- The scrubber's bank holds nothing between commands, and so it holds the event of a scrub's line alone.
-use Rattle.std.proofs.Common.{◌≡◌, ◌⊎◌, inl, inr, ℕ, ◌+◌, List, [], ◌∷◌, Option, Some, None, MatchBool, Bool, true, false, map, set, slice_get, slice_index_or, refl, sym, ap, ◌∙◌, subst}
+use Rattle.std.proofs.Common.{◌≡◌, ◌⊎◌, inl, inr, ℕ, ◌+◌, List, [], ◌∷◌, ◌++◌, Option, Some, None, MatchBool, Bool, true, false, map, set, slice_get, slice_index_or, refl, sym, ap, ◌∙◌, subst}
 use Rattle.std.proofs.lemmas.List.{length-set}
 use Rattle.std.proofs.lemmas.Option.{get_or_from_slice_get, none-some, same_Some}
 use Rattle.hwp_law_run.specs.hwp_geom.declared.Cpu.{Cpu}
@@ -89,11 +89,11 @@ module _ (layout : Layout) (view : View) (who : Who) where
   row-free command answer before told after is are = left-free before after is.1 are
 
 -- commands that are answered leave the scrubber's bank with nothing
-pub banks-free : (layout : Layout) (list : List Command) (view : View) (cpu : Cpu) (n : ℕ) (before : Banks) (commands : List Command) (rows : List Row) (after : Banks) → AreRowsServed layout list view cpu n before commands rows after → AreBanks before → AreBanks after
-banks-free layout list view cpu n before cs [] after same are = left-free before after same are
-banks-free layout list view cpu n before [] (row ∷ rows) after served are = absurd served
-banks-free layout list view cpu n before (c ∷ cs) (row ∷ rows) after (between, served, rest) are =
-    banks-free layout list view cpu (n + 1) between cs rows after rest (row-free layout view (record { cpu = cpu; seq = n }) c row.answer before row.told between served.told are)
+pub banks-free : (layout : Layout) (earlier : List (Command × Answer)) (view : View) (cpu : Cpu) (n : ℕ) (before : Banks) (commands : List Command) (rows : List Row) (after : Banks) → AreRowsServed layout earlier view cpu n before commands rows after → AreBanks before → AreBanks after
+banks-free layout earlier view cpu n before cs [] after same are = left-free before after same are
+banks-free layout earlier view cpu n before [] (row ∷ rows) after served are = absurd served
+banks-free layout earlier view cpu n before (c ∷ cs) (row ∷ rows) after (between, served, rest) are =
+    banks-free layout (earlier ++ (c, row.answer) ∷ []) view cpu (n + 1) between cs rows after rest (row-free layout view (record { cpu = cpu; seq = n }) c row.answer before row.told between served.told are)
 
 -- ---- the event of a line
 

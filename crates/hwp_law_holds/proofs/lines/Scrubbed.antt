@@ -48,17 +48,17 @@ is_whole (answers.Scrubbed n) = true
 is_whole _ = false
 
 -- a command that spoils a line did so, or found the machine stopped
-spoiled-or : (layout : Layout) (list : List Command) (view : View) (who : Who) (frame : Frame) (n : ℕ) (damage : Damage) (told : List EventOutcome) (own : Option FrameChange) (answer : Answer) → IsAnswerCaused layout list view who (spoiling damage frame n) told own answer
+spoiled-or : (layout : Layout) (earlier : List (Command × Answer)) (view : View) (who : Who) (frame : Frame) (n : ℕ) (damage : Damage) (told : List EventOutcome) (own : Option FrameChange) (answer : Answer) → IsAnswerCaused layout earlier view who (spoiling damage frame n) told own answer
     → HasSpoiledLine view who frame n damage ⊎ (answer ≡ answers.Stopped)
-spoiled-or layout list view who frame n damage told own answers.Stopped caused = inr refl
-spoiled-or layout list view who frame n damages.Bad told own answers.Done caused = inl caused
-spoiled-or layout list view who frame n damages.Weak told own answers.Done caused = inl caused
-spoiled-or layout list view who frame n damages.Bad told own (answers.Sigbus at) (inl never) = absurd never
-spoiled-or layout list view who frame n damages.Bad told own (answers.Sigbus at) (inr never) = absurd never
-spoiled-or layout list view who frame n damages.Weak told own (answers.Sigbus at) (inl never) = absurd never
-spoiled-or layout list view who frame n damages.Weak told own (answers.Sigbus at) (inr never) = absurd never
-spoiled-or layout list view who frame n damages.Bad told own answer caused = absurd caused
-spoiled-or layout list view who frame n damages.Weak told own answer caused = absurd caused
+spoiled-or layout earlier view who frame n damage told own answers.Stopped caused = inr refl
+spoiled-or layout earlier view who frame n damages.Bad told own answers.Done caused = inl caused
+spoiled-or layout earlier view who frame n damages.Weak told own answers.Done caused = inl caused
+spoiled-or layout earlier view who frame n damages.Bad told own (answers.Sigbus at) (inl never) = absurd never
+spoiled-or layout earlier view who frame n damages.Bad told own (answers.Sigbus at) (inr never) = absurd never
+spoiled-or layout earlier view who frame n damages.Weak told own (answers.Sigbus at) (inl never) = absurd never
+spoiled-or layout earlier view who frame n damages.Weak told own (answers.Sigbus at) (inr never) = absurd never
+spoiled-or layout earlier view who frame n damages.Bad told own answer caused = absurd caused
+spoiled-or layout earlier view who frame n damages.Weak told own answer caused = absurd caused
 
 -- a line that the word marks is no lower than the lowest
 lowest-met : (word line : ℕ) (met : Option ℕ) → IsLowest word met → bit_at word line ≡ 1 → IsSomeAnd met (λ (k : ℕ). k ≤ line)
@@ -91,8 +91,8 @@ module _ (script : Script) (seat : Cpu → ℕ) (last : State) (report : Report)
       let by = command-of script seat last report end earlier list (spoiling damage frame line) list_is there in
       let lists_same : by.list ≡ list = same_Some by.list list (sym by.list_is ∙ list_is) in
       let command : by.command ≡ spoiling damage frame line = same_Some by.command (spoiling damage frame line) (sym by.command_is ∙ ap (λ (l : List Command). slice_get l earlier.seq) lists_same ∙ there) in
-      let caused = subst (λ (c : Command). IsAnswerCaused script.layout by.list (view_of last (seat earlier.cpu)) earlier c by.row.told by.row.own by.row.answer) command by.served.caused in
-      which by (spoiled-or script.layout by.list (view_of last (seat earlier.cpu)) earlier frame line damage by.row.told by.row.own by.row.answer caused)))
+      let caused = subst (λ (c : Command). IsAnswerCaused script.layout by.earlier (view_of last (seat earlier.cpu)) earlier c by.row.told by.row.own by.row.answer) command by.served.caused in
+      which by (spoiled-or script.layout by.earlier (view_of last (seat earlier.cpu)) earlier frame line damage by.row.told by.row.own by.row.answer caused)))
     where
       which : (by : IsOf script end.rows (view_of last (seat earlier.cpu)) earlier) → HasSpoiledLine (view_of last (seat earlier.cpu)) earlier frame line damage ⊎ (by.row.answer ≡ answers.Stopped) → HasSpoiledLine view earlier frame line damage
       which by (inl has) = subst (λ (c : Cpu). HasSpoiledLine (view_of last (seat c)) earlier frame line damage) before.0 has

@@ -94,10 +94,10 @@ spoil-is frame n damages.Weak s is =
     let two = and_parts (s.line == n) (not (is_bad s.damage)) one.1 in
     record { frame_is = ap (λ (i : ℕ). record { 0 = i }) (eqb-true s.frame.0 frame.0 one.0); line_is = eqb-true s.line n two.0; damage_is = is-weak s.damage two.1 }
 
-spoil-cause : (layout : Layout) (list : List Command) (view : View) (who : Who) (frame : Frame) (n : ℕ) (damage : Damage) (told : List EventOutcome) (own : Option FrameChange) → IsAnswerCaused layout list view who (spoiling damage frame n) told own answers.Done
+spoil-cause : (layout : Layout) (earlier : List (Command × Answer)) (view : View) (who : Who) (frame : Frame) (n : ℕ) (damage : Damage) (told : List EventOutcome) (own : Option FrameChange) → IsAnswerCaused layout earlier view who (spoiling damage frame n) told own answers.Done
     → HasSpoiledLine view who frame n damage
-spoil-cause layout list view who frame n damages.Bad told own caused = caused
-spoil-cause layout list view who frame n damages.Weak told own caused = caused
+spoil-cause layout earlier view who frame n damages.Bad told own caused = caused
+spoil-cause layout earlier view who frame n damages.Weak told own caused = caused
 
 -- ---- the lines
 
@@ -132,9 +132,9 @@ module _ (script : Script) (seat : Cpu → ℕ) (last : State) (report : Report)
       let command : of.command ≡ spoiling damage frame n = same_Some of.command (spoiling damage frame n) (sym of.command_is ∙ ap (λ (l : List Command). slice_get l who.seq) lists_same ∙ there) in
       let answer : of.row.answer ≡ answers.Done = same_Some of.row.answer answers.Done (sym (answer-told script seat last report end (view_of last (seat who.cpu)) who of) ∙ answered) in (
         of.inside,
-        spoil-cause script.layout of.list (view_of last (seat who.cpu)) who frame n damage of.row.told of.row.own
-            (subst (λ (c : Command). IsAnswerCaused script.layout of.list (view_of last (seat who.cpu)) who c of.row.told of.row.own answers.Done) command
-            (subst (IsAnswerCaused script.layout of.list (view_of last (seat who.cpu)) who of.command of.row.told of.row.own) answer of.served.caused)),
+        spoil-cause script.layout of.earlier (view_of last (seat who.cpu)) who frame n damage of.row.told of.row.own
+            (subst (λ (c : Command). IsAnswerCaused script.layout of.earlier (view_of last (seat who.cpu)) who c of.row.told of.row.own answers.Done) command
+            (subst (IsAnswerCaused script.layout of.earlier (view_of last (seat who.cpu)) who of.command of.row.told of.row.own) answer of.served.caused)),
       )))
 
   abbrev words : Words

@@ -36,6 +36,7 @@ use Rattle.hwp_law_run.proofs.of_hwp_core_task.StepLeaves.{content_of}
 use Rattle.hwp_law_run.specs.hwp_core_task.Known.{deeds, is_by}
 use Rattle.hwp_law_run.proofs.of_hwp_core_task.MadeEntries.{PutsNone}
 use Rattle.hwp_law_run.specs.hwp_script_read.declared.Command.{Command}
+use Rattle.hwp_law_run.specs.hwp_report_text.declared.Answer.{Answer}
 use Rattle.hwp_law_run.specs.hwp_law_commands.Commands.{can_fail}
 use Rattle.hwp_law_run.specs.hwp_law.Entries.{Makes}
 use Rattle.hwp_cpu_row.specs.declared.Row.{Row}
@@ -168,6 +169,6 @@ lossless-so : (command : Command) (what : What) → can_fail command ≡ false �
 lossless-so command (entries.Fail situation required seen signals) cannot makes = absurd (true≢false (sym makes.0 ∙ cannot))
 lossless-so command what cannot makes = refl
 
-pub lossless : (layout : Layout) (list : List Command) (view : View) (who : Who) (command : Command) (row : Row) → can_fail command ≡ false → IsCaused layout list view who command row → IsAccounted view who command row → losses_by who view ≡ 0
-lossless layout list view who command row cannot caused account =
-    sum-zero loss_of (deeds who view) (λ i m at. ap from_bool (lossless-so command m.entry.what cannot (are-deeds layout list view who command row caused account i m at).makes))
+pub lossless : (layout : Layout) (earlier : List (Command × Answer)) (view : View) (who : Who) (command : Command) (row : Row) → can_fail command ≡ false → IsCaused layout earlier view who command row → IsAccounted view who command row → losses_by who view ≡ 0
+lossless layout earlier view who command row cannot caused account =
+    sum-zero loss_of (deeds who view) (λ i m at. ap from_bool (lossless-so command m.entry.what cannot (are-deeds layout earlier view who command row caused account i m at).makes))

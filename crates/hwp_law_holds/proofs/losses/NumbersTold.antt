@@ -22,9 +22,8 @@ use Rattle.hwp_law_run.specs.hwp_law.Losses.{number_by, numbers_after, tells_num
 use Rattle.hwp_law_run.proofs.Homes.{there-is}
 use Rattle.hwp_cpu_row.specs.declared.Row.{Row}
 use Rattle.hwp_law_holds.specs.Handles.{KnowsNumber, KnowsNumbers, answers_by}
-use Rattle.hwp_law_holds.specs.Rows.{lines_from}
 use Rattle.hwp_law_holds.proofs.Handles.{numbers-next}
-use Rattle.hwp_law_holds.proofs.RowLines.{answers-split}
+use Rattle.hwp_law_holds.proofs.RowLines.{answers-of-rows}
 use Rattle.hwp_law_holds.proofs.RunEnds.{IsEnd, rows-of-lines}
 
 -- a pair of two lists is of members at one place
@@ -33,13 +32,6 @@ zip-at [] ys i p there = absurd (none-some p there)
 zip-at (x ∷ xs) [] i p there = absurd (none-some p there)
 zip-at {A} {B} (x ∷ xs) (y ∷ ys) zero p there = let same : (x, y) ≡ p = same_Some (x, y) p there in (ap (λ (q : A × B). Some q.0) same, ap (λ (q : A × B). Some q.1) same)
 zip-at (x ∷ xs) (y ∷ ys) (suc i) p there = zip-at xs ys i p there
-
--- the answers in the lines of rows are those of the rows
-pub answers-of-rows : (n : ℕ) (rows : List Row) → map (λ (l : AnswerLine). l.answer) (filter_map answer_in (lines_from n rows)) ≡ map (λ (r : Row). r.answer) rows
-answers-of-rows n [] = refl
-answers-of-rows n (row ∷ rows) =
-    ap (map (λ (l : AnswerLine). l.answer)) (answers-split n row rows)
-    ∙ ap (λ (l : List Answer). row.answer ∷ l) (answers-of-rows (n + 1) rows)
 
 -- a pair of a command and its row's answer is of such
 known-by-rows : (layout : Layout) (view : View) (cpu : Cpu) (list : List Command) (rows : List Row) → KnowsNumbers layout view cpu list rows → (file : FileNo) (i : ℕ) (p : Command × Answer) → slice_get {X = Command × Answer} (answers_by list rows) i ≡ Some p → tells_number file p.0 p.1 ≡ true

@@ -1,9 +1,9 @@
 -- The policies that a failure's entry lists as seen are policies that their threads had, those of the failing processor's threads
 -- the ones that they had then; and later commands of a processor see no fewer settings.
-use Rattle.std.proofs.Common.{◌≡◌, ℕ, zero, suc, ◌+◌, ◌*◌, ◌<◌, ◌≤◌, ◌&&◌, true, List, [], ◌∷◌, ◌++◌, Option, None, Some, fold, filter, length, map, take, slice_get, slice_index, slice_index_or, option_and_then, unwrap_or, refl, sym, ap, ◌∙◌, subst, arith, true≢false}
-use Rattle.std.specs.Prelude.{Contains, is_some}
-use Rattle.std.specs.Int.{from_bool}
-use Rattle.std.proofs.lemmas.List.{length-append, length-map, length-take}
+use Rattle.std.proofs.Common.{◌≡◌, ℕ, zero, suc, ◌+◌, ◌*◌, ◌<◌, ◌≤◌, true, List, [], ◌∷◌, Option, None, Some, fold, filter, length, map, take, slice_get, slice_index, slice_index_or, option_and_then, option_map, unwrap_or, refl, sym, ap, ◌∙◌, subst, arith, true≢false}
+use Rattle.std.specs.Prelude.{Contains}
+use Rattle.std.specs.List.{cons_option}
+use Rattle.std.proofs.lemmas.List.{length-map, length-take}
 use Rattle.std.proofs.lemmas.Option.{same_Some, slice_get-get_or, slice_get_within}
 use Rattle.hwp_law_run.specs.hwp_geom.declared.Cpu.{Cpu}
 use Rattle.hwp_law_run.specs.hwp_geom.declared.Frame.{Frame}
@@ -29,35 +29,37 @@ use Rattle.hwp_law_run.specs.hwp_core_rule.Words.{index}
 use Rattle.hwp_law_run.specs.hwp_core_rule.parts.Entries.{HasPolicy, HasSeen}
 use Rattle.hwp_law_run.specs.hwp_core_rule.parts.Holdings.{IsPast}
 use Rattle.hwp_law_run.specs.hwp_core_rule.parts.Policies.{last_policy as last_set, settings_of}
-use Rattle.hwp_law_run.proofs.of_hwp_core_rule.Lists.{at_map}
+use Rattle.hwp_law_run.proofs.of_hwp_core_rule.Lists.{at_map, map-was}
 use Rattle.hwp_law_run.specs.hwp_core_task.Boards.{Played, view_of}
 use Rattle.hwp_law_run.specs.hwp_script_read.declared.Command.{Command}
 use Rattle.hwp_law_run.specs.hwp_script_read.declared.Command.TheVariants as commands
 use Rattle.hwp_law_run.specs.hwp_script_read.declared.Script.{Script}
 use Rattle.hwp_law_run.specs.hwp_report_text.declared.Answer.{Answer}
-use Rattle.hwp_law_run.specs.hwp_report_text.declared.CpuLine.{CpuLine}
 use Rattle.hwp_law_run.specs.hwp_report_text.declared.Report.{Report}
 use Rattle.hwp_law_run.specs.hwp_law_commands.Commands.{can_fail}
 use Rattle.hwp_law_run.specs.hwp_law.Entries.{Makes}
-use Rattle.hwp_law_run.specs.hwp_law.Lines.{answer_among, answer_of, rows_of}
 use Rattle.hwp_law_run.specs.hwp_law.Places.{entry_at}
 use Rattle.hwp_law_run.specs.hwp_law_commands.Settings.{last_policy, setting_of, settings}
-use Rattle.hwp_law_run.specs.hwp_law.Policies.{commands_before}
-use Rattle.hwp_law_run.specs.hwp_law.SeenPolicies.{AreSeen, IsOwnCount, IsPolicySeen, SeenNeverFalls, commands_around, cpu_of_thread, is_done, seen_in, settings_done}
+use Rattle.hwp_law_run.specs.hwp_law.Policies.{answered_before, answered_on}
+use Rattle.hwp_law_run.specs.hwp_law.SeenPolicies.{AreSeen, IsOwnCount, IsPolicySeen, SeenNeverFalls, answered_around, cpu_of_thread, seen_in}
 use Rattle.hwp_law_run.proofs.Reported.{entry-listed}
+use Rattle.hwp_cpu_row.specs.declared.Row.{Row}
 use Rattle.hwp_law_holds.specs.Accounts.{is_same, set_by}
+use Rattle.hwp_law_holds.specs.Handles.{answers_by}
 use Rattle.hwp_law_holds.specs.Rows.{lines_from}
 use Rattle.hwp_law_holds.specs.Runs.{IsRunOf}
 use Rattle.hwp_law_holds.specs.Served.{IsServed}
 use Rattle.hwp_law_holds.proofs.RunKeeps.{run-keeps}
-use Rattle.hwp_law_holds.proofs.RunEnds.{IsEnd, IsOf, command-of, list-of, own-view, rows-of, served-of}
+use Rattle.hwp_law_holds.proofs.RunEnds.{IsEnd, IsOf, command-of, list-of, own-view, rows-of, same-row, served-of}
 use Rattle.hwp_law_holds.proofs.endings.Gone.{names-inside}
 use Rattle.hwp_law_holds.proofs.LastBoard.{ended}
 use Rattle.hwp_law_holds.proofs.deeds.Made.{does}
 use Rattle.hwp_law_holds.proofs.policies.PolicyCounts.{made_before, number-back, number_in}
 use Rattle.hwp_law_holds.proofs.policies.PolicyDone.{are_of, before-done, set-count, set_of, step-count}
 use Rattle.hwp_law_holds.proofs.policies.PolicySeen.{IsPoliced, KnowPolicies, agrees, policies-kept}
-use Rattle.hwp_law_holds.proofs.RowLines.{answer-told}
+use Rattle.hwp_law_holds.proofs.RowLines.{answered-so}
+use Rattle.hwp_law_holds.proofs.Handles.{pair-there}
+use Rattle.hwp_law_holds.proofs.losses.NumbersTold.{zip-at}
 
 -- ---- policies
 
@@ -85,11 +87,6 @@ same-word n k p q is =
 last-of : (p : Policy) (list : List Setting) → fold (λ (earlier later : Policy). later) p (map (λ (g : Setting). g.policy) list) ≡ last_set p list
 last-of p [] = refl
 last-of p (g ∷ gs) = last-of g.policy gs
-
-take-front : {A : Type 0} (n : ℕ) (xs ys : List A) → n ≤ length xs → take n (xs ++ ys) ≡ take n xs
-take-front zero xs ys few = refl
-take-front (suc n) [] ys few = absurd (omega (arith, few))
-take-front {A} (suc n) (x ∷ xs) ys few = ap (λ (l : List A). x ∷ l) (take-front n xs ys (let less : suc n ≤ suc (length xs) = few in omega (arith, less)))
 
 take-mapped : {A B : Type 0} (f : A → B) (n : ℕ) (xs : List A) → take n (map f xs) ≡ map f (take n xs)
 take-mapped f zero xs = refl
@@ -160,18 +157,17 @@ module _ (script : Script) (seat : Cpu → ℕ) (turns : List Played) (last : St
     abbrev set_there : List Setting
     set_there = settings_of seen.thread (view_of last (seat cpu)).settings
 
-    list : (l : List Command) × (slice_get script.lists cpu.0 ≡ Some l)
-    list = list-of script seat last report end cpu cpu-inside
-
     cpu-is : cpu_of_thread script seen.thread ≡ Some cpu
     cpu-is = ap (λ (o : Option ThreadDecl). option_and_then (λ (t : ThreadDecl). Some t.cpu) o) policed.declared
 
-    around : commands_around script seen.thread ≡ list.0
-    around = ap (λ (o : Option Cpu). unwrap_or (option_and_then (λ (c : Cpu). slice_get script.lists c.0) o) []) cpu-is ∙ ap (λ (o : Option (List Command)). unwrap_or o []) list.1
-
-    -- those that the processor's view lists are the first of those that the script sets
-    front : (rest : List Policy) × (settings seen.thread list.0 ≡ map (λ (g : Setting). g.policy) set_there ++ rest)
-    front = let rows = rows-of script seat last report end cpu cpu-inside in (served-of script seat last report end cpu list.0 rows.0 list.1 rows.1).0.policies seen.thread
+    -- those that the processor's view lists are those that its commands set
+    all : settings seen.thread (answered_around script report seen.thread) ≡ map (λ (g : Setting). g.policy) set_there
+    all =
+        let list = list-of script seat last report end cpu cpu-inside in
+        let rows = rows-of script seat last report end cpu cpu-inside in
+        ap (λ (o : Option Cpu). settings seen.thread (unwrap_or (option_map (answered_on script report) o) [])) cpu-is
+        ∙ ap (settings seen.thread) (answered-so script seat last report end cpu list.0 rows.0 list.1 rows.1)
+        ∙ sym ((served-of script seat last report end cpu list.0 rows.0 list.1 rows.1).0.policies seen.thread)
 
     -- the word is the one after some of them
     then : (n : ℕ) × (n ≤ length set_there) × (saw.sight.word ≡ policy_at (length (take n set_there)) (last_set policies.Default (take n set_there)))
@@ -186,19 +182,15 @@ module _ (script : Script) (seat : Cpu → ℕ) (turns : List Played) (last : St
         let same : seen.n ≡ length (take then.0 set_there) = both.0 in
         (omega (arith, long, few, same), both.1)
 
-    policy-seen : IsPolicySeen script seen
+    policy-seen : IsPolicySeen script report seen
     policy-seen =
         let few : then.0 ≤ length set_there = then.1 in
         let n : seen.n ≡ then.0 = number.0 in
-        let mapped : length (map (λ (g : Setting). g.policy) set_there) ≡ length set_there = length-map set_there (λ (g : Setting). g.policy) in
-        let all : length (settings seen.thread list.0) ≡ length (map (λ (g : Setting). g.policy) set_there) + length front.0 = ap (λ (l : List Policy). length l) front.1 ∙ length-append (map (λ (g : Setting). g.policy) set_there) front.0 in
-        let many : length (settings seen.thread (commands_around script seen.thread)) ≡ length (settings seen.thread list.0) = ap (λ (l : List Command). length (settings seen.thread l)) around in
-        let within : then.0 ≤ length (map (λ (g : Setting). g.policy) set_there) = omega (arith, few, mapped) in
-        let taken : take seen.n (settings seen.thread (commands_around script seen.thread)) ≡ map (λ (g : Setting). g.policy) (take then.0 set_there)
-        = ap (λ (k : ℕ). take k (settings seen.thread (commands_around script seen.thread))) n ∙ ap (λ (l : List Command). take then.0 (settings seen.thread l)) around ∙ ap (take then.0) front.1
-        ∙ take-front then.0 (map (λ (g : Setting). g.policy) set_there) front.0 within ∙ take-mapped (λ (g : Setting). g.policy) then.0 set_there in
+        let many : length (settings seen.thread (answered_around script report seen.thread)) ≡ length set_there = ap (λ (l : List Policy). length l) all ∙ length-map set_there (λ (g : Setting). g.policy) in
+        let taken : take seen.n (settings seen.thread (answered_around script report seen.thread)) ≡ map (λ (g : Setting). g.policy) (take then.0 set_there)
+        = ap (λ (k : ℕ). take k (settings seen.thread (answered_around script report seen.thread))) n ∙ ap (take then.0) all ∙ take-mapped (λ (g : Setting). g.policy) then.0 set_there in
         record {
-          made = omega (arith, few, n, mapped, all, many);
+          made = omega (arith, few, n, many);
           policy = number.1 ∙ sym (ap last_policy taken ∙ last-of policies.Default (take then.0 set_there));
         }
 
@@ -208,22 +200,23 @@ module _ (script : Script) (seat : Cpu → ℕ) (turns : List Played) (last : St
       served : IsServed script.layout view who.cpu of.list of.own × (slice_get report.cpus who.cpu.0 ≡ Some (lines_from 0 of.own))
       served = served-of script seat last report end who.cpu of.list of.own of.list_is of.own_is
 
-      abbrev lines : List CpuLine
-      lines = lines_from 0 of.own
+      abbrev pairs : List (Command × Answer)
+      pairs = answers_by of.list of.own
 
       set-own : EachMember (λ (g : Setting). g.stamp.who.cpu ≡ who.cpu) view.settings
       set-own i g at = (served.0.set i g at).0
 
-      each-set : (i : ℕ) (c : Command) → slice_get of.list i ≡ Some c → are_of seen.thread (map set_of (filter (λ (g : Setting). is_same (record { cpu = who.cpu; seq = i }) g.stamp.who) view.settings)) ≡ from_bool (is_some (setting_of seen.thread c) && is_done (answer_among lines i))
-      each-set i c at =
-          let other : IsOf script end.rows view (record { cpu = who.cpu; seq = i }) = command-of script seat last report end (record { cpu = who.cpu; seq = i }) of.list c of.list_is at in
-          let told : answer_of report (record { cpu = who.cpu; seq = i }) ≡ Some other.row.answer = answer-told script seat last report end view (record { cpu = who.cpu; seq = i }) other in
-          let among : answer_among lines i ≡ Some other.row.answer = sym (ap (λ (o : Option (List CpuLine)). answer_among (unwrap_or o []) i) served.1) ∙ told in
-          let same : other.command ≡ c = same_Some other.command c (sym other.command_is ∙ ap (λ (l : List Command). slice_get l i) (same_Some other.list of.list (sym other.list_is ∙ of.list_is)) ∙ at) in
-          ap (are_of seen.thread) other.served.accounted.set ∙ set-count seen.thread other.command other.row.answer ∙ ap (λ (x : Command). from_bool (is_some (setting_of seen.thread x) && is_done (Some other.row.answer))) same
-          ∙ ap (λ (o : Option Answer). from_bool (is_some (setting_of seen.thread c) && is_done o)) (sym among)
+      each-set : (i : ℕ) (p : Command × Answer) → slice_get {X = Command × Answer} pairs i ≡ Some p → are_of seen.thread (map set_of (filter (λ (g : Setting). is_same (record { cpu = who.cpu; seq = i }) g.stamp.who) view.settings)) ≡ length (cons_option (setting_of seen.thread p.0 p.1) [])
+      each-set i p at =
+          let there = zip-at of.list (map (λ (r : Row). r.answer) of.own) i p at in
+          let other : IsOf script end.rows view (record { cpu = who.cpu; seq = i }) = command-of script seat last report end (record { cpu = who.cpu; seq = i }) of.list p.0 of.list_is there.0 in
+          let row = map-was (λ (r : Row). r.answer) of.own i p.1 there.1 in
+          let answer : other.row.answer ≡ p.1 = ap (λ (r : Row). r.answer) (same-row other of.own row.0 of.own_is row.1) ∙ row.2 in
+          let same : other.command ≡ p.0 = same_Some other.command p.0 (sym other.command_is ∙ ap (λ (l : List Command). slice_get l i) (same_Some other.list of.list (sym other.list_is ∙ of.list_is)) ∙ there.0) in
+          ap (are_of seen.thread) other.served.accounted.set ∙ set-count seen.thread other.command other.row.answer
+          ∙ ap (λ (c : Command). length (cons_option (setting_of seen.thread c other.row.answer) [])) same ∙ ap (λ (a : Answer). length (cons_option (setting_of seen.thread p.0 a) [])) answer
 
-      own-count : cpu_of_thread script seen.thread ≡ Some who.cpu → seen.n ≡ settings_done seen.thread (rows_of report who) 0 (commands_before script who)
+      own-count : cpu_of_thread script seen.thread ≡ Some who.cpu → seen.n ≡ length (settings seen.thread (answered_before script report who))
       own-count is =
           let mine : policed.decl.cpu ≡ saw.sight.stamp.who.cpu = same_Some policed.decl.cpu who.cpu (sym cpu-is ∙ is) ∙ sym (ap (λ (w : Who). w.cpu) saw.own) in
           let count = policed.own mine in
@@ -232,11 +225,11 @@ module _ (script : Script) (seat : Cpu → ℕ) (turns : List Played) (last : St
           let high : number_in saw.sight.word ≤ made_before seen.thread (who.seq + 1) view.settings = subst (λ (w : Who). number_in saw.sight.word ≤ made_before seen.thread (w.seq + 1) view.settings) saw.own count.high in
           let step = step-count seen.thread who.cpu who.seq view.settings set-own in
           let none : are_of seen.thread (map set_of (filter (λ (g : Setting). is_same who g.stamp.who) view.settings)) ≡ 0 = ap (are_of seen.thread) (of.served.accounted.set ∙ no-setting of.command of.row.answer fails) in
-          let within : who.seq < length of.list = slice_get_within of.list who.seq of.command of.command_is in
-          let done : made_before seen.thread who.seq view.settings ≡ settings_done seen.thread lines 0 (take who.seq of.list) = before-done seen.thread who.cpu view.settings of.list lines set-own each-set who.seq (omega (arith, within)) in
-          let all : settings_done seen.thread (rows_of report who) 0 (commands_before script who) ≡ settings_done seen.thread lines 0 (take who.seq of.list)
-          = ap (λ (o : Option (List CpuLine)). settings_done seen.thread (unwrap_or o []) 0 (commands_before script who)) served.1 ∙ ap (λ (o : Option (List Command)). settings_done seen.thread lines 0 (take who.seq (unwrap_or o []))) of.list_is in
-          omega (arith, word, low, high, step, none, done, all)
+          let within : who.seq < length pairs = slice_get_within pairs who.seq (of.command, of.row.answer) (pair-there of.list of.own who.seq of.command of.row of.command_is of.row_is) in
+          let done : made_before seen.thread who.seq view.settings ≡ length (settings seen.thread (take who.seq pairs)) = before-done seen.thread who.cpu view.settings pairs set-own each-set who.seq (omega (arith, within)) in
+          let all_ : length (settings seen.thread (answered_before script report who)) ≡ length (settings seen.thread (take who.seq pairs))
+          = ap (λ (l : List (Command × Answer)). length (settings seen.thread (take who.seq l))) (answered-so script seat last report end who.cpu of.list of.own of.list_is of.own_is) in
+          omega (arith, word, low, high, step, none, done, all_)
 
   pub are-seen : AreSeen script report
   are-seen at e seen is has =

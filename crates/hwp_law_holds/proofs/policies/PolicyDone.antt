@@ -1,9 +1,10 @@
--- The settings of a thread that a view lists by commands below a number are those of its processor's commands that were done.
+-- The settings of a thread that a view lists by commands below a number are as many as its processor's commands below it made.
 use Rattle.std.proofs.Common.{◌≡◌, ℕ, zero, suc, ◌+◌, ◌<◌, ◌≤◌, ◌==◌, ◌&&◌, nat_lt, Bool, true, false, cond, List, [], ◌∷◌, ◌++◌, Option, None, Some, filter, length, map, take, slice_get, refl, sym, ap, ◌∙◌, arith, true≢false}
-use Rattle.std.specs.Prelude.{is_some}
 use Rattle.std.specs.Int.{from_bool}
-use Rattle.std.specs.List.{sum_by}
+use Rattle.std.specs.List.{cons_option, sum_by}
 use Rattle.std.proofs.lemmas.Bool.{eq-eqb, eqb-true, le-ltb, ltb-false, ltb-true}
+use Rattle.std.proofs.lemmas.List.{length-append}
+use Rattle.std.proofs.lemmas.List.Elements.{filter_map-append}
 use Rattle.std.proofs.lemmas.List.Sums.{sum_by-cons}
 use Rattle.std.proofs.lemmas.Option.{none-some, same_Some}
 use Rattle.hwp_law_run.specs.hwp_geom.declared.Cpu.{Cpu}
@@ -16,10 +17,7 @@ use Rattle.hwp_law_run.specs.hwp_script_read.declared.Command.{Command}
 use Rattle.hwp_law_run.specs.hwp_script_read.declared.Command.TheVariants as commands
 use Rattle.hwp_law_run.specs.hwp_report_text.declared.Answer.{Answer}
 use Rattle.hwp_law_run.specs.hwp_report_text.declared.Answer.TheVariants as answers
-use Rattle.hwp_law_run.specs.hwp_report_text.declared.CpuLine.{CpuLine}
-use Rattle.hwp_law_run.specs.hwp_law.Lines.{answer_among}
-use Rattle.hwp_law_run.specs.hwp_law_commands.Settings.{arguments, setting_of}
-use Rattle.hwp_law_run.specs.hwp_law.SeenPolicies.{is_done, settings_done}
+use Rattle.hwp_law_run.specs.hwp_law_commands.Settings.{arguments, setting_of, settings}
 use Rattle.hwp_law_run.proofs.Homes.{there-is}
 use Rattle.hwp_law_holds.specs.Accounts.{is_same, set_by, set_for}
 use Rattle.hwp_law_holds.proofs.policies.PolicyCounts.{is_before, made_before}
@@ -77,14 +75,8 @@ step-count thread cpu n (g ∷ gs) own =
 
 -- ---- what commands set
 
-abbrev pub sets : Thread → Command → Option Answer → ℕ
-sets thread command answer = from_bool (is_some (setting_of thread command) && is_done answer)
-
-and-false : (a : Bool) → 0 ≡ from_bool (a && false)
-and-false true = refl
-and-false false = refl
-
-pub set-count : (thread : Thread) (command : Command) (answer : Answer) → are_of thread (set_by command answer) ≡ sets thread command (Some answer)
+-- a command sets as many policies of the thread as its answer says
+pub set-count : (thread : Thread) (command : Command) (answer : Answer) → are_of thread (set_by command answer) ≡ length (cons_option (setting_of thread command answer) [])
 set-count thread (commands.Prctl other args) answers.Done = which (policy_set (arguments args)) (other.0 == thread.0) refl
   where
     one : (policy : Policy) → are_of thread (set_for other (Some policy)) ≡ from_bool (other.0 == thread.0)
@@ -93,39 +85,25 @@ set-count thread (commands.Prctl other args) answers.Done = which (policy_set (a
         more : (n : ℕ) → n + 0 ≡ n
         more n = omega arith
 
-    which : (o : Option Policy) (b : Bool) → (other.0 == thread.0) ≡ b → are_of thread (set_for other o) ≡ from_bool (is_some (cond (other.0 == thread.0) o None) && true)
-    which None true is = ap (λ (c : Bool). from_bool (is_some (cond {A = Option Policy} c None None) && true)) (sym is)
-    which None false is = ap (λ (c : Bool). from_bool (is_some (cond {A = Option Policy} c None None) && true)) (sym is)
-    which (Some policy) true is = one policy ∙ ap from_bool is ∙ ap (λ (c : Bool). from_bool (is_some (cond c (Some policy) None) && true)) (sym is)
-    which (Some policy) false is = one policy ∙ ap from_bool is ∙ ap (λ (c : Bool). from_bool (is_some (cond c (Some policy) None) && true)) (sym is)
-set-count thread (commands.Prctl other args) answer = and-false (is_some (cond (other.0 == thread.0) (policy_set (arguments args)) None))
+    which : (o : Option Policy) (b : Bool) → (other.0 == thread.0) ≡ b → are_of thread (set_for other o) ≡ length (cons_option (cond (other.0 == thread.0) o None) [])
+    which None true is = ap (λ (c : Bool). length (cons_option (cond {A = Option Policy} c None None) [])) (sym is)
+    which None false is = ap (λ (c : Bool). length (cons_option (cond {A = Option Policy} c None None) [])) (sym is)
+    which (Some policy) true is = one policy ∙ ap from_bool is ∙ ap (λ (c : Bool). length (cons_option (cond c (Some policy) None) [])) (sym is)
+    which (Some policy) false is = one policy ∙ ap from_bool is ∙ ap (λ (c : Bool). length (cons_option (cond c (Some policy) None) [])) (sym is)
 set-count thread command answer = refl
 
--- one command more
-done-push : (thread : Thread) (rows : List CpuLine) (n : ℕ) (list : List Command) (c : Command) → settings_done thread rows n (list ++ c ∷ []) ≡ settings_done thread rows n list + sets thread c (answer_among rows (n + length list))
-done-push thread rows n [] c =
-    let none : n ≡ n + 0 = omega arith in
-    let at : sets thread c (answer_among rows n) ≡ sets thread c (answer_among rows (n + 0)) = ap (λ (k : ℕ). sets thread c (answer_among rows k)) none in
-    omega (arith, at)
-done-push thread rows n (d ∷ ds) c =
-    let rest : settings_done thread rows (n + 1) (ds ++ c ∷ []) ≡ settings_done thread rows (n + 1) ds + sets thread c (answer_among rows ((n + 1) + length ds)) = done-push thread rows (n + 1) ds c in
-    let place : (n + 1) + length ds ≡ n + suc (length ds) = omega arith in
-    let at : sets thread c (answer_among rows ((n + 1) + length ds)) ≡ sets thread c (answer_among rows (n + suc (length ds))) = ap (λ (k : ℕ). sets thread c (answer_among rows k)) place in
-    omega (arith, rest, at)
-
-take-push : {A : Type 0} (l : List A) (m : ℕ) (x : A) → slice_get l m ≡ Some x → (take (m + 1) l ≡ take m l ++ x ∷ []) × (length (take m l) ≡ m)
+take-push : {A : Type 0} (l : List A) (m : ℕ) (x : A) → slice_get l m ≡ Some x → take (m + 1) l ≡ take m l ++ x ∷ []
 take-push [] m x there = absurd (none-some x there)
-take-push {A} (y ∷ ys) zero x there = (ap (λ (z : A). z ∷ []) (same_Some y x there), refl)
+take-push {A} (y ∷ ys) zero x there = ap (λ (z : A). z ∷ []) (same_Some y x there)
 take-push {A} (y ∷ ys) (suc m) x there =
-    let rest = take-push ys m x there in
-    let one : take (suc m + 1) (y ∷ ys) ≡ y ∷ take (m + 1) ys = (let same : suc m + 1 ≡ suc (m + 1) = omega arith in ap (λ (k : ℕ). take k (y ∷ ys)) same) in
-    (one ∙ ap (λ (l : List A). y ∷ l) rest.0, ap suc rest.1)
+    let same : suc m + 1 ≡ suc (m + 1) = omega arith in
+    ap (λ (k : ℕ). take k (y ∷ ys)) same ∙ ap (λ (l : List A). y ∷ l) (take-push ys m x there)
 
--- the settings that commands below number m made are those of them that were done
-pub before-done : (thread : Thread) (cpu : Cpu) (settings : List Setting) (list : List Command) (rows : List CpuLine) → EachMember (λ (g : Setting). g.stamp.who.cpu ≡ cpu) settings
-    → ((i : ℕ) (c : Command) → slice_get list i ≡ Some c → are_of thread (map set_of (filter (λ (g : Setting). is_same (record { cpu = cpu; seq = i }) g.stamp.who) settings)) ≡ sets thread c (answer_among rows i))
-    → (m : ℕ) → m ≤ length list → made_before thread m settings ≡ settings_done thread rows 0 (take m list)
-before-done thread cpu settings list rows own each zero few = none settings
+-- the settings that commands below number m made are those of the thread by these commands with their answers
+pub before-done : (thread : Thread) (cpu : Cpu) (list : List Setting) (pairs : List (Command × Answer)) → EachMember (λ (g : Setting). g.stamp.who.cpu ≡ cpu) list
+    → ((i : ℕ) (p : Command × Answer) → slice_get {X = Command × Answer} pairs i ≡ Some p → are_of thread (map set_of (filter (λ (g : Setting). is_same (record { cpu = cpu; seq = i }) g.stamp.who) list)) ≡ length (cons_option (setting_of thread p.0 p.1) []))
+    → (m : ℕ) → m ≤ length pairs → made_before thread m list ≡ length (settings thread (take m pairs))
+before-done thread cpu list pairs own each zero few = none list
   where
     none : (l : List Setting) → made_before thread 0 l ≡ 0
     none [] = refl
@@ -134,16 +112,14 @@ before-done thread cpu settings list rows own each zero few = none settings
         let rest : made_before thread 0 gs ≡ 0 = none gs in
         let one : is_before thread 0 g ≡ 0 = ap (λ (b : Bool). from_bool ((g.thread.0 == thread.0) && b)) (le-ltb g.stamp.who.seq 0 (omega arith)) ∙ and-zero (g.thread.0 == thread.0) in
         omega (arith, all, rest, one)
-before-done thread cpu settings list rows own each (suc m) few =
-    let command = there-is list m (omega (arith, few)) in
-    let front = take-push list m command.0 command.1 in
-    let before : made_before thread m settings ≡ settings_done thread rows 0 (take m list) = before-done thread cpu settings list rows own each m (omega (arith, few)) in
-    let next : made_before thread (m + 1) settings ≡ made_before thread m settings + are_of thread (map set_of (filter (λ (g : Setting). is_same (record { cpu = cpu; seq = m }) g.stamp.who) settings)) = step-count thread cpu m settings own in
-    let its : are_of thread (map set_of (filter (λ (g : Setting). is_same (record { cpu = cpu; seq = m }) g.stamp.who) settings)) ≡ sets thread command.0 (answer_among rows m) = each m command.0 command.1 in
-    let push : settings_done thread rows 0 (take m list ++ command.0 ∷ []) ≡ settings_done thread rows 0 (take m list) + sets thread command.0 (answer_among rows (0 + length (take m list))) = done-push thread rows 0 (take m list) command.0 in
-    let place : 0 + length (take m list) ≡ m = (let long : length (take m list) ≡ m = front.1 in omega (arith, long)) in
-    let at : sets thread command.0 (answer_among rows (0 + length (take m list))) ≡ sets thread command.0 (answer_among rows m) = ap (λ (k : ℕ). sets thread command.0 (answer_among rows k)) place in
+before-done thread cpu list pairs own each (suc m) few =
+    let pair = there-is {A = Command × Answer} pairs m (omega (arith, few)) in
+    let before : made_before thread m list ≡ length (settings thread (take m pairs)) = before-done thread cpu list pairs own each m (omega (arith, few)) in
+    let next : made_before thread (m + 1) list ≡ made_before thread m list + are_of thread (map set_of (filter (λ (g : Setting). is_same (record { cpu = cpu; seq = m }) g.stamp.who) list)) = step-count thread cpu m list own in
+    let its : are_of thread (map set_of (filter (λ (g : Setting). is_same (record { cpu = cpu; seq = m }) g.stamp.who) list)) ≡ length (cons_option (setting_of thread pair.0.0 pair.0.1) []) = each m pair.0 pair.1 in
+    let push : length (settings thread (take m pairs ++ pair.0 ∷ [])) ≡ length (settings thread (take m pairs)) + length (cons_option (setting_of thread pair.0.0 pair.0.1) []) =
+    ap (λ (l : List Policy). length l) (filter_map-append (λ (p : Command × Answer). setting_of thread p.0 p.1) (take m pairs) (pair.0 ∷ [])) ∙ length-append (settings thread (take m pairs)) (settings thread (pair.0 ∷ [])) in
     let same : suc m ≡ m + 1 = omega arith in
-    let left : made_before thread (suc m) settings ≡ made_before thread (m + 1) settings = ap (λ (k : ℕ). made_before thread k settings) same in
-    let right : settings_done thread rows 0 (take (suc m) list) ≡ settings_done thread rows 0 (take m list ++ command.0 ∷ []) = ap (λ (k : ℕ). settings_done thread rows 0 (take k list)) same ∙ ap (settings_done thread rows 0) front.0 in
-    omega (arith, before, next, its, push, at, left, right)
+    let left : made_before thread (suc m) list ≡ made_before thread (m + 1) list = ap (λ (k : ℕ). made_before thread k list) same in
+    let right : length (settings thread (take (suc m) pairs)) ≡ length (settings thread (take m pairs ++ pair.0 ∷ [])) = ap (λ (k : ℕ). length (settings thread (take k pairs))) same ∙ ap (λ (l : List (Command × Answer)). length (settings thread l)) (take-push {A = Command × Answer} pairs m pair.0 pair.1) in
+    omega (arith, before, next, its, push, left, right)

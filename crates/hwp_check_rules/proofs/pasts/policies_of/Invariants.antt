@@ -1,6 +1,6 @@
-use Rattle.std.proofs.Common.{◌≡◌, take}
-use Rattle.hwp_law.specs.hwp_law_commands.Settings.{settings}
+use Rattle.std.proofs.Common.{◌≡◌, ◌++◌, drop}
+use Rattle.hwp_check_rules.specs.Pasts.{settings_by}
 use Rattle.hwp_check_rules.proofs.pasts.policies_of.Given as goal
 
-abbrev pub invariant-loop-command : goal.invariant-loop-command
-invariant-loop-command l = l.list ≡ settings l.fn.thread (take l.command-index l.fn.commands)
+abbrev pub invariant-loop-number : goal.invariant-loop-number
+invariant-loop-number l = l.list ++ settings_by l.fn.thread (drop l.number l.fn.commands) (drop l.number l.fn.done) ≡ settings_by l.fn.thread l.fn.commands l.fn.done

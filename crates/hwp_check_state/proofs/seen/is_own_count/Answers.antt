@@ -1,10 +1,10 @@
 use Rattle.std.proofs.Common.{ℕ, ◌-◌, ◌<◌, List, length, min, slice_index, ap, ◌∙◌, sym, subst}
-use Rattle.hwp_check_state.proofs.OwnLaws.{own-cpu, own-is, some-count}
+use Rattle.hwp_check_state.proofs.OwnLaws.{own-cpu, own-is}
 use Rattle.hwp_check_state.proofs.seen.is_own_count.Goals as goal
 
 pub count_before-requires : goal.count_before-requires
 count_before-requires c =
-    subst (λ (l : List ℕ). 0 < length l) (sym c.as_slice.ensures) (some-count c.args.script.now c.args.report.now c.args.sight.now.seen c.args.past.now c.requires c.args.sight.now.who)
+    subst (λ (l : List ℕ). 0 < length l) (sym c.as_slice.ensures) c.requires.some
 
 pub returns : goal.returns
 returns c =
