@@ -28,7 +28,6 @@ use Rattle.hwp_core.specs.hwp_core_rule.declared.Sight.{Sight}
 use Rattle.hwp_core.specs.hwp_core_rule.declared.Step.{Step}
 use Rattle.hwp_core.specs.hwp_core_rule.declared.Step.TheVariants as steps
 use Rattle.hwp_core.specs.hwp_core_rule.declared.View.{View}
-use Rattle.hwp_core.specs.hwp_core_rule.Lists.{EachMember}
 use Rattle.hwp_core.specs.hwp_core_rule.Logs.{log_of}
 use Rattle.hwp_core.specs.hwp_core_rule.SlotMoves.{frame_slot, is_out, moved_out}
 use Rattle.hwp_core.specs.hwp_core_rule.Steps.{goes}
