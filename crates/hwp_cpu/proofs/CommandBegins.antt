@@ -39,13 +39,13 @@ use Rattle.hwp_cpu_command.specs.Stays.{EndsStopped, IsAtStop, IsHalted, Stepped
 use Rattle.hwp_cpu_command.proofs.JobEnds.{ends}
 use Rattle.hwp_cpu_command_laws.proofs.CommandRuns.{before-begins, begins-fits, begins-runs, runs-who}
 use Rattle.hwp_cpu_command_laws.proofs.CommandStops.{begins-stop, has-stopped, only-stopped, stopped-halts}
-use Rattle.hwp_cpu_causes.specs.hwp_law_holds.Accounts.{IsNote}
-use Rattle.hwp_cpu_causes.specs.hwp_law_holds.Handles.{answers_by, number_at}
-use Rattle.hwp_cpu_causes.specs.hwp_law_holds.Rows.{notes_from}
-use Rattle.hwp_cpu_causes.specs.hwp_law_holds.Served.{IsOneOf, IsOwnSpoil, IsOwnStop, IsRowServed, SawRunning}
-use Rattle.hwp_cpu_causes.proofs.of_hwp_law_holds.CommandKeeps.{made-none-later}
-use Rattle.hwp_cpu_causes.proofs.of_hwp_law_holds.Handles.{number-last, numbers-more}
-use Rattle.hwp_cpu_causes.proofs.of_hwp_law_holds.lines.ScrubBank.{banks-free, empty-free}
+use Rattle.hwp_cpu_causes.specs.hwp_law_served.Accounts.{IsNote}
+use Rattle.hwp_cpu_causes.specs.hwp_law_served.Handles.{answers_by, number_at}
+use Rattle.hwp_cpu_causes.specs.hwp_law_served.Rows.{notes_from}
+use Rattle.hwp_cpu_causes.specs.hwp_law_served.Served.{IsOneOf, IsOwnSpoil, IsOwnStop, IsRowServed, SawRunning}
+use Rattle.hwp_cpu_causes.proofs.of_hwp_law_served.CommandKeeps.{made-none-later}
+use Rattle.hwp_cpu_causes.proofs.of_hwp_law_served.Handles.{number-last, numbers-more}
+use Rattle.hwp_cpu_causes.proofs.of_hwp_law_served.lines.ScrubBank.{banks-free, empty-free}
 use Rattle.hwp_cpu_causes.proofs.HandleNumbers.{IsNumbered, numbered, tells-inside}
 use Rattle.hwp_cpu_causes.proofs.RowServed.{row-served}
 use Rattle.hwp_cpu.specs.Processors.{BeginsAt, at_number, left_of}

@@ -23,7 +23,7 @@ use Rattle.hwp_cpu_command.specs.Runs.{Runs, anew}
 use Rattle.hwp_cpu_command.specs.Stays as stays
 use Rattle.hwp_cpu_command.proofs.OfKind.{of-evict, of-fsync, of-inject, of-instruction, of-log, of-nested, of-prctl, of-raise, of-scrub, of-soft, of-spoil, of-unpoison}
 use Rattle.hwp_cpu_command_laws.proofs.CommandStops.{unrecovered}
-use Rattle.hwp_cpu_causes.specs.hwp_law_holds.Served.{CanStop, spoiling}
+use Rattle.hwp_cpu_causes.specs.hwp_law_served.Served.{CanStop, spoiling}
 
 -- a command that fits is that of the turn
 pub on-turn : (layout : Layout) (view : View) (j : Job) → jobs.FitsFrom [] layout view j → IsOnTurn view (jobs.who j)

@@ -21,7 +21,7 @@ use Rattle.hwp_cpu_row.specs.hwp_core_task.declared.Turn.{Turn}
 use Rattle.hwp_cpu_row.specs.hwp_core_task.Boards.{AreSeated, view_of}
 use Rattle.hwp_cpu_command.specs.declared.job.Job.{Job}
 use Rattle.hwp_cpu_command.specs.Jobs as jobs
-use Rattle.hwp_cpu_causes.specs.hwp_law_holds.Served.{IsServed}
+use Rattle.hwp_cpu_causes.specs.hwp_law_served.Served.{IsServed}
 use Rattle.hwp_cpu.specs.declared.processor.Processor.{Processor}
 use Rattle.hwp_cpu.specs.Processors.{AtBeginning, Follows, Next, NextOf, bare, who}
 use Rattle.hwp_cpu.specs.Serving.{Fits, FitsAt}

@@ -20,8 +20,8 @@ use Rattle.hwp_cpu_row.specs.declared.Row.{Row}
 use Rattle.hwp_cpu_command.specs.declared.job.Job.{Job}
 use Rattle.hwp_cpu_command.specs.declared.job.Job.TheVariants as jobs
 use Rattle.hwp_cpu_command.specs.FileHandles.{HasHandle, KnowsHandle, handles_after}
-use Rattle.hwp_cpu_causes.specs.hwp_law_holds.Handles.{KnowsNumbers, number_at}
-use Rattle.hwp_cpu_causes.proofs.of_hwp_law_holds.Handles.{number-next}
+use Rattle.hwp_cpu_causes.specs.hwp_law_served.Handles.{KnowsNumbers, number_at}
+use Rattle.hwp_cpu_causes.proofs.of_hwp_law_served.Handles.{number-next}
 use Rattle.hwp_cpu.specs.Serving.{AreNumbered}
 use Rattle.hwp_cpu.proofs.Rows.{past-end}
 

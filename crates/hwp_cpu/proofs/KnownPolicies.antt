@@ -25,8 +25,8 @@ use Rattle.hwp_cpu_command.specs.Jobs.{who}
 use Rattle.hwp_cpu_command.specs.Settings.{AreCounted, of_thread, policies_in, policies_now, set_now}
 use Rattle.hwp_cpu_command.specs.Stays.{IsAtStop, Stepped}
 use Rattle.hwp_cpu_command_laws.proofs.CommandDeeds.{done, unset-policies-at-start}
-use Rattle.hwp_cpu_causes.specs.hwp_law_holds.Accounts.{set_by, set_for}
-use Rattle.hwp_cpu_causes.specs.hwp_law_holds.Handles.{answers_by}
+use Rattle.hwp_cpu_causes.specs.hwp_law_served.Accounts.{set_by, set_for}
+use Rattle.hwp_cpu_causes.specs.hwp_law_served.Handles.{answers_by}
 
 -- ---- over a step
 

@@ -12,5 +12,5 @@ pub mod ProcessorTells
 pub mod ProcessorOpens
 pub mod ProcessorServes
 pub mod Ends
-pub use Rattle.hwp_cpu_causes.proofs.of_hwp_law_holds as of_hwp_law_holds
+pub use Rattle.hwp_cpu_causes.proofs.of_hwp_law_served as of_hwp_law_served
 pub use Rattle.hwp_cpu_causes.proofs.of_hwp_law_run as of_hwp_law_run

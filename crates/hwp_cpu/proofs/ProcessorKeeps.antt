@@ -29,10 +29,10 @@ use Rattle.hwp_cpu_command.proofs.JobEnds.{answered-over}
 use Rattle.hwp_cpu_command_laws.proofs.CommandRuns.{before-stays, runs-on, runs-who}
 use Rattle.hwp_cpu_command_laws.proofs.HandleKeeps.{handle-stays}
 use Rattle.hwp_cpu_command_laws.proofs.CommandStops.{halted-stays, has-stopped, looks-first, no-own-stop, stops-after}
-use Rattle.hwp_cpu_causes.specs.hwp_law_holds.Handles.{answers_by}
-use Rattle.hwp_cpu_causes.specs.hwp_law_holds.Served.{AreRowsServed, IsOwnStop, SawRunning}
-use Rattle.hwp_cpu_causes.proofs.of_hwp_law_holds.CommandKeeps.{row-stays, saw-running-stays}
-use Rattle.hwp_cpu_causes.proofs.of_hwp_law_holds.Handles.{numbers-stay}
+use Rattle.hwp_cpu_causes.specs.hwp_law_served.Handles.{answers_by}
+use Rattle.hwp_cpu_causes.specs.hwp_law_served.Served.{AreRowsServed, IsOwnStop, SawRunning}
+use Rattle.hwp_cpu_causes.proofs.of_hwp_law_served.CommandKeeps.{row-stays, saw-running-stays}
+use Rattle.hwp_cpu_causes.proofs.of_hwp_law_served.Handles.{numbers-stay}
 use Rattle.hwp_cpu.specs.Processors.{at_number}
 use Rattle.hwp_cpu.specs.Serving.{HasStoppedIt, IsRunning, Serves}
 use Rattle.hwp_cpu.proofs.KnownPolicies.{counted-on}

@@ -56,15 +56,15 @@ use Rattle.hwp_cpu_command.proofs.JobEnds.{answered-over, paid-at-end}
 use Rattle.hwp_cpu_command_laws.proofs.CommandDeeds.{done, failures-at-end, grown, none-listed, unfailed-at-start, unmarked-at-start, unowed-at-end, unowed-at-start, unset-policies-at-start}
 use Rattle.hwp_cpu_command_laws.proofs.CommandRuns.{can-fail-stays}
 use Rattle.hwp_cpu_command_laws.proofs.CommandStops.{has-spoiled, spoils-after}
-use Rattle.hwp_cpu_causes.specs.hwp_law_holds.Accounts.{IsHow, IsNote, failures, is_same, marking_by, markings_in, own_marking}
-use Rattle.hwp_cpu_causes.specs.hwp_law_holds.Owed.{OwesOwn, loss_of, losses_by}
-use Rattle.hwp_cpu_causes.specs.hwp_law_holds.Rows.{Note, note_by, note_of, notes_from, own_note, row_notes, told_note}
-use Rattle.hwp_cpu_causes.specs.hwp_law_holds.Served.{IsOneOf, IsOwnSpoil, spoiling}
-use Rattle.hwp_cpu_causes.proofs.of_hwp_law_holds.AccountKeeps.{marks-own, settings-own}
-use Rattle.hwp_cpu_causes.proofs.of_hwp_law_holds.PoisonMarks.{same-who}
-use Rattle.hwp_cpu_causes.proofs.of_hwp_law_holds.Picked.{picked-has}
-use Rattle.hwp_cpu_causes.proofs.of_hwp_law_holds.losses.LossesOwed.{owes-own}
-use Rattle.hwp_cpu_causes.proofs.of_hwp_law_holds.marks.Marked.{same-self}
+use Rattle.hwp_cpu_causes.specs.hwp_law_served.Accounts.{IsHow, IsNote, failures, is_same, marking_by, markings_in, own_marking}
+use Rattle.hwp_cpu_causes.specs.hwp_law_served.Owed.{OwesOwn, loss_of, losses_by}
+use Rattle.hwp_cpu_causes.specs.hwp_law_served.Rows.{Note, note_by, note_of, notes_from, own_note, row_notes, told_note}
+use Rattle.hwp_cpu_causes.specs.hwp_law_served.Served.{IsOneOf, IsOwnSpoil, spoiling}
+use Rattle.hwp_cpu_causes.proofs.of_hwp_law_served.AccountKeeps.{marks-own, settings-own}
+use Rattle.hwp_cpu_causes.proofs.of_hwp_law_served.PoisonMarks.{same-who}
+use Rattle.hwp_cpu_causes.proofs.of_hwp_law_served.Picked.{picked-has}
+use Rattle.hwp_cpu_causes.proofs.of_hwp_law_served.losses.LossesOwed.{owes-own}
+use Rattle.hwp_cpu_causes.proofs.of_hwp_law_served.marks.Marked.{same-self}
 use Rattle.hwp_cpu.specs.Processors.{at_number}
 use Rattle.hwp_cpu.specs.Serving.{AreNoted, HasAccount, IsListed}
 use Rattle.hwp_cpu.proofs.Rows.{notes-more, spoil-more}

@@ -22,10 +22,10 @@ use Rattle.hwp_cpu_row.specs.hwp_banks.Banks.{Banks, empty_banks}
 use Rattle.hwp_cpu_row.specs.declared.Local.{Local}
 use Rattle.hwp_cpu_row.specs.Locals.{first_local}
 use Rattle.hwp_cpu_row.specs.hwp_law_commands.Settings.{settings}
-use Rattle.hwp_cpu_causes.specs.hwp_law_holds.Handles.{answers_by}
-use Rattle.hwp_cpu_causes.specs.hwp_law_holds.Served.{AreRowsServed}
-use Rattle.hwp_cpu_causes.proofs.of_hwp_law_holds.Handles.{numbers-begin}
-use Rattle.hwp_cpu_causes.proofs.of_hwp_law_holds.lines.ScrubBank.{empty-free}
+use Rattle.hwp_cpu_causes.specs.hwp_law_served.Handles.{answers_by}
+use Rattle.hwp_cpu_causes.specs.hwp_law_served.Served.{AreRowsServed}
+use Rattle.hwp_cpu_causes.proofs.of_hwp_law_served.Handles.{numbers-begin}
+use Rattle.hwp_cpu_causes.proofs.of_hwp_law_served.lines.ScrubBank.{empty-free}
 use Rattle.hwp_cpu.specs.Processors.{BeginsAt, at_number, left_of}
 use Rattle.hwp_cpu.specs.Serving.{FitsAt, IsDone, IsListed, IsRunning, Serves}
 use Rattle.hwp_cpu.proofs.KnownHandles.{handle-known, numbers-first}

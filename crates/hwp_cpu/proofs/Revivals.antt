@@ -21,8 +21,8 @@ use Rattle.hwp_cpu_row.specs.hwp_core_rule.parts.Marks.{revivals_by}
 use Rattle.hwp_cpu_row.specs.declared.FrameChange.{FrameChange}
 use Rattle.hwp_cpu_row.specs.declared.FrameChange.TheVariants as owns
 use Rattle.hwp_cpu_row.specs.declared.Row.{Row}
-use Rattle.hwp_cpu_causes.specs.hwp_law_holds.Accounts.{IsLineOf, IsNote}
-use Rattle.hwp_cpu_causes.specs.hwp_law_holds.Rows.{Note, note_by, note_of, notes_from, own_note, row_notes, told_note}
+use Rattle.hwp_cpu_causes.specs.hwp_law_served.Accounts.{IsLineOf, IsNote}
+use Rattle.hwp_cpu_causes.specs.hwp_law_served.Rows.{Note, note_by, note_of, notes_from, own_note, row_notes, told_note}
 use Rattle.hwp_cpu_command.specs.hwp_soft_unpoison.Unpoisons.{HasRevivalLeft}
 use Rattle.hwp_cpu.specs.Processors.{at_number}
 

@@ -12,9 +12,9 @@ use Rattle.hwp_cpu_row.specs.hwp_core_rule.declared.View.{View}
 use Rattle.hwp_cpu_row.proofs.of_hwp_core_rule.Lists.{at_longer, at_push}
 use Rattle.hwp_cpu_row.specs.declared.Row.{Row}
 use Rattle.hwp_cpu_row.specs.hwp_banks.Banks.{Banks}
-use Rattle.hwp_cpu_causes.specs.hwp_law_holds.Handles.{answers_by}
-use Rattle.hwp_cpu_causes.specs.hwp_law_holds.Rows.{Note, notes_from, row_notes}
-use Rattle.hwp_cpu_causes.specs.hwp_law_holds.Served.{AreRowsServed, IsOwnSpoil, IsOwnStop, IsRowServed, StaysStopped}
+use Rattle.hwp_cpu_causes.specs.hwp_law_served.Handles.{answers_by}
+use Rattle.hwp_cpu_causes.specs.hwp_law_served.Rows.{Note, notes_from, row_notes}
+use Rattle.hwp_cpu_causes.specs.hwp_law_served.Served.{AreRowsServed, IsOwnSpoil, IsOwnStop, IsRowServed, StaysStopped}
 use Rattle.hwp_cpu.specs.Processors.{at_number}
 use Rattle.hwp_cpu.specs.Serving.{HasStopped}
 
@@ -44,9 +44,12 @@ rows-more layout earlier view cpu n before (c ∷ cs) [] between m command row a
       (subst (λ (l : List (Command × Answer)). IsRowServed layout l view (at_number cpu m) command between row after) (append-nil earlier) served))),
   refl,
 )
-rows-more layout earlier view cpu n before (c ∷ cs) (r ∷ rs) between m command row after is are there served =
-    (are.0, are.1, rows-more layout (earlier ++ (c, r.answer) ∷ []) view cpu (n + 1) are.0 cs rs between m command row after (omega arith) are.2 there
-    (subst (λ (l : List (Command × Answer)). IsRowServed layout l view (at_number cpu m) command between row after) (sym (append_assoc earlier ((c, r.answer) ∷ []) (answers_by cs rs))) served))
+rows-more layout earlier view cpu n before (c ∷ cs) (r ∷ rs) between m command row after is are there served = (
+  are.0,
+  are.1,
+  rows-more layout (earlier ++ (c, r.answer) ∷ []) view cpu (n + 1) are.0 cs rs between m command row after (omega arith) are.2 there
+      (subst (λ (l : List (Command × Answer)). IsRowServed layout l view (at_number cpu m) command between row after) (sym (append_assoc earlier ((c, r.answer) ∷ []) (answers_by cs rs))) served),
+)
 
 -- rows stay right where each of them does
 pub rows-stay : (layout : Layout) (old new : View) (cpu : Cpu) (m : ℕ)

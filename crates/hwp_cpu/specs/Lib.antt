@@ -6,7 +6,7 @@ pub use Rattle.hwp_cpu_command.specs.hwp_cpu_control as hwp_cpu_control
 pub use Rattle.hwp_cpu_command.specs.hwp_cpu_raise as hwp_cpu_raise
 pub use Rattle.hwp_cpu_command.specs.hwp_fault as hwp_fault
 pub use Rattle.hwp_cpu_causes.specs.hwp_law as hwp_law
-pub use Rattle.hwp_cpu_causes.specs.hwp_law_holds as hwp_law_holds
+pub use Rattle.hwp_cpu_causes.specs.hwp_law_served as hwp_law_served
 pub use Rattle.hwp_cpu_causes.specs.hwp_law_run as hwp_law_run
 pub use Rattle.hwp_cpu_command.specs.hwp_scrub as hwp_scrub
 pub use Rattle.hwp_cpu_command.specs.hwp_soft as hwp_soft

@@ -32,11 +32,11 @@ use Rattle.hwp_cpu_command.specs.Runs.{Runs}
 use Rattle.hwp_cpu_command.specs.Settings.{AreCounted, policies_in, policies_now}
 use Rattle.hwp_cpu_command.specs.Stays as stays
 use Rattle.hwp_cpu_command.specs.Stays.{EndsStopped, HasSpoiled, IsHalted}
-use Rattle.hwp_cpu_causes.specs.hwp_law_holds.Accounts.{IsNote, failures, markings, policies_set}
-use Rattle.hwp_cpu_causes.specs.hwp_law_holds.Handles.{KnowsNumbers, answers_by, number_at}
-use Rattle.hwp_cpu_causes.specs.hwp_law_holds.Owed.{OwesOwn}
-use Rattle.hwp_cpu_causes.specs.hwp_law_holds.Rows.{notes_from}
-use Rattle.hwp_cpu_causes.specs.hwp_law_holds.Served.{AreRowsServed, IsOneOf, IsOwnSpoil, IsOwnStop, SawRunning, StaysStopped}
+use Rattle.hwp_cpu_causes.specs.hwp_law_served.Accounts.{IsNote, failures, markings, policies_set}
+use Rattle.hwp_cpu_causes.specs.hwp_law_served.Handles.{KnowsNumbers, answers_by, number_at}
+use Rattle.hwp_cpu_causes.specs.hwp_law_served.Owed.{OwesOwn}
+use Rattle.hwp_cpu_causes.specs.hwp_law_served.Rows.{notes_from}
+use Rattle.hwp_cpu_causes.specs.hwp_law_served.Served.{AreRowsServed, IsOneOf, IsOwnSpoil, IsOwnStop, SawRunning, StaysStopped}
 use Rattle.hwp_cpu.specs.declared.processor.Processor.{Processor}
 use Rattle.hwp_cpu.specs.Processors.{IsReady, Next, Shows, aborts, at_number, bare, claims, class, cost, plan, put, who}
 

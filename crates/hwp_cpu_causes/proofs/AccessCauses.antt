@@ -2,30 +2,30 @@
 use Rattle.std.proofs.Common.{◌≡◌, ℕ, Bool, true, false, List, [], Option, Some, refl, sym, ap, ◌∙◌, subst, inl, inr, IsSomeAnd, true≢false, ◌+◌, length, arith}
 use Rattle.std.specs.Option.{option_map}
 use Rattle.std.proofs.lemmas.Bool.{both_ways}
-use Rattle.hwp_law_holds.specs.hwp_geom.declared.Layout.{Layout}
-use Rattle.hwp_law_holds.specs.hwp_geom.declared.Mode.{Mode}
-use Rattle.hwp_law_holds.specs.hwp_geom.declared.Page.{Page}
-use Rattle.hwp_law_holds.specs.hwp_geom.declared.Proc.{Proc}
-use Rattle.hwp_law_holds.specs.hwp_geom.declared.Thread.{Thread}
-use Rattle.hwp_law_holds.specs.hwp_geom.declared.ThreadDecl.{ThreadDecl}
-use Rattle.hwp_law_holds.specs.hwp_geom.declared.TransDecl.{TransDecl}
-use Rattle.hwp_law_holds.specs.hwp_geom.declared.VSlot.{VSlot}
-use Rattle.hwp_law_holds.specs.hwp_geom.declared.Who.{Who}
-use Rattle.hwp_law_holds.specs.hwp_banks.declared.Origin.{Origin}
-use Rattle.hwp_law_holds.specs.hwp_page.declared.At.{At}
-use Rattle.hwp_law_holds.specs.hwp_page.declared.Met.TheVariants.{Word}
-use Rattle.hwp_law_holds.specs.hwp_page.declared.What.{What}
-use Rattle.hwp_law_holds.specs.hwp_page.declared.What.TheVariants as entries
-use Rattle.hwp_law_holds.specs.hwp_page.Step.{IsOf}
-use Rattle.hwp_law_holds.specs.hwp_core_rule.declared.Made.{Made}
-use Rattle.hwp_law_holds.specs.hwp_core_rule.declared.SharedWord.TheVariants as places
-use Rattle.hwp_law_holds.specs.hwp_core_rule.declared.View.{View}
-use Rattle.hwp_law_holds.specs.hwp_script_lines.declared.Command.{Command}
-use Rattle.hwp_law_holds.specs.hwp_script_lines.declared.Command.TheVariants as commands
-use Rattle.hwp_law_holds.specs.hwp_report_text.declared.Answer.{Answer}
-use Rattle.hwp_law_holds.specs.hwp_banks.Banks.{Banks}
-use Rattle.hwp_law_holds.specs.hwp_law_commands.Commands.{Access, access, access_of, can_fail}
-use Rattle.hwp_law_holds.specs.hwp_core_task.Known.{HasMade, HasOnly, IsOnTheWay, Precedes, Saw}
+use Rattle.hwp_law_served.specs.hwp_geom.declared.Layout.{Layout}
+use Rattle.hwp_law_served.specs.hwp_geom.declared.Mode.{Mode}
+use Rattle.hwp_law_served.specs.hwp_geom.declared.Page.{Page}
+use Rattle.hwp_law_served.specs.hwp_geom.declared.Proc.{Proc}
+use Rattle.hwp_law_served.specs.hwp_geom.declared.Thread.{Thread}
+use Rattle.hwp_law_served.specs.hwp_geom.declared.ThreadDecl.{ThreadDecl}
+use Rattle.hwp_law_served.specs.hwp_geom.declared.TransDecl.{TransDecl}
+use Rattle.hwp_law_served.specs.hwp_geom.declared.VSlot.{VSlot}
+use Rattle.hwp_law_served.specs.hwp_geom.declared.Who.{Who}
+use Rattle.hwp_law_served.specs.hwp_banks.declared.Origin.{Origin}
+use Rattle.hwp_law_served.specs.hwp_page.declared.At.{At}
+use Rattle.hwp_law_served.specs.hwp_page.declared.Met.TheVariants.{Word}
+use Rattle.hwp_law_served.specs.hwp_page.declared.What.{What}
+use Rattle.hwp_law_served.specs.hwp_page.declared.What.TheVariants as entries
+use Rattle.hwp_law_served.specs.hwp_page.Step.{IsOf}
+use Rattle.hwp_law_served.specs.hwp_core_rule.declared.Made.{Made}
+use Rattle.hwp_law_served.specs.hwp_core_rule.declared.SharedWord.TheVariants as places
+use Rattle.hwp_law_served.specs.hwp_core_rule.declared.View.{View}
+use Rattle.hwp_law_served.specs.hwp_script_lines.declared.Command.{Command}
+use Rattle.hwp_law_served.specs.hwp_script_lines.declared.Command.TheVariants as commands
+use Rattle.hwp_law_served.specs.hwp_report_text.declared.Answer.{Answer}
+use Rattle.hwp_law_served.specs.hwp_banks.Banks.{Banks}
+use Rattle.hwp_law_served.specs.hwp_law_commands.Commands.{Access, access, access_of, can_fail}
+use Rattle.hwp_law_served.specs.hwp_core_task.Known.{HasMade, HasOnly, IsOnTheWay, Precedes, Saw}
 use Rattle.hwp_cpu_command.proofs.of_hwp_core_task.MadeEntries.{beside-only}
 use Rattle.hwp_cpu_command.specs.hwp_fault.declared.AccessAnswer.TheVariants as access_answers
 use Rattle.hwp_cpu_command.specs.hwp_fault.declared.AccessKind.{AccessKind}
@@ -33,15 +33,15 @@ use Rattle.hwp_cpu_command.specs.hwp_fault.declared.AccessKind.TheVariants as ki
 use Rattle.hwp_cpu_command.specs.hwp_fault.declared.Request.{Request}
 use Rattle.hwp_cpu_command.specs.hwp_fault.Accesses.{Answered, IsDeclared, touch_of, what_by, what_of}
 use Rattle.hwp_cpu_command.specs.hwp_fault.Touches.{refusal, refusal_by}
-use Rattle.hwp_law_holds.specs.hwp_cpu_check.declared.EventOutcome.{EventOutcome}
-use Rattle.hwp_law_holds.specs.hwp_cpu_check.Told.{halts}
+use Rattle.hwp_law_served.specs.hwp_cpu_check.declared.EventOutcome.{EventOutcome}
+use Rattle.hwp_law_served.specs.hwp_cpu_check.Told.{halts}
 use Rattle.hwp_cpu_command.specs.hwp_cpu_access.declared.Instruction.{Instruction}
 use Rattle.hwp_cpu_command.specs.hwp_cpu_access.declared.InstructionAnswer.{InstructionAnswer}
 use Rattle.hwp_cpu_command.specs.hwp_cpu_access.declared.InstructionAnswer.TheVariants as answers
 use Rattle.hwp_cpu_command.specs.hwp_cpu_access.Fits.{IsEnd, IsSignalled, checks_made}
 use Rattle.hwp_cpu_command.specs.hwp_cpu_access.Fits as instruction_fits
 use Rattle.hwp_cpu_command.specs.hwp_cpu_access.Instructions as instructions
-use Rattle.hwp_law_holds.specs.hwp_cpu_row.declared.FrameChange.{FrameChange}
+use Rattle.hwp_law_served.specs.hwp_cpu_row.declared.FrameChange.{FrameChange}
 use Rattle.hwp_cpu_command.specs.declared.Job.{Job}
 use Rattle.hwp_cpu_command.specs.declared.Job.TheVariants as jobs
 use Rattle.hwp_cpu_command.specs.Answers.{instruction_answer}
@@ -50,8 +50,8 @@ use Rattle.hwp_cpu_command.specs.Jobs.{FitsFrom, answer, banks_after, banks_befo
 use Rattle.hwp_cpu_command.specs.Runs.{anew}
 use Rattle.hwp_cpu_command.proofs.JobEnds.{instruction-ended, instruction-over, mapped}
 use Rattle.hwp_cpu_command.proofs.OfKind.{of-instruction}
-use Rattle.hwp_law_holds.specs.Causes.{IsAnswerCaused, IsMet, FoundGone, FoundNoFrame, FoundStopped, HasOnlyBegun, HasOnlyMet, Reached, SawProcess, WasSignalled}
-use Rattle.hwp_law_holds.specs.Told.{IsAccessTold}
+use Rattle.hwp_law_served.specs.Causes.{IsAnswerCaused, IsMet, FoundGone, FoundNoFrame, FoundStopped, HasOnlyBegun, HasOnlyMet, Reached, SawProcess, WasSignalled}
+use Rattle.hwp_law_served.specs.Told.{IsAccessTold}
 use Rattle.hwp_cpu_causes.proofs.StopCauses.{found-stopped}
 
 -- the access, and its own answer

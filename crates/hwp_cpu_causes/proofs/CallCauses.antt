@@ -4,34 +4,34 @@ use Rattle.std.proofs.Common.{◌≡◌, ℕ, ◌<◌, eq-eqb, Bool, false, true
 use Rattle.std.specs.List.{cons_option, fold}
 use Rattle.std.specs.Option.{option_map}
 use Rattle.std.proofs.lemmas.List.{append-nil, map-append, same_from_push}
-use Rattle.hwp_law_holds.specs.hwp_geom.declared.Damage.{Damage}
-use Rattle.hwp_law_holds.specs.hwp_geom.declared.Damage.TheVariants as damages
-use Rattle.hwp_law_holds.specs.hwp_geom.declared.FileNo.{FileNo}
-use Rattle.hwp_law_holds.specs.hwp_geom.declared.Frame.{Frame}
-use Rattle.hwp_law_holds.specs.hwp_geom.declared.Layout.{Layout}
-use Rattle.hwp_law_holds.specs.hwp_geom.declared.Thread.{Thread}
-use Rattle.hwp_law_holds.specs.hwp_geom.declared.ThreadDecl.{ThreadDecl}
-use Rattle.hwp_law_holds.specs.hwp_geom.declared.Who.{Who}
-use Rattle.hwp_law_holds.specs.hwp_geom.Limits.{line_limit}
-use Rattle.hwp_law_holds.specs.hwp_kill.declared.Policy.{Policy}
-use Rattle.hwp_law_holds.specs.hwp_kill.declared.Policy.TheVariants as policy_names
-use Rattle.hwp_law_holds.specs.hwp_kill.declared.Reply.{Reply}
-use Rattle.hwp_law_holds.specs.hwp_kill.declared.Reply.TheVariants as replies
-use Rattle.hwp_law_holds.specs.hwp_kill.Prctl.{reply}
-use Rattle.hwp_law_holds.specs.hwp_core_rule.declared.SharedWord.TheVariants as places
-use Rattle.hwp_law_holds.specs.hwp_core_rule.declared.Setting.{Setting}
-use Rattle.hwp_law_holds.specs.hwp_core_rule.declared.View.{View}
-use Rattle.hwp_law_holds.specs.hwp_core_rule.parts.Policies.{last_policy, settings_of}
-use Rattle.hwp_law_holds.specs.hwp_script_lines.declared.Command.{Command}
-use Rattle.hwp_law_holds.specs.hwp_script_lines.declared.Command.TheVariants as commands
-use Rattle.hwp_law_holds.specs.hwp_script_lines.declared.PrctlArgs.{PrctlArgs}
-use Rattle.hwp_law_holds.specs.hwp_report_text.declared.Answer.{Answer}
-use Rattle.hwp_law_holds.specs.hwp_law_commands.Outcomes.{reply_answer}
-use Rattle.hwp_law_holds.specs.hwp_banks.Banks.{Banks}
-use Rattle.hwp_law_holds.specs.hwp_banks.Banks.{raw_event}
-use Rattle.hwp_law_holds.specs.hwp_law_commands.Settings.{arguments, settings}
-use Rattle.hwp_law_holds.specs.hwp_law_commands.Settings as laws
-use Rattle.hwp_law_holds.specs.hwp_core_task.Known.{HasMadeNone, Saw}
+use Rattle.hwp_law_served.specs.hwp_geom.declared.Damage.{Damage}
+use Rattle.hwp_law_served.specs.hwp_geom.declared.Damage.TheVariants as damages
+use Rattle.hwp_law_served.specs.hwp_geom.declared.FileNo.{FileNo}
+use Rattle.hwp_law_served.specs.hwp_geom.declared.Frame.{Frame}
+use Rattle.hwp_law_served.specs.hwp_geom.declared.Layout.{Layout}
+use Rattle.hwp_law_served.specs.hwp_geom.declared.Thread.{Thread}
+use Rattle.hwp_law_served.specs.hwp_geom.declared.ThreadDecl.{ThreadDecl}
+use Rattle.hwp_law_served.specs.hwp_geom.declared.Who.{Who}
+use Rattle.hwp_law_served.specs.hwp_geom.Limits.{line_limit}
+use Rattle.hwp_law_served.specs.hwp_kill.declared.Policy.{Policy}
+use Rattle.hwp_law_served.specs.hwp_kill.declared.Policy.TheVariants as policy_names
+use Rattle.hwp_law_served.specs.hwp_kill.declared.Reply.{Reply}
+use Rattle.hwp_law_served.specs.hwp_kill.declared.Reply.TheVariants as replies
+use Rattle.hwp_law_served.specs.hwp_kill.Prctl.{reply}
+use Rattle.hwp_law_served.specs.hwp_core_rule.declared.SharedWord.TheVariants as places
+use Rattle.hwp_law_served.specs.hwp_core_rule.declared.Setting.{Setting}
+use Rattle.hwp_law_served.specs.hwp_core_rule.declared.View.{View}
+use Rattle.hwp_law_served.specs.hwp_core_rule.parts.Policies.{last_policy, settings_of}
+use Rattle.hwp_law_served.specs.hwp_script_lines.declared.Command.{Command}
+use Rattle.hwp_law_served.specs.hwp_script_lines.declared.Command.TheVariants as commands
+use Rattle.hwp_law_served.specs.hwp_script_lines.declared.PrctlArgs.{PrctlArgs}
+use Rattle.hwp_law_served.specs.hwp_report_text.declared.Answer.{Answer}
+use Rattle.hwp_law_served.specs.hwp_law_commands.Outcomes.{reply_answer}
+use Rattle.hwp_law_served.specs.hwp_banks.Banks.{Banks}
+use Rattle.hwp_law_served.specs.hwp_banks.Banks.{raw_event}
+use Rattle.hwp_law_served.specs.hwp_law_commands.Settings.{arguments, settings}
+use Rattle.hwp_law_served.specs.hwp_law_commands.Settings as laws
+use Rattle.hwp_law_served.specs.hwp_core_task.Known.{HasMadeNone, Saw}
 use Rattle.hwp_cpu_command.specs.hwp_cpu_control.declared.NestedAnswer.{NestedAnswer}
 use Rattle.hwp_cpu_command.specs.hwp_cpu_control.declared.NestedAnswer.TheVariants as nested_answers
 use Rattle.hwp_cpu_command.specs.hwp_cpu_control.declared.Nested.{Nested}
@@ -52,15 +52,15 @@ use Rattle.hwp_cpu_command.specs.hwp_cpu_control.Nesteds as nesteds
 use Rattle.hwp_cpu_command.specs.hwp_cpu_control.Prctls as prctls
 use Rattle.hwp_cpu_command.specs.hwp_cpu_control.ReadStops as read_stops
 use Rattle.hwp_cpu_command.specs.hwp_cpu_control.Spoils as spoils
-use Rattle.hwp_law_holds.specs.hwp_evict.declared.Fsync.{Fsync}
-use Rattle.hwp_law_holds.specs.hwp_evict.declared.FsyncAnswer.{FsyncAnswer}
-use Rattle.hwp_law_holds.specs.hwp_evict.declared.FsyncAnswer.TheVariants as fsync_answers
-use Rattle.hwp_law_holds.specs.hwp_evict.declared.fsync.FsyncAt.TheVariants as fsync_at
-use Rattle.hwp_law_holds.specs.hwp_evict.Fsyncs as fsyncs
-use Rattle.hwp_law_holds.specs.hwp_cpu_check.declared.EventOutcome.{EventOutcome}
+use Rattle.hwp_law_served.specs.hwp_evict.declared.Fsync.{Fsync}
+use Rattle.hwp_law_served.specs.hwp_evict.declared.FsyncAnswer.{FsyncAnswer}
+use Rattle.hwp_law_served.specs.hwp_evict.declared.FsyncAnswer.TheVariants as fsync_answers
+use Rattle.hwp_law_served.specs.hwp_evict.declared.fsync.FsyncAt.TheVariants as fsync_at
+use Rattle.hwp_law_served.specs.hwp_evict.Fsyncs as fsyncs
+use Rattle.hwp_law_served.specs.hwp_cpu_check.declared.EventOutcome.{EventOutcome}
 use Rattle.hwp_cpu_command.specs.hwp_cpu_raise.declared.Log.{Log}
 use Rattle.hwp_cpu_command.specs.hwp_cpu_raise.Logs as logs
-use Rattle.hwp_law_holds.specs.hwp_cpu_row.declared.FrameChange.{FrameChange}
+use Rattle.hwp_law_served.specs.hwp_cpu_row.declared.FrameChange.{FrameChange}
 use Rattle.hwp_cpu_command.specs.declared.Job.{Job}
 use Rattle.hwp_cpu_command.specs.declared.Job.TheVariants as jobs
 use Rattle.hwp_cpu_command.specs.Answers.{fsync_answer, nested_answer, prctl_answer, read_stop_answer, spoil_answer}
@@ -71,8 +71,8 @@ use Rattle.hwp_cpu_command.specs.Runs.{anew}
 use Rattle.hwp_cpu_command.specs.Settings.{AreCounted, of_thread, policies_in, set_at}
 use Rattle.hwp_cpu_command.proofs.JobEnds.{fsync-over, mapped, nested-over, prctl-over, read-over, spoil-over}
 use Rattle.hwp_cpu_command.proofs.OfKind.{of-fsync, of-log, of-nested, of-prctl, of-spoil}
-use Rattle.hwp_law_holds.specs.Causes.{IsAnswerCaused, IsReplied, SawProcess}
-use Rattle.hwp_law_holds.specs.Served.{spoiling}
+use Rattle.hwp_law_served.specs.Causes.{IsAnswerCaused, IsReplied, SawProcess}
+use Rattle.hwp_law_served.specs.Served.{spoiling}
 use Rattle.hwp_cpu_causes.proofs.StopCauses.{found-stopped}
 
 -- ---- the losses of a file

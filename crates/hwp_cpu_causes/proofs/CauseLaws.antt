@@ -1,19 +1,19 @@
 -- A command that is answered is answered for a reason.
 use Rattle.std.proofs.Common.{◌≡◌, ℕ, List, Some, []}
-use Rattle.hwp_law_holds.specs.hwp_geom.declared.Layout.{Layout}
-use Rattle.hwp_law_holds.specs.hwp_geom.declared.Thread.{Thread}
-use Rattle.hwp_law_holds.specs.hwp_geom.declared.Who.{Who}
-use Rattle.hwp_law_holds.specs.hwp_core_rule.declared.View.{View}
-use Rattle.hwp_law_holds.specs.hwp_script_lines.declared.Command.{Command}
-use Rattle.hwp_law_holds.specs.hwp_script_lines.declared.Command.TheVariants as commands
-use Rattle.hwp_law_holds.specs.hwp_report_text.declared.Answer.{Answer}
-use Rattle.hwp_law_holds.specs.hwp_law_commands.Settings.{settings}
+use Rattle.hwp_law_served.specs.hwp_geom.declared.Layout.{Layout}
+use Rattle.hwp_law_served.specs.hwp_geom.declared.Thread.{Thread}
+use Rattle.hwp_law_served.specs.hwp_geom.declared.Who.{Who}
+use Rattle.hwp_law_served.specs.hwp_core_rule.declared.View.{View}
+use Rattle.hwp_law_served.specs.hwp_script_lines.declared.Command.{Command}
+use Rattle.hwp_law_served.specs.hwp_script_lines.declared.Command.TheVariants as commands
+use Rattle.hwp_law_served.specs.hwp_report_text.declared.Answer.{Answer}
+use Rattle.hwp_law_served.specs.hwp_law_commands.Settings.{settings}
 use Rattle.hwp_cpu_command.specs.declared.Job.{Job}
 use Rattle.hwp_cpu_command.specs.FileHandles.{HasHandle}
 use Rattle.hwp_cpu_command.specs.Jobs.{FitsFrom, answer, own_of, row_of, told_of}
 use Rattle.hwp_cpu_command.specs.Runs.{Runs}
 use Rattle.hwp_cpu_command.specs.Settings.{AreCounted}
-use Rattle.hwp_law_holds.specs.Causes.{IsCaused}
+use Rattle.hwp_law_served.specs.Causes.{IsCaused}
 use Rattle.hwp_cpu_causes.proofs.AccessCauses.{fetch-caused, kload-caused, knows-access, load-caused, store-caused}
 use Rattle.hwp_cpu_causes.proofs.CallCauses.{fsync-caused, knows-losses, log-caused, nested-caused, open-caused, prctl-caused, spoil-caused}
 use Rattle.hwp_cpu_causes.proofs.InjectCauses.{inject-caused, knows-failure}

@@ -1,17 +1,17 @@
 -- What a command that is answered tells of its machine checks, and what it leaves in the banks of its processor.
 use Rattle.std.proofs.Common.{◌≡◌, ℕ, true, [], Option, Some, refl, sym, ap, ◌∙◌, subst, true≢false}
-use Rattle.hwp_law_holds.specs.hwp_geom.declared.Layout.{Layout}
-use Rattle.hwp_law_holds.specs.hwp_geom.declared.Who.{Who}
-use Rattle.hwp_law_holds.specs.hwp_banks.declared.Event.{Event}
-use Rattle.hwp_law_holds.specs.hwp_core_rule.declared.View.{View}
-use Rattle.hwp_law_holds.specs.hwp_script_lines.declared.Command.{Command}
-use Rattle.hwp_law_holds.specs.hwp_script_lines.declared.Command.TheVariants as commands
-use Rattle.hwp_law_holds.specs.hwp_report_text.declared.Answer.{Answer}
-use Rattle.hwp_law_holds.specs.hwp_report_text.declared.Answer.TheVariants as report_answers
-use Rattle.hwp_law_holds.specs.hwp_banks.Banks.{Banks}
-use Rattle.hwp_law_holds.specs.hwp_law.Events.{logged_if_done}
-use Rattle.hwp_law_holds.specs.hwp_banks.Banks.{raw_event}
-use Rattle.hwp_law_holds.specs.hwp_cpu_check.Told.{halts}
+use Rattle.hwp_law_served.specs.hwp_geom.declared.Layout.{Layout}
+use Rattle.hwp_law_served.specs.hwp_geom.declared.Who.{Who}
+use Rattle.hwp_law_served.specs.hwp_banks.declared.Event.{Event}
+use Rattle.hwp_law_served.specs.hwp_core_rule.declared.View.{View}
+use Rattle.hwp_law_served.specs.hwp_script_lines.declared.Command.{Command}
+use Rattle.hwp_law_served.specs.hwp_script_lines.declared.Command.TheVariants as commands
+use Rattle.hwp_law_served.specs.hwp_report_text.declared.Answer.{Answer}
+use Rattle.hwp_law_served.specs.hwp_report_text.declared.Answer.TheVariants as report_answers
+use Rattle.hwp_law_served.specs.hwp_banks.Banks.{Banks}
+use Rattle.hwp_law_served.specs.hwp_law.Events.{logged_if_done}
+use Rattle.hwp_law_served.specs.hwp_banks.Banks.{raw_event}
+use Rattle.hwp_law_served.specs.hwp_cpu_check.Told.{halts}
 use Rattle.hwp_cpu_command.specs.hwp_cpu_control.declared.ReadStopAnswer.{ReadStopAnswer}
 use Rattle.hwp_cpu_command.specs.hwp_cpu_control.declared.ReadStopAnswer.TheVariants as read_answers
 use Rattle.hwp_cpu_command.specs.hwp_cpu_raise.declared.Log.{Log}
@@ -24,7 +24,7 @@ use Rattle.hwp_cpu_command.specs.Jobs.{FitsFrom, answer, banks_after, banks_befo
 use Rattle.hwp_cpu_command.specs.Runs.{Runs, anew}
 use Rattle.hwp_cpu_command.proofs.JobEnds.{mapped}
 use Rattle.hwp_cpu_command.proofs.OfKind.{of-evict, of-fsync, of-inject, of-log, of-nested, of-prctl, of-soft, of-spoil, of-unpoison}
-use Rattle.hwp_law_holds.specs.Told.{AreToldBy}
+use Rattle.hwp_law_served.specs.Told.{AreToldBy}
 use Rattle.hwp_cpu_causes.proofs.AccessCauses.{access-heeded, access-told, knows-access}
 use Rattle.hwp_cpu_causes.proofs.RaiseCauses.{knows-kernel-raise, knows-user-raise, raise-heeded, raise-told}
 use Rattle.hwp_cpu_causes.proofs.ScrubCauses.{knows-scrub, scrub-heeded, scrub-told}

@@ -1,29 +1,29 @@
 -- Why a command by which a page, or a part of it, leaves its frame is answered so.
 use Rattle.std.proofs.Common.{◌≡◌, List, Option, Some, sym, ap, ◌∙◌, subst, inl, []}
-use Rattle.hwp_law_holds.specs.hwp_geom.declared.Layout.{Layout}
-use Rattle.hwp_law_holds.specs.hwp_geom.declared.Mask.{Mask}
-use Rattle.hwp_law_holds.specs.hwp_geom.declared.Page.{Page}
-use Rattle.hwp_law_holds.specs.hwp_geom.declared.VSlot.{VSlot}
-use Rattle.hwp_law_holds.specs.hwp_geom.declared.Who.{Who}
-use Rattle.hwp_law_holds.specs.hwp_page.declared.At.{At}
-use Rattle.hwp_law_holds.specs.hwp_page.Step.{IsOf}
-use Rattle.hwp_law_holds.specs.hwp_core_rule.declared.View.{View}
-use Rattle.hwp_law_holds.specs.hwp_script_lines.declared.Command.{Command}
-use Rattle.hwp_law_holds.specs.hwp_script_lines.declared.Command.TheVariants as commands
-use Rattle.hwp_law_holds.specs.hwp_report_text.declared.Answer.{Answer}
-use Rattle.hwp_law_holds.specs.hwp_core_task.Known.{HasMade}
-use Rattle.hwp_law_holds.specs.hwp_core_task.Pages.{SawState}
-use Rattle.hwp_law_holds.specs.hwp_evict.declared.Evict.{Evict}
-use Rattle.hwp_law_holds.specs.hwp_evict.declared.EvictAnswer.{EvictAnswer}
-use Rattle.hwp_law_holds.specs.hwp_evict.declared.EvictAnswer.TheVariants as answers
-use Rattle.hwp_law_holds.specs.hwp_evict.declared.Eviction.{Eviction}
-use Rattle.hwp_law_holds.specs.hwp_evict.declared.Eviction.TheVariants as evictions
-use Rattle.hwp_law_holds.specs.hwp_evict.declared.Refusal.{Refusal}
-use Rattle.hwp_law_holds.specs.hwp_evict.declared.Refusal.TheVariants as refusals
-use Rattle.hwp_law_holds.specs.hwp_evict.Evictions.{IsCaused as IsEvictCaused, IsWhy, entry_of}
-use Rattle.hwp_law_holds.specs.hwp_evict.Evicts as evicts
-use Rattle.hwp_law_holds.specs.hwp_cpu_check.declared.EventOutcome.{EventOutcome}
-use Rattle.hwp_law_holds.specs.hwp_cpu_row.declared.FrameChange.{FrameChange}
+use Rattle.hwp_law_served.specs.hwp_geom.declared.Layout.{Layout}
+use Rattle.hwp_law_served.specs.hwp_geom.declared.Mask.{Mask}
+use Rattle.hwp_law_served.specs.hwp_geom.declared.Page.{Page}
+use Rattle.hwp_law_served.specs.hwp_geom.declared.VSlot.{VSlot}
+use Rattle.hwp_law_served.specs.hwp_geom.declared.Who.{Who}
+use Rattle.hwp_law_served.specs.hwp_page.declared.At.{At}
+use Rattle.hwp_law_served.specs.hwp_page.Step.{IsOf}
+use Rattle.hwp_law_served.specs.hwp_core_rule.declared.View.{View}
+use Rattle.hwp_law_served.specs.hwp_script_lines.declared.Command.{Command}
+use Rattle.hwp_law_served.specs.hwp_script_lines.declared.Command.TheVariants as commands
+use Rattle.hwp_law_served.specs.hwp_report_text.declared.Answer.{Answer}
+use Rattle.hwp_law_served.specs.hwp_core_task.Known.{HasMade}
+use Rattle.hwp_law_served.specs.hwp_core_task.Pages.{SawState}
+use Rattle.hwp_law_served.specs.hwp_evict.declared.Evict.{Evict}
+use Rattle.hwp_law_served.specs.hwp_evict.declared.EvictAnswer.{EvictAnswer}
+use Rattle.hwp_law_served.specs.hwp_evict.declared.EvictAnswer.TheVariants as answers
+use Rattle.hwp_law_served.specs.hwp_evict.declared.Eviction.{Eviction}
+use Rattle.hwp_law_served.specs.hwp_evict.declared.Eviction.TheVariants as evictions
+use Rattle.hwp_law_served.specs.hwp_evict.declared.Refusal.{Refusal}
+use Rattle.hwp_law_served.specs.hwp_evict.declared.Refusal.TheVariants as refusals
+use Rattle.hwp_law_served.specs.hwp_evict.Evictions.{IsCaused as IsEvictCaused, IsWhy, entry_of}
+use Rattle.hwp_law_served.specs.hwp_evict.Evicts as evicts
+use Rattle.hwp_law_served.specs.hwp_cpu_check.declared.EventOutcome.{EventOutcome}
+use Rattle.hwp_law_served.specs.hwp_cpu_row.declared.FrameChange.{FrameChange}
 use Rattle.hwp_cpu_command.specs.declared.Job.{Job}
 use Rattle.hwp_cpu_command.specs.declared.Job.TheVariants as jobs
 use Rattle.hwp_cpu_command.specs.Answers.{evict_answer}
@@ -32,7 +32,7 @@ use Rattle.hwp_cpu_command.specs.Jobs.{FitsFrom, answer}
 use Rattle.hwp_cpu_command.specs.Runs.{anew}
 use Rattle.hwp_cpu_command.proofs.JobEnds.{evict-caused, mapped}
 use Rattle.hwp_cpu_command.proofs.OfKind.{of-evict}
-use Rattle.hwp_law_holds.specs.Causes.{IsAnswerCaused, FoundState, FoundStopped, MadeOne, SawBadLines}
+use Rattle.hwp_law_served.specs.Causes.{IsAnswerCaused, FoundState, FoundStopped, MadeOne, SawBadLines}
 use Rattle.hwp_cpu_causes.proofs.StopCauses.{found-stopped}
 
 -- the command, and what it knows of its answer

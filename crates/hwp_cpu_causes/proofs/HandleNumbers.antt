@@ -2,23 +2,23 @@
 -- number a step of the command showed it.
 use Rattle.std.proofs.Common.{◌≡◌, ℕ, ◌+◌, ◌<◌, ◌==◌, eq-eqb, Bool, true, false, cond, List, Some, slice_get, slice_set, unwrap_or, refl, sym, ap, ◌∙◌, subst, arith, []}
 use Rattle.std.proofs.lemmas.Bool.{both_ways, eqb-true}
-use Rattle.hwp_law_holds.specs.hwp_geom.declared.FileNo.{FileNo}
-use Rattle.hwp_law_holds.specs.hwp_geom.declared.Layout.{Layout}
-use Rattle.hwp_law_holds.specs.hwp_geom.declared.Who.{Who}
-use Rattle.hwp_law_holds.specs.hwp_core_rule.declared.View.{View}
-use Rattle.hwp_law_holds.proofs.of_hwp_core_rule.Lists.{set_else, set_here}
-use Rattle.hwp_law_holds.specs.hwp_script_lines.declared.Command.{Command}
-use Rattle.hwp_law_holds.specs.hwp_script_lines.declared.Command.TheVariants as commands
-use Rattle.hwp_law_holds.specs.hwp_report_text.declared.Answer.{Answer}
-use Rattle.hwp_law_holds.specs.hwp_report_text.declared.Answer.TheVariants as answers
-use Rattle.hwp_law_holds.specs.hwp_law.Losses.{number_by, tells_number}
-use Rattle.hwp_law_holds.specs.hwp_evict.declared.Fsync.{Fsync}
-use Rattle.hwp_law_holds.specs.hwp_evict.declared.FsyncAnswer.{FsyncAnswer}
-use Rattle.hwp_law_holds.specs.hwp_evict.declared.FsyncAnswer.TheVariants as fsync_answers
-use Rattle.hwp_law_holds.specs.hwp_evict.declared.fsync.FsyncAt.TheVariants as fsync_at
-use Rattle.hwp_law_holds.specs.hwp_evict.Fsyncs as fsyncs
-use Rattle.hwp_law_holds.specs.hwp_cpu_row.Locals.{number_in}
-use Rattle.hwp_law_holds.specs.Handles.{KnowsNumber}
+use Rattle.hwp_law_served.specs.hwp_geom.declared.FileNo.{FileNo}
+use Rattle.hwp_law_served.specs.hwp_geom.declared.Layout.{Layout}
+use Rattle.hwp_law_served.specs.hwp_geom.declared.Who.{Who}
+use Rattle.hwp_law_served.specs.hwp_core_rule.declared.View.{View}
+use Rattle.hwp_law_served.proofs.of_hwp_core_rule.Lists.{set_else, set_here}
+use Rattle.hwp_law_served.specs.hwp_script_lines.declared.Command.{Command}
+use Rattle.hwp_law_served.specs.hwp_script_lines.declared.Command.TheVariants as commands
+use Rattle.hwp_law_served.specs.hwp_report_text.declared.Answer.{Answer}
+use Rattle.hwp_law_served.specs.hwp_report_text.declared.Answer.TheVariants as answers
+use Rattle.hwp_law_served.specs.hwp_law.Losses.{number_by, tells_number}
+use Rattle.hwp_law_served.specs.hwp_evict.declared.Fsync.{Fsync}
+use Rattle.hwp_law_served.specs.hwp_evict.declared.FsyncAnswer.{FsyncAnswer}
+use Rattle.hwp_law_served.specs.hwp_evict.declared.FsyncAnswer.TheVariants as fsync_answers
+use Rattle.hwp_law_served.specs.hwp_evict.declared.fsync.FsyncAt.TheVariants as fsync_at
+use Rattle.hwp_law_served.specs.hwp_evict.Fsyncs as fsyncs
+use Rattle.hwp_law_served.specs.hwp_cpu_row.Locals.{number_in}
+use Rattle.hwp_law_served.specs.Handles.{KnowsNumber}
 use Rattle.hwp_cpu_command.specs.declared.Job.{Job}
 use Rattle.hwp_cpu_command.specs.declared.Job.TheVariants as jobs
 use Rattle.hwp_cpu_command.specs.Answers.{fsync_answer}

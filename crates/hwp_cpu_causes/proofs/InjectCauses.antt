@@ -1,32 +1,32 @@
 -- Why a memory failure that a command brings about is answered so.
 use Rattle.std.proofs.Common.{◌≡◌, ◌⊎◌, inl, inr, ℕ, zero, suc, Bool, true, false, List, [], ◌∷◌, ◌++◌, Option, Some, None, length, slice_get, refl, sym, ap, ◌∙◌, subst, true≢false}
 use Rattle.std.proofs.lemmas.Option.{none-some, same_Some}
-use Rattle.hwp_law_holds.specs.hwp_geom.declared.Frame.{Frame}
-use Rattle.hwp_law_holds.specs.hwp_geom.declared.Layout.{Layout}
-use Rattle.hwp_law_holds.specs.hwp_geom.declared.Page.{Page}
-use Rattle.hwp_law_holds.specs.hwp_geom.declared.Who.{Who}
-use Rattle.hwp_law_holds.specs.hwp_page.declared.At.{At}
-use Rattle.hwp_law_holds.specs.hwp_page.declared.Outcome.{Outcome}
-use Rattle.hwp_law_holds.specs.hwp_page.declared.Outcome.TheVariants as outcomes
-use Rattle.hwp_law_holds.specs.hwp_page.declared.What.{What}
-use Rattle.hwp_law_holds.specs.hwp_page.Situations.{outcome_of}
-use Rattle.hwp_law_holds.specs.hwp_core_rule.declared.Made.{Made}
-use Rattle.hwp_law_holds.specs.hwp_core_rule.declared.View.{View}
-use Rattle.hwp_law_holds.specs.hwp_core_rule.Lists.{SomeMember}
-use Rattle.hwp_law_holds.proofs.of_hwp_core_rule.Lists.{at_last}
-use Rattle.hwp_law_holds.specs.hwp_script_lines.declared.Command.{Command}
-use Rattle.hwp_law_holds.specs.hwp_script_lines.declared.Command.TheVariants as commands
-use Rattle.hwp_law_holds.specs.hwp_report_text.declared.Answer.{Answer}
-use Rattle.hwp_law_holds.specs.hwp_law_commands.Outcomes.{outcome_answer}
-use Rattle.hwp_law_holds.specs.hwp_core_task.Known.{HasMade, HasOnly, IsAt, deeds, is_failure}
-use Rattle.hwp_law_holds.specs.hwp_claim.declared.FailAnswer.{FailAnswer}
-use Rattle.hwp_law_holds.specs.hwp_claim.declared.FailAnswer.TheVariants as answers
-use Rattle.hwp_law_holds.specs.hwp_claim.declared.Inject.{Inject}
-use Rattle.hwp_law_holds.specs.hwp_claim.Injects as injects
-use Rattle.hwp_law_holds.specs.hwp_claim.declared.Found.{Found}
-use Rattle.hwp_law_holds.specs.hwp_cpu_check.declared.EventOutcome.{EventOutcome}
-use Rattle.hwp_law_holds.specs.hwp_cpu_check.Fits.{IsEntered}
-use Rattle.hwp_law_holds.specs.hwp_cpu_row.declared.FrameChange.{FrameChange}
+use Rattle.hwp_law_served.specs.hwp_geom.declared.Frame.{Frame}
+use Rattle.hwp_law_served.specs.hwp_geom.declared.Layout.{Layout}
+use Rattle.hwp_law_served.specs.hwp_geom.declared.Page.{Page}
+use Rattle.hwp_law_served.specs.hwp_geom.declared.Who.{Who}
+use Rattle.hwp_law_served.specs.hwp_page.declared.At.{At}
+use Rattle.hwp_law_served.specs.hwp_page.declared.Outcome.{Outcome}
+use Rattle.hwp_law_served.specs.hwp_page.declared.Outcome.TheVariants as outcomes
+use Rattle.hwp_law_served.specs.hwp_page.declared.What.{What}
+use Rattle.hwp_law_served.specs.hwp_page.Situations.{outcome_of}
+use Rattle.hwp_law_served.specs.hwp_core_rule.declared.Made.{Made}
+use Rattle.hwp_law_served.specs.hwp_core_rule.declared.View.{View}
+use Rattle.hwp_law_served.specs.hwp_core_rule.Lists.{SomeMember}
+use Rattle.hwp_law_served.proofs.of_hwp_core_rule.Lists.{at_last}
+use Rattle.hwp_law_served.specs.hwp_script_lines.declared.Command.{Command}
+use Rattle.hwp_law_served.specs.hwp_script_lines.declared.Command.TheVariants as commands
+use Rattle.hwp_law_served.specs.hwp_report_text.declared.Answer.{Answer}
+use Rattle.hwp_law_served.specs.hwp_law_commands.Outcomes.{outcome_answer}
+use Rattle.hwp_law_served.specs.hwp_core_task.Known.{HasMade, HasOnly, IsAt, deeds, is_failure}
+use Rattle.hwp_law_served.specs.hwp_claim.declared.FailAnswer.{FailAnswer}
+use Rattle.hwp_law_served.specs.hwp_claim.declared.FailAnswer.TheVariants as answers
+use Rattle.hwp_law_served.specs.hwp_claim.declared.Inject.{Inject}
+use Rattle.hwp_law_served.specs.hwp_claim.Injects as injects
+use Rattle.hwp_law_served.specs.hwp_claim.declared.Found.{Found}
+use Rattle.hwp_law_served.specs.hwp_cpu_check.declared.EventOutcome.{EventOutcome}
+use Rattle.hwp_law_served.specs.hwp_cpu_check.Fits.{IsEntered}
+use Rattle.hwp_law_served.specs.hwp_cpu_row.declared.FrameChange.{FrameChange}
 use Rattle.hwp_cpu_command.specs.declared.Job.{Job}
 use Rattle.hwp_cpu_command.specs.declared.Job.TheVariants as jobs
 use Rattle.hwp_cpu_command.specs.Answers.{fail_answer}
@@ -35,7 +35,7 @@ use Rattle.hwp_cpu_command.specs.Jobs.{FitsFrom, answer, own_by, own_of}
 use Rattle.hwp_cpu_command.specs.Runs.{anew}
 use Rattle.hwp_cpu_command.proofs.JobEnds.{InjectEnded, inject-ended, mapped}
 use Rattle.hwp_cpu_command.proofs.OfKind.{of-inject}
-use Rattle.hwp_law_holds.specs.Causes.{HasCome, HasFailed, IsAnswerCaused, IsInjectCaused}
+use Rattle.hwp_law_served.specs.Causes.{HasCome, HasFailed, IsAnswerCaused, IsInjectCaused}
 use Rattle.hwp_cpu_causes.proofs.StopCauses.{found-stopped, only-none}
 
 -- the command's failure, and what it knows of its answer

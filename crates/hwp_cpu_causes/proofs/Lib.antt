@@ -12,5 +12,5 @@ mod RowAccounts
 mod CommandTells
 pub mod HandleNumbers
 pub mod RowServed
-pub use Rattle.hwp_law_holds.proofs as of_hwp_law_holds
-pub use Rattle.hwp_law_holds.proofs.of_hwp_law_run as of_hwp_law_run
+pub use Rattle.hwp_law_served.proofs as of_hwp_law_served
+pub use Rattle.hwp_law_served.proofs.of_hwp_law_run as of_hwp_law_run

@@ -1,20 +1,20 @@
 -- Why a soft offline of a frame is answered so.
 use Rattle.std.proofs.Common.{◌≡◌, inl, List, Option, Some, refl, sym, ap, ◌∙◌, subst, []}
 use Rattle.std.specs.Prelude.{option_and_then}
-use Rattle.hwp_law_holds.specs.hwp_geom.declared.Frame.{Frame}
-use Rattle.hwp_law_holds.specs.hwp_geom.declared.Layout.{Layout}
-use Rattle.hwp_law_holds.specs.hwp_geom.declared.Who.{Who}
-use Rattle.hwp_law_holds.specs.hwp_core_rule.declared.View.{View}
-use Rattle.hwp_law_holds.specs.hwp_script_lines.declared.Command.{Command}
-use Rattle.hwp_law_holds.specs.hwp_script_lines.declared.Command.TheVariants as commands
-use Rattle.hwp_law_holds.specs.hwp_report_text.declared.Answer.{Answer}
-use Rattle.hwp_law_holds.specs.hwp_cpu_check.declared.EventOutcome.{EventOutcome}
-use Rattle.hwp_law_holds.specs.hwp_cpu_row.declared.FrameChange.{FrameChange}
-use Rattle.hwp_law_holds.specs.hwp_soft.declared.Soft.{Soft}
-use Rattle.hwp_law_holds.specs.hwp_soft.declared.SoftAnswer.{SoftAnswer}
-use Rattle.hwp_law_holds.specs.hwp_soft.declared.SoftAnswer.TheVariants as answers
-use Rattle.hwp_law_holds.specs.hwp_soft.Offline as offline
-use Rattle.hwp_law_holds.specs.hwp_soft.Softs as softs
+use Rattle.hwp_law_served.specs.hwp_geom.declared.Frame.{Frame}
+use Rattle.hwp_law_served.specs.hwp_geom.declared.Layout.{Layout}
+use Rattle.hwp_law_served.specs.hwp_geom.declared.Who.{Who}
+use Rattle.hwp_law_served.specs.hwp_core_rule.declared.View.{View}
+use Rattle.hwp_law_served.specs.hwp_script_lines.declared.Command.{Command}
+use Rattle.hwp_law_served.specs.hwp_script_lines.declared.Command.TheVariants as commands
+use Rattle.hwp_law_served.specs.hwp_report_text.declared.Answer.{Answer}
+use Rattle.hwp_law_served.specs.hwp_cpu_check.declared.EventOutcome.{EventOutcome}
+use Rattle.hwp_law_served.specs.hwp_cpu_row.declared.FrameChange.{FrameChange}
+use Rattle.hwp_law_served.specs.hwp_soft.declared.Soft.{Soft}
+use Rattle.hwp_law_served.specs.hwp_soft.declared.SoftAnswer.{SoftAnswer}
+use Rattle.hwp_law_served.specs.hwp_soft.declared.SoftAnswer.TheVariants as answers
+use Rattle.hwp_law_served.specs.hwp_soft.Offline as offline
+use Rattle.hwp_law_served.specs.hwp_soft.Softs as softs
 use Rattle.hwp_cpu_command.specs.declared.Job.{Job}
 use Rattle.hwp_cpu_command.specs.declared.Job.TheVariants as jobs
 use Rattle.hwp_cpu_command.specs.Answers.{soft_answer}
@@ -23,7 +23,7 @@ use Rattle.hwp_cpu_command.specs.Jobs.{FitsFrom, answer, offlined_by, own_of}
 use Rattle.hwp_cpu_command.specs.Runs.{anew}
 use Rattle.hwp_cpu_command.proofs.JobEnds.{mapped, soft-ended}
 use Rattle.hwp_cpu_command.proofs.OfKind.{of-soft}
-use Rattle.hwp_law_holds.specs.Causes.{IsAnswerCaused}
+use Rattle.hwp_law_served.specs.Causes.{IsAnswerCaused}
 use Rattle.hwp_cpu_causes.proofs.StopCauses.{found-stopped}
 
 -- the command's task, and what it knows of its answer

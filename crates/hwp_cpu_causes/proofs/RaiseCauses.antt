@@ -2,21 +2,21 @@
 use Rattle.std.proofs.Common.{◌≡◌, Bool, true, false, List, [], ◌∷◌, Option, Some, None, length, refl, sym, ap, ◌∙◌, subst, inl, inr, true≢false}
 use Rattle.std.specs.Option.{option_map}
 use Rattle.std.specs.declared.alloc.Global.{Global}
-use Rattle.hwp_law_holds.specs.hwp_geom.declared.Layout.{Layout}
-use Rattle.hwp_law_holds.specs.hwp_geom.declared.Proc.{Proc}
-use Rattle.hwp_law_holds.specs.hwp_geom.declared.Thread.{Thread}
-use Rattle.hwp_law_holds.specs.hwp_geom.declared.ThreadDecl.{ThreadDecl}
-use Rattle.hwp_law_holds.specs.hwp_geom.declared.Who.{Who}
-use Rattle.hwp_law_holds.specs.hwp_severity.declared.McgBits.{McgBits}
-use Rattle.hwp_law_holds.specs.hwp_core_rule.declared.View.{View}
-use Rattle.hwp_law_holds.specs.hwp_script_lines.declared.Command.{Command}
-use Rattle.hwp_law_holds.specs.hwp_script_lines.declared.Command.TheVariants as commands
-use Rattle.hwp_law_holds.specs.hwp_report_text.declared.Answer.{Answer}
-use Rattle.hwp_law_holds.specs.hwp_banks.Banks.{Banks}
-use Rattle.hwp_law_holds.specs.hwp_law_commands.Commands.{can_fail, process_of_thread}
-use Rattle.hwp_law_holds.specs.hwp_cpu_check.declared.EventOutcome.{EventOutcome}
-use Rattle.hwp_law_holds.specs.hwp_cpu_check.Checks.{IsActedOn}
-use Rattle.hwp_law_holds.specs.hwp_cpu_check.Told.{halts}
+use Rattle.hwp_law_served.specs.hwp_geom.declared.Layout.{Layout}
+use Rattle.hwp_law_served.specs.hwp_geom.declared.Proc.{Proc}
+use Rattle.hwp_law_served.specs.hwp_geom.declared.Thread.{Thread}
+use Rattle.hwp_law_served.specs.hwp_geom.declared.ThreadDecl.{ThreadDecl}
+use Rattle.hwp_law_served.specs.hwp_geom.declared.Who.{Who}
+use Rattle.hwp_law_served.specs.hwp_severity.declared.McgBits.{McgBits}
+use Rattle.hwp_law_served.specs.hwp_core_rule.declared.View.{View}
+use Rattle.hwp_law_served.specs.hwp_script_lines.declared.Command.{Command}
+use Rattle.hwp_law_served.specs.hwp_script_lines.declared.Command.TheVariants as commands
+use Rattle.hwp_law_served.specs.hwp_report_text.declared.Answer.{Answer}
+use Rattle.hwp_law_served.specs.hwp_banks.Banks.{Banks}
+use Rattle.hwp_law_served.specs.hwp_law_commands.Commands.{can_fail, process_of_thread}
+use Rattle.hwp_law_served.specs.hwp_cpu_check.declared.EventOutcome.{EventOutcome}
+use Rattle.hwp_law_served.specs.hwp_cpu_check.Checks.{IsActedOn}
+use Rattle.hwp_law_served.specs.hwp_cpu_check.Told.{halts}
 use Rattle.hwp_cpu_command.specs.hwp_cpu_raise.declared.Raise.{Raise}
 use Rattle.hwp_cpu_command.specs.hwp_cpu_raise.declared.RaiseAnswer.{RaiseAnswer}
 use Rattle.hwp_cpu_command.specs.hwp_cpu_raise.declared.RaiseAnswer.TheVariants as answers
@@ -24,7 +24,7 @@ use Rattle.hwp_cpu_command.specs.hwp_cpu_raise.declared.Raiser.{Raiser}
 use Rattle.hwp_cpu_command.specs.hwp_cpu_raise.Fits.{GoesOn, HasOnlyFailed, IsEnd, IsGone}
 use Rattle.hwp_cpu_command.specs.hwp_cpu_raise.Raises.{how_of, mode_of, thread_of}
 use Rattle.hwp_cpu_command.specs.hwp_cpu_raise.Raises as raises
-use Rattle.hwp_law_holds.specs.hwp_cpu_row.declared.FrameChange.{FrameChange}
+use Rattle.hwp_law_served.specs.hwp_cpu_row.declared.FrameChange.{FrameChange}
 use Rattle.hwp_cpu_command.specs.declared.Job.{Job}
 use Rattle.hwp_cpu_command.specs.declared.Job.TheVariants as jobs
 use Rattle.hwp_cpu_command.specs.Answers.{raise_answer}
@@ -33,8 +33,8 @@ use Rattle.hwp_cpu_command.specs.Jobs.{FitsFrom, answer, banks_after, banks_befo
 use Rattle.hwp_cpu_command.specs.Runs.{anew}
 use Rattle.hwp_cpu_command.proofs.JobEnds.{mapped, raise-ended}
 use Rattle.hwp_cpu_command.proofs.OfKind.{of-raise}
-use Rattle.hwp_law_holds.specs.Causes.{FoundStopped, HasOnlyMet, IsAnswerCaused, WasRaised}
-use Rattle.hwp_law_holds.specs.Told.{IsRaiseTold}
+use Rattle.hwp_law_served.specs.Causes.{FoundStopped, HasOnlyMet, IsAnswerCaused, WasRaised}
+use Rattle.hwp_law_served.specs.Told.{IsRaiseTold}
 use Rattle.hwp_cpu_causes.proofs.StopCauses.{found-stopped}
 
 -- the machine check, and its own answer

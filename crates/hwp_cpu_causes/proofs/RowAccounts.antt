@@ -3,24 +3,24 @@ use Rattle.std.proofs.Common.{◌≡◌, ℕ, false, List, [], ◌++◌, Option,
 use Rattle.std.specs.Prelude.{filter_map, option_and_then}
 use Rattle.std.specs.List.{cons_option}
 use Rattle.std.proofs.lemmas.Option.{none-some, same_Some}
-use Rattle.hwp_law_holds.specs.hwp_geom.declared.Frame.{Frame}
-use Rattle.hwp_law_holds.specs.hwp_geom.declared.Layout.{Layout}
-use Rattle.hwp_law_holds.specs.hwp_geom.declared.Mode.{Mode}
-use Rattle.hwp_law_holds.specs.hwp_geom.declared.Thread.{Thread}
-use Rattle.hwp_law_holds.specs.hwp_geom.declared.VSlot.{VSlot}
-use Rattle.hwp_law_holds.specs.hwp_geom.declared.Who.{Who}
-use Rattle.hwp_law_holds.specs.hwp_kill.declared.Policy.{Policy}
-use Rattle.hwp_law_holds.specs.hwp_kill.declared.Reply.TheVariants as replies
-use Rattle.hwp_law_holds.specs.hwp_kill.Prctl.{policy_set}
-use Rattle.hwp_law_holds.specs.hwp_banks.declared.Origin.{Origin}
-use Rattle.hwp_law_holds.specs.hwp_severity.declared.McgBits.{McgBits}
-use Rattle.hwp_law_holds.specs.hwp_core_rule.declared.View.{View}
-use Rattle.hwp_law_holds.specs.hwp_script_lines.declared.Command.{Command}
-use Rattle.hwp_law_holds.specs.hwp_script_lines.declared.Command.TheVariants as commands
-use Rattle.hwp_law_holds.specs.hwp_script_lines.declared.PrctlArgs.{PrctlArgs}
-use Rattle.hwp_law_holds.specs.hwp_report_text.declared.Answer.{Answer}
-use Rattle.hwp_law_holds.specs.hwp_law_commands.Commands.{current_thread}
-use Rattle.hwp_law_holds.specs.hwp_law_commands.Settings.{arguments}
+use Rattle.hwp_law_served.specs.hwp_geom.declared.Frame.{Frame}
+use Rattle.hwp_law_served.specs.hwp_geom.declared.Layout.{Layout}
+use Rattle.hwp_law_served.specs.hwp_geom.declared.Mode.{Mode}
+use Rattle.hwp_law_served.specs.hwp_geom.declared.Thread.{Thread}
+use Rattle.hwp_law_served.specs.hwp_geom.declared.VSlot.{VSlot}
+use Rattle.hwp_law_served.specs.hwp_geom.declared.Who.{Who}
+use Rattle.hwp_law_served.specs.hwp_kill.declared.Policy.{Policy}
+use Rattle.hwp_law_served.specs.hwp_kill.declared.Reply.TheVariants as replies
+use Rattle.hwp_law_served.specs.hwp_kill.Prctl.{policy_set}
+use Rattle.hwp_law_served.specs.hwp_banks.declared.Origin.{Origin}
+use Rattle.hwp_law_served.specs.hwp_severity.declared.McgBits.{McgBits}
+use Rattle.hwp_law_served.specs.hwp_core_rule.declared.View.{View}
+use Rattle.hwp_law_served.specs.hwp_script_lines.declared.Command.{Command}
+use Rattle.hwp_law_served.specs.hwp_script_lines.declared.Command.TheVariants as commands
+use Rattle.hwp_law_served.specs.hwp_script_lines.declared.PrctlArgs.{PrctlArgs}
+use Rattle.hwp_law_served.specs.hwp_report_text.declared.Answer.{Answer}
+use Rattle.hwp_law_served.specs.hwp_law_commands.Commands.{current_thread}
+use Rattle.hwp_law_served.specs.hwp_law_commands.Settings.{arguments}
 use Rattle.hwp_cpu_command.specs.hwp_cpu_control.declared.Prctl.{Prctl}
 use Rattle.hwp_cpu_command.specs.hwp_cpu_control.declared.PrctlAnswer.{PrctlAnswer}
 use Rattle.hwp_cpu_command.specs.hwp_cpu_control.declared.PrctlAnswer.TheVariants as prctl_answers
@@ -28,21 +28,21 @@ use Rattle.hwp_cpu_command.specs.hwp_cpu_control.declared.prctl.PrctlAt.{PrctlAt
 use Rattle.hwp_cpu_command.specs.hwp_cpu_control.declared.prctl.PrctlAt.TheVariants as prctl_at
 use Rattle.hwp_cpu_command.specs.hwp_cpu_control.Prctls as prctls
 use Rattle.hwp_cpu_command.proofs.of_hwp_cpu_control.PrctlReplies.{set-says}
-use Rattle.hwp_law_holds.specs.hwp_claim.declared.fail.FailAt.{FailAt}
-use Rattle.hwp_law_holds.specs.hwp_claim.declared.fail.FailAt.TheVariants as fail_at
-use Rattle.hwp_law_holds.specs.hwp_claim.declared.FailAnswer.{FailAnswer}
-use Rattle.hwp_law_holds.specs.hwp_claim.declared.FailAnswer.TheVariants as answers
-use Rattle.hwp_law_holds.specs.hwp_claim.declared.Inject.{Inject}
-use Rattle.hwp_law_holds.specs.hwp_claim.declared.inject.InjectAt.{InjectAt}
-use Rattle.hwp_law_holds.specs.hwp_claim.declared.inject.InjectAt.TheVariants as inject_at
-use Rattle.hwp_law_holds.specs.hwp_claim.Done.{failed_over, marked_over}
-use Rattle.hwp_law_holds.specs.hwp_claim.Done as fail_done
-use Rattle.hwp_law_holds.specs.hwp_claim.Fails as fails
-use Rattle.hwp_law_holds.specs.hwp_claim.Injects as injects
+use Rattle.hwp_law_served.specs.hwp_claim.declared.fail.FailAt.{FailAt}
+use Rattle.hwp_law_served.specs.hwp_claim.declared.fail.FailAt.TheVariants as fail_at
+use Rattle.hwp_law_served.specs.hwp_claim.declared.FailAnswer.{FailAnswer}
+use Rattle.hwp_law_served.specs.hwp_claim.declared.FailAnswer.TheVariants as answers
+use Rattle.hwp_law_served.specs.hwp_claim.declared.Inject.{Inject}
+use Rattle.hwp_law_served.specs.hwp_claim.declared.inject.InjectAt.{InjectAt}
+use Rattle.hwp_law_served.specs.hwp_claim.declared.inject.InjectAt.TheVariants as inject_at
+use Rattle.hwp_law_served.specs.hwp_claim.Done.{failed_over, marked_over}
+use Rattle.hwp_law_served.specs.hwp_claim.Done as fail_done
+use Rattle.hwp_law_served.specs.hwp_claim.Fails as fails
+use Rattle.hwp_law_served.specs.hwp_claim.Injects as injects
 use Rattle.hwp_cpu_command.specs.hwp_fault.declared.AccessKind.{AccessKind}
 use Rattle.hwp_cpu_command.specs.hwp_fault.declared.Request.{Request}
-use Rattle.hwp_law_holds.specs.hwp_cpu_check.declared.EventOutcome.{EventOutcome}
-use Rattle.hwp_law_holds.specs.hwp_cpu_check.Done.{failed_in, marked_in}
+use Rattle.hwp_law_served.specs.hwp_cpu_check.declared.EventOutcome.{EventOutcome}
+use Rattle.hwp_law_served.specs.hwp_cpu_check.Done.{failed_in, marked_in}
 use Rattle.hwp_cpu_command.specs.hwp_cpu_access.declared.instruction.InstructionAt.{InstructionAt}
 use Rattle.hwp_cpu_command.specs.hwp_cpu_access.declared.instruction.InstructionAt.TheVariants as instruction_at
 use Rattle.hwp_cpu_command.specs.hwp_cpu_access.Done as instruction_done
@@ -52,19 +52,19 @@ use Rattle.hwp_cpu_command.specs.hwp_cpu_raise.declared.raise.RaiseAt.{RaiseAt}
 use Rattle.hwp_cpu_command.specs.hwp_cpu_raise.declared.raise.RaiseAt.TheVariants as raise_at
 use Rattle.hwp_cpu_command.specs.hwp_cpu_raise.Done as raise_done
 use Rattle.hwp_cpu_command.specs.hwp_cpu_raise.Raises.{thread_of}
-use Rattle.hwp_law_holds.specs.hwp_scrub.declared.scrub.ScrubAt.{ScrubAt}
-use Rattle.hwp_law_holds.specs.hwp_scrub.declared.scrub.ScrubAt.TheVariants as scrub_at
-use Rattle.hwp_law_holds.specs.hwp_scrub.Done as scrub_done
-use Rattle.hwp_law_holds.specs.hwp_soft.declared.Soft.{Soft}
-use Rattle.hwp_law_holds.specs.hwp_soft.declared.SoftAnswer.{SoftAnswer}
-use Rattle.hwp_law_holds.specs.hwp_soft.declared.SoftAnswer.TheVariants as soft_answers
-use Rattle.hwp_law_holds.specs.hwp_soft.Done.{marked_at, marked_of}
-use Rattle.hwp_law_holds.specs.hwp_soft.Softs.{cycle_in}
-use Rattle.hwp_law_holds.specs.hwp_soft_unpoison.declared.Unpoison.{Unpoison}
-use Rattle.hwp_law_holds.specs.hwp_soft_unpoison.declared.UnpoisonAnswer.{UnpoisonAnswer}
-use Rattle.hwp_law_holds.specs.hwp_soft_unpoison.declared.UnpoisonAnswer.TheVariants as unpoison_answers
-use Rattle.hwp_law_holds.specs.hwp_soft_unpoison.Done as unpoison_done
-use Rattle.hwp_law_holds.specs.hwp_cpu_row.declared.FrameChange.{FrameChange}
+use Rattle.hwp_law_served.specs.hwp_scrub.declared.scrub.ScrubAt.{ScrubAt}
+use Rattle.hwp_law_served.specs.hwp_scrub.declared.scrub.ScrubAt.TheVariants as scrub_at
+use Rattle.hwp_law_served.specs.hwp_scrub.Done as scrub_done
+use Rattle.hwp_law_served.specs.hwp_soft.declared.Soft.{Soft}
+use Rattle.hwp_law_served.specs.hwp_soft.declared.SoftAnswer.{SoftAnswer}
+use Rattle.hwp_law_served.specs.hwp_soft.declared.SoftAnswer.TheVariants as soft_answers
+use Rattle.hwp_law_served.specs.hwp_soft.Done.{marked_at, marked_of}
+use Rattle.hwp_law_served.specs.hwp_soft.Softs.{cycle_in}
+use Rattle.hwp_law_served.specs.hwp_soft_unpoison.declared.Unpoison.{Unpoison}
+use Rattle.hwp_law_served.specs.hwp_soft_unpoison.declared.UnpoisonAnswer.{UnpoisonAnswer}
+use Rattle.hwp_law_served.specs.hwp_soft_unpoison.declared.UnpoisonAnswer.TheVariants as unpoison_answers
+use Rattle.hwp_law_served.specs.hwp_soft_unpoison.Done as unpoison_done
+use Rattle.hwp_law_served.specs.hwp_cpu_row.declared.FrameChange.{FrameChange}
 use Rattle.hwp_cpu_command.specs.declared.Job.{Job}
 use Rattle.hwp_cpu_command.specs.declared.Job.TheVariants as jobs
 use Rattle.hwp_cpu_command.specs.Answers.{fail_answer, prctl_answer, soft_answer, unpoison_answer}
@@ -81,7 +81,7 @@ use Rattle.hwp_cpu_causes.proofs.OfflineCauses.{KnowsSoft, knows-soft}
 use Rattle.hwp_cpu_causes.proofs.RaiseCauses.{KnowsRaise, knows-kernel-raise, knows-user-raise}
 use Rattle.hwp_cpu_causes.proofs.ScrubCauses.{KnowsScrub, knows-scrub}
 use Rattle.hwp_cpu_causes.proofs.UnpoisonCauses.{KnowsUnpoison, knows-unpoison}
-use Rattle.hwp_law_holds.specs.Accounts.{IsOwn, failures_in, markings_in, own_failure, own_marking, set_by, set_for}
+use Rattle.hwp_law_served.specs.Accounts.{IsOwn, failures_in, markings_in, own_failure, own_marking, set_by, set_for}
 
 -- ---- the policy of a thread
 

@@ -1,22 +1,22 @@
 -- A command that is answered has served its row.
 use Rattle.std.proofs.Common.{◌≡◌, ◌⊎◌, ℕ, List, Some, ◌∙◌, []}
-use Rattle.hwp_law_holds.specs.hwp_geom.declared.Layout.{Layout}
-use Rattle.hwp_law_holds.specs.hwp_geom.declared.Thread.{Thread}
-use Rattle.hwp_law_holds.specs.hwp_geom.declared.Who.{Who}
-use Rattle.hwp_law_holds.specs.hwp_core_rule.declared.View.{View}
-use Rattle.hwp_law_holds.specs.hwp_script_lines.declared.Command.{Command}
-use Rattle.hwp_law_holds.specs.hwp_report_text.declared.Answer.{Answer}
-use Rattle.hwp_law_holds.specs.hwp_report_text.declared.Answer.TheVariants as answers
-use Rattle.hwp_law_holds.specs.hwp_law_commands.Settings.{settings}
-use Rattle.hwp_law_holds.specs.hwp_banks.Banks.{Banks}
+use Rattle.hwp_law_served.specs.hwp_geom.declared.Layout.{Layout}
+use Rattle.hwp_law_served.specs.hwp_geom.declared.Thread.{Thread}
+use Rattle.hwp_law_served.specs.hwp_geom.declared.Who.{Who}
+use Rattle.hwp_law_served.specs.hwp_core_rule.declared.View.{View}
+use Rattle.hwp_law_served.specs.hwp_script_lines.declared.Command.{Command}
+use Rattle.hwp_law_served.specs.hwp_report_text.declared.Answer.{Answer}
+use Rattle.hwp_law_served.specs.hwp_report_text.declared.Answer.TheVariants as answers
+use Rattle.hwp_law_served.specs.hwp_law_commands.Settings.{settings}
+use Rattle.hwp_law_served.specs.hwp_banks.Banks.{Banks}
 use Rattle.hwp_cpu_command.specs.declared.Job.{Job}
 use Rattle.hwp_cpu_command.specs.Done.{failed_now, marked_now}
 use Rattle.hwp_cpu_command.specs.FileHandles.{HasHandle}
 use Rattle.hwp_cpu_command.specs.Jobs.{FitsFrom, answer, banks_after, banks_before, row_of}
 use Rattle.hwp_cpu_command.specs.Runs.{Runs}
 use Rattle.hwp_cpu_command.specs.Settings.{AreCounted, policies_now}
-use Rattle.hwp_law_holds.specs.Accounts.{failures, markings, policies_set}
-use Rattle.hwp_law_holds.specs.Served.{IsRowServed, SawRunning}
+use Rattle.hwp_law_served.specs.Accounts.{failures, markings, policies_set}
+use Rattle.hwp_law_served.specs.Served.{IsRowServed, SawRunning}
 use Rattle.hwp_cpu_causes.proofs.RowAccounts.{does}
 use Rattle.hwp_cpu_causes.proofs.CauseLaws.{caused}
 use Rattle.hwp_cpu_causes.proofs.CommandTells.{tells}

@@ -1,23 +1,23 @@
 -- Why a scrub is answered so, and what it tells.
 use Rattle.std.proofs.Common.{◌≡◌, inl, inr, ℕ, ◌+◌, ◌≤◌, true, List, Option, Some, length, refl, sym, ap, ◌∙◌, subst, arith, true≢false, []}
 use Rattle.std.specs.declared.alloc.Global.{Global}
-use Rattle.hwp_law_holds.specs.hwp_geom.declared.Frame.{Frame}
-use Rattle.hwp_law_holds.specs.hwp_geom.declared.Layout.{Layout}
-use Rattle.hwp_law_holds.specs.hwp_geom.declared.Who.{Who}
-use Rattle.hwp_law_holds.specs.hwp_core_rule.declared.View.{View}
-use Rattle.hwp_law_holds.specs.hwp_script_lines.declared.Command.{Command}
-use Rattle.hwp_law_holds.specs.hwp_script_lines.declared.Command.TheVariants as commands
-use Rattle.hwp_law_holds.specs.hwp_report_text.declared.Answer.{Answer}
-use Rattle.hwp_law_holds.specs.hwp_banks.Banks.{Banks}
-use Rattle.hwp_law_holds.specs.hwp_cpu_check.declared.EventOutcome.{EventOutcome}
-use Rattle.hwp_law_holds.specs.hwp_cpu_check.Told.{halts}
-use Rattle.hwp_law_holds.specs.hwp_scrub.declared.Scrub.{Scrub}
-use Rattle.hwp_law_holds.specs.hwp_scrub.declared.ScrubAnswer.{ScrubAnswer}
-use Rattle.hwp_law_holds.specs.hwp_scrub.declared.ScrubAnswer.TheVariants as answers
-use Rattle.hwp_law_holds.specs.hwp_scrub.Fits.{HasOnlyFailed, IsEnd}
-use Rattle.hwp_law_holds.specs.hwp_scrub.Scrubs as scrubs
-use Rattle.hwp_law_holds.specs.hwp_scrub.Visits.{IsBadFind, left_by}
-use Rattle.hwp_law_holds.specs.hwp_cpu_row.declared.FrameChange.{FrameChange}
+use Rattle.hwp_law_served.specs.hwp_geom.declared.Frame.{Frame}
+use Rattle.hwp_law_served.specs.hwp_geom.declared.Layout.{Layout}
+use Rattle.hwp_law_served.specs.hwp_geom.declared.Who.{Who}
+use Rattle.hwp_law_served.specs.hwp_core_rule.declared.View.{View}
+use Rattle.hwp_law_served.specs.hwp_script_lines.declared.Command.{Command}
+use Rattle.hwp_law_served.specs.hwp_script_lines.declared.Command.TheVariants as commands
+use Rattle.hwp_law_served.specs.hwp_report_text.declared.Answer.{Answer}
+use Rattle.hwp_law_served.specs.hwp_banks.Banks.{Banks}
+use Rattle.hwp_law_served.specs.hwp_cpu_check.declared.EventOutcome.{EventOutcome}
+use Rattle.hwp_law_served.specs.hwp_cpu_check.Told.{halts}
+use Rattle.hwp_law_served.specs.hwp_scrub.declared.Scrub.{Scrub}
+use Rattle.hwp_law_served.specs.hwp_scrub.declared.ScrubAnswer.{ScrubAnswer}
+use Rattle.hwp_law_served.specs.hwp_scrub.declared.ScrubAnswer.TheVariants as answers
+use Rattle.hwp_law_served.specs.hwp_scrub.Fits.{HasOnlyFailed, IsEnd}
+use Rattle.hwp_law_served.specs.hwp_scrub.Scrubs as scrubs
+use Rattle.hwp_law_served.specs.hwp_scrub.Visits.{IsBadFind, left_by}
+use Rattle.hwp_law_served.specs.hwp_cpu_row.declared.FrameChange.{FrameChange}
 use Rattle.hwp_cpu_command.specs.declared.Job.{Job}
 use Rattle.hwp_cpu_command.specs.declared.Job.TheVariants as jobs
 use Rattle.hwp_cpu_command.specs.Answers.{scrub_answer}
@@ -26,8 +26,8 @@ use Rattle.hwp_cpu_command.specs.Jobs.{FitsFrom, answer, banks_after, banks_befo
 use Rattle.hwp_cpu_command.specs.Runs.{anew}
 use Rattle.hwp_cpu_command.proofs.JobEnds.{mapped, scrub-ended}
 use Rattle.hwp_cpu_command.proofs.OfKind.{of-scrub}
-use Rattle.hwp_law_holds.specs.Causes.{HasOnlyMet, IsAnswerCaused}
-use Rattle.hwp_law_holds.specs.Told.{IsScrubTold}
+use Rattle.hwp_law_served.specs.Causes.{HasOnlyMet, IsAnswerCaused}
+use Rattle.hwp_law_served.specs.Told.{IsScrubTold}
 use Rattle.hwp_cpu_causes.proofs.StopCauses.{found-stopped}
 
 -- the scrub, and its own answer

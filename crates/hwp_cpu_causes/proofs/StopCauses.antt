@@ -1,14 +1,14 @@
 -- What a command that made no entry, or only such as it can on its way, knows of its answer `stopped`.
 use Rattle.std.proofs.Common.{List, slice_get, sym, ap, ◌∙◌}
 use Rattle.std.proofs.lemmas.Option.{none-some}
-use Rattle.hwp_law_holds.specs.hwp_geom.declared.Layout.{Layout}
-use Rattle.hwp_law_holds.specs.hwp_geom.declared.Who.{Who}
-use Rattle.hwp_law_holds.specs.hwp_core_rule.declared.Made.{Made}
-use Rattle.hwp_law_holds.specs.hwp_core_rule.declared.View.{View}
-use Rattle.hwp_law_holds.specs.hwp_script_lines.declared.Command.{Command}
-use Rattle.hwp_law_holds.specs.hwp_core_task.Known.{HasMadeNone, HasOnly}
-use Rattle.hwp_law_holds.specs.hwp_claim_frame.Claims.{IsStopped}
-use Rattle.hwp_law_holds.specs.Causes.{FoundStopped}
+use Rattle.hwp_law_served.specs.hwp_geom.declared.Layout.{Layout}
+use Rattle.hwp_law_served.specs.hwp_geom.declared.Who.{Who}
+use Rattle.hwp_law_served.specs.hwp_core_rule.declared.Made.{Made}
+use Rattle.hwp_law_served.specs.hwp_core_rule.declared.View.{View}
+use Rattle.hwp_law_served.specs.hwp_script_lines.declared.Command.{Command}
+use Rattle.hwp_law_served.specs.hwp_core_task.Known.{HasMadeNone, HasOnly}
+use Rattle.hwp_law_served.specs.hwp_claim_frame.Claims.{IsStopped}
+use Rattle.hwp_law_served.specs.Causes.{FoundStopped}
 
 -- each entry of a command that made none is so
 pub only-none : (Such : Made → Type 0) (view : View) (who : Who) → HasMadeNone view who → HasOnly Such view who

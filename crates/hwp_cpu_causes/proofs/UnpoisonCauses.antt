@@ -2,22 +2,22 @@
 use Rattle.std.proofs.Common.{◌≡◌, ◌==◌, ◌&&◌, not, ℕ, ◌<◌, false, true, inl, List, Option, Some, refl, sym, ap, ◌∙◌, subst, true≢false, []}
 use Rattle.std.specs.Prelude.{option_and_then}
 use Rattle.std.proofs.lemmas.Bool.{and_from, and_parts, eq-eqb, eqb-true}
-use Rattle.hwp_law_holds.specs.hwp_geom.declared.Frame.{Frame}
-use Rattle.hwp_law_holds.specs.hwp_geom.declared.Layout.{Layout}
-use Rattle.hwp_law_holds.specs.hwp_geom.declared.Who.{Who}
-use Rattle.hwp_law_holds.specs.hwp_words.Frames.{count_of, is_handled, is_locked, owner_of}
-use Rattle.hwp_law_holds.specs.hwp_core_rule.declared.View.{View}
-use Rattle.hwp_law_holds.specs.hwp_script_lines.declared.Command.{Command}
-use Rattle.hwp_law_holds.specs.hwp_script_lines.declared.Command.TheVariants as commands
-use Rattle.hwp_law_holds.specs.hwp_report_text.declared.Answer.{Answer}
-use Rattle.hwp_law_holds.specs.hwp_cpu_check.declared.EventOutcome.{EventOutcome}
-use Rattle.hwp_law_holds.specs.hwp_cpu_row.declared.FrameChange.{FrameChange}
-use Rattle.hwp_law_holds.specs.hwp_soft_unpoison.declared.Unpoison.{Unpoison}
-use Rattle.hwp_law_holds.specs.hwp_soft_unpoison.declared.UnpoisonAnswer.{UnpoisonAnswer}
-use Rattle.hwp_law_holds.specs.hwp_soft_unpoison.declared.UnpoisonAnswer.TheVariants as answers
-use Rattle.hwp_law_holds.specs.hwp_soft_unpoison.Unpoisons as unpoisons
-use Rattle.hwp_law_holds.specs.hwp_soft_unpoison.Unpoisons.{is_revivable}
-use Rattle.hwp_law_holds.specs.hwp_law_run.Shown.{IsRevivable}
+use Rattle.hwp_law_served.specs.hwp_geom.declared.Frame.{Frame}
+use Rattle.hwp_law_served.specs.hwp_geom.declared.Layout.{Layout}
+use Rattle.hwp_law_served.specs.hwp_geom.declared.Who.{Who}
+use Rattle.hwp_law_served.specs.hwp_words.Frames.{count_of, is_handled, is_locked, owner_of}
+use Rattle.hwp_law_served.specs.hwp_core_rule.declared.View.{View}
+use Rattle.hwp_law_served.specs.hwp_script_lines.declared.Command.{Command}
+use Rattle.hwp_law_served.specs.hwp_script_lines.declared.Command.TheVariants as commands
+use Rattle.hwp_law_served.specs.hwp_report_text.declared.Answer.{Answer}
+use Rattle.hwp_law_served.specs.hwp_cpu_check.declared.EventOutcome.{EventOutcome}
+use Rattle.hwp_law_served.specs.hwp_cpu_row.declared.FrameChange.{FrameChange}
+use Rattle.hwp_law_served.specs.hwp_soft_unpoison.declared.Unpoison.{Unpoison}
+use Rattle.hwp_law_served.specs.hwp_soft_unpoison.declared.UnpoisonAnswer.{UnpoisonAnswer}
+use Rattle.hwp_law_served.specs.hwp_soft_unpoison.declared.UnpoisonAnswer.TheVariants as answers
+use Rattle.hwp_law_served.specs.hwp_soft_unpoison.Unpoisons as unpoisons
+use Rattle.hwp_law_served.specs.hwp_soft_unpoison.Unpoisons.{is_revivable}
+use Rattle.hwp_law_served.specs.hwp_law_run.Shown.{IsRevivable}
 use Rattle.hwp_cpu_command.specs.declared.Job.{Job}
 use Rattle.hwp_cpu_command.specs.declared.Job.TheVariants as jobs
 use Rattle.hwp_cpu_command.specs.Answers.{unpoison_answer}
@@ -26,8 +26,8 @@ use Rattle.hwp_cpu_command.specs.Jobs.{FitsFrom, answer, own_of, revived_by}
 use Rattle.hwp_cpu_command.specs.Runs.{anew}
 use Rattle.hwp_cpu_command.proofs.JobEnds.{mapped, unpoison-ended}
 use Rattle.hwp_cpu_command.proofs.OfKind.{of-unpoison}
-use Rattle.hwp_law_holds.proofs.of_hwp_core_rule.MetWords.{free-word}
-use Rattle.hwp_law_holds.specs.Causes.{IsAnswerCaused}
+use Rattle.hwp_law_served.proofs.of_hwp_core_rule.MetWords.{free-word}
+use Rattle.hwp_law_served.specs.Causes.{IsAnswerCaused}
 use Rattle.hwp_cpu_causes.proofs.StopCauses.{found-stopped}
 
 -- the command's task, and what it knows of its answer

@@ -1,3 +1,3 @@
-pub use Rattle.hwp_law_holds.specs.hwp_law as hwp_law
-pub use Rattle.hwp_law_holds.specs as hwp_law_holds
-pub use Rattle.hwp_law_holds.specs.hwp_law_run as hwp_law_run
+pub use Rattle.hwp_law_served.specs.hwp_law as hwp_law
+pub use Rattle.hwp_law_served.specs as hwp_law_served
+pub use Rattle.hwp_law_served.specs.hwp_law_run as hwp_law_run

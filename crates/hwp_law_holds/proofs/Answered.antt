@@ -2,75 +2,73 @@
 use Rattle.std.proofs.Common.{◌≡◌, ◌≢◌, ◌⊎◌, inl, inr, ℕ, ◌<◌, Bool, true, false, bit_and, List, Option, Some, length, slice_get, option_and_then, option_map, take, unwrap_or, refl, sym, ap, ◌∙◌, subst}
 use Rattle.std.proofs.lemmas.List.{length-map}
 use Rattle.std.proofs.lemmas.Option.{get_or_from_slice_get, slice_get_within}
-use Rattle.hwp_law_run.specs.hwp_geom.declared.Cpu.{Cpu}
-use Rattle.hwp_law_run.specs.hwp_geom.declared.Frame.{Frame}
-use Rattle.hwp_law_run.specs.hwp_geom.declared.Mask.{Mask}
-use Rattle.hwp_law_run.specs.hwp_geom.declared.Page.{Page}
-use Rattle.hwp_law_run.specs.hwp_geom.declared.Thread.{Thread}
-use Rattle.hwp_law_run.specs.hwp_geom.declared.Who.{Who}
-use Rattle.hwp_law_run.specs.hwp_geom.Layout.{is_locked}
-use Rattle.hwp_law_run.specs.hwp_kill.Prctl.{reply}
-use Rattle.hwp_law_run.specs.hwp_page.declared.At.{At}
-use Rattle.hwp_law_run.specs.hwp_page.declared.Entry.{Entry}
-use Rattle.hwp_law_run.specs.hwp_page.declared.Outcome.{Outcome}
-use Rattle.hwp_law_run.specs.hwp_page.declared.PageState.{PageState}
-use Rattle.hwp_law_run.specs.hwp_page.declared.What.{What}
-use Rattle.hwp_law_run.specs.hwp_page.declared.Met.TheVariants.{Sigbus}
-use Rattle.hwp_law_run.specs.hwp_page.declared.What.TheVariants as entries
-use Rattle.hwp_law_run.specs.hwp_core_rule.declared.Length.{Length}
-use Rattle.hwp_law_run.specs.hwp_core_rule.declared.Log.{Log}
-use Rattle.hwp_law_run.specs.hwp_core_rule.declared.Made.{Made}
-use Rattle.hwp_law_run.specs.hwp_core_rule.declared.SharedWord.TheVariants as places
-use Rattle.hwp_law_run.specs.hwp_core_rule.declared.State.{State}
-use Rattle.hwp_law_run.specs.hwp_core_rule.declared.View.{View}
-use Rattle.hwp_law_run.specs.hwp_core_rule.Logs.{state_of}
-use Rattle.hwp_law_run.specs.hwp_core_task.Boards.{view_of}
-use Rattle.hwp_law_run.specs.hwp_core_task.Known.{HasMade, Saw, SawBadOf}
-use Rattle.hwp_law_run.specs.hwp_core_task.Pages.{SawState}
-use Rattle.hwp_law_run.proofs.of_hwp_core_task.SightKeeps.{bad-lines-stay}
-use Rattle.hwp_soft.specs.hwp_soft_move.Seizes.{IsUsers}
-use Rattle.hwp_law_run.specs.hwp_script_read.declared.PrctlArgs.{PrctlArgs}
-use Rattle.hwp_law_run.specs.hwp_script_read.declared.Command.{Command}
-use Rattle.hwp_law_run.specs.hwp_script_read.declared.Command.TheVariants as commands
-use Rattle.hwp_law_run.specs.hwp_script_read.declared.Script.{Script}
-use Rattle.hwp_law_run.specs.hwp_report_text.declared.Answer.{Answer}
-use Rattle.hwp_law_run.specs.hwp_report_text.declared.Answer.TheVariants as answers
-use Rattle.hwp_law_run.specs.hwp_report_text.declared.EventLine.{EventLine}
-use Rattle.hwp_law_run.specs.hwp_report_text.declared.FrameLine.{FrameLine}
-use Rattle.hwp_law_run.specs.hwp_report_text.declared.MarkLine.{MarkLine}
-use Rattle.hwp_law_run.specs.hwp_report_text.declared.Report.{Report}
-use Rattle.hwp_law_run.specs.hwp_law_commands.Outcomes.{reply_answer}
-use Rattle.hwp_law_run.specs.hwp_law.Answers.{StandsAt}
-use Rattle.hwp_law_run.specs.hwp_law.Causes.{AreBadLines, ComesTo, HadBadLines, HasMark, IsCaused as IsLawCaused, IsFailureAnswer, IsOfflineAnswer, IsOutAnswer, IsSigbus, IsUnpoisonAnswer, SendsSigbus, TakesBack}
-use Rattle.hwp_law_run.specs.hwp_law_commands.Commands.{command_at, current_thread}
-use Rattle.hwp_law_run.specs.hwp_law.Lines.{bad_lines_of, events_of}
-use Rattle.hwp_law_run.specs.hwp_law.Places.{entry_at}
-use Rattle.hwp_law_run.specs.hwp_law_commands.Settings.{arguments, last_policy, settings}
-use Rattle.hwp_law_run.specs.hwp_law.Policies.{answered_before, policy_before}
-use Rattle.hwp_law_run.specs.hwp_law.Records.{how_in}
-use Rattle.hwp_law_run.specs.hwp_law.States.{HadState}
-use Rattle.hwp_law_run.proofs.Homes.{there-is}
-use Rattle.hwp_law_run.proofs.Reported.{listed-entry, seen-had}
-use Rattle.hwp_cpu_row.specs.declared.FrameChange.{FrameChange}
-use Rattle.hwp_cpu_row.specs.declared.FrameChange.TheVariants as owns
-use Rattle.hwp_cpu_row.specs.declared.Row.{Row}
-use Rattle.hwp_cpu_row.specs.hwp_cpu_check.declared.EventOutcome.{EventOutcome}
-use Rattle.hwp_cpu_row.specs.hwp_cpu_check.Told.{first_signal}
-use Rattle.hwp_law_holds.specs.Causes.{HasCome, IsAnswerCaused, IsInjectCaused, IsOfflineCaused, IsSoftCaused, IsUnpoisonCaused, SawBadLines}
-use Rattle.hwp_law_holds.specs.Rows.{event_at, offlined}
-use Rattle.hwp_law_holds.specs.Runs.{row_at}
+use Rattle.hwp_law_records.specs.hwp_geom.declared.Cpu.{Cpu}
+use Rattle.hwp_law_records.specs.hwp_geom.declared.Frame.{Frame}
+use Rattle.hwp_law_records.specs.hwp_geom.declared.Mask.{Mask}
+use Rattle.hwp_law_records.specs.hwp_geom.declared.Page.{Page}
+use Rattle.hwp_law_records.specs.hwp_geom.declared.Thread.{Thread}
+use Rattle.hwp_law_records.specs.hwp_geom.declared.Who.{Who}
+use Rattle.hwp_law_records.specs.hwp_geom.Layout.{is_locked}
+use Rattle.hwp_law_records.specs.hwp_kill.Prctl.{reply}
+use Rattle.hwp_law_records.specs.hwp_page.declared.At.{At}
+use Rattle.hwp_law_records.specs.hwp_page.declared.Entry.{Entry}
+use Rattle.hwp_law_records.specs.hwp_page.declared.Outcome.{Outcome}
+use Rattle.hwp_law_records.specs.hwp_page.declared.PageState.{PageState}
+use Rattle.hwp_law_records.specs.hwp_page.declared.What.{What}
+use Rattle.hwp_law_records.specs.hwp_page.declared.Met.TheVariants.{Sigbus}
+use Rattle.hwp_law_records.specs.hwp_page.declared.What.TheVariants as entries
+use Rattle.hwp_law_records.specs.hwp_core_rule.declared.Log.{Log}
+use Rattle.hwp_law_records.specs.hwp_core_rule.declared.Made.{Made}
+use Rattle.hwp_law_records.specs.hwp_core_rule.declared.SharedWord.TheVariants as places
+use Rattle.hwp_law_records.specs.hwp_core_rule.declared.State.{State}
+use Rattle.hwp_law_records.specs.hwp_core_rule.declared.View.{View}
+use Rattle.hwp_law_records.specs.hwp_core_task.Boards.{view_of}
+use Rattle.hwp_law_records.specs.hwp_core_task.Known.{HasMade, Saw, SawBadOf}
+use Rattle.hwp_law_records.proofs.of_hwp_core_task.SightKeeps.{bad-lines-stay}
+use Rattle.hwp_law_records.specs.hwp_soft_move.Seizes.{IsUsers}
+use Rattle.hwp_law_records.specs.hwp_script_read.declared.PrctlArgs.{PrctlArgs}
+use Rattle.hwp_law_records.specs.hwp_script_read.declared.Command.{Command}
+use Rattle.hwp_law_records.specs.hwp_script_read.declared.Command.TheVariants as commands
+use Rattle.hwp_law_records.specs.hwp_script_read.declared.Script.{Script}
+use Rattle.hwp_law_records.specs.hwp_report_text.declared.Answer.{Answer}
+use Rattle.hwp_law_records.specs.hwp_report_text.declared.Answer.TheVariants as answers
+use Rattle.hwp_law_records.specs.hwp_report_text.declared.EventLine.{EventLine}
+use Rattle.hwp_law_records.specs.hwp_report_text.declared.FrameLine.{FrameLine}
+use Rattle.hwp_law_records.specs.hwp_report_text.declared.MarkLine.{MarkLine}
+use Rattle.hwp_law_records.specs.hwp_report_text.declared.Report.{Report}
+use Rattle.hwp_law_records.specs.hwp_law_commands.Outcomes.{reply_answer}
+use Rattle.hwp_law_records.specs.hwp_law.Answers.{StandsAt}
+use Rattle.hwp_law_records.specs.hwp_law.Causes.{AreBadLines, ComesTo, HadBadLines, HasMark, IsCaused as IsLawCaused, IsFailureAnswer, IsOfflineAnswer, IsOutAnswer, IsSigbus, IsUnpoisonAnswer, SendsSigbus, TakesBack}
+use Rattle.hwp_law_records.specs.hwp_law_commands.Commands.{command_at, current_thread}
+use Rattle.hwp_law_records.specs.hwp_law.Lines.{bad_lines_of, events_of}
+use Rattle.hwp_law_records.specs.hwp_law.Places.{entry_at}
+use Rattle.hwp_law_records.specs.hwp_law_commands.Settings.{arguments, last_policy, settings}
+use Rattle.hwp_law_records.specs.hwp_law.Policies.{answered_before, policy_before}
+use Rattle.hwp_law_records.specs.hwp_law.Records.{how_in}
+use Rattle.hwp_law_records.specs.hwp_law.States.{HadState}
+use Rattle.hwp_law_records.proofs.of_hwp_law_run.Homes.{there-is}
+use Rattle.hwp_law_records.proofs.of_hwp_law_run.Reported.{listed-entry}
+use Rattle.hwp_law_records.specs.hwp_cpu_row.declared.FrameChange.{FrameChange}
+use Rattle.hwp_law_records.specs.hwp_cpu_row.declared.FrameChange.TheVariants as owns
+use Rattle.hwp_law_records.specs.hwp_cpu_row.declared.Row.{Row}
+use Rattle.hwp_law_records.specs.hwp_cpu_check.declared.EventOutcome.{EventOutcome}
+use Rattle.hwp_law_records.specs.hwp_cpu_check.Told.{first_signal}
+use Rattle.hwp_law_records.specs.hwp_law_served.Causes.{HasCome, IsAnswerCaused, IsInjectCaused, IsOfflineCaused, IsSoftCaused, IsUnpoisonCaused, SawBadLines}
+use Rattle.hwp_law_records.specs.hwp_law_served.Rows.{event_at, offlined}
+use Rattle.hwp_law_records.specs.hwp_law_served.Runs.{row_at}
+use Rattle.hwp_law_records.proofs.of_hwp_law_served.HadStates.{had}
 use Rattle.hwp_law_holds.proofs.AllowedThere.{had-so}
 use Rattle.hwp_law_holds.proofs.Ample.{not-ample}
 use Rattle.hwp_law_holds.proofs.PageLocks.{had-unlocked}
-use Rattle.hwp_law_holds.proofs.RunEnds.{IsEnd, IsOf}
-use Rattle.hwp_law_holds.proofs.endings.Gone.{is-gone}
-use Rattle.hwp_law_holds.proofs.deeds.Made.{command-is, some-so}
-use Rattle.hwp_law_holds.proofs.lines.Records.{own-mark}
-use Rattle.hwp_law_holds.proofs.marks.RecordPlaces.{was-hardware-seen, was-poisoned}
-use Rattle.hwp_law_holds.proofs.RowLines.{answered-so, events-told}
-use Rattle.hwp_law_holds.proofs.Seen.{HasSignalled, MadeWhat, has-signalled, made-what}
+use Rattle.hwp_law_records.proofs.of_hwp_law_served.RunEnds.{IsEnd, IsOf}
+use Rattle.hwp_law_sights.proofs.endings.Gone.{is-gone}
+use Rattle.hwp_law_records.proofs.of_hwp_law_served.deeds.Made.{command-is, some-so}
+use Rattle.hwp_law_records.proofs.lines.Records.{own-mark}
+use Rattle.hwp_law_records.proofs.marks.RecordPlaces.{was-hardware-seen, was-poisoned}
+use Rattle.hwp_law_records.proofs.of_hwp_law_served.RowLines.{answered-so, events-told}
+use Rattle.hwp_law_records.proofs.of_hwp_law_served.Seen.{HasSignalled, MadeWhat, has-signalled, made-what}
 use Rattle.hwp_law_holds.proofs.Signalled.{signalled-sends}
-use Rattle.hwp_law_holds.proofs.Stops.{stop-there}
+use Rattle.hwp_law_records.proofs.of_hwp_law_served.Stops.{stop-there}
 
 module _ (script : Script) (seat : Cpu → ℕ) (last : State) (report : Report) (end : IsEnd script seat last report) (cpu : Cpu) (inside : cpu.0 < script.layout.cpus) where
   abbrev view : View
@@ -85,17 +83,6 @@ module _ (script : Script) (seat : Cpu → ℕ) (last : State) (report : Report)
       let m : MadeWhat view who at what = made-what has in
       let listed = listed-entry script.layout last report end.board (seat cpu) m.j view m.made there m.there in
       sym (ap (λ (b : At). entry_at report.pages b) m.place_is) ∙ listed ∙ ap (λ (e : Entry). Some e) m.entry_is
-
-  -- and the page was in the state in which the command saw it
-  pub had : {who : Who} {at : At} {Such : PageState → Type 0} → SawState script.layout view who at.page at.entry Such → HadState script.layout report.pages at Such
-  had {at = at} {Such = Such} saw =
-      let x : Length = saw.saw.1 in
-      let log : x.log ≡ saw.log = saw.saw.3.2 in
-      let page : x.log.page ≡ at.page = ap (λ (l : Log). l.page) log ∙ saw.page_is in
-      let long : length x.log.entries ≡ at.entry = ap (λ (l : Log). length l.entries) log ∙ saw.place_is in
-      let was = seen-had script.layout last report end.board (seat cpu) saw.saw.0 view x there saw.saw.2 Such (subst (λ (l : Log). Such (state_of script.layout l)) (sym log) saw.such) in
-      subst (λ (p : Page). HadState script.layout report.pages (record { page = p; entry = at.entry }) Such) page
-      (subst (λ (n : ℕ). HadState script.layout report.pages (record { page = x.log.page; entry = n }) Such) long was)
 
   -- the entry that sent SIGBUS stands in the report
   sigbus : (who : Who) (command : Command) (thread : Thread) (at : At) (what : What) → current_thread command ≡ Some thread → SendsSigbus thread what → StandsAt report.pages who at what → IsSigbus report who command at
@@ -222,19 +209,19 @@ module _ (script : Script) (seat : Cpu → ℕ) (last : State) (report : Report)
   law-caused who earlier before (commands.Store thread slot line word) told own answers.NoFrame at facts caused = not-ample script seat last report end cpu inside who caused.available
   law-caused who earlier before (commands.Store thread slot line word) told own (answers.Gone page) at facts caused = is-gone script seat last report end cpu inside who (commands.Store thread slot line word) thread page at refl caused.0
   law-caused who earlier before (commands.Free slot) told own (answers.DoneAt bt) at facts caused = stands caused.1.made
-  law-caused who earlier before (commands.Free slot) told own (answers.NotMapped bt) at facts caused = (caused.0, had caused.1.saw)
+  law-caused who earlier before (commands.Free slot) told own (answers.NotMapped bt) at facts caused = (caused.0, had script seat last report end cpu inside caused.1.saw)
   law-caused who earlier before (commands.Drop page) told own (answers.DoneAt bt) at facts caused = (caused.0, stands caused.1.made)
-  law-caused who earlier before (commands.Drop page) told own (answers.NotResident bt) at facts caused = (caused.0, had caused.1.saw)
-  law-caused who earlier before (commands.Drop page) told own (answers.Locked bt) at facts caused = (caused.0, had caused.1.saw)
-  law-caused who earlier before (commands.Drop page) told own (answers.Dirty bt) at facts caused = (caused.0, had caused.1.saw)
-  law-caused who earlier before (commands.Drop page) told own (answers.Mapped bt) at facts caused = (caused.0, had caused.1.saw)
+  law-caused who earlier before (commands.Drop page) told own (answers.NotResident bt) at facts caused = (caused.0, had script seat last report end cpu inside caused.1.saw)
+  law-caused who earlier before (commands.Drop page) told own (answers.Locked bt) at facts caused = (caused.0, had script seat last report end cpu inside caused.1.saw)
+  law-caused who earlier before (commands.Drop page) told own (answers.Dirty bt) at facts caused = (caused.0, had script seat last report end cpu inside caused.1.saw)
+  law-caused who earlier before (commands.Drop page) told own (answers.Mapped bt) at facts caused = (caused.0, had script seat last report end cpu inside caused.1.saw)
   law-caused who earlier before (commands.Sync page) told own (answers.DoneAt bt) at facts caused = (caused.0, stands caused.1.made)
-  law-caused who earlier before (commands.Sync page) told own (answers.NotResident bt) at facts caused = (caused.0, had caused.1.saw)
-  law-caused who earlier before (commands.Sync page) told own (answers.BadLines mask bt) at facts caused = (caused.0, bad-lines who page mask bt (had caused.1.saw) caused.2)
+  law-caused who earlier before (commands.Sync page) told own (answers.NotResident bt) at facts caused = (caused.0, had script seat last report end cpu inside caused.1.saw)
+  law-caused who earlier before (commands.Sync page) told own (answers.BadLines mask bt) at facts caused = (caused.0, bad-lines who page mask bt (had script seat last report end cpu inside caused.1.saw) caused.2)
   law-caused who earlier before (commands.Out page) told own (answers.DoneAt bt) at facts caused = (caused.0, stands caused.1.made)
-  law-caused who earlier before (commands.Out page) told own (answers.NotResident bt) at facts caused = (caused.0, had caused.1.saw)
-  law-caused who earlier before (commands.Out page) told own (answers.Locked bt) at facts caused = (caused.0, had caused.1.saw)
-  law-caused who earlier before (commands.Out page) told own (answers.BadLines mask bt) at facts caused = out-lines who page mask bt caused.0 (had caused.1.saw) caused.2
+  law-caused who earlier before (commands.Out page) told own (answers.NotResident bt) at facts caused = (caused.0, had script seat last report end cpu inside caused.1.saw)
+  law-caused who earlier before (commands.Out page) told own (answers.Locked bt) at facts caused = (caused.0, had script seat last report end cpu inside caused.1.saw)
+  law-caused who earlier before (commands.Out page) told own (answers.BadLines mask bt) at facts caused = out-lines who page mask bt caused.0 (had script seat last report end cpu inside caused.1.saw) caused.2
   law-caused who earlier before (commands.Fsync file) told own answers.Done at facts caused = tt
   law-caused who earlier before (commands.Fsync file) told own (answers.Eio more) at facts caused = caused.1
   law-caused who earlier before (commands.Open file) told own (answers.Opened word) at facts caused = tt

@@ -1,23 +1,23 @@
 -- The report of a run keeps the whole law.
-use Rattle.hwp_law_run.specs.hwp_geom.declared.Cpu.{Cpu}
+use Rattle.hwp_law_records.specs.hwp_geom.declared.Cpu.{Cpu}
 use Rattle.std.proofs.Common.{ℕ, List}
-use Rattle.hwp_law_run.specs.hwp_core_rule.declared.State.{State}
-use Rattle.hwp_law_run.specs.hwp_core_task.Boards.{Played}
-use Rattle.hwp_law_run.specs.hwp_script_read.declared.Script.{Script}
-use Rattle.hwp_law_run.specs.hwp_report_text.declared.Report.{Report}
-use Rattle.hwp_law_run.specs.hwp_law.Law.{AnswersFit, HasShape, HistoriesFit, IsLawful}
-use Rattle.hwp_law_run.proofs.Reported.{histories-lead, histories-ordered}
-use Rattle.hwp_law_holds.specs.Runs.{IsRunOf}
+use Rattle.hwp_law_records.specs.hwp_core_rule.declared.State.{State}
+use Rattle.hwp_law_records.specs.hwp_core_task.Boards.{Played}
+use Rattle.hwp_law_records.specs.hwp_script_read.declared.Script.{Script}
+use Rattle.hwp_law_records.specs.hwp_report_text.declared.Report.{Report}
+use Rattle.hwp_law_records.specs.hwp_law.Law.{AnswersFit, HasShape, HistoriesFit, IsLawful}
+use Rattle.hwp_law_records.proofs.of_hwp_law_run.Reported.{histories-lead, histories-ordered}
+use Rattle.hwp_law_records.specs.hwp_law_served.Runs.{IsRunOf}
 use Rattle.hwp_law_holds.proofs.Caused.{all-caused, stop-agrees}
-use Rattle.hwp_law_holds.proofs.RunEnds.{IsEnd}
-use Rattle.hwp_law_holds.proofs.endings.Endings.{endings-stay}
-use Rattle.hwp_law_holds.proofs.lines.Framed.{frames-lawful}
-use Rattle.hwp_law_holds.proofs.LastBoard.{ended}
-use Rattle.hwp_law_holds.proofs.losses.LossesAgree.{losses-lawful}
-use Rattle.hwp_law_holds.proofs.deeds.Made.{entries-made-by, entries-named}
-use Rattle.hwp_law_holds.proofs.lines.Events.{events-are}
-use Rattle.hwp_law_holds.proofs.policies.Policies.{are-seen, never-falls}
-use Rattle.hwp_law_holds.proofs.Windows.{states-in-windows}
+use Rattle.hwp_law_records.proofs.of_hwp_law_served.RunEnds.{IsEnd}
+use Rattle.hwp_law_sights.proofs.endings.Endings.{endings-stay}
+use Rattle.hwp_law_records.proofs.lines.Framed.{frames-lawful}
+use Rattle.hwp_law_records.proofs.of_hwp_law_served.LastBoard.{ended}
+use Rattle.hwp_law_sights.proofs.losses.LossesAgree.{losses-lawful}
+use Rattle.hwp_law_records.proofs.of_hwp_law_served.deeds.Made.{entries-made-by, entries-named}
+use Rattle.hwp_law_records.proofs.lines.Events.{events-are}
+use Rattle.hwp_law_sights.proofs.policies.Policies.{are-seen, never-falls}
+use Rattle.hwp_law_records.proofs.of_hwp_law_served.Windows.{states-in-windows}
 
 module _ (script : Script) (seat : Cpu → ℕ) (turns : List Played) (last : State) (report : Report) (run : IsRunOf script seat turns last report) where
   abbrev end : IsEnd script seat last report

@@ -1,40 +1,15 @@
-pub mod RunEnds
-pub mod RowLines
-pub mod RowTold
-pub mod Picked
-pub mod Seen
 pub mod Signalled
-pub mod Shown
-pub mod CommandKeeps
-pub mod Windows
-pub mod PoisonMarks
-pub mod RunKeeps
-pub mod StepAdds
 pub mod Ample
 pub mod Answered
-pub mod Stops
 pub mod StopCauses
-pub mod LastBoard
-pub mod AnswerSights
 pub mod Caused
-pub mod Sums
-pub mod HomePages
 pub mod Lawful
-pub mod AccountKeeps
-pub mod Handles
-pub mod CheckTells
 pub mod Settled
-pub mod Seats
 pub mod Retired
 pub mod AllowedThere
 mod PageLocks
 pub mod Signals
-pub mod marks
 pub mod lines
-pub mod deeds
-pub mod policies
-pub mod losses
-pub mod endings
 pub mod loads
-pub use Rattle.hwp_law_run.proofs.of_hwp_core_rule as of_hwp_core_rule
-pub use Rattle.hwp_law_run.proofs as of_hwp_law_run
+pub use Rattle.hwp_law_records.proofs as of_hwp_law_records
+pub use Rattle.hwp_law_sights.proofs as of_hwp_law_sights

@@ -1,3 +1,3 @@
-//! Why a processor's answers are right: what it knows at the end of a run, and that the report of such processors is lawful.
-//! This crate has definitions alone, and lemmas; the crates above cite them.
+//! Why a run's report is lawful: each answer has its cause in the report, and all parts of the law hold together.
+//! This crate has definitions and lemmas alone; the crates above cite them.
 #![tactic(auto)]

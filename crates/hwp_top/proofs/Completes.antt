@@ -3,13 +3,13 @@
 use Rattle.std.proofs.Common.{◌≡◌, ◌⊎◌, inl, inr, ℕ, zero, suc, ◌<◌, List, [], ◌∷◌, Option, Some, None, length, slice_index_or, refl, sym, true≢false, ap, ◌∙◌, subst, arith}
 use Rattle.std.specs.Prelude.{Bool, true, false, not, Contains, IsTrue}
 use Rattle.std.specs.Io.KnownBytes.{Appends}
-use Rattle.hwp_top_turns.specs.hwp_script_read.Reads.{Reads}
-use Rattle.hwp_top_turns.specs.hwp_script_read.declared.Refused.{Refused}
-use Rattle.hwp_top_turns.specs.hwp_script_read.declared.Script.{Script}
-use Rattle.hwp_top_turns.proofs.of_hwp_script_read.OneScript.{one_script}
-use Rattle.hwp_top_turns.specs.hwp_report_text.declared.Report.{Report}
-use Rattle.hwp_top_turns.specs.hwp_table_words.Ends.{EndValue}
-use Rattle.hwp_top_turns.specs.Caches.{IsCachedEnd}
+use Rattle.hwp_top_threads.specs.hwp_script_read.Reads.{Reads}
+use Rattle.hwp_top_threads.specs.hwp_script_read.declared.Refused.{Refused}
+use Rattle.hwp_top_threads.specs.hwp_script_read.declared.Script.{Script}
+use Rattle.hwp_top_threads.proofs.of_hwp_script_read.OneScript.{one_script}
+use Rattle.hwp_top_threads.specs.hwp_report_text.declared.Report.{Report}
+use Rattle.hwp_top_threads.specs.hwp_table_words.Ends.{EndValue}
+use Rattle.hwp_top_threads.specs.hwp_top_turns.Caches.{IsCachedEnd}
 use Rattle.hwp_top_step.specs.Outputs.{tlb_entries}
 use Rattle.hwp_top_step.specs.Serving.{end_at}
 use Rattle.hwp_top_step.specs.Top.{IsDone, Refuses}

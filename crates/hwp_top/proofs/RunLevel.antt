@@ -3,8 +3,8 @@ use Rattle.std.proofs.Common.{◌≡◌, ℕ, List, sym, subst}
 use Rattle.std.specs.Prelude.{Bool, Option}
 use Rattle.std.specs.Io.KnownBytes.{Appends}
 use Rattle.hwp_io.specs.Causes.{AppendsStrictFront}
-use Rattle.hwp_top_turns.specs.hwp_report_text.declared.Report.{Report}
-use Rattle.hwp_top_turns.specs.hwp_table_words.Ends.{EndValue}
+use Rattle.hwp_top_threads.specs.hwp_report_text.declared.Report.{Report}
+use Rattle.hwp_top_threads.specs.hwp_table_words.Ends.{EndValue}
 use Rattle.hwp_top_step.specs.Top.{IsDone}
 use Rattle.hwp_top.specs.Top.{IsRun, IsThreadedCall, IsThreadedOf}
 

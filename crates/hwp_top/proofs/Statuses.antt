@@ -1,8 +1,8 @@
 -- The statuses of the top call for runs on threads are those of its list.
 use Rattle.std.specs.Prelude.{◌≡◌, ℕ, Bool, true, false, List, ◌⊎◌, Option, Some, None}
 use Rattle.std.proofs.Common.{lit<, refl, subst, sym, ◌∙◌, inl, inr}
-use Rattle.hwp_top_turns.specs.hwp_report_text.declared.Report.{Report}
-use Rattle.hwp_top_turns.specs.hwp_table_words.Ends.{EndValue}
+use Rattle.hwp_top_threads.specs.hwp_report_text.declared.Report.{Report}
+use Rattle.hwp_top_threads.specs.hwp_table_words.Ends.{EndValue}
 use Rattle.hwp_top_step.specs.Top.{IsDone, done_status}
 use Rattle.hwp_top_step.proofs.Statuses.{RunStatus, report_is_done, report_is_run_status}
 use Rattle.hwp_top.specs.Top.{IsThreadedOf}

@@ -1,12 +1,12 @@
 -- What `run` and `run tlb` write.
 use Rattle.std.specs.Prelude.{◌≡◌, ℕ, Bool, true, false, List, [], ◌∷◌, Option, None, codes}
-use Rattle.hwp_top_turns.specs.hwp_script_read.declared.Script.{Script}
-use Rattle.hwp_top_turns.specs.hwp_report_text.declared.Report.{Report}
-use Rattle.hwp_top_turns.specs.hwp_report_text.ReportText.{report_text}
-use Rattle.hwp_top_turns.specs.hwp_law.Law.{IsLawful}
-use Rattle.hwp_top_turns.specs.hwp_law.Runs.{IsOfRun}
-use Rattle.hwp_top_turns.specs.hwp_table_words.Ends.{EndValue}
-use Rattle.hwp_top_turns.specs.Caches.{IsCachedEnd}
+use Rattle.hwp_top_threads.specs.hwp_script_read.declared.Script.{Script}
+use Rattle.hwp_top_threads.specs.hwp_report_text.declared.Report.{Report}
+use Rattle.hwp_top_threads.specs.hwp_report_text.ReportText.{report_text}
+use Rattle.hwp_top_threads.specs.hwp_law.Law.{IsLawful}
+use Rattle.hwp_top_threads.specs.hwp_law.Runs.{IsOfRun}
+use Rattle.hwp_top_threads.specs.hwp_table_words.Ends.{EndValue}
+use Rattle.hwp_top_threads.specs.hwp_top_turns.Caches.{IsCachedEnd}
 use Rattle.hwp_top_threads.specs.Runs.{IsThreadRun}
 use Rattle.hwp_top_step.specs.Outputs.{HasRun, tlb_entries}
 use Rattle.hwp_top_step.specs.Top.{Takes, done_status}

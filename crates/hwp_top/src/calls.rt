@@ -1,7 +1,7 @@
 ghost use Rattle.std.specs.Prelude.{◌≡◌, ◌≢◌, ◌↔◌, ◌<◌, ℕ, List, [], ◌∷◌, true, map, string_bytes, Contains, IfSome, IfNone, IsSomeAnd, IsTrue, Some, None};
 ghost use Rattle.std.specs.Io.KnownBytes.{Appends};
 ghost use Rattle.hwp_io.specs.Causes.{AppendsStrictFront};
-ghost use Rattle.hwp_top_turns.specs.hwp_script_read.declared.Refused.{Refused};
+ghost use Rattle.hwp_top_threads.specs.hwp_script_read.declared.Refused.{Refused};
 ghost use Rattle.hwp_top_step.specs.Outputs.{IsStepReport};
 ghost use Rattle.hwp_top_step.specs.Top.{IsDone, Refuses, Told, refusal_text, told_text};
 ghost use Rattle.hwp_top.specs.Top.{AsksRun, IsNoRun, IsRun, IsThreadedCall};
@@ -10,7 +10,7 @@ use crate::running::threaded;
 use hwp_io::{Sink, Source};
 use hwp_threads::Gate;
 use hwp_top_step::{Done, USAGE, deliver, tell, tell_fault};
-use hwp_top_turns::is_text;
+use hwp_top_threads::is_text;
 use std::alloc::Global;
 use std::sync::Wait;
 use std::thread::Threads;

@@ -1,16 +1,15 @@
 //! What `run` and `run tlb` write.
 ghost use Rattle.std.specs.Prelude.{◌≡◌, ◌<◌, true, false, IfOk, IsErrOf};
-ghost use Rattle.hwp_top_turns.specs.hwp_script_read.declared.Refused.{Refused};
-ghost use Rattle.hwp_top_turns.specs.hwp_report_text.ReportText.{report_text};
+ghost use Rattle.hwp_top_threads.specs.hwp_script_read.declared.Refused.{Refused};
+ghost use Rattle.hwp_top_threads.specs.hwp_report_text.ReportText.{report_text};
 ghost use Rattle.hwp_top_step.specs.Top.{Refuses};
-ghost use Rattle.hwp_top_turns.specs.Caches.{IsCachedEnd};
+ghost use Rattle.hwp_top_threads.specs.hwp_top_turns.Caches.{IsCachedEnd};
 ghost use Rattle.hwp_top.specs.Top.{IsThreadedOf, Reports};
 
 use hwp_io::Source;
 use hwp_threads::Gate;
 use hwp_top_step::{InputFault, Output, status_of, take_script};
-use hwp_top_threads::run_on_threads;
-use hwp_top_turns::{Bare, Cached, Finished, Text, Ways};
+use hwp_top_threads::{Bare, Cached, Finished, Text, Ways, run_on_threads};
 use std::alloc::Global;
 use std::sync::Wait;
 use std::thread::Threads;
@@ -32,7 +31,7 @@ fn report_of<R: Threads + Wait + Sync, W: Ways + Send, S: Source, G: Gate + Sync
     let Ok(run) = run_on_threads::<R, W, G>(rt, alloc, &script, gate) else {
         return Err(InputFault::OutOfMemory);
     };
-    let Ok(text) = hwp_top_turns::print(alloc, &run.report) else {
+    let Ok(text) = hwp_top_threads::print(alloc, &run.report) else {
         return Err(InputFault::OutOfMemory);
     };
     Ok((run, text))

@@ -5,5 +5,5 @@ mod LineLaws
 mod RowLines
 pub mod Noted
 pub use Rattle.hwp_cpu.proofs as of_hwp_cpu
-pub use Rattle.hwp_cpu.proofs.of_hwp_law_holds as of_hwp_law_holds
+pub use Rattle.hwp_cpu.proofs.of_hwp_law_served as of_hwp_law_served
 pub use Rattle.hwp_cpu.proofs.of_hwp_law_run as of_hwp_law_run

@@ -21,14 +21,14 @@ use Rattle.hwp_cpu_row.specs.hwp_report_text.declared.How.TheVariants as hows
 use Rattle.hwp_cpu_row.specs.hwp_report_text.declared.MarkLine.{MarkLine}
 use Rattle.hwp_cpu.specs.hwp_law_run.Ends.{AreMarks, IsListed, Tells, cause_of}
 use Rattle.hwp_cpu.proofs.of_hwp_law_run.Homes.{there-is}
-use Rattle.hwp_cpu.specs.hwp_law_holds.Accounts.{IsHow, IsLineOf, IsNote}
-use Rattle.hwp_cpu.specs.hwp_law_holds.Rows.{Note, lines_of, record_of}
-use Rattle.hwp_cpu.proofs.of_hwp_law_holds.RunEnds.{filter-has}
-use Rattle.hwp_cpu.proofs.of_hwp_law_holds.PoisonMarks.{paired, partner}
-use Rattle.hwp_cpu.proofs.of_hwp_law_holds.lines.FrameRecords.{AreNoted}
-use Rattle.hwp_cpu.proofs.of_hwp_law_holds.marks.OrderedLists.{moved-has}
-use Rattle.hwp_cpu.proofs.of_hwp_law_holds.Seats.{seat-place}
-use Rattle.hwp_cpu.proofs.of_hwp_law_holds.Seen.{filter-is}
+use Rattle.hwp_cpu.specs.hwp_law_served.Accounts.{IsHow, IsLineOf, IsNote}
+use Rattle.hwp_cpu.specs.hwp_law_served.Rows.{Note, lines_of, record_of}
+use Rattle.hwp_cpu.proofs.of_hwp_law_served.RunEnds.{filter-has}
+use Rattle.hwp_cpu.proofs.of_hwp_law_served.PoisonMarks.{paired, partner}
+use Rattle.hwp_cpu.proofs.of_hwp_law_served.lines.FrameRecords.{AreNoted}
+use Rattle.hwp_cpu.proofs.of_hwp_law_served.marks.OrderedLists.{moved-has}
+use Rattle.hwp_cpu.proofs.of_hwp_law_served.Seats.{seat-place}
+use Rattle.hwp_cpu.proofs.of_hwp_law_served.Seen.{filter-is}
 
 -- ---- a member of lists put together is one of some list
 

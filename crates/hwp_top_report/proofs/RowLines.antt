@@ -15,8 +15,8 @@ use Rattle.hwp_cpu_row.specs.hwp_report_text.declared.CpuLine.{CpuLine}
 use Rattle.hwp_cpu_row.specs.hwp_report_text.declared.StopCause.{StopCause}
 use Rattle.hwp_cpu_row.specs.declared.Row.{Row}
 use Rattle.hwp_cpu_row.specs.hwp_cpu_check.declared.EventOutcome.{EventOutcome}
-use Rattle.hwp_cpu.specs.hwp_law_holds.Rows.{Note, lines_from, notes_from, own_note, row_lines, row_notes, told_note}
-use Rattle.hwp_cpu.specs.hwp_law_holds.Runs.{notes_of}
+use Rattle.hwp_cpu.specs.hwp_law_served.Rows.{Note, lines_from, notes_from, own_note, row_lines, row_notes, told_note}
+use Rattle.hwp_cpu.specs.hwp_law_served.Runs.{notes_of}
 use Rattle.hwp_cpu.specs.Processors.{at_number}
 use Rattle.hwp_cpu.proofs.Rows.{notes-more}
 use Rattle.hwp_top_report.specs.Closing.{AreTellable, HasStopper, IsFirstStop, IsNamed, IsStopBy, cause_in, command_in}

@@ -30,9 +30,9 @@ use Rattle.hwp_cpu_row.specs.hwp_claim.declared.Found.{Found}
 use Rattle.hwp_cpu_row.specs.declared.Row.{Row}
 use Rattle.hwp_cpu_row.specs.hwp_cpu_check.declared.EventOutcome.{EventOutcome}
 use Rattle.hwp_cpu_row.specs.hwp_cpu_check.Told.{frame_of}
-use Rattle.hwp_cpu.specs.hwp_law_holds.Rows.{Note, lines_from, record_of}
-use Rattle.hwp_cpu.specs.hwp_law_holds.Runs.{AreSorted, IsCauseOf, notes_of, row_at, told_cause}
-use Rattle.hwp_cpu.specs.hwp_law_holds.Served.{CanStop, IsFirstStopped}
+use Rattle.hwp_cpu.specs.hwp_law_served.Rows.{Note, lines_from, record_of}
+use Rattle.hwp_cpu.specs.hwp_law_served.Runs.{AreSorted, IsCauseOf, notes_of, row_at, told_cause}
+use Rattle.hwp_cpu.specs.hwp_law_served.Served.{CanStop, IsFirstStopped}
 
 -- ---- the lines of processors
 

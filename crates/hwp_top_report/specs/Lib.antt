@@ -15,7 +15,7 @@ pub use Rattle.hwp_cpu_row.specs as hwp_cpu_row
 pub use Rattle.hwp_cpu_row.specs.hwp_evict as hwp_evict
 pub use Rattle.hwp_cpu.specs.hwp_fault as hwp_fault
 pub use Rattle.hwp_cpu.specs.hwp_law as hwp_law
-pub use Rattle.hwp_cpu.specs.hwp_law_holds as hwp_law_holds
+pub use Rattle.hwp_cpu.specs.hwp_law_served as hwp_law_served
 pub use Rattle.hwp_cpu.specs.hwp_law_run as hwp_law_run
 pub use Rattle.hwp_cpu_row.specs.hwp_report_text as hwp_report_text
 pub use Rattle.hwp_cpu.specs.hwp_scrub as hwp_scrub

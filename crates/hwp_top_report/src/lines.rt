@@ -1,5 +1,5 @@
 ghost use Rattle.std.specs.Prelude.{◌≡◌, ◌++◌, map, IfOk, OnOk};
-ghost use Rattle.hwp_cpu.specs.hwp_law_holds.Rows.{event_line, lines_from, row_lines};
+ghost use Rattle.hwp_cpu.specs.hwp_law_served.Rows.{event_line, lines_from, row_lines};
 ghost use Rattle.hwp_top_report.specs.Closing.{AreTellable, IsTellable, lines_of_all};
 
 use hwp_cpu_row::{CpuLine, EventLine, EventOutcome, List, OutOfMemory, Row};

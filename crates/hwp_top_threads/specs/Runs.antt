@@ -21,7 +21,7 @@ use Rattle.hwp_top_turns.specs.hwp_law_run.Scrubs.{ScrubsShown}
 use Rattle.hwp_top_turns.specs.hwp_law_run.Shown.{IsShown}
 use Rattle.hwp_top_turns.specs.hwp_law_run.Turns.{Leads}
 use Rattle.hwp_top_turns.specs.hwp_cpu_row.declared.Row.{Row}
-use Rattle.hwp_top_turns.specs.hwp_law_holds.Runs.{AreRecords, AreServed, notes_of}
+use Rattle.hwp_top_turns.specs.hwp_law_served.Runs.{AreRecords, AreServed, notes_of}
 use Rattle.hwp_top_turns.specs.hwp_cpu.declared.Processor.{Processor}
 use Rattle.hwp_top_turns.specs.hwp_cpu.Serving.{Fits}
 use Rattle.hwp_threads_seats.specs.hwp_table_words.Ends.{EndValue, HasAll, board_of}

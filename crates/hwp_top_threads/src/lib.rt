@@ -3,5 +3,5 @@
 
 mod running;
 
-pub use hwp_top_turns::{Bare, Cached, Finished, Ways};
+pub use hwp_top_turns::{Bare, Cached, Finished, Text, Ways, is_text, print};
 pub use running::run_on_threads;

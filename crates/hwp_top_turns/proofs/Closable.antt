@@ -30,15 +30,15 @@ use Rattle.hwp_top_report.specs.hwp_cpu_row.declared.Row.{Row}
 use Rattle.hwp_top_report.specs.hwp_cpu_check.declared.EventOutcome.{EventOutcome}
 use Rattle.hwp_top_report.specs.hwp_cpu_check.Fits.{IsDone, IsTold}
 use Rattle.hwp_top_report.specs.hwp_cpu_check.Told.{at_once, failure_at_once, frame_of, required_by, severity_at_once}
-use Rattle.hwp_top_report.specs.hwp_law_holds.Accounts.{IsNote}
-use Rattle.hwp_top_report.specs.hwp_law_holds.Rows.{Note, notes_from}
-use Rattle.hwp_top_report.specs.hwp_law_holds.Runs.{AreServed, notes_of}
-use Rattle.hwp_top_report.specs.hwp_law_holds.Served.{IsOwnStop, IsServed}
-use Rattle.hwp_top_report.proofs.of_hwp_law_holds.RunEnds.{nothing-held, row-at, seat-view}
-use Rattle.hwp_top_report.proofs.of_hwp_law_holds.lines.ScrubBank.{empty-free}
-use Rattle.hwp_top_report.proofs.of_hwp_law_holds.lines.FrameRecords.{AreNoted}
-use Rattle.hwp_top_report.proofs.of_hwp_law_holds.RowTold.{told-so}
-use Rattle.hwp_top_report.proofs.of_hwp_law_holds.marks.RowNotes.{notes-at, notes-fit}
+use Rattle.hwp_top_report.specs.hwp_law_served.Accounts.{IsNote}
+use Rattle.hwp_top_report.specs.hwp_law_served.Rows.{Note, notes_from}
+use Rattle.hwp_top_report.specs.hwp_law_served.Runs.{AreServed, notes_of}
+use Rattle.hwp_top_report.specs.hwp_law_served.Served.{IsOwnStop, IsServed}
+use Rattle.hwp_top_report.proofs.of_hwp_law_served.RunEnds.{nothing-held, row-at, seat-view}
+use Rattle.hwp_top_report.proofs.of_hwp_law_served.lines.ScrubBank.{empty-free}
+use Rattle.hwp_top_report.proofs.of_hwp_law_served.lines.FrameRecords.{AreNoted}
+use Rattle.hwp_top_report.proofs.of_hwp_law_served.RowTold.{told-so}
+use Rattle.hwp_law_holds.proofs.of_hwp_law_records.marks.RowNotes.{notes-at, notes-fit}
 use Rattle.hwp_top_report.specs.Closing.{IsEnded, IsHalter, IsNamed, IsTellable, lines_of_all}
 use Rattle.hwp_top_report.proofs.Noted.{are-marks}
 

@@ -21,7 +21,7 @@ use Rattle.hwp_plain.proofs.of_hwp_plain_order.CrewOpens.{opening-crew}
 use Rattle.hwp_top_report.proofs.of_hwp_law_run.Homes.{there-is}
 use Rattle.hwp_top_report.proofs.of_hwp_law_run.RunKeeps.{kept-ordered}
 use Rattle.hwp_top_report.specs.hwp_cpu_row.declared.Row.{Row}
-use Rattle.hwp_top_report.specs.hwp_law_holds.Runs.{AreServed}
+use Rattle.hwp_top_report.specs.hwp_law_served.Runs.{AreServed}
 use Rattle.hwp_top_report.specs.hwp_cpu.declared.Processor.{Processor}
 use Rattle.hwp_top_report.specs.hwp_cpu.Processors.{AreCommands, AtBeginning}
 use Rattle.hwp_top_report.specs.hwp_cpu.Serving.{Fits}

@@ -9,8 +9,8 @@ use Rattle.hwp_plain.specs.hwp_script_read.declared.Script.{Script}
 use Rattle.hwp_top_report.proofs.of_hwp_law_run.TurnLeads.{leads-hold}
 use Rattle.hwp_plain.specs.hwp_script_read.Valid.{IsValid}
 use Rattle.hwp_top_report.specs.hwp_cpu_row.declared.Row.{Row}
-use Rattle.hwp_top_report.specs.hwp_law_holds.Runs.{notes_of}
-use Rattle.hwp_top_report.proofs.of_hwp_law_holds.lines.FrameRecords.{AreNoted}
+use Rattle.hwp_top_report.specs.hwp_law_served.Runs.{notes_of}
+use Rattle.hwp_top_report.proofs.of_hwp_law_served.lines.FrameRecords.{AreNoted}
 use Rattle.hwp_top_report.specs.Closing.{IsEnded}
 use Rattle.hwp_top_turns.specs.Runs.{HasEnded, own_seat}
 use Rattle.hwp_top_turns.proofs.Closable.{are-noted, ended-of}

@@ -15,9 +15,9 @@ use Rattle.hwp_plain.specs.hwp_script_read.Valid.{IsValid}
 use Rattle.hwp_plain.specs.hwp_plain_order.Order.{cpu_of}
 use Rattle.hwp_top_report.proofs.of_hwp_law_run.Homes.{there-is}
 use Rattle.hwp_top_report.specs.hwp_cpu_row.declared.Row.{Row}
-use Rattle.hwp_top_report.specs.hwp_law_holds.Rows.{lines_from}
-use Rattle.hwp_top_report.specs.hwp_law_holds.Runs.{AreServed}
-use Rattle.hwp_top_report.specs.hwp_law_holds.Served.{IsServed}
+use Rattle.hwp_top_report.specs.hwp_law_served.Rows.{lines_from}
+use Rattle.hwp_top_report.specs.hwp_law_served.Runs.{AreServed}
+use Rattle.hwp_top_report.specs.hwp_law_served.Served.{IsServed}
 use Rattle.hwp_top_report.specs.hwp_cpu.declared.Processor.{Processor}
 use Rattle.hwp_top_report.specs.hwp_cpu.Processors.{Next, bare}
 use Rattle.hwp_top_report.specs.hwp_cpu.Serving.{Fits}

@@ -22,8 +22,8 @@ use Rattle.hwp_top_report.specs.hwp_report_text.declared.Report.{Report}
 use Rattle.hwp_top_report.specs.hwp_report_text.declared.Whereabouts.TheVariants as places
 use Rattle.hwp_top_report.specs.hwp_cpu_check.declared.EventOutcome.{EventOutcome}
 use Rattle.hwp_top_report.specs.hwp_cpu_row.declared.Row.{Row}
-use Rattle.hwp_top_report.specs.hwp_law_holds.Rows.{record_of}
-use Rattle.hwp_top_report.specs.hwp_law_holds.Runs.{AreRecords, IsRecord, notes_of, place_in}
+use Rattle.hwp_top_report.specs.hwp_law_served.Rows.{record_of}
+use Rattle.hwp_top_report.specs.hwp_law_served.Runs.{AreRecords, IsRecord, notes_of, place_in}
 
 abbrev scrub : Who
 scrub = record { cpu = record { 0 = 0 }; seq = 2 }

@@ -15,12 +15,12 @@ use Rattle.hwp_plain.specs.hwp_plain_order.Order.{logged}
 use Rattle.hwp_top_report.specs.hwp_law_run.Ends.{EndsWith}
 use Rattle.hwp_top_report.specs.hwp_law_run.Turns.{Leads}
 use Rattle.hwp_top_report.specs.hwp_cpu_row.declared.Row.{Row}
-use Rattle.hwp_top_report.specs.hwp_law_holds.Rows.{lines_from}
-use Rattle.hwp_top_report.specs.hwp_law_holds.Runs.{AreRecords, AreServed, HasStopCause, IsRunOf, notes_of}
-use Rattle.hwp_top_report.proofs.of_hwp_law_holds.lines.FrameRecords.{gathered}
-use Rattle.hwp_top_report.proofs.of_hwp_law_holds.LastBoard.{report-of-run}
-use Rattle.hwp_top_report.proofs.of_hwp_law_holds.Lawful.{law-holds}
-use Rattle.hwp_top_report.proofs.of_hwp_law_holds.AnswerSights.{report-shown, scrubs-shown}
+use Rattle.hwp_top_report.specs.hwp_law_served.Rows.{lines_from}
+use Rattle.hwp_top_report.specs.hwp_law_served.Runs.{AreRecords, AreServed, HasStopCause, IsRunOf, notes_of}
+use Rattle.hwp_top_report.proofs.of_hwp_law_served.lines.FrameRecords.{gathered}
+use Rattle.hwp_top_report.proofs.of_hwp_law_served.LastBoard.{report-of-run}
+use Rattle.hwp_law_holds.proofs.Lawful.{law-holds}
+use Rattle.hwp_law_holds.proofs.of_hwp_law_sights.AnswerSights.{report-shown, scrubs-shown}
 use Rattle.hwp_table_words.specs.Ends.{EndValue}
 use Rattle.hwp_top_report.specs.Closing.{IsClosing}
 use Rattle.hwp_top_turns.specs.Runs.{HasClosed, HasEnded, HasEndedAt, IsCoreRun, IsFinished, IsPlayed, IsReportOf, IsTablePlayed, IsTableRun, own_seat}

@@ -18,7 +18,8 @@ pub use Rattle.hwp_top_report.specs.hwp_fault as hwp_fault
 pub use Rattle.hwp_table_words.specs.hwp_geom as hwp_geom
 pub use Rattle.hwp_table_words.specs.hwp_kill as hwp_kill
 pub use Rattle.hwp_top_report.specs.hwp_law as hwp_law
-pub use Rattle.hwp_top_report.specs.hwp_law_holds as hwp_law_holds
+pub use Rattle.hwp_law_holds.specs as hwp_law_holds
+pub use Rattle.hwp_top_report.specs.hwp_law_served as hwp_law_served
 pub use Rattle.hwp_top_report.specs.hwp_law_run as hwp_law_run
 pub use Rattle.hwp_plain.specs as hwp_plain
 pub use Rattle.hwp_plain.specs.hwp_plain_order as hwp_plain_order

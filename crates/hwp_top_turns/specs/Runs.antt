@@ -23,7 +23,7 @@ use Rattle.hwp_top_report.specs.hwp_law.Runs.{IsOfRun}
 use Rattle.hwp_top_report.specs.hwp_law_run.Run.{CoreRun}
 use Rattle.hwp_top_report.specs.hwp_law_run.Turns.{Leads}
 use Rattle.hwp_top_report.specs.hwp_cpu_row.declared.Row.{Row}
-use Rattle.hwp_top_report.specs.hwp_law_holds.Runs.{AreRecords, AreServed, notes_of}
+use Rattle.hwp_top_report.specs.hwp_law_served.Runs.{AreRecords, AreServed, notes_of}
 use Rattle.hwp_top_report.specs.hwp_cpu.declared.Processor.{Processor}
 use Rattle.hwp_top_report.specs.hwp_cpu.Processors.{AtBeginning}
 use Rattle.hwp_top_report.specs.hwp_cpu.Serving as serving

@@ -1,5 +1,5 @@
 use Rattle.std.proofs.Common.{◌≡◌, ◌++◌, filter_map, take}
-use Rattle.hwp_cpu.specs.hwp_law_holds.Rows.{told_note}
+use Rattle.hwp_cpu.specs.hwp_law_served.Rows.{told_note}
 use Rattle.hwp_top_report.proofs.notes.add_told.Given as goal
 
 abbrev pub invariant-loop-event : goal.invariant-loop-event

@@ -3,7 +3,7 @@ use Rattle.std.specs.Prelude.{filter_map, ◌++◌}
 use Rattle.hwp_plain_words.specs.hwp_core_rule.Lists.{EachMember}
 use Rattle.hwp_cpu_row.specs.declared.Row.{Row}
 use Rattle.hwp_cpu_row.specs.hwp_cpu_check.declared.EventOutcome.{EventOutcome}
-use Rattle.hwp_cpu.specs.hwp_law_holds.Rows.{told_note}
+use Rattle.hwp_cpu.specs.hwp_law_served.Rows.{told_note}
 use Rattle.hwp_cpu.specs.Processors.{at_number}
 use Rattle.hwp_top_report.specs.Closing.{IsNamed}
 use Rattle.hwp_top_report.proofs.RowLines.{each-at, notes-next}

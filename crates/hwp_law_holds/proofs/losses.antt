@@ -1,4 +1,0 @@
-pub mod LossesOwed
-mod LossesSeen
-pub mod NumbersTold
-pub mod LossesAgree

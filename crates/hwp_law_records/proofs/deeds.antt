@@ -1,0 +1,2 @@
+pub mod Softs
+pub mod CountedEntries

@@ -1,0 +1,12 @@
+pub mod Checks
+pub mod Scrubbed
+pub mod RowEvents
+pub mod Events
+pub mod SpoiledLines
+pub mod RecordLines
+pub mod LineOrder
+pub mod Records
+pub mod SoftLines
+pub mod FrameLines
+pub mod Recorded
+pub mod Framed

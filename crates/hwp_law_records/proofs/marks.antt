@@ -1,0 +1,3 @@
+pub mod RowNotes
+pub mod CountedMarks
+pub mod RecordPlaces

@@ -1,0 +1,27 @@
+pub mod RunEnds
+pub mod RowLines
+pub mod RowTold
+pub mod Picked
+pub mod Seen
+pub mod CommandKeeps
+pub mod Windows
+pub mod PoisonMarks
+pub mod RunKeeps
+pub mod StepAdds
+pub mod Stops
+pub mod LastBoard
+pub mod Sums
+pub mod HomePages
+pub mod AccountKeeps
+pub mod Handles
+pub mod CheckTells
+pub mod Seats
+pub mod marks
+pub mod lines
+pub mod deeds
+pub mod losses
+pub mod HadStates
+pub use Rattle.hwp_law_run.proofs.of_hwp_core_rule as of_hwp_core_rule
+pub use Rattle.hwp_law_run.proofs.of_hwp_core_task as of_hwp_core_task
+pub use Rattle.hwp_law_run.proofs as of_hwp_law_run
+pub use Rattle.hwp_scrub.proofs as of_hwp_scrub

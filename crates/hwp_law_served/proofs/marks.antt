@@ -1,0 +1,4 @@
+pub mod OrderedLists
+pub mod MarkPlaces
+pub mod MarkSights
+pub mod Marked

@@ -1,0 +1,6 @@
+pub mod Shown
+pub mod AnswerSights
+pub mod lines
+pub mod policies
+pub mod losses
+pub mod endings

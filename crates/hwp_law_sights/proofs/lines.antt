@@ -1,0 +1,2 @@
+pub mod ScrubLines
+pub mod ScrubShown

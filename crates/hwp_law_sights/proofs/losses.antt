@@ -1,0 +1,3 @@
+pub mod LossesSeen
+pub mod NumbersTold
+pub mod LossesAgree
