@@ -143,7 +143,6 @@ fn counts_of(
 }
 
 /// What is known of the thread, which is declared on this processor.
-#[tactic(auto, using(crate::proofs::PastLaws::past_is))]
 fn past_of(
     alloc: Global,
     script: &Script,
