@@ -56,7 +56,6 @@ fn policies(alloc: Global, list: &[Command], done: &[bool]) -> Result<Vec<Policy
 }
 
 /// The policies of the commands' threads, each before its command, where these are the lines of their processor.
-#[tactic(auto, using(crate::proofs::BeforeLaws::before_is))]
 pub fn policies_before(
     alloc: Global,
     list: &[Command],
