@@ -12,6 +12,7 @@ use hwp_words::{
 
 impl Step {
     /// The word that the step touches.
+    #[inline(always)]
     pub fn place(&self) -> SharedWord
         ensures { result ≡ tables.place_of self.now }
     {
@@ -106,6 +107,7 @@ impl Step {
     }
 
     /// The kind of the step, as schedules name it; `None` for a load of a place that can't be loaded.
+    #[inline(always)]
     pub fn kind(&self) -> Option<Kind>
         ensures { result ≡ tables.kind_of self.now }
     {

@@ -169,6 +169,7 @@ impl Task for Processor {
 
     ghost task = { serving.task };
 
+    #[inline(always)]
     fn who(&self) -> Who {
         match &self.job {
             Some(job) => job.who(),

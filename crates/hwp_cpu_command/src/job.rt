@@ -394,6 +394,7 @@ impl Task for Job {
 
     ghost task = { jobs.task };
 
+    #[inline(always)]
     fn who(&self) -> Who {
         of_kind!(self, task => task.who())
     }

@@ -21,6 +21,7 @@ pub enum Operation {
 }
 
 /// The atomic operation that makes the step.
+#[inline(always)]
 pub(crate) fn operation_of(step: &Step) -> Operation
     ensures { (n : ℕ) → tables.word_after step.now n ≡ applied result n }
 {
