@@ -1,9 +1,8 @@
 -- An answer is wrong by its window, or by the end of its process, exactly where what is known says so.
-use Rattle.std.proofs.Common.{◌≡◌, ◌⊎◌, ◌↔◌, ℕ, ◌<◌, ◌||◌, inl, inr, Bool, true, false, not, List, [], Option, Some, None, IsTrue, get_or, length, option_and_then, replicate, slice_get, unwrap_or, refl, sym, ap, ◌∙◌, subst, true≢false}
+use Rattle.std.proofs.Common.{◌≡◌, ◌⊎◌, ◌↔◌, ◌<◌, ◌||◌, inl, inr, Bool, true, false, not, List, Option, Some, None, IsTrue, get_or, length, refl, sym, ◌∙◌, subst, true≢false}
 use Rattle.std.specs.List.{list_any}
 use Rattle.std.proofs.lemmas.Bool.{false_from_ne_true}
 use Rattle.std.proofs.lemmas.Option.{none-some, same_Some, slice_get_within}
-use Rattle.hwp_check_evidence.specs.hwp_geom.declared.Cpu.{Cpu}
 use Rattle.hwp_check_evidence.specs.hwp_geom.declared.Proc.{Proc}
 use Rattle.hwp_check_evidence.specs.hwp_geom.declared.Who.{Who}
 use Rattle.hwp_check_evidence.specs.hwp_geom.declared.Mask.{Mask}
@@ -19,16 +18,15 @@ use Rattle.hwp_check_evidence.specs.hwp_report_text.declared.Report.{Report}
 use Rattle.hwp_check_evidence.specs.hwp_law_commands.Commands.{process_at}
 use Rattle.hwp_check_evidence.specs.hwp_law.Endings.{IsOver}
 use Rattle.hwp_check_evidence.specs.hwp_law.Causes.{IsCaused}
-use Rattle.hwp_check_evidence.specs.hwp_law.Lines.{answer_among, rows_of}
-use Rattle.hwp_check_evidence.specs.hwp_law.States.{HadState, IsInWindow, entry_named, state_named}
+use Rattle.hwp_check_evidence.specs.hwp_law.Lines.{rows_of}
+use Rattle.hwp_check_evidence.specs.hwp_law.States.{HadState, IsInWindow, state_named}
 use Rattle.hwp_check_evidence.specs.Ends.{HadEnded}
 use Rattle.hwp_check_evidence.specs.Firsts.{is_at, is_named, is_noted, names_beside}
-use Rattle.hwp_check_evidence.specs.Named.{HasOther, flagged_pages}
+use Rattle.hwp_check_evidence.specs.Named.{HasOther}
 use Rattle.hwp_check_rules.specs.AnswerFaults.{IsOutside, IsRevived, IsUnnamed}
 use Rattle.hwp_check_rules.specs.Answered.{IsRight}
 use Rattle.hwp_check_causes.specs.Asking.{IsSo, is_by_state}
 use Rattle.hwp_check_causes.specs.Causing.{MetBadLines}
-use Rattle.hwp_check_answers.specs.Facts.{AreNamings, at_number}
 use Rattle.hwp_check_answers.specs.Judging.{HadGone, IsNaming}
 use Rattle.hwp_check_answers.specs.declared.judging.Naming.{Naming}
 use Rattle.hwp_check_evidence.proofs.NamedLaws.{at-is, named-at}
@@ -106,16 +104,6 @@ module _ (report : Report) (who : Who) (answer : Answer) (naming : Naming) (know
     other = or-none (is_at place u.at) (is_noted naming.names.beside who.seq u.at) (false_from_ne_true (is_at place u.at) (λ is. u.other (sym known.named ∙ at-is place u.at is)))
         (known.beside u.at ∙ false_from_ne_true (list_any (names_beside who.seq u.at) (rows_of report who)) (λ any. let b = some-beside who.seq u.at (rows_of report who) any in u.beside b.i b.line b.there b.own b.names));
   }
-
--- what is known of a command of the processor by its number
-pub naming_of : (report : Report) (cpu : Cpu) (commands : List Command) (rows : List CpuLine) (naming : Naming) (seq : ℕ) (answer : Answer) → slice_get report.cpus cpu.0 ≡ Some rows → AreNamings report cpu commands rows naming
-    → seq < length commands → answer_among rows seq ≡ Some answer → IsNaming report (at_number cpu seq) answer naming
-naming_of report cpu commands rows naming seq answer of_report are inside first = record {
-  inside = subst (λ (n : ℕ). seq < n) (sym are.many) inside;
-  named = are.names.answers seq inside ∙ ap (λ (o : Option Answer). option_and_then entry_named o) first;
-  beside = λ at. are.names.beside seq at ∙ ap (λ (o : Option (List CpuLine)). list_any (names_beside seq at) (unwrap_or o [])) (sym of_report);
-  others = are.others ∙ ap (λ (n : ℕ). flagged_pages (is_named naming.names) cpu (replicate n false) 0 report.pages) (sym are.many);
-}
 
 -- an answer that says what state a page was in, and has its cause, names a page of the report
 module _ (script : Script) (report : Report) (who : Who) (command : Command) where
