@@ -1,4 +1,4 @@
-ghost use Rattle.std.specs.Prelude.{◌≡◌, [], IfOk};
+ghost use Rattle.std.specs.Prelude.{◌≡◌, [], ◌∷◌, ◌++◌, is_ok, IfOk, if◌then◌else◌};
 ghost use Rattle.hwp_report.specs.Follows.{add_entry, add_line, after_entry, after_files, after_frame, after_head, after_line, after_nothing, after_seen, after_signal, after_stop, entry_of, follow, open_cpu, open_frame, open_page, report_of, seen_so_far, signals_so_far};
 
 use hwp_report_lines::ReportLine;
@@ -166,7 +166,11 @@ impl Partial {
                 with_signal(page, failure, signals, line)
             }
             Partial::Cpus(cpu) => with_cpu_line(alloc, cpu, line),
-            Partial::Whole(_) => Ok(None),
+            Partial::Whole(report) => {
+                drop(report);
+                drop(line);
+                Ok(None)
+            }
         }
     }
 }
@@ -179,13 +183,23 @@ fn with_room<T>(alloc: Global, count: u64) -> Result<List<T>, OutOfMemory>
     Ok(List::from_vec(Vec::with_capacity(alloc, room)?))
 }
 
+/// The list has the item at its end, where there is memory; else it stays, and the item is let go.
+fn pushed<T: Drop>(list: &mut List<T>, item: T) -> Result<(), OutOfMemory>
+    ensures { list.new ≡ (if is_ok result then list.old ++ item ∷ [] else list.old) }
+{
+    Ok(list.push(item)?)
+}
+
 /// The head of a report.
 fn begun(line: ReportLine) -> Option<Partial>
     ensures { result ≡ after_nothing line }
 {
     match line {
         ReportLine::Header(version) => Some(Partial::Headed(version)),
-        _ => None,
+        other => {
+            drop(other);
+            None
+        }
     }
 }
 
@@ -195,7 +209,10 @@ fn stopped(version: Version, line: ReportLine) -> Option<Partial>
 {
     match line {
         ReportLine::Stop(stop) => Some(Partial::Stopped(version, stop)),
-        _ => None,
+        other => {
+            drop(other);
+            None
+        }
     }
 }
 
@@ -210,7 +227,10 @@ fn counted(alloc: Global, version: Version, stop: Option<Stop>, line: ReportLine
             count,
             files: List::new(alloc),
         })),
-        _ => None,
+        other => {
+            drop(other);
+            None
+        }
     }
 }
 
@@ -221,11 +241,17 @@ fn with_file(alloc: Global, front: Front, line: ReportLine) -> Result<Option<Par
     match line {
         ReportLine::File { number, lost } => {
             if number != front.files.len() as u64 {
+                drop(front);
                 return Ok(None);
             }
             let mut front = front;
-            front.files.push(lost)?;
-            Ok(Some(Partial::Files(front)))
+            match pushed(&mut front.files, lost) {
+                Ok(()) => Ok(Some(Partial::Files(front))),
+                Err(refused) => {
+                    drop(front);
+                    Err(refused)
+                }
+            }
         }
         line => {
             let frames = List::new(alloc);
@@ -246,13 +272,25 @@ fn with_mark(
     match line {
         ReportLine::Mark(mark) => {
             let mut frame = frame;
-            frame.marks.push(mark)?;
-            Ok(Some(Partial::Frames(framed, frame)))
+            match pushed(&mut frame.marks, mark) {
+                Ok(()) => Ok(Some(Partial::Frames(framed, frame))),
+                Err(refused) => {
+                    drop(frame);
+                    drop(framed);
+                    Err(refused)
+                }
+            }
         }
         line => {
             let mut framed = framed;
-            framed.frames.push(frame)?;
-            frame_begun(alloc, framed, line)
+            match pushed(&mut framed.frames, frame) {
+                Ok(()) => frame_begun(alloc, framed, line),
+                Err(refused) => {
+                    drop(line);
+                    drop(framed);
+                    Err(refused)
+                }
+            }
         }
     }
 }
@@ -273,6 +311,7 @@ fn frame_begun(
             weak,
         } => {
             if number != framed.frames.len() as u64 {
+                drop(framed);
                 return Ok(None);
             }
             let marks = List::new(alloc);
@@ -301,6 +340,7 @@ fn page_begun(alloc: Global, paged: Paged, line: ReportLine) -> Result<Option<Pa
             entries: count,
         } => {
             if number != paged.pages.len() as u64 {
+                drop(paged);
                 return Ok(None);
             }
             match with_room(alloc, count) {
@@ -332,6 +372,7 @@ fn cpu_begun(alloc: Global, ran: Ran, line: ReportLine) -> Result<Option<Partial
             lines: count,
         } => {
             if number != ran.cpus.len() as u64 {
+                drop(ran);
                 return Ok(None);
             }
             match with_room(alloc, count) {
@@ -343,7 +384,11 @@ fn cpu_begun(alloc: Global, ran: Ran, line: ReportLine) -> Result<Option<Partial
             }
         }
         ReportLine::End => Ok(Some(Partial::Whole(ran.into_report()))),
-        _ => Ok(None),
+        other => {
+            drop(other);
+            drop(ran);
+            Ok(None)
+        }
     }
 }
 
@@ -358,8 +403,14 @@ fn with_entry(
     if page.entries.len() as u64 == page.count {
         let OpenPage { paged, entries, .. } = page;
         let mut paged = paged;
-        paged.pages.push(entries)?;
-        page_begun(alloc, paged, line)
+        match pushed(&mut paged.pages, entries) {
+            Ok(()) => page_begun(alloc, paged, line),
+            Err(refused) => {
+                drop(line);
+                drop(paged);
+                Err(refused)
+            }
+        }
     } else {
         entry_added(alloc, page, line)
     }
@@ -376,14 +427,23 @@ fn entry_added(
     match line {
         ReportLine::Entry(entry) => {
             let mut page = page;
-            page.entries.push(entry)?;
-            Ok(Some(Partial::Pages(page)))
+            match pushed(&mut page.entries, entry) {
+                Ok(()) => Ok(Some(Partial::Pages(page))),
+                Err(refused) => {
+                    drop(page);
+                    Err(refused)
+                }
+            }
         }
         ReportLine::Fail(line) => {
             let seen = List::new(alloc);
             Ok(Some(failed(alloc, page, OpenFailure { line, seen })?))
         }
-        _ => Ok(None),
+        other => {
+            drop(other);
+            drop(page);
+            Ok(None)
+        }
     }
 }
 
@@ -399,10 +459,21 @@ fn with_seen(
     match line {
         ReportLine::Seen(seen) => {
             let mut failure = failure;
-            failure.seen.push(seen)?;
-            Ok(Some(failed(alloc, page, failure)?))
+            match pushed(&mut failure.seen, seen) {
+                Ok(()) => Ok(Some(failed(alloc, page, failure)?)),
+                Err(refused) => {
+                    drop(failure);
+                    drop(page);
+                    Err(refused)
+                }
+            }
         }
-        _ => Ok(None),
+        other => {
+            drop(other);
+            drop(failure);
+            drop(page);
+            Ok(None)
+        }
     }
 }
 
@@ -418,13 +489,29 @@ fn with_signal(
     match line {
         ReportLine::Signal(signal) => {
             if signals.as_slice().len() == MAX_SIGNALS {
+                drop(signals);
+                drop(failure);
+                drop(page);
                 return Ok(None);
             }
             let mut signals = signals;
-            signals.push(signal)?;
-            Ok(Some(signalled(page, failure, signals)?))
+            match pushed(&mut signals, signal) {
+                Ok(()) => Ok(Some(signalled(page, failure, signals)?)),
+                Err(refused) => {
+                    drop(signals);
+                    drop(failure);
+                    drop(page);
+                    Err(refused)
+                }
+            }
         }
-        _ => Ok(None),
+        other => {
+            drop(other);
+            drop(signals);
+            drop(failure);
+            drop(page);
+            Ok(None)
+        }
     }
 }
 
@@ -449,8 +536,13 @@ fn signalled(
 {
     if signals.as_slice().len() as u64 == failure.line.signals {
         let mut page = page;
-        page.entries.push(failure.into_entry(signals))?;
-        Ok(Partial::Pages(page))
+        match pushed(&mut page.entries, failure.into_entry(signals)) {
+            Ok(()) => Ok(Partial::Pages(page)),
+            Err(refused) => {
+                drop(page);
+                Err(refused)
+            }
+        }
     } else {
         Ok(Partial::Signalling(page, failure, signals))
     }
@@ -467,8 +559,14 @@ fn with_cpu_line(
     if cpu.lines.len() as u64 == cpu.count {
         let OpenCpu { ran, lines, .. } = cpu;
         let mut ran = ran;
-        ran.cpus.push(lines)?;
-        cpu_begun(alloc, ran, line)
+        match pushed(&mut ran.cpus, lines) {
+            Ok(()) => cpu_begun(alloc, ran, line),
+            Err(refused) => {
+                drop(line);
+                drop(ran);
+                Err(refused)
+            }
+        }
     } else {
         line_added(cpu, line)
     }
@@ -481,9 +579,18 @@ fn line_added(cpu: OpenCpu, line: ReportLine) -> Result<Option<Partial>, OutOfMe
     match line {
         ReportLine::CpuLine(item) => {
             let mut cpu = cpu;
-            cpu.lines.push(item)?;
-            Ok(Some(Partial::Cpus(cpu)))
+            match pushed(&mut cpu.lines, item) {
+                Ok(()) => Ok(Some(Partial::Cpus(cpu))),
+                Err(refused) => {
+                    drop(cpu);
+                    Err(refused)
+                }
+            }
         }
-        _ => Ok(None),
+        other => {
+            drop(other);
+            drop(cpu);
+            Ok(None)
+        }
     }
 }
