@@ -1,8 +1,9 @@
-ghost use Rattle.std.specs.Prelude.{◌≡◌, ◌+◌, ◌-◌, ◌*◌, ◌<◌, ◌≤◌, ◌^◌, ◌==◌, cond, length, min, slice_index, take, IfOk, MatchBool, MatchOption};
+ghost use Rattle.std.specs.Prelude.{◌≡◌, ◌↔◌, IsTrue, ◌+◌, ◌-◌, ◌*◌, ◌<◌, ◌≤◌, ◌^◌, ◌==◌, cond, length, min, slice_index, take, IfOk, MatchBool, MatchOption};
 ghost use Rattle.std.specs.List.{All};
 ghost use Rattle.std.specs.List.Sorted.{IsNonDecreasingBy};
 ghost use Rattle.hwp_check_rules.specs.hwp_law_commands.Settings.{last_policy};
 ghost use Rattle.hwp_check_rules.specs.hwp_law.SeenPolicies.{IsOwnCount, IsPolicySeen};
+ghost use Rattle.hwp_check_rules.specs.hwp_kill.declared.Policy.TheVariants.{Default};
 ghost use Rattle.hwp_check_rules.specs.hwp_script_read.Valid.{IsValid};
 ghost use Rattle.hwp_check_rules.specs.Pasts.{ArePasts, IsPast};
 ghost use Rattle.hwp_check_state.specs.Sights.{IsBelow, IsFirstOf, IsNotBelow, IsRight, IsSmall, IsWrong, group_of, key_of, top_of};
@@ -67,6 +68,13 @@ fn is_right_of(script: &Script, report: &Report, past: &ThreadPolicies, sight: &
     is_policy_seen(script, report, past, sight.seen) && is_own_count(script, report, past, sight)
 }
 
+/// Whether it is the default, before any setting.
+fn is_default(seen: Seen) -> bool
+    ensures { IsTrue result ↔ (seen.n ≡ 0) × (seen.policy ≡ Default) }
+{
+    seen.n == 0 && seen.policy == Policy::Default
+}
+
 /// Whether a policy seen is right by itself. A thread that isn't declared has none but the default.
 fn is_right(script: &Script, report: &Report, pasts: &[ThreadPolicies], sight: &Sight) -> bool
     requires { ArePasts script.now report.now pasts.now }
@@ -74,7 +82,7 @@ fn is_right(script: &Script, report: &Report, pasts: &[ThreadPolicies], sight: &
 {
     match pasts.get(usize::from(sight.seen.thread.0)) {
         Some(past) => is_right_of(script, report, past, sight),
-        None => sight.seen.n == 0 && sight.seen.policy == Policy::Default,
+        None => is_default(sight.seen),
     }
 }
 
