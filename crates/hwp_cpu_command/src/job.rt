@@ -407,6 +407,7 @@ impl Task for Job {
         of_kind!(self, task => task.give())
     }
 
+    #[inline(always)]
     fn settle(&mut self, layout: &Layout, found: u64, body: Option<Body>) -> Turn {
         of_kind!(self, task => task.settle(layout, found, body))
     }

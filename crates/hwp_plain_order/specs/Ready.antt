@@ -1,15 +1,16 @@
 -- What a scheduler asks of tasks and board, and what it keeps between turns.
-use Rattle.std.specs.Prelude.{◌≡◌, ◌≢◌, ℕ, ◌<◌, ◌≤◌, List, ◌∷◌, length, take, get_or, Option, Some, None}
+use Rattle.std.specs.Prelude.{◌≡◌, ◌≢◌, ℕ, ◌<◌, ◌≤◌, ◌⊎◌, List, ◌∷◌, length, take, get_or, Option, Some, None}
 use Rattle.hwp_script_read.specs.hwp_geom.declared.Frame.{Frame}
 use Rattle.hwp_script_read.specs.hwp_geom.declared.Kind.{Kind}
 use Rattle.hwp_script_read.specs.hwp_geom.Limits.{cpu_limit}
 use Rattle.hwp_core_task.specs.hwp_core_rule.Rule.{Holds}
 use Rattle.hwp_core_task.specs.declared.Turn.{Turn}
+use Rattle.hwp_core_task.specs.declared.Turn.TheVariants as turns
 use Rattle.hwp_core_task.specs.Boards.{Played, view_of, AreSeated}
 use Rattle.hwp_core_task.specs.Ranks.{Pending}
 use Rattle.hwp_core_task.specs.Turns.{Member}
 use Rattle.hwp_core_task.specs.Classes.{IsScheduled}
-use Rattle.hwp_plain_order.specs.Order.{Running, IsAt, IsChosen, TurnOf, cpu_of, levels, seat_of, told_of}
+use Rattle.hwp_plain_order.specs.Order.{Running, IsAt, IsChosen, IsOver, TurnOf, cpu_of, levels, seat_of, told_of}
 use Rattle.hwp_plain_order.specs.Rank.{words_in}
 
 -- a failure is the claim of a task
@@ -50,6 +51,22 @@ pub record TurnTold {S : Type 0} (m : Member S) (a : Running S) (cpu : ℕ) (was
   pub turn : TurnOf m a cpu played b
   pub logged : now ≡ played ∷ was
   pub told_is : told ≡ told_of played
+
+-- there was no turn, because the task is over
+abbrev pub IsFinished : Turn → Type 0
+IsFinished turns.Finished = Unit {0}
+IsFinished turn = ⊥
+
+-- the task is over: there was no turn, and nothing changed
+pub record NoneTold {S : Type 0} (m : Member S) (a : Running S) (cpu : ℕ) (was now : List Played) (told : Turn × Option Kind) (b : Running S) : Type 0 where
+  pub over : IsOver m a.tasks cpu
+  pub board : b ≡ a
+  pub log : now ≡ was
+  pub told_is : told ≡ (turns.Finished, None)
+
+-- a turn, or none where the task is over
+abbrev pub TurnOrNone : {S : Type 0} → Member S → Running S → ℕ → List Played → List Played → Turn × Option Kind → Running S → Type 0
+TurnOrNone m a cpu was now told b = NoneTold m a cpu was now told b ⊎ TurnTold m a cpu was now told b
 
 -- who comes next, by the levels: none where all are over
 abbrev pub IsNext : List ℕ → Option ℕ → Type 0

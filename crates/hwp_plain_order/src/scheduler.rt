@@ -1,9 +1,9 @@
-ghost use Rattle.std.specs.Prelude.{◌≡◌, ℕ, ◌<◌, ◌≤◌, ◌↔◌, List, length, take, get_or, All, IfOk, OnOk, OnErr, IsTrue};
+ghost use Rattle.std.specs.Prelude.{◌≡◌, None, ℕ, ◌<◌, ◌≤◌, ◌↔◌, List, length, take, get_or, All, IfOk, OnOk, OnErr, IsTrue};
 ghost use Rattle.hwp_script_read.specs.hwp_geom.Limits.{cpu_limit};
 ghost use Rattle.hwp_script_read.specs.declared.Go.{Go as GoOf};
 ghost use Rattle.hwp_core_task.specs.Classes.{IsScheduled};
 ghost use Rattle.hwp_plain_order.specs.Order.{running, level, levels, IsNoMemory, EndsWord, Word, Finishing, InOrder, Grows, IsRefused, AreOver};
-ghost use Rattle.hwp_plain_order.specs.Ready.{IsCrew, InPlay, Ready, Goes, TurnTold, IsNext};
+ghost use Rattle.hwp_plain_order.specs.Ready.{IsCrew, InPlay, Ready, TurnTold, TurnOrNone, IsFinished, IsNext};
 
 use hwp_core_task::{Board, Scheduled, Turn};
 use hwp_script_read::{Cpu, Go, Kind, MAX_CPUS, OutOfMemory, Until};
@@ -72,6 +72,21 @@ fn is_end(until: Until, turn: Turn, kind: Option<Kind>) -> bool
     }
 }
 
+/// Whether the turn tells that there was none.
+fn is_finished(turn: Turn) -> bool
+    ensures { IsTrue result ↔ IsFinished turn }
+{
+    matches!(turn, Turn::Finished)
+}
+
+/// Whether there was no turn, because the task is over.
+fn is_none<T: Scheduled>(turn: Turn, task: &T) -> bool
+    ensures over { IsTrue result → T.task.plan task.now ≡ None }
+    ensures on { IsFinished turn → T.task.plan task.now ≡ None → IsTrue result }
+{
+    is_finished(turn) && task.is_over()
+}
+
 /// Whether the task gave up because memory ran out.
 fn is_refused(turn: Turn) -> bool
     ensures { IsTrue result ↔ IsNoMemory turn }
@@ -79,7 +94,7 @@ fn is_refused(turn: Turn) -> bool
     matches!(turn, Turn::NoMemory)
 }
 
-/// A turn of a processor that isn't over.
+/// A turn of a processor, or none where it is over.
 #[inline(always)]
 fn take_turn<B: Board, T: Scheduled>(
     board: &mut B,
@@ -88,10 +103,9 @@ fn take_turn<B: Board, T: Scheduled>(
 ) -> Result<(Turn, Option<Kind>), OutOfMemory>
     requires ready { Ready T.task (running (B.layout board.old) (B.seat board.old) tasks.old (B.state board.old)) }
     requires cpu { cpu.0 < length tasks.old }
-    requires goes { Goes T.task tasks.old cpu.0 }
     ensures ready { OnOk result (Ready T.task (running (B.layout board.new) (B.seat board.new) tasks.new (B.state board.new))) }
     ensures count { length tasks.new ≡ length tasks.old }
-    ensures turn { IfOk result (λ told. TurnTold T.task (running (B.layout board.old) (B.seat board.old) tasks.old (B.state board.old)) cpu.0 (B.log board.old) (B.log board.new) told (running (B.layout board.new) (B.seat board.new) tasks.new (B.state board.new))) }
+    ensures turn { IfOk result (λ told. TurnOrNone T.task (running (B.layout board.old) (B.seat board.old) tasks.old (B.state board.old)) cpu.0 (B.log board.old) (B.log board.new) told (running (B.layout board.new) (B.seat board.new) tasks.new (B.state board.new))) }
     ensures refused { OnErr result (IsRefused (B.log board.new)) }
 {
     let (turn, kind) = board.advance(cpu, &mut tasks[cpu.0 as usize]);
@@ -136,13 +150,15 @@ fn play_word<B: Board, T: Scheduled>(
     ensures refused { OnErr result (IsRefused (B.log board.new)) }
 {
     let cpu = usize::from(go.cpu.0);
-    while !tasks[cpu].is_over() {
+    loop {
         let (turn, kind) = take_turn(board, tasks, go.cpu)?;
         if is_end(go.until, turn, kind) {
             return Ok(());
         }
+        if is_none(turn, &tasks[cpu]) {
+            return Ok(());
+        }
     }
-    Ok(())
 }
 
 /// The turns of the finishing order: each goes to the lowest-numbered processor of the lowest class.

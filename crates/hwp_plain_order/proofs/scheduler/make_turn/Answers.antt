@@ -1,12 +1,13 @@
 use Rattle.std.proofs.Common.{get_or}
 use Rattle.hwp_plain_order.specs.Order.{running}
-use Rattle.hwp_plain_order.proofs.Turns.{array-goes, play-after, read-again}
+use Rattle.hwp_plain_order.proofs.Turns.{array-goes, play-after, read-again, told-of}
 use Rattle.hwp_plain_order.proofs.scheduler.make_turn.Goals as goal
 
-pub take_turn-requires-clause-goes : goal.take_turn-requires-clause-goes
-take_turn-requires-clause-goes g c = array-goes g.T.Task.task c.args.levels.now (running (g.B.Board.layout c.args.board.now) (g.B.Board.seat c.args.board.now) c.args.tasks.now (g.B.Board.state c.args.board.now)) c.args.cpu c.requires.play c.requires.going
+pub returns-clause-turn : goal.returns-clause-turn
+returns-clause-turn g c = told-of g.T.Task.task (running (g.B.Board.layout c.args.board.now) (g.B.Board.seat c.args.board.now) c.args.tasks.now (g.B.Board.state c.args.board.now)) (running (g.B.Board.layout c.take_turn.new.board) (g.B.Board.seat c.take_turn.new.board) c.take_turn.new.tasks (g.B.Board.state c.take_turn.new.board)) c.args.cpu (g.B.Board.log c.args.board.now) (g.B.Board.log c.take_turn.new.board) c.in_ok-told.told c.requires.cpu
+    (array-goes g.T.Task.task c.args.levels.now (running (g.B.Board.layout c.args.board.now) (g.B.Board.seat c.args.board.now) c.args.tasks.now (g.B.Board.state c.args.board.now)) c.args.cpu c.requires.play c.requires.going) c.in_ok-told.ensures.turn
 
 pub returns-clause-play : goal.returns-clause-play
 returns-clause-play g c = play-after g.T.Task.task c.args.levels.now (running (g.B.Board.layout c.args.board.now) (g.B.Board.seat c.args.board.now) c.args.tasks.now (g.B.Board.state c.args.board.now))
     (running (g.B.Board.layout c.take_turn.new.board) (g.B.Board.seat c.take_turn.new.board) c.take_turn.new.tasks (g.B.Board.state c.take_turn.new.board)) c.args.cpu c.level_of.result (get_or c.take_turn.new.tasks c.args.cpu c.index-tasks-cpu.result)
-    (g.B.Board.log c.args.board.now) (g.B.Board.log c.take_turn.new.board) c.in_ok-told.told c.requires.play c.requires.cpu c.in_ok-told.ensures.turn c.in_ok-told.ensures.ready (read-again c.take_turn.new.tasks c.args.cpu c.index-tasks-cpu.result c.index-tasks-cpu.is) c.level_of.ensures
+    (g.B.Board.log c.args.board.now) (g.B.Board.log c.take_turn.new.board) c.in_ok-told.told c.requires.play c.requires.cpu (returns-clause-turn g c) c.in_ok-told.ensures.ready (read-again c.take_turn.new.tasks c.args.cpu c.index-tasks-cpu.result c.index-tasks-cpu.is) c.level_of.ensures

@@ -5,12 +5,12 @@ use Rattle.hwp_plain_order.specs.Ready.{Ready}
 use Rattle.hwp_plain_order.proofs.ScheduleTells.{SoFar}
 use Rattle.hwp_plain_order.proofs.scheduler.play_word.Given as goal
 
-abbrev pub invariant-loop-board : goal.invariant-loop-board
-invariant-loop-board g l = record {
+abbrev pub invariant-loop-turn : goal.invariant-loop-turn
+invariant-loop-turn g l = record {
   ready : Ready g.T.Task.task (running (g.B.Board.layout l.board) (g.B.Board.seat l.board) l.tasks (g.B.Board.state l.board));
   count : length l.tasks ≡ length l.fn.tasks;
   so_far : SoFar (Word g.T.Task.task l.go) (running (g.B.Board.layout l.fn.board) (g.B.Board.seat l.fn.board) l.fn.tasks (g.B.Board.state l.fn.board)) (g.B.Board.log l.fn.board) (running (g.B.Board.layout l.board) (g.B.Board.seat l.board) l.tasks (g.B.Board.state l.board)) (g.B.Board.log l.board);
 }
 
-abbrev pub decreases-loop-board : goal.decreases-loop-board
-decreases-loop-board g l = need_at g.T.Task.task l.tasks (words_in (running (g.B.Board.layout l.board) (g.B.Board.seat l.board) l.tasks (g.B.Board.state l.board))) l.go.cpu.0
+abbrev pub decreases-loop-turn : goal.decreases-loop-turn
+decreases-loop-turn g l = need_at g.T.Task.task l.tasks (words_in (running (g.B.Board.layout l.board) (g.B.Board.seat l.board) l.tasks (g.B.Board.state l.board))) l.go.cpu.0
