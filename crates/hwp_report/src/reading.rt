@@ -52,18 +52,22 @@ pub fn read(alloc: Global, bytes: &[u8]) -> Result<Report, BadReport>
     let mut partial = Partial::Nothing;
     let mut number = 1;
     while let Some((line, behind)) = first_line(rest) {
-        let Some(next) = with_line(alloc, partial, line)? else {
-            return Err(BadReport::Line(number));
-        };
-        partial = next;
+        match with_line(alloc, partial, line)? {
+            Some(next) => partial = next,
+            None => return Err(BadReport::Line(number)),
+        }
         rest = behind;
         number += 1;
     }
     if !rest.is_empty() {
+        drop(partial);
         return Err(BadReport::Line(number));
     }
     match partial {
         Partial::Whole(report) => Ok(report),
-        _ => Err(BadReport::Line(number)),
+        other => {
+            drop(other);
+            Err(BadReport::Line(number))
+        }
     }
 }
