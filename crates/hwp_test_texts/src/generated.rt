@@ -10,6 +10,7 @@ use std::str;
 fn has(rt: &impl Abort, alloc: Global, seed: u64, parts: &[&str]) {
     let script = generate(alloc, seed).expect(rt, "memory");
     let text = print(alloc, &script).expect(rt, "memory");
+    drop(script);
     let text = str::from_utf8(text.as_slice()).ok().expect(rt, "a text");
     for part in parts {
         assert!(rt; text.contains(*part));

@@ -18,6 +18,7 @@ const SPELLED: &str =
 fn is_spelled(rt: &impl Abort, alloc: Global, text: &str, want: &str) {
     let script = read(alloc, text.as_bytes()).ok().expect(rt, "a script");
     is_printed(rt, alloc, &script, want);
+    drop(script);
 }
 
 /// The printed text of a script.

@@ -183,6 +183,7 @@ fn a_report_of_failed_pages(rt: HostRuntime) {
     put_file(&rt, &mut report, 3);
     put_file(&rt, &mut report, u64::MAX);
     is_printed(&rt, alloc, &report, FAILED);
+    drop(report);
 }
 
 /// Frames with their records: each situation, each outcome, and both causes; of version 2.
@@ -259,6 +260,7 @@ fn a_report_of_poisoned_frames(rt: HostRuntime) {
         failure(0, 9, true, Situation::Kernel, Outcome::Ignored),
     ]);
     is_printed(&rt, alloc, &report, MARKED);
+    drop(report);
 }
 
 /// Each kind of line of a processor.
@@ -413,6 +415,7 @@ fn a_report_with_each_kind_of_answer(rt: HostRuntime) {
     report.cpus.push(events(&rt, alloc)).expect(&rt, "memory");
     report.cpus.push(answers(&rt, alloc)).expect(&rt, "memory");
     is_printed(&rt, alloc, &report, ANSWERED);
+    drop(report);
 }
 
 /// Frames taken out of use beside the answers of commands, the machine checks of a guest, and the answers to what a guest does then.
@@ -514,4 +517,5 @@ fn a_report_with_lines_beside_the_answers(rt: HostRuntime) {
     report.version = Version::Two;
     report.cpus.push(lines).expect(&rt, "memory");
     is_printed(&rt, alloc, &report, BESIDE);
+    drop(report);
 }

@@ -21,7 +21,10 @@ type Answer = Option<(u32, Why)>;
 
 fn refusal(rt: &impl Abort, alloc: Global, text: &[u8]) -> Answer {
     match read(alloc, text) {
-        Ok(_) => None,
+        Ok(script) => {
+            drop(script);
+            None
+        }
         Err(ReadScript::Refused(Refused { line, why })) => Some((line, why)),
         Err(ReadScript::OutOfMemory) => panic!(rt; "memory"),
     }
@@ -88,6 +91,7 @@ fn numbers_go_to_the_fields_of_their_names(rt: HostRuntime) {
         .expect(&rt, "a script");
     is_declared(&rt, &script.layout);
     have(&rt, &script, NUMBERS);
+    drop(script);
 }
 
 #[test]
@@ -123,6 +127,7 @@ fn a_script_of_version_2_is_read_and_refused_where_it_is_at_fault(rt: HostRuntim
         .expect(&rt, "a script");
     assert!(&rt; script.layout.version == Version::Two);
     assert!(&rt; matches!(script.layout.locked.as_slice(), [true]));
+    drop(script);
     refused(
         &rt,
         rt.alloc(),
