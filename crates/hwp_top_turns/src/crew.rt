@@ -1,4 +1,4 @@
-ghost use Rattle.std.specs.Prelude.{IfOk};
+ghost use Rattle.std.specs.Prelude.{◌≡◌, [], ◌∷◌, ◌++◌, IfOk};
 ghost use Rattle.hwp_plain.specs.hwp_script_read.Valid.{IsValid};
 ghost use Rattle.hwp_top_turns.specs.Runs.{AreAtBeginning, AreFinished};
 
@@ -19,9 +19,28 @@ pub fn crew_of(alloc: Global, script: &Script) -> Result<Vec<Processor>, OutOfMe
     let mut crew = Vec::with_capacity(alloc, lists.len())?;
     for cpu in 0..lists.len() {
         let commands = lists[cpu].as_slice();
-        crew.push(Processor::new(alloc, &layout, Cpu(cpu as u8), commands)?)?;
+        match Processor::new(alloc, &layout, Cpu(cpu as u8), commands) {
+            Ok(processor) => match pushed(&mut crew, processor) {
+                Ok(()) => {}
+                Err(refused) => {
+                    drop(crew);
+                    return Err(refused);
+                }
+            },
+            Err(refused) => {
+                drop(crew);
+                return Err(refused);
+            }
+        }
     }
     Ok(crew)
+}
+
+/// The list has the item at its end, where there is memory; else it stays, and the item is let go.
+fn pushed<T: Drop>(list: &mut Vec<T>, item: T) -> Result<(), OutOfMemory>
+    ensures { IfOk result (λ _. list.new.items ≡ list.old.items ++ item ∷ []) }
+{
+    Ok(list.push(item)?)
 }
 
 /// The rows of each processor.
