@@ -60,7 +60,6 @@ fn is_own_count(script: &Script, report: &Report, past: &ThreadPolicies, sight: 
 }
 
 /// Whether a policy seen of this thread is right by itself.
-
 fn is_right_of(script: &Script, report: &Report, past: &ThreadPolicies, sight: &Sight) -> bool
     requires { IsPast script.now report.now sight.now.seen.thread past.now }
     ensures { MatchBool result (IsRight script.now report.now sight.now) (IsWrong script.now report.now sight.now) }
