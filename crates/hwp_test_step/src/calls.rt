@@ -46,18 +46,6 @@ const STOPPED: &str = "\
 hwp-report 1\nstop 0 0 shutdown\ncount 0\nframe 0 free bad 0 weak 0\nframe 1 free bad 0 weak 0\npage 0 0\ncpu 0 1\n\
 0 stopped\nend\n";
 
-/// `step` gives the report of a script, and ends with this status.
-fn gives(rt: &impl Abort, alloc: Global, script: &str, report: &str, status: u8) {
-    let left = step(rt, alloc, script.as_bytes());
-    leaves(rt, &left, true, status, report, "");
-}
-
-#[test]
-fn step_gives_the_report_of_a_script(rt: HostRuntime) {
-    gives(&rt, rt.alloc(), STORE_AND_LOAD, STORED_AND_LOADED, 0);
-    gives(&rt, rt.alloc(), NESTED, STOPPED, 8);
-}
-
 /// These words give the report of a script, end with this status, and tell of a table without translation caches, or of one with them.
 fn tells_of(
     rt: &impl Abort,
@@ -69,8 +57,8 @@ fn tells_of(
     tables: (bool, bool),
 ) {
     let left = call(rt, alloc, words, script.as_bytes(), &[], (4096, &[]));
-    leaves(rt, &left, true, status, report, "");
     assert!(rt; left.tables == tables);
+    leaves(rt, left, true, status, report, "");
 }
 
 #[test]
@@ -102,14 +90,14 @@ fn step_tlb_gives_the_same_report_from_a_table_with_caches(rt: HostRuntime) {
 fn step_tlb_tells_refusals_and_faults(rt: HostRuntime) {
     let words = &["step", "tlb"];
     let refused = call(&rt, rt.alloc(), words, b"hwp 3\n", &[], (4096, &[]));
-    leaves(&rt, &refused, false, 3, "", "script line 1: BadHeader\n");
+    leaves(&rt, refused, false, 3, "", "script line 1: BadHeader\n");
     let script = STORE_AND_LOAD.as_bytes();
     let unread = call(&rt, rt.alloc(), words, script, &[1], (4096, &[]));
-    leaves(&rt, &unread, false, 4, "", "read fault\n");
     assert!(&rt; unread.tables == (false, false));
+    leaves(&rt, unread, false, 4, "", "read fault\n");
     let cut = call(&rt, rt.alloc(), words, script, &[], (4, &[2]));
-    leaves(&rt, &cut, true, 5, "hwp-", "write fault\n");
     assert!(&rt; cut.tables == (false, true));
+    leaves(&rt, cut, true, 5, "hwp-", "write fault\n");
 }
 
 /// Each of the words is a usage.
@@ -118,7 +106,7 @@ fn are_usage(rt: &impl Abort, alloc: Global, rows: &[&[&str]]) {
         let script = STORE_AND_LOAD.as_bytes();
         let left = call(rt, alloc, words, script, &[], (4096, &[]));
         let usage = "usage: hwp step [tlb]|run [tlb]|check|gen N|sum N\n";
-        leaves(rt, &left, false, 2, "", usage);
+        leaves(rt, left, false, 2, "", usage);
     }
 }
 
@@ -187,10 +175,11 @@ fn a_script_that_is_cut_is_refused(rt: HostRuntime) {
     for length in 0..script.len() {
         let left = step(&rt, rt.alloc(), &script[..length]);
         if length + 1 == script.len() {
-            leaves(&rt, &left, true, 0, STORED_AND_LOADED, "");
+            leaves(&rt, left, true, 0, STORED_AND_LOADED, "");
         } else {
             assert!(&rt; (left.reported, left.status) == (false, 3));
             assert!(&rt; left.out.bytes().is_empty());
+            drop(left);
         }
     }
 }
@@ -199,7 +188,7 @@ fn a_script_that_is_cut_is_refused(rt: HostRuntime) {
 fn a_byte_too_many_is_refused(rt: HostRuntime) {
     let long = vec![in rt.alloc(); b' '; 1_048_577].expect(&rt, "memory");
     let left = step(&rt, rt.alloc(), long.as_slice());
-    leaves(&rt, &left, false, 3, "", "script line 0: TooLong\n");
+    leaves(&rt, left, false, 3, "", "script line 0: TooLong\n");
 }
 
 /// `step` on a store and a load, from a source and into a sink that fail so.
@@ -212,7 +201,7 @@ fn step_through(rt: &impl Abort, alloc: Global, read: &[u64], sink: (usize, &[u6
 /// A failing read of this number leaves nothing on `out`.
 fn is_fault(rt: &impl Abort, alloc: Global, read: u64) {
     let left = step_through(rt, alloc, &[read], (4096, &[]));
-    leaves(rt, &left, false, 4, "", "read fault\n");
+    leaves(rt, left, false, 4, "", "read fault\n");
 }
 
 #[test]
@@ -227,7 +216,7 @@ fn is_cut(rt: &impl Abort, alloc: Global, take: usize, write: u64, front: &[u8])
 {
     let left = step_through(rt, alloc, &[], (take, &[write]));
     let front = str::from_utf8(front).ok().expect(rt, "a text");
-    leaves(rt, &left, true, 5, front, "write fault\n");
+    leaves(rt, left, true, 5, front, "write fault\n");
 }
 
 #[test]
@@ -251,13 +240,13 @@ fn each_byte_before_a_failing_write_stays(rt: HostRuntime) {
 #[test]
 fn a_fault_of_the_error_sink_changes_nothing(rt: HostRuntime) {
     let left = call_untold(&rt, rt.alloc(), &["step"], b"", &[], (4096, &[]), &[1]);
-    leaves(&rt, &left, false, 3, "", "");
+    leaves(&rt, left, false, 3, "", "");
 }
 
 #[test]
 fn a_report_is_written_in_pieces(rt: HostRuntime) {
     let left = step_through(&rt, rt.alloc(), &[], (16, &[]));
-    leaves(&rt, &left, true, 0, STORED_AND_LOADED, "");
+    leaves(&rt, left, true, 0, STORED_AND_LOADED, "");
 }
 
 /// A report of one page and one free frame beside it, after one load through a translation.
@@ -276,7 +265,7 @@ fn many_declarations_are_served(rt: HostRuntime) {
         .push_str("cpu 0\nload 0 299 0\nend\n")
         .expect(&rt, "memory");
     let left = step(&rt, rt.alloc(), script.as_bytes());
-    leaves(&rt, &left, true, 0, LOADED_THROUGH_THE_LAST, "");
+    leaves(&rt, left, true, 0, LOADED_THROUGH_THE_LAST, "");
 }
 
 #[test]
@@ -287,7 +276,7 @@ fn a_long_script_is_refused_at_its_last_line(rt: HostRuntime) {
     }
     refused.push_str("hwp 1\nsotre\n").expect(&rt, "memory");
     let left = step(&rt, rt.alloc(), refused.as_bytes());
-    leaves(&rt, &left, false, 3, "", "script line 5002: UnknownWord\n");
+    leaves(&rt, left, false, 3, "", "script line 5002: UnknownWord\n");
 }
 
 /// A comment fills the script up to 1 MiB.
@@ -300,5 +289,5 @@ fn a_script_of_1_mib_is_read_to_its_end(rt: HostRuntime) {
         .extend_from_slice(STORE_AND_LOAD.as_bytes())
         .expect(&rt, "memory");
     let left = step(&rt, rt.alloc(), whole.as_slice());
-    leaves(&rt, &left, true, 0, STORED_AND_LOADED, "");
+    leaves(&rt, left, true, 0, STORED_AND_LOADED, "");
 }

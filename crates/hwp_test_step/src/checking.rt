@@ -10,7 +10,7 @@ fn says(rt: &impl Abort, alloc: Global, script: &str, text: &str, said: &str, st
     let mut input = String::from_str(alloc, script).expect(rt, "memory");
     input.push_str(text).expect(rt, "memory");
     let left = call(rt, alloc, &["check"], input.as_bytes(), &[], (4096, &[]));
-    leaves(rt, &left, false, status, said, "");
+    leaves(rt, left, false, status, said, "");
 }
 
 /// The report of a store and a load is legal.
@@ -88,7 +88,7 @@ fn check_refuses_what_is_no_script(rt: HostRuntime) {
     for (input, told) in REFUSED {
         let input = input.as_bytes();
         let left = call(&rt, rt.alloc(), &["check"], input, &[], (4096, &[]));
-        leaves(&rt, &left, false, 3, "", told);
+        leaves(&rt, left, false, 3, "", told);
     }
 }
 
@@ -96,7 +96,7 @@ fn check_refuses_what_is_no_script(rt: HostRuntime) {
 fn is_too_long(rt: &impl Abort, alloc: Global, bytes: usize) {
     let long = vec![in alloc; b' '; bytes].expect(rt, "memory");
     let left = call(rt, alloc, &["check"], long.as_slice(), &[], (4096, &[]));
-    leaves(rt, &left, false, 3, "", "script line 0: TooLong\n");
+    leaves(rt, left, false, 3, "", "script line 0: TooLong\n");
 }
 
 #[test]
@@ -109,7 +109,7 @@ fn a_byte_too_many_is_refused(rt: HostRuntime) {
 fn check_tells_faults_of_its_source_and_its_sink(rt: HostRuntime) {
     let script = STORE_AND_LOAD.as_bytes();
     let unread = call(&rt, rt.alloc(), &["check"], script, &[2], (4096, &[]));
-    leaves(&rt, &unread, false, 4, "", "read fault\n");
+    leaves(&rt, unread, false, 4, "", "read fault\n");
     let cut = call(&rt, rt.alloc(), &["check"], script, &[], (4, &[2]));
-    leaves(&rt, &cut, false, 5, "not ", "write fault\n");
+    leaves(&rt, cut, false, 5, "not ", "write fault\n");
 }

@@ -47,10 +47,14 @@ pub fn call_untold(
     let mut out = MemSink::new(alloc, take, write.to_vec(alloc).expect(rt, "memory"));
     let mut err = MemSink::new(alloc, 4096, untold.to_vec(alloc).expect(rt, "memory"));
     let done = top(alloc, list.as_slice(), &mut src, &mut out, &mut err);
+    let reported = done.report.is_some();
+    let tables = (done.ended.is_some(), done.tlb.is_some());
+    let status = done.status;
+    drop(done);
     Left {
-        reported: done.report.is_some(),
-        tables: (done.ended.is_some(), done.tlb.is_some()),
-        status: done.status,
+        reported,
+        tables,
+        status,
         out,
         err,
     }
@@ -70,14 +74,15 @@ pub fn call(
     call_untold(rt, alloc, words, script, read, sink, &[])
 }
 
-/// The call gave a report or not, ended with the status, and left these texts on `out` and on `err`.
-pub fn leaves(rt: &impl Abort, left: &Left, reported: bool, status: u8, out: &str, err: &str) {
+/// The call gave a report or not, ended with the status, and left these texts on `out` and on `err`. What it left is let go here.
+pub fn leaves(rt: &impl Abort, left: Left, reported: bool, status: u8, out: &str, err: &str) {
     let texts = (
         str::from_utf8(left.out.bytes()).ok(),
         str::from_utf8(left.err.bytes()).ok(),
     );
     assert!(rt; texts == (Some(out), Some(err)));
     assert!(rt; (left.reported, left.status) == (reported, status));
+    drop(left);
 }
 
 /// `step` on a script, with nothing that fails.
@@ -89,6 +94,6 @@ pub fn step(rt: &impl Abort, alloc: Global, script: &[u8]) -> Left {
 pub fn refuses(rt: &impl Abort, alloc: Global, rows: &[(&str, &str)]) {
     for (script, told) in rows {
         let left = step(rt, alloc, script.as_bytes());
-        leaves(rt, &left, false, 3, "", told);
+        leaves(rt, left, false, 3, "", told);
     }
 }

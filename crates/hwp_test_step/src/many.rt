@@ -42,7 +42,7 @@ fn a_schedule_of_100000_words_is_played(rt: HostRuntime) {
     put_done(&rt, &mut report, 1, 2048);
     report.push_str("end\n").expect(&rt, "memory");
     let left = step(&rt, rt.alloc(), script.as_bytes());
-    leaves(&rt, &left, true, 0, report.as_str(), "");
+    leaves(&rt, left, true, 0, report.as_str(), "");
 }
 
 /// Eight processors, each with a thread, a translation to the one page, and 512 loads.
@@ -95,5 +95,5 @@ fn eight_processors_of_512_commands_come_to_an_end(rt: HostRuntime) {
     let script = crowd(&rt, rt.alloc());
     let report = crowded(&rt, rt.alloc());
     let left = step(&rt, rt.alloc(), script.as_bytes());
-    leaves(&rt, &left, true, 0, report.as_str(), "");
+    leaves(&rt, left, true, 0, report.as_str(), "");
 }

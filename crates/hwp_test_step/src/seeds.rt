@@ -22,8 +22,11 @@ fn writes_script(rt: &impl Abort, alloc: Global, word: &str, seed: u64) {
     assert!(rt; (left.reported, left.tables, left.status) == (false, (false, false), 0));
     let script = generate(alloc, seed).expect(rt, "memory");
     has_text(rt, alloc, left.out.bytes(), &script);
+    drop(script);
     let again = read(alloc, left.out.bytes()).expect(rt, "a script");
     has_text(rt, alloc, left.out.bytes(), &again);
+    drop(again);
+    drop(left);
 }
 
 #[test]
@@ -40,6 +43,9 @@ fn two_runs_of_gen_write_equal_bytes(rt: HostRuntime) {
     let other = unread(&rt, rt.alloc(), &["gen", "6"]);
     assert!(&rt; first.out.bytes() == second.out.bytes());
     assert!(&rt; first.out.bytes() != other.out.bytes());
+    drop(other);
+    drop(second);
+    drop(first);
 }
 
 /// The third write of 16 bytes fails.
@@ -48,7 +54,7 @@ fn gen_tells_a_fault_of_the_sink(rt: HostRuntime) {
     let left = call(&rt, rt.alloc(), &["gen", "5"], b"", &[], (16, &[3]));
     leaves(
         &rt,
-        &left,
+        left,
         false,
         5,
         "hwp 1\ncpus 4\nframes 256\nkernel 0",
@@ -70,6 +76,8 @@ fn sum_tells_of_the_run_of_its_seed(rt: HostRuntime) {
     let first = sums(&rt, rt.alloc(), "7", front);
     let second = sums(&rt, rt.alloc(), "7", front);
     assert!(&rt; first.out.bytes() == second.out.bytes());
+    drop(second);
+    drop(first);
 }
 
 /// The script of the seed is run to its end, and its report is legal.
@@ -81,8 +89,10 @@ fn runs(rt: &impl Abort, alloc: Global, word: &str) {
     input
         .extend_from_slice(report.out.bytes())
         .expect(rt, "memory");
+    drop(report);
+    drop(script);
     let verdict = call(rt, alloc, &["check"], input.as_slice(), &[], (4096, &[]));
-    leaves(rt, &verdict, false, 0, "legal\n", "");
+    leaves(rt, verdict, false, 0, "legal\n", "");
 }
 
 #[test]
