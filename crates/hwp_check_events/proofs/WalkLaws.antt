@@ -26,6 +26,8 @@ use Rattle.hwp_check_event_line.specs.declared.Shown.{Shown}
 from-place : (seq : ℕ) (rows : List CpuLine) (place i : ℕ) (s : Shown) → slice_get (shown_from seq place rows) i ≡ Some s → place ≤ s.place
 from-place seq [] place i s there = absurd (none-some s there)
 from-place seq (rowkinds.Answer n answer ∷ rows) place i s there = let rest : place + 1 ≤ s.place = from-place seq rows (place + 1) i s there in omega (arith, rest)
+from-place seq (rowkinds.Offlined l ∷ rows) place i s there = let rest : place + 1 ≤ s.place = from-place seq rows (place + 1) i s there in omega (arith, rest)
+from-place seq (rowkinds.Guest l ∷ rows) place i s there = let rest : place + 1 ≤ s.place = from-place seq rows (place + 1) i s there in omega (arith, rest)
 from-place seq (rowkinds.Event line ∷ rows) place i s there = by (seq == line.seq) (from-place seq rows (place + 1)) i there
   where
     now : Shown
@@ -39,6 +41,8 @@ from-place seq (rowkinds.Event line ∷ rows) place i s there = by (seq == line.
 pub places-rise : (seq : ℕ) (rows : List CpuLine) (place i j : ℕ) (s t : Shown) → slice_get (shown_from seq place rows) i ≡ Some s → slice_get (shown_from seq place rows) j ≡ Some t → i ≤ j → s.place ≤ t.place
 places-rise seq [] place i j s t one other less = absurd (none-some s one)
 places-rise seq (rowkinds.Answer n answer ∷ rows) place i j s t one other less = places-rise seq rows (place + 1) i j s t one other less
+places-rise seq (rowkinds.Offlined l ∷ rows) place i j s t one other less = places-rise seq rows (place + 1) i j s t one other less
+places-rise seq (rowkinds.Guest l ∷ rows) place i j s t one other less = places-rise seq rows (place + 1) i j s t one other less
 places-rise seq (rowkinds.Event line ∷ rows) place i j s t one other less = by (seq == line.seq) (λ a b. places-rise seq rows (place + 1) a b s t) i j one other less
   where
     now : Shown
