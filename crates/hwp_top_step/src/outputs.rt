@@ -38,13 +38,22 @@ fn report_of<S: Source, W: Ways>(
     ensures fault { IsErrOf result InputFault.ReadFault → S.faults src.old < S.faults src.new }
 {
     let script = take_script(alloc, src)?;
-    let Ok(run) = run_in_turns::<W>(alloc, &script) else {
-        return Err(InputFault::OutOfMemory);
-    };
-    let Ok(text) = hwp_top_turns::print(alloc, &run.report) else {
-        return Err(InputFault::OutOfMemory);
-    };
-    Ok((run, text))
+    match run_in_turns::<W>(alloc, &script) {
+        Ok(run) => {
+            drop(script);
+            match hwp_top_turns::print(alloc, &run.report) {
+                Ok(text) => Ok((run, text)),
+                Err(_) => {
+                    drop(run);
+                    Err(InputFault::OutOfMemory)
+                }
+            }
+        }
+        Err(_) => {
+            drop(script);
+            Err(InputFault::OutOfMemory)
+        }
+    }
 }
 
 /// The output of `step`.
@@ -95,8 +104,10 @@ fn script_text(alloc: Global, seed: u64) -> Result<Output, InputFault>
         return Err(InputFault::OutOfMemory);
     };
     let Ok(text) = hwp_script::print(alloc, &script) else {
+        drop(script);
         return Err(InputFault::OutOfMemory);
     };
+    drop(script);
     Ok(Output {
         text,
         status: 0,
@@ -115,9 +126,12 @@ fn summed(alloc: Global, seed: u64) -> Result<Output, InputFault>
         return Err(InputFault::OutOfMemory);
     };
     let Ok(run) = run_in_turns::<Bare>(alloc, &script) else {
+        drop(script);
         return Err(InputFault::OutOfMemory);
     };
+    drop(script);
     let Ok(text) = hwp_report_summary::print(alloc, seed, &summary(&run.report)) else {
+        drop(run);
         return Err(InputFault::OutOfMemory);
     };
     Ok(Output {
