@@ -17,13 +17,22 @@ fn trace_of<S: Source>(alloc: Global, src: &mut S) -> Result<(Report, Text), Inp
     ensures fault { IsErrOf result InputFault.ReadFault → S.faults src.old < S.faults src.new }
 {
     let script = take_script(alloc, src)?;
-    let Ok(run) = trace(alloc, &script) else {
-        return Err(InputFault::OutOfMemory);
-    };
-    let Ok(text) = print(alloc, run.lines.as_slice()) else {
-        return Err(InputFault::OutOfMemory);
-    };
-    Ok((run.report, text))
+    match trace(alloc, &script) {
+        Ok(run) => {
+            drop(script);
+            match print(alloc, run.lines.as_slice()) {
+                Ok(text) => Ok((run.report, text)),
+                Err(_) => {
+                    drop(run);
+                    Err(InputFault::OutOfMemory)
+                }
+            }
+        }
+        Err(_) => {
+            drop(script);
+            Err(InputFault::OutOfMemory)
+        }
+    }
 }
 
 /// What is written: the trace of the script that a source gives.
