@@ -28,13 +28,22 @@ fn report_of<R: Threads + Wait + Sync, W: Ways + Send, S: Source, G: Gate + Sync
     ensures fault { IsErrOf result InputFault.ReadFault → S.faults src.old < S.faults src.new }
 {
     let script = take_script(alloc, src)?;
-    let Ok(run) = run_on_threads::<R, W, G>(rt, alloc, &script, gate) else {
-        return Err(InputFault::OutOfMemory);
-    };
-    let Ok(text) = hwp_top_threads::print(alloc, &run.report) else {
-        return Err(InputFault::OutOfMemory);
-    };
-    Ok((run, text))
+    match run_on_threads::<R, W, G>(rt, alloc, &script, gate) {
+        Ok(run) => {
+            drop(script);
+            match hwp_top_threads::print(alloc, &run.report) {
+                Ok(text) => Ok((run, text)),
+                Err(_) => {
+                    drop(run);
+                    Err(InputFault::OutOfMemory)
+                }
+            }
+        }
+        Err(_) => {
+            drop(script);
+            Err(InputFault::OutOfMemory)
+        }
+    }
 }
 
 /// The output of `run`.
