@@ -8,6 +8,7 @@ use Rattle.std.proofs.lemmas.List.Elements.{All-from_recursion, All-same, All-ge
 use Rattle.hwp_geom.specs.Limits.{number, line_limit, frame_limit, file_limit, thread_limit, page_limit, translation_limit}
 use Rattle.hwp_geom.specs.declared.Version.{Version}
 use Rattle.hwp_geom.specs.declared.Version.TheVariants as versions
+use Rattle.hwp_cec.specs.Limits.{threshold_limit, window_limit}
 use Rattle.hwp_script_lines.specs.Numbers.{IsNumber, IsNumberWord, IsRegister}
 use Rattle.hwp_script_lines.specs.Grammar.{bit, command_word, CommandFits, AreCommandWords, IsCommand, IsCommandOver, HaveNumbers, HasShape, handler_text, thread_keyword}
 use Rattle.hwp_script_lines.specs.declared.command.Command.{Command}
@@ -32,6 +33,10 @@ register_is w n (inr h) = ap (λ v. digits_value 16 (drop 2 v)) h.same ∙ sym h
 -- a number below one of the limits
 pub low : (n limit : ℕ) → n < limit → limit ≤ 2 ^ 16 → n < 2 ^ 64
 low n limit h k = omega arith
+
+-- and a number up to one
+pub low_to : (n limit : ℕ) → n ≤ limit → limit ≤ 2 ^ 16 → n < 2 ^ 64
+low_to n limit h k = omega arith
 
 bit_found : (b : Bool) (n : ℕ) → n ≡ bit b → (n == 1) ≡ b
 bit_found true n e = rw e refl
@@ -63,6 +68,7 @@ command_at words.Scrub ws = commands.Scrub (record { 0 = value ws 0 }) (record {
 command_at words.Inject ws = commands.Inject (record { 0 = value ws 0 })
 command_at words.Soft ws = commands.Soft (record { 0 = value ws 0 })
 command_at words.Unpoison ws = commands.Unpoison (record { 0 = value ws 0 })
+command_at words.Watch ws = commands.Watch (value ws 0) (value ws 1)
 command_at words.Prctl ws = commands.Prctl (record { 0 = value ws 0 }) (record { operation = value ws 1; arg2 = value ws 2; arg3 = value ws 3; arg4 = value ws 4; arg5 = value ws 5 })
 command_at words.Log ws = commands.Log (register_value (get_or ws 0 [])) (register_value (get_or ws 1 [])) (register_value (get_or ws 2 []))
 command_at words.Raise ws = cond (length ws == 4) (commands.RaiseUser (record { 0 = value ws 1 }) (value ws 2 == 1) (value ws 3 == 1)) (cond (length ws == 3) (commands.RaiseKernel (value ws 1 == 1) (value ws 2 == 1)) commands.RaiseNested)
@@ -125,6 +131,11 @@ command_found ws (commands.Scrub a b) h e =
     rw (
       value_is ws 0 a.0 (low a.0 frame_limit (omega (arith, h.0, h.1)) (omega arith)) (ap (λ us. get_or us 0 []) e),
       value_is ws 1 b.0 (low b.0 frame_limit h.1 (omega arith)) (ap (λ us. get_or us 1 []) e),
+    ) refl
+command_found ws (commands.Watch t w) h e =
+    rw (
+      value_is ws 0 t (low_to t threshold_limit h.1 (omega arith)) (ap (λ us. get_or us 0 []) e),
+      value_is ws 1 w (low_to w window_limit h.3 (omega arith)) (ap (λ us. get_or us 1 []) e),
     ) refl
 command_found ws (commands.Prctl t args) h e =
     rw (
@@ -248,6 +259,7 @@ no_user ws m n p h out (commands.Log s a l) j = absurd (cc j.kind)
 no_user ws m n p h out (commands.Inject f) j = absurd (cc j.kind)
 no_user ws m n p h out (commands.Soft f) j = absurd (cc j.kind)
 no_user ws m n p h out (commands.Unpoison f) j = absurd (cc j.kind)
+no_user ws m n p h out (commands.Watch t w) j = absurd (cc j.kind)
 
 -- the numbers behind `kernel`, where they are outside their ranges
 no_kernel : (ws : List (List ℕ)) (m n : ℕ) → (m < 2 ^ 64) × (n < 2 ^ 64) × (ws ≡ codes "kernel" ∷ decimal m ∷ decimal n ∷ [])
@@ -276,6 +288,7 @@ no_kernel ws m n h out (commands.Log s a l) j = absurd (cc j.kind)
 no_kernel ws m n h out (commands.Inject f) j = absurd (cc j.kind)
 no_kernel ws m n h out (commands.Soft f) j = absurd (cc j.kind)
 no_kernel ws m n h out (commands.Unpoison f) j = absurd (cc j.kind)
+no_kernel ws m n h out (commands.Watch t w) j = absurd (cc j.kind)
 
 pub over_user : (ws us : List (List ℕ)) (m n p : ℕ) → ws ≡ codes "user" ∷ us → (m < 2 ^ 64) × (n < 2 ^ 64) × (p < 2 ^ 64) × (us ≡ decimal m ∷ decimal n ∷ decimal p ∷ [])
     → (thread_limit ≤ m) ⊎ (1 < n) ⊎ (1 < p) → IsCommandOver words.Raise ws

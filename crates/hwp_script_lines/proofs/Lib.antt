@@ -13,3 +13,4 @@ pub mod LineUnique
 pub mod Shapes
 pub mod LineLaws
 pub use Rattle.hwp_geom.proofs as of_hwp_geom
+pub use Rattle.hwp_cec.proofs as of_hwp_cec

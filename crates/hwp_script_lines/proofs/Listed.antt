@@ -60,9 +60,9 @@ kind_listed kinds.ReportLost = (35, omega arith, refl)
 abbrev pub all_words : List CommandWord
 all_words =
     words.Load ∷ words.Fetch ∷ words.KLoad ∷ words.Store ∷ words.Free ∷ words.Drop ∷ words.Sync ∷ words.Out ∷ words.Fsync ∷ words.Open ∷ words.Prctl ∷
-    words.Bad ∷ words.Weak ∷ words.Scrub ∷ words.Log ∷ words.Raise ∷ words.Inject ∷ words.Soft ∷ words.Unpoison ∷ []
+    words.Bad ∷ words.Weak ∷ words.Scrub ∷ words.Log ∷ words.Raise ∷ words.Inject ∷ words.Soft ∷ words.Unpoison ∷ words.Watch ∷ []
 
-pub word_listed : (w : CommandWord) → (i : ℕ) × (i < 19) × (get_or all_words i words.Load ≡ w)
+pub word_listed : (w : CommandWord) → (i : ℕ) × (i < 20) × (get_or all_words i words.Load ≡ w)
 word_listed words.Load = (0, omega arith, refl)
 word_listed words.Fetch = (1, omega arith, refl)
 word_listed words.KLoad = (2, omega arith, refl)
@@ -82,6 +82,7 @@ word_listed words.Raise = (15, omega arith, refl)
 word_listed words.Inject = (16, omega arith, refl)
 word_listed words.Soft = (17, omega arith, refl)
 word_listed words.Unpoison = (18, omega arith, refl)
+word_listed words.Watch = (19, omega arith, refl)
 
 abbrev pub all_heads : List Keyword
 all_heads =

@@ -57,6 +57,7 @@ keyword_found (keywords.Command words.Raise) = refl
 keyword_found (keywords.Command words.Inject) = refl
 keyword_found (keywords.Command words.Soft) = refl
 keyword_found (keywords.Command words.Unpoison) = refl
+keyword_found (keywords.Command words.Watch) = refl
 
 -- first words of one text are one
 pub keyword_text_injective : (j k : Keyword) → keyword_text j ≡ keyword_text k → j ≡ k

@@ -13,6 +13,7 @@ use Rattle.hwp_geom.specs.Limits.{number, line_limit, frame_limit, file_limit, t
 use Rattle.hwp_geom.specs.Pairs.{Pairs}
 use Rattle.hwp_geom.specs.declared.Kind.{Kind}
 use Rattle.hwp_geom.specs.declared.Kind.TheVariants as kinds
+use Rattle.hwp_cec.specs.Limits.{threshold_limit, window_limit}
 use Rattle.hwp_script_lines.specs.Kinds.{kind_text}
 use Rattle.hwp_script_lines.specs.Numbers.{IsNumberWord, IsRegister, IsRegisterWord}
 use Rattle.hwp_script_lines.specs.Grammar.{bit, page_words, is_newer, keyword, keyword_text, command_word, command_text, rest_words, handler_text, Fits, CommandFits, AreRestWords, AreCommandWords, AreRegisters, IsTurn, IsTurnWord, HasTurnShape, pieces_of, IsForm, IsShaped, IsBadNumber, IsOverLimit, IsPrintable, HasShape, HasCommandShape, HasRaiseShape, HaveNumbers, HaveCommandNumbers}
@@ -29,7 +30,7 @@ use Rattle.hwp_script_lines.specs.declared.script_line.Backing.TheVariants as ba
 use Rattle.hwp_script_lines.specs.declared.command.Until.TheVariants as untils
 use Rattle.hwp_script_lines.specs.declared.keywords.Keyword.TheVariants as keywords
 use Rattle.hwp_script_lines.specs.declared.keywords.CommandWord.TheVariants as words
-use Rattle.hwp_script_lines.proofs.CommandLaws.{bit_low, version_low, low, one, two, three, four, six}
+use Rattle.hwp_script_lines.proofs.CommandLaws.{bit_low, version_low, low, low_to, one, two, three, four, six}
 use Rattle.hwp_script_lines.proofs.SentenceLaws.{first_words}
 use Rattle.hwp_script_lines.proofs.TurnLaws.{turn_word, shape-turn}
 
@@ -92,6 +93,7 @@ printable-keyword (keywords.Command words.Raise) = plain (command_text words.Rai
 printable-keyword (keywords.Command words.Inject) = plain (command_text words.Inject) refl
 printable-keyword (keywords.Command words.Soft) = plain (command_text words.Soft) refl
 printable-keyword (keywords.Command words.Unpoison) = plain (command_text words.Unpoison) refl
+printable-keyword (keywords.Command words.Watch) = plain (command_text words.Watch) refl
 
 printable-kind : (k : Kind) → All IsPrintable (kind_text k)
 printable-kind kinds.LoadPte = plain (kind_text kinds.LoadPte) refl
@@ -203,6 +205,7 @@ command_printable words.Scrub ws h shape = numbers_printable ws h
 command_printable words.Inject ws h shape = numbers_printable ws h
 command_printable words.Soft ws h shape = numbers_printable ws h
 command_printable words.Unpoison ws h shape = numbers_printable ws h
+command_printable words.Watch ws h shape = numbers_printable ws h
 
 -- the words of a command have its shape, and their numbers stand in place
 command_shaped : (ws : List (List ℕ)) (c : Command) → CommandFits c → AreCommandWords ws c → HaveCommandNumbers (command_word c) ws × HasCommandShape (command_word c) ws
@@ -227,6 +230,8 @@ command_shaped ws (commands.Bad f l) h e = (two ws f.0 l (low f.0 frame_limit h.
 command_shaped ws (commands.Weak f l) h e = (two ws f.0 l (low f.0 frame_limit h.0 (omega arith), low l line_limit h.1 (omega arith), e), ap length e)
 command_shaped ws (commands.Scrub a b) h e =
     (two ws a.0 b.0 (low a.0 frame_limit (omega (arith, h.0, h.1)) (omega arith), low b.0 frame_limit h.1 (omega arith), e), ap length e)
+command_shaped ws (commands.Watch t w) h e =
+    (two ws t w (low_to t threshold_limit h.1 (omega arith), low_to w window_limit h.3 (omega arith), e), ap length e)
 command_shaped ws (commands.Prctl t args) h e =
     (six ws t.0 args.operation args.arg2 args.arg3 args.arg4 args.arg5 (low t.0 thread_limit h.0 (omega arith), h.1, h.2, h.3, h.4, h.5, e), ap length e)
 command_shaped ws (commands.Log s a m) h e = (registers ws s a m e, e.three)

@@ -7,6 +7,7 @@ use Rattle.hwp_geom.specs.declared.VSlot.{VSlot}
 use Rattle.hwp_geom.specs.declared.Version.{Version}
 use Rattle.hwp_geom.specs.Pairs.{Pairs}
 use Rattle.hwp_geom.specs.Limits.{number, line_limit, cpu_limit, frame_limit, file_limit, thread_limit, page_limit, translation_limit}
+use Rattle.hwp_cec.specs.Limits.{threshold_limit, window_limit}
 use Rattle.hwp_script_lines.specs.Numbers.{IsNumberWord, IsRegister, IsRegisterWord, register}
 use Rattle.hwp_script_lines.specs.Kinds.{kind_text}
 use Rattle.hwp_script_lines.specs.declared.script_line.ScriptLine.{ScriptLine}
@@ -44,6 +45,7 @@ command_text words.Raise = codes "raise"
 command_text words.Inject = codes "inject"
 command_text words.Soft = codes "soft"
 command_text words.Unpoison = codes "unpoison"
+command_text words.Watch = codes "watch"
 
 -- the first word of a line
 abbrev pub keyword_text : Keyword → List ℕ
@@ -86,6 +88,7 @@ command_word commands.RaiseNested = words.Raise
 command_word (commands.Inject f) = words.Inject
 command_word (commands.Soft f) = words.Soft
 command_word (commands.Unpoison f) = words.Unpoison
+command_word (commands.Watch t w) = words.Watch
 
 -- which first word a line has
 abbrev pub keyword : ScriptLine → Keyword
@@ -187,6 +190,7 @@ command_words commands.RaiseNested = codes "nested" ∷ []
 command_words (commands.Inject f) = decimal f.0 ∷ []
 command_words (commands.Soft f) = decimal f.0 ∷ []
 command_words (commands.Unpoison f) = decimal f.0 ∷ []
+command_words (commands.Watch t w) = decimal t ∷ decimal w ∷ []
 
 -- whether a thread has a handler, as its last word says it
 abbrev pub handler_text : Bool → List ℕ
@@ -239,6 +243,10 @@ form_words f = keyword_text (keyword f) ∷ rest_words f
 abbrev pub IsAccessWithin : Thread → VSlot → ℕ → Type 0
 IsAccessWithin t v l = (t.0 < thread_limit) × (v.0 < translation_limit) × (l < line_limit)
 
+-- a collector has a threshold and a window that there may be
+abbrev pub IsCollectorWithin : ℕ → ℕ → Type 0
+IsCollectorWithin t w = (1 ≤ t) × (t ≤ threshold_limit) × (1 ≤ w) × (w ≤ window_limit)
+
 -- each number of a command is within its range
 abbrev pub CommandFits : Command → Type 0
 CommandFits (commands.Load t v l) = IsAccessWithin t v l
@@ -262,6 +270,7 @@ CommandFits commands.RaiseNested = Unit {0}
 CommandFits (commands.Inject f) = f.0 < frame_limit
 CommandFits (commands.Soft f) = f.0 < frame_limit
 CommandFits (commands.Unpoison f) = f.0 < frame_limit
+CommandFits (commands.Watch t w) = IsCollectorWithin t w
 
 -- the numbers of a declaration are below 2 ^ 64, those of a command are within their ranges, and a schedule has a word
 abbrev pub Fits : ScriptLine → Type 0
@@ -348,6 +357,7 @@ HasCommandShape words.Raise ws = HasRaiseShape ws
 HasCommandShape words.Inject ws = length ws ≡ 1
 HasCommandShape words.Soft ws = length ws ≡ 1
 HasCommandShape words.Unpoison ws = length ws ≡ 1
+HasCommandShape words.Watch ws = length ws ≡ 2
 
 -- the fixed words of a page are in place: nothing stands behind it, or a file
 abbrev pub HasPageShape : List (List ℕ) → Type 0
@@ -444,6 +454,7 @@ pub record IsShaped (ws : List (List ℕ)) : Type 0 where
 -- the first words of commands that version Two alone has
 abbrev pub is_newer_word : CommandWord → Bool
 is_newer_word words.Open = true
+is_newer_word words.Watch = true
 is_newer_word w = false
 
 -- a keyword with so many words behind it has a form in version Two alone

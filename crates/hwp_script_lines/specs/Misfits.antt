@@ -69,6 +69,7 @@ number_count words.Store = 4
 number_count words.Bad = 2
 number_count words.Weak = 2
 number_count words.Scrub = 2
+number_count words.Watch = 2
 number_count words.Prctl = 6
 number_count w = 1
 
@@ -104,6 +105,10 @@ is_frame_word words.Soft = true
 is_frame_word words.Unpoison = true
 is_frame_word w = false
 
+-- a new collector of this threshold and window
+abbrev pub watch : ℕ → ℕ → Command
+watch threshold window = commands.Watch threshold window
+
 -- the command of a first word behind which these numbers stand; a log and a raise have others
 abbrev pub command_with : CommandWord → List ℕ → Command
 command_with words.Load ns = commands.Load (record { 0 = get_or ns 0 0 }) (record { 0 = get_or ns 1 0 }) (get_or ns 2 0)
@@ -125,6 +130,7 @@ command_with words.Raise ns = commands.RaiseNested
 command_with words.Inject ns = commands.Inject (record { 0 = get_or ns 0 0 })
 command_with words.Soft ns = commands.Soft (record { 0 = get_or ns 0 0 })
 command_with words.Unpoison ns = commands.Unpoison (record { 0 = get_or ns 0 0 })
+command_with words.Watch ns = watch (get_or ns 0 0) (get_or ns 1 0)
 
 -- the lines behind whose first word just one number stands
 abbrev pub has_one_number : Keyword → Bool

@@ -113,6 +113,12 @@ pub enum Command {
     Unpoison {
         frame: Frame,
     },
+    /// The processor gets a new collector of corrected errors, which is to take a frame out of use when `threshold` of them are noted of
+    /// it within the last `window` rounds.
+    Watch {
+        threshold: u16,
+        window: u8,
+    },
 }
 
 /// How long a processor goes on, in a word of a schedule.

@@ -1,12 +1,13 @@
 ghost use Rattle.std.specs.Prelude.{◌≡◌, ◌≢◌, ◌<◌, ◌≤◌, ◌⊎◌, ◌∷◌, map, codes, true, MatchOption, MatchResult};
 ghost use Rattle.hwp_geom.specs.Limits.{line_limit, frame_limit, file_limit, thread_limit, page_limit, translation_limit};
-ghost use Rattle.hwp_script_lines.specs.Grammar.{bit, CommandFits, IsAccessWithin, IsCommand, raise_word};
-ghost use Rattle.hwp_script_lines.specs.Misfits.{IsCommandMisfit, command_with, is_access_word, is_frame_word, is_page_word, log_word};
+ghost use Rattle.hwp_script_lines.specs.Grammar.{bit, CommandFits, IsAccessWithin, IsCollectorWithin, IsCommand, raise_word};
+ghost use Rattle.hwp_script_lines.specs.Misfits.{IsCommandMisfit, command_with, is_access_word, is_frame_word, is_page_word, log_word, watch};
 
 use crate::command::{Command, PrctlArgs};
 use crate::keywords::CommandWord;
 use crate::numbers::{Misfit, read_numbers, three_registers};
 use crate::words::is_text;
+use hwp_cec::{MAX_THRESHOLD, MAX_WINDOW};
 use hwp_geom::{
     FileNo, Frame, LINES, Line, MAX_FILES, MAX_FRAMES, MAX_PAGES, MAX_THREADS, MAX_TRANS, Page,
     Thread, VSlot,
@@ -100,6 +101,19 @@ fn range_of(first: u64, last: u64) -> Option<(Frame, Frame)>
     }
     let last = frame_of(last)?;
     Some((Frame(first as u16), last))
+}
+
+/// The threshold and the window of a collector.
+fn collector_of(threshold: u64, window: u64) -> Option<(u16, u8)>
+    ensures { MatchOption result (IsCollectorWithin threshold window → ⊥) (λ c. (c.0 ≡ threshold) × (c.1 ≡ window) × IsCollectorWithin threshold window) }
+{
+    if threshold < 1 || threshold > u64::from(MAX_THRESHOLD) {
+        return None;
+    }
+    if window < 1 || window > u64::from(MAX_WINDOW) {
+        return None;
+    }
+    Some((threshold as u16, window as u8))
 }
 
 /// The truth value that is written as this number, if it is one.
@@ -268,6 +282,14 @@ fn frame_with(word: CommandWord, numbers: [u64; 6]) -> Option<Command>
     }
 }
 
+/// The collector of this threshold and window, if both are within their ranges.
+fn watch_with(threshold: u64, window: u64) -> Option<Command>
+    ensures { MatchOption result (CommandFits (watch threshold window) → ⊥) (λ c. (c ≡ watch threshold window) × CommandFits (watch threshold window)) }
+{
+    let (threshold, window) = collector_of(threshold, window)?;
+    Some(Command::Watch { threshold, window })
+}
+
 /// The command of this first word behind which these numbers stand, if each is within its range.
 fn command_with(word: CommandWord, numbers: [u64; 6]) -> Option<Command>
     requires { (word ≢ log_word) × (word ≢ raise_word) }
@@ -301,6 +323,7 @@ fn command_with(word: CommandWord, numbers: [u64; 6]) -> Option<Command>
         | CommandWord::Inject
         | CommandWord::Soft
         | CommandWord::Unpoison => frame_with(word, numbers),
+        CommandWord::Watch => watch_with(numbers[0], numbers[1]),
         CommandWord::Log | CommandWord::Raise => unreachable!(),
     }
 }

@@ -48,10 +48,11 @@ pub(crate) enum CommandWord {
     Inject,
     Soft,
     Unpoison,
+    Watch,
 }
 
 /// The first words of all commands.
-const COMMAND_WORDS: [CommandWord; 19] = [
+const COMMAND_WORDS: [CommandWord; 20] = [
     CommandWord::Load,
     CommandWord::Fetch,
     CommandWord::KLoad,
@@ -71,6 +72,7 @@ const COMMAND_WORDS: [CommandWord; 19] = [
     CommandWord::Inject,
     CommandWord::Soft,
     CommandWord::Unpoison,
+    CommandWord::Watch,
 ];
 
 /// The first words of all other lines.
@@ -116,6 +118,7 @@ impl CommandWord {
             CommandWord::Inject => "inject",
             CommandWord::Soft => "soft",
             CommandWord::Unpoison => "unpoison",
+            CommandWord::Watch => "watch",
         }
     }
 
@@ -123,7 +126,7 @@ impl CommandWord {
     fn is_newer(self) -> bool
         ensures { result ≡ is_newer_word self }
     {
-        matches!(self, CommandWord::Open)
+        matches!(self, CommandWord::Open | CommandWord::Watch)
     }
 
     /// How many numbers stand behind the word, where only numbers do.
@@ -134,7 +137,7 @@ impl CommandWord {
         match self {
             CommandWord::Load | CommandWord::Fetch | CommandWord::KLoad => 3,
             CommandWord::Store => 4,
-            CommandWord::Bad | CommandWord::Weak | CommandWord::Scrub => 2,
+            CommandWord::Bad | CommandWord::Weak | CommandWord::Scrub | CommandWord::Watch => 2,
             CommandWord::Prctl => 6,
             _ => 1,
         }
