@@ -128,6 +128,7 @@ not_undeclared c commands.RaiseNested a h e = e
 not_undeclared c (commands.Inject f) a h e = frame_named f.0 a h e
 not_undeclared c (commands.Soft f) a h e = frame_named f.0 a h e
 not_undeclared c (commands.Unpoison f) a h e = frame_named f.0 a h e
+not_undeclared c (commands.Watch t w) a h e = e
 
 -- a command stands in the list of its thread's processor
 at_home : (c : ℕ) (P : ThreadDecl → Type 0) (o : Option ThreadDecl) → ((t : ThreadDecl) → P t → t.cpu.0 ≡ c) → IsSomeAnd o P → IsElsewhere (Some c) o → ⊥
@@ -179,6 +180,7 @@ command_fits l c commands.RaiseNested s h w = tt
 command_fits l c (commands.Inject f) s h w = below f.0 l.frames frame_limit h s.frames
 command_fits l c (commands.Soft f) s h w = below f.0 l.frames frame_limit h s.frames
 command_fits l c (commands.Unpoison f) s h w = below f.0 l.frames frame_limit h s.frames
+command_fits l c (commands.Watch t w) s h k = h
 
 -- nor is one beyond the limits of the version
 not_over : (n m limit : ℕ) → n < m → m ≤ limit → limit ≤ n → ⊥

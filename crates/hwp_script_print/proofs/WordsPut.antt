@@ -14,6 +14,7 @@ use Rattle.hwp_script_read.specs.hwp_geom.declared.Version.TheVariants as versio
 use Rattle.hwp_script_read.specs.hwp_geom.declared.Kind.{Kind}
 use Rattle.hwp_script_read.specs.hwp_geom.declared.Kind.TheVariants as kinds
 use Rattle.hwp_script_read.proofs.of_hwp_geom.WordsPut.{IsHigh, IsPut, ArePut, put_append, put_decimal, put_hex, are_fixed, fixed_high, fixed, then, nothing}
+use Rattle.hwp_script_read.specs.hwp_script_lines.hwp_cec.Limits.{threshold_limit, window_limit}
 use Rattle.hwp_script_read.specs.hwp_script_lines.Kinds.{kind_text}
 use Rattle.hwp_script_read.specs.hwp_script_lines.Numbers.{register}
 use Rattle.hwp_script_read.specs.hwp_script_lines.Grammar.{bit, keyword, keyword_text, command_words, rest_words, form_words, locked_words, handler_text, turn_text, until_text, Fits, CommandFits}
@@ -26,7 +27,7 @@ use Rattle.hwp_script_read.specs.hwp_script_lines.declared.ScriptLine.TheVariant
 use Rattle.hwp_script_read.specs.hwp_script_lines.declared.Command.TheVariants as commands
 use Rattle.hwp_script_read.specs.hwp_script_lines.declared.Backing.TheVariants as backings
 use Rattle.hwp_script_read.specs.hwp_script_lines.declared.Until.TheVariants as untils
-use Rattle.hwp_script_read.proofs.of_hwp_script_lines.CommandLaws.{bit_low, low}
+use Rattle.hwp_script_read.proofs.of_hwp_script_lines.CommandLaws.{bit_low, low, low_to}
 
 -- not `@`
 abbrev pub IsNoAt : ℕ → Type 0
@@ -96,6 +97,7 @@ put_first (forms.Command commands.RaiseNested) = fixed _ _ refl
 put_first (forms.Command (commands.Inject f)) = fixed _ _ refl
 put_first (forms.Command (commands.Soft f)) = fixed _ _ refl
 put_first (forms.Command (commands.Unpoison f)) = fixed _ _ refl
+put_first (forms.Command (commands.Watch t w)) = fixed _ _ refl
 
 -- whether a name of a kind of step is a fixed word without `@`
 fixed_kind : (k : Kind) → (are_fixed (kind_text k) && has_no_at (kind_text k)) ≡ true
@@ -176,6 +178,7 @@ put_command (commands.Unpoison f) h = then (put_decimal f.0 (low f.0 frame_limit
 put_command (commands.Bad f l) h = then (put_decimal f.0 (low f.0 frame_limit h.0 (omega arith))) (then (put_decimal l (low l line_limit h.1 (omega arith))) nothing)
 put_command (commands.Weak f l) h = then (put_decimal f.0 (low f.0 frame_limit h.0 (omega arith))) (then (put_decimal l (low l line_limit h.1 (omega arith))) nothing)
 put_command (commands.Scrub a b) h = then (put_decimal a.0 (low a.0 frame_limit (omega (arith, h.0, h.1)) (omega arith))) (then (put_decimal b.0 (low b.0 frame_limit h.1 (omega arith))) nothing)
+put_command (commands.Watch t w) h = then (put_decimal t (low_to t threshold_limit h.1 (omega arith))) (then (put_decimal w (low_to w window_limit h.3 (omega arith))) nothing)
 put_command (commands.Prctl t args) h =
     then (put_decimal t.0 (low t.0 thread_limit h.0 (omega arith))) (then (put_decimal args.operation h.1) (then (put_decimal args.arg2 h.2) (then (put_decimal args.arg3 h.3) (then (put_decimal args.arg4 h.4) (then (put_decimal args.arg5 h.5) nothing)))))
 put_command (commands.Log s a m) h = then (put_register s h.0) (then (put_register a h.1) (then (put_register m h.2) nothing))

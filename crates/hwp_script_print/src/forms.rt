@@ -121,6 +121,7 @@ fn put_command(out: &mut String, command: &Command) -> Result<(), OutOfMemory>
         Command::Inject { frame } => put_short(out, "inject", frame.0),
         Command::Soft { frame } => put_short(out, "soft", frame.0),
         Command::Unpoison { frame } => put_short(out, "unpoison", frame.0),
+        Command::Watch { threshold, window } => put_watch(out, threshold, window),
     }
 }
 
@@ -178,6 +179,12 @@ fn put_scrub(out: &mut String, first: Frame, last: Frame) -> Result<(), OutOfMem
     ensures { OnOk result (string_bytes out.new ≡ string_bytes out.old ++ line (codes "scrub" ∷ decimal first.0 ∷ decimal last.0 ∷ [])) }
 {
     writeln!(out, "scrub {} {}", first.0, last.0)
+}
+
+fn put_watch(out: &mut String, threshold: u16, window: u8) -> Result<(), OutOfMemory>
+    ensures { OnOk result (string_bytes out.new ≡ string_bytes out.old ++ line (codes "watch" ∷ decimal threshold ∷ decimal window ∷ [])) }
+{
+    writeln!(out, "watch {threshold} {window}")
 }
 
 fn put_log(out: &mut String, status: u64, addr: u64, misc: u64) -> Result<(), OutOfMemory>

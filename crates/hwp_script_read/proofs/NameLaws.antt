@@ -122,6 +122,7 @@ command_kept l m c g commands.RaiseNested h = tt
 command_kept l m c g (commands.Inject f) h = omega (arith, g.frames)
 command_kept l m c g (commands.Soft f) h = omega (arith, g.frames)
 command_kept l m c g (commands.Unpoison f) h = omega (arith, g.frames)
+command_kept l m c g (commands.Watch t w) h = h
 
 -- a page that is backed stays so
 pub backed_kept : (l m : Layout) → l.files ≤ m.files → (q : PageKind) → IsBacked l q → IsBacked m q
@@ -184,3 +185,4 @@ command_valid above commands.RaiseNested c place e fits named here = tt
 command_valid above (commands.Inject f) c place e fits named here = omega arith
 command_valid above (commands.Soft f) c place e fits named here = omega arith
 command_valid above (commands.Unpoison f) c place e fits named here = omega arith
+command_valid above (commands.Watch t w) c place e fits named here = fits

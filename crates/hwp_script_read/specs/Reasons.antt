@@ -61,6 +61,7 @@ IsUndeclared above commands.RaiseNested = ⊥
 IsUndeclared above (commands.Inject f) = frames_in above ≤ f.0
 IsUndeclared above (commands.Soft f) = frames_in above ≤ f.0
 IsUndeclared above (commands.Unpoison f) = frames_in above ≤ f.0
+IsUndeclared above (commands.Watch t w) = ⊥
 
 -- the thread that a command is of
 abbrev pub actor : Command → Option ℕ
@@ -96,6 +97,7 @@ top_cpu (w ∷ ws) = max w.cpu.0 (top_cpu ws)
 -- a command that version Two alone has
 abbrev pub IsNewer : Command → Type 0
 IsNewer (commands.Open n) = Unit {0}
+IsNewer (commands.Watch t w) = Unit {0}
 IsNewer c = ⊥
 
 -- a command names what there can't be in the version; its lines, threads and files are within limits that all versions have

@@ -11,6 +11,7 @@ use Rattle.hwp_geom.specs.declared.TransDecl.{TransDecl}
 use Rattle.hwp_geom.specs.declared.PageKind.{PageKind}
 use Rattle.hwp_geom.specs.declared.PageKind.TheVariants as kinds
 use Rattle.hwp_script_read.specs.declared.script.Script.{Script}
+use Rattle.hwp_script_lines.specs.Grammar.{IsCollectorWithin}
 use Rattle.hwp_script_lines.specs.declared.Go.{Go}
 use Rattle.hwp_script_lines.specs.declared.Command.{Command}
 use Rattle.hwp_script_lines.specs.declared.Command.TheVariants as commands
@@ -37,7 +38,7 @@ abbrev pub IsAnon : PageKind → Type 0
 IsAnon kinds.Anon = Unit {0}
 IsAnon (kinds.File file fill) = ⊥
 
--- the names of a command of the processor are declared, and fit one another
+-- the names of a command of the processor are declared, and fit one another; the numbers of a collector are within their ranges
 abbrev pub IsCommandOf : Layout → ℕ → Command → Type 0
 IsCommandOf layout cpu (commands.Load thread slot line) = IsAccess layout cpu thread slot × (line < line_limit)
 IsCommandOf layout cpu (commands.Fetch thread slot line) = IsAccess layout cpu thread slot × (line < line_limit)
@@ -60,6 +61,7 @@ IsCommandOf layout cpu commands.RaiseNested = Unit {0}
 IsCommandOf layout cpu (commands.Inject frame) = frame.0 < layout.frames
 IsCommandOf layout cpu (commands.Soft frame) = frame.0 < layout.frames
 IsCommandOf layout cpu (commands.Unpoison frame) = frame.0 < layout.frames
+IsCommandOf layout cpu (commands.Watch threshold window) = IsCollectorWithin threshold window
 
 -- the lists from processor number `cpu` on have commands of their processors
 abbrev pub AreLists : Layout → ℕ → List (List Command) → Type 0
@@ -83,7 +85,7 @@ pub record IsOlder (script : Script) : Type 0 where
   pub unlocked : All (λ (l : Bool). l ≡ false) script.layout.locked
   pub commands : All (All (λ (c : Command). IsNewer c → ⊥)) script.lists
 
--- a script that some text gives: in version One it has no `open` and no locked page; its layout is sound, it has a list of each processor's commands, and a schedule of
+-- a script that some text gives: in version One it has no `open`, no `watch` and no locked page; its layout is sound, it has a list of each processor's commands, and a schedule of
 -- its processors
 pub record IsValid (script : Script) : Type 0 where
   pub older : script.layout.version ≡ versions.One → IsOlder script

@@ -62,7 +62,10 @@ fn is_undeclared(summary: &Summary, above: &[ScriptLine], command: &Command) -> 
         }
         Command::Bad { frame, .. } | Command::Weak { frame, .. } => frame.0 >= frames,
         Command::Scrub { first, last } => first.0 >= frames || last.0 >= frames,
-        Command::Log { .. } | Command::RaiseKernel { .. } | Command::RaiseNested => false,
+        Command::Log { .. }
+        | Command::RaiseKernel { .. }
+        | Command::RaiseNested
+        | Command::Watch { .. } => false,
         Command::Inject { frame } | Command::Soft { frame } | Command::Unpoison { frame } => {
             frame.0 >= frames
         }
@@ -73,7 +76,7 @@ fn is_undeclared(summary: &Summary, above: &[ScriptLine], command: &Command) -> 
 fn is_newer(command: &Command) -> bool
     ensures { IsTrue result ↔ IsNewer command.now }
 {
-    matches!(command, Command::Open { .. })
+    matches!(command, Command::Open { .. } | Command::Watch { .. })
 }
 
 /// Whether a command names what there can't be in the version of the lines.
