@@ -1,5 +1,5 @@
 -- When the answers of a report are those of the script's commands.
-use Rattle.std.specs.Prelude.{◌≡◌, ℕ, ◌+◌, ◌*◌, ◌==◌, Bool, true, false, ◌||◌, cond, nat_lt, List, [], ◌∷◌, flat_map, Option, Some, None, length, slice_get, filter_map, IsSome, IsSomeAnd, IsTrue}
+use Rattle.std.specs.Prelude.{◌≡◌, ℕ, ◌+◌, ◌*◌, ◌==◌, Bool, true, false, ◌||◌, cond, nat_lt, List, [], ◌∷◌, flat_map, Option, Some, None, length, slice_get, filter_map, IsSome, IsSomeAnd, IsTrue, if◌then◌else◌}
 use Rattle.std.specs.List.{list_any}
 use Rattle.hwp_law_commands.specs.hwp_geom.declared.Cpu.{Cpu}
 use Rattle.hwp_law_commands.specs.hwp_geom.declared.Who.{Who}
@@ -24,21 +24,23 @@ use Rattle.hwp_law_commands.specs.hwp_report_text.declared.Stop.{Stop}
 use Rattle.hwp_law_commands.specs.hwp_report_text.Offlines.{offline_answer}
 use Rattle.hwp_law_commands.specs.hwp_report_text.declared.CpuLine.{CpuLine}
 use Rattle.hwp_law_commands.specs.hwp_report_text.declared.CpuLine.TheVariants as lines
+use Rattle.hwp_law_commands.specs.Commands.{has_watch}
 use Rattle.hwp_law.specs.Lines.{seq_of}
 use Rattle.hwp_law.specs.Places.{entry_at}
 use Rattle.hwp_law.specs.States.{HadState, IsInWindow, entry_named, state_named}
 
--- the frame that a command names to go bad, to fail or to go out of use
-abbrev pub frame_named : Command → Option ℕ
-frame_named (commands.Bad frame line) = Some frame.0
-frame_named (commands.Inject frame) = Some frame.0
-frame_named (commands.Soft frame) = Some frame.0
-frame_named (commands.Log status addr misc) = Some (frame_at addr)
-frame_named _ = None
+-- the frame that a command names to go bad, to fail or to go out of use; where the script has a `watch`, also one that it makes weak
+abbrev pub frame_named : Bool → Command → Option ℕ
+frame_named watches (commands.Bad frame line) = Some frame.0
+frame_named watches (commands.Weak frame line) = if watches then Some frame.0 else None
+frame_named watches (commands.Inject frame) = Some frame.0
+frame_named watches (commands.Soft frame) = Some frame.0
+frame_named watches (commands.Log status addr misc) = Some (frame_at addr)
+frame_named watches _ = None
 
 -- the frames that the commands of the script name
 abbrev pub named_frames : Script → List ℕ
-named_frames script = flat_map (filter_map frame_named) script.lists
+named_frames script = flat_map (filter_map (frame_named (has_watch script))) script.lists
 
 -- how many of these frames, from number n on, are neither the kernel's nor named
 abbrev pub usable_from : List ℕ → ℕ → List Bool → ℕ
@@ -95,6 +97,7 @@ IsAnswer script pages stop who (commands.Out page) answer = IsPageAnswer script.
 IsAnswer script pages stop who (commands.Fsync file) answers.Done = Unit {0}
 IsAnswer script pages stop who (commands.Open file) (answers.Opened lost) = Unit {0}
 IsAnswer script pages stop who (commands.Log status addr misc) answers.Done = Unit {0}
+IsAnswer script pages stop who (commands.Watch threshold window) answers.Done = Unit {0}
 IsAnswer script pages stop who _ _ = ⊥
 
 -- an entry that a line of its command has to name

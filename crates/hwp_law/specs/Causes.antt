@@ -1,5 +1,5 @@
 -- What stands in a report for each answer.
-use Rattle.std.specs.Prelude.{◌≡◌, ◌≢◌, ℕ, ◌+◌, ◌<◌, Bool, true, false, List, [], ◌∷◌, Some, length, bit_and, ◌||◌, IsSome, IsSomeAnd, Any}
+use Rattle.std.specs.Prelude.{◌≡◌, ◌≢◌, ℕ, ◌+◌, ◌<◌, Bool, true, false, List, [], ◌∷◌, Some, length, bit_and, IsSome, IsSomeAnd, Any}
 use Rattle.std.specs.List.{list_any}
 use Rattle.hwp_law_commands.specs.hwp_geom.Layout.{is_locked}
 use Rattle.hwp_law_commands.specs.hwp_geom.declared.Cpu.{Cpu}
@@ -26,7 +26,6 @@ use Rattle.hwp_law_commands.specs.hwp_report_text.declared.Answer.{Answer}
 use Rattle.hwp_law_commands.specs.hwp_report_text.declared.Answer.TheVariants as answers
 use Rattle.hwp_law_commands.specs.hwp_report_text.declared.CpuLine.{CpuLine}
 use Rattle.hwp_law_commands.specs.hwp_report_text.declared.CpuLine.TheVariants as lines
-use Rattle.hwp_law_commands.specs.hwp_report_text.declared.EventLine.{EventLine}
 use Rattle.hwp_law_commands.specs.hwp_report_text.declared.FrameLine.{FrameLine}
 use Rattle.hwp_law_commands.specs.hwp_report_text.declared.How.{How}
 use Rattle.hwp_law_commands.specs.hwp_report_text.declared.How.TheVariants as hows
@@ -35,8 +34,8 @@ use Rattle.hwp_law_commands.specs.hwp_report_text.declared.MarkLine.TheVariants 
 use Rattle.hwp_law_commands.specs.hwp_report_text.declared.Report.{Report}
 use Rattle.hwp_law_commands.specs.Outcomes.{reply_answer}
 use Rattle.hwp_law.specs.Answers.{IsAnswer, StandsAt, is_ample}
-use Rattle.hwp_law_commands.specs.hwp_report_text.Acts.{is_panic, is_stopping}
 use Rattle.hwp_law_commands.specs.Commands.{current_thread, is_kernels}
+use Rattle.hwp_law_commands.specs.Notes.{ends_machine}
 use Rattle.hwp_law.specs.Endings.{IsGone}
 use Rattle.hwp_law.specs.Lines.{bad_lines_of, events_of, marks_of}
 use Rattle.hwp_law.specs.Places.{entry_at}
@@ -159,18 +158,22 @@ IsCaused script report who (commands.Soft frame) answer = (is_kernels script.lay
 IsCaused script report who (commands.Unpoison frame) answer = IsUnpoisonAnswer report who frame answer
 IsCaused script report who command answer = IsAnswer script report.pages report.stop who command answer
 
--- an event line of the command stopped the machine, or was a panic
-abbrev pub ends_machine : EventLine → Bool
-ends_machine line = is_stopping line.acted || is_panic line.acted
-
 -- after such a line the command answers `stopped`
 abbrev pub IsHeeded : Report → Who → Answer → Type 0
 IsHeeded report who answer = list_any ends_machine (events_of report who) ≡ true → answer ≡ answers.Stopped
 
--- the commands from number n on have exactly one answer each, in order, after their event lines, and the report shows its cause
+-- the next line isn't that of an event
+abbrev pub IsPastEvents : List CpuLine → Type 0
+IsPastEvents (lines.Event event ∷ rest) = ⊥
+IsPastEvents _ = Unit {0}
+
+-- the commands from number n on have exactly one answer each, in order, and the report shows its cause. Before it stand first the
+-- command's event lines, and then those of frames that it took out of use
 abbrev pub AreCaused : Script → Report → Cpu → ℕ → List Command → List CpuLine → Type 0
 AreCaused script report cpu n [] [] = Unit {0}
 AreCaused script report cpu n (command ∷ commands) (lines.Event event ∷ rest) = (event.seq ≡ n) × AreCaused script report cpu n (command ∷ commands) rest
+AreCaused script report cpu n (command ∷ commands) (lines.Offlined line ∷ rest) =
+    (line.seq ≡ n) × IsPastEvents rest × AreCaused script report cpu n (command ∷ commands) rest
 AreCaused script report cpu n (command ∷ commands) (lines.Answer seq answer ∷ rest) =
     (seq ≡ n) × IsCaused script report (record { cpu = cpu; seq = n }) command answer × IsHeeded report (record { cpu = cpu; seq = n }) answer × AreCaused script report cpu (n + 1) commands rest
 AreCaused script report cpu n _ _ = ⊥

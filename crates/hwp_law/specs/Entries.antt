@@ -11,7 +11,7 @@ use Rattle.hwp_law_commands.specs.hwp_page.declared.What.TheVariants as entries
 use Rattle.hwp_law_commands.specs.hwp_script_read.declared.Command.{Command}
 use Rattle.hwp_law_commands.specs.hwp_script_read.declared.Command.TheVariants as commands
 use Rattle.hwp_law_commands.specs.hwp_script_read.declared.Script.{Script}
-use Rattle.hwp_law_commands.specs.Commands.{Access, access_of, can_fail, command_at, current_thread}
+use Rattle.hwp_law_commands.specs.Commands.{Access, access_of, can_fail, can_offline, command_at, current_thread, has_watch}
 use Rattle.hwp_law.specs.History.{Fits, Names}
 use Rattle.hwp_law.specs.Places.{entry_at}
 
@@ -23,12 +23,14 @@ IsAccessAt slot line a = (a.slot ≡ slot) × (a.line ≡ line)
 abbrev pub IsRequiredBy : Command → Option Thread → Type 0
 IsRequiredBy command required = (required ≡ None) ⊎ (required ≡ current_thread command)
 
--- the entry is of a kind that the command makes, with the command's numbers
-abbrev pub Makes : Command → What → Type 0
-Makes command (entries.Mce slot line mask) = IsSomeAnd (access_of command) (IsAccessAt slot line)
-Makes command (entries.Fail situation required seen signals) = (can_fail command ≡ true) × IsRequiredBy command required
-Makes (commands.Soft frame) entries.Soft = Unit {0}
-Makes command what = Fits command what
+-- the entry is of a kind that the command makes, with the command's numbers. A frame goes out of use by `soft`; where the script has a
+-- `watch`, also beside the answer of a command
+abbrev pub Makes : Script → Command → What → Type 0
+Makes script command (entries.Mce slot line mask) = IsSomeAnd (access_of command) (IsAccessAt slot line)
+Makes script command (entries.Fail situation required seen signals) = (can_fail command ≡ true) × IsRequiredBy command required
+Makes script (commands.Soft frame) entries.Soft = Unit {0}
+Makes script command entries.Soft = (has_watch script ≡ true) × (can_offline command ≡ true)
+Makes script command what = Fits command what
 
 -- the page is the one that the command names; a failure and a soft offline meet the page that is in their frame
 abbrev pub CanStandIn : Layout → Command → Page → What → Type 0
@@ -38,7 +40,7 @@ CanStandIn layout command page what = Names layout command page
 
 -- the entry is one that its command makes, in a page where it can stand
 abbrev pub IsMadeBy : Script → Page → Entry → Type 0
-IsMadeBy script page e = IsSomeAnd (command_at script e.who) (λ (command : Command). Makes command e.what × CanStandIn script.layout command page e.what)
+IsMadeBy script page e = IsSomeAnd (command_at script e.who) (λ (command : Command). Makes script command e.what × CanStandIn script.layout command page e.what)
 
 -- each entry is one that its command makes
 abbrev pub AreMadeBy : Script → List (List Entry) → Type 0

@@ -10,6 +10,7 @@ use Rattle.hwp_law_commands.specs.hwp_script_read.declared.Script.{Script}
 use Rattle.hwp_law_commands.specs.hwp_report_text.declared.CpuLine.{CpuLine}
 use Rattle.hwp_law_commands.specs.hwp_report_text.declared.FrameLine.{FrameLine}
 use Rattle.hwp_law_commands.specs.hwp_report_text.declared.Report.{Report}
+use Rattle.hwp_law_commands.specs.Commands.{command_at}
 use Rattle.hwp_law.specs.Answers.{AreInWindows, AreNamed}
 use Rattle.hwp_law.specs.Causes.{AreCaused}
 use Rattle.hwp_law.specs.Events.{AreEvents}
@@ -20,6 +21,7 @@ use Rattle.hwp_law.specs.Halts.{StopAgrees}
 use Rattle.hwp_law.specs.History.{AreOrdered}
 use Rattle.hwp_law.specs.Losses.{LossesAgree}
 use Rattle.hwp_law.specs.Pairings.{AreRecorded}
+use Rattle.hwp_law.specs.Offlined.{AreOfflined}
 use Rattle.hwp_law.specs.PageHistory.{IsHistory}
 use Rattle.hwp_law.specs.SeenPolicies.{AreSeen, SeenNeverFalls}
 
@@ -38,13 +40,14 @@ pub record HistoriesFit (script : Script) (report : Report) : Type 0 where
   pub seen : AreSeen script report
   pub falls_never : SeenNeverFalls report
 
--- the lines of processors: answers, each with its cause, and events
+-- the lines of processors: answers, each with its cause, events, and frames taken out of use beside an answer
 pub record AnswersFit (script : Script) (report : Report) : Type 0 where
   pub caused : (cpu : Cpu) (commands : List Command) (lines : List CpuLine) → slice_get script.lists cpu.0 ≡ Some commands → slice_get report.cpus cpu.0 ≡ Some lines → AreCaused script report cpu 0 commands lines
   pub named : AreNamed report.pages report.cpus
   pub windows : AreInWindows report.pages report.cpus
   pub endings : EndingsStay script report
   pub events : AreEvents script report
+  pub offlined : (who : Who) (command : Command) → command_at script who ≡ Some command → AreOfflined script report who
   pub stop : StopAgrees script report
 
 -- the lines of frames, what their records have beside them, and how many are poisoned

@@ -18,8 +18,10 @@ pub mod Checks
 pub mod Events
 pub mod Halts
 pub mod Causes
+pub mod Offlined
 pub mod Law
 pub use Rattle.hwp_law_commands.specs.hwp_banks as hwp_banks
+pub use Rattle.hwp_law_commands.specs.hwp_cec as hwp_cec
 pub use Rattle.hwp_law_commands.specs.hwp_geom as hwp_geom
 pub use Rattle.hwp_law_commands.specs.hwp_kill as hwp_kill
 pub use Rattle.hwp_law_commands.specs as hwp_law_commands

@@ -1,5 +1,6 @@
 -- What commands are: which access, in which thread and process, and in which state of the processor their machine checks come.
 use Rattle.std.specs.Prelude.{ℕ, Bool, true, false, List, Option, Some, None, slice_get, slice_index_or, option_and_then, option_map}
+use Rattle.std.specs.List.{list_any}
 use Rattle.hwp_script_read.specs.hwp_geom.declared.Frame.{Frame}
 use Rattle.hwp_script_read.specs.hwp_geom.declared.Layout.{Layout}
 use Rattle.hwp_script_read.specs.hwp_geom.declared.Mode.{Mode}
@@ -70,6 +71,20 @@ can_fail (commands.Fetch thread slot line) = true
 can_fail (commands.KLoad thread slot line) = true
 can_fail (commands.Store thread slot line word) = true
 can_fail _ = false
+
+-- the command can take frames out of use beside its answer: each that can have a memory failure, but for `inject`
+abbrev pub can_offline : Command → Bool
+can_offline (commands.Inject frame) = false
+can_offline command = can_fail command
+
+-- the command gives its processor a collector of corrected errors
+abbrev pub is_watch : Command → Bool
+is_watch (commands.Watch threshold window) = true
+is_watch _ = false
+
+-- a processor of the script has such a command
+abbrev pub has_watch : Script → Bool
+has_watch script = list_any (list_any is_watch) script.lists
 
 -- RIPV and EIPV of IA32_MCG_STATUS, and the mode of the processor
 abbrev pub arrival : Bool → Bool → Mode → Arrival

@@ -1,7 +1,10 @@
 pub mod Commands
 pub mod Settings
 pub mod Outcomes
+pub mod Notes
+pub mod Watched
 pub use Rattle.hwp_report_text.specs.hwp_banks as hwp_banks
+pub use Rattle.hwp_script_read.specs.hwp_script_lines.hwp_cec as hwp_cec
 pub use Rattle.hwp_script_read.specs.hwp_geom as hwp_geom
 pub use Rattle.hwp_report_text.specs.hwp_kill as hwp_kill
 pub use Rattle.hwp_report_text.specs.hwp_page as hwp_page
