@@ -54,13 +54,24 @@ const NEWER: &[(&[u8], &str)] = &[
         b"load 0 4095 0\ndrop 4095\nscrub 256 4095\ninject 4095\nschedule 8 9. 15@stop\n",
         "1 load 0 4095 0\n2 drop 4095\n3 scrub 256 4095\n4 inject 4095\n5 schedule 8 9. 15@stop\n",
     ),
+    (
+        b"watch 1 1\nwatch 1000 64\n  watch  2  3  \n",
+        "1 watch 1 1\n2 watch 1000 64\n3 watch 2 3\n",
+    ),
     (b"open x", "1 bad number in version 2\n"),
+    (b"watch x 65", "1 bad number in version 2\n"),
+    (b"watch 0 01", "1 bad number in version 2\n"),
     (b"page x anon locked", "1 bad number in version 2\n"),
     (
         b"page 0 file x fill 1 locked",
         "1 bad number in version 2\n",
     ),
     (b"open 16", "1 over the limit in version 2\n"),
+    (b"watch 0 1", "1 over the limit in version 2\n"),
+    (b"watch 1001 1", "1 over the limit in version 2\n"),
+    (b"watch 1 0", "1 over the limit in version 2\n"),
+    (b"watch 1 65", "1 over the limit in version 2\n"),
+    (b"watch 65537 257", "1 over the limit in version 2\n"),
 ];
 
 #[test]
@@ -136,6 +147,8 @@ const UNKNOWN: &[&[u8]] = &[
     b"page 0 file 0 fill 1 lock",
     b"open",
     b"open 0 0",
+    b"watch 1",
+    b"watch 1 1 1",
     b"raise user 0 1",
     b"raise nested 1",
     b"raise other 1 1",

@@ -51,11 +51,11 @@ fn what_is_not_declared_is_printed_as_it_is_by_default(rt: HostRuntime) {
 
 /// A script of version 2 on a machine that version 1 can't have, with locked pages of both kinds, as it is printed.
 const NEWER: &str =
-    "hwp 2\ncpus 9\nframes 4096\nkernel 4095\nrecovery 1\nearly 0\nfile 0\nproc 0\nthread 0 0 8 handler\npage 0 anon locked\npage 1 anon\npage 2 file 0 fill 9 locked\npage 3 file 0 fill 7\ntrans 0 0 2\ncpu 0\nfsync 0\nopen 0\ncpu 1\ncpu 2\ncpu 3\ncpu 4\ncpu 5\ncpu 6\ncpu 7\ncpu 8\nstore 0 0 63 1\ninject 4094\nopen 0\nschedule 8. 0@load_count 8\nend\n";
+    "hwp 2\ncpus 9\nframes 4096\nkernel 4095\nrecovery 1\nearly 0\nfile 0\nproc 0\nthread 0 0 8 handler\npage 0 anon locked\npage 1 anon\npage 2 file 0 fill 9 locked\npage 3 file 0 fill 7\ntrans 0 0 2\ncpu 0\nfsync 0\nopen 0\ncpu 1\ncpu 2\ncpu 3\ncpu 4\ncpu 5\ncpu 6\ncpu 7\ncpu 8\nstore 0 0 63 1\ninject 4094\nopen 0\nwatch 20 3\nschedule 8. 0@load_count 8\nend\n";
 
 /// The same script, in other spellings.
 const NEWLY_SPELLED: &str =
-    "\n# version 2\n  hwp  2\ncpus 9\nframes 4096\nkernel 4095\nfile 0\nproc 0\nthread 0 0 8 handler\npage 0   anon  locked \npage 1 anon\npage 2 file 0 fill 9 locked\npage 3 file 0 fill 7\ntrans 0 0 2\ncpu 8\nstore 0 0 63 1\ninject 4094\n open  0\ncpu 0\nfsync 0\nopen 0\nschedule 8.\nschedule 0@load_count 8\nend\n";
+    "\n# version 2\n  hwp  2\ncpus 9\nframes 4096\nkernel 4095\nfile 0\nproc 0\nthread 0 0 8 handler\npage 0   anon  locked \npage 1 anon\npage 2 file 0 fill 9 locked\npage 3 file 0 fill 7\ntrans 0 0 2\ncpu 8\nstore 0 0 63 1\ninject 4094\n open  0\nwatch  20 3 \ncpu 0\nfsync 0\nopen 0\nschedule 8.\nschedule 0@load_count 8\nend\n";
 
 #[test]
 fn a_script_of_version_2_is_printed_with_its_version_and_its_locked_pages(rt: HostRuntime) {

@@ -12,9 +12,9 @@ const ONE: &str =
 const ALL: &str =
     "# all forms\n\n  hwp   1 \ncpus 2\nframes 4\nkernel 3\nrecovery 0\nearly 1\nfile 0\nproc 0\nproc 1\nthread 0 0 0 handler\nthread 1 1 1 nohandler\npage 0 anon\npage 1 file 0 fill 9\ntrans 0 0 0\ntrans 1 1 1\ncpu 1\nload 1 1 7\nfetch 1 1 8\nkload 1 1 9\nstore 1 1 10 18446744073709551615\nfree 1\ndrop 1\nsync 1\nfsync 0\nprctl 1 33 1 2 0 7\ncpu 0\nout 0\nbad 0 3\nweak 1 63\nscrub 0 3\nlog 0xBD000000000000c0 0x1000 0x86\nraise user 0 1 0\nraise kernel 0 1\nraise nested\ninject 1\nsoft 2\nunpoison 3\nschedule 0 1. 0@poison\n# done\nschedule 1\nend\n\n# after the end";
 
-/// A script of version 2 with its two forms, on the largest machine.
+/// A script of version 2 with its three forms, on the largest machine.
 const TWO: &str =
-    "hwp 2\ncpus 16\nframes 4096\nfile 0\nproc 0\nthread 0 0 15 handler\npage 0 file 0 fill 1 locked\ntrans 0 0 0\ncpu 15\nopen 0\ninject 4095\nschedule 15\nend\n";
+    "hwp 2\ncpus 16\nframes 4096\nfile 0\nproc 0\nthread 0 0 15 handler\npage 0 file 0 fill 1 locked\ntrans 0 0 0\ncpu 15\nopen 0\ninject 4095\nwatch 1000 64\nschedule 15\nend\n";
 
 /// What becomes of a text: the line and the reason of its refusal, if it is refused.
 type Answer = Option<(u32, Why)>;
@@ -142,7 +142,12 @@ fn a_script_of_version_2_is_read_and_refused_where_it_is_at_fault(rt: HostRuntim
             ("open 0", "open 16", 10, Why::OverLimit),
             ("open 0", "open 1", 10, Why::Undeclared),
             ("inject 4095", "hwp 2", 11, Why::UnknownWord),
-            ("schedule 15", "schedule 16", 12, Why::OverLimit),
+            ("watch 1000", "watch 1001", 12, Why::OverLimit),
+            ("1000 64", "1000 65", 12, Why::OverLimit),
+            ("watch 1000", "watch 0", 12, Why::OverLimit),
+            ("1000 64", "1000", 12, Why::UnknownWord),
+            ("watch 1000", "watch x", 12, Why::BadNumber),
+            ("schedule 15", "schedule 16", 13, Why::OverLimit),
         ],
     );
 }
@@ -343,6 +348,9 @@ const OLDER: &[Swap<'static>] = &[
     (10, b"open 0", Some((10, Why::UnknownWord))),
     (10, b"open x", Some((10, Why::UnknownWord))),
     (10, b"open 16", Some((10, Why::UnknownWord))),
+    (10, b"watch 1 1", Some((10, Why::UnknownWord))),
+    (10, b"watch x 1", Some((10, Why::UnknownWord))),
+    (10, b"watch 0 65", Some((10, Why::UnknownWord))),
     (10, b"inject 256", Some((10, Why::OverLimit))),
     (10, b"scrub 0 256", Some((10, Why::OverLimit))),
     (10, b"drop 256", Some((10, Why::OverLimit))),
