@@ -66,6 +66,7 @@ FORMS = {
     "inject": _form(FRAME, "inject F"),
     "soft": _form(FRAME, "soft F"),
     "unpoison": _form(FRAME, "unpoison F"),
+    "watch": _form("with a threshold T from 1 to 1000 and a window W from 1 to 64, behind `hwp 2`", "watch T W"),
 }
 GROUPS_TOLD = "cpus, frames, kernel, recovery, early, file, proc, thread, page, trans, cpu with its commands, schedule, end"
 assert set(FORMS) == {*SHAPES, "schedule", "hwp"} and set(COMMANDS) <= set(FORMS)

@@ -69,6 +69,7 @@ COMMANDS = {
     "inject": "software makes frame {frame} fail",
     "soft": "frame {frame} is taken out of use while its content is good",
     "unpoison": "takes back that frame {frame} was poisoned",
+    "watch": "gets a new collector: {threshold} corrected errors of a frame within {window} rounds take it out of use",
 }
 
 

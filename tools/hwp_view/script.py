@@ -44,6 +44,7 @@ COMMANDS = {
     "inject": "frame",
     "soft": "frame",
     "unpoison": "frame",
+    "watch": "threshold window",
 }
 SHAPES = {first: shapes.split("|") for first, shapes in {**SETTINGS, **COMMANDS}.items()}
 OLD_LIMITS = {
@@ -58,6 +59,8 @@ OLD_LIMITS = {
     "trans": (0, 511),
     "line": (0, 63),
     "bit": (0, 1),
+    "threshold": (1, 1000),
+    "window": (1, 64),
     "word": (0, HIGHEST),
     "register": (0, HIGHEST),
 }
@@ -196,7 +199,7 @@ class _Reader:
             return
         found = fitted(SHAPES[first], words[1:]) if first in SHAPES else None
         if found is not None and is_newer(words) and self.script.version == 1:
-            place = 0 if first == "open" else len(words) - 1
+            place = len(words) - 1 if first == "page" else 0
             self.refuse("UnknownWord", f"{shown(words[place])} is a word of version 2", place)
         if found is None:
             self.refuse("UnknownWord", f"no line of a script has these words: {shown(text)}")
@@ -336,7 +339,7 @@ class _Reader:
 
 def is_newer(words: list[str]) -> bool:
     """Whether the words of a line have a shape of version 2 alone."""
-    return words[0] == "open" or (words[0] == "page" and len(words) in (4, 7))
+    return words[0] in ("open", "watch") or (words[0] == "page" and len(words) in (4, 7))
 
 
 def _has_turn_shape(word: str) -> bool:

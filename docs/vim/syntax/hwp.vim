@@ -18,7 +18,7 @@ syntax match hwpList /^ *\zs\%(cpu\|end\)\ze\%( \|$\)/
 " accesses; commands on pages, files and policies; commands by which memory fails, is tested and is taken back
 syntax match hwpCommand /^ *\zs\%(load\|store\|fetch\|kload\)\ze\%( \|$\)/
 syntax match hwpCommand /^ *\zs\%(free\|drop\|sync\|out\|fsync\|open\|prctl\)\ze\%( \|$\)/
-syntax match hwpFailure /^ *\zs\%(bad\|weak\|scrub\|log\|raise\|inject\|soft\|unpoison\)\ze\%( \|$\)/
+syntax match hwpFailure /^ *\zs\%(bad\|weak\|scrub\|log\|raise\|inject\|soft\|unpoison\|watch\)\ze\%( \|$\)/
 
 syntax match hwpWord / \zs\%(handler\|nohandler\|anon\|file\|fill\|locked\|user\|kernel\|nested\)\ze\%( \|$\)/
 syntax match hwpNumber / \zs\%(0\|[1-9]\d*\)\ze\%( \|$\)/
