@@ -101,3 +101,11 @@ is_already _ = false
 
 abbrev pub was_poisoned : Frame → List EventOutcome → Bool
 was_poisoned frame told = list_any (λ (t : EventOutcome). is_already t.acted && (frame_at t.held.event.addr == frame.0)) told
+
+-- an event was kept: noted, and nothing more
+abbrev pub is_kept : Acted → Bool
+is_kept acts.Keep = true
+is_kept _ = false
+
+abbrev pub has_kept : List EventOutcome → Bool
+has_kept told = list_any (λ (t : EventOutcome). is_kept t.acted) told

@@ -4,7 +4,7 @@ ghost use Rattle.hwp_claim_frame.specs.Claims.{stop_turn};
 ghost use Rattle.hwp_law_commands.specs.hwp_report_text.Acts.{is_panic};
 ghost use Rattle.hwp_law_commands.specs.hwp_severity.Handling.{has_stop};
 ghost use Rattle.hwp_law_commands.specs.Outcomes.{outcome_act};
-ghost use Rattle.hwp_cpu_check.specs.Told.{are_held_back, at_once, failure_at_once, first_signal, frame_of, halts, has_panic, is_already, is_halting, required_by, signal_of, told_by, was_poisoned};
+ghost use Rattle.hwp_cpu_check.specs.Told.{are_held_back, at_once, failure_at_once, first_signal, frame_of, halts, has_kept, has_panic, is_already, is_halting, is_kept, required_by, signal_of, told_by, was_poisoned};
 ghost use Rattle.hwp_cpu_check.specs.Handlers.{after_stop, answer, at_end, begin, ended_by, failing, tell_on};
 
 use crate::events::EventQueue;
@@ -107,6 +107,13 @@ impl Handler {
             .told()
             .iter()
             .any(|told| is_already(told, frame))
+    }
+
+    /// Whether an event was kept.
+    pub fn has_kept(&self) -> bool
+        ensures { result ≡ has_kept self.now.events.told }
+    {
+        self.events.told().iter().any(is_kept)
     }
 
     /// The failure of the event that comes next came to this.
@@ -345,6 +352,13 @@ fn is_already(told: &EventOutcome, frame: Frame) -> bool
     ensures { result ≡ (is_already told.now.acted && (frame_at told.now.held.event.addr == frame.0)) }
 {
     matches!(told.acted, Acted::Already) && frame_number(&told.held) == u64::from(frame.0)
+}
+
+/// Whether the event was kept.
+fn is_kept(told: &EventOutcome) -> bool
+    ensures { result ≡ is_kept told.now.acted }
+{
+    matches!(told.acted, Acted::Keep)
 }
 
 impl Task for Handler {
