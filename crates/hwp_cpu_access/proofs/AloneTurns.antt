@@ -1,5 +1,5 @@
 -- The failure of the frame itself, the only event of its machine check: it poisons the frame, or finds it poisoned.
-use Rattle.std.proofs.Common.{◌≡◌, inl, inr, ℕ, ◌+◌, ◌≤◌, ◌==◌, ◌&&◌, ◌||◌, Bool, true, false, cond, List, [], ◌∷◌, ◌++◌, Option, Some, length, slice_index, refl, sym, ap, ◌∙◌, subst, arith}
+use Rattle.std.proofs.Common.{◌≡◌, inl, inr, ℕ, ◌+◌, ◌≤◌, ◌==◌, ◌&&◌, ◌||◌, Bool, true, false, cond, List, [], ◌∷◌, ◌++◌, Option, Some, None, length, slice_index, refl, sym, ap, ◌∙◌, subst, arith}
 use Rattle.std.proofs.lemmas.Bool.{and_parts, both_ways, eq-eqb, eqb-false, eqb-true}
 use Rattle.std.proofs.lemmas.Option.{none-some}
 use Rattle.hwp_fault.specs.hwp_geom.declared.Frame.{Frame}
@@ -39,9 +39,8 @@ use Rattle.hwp_cpu_check.specs.Handlers as handlers
 use Rattle.hwp_cpu_check.specs.Queue.{Queue}
 use Rattle.hwp_cpu_check.specs.Told.{told_by}
 use Rattle.hwp_cpu_access.specs.Costs.{cost, cost_at, ended_cost, is_alone, past_cost, word_of}
-use Rattle.hwp_cpu_access.specs.Instructions.{after_handler, restarted}
+use Rattle.hwp_cpu_access.specs.Instructions.{after_handler, left_to_do, resumed}
 use Rattle.hwp_cpu_access.specs.declared.instruction.Instruction.{Instruction}
-use Rattle.hwp_cpu_access.specs.declared.instruction.InstructionAt.TheVariants as at
 use Rattle.hwp_cpu_access.proofs.FailureWords.{poison-left}
 
 -- ---- the machine check of which this event is the only one
@@ -63,7 +62,7 @@ alone-parts frame q f is =
 -- where its failure finds the frame poisoned, the end of that failure is awaited
 already-cost : (layout : Layout) (i : Instruction) (h : Handler) (frame : Frame) (held : Held) (left : List Held) (told : List EventOutcome) (w : Words) → length left ≡ 0 → length told ≡ 0 → frame_at held.event.addr ≡ frame.0
     → cost (after_handler i frame (handlers.go_on layout (record h { events = record { told = told ++ told_by held fail_answers.Already ∷ []; left = left } }))) w ≡ 1 + ended_cost (word_of frame w)
-already-cost layout i h frame held [] [] w none untold own = ap (λ (c : Bool). cost_at i.banks (cond (c || false) (at.LoadFrame frame) (restarted i)) w) (eq-eqb (frame_at held.event.addr) frame.0 own)
+already-cost layout i h frame held [] [] w none untold own = ap (λ (c : Bool). cost_at i.banks (resumed i.request (left_to_do None frame (c || false))) w) (eq-eqb (frame_at held.event.addr) frame.0 own)
 already-cost layout i h frame held (x ∷ xs) told w some untold own = absurd (omega (arith, some))
 already-cost layout i h frame held [] (t ∷ ts) w none some own = absurd (omega (arith, some))
 

@@ -1,6 +1,6 @@
 -- What a step of an `Instruction` adds to what its processor lists of the command: the marks of frames, the counts of those, and
 -- the entries of failures.
-use Rattle.std.proofs.Common.{◌≡◌, inl, inr, ℕ, ◌+◌, Bool, true, false, cond, List, [], ◌∷◌, ◌++◌, Option, Some, None, filter_map, option_map, unwrap_or, append-nil, append_assoc, refl, sym, ap, ◌∙◌, subst}
+use Rattle.std.proofs.Common.{◌≡◌, inl, inr, ℕ, ◌+◌, ◌&&◌, Bool, true, false, cond, List, [], ◌∷◌, ◌++◌, Option, Some, None, filter_map, append-nil, append_assoc, refl, sym, ap, ◌∙◌, subst}
 use Rattle.std.proofs.lemmas.List.Elements.{filter_map-append}
 use Rattle.std.proofs.lemmas.Option.{none-some}
 use Rattle.hwp_fault.specs.hwp_geom.declared.Frame.{Frame}
@@ -38,14 +38,14 @@ use Rattle.hwp_cpu_check.specs.Done as handler_done
 use Rattle.hwp_cpu_check.specs.Done.{failed_in, marked_in}
 use Rattle.hwp_cpu_check.specs.Events.{held_in}
 use Rattle.hwp_cpu_check.specs.Handlers as handlers
-use Rattle.hwp_cpu_check.specs.Told.{first_signal, was_poisoned}
+use Rattle.hwp_cpu_check.specs.Told.{first_signal, has_kept, was_poisoned}
 use Rattle.hwp_cpu_check.proofs.HandlerAdds.{grows-behind, handler-adds}
 use Rattle.hwp_cpu_check.proofs.EventTells.{kept, tell-done, tell-idle}
 use Rattle.hwp_cpu_check.specs.hwp_severity.Handling.{has_stop}
 use Rattle.hwp_cpu_check.specs.Checks.{restarting, with_own}
 use Rattle.hwp_cpu_access.specs.Done.{Adds, FailuresGrow, failed_at, failed_by, failed_now, failures_by, marked_at, marked_by, marked_now, owed_at, owed_now}
 use Rattle.hwp_cpu_access.specs.Fits.{FitsAt, FitsFrom, IsAccessing, IsHandling}
-use Rattle.hwp_cpu_access.specs.Instructions.{AfterAccess, AfterAccessBy, Follows, FollowsAt, after_handler, after_handler_by, bare, bare_at, emptied, handler_of, is_pending, plan, plan_at, put, put_at, restarted}
+use Rattle.hwp_cpu_access.specs.Instructions.{AfterAccess, AfterAccessBy, Follows, FollowsAt, after_handler, after_handler_by, bare, bare_at, emptied, going_on, handler_of, is_pending, left_to_do, plan, plan_at, put, put_at, restarted}
 use Rattle.hwp_cpu_access.specs.declared.instruction.Instruction.{Instruction}
 use Rattle.hwp_cpu_access.specs.declared.instruction.InstructionAnswer.TheVariants as answers
 use Rattle.hwp_cpu_access.specs.declared.instruction.InstructionAt.{InstructionAt}
@@ -64,11 +64,12 @@ record IsDone (i : Instruction) (marked : List Marking) (failed : List Failed) (
 abbrev IsIdle : InstructionAt → Type 0
 IsIdle x = (marked_at x ≡ []) × (failed_at x ≡ []) × (owed_at x ≡ 0)
 
-idle-after : (i : Instruction) (stopped : Bool) (frame : Frame) (o : Option At) (b : Bool) → IsIdle (cond stopped (at.Over (Some answers.Stopped)) (unwrap_or (option_map (λ (place : At). at.Over (Some (answers.Sigbus place))) o) (cond b (at.LoadFrame frame) (restarted i))))
-idle-after i true frame o b = (refl, refl, refl)
-idle-after i false frame (Some place) b = (refl, refl, refl)
-idle-after i false frame None true = (refl, refl, refl)
-idle-after i false frame None false = (refl, refl, refl)
+idle-after : (i : Instruction) (stopped : Bool) (frame : Frame) (o : Option At) (kept b : Bool) → IsIdle (cond stopped (at.Over (Some answers.Stopped)) (going_on i.request kept (left_to_do o frame b)))
+idle-after i true frame o kept b = (refl, refl, refl)
+idle-after i false frame o true b = (refl, refl, refl)
+idle-after i false frame (Some place) false b = (refl, refl, refl)
+idle-after i false frame None false true = (refl, refl, refl)
+idle-after i false frame None false false = (refl, refl, refl)
 
 -- a machine check that goes on, or is over
 handler-done : (i : Instruction) (frame : Frame) (h : Handler) → h.thread ≡ Some i.request.thread → IsDone i (handler_done.marked_now h) (handler_done.failed_now h) (handler_done.owed_now h) (after_handler i frame h)
@@ -78,7 +79,7 @@ handler-done i frame h thread = which h.at refl
     going = record { marked_is = refl; failed_is = refl; owed_is = refl }
 
     over : (stopped : Bool) → h.at ≡ handler_at.Over stopped → IsDone i (handler_done.marked_now h) (handler_done.failed_now h) (handler_done.owed_now h) (after_handler_by i frame h (Some stopped))
-    over stopped is = let idle = idle-after i stopped frame (first_signal h.events.told) (was_poisoned frame h.events.told) in record {
+    over stopped is = let idle = idle-after i stopped frame (first_signal h.events.told) (has_kept h.events.told && i.collects) (was_poisoned frame h.events.told) in record {
       marked_is = ap (λ (l : List Marking). marked_by (i.lines.told ++ h.events.told) ++ l) idle.0 ∙ append-nil (marked_by (i.lines.told ++ h.events.told)) ∙ filter_map-append marked_in i.lines.told h.events.told
           ∙ ap (λ (l : List Marking). marked_by i.lines.told ++ l) (sym (ap (λ (l : List Marking). filter_map marked_in h.events.told ++ l) (ap handler_done.marked_at is) ∙ append-nil (filter_map marked_in h.events.told)));
       failed_is = ap (λ (l : List Failed). failed_by (Some i.request.thread) (i.lines.told ++ h.events.told) ++ l) idle.1 ∙ append-nil (failed_by (Some i.request.thread) (i.lines.told ++ h.events.told)) ∙ filter_map-append (failed_in (Some i.request.thread)) i.lines.told h.events.told
@@ -212,4 +213,5 @@ instruction-adds {past} layout old new i step found got fits is made after turn 
     which (at.LoadFrame frame) own has e made next = frame-step layout old new i after step found got turn fits frame own e made (is_pending found) next.0
     which (at.LoadStop frame) own has e made next = stop-step layout old new i after step found got turn fits frame own e made (has_no_memory found) next.0
     which at.GiveUp own has e made next = give-up-step layout old new i after step found got turn fits own e made next.0
+    which (at.Paused pause) own has e made next = absurd (none-some step e)
     which (at.Over answer) own has e made next = absurd (none-some step e)

@@ -1,8 +1,9 @@
 -- The laws of `Instruction`: its steps can be made, and what follows them fits.
-use Rattle.std.proofs.Common.{◌≡◌, inl, inr, ℕ, ◌+◌, ◌≤◌, Bool, true, false, cond, List, [], ◌∷◌, ◌++◌, Option, Some, None, filter, length, map, option_map, unwrap_or, append-nil, refl, sym, ap, ◌∙◌, subst, arith}
+use Rattle.std.proofs.Common.{◌≡◌, inl, inr, ℕ, ◌+◌, ◌≤◌, ◌&&◌, Bool, true, false, cond, List, [], ◌∷◌, ◌++◌, Option, Some, None, filter, length, map, append-nil, refl, sym, ap, ◌∙◌, subst, arith}
 use Rattle.std.specs.Int.{from_bool}
 use Rattle.std.specs.List.{list_any}
 use Rattle.std.proofs.lemmas.List.{length-set}
+use Rattle.std.proofs.lemmas.Bool.{and_parts, both_ways}
 use Rattle.std.proofs.lemmas.Option.{none-some, same_Some}
 use Rattle.hwp_fault.specs.hwp_geom.declared.Frame.{Frame}
 use Rattle.hwp_fault.specs.hwp_geom.declared.Layout.{Layout}
@@ -25,7 +26,7 @@ use Rattle.hwp_cpu_check.specs.hwp_claim_act.Abandoned.{AddsFailure}
 use Rattle.hwp_fault.specs.hwp_core_rule.declared.Made.{Made}
 use Rattle.hwp_fault.specs.hwp_core_task.Known.{HasMadeNoneBeside, deeds}
 use Rattle.hwp_fault.specs.hwp_core_task.Turns.{IsTask}
-use Rattle.hwp_fault.proofs.of_hwp_core_task.MadeEntries.{deeds-same, only-beside-stays}
+use Rattle.hwp_fault.proofs.of_hwp_core_task.MadeEntries.{deeds-same, only-beside-stays, only-of-none}
 use Rattle.hwp_fault.proofs.of_hwp_core_task.SightKeeps.{saw-stays}
 use Rattle.hwp_fault.specs.declared.Access.{Access}
 use Rattle.hwp_fault.specs.declared.AccessAnswer.{AccessAnswer}
@@ -50,7 +51,7 @@ use Rattle.hwp_cpu_check.specs.Events.{held_in}
 use Rattle.hwp_cpu_check.specs.Fits as handler_fits
 use Rattle.hwp_cpu_check.specs.Fits.{AreTold}
 use Rattle.hwp_cpu_check.specs.Handlers as handlers
-use Rattle.hwp_cpu_check.specs.Told.{first_signal, stops_machine, was_poisoned}
+use Rattle.hwp_cpu_check.specs.Told.{first_signal, has_kept, stops_machine, was_poisoned}
 use Rattle.hwp_cpu_check.proofs.HandlerAdds.{handler-adds}
 use Rattle.hwp_cpu_check.proofs.BankGrades.{found-in}
 use Rattle.hwp_cpu_check.proofs.HandlerLaws.{begins-fit, can as handler-can, stays as handler-stays}
@@ -60,13 +61,15 @@ use Rattle.hwp_cpu_check.proofs.EventTells.{events-stay, kept}
 use Rattle.hwp_cpu_check.specs.Lines.{with_lines}
 use Rattle.hwp_cpu_check.specs.Checks.{Check, left_by, lines_of, restarting, with_own}
 use Rattle.hwp_cpu_access.specs.Checks.{AreChecks, IsCheck, SawBad}
-use Rattle.hwp_cpu_access.specs.Fits.{FitsAt, FitsFrom, HasHandler, HasOnlyBefore, IsAccessing, IsEnd, IsGoing, IsOfAccess, IsOwnEnd, IsWaiting, LetsGoOn, banks_at, checks_in, checks_made, task as instruction-task}
-use Rattle.hwp_cpu_access.specs.Instructions.{AfterAccess, AfterAccessBy, BeginsCheck, Follows, FollowsAt, Shows, ShowsAt, after_handler, after_handler_by, after_load, after_stop, bare, bare_at, begin, emptied, handler_of, is_pending, plan, plan_at, put, put_at, restarted}
+use Rattle.hwp_cpu_access.specs.Fits.{CanResume, FitsAt, FitsFrom, HasHandler, HasOnlyBefore, IsAccessing, IsEnd, IsGoing, IsLeft, IsOfAccess, IsOwnEnd, IsPaused, IsSignalled, IsWaiting, LetsGoOn, banks_at, checks_in, checks_made, task as instruction-task}
+use Rattle.hwp_cpu_access.specs.Instructions.{AfterAccess, AfterAccessBy, BeginsCheck, Follows, FollowsAt, Shows, ShowsAt, after_handler, after_handler_by, after_load, after_stop, bare, bare_at, begin, emptied, going_on, handler_of, is_pending, left_to_do, pause, pause_at, plan, plan_at, put, put_at, restarted, resume}
 use Rattle.hwp_cpu_access.specs.declared.instruction.Instruction.{Instruction}
 use Rattle.hwp_cpu_access.specs.declared.instruction.InstructionAnswer.{InstructionAnswer}
 use Rattle.hwp_cpu_access.specs.declared.instruction.InstructionAnswer.TheVariants as answers
 use Rattle.hwp_cpu_access.specs.declared.instruction.InstructionAt.{InstructionAt}
 use Rattle.hwp_cpu_access.specs.declared.instruction.InstructionAt.TheVariants as at
+use Rattle.hwp_cpu_access.specs.declared.instruction.Pause.{Pause}
+use Rattle.hwp_cpu_access.specs.declared.instruction.Pause.TheVariants as pauses
 use Rattle.hwp_cpu_access.proofs.CheckLaws.{checks-more, count-more, halts-more, left-more, lets-more, lines-more, signal-more}
 use Rattle.hwp_cpu_access.proofs.CommandGrows.{access-stay, bad-stays, checks-stay, count-after, count-kept, only-checked, only-kept}
 
@@ -81,6 +84,7 @@ can {past} layout view i step fits is = which i.at fits.at is
     which (at.LoadFrame frame) has e = can-make fits.on_turn e has.within tt
     which (at.LoadStop frame) has e = can-make fits.on_turn e tt tt
     which at.GiveUp has e = can-make fits.on_turn e tt tt
+    which (at.Paused pause) has e = absurd (none-some step e)
     which (at.Over answer) has e = absurd (none-some step e)
 
 -- ---- what stays whatever the state
@@ -188,24 +192,30 @@ module _ {past : List Made} {layout : Layout} {view : View} {i : Instruction} {c
   })
 
   module _ (told : handler_fits.IsAllTold view h.events false) where
+    signalled-now : (place : At) → first_signal h.events.told ≡ Some place → IsSignalled past view i.request (i.lines.told ++ h.events.told) place
+    signalled-now place is = record {
+      first = signal-more i.lines.told h.events.told has.lets.signals_none ∙ is;
+      halts_none = halts-more i.lines.told h.events.told has.lets.halts_none ∙ told.halts_is;
+      going = has.going;
+      only = has.only;
+    }
+
+    lets-now : first_signal h.events.told ≡ None → LetsGoOn (i.lines.told ++ h.events.told)
+    lets-now none = lets-more i.lines.told h.events.told has.lets told.halts_is none
+
     signalled-fits : (place : At) → first_signal h.events.told ≡ Some place → FitsFrom past layout view (record i { lines = with_lines i.lines h.events.told; at = at.Over (Some (answers.Sigbus place)) })
     signalled-fits place is = over-fits told.none_left (at.Over (Some (answers.Sigbus place))) refl (record {
       hand_is = told.rest.hand_is;
       paid = told.rest.paid;
       made = count-all;
-      ended = inr (record {
-        first = signal-more i.lines.told h.events.told has.lets.signals_none ∙ is;
-        halts_none = halts-more i.lines.told h.events.told has.lets.halts_none ∙ told.halts_is;
-        going = has.going;
-        only = has.only;
-      });
+      ended = inr (signalled-now place is);
     })
 
     waiting-fits : first_signal h.events.told ≡ None → FitsFrom past layout view (record i { lines = with_lines i.lines h.events.told; at = at.LoadFrame frame })
     waiting-fits none = over-fits told.none_left (at.LoadFrame frame) refl (record {
       hand_is = told.rest.hand_is;
       paid = told.rest.paid;
-      lets = lets-more i.lines.told h.events.told has.lets told.halts_is none;
+      lets = lets-now none;
       only = has.only;
       made = count-all;
       within = has.bad.within;
@@ -218,18 +228,33 @@ module _ {past : List Made} {layout : Layout} {view : View} {i : Instruction} {c
       own = refl;
       unanswered = refl;
       paid = told.rest.paid;
-      lets = lets-more i.lines.told h.events.told has.lets told.halts_is none;
+      lets = lets-now none;
       made = let count : checks_made i.request.who view ≡ length all + checks_in past = count-all in omega (arith, count);
     })
 
+    paused-fits : (pause : Pause) → IsLeft past layout view i.request (i.lines.told ++ h.events.told) pause → i.collects ≡ true → FitsFrom past layout view (record i { lines = with_lines i.lines h.events.told; at = at.Paused pause })
+    paused-fits pause left collects = over-fits told.none_left (at.Paused pause) refl (record {
+      hand_is = told.rest.hand_is;
+      paid = told.rest.paid;
+      made = count-all;
+      left = left;
+      collects = collects;
+      empty_are = empty_are;
+    })
+
     goes-fits : FitsFrom past layout view (after_handler_by i frame h (Some false))
-    goes-fits = which (first_signal h.events.told) refl (was_poisoned frame h.events.told)
+    goes-fits = which (first_signal h.events.told) refl (has_kept h.events.told && i.collects) refl (was_poisoned frame h.events.told)
       where
-        which : (o : Option At) → first_signal h.events.told ≡ o → (b : Bool)
-            → FitsFrom past layout view (record i { lines = with_lines i.lines h.events.told; at = unwrap_or (option_map (λ (place : At). at.Over (Some (answers.Sigbus place))) o) (cond b (at.LoadFrame frame) (restarted i)) })
-        which (Some place) is b = signalled-fits place is
-        which None is true = waiting-fits is
-        which None is false = again-fits is
+        collects : has_kept h.events.told && i.collects ≡ true → i.collects ≡ true
+        collects kept_now = (and_parts (has_kept h.events.told) i.collects kept_now).1
+
+        which : (o : Option At) → first_signal h.events.told ≡ o → (kept : Bool) → has_kept h.events.told && i.collects ≡ kept → (b : Bool) → FitsFrom past layout view (record i { lines = with_lines i.lines h.events.told; at = going_on i.request kept (left_to_do o frame b) })
+        which (Some place) is true kept_now b = paused-fits (pauses.Sigbus place) (signalled-now place is) (collects kept_now)
+        which (Some place) is false goes b = signalled-fits place is
+        which None is true kept_now true = paused-fits (pauses.Wait frame) (lets-now is, has.only, has.bad.within) (collects kept_now)
+        which None is true kept_now false = paused-fits pauses.Again (lets-now is, has.only, tt) (collects kept_now)
+        which None is false goes true = waiting-fits is
+        which None is false goes false = again-fits is
 
   going-fits : handlers.answer h ≡ None → FitsFrom past layout view (record i { at = at.Handle frame h })
   going-fits none = record {
@@ -504,6 +529,7 @@ both {past} layout old new i step found got fits is made = which i.at refl fits.
     which (at.LoadFrame frame) at_is has e made = (tt, λ after turn next. subst (FitsFrom past layout new) (sym next.0) (frame-loaded layout old new i step found got fits frame at_is has e made))
     which (at.LoadStop frame) at_is has e made = (tt, λ after turn next. subst (FitsFrom past layout new) (sym next.0) (stop-loaded layout old new i step found got fits frame at_is has e made))
     which at.GiveUp at_is has e made = (tt, λ after turn next. subst (FitsFrom past layout new) (sym next.0) (given-up layout old new i step found got fits at_is has e made))
+    which (at.Paused pause) at_is has e made = absurd (none-some step e)
     which (at.Over answer) at_is has e made = absurd (none-some step e)
 
 -- an instruction stays of its command
@@ -536,6 +562,7 @@ own-after layout i found got after turn follows = which i.at follows
     which (at.LoadFrame frame) next = ap (λ (x : Instruction). x.request) next.0
     which (at.LoadStop frame) next = ap (λ (x : Instruction). x.request) next.0
     which at.GiveUp next = ap (λ (x : Instruction). x.request) next.0
+    which (at.Paused pause) next = ap (λ (x : Instruction). x.request) next.0
     which (at.Over answer) next = ap (λ (x : Instruction). x.request) next.0
 
 pub stays : {past : List Made} (layout : Layout) (old new : View) (i : Instruction) (step : Step) (found : ℕ) (got : Option BodyValue) → FitsFrom past layout old i → plan i ≡ Some step → Steps layout i.request.who step (logs (put i)) old new found got
@@ -553,7 +580,7 @@ law = record {
 -- ---- before it
 
 -- an instruction fits at its beginning, where its processor holds and owes nothing, and its command has made nothing in this part
-pub begins : {past : List Made} (layout : Layout) (view : View) (i : Instruction) → i ≡ begin i.alloc i.request i.origin i.mode i.banks → IsOnTurn view i.request.who → IsSound layout → accesses.IsDeclared layout i.request → IsOfAccess i.origin → length i.banks ≡ bank_count
+pub begins : {past : List Made} (layout : Layout) (view : View) (i : Instruction) → i ≡ begin i.alloc i.request i.origin i.mode i.banks i.collects → IsOnTurn view i.request.who → IsSound layout → accesses.IsDeclared layout i.request → IsOfAccess i.origin → length i.banks ≡ bank_count
     → hand_of view ≡ empty → view.owed.losses ≡ [] → HasMadeNoneBeside past view i.request.who → FitsFrom past layout view i
 begins {past} layout view i is on sound names origin three hand paid none = subst (FitsFrom past layout view) (sym is) (record {
   on_turn = on;
@@ -574,3 +601,61 @@ begins {past} layout view i is on sound names origin three hand paid none = subs
     made = let same : checks_made i.request.who view ≡ checks_in past = ap checks_in none in omega (arith, same);
   };
 })
+
+-- and so does one behind its pause, whatever its command had made
+pub resumes : {past : List Made} (layout : Layout) (view : View) (i : Instruction) (pause : Pause) → i ≡ resume i.alloc i.request i.origin i.mode i.banks pause → IsOnTurn view i.request.who → IsSound layout → accesses.IsDeclared layout i.request → IsOfAccess i.origin
+    → i.banks ≡ empty_banks → hand_of view ≡ empty → view.owed.losses ≡ [] → CanResume layout pause → HasMadeNoneBeside past view i.request.who → FitsFrom past layout view i
+resumes {past} layout view i pause is on sound names origin empty_are hand paid can none = subst (FitsFrom past layout view) (sym is) (which pause can)
+  where
+    same : checks_made i.request.who view ≡ checks_in past
+    same = ap checks_in none
+
+    by : (x : InstructionAt) → banks_at i.banks [] x ≡ i.banks → FitsAt past layout view (record (begin i.alloc i.request i.origin i.mode i.banks true) { at = x }) [] x → FitsFrom past layout view (record (begin i.alloc i.request i.origin i.mode i.banks true) { at = x })
+    by x held fits = record {
+      on_turn = on;
+      sound = sound;
+      names = names;
+      origin = origin;
+      three = ap (λ (bs : Banks). length bs) empty_are;
+      checks = [];
+      checked = tt;
+      told_is = refl;
+      banks_are = sym held;
+      at = fits;
+    }
+
+    which : (p : Pause) → CanResume layout p → FitsFrom past layout view (resume i.alloc i.request i.origin i.mode i.banks p)
+    which (pauses.Sigbus place) none = absurd none
+    which (pauses.Wait frame) within = by (at.LoadFrame frame) refl (record {
+      hand_is = hand;
+      paid = paid;
+      lets = record { halts_none = refl; signals_none = refl };
+      only = only-of-none view i.request.who none;
+      made = omega (arith, same);
+      within = within;
+      empty_are = empty_are;
+    })
+    which pauses.Again can = by (at.Access (accesses.again i.request)) refl (record {
+      access = begins-again layout view i.request on names hand (only-of-none view i.request.who none);
+      own = refl;
+      unanswered = refl;
+      paid = paid;
+      lets = record { halts_none = refl; signals_none = refl };
+      made = omega (arith, same);
+    })
+
+-- where an instruction pauses
+pub paused : {past : List Made} {layout : Layout} {view : View} (i : Instruction) (p : Pause) (fits : FitsFrom past layout view i) → pause i ≡ Some p → IsPaused past layout view i fits.checks p
+paused {past} {layout} {view} i p fits is = which i.at fits.at is
+  where
+    which : (x : InstructionAt) → FitsAt past layout view i fits.checks x → pause_at x ≡ Some p → IsPaused past layout view i fits.checks p
+    which (at.Paused other) has some = subst (IsPaused past layout view i fits.checks) (same_Some other p some) has
+    which _ has none = absurd (none-some p none)
+
+-- where its processor doesn't collect, an instruction doesn't pause
+pub never-pauses : {past : List Made} {layout : Layout} {view : View} (i : Instruction) → FitsFrom past layout view i → i.collects ≡ false → pause i ≡ None
+never-pauses {past} {layout} {view} i fits none = which (pause i) refl
+  where
+    which : (o : Option Pause) → pause i ≡ o → pause i ≡ None
+    which None is = is
+    which (Some p) is = absurd (both_ways i.collects none (paused i p fits is).collects)

@@ -1,5 +1,5 @@
 -- Each turn of an `Instruction` lowers its cost, or leaves a failure fewer, and its class tells what it holds.
-use Rattle.std.proofs.Common.{◌≡◌, ◌≢◌, ◌⊎◌, inl, inr, ℕ, ◌+◌, ◌<◌, ◌≤◌, ◌==◌, Bool, true, false, cond, List, [], Option, Some, None, is_some, length, option_map, unwrap_or, refl, sym, ap, ◌∙◌, subst, arith}
+use Rattle.std.proofs.Common.{◌≡◌, ◌≢◌, ◌⊎◌, inl, inr, ℕ, ◌+◌, ◌&&◌, ◌<◌, ◌≤◌, ◌==◌, Bool, true, false, cond, List, [], Option, Some, None, is_some, length, refl, sym, ap, ◌∙◌, subst, arith}
 use Rattle.std.specs.List.{list_any}
 use Rattle.std.proofs.lemmas.Bool.{both_ways}
 use Rattle.std.proofs.lemmas.Option.{none-some, same_Some}
@@ -53,14 +53,14 @@ use Rattle.hwp_cpu_check.specs.declared.handler.HandlerAt.TheVariants as handler
 use Rattle.hwp_cpu_check.specs.Events.{held_in}
 use Rattle.hwp_cpu_check.specs.Fits as handler_fits
 use Rattle.hwp_cpu_check.specs.Handlers as handlers
-use Rattle.hwp_cpu_check.specs.Told.{first_signal, was_poisoned}
+use Rattle.hwp_cpu_check.specs.Told.{first_signal, has_kept, was_poisoned}
 use Rattle.hwp_cpu_check.proofs.BankGrades.{found-in}
 use Rattle.hwp_cpu_check.proofs.HandlerRank.{handler-lasting, handler-ranked, handler-tells}
 use Rattle.hwp_cpu_check.proofs.EventTells.{tell-cost}
 use Rattle.hwp_cpu_check.specs.Checks.{restarting, with_own}
-use Rattle.hwp_cpu_access.specs.Costs.{aborts, aborts_at, anew, anew_after_wait, check_cost, claims, claims_at, class, class_at, cost, cost_at, ended_cost, held_cost, is_alone, past_cost, rest_at, word_of}
+use Rattle.hwp_cpu_access.specs.Costs.{aborts, aborts_at, anew, paused_cost, check_cost, claims, claims_at, class, class_at, cost, cost_at, ended_cost, held_cost, is_alone, past_cost, rest_at, word_of}
 use Rattle.hwp_cpu_access.specs.Fits.{FitsAt, FitsFrom, IsOfAccess, banks_at, task as instruction-task}
-use Rattle.hwp_cpu_access.specs.Instructions.{AfterAccessBy, BeginsCheck, FollowsAt, after_handler, after_handler_by, after_load, after_stop, answered, bare, bare_at, emptied, handler_of, is_pending, plan, plan_at, put, put_at, restarted, turn_of_load}
+use Rattle.hwp_cpu_access.specs.Instructions.{AfterAccessBy, BeginsCheck, FollowsAt, after_handler, after_handler_by, after_load, after_stop, answered, bare, bare_at, emptied, going_on, handler_of, is_pending, left_to_do, plan, plan_at, put, put_at, restarted, turn_of_load}
 use Rattle.hwp_cpu_access.specs.declared.instruction.Instruction.{Instruction}
 use Rattle.hwp_cpu_access.specs.declared.instruction.InstructionAnswer.{InstructionAnswer}
 use Rattle.hwp_cpu_access.specs.declared.instruction.InstructionAnswer.TheVariants as answers
@@ -100,9 +100,9 @@ begins-cost layout i after frame w of_access line inside three few (inr (spare, 
 
     which : (b : Bool) → list_any (λ (e : Option Event). is_some e) i.banks ≡ b → cost after w ≤ held_cost i.banks + (5 + past_cost (word_of frame w))
     which true some =
-        let all : cost (after_handler (emptied i spare) frame h) w ≤ handlers.cost h w + anew_after_wait = after-cost (emptied i spare) frame h w refl few in
+        let all : cost (after_handler (emptied i spare) frame h) w ≤ handlers.cost h w + paused_cost = after-cost (emptied i spare) frame h w refl few in
         let same : cost after w ≡ cost (after_handler (emptied i spare) frame h) w = ap (λ (x : Instruction). cost x w) next in
-        let paid : held_cost i.banks ≡ anew_after_wait = ap (λ (c : Bool). cond c anew_after_wait 0) some in
+        let paid : held_cost i.banks ≡ paused_cost = ap (λ (c : Bool). cond c paused_cost 0) some in
         omega (arith, all, same, paid, first)
     which false none =
         let brief : IsBriefly frame h = briefly (hold-nothing i.banks three none) in
@@ -128,17 +128,18 @@ over-at (access_at.GiveUp g) answer is = absurd (none-some answer is)
 left-after : (i : Instruction) (frame : Frame) (g : Handler) → (handlers.plan g ≡ None) ⊎ (1 < handlers.class g) → (plan (after_handler i frame g) ≡ None) ⊎ (1 < class (after_handler i frame g))
 left-after i frame g left = which g.at refl
   where
-    free : (stopped : Bool) (o : Option At) (c : Bool) → 1 < class_at (cond stopped (at.Over (Some answers.Stopped)) (unwrap_or (option_map (λ (place : At). at.Over (Some (answers.Sigbus place))) o) (cond c (at.LoadFrame frame) (restarted i))))
-    free true o c = omega arith
-    free false (Some place) c = omega arith
-    free false None true = omega arith
-    free false None false = omega arith
+    free : (stopped : Bool) (o : Option At) (kept c : Bool) → 1 < class_at (cond stopped (at.Over (Some answers.Stopped)) (going_on i.request kept (left_to_do o frame c)))
+    free true o kept c = omega arith
+    free false o true c = omega arith
+    free false (Some place) false c = omega arith
+    free false None false true = omega arith
+    free false None false false = omega arith
 
     which : (x : HandlerAt) → g.at ≡ x → (plan (after_handler_by i frame g (handlers.answer_at x)) ≡ None) ⊎ (1 < class (after_handler_by i frame g (handlers.answer_at x)))
     which handler_at.Stop is = left
     which (handler_at.Fail f) is = left
     which handler_at.GaveUp is = left
-    which (handler_at.Over stopped) is = inr (free stopped (first_signal g.events.told) (was_poisoned frame g.events.told))
+    which (handler_at.Over stopped) is = inr (free stopped (first_signal g.events.told) (has_kept g.events.told && i.collects) (was_poisoned frame g.events.told))
 
 -- ---- the turns
 
@@ -261,16 +262,16 @@ module _ {layout : Layout} {seat : ℕ} {a b : State} {s t : Instruction} {turn 
     | inr failed ↦ inr (failed.0, failed.1.fewer)
   ]
     where
-      total : cost t now ≤ handlers.cost g now + anew_after_wait
-      total = subst (λ (z : Instruction). cost z now ≤ handlers.cost g now + anew_after_wait) (sym next) (after-cost (bare s) frame g now none few)
+      total : cost t now ≤ handlers.cost g now + paused_cost
+      total = subst (λ (z : Instruction). cost z now ≤ handlers.cost g now + paused_cost) (sym next) (after-cost (bare s) frame g now none few)
 
       by : (c : Bool) (f : Fail) → is_alone frame h.events f ≡ c → h.at ≡ handler_at.Fail f → handlers.cost g now < handlers.cost h w → Falls (at.Handle frame h)
       by false f apart is less =
-          let rest : rest_at frame h.events h.at w ≡ anew_after_wait = ap (λ (x : HandlerAt). rest_at frame h.events x w) is ∙ ap (λ (c : Bool). cond c (past_cost (word_of frame w)) anew_after_wait) apart in
+          let rest : rest_at frame h.events h.at w ≡ paused_cost = ap (λ (x : HandlerAt). rest_at frame h.events x w) is ∙ ap (λ (c : Bool). cond c (past_cost (word_of frame w)) paused_cost) apart in
           let falls : handlers.cost g now < handlers.cost h w = less in
           inl (omega (arith, total, rest, falls))
       by true f alone is less =
-          let rest : rest_at frame h.events h.at w ≡ past_cost (word_of frame w) = ap (λ (x : HandlerAt). rest_at frame h.events x w) is ∙ ap (λ (c : Bool). cond c (past_cost (word_of frame w)) anew_after_wait) alone in
+          let rest : rest_at frame h.events h.at w ≡ past_cost (word_of frame w) = ap (λ (x : HandlerAt). rest_at frame h.events x w) is ∙ ap (λ (c : Bool). cond c (past_cost (word_of frame w)) paused_cost) alone in
           elim (alone-goes stepped frame f is alone (bare s) t next) [
             | inl few ↦ let falls : cost t now < handlers.cost h w + past_cost (word_of frame w) = few in inl (omega (arith, rest, falls))
             | inr fewer ↦ inr fewer
@@ -308,6 +309,7 @@ module _ {layout : Layout} {seat : ℕ} {a b : State} {s t : Instruction} {turn 
   falls-at (at.LoadFrame frame) own e has move next goes = inl (frame-goes frame e has.empty_are next.0 next.1 goes)
   falls-at (at.LoadStop frame) own e has move next goes = inl (stop-goes frame e next.0)
   falls-at at.GiveUp own e has move next goes = let none : cost t now ≡ 0 = ap (λ (i : Instruction). cost i now) next.0 in inl (omega (arith, none))
+  falls-at (at.Paused pause) own e has move next goes = absurd (none-some made.step e)
   falls-at (at.Over answer) own e has move next goes = absurd (none-some made.step e)
 
   owns-at : (x : InstructionAt) (of : Frame) (cycle : ℕ) → s.at ≡ x → plan_at x ≡ Some made.step → FitsAt made.fits.0 layout (view_of a seat) s made.fits.1.checks x → Moves (put_at x) → FollowsAt layout (bare s) (bare_at x) made.found made.got t turn → is_refused turn ≡ false → Pending now of cycle
@@ -320,6 +322,7 @@ module _ {layout : Layout} {seat : ℕ} {a b : State} {s t : Instruction} {turn 
   owns-at (at.LoadFrame frame) of cycle own e has move next going pending = inr (pending-kept made (subst IsMild (same_Some (steps.Load (places.Frame frame)) made.step e) tt) of cycle pending, λ claimed. none-some (of, cycle) claimed)
   owns-at (at.LoadStop frame) of cycle own e has move next going pending = inr (pending-kept made (subst IsMild (same_Some (steps.Load places.Stop) made.step e) tt) of cycle pending, λ claimed. none-some (of, cycle) claimed)
   owns-at at.GiveUp of cycle own e has move next going pending = inr (pending-kept made (subst IsMild (same_Some steps.GiveUp made.step e) tt) of cycle pending, λ claimed. none-some (of, cycle) claimed)
+  owns-at (at.Paused pause) of cycle own e has move next going pending = absurd (none-some made.step e)
   owns-at (at.Over answer) of cycle own e has move next going pending = absurd (none-some made.step e)
 
   unmoved : is_waits turn ≡ true → {other : Turn} → turn ≡ other → is_waits other ≡ false → ⊥
@@ -354,6 +357,7 @@ module _ {layout : Layout} {seat : ℕ} {a b : State} {s t : Instruction} {turn 
       which false ended = absurd (unmoved is (next.1 ∙ ap (λ (c : Bool). cond c (Waits made.found) Moved) ended) refl)
   waits-at (at.LoadStop frame) own e has move next is quiet = inl (stop-goes frame e next.0)
   waits-at at.GiveUp own e has move next is quiet = absurd (unmoved is next.1 refl)
+  waits-at (at.Paused pause) own e has move next is quiet = absurd (none-some made.step e)
   waits-at (at.Over answer) own e has move next is quiet = absurd (none-some made.step e)
 
   leaves-at : (x : InstructionAt) → plan_at x ≡ Some made.step → FitsAt made.fits.0 layout (view_of a seat) s made.fits.1.checks x → Moves (put_at x) → FollowsAt layout (bare s) (bare_at x) made.found made.got t turn → aborts_at x ≡ true → (plan t ≡ None) ⊎ (1 < class t)
@@ -363,6 +367,7 @@ module _ {layout : Layout} {seat : ℕ} {a b : State} {s t : Instruction} {turn 
   leaves-at (at.LoadFrame frame) e has move next gives = absurd (both_ways false refl gives)
   leaves-at (at.LoadStop frame) e has move next gives = absurd (both_ways false refl gives)
   leaves-at at.GiveUp e has move next gives = absurd (both_ways false refl gives)
+  leaves-at (at.Paused pause) e has move next gives = absurd (none-some made.step e)
   leaves-at (at.Over answer) e has move next gives = absurd (none-some made.step e)
 
   -- what follows fits what its processor then knows
@@ -385,6 +390,7 @@ instruction-class i = which i.at
     which (at.LoadFrame frame) = (omega arith, omega arith)
     which (at.LoadStop frame) = (omega arith, omega arith)
     which at.GiveUp = (omega arith, omega arith)
+    which (at.Paused pause) = (omega arith, omega arith)
     which (at.Over answer) = (omega arith, omega arith)
 
 pub instruction-ranked : IsRanked instruction-task
@@ -409,6 +415,7 @@ module _ {past : List Deed} (layout : Layout) (view : View) (i : Instruction) (f
   frame-told (at.LoadFrame frame) has some = absurd (no-frame view has.hand_is refl refl refl some)
   frame-told (at.LoadStop frame) has some = absurd (no-frame view has.hand_is refl refl refl some)
   frame-told at.GiveUp has some = absurd (no-frame view has refl refl refl some)
+  frame-told (at.Paused pause) has some = absurd (no-frame view has.hand_is refl refl refl some)
   frame-told (at.Over None) has some = absurd (no-frame view has refl refl refl some)
   frame-told (at.Over (Some answer)) has some = absurd (no-frame view has.hand_is refl refl refl some)
 
@@ -418,6 +425,7 @@ module _ {past : List Deed} (layout : Layout) (view : View) (i : Instruction) (f
   page-told (at.LoadFrame frame) has some = absurd (no-page view has.hand_is refl some)
   page-told (at.LoadStop frame) has some = absurd (no-page view has.hand_is refl some)
   page-told at.GiveUp has some = absurd (no-page view has refl some)
+  page-told (at.Paused pause) has some = absurd (no-page view has.hand_is refl some)
   page-told (at.Over None) has some = absurd (no-page view has refl some)
   page-told (at.Over (Some answer)) has some = absurd (no-page view has.hand_is refl some)
 
@@ -427,6 +435,7 @@ module _ {past : List Deed} (layout : Layout) (view : View) (i : Instruction) (f
   claim-told (at.LoadFrame frame) of cycle has claimed = absurd (none-some (of, cycle) claimed)
   claim-told (at.LoadStop frame) of cycle has claimed = absurd (none-some (of, cycle) claimed)
   claim-told at.GiveUp of cycle has claimed = absurd (none-some (of, cycle) claimed)
+  claim-told (at.Paused pause) of cycle has claimed = absurd (none-some (of, cycle) claimed)
   claim-told (at.Over answer) of cycle has claimed = absurd (none-some (of, cycle) claimed)
 
 pub instruction-tells : TellsClass instruction-task
@@ -446,4 +455,5 @@ instruction-lasting i step is = which i.at is
     which (at.LoadFrame frame) e = subst LeavesPoison (same_Some (steps.Load (places.Frame frame)) step e) tt
     which (at.LoadStop frame) e = subst LeavesPoison (same_Some (steps.Load places.Stop) step e) tt
     which at.GiveUp e = subst LeavesPoison (same_Some steps.GiveUp step e) tt
+    which (at.Paused pause) e = absurd (none-some step e)
     which (at.Over answer) e = absurd (none-some step e)

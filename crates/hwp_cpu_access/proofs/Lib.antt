@@ -1,4 +1,5 @@
 mod AfterAccess
+pub mod WithoutCollector
 pub mod CheckLaws
 pub mod Quiet
 pub mod CommandGrows

@@ -33,7 +33,7 @@ use Rattle.hwp_cpu_check.specs.Handlers.{failing, tell_on}
 use Rattle.hwp_cpu_check.specs.Queue.{Queue}
 use Rattle.hwp_cpu_check.specs.Told.{are_held_back, at_once, frame_of, required_by, severity_at_once}
 use Rattle.hwp_cpu_check.specs.Checks.{restarting, with_own}
-use Rattle.hwp_cpu_access.specs.Costs.{past_cost, rest_at, word_of, anew_after_wait}
+use Rattle.hwp_cpu_access.specs.Costs.{past_cost, rest_at, word_of, paused_cost}
 use Rattle.hwp_cpu_access.specs.Fits.{IsOfAccess}
 
 -- ---- the one event that is held
@@ -96,7 +96,7 @@ module _ (layout : Layout) (alloc : Global) (who : Who) (thread : Option Thread)
       by : (b : Bool) → b ≡ true → IsBriefly frame (handler_on stops (record { told = []; left = held ∷ [] }, handler_at.Fail (fails.begin alloc who (frame_of held) (required_by thread held.grade.severity) true b)))
       by true recovers = record {
         unanswered = refl;
-        few = λ w. let same : cond ((frame_at held.event.addr == frame.0) && true) (past_cost (word_of frame w)) anew_after_wait ≡ past_cost (word_of frame w) = ap (λ (c : Bool). cond (c && true) (past_cost (word_of frame w)) anew_after_wait) (eq-eqb (frame_at held.event.addr) frame.0 own) in omega (arith, same);
+        few = λ w. let same : cond ((frame_at held.event.addr == frame.0) && true) (past_cost (word_of frame w)) paused_cost ≡ past_cost (word_of frame w) = ap (λ (c : Bool). cond (c && true) (past_cost (word_of frame w)) paused_cost) (eq-eqb (frame_at held.event.addr) frame.0 own) in omega (arith, same);
       }
       by false recovers = absurd (both_ways true (sym recovers) refl)
 

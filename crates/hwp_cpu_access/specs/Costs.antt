@@ -1,6 +1,6 @@
 -- Why an instruction ends. It is made again after a machine check only where another event was held, a failure of the machine check
 -- poisoned its frame, or another's failure of the frame has ended: each pays for the turns of an access that begins again.
-use Rattle.std.specs.Prelude.{ℕ, ◌+◌, ◌==◌, ◌&&◌, Bool, false, cond, Option, Some, None, is_some, length, slice_index}
+use Rattle.std.specs.Prelude.{ℕ, ◌+◌, ◌*◌, ◌==◌, ◌&&◌, Bool, false, cond, Option, Some, None, is_some, length, slice_index}
 use Rattle.std.specs.List.{list_any}
 use Rattle.hwp_fault.specs.hwp_geom.declared.Frame.{Frame}
 use Rattle.hwp_fault.specs.hwp_words.Frames.{is_poisoned}
@@ -10,7 +10,7 @@ use Rattle.hwp_fault.specs.declared.AccessAnswer.TheVariants as access_answers
 use Rattle.hwp_fault.specs.declared.access.AccessAt.{AccessAt}
 use Rattle.hwp_fault.specs.declared.access.AccessAt.TheVariants as access_at
 use Rattle.hwp_fault.specs.Accesses as accesses
-use Rattle.hwp_fault.specs.hwp_core_task.Ranks.{again_most}
+use Rattle.hwp_fault.specs.hwp_core_task.Ranks.{again_most, stale_weight}
 use Rattle.hwp_cpu_check.specs.hwp_claim.declared.Fail.{Fail}
 use Rattle.hwp_cpu_check.specs.hwp_claim.Done.{marked_at}
 use Rattle.hwp_cpu_check.specs.hwp_banks.Banks.{Banks}
@@ -52,6 +52,14 @@ anew = again_most + 2
 abbrev pub anew_after_wait : ℕ
 anew_after_wait = anew + 2
 
+-- what a machine check that keeps events pays for the frames that may be taken out of use before the access begins again
+abbrev pub pause_weight : ℕ
+pause_weight = 9 * stale_weight
+
+-- and with the access
+abbrev pub paused_cost : ℕ
+paused_cost = anew_after_wait + pause_weight
+
 -- the frame's failure has ended, or there is none: that pays for the access that begins again
 abbrev pub ended_cost : ℕ → ℕ
 ended_cost word = cond (is_pending word) 0 anew
@@ -72,7 +80,7 @@ check_cost _ words = 0
 
 -- an event that the banks hold is gone after a machine check
 abbrev pub held_cost : Banks → ℕ
-held_cost banks = cond (list_any (λ (b : Option Event). is_some b) banks) anew_after_wait 0
+held_cost banks = cond (list_any (λ (b : Option Event). is_some b) banks) paused_cost 0
 
 -- the failure of the frame itself comes next, the only event: it may find the frame poisoned already
 abbrev pub is_alone : Frame → Queue → Fail → Bool
@@ -80,7 +88,7 @@ is_alone frame q f = (length q.told == 0) && (length q.left == 1) && (f.frame.0 
 
 -- what follows a machine check
 abbrev pub rest_at : Frame → Queue → HandlerAt → Words → ℕ
-rest_at frame q (handler_at.Fail f) words = cond (is_alone frame q f) (past_cost (word_of frame words)) anew_after_wait
+rest_at frame q (handler_at.Fail f) words = cond (is_alone frame q f) (past_cost (word_of frame words)) paused_cost
 rest_at frame q _ words = 0
 
 abbrev pub cost_at : Banks → InstructionAt → Words → ℕ
@@ -89,6 +97,7 @@ cost_at banks (at.Handle frame h) words = handlers.cost h words + rest_at frame 
 cost_at banks (at.LoadFrame frame) words = 1 + ended_cost (word_of frame words)
 cost_at banks (at.LoadStop frame) words = 2 + ended_cost (word_of frame words)
 cost_at banks at.GiveUp words = 1
+cost_at banks (at.Paused pause) words = paused_cost
 cost_at banks (at.Over answer) words = 0
 
 abbrev pub cost : Instruction → Words → ℕ

@@ -41,6 +41,8 @@ use Rattle.hwp_cpu_access.specs.declared.instruction.InstructionAnswer.{Instruct
 use Rattle.hwp_cpu_access.specs.declared.instruction.InstructionAnswer.TheVariants as answers
 use Rattle.hwp_cpu_access.specs.declared.instruction.InstructionAt.{InstructionAt}
 use Rattle.hwp_cpu_access.specs.declared.instruction.InstructionAt.TheVariants as at
+use Rattle.hwp_cpu_access.specs.declared.instruction.Pause.{Pause}
+use Rattle.hwp_cpu_access.specs.declared.instruction.Pause.TheVariants as pauses
 
 -- beside these entries the command made only such as may stand before the one that answers it
 abbrev pub HasOnlyBefore : List Made → View → Request → Type 0
@@ -128,6 +130,26 @@ pub record IsWaiting (base : List Made) (layout : Layout) (view : View) (i : Ins
   pub within : frame.0 < layout.frames
   pub empty_are : i.banks ≡ empty_banks
 
+-- what is left is more than an answer, and a frame that is waited for is one of the layout
+abbrev pub CanResume : Layout → Pause → Type 0
+CanResume layout (pauses.Sigbus place) = ⊥
+CanResume layout (pauses.Wait frame) = frame.0 < layout.frames
+CanResume layout pauses.Again = Unit {0}
+
+-- the thread was signalled; or the instruction goes on
+abbrev pub IsLeft : List Made → Layout → View → Request → List EventOutcome → Pause → Type 0
+IsLeft base layout view a told (pauses.Sigbus place) = IsSignalled base view a told place
+IsLeft base layout view a told pause = LetsGoOn told × HasOnlyBefore base view a × CanResume layout pause
+
+-- nothing is held, this is left behind the pause, and the processor collects
+pub record IsPaused (base : List Made) (layout : Layout) (view : View) (i : Instruction) (checks : List Check) (pause : Pause) : Type 0 where
+  pub hand_is : hand_of view ≡ empty
+  pub paid : view.owed.losses ≡ []
+  pub made : checks_made i.request.who view ≡ length checks + checks_in base
+  pub left : IsLeft base layout view i.request i.lines.told pause
+  pub collects : i.collects ≡ true
+  pub empty_are : i.banks ≡ empty_banks
+
 -- nothing is held any more, and the answer has its cause
 pub record IsAnswered (base : List Made) (layout : Layout) (view : View) (i : Instruction) (checks : List Check) (answer : InstructionAnswer) : Type 0 where
   pub hand_is : hand_of view ≡ empty
@@ -141,6 +163,7 @@ FitsAt base layout view i checks (at.Handle frame h) = IsHandling base layout vi
 FitsAt base layout view i checks (at.LoadFrame frame) = IsWaiting base layout view i checks frame
 FitsAt base layout view i checks (at.LoadStop frame) = IsWaiting base layout view i checks frame
 FitsAt base layout view i checks at.GiveUp = hand_of view ≡ empty
+FitsAt base layout view i checks (at.Paused pause) = IsPaused base layout view i checks pause
 FitsAt base layout view i checks (at.Over None) = hand_of view ≡ empty
 FitsAt base layout view i checks (at.Over (Some answer)) = IsAnswered base layout view i checks answer
 

@@ -1,5 +1,5 @@
 -- An instruction that accesses a line, with the machine checks that it meets: the task's states, its steps and what they come to.
-use Rattle.std.specs.Prelude.{◌≡◌, ◌⊎◌, ℕ, ◌≤◌, ◌&&◌, ◌||◌, Bool, not, cond, Option, Some, None, option_map, unwrap_or}
+use Rattle.std.specs.Prelude.{◌≡◌, ◌⊎◌, ℕ, ◌≤◌, ◌&&◌, ◌||◌, Bool, true, not, cond, Option, Some, None}
 use Rattle.std.specs.declared.alloc.Global.{Global}
 use Rattle.hwp_fault.specs.hwp_geom.declared.Frame.{Frame}
 use Rattle.hwp_fault.specs.hwp_geom.declared.Layout.{Layout}
@@ -24,24 +24,28 @@ use Rattle.hwp_cpu_check.specs.hwp_banks.Banks.{Banks, empty_banks}
 use Rattle.hwp_cpu_check.specs.declared.Handler.{Handler}
 use Rattle.hwp_cpu_check.specs.Handlers as handlers
 use Rattle.hwp_cpu_check.specs.Lines.{no_lines, with_lines}
-use Rattle.hwp_cpu_check.specs.Told.{first_signal, was_poisoned}
+use Rattle.hwp_cpu_check.specs.Told.{first_signal, has_kept, was_poisoned}
 use Rattle.hwp_cpu_check.specs.Checks.{restarting, with_own}
 use Rattle.hwp_cpu_access.specs.declared.instruction.Instruction.{Instruction}
 use Rattle.hwp_cpu_access.specs.declared.instruction.InstructionAnswer.{InstructionAnswer}
 use Rattle.hwp_cpu_access.specs.declared.instruction.InstructionAnswer.TheVariants as answers
 use Rattle.hwp_cpu_access.specs.declared.instruction.InstructionAt.{InstructionAt}
 use Rattle.hwp_cpu_access.specs.declared.instruction.InstructionAt.TheVariants as at
+use Rattle.hwp_cpu_access.specs.declared.instruction.Pause.{Pause}
+use Rattle.hwp_cpu_access.specs.declared.instruction.Pause.TheVariants as pauses
 
 -- the access at its beginning
 abbrev pub first : Request → InstructionAt
 first request = at.Access (accesses.begin request)
 
-abbrev pub begin : Global → Request → Origin → Mode → Banks → Instruction
-begin alloc request origin mode banks = record {
+-- whether its processor collects corrected errors is told at its beginning
+abbrev pub begin : Global → Request → Origin → Mode → Banks → Bool → Instruction
+begin alloc request origin mode banks collects = record {
   alloc = alloc;
   request = request;
   origin = origin;
   mode = mode;
+  collects = collects;
   before = record { marker = record {}; value = banks };
   banks = banks;
   lines = no_lines;
@@ -56,6 +60,7 @@ plan_at (at.Handle frame h) = handlers.plan h
 plan_at (at.LoadFrame frame) = Some (steps.Load (places.Frame frame))
 plan_at (at.LoadStop frame) = Some (steps.Load places.Stop)
 plan_at at.GiveUp = Some steps.GiveUp
+plan_at (at.Paused pause) = None
 plan_at (at.Over answer) = None
 
 abbrev pub plan : Instruction → Option Step
@@ -84,6 +89,13 @@ answer_at _ = None
 abbrev pub answer : Instruction → Option InstructionAnswer
 answer i = answer_at i.at
 
+abbrev pub pause_at : InstructionAt → Option Pause
+pause_at (at.Paused pause) = Some pause
+pause_at _ = None
+
+abbrev pub pause : Instruction → Option Pause
+pause i = pause_at i.at
+
 -- ---- what follows
 
 abbrev pub over : InstructionAnswer → InstructionAt
@@ -93,20 +105,35 @@ over answer = at.Over (Some answer)
 abbrev pub restarted : Instruction → InstructionAt
 restarted i = at.Access (accesses.again i.request)
 
--- after a machine check that didn't stop the machine: the first failure that signalled the thread answers the instruction; where
--- the frame was poisoned already, the end of that failure is awaited
+-- what is left of an instruction behind a machine check that didn't stop the machine: the first failure that signalled the thread
+-- answers it; where the frame was poisoned already, the end of that failure is awaited
+abbrev pub left_to_do : Option At → Frame → Bool → Pause
+left_to_do (Some place) frame poisoned = pauses.Sigbus place
+left_to_do None frame poisoned = cond poisoned (pauses.Wait frame) pauses.Again
+
+-- the instruction goes on with it, perhaps behind a pause
+abbrev pub resumed : Request → Pause → InstructionAt
+resumed request (pauses.Sigbus place) = at.Over (Some (answers.Sigbus place))
+resumed request (pauses.Wait frame) = at.LoadFrame frame
+resumed request pauses.Again = at.Access (accesses.again request)
+
+abbrev pub going_on : Request → Bool → Pause → InstructionAt
+going_on request kept pause = cond kept (at.Paused pause) (resumed request pause)
+
+-- the instruction behind its pause: its processor collects
+abbrev pub resume : Global → Request → Origin → Mode → Banks → Pause → Instruction
+resume alloc request origin mode banks pause = record (begin alloc request origin mode banks true) { at = resumed request pause }
+
+-- where its processor collects and the machine check kept an event, the instruction pauses
 abbrev pub after_check : Instruction → Frame → Handler → InstructionAt
-after_check i frame h =
-    unwrap_or (option_map (λ (place : At). at.Over (Some (answers.Sigbus place))) (first_signal h.events.told))
-    (cond (was_poisoned frame h.events.told) (at.LoadFrame frame) (restarted i))
+after_check i frame h = going_on i.request (has_kept h.events.told && i.collects) (left_to_do (first_signal h.events.told) frame (was_poisoned frame h.events.told))
 
 abbrev pub over_at : Instruction → Frame → Handler → Bool → InstructionAt
 over_at i frame h stopped = cond stopped (over answers.Stopped) (after_check i frame h)
 
 -- the same by what the machine check told
-abbrev pub over_with : Instruction → Frame → Bool → Option At → Bool → InstructionAt
-over_with i frame stopped signalled poisoned =
-    cond stopped (over answers.Stopped) (unwrap_or (option_map (λ (place : At). over (answers.Sigbus place)) signalled) (cond poisoned (at.LoadFrame frame) (restarted i)))
+abbrev pub over_with : Request → Bool → Bool → Pause → InstructionAt
+over_with request stopped kept pause = cond stopped (over answers.Stopped) (going_on request kept pause)
 
 abbrev pub after_handler_by : Instruction → Frame → Handler → Option Bool → Instruction
 after_handler_by i frame h None = record i { at = at.Handle frame h }
@@ -182,6 +209,7 @@ FollowsAt layout i (at.Handle frame h) found got after turn = HandlerStepped lay
 FollowsAt layout i (at.LoadFrame frame) found got after turn = (after ≡ after_load i frame found) × (turn ≡ turn_of_load found)
 FollowsAt layout i (at.LoadStop frame) found got after turn = (after ≡ after_stop i frame found) × (turn ≡ turn_of_stop found)
 FollowsAt layout i at.GiveUp found got after turn = (after ≡ record i { at = at.Over None }) × (turn ≡ NoMemory)
+FollowsAt layout i (at.Paused pause) found got after turn = (after ≡ i) × (turn ≡ Moved)
 FollowsAt layout i (at.Over answer) found got after turn = (after ≡ i) × (turn ≡ Moved)
 
 abbrev pub Follows : Layout → Instruction → ℕ → Option BodyValue → Instruction → Turn → Type 0

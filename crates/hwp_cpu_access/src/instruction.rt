@@ -1,10 +1,10 @@
-ghost use Rattle.std.specs.Prelude.{◌≡◌, ◌≤◌, Some, None, length};
+ghost use Rattle.std.specs.Prelude.{◌≡◌, ◌≤◌, ◌&&◌, Some, None, length};
 ghost use Rattle.hwp_cpu_check.specs.hwp_banks.Banks.{empty_banks};
 ghost use Rattle.hwp_cpu_check.specs.Checks.{with_own};
 ghost use Rattle.hwp_cpu_check.specs.hwp_banks.Events.{bank_count};
 ghost use Rattle.hwp_fault.specs.hwp_core_task.declared.Turn.TheVariants.{NoMemory};
 ghost use Rattle.hwp_cpu_access.specs.declared.instruction.InstructionAt.TheVariants as states;
-ghost use Rattle.hwp_cpu_access.specs.Instructions.{AfterAccessBy, BeginsCheck, after_handler, after_load, after_stop, answer, answered, begin, first, is_pending, over, over_with, restarted, turn_of_load, turn_of_stop};
+ghost use Rattle.hwp_cpu_access.specs.Instructions.{AfterAccessBy, BeginsCheck, after_handler, after_load, after_stop, answer, answered, begin, first, going_on, is_pending, left_to_do, over, over_with, pause, restarted, resume, resumed, turn_of_load, turn_of_stop};
 
 use hwp_cpu_check::{
     At, BANKS, Bank, Body, EventOutcome, Frame, FrameWord, Handler, Layout, List, McgBits, Mode,
@@ -25,6 +25,8 @@ pub struct Instruction {
     /// What makes the machine log its own event where the line is bad.
     origin: Origin,
     mode: Mode,
+    /// Whether the processor collects corrected errors: then it pauses behind a machine check that kept one.
+    collects: bool,
     /// What the banks held at the beginning.
     before: Snapshot<[Bank; BANKS]>,
     banks: [Bank; BANKS],
@@ -42,6 +44,8 @@ enum InstructionAt {
     /// It isn't. Has another processor given up?
     LoadStop { frame: Frame },
     GiveUp,
+    /// Frames may be taken out of use now; then the instruction goes on.
+    Paused { pause: Pause },
     /// No answer: the instruction gave up because memory ran out.
     Over { answer: Option<InstructionAnswer> },
 }
@@ -63,26 +67,71 @@ pub enum InstructionAnswer {
     Stopped,
 }
 
+/// What is left of an instruction behind a machine check that didn't stop the machine.
+#[derive(Clone, Copy)]
+pub enum Pause {
+    /// To answer that the thread was signalled SIGBUS, by this entry.
+    Sigbus { at: At },
+    /// The end of the frame's failure is awaited, and then the access is made again.
+    Wait { frame: Frame },
+    /// The access is made again.
+    Again,
+}
+
 impl Instruction {
-    /// The instruction at its beginning: an access of this origin, in this mode, by a processor whose banks hold this.
+    /// The instruction at its beginning: an access of this origin, in this mode, by a processor whose banks hold this, and which
+    /// collects corrected errors or doesn't.
     pub fn new(
         alloc: Global,
         request: Request,
         origin: Origin,
         mode: Mode,
         banks: [Bank; BANKS],
+        collects: bool,
     ) -> Instruction
-        ensures { result ≡ begin alloc request origin mode banks }
+        ensures { result ≡ begin alloc request origin mode banks collects }
     {
         Instruction {
             alloc,
             request,
             origin,
             mode,
+            collects,
             before: Snapshot::of(&banks),
             banks,
             lines: ToldLines::new(alloc),
             at: first(&request),
+        }
+    }
+
+    /// The instruction behind its pause, by a processor whose banks hold this, and which collects.
+    pub fn resume(
+        alloc: Global,
+        request: Request,
+        origin: Origin,
+        mode: Mode,
+        banks: [Bank; BANKS],
+        pause: Pause,
+    ) -> Instruction
+        ensures { result ≡ resume alloc request origin mode banks pause }
+    {
+        let mut instruction = Instruction::new(alloc, request, origin, mode, banks, true);
+        instruction.set(resumed(&request, pause));
+        instruction
+    }
+
+    /// What is left of it, where it pauses.
+    pub fn pause(&self) -> Option<Pause>
+        ensures { result ≡ pause self.now }
+    {
+        match self.at {
+            InstructionAt::Paused { pause } => Some(pause),
+            InstructionAt::Access { .. }
+            | InstructionAt::Handle { .. }
+            | InstructionAt::LoadFrame { .. }
+            | InstructionAt::LoadStop { .. }
+            | InstructionAt::GiveUp
+            | InstructionAt::Over { .. } => None,
         }
     }
 
@@ -96,7 +145,8 @@ impl Instruction {
             | InstructionAt::Handle { .. }
             | InstructionAt::LoadFrame { .. }
             | InstructionAt::LoadStop { .. }
-            | InstructionAt::GiveUp => None,
+            | InstructionAt::GiveUp
+            | InstructionAt::Paused { .. } => None,
         }
     }
 
@@ -175,24 +225,20 @@ impl Instruction {
         };
         self.lines.append(handler.told());
         let signalled = handler.signalled();
-        let was_poisoned = handler.was_poisoned(frame);
+        let kept = handler.has_kept();
+        let pause = left_to_do(signalled, frame, handler.was_poisoned(frame));
         drop(handler);
-        self.end_check(frame, stopped, signalled, was_poisoned);
+        self.end_check(stopped, kept, pause);
     }
 
-    /// The machine check is over: whether it stopped the machine, the first entry that signalled the thread, and whether a
-    /// failure found the frame poisoned already.
-    fn end_check(&mut self, frame: Frame, stopped: bool, signalled: Option<At>, was_poisoned: bool)
-        ensures { self.new ≡ record self.old { at = over_with self.old frame stopped signalled was_poisoned } }
+    /// The machine check is over: whether it stopped the machine, whether it kept an event, and what is left of the instruction.
+    fn end_check(&mut self, stopped: bool, kept: bool, pause: Pause)
+        ensures { self.new ≡ record self.old { at = over_with self.old.request stopped (kept && self.old.collects) pause } }
     {
         if stopped {
             self.end(InstructionAnswer::Stopped);
-        } else if let Some(at) = signalled {
-            self.end(InstructionAnswer::Sigbus { at });
-        } else if was_poisoned {
-            self.set(InstructionAt::LoadFrame { frame });
         } else {
-            let at = self.restarted();
+            let at = going_on(&self.request, kept && self.collects, pause);
             self.set(at);
         }
     }
@@ -266,6 +312,42 @@ fn first(request: &Request) -> InstructionAt
     }
 }
 
+/// What is left behind a machine check of the frame, by the first entry that signalled the thread, and by whether a failure
+/// found the frame poisoned already.
+fn left_to_do(signalled: Option<At>, frame: Frame, was_poisoned: bool) -> Pause
+    ensures { result ≡ left_to_do signalled frame was_poisoned }
+{
+    match signalled {
+        Some(at) => Pause::Sigbus { at },
+        None if was_poisoned => Pause::Wait { frame },
+        None => Pause::Again,
+    }
+}
+
+/// The instruction goes on with what is left of it.
+fn resumed(request: &Request, pause: Pause) -> InstructionAt
+    ensures { result ≡ resumed request.now pause }
+{
+    match pause {
+        Pause::Sigbus { at } => over(InstructionAnswer::Sigbus { at }),
+        Pause::Wait { frame } => InstructionAt::LoadFrame { frame },
+        Pause::Again => InstructionAt::Access {
+            access: Access::again(*request),
+        },
+    }
+}
+
+/// It pauses first, where the processor collects and an event was kept.
+fn going_on(request: &Request, kept: bool, pause: Pause) -> InstructionAt
+    ensures { result ≡ going_on request.now kept pause }
+{
+    if kept {
+        InstructionAt::Paused { pause }
+    } else {
+        resumed(request, pause)
+    }
+}
+
 #[inline(always)]
 fn over(answer: InstructionAnswer) -> InstructionAt
     ensures { result ≡ over answer }
@@ -309,7 +391,7 @@ impl Task for Instruction {
                 place: SharedWord::Stop,
             }),
             InstructionAt::GiveUp => Some(Step::GiveUp),
-            InstructionAt::Over { .. } => None,
+            InstructionAt::Paused { .. } | InstructionAt::Over { .. } => None,
         }
     }
 
@@ -320,6 +402,7 @@ impl Task for Instruction {
             InstructionAt::LoadFrame { .. }
             | InstructionAt::LoadStop { .. }
             | InstructionAt::GiveUp
+            | InstructionAt::Paused { .. }
             | InstructionAt::Over { .. } => None,
         }
     }
@@ -342,8 +425,9 @@ impl Task for Instruction {
                 };
                 self.lines.append(handler.told());
                 let signalled = handler.signalled();
-                let was_poisoned = handler.was_poisoned(frame);
-                self.end_check(frame, stopped, signalled, was_poisoned);
+                let kept = handler.has_kept();
+                let pause = left_to_do(signalled, frame, handler.was_poisoned(frame));
+                self.end_check(stopped, kept, pause);
                 turn
             }
             InstructionAt::LoadFrame { frame } => {
@@ -355,7 +439,7 @@ impl Task for Instruction {
                 self.after_stop(frame, found)
             }
             InstructionAt::GiveUp => self.give_up(),
-            InstructionAt::Over { .. } => Turn::Moved,
+            InstructionAt::Paused { .. } | InstructionAt::Over { .. } => Turn::Moved,
         }
     }
 }
@@ -368,6 +452,7 @@ impl Ranked for Instruction {
             InstructionAt::LoadFrame { .. }
             | InstructionAt::LoadStop { .. }
             | InstructionAt::GiveUp
+            | InstructionAt::Paused { .. }
             | InstructionAt::Over { .. } => 4,
         }
     }
@@ -383,7 +468,7 @@ impl Scheduled for Instruction {
             InstructionAt::LoadFrame { .. }
             | InstructionAt::LoadStop { .. }
             | InstructionAt::GiveUp => false,
-            InstructionAt::Over { .. } => true,
+            InstructionAt::Paused { .. } | InstructionAt::Over { .. } => true,
         }
     }
 

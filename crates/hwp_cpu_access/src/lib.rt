@@ -3,4 +3,4 @@
 
 mod instruction;
 
-pub use instruction::{Instruction, InstructionAnswer};
+pub use instruction::{Instruction, InstructionAnswer, Pause};

@@ -6,6 +6,7 @@ returns c = λ k. record {
   request = c.args.request;
   origin = c.args.origin;
   mode = c.args.mode;
+  collects = c.args.collects;
   before = record { marker = record {}; value = c.of.ensures k };
   banks = c.args.banks;
   lines = c.new.ensures k;
