@@ -84,7 +84,7 @@ knows-access {layout} {view} {who} {thread} {slot} {line} {kind} {origin} {mode}
   answer_is = own.2;
 }
   where
-    task : (i : Instruction) × (j ≡ jobs.Instruction i) × (instructions.begin i.alloc i.request i.origin i.mode i.before.value ≡ instructions.begin runs.alloc (request_of who thread slot line kind runs.page runs.process) origin mode (banks_before j []))
+    task : (i : Instruction) × (j ≡ jobs.Instruction i) × (instructions.begin i.alloc i.request i.origin i.mode i.before.value i.collects ≡ instructions.begin runs.alloc (request_of who thread slot line kind runs.page runs.process) origin mode (banks_before j []) false)
     task = of-instruction j runs.job_is
 
     own : (x : InstructionAnswer) × (instructions.answer task.0 ≡ Some x) × (instruction_answer x ≡ a)

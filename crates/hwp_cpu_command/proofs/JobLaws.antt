@@ -448,6 +448,7 @@ module _ {layout : Layout} {seat : ℕ} {a b : State} {t : Job} {turn : Turn} (f
       which (instruction_at.LoadFrame f) at e next = owns-none frame cycle made (subst IsMild (same_Some (steps.Load (places.Frame f)) made.step e) tt) (ap instruction_costs.claims_at at) pending
       which (instruction_at.LoadStop f) at e next = owns-none frame cycle made (subst IsMild (same_Some (steps.Load places.Stop) made.step e) tt) (ap instruction_costs.claims_at at) pending
       which instruction_at.GiveUp at e next = owns-none frame cycle made (subst IsMild (same_Some steps.GiveUp made.step e) tt) (ap instruction_costs.claims_at at) pending
+      which (instruction_at.Paused pause) at e next = absurd (none-some made.step e)
       which (instruction_at.Over o) at e next = absurd (none-some made.step e)
 
   raise-settled : (x : Raise) → Made job-task layout seat a b (jobs.Raise x) t turn → OwnsNone layout a (jobs.Raise x) frame cycle

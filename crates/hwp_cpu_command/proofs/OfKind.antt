@@ -96,7 +96,7 @@ abbrev unpoison_in : Unpoison → Job → Unpoison
 unpoison_in d (jobs.Unpoison u) = u
 unpoison_in d _ = d
 
-pub of-instruction : (j : Job) {x : Instruction} → anew j ≡ jobs.Instruction x → (i : Instruction) × (j ≡ jobs.Instruction i) × (instructions.begin i.alloc i.request i.origin i.mode i.before.value ≡ x)
+pub of-instruction : (j : Job) {x : Instruction} → anew j ≡ jobs.Instruction x → (i : Instruction) × (j ≡ jobs.Instruction i) × (instructions.begin i.alloc i.request i.origin i.mode i.before.value i.collects ≡ x)
 of-instruction (jobs.Instruction i) {x} is = (i, refl, ap (instruction_in x) is)
 of-instruction _ is = absurd (differ is refl)
 

@@ -55,7 +55,7 @@ abbrev pub request_of : Who → Thread → VSlot → ℕ → AccessKind → Page
 request_of who thread slot line kind page process = record { who = who; thread = thread; slot = slot; line = line; kind = kind; page = page; process = process }
 
 abbrev pub begun_access : Global → Request → Origin → Mode → Banks → Job
-begun_access alloc request origin mode banks = jobs.Instruction (instructions.begin alloc request origin mode banks)
+begun_access alloc request origin mode banks = jobs.Instruction (instructions.begin alloc request origin mode banks false)
 
 -- an access by a thread, through a translation of the thread's own process to the page; it takes what the banks hold
 pub record BeginsAccess (layout : Layout) (who : Who) (thread : Thread) (slot : VSlot) (line : ℕ) (kind : AccessKind) (origin : Origin) (mode : Mode) (banks : Banks) (j : Job) : Type 0 where

@@ -30,7 +30,7 @@ use Rattle.hwp_cpu_command.specs.Jobs.{banks_before}
 
 -- the task of the same command at its beginning
 abbrev pub anew : Job → Job
-anew (jobs.Instruction i) = jobs.Instruction (instructions.begin i.alloc i.request i.origin i.mode i.before.value)
+anew (jobs.Instruction i) = jobs.Instruction (instructions.begin i.alloc i.request i.origin i.mode i.before.value i.collects)
 anew (jobs.Evict e) = jobs.Evict (evicts.begin e.who e.page e.what)
 anew (jobs.Fsync f) = jobs.Fsync (fsyncs.begin f.who f.file f.handle f.opens)
 anew (jobs.Prctl p) = jobs.Prctl (prctls.begin p.who p.thread p.process p.arguments)

@@ -335,7 +335,9 @@ fn instruction(
     let banks = taken(banks);
     set(
         job,
-        Job::Instruction(Instruction::new(alloc, request, origin, mode, banks)),
+        Job::Instruction(Instruction::new(
+            alloc, request, origin, mode, banks, false,
+        )),
     );
 }
 

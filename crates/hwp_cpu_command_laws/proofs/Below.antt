@@ -103,11 +103,11 @@ job-below layout a view (jobs.Unpoison u) rule fits = let most : unpoisons.cost 
 access-begins : {layout : Layout} {by : Who} {thread : Thread} {slot : VSlot} {line : ℕ} {kind : AccessKind} {origin : Origin} {mode : Mode} {banks : Banks} {j : Job} (w : Words) → length w.frees ≤ free_room → BeginsAccess layout by thread slot line kind origin mode banks j → cost j w < command_weight
 access-begins {layout} {by} {thread} {slot} {line} {kind} {origin} {mode} {banks} {j} w few begun = subst (λ (x : Job). cost x w < command_weight) (sym begun.job_is)
     (let most : accesses.cost (accesses.again i.request) w ≤ again_most + 1 = again-cost i w few in
-    let held : instruction_costs.held_cost banks ≤ instruction_costs.anew_after_wait = held-most banks in
+    let held : instruction_costs.held_cost banks ≤ instruction_costs.paused_cost = held-most banks in
     omega (arith, most, held))
   where
     i : Instruction
-    i = instructions.begin begun.alloc (request_of by thread slot line kind begun.page begun.process) origin mode banks
+    i = instructions.begin begun.alloc (request_of by thread slot line kind begun.page begun.process) origin mode banks false
 
 pub begins-below : (layout : Layout) (a : State) (by : Who) (command : Command) (banks : Banks) (j : Job) → Holds layout a → Begins layout by command banks j → cost j (words_at layout a) < command_weight
 begins-below layout a by command banks j rule begun = which command begun

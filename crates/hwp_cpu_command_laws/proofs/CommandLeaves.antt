@@ -119,6 +119,7 @@ module _ {layout : Layout} {old new : View} {i : Instruction} {after : Job} (s :
       which (instruction_at.LoadFrame frame) at has e made follows = by-load s tt e
       which (instruction_at.LoadStop frame) at has e made follows = by-load s tt e
       which instruction_at.GiveUp at has e made follows = by-load s tt e
+      which (instruction_at.Paused pause) at has e made follows = absurd (none-some s.step e)
       which (instruction_at.Over answer) at has e made follows = absurd (none-some s.step e)
 
 module _ {layout : Layout} {old new : View} {r : Raise} {after : Job} (s : Stepped layout old new (jobs.Raise r) after) where

@@ -1,5 +1,5 @@
 -- A task stays one of its command, from the beginning on; and a command that may begin fits.
-use Rattle.std.proofs.Common.{◌≡◌, inl, inr, ℕ, Bool, true, false, [], Option, Some, None, refl, sym, ap, ◌∙◌, subst}
+use Rattle.std.proofs.Common.{◌≡◌, inl, inr, ℕ, Bool, true, false, List, [], Option, Some, None, refl, sym, ap, ◌∙◌, subst}
 use Rattle.std.specs.declared.alloc.Global.{Global}
 use Rattle.hwp_cpu_command.specs.hwp_geom.declared.Damage.{Damage}
 use Rattle.hwp_cpu_command.specs.hwp_geom.declared.FileNo.{FileNo}
@@ -19,6 +19,7 @@ use Rattle.hwp_cpu_command.specs.hwp_words.Stops.{is_stopped}
 use Rattle.hwp_cpu_command.specs.hwp_script_lines.declared.Command.{Command}
 use Rattle.hwp_cpu_command.specs.hwp_script_lines.declared.Command.TheVariants as commands
 use Rattle.hwp_cpu_command.specs.hwp_script_lines.declared.PrctlArgs.{PrctlArgs}
+use Rattle.hwp_cpu_command.specs.hwp_core_rule.declared.Made.{Made}
 use Rattle.hwp_cpu_command.specs.hwp_core_rule.declared.View.{View}
 use Rattle.hwp_cpu_command.specs.hwp_core_task.declared.Turn.{Turn}
 use Rattle.hwp_cpu_command.specs.hwp_banks.Banks.{Banks}
@@ -65,10 +66,10 @@ use Rattle.hwp_cpu_command.specs.Stays.{IsAtStop}
 -- ---- what a task asks for never changes
 
 abbrev AskedAccess : Type 0
-AskedAccess = Global × Request × Origin × Mode × Banks
+AskedAccess = Global × Request × Origin × Mode × Banks × Bool
 
 abbrev asked-access : Instruction → AskedAccess
-asked-access i = (i.alloc, i.request, i.origin, i.mode, i.before.value)
+asked-access i = (i.alloc, i.request, i.origin, i.mode, i.before.value, i.collects)
 
 access-handled : (i : Instruction) (frame : Frame) (h : Handler) → asked-access (instructions.after_handler i frame h) ≡ asked-access i
 access-handled i frame h = which (handlers.answer h)
@@ -98,6 +99,7 @@ instruction-kept layout i k found got turn follows = which i.at follows
     which (instruction_at.LoadFrame frame) next = ap asked-access next.0
     which (instruction_at.LoadStop frame) next = ap asked-access next.0
     which instruction_at.GiveUp next = ap asked-access next.0
+    which (instruction_at.Paused pause) next = ap asked-access next.0
     which (instruction_at.Over answer) next = ap asked-access next.0
 
 abbrev AskedRaise : Type 0
@@ -190,7 +192,7 @@ record GoesOn (j after : Job) : Type 0 where
 
 goes-on : (layout : Layout) (found : ℕ) (got : Option BodyValue) (turn : Turn) (j after : Job) → Next layout (bare j) found got after turn → GoesOn j after
 goes-on layout found got turn (jobs.Instruction i) after next = subst (GoesOn (jobs.Instruction i)) (sym next.1) (record {
-  anew_is = ap (λ (a : AskedAccess). jobs.Instruction (instructions.begin a.0 a.1 a.2 a.3 a.4)) (instruction-kept layout i next.0 found got turn next.2);
+  anew_is = ap (λ (a : AskedAccess). jobs.Instruction (instructions.begin a.0 a.1 a.2 a.3 a.4 a.5)) (instruction-kept layout i next.0 found got turn next.2);
   before = λ kept. ap (λ (a : AskedAccess). a.4) (instruction-kept layout i next.0 found got turn next.2);
   fails = refl;
 })
@@ -230,6 +232,11 @@ runs-on layout by command j after found got turn runs next = let on = goes-on la
 
 -- ---- where it begins
 
+-- an instruction whose processor collects may pause
+abbrev collects_in : Job → Bool
+collects_in (jobs.Instruction i) = i.collects
+collects_in _ = false
+
 -- a task at the beginning of its command
 pub record HasBegun (layout : Layout) (by : Who) (command : Command) (banks : Banks) (j : Job) : Type 0 where
   pub runs : Runs layout by command j
@@ -237,6 +244,7 @@ pub record HasBegun (layout : Layout) (by : Who) (command : Command) (banks : Ba
   pub start : IsAtStop j
   pub before : banks_before j (left_in j banks) ≡ banks
   pub idle : (class j ≡ 4) × (claims j ≡ None)
+  pub plain : collects_in j ≡ false
 
 pub has-begun : (layout : Layout) (by : Who) (command : Command) (banks : Banks) (j : Job) → Begins layout by command banks j → HasBegun layout by command banks j
 has-begun layout by command banks j begun = which command begun
@@ -245,27 +253,27 @@ has-begun layout by command banks j begun = which command begun
     from c x is has b = subst (HasBegun layout by c banks) (sym is) (has (subst (Begins layout by c banks) is b))
 
     which : (c : Command) → Begins layout by c banks j → HasBegun layout by c banks j
-    which (commands.Load thread slot line) b = from (commands.Load thread slot line) _ b.job_is (λ r. record { runs = r; who_is = refl; start = (_, refl, refl, refl); before = refl; idle = (refl, refl) }) b
-    which (commands.Fetch thread slot line) b = from (commands.Fetch thread slot line) _ b.job_is (λ r. record { runs = r; who_is = refl; start = (_, refl, refl, refl); before = refl; idle = (refl, refl) }) b
-    which (commands.KLoad thread slot line) b = from (commands.KLoad thread slot line) _ b.job_is (λ r. record { runs = r; who_is = refl; start = (_, refl, refl, refl); before = refl; idle = (refl, refl) }) b
-    which (commands.Store thread slot line word) b = from (commands.Store thread slot line word) _ b.job_is (λ r. record { runs = r; who_is = refl; start = (_, refl, refl, refl); before = refl; idle = (refl, refl) }) b
-    which (commands.Free slot) b = from (commands.Free slot) _ b.1.job_is (λ r. record { runs = r; who_is = refl; start = refl; before = refl; idle = (refl, refl) }) b
-    which (commands.Drop page) b = from (commands.Drop page) _ b.job_is (λ r. record { runs = r; who_is = refl; start = refl; before = refl; idle = (refl, refl) }) b
-    which (commands.Sync page) b = from (commands.Sync page) _ b.job_is (λ r. record { runs = r; who_is = refl; start = refl; before = refl; idle = (refl, refl) }) b
-    which (commands.Out page) b = from (commands.Out page) _ b.job_is (λ r. record { runs = r; who_is = refl; start = refl; before = refl; idle = (refl, refl) }) b
-    which (commands.Fsync file) b = from (commands.Fsync file) _ b.2 (λ r. record { runs = r; who_is = refl; start = refl; before = refl; idle = (refl, refl) }) b
-    which (commands.Open file) b = from (commands.Open file) _ b.2 (λ r. record { runs = r; who_is = refl; start = refl; before = refl; idle = (refl, refl) }) b
-    which (commands.Prctl thread args) b = from (commands.Prctl thread args) _ b.job_is (λ r. record { runs = r; who_is = refl; start = refl; before = refl; idle = (refl, refl) }) b
-    which (commands.Bad frame line) b = from (commands.Bad frame line) _ b.job_is (λ r. record { runs = r; who_is = refl; start = refl; before = refl; idle = (refl, refl) }) b
-    which (commands.Weak frame line) b = from (commands.Weak frame line) _ b.job_is (λ r. record { runs = r; who_is = refl; start = refl; before = refl; idle = (refl, refl) }) b
-    which (commands.Scrub first last) b = from (commands.Scrub first last) _ b.job_is (λ r. record { runs = r; who_is = refl; start = (refl, refl); before = refl; idle = (refl, refl) }) b
-    which (commands.Log status addr misc) b = from (commands.Log status addr misc) _ b.job_is (λ r. record { runs = r; who_is = refl; start = refl; before = refl; idle = (refl, refl) }) b
-    which (commands.RaiseUser thread ripv eipv) b = from (commands.RaiseUser thread ripv eipv) _ b.job_is (λ r. record { runs = r; who_is = refl; start = (refl, refl); before = refl; idle = (refl, refl) }) b
-    which (commands.RaiseKernel ripv eipv) b = from (commands.RaiseKernel ripv eipv) _ b.job_is (λ r. record { runs = r; who_is = refl; start = (refl, refl); before = refl; idle = (refl, refl) }) b
-    which commands.RaiseNested b = from commands.RaiseNested _ b (λ r. record { runs = r; who_is = refl; start = refl; before = refl; idle = (refl, refl) }) b
-    which (commands.Inject frame) b = from (commands.Inject frame) _ b.job_is (λ r. record { runs = r; who_is = refl; start = refl; before = refl; idle = (refl, refl) }) b
-    which (commands.Soft frame) b = from (commands.Soft frame) _ b.job_is (λ r. record { runs = r; who_is = refl; start = refl; before = refl; idle = (refl, refl) }) b
-    which (commands.Unpoison frame) b = from (commands.Unpoison frame) _ b.job_is (λ r. record { runs = r; who_is = refl; start = refl; before = refl; idle = (refl, refl) }) b
+    which (commands.Load thread slot line) b = from (commands.Load thread slot line) _ b.job_is (λ r. record { runs = r; who_is = refl; start = (_, refl, refl, refl); before = refl; idle = (refl, refl); plain = refl }) b
+    which (commands.Fetch thread slot line) b = from (commands.Fetch thread slot line) _ b.job_is (λ r. record { runs = r; who_is = refl; start = (_, refl, refl, refl); before = refl; idle = (refl, refl); plain = refl }) b
+    which (commands.KLoad thread slot line) b = from (commands.KLoad thread slot line) _ b.job_is (λ r. record { runs = r; who_is = refl; start = (_, refl, refl, refl); before = refl; idle = (refl, refl); plain = refl }) b
+    which (commands.Store thread slot line word) b = from (commands.Store thread slot line word) _ b.job_is (λ r. record { runs = r; who_is = refl; start = (_, refl, refl, refl); before = refl; idle = (refl, refl); plain = refl }) b
+    which (commands.Free slot) b = from (commands.Free slot) _ b.1.job_is (λ r. record { runs = r; who_is = refl; start = refl; before = refl; idle = (refl, refl); plain = refl }) b
+    which (commands.Drop page) b = from (commands.Drop page) _ b.job_is (λ r. record { runs = r; who_is = refl; start = refl; before = refl; idle = (refl, refl); plain = refl }) b
+    which (commands.Sync page) b = from (commands.Sync page) _ b.job_is (λ r. record { runs = r; who_is = refl; start = refl; before = refl; idle = (refl, refl); plain = refl }) b
+    which (commands.Out page) b = from (commands.Out page) _ b.job_is (λ r. record { runs = r; who_is = refl; start = refl; before = refl; idle = (refl, refl); plain = refl }) b
+    which (commands.Fsync file) b = from (commands.Fsync file) _ b.2 (λ r. record { runs = r; who_is = refl; start = refl; before = refl; idle = (refl, refl); plain = refl }) b
+    which (commands.Open file) b = from (commands.Open file) _ b.2 (λ r. record { runs = r; who_is = refl; start = refl; before = refl; idle = (refl, refl); plain = refl }) b
+    which (commands.Prctl thread args) b = from (commands.Prctl thread args) _ b.job_is (λ r. record { runs = r; who_is = refl; start = refl; before = refl; idle = (refl, refl); plain = refl }) b
+    which (commands.Bad frame line) b = from (commands.Bad frame line) _ b.job_is (λ r. record { runs = r; who_is = refl; start = refl; before = refl; idle = (refl, refl); plain = refl }) b
+    which (commands.Weak frame line) b = from (commands.Weak frame line) _ b.job_is (λ r. record { runs = r; who_is = refl; start = refl; before = refl; idle = (refl, refl); plain = refl }) b
+    which (commands.Scrub first last) b = from (commands.Scrub first last) _ b.job_is (λ r. record { runs = r; who_is = refl; start = (refl, refl); before = refl; idle = (refl, refl); plain = refl }) b
+    which (commands.Log status addr misc) b = from (commands.Log status addr misc) _ b.job_is (λ r. record { runs = r; who_is = refl; start = refl; before = refl; idle = (refl, refl); plain = refl }) b
+    which (commands.RaiseUser thread ripv eipv) b = from (commands.RaiseUser thread ripv eipv) _ b.job_is (λ r. record { runs = r; who_is = refl; start = (refl, refl); before = refl; idle = (refl, refl); plain = refl }) b
+    which (commands.RaiseKernel ripv eipv) b = from (commands.RaiseKernel ripv eipv) _ b.job_is (λ r. record { runs = r; who_is = refl; start = (refl, refl); before = refl; idle = (refl, refl); plain = refl }) b
+    which commands.RaiseNested b = from commands.RaiseNested _ b (λ r. record { runs = r; who_is = refl; start = refl; before = refl; idle = (refl, refl); plain = refl }) b
+    which (commands.Inject frame) b = from (commands.Inject frame) _ b.job_is (λ r. record { runs = r; who_is = refl; start = refl; before = refl; idle = (refl, refl); plain = refl }) b
+    which (commands.Soft frame) b = from (commands.Soft frame) _ b.job_is (λ r. record { runs = r; who_is = refl; start = refl; before = refl; idle = (refl, refl); plain = refl }) b
+    which (commands.Unpoison frame) b = from (commands.Unpoison frame) _ b.job_is (λ r. record { runs = r; who_is = refl; start = refl; before = refl; idle = (refl, refl); plain = refl }) b
 
 pub begins-runs : (layout : Layout) (who : Who) (command : Command) (banks : Banks) (j : Job) → Begins layout who command banks j → Runs layout who command j
 begins-runs layout by command banks j begun = (has-begun layout by command banks j begun).runs
@@ -281,12 +289,22 @@ anew-who _ = refl
 pub runs-who : (layout : Layout) (by : Who) (command : Command) (j : Job) → Runs layout by command j → who j ≡ by
 runs-who layout by command j runs = sym (anew-who j) ∙ (has-begun layout by command (banks_before j []) (anew j) runs).who_is
 
+-- ---- a command that goes on without a pause
+
+anew-collects : (j : Job) → collects_in (anew j) ≡ collects_in j
+anew-collects (jobs.Instruction i) = refl
+anew-collects _ = refl
+
+pub never-pauses : {base : List Made} {layout : Layout} {view : View} {by : Who} {command : Command} (i : Instruction) → Runs layout by command (jobs.Instruction i) → FitsFrom base layout view (jobs.Instruction i) → instructions.pause i ≡ None
+never-pauses {base} {layout} {view} {by} {command} i runs fits = instructing.never-pauses i fits
+    (sym (anew-collects (jobs.Instruction i)) ∙ (has-begun layout by command (banks_before (jobs.Instruction i) []) (anew (jobs.Instruction i)) runs).plain)
+
 -- ---- a command that may begin
 
 module _ {layout : Layout} {view : View} {who : Who} (rest : AtRest view who) {j : Job} where
   access-fits : {thread : Thread} {slot : VSlot} {line : ℕ} {kind : AccessKind} {origin : Origin} {mode : Mode} {banks : Banks} → IsOfAccess origin → BeginsAccess layout who thread slot line kind origin mode banks j → FitsFrom [] layout view j
   access-fits {thread} {slot} {line} {kind} {origin} {mode} {banks} of begun = subst (FitsFrom [] layout view) (sym begun.job_is)
-      (instructing.begins layout view (instructions.begin begun.alloc (request_of who thread slot line kind begun.page begun.process) origin mode banks) refl rest.on_turn begun.sound begun.names of begun.three rest.hand_is rest.paid rest.made)
+      (instructing.begins layout view (instructions.begin begun.alloc (request_of who thread slot line kind begun.page begun.process) origin mode banks false) refl rest.on_turn begun.sound begun.names of begun.three rest.hand_is rest.paid rest.made)
 
   eviction-fits : {page : Page} {what : Eviction} → BeginsEviction layout who page what j → FitsFrom [] layout view j
   eviction-fits begun = subst (FitsFrom [] layout view) (sym begun.job_is) (record { on_turn = rest.on_turn; page = begun.within; kind = begun.kind; at = (rest.hand_is, rest.made) })
