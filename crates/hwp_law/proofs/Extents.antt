@@ -69,7 +69,7 @@ IsPlain (entries.Fail situation required seen signals) = ⊥
 IsPlain entries.Soft = ⊥
 IsPlain what = Unit {0}
 
-made_so : (script : Script) (page : Page) (command : Command) (what : What) → IsPlain what → Makes command what × CanStandIn script.layout command page what → Fits command what × Names script.layout command page
+made_so : (script : Script) (page : Page) (command : Command) (what : What) → IsPlain what → Makes script command what × CanStandIn script.layout command page what → Fits command what × Names script.layout command page
 made_so script page command (entries.Mce slot line mask) plain made = absurd plain
 made_so script page command (entries.Fail situation required seen signals) plain made = absurd plain
 made_so script page command entries.Soft plain made = absurd plain
@@ -82,7 +82,7 @@ some_so (Some x) P Q so is = so x is
 -- an entry that its command makes is today's where no memory fails
 pub IsMadeBy-plain : (script : Script) (page : Page) (e : Entry) → IsPlain e.what → IsMadeBy script page e → IsMade script page e
 IsMadeBy-plain script page e plain made =
-    some_so (command_at script e.who) (λ (c : Command). Makes c e.what × CanStandIn script.layout c page e.what) (λ (c : Command). Fits c e.what × Names script.layout c page)
+    some_so (command_at script e.who) (λ (c : Command). Makes script c e.what × CanStandIn script.layout c page e.what) (λ (c : Command). Fits c e.what × Names script.layout c page)
     (λ c is. made_so script page c e.what plain is) made
 
 -- the answer of a command stands in a line of its processor

@@ -10,7 +10,6 @@ use Rattle.hwp_law_commands.specs.hwp_geom.declared.PageKind.{PageKind}
 use Rattle.hwp_law_commands.specs.hwp_geom.declared.PageKind.TheVariants.{Anon, File}
 use Rattle.hwp_law_commands.specs.hwp_geom.declared.Version.{Version}
 use Rattle.hwp_law_commands.specs.hwp_geom.declared.Version.TheVariants.{One, Two}
-use Rattle.hwp_law_commands.specs.hwp_geom.declared.Who.{Who}
 use Rattle.hwp_law_commands.specs.hwp_kill.declared.Policy.{Policy}
 use Rattle.hwp_law_commands.specs.hwp_kill.declared.Policy.TheVariants as policies
 use Rattle.hwp_law_commands.specs.hwp_page.declared.At.{At}
@@ -31,18 +30,16 @@ use Rattle.hwp_law_commands.specs.hwp_report_text.declared.Acted.{Acted}
 use Rattle.hwp_law_commands.specs.hwp_report_text.declared.Acted.TheVariants as acts
 use Rattle.hwp_law_commands.specs.hwp_report_text.declared.Answer.{Answer}
 use Rattle.hwp_law_commands.specs.hwp_report_text.declared.Answer.TheVariants as answers
-use Rattle.hwp_law_commands.specs.hwp_report_text.declared.CpuLine.{CpuLine}
 use Rattle.hwp_law_commands.specs.hwp_report_text.declared.CpuLine.TheVariants as lines
 use Rattle.hwp_law_commands.specs.hwp_report_text.declared.EventLine.{EventLine}
 use Rattle.hwp_law_commands.specs.hwp_report_text.declared.How.TheVariants as hows
 use Rattle.hwp_law_commands.specs.hwp_report_text.declared.MarkLine.{MarkLine}
 use Rattle.hwp_law_commands.specs.hwp_report_text.declared.MarkLine.TheVariants as marks
-use Rattle.hwp_law_commands.specs.hwp_report_text.declared.OfflinedLine.{OfflinedLine}
 use Rattle.hwp_law_commands.specs.hwp_report_text.declared.OfflineResult.TheVariants as results
 use Rattle.hwp_law_commands.specs.hwp_report_text.declared.Whereabouts.TheVariants as places
 use Rattle.hwp_law_commands.specs.hwp_report_text.declared.Report.{Report}
 use Rattle.hwp_law.specs.Answers.{IsNamed}
-use Rattle.hwp_law.specs.Causes.{AreCaused, IsCaused}
+use Rattle.hwp_law.specs.Causes.{IsCaused}
 use Rattle.hwp_law.specs.Checks.{IsFailureAct}
 use Rattle.hwp_law_commands.specs.hwp_report_text.Acts.{is_stopping}
 use Rattle.hwp_law_commands.specs.hwp_banks.Banks.{Banks, empty_banks}
@@ -206,11 +203,6 @@ nested_raised caused = caused
 
 pub freed_without : IsCaused script report (command 0) (commands.Free (record { 0 = 0 })) answers.Done → ⊥
 freed_without caused = caused
-
--- no report has a line of a frame taken out of use yet
-pub offlined_beside : (n : ℕ) (cpu : Cpu) (list : List Command) (line : OfflinedLine) (rest : List CpuLine) → AreCaused script report cpu n list (lines.Offlined line ∷ rest) → ⊥
-offlined_beside n cpu [] line rest caused = caused
-offlined_beside n cpu (command ∷ list) line rest caused = caused
 
 -- a thread without a handler that was signalled makes no later access
 pub lives_on : EndingsStay (record script { layout = record layout { threads = (record { process = record { 0 = 0 }; cpu = record { 0 = 0 }; handler = false }) ∷ [] } }) report → ⊥

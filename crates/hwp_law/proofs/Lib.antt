@@ -2,4 +2,7 @@ pub mod Rows
 pub mod Extents
 pub mod Examples
 pub mod Forgeries
+pub mod WatchExamples
+pub mod WatchForgeries
+pub mod OfflinedLaws
 pub use Rattle.hwp_law_commands.proofs.of_hwp_page as of_hwp_page

@@ -1,5 +1,5 @@
 -- What stands in a report for each answer.
-use Rattle.std.specs.Prelude.{◌≡◌, ◌≢◌, ℕ, ◌+◌, ◌<◌, Bool, true, false, List, [], ◌∷◌, Some, length, bit_and, IsSome, IsSomeAnd, Any}
+use Rattle.std.specs.Prelude.{◌≡◌, ◌≢◌, ℕ, ◌+◌, ◌<◌, true, false, List, [], ◌∷◌, Some, length, bit_and, IsSome, IsSomeAnd, Any}
 use Rattle.std.specs.List.{list_any}
 use Rattle.hwp_law_commands.specs.hwp_geom.Layout.{is_locked}
 use Rattle.hwp_law_commands.specs.hwp_geom.declared.Cpu.{Cpu}

@@ -1,5 +1,5 @@
 -- Which frames the event lines of a command note for the collector of corrected errors, and in which order. This project's rule.
-use Rattle.std.specs.Prelude.{ℕ, ◌==◌, nat_lt, Bool, not, ◌&&◌, ◌||◌, List, [], ◌∷◌, flat_map, filter_map, Option, Some, None, if◌then◌else◌}
+use Rattle.std.specs.Prelude.{◌≡◌, ◌==◌, nat_lt, Bool, true, false, not, ◌&&◌, ◌||◌, List, [], ◌∷◌, flat_map, filter_map, Option, Some, None, if◌then◌else◌}
 use Rattle.std.specs.List.{list_any}
 use Rattle.hwp_script_read.specs.hwp_geom.declared.Frame.{Frame}
 use Rattle.hwp_script_read.specs.hwp_geom.declared.Layout.{Layout}
@@ -47,3 +47,16 @@ notes_of_check layout lines = if list_any ends_machine lines then [] else filter
 -- what the event lines of a command note, in order
 abbrev pub notes : Layout → List EventLine → List Frame
 notes layout lines = flat_map (notes_of_check layout) (checks lines)
+
+-- the lines are of rising banks, as those of one machine check are
+abbrev pub IsRising : List EventLine → Type 0
+IsRising [] = Unit {0}
+IsRising (line ∷ []) = Unit {0}
+IsRising (line ∷ next ∷ rest) = (nat_lt line.bank next.bank ≡ true) × IsRising (next ∷ rest)
+
+-- the second lines begin a machine check: their first bank isn't above the last one of the first lines
+abbrev pub AreApart : List EventLine → List EventLine → Type 0
+AreApart [] others = Unit {0}
+AreApart (line ∷ []) [] = Unit {0}
+AreApart (line ∷ []) (other ∷ others) = nat_lt line.bank other.bank ≡ false
+AreApart (line ∷ next ∷ rest) others = AreApart (next ∷ rest) others

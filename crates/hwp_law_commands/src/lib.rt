@@ -1,5 +1,6 @@
-//! What a command is apart from any report: its access, its thread and process, how its machine checks arrive, and which
-//! policies it sets. This crate has definitions alone; the tasks of commands cite them, and so does the report law.
+//! What a command is apart from any report: its access, its thread and process, how its machine checks arrive, which policies it sets,
+//! and what it tells the collector of corrected errors. This crate has definitions and lemmas alone; the tasks of commands cite them,
+//! and so does the report law.
 #![tactic(auto)]
 
 pub use hwp_report_text::{
