@@ -15,7 +15,8 @@ use Rattle.hwp_law_records.specs.hwp_report_text.declared.CpuLine.{CpuLine}
 use Rattle.hwp_law_records.specs.hwp_report_text.declared.CpuLine.TheVariants as lines
 use Rattle.hwp_law_records.specs.hwp_report_text.declared.Report.{Report}
 use Rattle.hwp_law_records.specs.hwp_report_text.declared.Stop.{Stop}
-use Rattle.hwp_law_records.specs.hwp_law.Causes.{AreCaused, IsHeeded, IsCaused as IsLawCaused, ends_machine}
+use Rattle.hwp_law_records.specs.hwp_law.Causes.{AreCaused, IsHeeded, IsCaused as IsLawCaused}
+use Rattle.hwp_law_records.specs.hwp_law_commands.Notes.{ends_machine}
 use Rattle.hwp_law_records.specs.hwp_law_commands.Commands.{command_at, current_thread}
 use Rattle.hwp_law_records.specs.hwp_law.Halts.{CanStop as CanStopFor, IsStopOf, StopAgrees}
 use Rattle.hwp_law_records.specs.hwp_law.Stops.{StaysStopped}

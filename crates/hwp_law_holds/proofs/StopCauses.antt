@@ -25,7 +25,7 @@ use Rattle.hwp_law_records.specs.hwp_report_text.declared.Acted.TheVariants as a
 use Rattle.hwp_law_records.specs.hwp_report_text.declared.EventLine.{EventLine}
 use Rattle.hwp_law_records.specs.hwp_report_text.declared.Report.{Report}
 use Rattle.hwp_law_records.specs.hwp_report_text.declared.StopCause.{StopCause}
-use Rattle.hwp_law_records.specs.hwp_law.Causes.{ends_machine}
+use Rattle.hwp_law_records.specs.hwp_law_commands.Notes.{ends_machine}
 use Rattle.hwp_law_records.specs.hwp_report_text.Acts.{is_panic, is_stopping}
 use Rattle.hwp_law_records.specs.hwp_law_commands.Commands.{arrival_of}
 use Rattle.hwp_law_records.specs.hwp_law.Halts.{CanStop as CanStopFor, Panics, is_panic_of}

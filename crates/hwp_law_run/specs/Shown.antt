@@ -31,9 +31,11 @@ use Rattle.hwp_law.specs.hwp_report_text.declared.Answer.{Answer}
 use Rattle.hwp_law.specs.hwp_report_text.declared.Answer.TheVariants as answers
 use Rattle.hwp_law.specs.hwp_report_text.declared.CpuLine.{CpuLine}
 use Rattle.hwp_law.specs.hwp_report_text.declared.EventLine.{EventLine}
+use Rattle.hwp_law.specs.hwp_report_text.declared.OfflinedLine.{OfflinedLine}
 use Rattle.hwp_law.specs.hwp_report_text.declared.Report.{Report}
+use Rattle.hwp_law.specs.hwp_report_text.Offlines.{offline_answer}
 use Rattle.hwp_law.specs.hwp_law_commands.Commands.{command_at, process_at}
-use Rattle.hwp_law.specs.Lines.{answer_of, answered, events_of}
+use Rattle.hwp_law.specs.Lines.{answer_of, answered, events_of, offlined_of}
 use Rattle.hwp_law.specs.Losses.{numbers_after, tells_number}
 use Rattle.hwp_law.specs.Runs.{slot_of}
 use Rattle.hwp_law_run.specs.Turns.{Finds, FindsBad, SawPage, TurnBy}
@@ -138,6 +140,11 @@ abbrev pub RunningShown : Layout → List Played → Who → Answer → Type 0
 RunningShown layout turns who answers.Stopped = Unit {0}
 RunningShown layout turns who answer = Finds layout turns who places.Stop (λ (word : ℕ). stopper_of word ≡ 0)
 
+-- what came of a frame that the command took out of use rests on the same as the answer of a `soft` of the frame
+abbrev pub OfflineShown : Script → List Played → Who → OfflinedLine → Type 0
+OfflineShown script turns who line =
+    AnswerShown script turns who (commands.Soft line.frame) (offline_answer line.result) × RunningShown script.layout turns who (offline_answer line.result)
+
 -- an event's frame that was poisoned already was seen so
 abbrev pub AlreadyShown : Layout → List Played → Who → EventLine → Type 0
 AlreadyShown layout turns who line = line.acted ≡ acts.Already → PoisonShown layout turns who (record { 0 = frame_at line.addr }) true
@@ -152,10 +159,11 @@ abbrev pub NumbersShown : Layout → List Played → Cpu → List Command → Li
 NumbersShown layout turns cpu list rows =
     (file : FileNo) (i : ℕ) (p : Command × Answer) → slice_get {X = Command × Answer} (answered list rows) i ≡ Some p → tells_number file p.0 p.1 ≡ true → NumberShown layout turns file cpu (answered list rows) i
 
--- each answer, each event line, and each number of a handle rests on what its command was shown
+-- each answer, each line of an event and of a frame taken out of use, and each number of a handle rests on what its command was shown
 pub record IsShown (script : Script) (report : Report) (turns : List Played) : Type 0 where
   pub answers : (who : Who) (command : Command) (answer : Answer) → command_at script who ≡ Some command → answer_of report who ≡ Some answer → AnswerShown script turns who command answer
   pub going : (who : Who) (process : Proc) (answer : Answer) → process_at script who ≡ Some process → answer_of report who ≡ Some answer → GoesOn script.layout turns who process answer
   pub running : (who : Who) (command : Command) (answer : Answer) → command_at script who ≡ Some command → answer_of report who ≡ Some answer → RunningShown script.layout turns who answer
   pub events : (who : Who) → EachMember (AlreadyShown script.layout turns who) (events_of report who)
+  pub offlined : (who : Who) → EachMember (OfflineShown script turns who) (offlined_of report who)
   pub handles : (cpu : Cpu) (list : List Command) (rows : List CpuLine) → slice_get script.lists cpu.0 ≡ Some list → slice_get report.cpus cpu.0 ≡ Some rows → NumbersShown script.layout turns cpu list rows
