@@ -1,5 +1,5 @@
 -- The turns of a command are few.
-use Rattle.std.proofs.Common.{◌≡◌, ℕ, ◌+◌, ◌<◌, ◌≤◌, false, true, length, sym, subst, arith}
+use Rattle.std.proofs.Common.{◌≡◌, ℕ, ◌+◌, ◌*◌, ◌<◌, ◌≤◌, false, true, length, sym, subst, arith}
 use Rattle.hwp_cpu_command.specs.hwp_geom.declared.Layout.{Layout}
 use Rattle.hwp_cpu_command.specs.hwp_geom.declared.Mode.{Mode}
 use Rattle.hwp_cpu_command.specs.hwp_geom.declared.Thread.{Thread}
@@ -81,27 +81,31 @@ raise-below layout view r w fits = which r.at fits.at
 
 -- ---- a command that runs
 
-wider : {n : ℕ} → n < failure_weight → n < command_weight
+wider : {n : ℕ} → n < failure_weight → n < 4 * failure_weight
 wider {n} less = let few : n < failure_weight = less in omega (arith, few)
 
+-- far fewer than a command weighs: so a command of many parts weighs no more
+pub job-few : (layout : Layout) (a : State) (view : View) (j : Job) → Holds layout a → Fits layout view j → cost j (words_at layout a) < 4 * failure_weight
+job-few layout a view (jobs.Instruction i) rule fits = wider (instruction-below layout a view i rule fits.1)
+job-few layout a view (jobs.Evict e) rule fits = wider (evict-below (words_at layout a) e)
+job-few layout a view (jobs.Fsync f) rule fits = let most = fsync-below f (words_at layout a) in omega (arith, most)
+job-few layout a view (jobs.Prctl p) rule fits = let most = calling.small p in omega (arith, most)
+job-few layout a view (jobs.Log l) rule fits = let most = reading.small l.read in omega (arith, most)
+job-few layout a view (jobs.Raise r) rule fits = wider (raise-below layout view r (words_at layout a) fits.1.1)
+job-few layout a view (jobs.Scrub c) rule fits = wider (scrub-below layout view c (words_at layout a) fits.1.1)
+job-few layout a view (jobs.Spoil s) rule fits = let most = spoiling.small s in omega (arith, most)
+job-few layout a view (jobs.Nested n) rule fits = let most = nesting.small n in omega (arith, most)
+job-few layout a view (jobs.Inject i) rule fits = let most = inject-below i (words_at layout a) in omega (arith, most)
+job-few layout a view (jobs.Soft s) rule fits = let most : softs.cost s (words_at layout a) ≤ softs.soft_most = soft-small layout a s rule in omega (arith, most)
+job-few layout a view (jobs.Unpoison u) rule fits = let most : unpoisons.cost u (words_at layout a) ≤ unpoisons.unpoison_most = unpoison-small u (words_at layout a) in omega (arith, most)
+
 pub job-below : (layout : Layout) (a : State) (view : View) (j : Job) → Holds layout a → Fits layout view j → cost j (words_at layout a) < command_weight
-job-below layout a view (jobs.Instruction i) rule fits = wider (instruction-below layout a view i rule fits.1)
-job-below layout a view (jobs.Evict e) rule fits = wider (evict-below (words_at layout a) e)
-job-below layout a view (jobs.Fsync f) rule fits = let most = fsync-below f (words_at layout a) in omega (arith, most)
-job-below layout a view (jobs.Prctl p) rule fits = let most = calling.small p in omega (arith, most)
-job-below layout a view (jobs.Log l) rule fits = let most = reading.small l.read in omega (arith, most)
-job-below layout a view (jobs.Raise r) rule fits = wider (raise-below layout view r (words_at layout a) fits.1.1)
-job-below layout a view (jobs.Scrub c) rule fits = wider (scrub-below layout view c (words_at layout a) fits.1.1)
-job-below layout a view (jobs.Spoil s) rule fits = let most = spoiling.small s in omega (arith, most)
-job-below layout a view (jobs.Nested n) rule fits = let most = nesting.small n in omega (arith, most)
-job-below layout a view (jobs.Inject i) rule fits = let most = inject-below i (words_at layout a) in omega (arith, most)
-job-below layout a view (jobs.Soft s) rule fits = let most : softs.cost s (words_at layout a) ≤ softs.soft_most = soft-small layout a s rule in omega (arith, most)
-job-below layout a view (jobs.Unpoison u) rule fits = let most : unpoisons.cost u (words_at layout a) ≤ unpoisons.unpoison_most = unpoison-small u (words_at layout a) in omega (arith, most)
+job-below layout a view j rule fits = let few : cost j (words_at layout a) < 4 * failure_weight = job-few layout a view j rule fits in omega (arith, few)
 
 -- ---- and one that begins
 
-access-begins : {layout : Layout} {by : Who} {thread : Thread} {slot : VSlot} {line : ℕ} {kind : AccessKind} {origin : Origin} {mode : Mode} {banks : Banks} {j : Job} (w : Words) → length w.frees ≤ free_room → BeginsAccess layout by thread slot line kind origin mode banks j → cost j w < command_weight
-access-begins {layout} {by} {thread} {slot} {line} {kind} {origin} {mode} {banks} {j} w few begun = subst (λ (x : Job). cost x w < command_weight) (sym begun.job_is)
+access-begins : {layout : Layout} {by : Who} {thread : Thread} {slot : VSlot} {line : ℕ} {kind : AccessKind} {origin : Origin} {mode : Mode} {banks : Banks} {j : Job} (w : Words) → length w.frees ≤ free_room → BeginsAccess layout by thread slot line kind origin mode banks j → cost j w < 4 * failure_weight
+access-begins {layout} {by} {thread} {slot} {line} {kind} {origin} {mode} {banks} {j} w few begun = subst (λ (x : Job). cost x w < 4 * failure_weight) (sym begun.job_is)
     (let most : accesses.cost (accesses.again i.request) w ≤ again_most + 1 = again-cost i w few in
     let held : instruction_costs.held_cost banks ≤ instruction_costs.paused_cost = held-most banks in
     omega (arith, most, held))
@@ -109,16 +113,16 @@ access-begins {layout} {by} {thread} {slot} {line} {kind} {origin} {mode} {banks
     i : Instruction
     i = instructions.begin begun.alloc (request_of by thread slot line kind begun.page begun.process) origin mode banks false
 
-pub begins-below : (layout : Layout) (a : State) (by : Who) (command : Command) (banks : Banks) (j : Job) → Holds layout a → Begins layout by command banks j → cost j (words_at layout a) < command_weight
-begins-below layout a by command banks j rule begun = which command begun
+pub begins-few : (layout : Layout) (a : State) (by : Who) (command : Command) (banks : Banks) (j : Job) → Holds layout a → Begins layout by command banks j → cost j (words_at layout a) < 4 * failure_weight
+begins-few layout a by command banks j rule begun = which command begun
   where
     w : Words
     w = words_at layout a
 
-    below : {x : Job} → j ≡ x → cost x w < command_weight → cost j w < command_weight
-    below is less = subst (λ (x : Job). cost x w < command_weight) (sym is) less
+    below : {x : Job} → j ≡ x → cost x w < 4 * failure_weight → cost j w < 4 * failure_weight
+    below is less = subst (λ (x : Job). cost x w < 4 * failure_weight) (sym is) less
 
-    which : (c : Command) → Begins layout by c banks j → cost j w < command_weight
+    which : (c : Command) → Begins layout by c banks j → cost j w < 4 * failure_weight
     which (commands.Load thread slot line) b = access-begins w (few-frees layout a rule) b
     which (commands.Fetch thread slot line) b = access-begins w (few-frees layout a rule) b
     which (commands.KLoad thread slot line) b = access-begins w (few-frees layout a rule) b
@@ -140,3 +144,6 @@ begins-below layout a by command banks j rule begun = which command begun
     which (commands.Inject frame) b = below b.job_is (let most = inject-below (injects.begin b.alloc by frame) w in omega (arith, most))
     which (commands.Soft frame) b = below b.job_is (omega arith)
     which (commands.Unpoison frame) b = below b.job_is (omega arith)
+
+pub begins-below : (layout : Layout) (a : State) (by : Who) (command : Command) (banks : Banks) (j : Job) → Holds layout a → Begins layout by command banks j → cost j (words_at layout a) < command_weight
+begins-below layout a by command banks j rule begun = let few : cost j (words_at layout a) < 4 * failure_weight = begins-few layout a by command banks j rule begun in omega (arith, few)
