@@ -6,6 +6,7 @@ use Rattle.std.proofs.lemmas.List.{get_or-set_same, get_or-set_other, get_or-rep
 use Rattle.std.proofs.lemmas.List.Folds.{list_any-append}
 use Rattle.hwp_law.specs.hwp_script_read.declared.Command.{Command}
 use Rattle.hwp_law.specs.hwp_script_read.declared.Script.{Script}
+use Rattle.hwp_law.specs.hwp_law_commands.Commands.{has_watch}
 use Rattle.hwp_law.specs.Answers.{frame_named, named_frames, usable_frames, usable_from}
 use Rattle.hwp_check_evidence.specs.Ample.{flags_of, noted, noted_in, noted_list, usable_by}
 
@@ -21,11 +22,11 @@ noted-many : (flags : List Bool) (o : Option ℕ) → length (noted flags o) ≡
 noted-many flags None = refl
 noted-many flags (Some n) = length-set flags n true
 
-list-many : (list : List Command) (flags : List Bool) → length (noted_list flags list) ≡ length flags
-list-many [] flags = refl
-list-many (c ∷ rest) flags = list-many rest (noted_in flags c) ∙ noted-many flags (frame_named c)
+list-many : (watches : Bool) (list : List Command) (flags : List Bool) → length (noted_list watches flags list) ≡ length flags
+list-many watches [] flags = refl
+list-many watches (c ∷ rest) flags = list-many watches rest (noted_in watches flags c) ∙ noted-many flags (frame_named watches c)
 
-module _ (f : ℕ) where
+module _ (watches : Bool) (f : ℕ) where
   is_f : ℕ → Bool
   is_f n = n == f
 
@@ -44,30 +45,30 @@ module _ (f : ℕ) where
       or-true true = refl
       or-true false = refl
 
-  list-at : (list : List Command) (flags : List Bool) → f < length flags → get_or (noted_list flags list) f false ≡ (get_or flags f false || list_any (λ n. n == f) (filter_map frame_named list))
+  list-at : (list : List Command) (flags : List Bool) → f < length flags → get_or (noted_list watches flags list) f false ≡ (get_or flags f false || list_any (λ n. n == f) (filter_map (frame_named watches) list))
   list-at [] flags inside = sym (or-false (get_or flags f false))
-  list-at (c ∷ rest) flags inside = by (frame_named c) (λ other in'. list-at rest other in')
+  list-at (c ∷ rest) flags inside = by (frame_named watches c) (λ other in'. list-at rest other in')
     where
-      by : (o : Option ℕ) → ((other : List Bool) → f < length other → get_or (noted_list other rest) f false ≡ (get_or other f false || list_any (λ n. n == f) (filter_map frame_named rest)))
-          → get_or (noted_list (noted flags o) rest) f false ≡ (get_or flags f false || list_any (λ n. n == f) (cons_option o (filter_map frame_named rest)))
+      by : (o : Option ℕ) → ((other : List Bool) → f < length other → get_or (noted_list watches other rest) f false ≡ (get_or other f false || list_any (λ n. n == f) (filter_map (frame_named watches) rest)))
+          → get_or (noted_list watches (noted flags o) rest) f false ≡ (get_or flags f false || list_any (λ n. n == f) (cons_option o (filter_map (frame_named watches) rest)))
       by None more = more flags inside
       by (Some n) more =
           more (set flags n true) (subst (λ (m : ℕ). f < m) (sym (length-set flags n true)) inside)
-          ∙ ap (λ (b : Bool). b || list_any (λ m. m == f) (filter_map frame_named rest)) (set-at flags n inside)
-          ∙ or-assoc (get_or flags f false) (n == f) (list_any (λ m. m == f) (filter_map frame_named rest))
+          ∙ ap (λ (b : Bool). b || list_any (λ m. m == f) (filter_map (frame_named watches) rest)) (set-at flags n inside)
+          ∙ or-assoc (get_or flags f false) (n == f) (list_any (λ m. m == f) (filter_map (frame_named watches) rest))
 
   lists-at : (lists : List (List Command)) (flags : List Bool) → f < length flags
-      → get_or (fold noted_list flags lists) f false ≡ (get_or flags f false || list_any (λ n. n == f) (flat_map (filter_map frame_named) lists))
+      → get_or (fold (noted_list watches) flags lists) f false ≡ (get_or flags f false || list_any (λ n. n == f) (flat_map (filter_map (frame_named watches)) lists))
   lists-at [] flags inside = sym (or-false (get_or flags f false))
   lists-at (l ∷ rest) flags inside =
-      lists-at rest (noted_list flags l) (subst (λ (m : ℕ). f < m) (sym (list-many l flags)) inside)
-      ∙ ap (λ (b : Bool). b || list_any (λ n. n == f) (flat_map (filter_map frame_named) rest)) (list-at l flags inside)
-      ∙ or-assoc (get_or flags f false) (list_any (λ n. n == f) (filter_map frame_named l)) (list_any (λ n. n == f) (flat_map (filter_map frame_named) rest))
-      ∙ ap (λ (b : Bool). get_or flags f false || b) (sym (list_any-append (λ n. n == f) (filter_map frame_named l) (flat_map (filter_map frame_named) rest)))
+      lists-at rest (noted_list watches flags l) (subst (λ (m : ℕ). f < m) (sym (list-many watches l flags)) inside)
+      ∙ ap (λ (b : Bool). b || list_any (λ n. n == f) (flat_map (filter_map (frame_named watches)) rest)) (list-at l flags inside)
+      ∙ or-assoc (get_or flags f false) (list_any (λ n. n == f) (filter_map (frame_named watches) l)) (list_any (λ n. n == f) (flat_map (filter_map (frame_named watches)) rest))
+      ∙ ap (λ (b : Bool). get_or flags f false || b) (sym (list_any-append (λ n. n == f) (filter_map (frame_named watches) l) (flat_map (filter_map (frame_named watches)) rest)))
 
 flag-is : (script : Script) (f : ℕ) → f < length script.layout.kernel → get_or (flags_of script) f false ≡ list_any (λ n. n == f) (named_frames script)
 flag-is script f inside =
-    lists-at f script.lists (replicate (length script.layout.kernel) false) (subst (λ (m : ℕ). f < m) (sym (length-replicate {A = Bool} (length script.layout.kernel) false)) inside)
+    lists-at (has_watch script) f script.lists (replicate (length script.layout.kernel) false) (subst (λ (m : ℕ). f < m) (sym (length-replicate {A = Bool} (length script.layout.kernel) false)) inside)
     ∙ ap (λ (b : Bool). b || list_any (λ n. n == f) (named_frames script)) (get_or-replicate {A = Bool} (length script.layout.kernel) f false false inside)
 
 usable-from : (flags : List Bool) (named : List ℕ) (n : ℕ) (kernels : List Bool) → ((f : ℕ) → f < n + length kernels → get_or flags f false ≡ list_any (λ m. m == f) named)

@@ -2,6 +2,7 @@
 use Rattle.std.specs.Prelude.{ℕ, ◌+◌, ◌||◌, Bool, true, false, cond, List, [], ◌∷◌, Option, Some, None, fold, replicate, length, slice_index_or, slice_set}
 use Rattle.hwp_law.specs.hwp_script_read.declared.Command.{Command}
 use Rattle.hwp_law.specs.hwp_script_read.declared.Script.{Script}
+use Rattle.hwp_law.specs.hwp_law_commands.Commands.{has_watch}
 use Rattle.hwp_law.specs.Answers.{frame_named}
 
 -- the flags after a frame was named, if one was
@@ -9,15 +10,15 @@ abbrev pub noted : List Bool → Option ℕ → List Bool
 noted flags None = flags
 noted flags (Some frame) = slice_set flags frame true
 
--- after a command, and after commands, and after lists of them
-abbrev pub noted_in : List Bool → Command → List Bool
-noted_in flags command = noted flags (frame_named command)
+-- after a command, and after commands, and after lists of them; in a script that has a `watch`, or has none
+abbrev pub noted_in : Bool → List Bool → Command → List Bool
+noted_in watches flags command = noted flags (frame_named watches command)
 
-abbrev pub noted_list : List Bool → List Command → List Bool
-noted_list flags list = fold noted_in flags list
+abbrev pub noted_list : Bool → List Bool → List Command → List Bool
+noted_list watches flags list = fold (noted_in watches) flags list
 
 abbrev pub flags_of : Script → List Bool
-flags_of script = fold noted_list (replicate (length script.layout.kernel) false) script.lists
+flags_of script = fold (noted_list (has_watch script)) (replicate (length script.layout.kernel) false) script.lists
 
 -- how many frames from number n on are neither the kernel's nor flagged
 abbrev pub usable_by : List Bool → ℕ → List Bool → ℕ

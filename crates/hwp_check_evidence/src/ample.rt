@@ -1,4 +1,6 @@
 ghost use Rattle.std.specs.Prelude.{◌≡◌, ◌+◌, ◌*◌, nat_lt, false, IfOk, slice_index_or};
+ghost use Rattle.std.specs.List.{list_any};
+ghost use Rattle.hwp_law.specs.hwp_law_commands.Commands.{has_watch, is_watch};
 ghost use Rattle.hwp_law.specs.Answers.{frame_named, is_ample};
 ghost use Rattle.hwp_check_evidence.specs.Ample.{flags_of, noted, noted_in, noted_list, usable_by};
 
@@ -8,11 +10,37 @@ use std::alloc::Global;
 /// The bytes of a frame.
 const FRAME_BYTES: u64 = 4096;
 
-/// The frame that a command names to go bad, to fail or to go out of use.
-fn frame_named(command: &Command) -> Option<u64>
-    ensures { result ≡ frame_named command.now }
+/// Whether the command gives its processor a collector of corrected errors.
+fn is_watch(command: &Command) -> bool
+    ensures { result ≡ is_watch command.now }
+{
+    matches!(*command, Command::Watch { .. })
+}
+
+/// Whether a list has such a command.
+fn list_watches(list: &[Command]) -> bool
+    ensures { result ≡ list_any is_watch list.now }
+{
+    list.iter().any(is_watch)
+}
+
+/// Whether a list of the script does.
+fn has_watch(script: &Script) -> bool
+    ensures { result ≡ has_watch script.now }
+{
+    script
+        .lists
+        .as_slice()
+        .iter()
+        .any(|list| list_watches(list.as_slice()))
+}
+
+/// The frame that a command names to go bad, to fail or to go out of use; where the script has a `watch`, also one that it makes weak.
+fn frame_named(watches: bool, command: &Command) -> Option<u64>
+    ensures { result ≡ frame_named watches command.now }
 {
     match *command {
+        Command::Weak { frame, .. } if watches => Some(u64::from(frame.0)),
         Command::Bad { frame, .. } => Some(u64::from(frame.0)),
         Command::Inject { frame } => Some(u64::from(frame.0)),
         Command::Soft { frame } => Some(u64::from(frame.0)),
@@ -33,11 +61,11 @@ fn note(flags: &mut Vec<bool>, frame: Option<u64>)
 }
 
 /// Flags the frames that the commands name.
-fn note_list(flags: &mut Vec<bool>, list: &[Command])
-    ensures { flags.new.items ≡ noted_list flags.old.items list.now }
+fn note_list(flags: &mut Vec<bool>, watches: bool, list: &[Command])
+    ensures { flags.new.items ≡ noted_list watches flags.old.items list.now }
 {
     for command in list {
-        note(flags, frame_named(command));
+        note(flags, frame_named(watches, command));
     }
 }
 
@@ -45,9 +73,10 @@ fn note_list(flags: &mut Vec<bool>, list: &[Command])
 fn flags_of(alloc: Global, script: &Script) -> Result<Vec<bool>, OutOfMemory>
     ensures { IfOk result (λ flags. flags.items ≡ flags_of script.now) }
 {
+    let watches = has_watch(script);
     let mut flags = vec![in alloc; false; script.layout.kernel.len()]?;
     for list in script.lists.as_slice() {
-        note_list(&mut flags, list.as_slice());
+        note_list(&mut flags, watches, list.as_slice());
     }
     Ok(flags)
 }
@@ -84,7 +113,6 @@ fn is_above(pages: usize, cpus: u8, usable: u64) -> bool
 }
 
 /// Whether the script has usable frames enough for every page at once, with two more for each processor.
-#[tactic(auto, using(crate::proofs::AmpleLaws::usable_is))]
 pub fn is_ample(alloc: Global, script: &Script) -> Result<bool, OutOfMemory>
     ensures { IfOk result (λ ample. ample ≡ is_ample script.now) }
 {
