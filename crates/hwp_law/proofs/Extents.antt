@@ -24,7 +24,7 @@ use Rattle.hwp_law_commands.specs.hwp_report_text.declared.StopCause.{StopCause}
 use Rattle.hwp_law_commands.specs.hwp_report_text.declared.StopCause.TheVariants as causes
 use Rattle.hwp_law.specs.Answers.{IsAnswer}
 use Rattle.hwp_law.specs.Causes.{IsCaused}
-use Rattle.hwp_law_commands.specs.Commands.{command_at, is_kernels}
+use Rattle.hwp_law_commands.specs.Commands.{command_at, has_watch, is_kernels}
 use Rattle.hwp_law.specs.Entries.{IsMadeBy, Makes, CanStandIn}
 use Rattle.hwp_law.specs.Halts.{CanStop, StopAgrees}
 use Rattle.hwp_law.specs.History.{IsMade, Fits, Names}
@@ -69,11 +69,19 @@ IsPlain (entries.Fail situation required seen signals) = ⊥
 IsPlain entries.Soft = ⊥
 IsPlain what = Unit {0}
 
-made_so : (script : Script) (page : Page) (command : Command) (what : What) → IsPlain what → Makes script command what × CanStandIn script.layout command page what → Fits command what × Names script.layout command page
+made_so : (script : Script) (page : Page) (command : Command) (what : What) → IsPlain what → Makes (has_watch script) command what × CanStandIn script.layout command page what → Fits command what × Names script.layout command page
 made_so script page command (entries.Mce slot line mask) plain made = absurd plain
 made_so script page command (entries.Fail situation required seen signals) plain made = absurd plain
 made_so script page command entries.Soft plain made = absurd plain
 made_so script page command what plain made = made
+
+-- an entry that a command makes without a `watch` is one that it makes in any script
+pub makes-watched : (watches : Bool) (command : Command) (what : What) → Makes false command what → Makes watches command what
+makes-watched watches command (entries.Mce slot line mask) made = made
+makes-watched watches command (entries.Fail situation required seen signals) made = made
+makes-watched watches (commands.Soft frame) entries.Soft made = tt
+makes-watched watches command entries.Soft made = absurd (true≢false (sym made.0))
+makes-watched watches command what made = made
 
 some_so : {A : Type 0} (o : Option A) (P Q : A → Type 0) → ((x : A) → P x → Q x) → IsSomeAnd o P → IsSomeAnd o Q
 some_so None P Q so is = is
@@ -82,7 +90,7 @@ some_so (Some x) P Q so is = so x is
 -- an entry that its command makes is today's where no memory fails
 pub IsMadeBy-plain : (script : Script) (page : Page) (e : Entry) → IsPlain e.what → IsMadeBy script page e → IsMade script page e
 IsMadeBy-plain script page e plain made =
-    some_so (command_at script e.who) (λ (c : Command). Makes script c e.what × CanStandIn script.layout c page e.what) (λ (c : Command). Fits c e.what × Names script.layout c page)
+    some_so (command_at script e.who) (λ (c : Command). Makes (has_watch script) c e.what × CanStandIn script.layout c page e.what) (λ (c : Command). Fits c e.what × Names script.layout c page)
     (λ c is. made_so script page c e.what plain is) made
 
 -- the answer of a command stands in a line of its processor

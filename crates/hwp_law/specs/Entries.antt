@@ -1,5 +1,5 @@
 -- Which entries a command makes, also where memory fails, and in which page.
-use Rattle.std.specs.Prelude.{◌≡◌, ◌⊎◌, ℕ, true, List, Option, Some, None, IsSomeAnd}
+use Rattle.std.specs.Prelude.{◌≡◌, ◌⊎◌, ℕ, Bool, true, List, Option, Some, None, IsSomeAnd}
 use Rattle.hwp_law_commands.specs.hwp_geom.declared.Layout.{Layout}
 use Rattle.hwp_law_commands.specs.hwp_geom.declared.Page.{Page}
 use Rattle.hwp_law_commands.specs.hwp_geom.declared.Thread.{Thread}
@@ -23,14 +23,14 @@ IsAccessAt slot line a = (a.slot ≡ slot) × (a.line ≡ line)
 abbrev pub IsRequiredBy : Command → Option Thread → Type 0
 IsRequiredBy command required = (required ≡ None) ⊎ (required ≡ current_thread command)
 
--- the entry is of a kind that the command makes, with the command's numbers. A frame goes out of use by `soft`; where the script has a
+-- the entry is of a kind that the command makes, with the command's numbers. A page leaves its frame by `soft`; in a script with a
 -- `watch`, also beside the answer of a command
-abbrev pub Makes : Script → Command → What → Type 0
-Makes script command (entries.Mce slot line mask) = IsSomeAnd (access_of command) (IsAccessAt slot line)
-Makes script command (entries.Fail situation required seen signals) = (can_fail command ≡ true) × IsRequiredBy command required
-Makes script (commands.Soft frame) entries.Soft = Unit {0}
-Makes script command entries.Soft = (has_watch script ≡ true) × (can_offline command ≡ true)
-Makes script command what = Fits command what
+abbrev pub Makes : Bool → Command → What → Type 0
+Makes watches command (entries.Mce slot line mask) = IsSomeAnd (access_of command) (IsAccessAt slot line)
+Makes watches command (entries.Fail situation required seen signals) = (can_fail command ≡ true) × IsRequiredBy command required
+Makes watches (commands.Soft frame) entries.Soft = Unit {0}
+Makes watches command entries.Soft = (watches ≡ true) × (can_offline command ≡ true)
+Makes watches command what = Fits command what
 
 -- the page is the one that the command names; a failure and a soft offline meet the page that is in their frame
 abbrev pub CanStandIn : Layout → Command → Page → What → Type 0
@@ -40,7 +40,7 @@ CanStandIn layout command page what = Names layout command page
 
 -- the entry is one that its command makes, in a page where it can stand
 abbrev pub IsMadeBy : Script → Page → Entry → Type 0
-IsMadeBy script page e = IsSomeAnd (command_at script e.who) (λ (command : Command). Makes script command e.what × CanStandIn script.layout command page e.what)
+IsMadeBy script page e = IsSomeAnd (command_at script e.who) (λ (command : Command). Makes (has_watch script) command e.what × CanStandIn script.layout command page e.what)
 
 -- each entry is one that its command makes
 abbrev pub AreMadeBy : Script → List (List Entry) → Type 0
