@@ -1,0 +1,4 @@
+pub mod PartBegins
+pub mod CourseLaws
+pub mod CourseCosts
+pub mod PartsOver
