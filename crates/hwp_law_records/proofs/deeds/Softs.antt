@@ -40,12 +40,11 @@ abbrev is_offline : Command → Bool
 is_offline (commands.Soft frame) = true
 is_offline command = false
 
-soft-made : (command : Command) → Makes command entries.Soft → is_offline command ≡ true
+soft-made : (command : Command) → Makes false command entries.Soft → is_offline command ≡ true
 soft-made (commands.Soft frame) makes = refl
-soft-made (commands.Free slot) makes = absurd makes
-soft-made command makes = absurd makes
+soft-made command makes = absurd (true≢false (sym makes.0))
 
-makes-soft : (command : Command) (what : What) → is_soft what ≡ true → Makes command what → is_offline command ≡ true
+makes-soft : (command : Command) (what : What) → is_soft what ≡ true → Makes false command what → is_offline command ≡ true
 makes-soft command entries.Soft is makes = soft-made command makes
 makes-soft command what is makes = absurd (true≢false (sym is))
 

@@ -53,7 +53,7 @@ fits-plain command entries.Out is fits = absurd (true≢false is)
 fits-plain (commands.Free slot) what is fits = fits
 fits-plain command what is fits = fits
 
-makes-so : (command : Command) (what : What) → Fits command what → Makes command what
+makes-so : (command : Command) (what : What) → Fits command what → Makes false command what
 makes-so command (entries.Mce slot line mask) fits = absurd (fits-plain command (entries.Mce slot line mask) refl fits)
 makes-so command (entries.Fail situation required seen signals) fits = absurd (fits-plain command (entries.Fail situation required seen signals) refl fits)
 makes-so command entries.Soft fits = absurd (fits-plain command entries.Soft refl fits)
@@ -68,15 +68,15 @@ stands-so layout command page what names = names
 
 -- the entry is of the command's kind and in a page where it can stand, and where it answers the command the answer names it
 pub record IsDeed (layout : Layout) (command : Command) (answer : Answer) (m : Made) : Type 0 where
-  pub makes : Makes command m.entry.what
+  pub makes : Makes false command m.entry.what
   pub stands : CanStandIn layout command m.page m.entry.what
   pub named : IsTrue (is_answering m.entry.what) → entry_named answer ≡ Some (record { page = m.page; entry = m.place })
 
 -- the entry that answers a command
-answered : (layout : Layout) (command : Command) (answer : Answer) (page : Page) (place : ℕ) (what : What) (m : Made) → Makes command what → CanStandIn layout command page what → entry_named answer ≡ Some (record { page = page; entry = place }) → IsAt page place what m
+answered : (layout : Layout) (command : Command) (answer : Answer) (page : Page) (place : ℕ) (what : What) (m : Made) → Makes false command what → CanStandIn layout command page what → entry_named answer ≡ Some (record { page = page; entry = place }) → IsAt page place what m
     → IsDeed layout command answer m
 answered layout command answer page place what m makes stands named (page_is, place_is, what_is) = record {
-  makes = subst (Makes command) (sym what_is) makes;
+  makes = subst (Makes false command) (sym what_is) makes;
   stands = subst (CanStandIn layout command m.page) (sym what_is) (subst (λ (p : Page). CanStandIn layout command p what) (sym page_is) stands);
   named = λ answers. named ∙ ap (λ (p : Page). Some (record { page = p; entry = place })) (sym page_is) ∙ ap (λ (n : ℕ). Some (record { page = m.page; entry = n })) (sym place_is);
 }
@@ -86,7 +86,7 @@ module _ (layout : Layout) (command : Command) (answer : Answer) (m : Made) wher
   failure : can_fail command ≡ true → IsNeeded command m.entry.what → is_failure m.entry.what ≡ true → IsDeed layout command answer m
   failure can need fails = record { makes = makes m.entry.what need fails; stands = stands m.entry.what fails; named = λ answers. absurd (true≢false (sym answers ∙ unanswering m.entry.what fails)) }
     where
-      makes : (what : What) → IsNeeded command what → is_failure what ≡ true → Makes command what
+      makes : (what : What) → IsNeeded command what → is_failure what ≡ true → Makes false command what
       makes (entries.Fail situation required seen signals) need fails = (can, need)
       makes what need fails = absurd (true≢false (sym fails))
 
@@ -106,7 +106,7 @@ module _ (layout : Layout) (command : Command) (answer : Answer) (m : Made) wher
     named = λ answers. absurd (true≢false (sym answers ∙ unanswering m.entry.what on));
   }
     where
-      makes : (what : What) → IsOnTheWay slot line what → Makes command what
+      makes : (what : What) → IsOnTheWay slot line what → Makes false command what
       makes entries.FaultIn on = makes-so command entries.FaultIn fault
       makes (entries.Map other) on = makes-so command (entries.Map other) (subst (λ (s : VSlot). Fits command (entries.Map s)) (sym on) map)
       makes (entries.Mce other bad mask) on =
@@ -155,7 +155,7 @@ module _ (layout : Layout) (earlier : List (Command × Answer)) (view : View) (w
 
   module _ (command : Command) (need : EachMember (λ (m : Made). IsNeeded command m.entry.what) (deeds who view)) where
     -- an access that came to its entry
-    reached : (answer : Answer) (slot : VSlot) (line : ℕ) (at : At) (what : What) → ((m : Made) → IsMetAt layout slot line m → IsMet layout command m) → Makes command what → ((page : Page) → IsOf layout page slot → CanStandIn layout command page what) → entry_named answer ≡ Some at
+    reached : (answer : Answer) (slot : VSlot) (line : ℕ) (at : At) (what : What) → ((m : Made) → IsMetAt layout slot line m → IsMet layout command m) → Makes false command what → ((page : Page) → IsOf layout page slot → CanStandIn layout command page what) → entry_named answer ≡ Some at
         → IsOf layout at.page slot → HasMade (Precedes at.page slot line) view who at.page at.entry what → Are command answer
     reached answer slot line at what same makes stands named page made =
         made-so view who (IsDeed layout command answer) made need (λ m needed in_. met layout command answer m needed (same m (preceding layout at.page slot line m page in_)))
@@ -170,7 +170,7 @@ module _ (layout : Layout) (earlier : List (Command × Answer)) (view : View) (w
     only-met answer only i m there = met layout command answer m (need i m there) (only i m there)
 
     -- a command that made its entry alone
-    one : (answer : Answer) (at : At) (what : What) → Makes command what → CanStandIn layout command at.page what → entry_named answer ≡ Some at → HasMade (λ m. ⊥) view who at.page at.entry what → Are command answer
+    one : (answer : Answer) (at : At) (what : What) → Makes false command what → CanStandIn layout command at.page what → entry_named answer ≡ Some at → HasMade (λ m. ⊥) view who at.page at.entry what → Are command answer
     one answer at what makes stands named made = made-so view who (IsDeed layout command answer) {Other = λ m. Unit {0}} made (λ i m there. tt) (λ m other no_. absurd no_) (λ m is. answered layout command answer at.page at.entry what m makes stands named is)
 
   table-deeds : (command : Command) (answer : Answer) → EachMember (λ (m : Made). IsNeeded command m.entry.what) (deeds who view) → IsTableCaused layout earlier view who command answer → Are command answer

@@ -1,5 +1,5 @@
 -- Each entry of the report is one that its command makes, and one that answers it is named.
-use Rattle.std.proofs.Common.{◌≡◌, ℕ, List, Option, Some, IsTrue, slice_get, option_and_then, refl, sym, ap, ◌∙◌, subst, arith}
+use Rattle.std.proofs.Common.{◌≡◌, ℕ, false, List, Option, Some, IsTrue, slice_get, option_and_then, refl, sym, ap, ◌∙◌, subst, arith}
 use Rattle.std.specs.Prelude.{IsSomeAnd}
 use Rattle.hwp_law_run.specs.hwp_geom.declared.Cpu.{Cpu}
 use Rattle.hwp_law_run.specs.hwp_geom.declared.Page.{Page}
@@ -15,9 +15,10 @@ use Rattle.hwp_law_run.specs.hwp_report_text.declared.CpuLine.TheVariants as lin
 use Rattle.hwp_law_run.specs.hwp_report_text.declared.Report.{Report}
 use Rattle.hwp_law_run.specs.hwp_law.Answers.{AreNamed, is_answering}
 use Rattle.hwp_law_run.specs.hwp_law.Entries.{AreMadeBy, CanStandIn, Makes}
-use Rattle.hwp_law_run.specs.hwp_law_commands.Commands.{command_at}
+use Rattle.hwp_law_run.specs.hwp_law_commands.Commands.{command_at, has_watch}
 use Rattle.hwp_law_run.specs.hwp_law.Places.{entry_at}
 use Rattle.hwp_law_run.specs.hwp_law.States.{entry_named}
+use Rattle.hwp_law_run.proofs.of_hwp_law.Extents.{makes-watched}
 use Rattle.hwp_law_run.proofs.Reported.{entry-listed}
 use Rattle.hwp_cpu_row.specs.declared.Row.{Row}
 use Rattle.hwp_law_served.specs.Rows.{lines_from}
@@ -36,7 +37,7 @@ command-is script who list command list_is there = ap (λ (o : Option (List Comm
 pub record Does (script : Script) (rows : List (List Row)) (at : At) (e : Entry) : Type 0 where
   pub view : View
   pub of : IsOf script rows view e.who
-  pub makes : Makes of.command e.what
+  pub makes : Makes false of.command e.what
   pub stands : CanStandIn script.layout of.command at.page e.what
   pub named : IsTrue (is_answering e.what) → entry_named of.row.answer ≡ Some at
 
@@ -51,7 +52,7 @@ module _ (script : Script) (seat : Cpu → ℕ) (last : State) (report : Report)
       record {
         view = listed.1;
         of = of;
-        makes = subst (λ (x : Entry). Makes of.command x.what) that.entry_is deed.makes;
+        makes = subst (λ (x : Entry). Makes false of.command x.what) that.entry_is deed.makes;
         stands = subst (λ (x : Entry). CanStandIn script.layout of.command at.page x.what) that.entry_is (subst (λ (p : Page). CanStandIn script.layout of.command p made.1.entry.what) that.page_is deed.stands);
         named = λ answers. deed.named (subst (λ (x : Entry). IsTrue (is_answering x.what)) (sym that.entry_is) answers)
             ∙ ap (λ (p : Page). Some (record { page = p; entry = made.1.place })) that.page_is ∙ ap (λ (n : ℕ). Some (record { page = at.page; entry = n })) that.place_is;
@@ -60,7 +61,8 @@ module _ (script : Script) (seat : Cpu → ℕ) (last : State) (report : Report)
   pub entries-made-by : AreMadeBy script report.pages
   entries-made-by at e is =
       let d = does at e is in
-      some-so (λ (command : Command). Makes command e.what × CanStandIn script.layout command at.page e.what) (command_at script e.who) d.of.command (command-is script e.who d.of.list d.of.command d.of.list_is d.of.command_is) (d.makes, d.stands)
+      some-so (λ (command : Command). Makes (has_watch script) command e.what × CanStandIn script.layout command at.page e.what) (command_at script e.who) d.of.command (command-is script e.who d.of.list d.of.command d.of.list_is d.of.command_is)
+      (makes-watched (has_watch script) d.of.command e.what d.makes, d.stands)
 
   pub entries-named : AreNamed report.pages report.cpus
   entries-named at e is answers =

@@ -165,7 +165,7 @@ module _ (who : Who) where
 
 -- ---- a command without failures
 
-lossless-so : (command : Command) (what : What) → can_fail command ≡ false → Makes command what → is_loss what ≡ false
+lossless-so : (command : Command) (what : What) → can_fail command ≡ false → Makes false command what → is_loss what ≡ false
 lossless-so command (entries.Fail situation required seen signals) cannot makes = absurd (true≢false (sym makes.0 ∙ cannot))
 lossless-so command what cannot makes = refl
 

@@ -103,7 +103,7 @@ no-setting : (command : Command) (answer : Answer) → can_fail command ≡ true
 no-setting (commands.Prctl thread args) answer fails = absurd (true≢false (sym fails))
 no-setting command answer fails = refl
 
-can-fail : (command : Command) (what : What) (seen : Seen) → Makes command what → Contains (seen_in what) seen → can_fail command ≡ true
+can-fail : (command : Command) (what : What) (seen : Seen) → Makes false command what → Contains (seen_in what) seen → can_fail command ≡ true
 can-fail command (entries.Fail situation required list signals) seen makes has = makes.0
 can-fail command what seen makes (k, within, is) = absurd (omega (arith, within))
 
@@ -237,7 +237,7 @@ module _ (script : Script) (seat : Cpu → ℕ) (turns : List Played) (last : St
       let d = does script seat last report end at e is in
       (policy-seen e.who seen saw, own d.view d.of d.makes saw)
     where
-      own : (v : View) (of : IsOf script end.rows v e.who) → Makes of.command e.what → SawPolicy e.who seen → IsOwnCount script report e.who seen
+      own : (v : View) (of : IsOf script end.rows v e.who) → Makes false of.command e.what → SawPolicy e.who seen → IsOwnCount script report e.who seen
       own v of makes saw =
           let mine = command-of script seat last report end e.who of.list of.command of.list_is of.command_is in
           let same : mine.command ≡ of.command = same_Some mine.command of.command (sym mine.command_is ∙ ap (λ (l : List Command). slice_get l e.who.seq) (same_Some mine.list of.list (sym mine.list_is ∙ of.list_is)) ∙ of.command_is) in
