@@ -41,7 +41,7 @@ use Rattle.hwp_law_records.specs.hwp_core_rule.Lists.{EachMember}
 use Rattle.hwp_law_records.proofs.of_hwp_core_rule.Lists.{each-set}
 use Rattle.hwp_law_records.proofs.of_hwp_core_rule.MoreEntries.{each-append}
 use Rattle.hwp_law_records.specs.hwp_banks.Banks.{Banks, empty_banks, held_from, log_in}
-use Rattle.hwp_law_records.specs.hwp_law_commands.Commands.{arrival_of, command_at}
+use Rattle.hwp_law_records.specs.hwp_law_commands.Commands.{arrival_of, command_at, has_watch}
 use Rattle.hwp_law_records.specs.hwp_severity.declared.Arrival.{Arrival}
 use Rattle.hwp_law_records.specs.hwp_law.Events.{logged_if_done}
 use Rattle.hwp_law_records.specs.hwp_banks.Banks.{raw_bank, raw_event}
@@ -68,29 +68,29 @@ or-true true = refl
 or-true false = refl
 
 -- a command of a list names its frame, and so does the script
-named-in : (f : ℕ) (list : List Command) (j : ℕ) (c : Command) → slice_get list j ≡ Some c → frame_named c ≡ Some f → list_any (λ n. n == f) (filter_map frame_named list) ≡ true
-named-in f [] j c there is = absurd (none-some c there)
-named-in f (d ∷ ds) zero c there is =
-    let own : frame_named d ≡ Some f = ap frame_named (same_Some d c there) ∙ is in
-    ap (λ (o : Option ℕ). list_any (λ n. n == f) (cons_option o (filter_map frame_named ds))) own ∙ ap (λ (b : Bool). b || list_any (λ n. n == f) (filter_map frame_named ds)) (eq-eqb f f refl)
-named-in f (d ∷ ds) (suc j) c there is = by (frame_named d) (named-in f ds j c there is)
+named-in : (watches : Bool) (f : ℕ) (list : List Command) (j : ℕ) (c : Command) → slice_get list j ≡ Some c → frame_named watches c ≡ Some f → list_any (λ n. n == f) (filter_map (frame_named watches) list) ≡ true
+named-in watches f [] j c there is = absurd (none-some c there)
+named-in watches f (d ∷ ds) zero c there is =
+    let own : frame_named watches d ≡ Some f = ap (frame_named watches) (same_Some d c there) ∙ is in
+    ap (λ (o : Option ℕ). list_any (λ n. n == f) (cons_option o (filter_map (frame_named watches) ds))) own ∙ ap (λ (b : Bool). b || list_any (λ n. n == f) (filter_map (frame_named watches) ds)) (eq-eqb f f refl)
+named-in watches f (d ∷ ds) (suc j) c there is = by (frame_named watches d) (named-in watches f ds j c there is)
   where
-    by : (o : Option ℕ) → list_any (λ n. n == f) (filter_map frame_named ds) ≡ true → list_any (λ n. n == f) (cons_option o (filter_map frame_named ds)) ≡ true
+    by : (o : Option ℕ) → list_any (λ n. n == f) (filter_map (frame_named watches) ds) ≡ true → list_any (λ n. n == f) (cons_option o (filter_map (frame_named watches) ds)) ≡ true
     by None rest = rest
     by (Some n) rest = ap (λ (b : Bool). (n == f) || b) rest ∙ or-true (n == f)
 
-named-of : (f : ℕ) (lists : List (List Command)) (i j : ℕ) (list : List Command) (c : Command) → slice_get lists i ≡ Some list → slice_get list j ≡ Some c → frame_named c ≡ Some f → list_any (λ n. n == f) (flat_map (filter_map frame_named) lists) ≡ true
-named-of f [] i j list c at there is = absurd (none-some list at)
-named-of f (l ∷ ls) zero j list c at there is =
-    list_any-append (λ n. n == f) (filter_map frame_named l) (flat_map (filter_map frame_named) ls)
-    ∙ ap (λ (b : Bool). b || list_any (λ n. n == f) (flat_map (filter_map frame_named) ls)) (named-in f l j c (ap (λ (x : List Command). slice_get x j) (same_Some l list at) ∙ there) is)
-named-of f (l ∷ ls) (suc i) j list c at there is =
-    list_any-append (λ n. n == f) (filter_map frame_named l) (flat_map (filter_map frame_named) ls)
-    ∙ ap (λ (b : Bool). list_any (λ n. n == f) (filter_map frame_named l) || b) (named-of f ls i j list c at there is) ∙ or-true (list_any (λ n. n == f) (filter_map frame_named l))
+named-of : (watches : Bool) (f : ℕ) (lists : List (List Command)) (i j : ℕ) (list : List Command) (c : Command) → slice_get lists i ≡ Some list → slice_get list j ≡ Some c → frame_named watches c ≡ Some f → list_any (λ n. n == f) (flat_map (filter_map (frame_named watches)) lists) ≡ true
+named-of watches f [] i j list c at there is = absurd (none-some list at)
+named-of watches f (l ∷ ls) zero j list c at there is =
+    list_any-append (λ n. n == f) (filter_map (frame_named watches) l) (flat_map (filter_map (frame_named watches)) ls)
+    ∙ ap (λ (b : Bool). b || list_any (λ n. n == f) (flat_map (filter_map (frame_named watches)) ls)) (named-in watches f l j c (ap (λ (x : List Command). slice_get x j) (same_Some l list at) ∙ there) is)
+named-of watches f (l ∷ ls) (suc i) j list c at there is =
+    list_any-append (λ n. n == f) (filter_map (frame_named watches) l) (flat_map (filter_map (frame_named watches)) ls)
+    ∙ ap (λ (b : Bool). list_any (λ n. n == f) (filter_map (frame_named watches) l) || b) (named-of watches f ls i j list c at there is) ∙ or-true (list_any (λ n. n == f) (filter_map (frame_named watches) l))
 
 -- a command of the script names its frame
-pub named-at : (script : Script) (who : Who) (command : Command) (f : ℕ) → command_at script who ≡ Some command → frame_named command ≡ Some f → list_any (λ n. n == f) (named_frames script) ≡ true
-named-at script who command f at is = option_and_then_some (λ (l : List Command). slice_get l who.seq) (slice_get script.lists who.cpu.0) command at (λ list list_is there. named-of f script.lists who.cpu.0 who.seq list command list_is there is)
+pub named-at : (script : Script) (who : Who) (command : Command) (f : ℕ) → command_at script who ≡ Some command → frame_named (has_watch script) command ≡ Some f → list_any (λ n. n == f) (named_frames script) ≡ true
+named-at script who command f at is = option_and_then_some (λ (l : List Command). slice_get l who.seq) (slice_get script.lists who.cpu.0) command at (λ list list_is there. named-of (has_watch script) f script.lists who.cpu.0 who.seq list command list_is there is)
 
 -- ---- addresses of events
 
