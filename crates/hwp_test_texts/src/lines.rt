@@ -58,25 +58,37 @@ const NEWER: &[(&[u8], &str)] = &[
         b"watch 1 1\nwatch 1000 64\n  watch  2  3  \n",
         "1 watch 1 1\n2 watch 1000 64\n3 watch 2 3\n",
     ),
-    (b"open x", "1 bad number in version 2\n"),
-    (b"watch x 65", "1 bad number in version 2\n"),
-    (b"watch 0 01", "1 bad number in version 2\n"),
-    (b"page x anon locked", "1 bad number in version 2\n"),
-    (
-        b"page 0 file x fill 1 locked",
-        "1 bad number in version 2\n",
-    ),
-    (b"open 16", "1 over the limit in version 2\n"),
-    (b"watch 0 1", "1 over the limit in version 2\n"),
-    (b"watch 1001 1", "1 over the limit in version 2\n"),
-    (b"watch 1 0", "1 over the limit in version 2\n"),
-    (b"watch 1 65", "1 over the limit in version 2\n"),
-    (b"watch 65537 257", "1 over the limit in version 2\n"),
+];
+
+/// What has a form of version 2 but for a word in a number's place.
+const NEWER_WORDS: &[&[u8]] = &[
+    b"open x",
+    b"watch x 65",
+    b"watch 0 01",
+    b"page x anon locked",
+    b"page 0 file x fill 1 locked",
+];
+
+/// What has a form of version 2 but for a number outside its range.
+const NEWER_OVER: &[&[u8]] = &[
+    b"open 16",
+    b"watch 0 1",
+    b"watch 1001 1",
+    b"watch 1 0",
+    b"watch 1 65",
+    b"watch 65537 257",
 ];
 
 #[test]
 fn forms_of_version_2_are_read_as_they_are_printed(rt: HostRuntime) {
     are_told(&rt, rt.alloc(), NEWER);
+    are_all(&rt, rt.alloc(), NEWER_WORDS, "1 bad number in version 2\n");
+    are_all(
+        &rt,
+        rt.alloc(),
+        NEWER_OVER,
+        "1 over the limit in version 2\n",
+    );
 }
 
 /// Every kind of line, as it is read and as it is printed.

@@ -142,12 +142,24 @@ fn a_script_of_version_2_is_read_and_refused_where_it_is_at_fault(rt: HostRuntim
             ("open 0", "open 16", 10, Why::OverLimit),
             ("open 0", "open 1", 10, Why::Undeclared),
             ("inject 4095", "hwp 2", 11, Why::UnknownWord),
+            ("schedule 15", "schedule 16", 13, Why::OverLimit),
+        ],
+    );
+}
+
+#[test]
+fn a_watch_has_a_threshold_and_a_window(rt: HostRuntime) {
+    refused(
+        &rt,
+        rt.alloc(),
+        TWO,
+        &[
             ("watch 1000", "watch 1001", 12, Why::OverLimit),
-            ("1000 64", "1000 65", 12, Why::OverLimit),
             ("watch 1000", "watch 0", 12, Why::OverLimit),
+            ("1000 64", "1000 65", 12, Why::OverLimit),
+            ("1000 64", "1000 0", 12, Why::OverLimit),
             ("1000 64", "1000", 12, Why::UnknownWord),
             ("watch 1000", "watch x", 12, Why::BadNumber),
-            ("schedule 15", "schedule 16", 13, Why::OverLimit),
         ],
     );
 }
