@@ -295,8 +295,8 @@ anew-collects : (j : Job) → collects_in (anew j) ≡ collects_in j
 anew-collects (jobs.Instruction i) = refl
 anew-collects _ = refl
 
-pub never-pauses : {base : List Made} {layout : Layout} {view : View} {by : Who} {command : Command} (i : Instruction) → Runs layout by command (jobs.Instruction i) → FitsFrom base layout view (jobs.Instruction i) → instructions.pause i ≡ None
-never-pauses {base} {layout} {view} {by} {command} i runs fits = instructing.never-pauses i fits
+pub never-pauses : {base : List Made} {layout : Layout} {view : View} (by : Who) (command : Command) (i : Instruction) → Runs layout by command (jobs.Instruction i) → FitsFrom base layout view (jobs.Instruction i) → instructions.pause i ≡ None
+never-pauses {base} {layout} {view} by command i runs fits = instructing.never-pauses i fits
     (sym (anew-collects (jobs.Instruction i)) ∙ (has-begun layout by command (banks_before (jobs.Instruction i) []) (anew (jobs.Instruction i)) runs).plain)
 
 -- ---- a command that may begin
