@@ -2,7 +2,9 @@
 use Rattle.std.specs.Prelude.{◌≡◌, ℕ, true, false, List, [], ◌∷◌, ◌++◌}
 use Rattle.hwp_cpu_row.specs.hwp_geom.declared.Frame.{Frame}
 use Rattle.hwp_cpu_row.specs.hwp_geom.declared.Layout.{Layout}
+use Rattle.hwp_cpu_row.specs.hwp_geom.declared.Page.{Page}
 use Rattle.hwp_cpu_row.specs.hwp_geom.declared.Who.{Who}
+use Rattle.hwp_cpu_row.specs.hwp_page.declared.At.{At}
 use Rattle.hwp_cpu_row.specs.hwp_page.declared.What.TheVariants as entries
 use Rattle.hwp_cpu_row.specs.hwp_core_rule.declared.Made.{Made}
 use Rattle.hwp_cpu_row.specs.hwp_core_rule.declared.Mark.{Mark}
@@ -47,3 +49,19 @@ pub record EndsSoft (base : List Made) (layout : Layout) (view : View) (who : Wh
 abbrev pub AreOver : List Made → Layout → View → Who → List (Frame × SoftAnswer) → List Made → Type 0
 AreOver own layout view who [] all = all ≡ own
 AreOver own layout view who (o ∷ os) all = (more : List Made) × IsSoftOver more layout view who o.0 o.1 × AreOver (own ++ more) layout view who os all
+
+-- where an entry stands
+abbrev pub at_of : Page → ℕ → At
+at_of page place = record { page = page; entry = place }
+
+abbrev pub placed : Made → At
+placed m = at_of m.page m.place
+
+-- the places of the entries by which the pages left these frames
+abbrev pub moved_by : SoftAnswer → List At
+moved_by (answers.Moved to place cycle) = place ∷ []
+moved_by _ = []
+
+abbrev pub all_moved : List (Frame × SoftAnswer) → List At
+all_moved [] = []
+all_moved (o ∷ os) = moved_by o.1 ++ all_moved os
