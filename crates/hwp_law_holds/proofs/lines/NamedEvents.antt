@@ -268,4 +268,4 @@ module _ (script : Script) (seat : Cpu → ℕ) (last : State) (report : Report)
   pub events-named : (cpu : Cpu) (list : List Command) (own : List Row) → cpu.0 < script.layout.cpus → slice_get script.lists cpu.0 ≡ Some list → slice_get end.rows cpu.0 ≡ Some own → EachMember (λ (row : Row). AreSuch IsNamed row.told) own
   events-named cpu list own inside list_is own_is =
       let served = (served-of script seat last report end cpu list own list_is own_is).0 in
-      rows-such IsNamed script.layout [] (view_of last (seat cpu)) cpu 0 empty_banks list own served.banks (bad-named cpu inside) (λ k status addr misc there. named-of (frame_at addr) script.lists cpu.0 k list (commands.Log status addr misc) list_is there refl) empty-free served.rows_are (empty-such IsNamed bank_count)
+      rows-such IsNamed script.layout [] (view_of last (seat cpu)) cpu 0 empty_banks list own served.banks (bad-named cpu inside) (λ k status addr misc there. named-of (has_watch script) (frame_at addr) script.lists cpu.0 k list (commands.Log status addr misc) list_is there refl) empty-free served.rows_are (empty-such IsNamed bank_count)
