@@ -2,9 +2,9 @@
 use Rattle.std.proofs.Common.{ℕ, Bool, true, false, ◌≡◌, ◌<◌, ◌≤◌, List, [], ◌∷◌, length, inl, inr, refl, arith, ap, rules, Option, None, Some, ◌+◌}
 use Rattle.std.specs.Prelude.{slice_get, option_and_then, IsSome}
 use Rattle.hwp_script_read.specs.Limits.{schedule_limit}
-use Rattle.hwp_geom.specs.Limits.{command_limit, cpu_limit, frame_limit, page_limit, translation_limit, cpu_limit_of, frame_limit_of, page_limit_of, translation_limit_of}
-use Rattle.hwp_geom.specs.declared.Version.{Version}
-use Rattle.hwp_geom.specs.declared.Version.TheVariants as versions
+use Rattle.hwp_script_lines.specs.hwp_geom.Limits.{command_limit, cpu_limit, frame_limit, page_limit, translation_limit, cpu_limit_of, frame_limit_of, page_limit_of, translation_limit_of}
+use Rattle.hwp_script_lines.specs.hwp_geom.declared.Version.{Version}
+use Rattle.hwp_script_lines.specs.hwp_geom.declared.Version.TheVariants as versions
 use Rattle.hwp_script_read.specs.Context.{version_in, cpus_in, frames_in, recovery_in, early_in, files_in, procs_in, threads_in, pages_in, trans_in, commands_in, go_in, place_in, highest}
 use Rattle.hwp_script_read.specs.Reasons.{IsMisplaced, IsElsewhere, IsBackingOver, IsBackingUndeclared, IsUndeclared, IsNewer, IsBeyond, actor, top_cpu, IsClean}
 use Rattle.hwp_script_lines.specs.declared.Backing.{Backing}

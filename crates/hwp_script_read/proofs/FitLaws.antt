@@ -3,8 +3,8 @@ use Rattle.std.proofs.Common.{ℕ, ◌≡◌, ◌+◌, ◌==◌, Bool, true, fal
 use Rattle.std.specs.Prelude.{All, option_to_list}
 use Rattle.std.specs.List.{range_with_len, cons_option}
 use Rattle.std.proofs.lemmas.List.Elements.{All-nil, All-cons, All-head, All-tail, All-append}
-use Rattle.hwp_geom.specs.Pairs.{Pairs}
-use Rattle.hwp_geom.specs.declared.PageKind.{PageKind}
+use Rattle.hwp_script_lines.specs.hwp_geom.Pairs.{Pairs}
+use Rattle.hwp_script_lines.specs.hwp_geom.declared.PageKind.{PageKind}
 use Rattle.hwp_script_lines.specs.Grammar.{Fits, CommandFits, IsForm}
 use Rattle.hwp_script_lines.specs.Lines.{IsNumbered, AreLinesOf, numbered_lines}
 use Rattle.hwp_script_lines.specs.declared.ScriptLine.{ScriptLine}

@@ -10,5 +10,5 @@ pub mod FitLaws
 pub mod ValidLaws
 pub mod ReadLaws
 pub mod OneScript
-pub use Rattle.hwp_geom.proofs as of_hwp_geom
+pub use Rattle.hwp_script_lines.proofs.of_hwp_geom as of_hwp_geom
 pub use Rattle.hwp_script_lines.proofs as of_hwp_script_lines

@@ -3,14 +3,14 @@ use Rattle.std.proofs.Common.{ℕ, ◌≡◌, ◌≢◌, ◌≤◌, ◌++◌, tr
 use Rattle.std.specs.Prelude.{slice_get, option_and_then, IsSomeAnd}
 use Rattle.std.proofs.lemmas.List.{length_push}
 use Rattle.std.proofs.lemmas.Bool.{cases_eq}
-use Rattle.hwp_geom.specs.Layout.{IsBacked}
-use Rattle.hwp_geom.specs.declared.Layout.{Layout}
-use Rattle.hwp_geom.specs.declared.Proc.{Proc}
-use Rattle.hwp_geom.specs.declared.Version.TheVariants as versions
-use Rattle.hwp_geom.specs.declared.PageKind.{PageKind}
-use Rattle.hwp_geom.specs.declared.PageKind.TheVariants as kinds
-use Rattle.hwp_geom.specs.declared.ThreadDecl.{ThreadDecl}
-use Rattle.hwp_geom.specs.declared.TransDecl.{TransDecl}
+use Rattle.hwp_script_lines.specs.hwp_geom.Layout.{IsBacked}
+use Rattle.hwp_script_lines.specs.hwp_geom.declared.Layout.{Layout}
+use Rattle.hwp_script_lines.specs.hwp_geom.declared.Proc.{Proc}
+use Rattle.hwp_script_lines.specs.hwp_geom.declared.Version.TheVariants as versions
+use Rattle.hwp_script_lines.specs.hwp_geom.declared.PageKind.{PageKind}
+use Rattle.hwp_script_lines.specs.hwp_geom.declared.PageKind.TheVariants as kinds
+use Rattle.hwp_script_lines.specs.hwp_geom.declared.ThreadDecl.{ThreadDecl}
+use Rattle.hwp_script_lines.specs.hwp_geom.declared.TransDecl.{TransDecl}
 use Rattle.hwp_script_lines.specs.declared.ScriptLine.{ScriptLine}
 use Rattle.hwp_script_lines.specs.declared.Backing.{Backing}
 use Rattle.hwp_script_lines.specs.declared.Backing.TheVariants as backings

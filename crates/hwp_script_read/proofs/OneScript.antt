@@ -1,11 +1,11 @@
 -- A text is read as one script at most.
 use Rattle.std.proofs.Common.{ℕ, ◌≡◌, Bool, true, false, List, [], ◌∷◌, length, map, Some, suc, ap, subst, ◌∙◌, sym, refl, arith}
 use Rattle.std.specs.Prelude.{◌↔◌, slice_get}
-use Rattle.hwp_geom.specs.declared.Layout.{Layout}
-use Rattle.hwp_geom.specs.declared.Version.{Version}
-use Rattle.hwp_geom.specs.declared.ThreadDecl.{ThreadDecl}
-use Rattle.hwp_geom.specs.declared.TransDecl.{TransDecl}
-use Rattle.hwp_geom.specs.declared.PageKind.{PageKind}
+use Rattle.hwp_script_lines.specs.hwp_geom.declared.Layout.{Layout}
+use Rattle.hwp_script_lines.specs.hwp_geom.declared.Version.{Version}
+use Rattle.hwp_script_lines.specs.hwp_geom.declared.ThreadDecl.{ThreadDecl}
+use Rattle.hwp_script_lines.specs.hwp_geom.declared.TransDecl.{TransDecl}
+use Rattle.hwp_script_lines.specs.hwp_geom.declared.PageKind.{PageKind}
 use Rattle.hwp_script_lines.specs.declared.ScriptLine.{ScriptLine}
 use Rattle.hwp_script_lines.specs.declared.Numbered.{Numbered}
 use Rattle.hwp_script_lines.proofs.LineLaws.{one_reading}

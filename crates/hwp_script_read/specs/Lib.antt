@@ -6,5 +6,5 @@ pub mod Sums
 pub mod Refusals
 pub mod Valid
 pub mod Reads
-pub use Rattle.hwp_geom.specs as hwp_geom
+pub use Rattle.hwp_script_lines.specs.hwp_geom as hwp_geom
 pub use Rattle.hwp_script_lines.specs as hwp_script_lines

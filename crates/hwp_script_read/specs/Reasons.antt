@@ -1,12 +1,12 @@
 -- The reasons to refuse a line, after the lines above it.
 use Rattle.std.specs.Prelude.{◌≡◌, ◌≢◌, ℕ, true, ◌+◌, ◌<◌, ◌≤◌, ◌⊎◌, max, length, Contains, IsSome, slice_get, option_and_then, Option, Some, None, List, [], ◌∷◌, take}
-use Rattle.hwp_geom.specs.declared.ThreadDecl.{ThreadDecl}
-use Rattle.hwp_geom.specs.declared.TransDecl.{TransDecl}
-use Rattle.hwp_geom.specs.declared.PageKind.{PageKind}
-use Rattle.hwp_geom.specs.declared.PageKind.TheVariants as kinds
-use Rattle.hwp_geom.specs.Limits.{file_limit, process_limit, thread_limit, command_limit, cpu_limit_of, frame_limit_of, page_limit_of, translation_limit_of}
-use Rattle.hwp_geom.specs.declared.Version.{Version}
-use Rattle.hwp_geom.specs.declared.Version.TheVariants as versions
+use Rattle.hwp_script_lines.specs.hwp_geom.declared.ThreadDecl.{ThreadDecl}
+use Rattle.hwp_script_lines.specs.hwp_geom.declared.TransDecl.{TransDecl}
+use Rattle.hwp_script_lines.specs.hwp_geom.declared.PageKind.{PageKind}
+use Rattle.hwp_script_lines.specs.hwp_geom.declared.PageKind.TheVariants as kinds
+use Rattle.hwp_script_lines.specs.hwp_geom.Limits.{file_limit, process_limit, thread_limit, command_limit, cpu_limit_of, frame_limit_of, page_limit_of, translation_limit_of}
+use Rattle.hwp_script_lines.specs.hwp_geom.declared.Version.{Version}
+use Rattle.hwp_script_lines.specs.hwp_geom.declared.Version.TheVariants as versions
 use Rattle.hwp_script_lines.specs.declared.ScriptLine.{ScriptLine}
 use Rattle.hwp_script_lines.specs.declared.ScriptLine.TheVariants as forms
 use Rattle.hwp_script_lines.specs.declared.Backing.{Backing}

@@ -5,7 +5,7 @@ use Rattle.hwp_script_lines.specs.declared.ScriptLine.TheVariants as forms
 use Rattle.hwp_script_lines.specs.declared.LineRead.{LineRead}
 use Rattle.hwp_script_lines.specs.declared.LineRead.TheVariants as reads
 use Rattle.hwp_script_lines.specs.declared.Numbered.{Numbered}
-use Rattle.hwp_geom.specs.declared.Version.TheVariants as versions
+use Rattle.hwp_script_lines.specs.hwp_geom.declared.Version.TheVariants as versions
 use Rattle.hwp_script_read.specs.Context.{version_in}
 use Rattle.hwp_script_read.specs.Reasons.{Applies, AreClean, number}
 use Rattle.hwp_script_read.specs.Collects.{Collects, IsEnded}

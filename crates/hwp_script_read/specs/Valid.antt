@@ -1,15 +1,15 @@
 -- What every script has that some text gives.
 use Rattle.std.specs.Prelude.{◌≡◌, ℕ, Bool, false, ◌<◌, ◌≤◌, ◌+◌, ◌^◌, length, sum_by, All, IsSomeAnd, slice_get, List, [], ◌∷◌}
-use Rattle.hwp_geom.specs.Layout.{IsSound}
-use Rattle.hwp_geom.specs.Limits.{line_limit, command_limit}
-use Rattle.hwp_geom.specs.declared.Layout.{Layout}
-use Rattle.hwp_geom.specs.declared.Thread.{Thread}
-use Rattle.hwp_geom.specs.declared.VSlot.{VSlot}
-use Rattle.hwp_geom.specs.declared.Version.TheVariants as versions
-use Rattle.hwp_geom.specs.declared.ThreadDecl.{ThreadDecl}
-use Rattle.hwp_geom.specs.declared.TransDecl.{TransDecl}
-use Rattle.hwp_geom.specs.declared.PageKind.{PageKind}
-use Rattle.hwp_geom.specs.declared.PageKind.TheVariants as kinds
+use Rattle.hwp_script_lines.specs.hwp_geom.Layout.{IsSound}
+use Rattle.hwp_script_lines.specs.hwp_geom.Limits.{line_limit, command_limit}
+use Rattle.hwp_script_lines.specs.hwp_geom.declared.Layout.{Layout}
+use Rattle.hwp_script_lines.specs.hwp_geom.declared.Thread.{Thread}
+use Rattle.hwp_script_lines.specs.hwp_geom.declared.VSlot.{VSlot}
+use Rattle.hwp_script_lines.specs.hwp_geom.declared.Version.TheVariants as versions
+use Rattle.hwp_script_lines.specs.hwp_geom.declared.ThreadDecl.{ThreadDecl}
+use Rattle.hwp_script_lines.specs.hwp_geom.declared.TransDecl.{TransDecl}
+use Rattle.hwp_script_lines.specs.hwp_geom.declared.PageKind.{PageKind}
+use Rattle.hwp_script_lines.specs.hwp_geom.declared.PageKind.TheVariants as kinds
 use Rattle.hwp_script_read.specs.declared.script.Script.{Script}
 use Rattle.hwp_script_lines.specs.Grammar.{IsCollectorWithin}
 use Rattle.hwp_script_lines.specs.declared.Go.{Go}

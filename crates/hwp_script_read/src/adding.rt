@@ -6,8 +6,10 @@ ghost use Rattle.hwp_script_read.specs.Reasons.{IsClean, IsBackingOver};
 ghost use Rattle.hwp_script_read.specs.Sums.{Sums};
 
 use crate::context::Summary;
-use hwp_geom::{Cpu, FileNo, List, OutOfMemory, Page, PageKind, Proc, ThreadDecl, TransDecl};
-use hwp_script_lines::{Backing, Command, Go, ScriptLine};
+use hwp_script_lines::{
+    Backing, Command, Cpu, FileNo, Go, List, OutOfMemory, Page, PageKind, Proc, ScriptLine,
+    ThreadDecl, TransDecl,
+};
 use std::alloc::Global;
 use std::mem;
 

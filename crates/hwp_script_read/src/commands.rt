@@ -6,8 +6,7 @@ ghost use Rattle.hwp_script_read.specs.Sums.{Sums};
 use crate::context::Summary;
 use crate::faults::is_misplaced;
 use crate::why::Why;
-use hwp_geom::{MAX_COMMANDS, Page, PageKind, Thread, VSlot};
-use hwp_script_lines::{Command, ScriptLine};
+use hwp_script_lines::{Command, MAX_COMMANDS, Page, PageKind, ScriptLine, Thread, VSlot};
 
 /// Whether a thread and a translation are not both declared, or are of two processes.
 fn is_foreign(summary: &Summary, thread: Thread, slot: VSlot) -> bool

@@ -1,12 +1,13 @@
 ghost use Rattle.std.specs.Prelude.{◌≡◌, ◌↔◌, IsTrue, [], Contains};
-ghost use Rattle.hwp_geom.specs.Limits.{cpu_limit_of, frame_limit_of, page_limit_of, translation_limit_of};
+ghost use Rattle.hwp_script_lines.specs.hwp_geom.Limits.{cpu_limit_of, frame_limit_of, page_limit_of, translation_limit_of};
 ghost use Rattle.hwp_script_read.specs.Context.{version_in};
 ghost use Rattle.hwp_script_read.specs.Collects.{Collects};
 ghost use Rattle.hwp_script_read.specs.Sums.{Sums};
 
 use crate::script::Script;
-use hwp_geom::{Layout, List, PageKind, ThreadDecl, TransDecl, Version};
-use hwp_script_lines::{Command, Go, ScriptLine};
+use hwp_script_lines::{
+    Command, Go, Layout, List, PageKind, ScriptLine, ThreadDecl, TransDecl, Version,
+};
 use std::alloc::Global;
 
 /// What the lines above a line declare.

@@ -7,8 +7,7 @@ use crate::commands::command_fault;
 use crate::context::Summary;
 use crate::script::MAX_SCHEDULE;
 use crate::why::Why;
-use hwp_geom::{MAX_FILES, MAX_PROCS, MAX_THREADS};
-use hwp_script_lines::{Backing, Go, ScriptLine};
+use hwp_script_lines::{Backing, Go, MAX_FILES, MAX_PROCS, MAX_THREADS, ScriptLine};
 
 /// Whether a line of a group may not stand below these lines.
 pub(crate) fn is_misplaced(summary: &Summary, above: &[ScriptLine], group: u8) -> bool

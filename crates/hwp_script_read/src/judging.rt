@@ -7,8 +7,7 @@ use crate::context::Summary;
 use crate::faults::fault;
 use crate::script::Script;
 use crate::why::{Refused, Why};
-use hwp_geom::OutOfMemory;
-use hwp_script_lines::{LineRead, Numbered, ScriptLine};
+use hwp_script_lines::{LineRead, Numbered, OutOfMemory, ScriptLine};
 use std::alloc::Global;
 
 /// Whether a line is `end`.

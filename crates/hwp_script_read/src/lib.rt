@@ -10,13 +10,11 @@ mod reading;
 mod script;
 mod why;
 
-pub use hwp_geom::{
-    Cpu, FileNo, Frame, Kind, Layout, Line, List, MAX_COMMANDS, MAX_CPUS, Mask, Mode, OutOfMemory,
-    Page, PageKind, Proc, Text, Thread, ThreadDecl, TransDecl, VSlot, Version, Who,
-};
 pub use hwp_script_lines::{
-    Backing, Command, Go, LineRead, PrctlArgs, ScriptLine, Until, is_text, kind_name, read_lines,
-    read_number, words_in,
+    Backing, Command, Cpu, FileNo, Frame, Go, Kind, Layout, Line, LineRead, List, MAX_COMMANDS,
+    MAX_CPUS, Mask, Mode, OutOfMemory, Page, PageKind, PrctlArgs, Proc, ScriptLine, Text, Thread,
+    ThreadDecl, TransDecl, Until, VSlot, Version, Who, is_text, kind_name, read_lines, read_number,
+    words_in,
 };
 pub use reading::{ReadScript, read};
 pub use script::{MAX_SCHEDULE, MAX_SCRIPT, Script};

@@ -7,8 +7,7 @@ ghost use Rattle.hwp_script_read.specs.declared.why.Refused.{Refused};
 use crate::judging::judge;
 use crate::script::{MAX_SCRIPT, Script};
 use crate::why::{Refused, Why};
-use hwp_geom::OutOfMemory;
-use hwp_script_lines::read_lines;
+use hwp_script_lines::{OutOfMemory, read_lines};
 use std::alloc::Global;
 
 /// Why `read` gives no script.

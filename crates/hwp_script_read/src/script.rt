@@ -1,5 +1,4 @@
-use hwp_geom::{Layout, List};
-use hwp_script_lines::{Command, Go};
+use hwp_script_lines::{Command, Go, Layout, List};
 
 /// The most words of a schedule (this project's rule).
 pub const MAX_SCHEDULE: u32 = 100_000;
