@@ -54,7 +54,11 @@ fn is_done(command: &Command) -> bool
 {
     matches!(
         command,
-        Command::Fsync { .. } | Command::Log { .. } | Command::Bad { .. } | Command::Weak { .. }
+        Command::Fsync { .. }
+            | Command::Log { .. }
+            | Command::Bad { .. }
+            | Command::Weak { .. }
+            | Command::Watch { .. }
     )
 }
 
