@@ -40,7 +40,7 @@ pub both : (layout : Layout) (old new : View) (l : Log) (step : Step) (found : �
 both layout old new l step found got fits is made = subst (Fits layout new) (sym (logs l step found is)) (record {
   read = reading.both layout old new l.read step found got fits.read is made;
   three = fits.three;
-  banks_are = ap (logged_by (reads.answer (reads.next l.read found)) l.event) (fits.banks_are ∙ ap (λ (o : Option ReadStopAnswer). logged_by o l.event l.before.value) (none l step found is));
+  banks_are = ap (logged_by (reads.answer (reads.next l.read found)) l.change) (fits.banks_are ∙ ap (λ (o : Option ReadStopAnswer). logged_by o l.change l.before.value) (none l step found is));
 })
 
 own : (l : Log) (found : ℕ) (o : Option ReadStopAnswer) → (next_by l found o).read.who ≡ l.read.who

@@ -1,8 +1,7 @@
--- A raw event that a command logs: the task's states, its step and what it comes to.
+-- What a command changes of its own processor alone, as the raw event that it logs: the task's states, its step and what it comes to.
 use Rattle.std.specs.Prelude.{◌≡◌, ℕ, false, Option, Some, None, length}
 use Rattle.hwp_cpu_control.specs.hwp_geom.declared.Layout.{Layout}
 use Rattle.hwp_cpu_control.specs.hwp_geom.declared.Who.{Who}
-use Rattle.hwp_cpu_check.specs.hwp_banks.declared.Event.{Event}
 use Rattle.hwp_cpu_check.specs.hwp_banks.Events.{bank_count}
 use Rattle.hwp_cpu_control.specs.hwp_core_rule.declared.Step.{Step}
 use Rattle.hwp_cpu_control.specs.hwp_core_rule.declared.View.{View}
@@ -11,12 +10,14 @@ use Rattle.hwp_cpu_control.specs.declared.ReadStopAnswer.TheVariants as answers
 use Rattle.hwp_cpu_control.specs.ReadStops as reads
 use Rattle.hwp_cpu_check.specs.hwp_banks.Banks.{Banks, log_in}
 use Rattle.hwp_cpu_check.specs.hwp_banks.Banks.{raw_bank}
+use Rattle.hwp_cpu_raise.specs.declared.log.LocalChange.{LocalChange}
+use Rattle.hwp_cpu_raise.specs.declared.log.LocalChange.TheVariants as changes
 use Rattle.hwp_cpu_raise.specs.declared.log.Log.{Log}
 use Rattle.hwp_cpu_control.specs.hwp_core_task.declared.Turn.TheVariants.{Moved}
 use Rattle.hwp_cpu_control.specs.hwp_core_task.Turns.{Member}
 
-abbrev pub begin : Who → Event → Banks → Log
-begin who event banks = record { read = reads.begin who; event = event; before = record { marker = record {}; value = banks }; banks = banks }
+abbrev pub begin : Who → LocalChange → Banks → Log
+begin who change banks = record { read = reads.begin who; change = change; before = record { marker = record {}; value = banks }; banks = banks }
 
 abbrev pub plan : Log → Option Step
 plan l = reads.plan l.read
@@ -24,13 +25,18 @@ plan l = reads.plan l.read
 abbrev pub answer : Log → Option ReadStopAnswer
 answer l = reads.answer l.read
 
--- the event is logged where the machine goes on
-abbrev pub logged_by : Option ReadStopAnswer → Event → Banks → Banks
-logged_by (Some answers.Done) event banks = log_in raw_bank event banks
-logged_by _ event banks = banks
+-- the banks behind the change: a raw event is logged
+abbrev pub changed : LocalChange → Banks → Banks
+changed (changes.Event event) banks = log_in raw_bank event banks
+changed (changes.Watch threshold window) banks = banks
+
+-- it is made where the machine goes on
+abbrev pub logged_by : Option ReadStopAnswer → LocalChange → Banks → Banks
+logged_by (Some answers.Done) change banks = changed change banks
+logged_by _ change banks = banks
 
 abbrev pub next_by : Log → ℕ → Option ReadStopAnswer → Log
-next_by l found None = record l { read = reads.next l.read found; banks = logged_by (reads.answer (reads.next l.read found)) l.event l.banks }
+next_by l found None = record l { read = reads.next l.read found; banks = logged_by (reads.answer (reads.next l.read found)) l.change l.banks }
 next_by l found (Some answer) = l
 
 abbrev pub next : Log → ℕ → Log
@@ -40,7 +46,7 @@ next l found = next_by l found (answer l)
 pub record Fits (layout : Layout) (view : View) (l : Log) : Type 0 where
   pub read : reads.Fits layout view l.read
   pub three : length l.before.value ≡ bank_count
-  pub banks_are : l.banks ≡ logged_by (answer l) l.event l.before.value
+  pub banks_are : l.banks ≡ logged_by (answer l) l.change l.before.value
 
 -- the turns that are left
 abbrev pub cost : Log → ℕ

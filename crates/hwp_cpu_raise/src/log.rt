@@ -1,5 +1,5 @@
 ghost use Rattle.std.specs.Prelude.{◌≡◌};
-ghost use Rattle.hwp_cpu_raise.specs.Logs.{answer, begin};
+ghost use Rattle.hwp_cpu_raise.specs.Logs.{answer, begin, changed};
 
 use hwp_cpu_check::{BANKS, Bank, Body, Event, Layout, Ranked, Scheduled, Step, Task, Turn, Who};
 use hwp_cpu_control::{ReadStop, ReadStopAnswer};
@@ -9,11 +9,23 @@ use std::snapshot::Snapshot;
 /// The bank of a raw event (this project's rule).
 const RAW_BANK: usize = 1;
 
-/// A command that logs a raw event into a bank of its processor, unless the machine has stopped (this project's rule).
+/// What a command changes of its own processor alone (this project's rule).
+#[derive(Clone, Copy)]
+pub enum LocalChange {
+    /// A raw event is logged into a bank.
+    Event(Event),
+    /// The processor gets a new collector of corrected errors, of this threshold and window.
+    Watch {
+        threshold: u16,
+        window: u8,
+    },
+}
+
+/// A command that changes something of its own processor alone, unless the machine has stopped (this project's rule).
 #[derive(Drop)]
 pub struct Log {
     read: ReadStop,
-    event: Event,
+    change: LocalChange,
     /// What the banks held at the beginning.
     before: Snapshot<[Bank; BANKS]>,
     banks: [Bank; BANKS],
@@ -21,18 +33,25 @@ pub struct Log {
 
 impl Log {
     /// The command at its beginning, by a processor whose banks hold this.
-    pub fn new(who: Who, event: Event, banks: [Bank; BANKS]) -> Log
-        ensures { result ≡ begin who event banks }
+    pub fn new(who: Who, change: LocalChange, banks: [Bank; BANKS]) -> Log
+        ensures { result ≡ begin who change banks }
     {
         Log {
             read: ReadStop::new(who),
-            event,
+            change,
             before: Snapshot::of(&banks),
             banks,
         }
     }
 
-    /// Whether the event is logged; `None` until the task is over.
+    /// What it changes, unless the machine has stopped.
+    pub fn change(&self) -> LocalChange
+        ensures { result ≡ self.now.change }
+    {
+        self.change
+    }
+
+    /// Whether the change is made; `None` until the task is over.
     pub fn answer(&self) -> Option<ReadStopAnswer>
         ensures { result ≡ answer self.now }
     {
@@ -44,6 +63,15 @@ impl Log {
         ensures { banks.new ≡ self.old.banks }
     {
         mem::swap(banks, &mut self.banks);
+    }
+
+    /// The event is logged, where the change is one.
+    fn log(&mut self)
+        ensures { self.new ≡ record self.old { banks = changed self.old.change self.old.banks } }
+    {
+        if let LocalChange::Event(event) = self.change {
+            self.banks[RAW_BANK].log(event);
+        }
     }
 }
 
@@ -70,7 +98,7 @@ impl Task for Log {
         }
         let turn = self.read.settle(layout, found, body);
         if let Some(ReadStopAnswer::Done) = self.read.answer() {
-            self.banks[RAW_BANK].log(self.event);
+            self.log();
         }
         turn
     }
