@@ -19,9 +19,10 @@ pub use hwp_claim_frame::{
     is_stopped, lowest_bit,
 };
 pub use hwp_law_commands::{
-    Acted, Answer, Command, CpuLine, Decision, EventLine, FrameLine, How, MAX_SCRIPT, MarkLine,
-    McgBits, PrctlArgs, Report, Script, Stop, StopCause, Version, Whereabouts, grade, handle,
-    is_text, kind_name, policy_word, print, read_number,
+    Acted, Answer, Collector, Command, CpuLine, Decision, EventLine, FrameLine, How, MAX_SCRIPT,
+    MarkLine, McgBits, Noted, OfflineResult, OfflinedLine, PrctlArgs, Report, Script, Stop,
+    StopCause, Version, Whereabouts, grade, handle, is_text, kind_name, policy_word, print,
+    read_number,
 };
 pub use lines::ToldLines;
 pub use told::{EventOutcome, Held};

@@ -1,5 +1,7 @@
+pub mod Acts
 pub mod Locals
 pub use Rattle.hwp_cpu_check.specs.hwp_banks as hwp_banks
+pub use Rattle.hwp_cpu_check.specs.hwp_law_commands.hwp_cec as hwp_cec
 pub use Rattle.hwp_cpu_check.specs.hwp_claim as hwp_claim
 pub use Rattle.hwp_cpu_check.specs.hwp_claim_act as hwp_claim_act
 pub use Rattle.hwp_cpu_check.specs.hwp_claim_frame as hwp_claim_frame

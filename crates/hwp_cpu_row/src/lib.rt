@@ -6,13 +6,13 @@ mod local;
 mod row;
 
 pub use hwp_cpu_check::{
-    Acted, Answer, BANKS, Bank, Board, Body, CacheWord, Command, CounterWord, Cpu, CpuLine,
-    Decision, Entry, Event, EventLine, EventOutcome, FailAnswer, FileNo, Found, Frame, FrameLine,
-    FrameWord, Held, How, Inject, Kind, Layout, List, MAX_SCRIPT, MarkLine, Mask, McgBits, Mode,
-    Ops, Origin, OutOfMemory, Page, PageWord, PolicyWord, PrctlArgs, ProcessWord, Pte, Ranked,
-    Report, Scheduled, Script, SharedWord, Status, Step, Stop, StopCause, StopWord, Task, Text,
-    Turn, Version, Whereabouts, Who, handle, index, is_text, kind_name, no_events, policy_word,
-    print, read_number,
+    Acted, Answer, BANKS, Bank, Board, Body, CacheWord, Collector, Command, CounterWord, Cpu,
+    CpuLine, Decision, Entry, Event, EventLine, EventOutcome, FailAnswer, FileNo, Found, Frame,
+    FrameLine, FrameWord, Held, How, Inject, Kind, Layout, List, MAX_SCRIPT, MarkLine, Mask,
+    McgBits, Mode, Noted, OfflineResult, OfflinedLine, Ops, Origin, OutOfMemory, Page, PageWord,
+    PolicyWord, PrctlArgs, ProcessWord, Pte, Ranked, Report, Scheduled, Script, SharedWord, Status,
+    Step, Stop, StopCause, StopWord, Task, Text, Turn, Version, Whereabouts, Who, handle, index,
+    is_text, kind_name, no_events, policy_word, print, read_number,
 };
-pub use local::{Handles, Local};
-pub use row::{FrameChange, Row};
+pub use local::{Handles, Local, Watching};
+pub use row::{FrameChange, Offlining, Row};

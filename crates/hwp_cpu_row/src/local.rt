@@ -1,7 +1,7 @@
 ghost use Rattle.std.specs.Prelude.{◌≡◌, replicate, slice_set, IfOk};
-ghost use Rattle.hwp_cpu_row.specs.Locals.{first_local, number_in};
+ghost use Rattle.hwp_cpu_row.specs.Locals.{IsFirst, IsOff, number_in};
 
-use hwp_cpu_check::{BANKS, Bank, FileNo, OutOfMemory, no_events};
+use hwp_cpu_check::{BANKS, Bank, Collector, FileNo, OutOfMemory, no_events};
 use std::alloc::Global;
 use std::marker::Model;
 
@@ -48,22 +48,52 @@ impl Handles {
     }
 }
 
+/// The collector of a processor that has a `watch` among its commands. Room for it is made at the beginning, and it collects from the
+/// first `watch` that is done (this project's rule).
+#[derive(Drop)]
+pub struct Watching {
+    pub collector: Collector,
+    /// Whether it collects.
+    pub on: bool,
+}
+
+impl Watching {
+    /// A collector that doesn't collect yet, with room for frames 0 to `frames - 1`.
+    pub fn new(alloc: Global, frames: u16) -> Result<Watching, OutOfMemory>
+        ensures { IfOk result (λ w. IsOff frames w) }
+    {
+        Ok(Watching {
+            collector: Collector::new(alloc, 1, 1, frames)?,
+            on: false,
+        })
+    }
+}
+
 /// What a processor carries from one command to the next (this project's rule).
 #[derive(Drop)]
 pub struct Local {
     /// What its banks hold, but for those of a command that runs and has taken what they held.
     pub banks: [Bank; BANKS],
     pub handles: Handles,
+    /// Its collector, where it has one and no command that runs has taken it.
+    pub watching: Option<Watching>,
 }
 
 impl Local {
-    /// Nothing is in the banks, and the handle of each of so many files has the number 0.
-    pub fn new(alloc: Global, files: u8) -> Result<Local, OutOfMemory>
-        ensures { IfOk result (λ l. l ≡ first_local files) }
+    /// Nothing is in the banks, and the handle of each of so many files has the number 0. If the processor watches, there is room for a
+    /// collector of so many frames, which doesn't collect yet.
+    pub fn new(alloc: Global, files: u8, watches: bool, frames: u16) -> Result<Local, OutOfMemory>
+        ensures { IfOk result (λ l. IsFirst files watches frames l) }
     {
+        let watching = if watches {
+            Some(Watching::new(alloc, frames)?)
+        } else {
+            None
+        };
         Ok(Local {
             banks: no_events(),
             handles: Handles::new(alloc, files)?,
+            watching,
         })
     }
 }

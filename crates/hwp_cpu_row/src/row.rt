@@ -1,4 +1,4 @@
-use hwp_cpu_check::{Answer, EventOutcome, Found, Frame, List};
+use hwp_cpu_check::{Answer, EventOutcome, Found, Frame, List, OfflineResult};
 
 /// What a command did to a frame itself, beside the failures that its machine checks told (this project's rule).
 #[derive(Clone, Copy)]
@@ -22,11 +22,25 @@ pub enum FrameChange {
     },
 }
 
+/// A frame that was taken out of use beside a command, or was to be (this project's rule).
+#[derive(Clone, Copy)]
+pub struct Offlining {
+    pub frame: Frame,
+    /// What came of it.
+    pub result: OfflineResult,
+    /// What was done to the frame, where it was taken out of use.
+    pub change: Option<FrameChange>,
+    /// How many events the command had told of by then.
+    pub told: usize,
+}
+
 /// What a command came to (this project's rule).
 #[derive(Drop)]
 pub struct Row {
     /// What was done about the events of its machine checks, in order.
     pub told: List<EventOutcome>,
+    /// The frames that were taken out of use beside it, in order.
+    pub offlined: List<Offlining>,
     /// What it did to a frame itself.
     pub own: Option<FrameChange>,
     pub answer: Answer,

@@ -10,7 +10,7 @@ pub use hwp_report_text::{
     What, Whereabouts, grade, handle, policy_word, prctl, print,
 };
 pub use hwp_script_read::{
-    Command, Cpu, FileNo, Frame, Layout, Line, List, MAX_SCRIPT, Mask, Mode, OutOfMemory, Page,
-    PageKind, PrctlArgs, Proc, ReadScript, Script, Text, Thread, ThreadDecl, VSlot, Who, is_text,
-    kind_name, read, read_number, words_in,
+    Collector, Command, Cpu, FileNo, Frame, Layout, Line, List, MAX_SCRIPT, Mask, Mode, Noted,
+    OutOfMemory, Page, PageKind, PrctlArgs, Proc, ReadScript, Script, Text, Thread, ThreadDecl,
+    VSlot, Who, is_text, kind_name, read, read_number, words_in,
 };

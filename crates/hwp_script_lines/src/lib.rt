@@ -13,10 +13,11 @@ mod turns;
 mod words;
 
 pub use command::{Command, Go, PrctlArgs, Until};
+pub use hwp_cec::{Collector, Noted};
 pub use hwp_geom::{
     Cpu, FileNo, Frame, Kind, Layout, Line, List, MAX_COMMANDS, MAX_CPUS, MAX_FILES, MAX_PROCS,
-    MAX_THREADS, Mask, Mode, OutOfMemory, Page, PageKind, Proc, Text, Thread, ThreadDecl, TransDecl,
-    VSlot, Version, Who,
+    MAX_THREADS, Mask, Mode, OutOfMemory, Page, PageKind, Proc, Text, Thread, ThreadDecl,
+    TransDecl, VSlot, Version, Who,
 };
 pub use kinds::kind_name;
 pub use lines::read_lines;

@@ -11,10 +11,10 @@ mod script;
 mod why;
 
 pub use hwp_script_lines::{
-    Backing, Command, Cpu, FileNo, Frame, Go, Kind, Layout, Line, LineRead, List, MAX_COMMANDS,
-    MAX_CPUS, Mask, Mode, OutOfMemory, Page, PageKind, PrctlArgs, Proc, ScriptLine, Text, Thread,
-    ThreadDecl, TransDecl, Until, VSlot, Version, Who, is_text, kind_name, read_lines, read_number,
-    words_in,
+    Backing, Collector, Command, Cpu, FileNo, Frame, Go, Kind, Layout, Line, LineRead, List,
+    MAX_COMMANDS, MAX_CPUS, Mask, Mode, Noted, OutOfMemory, Page, PageKind, PrctlArgs, Proc,
+    ScriptLine, Text, Thread, ThreadDecl, TransDecl, Until, VSlot, Version, Who, is_text,
+    kind_name, read_lines, read_number, words_in,
 };
 pub use reading::{ReadScript, read};
 pub use script::{MAX_SCHEDULE, MAX_SCRIPT, Script};
