@@ -157,9 +157,9 @@ module _ {past : List Made} {layout : Layout} {view : View} {i : Instruction} {c
   told-all : i.lines.told ++ h.events.told ≡ lines_of all
   told-all = ap (λ (l : List EventOutcome). l ++ h.events.told) base.told_is ∙ sym (lines-more checks latest)
 
-  count-all : checks_made i.request.who view ≡ length all + checks_in past
+  count-all : checks_made i.request.who view ≡ length all
   count-all =
-      let made : checks_made i.request.who view ≡ length checks + checks_in past + 1 = has.made in
+      let made : checks_made i.request.who view ≡ length checks + 1 = has.made in
       let more : length all ≡ length checks + 1 = count-more checks latest in
       omega (arith, made, more)
 
@@ -229,7 +229,7 @@ module _ {past : List Made} {layout : Layout} {view : View} {i : Instruction} {c
       unanswered = refl;
       paid = told.rest.paid;
       lets = lets-now none;
-      made = let count : checks_made i.request.who view ≡ length all + checks_in past = count-all in omega (arith, count);
+      made = let count : checks_made i.request.who view ≡ length all = count-all in omega (arith, count);
     })
 
     paused-fits : (pause : Pause) → IsLeft past layout view i.request (i.lines.told ++ h.events.told) pause → i.collects ≡ true → FitsFrom past layout view (record i { lines = with_lines i.lines h.events.told; at = at.Paused pause })
@@ -301,7 +301,7 @@ module _ (past : List Made) {layout : Layout} {view : View} {i : Instruction} {c
 
   module _ (paid : view.owed.losses ≡ []) (lets : LetsGoOn i.lines.told) where
     -- the machine check of a line that was bad in the frame
-    module _ (frame : Frame) (going : IsGoing view i.request) (bad : SawBad layout view i.request frame) (hand_is : hand_of view ≡ empty) (only : HasOnlyBefore past view i.request) (made : checks_made i.request.who view ≡ length checks + checks_in past + 1) where
+    module _ (frame : Frame) (going : IsGoing view i.request) (bad : SawBad layout view i.request frame) (hand_is : hand_of view ≡ empty) (only : HasOnlyBefore past view i.request) (made : checks_made i.request.who view ≡ length checks + 1) where
       begun : (spare : ℕ) → bank_count ≤ spare → HasHandler past layout view (emptied i spare) checks frame (handler_of layout i frame)
       begun spare room = record {
         handler = begins-fit layout view i.alloc i.request.who (Some i.request.thread) (restarting i.mode) (with_own i.origin frame i.request.line i.banks) (own-three i frame i.banks (ap length banks_are ∙ left-three i.before.value checks base.three)) base.on_turn base.sound (record { hand_is = hand_is; paid = paid });
@@ -324,7 +324,7 @@ module _ (past : List Made) {layout : Layout} {view : View} {i : Instruction} {c
       check-fits after (inl refused) = subst (FitsFrom past layout view) (sym refused) (plain-fits at.GiveUp refl hand_is)
       check-fits after (inr (spare, room, is)) = subst (FitsFrom past layout view) (sym is) (after-handler-fits (emptied-base spare) refl (begun spare room))
 
-    module _ (a : Access) (fits : accesses.FitsFrom past layout view a) (own : a.request ≡ i.request) (made : checks_made i.request.who view ≡ length checks + checks_in past + from_bool (has_checked a.at)) where
+    module _ (a : Access) (fits : accesses.FitsFrom past layout view a) (own : a.request ≡ i.request) (made : checks_made i.request.who view ≡ length checks + from_bool (has_checked a.at)) where
       -- its answer
       module _ (x : AccessAnswer) (is : accesses.answer a ≡ Some x) where
         ended : accesses.IsAnswered past layout view i.request x
@@ -365,7 +365,7 @@ module _ (past : List Made) {layout : Layout} {view : View} {i : Instruction} {c
           which (Some (access_answers.Checked frame place)) is next =
               let end = ended (access_answers.Checked frame place) is in let has = end.answered.1 in
               check-fits frame has.alive (record { mask = has.mask; bad = has.bad; saw = has.saw; within = has.within }) end.hand_is (only-checked i.request view place.entry has.mask has.made)
-              (made ∙ ap (λ (b : Bool). length checks + checks_in past + from_bool b) (checked-is (access_answers.Checked frame place) is)) after next
+              (made ∙ ap (λ (b : Bool). length checks + from_bool b) (checked-is (access_answers.Checked frame place) is)) after next
           which (Some (access_answers.Value word place)) is next = subst (FitsFrom past layout view) (sym next) (answer-fits (access_answers.Value word place) is (answers.Value word place) refl (own-end (access_answers.Value word place) is))
           which (Some (access_answers.Stored place)) is next = subst (FitsFrom past layout view) (sym next) (answer-fits (access_answers.Stored place) is (answers.Stored place) refl (own-end (access_answers.Stored place) is))
           which (Some (access_answers.Sigbus place)) is next = subst (FitsFrom past layout view) (sym next) (answer-fits (access_answers.Sigbus place) is (answers.Sigbus place) refl (inl (own-end (access_answers.Sigbus place) is)))
@@ -386,8 +386,8 @@ module _ {past : List Made} (layout : Layout) (old new : View) (i : Instruction)
     λ after turn next. after-access-fits past (base-after fits (subst (λ (x : InstructionAt). Steps layout i.request.who step (logs (put_at x)) old new found got) (sym is) made) stay)
         (fits.banks_are ∙ ap (banks_at i.before.value fits.checks) is)
         (access-owes layout old new a step found got has.access e own ∙ has.paid) has.lets next.access (moved.1 next.access turn next.follows).0 (ap (λ (x : Access). x.request) next.follows.rest ∙ has.own)
-        (subst (λ (r : Request). checks_made r.who new ≡ length fits.checks + checks_in past + from_bool (has_checked next.access.at)) has.own
-        (count-after a.request old new (has_checked a.at) (has_checked next.access.at) (access-adds layout old new a step found got has.access e own next.access turn next.follows) (length fits.checks + checks_in past) (subst (λ (r : Request). checks_made r.who old ≡ length fits.checks + checks_in past + from_bool (has_checked a.at)) (sym has.own) has.made)))
+        (subst (λ (r : Request). checks_made r.who new ≡ length fits.checks + from_bool (has_checked next.access.at)) has.own
+        (count-after a.request old new (has_checked a.at) (has_checked next.access.at) (access-adds layout old new a step found got has.access e own next.access turn next.follows) (length fits.checks) (subst (λ (r : Request). checks_made r.who old ≡ length fits.checks + from_bool (has_checked a.at)) (sym has.own) has.made)))
         after next.next_is,
   )
     where
@@ -469,7 +469,7 @@ module _ {past : List Made} (layout : Layout) (old new : View) (i : Instruction)
         unanswered = refl;
         paid = waits-on.paid;
         lets = has.lets;
-        made = let count : checks_made i.request.who new ≡ length fits.checks + checks_in past = waits-on.made in omega (arith, count);
+        made = let count : checks_made i.request.who new ≡ length fits.checks = waits-on.made in omega (arith, count);
       }
 
   frame-leaves : (frame : Frame) → Steps layout i.request.who (steps.Load (places.Frame frame)) None old new found got → Leaves
@@ -579,10 +579,11 @@ law = record {
 
 -- ---- before it
 
--- an instruction fits at its beginning, where its processor holds and owes nothing, and its command has made nothing in this part
+-- an instruction fits at its beginning, where its processor holds and owes nothing, and its command has made nothing beside entries
+-- that are of no machine check
 pub begins : {past : List Made} (layout : Layout) (view : View) (i : Instruction) → i ≡ begin i.alloc i.request i.origin i.mode i.banks i.collects → IsOnTurn view i.request.who → IsSound layout → accesses.IsDeclared layout i.request → IsOfAccess i.origin → length i.banks ≡ bank_count
-    → hand_of view ≡ empty → view.owed.losses ≡ [] → HasMadeNoneBeside past view i.request.who → FitsFrom past layout view i
-begins {past} layout view i is on sound names origin three hand paid none = subst (FitsFrom past layout view) (sym is) (record {
+    → hand_of view ≡ empty → view.owed.losses ≡ [] → HasMadeNoneBeside past view i.request.who → checks_in past ≡ 0 → FitsFrom past layout view i
+begins {past} layout view i is on sound names origin three hand paid none unchecked = subst (FitsFrom past layout view) (sym is) (record {
   on_turn = on;
   sound = sound;
   names = names;
@@ -598,51 +599,9 @@ begins {past} layout view i is on sound names origin three hand paid none = subs
     unanswered = refl;
     paid = paid;
     lets = record { halts_none = refl; signals_none = refl };
-    made = let same : checks_made i.request.who view ≡ checks_in past = ap checks_in none in omega (arith, same);
+    made = let same : checks_made i.request.who view ≡ 0 = ap checks_in none ∙ unchecked in omega (arith, same);
   };
 })
-
--- and so does one behind its pause, whatever its command had made
-pub resumes : {past : List Made} (layout : Layout) (view : View) (i : Instruction) (pause : Pause) → i ≡ resume i.alloc i.request i.origin i.mode i.banks pause → IsOnTurn view i.request.who → IsSound layout → accesses.IsDeclared layout i.request → IsOfAccess i.origin
-    → i.banks ≡ empty_banks → hand_of view ≡ empty → view.owed.losses ≡ [] → CanResume layout pause → HasMadeNoneBeside past view i.request.who → FitsFrom past layout view i
-resumes {past} layout view i pause is on sound names origin empty_are hand paid can none = subst (FitsFrom past layout view) (sym is) (which pause can)
-  where
-    same : checks_made i.request.who view ≡ checks_in past
-    same = ap checks_in none
-
-    by : (x : InstructionAt) → banks_at i.banks [] x ≡ i.banks → FitsAt past layout view (record (begin i.alloc i.request i.origin i.mode i.banks true) { at = x }) [] x → FitsFrom past layout view (record (begin i.alloc i.request i.origin i.mode i.banks true) { at = x })
-    by x held fits = record {
-      on_turn = on;
-      sound = sound;
-      names = names;
-      origin = origin;
-      three = ap (λ (bs : Banks). length bs) empty_are;
-      checks = [];
-      checked = tt;
-      told_is = refl;
-      banks_are = sym held;
-      at = fits;
-    }
-
-    which : (p : Pause) → CanResume layout p → FitsFrom past layout view (resume i.alloc i.request i.origin i.mode i.banks p)
-    which (pauses.Sigbus place) none = absurd none
-    which (pauses.Wait frame) within = by (at.LoadFrame frame) refl (record {
-      hand_is = hand;
-      paid = paid;
-      lets = record { halts_none = refl; signals_none = refl };
-      only = only-of-none view i.request.who none;
-      made = omega (arith, same);
-      within = within;
-      empty_are = empty_are;
-    })
-    which pauses.Again can = by (at.Access (accesses.again i.request)) refl (record {
-      access = begins-again layout view i.request on names hand (only-of-none view i.request.who none);
-      own = refl;
-      unanswered = refl;
-      paid = paid;
-      lets = record { halts_none = refl; signals_none = refl };
-      made = omega (arith, same);
-    })
 
 -- where an instruction pauses
 pub paused : {past : List Made} {layout : Layout} {view : View} (i : Instruction) (p : Pause) (fits : FitsFrom past layout view i) → pause i ≡ Some p → IsPaused past layout view i fits.checks p

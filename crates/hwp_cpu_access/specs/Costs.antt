@@ -52,7 +52,7 @@ anew = again_most + 2
 abbrev pub anew_after_wait : ℕ
 anew_after_wait = anew + 2
 
--- what a machine check that keeps events pays for the frames that may be taken out of use before the access begins again
+-- what a machine check that keeps events pays for the frames that its command may take out of use at the pause behind it
 abbrev pub pause_weight : ℕ
 pause_weight = 9 * stale_weight
 
@@ -97,7 +97,7 @@ cost_at banks (at.Handle frame h) words = handlers.cost h words + rest_at frame 
 cost_at banks (at.LoadFrame frame) words = 1 + ended_cost (word_of frame words)
 cost_at banks (at.LoadStop frame) words = 2 + ended_cost (word_of frame words)
 cost_at banks at.GiveUp words = 1
-cost_at banks (at.Paused pause) words = paused_cost
+cost_at banks (at.Paused pause) words = anew_after_wait
 cost_at banks (at.Over answer) words = 0
 
 abbrev pub cost : Instruction → Words → ℕ

@@ -101,7 +101,7 @@ pub record IsAccessing (base : List Made) (layout : Layout) (view : View) (i : I
   pub unanswered : accesses.answer a ≡ None
   pub paid : view.owed.losses ≡ []
   pub lets : LetsGoOn i.lines.told
-  pub made : checks_made i.request.who view ≡ length checks + checks_in base + from_bool (has_checked a.at)
+  pub made : checks_made i.request.who view ≡ length checks + from_bool (has_checked a.at)
 
 -- the machine check of a line that was bad in the frame, after others
 pub record HasHandler (base : List Made) (layout : Layout) (view : View) (i : Instruction) (checks : List Check) (frame : Frame) (h : Handler) : Type 0 where
@@ -114,7 +114,7 @@ pub record HasHandler (base : List Made) (layout : Layout) (view : View) (i : In
   pub room : bank_count ≤ i.lines.spare
   pub lets : LetsGoOn i.lines.told
   pub only : HasOnlyBefore base view i.request
-  pub made : checks_made i.request.who view ≡ length checks + checks_in base + 1
+  pub made : checks_made i.request.who view ≡ length checks + 1
 
 pub record IsHandling (base : List Made) (layout : Layout) (view : View) (i : Instruction) (checks : List Check) (frame : Frame) (h : Handler) : Type 0 where
   pub has : HasHandler base layout view i checks frame h
@@ -126,15 +126,14 @@ pub record IsWaiting (base : List Made) (layout : Layout) (view : View) (i : Ins
   pub paid : view.owed.losses ≡ []
   pub lets : LetsGoOn i.lines.told
   pub only : HasOnlyBefore base view i.request
-  pub made : checks_made i.request.who view ≡ length checks + checks_in base
+  pub made : checks_made i.request.who view ≡ length checks
   pub within : frame.0 < layout.frames
   pub empty_are : i.banks ≡ empty_banks
 
--- what is left is more than an answer, and a frame that is waited for is one of the layout
+-- a frame that is waited for is one of the layout
 abbrev pub CanResume : Layout → Pause → Type 0
-CanResume layout (pauses.Sigbus place) = ⊥
 CanResume layout (pauses.Wait frame) = frame.0 < layout.frames
-CanResume layout pauses.Again = Unit {0}
+CanResume layout pause = Unit {0}
 
 -- the thread was signalled; or the instruction goes on
 abbrev pub IsLeft : List Made → Layout → View → Request → List EventOutcome → Pause → Type 0
@@ -145,7 +144,7 @@ IsLeft base layout view a told pause = LetsGoOn told × HasOnlyBefore base view 
 pub record IsPaused (base : List Made) (layout : Layout) (view : View) (i : Instruction) (checks : List Check) (pause : Pause) : Type 0 where
   pub hand_is : hand_of view ≡ empty
   pub paid : view.owed.losses ≡ []
-  pub made : checks_made i.request.who view ≡ length checks + checks_in base
+  pub made : checks_made i.request.who view ≡ length checks
   pub left : IsLeft base layout view i.request i.lines.told pause
   pub collects : i.collects ≡ true
   pub empty_are : i.banks ≡ empty_banks
@@ -154,7 +153,7 @@ pub record IsPaused (base : List Made) (layout : Layout) (view : View) (i : Inst
 pub record IsAnswered (base : List Made) (layout : Layout) (view : View) (i : Instruction) (checks : List Check) (answer : InstructionAnswer) : Type 0 where
   pub hand_is : hand_of view ≡ empty
   pub paid : view.owed.losses ≡ []
-  pub made : checks_made i.request.who view ≡ length checks + checks_in base
+  pub made : checks_made i.request.who view ≡ length checks
   pub ended : IsEnd base layout view i.request i.lines.told answer
 
 abbrev pub FitsAt : List Made → Layout → View → Instruction → List Check → InstructionAt → Type 0
@@ -178,7 +177,8 @@ abbrev pub banks_at : Banks → List Check → InstructionAt → Banks
 banks_at before checks (at.Handle frame h) = empty_banks
 banks_at before checks x = left_by before checks
 
--- the machine checks so far, the lines that tell of them, and what they left in the banks; the command had made these entries before
+-- all machine checks so far, the lines that tell of them, and what they left in the banks; beside these entries the command made only
+-- such as the instruction makes on its way
 pub record FitsFrom (base : List Made) (layout : Layout) (view : View) (i : Instruction) : Type 0 where
   pub on_turn : IsOnTurn view i.request.who
   pub sound : IsSound layout
@@ -190,6 +190,34 @@ pub record FitsFrom (base : List Made) (layout : Layout) (view : View) (i : Inst
   pub told_is : i.lines.told ≡ lines_of checks
   pub banks_are : i.banks ≡ banks_at i.before.value checks i.at
   pub at : FitsAt base layout view i checks i.at
+
+-- the thread was signalled, by this entry first
+pub record IsSigned (view : View) (a : Request) (told : List EventOutcome) (place : At) : Type 0 where
+  pub first : first_signal told ≡ Some place
+  pub halts_none : halts told ≡ false
+  pub going : IsGoing view a
+
+-- what is left behind a pause, whatever entries the command made
+abbrev pub IsLeftAt : Layout → View → Request → List EventOutcome → Pause → Type 0
+IsLeftAt layout view a told (pauses.Sigbus place) = IsSigned view a told place
+IsLeftAt layout view a told pause = LetsGoOn told × CanResume layout pause
+
+-- what stays of an instruction at its pause while another task of its command goes on: what is held isn't said, nor which entries were
+-- made, but how many of them are of machine checks
+pub record IsResting (layout : Layout) (view : View) (i : Instruction) (pause : Pause) : Type 0 where
+  pub sound : IsSound layout
+  pub names : accesses.IsDeclared layout i.request
+  pub origin : IsOfAccess i.origin
+  pub three : length i.before.value ≡ bank_count
+  pub checks : List Check
+  pub checked : AreChecks layout view i.request i.origin i.mode i.before.value checks
+  pub told_is : i.lines.told ≡ lines_of checks
+  pub banks_are : i.banks ≡ left_by i.before.value checks
+  pub at_is : i.at ≡ at.Paused pause
+  pub made : checks_made i.request.who view ≡ length checks
+  pub left : IsLeftAt layout view i.request i.lines.told pause
+  pub collects : i.collects ≡ true
+  pub empty_are : i.banks ≡ empty_banks
 
 -- whatever entries those are
 abbrev pub Fits : Layout → View → Instruction → Type 0

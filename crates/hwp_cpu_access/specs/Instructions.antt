@@ -120,9 +120,17 @@ resumed request pauses.Again = at.Access (accesses.again request)
 abbrev pub going_on : Request → Bool → Pause → InstructionAt
 going_on request kept pause = cond kept (at.Paused pause) (resumed request pause)
 
--- the instruction behind its pause: its processor collects
-abbrev pub resume : Global → Request → Origin → Mode → Banks → Pause → Instruction
-resume alloc request origin mode banks pause = record (begin alloc request origin mode banks true) { at = resumed request pause }
+-- behind its pause; one that doesn't pause stays as it is
+abbrev pub resume_by : Instruction → Option Pause → Instruction
+resume_by i None = i
+resume_by i (Some pause) = record i { at = resumed i.request pause }
+
+abbrev pub resume : Instruction → Instruction
+resume i = resume_by i (pause i)
+
+-- its next step gives up the command
+abbrev pub give_up : Instruction → Instruction
+give_up i = record i { at = at.GiveUp }
 
 -- where its processor collects and the machine check kept an event, the instruction pauses
 abbrev pub after_check : Instruction → Frame → Handler → InstructionAt

@@ -4,7 +4,7 @@ ghost use Rattle.hwp_cpu_check.specs.Checks.{with_own};
 ghost use Rattle.hwp_cpu_check.specs.hwp_banks.Events.{bank_count};
 ghost use Rattle.hwp_fault.specs.hwp_core_task.declared.Turn.TheVariants.{NoMemory};
 ghost use Rattle.hwp_cpu_access.specs.declared.instruction.InstructionAt.TheVariants as states;
-ghost use Rattle.hwp_cpu_access.specs.Instructions.{AfterAccessBy, BeginsCheck, after_handler, after_load, after_stop, answer, answered, begin, first, going_on, is_pending, left_to_do, over, over_with, pause, restarted, resume, resumed, turn_of_load, turn_of_stop};
+ghost use Rattle.hwp_cpu_access.specs.Instructions.{AfterAccessBy, BeginsCheck, after_handler, after_load, after_stop, answer, answered, begin, first, give_up, going_on, is_pending, left_to_do, over, over_with, pause, restarted, resume, resumed, turn_of_load, turn_of_stop};
 
 use hwp_cpu_check::{
     At, BANKS, Bank, Body, EventOutcome, Frame, FrameWord, Handler, Layout, List, McgBits, Mode,
@@ -104,20 +104,21 @@ impl Instruction {
         }
     }
 
-    /// The instruction behind its pause, by a processor whose banks hold this, and which collects.
-    pub fn resume(
-        alloc: Global,
-        request: Request,
-        origin: Origin,
-        mode: Mode,
-        banks: [Bank; BANKS],
-        pause: Pause,
-    ) -> Instruction
-        ensures { result ≡ resume alloc request origin mode banks pause }
+    /// Goes on behind its pause, with what is left of it. Where it doesn't pause nothing changes.
+    pub fn resume(&mut self)
+        ensures { self.new ≡ resume self.old }
     {
-        let mut instruction = Instruction::new(alloc, request, origin, mode, banks, true);
-        instruction.set(resumed(&request, pause));
-        instruction
+        if let Some(pause) = self.pause() {
+            let at = resumed(&self.request, pause);
+            self.set(at);
+        }
+    }
+
+    /// Its next step gives up the command: memory ran out.
+    pub fn give_up(&mut self)
+        ensures { self.new ≡ give_up self.old }
+    {
+        self.set(InstructionAt::GiveUp);
     }
 
     /// What is left of it, where it pauses.
@@ -258,7 +259,7 @@ impl Instruction {
     }
 
     /// Ends the command without an answer: memory ran out.
-    fn give_up(&mut self) -> Turn
+    fn end_without(&mut self) -> Turn
         ensures next { self.new ≡ record self.old { at = states.Over None } }
         ensures turn { result ≡ NoMemory }
     {
@@ -295,7 +296,7 @@ impl Instruction {
         ensures turn { result ≡ turn_of_stop found }
     {
         if StopWord::unpack(found).no_memory {
-            self.give_up()
+            self.end_without()
         } else {
             self.set(InstructionAt::LoadFrame { frame });
             Turn::Moved
@@ -438,7 +439,7 @@ impl Task for Instruction {
                 let frame = *frame;
                 self.after_stop(frame, found)
             }
-            InstructionAt::GiveUp => self.give_up(),
+            InstructionAt::GiveUp => self.end_without(),
             InstructionAt::Paused { .. } | InstructionAt::Over { .. } => Turn::Moved,
         }
     }

@@ -91,6 +91,10 @@ answer r = answer_at r.at
 abbrev pub ended : Raise → RaiseAnswer → Raise
 ended r answer = record r { at = at.Over (Some answer) }
 
+-- its next step gives up the command
+abbrev pub give_up : Raise → Raise
+give_up r = record r { at = at.GiveUp }
+
 abbrev pub after_handler_by : Raise → Handler → Option Bool → Raise
 after_handler_by r h None = record r { at = at.Handle h }
 after_handler_by r h (Some stopped) = ended (record r { lines = with_lines r.lines h.events.told }) (cond stopped answers.Stopped answers.Raised)

@@ -1,5 +1,5 @@
 ghost use Rattle.std.specs.Prelude.{◌≡◌, ◌≤◌, length};
-ghost use Rattle.hwp_cpu_raise.specs.Raises.{AfterProcess, AfterStop, BeginsCheck, after_handler, answer, begin, checked, ended, mode_of, thread_of};
+ghost use Rattle.hwp_cpu_raise.specs.Raises.{AfterProcess, AfterStop, BeginsCheck, after_handler, answer, begin, checked, ended, give_up, mode_of, thread_of};
 
 use hwp_cpu_check::{
     BANKS, Bank, Body, EventOutcome, Handler, Layout, List, McgBits, Mode, Page, Proc, ProcessWord,
@@ -103,6 +103,13 @@ impl Raise {
     {
         mem::swap(banks, &mut self.banks);
         mem::replace(&mut self.lines, ToldLines::new(self.alloc)).into_list()
+    }
+
+    /// Its next step gives up the command: memory ran out.
+    pub fn give_up(&mut self)
+        ensures { self.new ≡ give_up self.old }
+    {
+        self.set(RaiseAt::GiveUp);
     }
 
     /// What follows the stop word.

@@ -81,6 +81,10 @@ answer s = answer_at s.at
 abbrev pub after_stop : Scrub → ℕ → Scrub
 after_stop s found = record s { at = cond (is_stopped found) (at.Over (Some answers.Stopped)) (at.LoadBad s.first) }
 
+-- its next step gives up the command
+abbrev pub give_up : Scrub → Scrub
+give_up s = record s { at = at.GiveUp }
+
 abbrev pub after_handler_by : Scrub → Frame → Handler → Option Bool → Scrub
 after_handler_by s frame h None = record s { at = at.Handle frame h }
 after_handler_by s frame h (Some stopped) = record s { lines = with_lines s.lines h.events.told; at = cond stopped (at.Over (Some answers.Stopped)) (at.LoadWeak frame) }

@@ -3,7 +3,7 @@ ghost use Rattle.hwp_cpu_check.specs.hwp_geom.Bits.{HasNoBitFrom, IsLowestBit};
 ghost use Rattle.hwp_cpu_check.specs.hwp_banks.Events.{bank_count};
 ghost use Rattle.hwp_cpu_check.specs.hwp_banks.Banks.{empty_banks};
 ghost use Rattle.hwp_scrub.specs.Visits.{with_bad};
-ghost use Rattle.hwp_scrub.specs.Scrubs.{AfterBad, AfterWeak, BeginsCheck, MeetsWeak, after_handler, after_stop, answer, begin, checked, gone_on, kept, kept_line};
+ghost use Rattle.hwp_scrub.specs.Scrubs.{AfterBad, AfterWeak, BeginsCheck, MeetsWeak, after_handler, after_stop, answer, begin, checked, give_up, gone_on, kept, kept_line};
 
 use hwp_cpu_check::{
     Acted, BANKS, Bank, Body, Event, EventOutcome, Frame, Handler, Held, Layout, Line, List,
@@ -101,6 +101,13 @@ impl Scrub {
     {
         mem::swap(banks, &mut self.banks);
         mem::replace(&mut self.lines, ToldLines::new(self.alloc)).into_list()
+    }
+
+    /// Its next step gives up the command: memory ran out.
+    pub fn give_up(&mut self)
+        ensures { self.new ≡ give_up self.old }
+    {
+        self.set(ScrubAt::GiveUp);
     }
 
     /// What follows the stop word.
