@@ -54,7 +54,8 @@ use Rattle.hwp_law_records.specs.hwp_cpu_row.declared.Row.{Row}
 use Rattle.hwp_law_records.specs.hwp_cpu_check.declared.EventOutcome.{EventOutcome}
 use Rattle.hwp_law_records.specs.hwp_cpu_check.Told.{first_signal}
 use Rattle.hwp_law_records.specs.hwp_law_served.Causes.{HasCome, IsAnswerCaused, IsInjectCaused, IsOfflineCaused, IsSoftCaused, IsUnpoisonCaused, SawBadLines}
-use Rattle.hwp_law_records.specs.hwp_law_served.Rows.{event_at, offlined}
+use Rattle.hwp_law_records.specs.hwp_law_served.Rows.{offlined}
+use Rattle.hwp_law_records.specs.hwp_law_served.hwp_cpu_row.Acts.{event_at}
 use Rattle.hwp_law_records.specs.hwp_law_served.Runs.{row_at}
 use Rattle.hwp_law_records.proofs.of_hwp_law_served.HadStates.{had}
 use Rattle.hwp_law_holds.proofs.AllowedThere.{had-so}

@@ -35,7 +35,7 @@ use Rattle.hwp_law_records.specs.hwp_claim.declared.Found.{Found}
 use Rattle.hwp_law_records.specs.hwp_cpu_check.declared.EventOutcome.{EventOutcome}
 use Rattle.hwp_law_records.specs.hwp_cpu_check.Fits.{IsDone, IsFailed}
 use Rattle.hwp_law_records.specs.hwp_cpu_check.Told.{at_once, frame_of, halts, required_by, severity_at_once}
-use Rattle.hwp_law_records.specs.hwp_law_served.Rows.{event_at}
+use Rattle.hwp_law_records.specs.hwp_law_served.hwp_cpu_row.Acts.{event_at}
 use Rattle.hwp_law_records.specs.hwp_law_served.Runs.{IsCauseOf, panic_cause, severity_cause, told_cause}
 use Rattle.hwp_law_records.specs.hwp_law_served.Served.{CanStop}
 use Rattle.hwp_law_records.proofs.of_hwp_law_served.RowTold.{IsToldRight}

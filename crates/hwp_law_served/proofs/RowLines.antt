@@ -22,7 +22,8 @@ use Rattle.hwp_law_run.specs.hwp_law.Policies.{answered_on}
 use Rattle.hwp_cpu_row.specs.declared.Row.{Row}
 use Rattle.hwp_cpu_row.specs.hwp_cpu_check.declared.EventOutcome.{EventOutcome}
 use Rattle.hwp_law_served.specs.Handles.{answers_by}
-use Rattle.hwp_law_served.specs.Rows.{event_at, event_line, lines_from, row_lines}
+use Rattle.hwp_law_served.specs.Rows.{event_line, lines_from, row_lines}
+use Rattle.hwp_law_served.specs.hwp_cpu_row.Acts.{event_at}
 use Rattle.hwp_law_served.specs.Runs.{row_at}
 use Rattle.hwp_law_served.proofs.RunEnds.{IsEnd, IsOf, list-of, rows-of-lines, served-of}
 

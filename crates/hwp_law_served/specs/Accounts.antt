@@ -32,6 +32,7 @@ use Rattle.hwp_soft.specs.hwp_claim.declared.Found.{Found}
 use Rattle.hwp_cpu_row.specs.declared.FrameChange.{FrameChange}
 use Rattle.hwp_cpu_row.specs.declared.FrameChange.TheVariants as owns
 use Rattle.hwp_cpu_row.specs.declared.Row.{Row}
+use Rattle.hwp_cpu_row.specs.Acts.{Act, Offlined, Told, acts}
 use Rattle.hwp_cpu_row.specs.hwp_cpu_check.Done.{failed_by, failed_in, marked_in}
 use Rattle.hwp_law_served.specs.Rows.{Note}
 
@@ -52,7 +53,7 @@ policies_set who view = map (λ (s : Setting). (s.thread, s.policy)) (filter (λ
 
 -- ---- by the command's row
 
--- the marks: those that its events told, and its own
+-- the marks: those that its events told and of the frames that were taken out of use beside it, and its own
 abbrev pub marking_by : FrameChange → Marking
 marking_by (owns.Failed frame found) = poisoning frame false found.cycle
 marking_by (owns.Offlined frame cycle moved) = poisoning frame false cycle
@@ -61,8 +62,12 @@ marking_by (owns.Revived frame cycle) = record { frame = frame; cycle = cycle; k
 abbrev pub own_marking : Option FrameChange → Option Marking
 own_marking own = option_map marking_by own
 
+abbrev pub act_marking : Act → Option Marking
+act_marking (Told t) = marked_in t
+act_marking (Offlined o) = own_marking o.change
+
 abbrev pub markings_in : Row → List Marking
-markings_in row = filter_map marked_in row.told ++ cons_option (own_marking row.own) []
+markings_in row = filter_map act_marking (acts row.told row.offlined) ++ cons_option (own_marking row.own) []
 
 -- the failures, where a page was in the frame
 abbrev pub found_in : FrameChange → Option Found

@@ -39,6 +39,7 @@ use Rattle.hwp_law_run.specs.hwp_report_text.declared.Answer.TheVariants as answ
 use Rattle.hwp_law_run.specs.hwp_law_commands.Outcomes.{reply_answer}
 use Rattle.hwp_law_run.specs.hwp_law_commands.Commands.{Access, access_of, can_fail, process_of_thread}
 use Rattle.hwp_law_run.specs.hwp_law_commands.Settings.{arguments, last_policy, settings}
+use Rattle.hwp_law_run.specs.hwp_law.Pairings.{is_soft}
 use Rattle.hwp_law_run.specs.Shown.{IsRevivable}
 use Rattle.hwp_soft.specs.hwp_claim.declared.Found.{Found}
 use Rattle.hwp_soft.specs.hwp_claim_frame.Grabs.{WasFree}
@@ -60,10 +61,18 @@ pub record SawProcess (layout : Layout) (view : View) (who : Who) (thread : Thre
 pub record FoundGone (layout : Layout) (view : View) (who : Who) (thread : Thread) (page : Page) : Type 0 where
   pub ended : SawProcess layout view who thread (page.0 + 1)
 
--- an entry that answers no command: an access made it on its way, or memory failed for a command that can have that
+-- an entry by which a page left a frame that was taken out of use beside the command; which of these there are, AreBeside says
+abbrev pub IsBeside : Made → Type 0
+IsBeside m = is_soft m.entry.what ≡ true
+
+-- an entry that answers no command: an access made it on its way, or memory failed for a command that can have that; or it stands beside
 abbrev pub IsMet : Layout → Command → Made → Type 0
 IsMet layout command m =
-    IsSomeAnd (access_of command) (λ (a : Access). IsOf layout m.page a.slot × IsOnTheWay a.slot a.line m.entry.what) ⊎ ((can_fail command ≡ true) × (is_failure m.entry.what ≡ true))
+    IsSomeAnd (access_of command) (λ (a : Access). IsOf layout m.page a.slot × IsOnTheWay a.slot a.line m.entry.what) ⊎ (((can_fail command ≡ true) × (is_failure m.entry.what ≡ true)) ⊎ IsBeside m)
+
+-- an entry that may stand before the one that answers an access of the page
+abbrev pub IsBefore : Page → VSlot → ℕ → Made → Type 0
+IsBefore page slot line m = Precedes page slot line m ⊎ IsBeside m
 
 abbrev pub HasOnlyMet : Layout → View → Who → Command → Type 0
 HasOnlyMet layout view who command = HasOnly (IsMet layout command) view who
@@ -77,13 +86,13 @@ pub record FoundStopped (layout : Layout) (view : View) (who : Who) (command : C
 pub record Reached (layout : Layout) (view : View) (who : Who) (thread : Thread) (slot : VSlot) (line : ℕ) (at : At) (what : What) : Type 0 where
   pub going : SawProcess layout view who thread 0
   pub page : IsOf layout at.page slot
-  pub made : HasMade (Precedes at.page slot line) view who at.page at.entry what
+  pub made : HasMade (IsBefore at.page slot line) view who at.page at.entry what
 
 -- the access made no entry but such as may stand before one that answers it
 pub record HasOnlyBegun (layout : Layout) (view : View) (who : Who) (slot : VSlot) (line : ℕ) : Type 0 where
   pub page : Page
   pub page_is : IsOf layout page slot
-  pub only : HasOnly (Precedes page slot line) view who
+  pub only : HasOnly (IsBefore page slot line) view who
 
 -- no frame was available, and the access found the translation's page in none; it made no entry but such as may stand before
 -- an answer
@@ -94,7 +103,7 @@ pub record FoundNoFrame (layout : Layout) (view : View) (who : Who) (thread : Th
   pub page_is : IsOf layout page slot
   pub place : ℕ
   pub away : SawState layout view who page place IsAway
-  pub only : HasOnly (Precedes page slot line) view who
+  pub only : HasOnly (IsBefore page slot line) view who
 
 -- the access was answered by SIGBUS, for a translation with a poison entry or a lost page: it made such an entry last
 abbrev pub IsSigbus : Layout → View → Who → Thread → VSlot → ℕ → At → What → Type 0

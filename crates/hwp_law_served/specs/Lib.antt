@@ -1,6 +1,7 @@
 pub mod Causes
 pub mod Accounts
 pub mod Handles
+pub mod Offlinings
 pub mod Told
 pub mod Rows
 pub mod Served

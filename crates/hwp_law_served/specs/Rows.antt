@@ -7,7 +7,6 @@ use Rattle.hwp_law_run.specs.hwp_geom.declared.Who.{Who}
 use Rattle.hwp_law_run.specs.hwp_page.Situations.{outcome_of}
 use Rattle.hwp_law_run.specs.hwp_report_text.declared.CpuLine.{CpuLine}
 use Rattle.hwp_law_run.specs.hwp_report_text.declared.CpuLine.TheVariants as lines
-use Rattle.hwp_law_run.specs.hwp_report_text.declared.EventLine.{EventLine}
 use Rattle.hwp_law_run.specs.hwp_report_text.declared.How.{How}
 use Rattle.hwp_law_run.specs.hwp_report_text.declared.How.TheVariants as hows
 use Rattle.hwp_law_run.specs.hwp_report_text.declared.MarkLine.{MarkLine}
@@ -15,22 +14,24 @@ use Rattle.hwp_law_run.specs.hwp_report_text.declared.MarkLine.TheVariants as ma
 use Rattle.hwp_soft.specs.hwp_claim.declared.Found.{Found}
 use Rattle.hwp_cpu_row.specs.declared.FrameChange.{FrameChange}
 use Rattle.hwp_cpu_row.specs.declared.FrameChange.TheVariants as owns
+use Rattle.hwp_cpu_row.specs.declared.Offlining.{Offlining}
 use Rattle.hwp_cpu_row.specs.declared.Row.{Row}
+use Rattle.hwp_cpu_row.specs.Acts.{Act, Offlined, Told, acts, event_at}
 use Rattle.hwp_cpu_row.specs.hwp_cpu_check.declared.EventOutcome.{EventOutcome}
 use Rattle.hwp_cpu_row.specs.hwp_cpu_check.Told.{frame_of}
 
 -- ---- lines
 
--- what a command told of an event, and its line
-abbrev pub event_at : ℕ → EventOutcome → EventLine
-event_at seq t = record { seq = seq; bank = t.held.bank; status = t.held.event.status.0; addr = t.held.event.addr; misc = t.held.event.misc; row = t.held.grade.row; acted = t.acted }
-
+-- the line of an event that a command told of, and of a frame that was taken out of use beside it
 abbrev pub event_line : ℕ → EventOutcome → CpuLine
 event_line seq t = lines.Event (event_at seq t)
 
--- the events first, and then the answer
+abbrev pub offlined_line : ℕ → Offlining → CpuLine
+offlined_line seq o = lines.Offlined (record { seq = seq; frame = o.frame; result = o.result })
+
+-- the events first, then the frames that were taken out of use, and then the answer
 abbrev pub row_lines : ℕ → Row → List CpuLine
-row_lines seq row = map (event_line seq) row.told ++ lines.Answer seq row.answer ∷ []
+row_lines seq row = map (event_line seq) row.told ++ (map (offlined_line seq) row.offlined ++ lines.Answer seq row.answer ∷ [])
 
 -- of the commands from number n on
 abbrev pub lines_from : ℕ → List Row → List CpuLine
@@ -64,8 +65,13 @@ note_by who (owns.Revived frame cycle) = (frame, marks.Unpoisoned cycle who)
 abbrev pub own_note : Who → Option FrameChange → Option Note
 own_note who own = option_map (note_by who) own
 
+-- what it did beside its answer
+abbrev pub act_note : Who → Act → Option Note
+act_note who (Told t) = told_note who t
+act_note who (Offlined o) = own_note who o.change
+
 abbrev pub row_notes : Who → Row → List Note
-row_notes who row = filter_map (told_note who) row.told ++ cons_option (own_note who row.own) []
+row_notes who row = filter_map (act_note who) (acts row.told row.offlined) ++ cons_option (own_note who row.own) []
 
 abbrev pub notes_from : Cpu → ℕ → List Row → List Note
 notes_from cpu n [] = []

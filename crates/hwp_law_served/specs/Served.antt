@@ -31,6 +31,7 @@ use Rattle.hwp_cpu_row.specs.hwp_cpu_check.Told.{halts}
 use Rattle.hwp_law_served.specs.Accounts.{IsAccounted, IsNote}
 use Rattle.hwp_law_served.specs.Causes.{IsCaused}
 use Rattle.hwp_law_served.specs.Handles.{KnowsNumbers, answers_by}
+use Rattle.hwp_law_served.specs.Offlinings.{AreBeside, IsOffliningServed, KnowsDue}
 use Rattle.hwp_law_served.specs.Rows.{notes_from}
 use Rattle.hwp_law_served.specs.Told.{IsRowTold}
 
@@ -41,13 +42,15 @@ pub record SawRunning (view : View) (who : Who) : Type 0 where
   pub saw : Saw view who places.Stop word
 
 -- what a command that is answered so, with these lines, has done and told; a command whose events stopped the machine answers
--- `stopped`, and one with another answer saw the machine running
+-- `stopped`, and one with another answer saw the machine running; and what came of the frames that were taken out of use beside it
 pub record IsRowServed (layout : Layout) (earlier : List (Command × Answer)) (view : View) (who : Who) (command : Command) (before : Banks) (row : Row) (after : Banks) : Type 0 where
   pub caused : IsCaused layout earlier view who command row
   pub accounted : IsAccounted view who command row
   pub told : IsRowTold layout view who command before row after
   pub heeded : halts row.told ≡ true → row.answer ≡ answers.Stopped
   pub running : (row.answer ≡ answers.Stopped) ⊎ SawRunning view who
+  pub beside : AreBeside view who command row
+  pub offlined : EachMember (IsOffliningServed layout view who) row.offlined
 
 -- the rows are those of the first of these commands, in order, and lead from what the banks held before to what they hold after;
 -- the commands are those of the processor's list from its n-th on, behind the earlier ones with their answers
@@ -107,7 +110,8 @@ pub record IsOwnSpoil (cpu : Cpu) (list : List Command) (rows : List Row) (s : S
 -- The processor's commands are answered, all of them, each with its cause, its events told and its banks empty at first; all that it
 -- made and did is of them, and the policies of each thread are those that they set, in their order; its marks are noted, each with what its failure
 -- found; after a first `stopped` it answered nothing else; the lines that it spoiled are those of its commands; the numbers of its
--- handles are those that it was shown; and it holds nothing.
+-- handles are those that it was shown; the frames that were taken out of use beside its commands are those that were due; and it holds
+-- nothing.
 pub record IsServed (layout : Layout) (view : View) (cpu : Cpu) (list : List Command) (rows : List Row) : Type 0 where
   pub count : length rows ≡ length list
   pub banks : Banks
@@ -121,4 +125,5 @@ pub record IsServed (layout : Layout) (view : View) (cpu : Cpu) (list : List Com
   pub spoiled : EachMember (IsOwnSpoil cpu list rows) view.spoiled
   pub stays : StaysStopped rows
   pub numbers : KnowsNumbers layout view cpu list rows
+  pub due : KnowsDue layout list rows
   pub nothing : HoldsNothing view

@@ -43,7 +43,7 @@ use Rattle.hwp_law_served.proofs.of_hwp_law_run.SeatKnows.{Said}
 use Rattle.hwp_law_served.proofs.of_hwp_law_run.SeatTells.{all-told, told}
 use Rattle.hwp_law_served.specs.hwp_scrub.Visits.{AreBanks}
 use Rattle.hwp_law_served.specs.Causes.{IsAnswerCaused}
-use Rattle.hwp_law_served.specs.Rows.{event_at}
+use Rattle.hwp_law_served.specs.hwp_cpu_row.Acts.{event_at}
 use Rattle.hwp_law_served.specs.Runs.{IsRunOf, row_at}
 use Rattle.hwp_law_served.specs.Served.{IsRowServed, SawRunning}
 use Rattle.hwp_law_served.specs.Told.{IsScrubTold}

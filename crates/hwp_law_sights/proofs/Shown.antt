@@ -56,7 +56,7 @@ use Rattle.hwp_law_served.specs.hwp_law_run.Turns.{Finds, FindsBad, HasFrameOf, 
 use Rattle.hwp_law_served.proofs.of_hwp_law_run.SeatKnows.{IsUnder, Said}
 use Rattle.hwp_law_served.proofs.of_hwp_law_run.SeatTells.{ShowsAdopted, told}
 use Rattle.hwp_law_served.specs.Causes.{FoundGone, FoundNoFrame, FoundState, FoundStopped, IsAnswerCaused, IsOfflineCaused, IsSoftCaused, IsTableCaused, SawBadLines, SawProcess, WasSignalled, IsUnpoisonCaused}
-use Rattle.hwp_law_served.specs.Rows.{event_at}
+use Rattle.hwp_law_served.specs.hwp_cpu_row.Acts.{event_at}
 use Rattle.hwp_law_served.specs.Served.{SawRunning}
 use Rattle.hwp_law_served.proofs.deeds.Made.{some-so}
 

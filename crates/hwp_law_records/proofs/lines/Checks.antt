@@ -35,7 +35,7 @@ use Rattle.hwp_law_served.specs.hwp_cpu_check.Checks.{AreChecks, Check, IsActedO
 use Rattle.hwp_law_served.specs.hwp_cpu_check.Events.{graded_in}
 use Rattle.hwp_law_served.specs.hwp_cpu_check.Fits.{AreTold, IsDone, IsFailed, IsTold}
 use Rattle.hwp_law_served.specs.hwp_cpu_check.Told.{frame_of, required_by, severity_at_once}
-use Rattle.hwp_law_served.specs.Rows.{event_at}
+use Rattle.hwp_law_served.specs.hwp_cpu_row.Acts.{event_at}
 use Rattle.hwp_law_served.proofs.RunEnds.{IsEnd}
 use Rattle.hwp_law_served.proofs.RowLines.{behind}
 use Rattle.hwp_law_records.proofs.marks.RecordPlaces.{was-poisoned}

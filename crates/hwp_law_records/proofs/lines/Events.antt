@@ -35,7 +35,7 @@ use Rattle.hwp_law_served.specs.hwp_law.Pairings.{entries_of}
 use Rattle.hwp_law_served.specs.hwp_cpu_row.declared.Row.{Row}
 use Rattle.hwp_law_served.specs.hwp_cpu_check.declared.EventOutcome.{EventOutcome}
 use Rattle.hwp_law_served.specs.hwp_cpu_check.Checks.{IsActedOn, SawBad, lines_of, restarting}
-use Rattle.hwp_law_served.specs.Rows.{event_at}
+use Rattle.hwp_law_served.specs.hwp_cpu_row.Acts.{event_at}
 use Rattle.hwp_law_served.specs.Runs.{IsRunOf, row_at}
 use Rattle.hwp_law_served.specs.Served.{AreRowsServed}
 use Rattle.hwp_law_served.specs.hwp_scrub.Visits.{scrubbing}

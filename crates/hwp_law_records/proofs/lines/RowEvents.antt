@@ -28,7 +28,8 @@ use Rattle.hwp_law_served.specs.hwp_cpu_row.declared.FrameChange.TheVariants as 
 use Rattle.hwp_law_served.specs.hwp_cpu_row.declared.Row.{Row}
 use Rattle.hwp_law_served.specs.hwp_cpu_check.declared.EventOutcome.{EventOutcome}
 use Rattle.hwp_law_served.specs.hwp_cpu_check.Told.{frame_of}
-use Rattle.hwp_law_served.specs.Rows.{Note, event_at, lines_of, note_by, note_of, own_note, row_notes, told_note}
+use Rattle.hwp_law_served.specs.Rows.{Note, lines_of, note_by, note_of, own_note, row_notes, told_note}
+use Rattle.hwp_law_served.specs.hwp_cpu_row.Acts.{event_at}
 use Rattle.hwp_law_served.proofs.Sums.{below-one, sum-same}
 use Rattle.hwp_law_served.proofs.lines.ToldRight.{found_act}
 use Rattle.hwp_law_records.proofs.marks.RowNotes.{lines-append, through-map}

@@ -34,7 +34,7 @@ use Rattle.hwp_law_served.specs.hwp_cpu_check.declared.EventOutcome.{EventOutcom
 use Rattle.hwp_law_served.specs.hwp_scrub.Visits as scrubs
 use Rattle.hwp_law_served.specs.hwp_scrub.Visits.{AreVisits, IsBadMet, IsLowest, IsVisit, IsWeakMet, SawLowest, Visit, left_by_bad, left_by_visit, left_by_weak, lines_of_visit, scrub_bank, scrubbing, with_bad}
 use Rattle.hwp_law_served.specs.Causes.{HasSpoiledLine, IsAnswerCaused}
-use Rattle.hwp_law_served.specs.Rows.{event_at}
+use Rattle.hwp_law_served.specs.hwp_cpu_row.Acts.{event_at}
 use Rattle.hwp_law_served.specs.Served.{spoiling}
 use Rattle.hwp_law_served.specs.Told.{IsCutShort, IsScrubTold, IsUntold}
 use Rattle.hwp_law_records.proofs.lines.Checks.{HasResult, check-so, each-first, each-second, lines-so}

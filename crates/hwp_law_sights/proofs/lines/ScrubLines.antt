@@ -23,7 +23,7 @@ use Rattle.hwp_law_served.specs.hwp_law_run.Scrubs.{IsFoundAt}
 use Rattle.hwp_law_served.specs.hwp_scrub.Visits as scrubs
 use Rattle.hwp_law_served.specs.hwp_scrub.Visits.{AreBanks, AreVisits, Find, IsBadMet, IsVisit, IsWeakMet, SawLowest, Visit, left_by_bad, left_by_visit, lines_of_visit, scrub_bank, scrubbing, with_bad}
 use Rattle.hwp_law_served.proofs.of_hwp_scrub.VisitLaws.{bad-leaves, left-banks}
-use Rattle.hwp_law_served.specs.Rows.{event_at}
+use Rattle.hwp_law_served.specs.hwp_cpu_row.Acts.{event_at}
 use Rattle.hwp_law_served.proofs.RowLines.{behind}
 use Rattle.hwp_law_served.proofs.lines.ScrubBank.{bad-alone, kept-so, lone_event}
 

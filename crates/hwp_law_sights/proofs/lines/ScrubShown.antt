@@ -32,7 +32,7 @@ use Rattle.hwp_law_served.proofs.of_hwp_law_run.SeatTells.{told}
 use Rattle.hwp_law_served.specs.hwp_scrub.Visits as scrubs
 use Rattle.hwp_law_served.specs.hwp_scrub.Visits.{AreBanks, IsLowest, SawLowest, Visit}
 use Rattle.hwp_law_served.proofs.of_hwp_scrub.VisitLaws.{left-banks}
-use Rattle.hwp_law_served.specs.Rows.{event_at}
+use Rattle.hwp_law_served.specs.hwp_cpu_row.Acts.{event_at}
 use Rattle.hwp_law_served.specs.Told.{HasScrubbed, IsCutShort, IsScrubTold, IsUntold}
 use Rattle.hwp_law_sights.proofs.Shown.{word-shown}
 use Rattle.hwp_law_sights.proofs.lines.ScrubLines.{HasVisit, IsFoundIn, Tells, bad-here, find_of, line-told, origin_of, saw-of, visit-at, visits-here}
