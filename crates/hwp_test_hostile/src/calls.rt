@@ -23,9 +23,13 @@ fn call(rt: &impl Abort, alloc: Global, word: &str, input: &[u8]) -> Left {
     let mut out = MemSink::new(alloc, 4096, Vec::new(alloc));
     let mut err = MemSink::new(alloc, 4096, Vec::new(alloc));
     let done = top(alloc, words.as_slice(), &mut src, &mut out, &mut err);
+    let reported = done.report.is_some();
+    let status = done.status;
+    // here, and not part by part at the end
+    drop(done);
     Left {
-        reported: done.report.is_some(),
-        status: done.status,
+        reported,
+        status,
         out,
         err,
     }

@@ -15,6 +15,9 @@ pub fn report_of(rt: &impl Abort, alloc: Global, script: &str) -> MemSink {
     let mut out = MemSink::new(alloc, 4096, Vec::new(alloc));
     let mut err = MemSink::new(alloc, 4096, Vec::new(alloc));
     let done = top(alloc, words.as_slice(), &mut src, &mut out, &mut err);
-    assert!(rt; done.report.is_some());
+    let reported = done.report.is_some();
+    // here, and not part by part at each exit
+    drop(done);
+    assert!(rt; reported);
     out
 }
