@@ -1,10 +1,11 @@
 -- What stays true from one command of a processor to the next: the stop of the machine, and damage.
-use Rattle.std.specs.Prelude.{◌≡◌, ◌⊎◌, ℕ, ◌+◌, true, [], ◌∷◌, ◌++◌, Option, Some}
+use Rattle.std.specs.Prelude.{◌≡◌, ◌⊎◌, ℕ, ◌+◌, true, List, [], ◌∷◌, ◌++◌, Option, Some}
 use Rattle.hwp_cpu_control.specs.hwp_geom.declared.Frame.{Frame}
 use Rattle.hwp_cpu_control.specs.hwp_geom.declared.Layout.{Layout}
 use Rattle.hwp_cpu_control.specs.hwp_geom.declared.Who.{Who}
 use Rattle.hwp_cpu_control.specs.hwp_page.History.{BodyValue}
 use Rattle.hwp_cpu_control.specs.hwp_words.Stops.{is_stopped}
+use Rattle.hwp_cpu_control.specs.hwp_core_rule.declared.Made.{Made}
 use Rattle.hwp_cpu_control.specs.hwp_core_rule.declared.SharedWord.TheVariants as places
 use Rattle.hwp_cpu_control.specs.hwp_core_rule.declared.Sight.{Sight}
 use Rattle.hwp_cpu_control.specs.hwp_core_rule.declared.Spoiled.{Spoiled}
@@ -48,13 +49,14 @@ use Rattle.hwp_cpu_command.specs.declared.job.Job.{Job}
 use Rattle.hwp_cpu_command.specs.declared.job.Job.TheVariants as jobs
 use Rattle.hwp_cpu_command.specs.Jobs.{FitsFrom, Next, answer, bare, plan, put, who}
 
--- the command made the step that came, and what follows is told
+-- the command, which had made some entries before its task began or went on, made the step that came, and what follows is told
 pub record Stepped (layout : Layout) (old new : View) (j after : Job) : Type 0 where
   pub step : Step
   pub found : ℕ
   pub got : Option BodyValue
   pub turn : Turn
-  pub fits : FitsFrom [] layout old j
+  pub base : List Made
+  pub fits : FitsFrom base layout old j
   pub planned : plan j ≡ Some step
   pub made : Steps layout (who j) step (logs (put j)) old new found got
   pub follows : Next layout (bare j) found got after turn

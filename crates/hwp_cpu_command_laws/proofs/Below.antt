@@ -1,5 +1,5 @@
 -- The turns of a command are few.
-use Rattle.std.proofs.Common.{◌≡◌, ℕ, ◌+◌, ◌*◌, ◌<◌, ◌≤◌, false, true, length, sym, subst, arith}
+use Rattle.std.proofs.Common.{◌≡◌, ℕ, ◌+◌, ◌*◌, ◌<◌, ◌≤◌, Bool, false, true, length, sym, subst, arith}
 use Rattle.hwp_cpu_command.specs.hwp_geom.declared.Layout.{Layout}
 use Rattle.hwp_cpu_command.specs.hwp_geom.declared.Mode.{Mode}
 use Rattle.hwp_cpu_command.specs.hwp_geom.declared.Thread.{Thread}
@@ -104,17 +104,17 @@ job-below layout a view j rule fits = let few : cost j (words_at layout a) < 4 *
 
 -- ---- and one that begins
 
-access-begins : {layout : Layout} {by : Who} {thread : Thread} {slot : VSlot} {line : ℕ} {kind : AccessKind} {origin : Origin} {mode : Mode} {banks : Banks} {j : Job} (w : Words) → length w.frees ≤ free_room → BeginsAccess layout by thread slot line kind origin mode banks j → cost j w < 4 * failure_weight
-access-begins {layout} {by} {thread} {slot} {line} {kind} {origin} {mode} {banks} {j} w few begun = subst (λ (x : Job). cost x w < 4 * failure_weight) (sym begun.job_is)
+access-begins : {layout : Layout} {by : Who} {thread : Thread} {slot : VSlot} {line : ℕ} {kind : AccessKind} {origin : Origin} {mode : Mode} {banks : Banks} {collects : Bool} {j : Job} (w : Words) → length w.frees ≤ free_room → BeginsAccess layout by thread slot line kind origin mode banks collects j → cost j w < 4 * failure_weight
+access-begins {layout} {by} {thread} {slot} {line} {kind} {origin} {mode} {banks} {collects} {j} w few begun = subst (λ (x : Job). cost x w < 4 * failure_weight) (sym begun.job_is)
     (let most : accesses.cost (accesses.again i.request) w ≤ again_most + 1 = again-cost i w few in
     let held : instruction_costs.held_cost banks ≤ instruction_costs.paused_cost = held-most banks in
     omega (arith, most, held))
   where
     i : Instruction
-    i = instructions.begin begun.alloc (request_of by thread slot line kind begun.page begun.process) origin mode banks false
+    i = instructions.begin begun.alloc (request_of by thread slot line kind begun.page begun.process) origin mode banks collects
 
-pub begins-few : (layout : Layout) (a : State) (by : Who) (command : Command) (banks : Banks) (j : Job) → Holds layout a → Begins layout by command banks j → cost j (words_at layout a) < 4 * failure_weight
-begins-few layout a by command banks j rule begun = which command begun
+pub begins-few : (layout : Layout) (a : State) (by : Who) (command : Command) (banks : Banks) (collects : Bool) (j : Job) → Holds layout a → Begins layout by command banks collects j → cost j (words_at layout a) < 4 * failure_weight
+begins-few layout a by command banks collects j rule begun = which command begun
   where
     w : Words
     w = words_at layout a
@@ -122,7 +122,7 @@ begins-few layout a by command banks j rule begun = which command begun
     below : {x : Job} → j ≡ x → cost x w < 4 * failure_weight → cost j w < 4 * failure_weight
     below is less = subst (λ (x : Job). cost x w < 4 * failure_weight) (sym is) less
 
-    which : (c : Command) → Begins layout by c banks j → cost j w < 4 * failure_weight
+    which : (c : Command) → Begins layout by c banks collects j → cost j w < 4 * failure_weight
     which (commands.Load thread slot line) b = access-begins w (few-frees layout a rule) b
     which (commands.Fetch thread slot line) b = access-begins w (few-frees layout a rule) b
     which (commands.KLoad thread slot line) b = access-begins w (few-frees layout a rule) b
@@ -138,6 +138,7 @@ begins-few layout a by command banks j rule begun = which command begun
     which (commands.Weak frame line) b = below b.job_is (omega arith)
     which (commands.Scrub first last) b = below b.job_is (let frames : layout.frames ≤ frame_limit = b.sound.frames in let within : last.0 < layout.frames = b.frames.within in omega (arith, frames, within))
     which (commands.Log status addr misc) b = below b.job_is (omega arith)
+    which (commands.Watch threshold window) b = below b.job_is (omega arith)
     which (commands.RaiseUser thread ripv eipv) b = below b.job_is (omega arith)
     which (commands.RaiseKernel ripv eipv) b = below b.job_is (omega arith)
     which commands.RaiseNested b = below b (omega arith)
@@ -145,5 +146,5 @@ begins-few layout a by command banks j rule begun = which command begun
     which (commands.Soft frame) b = below b.job_is (omega arith)
     which (commands.Unpoison frame) b = below b.job_is (omega arith)
 
-pub begins-below : (layout : Layout) (a : State) (by : Who) (command : Command) (banks : Banks) (j : Job) → Holds layout a → Begins layout by command banks j → cost j (words_at layout a) < command_weight
-begins-below layout a by command banks j rule begun = let few : cost j (words_at layout a) < 4 * failure_weight = begins-few layout a by command banks j rule begun in omega (arith, few)
+pub begins-below : (layout : Layout) (a : State) (by : Who) (command : Command) (banks : Banks) (collects : Bool) (j : Job) → Holds layout a → Begins layout by command banks collects j → cost j (words_at layout a) < command_weight
+begins-below layout a by command banks collects j rule begun = let few : cost j (words_at layout a) < 4 * failure_weight = begins-few layout a by command banks collects j rule begun in omega (arith, few)

@@ -463,20 +463,22 @@ soft-failures layout view who frame (soft_answers.Moved to place cycle) caused =
     ap (filter_map failed_in) (has.all ∙ ap (λ (l : List Made). l ++ has.last ∷ []) (none-among has.before has.such))
     ∙ ap (λ (o : Option Failed). cons_option o []) (ap (failed_of has.last.page has.last.place) has.at.2)
 
--- its failures are those that its entries tell
-pub failures-at-end : (layout : Layout) (view : View) (j : Job) {a : Answer} → FitsFrom [] layout view j → answer j ≡ Some a → (can_fail j ≡ true → failures_by (who j) view ≡ failed_now j) → failures_by (who j) view ≡ failed_now j
-failures-at-end layout view (jobs.Instruction i) fits is has = has refl
-failures-at-end layout view (jobs.Raise r) fits is has = has refl
-failures-at-end layout view (jobs.Scrub c) fits is has = has refl
-failures-at-end layout view (jobs.Inject i) fits is has = has refl
-failures-at-end layout view (jobs.Evict e) fits is has = let own = mapped _ (evicts.answer e) is in evict-failures layout view e.who e.page e.what own.0 (evict-caused e fits own.1).1
-failures-at-end layout view (jobs.Fsync f) fits is has = ap (filter_map failed_in) fits.1.made_none
-failures-at-end layout view (jobs.Prctl p) fits is has = ap (filter_map failed_in) fits.1.made
-failures-at-end layout view (jobs.Log l) fits is has = ap (filter_map failed_in) fits.1.read.made
-failures-at-end layout view (jobs.Spoil s) fits is has = ap (filter_map failed_in) fits.1.made
-failures-at-end layout view (jobs.Nested n) fits is has = ap (filter_map failed_in) fits.1.made
-failures-at-end layout view (jobs.Soft s) fits is has = let own = mapped _ (softs.answer s) is in soft-failures layout view s.who s.frame own.0 (soft-ended s fits own.1).1
-failures-at-end layout view (jobs.Unpoison u) fits is has = ap (filter_map failed_in) fits.1.made
+-- its failures are those that its entries tell; a command whose memory can't fail had made no entry before
+pub failures-at-end : {base : List Made} (layout : Layout) (view : View) (j : Job) {a : Answer} → FitsFrom base layout view j → (can_fail j ≡ false → base ≡ []) → answer j ≡ Some a → (can_fail j ≡ true → failures_by (who j) view ≡ failed_now j) → failures_by (who j) view ≡ failed_now j
+failures-at-end layout view (jobs.Instruction i) fits none is has = has refl
+failures-at-end layout view (jobs.Raise r) fits none is has = has refl
+failures-at-end layout view (jobs.Scrub c) fits none is has = has refl
+failures-at-end layout view (jobs.Inject i) fits none is has = has refl
+failures-at-end layout view (jobs.Evict e) fits none is has = let own = mapped _ (evicts.answer e) is in
+    evict-failures layout view e.who e.page e.what own.0 (evict-caused e (subst (λ (b : List Made). FitsFrom b layout view (jobs.Evict e)) (none refl) fits) own.1).1
+failures-at-end layout view (jobs.Fsync f) fits none is has = ap (filter_map failed_in) fits.1.made_none
+failures-at-end layout view (jobs.Prctl p) fits none is has = ap (filter_map failed_in) fits.1.made
+failures-at-end layout view (jobs.Log l) fits none is has = ap (filter_map failed_in) fits.1.read.made
+failures-at-end layout view (jobs.Spoil s) fits none is has = ap (filter_map failed_in) fits.1.made
+failures-at-end layout view (jobs.Nested n) fits none is has = ap (filter_map failed_in) fits.1.made
+failures-at-end layout view (jobs.Soft s) fits none is has = let own = mapped _ (softs.answer s) is in
+    soft-failures layout view s.who s.frame own.0 (soft-ended s (subst (λ (b : List Made). FitsFrom b layout view (jobs.Soft s)) (none refl) fits) own.1).1
+failures-at-end layout view (jobs.Unpoison u) fits none is has = ap (filter_map failed_in) fits.1.made
 
 -- ---- what a view lists of a command
 

@@ -94,7 +94,7 @@ module _ {layout : Layout} {old new : View} {i : Instruction} {after : Job} (s :
   abbrev next : Instruction
   next = s.follows.0
 
-  instruction-handled : (frame : Frame) (h : Handler) → i.at ≡ instruction_at.Handle frame h → instruction_fits.IsHandling [] layout old i s.fits.checks frame h → handlers.plan h ≡ Some s.step → Steps layout i.request.who s.step (logs (handlers.put h)) old new s.found s.got
+  instruction-handled : (frame : Frame) (h : Handler) → i.at ≡ instruction_at.Handle frame h → instruction_fits.IsHandling s.base layout old i s.fits.checks frame h → handlers.plan h ≡ Some s.step → Steps layout i.request.who s.step (logs (handlers.put h)) old new s.found s.got
       → instructions.FollowsAt layout (instructions.bare i) (instruction_at.Handle frame (handlers.bare h)) s.found s.got next s.turn → IsLeft (jobs.Instruction i) after old new
   instruction-handled frame h at is e made follows = record { rest = left.rest; stops = by left.stops }
     where
@@ -112,7 +112,7 @@ module _ {layout : Layout} {old new : View} {i : Instruction} {after : Job} (s :
   pub instruction-left : IsLeft (jobs.Instruction i) after old new
   instruction-left = which i.at refl s.fits.at s.planned s.made s.follows.2
     where
-      which : (x : InstructionAt) → i.at ≡ x → instruction_fits.FitsAt [] layout old i s.fits.checks x → instructions.plan_at x ≡ Some s.step → Steps layout i.request.who s.step (logs (instructions.put_at x)) old new s.found s.got
+      which : (x : InstructionAt) → i.at ≡ x → instruction_fits.FitsAt s.base layout old i s.fits.checks x → instructions.plan_at x ≡ Some s.step → Steps layout i.request.who s.step (logs (instructions.put_at x)) old new s.found s.got
           → instructions.FollowsAt layout (instructions.bare i) (instructions.bare_at x) s.found s.got next s.turn → IsLeft (jobs.Instruction i) after old new
       which (instruction_at.Access a) at has e made follows = let same = leaves made (quiet-step (access a.request a.at) e) in record { rest = quiet-rest same; stops = inl same.stops }
       which (instruction_at.Handle frame h) at has e made follows = instruction-handled frame h at has e made follows

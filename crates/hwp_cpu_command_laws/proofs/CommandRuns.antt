@@ -1,5 +1,5 @@
 -- A task stays one of its command, from the beginning on; and a command that may begin fits.
-use Rattle.std.proofs.Common.{◌≡◌, inl, inr, ℕ, Bool, true, false, List, [], Option, Some, None, refl, sym, ap, ◌∙◌, subst}
+use Rattle.std.proofs.Common.{◌≡◌, inl, inr, ℕ, Bool, true, false, true≢false, List, [], Option, Some, None, refl, sym, ap, ◌∙◌, subst}
 use Rattle.std.specs.declared.alloc.Global.{Global}
 use Rattle.hwp_cpu_command.specs.hwp_geom.declared.Damage.{Damage}
 use Rattle.hwp_cpu_command.specs.hwp_geom.declared.FileNo.{FileNo}
@@ -10,7 +10,6 @@ use Rattle.hwp_cpu_command.specs.hwp_geom.declared.Page.{Page}
 use Rattle.hwp_cpu_command.specs.hwp_geom.declared.Thread.{Thread}
 use Rattle.hwp_cpu_command.specs.hwp_geom.declared.VSlot.{VSlot}
 use Rattle.hwp_cpu_command.specs.hwp_geom.declared.Who.{Who}
-use Rattle.hwp_cpu_command.specs.hwp_banks.declared.Event.{Event}
 use Rattle.hwp_cpu_command.specs.hwp_banks.declared.Origin.{Origin}
 use Rattle.hwp_cpu_command.specs.hwp_severity.declared.McgBits.{McgBits}
 use Rattle.hwp_cpu_command.specs.hwp_page.History.{BodyValue}
@@ -40,6 +39,8 @@ use Rattle.hwp_cpu_command.specs.hwp_cpu_access.declared.instruction.Instruction
 use Rattle.hwp_cpu_command.specs.hwp_cpu_access.Fits.{IsOfAccess}
 use Rattle.hwp_cpu_command.specs.hwp_cpu_access.Instructions as instructions
 use Rattle.hwp_cpu_command.proofs.of_hwp_cpu_access.InstructionLaws as instructing
+use Rattle.hwp_cpu_command.specs.hwp_cpu_raise.declared.LocalChange.{LocalChange}
+use Rattle.hwp_cpu_command.specs.hwp_cpu_raise.declared.LocalChange.TheVariants as changes
 use Rattle.hwp_cpu_command.specs.hwp_cpu_raise.declared.Log.{Log}
 use Rattle.hwp_cpu_command.specs.hwp_cpu_raise.declared.Raise.{Raise}
 use Rattle.hwp_cpu_command.specs.hwp_cpu_raise.declared.Raiser.{Raiser}
@@ -60,7 +61,7 @@ use Rattle.hwp_cpu_command.specs.Begins.{Begins, BeginsAccess, BeginsEviction, B
 use Rattle.hwp_cpu_command.specs.Done.{can_fail}
 use Rattle.hwp_cpu_command.specs.Jobs.{FitsFrom, Next, banks_before, bare, claims, class, left_in, who}
 use Rattle.hwp_cpu_command.specs.FileHandles.{KnowsHandle}
-use Rattle.hwp_cpu_command.specs.Runs.{AtRest, Runs, anew}
+use Rattle.hwp_cpu_command.specs.Runs.{AtRest, Runs, anew, collects_now}
 use Rattle.hwp_cpu_command.specs.Stays.{IsAtStop}
 
 -- ---- what a task asks for never changes
@@ -172,8 +173,8 @@ scrub-kept layout s k found got turn follows = which s.at follows
     which scrub_at.GiveUp next = ap asked-scrub next.0
     which (scrub_at.Over answer) next = ap asked-scrub next.0
 
-abbrev asked-log : Log → Who × Event × Banks
-asked-log l = (l.read.who, l.event, l.before.value)
+abbrev asked-log : Log → Who × LocalChange × Banks
+asked-log l = (l.read.who, l.change, l.before.value)
 
 log-kept : (l : Log) (found : ℕ) → asked-log (logs.next l found) ≡ asked-log l
 log-kept l found = which (logs.answer l)
@@ -185,40 +186,45 @@ log-kept l found = which (logs.answer l)
 -- ---- a task of its command
 
 -- the same command goes on
-record GoesOn (j after : Job) : Type 0 where
-  anew_is : anew after ≡ anew j
-  before : (kept : Banks) → banks_before after kept ≡ banks_before j kept
-  fails : can_fail after ≡ can_fail j
+pub record GoesOn (j after : Job) : Type 0 where
+  pub anew_is : anew after ≡ anew j
+  pub before : (kept : Banks) → banks_before after kept ≡ banks_before j kept
+  pub fails : can_fail after ≡ can_fail j
+  pub collects : collects_now after ≡ collects_now j
 
 goes-on : (layout : Layout) (found : ℕ) (got : Option BodyValue) (turn : Turn) (j after : Job) → Next layout (bare j) found got after turn → GoesOn j after
 goes-on layout found got turn (jobs.Instruction i) after next = subst (GoesOn (jobs.Instruction i)) (sym next.1) (record {
   anew_is = ap (λ (a : AskedAccess). jobs.Instruction (instructions.begin a.0 a.1 a.2 a.3 a.4 a.5)) (instruction-kept layout i next.0 found got turn next.2);
   before = λ kept. ap (λ (a : AskedAccess). a.4) (instruction-kept layout i next.0 found got turn next.2);
   fails = refl;
+  collects = ap (λ (a : AskedAccess). a.5) (instruction-kept layout i next.0 found got turn next.2);
 })
 goes-on layout found got turn (jobs.Raise r) after next = subst (GoesOn (jobs.Raise r)) (sym next.1) (record {
   anew_is = ap (λ (a : AskedRaise). jobs.Raise (raises.begin a.0 a.1 a.2 a.3 a.4)) (raise-kept layout r next.0 found got turn next.2);
   before = λ kept. ap (λ (a : AskedRaise). a.4) (raise-kept layout r next.0 found got turn next.2);
   fails = refl;
+  collects = refl;
 })
 goes-on layout found got turn (jobs.Scrub s) after next = subst (GoesOn (jobs.Scrub s)) (sym next.1) (record {
   anew_is = ap (λ (a : AskedScrub). jobs.Scrub (scrubs.begin a.0 a.1 a.2 a.3 a.4)) (scrub-kept layout s next.0 found got turn next.2);
   before = λ kept. ap (λ (a : AskedScrub). a.4) (scrub-kept layout s next.0 found got turn next.2);
   fails = refl;
+  collects = refl;
 })
 goes-on layout found got turn (jobs.Log l) after next = subst (GoesOn (jobs.Log l)) (sym next.0) (record {
-  anew_is = ap (λ (a : Who × Event × Banks). jobs.Log (logs.begin a.0 a.1 a.2)) (log-kept l found);
-  before = λ kept. ap (λ (a : Who × Event × Banks). a.2) (log-kept l found);
+  anew_is = ap (λ (a : Who × LocalChange × Banks). jobs.Log (logs.begin a.0 a.1 a.2)) (log-kept l found);
+  before = λ kept. ap (λ (a : Who × LocalChange × Banks). a.2) (log-kept l found);
   fails = refl;
+  collects = refl;
 })
-goes-on layout found got turn (jobs.Evict e) after next = subst (GoesOn (jobs.Evict e)) (sym next.1) (record { anew_is = ap (λ (x : Evict). anew (jobs.Evict x)) next.2.0; before = λ kept. refl; fails = refl })
-goes-on layout found got turn (jobs.Inject i) after next = subst (GoesOn (jobs.Inject i)) (sym next.1) (record { anew_is = ap (λ (x : Inject). anew (jobs.Inject x)) next.2.0; before = λ kept. refl; fails = refl })
-goes-on layout found got turn (jobs.Soft s) after next = subst (GoesOn (jobs.Soft s)) (sym next.1) (record { anew_is = ap (λ (x : Soft). anew (jobs.Soft x)) next.2.0; before = λ kept. refl; fails = refl })
-goes-on layout found got turn (jobs.Unpoison u) after next = subst (GoesOn (jobs.Unpoison u)) (sym next.0) (record { anew_is = refl; before = λ kept. refl; fails = refl })
-goes-on layout found got turn (jobs.Fsync f) after next = subst (GoesOn (jobs.Fsync f)) (sym next.0) (record { anew_is = refl; before = λ kept. refl; fails = refl })
-goes-on layout found got turn (jobs.Prctl p) after next = subst (GoesOn (jobs.Prctl p)) (sym next.0) (record { anew_is = refl; before = λ kept. refl; fails = refl })
-goes-on layout found got turn (jobs.Spoil s) after next = subst (GoesOn (jobs.Spoil s)) (sym next.0) (record { anew_is = refl; before = λ kept. refl; fails = refl })
-goes-on layout found got turn (jobs.Nested n) after next = subst (GoesOn (jobs.Nested n)) (sym next.0) (record { anew_is = refl; before = λ kept. refl; fails = refl })
+goes-on layout found got turn (jobs.Evict e) after next = subst (GoesOn (jobs.Evict e)) (sym next.1) (record { anew_is = ap (λ (x : Evict). anew (jobs.Evict x)) next.2.0; before = λ kept. refl; fails = refl; collects = refl })
+goes-on layout found got turn (jobs.Inject i) after next = subst (GoesOn (jobs.Inject i)) (sym next.1) (record { anew_is = ap (λ (x : Inject). anew (jobs.Inject x)) next.2.0; before = λ kept. refl; fails = refl; collects = refl })
+goes-on layout found got turn (jobs.Soft s) after next = subst (GoesOn (jobs.Soft s)) (sym next.1) (record { anew_is = ap (λ (x : Soft). anew (jobs.Soft x)) next.2.0; before = λ kept. refl; fails = refl; collects = refl })
+goes-on layout found got turn (jobs.Unpoison u) after next = subst (GoesOn (jobs.Unpoison u)) (sym next.0) (record { anew_is = refl; before = λ kept. refl; fails = refl; collects = refl })
+goes-on layout found got turn (jobs.Fsync f) after next = subst (GoesOn (jobs.Fsync f)) (sym next.0) (record { anew_is = refl; before = λ kept. refl; fails = refl; collects = refl })
+goes-on layout found got turn (jobs.Prctl p) after next = subst (GoesOn (jobs.Prctl p)) (sym next.0) (record { anew_is = refl; before = λ kept. refl; fails = refl; collects = refl })
+goes-on layout found got turn (jobs.Spoil s) after next = subst (GoesOn (jobs.Spoil s)) (sym next.0) (record { anew_is = refl; before = λ kept. refl; fails = refl; collects = refl })
+goes-on layout found got turn (jobs.Nested n) after next = subst (GoesOn (jobs.Nested n)) (sym next.0) (record { anew_is = refl; before = λ kept. refl; fails = refl; collects = refl })
 
 pub before-stays : (layout : Layout) (j after : Job) (found : ℕ) (got : Option BodyValue) (turn : Turn) → Next layout (bare j) found got after turn → (kept : Banks) → banks_before after kept ≡ banks_before j kept
 before-stays layout j after found got turn next = (goes-on layout found got turn j after next).before
@@ -226,60 +232,61 @@ before-stays layout j after found got turn next = (goes-on layout found got turn
 pub can-fail-stays : (layout : Layout) (j after : Job) (found : ℕ) (got : Option BodyValue) (turn : Turn) → Next layout (bare j) found got after turn → can_fail after ≡ can_fail j
 can-fail-stays layout j after found got turn next = (goes-on layout found got turn j after next).fails
 
+-- so the command is the same
+runs-alike : (layout : Layout) (by : Who) (command : Command) (j after : Job) → GoesOn j after → Runs layout by command j → Runs layout by command after
+runs-alike layout by command j after on runs = subst (λ (c : Bool). Begins layout by command (banks_before after []) c (anew after)) (sym on.collects)
+    (subst (λ (b : Banks). Begins layout by command b (collects_now j) (anew after)) (sym (on.before [])) (subst (Begins layout by command (banks_before j []) (collects_now j)) (sym on.anew_is) runs))
+
 pub runs-on : (layout : Layout) (who : Who) (command : Command) (j after : Job) (found : ℕ) (got : Option BodyValue) (turn : Turn) → Runs layout who command j → Next layout (bare j) found got after turn → Runs layout who command after
 runs-on layout by command j after found got turn runs next = let on = goes-on layout found got turn j after next in
-    subst (λ (b : Banks). Begins layout by command b (anew after)) (sym (on.before [])) (subst (Begins layout by command (banks_before j [])) (sym on.anew_is) runs)
+    runs-alike layout by command j after on runs
 
 -- ---- where it begins
 
--- an instruction whose processor collects may pause
-abbrev collects_in : Job → Bool
-collects_in (jobs.Instruction i) = i.collects
-collects_in _ = false
-
 -- a task at the beginning of its command
-pub record HasBegun (layout : Layout) (by : Who) (command : Command) (banks : Banks) (j : Job) : Type 0 where
+pub record HasBegun (layout : Layout) (by : Who) (command : Command) (banks : Banks) (collects : Bool) (j : Job) : Type 0 where
   pub runs : Runs layout by command j
   pub who_is : who j ≡ by
   pub start : IsAtStop j
   pub before : banks_before j (left_in j banks) ≡ banks
   pub idle : (class j ≡ 4) × (claims j ≡ None)
-  pub plain : collects_in j ≡ false
+  pub told : collects_now j ≡ true → collects ≡ true
 
-pub has-begun : (layout : Layout) (by : Who) (command : Command) (banks : Banks) (j : Job) → Begins layout by command banks j → HasBegun layout by command banks j
-has-begun layout by command banks j begun = which command begun
+pub has-begun : (layout : Layout) (by : Who) (command : Command) (banks : Banks) (collects : Bool) (j : Job) → Begins layout by command banks collects j → HasBegun layout by command banks collects j
+has-begun layout by command banks collects j begun = which command begun
   where
-    from : (c : Command) (x : Job) → j ≡ x → (Begins layout by c banks x → HasBegun layout by c banks x) → Begins layout by c banks j → HasBegun layout by c banks j
-    from c x is has b = subst (HasBegun layout by c banks) (sym is) (has (subst (Begins layout by c banks) is b))
+    from : (c : Command) (x : Job) → j ≡ x → (Begins layout by c banks collects x → HasBegun layout by c banks collects x) → Begins layout by c banks collects j → HasBegun layout by c banks collects j
+    from c x is has b = subst (HasBegun layout by c banks collects) (sym is) (has (subst (Begins layout by c banks collects) is b))
 
-    which : (c : Command) → Begins layout by c banks j → HasBegun layout by c banks j
-    which (commands.Load thread slot line) b = from (commands.Load thread slot line) _ b.job_is (λ r. record { runs = r; who_is = refl; start = (_, refl, refl, refl); before = refl; idle = (refl, refl); plain = refl }) b
-    which (commands.Fetch thread slot line) b = from (commands.Fetch thread slot line) _ b.job_is (λ r. record { runs = r; who_is = refl; start = (_, refl, refl, refl); before = refl; idle = (refl, refl); plain = refl }) b
-    which (commands.KLoad thread slot line) b = from (commands.KLoad thread slot line) _ b.job_is (λ r. record { runs = r; who_is = refl; start = (_, refl, refl, refl); before = refl; idle = (refl, refl); plain = refl }) b
-    which (commands.Store thread slot line word) b = from (commands.Store thread slot line word) _ b.job_is (λ r. record { runs = r; who_is = refl; start = (_, refl, refl, refl); before = refl; idle = (refl, refl); plain = refl }) b
-    which (commands.Free slot) b = from (commands.Free slot) _ b.1.job_is (λ r. record { runs = r; who_is = refl; start = refl; before = refl; idle = (refl, refl); plain = refl }) b
-    which (commands.Drop page) b = from (commands.Drop page) _ b.job_is (λ r. record { runs = r; who_is = refl; start = refl; before = refl; idle = (refl, refl); plain = refl }) b
-    which (commands.Sync page) b = from (commands.Sync page) _ b.job_is (λ r. record { runs = r; who_is = refl; start = refl; before = refl; idle = (refl, refl); plain = refl }) b
-    which (commands.Out page) b = from (commands.Out page) _ b.job_is (λ r. record { runs = r; who_is = refl; start = refl; before = refl; idle = (refl, refl); plain = refl }) b
-    which (commands.Fsync file) b = from (commands.Fsync file) _ b.2 (λ r. record { runs = r; who_is = refl; start = refl; before = refl; idle = (refl, refl); plain = refl }) b
-    which (commands.Open file) b = from (commands.Open file) _ b.2 (λ r. record { runs = r; who_is = refl; start = refl; before = refl; idle = (refl, refl); plain = refl }) b
-    which (commands.Prctl thread args) b = from (commands.Prctl thread args) _ b.job_is (λ r. record { runs = r; who_is = refl; start = refl; before = refl; idle = (refl, refl); plain = refl }) b
-    which (commands.Bad frame line) b = from (commands.Bad frame line) _ b.job_is (λ r. record { runs = r; who_is = refl; start = refl; before = refl; idle = (refl, refl); plain = refl }) b
-    which (commands.Weak frame line) b = from (commands.Weak frame line) _ b.job_is (λ r. record { runs = r; who_is = refl; start = refl; before = refl; idle = (refl, refl); plain = refl }) b
-    which (commands.Scrub first last) b = from (commands.Scrub first last) _ b.job_is (λ r. record { runs = r; who_is = refl; start = (refl, refl); before = refl; idle = (refl, refl); plain = refl }) b
-    which (commands.Log status addr misc) b = from (commands.Log status addr misc) _ b.job_is (λ r. record { runs = r; who_is = refl; start = refl; before = refl; idle = (refl, refl); plain = refl }) b
-    which (commands.RaiseUser thread ripv eipv) b = from (commands.RaiseUser thread ripv eipv) _ b.job_is (λ r. record { runs = r; who_is = refl; start = (refl, refl); before = refl; idle = (refl, refl); plain = refl }) b
-    which (commands.RaiseKernel ripv eipv) b = from (commands.RaiseKernel ripv eipv) _ b.job_is (λ r. record { runs = r; who_is = refl; start = (refl, refl); before = refl; idle = (refl, refl); plain = refl }) b
-    which commands.RaiseNested b = from commands.RaiseNested _ b (λ r. record { runs = r; who_is = refl; start = refl; before = refl; idle = (refl, refl); plain = refl }) b
-    which (commands.Inject frame) b = from (commands.Inject frame) _ b.job_is (λ r. record { runs = r; who_is = refl; start = refl; before = refl; idle = (refl, refl); plain = refl }) b
-    which (commands.Soft frame) b = from (commands.Soft frame) _ b.job_is (λ r. record { runs = r; who_is = refl; start = refl; before = refl; idle = (refl, refl); plain = refl }) b
-    which (commands.Unpoison frame) b = from (commands.Unpoison frame) _ b.job_is (λ r. record { runs = r; who_is = refl; start = refl; before = refl; idle = (refl, refl); plain = refl }) b
+    which : (c : Command) → Begins layout by c banks collects j → HasBegun layout by c banks collects j
+    which (commands.Load thread slot line) b = from (commands.Load thread slot line) _ b.job_is (λ r. record { runs = r; who_is = refl; start = (_, refl, refl, refl); before = refl; idle = (refl, refl); told = λ on. on }) b
+    which (commands.Fetch thread slot line) b = from (commands.Fetch thread slot line) _ b.job_is (λ r. record { runs = r; who_is = refl; start = (_, refl, refl, refl); before = refl; idle = (refl, refl); told = λ on. on }) b
+    which (commands.KLoad thread slot line) b = from (commands.KLoad thread slot line) _ b.job_is (λ r. record { runs = r; who_is = refl; start = (_, refl, refl, refl); before = refl; idle = (refl, refl); told = λ on. on }) b
+    which (commands.Store thread slot line word) b = from (commands.Store thread slot line word) _ b.job_is (λ r. record { runs = r; who_is = refl; start = (_, refl, refl, refl); before = refl; idle = (refl, refl); told = λ on. on }) b
+    which (commands.Free slot) b = from (commands.Free slot) _ b.1.job_is (λ r. record { runs = r; who_is = refl; start = refl; before = refl; idle = (refl, refl); told = λ on. absurd (true≢false (sym on)) }) b
+    which (commands.Drop page) b = from (commands.Drop page) _ b.job_is (λ r. record { runs = r; who_is = refl; start = refl; before = refl; idle = (refl, refl); told = λ on. absurd (true≢false (sym on)) }) b
+    which (commands.Sync page) b = from (commands.Sync page) _ b.job_is (λ r. record { runs = r; who_is = refl; start = refl; before = refl; idle = (refl, refl); told = λ on. absurd (true≢false (sym on)) }) b
+    which (commands.Out page) b = from (commands.Out page) _ b.job_is (λ r. record { runs = r; who_is = refl; start = refl; before = refl; idle = (refl, refl); told = λ on. absurd (true≢false (sym on)) }) b
+    which (commands.Fsync file) b = from (commands.Fsync file) _ b.2 (λ r. record { runs = r; who_is = refl; start = refl; before = refl; idle = (refl, refl); told = λ on. absurd (true≢false (sym on)) }) b
+    which (commands.Open file) b = from (commands.Open file) _ b.2 (λ r. record { runs = r; who_is = refl; start = refl; before = refl; idle = (refl, refl); told = λ on. absurd (true≢false (sym on)) }) b
+    which (commands.Prctl thread args) b = from (commands.Prctl thread args) _ b.job_is (λ r. record { runs = r; who_is = refl; start = refl; before = refl; idle = (refl, refl); told = λ on. absurd (true≢false (sym on)) }) b
+    which (commands.Bad frame line) b = from (commands.Bad frame line) _ b.job_is (λ r. record { runs = r; who_is = refl; start = refl; before = refl; idle = (refl, refl); told = λ on. absurd (true≢false (sym on)) }) b
+    which (commands.Weak frame line) b = from (commands.Weak frame line) _ b.job_is (λ r. record { runs = r; who_is = refl; start = refl; before = refl; idle = (refl, refl); told = λ on. absurd (true≢false (sym on)) }) b
+    which (commands.Scrub first last) b = from (commands.Scrub first last) _ b.job_is (λ r. record { runs = r; who_is = refl; start = (refl, refl); before = refl; idle = (refl, refl); told = λ on. absurd (true≢false (sym on)) }) b
+    which (commands.Log status addr misc) b = from (commands.Log status addr misc) _ b.job_is (λ r. record { runs = r; who_is = refl; start = refl; before = refl; idle = (refl, refl); told = λ on. absurd (true≢false (sym on)) }) b
+    which (commands.Watch threshold window) b = from (commands.Watch threshold window) _ b.job_is (λ r. record { runs = r; who_is = refl; start = refl; before = refl; idle = (refl, refl); told = λ on. absurd (true≢false (sym on)) }) b
+    which (commands.RaiseUser thread ripv eipv) b = from (commands.RaiseUser thread ripv eipv) _ b.job_is (λ r. record { runs = r; who_is = refl; start = (refl, refl); before = refl; idle = (refl, refl); told = λ on. absurd (true≢false (sym on)) }) b
+    which (commands.RaiseKernel ripv eipv) b = from (commands.RaiseKernel ripv eipv) _ b.job_is (λ r. record { runs = r; who_is = refl; start = (refl, refl); before = refl; idle = (refl, refl); told = λ on. absurd (true≢false (sym on)) }) b
+    which commands.RaiseNested b = from commands.RaiseNested _ b (λ r. record { runs = r; who_is = refl; start = refl; before = refl; idle = (refl, refl); told = λ on. absurd (true≢false (sym on)) }) b
+    which (commands.Inject frame) b = from (commands.Inject frame) _ b.job_is (λ r. record { runs = r; who_is = refl; start = refl; before = refl; idle = (refl, refl); told = λ on. absurd (true≢false (sym on)) }) b
+    which (commands.Soft frame) b = from (commands.Soft frame) _ b.job_is (λ r. record { runs = r; who_is = refl; start = refl; before = refl; idle = (refl, refl); told = λ on. absurd (true≢false (sym on)) }) b
+    which (commands.Unpoison frame) b = from (commands.Unpoison frame) _ b.job_is (λ r. record { runs = r; who_is = refl; start = refl; before = refl; idle = (refl, refl); told = λ on. absurd (true≢false (sym on)) }) b
 
-pub begins-runs : (layout : Layout) (who : Who) (command : Command) (banks : Banks) (j : Job) → Begins layout who command banks j → Runs layout who command j
-begins-runs layout by command banks j begun = (has-begun layout by command banks j begun).runs
+pub begins-runs : (layout : Layout) (who : Who) (command : Command) (banks : Banks) (collects : Bool) (j : Job) → Begins layout who command banks collects j → Runs layout who command j
+begins-runs layout by command banks collects j begun = (has-begun layout by command banks collects j begun).runs
 
-pub before-begins : (layout : Layout) (who : Who) (command : Command) (banks : Banks) (j : Job) → Begins layout who command banks j → banks_before j (left_in j banks) ≡ banks
-before-begins layout by command banks j begun = (has-begun layout by command banks j begun).before
+pub before-begins : (layout : Layout) (who : Who) (command : Command) (banks : Banks) (collects : Bool) (j : Job) → Begins layout who command banks collects j → banks_before j (left_in j banks) ≡ banks
+before-begins layout by command banks collects j begun = (has-begun layout by command banks collects j begun).before
 
 -- the command is the one that is its turn
 anew-who : (j : Job) → who (anew j) ≡ who j
@@ -287,24 +294,14 @@ anew-who (jobs.Instruction i) = refl
 anew-who _ = refl
 
 pub runs-who : (layout : Layout) (by : Who) (command : Command) (j : Job) → Runs layout by command j → who j ≡ by
-runs-who layout by command j runs = sym (anew-who j) ∙ (has-begun layout by command (banks_before j []) (anew j) runs).who_is
-
--- ---- a command that goes on without a pause
-
-anew-collects : (j : Job) → collects_in (anew j) ≡ collects_in j
-anew-collects (jobs.Instruction i) = refl
-anew-collects _ = refl
-
-pub never-pauses : {base : List Made} {layout : Layout} {view : View} (by : Who) (command : Command) (i : Instruction) → Runs layout by command (jobs.Instruction i) → FitsFrom base layout view (jobs.Instruction i) → instructions.pause i ≡ None
-never-pauses {base} {layout} {view} by command i runs fits = instructing.never-pauses i fits
-    (sym (anew-collects (jobs.Instruction i)) ∙ (has-begun layout by command (banks_before (jobs.Instruction i) []) (anew (jobs.Instruction i)) runs).plain)
+runs-who layout by command j runs = sym (anew-who j) ∙ (has-begun layout by command (banks_before j []) (collects_now j) (anew j) runs).who_is
 
 -- ---- a command that may begin
 
 module _ {layout : Layout} {view : View} {who : Who} (rest : AtRest view who) {j : Job} where
-  access-fits : {thread : Thread} {slot : VSlot} {line : ℕ} {kind : AccessKind} {origin : Origin} {mode : Mode} {banks : Banks} → IsOfAccess origin → BeginsAccess layout who thread slot line kind origin mode banks j → FitsFrom [] layout view j
-  access-fits {thread} {slot} {line} {kind} {origin} {mode} {banks} of begun = subst (FitsFrom [] layout view) (sym begun.job_is)
-      (instructing.begins layout view (instructions.begin begun.alloc (request_of who thread slot line kind begun.page begun.process) origin mode banks false) refl rest.on_turn begun.sound begun.names of begun.three rest.hand_is rest.paid rest.made)
+  access-fits : {thread : Thread} {slot : VSlot} {line : ℕ} {kind : AccessKind} {origin : Origin} {mode : Mode} {banks : Banks} {collects : Bool} → IsOfAccess origin → BeginsAccess layout who thread slot line kind origin mode banks collects j → FitsFrom [] layout view j
+  access-fits {thread} {slot} {line} {kind} {origin} {mode} {banks} {collects} of begun = subst (FitsFrom [] layout view) (sym begun.job_is)
+      (instructing.begins layout view (instructions.begin begun.alloc (request_of who thread slot line kind begun.page begun.process) origin mode banks collects) refl rest.on_turn begun.sound begun.names of begun.three rest.hand_is rest.paid rest.made)
 
   eviction-fits : {page : Page} {what : Eviction} → BeginsEviction layout who page what j → FitsFrom [] layout view j
   eviction-fits begun = subst (FitsFrom [] layout view) (sym begun.job_is) (record { on_turn = rest.on_turn; page = begun.within; kind = begun.kind; at = (rest.hand_is, rest.made) })
@@ -328,7 +325,7 @@ module _ {layout : Layout} {view : View} {who : Who} (rest : AtRest view who) {j
   spoil-fits : {frame : Frame} {line : ℕ} {damage : Damage} → BeginsSpoil layout who frame line damage j → FitsFrom [] layout view j
   spoil-fits begun = subst (FitsFrom [] layout view) (sym begun.job_is) (refl, record { on_turn = rest.on_turn; hand_is = rest.hand_is; made = rest.made; frame = begun.within; at = tt })
 
-  log-fits : {event : Event} {banks : Banks} → BeginsLog layout who event banks j → FitsFrom [] layout view j
+  log-fits : {change : LocalChange} {banks : Banks} → BeginsLog layout who change banks j → FitsFrom [] layout view j
   log-fits begun = subst (FitsFrom [] layout view) (sym begun.job_is) (refl, record { read = record { on_turn = rest.on_turn; hand_is = rest.hand_is; made = rest.made; at = tt }; three = begun.three; banks_are = refl })
 
   raise-user-fits : {thread : Thread} {mcg : McgBits} {banks : Banks} → BeginsRaiseUser layout who thread mcg banks j → FitsFrom [] layout view j
@@ -390,25 +387,26 @@ fsync-fits layout view who file opens j begun rest known = subst (FitsFrom [] la
   },
 )
 
-pub begins-fits : (layout : Layout) (view : View) (who : Who) (command : Command) (banks : Banks) (j : Job) → Begins layout who command banks j → AreBanks banks → AtRest view who → KnowsHandle view j → FitsFrom [] layout view j
-begins-fits layout view by (commands.Load thread slot line) banks j begun free rest known = access-fits rest tt begun
-begins-fits layout view by (commands.Fetch thread slot line) banks j begun free rest known = access-fits rest tt begun
-begins-fits layout view by (commands.KLoad thread slot line) banks j begun free rest known = access-fits rest tt begun
-begins-fits layout view by (commands.Store thread slot line word) banks j begun free rest known = access-fits rest tt begun
-begins-fits layout view by (commands.Free slot) banks j begun free rest known = eviction-fits rest begun.1
-begins-fits layout view by (commands.Drop page) banks j begun free rest known = eviction-fits rest begun
-begins-fits layout view by (commands.Sync page) banks j begun free rest known = eviction-fits rest begun
-begins-fits layout view by (commands.Out page) banks j begun free rest known = eviction-fits rest begun
-begins-fits layout view by (commands.Fsync file) banks j begun free rest known = fsync-fits layout view by file false j begun rest known
-begins-fits layout view by (commands.Open file) banks j begun free rest known = fsync-fits layout view by file true j begun rest known
-begins-fits layout view by (commands.Prctl thread args) banks j begun free rest known = prctl-fits rest begun
-begins-fits layout view by (commands.Bad frame line) banks j begun free rest known = spoil-fits rest begun
-begins-fits layout view by (commands.Weak frame line) banks j begun free rest known = spoil-fits rest begun
-begins-fits layout view by (commands.Scrub first last) banks j begun free rest known = scrub-fits rest begun free
-begins-fits layout view by (commands.Log status addr misc) banks j begun free rest known = log-fits rest begun
-begins-fits layout view by (commands.RaiseUser thread ripv eipv) banks j begun free rest known = raise-user-fits rest begun
-begins-fits layout view by (commands.RaiseKernel ripv eipv) banks j begun free rest known = raise-kernel-fits rest begun
-begins-fits layout view by (commands.Inject frame) banks j begun free rest known = inject-fits rest begun
-begins-fits layout view by (commands.Soft frame) banks j begun free rest known = soft-fits rest begun
-begins-fits layout view by commands.RaiseNested banks j begun free rest known = subst (FitsFrom [] layout view) (sym begun) (refl, record { on_turn = rest.on_turn; hand_is = rest.hand_is; made = rest.made; at = tt })
-begins-fits layout view by (commands.Unpoison frame) banks j begun free rest known = unpoison-fits rest begun
+pub begins-fits : (layout : Layout) (view : View) (who : Who) (command : Command) (banks : Banks) (collects : Bool) (j : Job) → Begins layout who command banks collects j → AreBanks banks → AtRest view who → KnowsHandle view j → FitsFrom [] layout view j
+begins-fits layout view by (commands.Load thread slot line) banks collects j begun free rest known = access-fits rest tt begun
+begins-fits layout view by (commands.Fetch thread slot line) banks collects j begun free rest known = access-fits rest tt begun
+begins-fits layout view by (commands.KLoad thread slot line) banks collects j begun free rest known = access-fits rest tt begun
+begins-fits layout view by (commands.Store thread slot line word) banks collects j begun free rest known = access-fits rest tt begun
+begins-fits layout view by (commands.Free slot) banks collects j begun free rest known = eviction-fits rest begun.1
+begins-fits layout view by (commands.Drop page) banks collects j begun free rest known = eviction-fits rest begun
+begins-fits layout view by (commands.Sync page) banks collects j begun free rest known = eviction-fits rest begun
+begins-fits layout view by (commands.Out page) banks collects j begun free rest known = eviction-fits rest begun
+begins-fits layout view by (commands.Fsync file) banks collects j begun free rest known = fsync-fits layout view by file false j begun rest known
+begins-fits layout view by (commands.Open file) banks collects j begun free rest known = fsync-fits layout view by file true j begun rest known
+begins-fits layout view by (commands.Prctl thread args) banks collects j begun free rest known = prctl-fits rest begun
+begins-fits layout view by (commands.Bad frame line) banks collects j begun free rest known = spoil-fits rest begun
+begins-fits layout view by (commands.Weak frame line) banks collects j begun free rest known = spoil-fits rest begun
+begins-fits layout view by (commands.Scrub first last) banks collects j begun free rest known = scrub-fits rest begun free
+begins-fits layout view by (commands.Log status addr misc) banks collects j begun free rest known = log-fits rest begun
+begins-fits layout view by (commands.Watch threshold window) banks collects j begun free rest known = log-fits rest begun
+begins-fits layout view by (commands.RaiseUser thread ripv eipv) banks collects j begun free rest known = raise-user-fits rest begun
+begins-fits layout view by (commands.RaiseKernel ripv eipv) banks collects j begun free rest known = raise-kernel-fits rest begun
+begins-fits layout view by (commands.Inject frame) banks collects j begun free rest known = inject-fits rest begun
+begins-fits layout view by (commands.Soft frame) banks collects j begun free rest known = soft-fits rest begun
+begins-fits layout view by commands.RaiseNested banks collects j begun free rest known = subst (FitsFrom [] layout view) (sym begun) (refl, record { on_turn = rest.on_turn; hand_is = rest.hand_is; made = rest.made; at = tt })
+begins-fits layout view by (commands.Unpoison frame) banks collects j begun free rest known = unpoison-fits rest begun

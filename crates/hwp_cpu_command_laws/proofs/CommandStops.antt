@@ -1,5 +1,5 @@
 -- A machine that has stopped stays so, and a command that has yet to look, or that was answered `stopped`, comes to nothing else.
-use Rattle.std.proofs.Common.{◌≡◌, ◌≢◌, ◌⊎◌, inl, inr, ℕ, ◌+◌, not, Bool, true, false, cond, [], ◌∷◌, ◌++◌, Option, Some, None, length, option_map, refl, sym, ap, ◌∙◌, subst, arith, true≢false}
+use Rattle.std.proofs.Common.{◌≡◌, ◌≢◌, ◌⊎◌, inl, inr, ℕ, ◌+◌, not, Bool, true, false, cond, List, [], ◌∷◌, ◌++◌, Option, Some, None, length, option_map, refl, sym, ap, ◌∙◌, subst, arith, true≢false}
 use Rattle.std.proofs.lemmas.Bool.{eq-eqb, ne_eqb}
 use Rattle.std.proofs.lemmas.Option.{none-some, same_Some}
 use Rattle.hwp_cpu_command.specs.hwp_geom.declared.Layout.{Layout}
@@ -12,6 +12,7 @@ use Rattle.hwp_cpu_command.specs.hwp_page.declared.Outcome.TheVariants as outcom
 use Rattle.hwp_cpu_command.specs.hwp_page.Situations.{outcome_of}
 use Rattle.hwp_cpu_command.specs.hwp_page.History.{BodyValue}
 use Rattle.hwp_cpu_command.specs.hwp_words.Stops.{is_stopped, stopper_of}
+use Rattle.hwp_cpu_command.specs.hwp_core_rule.declared.Made.{Made}
 use Rattle.hwp_cpu_command.specs.hwp_core_rule.declared.Log.{Log}
 use Rattle.hwp_cpu_command.specs.hwp_core_rule.declared.SharedWord.TheVariants as places
 use Rattle.hwp_cpu_command.specs.hwp_core_rule.declared.Sight.{Sight}
@@ -378,8 +379,8 @@ looks-first {new = new} {j = j} {after = after} s start = which (is_stopped s.fo
 
 -- ---- the beginning and the end of a command
 
-pub begins-stop : (layout : Layout) (by : Who) (command : Command) (banks : Banks) (j : Job) → Begins layout by command banks j → IsAtStop j
-begins-stop layout by command banks j begins = (has-begun layout by command banks j begins).start
+pub begins-stop : (layout : Layout) (by : Who) (command : Command) (banks : Banks) (collects : Bool) (j : Job) → Begins layout by command banks collects j → IsAtStop j
+begins-stop layout by command banks collects j begins = (has-begun layout by command banks collects j begins).start
 
 -- what a command saw of the stop word
 halts : {view : View} {by : Who} → SawStop view by → IsHalted view
@@ -403,7 +404,7 @@ replied (replies.Is policy) = refl
 replied replies.Einval = refl
 
 module _ (layout : Layout) (view : View) where
-  instruction-halts : (a : Request) (told : _) (x : InstructionAnswer) → IsEnd [] layout view a told x → instruction_answer x ≡ answers.Stopped → IsHalted view
+  instruction-halts : {base : List Made} (a : Request) (told : _) (x : InstructionAnswer) → IsEnd base layout view a told x → instruction_answer x ≡ answers.Stopped → IsHalted view
   instruction-halts a told instruction_answers.Stopped (inl own) is = halts own.answered.0
   instruction-halts a told instruction_answers.Stopped (inr halted) is = stops halted.stopped
   instruction-halts a told (instruction_answers.Value word place) ended is = absurd (other _ refl (ap (λ (y : Answer). Some y) is))
@@ -428,7 +429,7 @@ module _ (layout : Layout) (view : View) where
   spoil-halts s (spoil_at.Over spoil_answers.Done) fits is = absurd (other _ refl is)
   spoil-halts s _ fits is = absurd (none-some _ is)
 
-  evict-halts : (e : Evict) (x : EvictAt) → evicts.FitsAt [] layout view e.who e.page e.what x → option_map evict_answer (evicts.answer_at x) ≡ Some answers.Stopped → IsHalted view
+  evict-halts : {base : List Made} (e : Evict) (x : EvictAt) → evicts.FitsAt base layout view e.who e.page e.what x → option_map evict_answer (evicts.answer_at x) ≡ Some answers.Stopped → IsHalted view
   evict-halts e (evict_at.Over evict_answers.Stopped) fits is = halts fits.1.1
   evict-halts e (evict_at.Over (evict_answers.Done at)) fits is = absurd (other _ refl is)
   evict-halts e (evict_at.Over (evict_answers.Refused refusal at)) fits is = absurd (other _ (refused refusal at) is)
@@ -467,7 +468,7 @@ module _ (layout : Layout) (view : View) where
   inject-halts i fail_answers.Already ended is = absurd (other _ refl (ap (λ (a : Answer). Some a) is))
   inject-halts i (fail_answers.Done found) ended is = absurd (other _ (came (outcome_of found.situation)) (ap (λ (a : Answer). Some a) is))
 
-  soft-halts : (s : Soft) (x : SoftAnswer) → offline.IsCaused [] layout view s.who s.frame x → soft_answer x ≡ answers.Stopped → IsHalted view
+  soft-halts : {base : List Made} (s : Soft) (x : SoftAnswer) → offline.IsCaused base layout view s.who s.frame x → soft_answer x ≡ answers.Stopped → IsHalted view
   soft-halts s soft_answers.Stopped caused is = halts caused.1
   soft-halts s soft_answers.Kernel caused is = absurd (other _ refl (ap (λ (y : Answer). Some y) is))
   soft-halts s soft_answers.Already caused is = absurd (other _ refl (ap (λ (y : Answer). Some y) is))
@@ -485,7 +486,7 @@ module _ (layout : Layout) (view : View) where
   unpoison-halts u (unpoison_answers.InUse count) caused is = absurd (other _ refl (ap (λ (y : Answer). Some y) is))
 
 -- a command that is answered `stopped` shows that the machine has stopped
-pub stopped-halts : (layout : Layout) (view : View) (j : Job) → FitsFrom [] layout view j → answer j ≡ Some answers.Stopped → IsHalted view
+pub stopped-halts : {base : List Made} (layout : Layout) (view : View) (j : Job) → FitsFrom base layout view j → answer j ≡ Some answers.Stopped → IsHalted view
 stopped-halts layout view (jobs.Instruction i) fits is = let own = mapped _ (instructions.answer i) is in instruction-halts layout view i.request i.lines.told own.0 (instruction-ended i fits own.1).ended own.2
 stopped-halts layout view (jobs.Evict e) fits is = evict-halts layout view e e.at fits.at is
 stopped-halts layout view (jobs.Fsync f) fits is = fsync-halts layout view f f.at fits.1.at is
