@@ -135,7 +135,7 @@ skips-failure : Skips is_failure
 skips-failure = record { fault_in = refl; map = λ slot. refl; load = λ slot line met. refl; store = λ slot line met. refl }
 
 -- an entry more, which the test finds or doesn't
-such-more : (test : What → Bool) (l : List Made) (m : Made) (b : Bool) → test m.entry.what ≡ b → length (filter (λ (x : Made). test x.entry.what) (l ++ m ∷ [])) ≡ length (filter (λ (x : Made). test x.entry.what) l) + from_bool b
+pub such-more : (test : What → Bool) (l : List Made) (m : Made) (b : Bool) → test m.entry.what ≡ b → length (filter (λ (x : Made). test x.entry.what) (l ++ m ∷ [])) ≡ length (filter (λ (x : Made). test x.entry.what) l) + from_bool b
 such-more test l m b is = ap length (filter-append (λ (x : Made). test x.entry.what) l (m ∷ [])) ∙ length-append (filter (λ (x : Made). test x.entry.what) l) (filter (λ (x : Made). test x.entry.what) (m ∷ []))
     ∙ ap (λ (n : ℕ). length (filter (λ (x : Made). test x.entry.what) l) + n) (ap (λ (c : Bool). length (cond c (m ∷ []) [])) is ∙ one b)
   where

@@ -61,8 +61,8 @@ use Rattle.hwp_cpu_check.proofs.EventTells.{events-stay, kept}
 use Rattle.hwp_cpu_check.specs.Lines.{with_lines}
 use Rattle.hwp_cpu_check.specs.Checks.{Check, left_by, lines_of, restarting, with_own}
 use Rattle.hwp_cpu_access.specs.Checks.{AreChecks, IsCheck, SawBad}
-use Rattle.hwp_cpu_access.specs.Fits.{CanResume, FitsAt, FitsFrom, HasHandler, HasOnlyBefore, IsAccessing, IsEnd, IsGoing, IsLeft, IsOfAccess, IsOwnEnd, IsPaused, IsSignalled, IsWaiting, LetsGoOn, banks_at, checks_in, checks_made, task as instruction-task}
-use Rattle.hwp_cpu_access.specs.Instructions.{AfterAccess, AfterAccessBy, BeginsCheck, Follows, FollowsAt, Shows, ShowsAt, after_handler, after_handler_by, after_load, after_stop, bare, bare_at, begin, emptied, going_on, handler_of, is_pending, left_to_do, pause, pause_at, plan, plan_at, put, put_at, restarted, resume}
+use Rattle.hwp_cpu_access.specs.Fits.{FitsAt, FitsFrom, HasHandler, HasOnlyBefore, IsAccessing, IsEnd, IsGoing, IsLeft, IsOfAccess, IsOwnEnd, IsPaused, IsSignalled, IsWaiting, LetsGoOn, banks_at, checks_in, checks_made, task as instruction-task}
+use Rattle.hwp_cpu_access.specs.Instructions.{AfterAccess, AfterAccessBy, BeginsCheck, Follows, FollowsAt, Shows, ShowsAt, after_handler, after_handler_by, after_load, after_stop, bare, bare_at, begin, emptied, going_on, handler_of, is_pending, left_to_do, pause, pause_at, plan, plan_at, put, put_at, restarted}
 use Rattle.hwp_cpu_access.specs.declared.instruction.Instruction.{Instruction}
 use Rattle.hwp_cpu_access.specs.declared.instruction.InstructionAnswer.{InstructionAnswer}
 use Rattle.hwp_cpu_access.specs.declared.instruction.InstructionAnswer.TheVariants as answers

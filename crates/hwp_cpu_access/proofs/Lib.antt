@@ -11,3 +11,4 @@ pub mod InstructionCosts
 pub mod AccessTurns
 pub mod AloneTurns
 pub mod InstructionRank
+pub mod Resting

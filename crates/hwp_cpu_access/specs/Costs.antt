@@ -97,7 +97,7 @@ cost_at banks (at.Handle frame h) words = handlers.cost h words + rest_at frame 
 cost_at banks (at.LoadFrame frame) words = 1 + ended_cost (word_of frame words)
 cost_at banks (at.LoadStop frame) words = 2 + ended_cost (word_of frame words)
 cost_at banks at.GiveUp words = 1
-cost_at banks (at.Paused pause) words = anew_after_wait
+cost_at banks (at.Paused pause) words = paused_cost
 cost_at banks (at.Over answer) words = 0
 
 abbrev pub cost : Instruction → Words → ℕ
