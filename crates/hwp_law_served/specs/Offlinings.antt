@@ -1,6 +1,6 @@
 -- The frames that are taken out of use beside a command: what came of each, why, and which entries that made; and which frames those are,
 -- by what the commands of the processor note.
-use Rattle.std.specs.Prelude.{◌≡◌, ℕ, List, [], ◌∷◌, ◌++◌, Option, Some, None, filter, filter_map, map, slice_get, take}
+use Rattle.std.specs.Prelude.{◌≡◌, ℕ, true, false, List, [], ◌∷◌, Option, Some, None, filter, filter_map, map, slice_get, take}
 use Rattle.std.specs.List.{cons_option}
 use Rattle.hwp_law_run.specs.hwp_geom.declared.Frame.{Frame}
 use Rattle.hwp_law_run.specs.hwp_geom.declared.Layout.{Layout}
@@ -39,9 +39,6 @@ IsOfflineServed layout view who frame change results.Already = IsUsers layout fr
 IsOfflineServed layout view who frame change (results.HasBad mask) = IsUsers layout frame × SawLines view who frame mask.0 × (change ≡ None)
 IsOfflineServed layout view who frame change results.NoFrame = IsUsers layout frame × Saw view who places.Available 0 × (change ≡ None)
 IsOfflineServed layout view who frame change results.Stopped = SawStop view who × (change ≡ None)
-
-abbrev pub IsOffliningServed : Layout → View → Who → Offlining → Type 0
-IsOffliningServed layout view who o = IsOfflineServed layout view who o.frame o.change o.result
 
 -- ---- the entries by which pages left such frames
 

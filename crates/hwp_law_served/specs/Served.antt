@@ -25,13 +25,15 @@ use Rattle.hwp_law_run.specs.hwp_report_text.declared.Answer.TheVariants as answ
 use Rattle.hwp_law_run.specs.hwp_banks.Banks.{Banks, empty_banks}
 use Rattle.hwp_law_run.specs.hwp_law_commands.Settings.{settings}
 use Rattle.hwp_law_run.specs.hwp_words.Stops.{is_stopped}
+use Rattle.hwp_law_run.specs.hwp_report_text.declared.OfflineResult.TheVariants as results
+use Rattle.hwp_cpu_row.specs.declared.Offlining.{Offlining}
 use Rattle.hwp_cpu_row.specs.declared.Row.{Row}
 use Rattle.hwp_cpu_row.specs.hwp_cpu_check.declared.EventOutcome.{EventOutcome}
 use Rattle.hwp_cpu_row.specs.hwp_cpu_check.Told.{halts}
 use Rattle.hwp_law_served.specs.Accounts.{IsAccounted, IsNote}
 use Rattle.hwp_law_served.specs.Causes.{IsCaused}
 use Rattle.hwp_law_served.specs.Handles.{KnowsNumbers, answers_by}
-use Rattle.hwp_law_served.specs.Offlinings.{AreBeside, IsOffliningServed, KnowsDue}
+use Rattle.hwp_law_served.specs.Offlinings.{AreBeside, IsOfflineServed, KnowsDue}
 use Rattle.hwp_law_served.specs.Rows.{notes_from}
 use Rattle.hwp_law_served.specs.Told.{IsRowTold}
 
@@ -40,6 +42,12 @@ pub record SawRunning (view : View) (who : Who) : Type 0 where
   pub word : ℕ
   pub running : is_stopped word ≡ false
   pub saw : Saw view who places.Stop word
+
+-- what came of a frame beside a command is so; where that isn't that the machine had stopped, the command saw the machine running, also
+-- where its own answer is `stopped`
+pub record IsOffliningServed (layout : Layout) (view : View) (who : Who) (o : Offlining) : Type 0 where
+  pub came : IsOfflineServed layout view who o.frame o.change o.result
+  pub running : (o.result ≡ results.Stopped) ⊎ SawRunning view who
 
 -- what a command that is answered so, with these lines, has done and told; a command whose events stopped the machine answers
 -- `stopped`, and one with another answer saw the machine running; and what came of the frames that were taken out of use beside it
