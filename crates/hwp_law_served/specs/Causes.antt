@@ -321,6 +321,7 @@ IsTableCaused layout earlier view who (commands.Open file) (answers.Opened word)
 IsTableCaused layout earlier view who (commands.Prctl thread args) (answers.Gone page) = FoundGone layout view who thread page × HasMadeNone view who
 IsTableCaused layout earlier view who (commands.Prctl thread args) answer = IsReplied layout earlier view who thread (arguments args) answer
 IsTableCaused layout earlier view who (commands.Log status addr misc) answers.Done = HasMadeNone view who
+IsTableCaused layout earlier view who (commands.Watch threshold window) answers.Done = HasMadeNone view who
 IsTableCaused layout earlier view who (commands.Bad frame line) answers.Done = HasSpoiledLine view who frame line damages.Bad
 IsTableCaused layout earlier view who (commands.Weak frame line) answers.Done = HasSpoiledLine view who frame line damages.Weak
 IsTableCaused layout earlier view who _ _ = ⊥

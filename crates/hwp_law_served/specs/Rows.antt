@@ -11,6 +11,7 @@ use Rattle.hwp_law_run.specs.hwp_report_text.declared.How.{How}
 use Rattle.hwp_law_run.specs.hwp_report_text.declared.How.TheVariants as hows
 use Rattle.hwp_law_run.specs.hwp_report_text.declared.MarkLine.{MarkLine}
 use Rattle.hwp_law_run.specs.hwp_report_text.declared.MarkLine.TheVariants as marks
+use Rattle.hwp_law_run.specs.hwp_report_text.declared.OfflinedLine.{OfflinedLine}
 use Rattle.hwp_soft.specs.hwp_claim.declared.Found.{Found}
 use Rattle.hwp_cpu_row.specs.declared.FrameChange.{FrameChange}
 use Rattle.hwp_cpu_row.specs.declared.FrameChange.TheVariants as owns
@@ -26,8 +27,11 @@ use Rattle.hwp_cpu_row.specs.hwp_cpu_check.Told.{frame_of}
 abbrev pub event_line : ℕ → EventOutcome → CpuLine
 event_line seq t = lines.Event (event_at seq t)
 
+abbrev pub offlined_at : ℕ → Offlining → OfflinedLine
+offlined_at seq o = record { seq = seq; frame = o.frame; result = o.result }
+
 abbrev pub offlined_line : ℕ → Offlining → CpuLine
-offlined_line seq o = lines.Offlined (record { seq = seq; frame = o.frame; result = o.result })
+offlined_line seq o = lines.Offlined (offlined_at seq o)
 
 -- the events first, then the frames that were taken out of use, and then the answer
 abbrev pub row_lines : ℕ → Row → List CpuLine
