@@ -112,7 +112,7 @@ pub of-prctl : (j : Job) {x : Prctl} → anew j ≡ jobs.Prctl x → (p : Prctl)
 of-prctl (jobs.Prctl p) {x} is = (p, refl, ap (prctl_in x) is)
 of-prctl _ is = absurd (differ is refl)
 
-pub of-log : (j : Job) {x : Log} → anew j ≡ jobs.Log x → (l : Log) × (j ≡ jobs.Log l) × (logs.begin l.read.who l.event l.before.value ≡ x)
+pub of-log : (j : Job) {x : Log} → anew j ≡ jobs.Log x → (l : Log) × (j ≡ jobs.Log l) × (logs.begin l.read.who l.change l.before.value ≡ x)
 of-log (jobs.Log l) {x} is = (l, refl, ap (log_in x) is)
 of-log _ is = absurd (differ is refl)
 

@@ -16,7 +16,6 @@ use Rattle.hwp_cpu_control.specs.hwp_geom.declared.VSlot.{VSlot}
 use Rattle.hwp_cpu_control.specs.hwp_geom.declared.Who.{Who}
 use Rattle.hwp_cpu_control.specs.hwp_geom.Layout.{IsSound}
 use Rattle.hwp_cpu_control.specs.hwp_geom.Limits.{line_limit}
-use Rattle.hwp_cpu_row.specs.hwp_banks.declared.Event.{Event}
 use Rattle.hwp_cpu_row.specs.hwp_banks.declared.Origin.{Origin}
 use Rattle.hwp_cpu_row.specs.hwp_banks.declared.Origin.TheVariants as origins
 use Rattle.hwp_cpu_row.specs.hwp_banks.Events.{bank_count}
@@ -42,6 +41,8 @@ use Rattle.hwp_fault.specs.declared.Request.{Request}
 use Rattle.hwp_fault.specs.Accesses as accesses
 use Rattle.hwp_soft.specs.hwp_claim.Injects as injects
 use Rattle.hwp_cpu_access.specs.Instructions as instructions
+use Rattle.hwp_cpu_raise.specs.declared.LocalChange.{LocalChange}
+use Rattle.hwp_cpu_raise.specs.declared.LocalChange.TheVariants as changes
 use Rattle.hwp_cpu_raise.specs.Logs as logs
 use Rattle.hwp_cpu_raise.specs.Raises as raises
 use Rattle.hwp_scrub.specs.Fits.{AreFrames}
@@ -50,35 +51,37 @@ use Rattle.hwp_soft.specs.Softs as softs
 use Rattle.hwp_soft.specs.hwp_soft_unpoison.Unpoisons as unpoisons
 use Rattle.hwp_cpu_command.specs.declared.job.Job.{Job}
 use Rattle.hwp_cpu_command.specs.declared.job.Job.TheVariants as jobs
+use Rattle.hwp_cpu_command.specs.FileHandles.{IsChangeWithin}
 
 abbrev pub request_of : Who → Thread → VSlot → ℕ → AccessKind → Page → Proc → Request
 request_of who thread slot line kind page process = record { who = who; thread = thread; slot = slot; line = line; kind = kind; page = page; process = process }
 
-abbrev pub begun_access : Global → Request → Origin → Mode → Banks → Job
-begun_access alloc request origin mode banks = jobs.Instruction (instructions.begin alloc request origin mode banks false)
+abbrev pub begun_access : Global → Request → Origin → Mode → Banks → Bool → Job
+begun_access alloc request origin mode banks collects = jobs.Instruction (instructions.begin alloc request origin mode banks collects)
 
--- an access by a thread, through a translation of the thread's own process to the page; it takes what the banks hold
-pub record BeginsAccess (layout : Layout) (who : Who) (thread : Thread) (slot : VSlot) (line : ℕ) (kind : AccessKind) (origin : Origin) (mode : Mode) (banks : Banks) (j : Job) : Type 0 where
+-- an access by a thread, through a translation of the thread's own process to the page; it takes what the banks hold, and is told whether
+-- its processor collects corrected errors
+pub record BeginsAccess (layout : Layout) (who : Who) (thread : Thread) (slot : VSlot) (line : ℕ) (kind : AccessKind) (origin : Origin) (mode : Mode) (banks : Banks) (collects : Bool) (j : Job) : Type 0 where
   pub sound : IsSound layout
   pub three : length banks ≡ bank_count
   pub page : Page
   pub process : Proc
   pub names : accesses.IsDeclared layout (request_of who thread slot line kind page process)
   pub alloc : Global
-  pub job_is : j ≡ begun_access alloc (request_of who thread slot line kind page process) origin mode banks
+  pub job_is : j ≡ begun_access alloc (request_of who thread slot line kind page process) origin mode banks collects
 
 -- a load of data by the program, of an instruction, or of data by the kernel; a store
-abbrev pub BeginsLoad : Layout → Who → Thread → VSlot → ℕ → Banks → Job → Type 0
-BeginsLoad layout who thread slot line banks j = BeginsAccess layout who thread slot line kinds.Load origins.Access modes.User banks j
+abbrev pub BeginsLoad : Layout → Who → Thread → VSlot → ℕ → Banks → Bool → Job → Type 0
+BeginsLoad layout who thread slot line banks collects j = BeginsAccess layout who thread slot line kinds.Load origins.Access modes.User banks collects j
 
-abbrev pub BeginsFetch : Layout → Who → Thread → VSlot → ℕ → Banks → Job → Type 0
-BeginsFetch layout who thread slot line banks j = BeginsAccess layout who thread slot line kinds.Load origins.Fetch modes.User banks j
+abbrev pub BeginsFetch : Layout → Who → Thread → VSlot → ℕ → Banks → Bool → Job → Type 0
+BeginsFetch layout who thread slot line banks collects j = BeginsAccess layout who thread slot line kinds.Load origins.Fetch modes.User banks collects j
 
-abbrev pub BeginsKernelLoad : Layout → Who → Thread → VSlot → ℕ → Banks → Job → Type 0
-BeginsKernelLoad layout who thread slot line banks j = BeginsAccess layout who thread slot line kinds.Load origins.Access modes.Kernel banks j
+abbrev pub BeginsKernelLoad : Layout → Who → Thread → VSlot → ℕ → Banks → Bool → Job → Type 0
+BeginsKernelLoad layout who thread slot line banks collects j = BeginsAccess layout who thread slot line kinds.Load origins.Access modes.Kernel banks collects j
 
-abbrev pub BeginsStore : Layout → Who → Thread → VSlot → ℕ → ℕ → Banks → Job → Type 0
-BeginsStore layout who thread slot line word banks j = BeginsAccess layout who thread slot line (kinds.Store word) origins.Access modes.User banks j
+abbrev pub BeginsStore : Layout → Who → Thread → VSlot → ℕ → ℕ → Banks → Bool → Job → Type 0
+BeginsStore layout who thread slot line word banks collects j = BeginsAccess layout who thread slot line (kinds.Store word) origins.Access modes.User banks collects j
 
 -- an eviction of a page of the layout that is of the command's kind
 pub record BeginsEviction (layout : Layout) (who : Who) (page : Page) (what : Eviction) (j : Job) : Type 0 where
@@ -101,10 +104,11 @@ pub record BeginsInject (layout : Layout) (who : Who) (frame : Frame) (j : Job) 
   pub alloc : Global
   pub job_is : j ≡ jobs.Inject (injects.begin alloc who frame)
 
--- a raw event of these registers
-pub record BeginsLog (layout : Layout) (who : Who) (event : Event) (banks : Banks) (j : Job) : Type 0 where
+-- a change of the processor alone
+pub record BeginsLog (layout : Layout) (who : Who) (change : LocalChange) (banks : Banks) (j : Job) : Type 0 where
   pub three : length banks ≡ bank_count
-  pub job_is : j ≡ jobs.Log (logs.begin who event banks)
+  pub within : IsChangeWithin change
+  pub job_is : j ≡ jobs.Log (logs.begin who change banks)
 
 -- a machine check by a thread of the processor, of what the banks hold
 pub record BeginsRaiseUser (layout : Layout) (who : Who) (thread : Thread) (mcg : McgBits) (banks : Banks) (j : Job) : Type 0 where
@@ -151,26 +155,27 @@ pub record BeginsUnpoison (layout : Layout) (who : Who) (frame : Frame) (j : Job
 abbrev pub BeginsFsync : Layout → Who → FileNo → Bool → Job → Type 0
 BeginsFsync layout who file opens j = (file.0 < layout.files) × (handle : ℕ) × (j ≡ jobs.Fsync (fsyncs.begin who file handle opens))
 
--- the task is at the beginning of the command, of a processor whose banks hold this
-abbrev pub Begins : Layout → Who → Command → Banks → Job → Type 0
-Begins layout who (commands.Load thread slot line) banks j = BeginsLoad layout who thread slot line banks j
-Begins layout who (commands.Fetch thread slot line) banks j = BeginsFetch layout who thread slot line banks j
-Begins layout who (commands.KLoad thread slot line) banks j = BeginsKernelLoad layout who thread slot line banks j
-Begins layout who (commands.Store thread slot line word) banks j = BeginsStore layout who thread slot line word banks j
-Begins layout who (commands.Free slot) banks j = (page : Page) × BeginsEviction layout who page (evictions.Free slot) j
-Begins layout who (commands.Drop page) banks j = BeginsEviction layout who page evictions.Drop j
-Begins layout who (commands.Sync page) banks j = BeginsEviction layout who page evictions.Sync j
-Begins layout who (commands.Out page) banks j = BeginsEviction layout who page evictions.Out j
-Begins layout who (commands.Fsync file) banks j = BeginsFsync layout who file false j
-Begins layout who (commands.Open file) banks j = BeginsFsync layout who file true j
-Begins layout who (commands.Prctl thread args) banks j = BeginsPrctl layout who thread args j
-Begins layout who (commands.Bad frame line) banks j = BeginsSpoil layout who frame line damages.Bad j
-Begins layout who (commands.Weak frame line) banks j = BeginsSpoil layout who frame line damages.Weak j
-Begins layout who (commands.Scrub first last) banks j = BeginsScrub layout who first last banks j
-Begins layout who (commands.Log status addr misc) banks j = BeginsLog layout who (raw_event status addr misc) banks j
-Begins layout who (commands.RaiseUser thread ripv eipv) banks j = BeginsRaiseUser layout who thread (arrival_of (commands.RaiseUser thread ripv eipv)).mcg banks j
-Begins layout who (commands.RaiseKernel ripv eipv) banks j = BeginsRaiseKernel layout who (arrival_of (commands.RaiseKernel ripv eipv)).mcg banks j
-Begins layout who commands.RaiseNested banks j = j ≡ jobs.Nested (nesteds.begin who)
-Begins layout who (commands.Inject frame) banks j = BeginsInject layout who frame j
-Begins layout who (commands.Soft frame) banks j = BeginsSoft layout who frame j
-Begins layout who (commands.Unpoison frame) banks j = BeginsUnpoison layout who frame j
+-- the task is at the beginning of the command, of a processor whose banks hold this, and which collects corrected errors or doesn't
+abbrev pub Begins : Layout → Who → Command → Banks → Bool → Job → Type 0
+Begins layout who (commands.Load thread slot line) banks collects j = BeginsLoad layout who thread slot line banks collects j
+Begins layout who (commands.Fetch thread slot line) banks collects j = BeginsFetch layout who thread slot line banks collects j
+Begins layout who (commands.KLoad thread slot line) banks collects j = BeginsKernelLoad layout who thread slot line banks collects j
+Begins layout who (commands.Store thread slot line word) banks collects j = BeginsStore layout who thread slot line word banks collects j
+Begins layout who (commands.Free slot) banks collects j = (page : Page) × BeginsEviction layout who page (evictions.Free slot) j
+Begins layout who (commands.Drop page) banks collects j = BeginsEviction layout who page evictions.Drop j
+Begins layout who (commands.Sync page) banks collects j = BeginsEviction layout who page evictions.Sync j
+Begins layout who (commands.Out page) banks collects j = BeginsEviction layout who page evictions.Out j
+Begins layout who (commands.Fsync file) banks collects j = BeginsFsync layout who file false j
+Begins layout who (commands.Open file) banks collects j = BeginsFsync layout who file true j
+Begins layout who (commands.Prctl thread args) banks collects j = BeginsPrctl layout who thread args j
+Begins layout who (commands.Bad frame line) banks collects j = BeginsSpoil layout who frame line damages.Bad j
+Begins layout who (commands.Weak frame line) banks collects j = BeginsSpoil layout who frame line damages.Weak j
+Begins layout who (commands.Scrub first last) banks collects j = BeginsScrub layout who first last banks j
+Begins layout who (commands.Log status addr misc) banks collects j = BeginsLog layout who (changes.Event (raw_event status addr misc)) banks j
+Begins layout who (commands.Watch threshold window) banks collects j = BeginsLog layout who (changes.Watch threshold window) banks j
+Begins layout who (commands.RaiseUser thread ripv eipv) banks collects j = BeginsRaiseUser layout who thread (arrival_of (commands.RaiseUser thread ripv eipv)).mcg banks j
+Begins layout who (commands.RaiseKernel ripv eipv) banks collects j = BeginsRaiseKernel layout who (arrival_of (commands.RaiseKernel ripv eipv)).mcg banks j
+Begins layout who commands.RaiseNested banks collects j = j ≡ jobs.Nested (nesteds.begin who)
+Begins layout who (commands.Inject frame) banks collects j = BeginsInject layout who frame j
+Begins layout who (commands.Soft frame) banks collects j = BeginsSoft layout who frame j
+Begins layout who (commands.Unpoison frame) banks collects j = BeginsUnpoison layout who frame j

@@ -1,13 +1,21 @@
--- The handles of a processor while its commands run, one for each file: how many losses of the file the processor has seen.
-use Rattle.std.specs.Prelude.{◌≡◌, ◌⊎◌, ℕ, Bool, false, true, List, slice_set}
+-- What a processor carries on while its commands run: the handles, one for each file, which say how many losses of the file the
+-- processor has seen, and its collector of corrected errors.
+use Rattle.std.specs.Prelude.{◌≡◌, ◌⊎◌, ℕ, Bool, false, true, List, length, slice_set, Option, option_map}
 use Rattle.hwp_cpu_control.specs.hwp_core_rule.declared.View.{View}
 use Rattle.hwp_cpu_control.specs.hwp_core_task.Known.{HasSeenLoss}
 use Rattle.hwp_evict.specs.declared.FsyncAnswer.TheVariants as fsync_answers
 use Rattle.hwp_evict.specs.declared.fsync.FsyncAt.{FsyncAt}
 use Rattle.hwp_evict.specs.declared.fsync.FsyncAt.TheVariants as fsync_at
 use Rattle.hwp_evict.specs.Fsyncs as fsyncs
+use Rattle.hwp_cpu_row.specs.hwp_report_text.declared.Answer.{Answer}
+use Rattle.hwp_cpu_row.specs.hwp_report_text.declared.Answer.TheVariants as answers
+use Rattle.hwp_cpu_row.specs.hwp_script_lines.Grammar.{IsCollectorWithin}
+use Rattle.hwp_cpu_row.specs.hwp_law_commands.hwp_cec.Counters.{begun, rounded}
 use Rattle.hwp_cpu_row.specs.declared.Local.{Local}
+use Rattle.hwp_cpu_row.specs.declared.Watching.{Watching}
 use Rattle.hwp_cpu_row.specs.Locals.{number_in}
+use Rattle.hwp_cpu_raise.specs.declared.LocalChange.{LocalChange}
+use Rattle.hwp_cpu_raise.specs.declared.LocalChange.TheVariants as changes
 use Rattle.hwp_cpu_command.specs.declared.job.Job.{Job}
 use Rattle.hwp_cpu_command.specs.declared.job.Job.TheVariants as jobs
 use Rattle.hwp_cpu_command.specs.Jobs.{banks_after, left_in}
@@ -34,9 +42,37 @@ abbrev pub handles_after : Job → List ℕ → List ℕ
 handles_after (jobs.Fsync f) handles = slice_set handles f.file.0 (fsyncs.number f)
 handles_after _ handles = handles
 
+-- the numbers of a collector are such as there may be
+abbrev pub IsChangeWithin : LocalChange → Type 0
+IsChangeWithin (changes.Watch threshold window) = IsCollectorWithin threshold window
+IsChangeWithin (changes.Event event) = Unit {0}
+
+abbrev pub HasChangeWithin : Job → Type 0
+HasChangeWithin (jobs.Log l) = IsChangeWithin l.change
+HasChangeWithin _ = Unit {0}
+
+-- the collector behind a `watch` that was done: it begins anew for the same frames, and collects
+abbrev pub anew_with : ℕ → ℕ → Watching → Watching
+anew_with threshold window w = record { collector = begun threshold window (length w.collector.counts); on = true }
+
+abbrev pub watched_by : LocalChange → Answer → Option Watching → Option Watching
+watched_by (changes.Watch threshold window) answers.Done watching = option_map (anew_with threshold window) watching
+watched_by _ _ watching = watching
+
+-- and behind a scrub that went to its end: a round has ended
+abbrev pub rounded_by : Answer → Option Watching → Option Watching
+rounded_by (answers.Scrubbed lines) watching = option_map (λ (w : Watching). record w { collector = rounded w.collector }) watching
+rounded_by _ watching = watching
+
+-- the collector after a command with this answer
+abbrev pub watching_after : Job → Answer → Option Watching → Option Watching
+watching_after (jobs.Log l) answer watching = watched_by l.change answer watching
+watching_after (jobs.Scrub s) answer watching = rounded_by answer watching
+watching_after _ answer watching = watching
+
 -- what the processor keeps while the command runs, and what it carries on after it
 abbrev pub local_left : Job → Local → Local
 local_left j local = record local { banks = left_in j local.banks }
 
-abbrev pub local_after : Job → Local → Local
-local_after j local = record { banks = banks_after j local.banks; handles = handles_after j local.handles }
+abbrev pub local_after : Job → Answer → Local → Local
+local_after j answer local = record { banks = banks_after j local.banks; handles = handles_after j local.handles; watching = watching_after j answer local.watching }

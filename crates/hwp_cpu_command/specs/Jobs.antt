@@ -35,6 +35,7 @@ use Rattle.hwp_cpu_raise.specs.Logs as logs
 use Rattle.hwp_cpu_raise.specs.Raises as raises
 use Rattle.hwp_cpu_row.specs.declared.FrameChange.{FrameChange}
 use Rattle.hwp_cpu_row.specs.declared.FrameChange.TheVariants as owns
+use Rattle.hwp_cpu_row.specs.declared.Offlining.{Offlining}
 use Rattle.hwp_cpu_row.specs.declared.Row.{Row}
 use Rattle.hwp_scrub.specs.declared.Scrub.{Scrub}
 use Rattle.hwp_scrub.specs.Costs as scrub_costs
@@ -228,11 +229,31 @@ own_of (jobs.Soft s) = option_and_then (offlined_by s.frame) (softs.answer s)
 own_of (jobs.Unpoison u) = option_and_then (revived_by u.frame) (unpoisons.answer u)
 own_of _ = None
 
-abbrev pub row : List EventOutcome → Option FrameChange → Answer → Row
-row told own answer = record { told = told; own = own; answer = answer }
+abbrev pub row : List EventOutcome → List Offlining → Option FrameChange → Answer → Row
+row told offlined own answer = record { told = told; offlined = offlined; own = own; answer = answer }
 
-abbrev pub row_of : Job → Answer → Row
-row_of j answer = row (told_of j) (own_of j) answer
+-- its row, with the frames that were taken out of use beside it
+abbrev pub row_of : Job → Answer → List Offlining → Row
+row_of j answer offlined = row (told_of j) offlined (own_of j) answer
+
+-- ---- beside it
+
+-- it pauses behind a machine check that kept an event
+abbrev pub pauses : Job → Bool
+pauses (jobs.Instruction i) = is_some (instructions.pause i)
+pauses _ = false
+
+-- behind its pause
+abbrev pub resume : Job → Job
+resume (jobs.Instruction i) = jobs.Instruction (instructions.resume i)
+resume j = j
+
+-- its next step gives it up, where it can have event lines
+abbrev pub give_up : Job → Job
+give_up (jobs.Instruction i) = jobs.Instruction (instructions.give_up i)
+give_up (jobs.Raise r) = jobs.Raise (raises.give_up r)
+give_up (jobs.Scrub s) = jobs.Scrub (scrubs.give_up s)
+give_up j = j
 
 -- ---- the banks
 

@@ -1,5 +1,5 @@
 -- Which command a task is of, whatever state it is in, and what a processor has where a command begins.
-use Rattle.std.specs.Prelude.{◌≡◌, []}
+use Rattle.std.specs.Prelude.{◌≡◌, Bool, false, []}
 use Rattle.hwp_cpu_control.specs.hwp_geom.declared.Layout.{Layout}
 use Rattle.hwp_cpu_control.specs.hwp_geom.declared.Thread.{Thread}
 use Rattle.hwp_cpu_control.specs.hwp_geom.declared.Who.{Who}
@@ -34,7 +34,7 @@ anew (jobs.Instruction i) = jobs.Instruction (instructions.begin i.alloc i.reque
 anew (jobs.Evict e) = jobs.Evict (evicts.begin e.who e.page e.what)
 anew (jobs.Fsync f) = jobs.Fsync (fsyncs.begin f.who f.file f.handle f.opens)
 anew (jobs.Prctl p) = jobs.Prctl (prctls.begin p.who p.thread p.process p.arguments)
-anew (jobs.Log l) = jobs.Log (logs.begin l.read.who l.event l.before.value)
+anew (jobs.Log l) = jobs.Log (logs.begin l.read.who l.change l.before.value)
 anew (jobs.Raise r) = jobs.Raise (raises.begin r.alloc r.who r.raiser r.mcg r.before.value)
 anew (jobs.Scrub s) = jobs.Scrub (scrubs.begin s.alloc s.who s.first s.last s.before.value)
 anew (jobs.Spoil s) = jobs.Spoil (spoils.begin s.who s.frame s.line s.damage)
@@ -43,9 +43,14 @@ anew (jobs.Inject i) = jobs.Inject (injects.begin i.alloc i.who i.frame)
 anew (jobs.Soft s) = jobs.Soft (softs.begin s.who s.frame)
 anew (jobs.Unpoison u) = jobs.Unpoison (unpoisons.begin u.who u.frame)
 
+-- whether it was told that its processor collects corrected errors
+abbrev pub collects_now : Job → Bool
+collects_now (jobs.Instruction i) = i.collects
+collects_now _ = false
+
 -- the task is of the command: begun anew, it is what the command begins as, where the banks hold what they held then
 abbrev pub Runs : Layout → Who → Command → Job → Type 0
-Runs layout who command j = Begins layout who command (banks_before j []) (anew j)
+Runs layout who command j = Begins layout who command (banks_before j []) (collects_now j) (anew j)
 
 -- the processor holds nothing and owes no loss, and may begin the command, which has made no entry and marked no frame yet; each
 -- thread can be set once more, and a poison taken back once more

@@ -6,7 +6,7 @@ ghost use Rattle.hwp_fault.specs.Accesses.{IsDeclared};
 ghost use Rattle.hwp_cpu_row.specs.hwp_script_read.Valid.{IsAccess, IsCommandOf, IsThreadOf};
 ghost use Rattle.hwp_cpu_row.specs.hwp_banks.Banks.{empty_banks};
 ghost use Rattle.hwp_cpu_row.specs.hwp_banks.Banks.{raw_event};
-ghost use Rattle.hwp_cpu_row.specs.Locals.{number_in};
+ghost use Rattle.hwp_cpu_row.specs.Locals.{collects, number_in};
 ghost use Rattle.hwp_cpu_row.specs.hwp_law_commands.Settings.{arguments};
 ghost use Rattle.hwp_cpu_control.specs.Nesteds as nesteds;
 ghost use Rattle.hwp_cpu_control.specs.Spoils as spoils;
@@ -15,6 +15,7 @@ ghost use Rattle.hwp_soft.specs.Softs as softs;
 ghost use Rattle.hwp_soft.specs.hwp_soft_unpoison.Unpoisons as unpoisons;
 ghost use Rattle.hwp_scrub.specs.Scrubs as scrubs;
 ghost use Rattle.hwp_evict.specs.Fsyncs as fsyncs;
+ghost use Rattle.hwp_cpu_raise.specs.declared.LocalChange.TheVariants as changes;
 ghost use Rattle.hwp_cpu_raise.specs.Logs as logs;
 ghost use Rattle.hwp_cpu_raise.specs.Raises as raises;
 ghost use Rattle.hwp_cpu_command.specs.Begins.{Begins, BeginsAccess, BeginsPrctl, BeginsRaiseUser, begun_access, request_of};
@@ -25,10 +26,10 @@ ghost use Rattle.hwp_cpu_command.specs.declared.job.Job.TheVariants as jobs;
 use crate::job::Job;
 use hwp_cpu_access::Instruction;
 use hwp_cpu_control::{Nested, Prctl, Spoil};
-use hwp_cpu_raise::{Log, Raise, Raiser};
+use hwp_cpu_raise::{LocalChange, Log, Raise, Raiser};
 use hwp_cpu_row::{
     BANKS, Bank, Command, Event, Handles, Inject, Local, McgBits, Origin, PrctlArgs, Status,
-    no_events,
+    Watching, no_events,
 };
 use hwp_evict::{
     Damage, Evict, FileNo, Frame, Fsync, Layout, Line, Mode, Page, Thread, VSlot, Who,
@@ -45,7 +46,7 @@ impl Job {
     pub fn new(alloc: Global, layout: &Layout, who: Who, command: Command, local: &mut Local) -> Job
         requires sound { IsSound layout.now }
         requires of { IsCommandOf layout.now who.cpu.0 command }
-        ensures begins { Begins layout.now who command local.old.banks result }
+        ensures begins { Begins layout.now who command local.old.banks (collects local.old.watching) result }
         ensures handle { HasHandle local.old.handles result }
         ensures local { local.new ≡ local_left result local.old }
     {
@@ -65,19 +66,31 @@ impl Job {
     )
         requires sound { IsSound layout.now }
         requires of { IsCommandOf layout.now who.cpu.0 command }
-        ensures begins { Begins layout.now who command local.old.banks self.new }
+        ensures begins { Begins layout.now who command local.old.banks (collects local.old.watching) self.new }
         ensures handle { HasHandle local.old.handles self.new }
         ensures local { local.new ≡ local_left self.new local.old }
     {
+        let collects = collects(&local.watching);
         begin(
             alloc,
             layout,
             who,
             command,
+            collects,
             &mut local.banks,
             &local.handles,
             self,
         );
+    }
+}
+
+/// Whether a processor with this collector, if it has one, collects corrected errors.
+fn collects(watching: &Option<Watching>) -> bool
+    ensures { result ≡ collects watching.now }
+{
+    match watching {
+        Some(watching) => watching.on,
+        None => false,
     }
 }
 
@@ -88,22 +101,23 @@ fn begin(
     layout: &Layout,
     who: Who,
     command: Command,
+    collects: bool,
     banks: &mut [Bank; BANKS],
     handles: &Handles,
     job: &mut Job,
 )
     requires sound { IsSound layout.now }
     requires of { IsCommandOf layout.now who.cpu.0 command }
-    ensures begins { Begins layout.now who command banks.old job.new }
+    ensures begins { Begins layout.now who command banks.old collects job.new }
     ensures handle { HasHandle handles.now job.new }
     ensures banks { banks.new ≡ left_in job.new banks.old }
 {
     match command {
         Command::Load { thread, slot, line } => {
-            access(alloc, layout, who, thread, slot, line, LOAD, banks, job)
+            access(alloc, layout, who, thread, slot, line, LOAD, collects, banks, job)
         }
         Command::Fetch { thread, slot, line } => {
-            access(alloc, layout, who, thread, slot, line, FETCH, banks, job)
+            access(alloc, layout, who, thread, slot, line, FETCH, collects, banks, job)
         }
         Command::KLoad { thread, slot, line } => {
             access(
@@ -114,6 +128,7 @@ fn begin(
                 slot,
                 line,
                 KERNEL_LOAD,
+                collects,
                 banks,
                 job,
             )
@@ -126,7 +141,7 @@ fn begin(
         } => {
             let kind = AccessKind::Store { word };
             let store = Manner { kind, ..LOAD };
-            access(alloc, layout, who, thread, slot, line, store, banks, job);
+            access(alloc, layout, who, thread, slot, line, store, collects, banks, job);
         }
         Command::Free { slot } => evict(Evict::free_slot(who, slot, page_of(layout, slot)), job),
         Command::Drop { page } => evict(Evict::drop_page(who, page), job),
@@ -138,7 +153,12 @@ fn begin(
         Command::Bad { frame, line } => spoil_line(who, frame, line, Damage::Bad, job),
         Command::Weak { frame, line } => spoil_line(who, frame, line, Damage::Weak, job),
         Command::Scrub { first, last } => { scrub(alloc, who, first, last, banks, job) }
-        Command::Log { status, addr, misc } => { log_event(who, status, addr, misc, banks, job) }
+        Command::Log { status, addr, misc } => {
+            change(who, LocalChange::Event(raw_event(status, addr, misc)), banks, job)
+        }
+        Command::Watch { threshold, window } => {
+            change(who, LocalChange::Watch { threshold, window }, banks, job)
+        }
         Command::RaiseUser { thread, ripv, eipv } => {
             raise_user(
                 alloc,
@@ -307,17 +327,18 @@ fn access(
     slot: VSlot,
     line: Line,
     manner: Manner,
+    collects: bool,
     banks: &mut [Bank; BANKS],
     job: &mut Job,
 )
     requires sound { IsSound layout.now }
     requires of { IsAccess layout.now who.cpu.0 thread slot }
     requires line { line < line_limit }
-    ensures begins { BeginsAccess layout.now who thread slot line manner.kind manner.origin manner.mode banks.old job.new }
+    ensures begins { BeginsAccess layout.now who thread slot line manner.kind manner.origin manner.mode banks.old collects job.new }
     ensures banks { banks.new ≡ empty_banks }
 {
     let request = request(layout, who, thread, slot, line, manner.kind);
-    instruction(alloc, request, manner.origin, manner.mode, banks, job);
+    instruction(alloc, request, manner.origin, manner.mode, collects, banks, job);
 }
 
 /// The instruction of a request at its beginning, which takes what the banks hold.
@@ -326,17 +347,18 @@ fn instruction(
     request: Request,
     origin: Origin,
     mode: Mode,
+    collects: bool,
     banks: &mut [Bank; BANKS],
     job: &mut Job,
 )
-    ensures begins { job.new ≡ begun_access alloc request origin mode banks.old }
+    ensures begins { job.new ≡ begun_access alloc request origin mode banks.old collects }
     ensures banks { banks.new ≡ empty_banks }
 {
     let banks = taken(banks);
     set(
         job,
         Job::Instruction(Instruction::new(
-            alloc, request, origin, mode, banks, false,
+            alloc, request, origin, mode, banks, collects,
         )),
     );
 }
@@ -348,13 +370,12 @@ fn spoil_line(who: Who, frame: Frame, line: Line, damage: Damage, job: &mut Job)
     set(job, Job::Spoil(Spoil::new(who, frame, line, damage)));
 }
 
-/// A raw event is logged, with what the banks hold.
-fn log_event(who: Who, status: u64, addr: u64, misc: u64, banks: &mut [Bank; BANKS], job: &mut Job)
-    ensures begins { job.new ≡ jobs.Log (logs.begin who (raw_event status addr misc) banks.old) }
+/// Something of the processor alone is changed, which takes what the banks hold.
+fn change(who: Who, change: LocalChange, banks: &mut [Bank; BANKS], job: &mut Job)
+    ensures begins { job.new ≡ jobs.Log (logs.begin who change banks.old) }
     ensures banks { banks.new ≡ empty_banks }
 {
-    let event = raw_event(status, addr, misc);
-    set(job, Job::Log(Log::new(who, event, taken(banks))));
+    set(job, Job::Log(Log::new(who, change, taken(banks))));
 }
 
 /// A raw event of these registers.

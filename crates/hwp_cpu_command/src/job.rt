@@ -4,8 +4,10 @@ use hwp_cpu_access::{Instruction, InstructionAnswer};
 use hwp_cpu_control::{
     Nested, NestedAnswer, Prctl, PrctlAnswer, ReadStopAnswer, Spoil, SpoilAnswer,
 };
-use hwp_cpu_raise::{Log, Raise, RaiseAnswer};
-use hwp_cpu_row::{Answer, EventOutcome, FailAnswer, FrameChange, Inject, Local, Row};
+use hwp_cpu_raise::{LocalChange, Log, Raise, RaiseAnswer};
+use hwp_cpu_row::{
+    Answer, EventOutcome, FailAnswer, FrameChange, Inject, Local, Offlining, Row, Watching,
+};
 use hwp_evict::{
     At, Body, Evict, EvictAnswer, Frame, Fsync, FsyncAnswer, Layout, List, Outcome, Ranked,
     Refusal, Reply, Scheduled, Step, Task, Turn, Who,
@@ -25,7 +27,7 @@ pub enum Job {
     Fsync(Fsync),
     /// A call of prctl(2).
     Prctl(Prctl),
-    /// A raw event is logged.
+    /// A raw event is logged, or the processor gets a new collector.
     Log(Log),
     /// A machine check is raised.
     Raise(Raise),
@@ -44,8 +46,8 @@ pub enum Job {
 }
 
 impl Job {
-    ghost use Rattle.hwp_cpu_command.specs.FileHandles.{local_after};
-    ghost use Rattle.hwp_cpu_command.specs.Jobs.{answer, row_of};
+    ghost use Rattle.hwp_cpu_command.specs.FileHandles.{HasChangeWithin, local_after};
+    ghost use Rattle.hwp_cpu_command.specs.Jobs.{answer, give_up, pauses, resume, row_of, told_of};
 
     /// What the command answers; `None` until it is over, and where it gave up because memory ran out.
     pub fn answer(&self) -> Option<Answer>
@@ -77,44 +79,110 @@ impl Job {
         }
     }
 
-    /// The row of a command that is over, with this answer. The banks get back what the command took from them, and has left, and the
-    /// handle of a file gets the number that the command saw.
-    pub fn finish(&mut self, alloc: Global, answer: Answer, local: &mut Local) -> Row
-        ensures row { result ≡ row_of self.old answer }
-        ensures local { local.new ≡ local_after self.old local.old }
+    /// What was done about the events of its machine checks so far, in order.
+    pub fn told(&self) -> &[EventOutcome]
+        ensures { result.now ≡ told_of self.now }
     {
         match self {
-            Job::Instruction(instruction) => row(
-                instruction.finish(&mut local.banks),
-                None,
-                answer,
-            ),
-            Job::Raise(raise) => row(raise.finish(&mut local.banks), None, answer),
-            Job::Scrub(scrub) => row(scrub.finish(&mut local.banks), None, answer),
+            Job::Instruction(instruction) => instruction.told(),
+            Job::Raise(raise) => raise.told(),
+            Job::Scrub(scrub) => scrub.told(),
+            Job::Evict(_)
+            | Job::Fsync(_)
+            | Job::Prctl(_)
+            | Job::Log(_)
+            | Job::Spoil(_)
+            | Job::Nested(_)
+            | Job::Inject(_)
+            | Job::Soft(_)
+            | Job::Unpoison(_) => &[],
+        }
+    }
+
+    /// Whether it pauses behind a machine check that kept an event: frames may be taken out of use now, and then it goes on.
+    pub fn pauses(&self) -> bool
+        ensures { result ≡ pauses self.now }
+    {
+        match self {
+            Job::Instruction(instruction) => instruction.pause().is_some(),
+            _ => false,
+        }
+    }
+
+    /// Goes on behind its pause. Where it doesn't pause nothing changes.
+    pub fn resume(&mut self)
+        ensures { self.new ≡ resume self.old }
+    {
+        if let Job::Instruction(instruction) = self {
+            instruction.resume();
+        }
+    }
+
+    /// Its next step gives it up, where it can have event lines: memory ran out.
+    pub fn give_up(&mut self)
+        ensures { self.new ≡ give_up self.old }
+    {
+        match self {
+            Job::Instruction(instruction) => instruction.give_up(),
+            Job::Raise(raise) => raise.give_up(),
+            Job::Scrub(scrub) => scrub.give_up(),
+            _ => {}
+        }
+    }
+
+    /// The row of a command that is over, with this answer and these frames that were taken out of use beside it. The banks get back
+    /// what the command took from them, and has left, and the handle of a file gets the number that the command saw. A `watch` that was
+    /// done begins the collector anew, and a scrub that went to its end ends a round.
+    pub fn finish(
+        &mut self,
+        alloc: Global,
+        answer: Answer,
+        offlined: List<Offlining>,
+        local: &mut Local,
+    ) -> Row
+        requires within { HasChangeWithin self.old }
+        ensures row { result ≡ row_of self.old answer offlined }
+        ensures local { local.new ≡ local_after self.old answer local.old }
+    {
+        match self {
+            Job::Instruction(instruction) => {
+                let told = instruction.finish(&mut local.banks);
+                row(told, offlined, None, answer)
+            }
+            Job::Raise(raise) => {
+                let told = raise.finish(&mut local.banks);
+                row(told, offlined, None, answer)
+            }
+            Job::Scrub(scrub) => {
+                end_round(answer, &mut local.watching);
+                let told = scrub.finish(&mut local.banks);
+                row(told, offlined, None, answer)
+            }
             Job::Log(log) => {
+                watch(log.change(), answer, &mut local.watching);
                 log.finish(&mut local.banks);
-                answered(alloc, answer)
+                answered(alloc, offlined, answer)
             }
             Job::Inject(inject) => {
                 let own = own_of(inject.frame(), inject.answer());
-                row(List::new(alloc), own, answer)
+                row(List::new(alloc), offlined, own, answer)
             }
             Job::Soft(soft) => {
                 let own = offlined_of(soft.frame(), soft.answer());
-                row(List::new(alloc), own, answer)
+                row(List::new(alloc), offlined, own, answer)
             }
             Job::Unpoison(unpoison) => {
                 let own = revived_of(unpoison.frame(), unpoison.answer());
-                row(List::new(alloc), own, answer)
+                row(List::new(alloc), offlined, own, answer)
             }
             Job::Fsync(fsync) => {
                 local.handles.set(fsync.file(), fsync.number());
-                answered(alloc, answer)
+                answered(alloc, offlined, answer)
             }
-            Job::Evict(_) => answered(alloc, answer),
-            Job::Prctl(_) => answered(alloc, answer),
-            Job::Spoil(_) => answered(alloc, answer),
-            Job::Nested(_) => answered(alloc, answer),
+            Job::Evict(_) => answered(alloc, offlined, answer),
+            Job::Prctl(_) => answered(alloc, offlined, answer),
+            Job::Spoil(_) => answered(alloc, offlined, answer),
+            Job::Nested(_) => answered(alloc, offlined, answer),
         }
     }
 }
@@ -123,17 +191,54 @@ ghost use Rattle.hwp_cpu_command.specs.Answers.{evict_answer, fail_answer, fsync
 ghost use Rattle.hwp_cpu_command.specs.Jobs.{offlined_by, own_by, revived_by, row};
 ghost use Rattle.hwp_cpu_row.specs.hwp_law_commands.Outcomes.{outcome_answer, reply_answer};
 
-fn row(told: List<EventOutcome>, own: Option<FrameChange>, answer: Answer) -> Row
-    ensures { result ≡ row told own answer }
+ghost use Rattle.hwp_cpu_command.specs.FileHandles.{IsChangeWithin, rounded_by, watched_by};
+
+fn row(
+    told: List<EventOutcome>,
+    offlined: List<Offlining>,
+    own: Option<FrameChange>,
+    answer: Answer,
+) -> Row
+    ensures { result ≡ row told offlined own answer }
 {
-    Row { told, own, answer }
+    Row {
+        told,
+        offlined,
+        own,
+        answer,
+    }
 }
 
-/// The row of a command that comes to no more than its answer.
-fn answered(alloc: Global, answer: Answer) -> Row
-    ensures { result ≡ row [] None answer }
+/// The row of a command that comes to no more than its answer, and told of no event.
+fn answered(alloc: Global, offlined: List<Offlining>, answer: Answer) -> Row
+    ensures { result ≡ row [] offlined None answer }
 {
-    row(List::new(alloc), None, answer)
+    row(List::new(alloc), offlined, None, answer)
+}
+
+/// A `watch` that was done begins the collector anew, and it collects from then on.
+fn watch(change: LocalChange, answer: Answer, watching: &mut Option<Watching>)
+    requires within { IsChangeWithin change }
+    ensures { watching.new ≡ watched_by change answer watching.old }
+{
+    if let LocalChange::Watch { threshold, window } = change
+        && let Answer::Done = answer
+        && let Some(watching) = watching
+    {
+        watching.collector.restart(threshold, window);
+        watching.on = true;
+    }
+}
+
+/// A scrub that went to its end ends a round of the collector.
+fn end_round(answer: Answer, watching: &mut Option<Watching>)
+    ensures { watching.new ≡ rounded_by answer watching.old }
+{
+    if let Answer::Scrubbed(_) = answer
+        && let Some(watching) = watching
+    {
+        watching.collector.round();
+    }
 }
 
 /// The report's answer for an access.
