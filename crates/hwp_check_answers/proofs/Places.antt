@@ -7,8 +7,7 @@ use Rattle.hwp_check_evidence.specs.hwp_report_text.declared.CpuLine.{CpuLine}
 use Rattle.hwp_check_evidence.specs.hwp_report_text.declared.CpuLine.TheVariants as lines
 use Rattle.hwp_check_rules.specs.hwp_check_events.Indexed.{shown_from}
 use Rattle.hwp_check_rules.specs.hwp_check_event_line.declared.Shown.{Shown}
-use Rattle.hwp_check_rules.specs.AnswerFaults.{events_before}
-use Rattle.hwp_check_rules.specs.Answered.{is_event}
+use Rattle.hwp_check_rules.specs.Answered.{events_before, is_event}
 use Rattle.hwp_check_rules.specs.hwp_law.Lines.{seq_of}
 
 module _ (seq : ℕ) where

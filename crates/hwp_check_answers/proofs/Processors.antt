@@ -14,8 +14,8 @@ use Rattle.hwp_check_evidence.specs.hwp_law.Lines.{events_of, seq_of}
 use Rattle.hwp_check_rules.specs.hwp_check_events.Misfits.{AreTold, IsWrong, Lacks, found_by}
 use Rattle.hwp_check_rules.specs.hwp_check_events.Walked.{AllRight, IsFirstRow, IsProcessorJudged, IsWalked, IsWrongRow, LacksSome, is_clean}
 use Rattle.hwp_check_rules.specs.hwp_check_events.declared.Misfits.{Misfits}
-use Rattle.hwp_check_rules.specs.AnswerFaults.{IsEventWrong, LacksEvents, events_before}
-use Rattle.hwp_check_rules.specs.Answered.{is_event}
+use Rattle.hwp_check_rules.specs.AnswerFaults.{IsEventWrong, LacksEvents}
+use Rattle.hwp_check_rules.specs.Answered.{events_before, is_event}
 use Rattle.hwp_check_rules.specs.Standing.{cpu_line}
 use Rattle.hwp_check_answers.specs.Facts.{at_number}
 use Rattle.hwp_check_answers.specs.Joining.{IsEventLine, IsWrongEvent}

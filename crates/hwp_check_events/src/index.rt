@@ -41,7 +41,7 @@ fn add(lists: &mut Vec<List<Shown>>, shown: Option<Shown>) -> Result<(), OutOfMe
 }
 
 /// For each of so many commands its event lines.
-pub(crate) fn events_by_command(
+pub fn events_by_command(
     alloc: Global,
     count: usize,
     rows: &[CpuLine],

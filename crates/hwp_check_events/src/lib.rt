@@ -14,5 +14,7 @@ mod tables;
 mod walk;
 
 pub use checks::checkers_of;
+pub use hwp_check_event_line::Shown;
+pub use index::events_by_command;
 pub use misfits::Misfits;
 pub use processors::{processor_faults, small_masks};

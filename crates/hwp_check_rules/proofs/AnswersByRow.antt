@@ -1,5 +1,6 @@
 -- The answers of a processor, told from the first command on, and told line by line: the same.
-use Rattle.std.proofs.Common.{◌≡◌, ℕ, zero, suc, ◌+◌, ◌<◌, Bool, true, false, cond, true≢false, List, [], ◌∷◌, Some, count_by, get_or, length, slice_get, take, IsSome, refl, sym, ap, ◌∙◌, subst, arith}
+use Rattle.std.proofs.Common.{◌≡◌, ◌⊎◌, inl, inr, ℕ, zero, suc, ◌+◌, ◌<◌, ◌≤◌, ◌==◌, ◌&&◌, Bool, true, false, cond, true≢false, List, [], ◌∷◌, Some, count_by, get_or, length, slice_get, take, IsSome, refl, sym, ap, ◌∙◌, subst, arith}
+use Rattle.std.proofs.lemmas.Bool.{cases_eq, eq-eqb, ne_eqb}
 use Rattle.std.proofs.lemmas.Option.{same_Some, none-some}
 use Rattle.std.proofs.lemmas.List.Sums.{sum_by-cons, sum_by_more}
 use Rattle.hwp_law.specs.hwp_geom.declared.Cpu.{Cpu}
@@ -10,10 +11,12 @@ use Rattle.hwp_law.specs.hwp_report_text.declared.Answer.{Answer}
 use Rattle.hwp_law.specs.hwp_report_text.declared.Answer.TheVariants as answers
 use Rattle.hwp_law.specs.hwp_report_text.declared.CpuLine.{CpuLine}
 use Rattle.hwp_law.specs.hwp_report_text.declared.CpuLine.TheVariants as lines
+use Rattle.hwp_law.specs.hwp_report_text.declared.EventLine.{EventLine}
+use Rattle.hwp_law.specs.hwp_report_text.declared.OfflinedLine.{OfflinedLine}
 use Rattle.hwp_law.specs.hwp_report_text.declared.Report.{Report}
-use Rattle.hwp_law.specs.Causes.{AreCaused, IsCaused, IsHeeded}
-use Rattle.hwp_check_rules.specs.Answered.{AreAnswered, HasAnswer, IsRight, is_answer, is_event_or_answer}
-use Rattle.hwp_law.specs.Lines.{seq_of}
+use Rattle.hwp_law.specs.Causes.{AreCaused, IsCaused, IsHeeded, IsPastEvents}
+use Rattle.hwp_check_rules.specs.Answered.{AreAnswered, HasAnswer, IsBehindEvents, IsRight, events_before, is_answer, is_event, is_of_command}
+use Rattle.hwp_law.specs.Lines.{events_among, seq_of}
 
 -- the last of the commands that a line is of, and of which command it is, where so many were answered before
 abbrev pub answers_in : ℕ → List CpuLine → ℕ
@@ -32,6 +35,58 @@ count-next rows i d answered n b within was is one =
     let more : count_by is_answer (take (i + 1) rows) ≡ count_by is_answer (take i rows) + flag (is_answer (get_or rows i d)) = sum_by_more (λ (l : CpuLine). cond (is_answer l) 1 0) rows i d within in
     let same : n ≡ flag (is_answer (get_or rows i d)) = one ∙ ap flag is in
     omega (arith, more, same, was)
+
+-- how many event lines of a command stand before a row, and how many there are, with a line more in front
+events-more : (row seq : ℕ) (line : CpuLine) (rows : List CpuLine) → events_before (line ∷ rows) (suc row) seq ≡ flag (is_event line && (seq_of line == seq)) + events_before rows row seq
+events-more row seq line rows = sum_by-cons (λ (l : CpuLine). cond (is_event l && (seq_of l == seq)) 1 0) line (take row rows)
+
+events-first : (line : CpuLine) (rows : List CpuLine) (seq : ℕ) → events_before (line ∷ rows) 0 seq ≡ 0
+events-first line rows seq = refl
+
+plain : (n : ℕ) → n ≡ 0 + n
+plain n = omega arith
+
+many-more : (seq : ℕ) (line : CpuLine) (rows : List CpuLine) → length (events_among (line ∷ rows) seq) ≡ flag (is_event line && (seq_of line == seq)) + length (events_among rows seq)
+many-more seq (lines.Answer s answer) rows = plain (length (events_among rows seq))
+many-more seq (lines.Offlined offlined) rows = plain (length (events_among rows seq))
+many-more seq (lines.Guest guest) rows = plain (length (events_among rows seq))
+many-more seq (lines.Event event) rows = by (cases_eq seq event.seq)
+  where
+    by : (seq ≡ event.seq) ⊎ (seq ≡ event.seq → ⊥) → length (cond (seq == event.seq) (event ∷ events_among rows seq) (events_among rows seq)) ≡ flag (event.seq == seq) + length (events_among rows seq)
+    by (inl same) =
+        let more : length (cond (seq == event.seq) (event ∷ events_among rows seq) (events_among rows seq)) ≡ suc (length (events_among rows seq)) =
+        ap (λ (b : Bool). length (cond b (event ∷ events_among rows seq) (events_among rows seq))) (eq-eqb seq event.seq same) in
+        let one : flag (event.seq == seq) ≡ 1 = ap flag (eq-eqb event.seq seq (sym same)) in
+        omega (arith, more, one)
+    by (inr other) =
+        let less : length (cond (seq == event.seq) (event ∷ events_among rows seq) (events_among rows seq)) ≡ length (events_among rows seq) =
+        ap (λ (b : Bool). length (cond b (event ∷ events_among rows seq) (events_among rows seq))) (ne_eqb seq event.seq other) in
+        let none : flag (event.seq == seq) ≡ 0 = ap flag (ne_eqb event.seq seq (λ is. other (sym is))) in
+        omega (arith, less, none)
+
+behind-more : (row seq : ℕ) (line : CpuLine) (rows : List CpuLine) → IsBehindEvents rows row seq → IsBehindEvents (line ∷ rows) (suc row) seq
+behind-more row seq line rows behind =
+    let before : events_before (line ∷ rows) (suc row) seq ≡ flag (is_event line && (seq_of line == seq)) + events_before rows row seq = events-more row seq line rows in
+    let many : length (events_among (line ∷ rows) seq) ≡ flag (is_event line && (seq_of line == seq)) + length (events_among rows seq) = many-more seq line rows in
+    omega (arith, before, many, behind)
+
+behind-less : (row seq : ℕ) (line : CpuLine) (rows : List CpuLine) → IsBehindEvents (line ∷ rows) (suc row) seq → IsBehindEvents rows row seq
+behind-less row seq line rows behind =
+    let before : events_before (line ∷ rows) (suc row) seq ≡ flag (is_event line && (seq_of line == seq)) + events_before rows row seq = events-more row seq line rows in
+    let many : length (events_among (line ∷ rows) seq) ≡ flag (is_event line && (seq_of line == seq)) + length (events_among rows seq) = many-more seq line rows in
+    omega (arith, before, many, behind)
+
+-- the next line is no event line of the command where the first line stands behind all of them
+next-past : (seq : ℕ) (line : OfflinedLine) (rows : List CpuLine) → IsBehindEvents (lines.Offlined line ∷ rows) 0 seq → ((event : EventLine) (rest : List CpuLine) → rows ≡ lines.Event event ∷ rest → event.seq ≡ seq) → IsPastEvents rows
+next-past seq line [] behind own = record {}
+next-past seq line (lines.Answer s answer ∷ rest) behind own = record {}
+next-past seq line (lines.Offlined offlined ∷ rest) behind own = record {}
+next-past seq line (lines.Guest guest ∷ rest) behind own = record {}
+next-past seq line (lines.Event event ∷ rest) behind own =
+    let many : length (events_among (lines.Event event ∷ rest) seq) ≡ flag (event.seq == seq) + length (events_among rest seq) = many-more seq (lines.Event event) rest in
+    let one : flag (event.seq == seq) ≡ 1 = ap flag (eq-eqb event.seq seq (own event rest refl)) in
+    let none : 0 ≡ length (events_among (lines.Event event ∷ rest) seq) = behind in
+    absurd (omega (arith, many, one, none))
 
 module _ (script : Script) (report : Report) (cpu : Cpu) where
   abbrev who : ℕ → Who
@@ -56,19 +111,68 @@ module _ (script : Script) (report : Report) (cpu : Cpu) where
       let below : seq_of line < n + 1 + length cs = later.1 in
       let more : answers_in (suc row) (lines.Answer seq answer ∷ rest) ≡ 1 + answers_in row rest = in-more row (lines.Answer seq answer) rest in
       (omega (arith, at, more), omega (arith, below))
-  place-of n (c ∷ cs) (lines.Offlined offlined ∷ rest) h row line is = absurd h
+  place-of n (c ∷ cs) (lines.Offlined offlined ∷ rest) h zero line is =
+      let same : offlined.seq ≡ seq_of line = ap seq_of (same_Some _ _ is) in let first : offlined.seq ≡ n = h.0 in (omega (arith, same, first), omega (arith, same, first))
+  place-of n (c ∷ cs) (lines.Offlined offlined ∷ rest) h (suc row) line is =
+      let later = place-of n (c ∷ cs) rest h.2 row line is in
+      let at : seq_of line ≡ n + answers_in row rest = later.0 in
+      let more : answers_in (suc row) (lines.Offlined offlined ∷ rest) ≡ 0 + answers_in row rest = in-more row (lines.Offlined offlined) rest in
+      (omega (arith, at, more), later.1)
   place-of n (c ∷ cs) (lines.Guest guest ∷ rest) h row line is = absurd h
 
-  kind-of : (n : ℕ) (commands : List Command) (rows : List CpuLine) → AreCaused script report cpu n commands rows → (row : ℕ) (line : CpuLine) → slice_get rows row ≡ Some line → is_event_or_answer line ≡ true
+  kind-of : (n : ℕ) (commands : List Command) (rows : List CpuLine) → AreCaused script report cpu n commands rows → (row : ℕ) (line : CpuLine) → slice_get rows row ≡ Some line → is_of_command line ≡ true
   kind-of n [] [] h row line is = absurd (none-some _ is)
   kind-of n [] (r ∷ rest) h row line is = absurd h
   kind-of n (c ∷ cs) [] h row line is = absurd h
-  kind-of n (c ∷ cs) (lines.Event event ∷ rest) h zero line is = sym (ap is_event_or_answer (same_Some _ _ is))
+  kind-of n (c ∷ cs) (lines.Event event ∷ rest) h zero line is = sym (ap is_of_command (same_Some _ _ is))
   kind-of n (c ∷ cs) (lines.Event event ∷ rest) h (suc row) line is = kind-of n (c ∷ cs) rest h.1 row line is
-  kind-of n (c ∷ cs) (lines.Answer seq answer ∷ rest) h zero line is = sym (ap is_event_or_answer (same_Some _ _ is))
+  kind-of n (c ∷ cs) (lines.Answer seq answer ∷ rest) h zero line is = sym (ap is_of_command (same_Some _ _ is))
   kind-of n (c ∷ cs) (lines.Answer seq answer ∷ rest) h (suc row) line is = kind-of (n + 1) cs rest h.3 row line is
-  kind-of n (c ∷ cs) (lines.Offlined offlined ∷ rest) h row line is = absurd h
+  kind-of n (c ∷ cs) (lines.Offlined offlined ∷ rest) h zero line is = sym (ap is_of_command (same_Some _ _ is))
+  kind-of n (c ∷ cs) (lines.Offlined offlined ∷ rest) h (suc row) line is = kind-of n (c ∷ cs) rest h.2 row line is
   kind-of n (c ∷ cs) (lines.Guest guest ∷ rest) h row line is = absurd h
+
+  -- lines of later commands have no event line of an earlier one
+  none-earlier : (n : ℕ) (commands : List Command) (rows : List CpuLine) (seq : ℕ) → seq < n → AreCaused script report cpu n commands rows → length (events_among rows seq) ≡ 0
+  none-earlier n [] [] seq less h = refl
+  none-earlier n [] (r ∷ rest) seq less h = absurd h
+  none-earlier n (c ∷ cs) [] seq less h = refl
+  none-earlier n (c ∷ cs) (lines.Event event ∷ rest) seq less h =
+      let first : event.seq ≡ n = h.0 in
+      let rest-none : length (events_among rest seq) ≡ 0 = none-earlier n (c ∷ cs) rest seq less h.1 in
+      let many : length (events_among (lines.Event event ∷ rest) seq) ≡ flag (event.seq == seq) + length (events_among rest seq) = many-more seq (lines.Event event) rest in
+      let other : flag (event.seq == seq) ≡ 0 = ap flag (ne_eqb event.seq seq (λ is. omega (arith, is, first, less))) in
+      omega (arith, rest-none, many, other)
+  none-earlier n (c ∷ cs) (lines.Answer s answer ∷ rest) seq less h = none-earlier (n + 1) cs rest seq (omega (arith, less)) h.3
+  none-earlier n (c ∷ cs) (lines.Offlined offlined ∷ rest) seq less h = none-earlier n (c ∷ cs) rest seq less h.2
+  none-earlier n (c ∷ cs) (lines.Guest guest ∷ rest) seq less h = absurd h
+
+  -- nor have lines that begin with no event line one of the command that is answered next
+  none-next : (n : ℕ) (commands : List Command) (rows : List CpuLine) → IsPastEvents rows → AreCaused script report cpu n commands rows → length (events_among rows n) ≡ 0
+  none-next n [] [] past h = refl
+  none-next n [] (r ∷ rest) past h = absurd h
+  none-next n (c ∷ cs) [] past h = refl
+  none-next n (c ∷ cs) (lines.Event event ∷ rest) past h = absurd past
+  none-next n (c ∷ cs) (lines.Answer s answer ∷ rest) past h = none-earlier (n + 1) cs rest n (omega arith) h.3
+  none-next n (c ∷ cs) (lines.Offlined offlined ∷ rest) past h = none-next n (c ∷ cs) rest h.1 h.2
+  none-next n (c ∷ cs) (lines.Guest guest ∷ rest) past h = absurd h
+
+  behind-of : (n : ℕ) (commands : List Command) (rows : List CpuLine) → AreCaused script report cpu n commands rows → (row : ℕ) (line : OfflinedLine) → slice_get rows row ≡ Some (lines.Offlined line) → IsBehindEvents rows row line.seq
+  behind-of n [] [] h row line is = absurd (none-some _ is)
+  behind-of n [] (r ∷ rest) h row line is = absurd h
+  behind-of n (c ∷ cs) [] h row line is = absurd h
+  behind-of n (c ∷ cs) (lines.Event event ∷ rest) h zero line is = absurd (cc)
+  behind-of n (c ∷ cs) (lines.Event event ∷ rest) h (suc row) line is = behind-more row line.seq (lines.Event event) rest (behind-of n (c ∷ cs) rest h.1 row line is)
+  behind-of n (c ∷ cs) (lines.Answer s answer ∷ rest) h zero line is = absurd (cc)
+  behind-of n (c ∷ cs) (lines.Answer s answer ∷ rest) h (suc row) line is = behind-more row line.seq (lines.Answer s answer) rest (behind-of (n + 1) cs rest h.3 row line is)
+  behind-of n (c ∷ cs) (lines.Offlined offlined ∷ rest) h zero line is =
+      let same : offlined.seq ≡ line.seq = ap seq_of (same_Some _ _ is) in
+      let first : offlined.seq ≡ n = h.0 in
+      let none : length (events_among rest n) ≡ 0 = none-next n (c ∷ cs) rest h.1 h.2 in
+      let number : n ≡ line.seq = omega (arith, same, first) in
+      subst (λ (m : ℕ). IsBehindEvents (lines.Offlined offlined ∷ rest) 0 m) number (sym none)
+  behind-of n (c ∷ cs) (lines.Offlined offlined ∷ rest) h (suc row) line is = behind-more row line.seq (lines.Offlined offlined) rest (behind-of n (c ∷ cs) rest h.2 row line is)
+  behind-of n (c ∷ cs) (lines.Guest guest ∷ rest) h row line is = absurd h
 
   each-of : (n : ℕ) (commands : List Command) (rows : List CpuLine) → AreCaused script report cpu n commands rows → (k seq : ℕ) → k < length commands → seq ≡ n + k → HasAnswer rows seq
   each-of n [] rows h k seq less is = absurd (omega arith)
@@ -79,7 +183,8 @@ module _ (script : Script) (report : Report) (cpu : Cpu) where
       let first : s ≡ n = h.0 in let same : s ≡ seq = omega (arith, first, is) in record { row = 0; answer = answer; there = ap (λ (m : ℕ). Some (lines.Answer m answer)) same }
   each-of n (c ∷ cs) (lines.Answer s answer ∷ rest) h (suc k) seq less is =
       let r = each-of (n + 1) cs rest h.3 k seq (omega arith) (omega arith) in record { row = suc r.row; answer = r.answer; there = r.there }
-  each-of n (c ∷ cs) (lines.Offlined offlined ∷ rest) h k seq less is = absurd h
+  each-of n (c ∷ cs) (lines.Offlined offlined ∷ rest) h k seq less is =
+      let r = each-of n (c ∷ cs) rest h.2 k seq less is in record { row = suc r.row; answer = r.answer; there = r.there }
   each-of n (c ∷ cs) (lines.Guest guest ∷ rest) h k seq less is = absurd h
 
   right-of : (n : ℕ) (commands : List Command) (rows : List CpuLine) → AreCaused script report cpu n commands rows → (row k seq : ℕ) (answer : Answer) (command : Command) → slice_get rows row ≡ Some (lines.Answer seq answer) → seq ≡ n + k → slice_get commands k ≡ Some command → IsCaused script report (who seq) command answer × IsHeeded report (who seq) answer
@@ -104,7 +209,8 @@ module _ (script : Script) (report : Report) (cpu : Cpu) where
   right-of n (c ∷ cs) (lines.Answer s given ∷ rest) h (suc row) zero seq answer command is same there =
       let later : seq ≡ n + 1 + answers_in row rest = (place-of (n + 1) cs rest h.3 row (lines.Answer seq answer) is).0 in absurd (omega (arith, later, same))
   right-of n (c ∷ cs) (lines.Answer s given ∷ rest) h (suc row) (suc k) seq answer command is same there = right-of (n + 1) cs rest h.3 row k seq answer command is (omega (arith, same)) there
-  right-of n (c ∷ cs) (lines.Offlined offlined ∷ rest) h row k seq answer command is same there = absurd h
+  right-of n (c ∷ cs) (lines.Offlined offlined ∷ rest) h zero k seq answer command is same there = absurd (cc)
+  right-of n (c ∷ cs) (lines.Offlined offlined ∷ rest) h (suc row) k seq answer command is same there = right-of n (c ∷ cs) rest h.2 row k seq answer command is same there
   right-of n (c ∷ cs) (lines.Guest guest ∷ rest) h row k seq answer command is same there = absurd h
 
   -- told from the first command on, the lines are told one by one
@@ -114,6 +220,7 @@ module _ (script : Script) (report : Report) (cpu : Cpu) where
         let p = place-of 0 commands rows h row line is in
         let at : seq_of line ≡ 0 + answers_in row rows = p.0 in let below : seq_of line < 0 + length commands = p.1 in
         record { of_next = omega (arith, at); of_some = omega (arith, below); of_kind = kind-of 0 commands rows h row line is };
+    past = behind-of 0 commands rows h;
     each = λ seq less. each-of 0 commands rows h seq seq less (omega arith);
     right = λ row seq answer command is there.
         let r = right-of 0 commands rows h row seq seq answer command is (omega arith) there in record { shown = r.0; heeded = r.1 };
@@ -132,14 +239,16 @@ module _ (script : Script) (report : Report) (cpu : Cpu) where
       answer_in_line (lines.Answer s2 a) = a
       answer_in_line _ = answers.Stopped
   told-of n (c ∷ cs) (lines.Answer s given ∷ rest) h (suc row) seq is = told-of (n + 1) cs rest h.3 row seq is
-  told-of n (c ∷ cs) (lines.Offlined offlined ∷ rest) h row seq is = absurd h
+  told-of n (c ∷ cs) (lines.Offlined offlined ∷ rest) h zero seq is = absurd (cc)
+  told-of n (c ∷ cs) (lines.Offlined offlined ∷ rest) h (suc row) seq is = told-of n (c ∷ cs) rest h.2 row seq is
   told-of n (c ∷ cs) (lines.Guest guest ∷ rest) h row seq is = absurd h
 
   -- the lines from one on, told one by one, where so many commands were answered before
   record From (n : ℕ) (commands : List Command) (rows : List CpuLine) : Type 0 where
     at : (row : ℕ) (line : CpuLine) → slice_get rows row ≡ Some line → seq_of line ≡ n + answers_in row rows
     below : (row : ℕ) (line : CpuLine) → slice_get rows row ≡ Some line → seq_of line < n + length commands
-    kinds : (row : ℕ) (line : CpuLine) → slice_get rows row ≡ Some line → is_event_or_answer line ≡ true
+    kinds : (row : ℕ) (line : CpuLine) → slice_get rows row ≡ Some line → is_of_command line ≡ true
+    past : (row : ℕ) (line : OfflinedLine) → slice_get rows row ≡ Some (lines.Offlined line) → IsBehindEvents rows row line.seq
     each : (k : ℕ) → k < length commands → HasAnswer rows (n + k)
     right : (row k seq : ℕ) (answer : Answer) (command : Command) → slice_get rows row ≡ Some (lines.Answer seq answer) → seq ≡ n + k → slice_get commands k ≡ Some command → IsRight script report (who seq) command answer
 
@@ -148,6 +257,7 @@ module _ (script : Script) (report : Report) (cpu : Cpu) where
     at = λ row l is. let e : seq_of l ≡ n + answers_in (suc row) (line ∷ rows) = f.at (suc row) l is in let m : answers_in (suc row) (line ∷ rows) ≡ flag (is_answer line) + answers_in row rows = in-more row line rows in let z : flag (is_answer line) ≡ 0 = ap flag not_answer in omega (arith, e, m, z);
     below = λ row l is. f.below (suc row) l is;
     kinds = λ row l is. f.kinds (suc row) l is;
+    past = λ row l is. behind-less row l.seq line rows (f.past (suc row) l is);
     each = λ k less. still line not_answer (f.each k less);
     right = λ row k seq answer command is. f.right (suc row) k seq answer command is;
   }
@@ -164,6 +274,7 @@ module _ (script : Script) (report : Report) (cpu : Cpu) where
     at = λ row l is. let e : seq_of l ≡ n + answers_in (suc row) (lines.Answer s a ∷ rest) = f.at (suc row) l is in let m : answers_in (suc row) (lines.Answer s a ∷ rest) ≡ 1 + answers_in row rest = in-more row (lines.Answer s a) rest in omega (arith, e, m);
     below = λ row l is. let e : seq_of l < n + length (c ∷ cs) = f.below (suc row) l is in omega (arith, e);
     kinds = λ row l is. f.kinds (suc row) l is;
+    past = λ row l is. behind-less row l.seq (lines.Answer s a) rest (f.past (suc row) l is);
     each = λ k less. later (n + suc k) (n + 1 + k) (omega arith) (omega arith) (f.each (suc k) (omega arith));
     right = λ row k seq answer command is same there. f.right (suc row) (suc k) seq answer command is (omega (arith, same)) there;
   }
@@ -187,7 +298,16 @@ module _ (script : Script) (report : Report) (cpu : Cpu) where
       let first : s ≡ n = omega (arith, at) in
       let r = f.right 0 0 n a c (ap (λ (m : ℕ). Some (lines.Answer m a)) first) (omega arith) refl in
       (first, r.shown, r.heeded, from-rows (n + 1) cs rest (past-answer n c cs s a rest first f))
-  from-rows n (c ∷ cs) (lines.Offlined offlined ∷ rest) f = absurd (true≢false (sym (f.kinds 0 _ refl)))
+  from-rows n (c ∷ cs) (lines.Offlined offlined ∷ rest) f =
+      let at : offlined.seq ≡ n + 0 = f.at 0 _ refl in
+      let first : offlined.seq ≡ n = omega (arith, at) in
+      (first, next-past offlined.seq offlined rest (f.past 0 offlined refl) (λ event more is. own event more is), from-rows n (c ∷ cs) rest (past-event n (c ∷ cs) _ rest refl f))
+    where
+      own : (event : EventLine) (more : List CpuLine) → rest ≡ lines.Event event ∷ more → event.seq ≡ offlined.seq
+      own event more is =
+          let second : event.seq ≡ n + 0 = f.at 1 (lines.Event event) (ap (λ (l : List CpuLine). slice_get l 0) is) in
+          let first_at : offlined.seq ≡ n + 0 = f.at 0 _ refl in
+          omega (arith, second, first_at)
   from-rows n (c ∷ cs) (lines.Guest guest ∷ rest) f = absurd (true≢false (sym (f.kinds 0 _ refl)))
 
   -- told one by one, the lines are told from the first command on
@@ -196,6 +316,7 @@ module _ (script : Script) (report : Report) (cpu : Cpu) where
     at = λ row l is. let e : seq_of l ≡ answers_in row rows = (h.in_place row l is).of_next in omega (arith, e);
     below = λ row l is. let e : seq_of l < length commands = (h.in_place row l is).of_some in omega (arith, e);
     kinds = λ row l is. (h.in_place row l is).of_kind;
+    past = h.past;
     each = λ k less. let zero_and : k ≡ 0 + k = omega arith in subst (HasAnswer rows) zero_and (h.each k less);
     right = λ row k seq answer command is same there. h.right row seq answer command is (ap (slice_get commands) (omega (arith, same)) ∙ there);
   })

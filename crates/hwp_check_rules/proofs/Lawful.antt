@@ -68,6 +68,7 @@ module _ (script : Script) (report : Report) where
       windows = law.answers.windows;
       endings = law.answers.endings;
       events = law.answers.events;
+      offlined = law.answers.offlined;
     }
 
     stop_fits : StopFits script report
@@ -119,6 +120,7 @@ module _ (script : Script) (report : Report) where
         windows = of_answers.windows;
         endings = of_answers.endings;
         events = of_answers.events;
+        offlined = of_answers.offlined;
         stop = record { caused = of_stop.caused; stays = of_stop.stays };
       };
       frames = record { lines = frame_lines; recorded = of_marks.recorded; count = holds Count };

@@ -1,6 +1,6 @@
 pub mod AnswersByRow
 pub mod Lawful
-pub mod NoOfflined
+pub mod OfflinedFaults
 pub mod InText
 pub mod PastLaws
 pub use Rattle.hwp_check_events.proofs as of_hwp_check_events

@@ -1,5 +1,5 @@
 -- Which lines of a report break the rule of answers and events.
-use Rattle.std.specs.Prelude.{◌≡◌, ◌≢◌, ◌⊎◌, ℕ, ◌<◌, ◌==◌, ◌&&◌, true, List, Some, count_by, length, slice_get, take}
+use Rattle.std.specs.Prelude.{◌≡◌, ◌≢◌, ◌⊎◌, ℕ, ◌<◌, true, List, Some, length, slice_get, take}
 use Rattle.hwp_law.specs.hwp_geom.declared.Cpu.{Cpu}
 use Rattle.hwp_law.specs.hwp_geom.declared.Proc.{Proc}
 use Rattle.hwp_law.specs.hwp_geom.declared.Who.{Who}
@@ -17,11 +17,12 @@ use Rattle.hwp_law.specs.hwp_report_text.declared.Report.{Report}
 use Rattle.hwp_law.specs.Answers.{is_answering}
 use Rattle.hwp_law.specs.hwp_law_commands.Commands.{command_at, process_at}
 use Rattle.hwp_law.specs.Endings.{HasEnded, IsOver, WasGone}
-use Rattle.hwp_law.specs.Lines.{events_of, rows_of, seq_of}
+use Rattle.hwp_law.specs.Lines.{events_of, offlined_of, rows_of, seq_of}
+use Rattle.hwp_law.specs.Offlined.{IsOffline, due_of}
 use Rattle.hwp_law.specs.Places.{entry_at}
 use Rattle.hwp_law.specs.States.{IsInWindow, entry_named, state_named}
 use Rattle.hwp_check_events.specs.Misfits.{IsWrong, Lacks, found_by}
-use Rattle.hwp_check_rules.specs.Answered.{HasAnswer, IsInPlace, IsRight, is_event}
+use Rattle.hwp_check_rules.specs.Answered.{HasAnswer, IsInPlace, IsBehindEvents, IsRight, events_before, offlined_before}
 use Rattle.hwp_check_rules.specs.Standing.{cpu_line, row_line}
 
 -- a command has no answer
@@ -42,6 +43,14 @@ pub record LacksEvents (script : Script) (report : Report) (line : ℕ) : Type 0
   pub command : Command
   pub made : command_at script who ≡ Some command
   pub lacks : Lacks script report who command (found_by script report who) (events_of report who)
+  pub line_is : line ≡ cpu_line report who.cpu.0
+
+-- a command took fewer frames out of use than its notes ask
+pub record LacksOfflined (script : Script) (report : Report) (line : ℕ) : Type 0 where
+  pub who : Who
+  pub command : Command
+  pub made : command_at script who ≡ Some command
+  pub lacks : length (offlined_of report who) < length (due_of script report who)
   pub line_is : line ≡ cpu_line report who.cpu.0
 
 -- an entry that answers the command is not the one that its answer names, nor does another line of the command name it
@@ -74,19 +83,26 @@ abbrev pub IsAnswerWrong : Script → Report → List CpuLine → Who → Comman
 IsAnswerWrong script report before who command answer =
     (IsRight script report who command answer → ⊥) ⊎ IsUnnamed report who answer ⊎ IsOutside report before who answer ⊎ IsRevived script report who answer
 
--- how many event lines of the command stand before a row
-abbrev pub events_before : List CpuLine → ℕ → ℕ → ℕ
-events_before rows row seq = count_by (λ (l : CpuLine). is_event l && (seq_of l == seq)) (take row rows)
-
 -- an event line is not the one that its command's machine checks ask at its place
 pub record IsEventWrong (script : Script) (report : Report) (rows : List CpuLine) (row : ℕ) (who : Who) (command : Command) : Type 0 where
   pub wrong : IsWrong script report who command (found_by script report who) (events_of report who) (events_before rows row who.seq)
 
+-- the line of a frame taken out of use stands where it may, and tells the frame that is due there: by its number among such lines of its
+-- command
+pub record IsDue (script : Script) (report : Report) (rows : List CpuLine) (row : ℕ) (who : Who) (line : OfflinedLine) : Type 0 where
+  pub frame : slice_get (due_of script report who) (offlined_before rows row who.seq) ≡ Some line.frame
+  pub past : IsBehindEvents rows row who.seq
+
+-- the line isn't such, or the report doesn't show the cause of its result
+abbrev pub IsOfflinedWrong : Script → Report → List CpuLine → ℕ → Who → OfflinedLine → Type 0
+IsOfflinedWrong script report rows row who line = (IsDue script report rows row who line → ⊥) ⊎ (IsOffline script report who line.frame line.result → ⊥)
+
 -- what is wrong about a line of a command: an answer is judged by the lines before it, since of lines that stand wrong the first is
--- named; a line that is neither an event line nor an answer is out of place, whatever it says
+-- named; a guest's line is out of place, whatever it says
 abbrev pub IsLineWrong : Script → Report → Cpu → List CpuLine → ℕ → CpuLine → Command → Type 0
 IsLineWrong script report cpu rows row (lines.Answer seq answer) command = IsAnswerWrong script report (take row rows) (record { cpu = cpu; seq = seq }) command answer
 IsLineWrong script report cpu rows row (lines.Event event) command = IsEventWrong script report rows row (record { cpu = cpu; seq = event.seq }) command
+IsLineWrong script report cpu rows row (lines.Offlined line) command = IsOfflinedWrong script report rows row (record { cpu = cpu; seq = line.seq }) line
 IsLineWrong script report cpu rows row _ command = ⊥
 
 -- a line of a processor that is not in its place, or is wrong
@@ -105,4 +121,4 @@ pub record IsRowFault (script : Script) (report : Report) (line : ℕ) : Type 0 
       ⊎ ((command : Command) × (slice_get commands (seq_of shown) ≡ Some command) × IsLineWrong script report cpu rows row shown command)
 
 abbrev pub IsAnswerFault : Script → Report → ℕ → Type 0
-IsAnswerFault script report line = IsUnanswered script report line ⊎ LacksEvents script report line ⊎ IsRowFault script report line
+IsAnswerFault script report line = IsUnanswered script report line ⊎ LacksEvents script report line ⊎ LacksOfflined script report line ⊎ IsRowFault script report line

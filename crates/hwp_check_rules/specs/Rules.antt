@@ -18,6 +18,7 @@ use Rattle.hwp_law.specs.hwp_report_text.declared.CpuLine.TheVariants as lines
 use Rattle.hwp_law.specs.hwp_report_text.declared.FrameLine.{FrameLine}
 use Rattle.hwp_law.specs.hwp_report_text.declared.Report.{Report}
 use Rattle.hwp_law.specs.hwp_report_text.declared.Stop.{Stop}
+use Rattle.hwp_law.specs.hwp_law_commands.Commands.{command_at}
 use Rattle.hwp_law.specs.Answers.{AreInWindows, AreNamed}
 use Rattle.hwp_law.specs.Endings.{EndingsStay}
 use Rattle.hwp_law.specs.Entries.{AreMadeBy}
@@ -27,6 +28,7 @@ use Rattle.hwp_law.specs.Halts.{IsStopOf}
 use Rattle.hwp_law.specs.History.{AreOrdered}
 use Rattle.hwp_law.specs.Lines.{answered}
 use Rattle.hwp_law.specs.Losses.{IsNumber, is_lost, losses_such, tells_number}
+use Rattle.hwp_law.specs.Offlined.{AreOfflined}
 use Rattle.hwp_law.specs.Pairings.{AreRecorded}
 use Rattle.hwp_law.specs.Records.{IsFrameRecord, ends_poisoned}
 use Rattle.hwp_law.specs.PageHistory.{is_of}
@@ -48,13 +50,14 @@ pub record HistoriesFit (script : Script) (report : Report) : Type 0 where
   pub made : AreMadeBy script report.pages
   pub ordered : AreOrdered report.pages
 
--- 3: each command has one answer, in order, and answers and events are such as the histories and records show
+-- 3: each command has one answer, in order, and answers, events and frames taken out of use are such as the histories and records show
 pub record AnswersFit (script : Script) (report : Report) : Type 0 where
   pub answered : (cpu : Cpu) (commands : List Command) (rows : List CpuLine) → slice_get script.lists cpu.0 ≡ Some commands → slice_get report.cpus cpu.0 ≡ Some rows → AreAnswered script report cpu commands rows
   pub named : AreNamed report.pages report.cpus
   pub windows : AreInWindows report.pages report.cpus
   pub endings : EndingsStay script report
   pub events : AreEvents script report
+  pub offlined : (who : Who) (command : Command) → command_at script who ≡ Some command → AreOfflined script report who
 
 -- 4: each policy seen is one that the thread had, and along a processor's commands none is older than the one before
 pub record SeenFit (script : Script) (report : Report) : Type 0 where

@@ -10,15 +10,17 @@ mod standing;
 mod verdicts;
 
 pub use first::{sooner, sooner_if, soonest};
-pub use hwp_check_events::{Misfits, checkers_of, processor_faults, small_masks};
-pub use hwp_law::{
-    Acted, Answer, At, Code, Command, Cpu, CpuLine, Entry, FileNo, Frame, FrameLine, How, Layout,
-    Line, List, MarkLine, Mask, McgBits, Met, Mode, OutOfMemory, Outcome, Page, PageKind,
-    PageState, Policy, PrctlArgs, Proc, ReadScript, Reply, Report, Script, Seen, Signal, Situation,
-    Stop, StopCause, Text, Thread, VSlot, Version, What, Whereabouts, Who, is_text, prctl, read,
-    words_in,
+pub use hwp_check_events::{
+    Misfits, Shown, checkers_of, events_by_command, processor_faults, small_masks,
 };
-pub use making::{command_of, is_made_by, leads_to};
+pub use hwp_law::{
+    Acted, Answer, At, Code, Command, Cpu, CpuLine, Entry, EventLine, FileNo, Frame, FrameLine,
+    How, Layout, Line, List, MarkLine, Mask, McgBits, Met, Mode, OfflineResult, OfflinedLine,
+    OutOfMemory, Outcome, Page, PageKind, PageState, Policy, PrctlArgs, Proc, ReadScript, Reply,
+    Report, Script, Seen, Signal, Situation, Stop, StopCause, Text, Thread, VSlot, Version, What,
+    Whereabouts, Who, is_text, prctl, read, words_in,
+};
+pub use making::{command_of, has_watch, is_made_by, leads_to, watches};
 pub use pasts::{ThreadPolicies, done_of, dones_of, pasts_of};
 pub use policies::set_if;
 pub use rows::{answer_among, answer_of, commands_of, is_answer, rows_of, rows_on};

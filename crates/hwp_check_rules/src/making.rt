@@ -1,6 +1,7 @@
 ghost use Rattle.std.specs.Prelude.{◌≡◌, ◌⊎◌, ◌↔◌, IsTrue, IsSomeAnd, None};
 ghost use Rattle.hwp_law.specs.hwp_page.Step.{IsOf};
-ghost use Rattle.hwp_law.specs.hwp_law_commands.Commands.{access_of, can_fail, command_at, current_thread};
+ghost use Rattle.hwp_law.specs.hwp_law_commands.Commands.{access_of, can_fail, can_offline, command_at, current_thread, has_watch, is_watch};
+ghost use Rattle.std.specs.List.{list_any};
 ghost use Rattle.hwp_law.specs.Entries.{CanStandIn, IsAccessAt, IsMadeBy, IsRequiredBy, Makes};
 ghost use Rattle.hwp_law.specs.History.{Fits, FitsAccess, FitsLoad, FitsStore, IsMetBy, IsStoredBy, Names};
 
@@ -174,23 +175,33 @@ fn is_required_by(command: &Command, required: Option<Thread>) -> bool
     required.is_none() || required == thread_in(command)
 }
 
-/// Whether the command takes a frame out of use.
-fn makes_soft(command: &Command) -> bool
-    ensures { IsTrue result ↔ Makes command.now What.Soft }
+/// Whether the command can take frames out of use beside its answer.
+fn can_take_beside(command: &Command) -> bool
+    ensures { result ≡ can_offline command.now }
 {
-    matches!(command, Command::Soft { .. })
+    !matches!(command, Command::Inject { .. }) && can_have_failure(command)
+}
+
+/// Whether the command takes a frame out of use: by itself, or beside its answer.
+fn makes_soft(watches: bool, command: &Command) -> bool
+    ensures { IsTrue result ↔ Makes watches command.now What.Soft }
+{
+    match command {
+        Command::Soft { .. } => true,
+        _ => watches && can_take_beside(command),
+    }
 }
 
 /// Whether the entry is of a kind that the command makes, also where memory fails.
-fn makes(command: &Command, what: &What) -> bool
-    ensures { IsTrue result ↔ Makes command.now what.now }
+fn makes(watches: bool, command: &Command, what: &What) -> bool
+    ensures { IsTrue result ↔ Makes watches command.now what.now }
 {
     match what {
         What::Mce { slot, line, .. } => is_access_at(command, *slot, *line),
         What::Fail { required, .. } => {
             can_have_failure(command) && is_required_by(command, *required)
         }
-        What::Soft => makes_soft(command),
+        What::Soft => makes_soft(watches, command),
         _ => fits(command, what),
     }
 }
@@ -232,13 +243,39 @@ fn can_stand_in(layout: &Layout, command: &Command, page: Page, what: &What) -> 
     }
 }
 
-/// Whether the entry is one that its command makes, in a page where it can stand.
-pub fn is_made_by(script: &Script, page: Page, entry: &Entry) -> bool
+/// Whether the command gives its processor a collector of corrected errors.
+fn is_watch(command: &Command) -> bool
+    ensures { result ≡ is_watch command.now }
+{
+    matches!(*command, Command::Watch { .. })
+}
+
+/// Whether one of the commands does.
+pub fn watches(commands: &[Command]) -> bool
+    ensures { result ≡ list_any is_watch commands.now }
+{
+    commands.iter().any(is_watch)
+}
+
+/// Whether a command of the script does.
+pub fn has_watch(script: &Script) -> bool
+    ensures { result ≡ has_watch script.now }
+{
+    script
+        .lists
+        .as_slice()
+        .iter()
+        .any(|list| watches(list.as_slice()))
+}
+
+/// Whether the entry is one that its command makes, in a page where it can stand. The caller knows whether the script has a `watch`.
+pub fn is_made_by(script: &Script, watches: bool, page: Page, entry: &Entry) -> bool
+    requires { watches ≡ has_watch script.now }
     ensures { IsTrue result ↔ IsMadeBy script.now page entry.now }
 {
     match command_of(script, entry.who) {
         Some(command) => {
-            makes(&command, &entry.what)
+            makes(watches, &command, &entry.what)
                 && can_stand_in(&script.layout, &command, page, &entry.what)
         }
         None => false,
