@@ -2,43 +2,43 @@
 use Rattle.std.proofs.Common.{◌≡◌, ℕ, ◌+◌, ◌<◌, ◌≤◌, ◌⊎◌, inl, inr, List, [], ◌∷◌, ◌++◌, Option, Some, None, length, slice_get, refl, sym, ap, ◌∙◌, subst, arith}
 use Rattle.std.proofs.lemmas.List.{length-append}
 use Rattle.std.proofs.lemmas.Option.{same_Some, slice_get_within}
-use Rattle.hwp_cpu_row.specs.hwp_geom.declared.Cpu.{Cpu}
-use Rattle.hwp_cpu_row.specs.hwp_geom.declared.FileNo.{FileNo}
-use Rattle.hwp_cpu_row.specs.hwp_geom.declared.Layout.{Layout}
-use Rattle.hwp_cpu_row.specs.hwp_geom.declared.Thread.{Thread}
-use Rattle.hwp_cpu_row.specs.hwp_geom.declared.Who.{Who}
-use Rattle.hwp_cpu_row.specs.hwp_geom.Limits.{command_limit}
-use Rattle.hwp_cpu_row.specs.hwp_geom.Pairs.{Pairs}
-use Rattle.hwp_cpu_row.specs.hwp_script_lines.declared.Command.{Command}
-use Rattle.hwp_cpu_row.specs.hwp_report_text.declared.Answer.{Answer}
-use Rattle.hwp_cpu_row.specs.hwp_report_text.declared.Answer.TheVariants as answers
-use Rattle.hwp_cpu_row.specs.hwp_law_commands.Settings.{settings}
-use Rattle.hwp_cpu_row.specs.hwp_core_rule.declared.Debts.{Debts}
-use Rattle.hwp_cpu_row.specs.hwp_core_rule.declared.Mark.{Mark}
-use Rattle.hwp_cpu_row.specs.hwp_core_rule.declared.Part.{Part}
-use Rattle.hwp_cpu_row.specs.hwp_core_rule.declared.Setting.{Setting}
-use Rattle.hwp_cpu_row.specs.hwp_core_rule.declared.View.{View}
-use Rattle.hwp_cpu_row.specs.hwp_core_rule.Lists.{EachMember, SomeMember}
-use Rattle.hwp_cpu_row.specs.hwp_core_rule.Views.{no_debts}
-use Rattle.hwp_cpu_row.proofs.of_hwp_core_rule.Lists.{at_last}
-use Rattle.hwp_cpu_row.specs.hwp_core_task.Calls.{IsLater, IsOnTurn}
-use Rattle.hwp_cpu_row.specs.hwp_core_task.Hands.{Hand, hand_of, empty}
-use Rattle.hwp_cpu_row.specs.hwp_core_task.Known.{HasMadeNone}
-use Rattle.hwp_cpu_row.proofs.of_hwp_core_task.MadeEntries.{made-none}
-use Rattle.hwp_cpu_row.specs.declared.Row.{Row}
-use Rattle.hwp_cpu_row.specs.hwp_banks.Banks.{Banks, empty_banks}
-use Rattle.hwp_cpu_row.specs.declared.Local.{Local}
-use Rattle.hwp_cpu_command.specs.declared.job.Job.{Job}
-use Rattle.hwp_cpu_command.specs.Begins.{Begins}
-use Rattle.hwp_cpu_command.specs.FileHandles.{HasHandle, local_after, local_left}
-use Rattle.hwp_cpu_command.specs.Jobs as jobs
-use Rattle.hwp_cpu_command.specs.Jobs.{banks_before}
-use Rattle.hwp_cpu_command.specs.Runs.{Runs}
-use Rattle.hwp_cpu_command.specs.Settings.{policies_in}
-use Rattle.hwp_cpu_command.specs.Stays.{EndsStopped, IsAtStop, IsHalted, Stepped}
-use Rattle.hwp_cpu_command.proofs.JobEnds.{ends}
-use Rattle.hwp_cpu_command_laws.proofs.CommandRuns.{before-begins, begins-fits, begins-runs, runs-who}
-use Rattle.hwp_cpu_command_laws.proofs.CommandStops.{begins-stop, has-stopped, only-stopped, stopped-halts}
+use Rattle.hwp_cpu_course.specs.hwp_cpu_row.hwp_geom.declared.Cpu.{Cpu}
+use Rattle.hwp_cpu_course.specs.hwp_cpu_row.hwp_geom.declared.FileNo.{FileNo}
+use Rattle.hwp_cpu_course.specs.hwp_cpu_row.hwp_geom.declared.Layout.{Layout}
+use Rattle.hwp_cpu_course.specs.hwp_cpu_row.hwp_geom.declared.Thread.{Thread}
+use Rattle.hwp_cpu_course.specs.hwp_cpu_row.hwp_geom.declared.Who.{Who}
+use Rattle.hwp_cpu_course.specs.hwp_cpu_row.hwp_geom.Limits.{command_limit}
+use Rattle.hwp_cpu_course.specs.hwp_cpu_row.hwp_geom.Pairs.{Pairs}
+use Rattle.hwp_cpu_course.specs.hwp_cpu_row.hwp_script_lines.declared.Command.{Command}
+use Rattle.hwp_cpu_course.specs.hwp_cpu_row.hwp_report_text.declared.Answer.{Answer}
+use Rattle.hwp_cpu_course.specs.hwp_cpu_row.hwp_report_text.declared.Answer.TheVariants as answers
+use Rattle.hwp_cpu_course.specs.hwp_cpu_row.hwp_law_commands.Settings.{settings}
+use Rattle.hwp_cpu_course.specs.hwp_cpu_row.hwp_core_rule.declared.Debts.{Debts}
+use Rattle.hwp_cpu_course.specs.hwp_cpu_row.hwp_core_rule.declared.Mark.{Mark}
+use Rattle.hwp_cpu_course.specs.hwp_cpu_row.hwp_core_rule.declared.Part.{Part}
+use Rattle.hwp_cpu_course.specs.hwp_cpu_row.hwp_core_rule.declared.Setting.{Setting}
+use Rattle.hwp_cpu_course.specs.hwp_cpu_row.hwp_core_rule.declared.View.{View}
+use Rattle.hwp_cpu_course.specs.hwp_cpu_row.hwp_core_rule.Lists.{EachMember, SomeMember}
+use Rattle.hwp_cpu_course.specs.hwp_cpu_row.hwp_core_rule.Views.{no_debts}
+use Rattle.hwp_cpu_course.proofs.of_hwp_cpu_row.of_hwp_core_rule.Lists.{at_last}
+use Rattle.hwp_cpu_course.specs.hwp_cpu_row.hwp_core_task.Calls.{IsLater, IsOnTurn}
+use Rattle.hwp_cpu_course.specs.hwp_cpu_row.hwp_core_task.Hands.{Hand, hand_of, empty}
+use Rattle.hwp_cpu_course.specs.hwp_cpu_row.hwp_core_task.Known.{HasMadeNone}
+use Rattle.hwp_cpu_course.proofs.of_hwp_cpu_row.of_hwp_core_task.MadeEntries.{made-none}
+use Rattle.hwp_cpu_course.specs.hwp_cpu_row.declared.Row.{Row}
+use Rattle.hwp_cpu_course.specs.hwp_cpu_row.hwp_banks.Banks.{Banks, empty_banks}
+use Rattle.hwp_cpu_course.specs.hwp_cpu_row.declared.Local.{Local}
+use Rattle.hwp_cpu_course.specs.hwp_cpu_command.declared.job.Job.{Job}
+use Rattle.hwp_cpu_course.specs.hwp_cpu_command.Begins.{Begins}
+use Rattle.hwp_cpu_course.specs.hwp_cpu_command.FileHandles.{HasHandle, local_after, local_left}
+use Rattle.hwp_cpu_course.specs.hwp_cpu_command.Jobs as jobs
+use Rattle.hwp_cpu_course.specs.hwp_cpu_command.Jobs.{banks_before}
+use Rattle.hwp_cpu_course.specs.hwp_cpu_command.Runs.{Runs}
+use Rattle.hwp_cpu_course.specs.hwp_cpu_command.Settings.{policies_in}
+use Rattle.hwp_cpu_course.specs.hwp_cpu_command.Stays.{EndsStopped, IsAtStop, IsHalted, Stepped}
+use Rattle.hwp_cpu_course.proofs.of_hwp_cpu_command.JobEnds.{ends}
+use Rattle.hwp_cpu_course.proofs.of_hwp_cpu_command_laws.CommandRuns.{before-begins, begins-fits, begins-runs, runs-who}
+use Rattle.hwp_cpu_course.proofs.of_hwp_cpu_command_laws.CommandStops.{begins-stop, has-stopped, only-stopped, stopped-halts}
 use Rattle.hwp_cpu_causes.specs.hwp_law_served.Accounts.{IsNote}
 use Rattle.hwp_cpu_causes.specs.hwp_law_served.Handles.{answers_by, number_at}
 use Rattle.hwp_cpu_causes.specs.hwp_law_served.Rows.{notes_from}

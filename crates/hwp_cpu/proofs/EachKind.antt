@@ -1,28 +1,28 @@
 -- What is so of each kind of command.
 use Rattle.std.proofs.Common.{◌≡◌, ℕ, true, sym, ap, ◌∙◌, subst, []}
-use Rattle.hwp_cpu_row.specs.hwp_geom.declared.Damage.{Damage}
-use Rattle.hwp_cpu_row.specs.hwp_geom.declared.Damage.TheVariants as damages
-use Rattle.hwp_cpu_row.specs.hwp_geom.declared.Frame.{Frame}
-use Rattle.hwp_cpu_row.specs.hwp_geom.declared.Layout.{Layout}
-use Rattle.hwp_cpu_row.specs.hwp_geom.declared.Who.{Who}
-use Rattle.hwp_cpu_row.specs.hwp_script_lines.declared.Command.{Command}
-use Rattle.hwp_cpu_row.specs.hwp_script_lines.declared.Command.TheVariants as commands
-use Rattle.hwp_cpu_row.specs.hwp_core_rule.declared.Spoiled.{Spoiled}
-use Rattle.hwp_cpu_row.specs.hwp_core_rule.declared.View.{View}
-use Rattle.hwp_cpu_row.specs.hwp_core_task.Calls.{IsOnTurn}
-use Rattle.hwp_cpu_command.specs.hwp_cpu_control.declared.Spoil.{Spoil}
-use Rattle.hwp_cpu_command.specs.hwp_cpu_control.Spoils as spoils
-use Rattle.hwp_cpu_row.specs.hwp_cpu_check.Told.{halts}
-use Rattle.hwp_cpu_command.specs.hwp_cpu_access.declared.Instruction.{Instruction}
-use Rattle.hwp_cpu_command.specs.hwp_cpu_raise.declared.Raise.{Raise}
-use Rattle.hwp_cpu_command.specs.hwp_scrub.declared.Scrub.{Scrub}
-use Rattle.hwp_cpu_command.specs.declared.job.Job.{Job}
-use Rattle.hwp_cpu_command.specs.declared.job.Job.TheVariants as kinds
-use Rattle.hwp_cpu_command.specs.Jobs as jobs
-use Rattle.hwp_cpu_command.specs.Runs.{Runs, anew}
-use Rattle.hwp_cpu_command.specs.Stays as stays
-use Rattle.hwp_cpu_command.proofs.OfKind.{of-evict, of-fsync, of-inject, of-instruction, of-log, of-nested, of-prctl, of-raise, of-scrub, of-soft, of-spoil, of-unpoison}
-use Rattle.hwp_cpu_command_laws.proofs.CommandStops.{unrecovered}
+use Rattle.hwp_cpu_course.specs.hwp_cpu_row.hwp_geom.declared.Damage.{Damage}
+use Rattle.hwp_cpu_course.specs.hwp_cpu_row.hwp_geom.declared.Damage.TheVariants as damages
+use Rattle.hwp_cpu_course.specs.hwp_cpu_row.hwp_geom.declared.Frame.{Frame}
+use Rattle.hwp_cpu_course.specs.hwp_cpu_row.hwp_geom.declared.Layout.{Layout}
+use Rattle.hwp_cpu_course.specs.hwp_cpu_row.hwp_geom.declared.Who.{Who}
+use Rattle.hwp_cpu_course.specs.hwp_cpu_row.hwp_script_lines.declared.Command.{Command}
+use Rattle.hwp_cpu_course.specs.hwp_cpu_row.hwp_script_lines.declared.Command.TheVariants as commands
+use Rattle.hwp_cpu_course.specs.hwp_cpu_row.hwp_core_rule.declared.Spoiled.{Spoiled}
+use Rattle.hwp_cpu_course.specs.hwp_cpu_row.hwp_core_rule.declared.View.{View}
+use Rattle.hwp_cpu_course.specs.hwp_cpu_row.hwp_core_task.Calls.{IsOnTurn}
+use Rattle.hwp_cpu_course.specs.hwp_cpu_command.hwp_cpu_control.declared.Spoil.{Spoil}
+use Rattle.hwp_cpu_course.specs.hwp_cpu_command.hwp_cpu_control.Spoils as spoils
+use Rattle.hwp_cpu_course.specs.hwp_cpu_row.hwp_cpu_check.Told.{halts}
+use Rattle.hwp_cpu_course.specs.hwp_cpu_command.hwp_cpu_access.declared.Instruction.{Instruction}
+use Rattle.hwp_cpu_course.specs.hwp_cpu_command.hwp_cpu_raise.declared.Raise.{Raise}
+use Rattle.hwp_cpu_course.specs.hwp_cpu_command.hwp_scrub.declared.Scrub.{Scrub}
+use Rattle.hwp_cpu_course.specs.hwp_cpu_command.declared.job.Job.{Job}
+use Rattle.hwp_cpu_course.specs.hwp_cpu_command.declared.job.Job.TheVariants as kinds
+use Rattle.hwp_cpu_course.specs.hwp_cpu_command.Jobs as jobs
+use Rattle.hwp_cpu_course.specs.hwp_cpu_command.Runs.{Runs, anew}
+use Rattle.hwp_cpu_course.specs.hwp_cpu_command.Stays as stays
+use Rattle.hwp_cpu_course.proofs.of_hwp_cpu_command.OfKind.{of-evict, of-fsync, of-inject, of-instruction, of-log, of-nested, of-prctl, of-raise, of-scrub, of-soft, of-spoil, of-unpoison}
+use Rattle.hwp_cpu_course.proofs.of_hwp_cpu_command_laws.CommandStops.{unrecovered}
 use Rattle.hwp_cpu_causes.specs.hwp_law_served.Served.{CanStop, spoiling}
 
 -- a command that fits is that of the turn

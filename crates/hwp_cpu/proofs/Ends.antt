@@ -3,24 +3,24 @@ use Rattle.std.proofs.Common.{◌≡◌, ℕ, ◌<◌, ◌≤◌, ◌⊎◌, inl
 use Rattle.std.proofs.lemmas.Bool.{cases_lt}
 use Rattle.std.proofs.lemmas.List.{get_or_past, length-map}
 use Rattle.std.proofs.lemmas.Option.{get_or_from_slice_get}
-use Rattle.hwp_cpu_row.specs.hwp_geom.declared.Cpu.{Cpu}
-use Rattle.hwp_cpu_row.specs.hwp_geom.declared.Layout.{Layout}
-use Rattle.hwp_cpu_row.specs.hwp_geom.Limits.{command_limit}
-use Rattle.hwp_cpu_row.specs.hwp_page.History.{BodyValue}
-use Rattle.hwp_cpu_row.specs.hwp_script_lines.declared.Command.{Command}
-use Rattle.hwp_cpu_row.specs.hwp_report_text.declared.Answer.{Answer}
-use Rattle.hwp_cpu_row.specs.declared.Row.{Row}
-use Rattle.hwp_cpu_row.specs.declared.Local.{Local}
-use Rattle.hwp_cpu_row.specs.hwp_core_rule.declared.State.{State}
-use Rattle.hwp_cpu_row.specs.hwp_core_rule.declared.View.{View}
-use Rattle.hwp_cpu_row.specs.hwp_core_rule.Opening.{below, opening, opening_view}
-use Rattle.hwp_cpu_row.specs.hwp_core_rule.Rule.{Holds}
-use Rattle.hwp_cpu_row.proofs.of_hwp_core_rule.Lists.{at_map}
-use Rattle.hwp_cpu_row.proofs.of_hwp_core_rule.WordsOpen.{below-at, length-below}
-use Rattle.hwp_cpu_row.specs.hwp_core_task.declared.Turn.{Turn}
-use Rattle.hwp_cpu_row.specs.hwp_core_task.Boards.{AreSeated, view_of}
-use Rattle.hwp_cpu_command.specs.declared.job.Job.{Job}
-use Rattle.hwp_cpu_command.specs.Jobs as jobs
+use Rattle.hwp_cpu_course.specs.hwp_cpu_row.hwp_geom.declared.Cpu.{Cpu}
+use Rattle.hwp_cpu_course.specs.hwp_cpu_row.hwp_geom.declared.Layout.{Layout}
+use Rattle.hwp_cpu_course.specs.hwp_cpu_row.hwp_geom.Limits.{command_limit}
+use Rattle.hwp_cpu_course.specs.hwp_cpu_row.hwp_page.History.{BodyValue}
+use Rattle.hwp_cpu_course.specs.hwp_cpu_row.hwp_script_lines.declared.Command.{Command}
+use Rattle.hwp_cpu_course.specs.hwp_cpu_row.hwp_report_text.declared.Answer.{Answer}
+use Rattle.hwp_cpu_course.specs.hwp_cpu_row.declared.Row.{Row}
+use Rattle.hwp_cpu_course.specs.hwp_cpu_row.declared.Local.{Local}
+use Rattle.hwp_cpu_course.specs.hwp_cpu_row.hwp_core_rule.declared.State.{State}
+use Rattle.hwp_cpu_course.specs.hwp_cpu_row.hwp_core_rule.declared.View.{View}
+use Rattle.hwp_cpu_course.specs.hwp_cpu_row.hwp_core_rule.Opening.{below, opening, opening_view}
+use Rattle.hwp_cpu_course.specs.hwp_cpu_row.hwp_core_rule.Rule.{Holds}
+use Rattle.hwp_cpu_course.proofs.of_hwp_cpu_row.of_hwp_core_rule.Lists.{at_map}
+use Rattle.hwp_cpu_course.proofs.of_hwp_cpu_row.of_hwp_core_rule.WordsOpen.{below-at, length-below}
+use Rattle.hwp_cpu_course.specs.hwp_cpu_row.hwp_core_task.declared.Turn.{Turn}
+use Rattle.hwp_cpu_course.specs.hwp_cpu_row.hwp_core_task.Boards.{AreSeated, view_of}
+use Rattle.hwp_cpu_course.specs.hwp_cpu_command.declared.job.Job.{Job}
+use Rattle.hwp_cpu_course.specs.hwp_cpu_command.Jobs as jobs
 use Rattle.hwp_cpu_causes.specs.hwp_law_served.Served.{IsServed}
 use Rattle.hwp_cpu.specs.declared.processor.Processor.{Processor}
 use Rattle.hwp_cpu.specs.Processors.{AtBeginning, Follows, Next, NextOf, bare, who}

@@ -3,27 +3,27 @@ use Rattle.std.proofs.Common.{◌≡◌, ◌≢◌, ℕ, ◌+◌, ◌-◌, ◌*�
 use Rattle.std.proofs.lemmas.Bool.{both_ways}
 use Rattle.std.proofs.lemmas.List.{length-append}
 use Rattle.std.proofs.lemmas.Option.{none-some, slice_get_within}
-use Rattle.hwp_cpu_row.specs.hwp_geom.declared.Frame.{Frame}
-use Rattle.hwp_cpu_row.specs.hwp_geom.declared.Layout.{Layout}
-use Rattle.hwp_cpu_row.specs.hwp_geom.declared.Who.{Who}
-use Rattle.hwp_cpu_row.specs.hwp_geom.Limits.{command_limit}
-use Rattle.hwp_cpu_row.specs.hwp_script_lines.declared.Command.{Command}
-use Rattle.hwp_cpu_row.specs.hwp_report_text.declared.Answer.{Answer}
-use Rattle.hwp_cpu_row.specs.hwp_core_rule.declared.State.{State}
-use Rattle.hwp_cpu_row.specs.hwp_core_rule.Moves.{Move}
-use Rattle.hwp_cpu_row.specs.hwp_core_rule.Rule.{Holds}
-use Rattle.hwp_cpu_row.specs.hwp_core_task.declared.Turn.{Turn}
-use Rattle.hwp_cpu_row.specs.hwp_core_task.Boards.{view_of}
-use Rattle.hwp_cpu_row.specs.hwp_core_task.Calls.{logs, rec_of}
-use Rattle.hwp_cpu_row.specs.hwp_core_task.Ranks.{Made, CostFalls, HasFailed, IsRanked, OtherHand, PaysRevival, Pending, Quiet, failure_weight, failures_left, is_refused, is_waits, top, words_at, command_weight}
-use Rattle.hwp_cpu_row.specs.declared.Row.{Row}
-use Rattle.hwp_cpu_row.specs.declared.Local.{Local}
-use Rattle.hwp_cpu_command.specs.declared.job.Job.{Job}
-use Rattle.hwp_cpu_command.specs.Jobs as jobs
-use Rattle.hwp_cpu_command.specs.FileHandles.{local_after}
-use Rattle.hwp_cpu_command.proofs.JobLaws as jobbing
-use Rattle.hwp_cpu_command_laws.proofs.Below.{begins-below, job-below}
-use Rattle.hwp_cpu_command_laws.proofs.CommandRuns.{has-begun}
+use Rattle.hwp_cpu_course.specs.hwp_cpu_row.hwp_geom.declared.Frame.{Frame}
+use Rattle.hwp_cpu_course.specs.hwp_cpu_row.hwp_geom.declared.Layout.{Layout}
+use Rattle.hwp_cpu_course.specs.hwp_cpu_row.hwp_geom.declared.Who.{Who}
+use Rattle.hwp_cpu_course.specs.hwp_cpu_row.hwp_geom.Limits.{command_limit}
+use Rattle.hwp_cpu_course.specs.hwp_cpu_row.hwp_script_lines.declared.Command.{Command}
+use Rattle.hwp_cpu_course.specs.hwp_cpu_row.hwp_report_text.declared.Answer.{Answer}
+use Rattle.hwp_cpu_course.specs.hwp_cpu_row.hwp_core_rule.declared.State.{State}
+use Rattle.hwp_cpu_course.specs.hwp_cpu_row.hwp_core_rule.Moves.{Move}
+use Rattle.hwp_cpu_course.specs.hwp_cpu_row.hwp_core_rule.Rule.{Holds}
+use Rattle.hwp_cpu_course.specs.hwp_cpu_row.hwp_core_task.declared.Turn.{Turn}
+use Rattle.hwp_cpu_course.specs.hwp_cpu_row.hwp_core_task.Boards.{view_of}
+use Rattle.hwp_cpu_course.specs.hwp_cpu_row.hwp_core_task.Calls.{logs, rec_of}
+use Rattle.hwp_cpu_course.specs.hwp_cpu_row.hwp_core_task.Ranks.{Made, CostFalls, HasFailed, IsRanked, OtherHand, PaysRevival, Pending, Quiet, failure_weight, failures_left, is_refused, is_waits, top, words_at, command_weight}
+use Rattle.hwp_cpu_course.specs.hwp_cpu_row.declared.Row.{Row}
+use Rattle.hwp_cpu_course.specs.hwp_cpu_row.declared.Local.{Local}
+use Rattle.hwp_cpu_course.specs.hwp_cpu_command.declared.job.Job.{Job}
+use Rattle.hwp_cpu_course.specs.hwp_cpu_command.Jobs as jobs
+use Rattle.hwp_cpu_course.specs.hwp_cpu_command.FileHandles.{local_after}
+use Rattle.hwp_cpu_course.proofs.of_hwp_cpu_command.JobLaws as jobbing
+use Rattle.hwp_cpu_course.proofs.of_hwp_cpu_command_laws.Below.{begins-below, job-below}
+use Rattle.hwp_cpu_course.proofs.of_hwp_cpu_command_laws.CommandRuns.{has-begun}
 use Rattle.hwp_cpu.specs.declared.processor.Processor.{Processor}
 use Rattle.hwp_cpu.specs.Processors.{BeginsAt, Follows, IsAnswered, NextOf, aborts, aborts_of, at_number, bare, claims, claims_of, class, class_of, cost, cost_of, plan, plan_of, put_of, who_of}
 use Rattle.hwp_cpu.specs.Serving.{Fits, FitsAt, IsRunning, task}

@@ -1,34 +1,34 @@
 -- A step of the command that runs leaves what the processor keeps.
 use Rattle.std.proofs.Common.{◌≡◌, ◌≢◌, ℕ, ◌⊎◌, inl, inr, false, List, [], Some, length, slice_get, refl, subst, sym, ap, ◌∙◌, arith}
 use Rattle.std.proofs.lemmas.Option.{none-some}
-use Rattle.hwp_cpu_row.specs.hwp_geom.declared.Cpu.{Cpu}
-use Rattle.hwp_cpu_row.specs.hwp_geom.declared.Layout.{Layout}
-use Rattle.hwp_cpu_row.specs.hwp_geom.declared.Thread.{Thread}
-use Rattle.hwp_cpu_row.specs.hwp_geom.declared.Who.{Who}
-use Rattle.hwp_cpu_row.specs.hwp_script_lines.declared.Command.{Command}
-use Rattle.hwp_cpu_row.specs.hwp_report_text.declared.Answer.TheVariants as answers
-use Rattle.hwp_cpu_row.specs.hwp_law_commands.Settings.{settings}
-use Rattle.hwp_cpu_row.specs.hwp_core_rule.declared.SharedWord.TheVariants as places
-use Rattle.hwp_cpu_row.specs.hwp_core_rule.declared.Step.{Step}
-use Rattle.hwp_cpu_row.specs.hwp_core_rule.declared.View.{View}
-use Rattle.hwp_cpu_row.specs.hwp_core_rule.Lists.{EachMember}
-use Rattle.hwp_cpu_row.proofs.of_hwp_core_rule.Lists.{at_push}
-use Rattle.hwp_cpu_row.specs.hwp_core_task.Calls.{CanMake}
-use Rattle.hwp_cpu_row.specs.hwp_core_task.Known.{Saw}
-use Rattle.hwp_cpu_row.specs.declared.Row.{Row}
-use Rattle.hwp_cpu_row.specs.declared.Local.{Local}
-use Rattle.hwp_cpu_row.specs.hwp_banks.Banks.{empty_banks}
-use Rattle.hwp_cpu_command.specs.hwp_words.Stops.{is_stopped}
-use Rattle.hwp_cpu_command.specs.declared.job.Job.{Job}
-use Rattle.hwp_cpu_command.specs.Jobs as jobs
-use Rattle.hwp_cpu_command.specs.Jobs.{banks_before}
-use Rattle.hwp_cpu_command.specs.Runs.{Runs}
-use Rattle.hwp_cpu_command.specs.Stays.{EndsStopped, Stepped, StopsItself}
-use Rattle.hwp_cpu_command.proofs.JobLaws as jobbing
-use Rattle.hwp_cpu_command.proofs.JobEnds.{answered-over}
-use Rattle.hwp_cpu_command_laws.proofs.CommandRuns.{before-stays, runs-on, runs-who}
-use Rattle.hwp_cpu_command_laws.proofs.HandleKeeps.{handle-stays}
-use Rattle.hwp_cpu_command_laws.proofs.CommandStops.{halted-stays, has-stopped, looks-first, no-own-stop, stops-after}
+use Rattle.hwp_cpu_course.specs.hwp_cpu_row.hwp_geom.declared.Cpu.{Cpu}
+use Rattle.hwp_cpu_course.specs.hwp_cpu_row.hwp_geom.declared.Layout.{Layout}
+use Rattle.hwp_cpu_course.specs.hwp_cpu_row.hwp_geom.declared.Thread.{Thread}
+use Rattle.hwp_cpu_course.specs.hwp_cpu_row.hwp_geom.declared.Who.{Who}
+use Rattle.hwp_cpu_course.specs.hwp_cpu_row.hwp_script_lines.declared.Command.{Command}
+use Rattle.hwp_cpu_course.specs.hwp_cpu_row.hwp_report_text.declared.Answer.TheVariants as answers
+use Rattle.hwp_cpu_course.specs.hwp_cpu_row.hwp_law_commands.Settings.{settings}
+use Rattle.hwp_cpu_course.specs.hwp_cpu_row.hwp_core_rule.declared.SharedWord.TheVariants as places
+use Rattle.hwp_cpu_course.specs.hwp_cpu_row.hwp_core_rule.declared.Step.{Step}
+use Rattle.hwp_cpu_course.specs.hwp_cpu_row.hwp_core_rule.declared.View.{View}
+use Rattle.hwp_cpu_course.specs.hwp_cpu_row.hwp_core_rule.Lists.{EachMember}
+use Rattle.hwp_cpu_course.proofs.of_hwp_cpu_row.of_hwp_core_rule.Lists.{at_push}
+use Rattle.hwp_cpu_course.specs.hwp_cpu_row.hwp_core_task.Calls.{CanMake}
+use Rattle.hwp_cpu_course.specs.hwp_cpu_row.hwp_core_task.Known.{Saw}
+use Rattle.hwp_cpu_course.specs.hwp_cpu_row.declared.Row.{Row}
+use Rattle.hwp_cpu_course.specs.hwp_cpu_row.declared.Local.{Local}
+use Rattle.hwp_cpu_course.specs.hwp_cpu_row.hwp_banks.Banks.{empty_banks}
+use Rattle.hwp_cpu_course.specs.hwp_cpu_command.hwp_words.Stops.{is_stopped}
+use Rattle.hwp_cpu_course.specs.hwp_cpu_command.declared.job.Job.{Job}
+use Rattle.hwp_cpu_course.specs.hwp_cpu_command.Jobs as jobs
+use Rattle.hwp_cpu_course.specs.hwp_cpu_command.Jobs.{banks_before}
+use Rattle.hwp_cpu_course.specs.hwp_cpu_command.Runs.{Runs}
+use Rattle.hwp_cpu_course.specs.hwp_cpu_command.Stays.{EndsStopped, Stepped, StopsItself}
+use Rattle.hwp_cpu_course.proofs.of_hwp_cpu_command.JobLaws as jobbing
+use Rattle.hwp_cpu_course.proofs.of_hwp_cpu_command.JobEnds.{answered-over}
+use Rattle.hwp_cpu_course.proofs.of_hwp_cpu_command_laws.CommandRuns.{before-stays, runs-on, runs-who}
+use Rattle.hwp_cpu_course.proofs.of_hwp_cpu_command_laws.HandleKeeps.{handle-stays}
+use Rattle.hwp_cpu_course.proofs.of_hwp_cpu_command_laws.CommandStops.{halted-stays, has-stopped, looks-first, no-own-stop, stops-after}
 use Rattle.hwp_cpu_causes.specs.hwp_law_served.Handles.{answers_by}
 use Rattle.hwp_cpu_causes.specs.hwp_law_served.Served.{AreRowsServed, IsOwnStop, SawRunning}
 use Rattle.hwp_cpu_causes.proofs.of_hwp_law_served.CommandKeeps.{row-stays, saw-running-stays}

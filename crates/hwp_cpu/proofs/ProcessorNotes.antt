@@ -7,55 +7,55 @@ use Rattle.std.specs.Prelude.{option_map}
 use Rattle.std.proofs.lemmas.Bool.{false_from_ne_true}
 use Rattle.std.proofs.lemmas.List.{length-map, map-append, nil_from_length}
 use Rattle.std.proofs.lemmas.Option.{none-some, same_Some}
-use Rattle.hwp_cpu_row.specs.hwp_geom.declared.Cpu.{Cpu}
-use Rattle.hwp_cpu_row.specs.hwp_geom.declared.Frame.{Frame}
-use Rattle.hwp_cpu_row.specs.hwp_geom.declared.Layout.{Layout}
-use Rattle.hwp_cpu_row.specs.hwp_geom.declared.Page.{Page}
-use Rattle.hwp_cpu_row.specs.hwp_geom.declared.Who.{Who}
-use Rattle.hwp_cpu_row.specs.hwp_geom.Pairs.{Pairs}
-use Rattle.hwp_cpu_row.specs.hwp_page.declared.What.{What}
-use Rattle.hwp_cpu_row.specs.hwp_page.declared.What.TheVariants as entries
-use Rattle.hwp_cpu_row.specs.hwp_page.Losses.{is_loss}
-use Rattle.hwp_cpu_row.specs.hwp_page.Situations.{outcome_of}
-use Rattle.hwp_cpu_row.specs.hwp_core_rule.declared.Made.{Made}
-use Rattle.hwp_cpu_row.specs.hwp_core_rule.declared.Mark.{Mark}
-use Rattle.hwp_cpu_row.specs.hwp_core_rule.declared.MarkKind.TheVariants as mark_kinds
-use Rattle.hwp_cpu_row.specs.hwp_core_rule.declared.Setting.{Setting}
-use Rattle.hwp_cpu_row.specs.hwp_core_rule.declared.Spoiled.{Spoiled}
-use Rattle.hwp_cpu_row.specs.hwp_core_rule.declared.View.{View}
-use Rattle.hwp_cpu_row.specs.hwp_core_rule.Lists.{EachMember}
-use Rattle.hwp_cpu_row.specs.hwp_core_rule.Views.{no_debts}
-use Rattle.hwp_cpu_row.proofs.of_hwp_core_rule.Lists.{at_last, at_push, each-push, sum-zero}
-use Rattle.hwp_cpu_row.specs.hwp_core_task.Calls.{CanMake}
-use Rattle.hwp_cpu_row.specs.hwp_core_task.Known.{HasMadeNone, deeds}
-use Rattle.hwp_cpu_row.specs.hwp_claim_act.declared.Failed.{Failed}
-use Rattle.hwp_cpu_row.specs.hwp_claim_act.Abandoned as abandoned
-use Rattle.hwp_cpu_row.specs.hwp_claim_frame.Claims.{HasMarkedNone, is_own}
-use Rattle.hwp_cpu_row.specs.hwp_claim_frame.Done.{Grows, Marking, counts_owed, marking_of, poisoning}
-use Rattle.hwp_cpu_row.specs.hwp_script_lines.declared.Command.{Command}
-use Rattle.hwp_cpu_row.specs.hwp_report_text.declared.Answer.{Answer}
-use Rattle.hwp_cpu_row.specs.hwp_report_text.declared.Answer.TheVariants as answers
-use Rattle.hwp_cpu_row.specs.hwp_report_text.declared.How.{How}
-use Rattle.hwp_cpu_row.specs.hwp_report_text.declared.How.TheVariants as hows
-use Rattle.hwp_cpu_row.specs.hwp_report_text.declared.MarkLine.TheVariants as lines
-use Rattle.hwp_cpu_row.specs.hwp_claim.declared.Found.{Found}
-use Rattle.hwp_cpu_row.specs.declared.FrameChange.{FrameChange}
-use Rattle.hwp_cpu_row.specs.declared.FrameChange.TheVariants as owns
-use Rattle.hwp_cpu_row.specs.declared.Row.{Row}
-use Rattle.hwp_cpu_row.specs.hwp_cpu_check.declared.EventOutcome.{EventOutcome}
-use Rattle.hwp_cpu_row.specs.hwp_cpu_check.Done.{marked_in}
-use Rattle.hwp_cpu_row.specs.hwp_cpu_check.Told.{frame_of}
-use Rattle.hwp_cpu_command.specs.hwp_cpu_access.Done.{FailuresGrow}
-use Rattle.hwp_cpu_command.specs.declared.Job.{Job}
-use Rattle.hwp_cpu_command.specs.Done.{HasDone, failed_now, marked_now}
-use Rattle.hwp_cpu_command.specs.Settings.{policies_now}
-use Rattle.hwp_cpu_command.specs.Jobs as jobs
-use Rattle.hwp_cpu_command.specs.Runs.{Runs}
-use Rattle.hwp_cpu_command.specs.Stays.{HasSpoiled, IsAtStop, Stepped}
-use Rattle.hwp_cpu_command.proofs.JobEnds.{answered-over, paid-at-end}
-use Rattle.hwp_cpu_command_laws.proofs.CommandDeeds.{done, failures-at-end, grown, none-listed, unfailed-at-start, unmarked-at-start, unowed-at-end, unowed-at-start, unset-policies-at-start}
-use Rattle.hwp_cpu_command_laws.proofs.CommandRuns.{can-fail-stays}
-use Rattle.hwp_cpu_command_laws.proofs.CommandStops.{has-spoiled, spoils-after}
+use Rattle.hwp_cpu_course.specs.hwp_cpu_row.hwp_geom.declared.Cpu.{Cpu}
+use Rattle.hwp_cpu_course.specs.hwp_cpu_row.hwp_geom.declared.Frame.{Frame}
+use Rattle.hwp_cpu_course.specs.hwp_cpu_row.hwp_geom.declared.Layout.{Layout}
+use Rattle.hwp_cpu_course.specs.hwp_cpu_row.hwp_geom.declared.Page.{Page}
+use Rattle.hwp_cpu_course.specs.hwp_cpu_row.hwp_geom.declared.Who.{Who}
+use Rattle.hwp_cpu_course.specs.hwp_cpu_row.hwp_geom.Pairs.{Pairs}
+use Rattle.hwp_cpu_course.specs.hwp_cpu_row.hwp_page.declared.What.{What}
+use Rattle.hwp_cpu_course.specs.hwp_cpu_row.hwp_page.declared.What.TheVariants as entries
+use Rattle.hwp_cpu_course.specs.hwp_cpu_row.hwp_page.Losses.{is_loss}
+use Rattle.hwp_cpu_course.specs.hwp_cpu_row.hwp_page.Situations.{outcome_of}
+use Rattle.hwp_cpu_course.specs.hwp_cpu_row.hwp_core_rule.declared.Made.{Made}
+use Rattle.hwp_cpu_course.specs.hwp_cpu_row.hwp_core_rule.declared.Mark.{Mark}
+use Rattle.hwp_cpu_course.specs.hwp_cpu_row.hwp_core_rule.declared.MarkKind.TheVariants as mark_kinds
+use Rattle.hwp_cpu_course.specs.hwp_cpu_row.hwp_core_rule.declared.Setting.{Setting}
+use Rattle.hwp_cpu_course.specs.hwp_cpu_row.hwp_core_rule.declared.Spoiled.{Spoiled}
+use Rattle.hwp_cpu_course.specs.hwp_cpu_row.hwp_core_rule.declared.View.{View}
+use Rattle.hwp_cpu_course.specs.hwp_cpu_row.hwp_core_rule.Lists.{EachMember}
+use Rattle.hwp_cpu_course.specs.hwp_cpu_row.hwp_core_rule.Views.{no_debts}
+use Rattle.hwp_cpu_course.proofs.of_hwp_cpu_row.of_hwp_core_rule.Lists.{at_last, at_push, each-push, sum-zero}
+use Rattle.hwp_cpu_course.specs.hwp_cpu_row.hwp_core_task.Calls.{CanMake}
+use Rattle.hwp_cpu_course.specs.hwp_cpu_row.hwp_core_task.Known.{HasMadeNone, deeds}
+use Rattle.hwp_cpu_course.specs.hwp_cpu_row.hwp_claim_act.declared.Failed.{Failed}
+use Rattle.hwp_cpu_course.specs.hwp_cpu_row.hwp_claim_act.Abandoned as abandoned
+use Rattle.hwp_cpu_course.specs.hwp_cpu_row.hwp_claim_frame.Claims.{HasMarkedNone, is_own}
+use Rattle.hwp_cpu_course.specs.hwp_cpu_row.hwp_claim_frame.Done.{Grows, Marking, counts_owed, marking_of, poisoning}
+use Rattle.hwp_cpu_course.specs.hwp_cpu_row.hwp_script_lines.declared.Command.{Command}
+use Rattle.hwp_cpu_course.specs.hwp_cpu_row.hwp_report_text.declared.Answer.{Answer}
+use Rattle.hwp_cpu_course.specs.hwp_cpu_row.hwp_report_text.declared.Answer.TheVariants as answers
+use Rattle.hwp_cpu_course.specs.hwp_cpu_row.hwp_report_text.declared.How.{How}
+use Rattle.hwp_cpu_course.specs.hwp_cpu_row.hwp_report_text.declared.How.TheVariants as hows
+use Rattle.hwp_cpu_course.specs.hwp_cpu_row.hwp_report_text.declared.MarkLine.TheVariants as lines
+use Rattle.hwp_cpu_course.specs.hwp_cpu_row.hwp_claim.declared.Found.{Found}
+use Rattle.hwp_cpu_course.specs.hwp_cpu_row.declared.FrameChange.{FrameChange}
+use Rattle.hwp_cpu_course.specs.hwp_cpu_row.declared.FrameChange.TheVariants as owns
+use Rattle.hwp_cpu_course.specs.hwp_cpu_row.declared.Row.{Row}
+use Rattle.hwp_cpu_course.specs.hwp_cpu_row.hwp_cpu_check.declared.EventOutcome.{EventOutcome}
+use Rattle.hwp_cpu_course.specs.hwp_cpu_row.hwp_cpu_check.Done.{marked_in}
+use Rattle.hwp_cpu_course.specs.hwp_cpu_row.hwp_cpu_check.Told.{frame_of}
+use Rattle.hwp_cpu_course.specs.hwp_cpu_command.hwp_cpu_access.Done.{FailuresGrow}
+use Rattle.hwp_cpu_course.specs.hwp_cpu_command.declared.Job.{Job}
+use Rattle.hwp_cpu_course.specs.hwp_cpu_command.Done.{HasDone, failed_now, marked_now}
+use Rattle.hwp_cpu_course.specs.hwp_cpu_command.Settings.{policies_now}
+use Rattle.hwp_cpu_course.specs.hwp_cpu_command.Jobs as jobs
+use Rattle.hwp_cpu_course.specs.hwp_cpu_command.Runs.{Runs}
+use Rattle.hwp_cpu_course.specs.hwp_cpu_command.Stays.{HasSpoiled, IsAtStop, Stepped}
+use Rattle.hwp_cpu_course.proofs.of_hwp_cpu_command.JobEnds.{answered-over, paid-at-end}
+use Rattle.hwp_cpu_course.proofs.of_hwp_cpu_command_laws.CommandDeeds.{done, failures-at-end, grown, none-listed, unfailed-at-start, unmarked-at-start, unowed-at-end, unowed-at-start, unset-policies-at-start}
+use Rattle.hwp_cpu_course.proofs.of_hwp_cpu_command_laws.CommandRuns.{can-fail-stays}
+use Rattle.hwp_cpu_course.proofs.of_hwp_cpu_command_laws.CommandStops.{has-spoiled, spoils-after}
 use Rattle.hwp_cpu_causes.specs.hwp_law_served.Accounts.{IsHow, IsNote, failures, is_same, marking_by, markings_in, own_marking}
 use Rattle.hwp_cpu_causes.specs.hwp_law_served.Owed.{OwesOwn, loss_of, losses_by}
 use Rattle.hwp_cpu_causes.specs.hwp_law_served.Rows.{Note, note_by, note_of, notes_from, own_note, row_notes, told_note}

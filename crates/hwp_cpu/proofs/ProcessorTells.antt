@@ -1,14 +1,14 @@
 -- The class of a processor tells what it holds.
 use Rattle.std.proofs.Common.{◌≡◌, ◌≢◌, ℕ, ◌≤◌, Option, Some, None, []}
 use Rattle.std.proofs.lemmas.Option.{none-some}
-use Rattle.hwp_cpu_row.specs.hwp_geom.declared.Frame.{Frame}
-use Rattle.hwp_cpu_row.specs.hwp_geom.declared.Layout.{Layout}
-use Rattle.hwp_cpu_row.specs.hwp_core_rule.declared.View.{View}
-use Rattle.hwp_cpu_row.specs.hwp_core_task.Classes.{TellsClass}
-use Rattle.hwp_cpu_row.specs.hwp_core_task.Ranks.{HasFrame, HasPage}
-use Rattle.hwp_cpu_command.proofs.of_hwp_cpu_control.EmptyHands.{no-frame, no-page}
-use Rattle.hwp_cpu_command.specs.declared.job.Job.{Job}
-use Rattle.hwp_cpu_command.proofs.JobLaws as jobbing
+use Rattle.hwp_cpu_course.specs.hwp_cpu_row.hwp_geom.declared.Frame.{Frame}
+use Rattle.hwp_cpu_course.specs.hwp_cpu_row.hwp_geom.declared.Layout.{Layout}
+use Rattle.hwp_cpu_course.specs.hwp_cpu_row.hwp_core_rule.declared.View.{View}
+use Rattle.hwp_cpu_course.specs.hwp_cpu_row.hwp_core_task.Classes.{TellsClass}
+use Rattle.hwp_cpu_course.specs.hwp_cpu_row.hwp_core_task.Ranks.{HasFrame, HasPage}
+use Rattle.hwp_cpu_course.proofs.of_hwp_cpu_command.of_hwp_cpu_control.EmptyHands.{no-frame, no-page}
+use Rattle.hwp_cpu_course.specs.hwp_cpu_command.declared.job.Job.{Job}
+use Rattle.hwp_cpu_course.proofs.of_hwp_cpu_command.JobLaws as jobbing
 use Rattle.hwp_cpu.specs.declared.processor.Processor.{Processor}
 use Rattle.hwp_cpu.specs.Processors.{claims, claims_of, class, class_of, plan, plan_of}
 use Rattle.hwp_cpu.specs.Serving.{Fits, FitsAt, task}

@@ -1,37 +1,37 @@
 -- What a processor keeps while it runs its commands.
 use Rattle.std.specs.Prelude.{◌≡◌, ℕ, ◌+◌, ◌<◌, ◌≤◌, ◌⊎◌, true, List, [], ◌++◌, Option, Some, None, length, map, slice_get}
 use Rattle.std.specs.Arc.{arc_value}
-use Rattle.hwp_cpu_row.specs.hwp_geom.declared.Cpu.{Cpu}
-use Rattle.hwp_cpu_row.specs.hwp_geom.declared.FileNo.{FileNo}
-use Rattle.hwp_cpu_row.specs.hwp_geom.declared.Layout.{Layout}
-use Rattle.hwp_cpu_row.specs.hwp_geom.declared.Thread.{Thread}
-use Rattle.hwp_cpu_row.specs.hwp_geom.declared.Who.{Who}
-use Rattle.hwp_cpu_row.specs.hwp_geom.Pairs.{Pairs}
-use Rattle.hwp_cpu_row.specs.hwp_script_lines.declared.Command.{Command}
-use Rattle.hwp_cpu_row.specs.hwp_report_text.declared.Answer.TheVariants as answers
-use Rattle.hwp_cpu_row.specs.hwp_core_rule.declared.Mark.{Mark}
-use Rattle.hwp_cpu_row.specs.hwp_core_rule.declared.Setting.{Setting}
-use Rattle.hwp_cpu_row.specs.hwp_core_rule.declared.Spoiled.{Spoiled}
-use Rattle.hwp_cpu_row.specs.hwp_core_rule.declared.View.{View}
-use Rattle.hwp_cpu_row.specs.hwp_core_rule.Lists.{EachMember}
-use Rattle.hwp_cpu_row.specs.hwp_core_rule.Views.{no_debts}
-use Rattle.hwp_cpu_row.specs.hwp_core_task.Hands.{hand_of, empty}
-use Rattle.hwp_cpu_row.specs.hwp_core_task.Known.{HasMadeNone}
-use Rattle.hwp_cpu_row.specs.hwp_core_task.Turns.{Member}
-use Rattle.hwp_cpu_row.specs.hwp_claim_frame.Done.{marking_of}
-use Rattle.hwp_cpu_row.specs.declared.Local.{Local}
-use Rattle.hwp_cpu_row.specs.declared.Row.{Row}
-use Rattle.hwp_cpu_row.specs.hwp_banks.Banks.{Banks, empty_banks}
-use Rattle.hwp_cpu_row.specs.hwp_law_commands.Settings.{settings}
-use Rattle.hwp_cpu_command.specs.declared.job.Job.{Job}
-use Rattle.hwp_cpu_command.specs.Done.{HasCounted, can_fail, failed_now, marked_now}
-use Rattle.hwp_cpu_command.specs.FileHandles.{HasHandle}
-use Rattle.hwp_cpu_command.specs.Jobs as jobs
-use Rattle.hwp_cpu_command.specs.Jobs.{banks_before}
-use Rattle.hwp_cpu_command.specs.Runs.{Runs}
-use Rattle.hwp_cpu_command.specs.Settings.{AreCounted, policies_in, policies_now}
-use Rattle.hwp_cpu_command.specs.Stays as stays
-use Rattle.hwp_cpu_command.specs.Stays.{EndsStopped, HasSpoiled, IsHalted}
+use Rattle.hwp_cpu_course.specs.hwp_cpu_row.hwp_geom.declared.Cpu.{Cpu}
+use Rattle.hwp_cpu_course.specs.hwp_cpu_row.hwp_geom.declared.FileNo.{FileNo}
+use Rattle.hwp_cpu_course.specs.hwp_cpu_row.hwp_geom.declared.Layout.{Layout}
+use Rattle.hwp_cpu_course.specs.hwp_cpu_row.hwp_geom.declared.Thread.{Thread}
+use Rattle.hwp_cpu_course.specs.hwp_cpu_row.hwp_geom.declared.Who.{Who}
+use Rattle.hwp_cpu_course.specs.hwp_cpu_row.hwp_geom.Pairs.{Pairs}
+use Rattle.hwp_cpu_course.specs.hwp_cpu_row.hwp_script_lines.declared.Command.{Command}
+use Rattle.hwp_cpu_course.specs.hwp_cpu_row.hwp_report_text.declared.Answer.TheVariants as answers
+use Rattle.hwp_cpu_course.specs.hwp_cpu_row.hwp_core_rule.declared.Mark.{Mark}
+use Rattle.hwp_cpu_course.specs.hwp_cpu_row.hwp_core_rule.declared.Setting.{Setting}
+use Rattle.hwp_cpu_course.specs.hwp_cpu_row.hwp_core_rule.declared.Spoiled.{Spoiled}
+use Rattle.hwp_cpu_course.specs.hwp_cpu_row.hwp_core_rule.declared.View.{View}
+use Rattle.hwp_cpu_course.specs.hwp_cpu_row.hwp_core_rule.Lists.{EachMember}
+use Rattle.hwp_cpu_course.specs.hwp_cpu_row.hwp_core_rule.Views.{no_debts}
+use Rattle.hwp_cpu_course.specs.hwp_cpu_row.hwp_core_task.Hands.{hand_of, empty}
+use Rattle.hwp_cpu_course.specs.hwp_cpu_row.hwp_core_task.Known.{HasMadeNone}
+use Rattle.hwp_cpu_course.specs.hwp_cpu_row.hwp_core_task.Turns.{Member}
+use Rattle.hwp_cpu_course.specs.hwp_cpu_row.hwp_claim_frame.Done.{marking_of}
+use Rattle.hwp_cpu_course.specs.hwp_cpu_row.declared.Local.{Local}
+use Rattle.hwp_cpu_course.specs.hwp_cpu_row.declared.Row.{Row}
+use Rattle.hwp_cpu_course.specs.hwp_cpu_row.hwp_banks.Banks.{Banks, empty_banks}
+use Rattle.hwp_cpu_course.specs.hwp_cpu_row.hwp_law_commands.Settings.{settings}
+use Rattle.hwp_cpu_course.specs.hwp_cpu_command.declared.job.Job.{Job}
+use Rattle.hwp_cpu_course.specs.hwp_cpu_command.Done.{HasCounted, can_fail, failed_now, marked_now}
+use Rattle.hwp_cpu_course.specs.hwp_cpu_command.FileHandles.{HasHandle}
+use Rattle.hwp_cpu_course.specs.hwp_cpu_command.Jobs as jobs
+use Rattle.hwp_cpu_course.specs.hwp_cpu_command.Jobs.{banks_before}
+use Rattle.hwp_cpu_course.specs.hwp_cpu_command.Runs.{Runs}
+use Rattle.hwp_cpu_course.specs.hwp_cpu_command.Settings.{AreCounted, policies_in, policies_now}
+use Rattle.hwp_cpu_course.specs.hwp_cpu_command.Stays as stays
+use Rattle.hwp_cpu_course.specs.hwp_cpu_command.Stays.{EndsStopped, HasSpoiled, IsHalted}
 use Rattle.hwp_cpu_causes.specs.hwp_law_served.Accounts.{IsNote, failures, markings, policies_set}
 use Rattle.hwp_cpu_causes.specs.hwp_law_served.Handles.{KnowsNumbers, answers_by, number_at}
 use Rattle.hwp_cpu_causes.specs.hwp_law_served.Owed.{OwesOwn}

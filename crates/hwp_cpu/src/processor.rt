@@ -1,12 +1,13 @@
-ghost use Rattle.std.specs.Prelude.{◌≡◌, ◌+◌, ◌<◌, ◌≤◌, length, slice_get, None, IsSome, IfOk, OnErr, IsSomeAnd};
+ghost use Rattle.std.specs.Prelude.{◌≡◌, ◌+◌, ◌<◌, ◌≤◌, length, slice_get, None, IsSome, IfOk, OnErr, IsSomeAnd, list_any};
 ghost use Rattle.std.specs.Arc.{arc_value};
-ghost use Rattle.hwp_cpu_row.specs.hwp_geom.Layout.{IsSound};
+ghost use Rattle.hwp_cpu_course.specs.hwp_cpu_row.hwp_geom.Layout.{IsSound};
+ghost use Rattle.hwp_cpu_course.specs.hwp_cpu_row.hwp_law_commands.Commands.{is_watch};
+ghost use Rattle.hwp_cpu_course.specs.Courses.{CanFinish};
 ghost use Rattle.hwp_cpu.specs.Processors.{AreCommands, AtBeginning, BeginsAt, IsAnswered, IsReady, at_number, left_of};
 
-use hwp_cpu_command::Job;
-use hwp_cpu_row::{
-    Answer, Body, Command, Cpu, Layout, List, Local, OutOfMemory, Ranked, Row, Scheduled, Step,
-    Task, Turn, Who,
+use hwp_cpu_course::{
+    Answer, Body, Command, Course, Cpu, Job, Layout, List, Local, OutOfMemory, Ranked, Row,
+    Scheduled, Step, Task, Turn, Who,
 };
 use std::alloc::{AllocError, Global};
 use std::sync::Arc;
@@ -23,11 +24,12 @@ pub struct Processor {
     /// What it carries from one command to the next.
     local: Local,
     /// The command that runs, whose number is that of the rows; none where all are answered.
-    job: Option<Job>,
+    course: Option<Course>,
 }
 
 impl Processor {
-    /// The processor at the beginning of its first command; its banks hold nothing, and the number of each of its handles is 0.
+    /// The processor at the beginning of its first command; its banks hold nothing, and the number of each of its handles is 0. If one of
+    /// its commands is a `watch`, there is room for a collector, which doesn't collect yet.
     pub fn new(
         alloc: Global,
         layout: &Arc<Layout, Global>,
@@ -41,8 +43,8 @@ impl Processor {
         let layout = layout.clone()?;
         let list = List::from_vec(Vec::from_slice(alloc, commands)?);
         let rows = Vec::with_capacity(alloc, commands.len())?;
-        let mut local = Local::new(alloc, layout.files)?;
-        let job = first(alloc, &layout, cpu, commands, &mut local);
+        let mut local = Local::new(alloc, layout.files, has_watch(commands), layout.frames)?;
+        let course = first(alloc, &layout, cpu, commands, &mut local);
         Ok(Processor {
             alloc,
             layout,
@@ -50,7 +52,7 @@ impl Processor {
             commands: list,
             rows,
             local,
-            job,
+            course,
         })
     }
 
@@ -66,13 +68,13 @@ impl Processor {
     /// # Errors
     /// `OutOfMemory` where a command is not answered: of a processor that is over, one that gave up because memory ran out.
     pub fn finish(self) -> Result<List<Row>, OutOfMemory>
-        ensures all { IfOk result (λ rows. (rows ≡ self.rows.items) × (self.job ≡ None)) }
-        ensures gave_up { OnErr result (IsSome self.job) }
+        ensures all { IfOk result (λ rows. (rows ≡ self.rows.items) × (self.course ≡ None)) }
+        ensures gave_up { OnErr result (IsSome self.course) }
     {
-        let Processor { rows, job, .. } = self;
-        let gave_up = job.is_some();
+        let Processor { rows, course, .. } = self;
+        let gave_up = course.is_some();
         // here, and not part by part at each exit
-        drop(job);
+        drop(course);
         if gave_up {
             return Err(AllocError);
         }
@@ -82,14 +84,14 @@ impl Processor {
     /// The command that runs is answered so: its row is kept, and the next one begins with what it left.
     fn answer(&mut self, answer: Answer)
         requires ready { IsReady self.old }
-        requires running { IsSome self.old.job }
+        requires running { IsSomeAnd self.old.course (λ c. CanFinish c) }
         requires room { length self.old.rows.items < length self.old.commands }
-        ensures { IsSomeAnd self.old.job (λ j. IsAnswered self.old j answer self.new) }
+        ensures { IsSomeAnd self.old.course (λ c. IsAnswered self.old c answer self.new) }
     {
-        let Some(job) = &mut self.job else {
+        let Some(course) = &mut self.course else {
             return;
         };
-        let row = job.finish(self.alloc, answer, &mut self.local);
+        let row = course.finish(self.alloc, answer, &mut self.local);
         let number = self.rows.len();
         self.rows.push_reserved(row);
         let commands = self.commands.as_slice();
@@ -100,20 +102,29 @@ impl Processor {
             commands,
             number + 1,
             &mut self.local,
-            &mut self.job,
+            &mut self.course,
         );
     }
 }
 
-/// The first command at its beginning; `None` where there is none. It takes what the banks hold, if it can add to that, and gets the
-/// number of its file's handle.
+/// Whether one of the commands is a `watch`.
+fn has_watch(commands: &[Command]) -> bool
+    ensures { result ≡ list_any is_watch commands.now }
+{
+    commands
+        .iter()
+        .any(|command| matches!(*command, Command::Watch { .. }))
+}
+
+/// The first command at its beginning; `None` where there is none. It takes what the banks hold, if it can add to that, gets the number
+/// of its file's handle, and has the processor's collector while it runs.
 fn first(
     alloc: Global,
     layout: &Layout,
     cpu: Cpu,
     commands: &[Command],
     local: &mut Local,
-) -> Option<Job>
+) -> Option<Course>
     requires sound { IsSound layout.now }
     requires commands { AreCommands layout.now cpu commands.now }
     ensures begins { BeginsAt layout.now (at_number cpu 0) (slice_get commands.now 0) local.old result }
@@ -123,7 +134,8 @@ fn first(
         return None;
     };
     let who = Who { cpu, seq: 0 };
-    Some(Job::new(alloc, layout, who, *command, local))
+    let own = Job::new(alloc, layout, who, *command, local);
+    Some(Course::new(alloc, own, local.watching.take()))
 }
 
 /// The command of this number begins in the same way, in place of the one that runs; past the last none runs.
@@ -134,34 +146,34 @@ fn begin_next(
     commands: &[Command],
     number: usize,
     local: &mut Local,
-    job: &mut Option<Job>,
+    course: &mut Option<Course>,
 )
     requires sound { IsSound layout.now }
     requires commands { AreCommands layout.now cpu commands.now }
     requires inside { number ≤ length commands.now }
-    requires running { IsSome job.old }
-    ensures begins { BeginsAt layout.now (at_number cpu number) (slice_get commands.now number) local.old job.new }
-    ensures local { local.new ≡ left_of job.new local.old }
+    requires running { IsSome course.old }
+    ensures begins { BeginsAt layout.now (at_number cpu number) (slice_get commands.now number) local.old course.new }
+    ensures local { local.new ≡ left_of course.new local.old }
 {
     let Some(command) = commands.get(number) else {
-        end(job);
+        end(course);
         return;
     };
     let who = Who {
         cpu,
         seq: number as u32,
     };
-    match job {
+    match course {
         Some(running) => running.begin_next(alloc, layout, who, *command, local),
         None => unreachable!(),
     }
 }
 
 /// None runs. The one that ran is let go where it lies.
-fn end<T: Drop>(job: &mut Option<T>)
-    ensures { job.new ≡ None }
+fn end<T: Drop>(course: &mut Option<T>)
+    ensures { course.new ≡ None }
 {
-    *job = None;
+    *course = None;
 }
 
 impl Task for Processor {
@@ -171,8 +183,8 @@ impl Task for Processor {
 
     #[inline(always)]
     fn who(&self) -> Who {
-        match &self.job {
-            Some(job) => job.who(),
+        match &self.course {
+            Some(course) => course.who(),
             None => Who {
                 cpu: self.cpu,
                 seq: 0,
@@ -181,25 +193,25 @@ impl Task for Processor {
     }
 
     fn plan(&self) -> Option<Step> {
-        match &self.job {
-            Some(job) => job.plan(),
+        match &self.course {
+            Some(course) => course.plan(),
             None => None,
         }
     }
 
     fn give(&mut self) -> Option<Body> {
-        match &mut self.job {
-            Some(job) => job.give(),
+        match &mut self.course {
+            Some(course) => course.give(),
             None => None,
         }
     }
 
     fn settle(&mut self, layout: &Layout, found: u64, body: Option<Body>) -> Turn {
-        let Some(job) = &mut self.job else {
+        let Some(course) = &mut self.course else {
             return Turn::Moved;
         };
-        let turn = job.settle(layout, found, body);
-        let Some(answer) = job.answer() else {
+        let turn = course.settle(layout, found, body);
+        let Some(answer) = course.answer() else {
             return turn;
         };
         self.answer(answer);
@@ -209,8 +221,8 @@ impl Task for Processor {
 
 impl Ranked for Processor {
     fn class(&self) -> u8 {
-        match &self.job {
-            Some(job) => job.class(),
+        match &self.course {
+            Some(course) => course.class(),
             None => 4,
         }
     }
@@ -220,8 +232,8 @@ impl Ranked for Processor {
 
 impl Scheduled for Processor {
     fn is_over(&self) -> bool {
-        match &self.job {
-            Some(job) => job.is_over(),
+        match &self.course {
+            Some(course) => course.is_over(),
             None => true,
         }
     }

@@ -6,3 +6,4 @@ pub mod CommandStops
 pub mod CommandDeeds
 pub mod Below
 pub mod HandleKeeps
+pub use Rattle.hwp_cpu_command.proofs as of_hwp_cpu_command

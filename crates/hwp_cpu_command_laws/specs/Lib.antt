@@ -1,0 +1,1 @@
+pub use Rattle.hwp_cpu_command.specs as hwp_cpu_command
