@@ -1,8 +1,10 @@
 ghost use Rattle.std.specs.Prelude.{◌≡◌, ◌++◌, map, IfOk, OnOk};
-ghost use Rattle.hwp_cpu.specs.hwp_law_served.Rows.{event_line, lines_from, row_lines};
+ghost use Rattle.hwp_cpu.specs.hwp_law_served.Rows.{event_line, lines_from, offlined_line, row_lines};
 ghost use Rattle.hwp_top_report.specs.Closing.{AreTellable, IsTellable, lines_of_all};
 
-use hwp_cpu_row::{CpuLine, EventLine, EventOutcome, List, OutOfMemory, Row};
+use hwp_cpu_row::{
+    CpuLine, EventLine, EventOutcome, List, OfflinedLine, Offlining, OutOfMemory, Row,
+};
 use std::alloc::Global;
 
 /// The lines of all processors.
@@ -20,7 +22,7 @@ pub(crate) fn all_lines(
     Ok(List::from_vec(cpus))
 }
 
-/// The lines of a processor: for each command its events, and then its answer.
+/// The lines of a processor: for each command its events, the frames that were taken out of use beside it, and then its answer.
 fn lines_of(alloc: Global, rows: &[Row]) -> Result<List<CpuLine>, OutOfMemory>
     requires tellable { IsTellable rows.now }
     ensures { IfOk result (λ lines. lines ≡ lines_from 0 rows.now) }
@@ -41,6 +43,7 @@ fn add_row(lines: &mut Vec<CpuLine>, seq: u32, row: &Row) -> Result<(), OutOfMem
         answer: row.answer,
     };
     add_events(lines, seq, row.told.as_slice())?;
+    add_offlined(lines, seq, row.offlined.as_slice())?;
     lines.push(answer)?;
     Ok(())
 }
@@ -53,6 +56,31 @@ fn add_events(lines: &mut Vec<CpuLine>, seq: u32, told: &[EventOutcome]) -> Resu
         lines.push(event_line(seq, event))?;
     }
     Ok(())
+}
+
+/// Adds a line for each frame that was taken out of use.
+fn add_offlined(
+    lines: &mut Vec<CpuLine>,
+    seq: u32,
+    offlined: &[Offlining],
+) -> Result<(), OutOfMemory>
+    ensures { OnOk result (lines.new.items ≡ lines.old.items ++ map (offlined_line seq) offlined.now) }
+{
+    for offlining in offlined {
+        lines.push(offlined_line(seq, offlining))?;
+    }
+    Ok(())
+}
+
+/// The line of a frame that was taken out of use: what came of it.
+fn offlined_line(seq: u32, offlining: &Offlining) -> CpuLine
+    ensures { result ≡ offlined_line seq offlining.now }
+{
+    CpuLine::Offlined(OfflinedLine {
+        seq,
+        frame: offlining.frame,
+        result: offlining.result,
+    })
 }
 
 /// The line of an event: what its bank held, the row that graded it, and what was done.

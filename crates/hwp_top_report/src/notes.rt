@@ -1,14 +1,16 @@
-ghost use Rattle.std.specs.Prelude.{◌≡◌, ◌++◌, ◌≤◌, ◌<◌, ◌^◌, [], length, filter_map, IfOk, OnOk};
+ghost use Rattle.std.specs.Prelude.{◌≡◌, ◌++◌, ◌≤◌, ◌<◌, ◌^◌, ◌==◌, ◌&&◌, [], length, filter_map, IfOk, OnOk};
 ghost use Rattle.std.specs.List.{cons_option};
 ghost use Rattle.hwp_plain_words.specs.hwp_geom.Limits.{cpu_limit};
 ghost use Rattle.hwp_plain_words.specs.hwp_core_rule.Lists.{EachMember};
-ghost use Rattle.hwp_cpu.specs.hwp_law_served.Rows.{note_by, note_of, notes_from, offlined, own_note, told_note};
+ghost use Rattle.hwp_cpu.specs.hwp_law_served.Rows.{act_note, note_by, note_of, notes_from, offlined, own_note, told_note};
 ghost use Rattle.hwp_cpu.specs.hwp_law_served.Runs.{notes_of};
+ghost use Rattle.hwp_cpu_row.specs.Acts.{acts};
 ghost use Rattle.hwp_cpu_row.specs.hwp_cpu_check.Told.{frame_of};
 ghost use Rattle.hwp_top_report.specs.Closing.{AreTellable, IsNamed, IsTellable};
 
 use hwp_cpu_row::{
-    Cpu, EventOutcome, Found, Frame, FrameChange, Held, How, List, MarkLine, OutOfMemory, Row, Who,
+    Cpu, EventOutcome, Found, Frame, FrameChange, Held, How, List, MarkLine, Offlining,
+    OutOfMemory, Row, Who,
 };
 use std::alloc::Global;
 
@@ -39,21 +41,47 @@ fn notes_from(alloc: Global, cpu: Cpu, rows: &[Row]) -> Result<List<Note>, OutOf
             cpu,
             seq: number as u32,
         };
-        add_told(&mut notes, who, row.told.as_slice())?;
+        add_acts(
+            &mut notes,
+            who,
+            row.told.as_slice(),
+            row.offlined.as_slice(),
+        )?;
         add(&mut notes, own_note(who, row.own))?;
     }
     Ok(List::from_vec(notes))
 }
 
-/// Adds the poisonings by the events of a command's machine checks.
-fn add_told(notes: &mut Vec<Note>, who: Who, told: &[EventOutcome]) -> Result<(), OutOfMemory>
+/// Adds the poisonings by the events of a command's machine checks, and of the frames that were taken out of use beside it, in the order
+/// of time.
+fn add_acts(
+    notes: &mut Vec<Note>,
+    who: Who,
+    told: &[EventOutcome],
+    offlined: &[Offlining],
+) -> Result<(), OutOfMemory>
     requires named { EachMember IsNamed told.now }
-    ensures { OnOk result (notes.new.items ≡ notes.old.items ++ filter_map (told_note who) told.now) }
+    ensures { OnOk result (notes.new.items ≡ notes.old.items ++ filter_map (act_note who) (acts told.now offlined.now)) }
 {
-    for event in told {
-        add(notes, told_note(who, event))?;
+    let mut events = 0;
+    let mut frames = 0;
+    for _ in 0..told.len() + offlined.len() {
+        if is_frame_next(told.len(), offlined, events, frames) {
+            add(notes, own_note(who, offlined[frames].change))?;
+            frames += 1;
+        } else {
+            add(notes, told_note(who, &told[events]))?;
+            events += 1;
+        }
     }
     Ok(())
+}
+
+/// Whether a frame comes next, behind so many of all the events and so many frames.
+fn is_frame_next(all: usize, offlined: &[Offlining], events: usize, frames: usize) -> bool
+    ensures { result ≡ is_frame_next all offlined.now events frames }
+{
+    frames < offlined.len() && (events == all || offlined[frames].told == events)
 }
 
 /// A note more, where there is one.
