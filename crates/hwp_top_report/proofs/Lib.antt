@@ -3,6 +3,7 @@ mod Tables
 mod RecordLaws
 mod LineLaws
 mod RowLines
+mod ActLaws
 pub mod Noted
 pub use Rattle.hwp_cpu.proofs as of_hwp_cpu
 pub use Rattle.hwp_cpu.proofs.of_hwp_law_served as of_hwp_law_served

@@ -3,7 +3,6 @@ use Rattle.std.proofs.Common.{◌≡◌, ℕ, zero, suc, ◌+◌, ◌<◌, Bool,
 use Rattle.std.specs.List.{cons_option}
 use Rattle.std.proofs.lemmas.Bool.{cases_lt}
 use Rattle.std.proofs.lemmas.List.{length-take-le, take_more}
-use Rattle.std.proofs.lemmas.List.Elements.{filter_map-append}
 use Rattle.std.proofs.lemmas.Option.{get_or_from_slice_get, none-some, slice_get-get_or}
 use Rattle.hwp_plain_words.specs.hwp_geom.declared.Cpu.{Cpu}
 use Rattle.hwp_plain_words.specs.hwp_geom.declared.Who.{Who}
@@ -14,8 +13,9 @@ use Rattle.hwp_cpu_row.specs.hwp_report_text.declared.Answer.TheVariants as answ
 use Rattle.hwp_cpu_row.specs.hwp_report_text.declared.CpuLine.{CpuLine}
 use Rattle.hwp_cpu_row.specs.hwp_report_text.declared.StopCause.{StopCause}
 use Rattle.hwp_cpu_row.specs.declared.Row.{Row}
+use Rattle.hwp_cpu_row.specs.Acts.{acts}
 use Rattle.hwp_cpu_row.specs.hwp_cpu_check.declared.EventOutcome.{EventOutcome}
-use Rattle.hwp_cpu.specs.hwp_law_served.Rows.{Note, lines_from, notes_from, own_note, row_lines, row_notes, told_note}
+use Rattle.hwp_cpu.specs.hwp_law_served.Rows.{Note, act_note, lines_from, notes_from, own_note, row_lines, row_notes}
 use Rattle.hwp_cpu.specs.hwp_law_served.Runs.{notes_of}
 use Rattle.hwp_cpu.specs.Processors.{at_number}
 use Rattle.hwp_cpu.proofs.Rows.{notes-more}
@@ -63,20 +63,12 @@ lines-next rows i row old new within row_is was more =
 
 -- ---- notes
 
--- of one event more
-pub event-next : (who : Who) (told : List EventOutcome) (i : ℕ) (d : EventOutcome) (start old new : List Note) (note : Option Note) → i < length told → old ≡ start ++ filter_map (told_note who) (take i told) → note ≡ told_note who (get_or told i d) → new ≡ old ++ cons_option note []
-    → new ≡ start ++ filter_map (told_note who) (take (i + 1) told)
-event-next who told i d start old new note within was is more =
-    more ∙ ap (λ (l : List Note). l ++ cons_option note []) was ∙ append_assoc start (filter_map (told_note who) (take i told)) (cons_option note [])
-    ∙ ap (λ (o : Option Note). start ++ (filter_map (told_note who) (take i told) ++ cons_option o [])) is
-    ∙ ap (λ (l : List Note). start ++ l) (sym (ap (filter_map (told_note who)) (take_more told i d within) ∙ filter_map-append (told_note who) (take i told) (get_or told i d ∷ [])))
-
 -- of one row more
-pub notes-next : (cpu : Cpu) (rows : List Row) (i : ℕ) (row : Row) (old mid new : List Note) (own : Option Note) → i < length rows → row ≡ get_or rows i row → old ≡ notes_from cpu 0 (take i rows) → mid ≡ old ++ filter_map (told_note (at_number cpu i)) row.told
+pub notes-next : (cpu : Cpu) (rows : List Row) (i : ℕ) (row : Row) (old mid new : List Note) (own : Option Note) → i < length rows → row ≡ get_or rows i row → old ≡ notes_from cpu 0 (take i rows) → mid ≡ old ++ filter_map (act_note (at_number cpu i)) (acts row.told row.offlined)
     → own ≡ own_note (at_number cpu i) row.own → new ≡ mid ++ cons_option own [] → new ≡ notes_from cpu 0 (take (i + 1) rows)
 notes-next cpu rows i row old mid new own within row_is was events own_is more =
-    more ∙ ap (λ (l : List Note). l ++ cons_option own []) events ∙ append_assoc old (filter_map (told_note (at_number cpu i)) row.told) (cons_option own [])
-    ∙ ap (λ (o : Option Note). old ++ (filter_map (told_note (at_number cpu i)) row.told ++ cons_option o [])) own_is
+    more ∙ ap (λ (l : List Note). l ++ cons_option own []) events ∙ append_assoc old (filter_map (act_note (at_number cpu i)) (acts row.told row.offlined)) (cons_option own [])
+    ∙ ap (λ (o : Option Note). old ++ (filter_map (act_note (at_number cpu i)) (acts row.told row.offlined) ++ cons_option o [])) own_is
     ∙ ap (λ (l : List Note). l ++ row_notes (at_number cpu i) row) was
     ∙ sym (ap (notes_from cpu 0) (take_more rows i row within ∙ ap (λ (r : Row). take i rows ++ r ∷ []) (sym row_is)) ∙ notes-more cpu 0 (take i rows) i row number)
   where

@@ -1,5 +1,5 @@
 -- The report of a run, from what the board on which it ends came to and from the rows of its processors.
-use Rattle.std.specs.Prelude.{◌≡◌, ◌≢◌, ℕ, ◌+◌, ◌^◌, ◌<◌, ◌≤◌, true, List, Option, Some, None, length, map, option_and_then, slice_get, slice_index, unwrap_or, IfSome}
+use Rattle.std.specs.Prelude.{◌≡◌, ◌≢◌, ℕ, ◌+◌, ◌^◌, ◌<◌, ◌≤◌, ◌==◌, ◌||◌, Bool, true, false, List, Option, Some, None, length, map, option_and_then, slice_get, slice_index, unwrap_or, IfSome}
 use Rattle.hwp_plain_words.specs.hwp_geom.declared.Frame.{Frame}
 use Rattle.hwp_plain_words.specs.hwp_geom.declared.Layout.{Layout}
 use Rattle.hwp_plain_words.specs.hwp_geom.declared.Who.{Who}
@@ -27,6 +27,7 @@ use Rattle.hwp_cpu_row.specs.hwp_report_text.Acts.{is_panic}
 use Rattle.hwp_cpu_row.specs.hwp_law_commands.Commands.{arrival_of}
 use Rattle.hwp_cpu.specs.hwp_law_run.Ends.{AreMarks, EndsWith, place_in}
 use Rattle.hwp_cpu_row.specs.hwp_claim.declared.Found.{Found}
+use Rattle.hwp_cpu_row.specs.declared.Offlining.{Offlining}
 use Rattle.hwp_cpu_row.specs.declared.Row.{Row}
 use Rattle.hwp_cpu_row.specs.hwp_cpu_check.declared.EventOutcome.{EventOutcome}
 use Rattle.hwp_cpu_row.specs.hwp_cpu_check.Told.{frame_of}
@@ -51,6 +52,16 @@ pub record IsTellable (own : List Row) : Type 0 where
 
 abbrev pub AreTellable : List (List Row) → Type 0
 AreTellable rows = EachMember IsTellable rows
+
+-- ---- what a command did beside its answer
+
+-- behind so many of all its events and some of its frames the next frame, if there is one, stands before the next event
+abbrev pub is_frame_by : ℕ → ℕ → Option Offlining → Bool
+is_frame_by all events None = false
+is_frame_by all events (Some o) = (events == all) || (o.told == events)
+
+abbrev pub is_frame_next : ℕ → List Offlining → ℕ → ℕ → Bool
+is_frame_next all offlined events frames = is_frame_by all events (slice_get offlined frames)
 
 -- ---- the words
 

@@ -1,4 +1,4 @@
-ghost use Rattle.std.specs.Prelude.{◌≡◌, ◌++◌, ◌≤◌, ◌<◌, ◌^◌, ◌==◌, ◌&&◌, [], length, filter_map, IfOk, OnOk};
+ghost use Rattle.std.specs.Prelude.{◌≡◌, ◌++◌, ◌≤◌, ◌<◌, ◌^◌, [], length, filter_map, IfOk, OnOk};
 ghost use Rattle.std.specs.List.{cons_option};
 ghost use Rattle.hwp_plain_words.specs.hwp_geom.Limits.{cpu_limit};
 ghost use Rattle.hwp_plain_words.specs.hwp_core_rule.Lists.{EachMember};
@@ -6,7 +6,7 @@ ghost use Rattle.hwp_cpu.specs.hwp_law_served.Rows.{act_note, note_by, note_of, 
 ghost use Rattle.hwp_cpu.specs.hwp_law_served.Runs.{notes_of};
 ghost use Rattle.hwp_cpu_row.specs.Acts.{acts};
 ghost use Rattle.hwp_cpu_row.specs.hwp_cpu_check.Told.{frame_of};
-ghost use Rattle.hwp_top_report.specs.Closing.{AreTellable, IsNamed, IsTellable};
+ghost use Rattle.hwp_top_report.specs.Closing.{AreTellable, IsNamed, IsTellable, is_frame_next};
 
 use hwp_cpu_row::{
     Cpu, EventOutcome, Found, Frame, FrameChange, Held, How, List, MarkLine, Offlining,
@@ -77,11 +77,14 @@ fn add_acts(
     Ok(())
 }
 
-/// Whether a frame comes next, behind so many of all the events and so many frames.
+/// Whether the next frame, if there is one, stands before the next event, behind so many of all the events and so many frames.
 fn is_frame_next(all: usize, offlined: &[Offlining], events: usize, frames: usize) -> bool
     ensures { result ≡ is_frame_next all offlined.now events frames }
 {
-    frames < offlined.len() && (events == all || offlined[frames].told == events)
+    match offlined.get(frames) {
+        Some(offlining) => events == all || offlining.told == events,
+        None => false,
+    }
 }
 
 /// A note more, where there is one.
