@@ -12,3 +12,4 @@ pub mod AccessTurns
 pub mod AloneTurns
 pub mod InstructionRank
 pub mod Resting
+pub mod ToldMore

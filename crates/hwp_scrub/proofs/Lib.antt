@@ -2,3 +2,4 @@ pub mod VisitLaws
 pub mod ScrubLaws
 pub mod ScrubRank
 pub mod ScrubAdds
+pub mod ScrubLines
