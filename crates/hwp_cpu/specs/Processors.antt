@@ -1,6 +1,6 @@
--- The commands of one processor as one task: in all that it plans, shows and needs it is the command that runs, until that is
--- answered; then the next one begins.
-use Rattle.std.specs.Prelude.{◌≡◌, ℕ, ◌+◌, ◌-◌, ◌*◌, ◌<◌, ◌≤◌, Bool, false, List, [], ◌∷◌, ◌++◌, Option, Some, None, All, length, option_map, slice_get, vec_capacity}
+-- The commands of one processor as one task: in all that it plans, shows and needs it is the command that runs, with the frames that are
+-- taken out of use beside it, until that is answered; then the next one begins.
+use Rattle.std.specs.Prelude.{◌≡◌, ℕ, ◌+◌, ◌-◌, ◌*◌, ◌<◌, ◌≤◌, Bool, false, List, [], ◌∷◌, ◌++◌, Option, Some, None, All, length, list_any, option_map, slice_get, vec_capacity}
 use Rattle.std.specs.Arc.{arc_value}
 use Rattle.hwp_cpu_course.specs.hwp_cpu_row.hwp_geom.declared.Cpu.{Cpu}
 use Rattle.hwp_cpu_course.specs.hwp_cpu_row.hwp_geom.declared.Frame.{Frame}
@@ -10,6 +10,7 @@ use Rattle.hwp_cpu_course.specs.hwp_cpu_row.hwp_geom.Layout.{IsSound}
 use Rattle.hwp_cpu_course.specs.hwp_cpu_row.hwp_geom.Limits.{command_limit}
 use Rattle.hwp_cpu_course.specs.hwp_cpu_row.hwp_page.History.{BodyValue}
 use Rattle.hwp_cpu_course.specs.hwp_cpu_row.hwp_script_lines.declared.Command.{Command}
+use Rattle.hwp_cpu_course.specs.hwp_cpu_row.hwp_law_commands.Commands.{is_watch}
 use Rattle.hwp_cpu_course.specs.hwp_cpu_row.hwp_script_read.Valid.{IsCommandOf}
 use Rattle.hwp_cpu_course.specs.hwp_cpu_row.hwp_report_text.declared.Answer.{Answer}
 use Rattle.hwp_cpu_course.specs.hwp_cpu_row.hwp_core_rule.declared.Step.{Step}
@@ -17,13 +18,13 @@ use Rattle.hwp_cpu_course.specs.hwp_cpu_row.hwp_core_rule.Words.{Words}
 use Rattle.hwp_cpu_course.specs.hwp_cpu_row.hwp_core_task.declared.Turn.{Turn}
 use Rattle.hwp_cpu_course.specs.hwp_cpu_row.hwp_core_task.declared.Turn.TheVariants as turns
 use Rattle.hwp_cpu_course.specs.hwp_cpu_row.hwp_core_task.Ranks.{command_weight}
-use Rattle.hwp_cpu_course.specs.hwp_cpu_command.declared.Job.{Job}
-use Rattle.hwp_cpu_course.specs.hwp_cpu_command.Begins.{Begins}
+use Rattle.hwp_cpu_course.specs.hwp_cpu_command.FileHandles.{HasChangeWithin}
 use Rattle.hwp_cpu_course.specs.hwp_cpu_command.Jobs as jobs
-use Rattle.hwp_cpu_course.specs.hwp_cpu_command.Jobs.{row_of}
-use Rattle.hwp_cpu_course.specs.hwp_cpu_command.FileHandles.{HasHandle, local_after, local_left}
+use Rattle.hwp_cpu_course.specs.declared.Course.{Course}
+use Rattle.hwp_cpu_course.specs.Courses as courses
+use Rattle.hwp_cpu_course.specs.Courses.{BeginsCourse, local_after, local_left, part, row_of}
 use Rattle.hwp_cpu_course.specs.hwp_cpu_row.declared.Local.{Local}
-use Rattle.hwp_cpu_course.specs.hwp_cpu_row.Locals.{first_local}
+use Rattle.hwp_cpu_course.specs.hwp_cpu_row.Locals.{IsFirst}
 use Rattle.hwp_cpu.specs.declared.processor.Processor.{Processor}
 
 -- the command of this number of the processor
@@ -42,112 +43,114 @@ pub record IsReady (p : Processor) : Type 0 where
   pub room : length p.commands ≤ vec_capacity p.rows
 
 -- the command is at its beginning, of a processor that carries this: it begins with what the banks hold, and with the number of its
--- file's handle; past the last command none runs
-abbrev pub BeginsAt : Layout → Who → Option Command → Local → Option Job → Type 0
-BeginsAt layout who (Some command) local (Some j) = Begins layout who command local.banks j × HasHandle local.handles j
+-- file's handle, knows whether the processor collects, and has the collector while it runs; past the last command none runs
+abbrev pub BeginsAt : Layout → Who → Option Command → Local → Option Course → Type 0
+BeginsAt layout who (Some command) local (Some c) = BeginsCourse layout who command local c
 BeginsAt layout who None local None = Unit {0}
 BeginsAt layout who _ local _ = ⊥
 
--- what the processor keeps when it has begun: some commands take what the banks hold
-abbrev pub left_of : Option Job → Local → Local
-left_of (Some j) local = local_left j local
+-- what the processor keeps when it has begun: some commands take what the banks hold, and each has the collector
+abbrev pub left_of : Option Course → Local → Local
+left_of (Some c) local = local_left c local
 left_of None local = local
 
--- the processor is at the beginning of its first command, and has answered none; its banks held nothing, and the numbers of its handles
--- were 0
+-- the processor is at the beginning of its first command, and has answered none; its banks held nothing, the numbers of its handles
+-- were 0, and there was room for a collector if one of its commands is a `watch`
 pub record AtBeginning (layout : Layout) (cpu : Cpu) (list : List Command) (p : Processor) : Type 0 where
   pub layout_is : arc_value p.layout ≡ layout
   pub cpu_is : p.cpu ≡ cpu
   pub commands_are : p.commands ≡ list
   pub ready : IsReady p
   pub no_row : p.rows.items ≡ []
-  pub begins : BeginsAt layout (at_number cpu 0) (slice_get list 0) (first_local layout.files) p.job
-  pub local_is : p.local ≡ left_of p.job (first_local layout.files)
+  pub first : Local
+  pub is_first : IsFirst layout.files (list_any is_watch list) layout.frames first
+  pub begins : BeginsAt layout (at_number cpu 0) (slice_get list 0) first p.course
+  pub local_is : p.local ≡ left_of p.course first
 
 -- ---- the command that runs
 
-abbrev pub who_of : Cpu → Option Job → Who
-who_of cpu (Some j) = jobs.who j
+abbrev pub who_of : Cpu → Option Course → Who
+who_of cpu (Some c) = jobs.who c.own
 who_of cpu None = at_number cpu 0
 
 abbrev pub who : Processor → Who
-who p = who_of p.cpu p.job
+who p = who_of p.cpu p.course
 
-abbrev pub plan_of : Option Job → Option Step
-plan_of (Some j) = jobs.plan j
+abbrev pub plan_of : Option Course → Option Step
+plan_of (Some c) = jobs.plan (part c)
 plan_of None = None
 
 abbrev pub plan : Processor → Option Step
-plan p = plan_of p.job
+plan p = plan_of p.course
 
-abbrev pub put_of : Option Job → Option BodyValue
-put_of (Some j) = jobs.put j
+abbrev pub put_of : Option Course → Option BodyValue
+put_of (Some c) = jobs.put (part c)
 put_of None = None
 
 abbrev pub put : Processor → Option BodyValue
-put p = put_of p.job
+put p = put_of p.course
 
 abbrev pub bare : Processor → Processor
-bare p = record p { job = option_map jobs.bare p.job }
+bare p = record p { course = option_map courses.bare p.course }
 
-abbrev pub class_of : Option Job → ℕ
-class_of (Some j) = jobs.class j
+abbrev pub class_of : Option Course → ℕ
+class_of (Some c) = jobs.class (part c)
 class_of None = 4
 
 abbrev pub class : Processor → ℕ
-class p = class_of p.job
+class p = class_of p.course
 
-abbrev pub cost_of : Option Job → Words → ℕ
-cost_of (Some j) words = jobs.cost j words
+abbrev pub cost_of : Option Course → Words → ℕ
+cost_of (Some c) words = courses.cost c words
 cost_of None words = 0
 
 -- what the command that runs claims, and whether it gives up what it has begun
-abbrev pub claims_of : Option Job → Option (Frame × ℕ)
-claims_of (Some j) = jobs.claims j
+abbrev pub claims_of : Option Course → Option (Frame × ℕ)
+claims_of (Some c) = jobs.claims (part c)
 claims_of None = None
 
 abbrev pub claims : Processor → Option (Frame × ℕ)
-claims p = claims_of p.job
+claims p = claims_of p.course
 
-abbrev pub aborts_of : Option Job → Bool
-aborts_of (Some j) = jobs.aborts j
+abbrev pub aborts_of : Option Course → Bool
+aborts_of (Some c) = jobs.aborts (part c)
 aborts_of None = false
 
 abbrev pub aborts : Processor → Bool
-aborts p = aborts_of p.job
+aborts p = aborts_of p.course
 
 -- each command that isn't answered costs more than all turns of one, and the one that runs its turns beside
 abbrev pub cost : Processor → Words → ℕ
-cost p words = command_weight * (length p.commands - length p.rows.items) + cost_of p.job words
+cost p words = command_weight * (length p.commands - length p.rows.items) + cost_of p.course words
 
 -- ---- what a turn comes to
 
--- what the command shows, where there is a command that can be answered
-abbrev pub ShowsOf : Processor → Option Job → ℕ → Option BodyValue → Type 0
-ShowsOf p (Some j) found got = jobs.Shows j found got × IsReady p × (length p.rows.items < length p.commands)
+-- what the command shows, where there is a command that can be answered and ended
+abbrev pub ShowsOf : Processor → Option Course → ℕ → Option BodyValue → Type 0
+ShowsOf p (Some c) found got = courses.Shows c found got × HasChangeWithin c.own × IsReady p × (length p.rows.items < length p.commands)
 ShowsOf p None found got = Unit {0}
 
 abbrev pub Shows : Processor → ℕ → Option BodyValue → Type 0
-Shows p found got = ShowsOf p p.job found got
+Shows p found got = ShowsOf p p.course found got
 
 -- the command that ran is answered so, its row is the last one, and the next command begins with what it left
-pub record IsAnswered (p : Processor) (j : Job) (answer : Answer) (after : Processor) : Type 0 where
+pub record IsAnswered (p : Processor) (c : Course) (answer : Answer) (after : Processor) : Type 0 where
   pub layout_is : arc_value after.layout ≡ arc_value p.layout
   pub cpu_is : after.cpu ≡ p.cpu
   pub commands_are : after.commands ≡ p.commands
-  pub rows_are : after.rows.items ≡ p.rows.items ++ row_of j answer ∷ []
+  pub rows_are : after.rows.items ≡ p.rows.items ++ row_of c answer ∷ []
   pub room : vec_capacity after.rows ≡ vec_capacity p.rows
-  pub begins : BeginsAt (arc_value p.layout) (at_number p.cpu (length p.rows.items + 1)) (slice_get p.commands (length p.rows.items + 1)) (local_after j p.local) after.job
-  pub local_is : after.local ≡ left_of after.job (local_after j p.local)
+  pub begins : BeginsAt (arc_value p.layout) (at_number p.cpu (length p.rows.items + 1)) (slice_get p.commands (length p.rows.items + 1)) (local_after c answer p.local) after.course
+  pub local_is : after.local ≡ left_of after.course (local_after c answer p.local)
 
 -- the turn is that of the command, until the command has its answer
-abbrev pub Follows : Processor → Job → Option Answer → Turn → Processor → Turn → Type 0
-Follows p j None t after turn = (after ≡ record p { job = Some j }) × (turn ≡ t)
-Follows p j (Some answer) t after turn = IsAnswered p j answer after × (turn ≡ turns.Answered)
+abbrev pub Follows : Processor → Course → Option Answer → Turn → Processor → Turn → Type 0
+Follows p c None t after turn = (after ≡ record p { course = Some c }) × (turn ≡ t)
+Follows p c (Some answer) t after turn = IsAnswered p c answer after × (turn ≡ turns.Answered)
 
-abbrev pub NextOf : Layout → Processor → Option Job → ℕ → Option BodyValue → Processor → Turn → Type 0
-NextOf layout p (Some j) found got after turn = (k : Job) × (t : Turn) × jobs.Next layout j found got k t × Follows p k (jobs.answer k) t after turn
+abbrev pub NextOf : Layout → Processor → Option Course → ℕ → Option BodyValue → Processor → Turn → Type 0
+NextOf layout p (Some c) found got after turn = (d : Course) × (t : Turn) × courses.Next layout c found got d t × Follows p d (courses.answer d) t after turn
 NextOf layout p None found got after turn = (after ≡ p) × (turn ≡ turns.Moved)
 
 abbrev pub Next : Layout → Processor → ℕ → Option BodyValue → Processor → Turn → Type 0
-Next layout p found got after turn = NextOf layout p p.job found got after turn
+Next layout p found got after turn = NextOf layout p p.course found got after turn

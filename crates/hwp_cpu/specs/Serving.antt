@@ -1,14 +1,17 @@
 -- What a processor keeps while it runs its commands.
-use Rattle.std.specs.Prelude.{◌≡◌, ℕ, ◌+◌, ◌<◌, ◌≤◌, ◌⊎◌, true, List, [], ◌++◌, Option, Some, None, length, map, slice_get}
+use Rattle.std.specs.Prelude.{◌≡◌, ℕ, ◌+◌, ◌<◌, ◌≤◌, ◌⊎◌, true, List, [], ◌++◌, Option, Some, None, IsSome, length, list_any, map, filter_map, option_map, slice_get, take}
 use Rattle.std.specs.Arc.{arc_value}
 use Rattle.hwp_cpu_course.specs.hwp_cpu_row.hwp_geom.declared.Cpu.{Cpu}
 use Rattle.hwp_cpu_course.specs.hwp_cpu_row.hwp_geom.declared.FileNo.{FileNo}
+use Rattle.hwp_cpu_course.specs.hwp_cpu_row.hwp_geom.declared.Frame.{Frame}
 use Rattle.hwp_cpu_course.specs.hwp_cpu_row.hwp_geom.declared.Layout.{Layout}
 use Rattle.hwp_cpu_course.specs.hwp_cpu_row.hwp_geom.declared.Thread.{Thread}
 use Rattle.hwp_cpu_course.specs.hwp_cpu_row.hwp_geom.declared.Who.{Who}
 use Rattle.hwp_cpu_course.specs.hwp_cpu_row.hwp_geom.Pairs.{Pairs}
 use Rattle.hwp_cpu_course.specs.hwp_cpu_row.hwp_script_lines.declared.Command.{Command}
+use Rattle.hwp_cpu_course.specs.hwp_cpu_row.hwp_report_text.declared.Answer.{Answer}
 use Rattle.hwp_cpu_course.specs.hwp_cpu_row.hwp_report_text.declared.Answer.TheVariants as answers
+use Rattle.hwp_cpu_course.specs.hwp_cpu_row.hwp_core_rule.declared.Made.{Made}
 use Rattle.hwp_cpu_course.specs.hwp_cpu_row.hwp_core_rule.declared.Mark.{Mark}
 use Rattle.hwp_cpu_course.specs.hwp_cpu_row.hwp_core_rule.declared.Setting.{Setting}
 use Rattle.hwp_cpu_course.specs.hwp_cpu_row.hwp_core_rule.declared.Spoiled.{Spoiled}
@@ -18,25 +21,44 @@ use Rattle.hwp_cpu_course.specs.hwp_cpu_row.hwp_core_rule.Views.{no_debts}
 use Rattle.hwp_cpu_course.specs.hwp_cpu_row.hwp_core_task.Hands.{hand_of, empty}
 use Rattle.hwp_cpu_course.specs.hwp_cpu_row.hwp_core_task.Known.{HasMadeNone}
 use Rattle.hwp_cpu_course.specs.hwp_cpu_row.hwp_core_task.Turns.{Member}
-use Rattle.hwp_cpu_course.specs.hwp_cpu_row.hwp_claim_frame.Done.{marking_of}
+use Rattle.hwp_cpu_course.specs.hwp_cpu_row.hwp_claim_frame.Done.{Marking, marking_of}
 use Rattle.hwp_cpu_course.specs.hwp_cpu_row.declared.Local.{Local}
 use Rattle.hwp_cpu_course.specs.hwp_cpu_row.declared.Row.{Row}
 use Rattle.hwp_cpu_course.specs.hwp_cpu_row.hwp_banks.Banks.{Banks, empty_banks}
 use Rattle.hwp_cpu_course.specs.hwp_cpu_row.hwp_law_commands.Settings.{settings}
+use Rattle.hwp_cpu_course.specs.hwp_cpu_row.declared.Offlining.{Offlining}
+use Rattle.hwp_cpu_course.specs.hwp_cpu_row.Acts.{acts, told_notes}
+use Rattle.hwp_cpu_course.specs.hwp_cpu_row.Locals.{IsWatching}
+use Rattle.hwp_cpu_course.specs.hwp_cpu_row.hwp_cec.Ages.{Note}
+use Rattle.hwp_cpu_course.specs.hwp_cpu_row.hwp_law_commands.Commands.{is_watch}
+use Rattle.hwp_cpu_course.specs.hwp_cpu_row.hwp_law_commands.Watched.{Watched, due, told}
+use Rattle.hwp_cpu_course.specs.hwp_cpu_command.hwp_cpu_access.declared.Instruction.{Instruction}
+use Rattle.hwp_cpu_course.specs.hwp_cpu_command.hwp_cpu_access.declared.instruction.Pause.{Pause}
+use Rattle.hwp_cpu_course.specs.hwp_cpu_command.hwp_cpu_access.Fits.{IsResting}
+use Rattle.hwp_cpu_course.specs.hwp_cpu_command.hwp_cpu_access.Instructions as instructions
+use Rattle.hwp_cpu_course.specs.hwp_cpu_command.hwp_soft.declared.Soft.{Soft}
+use Rattle.hwp_cpu_course.specs.hwp_cpu_command.hwp_soft.Done as soft_done
+use Rattle.hwp_cpu_course.specs.hwp_cpu_command.hwp_soft.Offline as offline
 use Rattle.hwp_cpu_course.specs.hwp_cpu_command.declared.job.Job.{Job}
-use Rattle.hwp_cpu_course.specs.hwp_cpu_command.Done.{HasCounted, can_fail, failed_now, marked_now}
-use Rattle.hwp_cpu_course.specs.hwp_cpu_command.FileHandles.{HasHandle}
+use Rattle.hwp_cpu_course.specs.hwp_cpu_command.declared.job.Job.TheVariants as kinds
+use Rattle.hwp_cpu_course.specs.hwp_cpu_command.Done.{HasCounted, can_fail, failed_now, marked_beyond}
+use Rattle.hwp_cpu_course.specs.hwp_cpu_command.FileHandles.{HasHandle, handles_after}
 use Rattle.hwp_cpu_course.specs.hwp_cpu_command.Jobs as jobs
-use Rattle.hwp_cpu_course.specs.hwp_cpu_command.Jobs.{banks_before}
+use Rattle.hwp_cpu_course.specs.hwp_cpu_command.Jobs.{banks_after, banks_before, told_of}
 use Rattle.hwp_cpu_course.specs.hwp_cpu_command.Runs.{Runs}
 use Rattle.hwp_cpu_course.specs.hwp_cpu_command.Settings.{AreCounted, policies_in, policies_now}
 use Rattle.hwp_cpu_course.specs.hwp_cpu_command.Stays as stays
-use Rattle.hwp_cpu_course.specs.hwp_cpu_command.Stays.{EndsStopped, HasSpoiled, IsHalted}
-use Rattle.hwp_cpu_causes.specs.hwp_law_served.Accounts.{IsNote, failures, markings, policies_set}
+use Rattle.hwp_cpu_course.specs.hwp_cpu_command.Stays.{EndsAtOnce, HasGivenUp, HasSpoiled, IsHalted}
+use Rattle.hwp_cpu_course.specs.declared.Course.{Course}
+use Rattle.hwp_cpu_course.specs.Courses as courses
+use Rattle.hwp_cpu_course.specs.Courses.{part}
+use Rattle.hwp_cpu_causes.specs.Own.{IsBase, OwnServed}
+use Rattle.hwp_cpu_causes.specs.hwp_law_served.Accounts.{IsNote, act_marking, failures, markings, policies_set}
 use Rattle.hwp_cpu_causes.specs.hwp_law_served.Handles.{KnowsNumbers, answers_by, number_at}
+use Rattle.hwp_cpu_causes.specs.hwp_law_served.Offlinings.{IsOffliningServed, KnowsDue, left_among, left_beside, watched_at}
 use Rattle.hwp_cpu_causes.specs.hwp_law_served.Owed.{OwesOwn}
 use Rattle.hwp_cpu_causes.specs.hwp_law_served.Rows.{notes_from}
-use Rattle.hwp_cpu_causes.specs.hwp_law_served.Served.{AreRowsServed, IsOneOf, IsOwnSpoil, IsOwnStop, SawRunning, StaysStopped}
+use Rattle.hwp_cpu_causes.specs.hwp_law_served.Served.{AreRowsServed, CanStop, IsOneOf, IsOwnSpoil, IsOwnStop, SawRunning, StaysStopped}
 use Rattle.hwp_cpu.specs.declared.processor.Processor.{Processor}
 use Rattle.hwp_cpu.specs.Processors.{IsReady, Next, Shows, aborts, at_number, bare, claims, class, cost, plan, put, who}
 
@@ -49,23 +71,34 @@ pub record IsListed (view : View) (cpu : Cpu) (n : ℕ) : Type 0 where
   pub marked : EachMember (λ (m : Mark). IsOneOf cpu n m.stamp.who) view.marks
   pub set : EachMember (λ (s : Setting). IsOneOf cpu n s.stamp.who) view.settings
 
--- what it lists of the command that runs is what that has done so far
-pub record HasAccount (view : View) (who : Who) (j : Job) : Type 0 where
-  pub marked : markings who view ≡ marked_now j
-  pub failed : can_fail j ≡ true → failures who view ≡ failed_now j
-  pub set : policies_set who view ≡ policies_now j
-  pub counted : HasCounted j view
+-- ---- what a command has marked so far
+
+-- while a frame is taken out of use beside it
+abbrev pub marked_beside : Option Soft → List Marking
+marked_beside None = []
+marked_beside (Some s) = soft_done.marked_at s.frame s.at
+
+-- in all: by what it told and by the frames that were taken out of use, in the order of time, and beyond that
+abbrev pub marked_so_far : Course → List Marking
+marked_so_far c = filter_map act_marking (acts (told_of c.own) c.due.offlined) ++ (marked_beyond c.own ++ marked_beside c.beside)
+
+-- what the view lists of the command that runs is what that has done so far
+pub record HasAccount (view : View) (who : Who) (c : Course) : Type 0 where
+  pub marked : markings who view ≡ marked_so_far c
+  pub failed : can_fail c.own ≡ true → failures who view ≡ failed_now c.own
+  pub set : policies_set who view ≡ policies_now c.own
+  pub counted : HasCounted (part c) view
   pub losses : OwesOwn who view
 
 -- the marks of commands that are answered are noted; the others are those of the command that runs
-pub record AreNoted (view : View) (cpu : Cpu) (rows : List Row) (j : Job) : Type 0 where
+pub record AreNoted (view : View) (cpu : Cpu) (rows : List Row) (c : Course) : Type 0 where
   pub earlier : List Mark
   pub last : List Mark
   pub all : view.marks ≡ earlier ++ last
   pub noted : Pairs IsNote (notes_from cpu 0 rows) earlier
   pub before : EachMember (λ (m : Mark). IsOneOf cpu (length rows) m.stamp.who) earlier
   pub own : EachMember (λ (m : Mark). m.stamp.who ≡ at_number cpu (length rows)) last
-  pub marked : map marking_of last ≡ marked_now j
+  pub marked : map marking_of last ≡ marked_so_far c
 
 -- each file has a handle, with the number that the rows so far give it
 pub record AreNumbered (layout : Layout) (list : List Command) (rows : List Row) (handles : List ℕ) : Type 0 where
@@ -73,37 +106,118 @@ pub record AreNumbered (layout : Layout) (list : List Command) (rows : List Row)
   pub each : (file : FileNo) → file.0 < layout.files → slice_get handles file.0 ≡ Some (number_at file list rows (length rows))
 
 -- what holds of the rows so far, which lead from empty banks to these, and from handles at 0 to these: each is right, and after a
--- `stopped` all are, on a machine that has stopped; and each number that they tell was shown
+-- `stopped` all are, on a machine that has stopped; each number that they tell was shown; and the frames that were taken out of use
+-- beside the commands are those that were due
 pub record Serves (layout : Layout) (view : View) (cpu : Cpu) (list : List Command) (rows : List Row) (banks : Banks) (handles : List ℕ) : Type 0 where
   pub rows_are : AreRowsServed layout [] view cpu 0 empty_banks list rows banks
   pub stays : StaysStopped rows
   pub halted : HasStopped rows → IsHalted view
   pub numbers : KnowsNumbers layout view cpu list rows
   pub handles_are : AreNumbered layout list rows handles
+  pub due : KnowsDue layout list rows
 
--- the command that runs has stopped the machine, and no command before it was answered `stopped`
-pub record HasStoppedIt (rows : List Row) (j : Job) (who : Who) : Type 0 where
+-- ---- the command that runs
+
+-- it has stopped the machine, as it can, and no command before it was answered `stopped`
+pub record HasStoppedIt (layout : Layout) (command : Command) (rows : List Row) (j : Job) (who : Who) : Type 0 where
   pub has : stays.HasStopped j
+  pub can : CanStop layout command (told_of j)
   pub who_is : jobs.who j ≡ who
   pub first : HasStopped rows → ⊥
 
--- the command after those that are answered runs, and knows what those left; it has yet to look whether the machine has stopped, or
--- is answered `stopped`, or saw the machine running
-pub record IsRunning (layout : Layout) (view : View) (cpu : Cpu) (list : List Command) (rows : List Row) (local : Local) (j : Job) : Type 0 where
-  pub serves : Serves layout view cpu list rows (banks_before j local.banks) local.handles
+-- the frames that it has given to the collector so far
+abbrev pub noted_by : Layout → Course → List Frame
+noted_by layout c = told_notes layout (take c.noted (told_of c.own))
+
+-- what the collector was told before the command and by it
+abbrev pub noting : List Frame → Option Watched → Option Watched
+noting frames watched = option_map (told (map Note frames)) watched
+
+-- the collector has what the processor's commands noted, and the frames that are due are those that the command's notes made due; those
+-- of them that were taken out of use are the first, and what came of each is right
+pub record KeepsWatch (layout : Layout) (view : View) (who : Who) (list : List Command) (watched : Option Watched) (c : Course) : Type 0 where
+  pub few : c.noted ≤ length (told_of c.own)
+  pub frames_are : c.frames ≡ layout.frames
+  pub watching : IsWatching layout.frames (noting (noted_by layout c) watched) c.watching
+  pub room : list_any is_watch list ≡ true → IsSome c.watching
+  pub due : c.due.frames ≡ due watched (noted_by layout c)
+  pub frames : map (λ (o : Offlining). o.frame) c.due.offlined ≡ take (length c.due.offlined) c.due.frames
+  pub offlined : EachMember (IsOffliningServed layout view who) c.due.offlined
+  pub behind : EachMember (λ (o : Offlining). o.told ≤ length (told_of c.own)) c.due.offlined
+
+-- its own task goes on, behind entries that may stand before its answer: those of frames that were taken out of use are those that the
+-- course tells, and no frame is left to be taken out of use
+pub record OwnGoesOn (layout : Layout) (view : View) (c : Course) : Type 0 where
+  pub base : List Made
+  pub fits : jobs.FitsFrom base layout view c.own
+  pub before : IsBase base c.own
+  pub left : left_among base ≡ left_beside c.due.offlined
+  pub all : length c.due.offlined ≡ length c.due.frames
+
+-- its own task pauses behind a machine check, and all entries so far may stand before its answer
+pub record IsPaused (layout : Layout) (view : View) (base : List Made) (j : Job) : Type 0 where
+  pub instruction : Instruction
+  pub is : j ≡ kinds.Instruction instruction
+  pub pause : Pause
+  pub paused : instructions.pause instruction ≡ Some pause
+  pub rests : IsResting layout view instruction pause
+  pub before : IsBase base j
+
+-- its own task has its answer, and that has its cause
+pub record HasAnswered (layout : Layout) (view : View) (cpu : Cpu) (list : List Command) (rows : List Row) (local : Local) (command : Command) (j : Job) : Type 0 where
+  pub answer : Answer
+  pub answered : jobs.answer j ≡ Some answer
+  pub served : OwnServed layout (answers_by list rows) view (at_number cpu (length rows)) command (banks_before j local.banks) j answer (banks_after j local.banks)
+  pub numbers : (file : FileNo) → file.0 < layout.files → IsNumbered layout view (at_number cpu (length rows)) command answer file (number_at file list rows (length rows)) (handles_after j local.handles)
+
+abbrev pub Rests : Layout → View → Cpu → List Command → List Row → Local → Command → List Made → Job → Type 0
+Rests layout view cpu list rows local command base j = IsPaused layout view base j ⊎ HasAnswered layout view cpu list rows local command j
+
+-- the next frame is taken out of use, behind these entries, while its own task rests and has told the collector all
+pub record RunsBeside (layout : Layout) (view : View) (cpu : Cpu) (list : List Command) (rows : List Row) (local : Local) (command : Command) (c : Course) (s : Soft) : Type 0 where
+  pub base : List Made
+  pub fits : offline.FitsFrom base layout view s
+  pub who_is : s.who ≡ at_number cpu (length rows)
+  pub left : left_among base ≡ left_beside c.due.offlined
+  pub next : slice_get c.due.frames (length c.due.offlined) ≡ Some s.frame
+  pub all : c.noted ≡ length (told_of c.own)
+  pub paid : view.owed.losses ≡ []
+  pub rests : Rests layout view cpu list rows local command base c.own
+
+abbrev pub GoesOn : Layout → View → Cpu → List Command → List Row → Local → Command → Course → Option Soft → Type 0
+GoesOn layout view cpu list rows local command c None = OwnGoesOn layout view c
+GoesOn layout view cpu list rows local command c (Some s) = RunsBeside layout view cpu list rows local command c s
+
+-- what is so of the command after those that are answered, whether its own task goes on or rests: it knows what those left; it has yet
+-- to look whether the machine has stopped, or is answered `stopped`, or saw the machine running
+pub record IsUnderWay (layout : Layout) (view : View) (cpu : Cpu) (list : List Command) (rows : List Row) (local : Local) (command : Command) (c : Course) : Type 0 where
+  pub serves : Serves layout view cpu list rows (banks_before c.own local.banks) local.handles
+  pub there : slice_get list (length rows) ≡ Some command
+  pub runs : Runs layout (at_number cpu (length rows)) command c.own
+  pub handle : HasHandle local.handles c.own
+  pub policies : AreCounted (λ (thread : Thread). settings thread (answers_by list rows)) view c.own
+  pub stopped : HasStopped rows → EndsAtOnce c.own
+  pub looked : EndsAtOnce c.own ⊎ SawRunning view (at_number cpu (length rows))
+  pub stops : EachMember (λ (who : Who). IsOwnStop layout cpu list rows who ⊎ HasStoppedIt layout command rows c.own who) view.stops
+  pub listed : IsListed view cpu (length rows + 1)
+  pub account : HasAccount view (at_number cpu (length rows)) c
+  pub noted : AreNoted view cpu rows c
+  pub spoiled : EachMember (λ (s : Spoiled). IsOwnSpoil cpu list rows s ⊎ HasSpoiled c.own s) view.spoiled
+  pub collected : KeepsWatch layout view (at_number cpu (length rows)) list (watched_at layout list rows (length rows)) c
+
+-- the command runs
+pub record IsRunning (layout : Layout) (view : View) (cpu : Cpu) (list : List Command) (rows : List Row) (local : Local) (c : Course) : Type 0 where
+  pub command : Command
+  pub way : IsUnderWay layout view cpu list rows local command c
+  pub on : GoesOn layout view cpu list rows local command c c.beside
+
+-- memory ran out for the frames that were due: the command's own task gives up, and it is never answered
+pub record GivesUp (layout : Layout) (view : View) (cpu : Cpu) (list : List Command) (rows : List Row) (c : Course) : Type 0 where
   pub command : Command
   pub there : slice_get list (length rows) ≡ Some command
-  pub runs : Runs layout (at_number cpu (length rows)) command j
-  pub handle : HasHandle local.handles j
-  pub fits : jobs.FitsFrom [] layout view j
-  pub policies : AreCounted (λ (thread : Thread). settings thread (answers_by list rows)) view j
-  pub stopped : HasStopped rows → EndsStopped j
-  pub looked : EndsStopped j ⊎ SawRunning view (at_number cpu (length rows))
-  pub stops : EachMember (λ (who : Who). IsOwnStop layout cpu list rows who ⊎ HasStoppedIt rows j who) view.stops
-  pub listed : IsListed view cpu (length rows + 1)
-  pub account : HasAccount view (at_number cpu (length rows)) j
-  pub noted : AreNoted view cpu rows j
-  pub spoiled : EachMember (λ (s : Spoiled). IsOwnSpoil cpu list rows s ⊎ HasSpoiled j s) view.spoiled
+  pub runs : Runs layout (at_number cpu (length rows)) command c.own
+  pub up : HasGivenUp c.own
+  pub none : c.beside ≡ None
 
 -- all commands are answered, none past them was begun, and nothing is held or owed
 pub record IsDone (layout : Layout) (view : View) (cpu : Cpu) (list : List Command) (rows : List Row) (local : Local) : Type 0 where
@@ -118,15 +232,15 @@ pub record IsDone (layout : Layout) (view : View) (cpu : Cpu) (list : List Comma
   pub spoiled : EachMember (IsOwnSpoil cpu list rows) view.spoiled
   pub policies : (thread : Thread) → policies_in thread view ≡ settings thread (answers_by list rows)
 
-abbrev pub FitsAt : Layout → View → Cpu → List Command → List Row → Local → Option Job → Type 0
-FitsAt layout view cpu list rows local (Some j) = IsRunning layout view cpu list rows local j
+abbrev pub FitsAt : Layout → View → Cpu → List Command → List Row → Local → Option Course → Type 0
+FitsAt layout view cpu list rows local (Some c) = courses.Fits layout view c × (IsRunning layout view cpu list rows local c ⊎ GivesUp layout view cpu list rows c)
 FitsAt layout view cpu list rows local None = IsDone layout view cpu list rows local
 
 -- the processor is of the machine, and its commands are answered or run
 pub record Fits (layout : Layout) (view : View) (p : Processor) : Type 0 where
   pub ready : IsReady p
   pub layout_is : arc_value p.layout ≡ layout
-  pub at : FitsAt layout view p.cpu p.commands p.rows.items p.local p.job
+  pub at : FitsAt layout view p.cpu p.commands p.rows.items p.local p.course
 
 -- the task, as the laws of tasks read it
 abbrev pub task : Member Processor

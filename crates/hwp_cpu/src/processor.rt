@@ -2,11 +2,11 @@ ghost use Rattle.std.specs.Prelude.{◌≡◌, ◌+◌, ◌<◌, ◌≤◌, leng
 ghost use Rattle.std.specs.Arc.{arc_value};
 ghost use Rattle.hwp_cpu_course.specs.hwp_cpu_row.hwp_geom.Layout.{IsSound};
 ghost use Rattle.hwp_cpu_course.specs.hwp_cpu_row.hwp_law_commands.Commands.{is_watch};
-ghost use Rattle.hwp_cpu_course.specs.Courses.{CanFinish};
+ghost use Rattle.hwp_cpu_course.specs.hwp_cpu_command.FileHandles.{HasChangeWithin};
 ghost use Rattle.hwp_cpu.specs.Processors.{AreCommands, AtBeginning, BeginsAt, IsAnswered, IsReady, at_number, left_of};
 
 use hwp_cpu_course::{
-    Answer, Body, Command, Course, Cpu, Job, Layout, List, Local, OutOfMemory, Ranked, Row,
+    Answer, Body, Command, Course, Cpu, Layout, List, Local, OutOfMemory, Ranked, Row,
     Scheduled, Step, Task, Turn, Who,
 };
 use std::alloc::{AllocError, Global};
@@ -84,7 +84,7 @@ impl Processor {
     /// The command that runs is answered so: its row is kept, and the next one begins with what it left.
     fn answer(&mut self, answer: Answer)
         requires ready { IsReady self.old }
-        requires running { IsSomeAnd self.old.course (λ c. CanFinish c) }
+        requires running { IsSomeAnd self.old.course (λ c. HasChangeWithin c.own) }
         requires room { length self.old.rows.items < length self.old.commands }
         ensures { IsSomeAnd self.old.course (λ c. IsAnswered self.old c answer self.new) }
     {
@@ -134,8 +134,7 @@ fn first(
         return None;
     };
     let who = Who { cpu, seq: 0 };
-    let own = Job::new(alloc, layout, who, *command, local);
-    Some(Course::new(alloc, own, local.watching.take()))
+    Some(Course::new(alloc, layout, who, *command, local))
 }
 
 /// The command of this number begins in the same way, in place of the one that runs; past the last none runs.

@@ -35,6 +35,13 @@ marked_now (jobs.Soft s) = soft_done.marked_at s.frame s.at
 marked_now (jobs.Unpoison u) = unpoison_done.marked_at u.frame u.at
 marked_now _ = []
 
+-- those beyond the ones that the events tell which it told of
+abbrev pub marked_beyond : Job → List Marking
+marked_beyond (jobs.Instruction i) = instruction_done.marked_at i.at
+marked_beyond (jobs.Raise r) = raise_done.marked_at r.at
+marked_beyond (jobs.Scrub s) = scrub_done.marked_at s.at
+marked_beyond j = marked_now j
+
 -- the failures that its entries tell
 abbrev pub failed_at : InjectAt → List Failed
 failed_at (inject_at.Fail f) = fail_done.failed_at None f.at

@@ -1,5 +1,5 @@
 -- What stays true from one command of a processor to the next: the stop of the machine, and damage.
-use Rattle.std.specs.Prelude.{◌≡◌, ◌⊎◌, ℕ, ◌+◌, true, List, [], ◌∷◌, ◌++◌, Option, Some}
+use Rattle.std.specs.Prelude.{◌≡◌, ◌⊎◌, ℕ, ◌+◌, true, List, [], ◌∷◌, ◌++◌, Option, Some, None}
 use Rattle.hwp_cpu_control.specs.hwp_geom.declared.Frame.{Frame}
 use Rattle.hwp_cpu_control.specs.hwp_geom.declared.Layout.{Layout}
 use Rattle.hwp_cpu_control.specs.hwp_geom.declared.Who.{Who}
@@ -47,7 +47,7 @@ use Rattle.hwp_soft.specs.declared.soft.SoftAt.TheVariants as soft_at
 use Rattle.hwp_soft.specs.hwp_soft_unpoison.declared.unpoison.UnpoisonAt.TheVariants as unpoison_at
 use Rattle.hwp_cpu_command.specs.declared.job.Job.{Job}
 use Rattle.hwp_cpu_command.specs.declared.job.Job.TheVariants as jobs
-use Rattle.hwp_cpu_command.specs.Jobs.{FitsFrom, Next, answer, bare, plan, put, who}
+use Rattle.hwp_cpu_command.specs.Jobs.{FitsFrom, Next, answer, bare, plan, put, told_of, who}
 
 -- the command, which had made some entries before its task began or went on, made the step that came, and what follows is told
 pub record Stepped (layout : Layout) (old new : View) (j after : Job) : Type 0 where
@@ -86,6 +86,10 @@ IsAtStop (jobs.Unpoison u) = u.at ≡ unpoison_at.LoadStop
 abbrev pub EndsStopped : Job → Type 0
 EndsStopped j = IsAtStop j ⊎ (answer j ≡ Some answers.Stopped)
 
+-- and it has told of no event
+abbrev pub EndsAtOnce : Job → Type 0
+EndsAtOnce j = EndsStopped j × (told_of j ≡ [])
+
 -- the step of the command is to stop the machine: for an event of its machine check, as a machine check inside a machine check, or
 -- for a failure on a machine that doesn't recover
 abbrev pub IsStopping : Job → Type 0
@@ -110,6 +114,15 @@ pub record StopsItself (j after : Job) (old new : View) : Type 0 where
   pub stopping : IsStopping j
   pub has : HasStopped after
   pub stops_are : new.stops ≡ old.stops ++ who j ∷ []
+
+-- ---- memory that ran out beside the command
+
+-- its next step gives it up, or it has given up
+abbrev pub HasGivenUp : Job → Type 0
+HasGivenUp (jobs.Instruction i) = (i.at ≡ instruction_at.GiveUp) ⊎ (i.at ≡ instruction_at.Over None)
+HasGivenUp (jobs.Raise r) = (r.at ≡ raise_at.GiveUp) ⊎ (r.at ≡ raise_at.Over None)
+HasGivenUp (jobs.Scrub s) = (s.at ≡ scrub_at.GiveUp) ⊎ (s.at ≡ scrub_at.Over None)
+HasGivenUp _ = ⊥
 
 -- ---- damage
 

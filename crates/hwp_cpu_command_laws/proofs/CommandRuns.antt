@@ -60,7 +60,7 @@ use Rattle.hwp_cpu_command.specs.declared.job.Job.TheVariants as jobs
 use Rattle.hwp_cpu_command.specs.Begins.{Begins, BeginsAccess, BeginsEviction, BeginsFsync, BeginsInject, BeginsLog, BeginsPrctl, BeginsRaiseKernel, BeginsRaiseUser, BeginsScrub, BeginsSoft, BeginsSpoil, BeginsUnpoison, request_of}
 use Rattle.hwp_cpu_command.specs.Done.{can_fail}
 use Rattle.hwp_cpu_command.specs.Jobs.{FitsFrom, Next, banks_before, bare, claims, class, left_in, who}
-use Rattle.hwp_cpu_command.specs.FileHandles.{KnowsHandle}
+use Rattle.hwp_cpu_command.specs.FileHandles.{HasChangeWithin, KnowsHandle}
 use Rattle.hwp_cpu_command.specs.Runs.{AtRest, Runs, anew, collects_now}
 use Rattle.hwp_cpu_command.specs.Stays.{IsAtStop}
 
@@ -173,10 +173,10 @@ scrub-kept layout s k found got turn follows = which s.at follows
     which scrub_at.GiveUp next = ap asked-scrub next.0
     which (scrub_at.Over answer) next = ap asked-scrub next.0
 
-abbrev asked-log : Log → Who × LocalChange × Banks
+abbrev pub asked-log : Log → Who × LocalChange × Banks
 asked-log l = (l.read.who, l.change, l.before.value)
 
-log-kept : (l : Log) (found : ℕ) → asked-log (logs.next l found) ≡ asked-log l
+pub log-kept : (l : Log) (found : ℕ) → asked-log (logs.next l found) ≡ asked-log l
 log-kept l found = which (logs.answer l)
   where
     which : (o : Option ReadStopAnswer) → asked-log (logs.next_by l found o) ≡ asked-log l
@@ -251,6 +251,7 @@ pub record HasBegun (layout : Layout) (by : Who) (command : Command) (banks : Ba
   pub before : banks_before j (left_in j banks) ≡ banks
   pub idle : (class j ≡ 4) × (claims j ≡ None)
   pub told : collects_now j ≡ true → collects ≡ true
+  pub within : HasChangeWithin j
 
 pub has-begun : (layout : Layout) (by : Who) (command : Command) (banks : Banks) (collects : Bool) (j : Job) → Begins layout by command banks collects j → HasBegun layout by command banks collects j
 has-begun layout by command banks collects j begun = which command begun
@@ -259,31 +260,39 @@ has-begun layout by command banks collects j begun = which command begun
     from c x is has b = subst (HasBegun layout by c banks collects) (sym is) (has (subst (Begins layout by c banks collects) is b))
 
     which : (c : Command) → Begins layout by c banks collects j → HasBegun layout by c banks collects j
-    which (commands.Load thread slot line) b = from (commands.Load thread slot line) _ b.job_is (λ r. record { runs = r; who_is = refl; start = (_, refl, refl, refl); before = refl; idle = (refl, refl); told = λ on. on }) b
-    which (commands.Fetch thread slot line) b = from (commands.Fetch thread slot line) _ b.job_is (λ r. record { runs = r; who_is = refl; start = (_, refl, refl, refl); before = refl; idle = (refl, refl); told = λ on. on }) b
-    which (commands.KLoad thread slot line) b = from (commands.KLoad thread slot line) _ b.job_is (λ r. record { runs = r; who_is = refl; start = (_, refl, refl, refl); before = refl; idle = (refl, refl); told = λ on. on }) b
-    which (commands.Store thread slot line word) b = from (commands.Store thread slot line word) _ b.job_is (λ r. record { runs = r; who_is = refl; start = (_, refl, refl, refl); before = refl; idle = (refl, refl); told = λ on. on }) b
-    which (commands.Free slot) b = from (commands.Free slot) _ b.1.job_is (λ r. record { runs = r; who_is = refl; start = refl; before = refl; idle = (refl, refl); told = λ on. absurd (true≢false (sym on)) }) b
-    which (commands.Drop page) b = from (commands.Drop page) _ b.job_is (λ r. record { runs = r; who_is = refl; start = refl; before = refl; idle = (refl, refl); told = λ on. absurd (true≢false (sym on)) }) b
-    which (commands.Sync page) b = from (commands.Sync page) _ b.job_is (λ r. record { runs = r; who_is = refl; start = refl; before = refl; idle = (refl, refl); told = λ on. absurd (true≢false (sym on)) }) b
-    which (commands.Out page) b = from (commands.Out page) _ b.job_is (λ r. record { runs = r; who_is = refl; start = refl; before = refl; idle = (refl, refl); told = λ on. absurd (true≢false (sym on)) }) b
-    which (commands.Fsync file) b = from (commands.Fsync file) _ b.2 (λ r. record { runs = r; who_is = refl; start = refl; before = refl; idle = (refl, refl); told = λ on. absurd (true≢false (sym on)) }) b
-    which (commands.Open file) b = from (commands.Open file) _ b.2 (λ r. record { runs = r; who_is = refl; start = refl; before = refl; idle = (refl, refl); told = λ on. absurd (true≢false (sym on)) }) b
-    which (commands.Prctl thread args) b = from (commands.Prctl thread args) _ b.job_is (λ r. record { runs = r; who_is = refl; start = refl; before = refl; idle = (refl, refl); told = λ on. absurd (true≢false (sym on)) }) b
-    which (commands.Bad frame line) b = from (commands.Bad frame line) _ b.job_is (λ r. record { runs = r; who_is = refl; start = refl; before = refl; idle = (refl, refl); told = λ on. absurd (true≢false (sym on)) }) b
-    which (commands.Weak frame line) b = from (commands.Weak frame line) _ b.job_is (λ r. record { runs = r; who_is = refl; start = refl; before = refl; idle = (refl, refl); told = λ on. absurd (true≢false (sym on)) }) b
-    which (commands.Scrub first last) b = from (commands.Scrub first last) _ b.job_is (λ r. record { runs = r; who_is = refl; start = (refl, refl); before = refl; idle = (refl, refl); told = λ on. absurd (true≢false (sym on)) }) b
-    which (commands.Log status addr misc) b = from (commands.Log status addr misc) _ b.job_is (λ r. record { runs = r; who_is = refl; start = refl; before = refl; idle = (refl, refl); told = λ on. absurd (true≢false (sym on)) }) b
-    which (commands.Watch threshold window) b = from (commands.Watch threshold window) _ b.job_is (λ r. record { runs = r; who_is = refl; start = refl; before = refl; idle = (refl, refl); told = λ on. absurd (true≢false (sym on)) }) b
-    which (commands.RaiseUser thread ripv eipv) b = from (commands.RaiseUser thread ripv eipv) _ b.job_is (λ r. record { runs = r; who_is = refl; start = (refl, refl); before = refl; idle = (refl, refl); told = λ on. absurd (true≢false (sym on)) }) b
-    which (commands.RaiseKernel ripv eipv) b = from (commands.RaiseKernel ripv eipv) _ b.job_is (λ r. record { runs = r; who_is = refl; start = (refl, refl); before = refl; idle = (refl, refl); told = λ on. absurd (true≢false (sym on)) }) b
-    which commands.RaiseNested b = from commands.RaiseNested _ b (λ r. record { runs = r; who_is = refl; start = refl; before = refl; idle = (refl, refl); told = λ on. absurd (true≢false (sym on)) }) b
-    which (commands.Inject frame) b = from (commands.Inject frame) _ b.job_is (λ r. record { runs = r; who_is = refl; start = refl; before = refl; idle = (refl, refl); told = λ on. absurd (true≢false (sym on)) }) b
-    which (commands.Soft frame) b = from (commands.Soft frame) _ b.job_is (λ r. record { runs = r; who_is = refl; start = refl; before = refl; idle = (refl, refl); told = λ on. absurd (true≢false (sym on)) }) b
-    which (commands.Unpoison frame) b = from (commands.Unpoison frame) _ b.job_is (λ r. record { runs = r; who_is = refl; start = refl; before = refl; idle = (refl, refl); told = λ on. absurd (true≢false (sym on)) }) b
+    which (commands.Load thread slot line) b = from (commands.Load thread slot line) _ b.job_is (λ r. record { runs = r; who_is = refl; start = (_, refl, refl, refl); before = refl; idle = (refl, refl); told = λ on. on; within = tt }) b
+    which (commands.Fetch thread slot line) b = from (commands.Fetch thread slot line) _ b.job_is (λ r. record { runs = r; who_is = refl; start = (_, refl, refl, refl); before = refl; idle = (refl, refl); told = λ on. on; within = tt }) b
+    which (commands.KLoad thread slot line) b = from (commands.KLoad thread slot line) _ b.job_is (λ r. record { runs = r; who_is = refl; start = (_, refl, refl, refl); before = refl; idle = (refl, refl); told = λ on. on; within = tt }) b
+    which (commands.Store thread slot line word) b = from (commands.Store thread slot line word) _ b.job_is (λ r. record { runs = r; who_is = refl; start = (_, refl, refl, refl); before = refl; idle = (refl, refl); told = λ on. on; within = tt }) b
+    which (commands.Free slot) b = from (commands.Free slot) _ b.1.job_is (λ r. record { runs = r; who_is = refl; start = refl; before = refl; idle = (refl, refl); told = λ on. absurd (true≢false (sym on)); within = tt }) b
+    which (commands.Drop page) b = from (commands.Drop page) _ b.job_is (λ r. record { runs = r; who_is = refl; start = refl; before = refl; idle = (refl, refl); told = λ on. absurd (true≢false (sym on)); within = tt }) b
+    which (commands.Sync page) b = from (commands.Sync page) _ b.job_is (λ r. record { runs = r; who_is = refl; start = refl; before = refl; idle = (refl, refl); told = λ on. absurd (true≢false (sym on)); within = tt }) b
+    which (commands.Out page) b = from (commands.Out page) _ b.job_is (λ r. record { runs = r; who_is = refl; start = refl; before = refl; idle = (refl, refl); told = λ on. absurd (true≢false (sym on)); within = tt }) b
+    which (commands.Fsync file) b = from (commands.Fsync file) _ b.2 (λ r. record { runs = r; who_is = refl; start = refl; before = refl; idle = (refl, refl); told = λ on. absurd (true≢false (sym on)); within = tt }) b
+    which (commands.Open file) b = from (commands.Open file) _ b.2 (λ r. record { runs = r; who_is = refl; start = refl; before = refl; idle = (refl, refl); told = λ on. absurd (true≢false (sym on)); within = tt }) b
+    which (commands.Prctl thread args) b = from (commands.Prctl thread args) _ b.job_is (λ r. record { runs = r; who_is = refl; start = refl; before = refl; idle = (refl, refl); told = λ on. absurd (true≢false (sym on)); within = tt }) b
+    which (commands.Bad frame line) b = from (commands.Bad frame line) _ b.job_is (λ r. record { runs = r; who_is = refl; start = refl; before = refl; idle = (refl, refl); told = λ on. absurd (true≢false (sym on)); within = tt }) b
+    which (commands.Weak frame line) b = from (commands.Weak frame line) _ b.job_is (λ r. record { runs = r; who_is = refl; start = refl; before = refl; idle = (refl, refl); told = λ on. absurd (true≢false (sym on)); within = tt }) b
+    which (commands.Scrub first last) b = from (commands.Scrub first last) _ b.job_is (λ r. record { runs = r; who_is = refl; start = (refl, refl); before = refl; idle = (refl, refl); told = λ on. absurd (true≢false (sym on)); within = tt }) b
+    which (commands.Log status addr misc) b = from (commands.Log status addr misc) _ b.job_is (λ r. record { runs = r; who_is = refl; start = refl; before = refl; idle = (refl, refl); told = λ on. absurd (true≢false (sym on)); within = r.within }) b
+    which (commands.Watch threshold window) b = from (commands.Watch threshold window) _ b.job_is (λ r. record { runs = r; who_is = refl; start = refl; before = refl; idle = (refl, refl); told = λ on. absurd (true≢false (sym on)); within = r.within }) b
+    which (commands.RaiseUser thread ripv eipv) b = from (commands.RaiseUser thread ripv eipv) _ b.job_is (λ r. record { runs = r; who_is = refl; start = (refl, refl); before = refl; idle = (refl, refl); told = λ on. absurd (true≢false (sym on)); within = tt }) b
+    which (commands.RaiseKernel ripv eipv) b = from (commands.RaiseKernel ripv eipv) _ b.job_is (λ r. record { runs = r; who_is = refl; start = (refl, refl); before = refl; idle = (refl, refl); told = λ on. absurd (true≢false (sym on)); within = tt }) b
+    which commands.RaiseNested b = from commands.RaiseNested _ b (λ r. record { runs = r; who_is = refl; start = refl; before = refl; idle = (refl, refl); told = λ on. absurd (true≢false (sym on)); within = tt }) b
+    which (commands.Inject frame) b = from (commands.Inject frame) _ b.job_is (λ r. record { runs = r; who_is = refl; start = refl; before = refl; idle = (refl, refl); told = λ on. absurd (true≢false (sym on)); within = tt }) b
+    which (commands.Soft frame) b = from (commands.Soft frame) _ b.job_is (λ r. record { runs = r; who_is = refl; start = refl; before = refl; idle = (refl, refl); told = λ on. absurd (true≢false (sym on)); within = tt }) b
+    which (commands.Unpoison frame) b = from (commands.Unpoison frame) _ b.job_is (λ r. record { runs = r; who_is = refl; start = refl; before = refl; idle = (refl, refl); told = λ on. absurd (true≢false (sym on)); within = tt }) b
 
 pub begins-runs : (layout : Layout) (who : Who) (command : Command) (banks : Banks) (collects : Bool) (j : Job) → Begins layout who command banks collects j → Runs layout who command j
 begins-runs layout by command banks collects j begun = (has-begun layout by command banks collects j begun).runs
+
+anew-within : (j : Job) → HasChangeWithin (anew j) → HasChangeWithin j
+anew-within (jobs.Log l) within = within
+anew-within _ within = tt
+
+-- the numbers of a collector that it begins are within their limits
+pub runs-within : (layout : Layout) (by : Who) (command : Command) (j : Job) → Runs layout by command j → HasChangeWithin j
+runs-within layout by command j runs = anew-within j (has-begun layout by command (banks_before j []) (collects_now j) (anew j) runs).within
 
 pub before-begins : (layout : Layout) (who : Who) (command : Command) (banks : Banks) (collects : Bool) (j : Job) → Begins layout who command banks collects j → banks_before j (left_in j banks) ≡ banks
 before-begins layout by command banks collects j begun = (has-begun layout by command banks collects j begun).before

@@ -122,8 +122,8 @@ use Rattle.hwp_cpu_command.specs.declared.job.Job.{Job}
 use Rattle.hwp_cpu_command.specs.declared.job.Job.TheVariants as jobs
 use Rattle.hwp_cpu_command.specs.Answers.{evict_answer, fail_answer, fsync_answer, instruction_answer, nested_answer, prctl_answer, raise_answer, read_stop_answer, refusal_answer, scrub_answer, soft_answer, spoil_answer, unpoison_answer}
 use Rattle.hwp_cpu_command.specs.Begins.{Begins}
-use Rattle.hwp_cpu_command.specs.Jobs.{FitsFrom, answer, plan, put, who}
-use Rattle.hwp_cpu_command.specs.Stays.{EndsStopped, HasSpoiled, HasStopped, IsAtStop, IsHalted, IsStopping, Stepped, StopsItself}
+use Rattle.hwp_cpu_command.specs.Jobs.{FitsFrom, answer, plan, put, told_of, who}
+use Rattle.hwp_cpu_command.specs.Stays.{EndsAtOnce, EndsStopped, HasSpoiled, HasStopped, IsAtStop, IsHalted, IsStopping, Stepped, StopsItself}
 use Rattle.hwp_cpu_command.proofs.JobEnds.{InjectEnded, answered-over, inject-ended, instruction-ended, mapped, raise-ended, scrub-ended, soft-ended, unpoison-ended}
 use Rattle.hwp_cpu_command_laws.proofs.CommandLeaves.{StopsLeft, evict-left, fsync-left, inject-left, instruction-left, log-left, nested-left, prctl-left, raise-left, scrub-left, soft-left, spoil-left, unpoison-left}
 use Rattle.hwp_cpu_command_laws.proofs.CommandRuns.{has-begun}
@@ -361,20 +361,52 @@ looks (jobs.Unpoison u) after s word start =
     ap answer s.follows.0 ∙ ap (λ (x : UnpoisonAt). option_map unpoison_answer (unpoisons.answer_at (unpoisons.next_at x s.found))) start
     ∙ ap (λ (b : Bool). option_map unpoison_answer (unpoisons.answer_at (cond b (unpoison_at.Over unpoison_answers.Stopped) unpoison_at.LoadFrame))) word
 
+-- at its beginning a command has told of no event
+pub untold-at-start : (j : Job) → IsAtStop j → told_of j ≡ []
+untold-at-start (jobs.Instruction i) start = start.3
+untold-at-start (jobs.Raise r) start = start.1
+untold-at-start (jobs.Scrub c) start = start.1
+untold-at-start _ start = refl
+
+-- nor has one that finds by its first step that the machine has stopped
+looks-untold : {layout : Layout} {old new : View} (j after : Job) (s : Stepped layout old new j after) → is_stopped s.found ≡ true → IsAtStop j → told_of after ≡ []
+looks-untold {layout} (jobs.Instruction i) after s word (a, start, look, none) =
+    let stepped = subst (λ (x : InstructionAt). instructions.FollowsAt layout (instructions.bare i) (instructions.bare_at x) s.found s.got s.follows.0 s.turn) start s.follows.2 in
+    let at = subst (λ (x : AccessAt). accesses.NextAt layout a.request (accesses.bare_at x) s.found s.got stepped.access.at s.turn) look stepped.follows.at in
+    let over : accesses.answer stepped.access ≡ Some access_answers.Stopped = ap accesses.answer_at at.0 ∙ ap (λ (b : Bool). accesses.answer_at (cond b (access_at.Over access_answers.Stopped) access_at.LoadProcess)) word in
+    let next = subst (λ (o : Option AccessAnswer). instructions.AfterAccessBy layout (instructions.bare i) stepped.access o s.follows.0) over stepped.next_is in
+    ap told_of s.follows.1 ∙ ap (λ (k : Instruction). k.lines.told) next ∙ none
+looks-untold {layout} (jobs.Raise r) after s word (start, none) =
+    let stepped = subst (λ (x : RaiseAt). raises.FollowsAt layout (raises.bare r) (raises.bare_at x) s.found s.got s.follows.0 s.turn) start s.follows.2 in
+    let next = subst (λ (b : Bool). raises.AfterStopBy layout (raises.bare r) b r.raiser s.follows.0) word stepped.0 in
+    ap told_of s.follows.1 ∙ ap (λ (k : Raise). k.lines.told) next ∙ none
+looks-untold {layout} (jobs.Scrub c) after s word (start, none) =
+    let stepped = subst (λ (x : ScrubAt). scrubs.FollowsAt layout (scrubs.bare c) (scrubs.bare_at x) s.found s.got s.follows.0 s.turn) start s.follows.2 in
+    ap told_of s.follows.1 ∙ ap (λ (k : Scrub). k.lines.told) stepped.0 ∙ none
+looks-untold (jobs.Evict e) after s word start = ap told_of s.follows.1
+looks-untold (jobs.Inject i) after s word start = ap told_of s.follows.1
+looks-untold (jobs.Soft o) after s word start = ap told_of s.follows.1
+looks-untold (jobs.Fsync f) after s word start = ap told_of s.follows.0
+looks-untold (jobs.Prctl p) after s word start = ap told_of s.follows.0
+looks-untold (jobs.Log l) after s word start = ap told_of s.follows.0
+looks-untold (jobs.Spoil p) after s word start = ap told_of s.follows.0
+looks-untold (jobs.Nested n) after s word start = ap told_of s.follows.0
+looks-untold (jobs.Unpoison u) after s word start = ap told_of s.follows.0
+
 -- on a machine that has stopped, a command that comes to `stopped` alone still does after its step
-pub halted-stays : {layout : Layout} {old new : View} {j after : Job} → Stepped layout old new j after → IsHalted old → EndsStopped j → IsHalted new × EndsStopped after
-halted-stays {layout} {old} {new} {j} {after} s halted ends = (still-halted s halted, inr (which ends))
+pub halted-stays : {layout : Layout} {old new : View} {j after : Job} → Stepped layout old new j after → IsHalted old → EndsAtOnce j → IsHalted new × EndsAtOnce after
+halted-stays {layout} {old} {new} {j} {after} s halted ends = (still-halted s halted, which ends.0)
   where
-    which : EndsStopped j → answer after ≡ Some answers.Stopped
-    which (inl start) = looks j after s (stop-word (look-made s start) halted) start
+    which : EndsStopped j → EndsAtOnce after
+    which (inl start) = (inr (looks j after s (stop-word (look-made s start) halted) start), looks-untold j after s (stop-word (look-made s start) halted) start)
     which (inr stopped) = absurd (none-some s.step (sym (answered-over j stopped) ∙ s.planned))
 
 -- a command that looks is answered `stopped`, or saw the machine running
-pub looks-first : {layout : Layout} {old new : View} {j after : Job} (s : Stepped layout old new j after) → IsAtStop j → (answer after ≡ Some answers.Stopped) ⊎ ((is_stopped s.found ≡ false) × Saw new (who j) places.Stop s.found)
+pub looks-first : {layout : Layout} {old new : View} {j after : Job} (s : Stepped layout old new j after) → IsAtStop j → EndsAtOnce after ⊎ ((is_stopped s.found ≡ false) × Saw new (who j) places.Stop s.found)
 looks-first {new = new} {j = j} {after = after} s start = which (is_stopped s.found) refl
   where
-    which : (b : Bool) → is_stopped s.found ≡ b → (answer after ≡ Some answers.Stopped) ⊎ ((is_stopped s.found ≡ false) × Saw new (who j) places.Stop s.found)
-    which true stopped = inl (looks j after s stopped start)
+    which : (b : Bool) → is_stopped s.found ≡ b → EndsAtOnce after ⊎ ((is_stopped s.found ≡ false) × Saw new (who j) places.Stop s.found)
+    which true stopped = inl (inr (looks j after s stopped start), looks-untold j after s stopped start)
     which false clear = inr (clear, saw-load (look-made s start))
 
 -- ---- the beginning and the end of a command
@@ -404,14 +436,14 @@ replied (replies.Is policy) = refl
 replied replies.Einval = refl
 
 module _ (layout : Layout) (view : View) where
-  instruction-halts : {base : List Made} (a : Request) (told : _) (x : InstructionAnswer) → IsEnd base layout view a told x → instruction_answer x ≡ answers.Stopped → IsHalted view
-  instruction-halts a told instruction_answers.Stopped (inl own) is = halts own.answered.0
-  instruction-halts a told instruction_answers.Stopped (inr halted) is = stops halted.stopped
-  instruction-halts a told (instruction_answers.Value word place) ended is = absurd (other _ refl (ap (λ (y : Answer). Some y) is))
-  instruction-halts a told (instruction_answers.Stored place) ended is = absurd (other _ refl (ap (λ (y : Answer). Some y) is))
-  instruction-halts a told (instruction_answers.Sigbus place) ended is = absurd (other _ refl (ap (λ (y : Answer). Some y) is))
-  instruction-halts a told instruction_answers.NoFrame ended is = absurd (other _ refl (ap (λ (y : Answer). Some y) is))
-  instruction-halts a told (instruction_answers.Gone page) ended is = absurd (other _ refl (ap (λ (y : Answer). Some y) is))
+  instruction-halts : (base : List Made) (a : Request) (told : _) (x : InstructionAnswer) → IsEnd base layout view a told x → instruction_answer x ≡ answers.Stopped → IsHalted view
+  instruction-halts base a told instruction_answers.Stopped (inl own) is = halts own.answered.0
+  instruction-halts base a told instruction_answers.Stopped (inr halted) is = stops halted.stopped
+  instruction-halts base a told (instruction_answers.Value word place) ended is = absurd (other _ refl (ap (λ (y : Answer). Some y) is))
+  instruction-halts base a told (instruction_answers.Stored place) ended is = absurd (other _ refl (ap (λ (y : Answer). Some y) is))
+  instruction-halts base a told (instruction_answers.Sigbus place) ended is = absurd (other _ refl (ap (λ (y : Answer). Some y) is))
+  instruction-halts base a told instruction_answers.NoFrame ended is = absurd (other _ refl (ap (λ (y : Answer). Some y) is))
+  instruction-halts base a told (instruction_answers.Gone page) ended is = absurd (other _ refl (ap (λ (y : Answer). Some y) is))
 
   raise-halts : (r : Raise) (x : RaiseAnswer) → raise_fits.IsEnd layout view r x → raise_answer (length r.lines.told) x ≡ answers.Stopped → IsHalted view
   raise-halts r raise_answers.Stopped (inl unchecked) is = halts unchecked.1
@@ -429,11 +461,11 @@ module _ (layout : Layout) (view : View) where
   spoil-halts s (spoil_at.Over spoil_answers.Done) fits is = absurd (other _ refl is)
   spoil-halts s _ fits is = absurd (none-some _ is)
 
-  evict-halts : {base : List Made} (e : Evict) (x : EvictAt) → evicts.FitsAt base layout view e.who e.page e.what x → option_map evict_answer (evicts.answer_at x) ≡ Some answers.Stopped → IsHalted view
-  evict-halts e (evict_at.Over evict_answers.Stopped) fits is = halts fits.1.1
-  evict-halts e (evict_at.Over (evict_answers.Done at)) fits is = absurd (other _ refl is)
-  evict-halts e (evict_at.Over (evict_answers.Refused refusal at)) fits is = absurd (other _ (refused refusal at) is)
-  evict-halts e _ fits is = absurd (none-some _ is)
+  evict-halts : (base : List Made) (e : Evict) (x : EvictAt) → evicts.FitsAt base layout view e.who e.page e.what x → option_map evict_answer (evicts.answer_at x) ≡ Some answers.Stopped → IsHalted view
+  evict-halts base e (evict_at.Over evict_answers.Stopped) fits is = halts fits.1.1
+  evict-halts base e (evict_at.Over (evict_answers.Done at)) fits is = absurd (other _ refl is)
+  evict-halts base e (evict_at.Over (evict_answers.Refused refusal at)) fits is = absurd (other _ (refused refusal at) is)
+  evict-halts base e _ fits is = absurd (none-some _ is)
 
   fsync-halts : (f : Fsync) (x : FsyncAt) → fsyncs.FitsAt layout view f.who f.file f.handle x → option_map fsync_answer (fsyncs.answer_at x) ≡ Some answers.Stopped → IsHalted view
   fsync-halts f (fsync_at.Over fsync_answers.Stopped number) fits is = halts fits.0
@@ -468,14 +500,14 @@ module _ (layout : Layout) (view : View) where
   inject-halts i fail_answers.Already ended is = absurd (other _ refl (ap (λ (a : Answer). Some a) is))
   inject-halts i (fail_answers.Done found) ended is = absurd (other _ (came (outcome_of found.situation)) (ap (λ (a : Answer). Some a) is))
 
-  soft-halts : {base : List Made} (s : Soft) (x : SoftAnswer) → offline.IsCaused base layout view s.who s.frame x → soft_answer x ≡ answers.Stopped → IsHalted view
-  soft-halts s soft_answers.Stopped caused is = halts caused.1
-  soft-halts s soft_answers.Kernel caused is = absurd (other _ refl (ap (λ (y : Answer). Some y) is))
-  soft-halts s soft_answers.Already caused is = absurd (other _ refl (ap (λ (y : Answer). Some y) is))
-  soft-halts s (soft_answers.HasBad mask) caused is = absurd (other _ refl (ap (λ (y : Answer). Some y) is))
-  soft-halts s soft_answers.NoFrame caused is = absurd (other _ refl (ap (λ (y : Answer). Some y) is))
-  soft-halts s (soft_answers.TakenFree cycle) caused is = absurd (other _ refl (ap (λ (y : Answer). Some y) is))
-  soft-halts s (soft_answers.Moved to place cycle) caused is = absurd (other _ refl (ap (λ (y : Answer). Some y) is))
+  soft-halts : (base : List Made) (s : Soft) (x : SoftAnswer) → offline.IsCaused base layout view s.who s.frame x → soft_answer x ≡ answers.Stopped → IsHalted view
+  soft-halts base s soft_answers.Stopped caused is = halts caused.1
+  soft-halts base s soft_answers.Kernel caused is = absurd (other _ refl (ap (λ (y : Answer). Some y) is))
+  soft-halts base s soft_answers.Already caused is = absurd (other _ refl (ap (λ (y : Answer). Some y) is))
+  soft-halts base s (soft_answers.HasBad mask) caused is = absurd (other _ refl (ap (λ (y : Answer). Some y) is))
+  soft-halts base s soft_answers.NoFrame caused is = absurd (other _ refl (ap (λ (y : Answer). Some y) is))
+  soft-halts base s (soft_answers.TakenFree cycle) caused is = absurd (other _ refl (ap (λ (y : Answer). Some y) is))
+  soft-halts base s (soft_answers.Moved to place cycle) caused is = absurd (other _ refl (ap (λ (y : Answer). Some y) is))
 
   unpoison-halts : (u : Unpoison) (x : UnpoisonAnswer) → unpoisons.IsCaused view u.who u.frame x → unpoison_answer x ≡ answers.Stopped → IsHalted view
   unpoison-halts u unpoison_answers.Stopped caused is = halts caused.1
@@ -486,16 +518,16 @@ module _ (layout : Layout) (view : View) where
   unpoison-halts u (unpoison_answers.InUse count) caused is = absurd (other _ refl (ap (λ (y : Answer). Some y) is))
 
 -- a command that is answered `stopped` shows that the machine has stopped
-pub stopped-halts : {base : List Made} (layout : Layout) (view : View) (j : Job) → FitsFrom base layout view j → answer j ≡ Some answers.Stopped → IsHalted view
-stopped-halts layout view (jobs.Instruction i) fits is = let own = mapped _ (instructions.answer i) is in instruction-halts layout view i.request i.lines.told own.0 (instruction-ended i fits own.1).ended own.2
-stopped-halts layout view (jobs.Evict e) fits is = evict-halts layout view e e.at fits.at is
-stopped-halts layout view (jobs.Fsync f) fits is = fsync-halts layout view f f.at fits.1.at is
-stopped-halts layout view (jobs.Prctl p) fits is = prctl-halts layout view p p.at fits.1.at is
-stopped-halts layout view (jobs.Log l) fits is = read-halts layout view l.read l.read.at fits.1.read.at is
-stopped-halts layout view (jobs.Raise r) fits is = let own = mapped _ (raises.answer r) is in raise-halts layout view r own.0 (raise-ended r fits.1 own.1).1 own.2
-stopped-halts layout view (jobs.Scrub c) fits is = let own = mapped _ (scrubs.answer c) is in scrub-halts layout view c own.0 (scrub-ended c fits.1 own.1) own.2
-stopped-halts layout view (jobs.Spoil s) fits is = spoil-halts layout view s s.at fits.1.at is
-stopped-halts layout view (jobs.Nested n) fits is = nested-halts layout view n n.at fits.1.at is
-stopped-halts layout view (jobs.Inject i) fits is = let own = mapped _ (injects.answer i) is in inject-halts layout view i own.0 (inject-ended i fits.1 own.1) own.2
-stopped-halts layout view (jobs.Soft s) fits is = let own = mapped _ (softs.answer s) is in soft-halts layout view s own.0 (soft-ended s fits own.1).1 own.2
-stopped-halts layout view (jobs.Unpoison u) fits is = let own = mapped _ (unpoisons.answer u) is in unpoison-halts layout view u own.0 (unpoison-ended u fits.1 own.1).1 own.2
+pub stopped-halts : (base : List Made) (layout : Layout) (view : View) (j : Job) → FitsFrom base layout view j → answer j ≡ Some answers.Stopped → IsHalted view
+stopped-halts base layout view (jobs.Instruction i) fits is = let own = mapped _ (instructions.answer i) is in instruction-halts layout view base i.request i.lines.told own.0 (instruction-ended i fits own.1).ended own.2
+stopped-halts base layout view (jobs.Evict e) fits is = evict-halts layout view base e e.at fits.at is
+stopped-halts base layout view (jobs.Fsync f) fits is = fsync-halts layout view f f.at fits.1.at is
+stopped-halts base layout view (jobs.Prctl p) fits is = prctl-halts layout view p p.at fits.1.at is
+stopped-halts base layout view (jobs.Log l) fits is = read-halts layout view l.read l.read.at fits.1.read.at is
+stopped-halts base layout view (jobs.Raise r) fits is = let own = mapped _ (raises.answer r) is in raise-halts layout view r own.0 (raise-ended r fits.1 own.1).1 own.2
+stopped-halts base layout view (jobs.Scrub c) fits is = let own = mapped _ (scrubs.answer c) is in scrub-halts layout view c own.0 (scrub-ended c fits.1 own.1) own.2
+stopped-halts base layout view (jobs.Spoil s) fits is = spoil-halts layout view s s.at fits.1.at is
+stopped-halts base layout view (jobs.Nested n) fits is = nested-halts layout view n n.at fits.1.at is
+stopped-halts base layout view (jobs.Inject i) fits is = let own = mapped _ (injects.answer i) is in inject-halts layout view i own.0 (inject-ended i fits.1 own.1) own.2
+stopped-halts base layout view (jobs.Soft s) fits is = let own = mapped _ (softs.answer s) is in soft-halts layout view base s own.0 (soft-ended s fits own.1).1 own.2
+stopped-halts base layout view (jobs.Unpoison u) fits is = let own = mapped _ (unpoisons.answer u) is in unpoison-halts layout view u own.0 (unpoison-ended u fits.1 own.1).1 own.2

@@ -6,4 +6,5 @@ pub mod CommandStops
 pub mod CommandDeeds
 pub mod Below
 pub mod HandleKeeps
+pub mod Beside
 pub use Rattle.hwp_cpu_command.proofs as of_hwp_cpu_command

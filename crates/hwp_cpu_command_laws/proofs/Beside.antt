@@ -1,0 +1,229 @@
+-- A command while frames are taken out of use beside it: what it has done so far where it rests, behind its pause, and where memory ran
+-- out for that.
+use Rattle.std.proofs.Common.{◌≡◌, ◌⊎◌, inl, inr, ℕ, ◌||◌, Bool, true, false, true≢false, List, [], ◌++◌, Option, Some, None, is_some, length, option_map, filter_map, refl, sym, ap, ◌∙◌, subst}
+use Rattle.std.proofs.lemmas.Option.{none-some, same_Some}
+use Rattle.hwp_cpu_command.specs.hwp_geom.declared.Layout.{Layout}
+use Rattle.hwp_cpu_command.specs.hwp_geom.declared.Who.{Who}
+use Rattle.hwp_cpu_command.specs.hwp_banks.Banks.{Banks}
+use Rattle.hwp_cpu_command.specs.hwp_page.History.{BodyValue}
+use Rattle.hwp_cpu_command.specs.hwp_core_rule.declared.Step.{Step}
+use Rattle.hwp_cpu_command.specs.hwp_core_task.declared.Turn.{Turn}
+use Rattle.hwp_cpu_command.specs.hwp_claim_act.declared.Failed.{Failed}
+use Rattle.hwp_cpu_command.specs.hwp_report_text.declared.Answer.{Answer}
+use Rattle.hwp_cpu_command.specs.hwp_fault.declared.Request.{Request}
+use Rattle.hwp_cpu_command.specs.hwp_cpu_check.Done.{marked_in}
+use Rattle.hwp_cpu_command.specs.hwp_cpu_access.declared.Instruction.{Instruction}
+use Rattle.hwp_cpu_command.specs.hwp_cpu_access.declared.InstructionAnswer.{InstructionAnswer}
+use Rattle.hwp_cpu_command.specs.hwp_cpu_access.declared.instruction.InstructionAt.{InstructionAt}
+use Rattle.hwp_cpu_command.specs.hwp_cpu_access.declared.instruction.InstructionAt.TheVariants as instruction_at
+use Rattle.hwp_cpu_command.specs.hwp_cpu_access.declared.instruction.Pause.{Pause}
+use Rattle.hwp_cpu_command.specs.hwp_cpu_access.declared.instruction.Pause.TheVariants as pauses
+use Rattle.hwp_cpu_command.specs.hwp_cpu_access.Done as instruction_done
+use Rattle.hwp_cpu_command.specs.hwp_cpu_access.Instructions as instructions
+use Rattle.hwp_cpu_command.specs.hwp_cpu_raise.declared.LocalChange.{LocalChange}
+use Rattle.hwp_cpu_command.specs.hwp_cpu_raise.declared.Raise.{Raise}
+use Rattle.hwp_cpu_command.specs.hwp_cpu_raise.declared.raise.RaiseAt.{RaiseAt}
+use Rattle.hwp_cpu_command.specs.hwp_cpu_raise.Done as raise_done
+use Rattle.hwp_cpu_command.specs.hwp_cpu_raise.Raises as raises
+use Rattle.hwp_cpu_command.specs.hwp_scrub.declared.Scrub.{Scrub}
+use Rattle.hwp_cpu_command.specs.hwp_scrub.declared.scrub.ScrubAt.{ScrubAt}
+use Rattle.hwp_cpu_command.specs.hwp_scrub.Done as scrub_done
+use Rattle.hwp_cpu_command.specs.hwp_scrub.Scrubs as scrubs
+use Rattle.hwp_cpu_command.specs.declared.job.Job.{Job}
+use Rattle.hwp_cpu_command.specs.declared.job.Job.TheVariants as jobs
+use Rattle.hwp_cpu_command.specs.Answers.{instruction_answer, raise_answer, scrub_answer}
+use Rattle.hwp_cpu_command.specs.Done.{failed_now, marked_beyond, marked_now, owed_now}
+use Rattle.hwp_cpu_command.specs.FileHandles.{HasChangeWithin, IsChangeWithin}
+use Rattle.hwp_cpu_command.specs.Jobs.{Next, answer, bare, give_up, pauses as is_paused, plan, resume, told_of}
+use Rattle.hwp_cpu_command.specs.Stays.{EndsStopped, HasGivenUp}
+use Rattle.hwp_cpu_command.proofs.JobEnds.{instruction-over, mapped, raise-over, scrub-over}
+use Rattle.hwp_cpu_command_laws.proofs.CommandRuns.{GoesOn, log-kept}
+
+-- ---- the same command goes on
+
+pub resume-goes : (j : Job) → GoesOn j (resume j)
+resume-goes (jobs.Instruction i) = which (instructions.pause i)
+  where
+    which : (o : Option Pause) → GoesOn (jobs.Instruction i) (jobs.Instruction (instructions.resume_by i o))
+    which None = record { anew_is = refl; before = λ kept. refl; fails = refl; collects = refl }
+    which (Some p) = record { anew_is = refl; before = λ kept. refl; fails = refl; collects = refl }
+resume-goes _ = record { anew_is = refl; before = λ kept. refl; fails = refl; collects = refl }
+
+pub give-up-goes : (j : Job) → GoesOn j (give_up j)
+give-up-goes (jobs.Instruction i) = record { anew_is = refl; before = λ kept. refl; fails = refl; collects = refl }
+give-up-goes (jobs.Raise r) = record { anew_is = refl; before = λ kept. refl; fails = refl; collects = refl }
+give-up-goes (jobs.Scrub s) = record { anew_is = refl; before = λ kept. refl; fails = refl; collects = refl }
+give-up-goes _ = record { anew_is = refl; before = λ kept. refl; fails = refl; collects = refl }
+
+-- ---- at its pause, and behind it
+
+unpaused : (x : InstructionAt) → is_some (instructions.answer_at x) ≡ true → instructions.pause_at x ≡ None
+unpaused (instruction_at.Paused p) some = absurd (true≢false (sym some))
+unpaused _ some = refl
+
+answers-some : (o : Option InstructionAnswer) → is_some (option_map instruction_answer o) ≡ true → is_some o ≡ true
+answers-some None is = is
+answers-some (Some a) is = refl
+
+-- a task that has its answer stays as it is
+pub answered-resumes : (j : Job) → is_some (answer j) ≡ true → resume j ≡ j
+answered-resumes (jobs.Instruction i) is = ap (λ (o : Option Pause). jobs.Instruction (instructions.resume_by i o)) (unpaused i.at (answers-some (instructions.answer i) is))
+answered-resumes _ is = refl
+
+-- one that doesn't pause has its answer where it rests
+pub rests-by : (j : Job) → (is_paused j || is_some (answer j)) ≡ true → ((i : Instruction) × (p : Pause) × (j ≡ jobs.Instruction i) × (instructions.pause i ≡ Some p)) ⊎ ((a : Answer) × (answer j ≡ Some a))
+rests-by j rests = which (answer j) refl
+  where
+    paused : (k : Job) → is_paused k ≡ true → (i : Instruction) × (p : Pause) × (k ≡ jobs.Instruction i) × (instructions.pause i ≡ Some p)
+    paused (jobs.Instruction i) is = by (instructions.pause i) refl is
+      where
+        by : (o : Option Pause) → instructions.pause i ≡ o → is_some o ≡ true → (x : Instruction) × (p : Pause) × (jobs.Instruction i ≡ jobs.Instruction x) × (instructions.pause x ≡ Some p)
+        by (Some p) at some = (i, p, refl, at)
+        by None at none = absurd (true≢false (sym none))
+    paused _ is = absurd (true≢false (sym is))
+
+    no-answer : (b : Bool) → (b || false) ≡ true → b ≡ true
+    no-answer true is = refl
+    no-answer false is = is
+
+    which : (o : Option Answer) → answer j ≡ o → ((i : Instruction) × (p : Pause) × (j ≡ jobs.Instruction i) × (instructions.pause i ≡ Some p)) ⊎ ((a : Answer) × (answer j ≡ Some a))
+    which (Some a) is = inr (a, is)
+    which None is = inl (paused j (no-answer (is_paused j) (ap (λ (o : Option Answer). is_paused j || is_some o) (sym is) ∙ rests)))
+
+-- where an instruction pauses
+pub at-pause : (x : InstructionAt) {p : Pause} → instructions.pause_at x ≡ Some p → x ≡ instruction_at.Paused p
+at-pause (instruction_at.Paused q) {p} is = ap instruction_at.Paused (same_Some q p is)
+at-pause (instruction_at.Access a) {p} is = absurd (none-some p is)
+at-pause (instruction_at.Handle frame h) {p} is = absurd (none-some p is)
+at-pause (instruction_at.LoadFrame frame) {p} is = absurd (none-some p is)
+at-pause (instruction_at.LoadStop frame) {p} is = absurd (none-some p is)
+at-pause instruction_at.GiveUp {p} is = absurd (none-some p is)
+at-pause (instruction_at.Over answer) {p} is = absurd (none-some p is)
+
+-- at its pause it has no answer, and hasn't yet to look whether the machine has stopped
+pub paused-unanswered : (i : Instruction) {p : Pause} {a : Answer} → instructions.pause i ≡ Some p → answer (jobs.Instruction i) ≡ Some a → ⊥
+paused-unanswered i {p} {a} is has = none-some a (sym (ap (λ (x : InstructionAt). option_map instruction_answer (instructions.answer_at x)) (at-pause i.at is)) ∙ has)
+
+pub paused-late : (i : Instruction) {p : Pause} → instructions.pause i ≡ Some p → EndsStopped (jobs.Instruction i) → ⊥
+paused-late i {p} is (inl start) = none-some p (sym (ap instructions.pause_at start.1) ∙ is)
+paused-late i {p} is (inr stopped) = paused-unanswered i is stopped
+
+-- and neither there nor behind it is there anything under way that it has marked, or owes
+marks-none : (request : Request) (p : Pause) → instruction_done.marked_at (instructions.resumed request p) ≡ []
+marks-none request (pauses.Sigbus place) = refl
+marks-none request (pauses.Wait frame) = refl
+marks-none request pauses.Again = refl
+
+fails-none : (request : Request) (p : Pause) → instruction_done.failed_at (instructions.resumed request p) ≡ []
+fails-none request (pauses.Sigbus place) = refl
+fails-none request (pauses.Wait frame) = refl
+fails-none request pauses.Again = refl
+
+owes-none : (request : Request) (p : Pause) → instruction_done.owed_at (instructions.resumed request p) ≡ 0
+owes-none request (pauses.Sigbus place) = refl
+owes-none request (pauses.Wait frame) = refl
+owes-none request pauses.Again = refl
+
+-- what it has done is as it was behind its pause
+pub record IsSameBehind (j after : Job) : Type 0 where
+  pub told : told_of after ≡ told_of j
+  pub beyond : marked_beyond after ≡ []
+  pub failed : failed_now after ≡ failed_now j
+  pub owed : owed_now after ≡ 0
+
+pub behind-same : (i : Instruction) {p : Pause} → instructions.pause i ≡ Some p → IsSameBehind (jobs.Instruction i) (resume (jobs.Instruction i))
+behind-same i {p} is = subst (λ (o : Option Pause). IsSameBehind (jobs.Instruction i) (jobs.Instruction (instructions.resume_by i o))) (sym is) (record {
+  told = refl;
+  beyond = marks-none i.request p;
+  failed = ap (λ (l : List Failed). instruction_done.failed_by (Some i.request.thread) i.lines.told ++ l) (fails-none i.request p ∙ sym (ap instruction_done.failed_at (at-pause i.at is)));
+  owed = owes-none i.request p;
+})
+
+-- ---- where it rests
+
+-- what it marked is what the events tell that it told of
+pub marked-parts : (j : Job) → marked_now j ≡ filter_map marked_in (told_of j) ++ marked_beyond j
+marked-parts (jobs.Instruction i) = refl
+marked-parts (jobs.Raise r) = refl
+marked-parts (jobs.Scrub s) = refl
+marked-parts _ = refl
+
+-- at its pause it owes no count
+pub paused-unowed : (i : Instruction) {p : Pause} → instructions.pause i ≡ Some p → owed_now (jobs.Instruction i) ≡ 0
+paused-unowed i is = ap instruction_done.owed_at (at-pause i.at is)
+
+pub paused-unmarked : (i : Instruction) {p : Pause} → instructions.pause i ≡ Some p → marked_beyond (jobs.Instruction i) ≡ []
+paused-unmarked i is = ap instruction_done.marked_at (at-pause i.at is)
+
+-- nor has one of which events were told anything under way, where it has its answer
+pub answered-unmarked : (j : Job) {a : Answer} → answer j ≡ Some a → (told_of j ≡ [] → ⊥) → marked_beyond j ≡ []
+answered-unmarked (jobs.Instruction i) is told = ap instruction_done.marked_at (instruction-over i (mapped _ (instructions.answer i) is).1)
+answered-unmarked (jobs.Raise r) is told = ap raise_done.marked_at (raise-over r (mapped _ (raises.answer r) is).1)
+answered-unmarked (jobs.Scrub s) is told = ap scrub_done.marked_at (scrub-over s (mapped _ (scrubs.answer s) is).1)
+answered-unmarked _ is told = absurd (told refl)
+
+-- ---- memory that ran out for what comes beside it
+
+pub gives-up : (j : Job) → (told_of j ≡ [] → ⊥) → HasGivenUp (give_up j)
+gives-up (jobs.Instruction i) told = inl refl
+gives-up (jobs.Raise r) told = inl refl
+gives-up (jobs.Scrub s) told = inl refl
+gives-up _ told = absurd (told refl)
+
+pub given-up-rests : (j : Job) → HasGivenUp j → (is_paused j || is_some (answer j)) ≡ false
+given-up-rests (jobs.Instruction i) (inl is) = ap (λ (x : InstructionAt). is_some (instructions.pause_at x) || is_some (option_map instruction_answer (instructions.answer_at x))) is
+given-up-rests (jobs.Instruction i) (inr is) = ap (λ (x : InstructionAt). is_some (instructions.pause_at x) || is_some (option_map instruction_answer (instructions.answer_at x))) is
+given-up-rests (jobs.Raise r) (inl is) = ap (λ (x : RaiseAt). is_some (option_map (raise_answer (length r.lines.told)) (raises.answer_at x))) is
+given-up-rests (jobs.Raise r) (inr is) = ap (λ (x : RaiseAt). is_some (option_map (raise_answer (length r.lines.told)) (raises.answer_at x))) is
+given-up-rests (jobs.Scrub s) (inl is) = ap (λ (x : ScrubAt). is_some (option_map (scrub_answer (length s.lines.told)) (scrubs.answer_at x))) is
+given-up-rests (jobs.Scrub s) (inr is) = ap (λ (x : ScrubAt). is_some (option_map (scrub_answer (length s.lines.told)) (scrubs.answer_at x))) is
+given-up-rests (jobs.Evict e) up = absurd up
+given-up-rests (jobs.Fsync f) up = absurd up
+given-up-rests (jobs.Prctl p) up = absurd up
+given-up-rests (jobs.Log l) up = absurd up
+given-up-rests (jobs.Spoil s) up = absurd up
+given-up-rests (jobs.Nested n) up = absurd up
+given-up-rests (jobs.Inject i) up = absurd up
+given-up-rests (jobs.Soft s) up = absurd up
+given-up-rests (jobs.Unpoison u) up = absurd up
+
+-- it has given up after the step in which it does
+pub given-up-stays : (layout : Layout) (j after : Job) (step : Step) (found : ℕ) (got : Option BodyValue) (turn : Turn) → plan j ≡ Some step → Next layout (bare j) found got after turn → HasGivenUp j → HasGivenUp after
+given-up-stays layout (jobs.Instruction i) after step found got turn e next (inl is) =
+    let to = subst (λ (x : InstructionAt). instructions.FollowsAt layout (instructions.bare i) (instructions.bare_at x) found got next.0 turn) is next.2 in
+    subst HasGivenUp (sym next.1) (inr (ap (λ (k : Instruction). k.at) to.0))
+given-up-stays layout (jobs.Instruction i) after step found got turn e next (inr is) = absurd (none-some step (sym (ap instructions.plan_at is) ∙ e))
+given-up-stays layout (jobs.Raise r) after step found got turn e next (inl is) =
+    let to = subst (λ (x : RaiseAt). raises.FollowsAt layout (raises.bare r) (raises.bare_at x) found got next.0 turn) is next.2 in
+    subst HasGivenUp (sym next.1) (inr (ap (λ (k : Raise). k.at) to.0))
+given-up-stays layout (jobs.Raise r) after step found got turn e next (inr is) = absurd (none-some step (sym (ap raises.plan_at is) ∙ e))
+given-up-stays layout (jobs.Scrub s) after step found got turn e next (inl is) =
+    let to = subst (λ (x : ScrubAt). scrubs.FollowsAt layout (scrubs.bare s) (scrubs.bare_at x) found got next.0 turn) is next.2 in
+    subst HasGivenUp (sym next.1) (inr (ap (λ (k : Scrub). k.at) to.0))
+given-up-stays layout (jobs.Scrub s) after step found got turn e next (inr is) = absurd (none-some step (sym (ap scrubs.plan_at is) ∙ e))
+given-up-stays layout (jobs.Evict x) after step found got turn e next up = absurd up
+given-up-stays layout (jobs.Fsync f) after step found got turn e next up = absurd up
+given-up-stays layout (jobs.Prctl p) after step found got turn e next up = absurd up
+given-up-stays layout (jobs.Log l) after step found got turn e next up = absurd up
+given-up-stays layout (jobs.Spoil s) after step found got turn e next up = absurd up
+given-up-stays layout (jobs.Nested n) after step found got turn e next up = absurd up
+given-up-stays layout (jobs.Inject i) after step found got turn e next up = absurd up
+given-up-stays layout (jobs.Soft s) after step found got turn e next up = absurd up
+given-up-stays layout (jobs.Unpoison u) after step found got turn e next up = absurd up
+
+-- ---- the numbers of a collector
+
+-- they stay within their limits
+pub within-stays : (layout : Layout) (j after : Job) (found : ℕ) (got : Option BodyValue) (turn : Turn) → Next layout (bare j) found got after turn → HasChangeWithin j → HasChangeWithin after
+within-stays layout (jobs.Log l) after found got turn next has = subst HasChangeWithin (sym next.0) (subst IsChangeWithin (sym (ap (λ (a : Who × LocalChange × Banks). a.1) (log-kept l found))) has)
+within-stays layout (jobs.Instruction i) after found got turn next has = subst HasChangeWithin (sym next.1) tt
+within-stays layout (jobs.Evict e) after found got turn next has = subst HasChangeWithin (sym next.1) tt
+within-stays layout (jobs.Raise r) after found got turn next has = subst HasChangeWithin (sym next.1) tt
+within-stays layout (jobs.Scrub s) after found got turn next has = subst HasChangeWithin (sym next.1) tt
+within-stays layout (jobs.Inject i) after found got turn next has = subst HasChangeWithin (sym next.1) tt
+within-stays layout (jobs.Soft s) after found got turn next has = subst HasChangeWithin (sym next.1) tt
+within-stays layout (jobs.Fsync f) after found got turn next has = subst HasChangeWithin (sym next.0) tt
+within-stays layout (jobs.Prctl p) after found got turn next has = subst HasChangeWithin (sym next.0) tt
+within-stays layout (jobs.Spoil s) after found got turn next has = subst HasChangeWithin (sym next.0) tt
+within-stays layout (jobs.Nested n) after found got turn next has = subst HasChangeWithin (sym next.0) tt
+within-stays layout (jobs.Unpoison u) after found got turn next has = subst HasChangeWithin (sym next.0) tt
