@@ -7,4 +7,6 @@ mod judging;
 #[cfg(test)]
 mod meetings;
 #[cfg(test)]
+mod offlinings;
+#[cfg(test)]
 mod stepping;

@@ -6,9 +6,9 @@ use std::alloc::Global;
 use std::process::Abort;
 
 /// A script of two processors up to its schedule's words that go through all orders, and the reports that these come to.
-struct Meeting {
-    front: &'static str,
-    ends: &'static [&'static str],
+pub struct Meeting {
+    pub front: &'static str,
+    pub ends: &'static [&'static str],
 }
 
 /// Page 0 is in frame 0 and was stored to. The frame is to be taken out of use, and fails.
@@ -166,7 +166,7 @@ fn others(
 }
 
 /// Each order of twelve turns comes to one of the reports, which is legal, and each of the reports comes.
-fn comes_to_its_ends(rt: &impl Abort, alloc: Global, meeting: &Meeting) {
+pub fn comes_to_its_ends(rt: &impl Abort, alloc: Global, meeting: &Meeting) {
     let mut rest = others(rt, alloc, meeting.ends, b"");
     for number in 0..4096 {
         let script = scheduled(rt, alloc, meeting.front, 12, number);
