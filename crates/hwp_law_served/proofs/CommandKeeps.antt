@@ -1,5 +1,5 @@
 -- What a processor knows of an earlier command stays true over each step of a later one.
-use Rattle.std.proofs.Common.{◌≡◌, ◌≢◌, ◌⊎◌, inl, inr, ℕ, ◌==◌, Bool, true, false, cond, List, Option, Some, None, IsSomeAnd, refl, sym, ◌∙◌, subst}
+use Rattle.std.proofs.Common.{◌≡◌, ◌≢◌, ◌⊎◌, inl, inr, ℕ, ◌==◌, Bool, true, false, cond, List, Option, Some, None, IsSomeAnd, refl, sym, ap, ◌∙◌, subst}
 use Rattle.hwp_law_run.specs.hwp_geom.declared.Damage.{Damage}
 use Rattle.hwp_law_run.specs.hwp_geom.declared.Frame.{Frame}
 use Rattle.hwp_law_run.specs.hwp_geom.declared.Layout.{Layout}
@@ -38,14 +38,18 @@ use Rattle.hwp_law_run.specs.hwp_script_read.declared.Command.{Command}
 use Rattle.hwp_law_run.specs.hwp_script_read.declared.Command.TheVariants as commands
 use Rattle.hwp_law_run.specs.hwp_report_text.declared.Answer.{Answer}
 use Rattle.hwp_law_run.specs.hwp_report_text.declared.Answer.TheVariants as answers
+use Rattle.hwp_law_run.specs.hwp_report_text.declared.OfflineResult.{OfflineResult}
+use Rattle.hwp_law_run.specs.hwp_report_text.declared.OfflineResult.TheVariants as results
 use Rattle.hwp_law_run.specs.hwp_banks.Banks.{Banks}
 use Rattle.hwp_law_run.specs.hwp_law_commands.Commands.{Access, access_of}
 use Rattle.hwp_soft.specs.hwp_claim.declared.Found.{Found}
 use Rattle.hwp_cpu_row.specs.declared.FrameChange.{FrameChange}
+use Rattle.hwp_cpu_row.specs.declared.Offlining.{Offlining}
 use Rattle.hwp_cpu_row.specs.declared.Row.{Row}
 use Rattle.hwp_cpu_row.specs.hwp_cpu_check.declared.EventOutcome.{EventOutcome}
 use Rattle.hwp_law_served.specs.Causes.{FoundGone, FoundNoFrame, FoundPoisoned, FoundState, FoundStopped, FoundBadLines, HasCome, HasFailed, HasMoved, HasOnlyBegun, HasOnlyMet, HasSpoiledLine, HasTaken, IsAnswerCaused, IsCaused, IsCopyCaused, IsInjectCaused, IsLoadCaused, IsOfflineCaused, IsPageCaused, IsReplied, IsSoftCaused, IsStoreCaused, IsTableCaused, MadeOne, Reached, SawBadLines, SawProcess, WasRaised, WasSignalled, IsUnpoisonCaused}
-use Rattle.hwp_law_served.specs.Served.{IsRowServed, SawRunning}
+use Rattle.hwp_law_served.specs.Offlinings.{AreBeside, IsOfflineServed, left_among}
+use Rattle.hwp_law_served.specs.Served.{IsOffliningServed, IsRowServed, SawRunning}
 use Rattle.hwp_law_served.proofs.AccountKeeps.{account-stays}
 use Rattle.hwp_law_served.proofs.StepAdds.{some-more}
 use Rattle.hwp_law_served.proofs.lines.Spoils.{spoils-by}
@@ -282,6 +286,7 @@ module _ {layout : Layout} {by : Who} {step : Step} {body : Option BodyValue} {o
   table-stays earlier (commands.Prctl thread args) (answers.Gone page) caused = (gone-stays thread page caused.0, made-none-later caused.1)
   table-stays earlier (commands.Prctl thread args) answer caused = replied-stays earlier thread _ answer caused
   table-stays earlier (commands.Log status addr misc) answers.Done caused = made-none-later caused
+  table-stays earlier (commands.Watch threshold window) answers.Done caused = made-none-later caused
   table-stays earlier (commands.Bad frame line) answers.Done caused = spoiled-stays frame line _ caused
   table-stays earlier (commands.Weak frame line) answers.Done caused = spoiled-stays frame line _ caused
   table-stays earlier command answer caused = absurd caused
@@ -320,6 +325,26 @@ module _ {layout : Layout} {by : Who} {step : Step} {body : Option BodyValue} {o
   pub caused-stays : (earlier : List (Command × Answer)) (command : Command) (row : Row) → IsCaused layout earlier old who command row → IsCaused layout earlier new who command row
   caused-stays earlier command row caused = answer-stays earlier command row.told row.own row.answer caused
 
+  -- ---- frames that were taken out of use beside another command
+
+  came-stays : (frame : Frame) (change : Option FrameChange) (result : OfflineResult) → IsOfflineServed layout old who frame change result → IsOfflineServed layout new who frame change result
+  came-stays frame change (results.Moved frame_ at) (users, changed, free) = (users, changed, (free.0, free-stays made free.1))
+  came-stays frame change results.TakenFree came = came
+  came-stays frame change results.Already (users, saw, none) = (users, record { word = saw.word; poisoned = saw.poisoned; saw = saw-stays made saw.saw }, none)
+  came-stays frame change (results.HasBad mask) (users, saw, none) = (users, record { page = saw.page; some = saw.some; saw = saw-bad-of-stays made saw.page saw.saw }, none)
+  came-stays frame change results.NoFrame (users, saw, none) = (users, saw-stays made saw, none)
+  came-stays frame change results.Stopped (saw, none) = (record { word = saw.word; stopped = saw.stopped; saw = saw-stays made saw.saw }, none)
+
+  running-stays : {A : Type 0} → A ⊎ SawRunning old who → A ⊎ SawRunning new who
+  running-stays (inl stopped) = inl stopped
+  running-stays (inr saw) = inr (saw-running-stays made saw)
+
+  pub offlining-stays : (o : Offlining) → IsOffliningServed layout old who o → IsOffliningServed layout new who o
+  offlining-stays o served = record { came = came-stays o.frame o.change o.result served.came; running = running-stays served.running }
+
+  pub beside-stays : (command : Command) (row : Row) → AreBeside old who command row → AreBeside new who command row
+  beside-stays command row are = ap left_among same-deeds ∙ are
+
   -- what another command that is answered has done and told stays
   pub row-stays : (earlier : List (Command × Answer)) (command : Command) (before : Banks) (row : Row) (left : Banks) → IsRowServed layout earlier old who command before row left → IsRowServed layout earlier new who command before row left
   row-stays earlier command before row left served = record {
@@ -327,9 +352,7 @@ module _ {layout : Layout} {by : Who} {step : Step} {body : Option BodyValue} {o
     accounted = account-stays made who other same-deeds command row served.accounted;
     told = row-told-stays can made who other command before row left served.told;
     heeded = served.heeded;
-    running = still served.running;
+    running = running-stays served.running;
+    beside = beside-stays command row served.beside;
+    offlined = λ i o there. offlining-stays o (served.offlined i o there);
   }
-    where
-      still : (row.answer ≡ answers.Stopped) ⊎ SawRunning old who → (row.answer ≡ answers.Stopped) ⊎ SawRunning new who
-      still (inl stopped) = inl stopped
-      still (inr saw) = inr (saw-running-stays made saw)

@@ -1,4 +1,5 @@
--- The lines of a processor's rows: where the answer and the events of each stand, and what a report says of a command by them.
+-- The lines of a processor's rows: where the answer of each stands, and what a report says of a command by them: its answer, its events
+-- and the frames that were taken out of use beside it.
 use Rattle.std.proofs.Common.{◌≡◌, ◌≢◌, ◌⊎◌, ℕ, zero, suc, ◌+◌, ◌<◌, ◌==◌, Bool, true, false, cond, List, [], ◌∷◌, ◌++◌, Option, Some, None, filter, filter_map, length, map, option_and_then, option_map, slice_get, unwrap_or, refl, sym, ap, ◌∙◌, subst, arith, inl, inr, append-nil, true≢false}
 use Rattle.std.specs.List.{find, zip}
 use Rattle.std.proofs.lemmas.Bool.{eq-eqb, ne_eqb}
@@ -16,13 +17,15 @@ use Rattle.hwp_law_run.specs.hwp_report_text.declared.CpuLine.TheVariants as lin
 use Rattle.hwp_law_run.specs.hwp_report_text.declared.EventLine.{EventLine}
 use Rattle.hwp_law_run.specs.hwp_report_text.declared.OfflinedLine.{OfflinedLine}
 use Rattle.hwp_law_run.specs.hwp_report_text.declared.Report.{Report}
+use Rattle.hwp_law_run.proofs.of_hwp_core_rule.Lists.{at_map}
 use Rattle.hwp_law_run.proofs.of_hwp_law.Rows.{same_answer}
-use Rattle.hwp_law_run.specs.hwp_law.Lines.{AnswerLine, answer_among, answer_in, answer_of, answered, event_in, events_among, events_of, offlined_among, offlined_in, offlined_of}
+use Rattle.hwp_law_run.specs.hwp_law.Lines.{AnswerLine, answer_among, answer_in, answer_of, answered, event_in, events_among, events_of, offlined_among, offlined_in, offlined_of, rows_of}
 use Rattle.hwp_law_run.specs.hwp_law.Policies.{answered_on}
+use Rattle.hwp_cpu_row.specs.declared.Offlining.{Offlining}
 use Rattle.hwp_cpu_row.specs.declared.Row.{Row}
 use Rattle.hwp_cpu_row.specs.hwp_cpu_check.declared.EventOutcome.{EventOutcome}
 use Rattle.hwp_law_served.specs.Handles.{answers_by}
-use Rattle.hwp_law_served.specs.Rows.{event_line, lines_from, row_lines}
+use Rattle.hwp_law_served.specs.Rows.{event_line, lines_from, offlined_at, offlined_line, row_lines}
 use Rattle.hwp_law_served.specs.hwp_cpu_row.Acts.{event_at}
 use Rattle.hwp_law_served.specs.Runs.{row_at}
 use Rattle.hwp_law_served.proofs.RunEnds.{IsEnd, IsOf, list-of, rows-of-lines, served-of}
@@ -31,6 +34,11 @@ use Rattle.hwp_law_served.proofs.RunEnds.{IsEnd, IsOf, list-of, rows-of-lines, s
 abbrev pub told_at : Option Row → List EventOutcome
 told_at None = []
 told_at (Some row) = row.told
+
+-- and the frames that were taken out of use beside it
+abbrev pub offlines_at : Option Row → List Offlining
+offlines_at None = []
+offlines_at (Some row) = row.offlined
 
 -- ---- places
 
@@ -62,14 +70,17 @@ is_answer (lines.Answer seq answer) = true
 is_answer line = false
 
 -- a row has one answer, which stands last
-in-row : (seq : ℕ) (answer : Answer) (told : List EventOutcome) (i m : ℕ) (a : Answer) → slice_get (map (event_line seq) told ++ lines.Answer seq answer ∷ []) i ≡ Some (lines.Answer m a) → (i ≡ length told) × (seq ≡ m) × (answer ≡ a)
-in-row seq answer [] zero m a there = let same = same_answer seq m answer a (same_Some (lines.Answer seq answer) (lines.Answer m a) there) in (refl, same.0, same.1)
-in-row seq answer [] (suc i) m a there = absurd (none-some (lines.Answer m a) there)
-in-row seq answer (t ∷ ts) zero m a there = absurd (not-answer (ap is_answer (same_Some (event_line seq t) (lines.Answer m a) there)))
-  where
-    not-answer : false ≡ true → ⊥
-    not-answer same = true≢false (sym same)
-in-row seq answer (t ∷ ts) (suc i) m a there = let later = in-row seq answer ts i m a there in (omega (arith, later.0), later.1, later.2)
+in-rest : (seq : ℕ) (answer : Answer) (offlined : List Offlining) (i m : ℕ) (a : Answer) → slice_get (map (offlined_line seq) offlined ++ lines.Answer seq answer ∷ []) i ≡ Some (lines.Answer m a) → (i ≡ length offlined) × (seq ≡ m) × (answer ≡ a)
+in-rest seq answer [] zero m a there = let same = same_answer seq m answer a (same_Some (lines.Answer seq answer) (lines.Answer m a) there) in (refl, same.0, same.1)
+in-rest seq answer [] (suc i) m a there = absurd (none-some (lines.Answer m a) there)
+in-rest seq answer (o ∷ os) zero m a there = absurd (true≢false (sym (ap is_answer (same_Some (offlined_line seq o) (lines.Answer m a) there))))
+in-rest seq answer (o ∷ os) (suc i) m a there = let later = in-rest seq answer os i m a there in (omega (arith, later.0), later.1, later.2)
+
+in-row : (seq : ℕ) (answer : Answer) (offlined : List Offlining) (told : List EventOutcome) (i m : ℕ) (a : Answer) → slice_get (map (event_line seq) told ++ (map (offlined_line seq) offlined ++ lines.Answer seq answer ∷ [])) i ≡ Some (lines.Answer m a)
+    → (i ≡ length told + length offlined) × (seq ≡ m) × (answer ≡ a)
+in-row seq answer offlined [] i m a there = let is = in-rest seq answer offlined i m a there in (omega (arith, is.0), is.1, is.2)
+in-row seq answer offlined (t ∷ ts) zero m a there = absurd (true≢false (sym (ap is_answer (same_Some (event_line seq t) (lines.Answer m a) there))))
+in-row seq answer offlined (t ∷ ts) (suc i) m a there = let later = in-row seq answer offlined ts i m a there in (omega (arith, later.0), later.1, later.2)
 
 -- the row of an answer's line, among those of the commands from number n on
 pub record HasLine (n : ℕ) (rows : List Row) (m : ℕ) (answer : Answer) : Type 0 where
@@ -85,7 +96,7 @@ row-of-line n (row ∷ rows) i m answer there = which (either (row_lines n row) 
   where
     which : Either (row_lines n row) (lines_from (n + 1) rows) i (lines.Answer m answer) → ((j : ℕ) → slice_get (lines_from (n + 1) rows) j ≡ Some (lines.Answer m answer) → HasLine (n + 1) rows m answer) → HasLine n (row ∷ rows) m answer
     which (inl (first, inside)) more =
-        let is = in-row n row.answer row.told i m answer first in
+        let is = in-row n row.answer row.offlined row.told i m answer first in
         record { k = 0; number = omega (arith, is.1); row = row; row_is = refl; answer_is = is.2 }
     which (inr (j, at, second)) more =
         let later = more j second in
@@ -96,11 +107,25 @@ pub answer-line : (n : ℕ) (rows : List Row) (k m : ℕ) (row : Row) → slice_
 answer-line n [] k m row there at = absurd (none-some row there)
 answer-line n (r ∷ rows) zero m row there at =
     let same : n ≡ m = omega arith in
-    let here = behind (map (event_line n) r.told) (lines.Answer n r.answer ∷ []) 0 (lines.Answer m row.answer) (ap (λ (x : Row). Some (lines.Answer n x.answer)) (same_Some r row there) ∙ ap (λ (i : ℕ). Some (lines.Answer i row.answer)) same) in
+    let own = behind (map (offlined_line n) r.offlined) (lines.Answer n r.answer ∷ []) 0 (lines.Answer m row.answer) (ap (λ (x : Row). Some (lines.Answer n x.answer)) (same_Some r row there) ∙ ap (λ (i : ℕ). Some (lines.Answer i row.answer)) same) in
+    let here = behind (map (event_line n) r.told) (map (offlined_line n) r.offlined ++ lines.Answer n r.answer ∷ []) own.0 (lines.Answer m row.answer) own.1 in
     (here.0, first-of (row_lines n r) (lines_from (n + 1) rows) here.0 (lines.Answer m row.answer) here.1)
 answer-line n (r ∷ rows) (suc k) m row there at =
     let later = answer-line (n + 1) rows k m row there (omega arith) in
     behind (row_lines n r) (lines_from (n + 1) rows) later.0 (lines.Answer m row.answer) later.1
+
+-- the line of a frame that was taken out of use beside a command
+pub offlined-there : (n : ℕ) (rows : List Row) (k m : ℕ) (row : Row) (j : ℕ) (o : Offlining) → slice_get rows k ≡ Some row → m ≡ n + k → slice_get row.offlined j ≡ Some o → (i : ℕ) × (slice_get (lines_from n rows) i ≡ Some (offlined_line m o))
+offlined-there n [] k m row j o there at one = absurd (none-some row there)
+offlined-there n (r ∷ rows) zero m row j o there at one =
+    let same : n ≡ m = omega arith in
+    let mine : slice_get r.offlined j ≡ Some o = ap (λ (x : Row). slice_get x.offlined j) (same_Some r row there) ∙ one in
+    let line : slice_get (map (offlined_line n) r.offlined) j ≡ Some (offlined_line m o) = at_map (offlined_line n) r.offlined j o mine ∙ ap (λ (i : ℕ). Some (offlined_line i o)) same in
+    let here = behind (map (event_line n) r.told) (map (offlined_line n) r.offlined ++ lines.Answer n r.answer ∷ []) j (offlined_line m o) (first-of (map (offlined_line n) r.offlined) (lines.Answer n r.answer ∷ []) j (offlined_line m o) line) in
+    (here.0, first-of (row_lines n r) (lines_from (n + 1) rows) here.0 (offlined_line m o) here.1)
+offlined-there n (r ∷ rows) (suc k) m row j o there at one =
+    let later = offlined-there (n + 1) rows k m row j o there (omega arith) one in
+    behind (row_lines n r) (lines_from (n + 1) rows) later.0 (offlined_line m o) later.1
 
 -- answers stand in the order of their commands
 pub answers-rise : (n : ℕ) (rows : List Row) (i j m l : ℕ) (a b : Answer) → i < j → slice_get (lines_from n rows) i ≡ Some (lines.Answer m a) → slice_get (lines_from n rows) j ≡ Some (lines.Answer l b) → m < l
@@ -110,11 +135,11 @@ answers-rise n (row ∷ rows) i j m l a b less first second = which (either (row
     which : Either (row_lines n row) (lines_from (n + 1) rows) i (lines.Answer m a) → Either (row_lines n row) (lines_from (n + 1) rows) j (lines.Answer l b)
         → ((k h : ℕ) → k < h → slice_get (lines_from (n + 1) rows) k ≡ Some (lines.Answer m a) → slice_get (lines_from (n + 1) rows) h ≡ Some (lines.Answer l b) → m < l) → m < l
     which (inl (one, inside)) (inl (other, within)) more =
-        let is = in-row n row.answer row.told i m a one in
-        let at = in-row n row.answer row.told j l b other in
+        let is = in-row n row.answer row.offlined row.told i m a one in
+        let at = in-row n row.answer row.offlined row.told j l b other in
         absurd (omega (arith, is.0, at.0, less))
     which (inl (one, inside)) (inr (k, at, other)) more =
-        let is = in-row n row.answer row.told i m a one in
+        let is = in-row n row.answer row.offlined row.told i m a one in
         let later = row-of-line (n + 1) rows k l b other in
         omega (arith, is.1, later.number)
     which (inr (k, at, one)) (inl (other, within)) more = absurd (omega (arith, at, within, less))
@@ -125,30 +150,35 @@ answers-rise n (row ∷ rows) i j m l a b less first second = which (either (row
 answers-in : (n : ℕ) (row : Row) → filter_map answer_in (row_lines n row) ≡ record { seq = n; answer = row.answer } ∷ []
 answers-in n row = by row.told
   where
-    by : (told : List EventOutcome) → filter_map answer_in (map (event_line n) told ++ lines.Answer n row.answer ∷ []) ≡ record { seq = n; answer = row.answer } ∷ []
-    by [] = refl
+    rest : (offlined : List Offlining) → filter_map answer_in (map (offlined_line n) offlined ++ lines.Answer n row.answer ∷ []) ≡ record { seq = n; answer = row.answer } ∷ []
+    rest [] = refl
+    rest (o ∷ os) = rest os
+
+    by : (told : List EventOutcome) → filter_map answer_in (map (event_line n) told ++ (map (offlined_line n) row.offlined ++ lines.Answer n row.answer ∷ [])) ≡ record { seq = n; answer = row.answer } ∷ []
+    by [] = rest row.offlined
     by (t ∷ ts) = by ts
 
 events-in : (n : ℕ) (row : Row) → filter_map event_in (row_lines n row) ≡ map (event_at n) row.told
 events-in n row = by row.told
   where
-    by : (told : List EventOutcome) → filter_map event_in (map (event_line n) told ++ lines.Answer n row.answer ∷ []) ≡ map (event_at n) told
-    by [] = refl
+    rest : (offlined : List Offlining) → filter_map event_in (map (offlined_line n) offlined ++ lines.Answer n row.answer ∷ []) ≡ []
+    rest [] = refl
+    rest (o ∷ os) = rest os
+
+    by : (told : List EventOutcome) → filter_map event_in (map (event_line n) told ++ (map (offlined_line n) row.offlined ++ lines.Answer n row.answer ∷ [])) ≡ map (event_at n) told
+    by [] = rest row.offlined
     by (t ∷ ts) = ap (λ (l : List EventLine). event_at n t ∷ l) (by ts)
 
-offlined-in : (n : ℕ) (row : Row) → filter_map offlined_in (row_lines n row) ≡ []
+offlined-in : (n : ℕ) (row : Row) → filter_map offlined_in (row_lines n row) ≡ map (offlined_at n) row.offlined
 offlined-in n row = by row.told
   where
-    by : (told : List EventOutcome) → filter_map offlined_in (map (event_line n) told ++ lines.Answer n row.answer ∷ []) ≡ []
-    by [] = refl
-    by (t ∷ ts) = by ts
+    rest : (offlined : List Offlining) → filter_map offlined_in (map (offlined_line n) offlined ++ lines.Answer n row.answer ∷ []) ≡ map (offlined_at n) offlined
+    rest [] = refl
+    rest (o ∷ os) = ap (λ (l : List OfflinedLine). offlined_at n o ∷ l) (rest os)
 
--- no row tells of a frame taken out of use beside its answer
-offlined-at : (m n : ℕ) (rows : List Row) → offlined_among (lines_from n rows) m ≡ []
-offlined-at m n [] = refl
-offlined-at m n (row ∷ rows) =
-    ap (filter (λ (l : OfflinedLine). m == l.seq)) (filter_map-append offlined_in (row_lines n row) (lines_from (n + 1) rows) ∙ ap (λ (l : List OfflinedLine). l ++ filter_map offlined_in (lines_from (n + 1) rows)) (offlined-in n row))
-    ∙ offlined-at m (n + 1) rows
+    by : (told : List EventOutcome) → filter_map offlined_in (map (event_line n) told ++ (map (offlined_line n) row.offlined ++ lines.Answer n row.answer ∷ [])) ≡ map (offlined_at n) row.offlined
+    by [] = rest row.offlined
+    by (t ∷ ts) = by ts
 
 pub answers-split : (n : ℕ) (row : Row) (rows : List Row) → filter_map answer_in (lines_from n (row ∷ rows)) ≡ record { seq = n; answer = row.answer } ∷ filter_map answer_in (lines_from (n + 1) rows)
 answers-split n row rows = filter_map-append answer_in (row_lines n row) (lines_from (n + 1) rows) ∙ ap (λ (l : List AnswerLine). l ++ filter_map answer_in (lines_from (n + 1) rows)) (answers-in n row)
@@ -174,47 +204,70 @@ answer-at n (r ∷ rows) (suc k) m row there at =
     ∙ ap (λ (b : Bool). option_map (λ (x : AnswerLine). x.answer) (cond b (Some (record { seq = n; answer = r.answer })) (find (λ (x : AnswerLine). m == x.seq) (filter_map answer_in (lines_from (n + 1) rows))))) (ne_eqb m n other)
     ∙ answer-at (n + 1) rows k m row there (omega arith)
 
-all-of : (m n : ℕ) (told : List EventOutcome) → m ≡ n → filter (λ (l : EventLine). m == l.seq) (map (event_at n) told) ≡ map (event_at m) told
-all-of m n [] same = refl
-all-of m n (t ∷ ts) same = ap (λ (b : Bool). cond b (event_at n t ∷ filter (λ (l : EventLine). m == l.seq) (map (event_at n) ts)) (filter (λ (l : EventLine). m == l.seq) (map (event_at n) ts))) (eq-eqb m n same) ∙ ap (λ (l : List EventLine). event_at n t ∷ l) (all-of m n ts same) ∙ ap (λ (i : ℕ). event_at i t ∷ map (event_at m) ts) (sym same)
+-- the lines of one kind: those of events, and those of frames that were taken out of use. Each row has some, with the row's number
+module _ {A B : Type 0} (kind : CpuLine → Option B) (number : B → ℕ) (line : ℕ → A → B) (of : Row → List A) (kind_is : (n : ℕ) (row : Row) → filter_map kind (row_lines n row) ≡ map (line n) (of row)) (numbered : (n : ℕ) (x : A) → number (line n x) ≡ n) where
+  -- those of a command among some
+  abbrev among : List CpuLine → ℕ → List B
+  among list m = filter (λ (l : B). m == number l) (filter_map kind list)
 
-none-of : (m n : ℕ) (told : List EventOutcome) → m ≢ n → filter (λ (l : EventLine). m == l.seq) (map (event_at n) told) ≡ []
-none-of m n [] other = refl
-none-of m n (t ∷ ts) other = ap (λ (b : Bool). cond b (event_at n t ∷ filter (λ (l : EventLine). m == l.seq) (map (event_at n) ts)) (filter (λ (l : EventLine). m == l.seq) (map (event_at n) ts))) (ne_eqb m n other) ∙ none-of m n ts other
+  all-of : (m n : ℕ) (xs : List A) → m ≡ n → filter (λ (l : B). m == number l) (map (line n) xs) ≡ map (line m) xs
+  all-of m n [] same = refl
+  all-of m n (x ∷ xs) same =
+      ap (λ (b : Bool). cond b (line n x ∷ filter (λ (l : B). m == number l) (map (line n) xs)) (filter (λ (l : B). m == number l) (map (line n) xs))) (eq-eqb m (number (line n x)) (same ∙ sym (numbered n x)))
+      ∙ ap (λ (l : List B). line n x ∷ l) (all-of m n xs same) ∙ ap (λ (i : ℕ). line i x ∷ map (line m) xs) (sym same)
 
-events-split : (m n : ℕ) (row : Row) (rows : List Row) → events_among (lines_from n (row ∷ rows)) m ≡ filter (λ (l : EventLine). m == l.seq) (map (event_at n) row.told) ++ events_among (lines_from (n + 1) rows) m
-events-split m n row rows =
-    ap (filter (λ (l : EventLine). m == l.seq)) (filter_map-append event_in (row_lines n row) (lines_from (n + 1) rows) ∙ ap (λ (l : List EventLine). l ++ filter_map event_in (lines_from (n + 1) rows)) (events-in n row))
-    ∙ filter-append (λ (l : EventLine). m == l.seq) (map (event_at n) row.told) (filter_map event_in (lines_from (n + 1) rows))
+  none-of : (m n : ℕ) (xs : List A) → m ≢ n → filter (λ (l : B). m == number l) (map (line n) xs) ≡ []
+  none-of m n [] other = refl
+  none-of m n (x ∷ xs) other =
+      ap (λ (b : Bool). cond b (line n x ∷ filter (λ (l : B). m == number l) (map (line n) xs)) (filter (λ (l : B). m == number l) (map (line n) xs))) (ne_eqb m (number (line n x)) (λ same. other (same ∙ numbered n x)))
+      ∙ none-of m n xs other
 
--- a command before the first of them has no events among them
-events-before : (m n : ℕ) (rows : List Row) → m < n → events_among (lines_from n rows) m ≡ []
-events-before m n [] less = refl
-events-before m n (row ∷ rows) less =
-    let other : m ≢ n = λ same. (let no : m ≡ n = same in omega (arith, less)) in
-    events-split m n row rows ∙ ap (λ (l : List EventLine). l ++ events_among (lines_from (n + 1) rows) m) (none-of m n row.told other) ∙ events-before m (n + 1) rows (omega (arith, less))
+  kind-split : (m n : ℕ) (row : Row) (rows : List Row) → among (lines_from n (row ∷ rows)) m ≡ filter (λ (l : B). m == number l) (map (line n) (of row)) ++ among (lines_from (n + 1) rows) m
+  kind-split m n row rows =
+      ap (filter (λ (l : B). m == number l)) (filter_map-append kind (row_lines n row) (lines_from (n + 1) rows) ∙ ap (λ (l : List B). l ++ filter_map kind (lines_from (n + 1) rows)) (kind_is n row))
+      ∙ filter-append (λ (l : B). m == number l) (map (line n) (of row)) (filter_map kind (lines_from (n + 1) rows))
 
--- the events of a command among its processor's lines
+  -- a command before the first of them has none among them
+  kind-before : (m n : ℕ) (rows : List Row) → m < n → among (lines_from n rows) m ≡ []
+  kind-before m n [] less = refl
+  kind-before m n (row ∷ rows) less =
+      let other : m ≢ n = λ same. (let no : m ≡ n = same in omega (arith, less)) in
+      kind-split m n row rows ∙ ap (λ (l : List B). l ++ among (lines_from (n + 1) rows) m) (none-of m n (of row) other) ∙ kind-before m (n + 1) rows (omega (arith, less))
+
+  -- those of a command among its processor's lines
+  kind-at : (n : ℕ) (rows : List Row) (k m : ℕ) (row : Row) → slice_get rows k ≡ Some row → m ≡ n + k → among (lines_from n rows) m ≡ map (line m) (of row)
+  kind-at n [] k m row there at = absurd (none-some row there)
+  kind-at n (r ∷ rows) zero m row there at =
+      let is : m ≡ n = omega arith in
+      kind-split m n r rows
+      ∙ ap (λ (l : List B). l ++ among (lines_from (n + 1) rows) m) (all-of m n (of r) is)
+      ∙ ap (λ (l : List B). map (line m) (of r) ++ l) (kind-before m (n + 1) rows (omega arith))
+      ∙ append-nil (map (line m) (of r))
+      ∙ ap (λ (x : Row). map (line m) (of x)) (same_Some r row there)
+  kind-at n (r ∷ rows) (suc k) m row there at =
+      let other : m ≢ n = λ same. (let no : m ≡ n = same in omega arith) in
+      kind-split m n r rows ∙ ap (λ (l : List B). l ++ among (lines_from (n + 1) rows) m) (none-of m n (of r) other) ∙ kind-at (n + 1) rows k m row there (omega arith)
+
+  -- what is no command's has none
+  kind-past : (n : ℕ) (rows : List Row) (k m : ℕ) → slice_get rows k ≡ None → m ≡ n + k → among (lines_from n rows) m ≡ []
+  kind-past n [] k m none at = refl
+  kind-past n (r ∷ rows) zero m none at = absurd (none-some r (sym none))
+  kind-past n (r ∷ rows) (suc k) m none at =
+      let other : m ≢ n = λ same. (let no : m ≡ n = same in omega arith) in
+      kind-split m n r rows ∙ ap (λ (l : List B). l ++ among (lines_from (n + 1) rows) m) (none-of m n (of r) other) ∙ kind-past (n + 1) rows k m none (omega arith)
+
+-- the events of a command among its processor's lines, and the frames
 pub events-at : (n : ℕ) (rows : List Row) (k m : ℕ) (row : Row) → slice_get rows k ≡ Some row → m ≡ n + k → events_among (lines_from n rows) m ≡ map (event_at m) row.told
-events-at n [] k m row there at = absurd (none-some row there)
-events-at n (r ∷ rows) zero m row there at =
-    let is : m ≡ n = omega arith in
-    events-split m n r rows
-    ∙ ap (λ (l : List EventLine). l ++ events_among (lines_from (n + 1) rows) m) (all-of m n r.told is)
-    ∙ ap (λ (l : List EventLine). map (event_at m) r.told ++ l) (events-before m (n + 1) rows (omega arith))
-    ∙ append-nil (map (event_at m) r.told)
-    ∙ ap (λ (x : Row). map (event_at m) x.told) (same_Some r row there)
-events-at n (r ∷ rows) (suc k) m row there at =
-    let other : m ≢ n = λ same. (let no : m ≡ n = same in omega arith) in
-    events-split m n r rows ∙ ap (λ (l : List EventLine). l ++ events_among (lines_from (n + 1) rows) m) (none-of m n r.told other) ∙ events-at (n + 1) rows k m row there (omega arith)
+events-at = kind-at event_in (λ (l : EventLine). l.seq) event_at (λ (r : Row). r.told) events-in (λ n t. refl)
 
--- what is no command's has none
+pub offlined-among : (n : ℕ) (rows : List Row) (k m : ℕ) (row : Row) → slice_get rows k ≡ Some row → m ≡ n + k → offlined_among (lines_from n rows) m ≡ map (offlined_at m) row.offlined
+offlined-among = kind-at offlined_in (λ (l : OfflinedLine). l.seq) offlined_at (λ (r : Row). r.offlined) offlined-in (λ n o. refl)
+
 events-past : (n : ℕ) (rows : List Row) (k m : ℕ) → slice_get rows k ≡ None → m ≡ n + k → events_among (lines_from n rows) m ≡ []
-events-past n [] k m none at = refl
-events-past n (r ∷ rows) zero m none at = absurd (none-some r (sym none))
-events-past n (r ∷ rows) (suc k) m none at =
-    let other : m ≢ n = λ same. (let no : m ≡ n = same in omega arith) in
-    events-split m n r rows ∙ ap (λ (l : List EventLine). l ++ events_among (lines_from (n + 1) rows) m) (none-of m n r.told other) ∙ events-past (n + 1) rows k m none (omega arith)
+events-past = kind-past event_in (λ (l : EventLine). l.seq) event_at (λ (r : Row). r.told) events-in (λ n t. refl)
+
+offlined-past : (n : ℕ) (rows : List Row) (k m : ℕ) → slice_get rows k ≡ None → m ≡ n + k → offlined_among (lines_from n rows) m ≡ []
+offlined-past = kind-past offlined_in (λ (l : OfflinedLine). l.seq) offlined_at (λ (r : Row). r.offlined) offlined-in (λ n o. refl)
 
 module _ (script : Script) (seat : Cpu → ℕ) (last : State) (report : Report) (end : IsEnd script seat last report) where
   -- the report's answer of a command, and its event lines, are those of its row
@@ -228,34 +281,40 @@ module _ (script : Script) (seat : Cpu → ℕ) (last : State) (report : Report)
       ap (λ (o : Option (List CpuLine)). events_among (unwrap_or o []) who.seq) (served-of script seat last report end who.cpu of.list of.own of.list_is of.own_is).1
       ∙ events-at 0 of.own who.seq who.seq of.row of.row_is (omega arith)
 
-  -- of any command, also where there is none
-  pub events-by-row : (who : Who) → events_of report who ≡ map (event_at who.seq) (told_at (row_at end.rows who))
-  events-by-row who = which (slice_get end.rows who.cpu.0) refl
-    where
-      none-at : (o : Option (List CpuLine)) → slice_get report.cpus who.cpu.0 ≡ o → slice_get end.rows who.cpu.0 ≡ None → events_among (unwrap_or o []) who.seq ≡ []
-      none-at None there none = refl
-      none-at (Some found) there none =
-          let has = rows-of-lines script seat last report end who.cpu found there in
-          absurd (none-some has.own (sym none ∙ has.own_is))
+  pub offlined-told : (view : View) (who : Who) (of : IsOf script end.rows view who) → offlined_of report who ≡ map (offlined_at who.seq) of.row.offlined
+  offlined-told view who of =
+      ap (λ (o : Option (List CpuLine)). offlined_among (unwrap_or o []) who.seq) (served-of script seat last report end who.cpu of.list of.own of.list_is of.own_is).1
+      ∙ offlined-among 0 of.own who.seq who.seq of.row of.row_is (omega arith)
 
+  -- of any command, also where there is none: what its processor's lines say, and nothing where it has none
+  by-row : {B : Type 0} (among : List CpuLine → List B) (of : Option Row → List B) → among [] ≡ [] → of None ≡ [] → (who : Who) → ((own : List Row) → among (lines_from 0 own) ≡ of (slice_get own who.seq)) → among (rows_of report who) ≡ of (row_at end.rows who)
+  by-row {B} among of empty none who at = which (slice_get end.rows who.cpu.0) refl
+    where
+      none-at : (o : Option (List CpuLine)) → slice_get report.cpus who.cpu.0 ≡ o → slice_get end.rows who.cpu.0 ≡ None → among (unwrap_or o []) ≡ []
+      none-at None there outside = empty
+      none-at (Some found) there outside =
+          let has = rows-of-lines script seat last report end who.cpu found there in
+          absurd (none-some has.own (sym outside ∙ has.own_is))
+
+      which : (o : Option (List Row)) → slice_get end.rows who.cpu.0 ≡ o → among (rows_of report who) ≡ of (option_and_then (λ (own : List Row). slice_get own who.seq) o)
+      which None outside = none-at (slice_get report.cpus who.cpu.0) refl outside ∙ sym none
+      which (Some own) some =
+          let list = list-of script seat last report end who.cpu (subst (λ (n : ℕ). who.cpu.0 < n) end.rows_fit (slice_get_within end.rows who.cpu.0 own some)) in
+          ap (λ (o : Option (List CpuLine)). among (unwrap_or o [])) (served-of script seat last report end who.cpu list.0 own list.1 some).1 ∙ at own
+
+  pub events-by-row : (who : Who) → events_of report who ≡ map (event_at who.seq) (told_at (row_at end.rows who))
+  events-by-row who = by-row (λ (l : List CpuLine). events_among l who.seq) (λ (o : Option Row). map (event_at who.seq) (told_at o)) refl refl who (λ own. past own (slice_get own who.seq) refl)
+    where
       past : (own : List Row) (o : Option Row) → slice_get own who.seq ≡ o → events_among (lines_from 0 own) who.seq ≡ map (event_at who.seq) (told_at o)
       past own None none = events-past 0 own who.seq who.seq none (omega arith)
       past own (Some row) some = events-at 0 own who.seq who.seq row some (omega arith)
 
-      which : (o : Option (List Row)) → slice_get end.rows who.cpu.0 ≡ o → events_of report who ≡ map (event_at who.seq) (told_at (option_and_then (λ (own : List Row). slice_get own who.seq) o))
-      which None none = none-at (slice_get report.cpus who.cpu.0) refl none
-      which (Some own) some =
-          let list = list-of script seat last report end who.cpu (subst (λ (n : ℕ). who.cpu.0 < n) end.rows_fit (slice_get_within end.rows who.cpu.0 own some)) in
-          ap (λ (o : Option (List CpuLine)). events_among (unwrap_or o []) who.seq) (served-of script seat last report end who.cpu list.0 own list.1 some).1 ∙ past own (slice_get own who.seq) refl
-
-  pub none-offlined : (who : Who) → offlined_of report who ≡ []
-  none-offlined who = which (slice_get report.cpus who.cpu.0) refl
+  pub offlined-by-row : (who : Who) → offlined_of report who ≡ map (offlined_at who.seq) (offlines_at (row_at end.rows who))
+  offlined-by-row who = by-row (λ (l : List CpuLine). offlined_among l who.seq) (λ (o : Option Row). map (offlined_at who.seq) (offlines_at o)) refl refl who (λ own. past own (slice_get own who.seq) refl)
     where
-      which : (o : Option (List CpuLine)) → slice_get report.cpus who.cpu.0 ≡ o → offlined_among (unwrap_or o []) who.seq ≡ []
-      which None none = refl
-      which (Some found) there =
-          let has = rows-of-lines script seat last report end who.cpu found there in
-          ap (λ (l : List CpuLine). offlined_among l who.seq) has.lines_are ∙ offlined-at who.seq 0 has.own
+      past : (own : List Row) (o : Option Row) → slice_get own who.seq ≡ o → offlined_among (lines_from 0 own) who.seq ≡ map (offlined_at who.seq) (offlines_at o)
+      past own None none = offlined-past 0 own who.seq who.seq none (omega arith)
+      past own (Some row) some = offlined-among 0 own who.seq who.seq row some (omega arith)
 
   -- the commands of a processor with their answers in the report are those with its rows' answers
   pub answered-so : (cpu : Cpu) (list : List Command) (own : List Row) → slice_get script.lists cpu.0 ≡ Some list → slice_get end.rows cpu.0 ≡ Some own → answered_on script report cpu ≡ answers_by list own

@@ -264,6 +264,7 @@ module _ (layout : Layout) (earlier : List (Command × Answer)) (view : View) (w
       replied (replies.Is policy) is = none-some at is
       replied replies.Einval is = none-some at is
   table-place (commands.Log status addr misc) answers.Done caused at is = absurd (none-some at is)
+  table-place (commands.Watch threshold window) answers.Done caused at is = absurd (none-some at is)
   table-place (commands.Sync page) (answers.BadLines mask bt) caused at is = saw-one bt (saw-at caused.1.saw) at is
   table-place (commands.Out page) (answers.BadLines mask bt) caused at is = saw-one bt (saw-at caused.1.saw) at is
   table-place (commands.Bad frame line) answers.Done caused at is = absurd (none-some at is)

@@ -1,3 +1,4 @@
 pub mod Deeds
 pub mod Made
 pub mod Needed
+pub mod Beside

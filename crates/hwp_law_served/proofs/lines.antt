@@ -5,3 +5,4 @@ pub mod ScrubBank
 pub mod OfRows
 pub mod ToldRight
 pub mod FrameRecords
+pub mod Offlines

@@ -1,4 +1,5 @@
--- The entries of a command that was answered are of its kind, each in a page where it can stand, and the one that answers it is named.
+-- The entries of a command that was answered are of its kind, each in a page where it can stand, and the one that answers it is named; and
+-- beside them pages left frames that were taken out of use.
 use Rattle.std.proofs.Common.{◌≡◌, ◌⊎◌, inl, inr, ℕ, Bool, true, false, List, [], ◌∷◌, ◌++◌, Option, None, Some, IsSomeAnd, IsTrue, refl, sym, ap, ◌∙◌, subst, true≢false}
 use Rattle.std.proofs.lemmas.Option.{none-some}
 use Rattle.hwp_law_run.specs.hwp_geom.declared.Frame.{Frame}
@@ -15,7 +16,7 @@ use Rattle.hwp_law_run.specs.hwp_core_rule.declared.Made.{Made}
 use Rattle.hwp_law_run.specs.hwp_core_rule.declared.View.{View}
 use Rattle.hwp_law_run.specs.hwp_core_rule.Lists.{EachMember}
 use Rattle.hwp_law_run.proofs.of_hwp_core_rule.Lists.{at_longer, each-push}
-use Rattle.hwp_law_run.specs.hwp_core_task.Known.{HasMade, HasMadeNone, HasOnly, IsAt, IsOnTheWay, Precedes, deeds, is_failure}
+use Rattle.hwp_law_run.specs.hwp_core_task.Known.{HasMade, HasMadeNone, HasOnly, IsAt, IsOnTheWay, deeds, is_failure}
 use Rattle.hwp_law_run.specs.hwp_script_read.declared.Command.{Command}
 use Rattle.hwp_law_run.specs.hwp_script_read.declared.Command.TheVariants as commands
 use Rattle.hwp_law_run.specs.hwp_report_text.declared.Answer.{Answer}
@@ -29,7 +30,7 @@ use Rattle.hwp_cpu_row.specs.declared.FrameChange.{FrameChange}
 use Rattle.hwp_cpu_row.specs.declared.Row.{Row}
 use Rattle.hwp_cpu_row.specs.hwp_cpu_check.declared.EventOutcome.{EventOutcome}
 use Rattle.hwp_law_served.specs.Accounts.{IsAccounted}
-use Rattle.hwp_law_served.specs.Causes.{HasCome, HasOnlyMet, IsAnswerCaused, IsCaused, IsMet, IsSoftCaused, IsTableCaused, WasSignalled}
+use Rattle.hwp_law_served.specs.Causes.{HasCome, HasOnlyMet, IsAnswerCaused, IsBefore, IsBeside, IsCaused, IsMet, IsSoftCaused, IsTableCaused, WasSignalled}
 use Rattle.hwp_law_served.proofs.deeds.Needed.{IsNeeded, needed}
 
 -- ---- what a command makes by itself
@@ -71,6 +72,10 @@ pub record IsDeed (layout : Layout) (command : Command) (answer : Answer) (m : M
   pub makes : Makes false command m.entry.what
   pub stands : CanStandIn layout command m.page m.entry.what
   pub named : IsTrue (is_answering m.entry.what) → entry_named answer ≡ Some (record { page = m.page; entry = m.place })
+
+-- or a page left a frame by it that was taken out of use beside the command
+abbrev pub IsDone : Layout → Command → Answer → Made → Type 0
+IsDone layout command answer m = IsDeed layout command answer m ⊎ IsBeside m
 
 -- the entry that answers a command
 answered : (layout : Layout) (command : Command) (answer : Answer) (page : Page) (place : ℕ) (what : What) (m : Made) → Makes false command what → CanStandIn layout command page what → entry_named answer ≡ Some (record { page = page; entry = place }) → IsAt page place what m
@@ -120,21 +125,23 @@ module _ (layout : Layout) (command : Command) (answer : Answer) (m : Made) wher
       unanswering what on = absurd on
 
 -- an entry that answers no command
-met : (layout : Layout) (command : Command) (answer : Answer) (m : Made) → IsNeeded command m.entry.what → IsMet layout command m → IsDeed layout command answer m
-met layout command answer m need (inr fails) = failure layout command answer m fails.0 need fails.1
-met layout (commands.Load thread slot line) answer m need (inl is) = way layout _ answer m slot line tt refl (refl, refl) is.0 is.1
-met layout (commands.Fetch thread slot line) answer m need (inl is) = way layout _ answer m slot line tt refl (refl, refl) is.0 is.1
-met layout (commands.KLoad thread slot line) answer m need (inl is) = way layout _ answer m slot line tt refl (refl, refl) is.0 is.1
-met layout (commands.Store thread slot line word) answer m need (inl is) = way layout _ answer m slot line tt refl (refl, refl) is.0 is.1
+met : (layout : Layout) (command : Command) (answer : Answer) (m : Made) → IsNeeded command m.entry.what → IsMet layout command m → IsDone layout command answer m
+met layout command answer m need (inr (inl fails)) = inl (failure layout command answer m fails.0 need fails.1)
+met layout command answer m need (inr (inr beside)) = inr beside
+met layout (commands.Load thread slot line) answer m need (inl is) = inl (way layout _ answer m slot line tt refl (refl, refl) is.0 is.1)
+met layout (commands.Fetch thread slot line) answer m need (inl is) = inl (way layout _ answer m slot line tt refl (refl, refl) is.0 is.1)
+met layout (commands.KLoad thread slot line) answer m need (inl is) = inl (way layout _ answer m slot line tt refl (refl, refl) is.0 is.1)
+met layout (commands.Store thread slot line word) answer m need (inl is) = inl (way layout _ answer m slot line tt refl (refl, refl) is.0 is.1)
 met layout command answer m need (inl is) = absurd is
 
--- what an access through the translation at the line meets, or a failure
+-- what an access through the translation at the line meets, or a failure, or what stands beside
 abbrev IsMetAt : Layout → VSlot → ℕ → Made → Type 0
-IsMetAt layout slot line m = (IsOf layout m.page slot × IsOnTheWay slot line m.entry.what) ⊎ ((true ≡ true) × (is_failure m.entry.what ≡ true))
+IsMetAt layout slot line m = (IsOf layout m.page slot × IsOnTheWay slot line m.entry.what) ⊎ (((true ≡ true) × (is_failure m.entry.what ≡ true)) ⊎ IsBeside m)
 
-preceding : (layout : Layout) (page : Page) (slot : VSlot) (line : ℕ) (m : Made) → IsOf layout page slot → Precedes page slot line m → IsMetAt layout slot line m
-preceding layout page slot line m of (inl (page_is, way)) = inl (subst (λ (p : Page). IsOf layout p slot) (sym page_is) of, way)
-preceding layout page slot line m of (inr fails) = inr (refl, fails)
+preceding : (layout : Layout) (page : Page) (slot : VSlot) (line : ℕ) (m : Made) → IsOf layout page slot → IsBefore page slot line m → IsMetAt layout slot line m
+preceding layout page slot line m of (inl (inl (page_is, way))) = inl (subst (λ (p : Page). IsOf layout p slot) (sym page_is) of, way)
+preceding layout page slot line m of (inl (inr fails)) = inr (inl (refl, fails))
+preceding layout page slot line m of (inr beside) = inr (inr beside)
 
 module _ (view : View) (who : Who) (P : Made → Type 0) where
   none : HasMadeNone view who → EachMember P (deeds who view)
@@ -151,18 +158,18 @@ module _ (view : View) (who : Who) (P : Made → Type 0) where
 
 module _ (layout : Layout) (earlier : List (Command × Answer)) (view : View) (who : Who) where
   abbrev Are : Command → Answer → Type 0
-  Are command answer = EachMember (IsDeed layout command answer) (deeds who view)
+  Are command answer = EachMember (IsDone layout command answer) (deeds who view)
 
   module _ (command : Command) (need : EachMember (λ (m : Made). IsNeeded command m.entry.what) (deeds who view)) where
     -- an access that came to its entry
     reached : (answer : Answer) (slot : VSlot) (line : ℕ) (at : At) (what : What) → ((m : Made) → IsMetAt layout slot line m → IsMet layout command m) → Makes false command what → ((page : Page) → IsOf layout page slot → CanStandIn layout command page what) → entry_named answer ≡ Some at
-        → IsOf layout at.page slot → HasMade (Precedes at.page slot line) view who at.page at.entry what → Are command answer
+        → IsOf layout at.page slot → HasMade (IsBefore at.page slot line) view who at.page at.entry what → Are command answer
     reached answer slot line at what same makes stands named page made =
-        made-so view who (IsDeed layout command answer) made need (λ m needed in_. met layout command answer m needed (same m (preceding layout at.page slot line m page in_)))
-        (λ m is. answered layout command answer at.page at.entry what m makes (stands at.page page) named is)
+        made-so view who (IsDone layout command answer) made need (λ m needed in_. met layout command answer m needed (same m (preceding layout at.page slot line m page in_)))
+        (λ m is. inl (answered layout command answer at.page at.entry what m makes (stands at.page page) named is))
 
     -- an access that came to none
-    brings : (answer : Answer) (slot : VSlot) (line : ℕ) (page : Page) → ((m : Made) → IsMetAt layout slot line m → IsMet layout command m) → IsOf layout page slot → HasOnly (Precedes page slot line) view who → Are command answer
+    brings : (answer : Answer) (slot : VSlot) (line : ℕ) (page : Page) → ((m : Made) → IsMetAt layout slot line m → IsMet layout command m) → IsOf layout page slot → HasOnly (IsBefore page slot line) view who → Are command answer
     brings answer slot line page same of only i m there = met layout command answer m (need i m there) (same m (preceding layout page slot line m of (only i m there)))
 
     -- a command that came to no entry of its own
@@ -171,7 +178,7 @@ module _ (layout : Layout) (earlier : List (Command × Answer)) (view : View) (w
 
     -- a command that made its entry alone
     one : (answer : Answer) (at : At) (what : What) → Makes false command what → CanStandIn layout command at.page what → entry_named answer ≡ Some at → HasMade (λ m. ⊥) view who at.page at.entry what → Are command answer
-    one answer at what makes stands named made = made-so view who (IsDeed layout command answer) {Other = λ m. Unit {0}} made (λ i m there. tt) (λ m other no_. absurd no_) (λ m is. answered layout command answer at.page at.entry what m makes stands named is)
+    one answer at what makes stands named made = made-so view who (IsDone layout command answer) {Other = λ m. Unit {0}} made (λ i m there. tt) (λ m other no_. absurd no_) (λ m is. inl (answered layout command answer at.page at.entry what m makes stands named is))
 
   table-deeds : (command : Command) (answer : Answer) → EachMember (λ (m : Made). IsNeeded command m.entry.what) (deeds who view) → IsTableCaused layout earlier view who command answer → Are command answer
   table-deeds (commands.Load thread slot line) (answers.Value word at) need caused = reached _ need _ slot line at _ (λ m x. x) (refl, refl, tt) (λ page is. is) refl caused.1.page caused.1.made
@@ -210,13 +217,14 @@ module _ (layout : Layout) (earlier : List (Command × Answer)) (view : View) (w
   table-deeds (commands.Prctl thread args) (answers.Gone page) need caused = none view who _ caused.1
   table-deeds (commands.Prctl thread args) answer need caused = none view who _ caused.made
   table-deeds (commands.Log status addr misc) answers.Done need caused = none view who _ caused
+  table-deeds (commands.Watch threshold window) answers.Done need caused = none view who _ caused
   table-deeds (commands.Bad frame line) answers.Done need caused = none view who _ caused.made
   table-deeds (commands.Weak frame line) answers.Done need caused = none view who _ caused.made
   table-deeds command answer need caused = absurd caused
 
   -- a failure that the command brought about
   come : (frame : Frame) (own : Option FrameChange) (answer : Answer) (outcome : Outcome) → EachMember (λ (m : Made). IsNeeded (commands.Inject frame) m.entry.what) (deeds who view) → HasCome layout view who frame own outcome → Are (commands.Inject frame) answer
-  come frame own answer outcome need has i m there = failure layout (commands.Inject frame) answer m refl (need i m there) (has.failed.only i m there)
+  come frame own answer outcome need has i m there = inl (failure layout (commands.Inject frame) answer m refl (need i m there) (has.failed.only i m there))
 
   -- a soft offline
   offline : (frame : Frame) (own : Option FrameChange) (answer : Answer) → EachMember (λ (m : Made). IsNeeded (commands.Soft frame) m.entry.what) (deeds who view) → IsSoftCaused layout view who frame own answer → Are (commands.Soft frame) answer

@@ -22,8 +22,11 @@ use Rattle.hwp_soft.specs.hwp_claim.Fails.{IsPageless}
 use Rattle.hwp_law_run.specs.hwp_script_read.declared.Command.{Command}
 use Rattle.hwp_law_run.specs.hwp_script_read.declared.Command.TheVariants as commands
 use Rattle.hwp_law_run.specs.hwp_script_read.declared.Script.{Script}
+use Rattle.hwp_law_run.specs.hwp_report_text.Offlines.{offline_answer}
 use Rattle.hwp_law_run.specs.hwp_report_text.declared.Answer.{Answer}
 use Rattle.hwp_law_run.specs.hwp_report_text.declared.Answer.TheVariants as answers
+use Rattle.hwp_law_run.specs.hwp_report_text.declared.OfflineResult.{OfflineResult}
+use Rattle.hwp_law_run.specs.hwp_report_text.declared.OfflineResult.TheVariants as results
 use Rattle.hwp_law_run.specs.hwp_report_text.declared.Report.{Report}
 use Rattle.hwp_law_run.specs.hwp_law_commands.Commands.{current_thread}
 use Rattle.hwp_law_run.specs.hwp_law_commands.Outcomes.{outcome_answer}
@@ -37,6 +40,8 @@ use Rattle.hwp_cpu_row.specs.hwp_cpu_check.declared.EventOutcome.{EventOutcome}
 use Rattle.hwp_cpu_row.specs.hwp_cpu_check.Fits.{IsEntered}
 use Rattle.hwp_law_served.specs.Accounts.{IsOfflined, IsOwn}
 use Rattle.hwp_law_served.specs.Causes.{HasCome, HasFailed, IsAnswerCaused}
+use Rattle.hwp_law_served.specs.Offlinings.{IsOfflineServed}
+use Rattle.hwp_law_served.specs.Served.{IsOffliningServed}
 use Rattle.hwp_law_served.specs.Runs.{row_at}
 use Rattle.hwp_law_served.proofs.RunEnds.{IsEnd, IsOf, command-of, list-of, same-row, served-of}
 use Rattle.hwp_law_served.proofs.lines.ToldRight.{IsRight, told-right}
@@ -123,6 +128,26 @@ module _ (layout : Layout) (earlier : List (Command × Answer)) (view : View) (w
   own-so (commands.Unpoison f) answer (owns.Revived frame cycle) (same, is) caused = record { command_is = ap commands.Unpoison (sym same); answer_is = is }
   own-so command answer own is caused = absurd is
 
+-- ---- what was done to a frame that was taken out of use beside a command
+
+-- the frame isn't the kernel's, and what came of it says whether a page left it
+pub record IsTakenSo (layout : Layout) (frame : Frame) (result : OfflineResult) (change : FrameChange) : Type 0 where
+  pub cycle : ℕ
+  pub moved : Bool
+  pub change_is : change ≡ owns.Offlined frame cycle moved
+  pub users : slice_get layout.kernel frame.0 ≡ Some false
+  pub says : IsOfflined moved (offline_answer result)
+
+pub taken-so : (layout : Layout) (view : View) (who : Who) (frame : Frame) (result : OfflineResult) (own : Option FrameChange) (change : FrameChange) → IsOfflineServed layout view who frame own result → own ≡ Some change → IsTakenSo layout frame result change
+taken-so layout view who frame (results.Moved other at) own change (users, changed, free) is =
+    record { cycle = changed.0; moved = true; change_is = same_Some change (owns.Offlined frame changed.0 true) (sym is ∙ changed.1); users = users; says = refl }
+taken-so layout view who frame results.TakenFree own change (users, changed) is =
+    record { cycle = changed.0; moved = false; change_is = same_Some change (owns.Offlined frame changed.0 false) (sym is ∙ changed.1); users = users; says = refl }
+taken-so layout view who frame results.Already own change (users, saw, none) is = absurd (none-some change (sym none ∙ is))
+taken-so layout view who frame (results.HasBad mask) own change (users, saw, none) is = absurd (none-some change (sym none ∙ is))
+taken-so layout view who frame results.NoFrame own change (users, saw, none) is = absurd (none-some change (sym none ∙ is))
+taken-so layout view who frame results.Stopped own change (saw, none) is = absurd (none-some change (sym none ∙ is))
+
 -- ---- at the end
 
 module _ (script : Script) (seat : Cpu → ℕ) (last : State) (report : Report) (end : IsEnd script seat last report) where
@@ -156,3 +181,7 @@ module _ (script : Script) (seat : Cpu → ℕ) (last : State) (report : Report)
       let is : r.of.row.own ≡ Some own = ap (λ (x : Row). x.own) r.same ∙ own_is in
       own-so script.layout r.of.earlier (view_of last (seat who.cpu)) who r.of.row.told r.of.command r.of.row.answer own (subst (IsOwn r.of.command r.of.row.answer) is r.of.served.accounted.own)
       (subst (λ (o : Option FrameChange). IsAnswerCaused script.layout r.of.earlier (view_of last (seat who.cpu)) who r.of.command r.of.row.told o r.of.row.answer) is r.of.served.caused)
+
+  -- and what came of the frames that were taken out of use beside it
+  pub offlined-of : (who : Who) (row : Row) (r : OfRow who row) → EachMember (IsOffliningServed script.layout (view_of last (seat who.cpu)) who) row.offlined
+  offlined-of who row r = subst (λ (x : Row). EachMember (IsOffliningServed script.layout (view_of last (seat who.cpu)) who) x.offlined) r.same r.of.served.offlined

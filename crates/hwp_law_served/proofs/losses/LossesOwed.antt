@@ -1,5 +1,5 @@
 -- The losses that a command owes are of entries that it made, and a command without failures makes none.
-use Rattle.std.proofs.Common.{◌≡◌, ℕ, suc, ◌+◌, ◌≤◌, ◌==◌, ◌&&◌, Bool, true, false, cond, List, [], ◌∷◌, ◌++◌, Option, None, Some, filter, length, refl, sym, ap, ◌∙◌, subst, arith, true≢false}
+use Rattle.std.proofs.Common.{◌≡◌, inl, inr, ℕ, suc, ◌+◌, ◌≤◌, ◌==◌, ◌&&◌, Bool, true, false, cond, List, [], ◌∷◌, ◌++◌, Option, None, Some, filter, length, refl, sym, ap, ◌∙◌, subst, arith, true≢false}
 use Rattle.std.specs.Int.{from_bool}
 use Rattle.std.specs.List.{sum_by}
 use Rattle.std.proofs.lemmas.Bool.{eq-eqb}
@@ -39,11 +39,12 @@ use Rattle.hwp_law_run.specs.hwp_script_read.declared.Command.{Command}
 use Rattle.hwp_law_run.specs.hwp_report_text.declared.Answer.{Answer}
 use Rattle.hwp_law_run.specs.hwp_law_commands.Commands.{can_fail}
 use Rattle.hwp_law_run.specs.hwp_law.Entries.{Makes}
+use Rattle.hwp_law_run.specs.hwp_law.Pairings.{is_soft}
 use Rattle.hwp_cpu_row.specs.declared.Row.{Row}
 use Rattle.hwp_law_served.specs.Accounts.{IsAccounted}
 use Rattle.hwp_law_served.specs.Causes.{IsCaused}
 use Rattle.hwp_law_served.specs.Owed.{OwesOwn, loss_of, losses_by}
-use Rattle.hwp_law_served.proofs.deeds.Deeds.{are-deeds}
+use Rattle.hwp_law_served.proofs.deeds.Deeds.{IsDone, are-deeds}
 
 -- ---- entries past those that are listed
 
@@ -169,6 +170,14 @@ lossless-so : (command : Command) (what : What) → can_fail command ≡ false �
 lossless-so command (entries.Fail situation required seen signals) cannot makes = absurd (true≢false (sym makes.0 ∙ cannot))
 lossless-so command what cannot makes = refl
 
+beside-lossless : (what : What) → is_soft what ≡ true → is_loss what ≡ false
+beside-lossless entries.Soft is = refl
+beside-lossless what is = absurd (true≢false (sym is))
+
 pub lossless : (layout : Layout) (earlier : List (Command × Answer)) (view : View) (who : Who) (command : Command) (row : Row) → can_fail command ≡ false → IsCaused layout earlier view who command row → IsAccounted view who command row → losses_by who view ≡ 0
 lossless layout earlier view who command row cannot caused account =
-    sum-zero loss_of (deeds who view) (λ i m at. ap from_bool (lossless-so command m.entry.what cannot (are-deeds layout earlier view who command row caused account i m at).makes))
+    sum-zero loss_of (deeds who view) (λ i m at. which m (are-deeds layout earlier view who command row caused account i m at))
+  where
+    which : (m : Made) → IsDone layout command row.answer m → loss_of m ≡ 0
+    which m (inl deed) = ap from_bool (lossless-so command m.entry.what cannot deed.makes)
+    which m (inr beside) = ap from_bool (beside-lossless m.entry.what beside)
