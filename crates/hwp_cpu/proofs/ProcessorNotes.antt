@@ -1,11 +1,11 @@
 -- What a processor's view lists of its commands beside entries, and its notes: over a step, when a command is answered, and when the
 -- next one begins.
-use Rattle.std.proofs.Common.{◌≡◌, ◌⊎◌, inl, inr, ℕ, suc, ◌+◌, ◌≤◌, Bool, true, false, List, [], ◌∷◌, ◌++◌, Option, Some, None, drop, filter, filter_map, length, map, slice_get, append_assoc, append-nil, refl, sym, ap, ◌∙◌, subst, arith}
+use Rattle.std.proofs.Common.{◌≡◌, ◌⊎◌, inl, inr, ℕ, suc, ◌+◌, ◌≤◌, Bool, true, false, List, [], ◌∷◌, ◌++◌, Option, Some, None, drop, filter, filter_map, length, map, slice_get, append_assoc, append-nil, refl, sym, ap, ◌∙◌, subst, arith, true≢false}
 use Rattle.std.specs.List.{cons_option}
 use Rattle.std.specs.Int.{from_bool}
 use Rattle.std.specs.Prelude.{option_map}
 use Rattle.std.proofs.lemmas.Bool.{false_from_ne_true}
-use Rattle.std.proofs.lemmas.List.{length-map, map-append, nil_from_length}
+use Rattle.std.proofs.lemmas.List.{filter_map-append, length-map, map-append, nil_from_length}
 use Rattle.std.proofs.lemmas.Option.{none-some, same_Some}
 use Rattle.hwp_cpu_course.specs.hwp_cpu_row.hwp_geom.declared.Cpu.{Cpu}
 use Rattle.hwp_cpu_course.specs.hwp_cpu_row.hwp_geom.declared.Frame.{Frame}
@@ -41,13 +41,19 @@ use Rattle.hwp_cpu_course.specs.hwp_cpu_row.hwp_report_text.declared.MarkLine.Th
 use Rattle.hwp_cpu_course.specs.hwp_cpu_row.hwp_claim.declared.Found.{Found}
 use Rattle.hwp_cpu_course.specs.hwp_cpu_row.declared.FrameChange.{FrameChange}
 use Rattle.hwp_cpu_course.specs.hwp_cpu_row.declared.FrameChange.TheVariants as owns
+use Rattle.hwp_cpu_course.specs.hwp_cpu_row.declared.Offlining.{Offlining}
 use Rattle.hwp_cpu_course.specs.hwp_cpu_row.declared.Row.{Row}
+use Rattle.hwp_cpu_course.specs.hwp_cpu_row.declared.Watching.{Watching}
+use Rattle.hwp_cpu_course.specs.hwp_cpu_row.Acts.{Act, Offlined, Told, acts}
 use Rattle.hwp_cpu_course.specs.hwp_cpu_row.hwp_cpu_check.declared.EventOutcome.{EventOutcome}
 use Rattle.hwp_cpu_course.specs.hwp_cpu_row.hwp_cpu_check.Done.{marked_in}
 use Rattle.hwp_cpu_course.specs.hwp_cpu_row.hwp_cpu_check.Told.{frame_of}
 use Rattle.hwp_cpu_course.specs.hwp_cpu_command.hwp_cpu_access.Done.{FailuresGrow}
 use Rattle.hwp_cpu_course.specs.hwp_cpu_command.declared.Job.{Job}
-use Rattle.hwp_cpu_course.specs.hwp_cpu_command.Done.{HasDone, failed_now, marked_now}
+use Rattle.hwp_cpu_course.specs.hwp_cpu_command.declared.job.Job.TheVariants as kinds
+use Rattle.hwp_cpu_course.specs.hwp_cpu_command.hwp_soft.declared.Soft.{Soft}
+use Rattle.hwp_cpu_course.specs.hwp_cpu_command.hwp_soft.Softs as softs
+use Rattle.hwp_cpu_course.specs.hwp_cpu_command.Done.{HasCounted, HasDone, can_fail, failed_now, marked_beyond, marked_now}
 use Rattle.hwp_cpu_course.specs.hwp_cpu_command.Settings.{policies_now}
 use Rattle.hwp_cpu_course.specs.hwp_cpu_command.Jobs as jobs
 use Rattle.hwp_cpu_course.specs.hwp_cpu_command.Runs.{Runs}
@@ -55,10 +61,16 @@ use Rattle.hwp_cpu_course.specs.hwp_cpu_command.Stays.{HasSpoiled, IsAtStop, Ste
 use Rattle.hwp_cpu_course.proofs.of_hwp_cpu_command.JobEnds.{answered-over, paid-at-end}
 use Rattle.hwp_cpu_course.proofs.of_hwp_cpu_command_laws.CommandDeeds.{done, failures-at-end, grown, none-listed, unfailed-at-start, unmarked-at-start, unowed-at-end, unowed-at-start, unset-policies-at-start}
 use Rattle.hwp_cpu_course.proofs.of_hwp_cpu_command_laws.CommandRuns.{can-fail-stays}
-use Rattle.hwp_cpu_course.proofs.of_hwp_cpu_command_laws.CommandStops.{has-spoiled, spoils-after}
-use Rattle.hwp_cpu_causes.specs.hwp_law_served.Accounts.{IsHow, IsNote, failures, is_same, marking_by, markings_in, own_marking}
+use Rattle.hwp_cpu_course.proofs.of_hwp_cpu_command_laws.Beside.{marked-parts}
+use Rattle.hwp_cpu_course.proofs.of_hwp_cpu_command_laws.CommandStops.{has-spoiled, spoils-after, untold-at-start}
+use Rattle.hwp_cpu_course.proofs.of_hwp_cpu_command_laws.TaskLeaves.{soft-leaves}
+use Rattle.hwp_cpu_course.specs.declared.Course.{Course}
+use Rattle.hwp_cpu_course.specs.Courses.{begin, part_of}
+use Rattle.hwp_cpu_causes.specs.Beside.{AddsBeside, ArePrior}
+use Rattle.hwp_cpu_causes.specs.hwp_law.Pairings.{is_soft}
+use Rattle.hwp_cpu_causes.specs.hwp_law_served.Accounts.{IsHow, IsNote, act_marking, failures, is_same, marking_by, markings, markings_in, own_marking}
 use Rattle.hwp_cpu_causes.specs.hwp_law_served.Owed.{OwesOwn, loss_of, losses_by}
-use Rattle.hwp_cpu_causes.specs.hwp_law_served.Rows.{Note, note_by, note_of, notes_from, own_note, row_notes, told_note}
+use Rattle.hwp_cpu_causes.specs.hwp_law_served.Rows.{Note, act_note, note_by, note_of, notes_from, own_note, row_notes, told_note}
 use Rattle.hwp_cpu_causes.specs.hwp_law_served.Served.{IsOneOf, IsOwnSpoil, spoiling}
 use Rattle.hwp_cpu_causes.proofs.of_hwp_law_served.AccountKeeps.{marks-own, settings-own}
 use Rattle.hwp_cpu_causes.proofs.of_hwp_law_served.PoisonMarks.{same-who}
@@ -66,7 +78,8 @@ use Rattle.hwp_cpu_causes.proofs.of_hwp_law_served.Picked.{picked-has}
 use Rattle.hwp_cpu_causes.proofs.of_hwp_law_served.losses.LossesOwed.{owes-own}
 use Rattle.hwp_cpu_causes.proofs.of_hwp_law_served.marks.Marked.{same-self}
 use Rattle.hwp_cpu.specs.Processors.{at_number}
-use Rattle.hwp_cpu.specs.Serving.{AreNoted, HasAccount, IsListed}
+use Rattle.hwp_cpu.specs.Serving.{AreNoted, HasAccount, IsListed, marked_so_far}
+use Rattle.hwp_cpu.proofs.Marks.{GrowAlike, beside-alike, regrown}
 use Rattle.hwp_cpu.proofs.Rows.{notes-more, spoil-more}
 use Rattle.hwp_cpu.proofs.EachKind.{spoils-line}
 
@@ -76,6 +89,7 @@ failed-grown : {old new before after : List Failed} → FailuresGrow old new bef
 failed-grown (inl (same, alike)) was = same ∙ was ∙ sym alike
 failed-grown (inr (f, more, longer)) was = more ∙ ap (λ (l : List Failed). l ++ f ∷ []) was ∙ sym longer
 
+-- a step of the command that runs, or of the frame that is taken out of use beside it
 module _ {layout : Layout} {old new : View} {cpu : Cpu} {n : ℕ} {j k : Job} (s : Stepped layout old new j k) (can : CanMake layout (jobs.who j) s.step (jobs.put j) old) (own : jobs.who j ≡ at_number cpu n) where
   pub listed-on : IsListed old cpu (n + 1) → IsListed new cpu (n + 1)
   listed-on was = record {
@@ -89,20 +103,18 @@ module _ {layout : Layout} {old new : View} {cpu : Cpu} {n : ℕ} {j k : Job} (s
   did : HasDone old new (at_number cpu n) j k
   did = subst (λ (w : Who). HasDone old new w j k) own (done s)
 
-  pub account-on : HasAccount old (at_number cpu n) j → HasAccount new (at_number cpu n) k
-  account-on was = record {
-    marked = grown (λ (m : Mark). m.stamp.who) marking_of (is_same (at_number cpu n)) old.marks new.marks (at_number cpu n) (marked_now j) (marked_now k) (same-self (at_number cpu n) (at_number cpu n) refl) did.marked was.marked;
-    failed = λ fails. failed-grown (did.failed fails) (was.failed (sym (can-fail-stays layout j k s.found s.got s.turn s.follows) ∙ fails));
-    set = grown (λ (x : Setting). x.stamp.who) (λ (x : Setting). (x.thread, x.policy)) (is_same (at_number cpu n)) old.settings new.settings (at_number cpu n) (policies_now j) (policies_now k) (same-self (at_number cpu n) (at_number cpu n) refl) did.set was.set;
-    counted = did.counted was.counted;
-    losses = subst (λ (w : Who). OwesOwn w new) own (owes-own (jobs.who j) can s.made (subst (λ (w : Who). OwesOwn w old) (sym own) was.losses));
-  }
+  -- what it marks is noted behind what was marked before
+  marked-on : {b a : List Marking} → GrowAlike (marked_now j) (marked_now k) b a → markings (at_number cpu n) old ≡ b → markings (at_number cpu n) new ≡ a
+  marked-on {b} {a} alike was = grown (λ (m : Mark). m.stamp.who) marking_of (is_same (at_number cpu n)) old.marks new.marks (at_number cpu n) b a (same-self (at_number cpu n) (at_number cpu n) refl) (regrown alike did.marked) was
 
-  pub noted-on : (rows : List Row) → length rows ≡ n → AreNoted old cpu rows j → AreNoted new cpu rows k
-  noted-on rows number was = which did.marked
+  owes-on : OwesOwn (at_number cpu n) old → OwesOwn (at_number cpu n) new
+  owes-on was = subst (λ (w : Who). OwesOwn w new) own (owes-own (jobs.who j) can s.made (subst (λ (w : Who). OwesOwn w old) (sym own) was))
+
+  pub noted-on : (rows : List Row) (c d : Course) → length rows ≡ n → GrowAlike (marked_now j) (marked_now k) (marked_so_far c) (marked_so_far d) → AreNoted old cpu rows c → AreNoted new cpu rows d
+  noted-on rows c d number alike was = which (regrown alike did.marked)
     where
-      which : Grows (λ (m : Mark). m.stamp.who) marking_of old.marks new.marks (at_number cpu n) (marked_now j) (marked_now k) → AreNoted new cpu rows k
-      which (inl (same, alike)) = record { earlier = was.earlier; last = was.last; all = same ∙ was.all; noted = was.noted; before = was.before; own = was.own; marked = was.marked ∙ sym alike }
+      which : Grows (λ (m : Mark). m.stamp.who) marking_of old.marks new.marks (at_number cpu n) (marked_so_far c) (marked_so_far d) → AreNoted new cpu rows d
+      which (inl (same, is)) = record { earlier = was.earlier; last = was.last; all = same ∙ was.all; noted = was.noted; before = was.before; own = was.own; marked = was.marked ∙ sym is }
       which (inr (x, more, is, longer)) = record {
         earlier = was.earlier;
         last = was.last ++ x ∷ [];
@@ -129,6 +141,45 @@ module _ {layout : Layout} {old new : View} {cpu : Cpu} {n : ℕ} {j k : Job} (s
         | inl at ↦ early at
         | inr is ↦ inr (subst (HasSpoiled k) is has)
       ]
+
+-- its own task goes on
+module _ {layout : Layout} {old new : View} {cpu : Cpu} {n : ℕ} (c : Course) (k : Job) (s : Stepped layout old new c.own k) (can : CanMake layout (jobs.who c.own) s.step (jobs.put c.own) old) (own : jobs.who c.own ≡ at_number cpu n)
+    (none : c.beside ≡ None) (alike : GrowAlike (marked_now c.own) (marked_now k) (marked_so_far c) (marked_so_far (record c { own = k }))) where
+  pub account-own : HasAccount old (at_number cpu n) c → HasAccount new (at_number cpu n) (record c { own = k })
+  account-own was = record {
+    marked = marked-on s can own alike was.marked;
+    failed = λ fails. failed-grown ((did s can own).failed fails) (was.failed (sym (can-fail-stays layout c.own k s.found s.got s.turn s.follows) ∙ fails));
+    set = grown (λ (x : Setting). x.stamp.who) (λ (x : Setting). (x.thread, x.policy)) (is_same (at_number cpu n)) old.settings new.settings (at_number cpu n) (policies_now c.own) (policies_now k) (same-self (at_number cpu n) (at_number cpu n) refl) (did s can own).set was.set;
+    counted = subst (λ (o : Option Soft). HasCounted (part_of o k) new) (sym none) ((did s can own).counted (subst (λ (o : Option Soft). HasCounted (part_of o c.own) old) none was.counted));
+    losses = owes-on s can own was.losses;
+  }
+
+-- a frame is taken out of use beside it
+module _ {layout : Layout} {old new : View} {cpu : Cpu} {n : ℕ} (c : Course) (o t : Soft) (s : Stepped layout old new (kinds.Soft o) (kinds.Soft t)) (can : CanMake layout o.who s.step (softs.put o) old) (own : o.who ≡ at_number cpu n)
+    (is : c.beside ≡ Some o) (adds : AddsBeside (at_number cpu n) old new) where
+  -- no entry of that tells a failure
+  failures-beside : failures (at_number cpu n) new ≡ failures (at_number cpu n) old
+  failures-beside = which adds
+    where
+      lossless : (what : What) (page : Page) (place : ℕ) → is_soft what ≡ true → abandoned.failed_of page place what ≡ None
+      lossless (entries.Fail situation required seen signals) page place beside = absurd (true≢false (sym beside))
+      lossless what page place beside = refl
+
+      which : AddsBeside (at_number cpu n) old new → failures (at_number cpu n) new ≡ failures (at_number cpu n) old
+      which (inl same) = ap (filter_map abandoned.failed_in) same
+      which (inr (m, more, beside)) =
+          ap (filter_map abandoned.failed_in) more ∙ filter_map-append abandoned.failed_in (deeds (at_number cpu n) old) (m ∷ [])
+          ∙ ap (λ (f : Option Failed). failures (at_number cpu n) old ++ cons_option f []) (lossless m.entry.what m.page m.place beside)
+          ∙ append-nil (failures (at_number cpu n) old)
+
+  pub account-beside : HasAccount old (at_number cpu n) c → HasAccount new (at_number cpu n) (record c { beside = Some t })
+  account-beside was = record {
+    marked = marked-on s can own (beside-alike c o t is) was.marked;
+    failed = λ fails. failures-beside ∙ was.failed fails;
+    set = ap (λ (l : List Setting). map (λ (x : Setting). (x.thread, x.policy)) (filter (λ (x : Setting). is_same (at_number cpu n) x.stamp.who) l)) (soft-leaves o s.planned s.made).rest.settings ∙ was.set;
+    counted = (did s can own).counted (subst (λ (b : Option Soft). HasCounted (part_of b c.own) old) is was.counted);
+    losses = owes-on s can own was.losses;
+  }
 
 -- ---- at the end of a command
 
@@ -180,6 +231,10 @@ first-noted who note marking tells (Some x) more rest (m ∷ ms) own are tell = 
   tell ms (λ i y there. own (suc i) y there) (ap (λ (l : List Marking). drop 1 l) are),
 )
 
+onto : {A : Type 0} (o : Option A) (xs ys : List A) → cons_option o xs ++ ys ≡ cons_option o (xs ++ ys)
+onto None xs ys = refl
+onto (Some x) xs ys = refl
+
 none-noted : (ms : List Mark) → map marking_of ms ≡ [] → Pairs IsNote [] ms
 none-noted [] none = tt
 none-noted (m ∷ ms) none = let some : suc (length (map marking_of ms)) ≡ 0 = ap length none in absurd (omega (arith, some))
@@ -187,24 +242,23 @@ none-noted (m ∷ ms) none = let some : suc (length (map marking_of ms)) ≡ 0 =
 own-noted : (who : Who) (own : Option FrameChange) (ms : List Mark) → EachMember (λ (m : Mark). m.stamp.who ≡ who) ms → map marking_of ms ≡ cons_option (own_marking own) [] → Pairs IsNote (cons_option (own_note who own) []) ms
 own-noted who own ms by are = first-noted who (note_by who) marking_by (own-tells who) own [] [] ms by are (λ l of none. none-noted l none)
 
--- the notes of a command tell its marks
-row-noted : (who : Who) (told : List EventOutcome) (own : Option FrameChange) (ms : List Mark) → EachMember (λ (m : Mark). m.stamp.who ≡ who) ms → map marking_of ms ≡ filter_map marked_in told ++ cons_option (own_marking own) []
-    → Pairs IsNote (filter_map (told_note who) told ++ cons_option (own_note who own) []) ms
-row-noted who [] own ms by are = own-noted who own ms by are
-row-noted who (t ∷ ts) own ms by are = subst (λ (l : List Note). Pairs IsNote l ms) (sym (onto (told_note who t) (filter_map (told_note who) ts) (cons_option (own_note who own) [])))
-    (first-noted who (note_of who true (frame_of t.held)) (λ (found : Found). poisoning (frame_of t.held) true found.cycle) (failure-tells who true (frame_of t.held)) t.found (filter_map (told_note who) ts ++ cons_option (own_note who own) []) (filter_map marked_in ts ++ cons_option (own_marking own) []) ms by
-    (are ∙ onto (marked_in t) (filter_map marked_in ts) (cons_option (own_marking own) [])) (row-noted who ts own))
-  where
-    onto : {A : Type 0} (o : Option A) (xs ys : List A) → cons_option o xs ++ ys ≡ cons_option o (xs ++ ys)
-    onto None xs ys = refl
-    onto (Some x) xs ys = refl
+-- the notes of acts tell the marks, and so on with those behind
+acts-noted : (who : Who) (acted : List Act) (own : Option FrameChange) (ms : List Mark) → EachMember (λ (m : Mark). m.stamp.who ≡ who) ms → map marking_of ms ≡ filter_map act_marking acted ++ cons_option (own_marking own) []
+    → Pairs IsNote (filter_map (act_note who) acted ++ cons_option (own_note who own) []) ms
+acts-noted who [] own ms by are = own-noted who own ms by are
+acts-noted who (Told t ∷ rest) own ms by are = subst (λ (l : List Note). Pairs IsNote l ms) (sym (onto (told_note who t) (filter_map (act_note who) rest) (cons_option (own_note who own) [])))
+    (first-noted who (note_of who true (frame_of t.held)) (λ (found : Found). poisoning (frame_of t.held) true found.cycle) (failure-tells who true (frame_of t.held)) t.found (filter_map (act_note who) rest ++ cons_option (own_note who own) []) (filter_map act_marking rest ++ cons_option (own_marking own) []) ms by
+    (are ∙ onto (marked_in t) (filter_map act_marking rest) (cons_option (own_marking own) [])) (acts-noted who rest own))
+acts-noted who (Offlined o ∷ rest) own ms by are = subst (λ (l : List Note). Pairs IsNote l ms) (sym (onto (own_note who o.change) (filter_map (act_note who) rest) (cons_option (own_note who own) [])))
+    (first-noted who (note_by who) marking_by (own-tells who) o.change (filter_map (act_note who) rest ++ cons_option (own_note who own) []) (filter_map act_marking rest ++ cons_option (own_marking own) []) ms by
+    (are ∙ onto (own_marking o.change) (filter_map act_marking rest) (cons_option (own_marking own) [])) (acts-noted who rest own))
 
 -- all marks are noted
-pub noted-end : (view : View) (cpu : Cpu) (rows : List Row) (j : Job) (row : Row) → AreNoted view cpu rows j → marked_now j ≡ markings_in row → Pairs IsNote (notes_from cpu 0 (rows ++ row ∷ [])) view.marks
-noted-end view cpu rows j row are marked =
+pub noted-end : (view : View) (cpu : Cpu) (rows : List Row) (c : Course) (row : Row) → AreNoted view cpu rows c → marked_so_far c ≡ markings_in row → Pairs IsNote (notes_from cpu 0 (rows ++ row ∷ [])) view.marks
+noted-end view cpu rows c row are marked =
     subst (λ (l : List Note). Pairs IsNote l view.marks) (sym (notes-more cpu 0 rows (length rows) row (omega arith)))
     (subst (λ (l : List Mark). Pairs IsNote (notes_from cpu 0 rows ++ row_notes (at_number cpu (length rows)) row) l) (sym are.all)
-    (joined (notes_from cpu 0 rows) (row_notes (at_number cpu (length rows)) row) are.earlier are.last are.noted (row-noted (at_number cpu (length rows)) row.told row.own are.last are.own (are.marked ∙ marked))))
+    (joined (notes_from cpu 0 rows) (row_notes (at_number cpu (length rows)) row) are.earlier are.last are.noted (acts-noted (at_number cpu (length rows)) (acts row.told row.offlined) row.own are.last are.own (are.marked ∙ marked))))
   where
     joined : (xs ys : List Note) (ms ns : List Mark) → Pairs IsNote xs ms → Pairs IsNote ys ns → Pairs IsNote (xs ++ ys) (ms ++ ns)
     joined [] ys [] ns first second = second
@@ -213,14 +267,14 @@ noted-end view cpu rows j row are marked =
     joined (x ∷ xs) ys (m ∷ ms) ns first second = (first.0, joined xs ys ms ns first.1 second)
 
 -- a line that the command has spoiled is one of a command that is answered
-pub spoils-end : (layout : Layout) (cpu : Cpu) (list : List Command) (rows : List Row) (command : Command) (j : Job) (a : Answer) (s : Spoiled) → slice_get list (length rows) ≡ Some command → Runs layout (at_number cpu (length rows)) command j
-    → jobs.answer j ≡ Some a → IsOwnSpoil cpu list rows s ⊎ HasSpoiled j s → IsOwnSpoil cpu list (rows ++ jobs.row_of j a ∷ []) s
-spoils-end layout cpu list rows command j a s there runs is (inl own) = spoil-more cpu list rows (jobs.row_of j a) s own
-spoils-end layout cpu list rows command j a s there runs is (inr has) = record {
+pub spoils-end : (layout : Layout) (cpu : Cpu) (list : List Command) (rows : List Row) (command : Command) (j : Job) (a : Answer) (offlined : List Offlining) (s : Spoiled) → slice_get list (length rows) ≡ Some command → Runs layout (at_number cpu (length rows)) command j
+    → jobs.answer j ≡ Some a → IsOwnSpoil cpu list rows s ⊎ HasSpoiled j s → IsOwnSpoil cpu list (rows ++ jobs.row_of j a offlined ∷ []) s
+spoils-end layout cpu list rows command j a offlined s there runs is (inl own) = spoil-more cpu list rows (jobs.row_of j a offlined) s own
+spoils-end layout cpu list rows command j a offlined s there runs is (inr has) = record {
   cpu_is = ap (λ (w : Who). w.cpu) by.0;
   there = ap (slice_get list) number ∙ there ∙ ap (λ (c : Command). Some c) by.1;
-  row = jobs.row_of j a;
-  row_is = ap (slice_get (rows ++ jobs.row_of j a ∷ [])) number ∙ at_last rows (jobs.row_of j a);
+  row = jobs.row_of j a offlined;
+  row_is = ap (slice_get (rows ++ jobs.row_of j a offlined ∷ [])) number ∙ at_last rows (jobs.row_of j a offlined);
   answered = same_Some a answers.Done (sym is ∙ has-spoiled j s has);
 }
   where
@@ -245,22 +299,37 @@ unfailed-lossless view who none = sum-zero loss_of (deeds who view) (λ i m at. 
     by page place (entries.Fail situation required seen signals) is = absurd (none-some _ (sym is))
     by page place what is = refl
 
--- when a command is answered its failures are those that it knows of
-pub failed-end : (layout : Layout) (view : View) (who : Who) (j : Job) (a : Answer) → jobs.FitsFrom [] layout view j → jobs.answer j ≡ Some a → jobs.who j ≡ who → HasAccount view who j → failures who view ≡ failed_now j
-failed-end layout view who j a fits has own account = subst (λ (w : Who). failures w view ≡ failed_now j) own (failures-at-end layout view j fits has (λ fails. subst (λ (w : Who). failures w view ≡ failed_now j) (sym own) (account.failed fails)))
+-- of which memory can't fail, a command had made no entry before its own task
+pub prior-none : (j : Job) {base : List Made} → ArePrior j base → can_fail j ≡ false → base ≡ []
+prior-none (kinds.Instruction i) prior cannot = absurd (true≢false cannot)
+prior-none (kinds.Evict e) prior cannot = prior
+prior-none (kinds.Fsync f) prior cannot = prior
+prior-none (kinds.Prctl p) prior cannot = prior
+prior-none (kinds.Log l) prior cannot = prior
+prior-none (kinds.Raise r) prior cannot = prior
+prior-none (kinds.Scrub s) prior cannot = prior
+prior-none (kinds.Spoil s) prior cannot = prior
+prior-none (kinds.Nested n) prior cannot = prior
+prior-none (kinds.Inject i) prior cannot = prior
+prior-none (kinds.Soft s) prior cannot = prior
+prior-none (kinds.Unpoison u) prior cannot = prior
 
--- a command that is answered owes no loss: one that may make some owes none by then, and the others make none
-no-loss : (layout : Layout) (view : View) (who : Who) (j : Job) (a : Answer) → jobs.FitsFrom [] layout view j → jobs.answer j ≡ Some a → jobs.who j ≡ who → HasAccount view who j → length view.owed.losses ≡ 0
-no-loss layout view who j a fits has own account = elim (paid-at-end [] layout view j fits has) [
-  | inl paid ↦ ap length paid
-  | inr none ↦ let made : losses_by who view ≡ 0 = unfailed-lossless view who (failed-end layout view who j a fits has own account ∙ none) in let owes : length view.owed.losses ≤ losses_by who view = account.losses in omega (arith, owes, made)
-]
+-- when a command is answered its failures are those that it knows of
+module _ (base : List Made) (layout : Layout) (view : View) (who : Who) (j : Job) (a : Answer) (fits : jobs.FitsFrom base layout view j) (prior : ArePrior j base) (has : jobs.answer j ≡ Some a) (own : jobs.who j ≡ who)
+    (failed : can_fail j ≡ true → failures who view ≡ failed_now j) (owes : OwesOwn who view) where
+  pub failed-end : failures who view ≡ failed_now j
+  failed-end = subst (λ (w : Who). failures w view ≡ failed_now j) own (failures-at-end layout view j fits (prior-none j prior) has (λ fails. subst (λ (w : Who). failures w view ≡ failed_now j) (sym own) (failed fails)))
+
+  -- it owes no loss: a command that may make some owes none by then, and the others make none
+  pub no-loss : view.owed.losses ≡ []
+  no-loss = elim (paid-at-end base layout view j fits has) [
+    | inl paid ↦ paid
+    | inr none ↦ nil_from_length view.owed.losses (let made : losses_by who view ≡ 0 = unfailed-lossless view who (failed-end ∙ none) in let owed : length view.owed.losses ≤ losses_by who view = owes in omega (arith, owed, made))
+  ]
 
 -- nothing is owed
-pub owes-nothing : (layout : Layout) (view : View) (who : Who) (j : Job) (a : Answer) → jobs.FitsFrom [] layout view j → jobs.answer j ≡ Some a → jobs.who j ≡ who → HasAccount view who j → view.owed ≡ no_debts
-owes-nothing layout view who j a fits has own account =
-    let none : counts_owed view ≡ 0 = account.counted ∙ unowed-at-end j has in
-    λ t. record { counts = counts none t; hardware = hardware none t; uncounts = uncounts none t; losses = nil_from_length view.owed.losses (no-loss layout view who j a fits has own account) t }
+pub owes-nothing : (view : View) → counts_owed view ≡ 0 → view.owed.losses ≡ [] → view.owed ≡ no_debts
+owes-nothing view none paid = λ t. record { counts = counts none t; hardware = hardware none t; uncounts = uncounts none t; losses = paid t }
   where
     counts : view.owed.counts + view.owed.hardware + view.owed.uncounts ≡ 0 → view.owed.counts ≡ 0
     counts none = omega (arith, none)
@@ -273,22 +342,29 @@ owes-nothing layout view who j a fits has own account =
 
 -- ---- when a command begins
 
-pub account-starts : (view : View) (cpu : Cpu) (n : ℕ) (j : Job) → IsListed view cpu n → HasMadeNone view (at_number cpu n) → view.owed ≡ no_debts → IsAtStop j → HasAccount view (at_number cpu n) j
-account-starts view cpu n j listed made owed start = record {
-  marked = none-listed (λ (m : Mark). m.stamp.who) marking_of (is_same (at_number cpu n)) view.marks (λ i m at. later-one cpu n m.stamp.who (listed.marked i m at)) ∙ sym (unmarked-at-start j start);
-  failed = λ fails. ap (filter_map abandoned.failed_in) made ∙ sym (unfailed-at-start j start);
-  set = none-listed (λ (x : Setting). x.stamp.who) (λ (x : Setting). (x.thread, x.policy)) (is_same (at_number cpu n)) view.settings (λ i x at. later-one cpu n x.stamp.who (listed.set i x at)) ∙ sym (unset-policies-at-start j start);
-  counted = ap (λ d. d.counts + d.hardware + d.uncounts) owed ∙ sym (unowed-at-start j start);
+-- one of which nothing is marked yet
+starts-marks : (c : Course) (watching : Option Watching) (frames : ℕ) → c ≡ begin c.own watching frames → IsAtStop c.own → marked_so_far c ≡ []
+starts-marks c watching frames is start = ap marked_so_far is ∙ ap (λ (l : List EventOutcome). filter_map act_marking (acts l []) ++ (marked_beyond c.own ++ [])) (untold-at-start c.own start) ∙ append-nil (marked_beyond c.own) ∙ beyond
+  where
+    beyond : marked_beyond c.own ≡ []
+    beyond = ap (λ (l : List EventOutcome). filter_map marked_in l ++ marked_beyond c.own) (sym (untold-at-start c.own start)) ∙ sym (marked-parts c.own) ∙ unmarked-at-start c.own start
+
+pub account-starts : (view : View) (cpu : Cpu) (n : ℕ) (c : Course) (watching : Option Watching) (frames : ℕ) → c ≡ begin c.own watching frames → IsListed view cpu n → HasMadeNone view (at_number cpu n) → view.owed ≡ no_debts → IsAtStop c.own → HasAccount view (at_number cpu n) c
+account-starts view cpu n c watching frames is listed made owed start = record {
+  marked = none-listed (λ (m : Mark). m.stamp.who) marking_of (is_same (at_number cpu n)) view.marks (λ i m at. later-one cpu n m.stamp.who (listed.marked i m at)) ∙ sym (starts-marks c watching frames is start);
+  failed = λ fails. ap (filter_map abandoned.failed_in) made ∙ sym (unfailed-at-start c.own start);
+  set = none-listed (λ (x : Setting). x.stamp.who) (λ (x : Setting). (x.thread, x.policy)) (is_same (at_number cpu n)) view.settings (λ i x at. later-one cpu n x.stamp.who (listed.set i x at)) ∙ sym (unset-policies-at-start c.own start);
+  counted = subst (λ (o : Option Soft). HasCounted (part_of o c.own) view) (sym (ap (λ (d : Course). d.beside) is)) (ap (λ d. d.counts + d.hardware + d.uncounts) owed ∙ sym (unowed-at-start c.own start));
   losses = let none : length view.owed.losses ≡ 0 = ap (λ d. length d.losses) owed in omega (arith, none);
 }
 
-pub noted-starts : (view : View) (cpu : Cpu) (rows : List Row) (j : Job) → IsListed view cpu (length rows) → IsAtStop j → Pairs IsNote (notes_from cpu 0 rows) view.marks → AreNoted view cpu rows j
-noted-starts view cpu rows j listed start noted = record {
+pub noted-starts : (view : View) (cpu : Cpu) (rows : List Row) (c : Course) (watching : Option Watching) (frames : ℕ) → c ≡ begin c.own watching frames → IsListed view cpu (length rows) → IsAtStop c.own → Pairs IsNote (notes_from cpu 0 rows) view.marks → AreNoted view cpu rows c
+noted-starts view cpu rows c watching frames is listed start noted = record {
   earlier = view.marks;
   last = [];
   all = sym (append-nil view.marks);
   noted = noted;
   before = listed.marked;
   own = λ i m at. absurd (none-some m at);
-  marked = sym (unmarked-at-start j start);
+  marked = sym (starts-marks c watching frames is start);
 }

@@ -1,5 +1,5 @@
 -- What a processor keeps while it runs its commands.
-use Rattle.std.specs.Prelude.{◌≡◌, ℕ, ◌+◌, ◌<◌, ◌≤◌, ◌⊎◌, true, List, [], ◌++◌, Option, Some, None, IsSome, length, list_any, map, filter_map, option_map, slice_get, take}
+use Rattle.std.specs.Prelude.{◌≡◌, ℕ, ◌+◌, ◌<◌, ◌≤◌, ◌⊎◌, ◌≢◌, true, List, [], ◌++◌, Option, Some, None, IsSome, length, list_any, drop, map, filter_map, option_map, slice_get, take}
 use Rattle.std.specs.Arc.{arc_value}
 use Rattle.hwp_cpu_course.specs.hwp_cpu_row.hwp_geom.declared.Cpu.{Cpu}
 use Rattle.hwp_cpu_course.specs.hwp_cpu_row.hwp_geom.declared.FileNo.{FileNo}
@@ -27,10 +27,11 @@ use Rattle.hwp_cpu_course.specs.hwp_cpu_row.declared.Row.{Row}
 use Rattle.hwp_cpu_course.specs.hwp_cpu_row.hwp_banks.Banks.{Banks, empty_banks}
 use Rattle.hwp_cpu_course.specs.hwp_cpu_row.hwp_law_commands.Settings.{settings}
 use Rattle.hwp_cpu_course.specs.hwp_cpu_row.declared.Offlining.{Offlining}
-use Rattle.hwp_cpu_course.specs.hwp_cpu_row.Acts.{acts, told_notes}
+use Rattle.hwp_cpu_course.specs.hwp_cpu_row.Acts.{AreInTime, acts, event_at, told_notes}
 use Rattle.hwp_cpu_course.specs.hwp_cpu_row.Locals.{IsWatching}
 use Rattle.hwp_cpu_course.specs.hwp_cpu_row.hwp_cec.Ages.{Note}
 use Rattle.hwp_cpu_course.specs.hwp_cpu_row.hwp_law_commands.Commands.{is_watch}
+use Rattle.hwp_cpu_course.specs.hwp_cpu_row.hwp_law_commands.Notes.{AreApart}
 use Rattle.hwp_cpu_course.specs.hwp_cpu_row.hwp_law_commands.Watched.{Watched, due, told}
 use Rattle.hwp_cpu_course.specs.hwp_cpu_command.hwp_cpu_access.declared.Instruction.{Instruction}
 use Rattle.hwp_cpu_course.specs.hwp_cpu_command.hwp_cpu_access.declared.instruction.Pause.{Pause}
@@ -42,9 +43,9 @@ use Rattle.hwp_cpu_course.specs.hwp_cpu_command.hwp_soft.Offline as offline
 use Rattle.hwp_cpu_course.specs.hwp_cpu_command.declared.job.Job.{Job}
 use Rattle.hwp_cpu_course.specs.hwp_cpu_command.declared.job.Job.TheVariants as kinds
 use Rattle.hwp_cpu_course.specs.hwp_cpu_command.Done.{HasCounted, can_fail, failed_now, marked_beyond}
-use Rattle.hwp_cpu_course.specs.hwp_cpu_command.FileHandles.{HasHandle, handles_after}
+use Rattle.hwp_cpu_course.specs.hwp_cpu_command.FileHandles.{HasHandle}
 use Rattle.hwp_cpu_course.specs.hwp_cpu_command.Jobs as jobs
-use Rattle.hwp_cpu_course.specs.hwp_cpu_command.Jobs.{banks_after, banks_before, told_of}
+use Rattle.hwp_cpu_course.specs.hwp_cpu_command.Jobs.{banks_before, told_of}
 use Rattle.hwp_cpu_course.specs.hwp_cpu_command.Runs.{Runs}
 use Rattle.hwp_cpu_course.specs.hwp_cpu_command.Settings.{AreCounted, policies_in, policies_now}
 use Rattle.hwp_cpu_course.specs.hwp_cpu_command.Stays as stays
@@ -52,7 +53,7 @@ use Rattle.hwp_cpu_course.specs.hwp_cpu_command.Stays.{EndsAtOnce, HasGivenUp, H
 use Rattle.hwp_cpu_course.specs.declared.Course.{Course}
 use Rattle.hwp_cpu_course.specs.Courses as courses
 use Rattle.hwp_cpu_course.specs.Courses.{part}
-use Rattle.hwp_cpu_causes.specs.Own.{IsBase, OwnServed}
+use Rattle.hwp_cpu_causes.specs.Beside.{ArePrior, CanCollect, DoesSo, IsOwnServed}
 use Rattle.hwp_cpu_causes.specs.hwp_law_served.Accounts.{IsNote, act_marking, failures, markings, policies_set}
 use Rattle.hwp_cpu_causes.specs.hwp_law_served.Handles.{KnowsNumbers, answers_by, number_at}
 use Rattle.hwp_cpu_causes.specs.hwp_law_served.Offlinings.{IsOffliningServed, KnowsDue, left_among, left_beside, watched_at}
@@ -143,16 +144,23 @@ pub record KeepsWatch (layout : Layout) (view : View) (who : Who) (list : List C
   pub due : c.due.frames ≡ due watched (noted_by layout c)
   pub frames : map (λ (o : Offlining). o.frame) c.due.offlined ≡ take (length c.due.offlined) c.due.frames
   pub offlined : EachMember (IsOffliningServed layout view who) c.due.offlined
-  pub behind : EachMember (λ (o : Offlining). o.told ≤ length (told_of c.own)) c.due.offlined
+  pub behind : AreInTime 0 (length (told_of c.own)) c.due.offlined
+
+-- the events that an access told of since the collector got some last are of other machine checks; of another task it gets none while
+-- that goes on
+abbrev pub TellsApart : Job → ℕ → Type 0
+TellsApart (kinds.Instruction i) noted = AreApart (map (event_at 0) (take noted i.lines.told)) (map (event_at 0) (drop noted i.lines.told))
+TellsApart j noted = noted ≡ 0
 
 -- its own task goes on, behind entries that may stand before its answer: those of frames that were taken out of use are those that the
 -- course tells, and no frame is left to be taken out of use
 pub record OwnGoesOn (layout : Layout) (view : View) (c : Course) : Type 0 where
   pub base : List Made
   pub fits : jobs.FitsFrom base layout view c.own
-  pub before : IsBase base c.own
+  pub before : ArePrior c.own base
   pub left : left_among base ≡ left_beside c.due.offlined
   pub all : length c.due.offlined ≡ length c.due.frames
+  pub apart : TellsApart c.own c.noted
 
 -- its own task pauses behind a machine check, and all entries so far may stand before its answer
 pub record IsPaused (layout : Layout) (view : View) (base : List Made) (j : Job) : Type 0 where
@@ -161,14 +169,16 @@ pub record IsPaused (layout : Layout) (view : View) (base : List Made) (j : Job)
   pub pause : Pause
   pub paused : instructions.pause instruction ≡ Some pause
   pub rests : IsResting layout view instruction pause
-  pub before : IsBase base j
+  pub before : ArePrior j base
 
--- its own task has its answer, and that has its cause
+-- its own task has its answer, and that has its cause; frames may be due behind it
 pub record HasAnswered (layout : Layout) (view : View) (cpu : Cpu) (list : List Command) (rows : List Row) (local : Local) (command : Command) (j : Job) : Type 0 where
   pub answer : Answer
   pub answered : jobs.answer j ≡ Some answer
-  pub served : OwnServed layout (answers_by list rows) view (at_number cpu (length rows)) command (banks_before j local.banks) j answer (banks_after j local.banks)
-  pub numbers : (file : FileNo) → file.0 < layout.files → IsNumbered layout view (at_number cpu (length rows)) command answer file (number_at file list rows (length rows)) (handles_after j local.handles)
+  pub collects : CanCollect command
+  pub some : told_of j ≢ []
+  pub served : IsOwnServed layout (answers_by list rows) view (at_number cpu (length rows)) command j answer local.banks
+  pub does : DoesSo command j answer
 
 abbrev pub Rests : Layout → View → Cpu → List Command → List Row → Local → Command → List Made → Job → Type 0
 Rests layout view cpu list rows local command base j = IsPaused layout view base j ⊎ HasAnswered layout view cpu list rows local command j

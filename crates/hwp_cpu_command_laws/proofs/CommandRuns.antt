@@ -310,7 +310,7 @@ runs-who layout by command j runs = sym (anew-who j) ∙ (has-begun layout by co
 module _ {layout : Layout} {view : View} {who : Who} (rest : AtRest view who) {j : Job} where
   access-fits : {thread : Thread} {slot : VSlot} {line : ℕ} {kind : AccessKind} {origin : Origin} {mode : Mode} {banks : Banks} {collects : Bool} → IsOfAccess origin → BeginsAccess layout who thread slot line kind origin mode banks collects j → FitsFrom [] layout view j
   access-fits {thread} {slot} {line} {kind} {origin} {mode} {banks} {collects} of begun = subst (FitsFrom [] layout view) (sym begun.job_is)
-      (instructing.begins layout view (instructions.begin begun.alloc (request_of who thread slot line kind begun.page begun.process) origin mode banks collects) refl rest.on_turn begun.sound begun.names of begun.three rest.hand_is rest.paid rest.made)
+      (instructing.begins layout view (instructions.begin begun.alloc (request_of who thread slot line kind begun.page begun.process) origin mode banks collects) refl rest.on_turn begun.sound begun.names of begun.three rest.hand_is rest.paid rest.made refl)
 
   eviction-fits : {page : Page} {what : Eviction} → BeginsEviction layout who page what j → FitsFrom [] layout view j
   eviction-fits begun = subst (FitsFrom [] layout view) (sym begun.job_is) (record { on_turn = rest.on_turn; page = begun.within; kind = begun.kind; at = (rest.hand_is, rest.made) })

@@ -7,4 +7,5 @@ pub mod CommandDeeds
 pub mod Below
 pub mod HandleKeeps
 pub mod Beside
+pub mod ToldGrows
 pub use Rattle.hwp_cpu_command.proofs as of_hwp_cpu_command

@@ -1,6 +1,6 @@
 -- What a command did beside its answer, in the order of time: the events that its machine checks told of, and the frames that were taken
 -- out of use beside it.
-use Rattle.std.specs.Prelude.{ℕ, ◌+◌, ◌==◌, List, [], ◌∷◌, map, if◌then◌else◌}
+use Rattle.std.specs.Prelude.{ℕ, ◌+◌, ◌==◌, ◌≤◌, List, [], ◌∷◌, map, if◌then◌else◌}
 use Rattle.hwp_cpu_check.specs.hwp_geom.declared.Frame.{Frame}
 use Rattle.hwp_cpu_check.specs.hwp_geom.declared.Layout.{Layout}
 use Rattle.hwp_cpu_check.specs.hwp_report_text.declared.EventLine.{EventLine}
@@ -20,6 +20,11 @@ acts_from n (t ∷ ts) (o ∷ os) = if o.told == n then Offlined o ∷ acts_from
 
 abbrev pub acts : List EventOutcome → List Offlining → List Act
 acts told offlined = acts_from 0 told offlined
+
+-- the frames stand in the order of time, behind as many events as this and no more than that
+abbrev pub AreInTime : ℕ → ℕ → List Offlining → Type 0
+AreInTime low high [] = low ≤ high
+AreInTime low high (o ∷ os) = (low ≤ o.told) × AreInTime o.told high os
 
 -- the line of an event that a command with this number told of
 abbrev pub event_at : ℕ → EventOutcome → EventLine
