@@ -1,5 +1,5 @@
 -- Where no frame was available, the script isn't ample: the frames that have marks are among those that it names.
-use Rattle.std.proofs.Common.{◌≡◌, ℕ, zero, suc, ◌+◌, ◌*◌, ◌<◌, ◌≤◌, ◌==◌, ◌||◌, min, not, Bool, true, false, cond, List, [], ◌∷◌, Option, None, Some, length, map, option_map, slice_get, slice_index_or, refl, sym, ap, ◌∙◌, subst, arith, true≢false}
+use Rattle.std.proofs.Common.{◌≡◌, inl, inr, ℕ, zero, suc, ◌+◌, ◌*◌, ◌<◌, ◌≤◌, ◌==◌, ◌||◌, min, not, Bool, true, false, cond, List, [], ◌∷◌, Option, None, Some, is_some, length, map, option_map, slice_get, slice_index_or, refl, sym, ap, ◌∙◌, subst, arith, true≢false}
 use Rattle.std.specs.List.{cons_option, filter_map, list_any, sum_by}
 use Rattle.std.specs.Int.{from_bool}
 use Rattle.std.proofs.lemmas.Bool.{eqb-true, ltb-true}
@@ -16,28 +16,38 @@ use Rattle.hwp_law_records.specs.hwp_core_rule.Words.{sum_below, words_of}
 use Rattle.hwp_law_records.specs.hwp_core_rule.parts.Counter.{is_poisoning}
 use Rattle.hwp_law_records.specs.hwp_core_rule.parts.Exhaustion.{is_marked, usable}
 use Rattle.hwp_law_records.proofs.of_hwp_core_rule.CountsBelow.{some-term}
-use Rattle.hwp_law_records.proofs.of_hwp_core_rule.Lists.{at_map, map-was}
+use Rattle.hwp_law_records.proofs.of_hwp_core_rule.Lists.{at_map, each-map, map-was}
 use Rattle.hwp_law_records.specs.hwp_core_task.Boards.{view_of}
 use Rattle.hwp_law_records.specs.hwp_core_task.Known.{Saw}
 use Rattle.hwp_law_records.specs.hwp_script_read.declared.Command.{Command}
 use Rattle.hwp_law_records.specs.hwp_script_read.declared.Command.TheVariants as commands
 use Rattle.hwp_law_records.specs.hwp_script_read.declared.Script.{Script}
+use Rattle.hwp_law_records.specs.hwp_banks.Addresses.{frame_at}
+use Rattle.hwp_law_records.specs.hwp_report_text.declared.EventLine.{EventLine}
+use Rattle.hwp_law_records.specs.hwp_report_text.declared.OfflineResult.{OfflineResult}
+use Rattle.hwp_law_records.specs.hwp_report_text.declared.OfflineResult.TheVariants as results
 use Rattle.hwp_law_records.specs.hwp_report_text.declared.Report.{Report}
 use Rattle.hwp_law_records.specs.hwp_law.Answers.{is_ample, named_frames, usable_from}
 use Rattle.hwp_law_records.proofs.of_hwp_law_run.Homes.{there-is}
 use Rattle.hwp_law_records.proofs.of_hwp_core_rule.MoreEntries.{each-append}
 use Rattle.hwp_law_records.specs.hwp_claim_frame.Done.{Marking, marking_of, poisoning}
-use Rattle.hwp_law_records.specs.hwp_law_commands.Commands.{command_at}
+use Rattle.hwp_law_records.specs.hwp_law_commands.Commands.{command_at, has_watch}
+use Rattle.hwp_law_records.specs.hwp_law_commands.Watched.{due}
 use Rattle.hwp_law_records.specs.hwp_claim.declared.Found.{Found}
 use Rattle.hwp_law_records.specs.hwp_cpu_row.declared.FrameChange.{FrameChange}
 use Rattle.hwp_law_records.specs.hwp_cpu_row.declared.FrameChange.TheVariants as owns
+use Rattle.hwp_law_records.specs.hwp_cpu_row.declared.Offlining.{Offlining}
 use Rattle.hwp_law_records.specs.hwp_cpu_row.declared.Row.{Row}
+use Rattle.hwp_law_records.specs.hwp_cpu_row.Acts.{Act, acts, event_at, told_notes}
 use Rattle.hwp_law_records.specs.hwp_cpu_check.declared.EventOutcome.{EventOutcome}
-use Rattle.hwp_law_records.specs.hwp_cpu_check.Done.{marked_in}
 use Rattle.hwp_law_records.specs.hwp_cpu_check.Told.{frame_of}
-use Rattle.hwp_law_records.specs.hwp_law_served.Accounts.{IsOwn, is_same, marking_by, markings, markings_in, own_marking}
-use Rattle.hwp_law_records.proofs.of_hwp_law_served.RunEnds.{IsEnd, command-of, filter-has, list-of, own-view, rows-of, served-of}
-use Rattle.hwp_law_holds.proofs.lines.NamedEvents.{AreSuch, IsNamed, events-named, named-at}
+use Rattle.hwp_law_records.specs.hwp_law_served.Accounts.{IsOwn, act_marking, is_same, marking_by, markings, markings_in, own_marking}
+use Rattle.hwp_law_records.specs.hwp_law_served.Offlinings.{IsOfflineServed, watched_at}
+use Rattle.hwp_law_records.specs.hwp_law_served.Served.{IsOffliningServed}
+use Rattle.hwp_law_records.proofs.of_hwp_law_served.Acts.{IsOneOf, act-of}
+use Rattle.hwp_law_records.proofs.of_hwp_law_served.RunEnds.{IsEnd, IsOf, command-of, filter-has, list-of, own-view, rows-of, served-of}
+use Rattle.hwp_law_holds.proofs.lines.NamedEvents.{AreSuch, IsNamed, due-such, events-named, named-at, notes-such, or-true}
+use Rattle.hwp_law_records.proofs.of_hwp_law_served.lines.Offlines.{can-offline}
 use Rattle.hwp_law_records.proofs.of_hwp_law_served.Picked.{picked-is}
 use Rattle.hwp_law_records.proofs.of_hwp_law_served.deeds.Made.{command-is}
 use Rattle.hwp_law_records.proofs.marks.RowNotes.{each-cons}
@@ -78,19 +88,42 @@ module _ (script : Script) (seat : Cpu → ℕ) (last : State) (report : Report)
   abbrev Such : Marking → Type 0
   Such k = is_poisoning k.kind ≡ true → list_any (λ n. n == k.frame.0) (named_frames script) ≡ true
 
-  -- the frame of a failure by an event is named, and that of what a command did to a frame itself
-  picked-named : (row : Row) → AreSuch (IsNamed script seat last report end) row.told → (command : Command) (who : Who) → command_at script who ≡ Some command → IsOwn command row.answer row.own
-      → EachMember Such (markings_in row)
-  picked-named row told command who at own = each-append Such (filter_map marked_in row.told) (cons_option (own_marking row.own) []) by-told (by-own row.own command at own)
+  -- a frame that was taken out of use beside a command is named: an event of the command noted it, in a script with a `watch`
+  offlined-named : (who : Who) (of : IsOf script end.rows (view_of last (seat who.cpu)) who) → AreSuch (IsNamed script seat last report end) (has_watch script) of.row.told
+      → EachMember (λ (o : Offlining). list_any (λ n. n == o.frame.0) (named_frames script) ≡ true) of.row.offlined
+  offlined-named who of told i o there =
+      let view : View = view_of last (seat who.cpu) in
+      let watches : has_watch script ≡ true = (can-offline script seat last report end view who of (λ none. none-some o (sym (ap (λ (l : List Offlining). slice_get l i) none) ∙ there))).0 in
+      let lines : EachMember (λ (l : EventLine). IsFrameNamed (frame_at l.addr)) (map (event_at 0) of.row.told) = each-map (event_at 0) (λ (l : EventLine). IsFrameNamed (frame_at l.addr)) of.row.told
+      (λ k t at. told k t at (ap (λ (b : Bool). is_some t.found || b) watches ∙ or-true (is_some t.found))) in
+      let noted : EachMember (λ (f : Frame). IsFrameNamed f.0) (told_notes script.layout of.row.told) = notes-such IsFrameNamed script.layout (map (event_at 0) of.row.told) lines in
+      let are : EachMember (λ (f : Frame). IsFrameNamed f.0) (map (λ (x : Offlining). x.frame) of.row.offlined)
+      = subst (EachMember (λ (f : Frame). IsFrameNamed f.0)) (sym (due-here of)) (due-such (λ (f : Frame). IsFrameNamed f.0) (watched_at script.layout of.list of.own who.seq) (told_notes script.layout of.row.told) noted) in
+      are i o.frame (at_map (λ (x : Offlining). x.frame) of.row.offlined i o there)
     where
-      by-told : EachMember Such (filter_map marked_in row.told)
-      by-told k x there = (
-          let of = picked-is marked_in row.told k x there in
-          which of.1 of.1.found of.3 (told of.0 of.1 of.2))
-        where
-          which : (t : EventOutcome) (o : Option Found) → option_map (λ (found : Found). poisoning (frame_of t.held) true found.cycle) o ≡ Some x → ((found : Found) → o ≡ Some found → IsNamed script seat last report end t.held.event.addr) → Such x
-          which t None is named = absurd (none-some x is)
-          which t (Some found) is named = subst Such (same_Some (poisoning (frame_of t.held) true found.cycle) x is) (λ poisons. named found refl)
+      IsFrameNamed : ℕ → Type 0
+      IsFrameNamed f = list_any (λ n. n == f) (named_frames script) ≡ true
+
+      due-here : (of : IsOf script end.rows (view_of last (seat who.cpu)) who) → map (λ (x : Offlining). x.frame) of.row.offlined ≡ due (watched_at script.layout of.list of.own who.seq) (told_notes script.layout of.row.told)
+      due-here of = (served-of script seat last report end who.cpu of.list of.own of.list_is of.own_is).0.due who.seq of.row of.row_is
+
+  -- the frame of a failure by an event is named, that of what a command did to a frame itself, and one that was taken out of use beside it
+  picked-named : (row : Row) → AreSuch (IsNamed script seat last report end) (has_watch script) row.told → EachMember (λ (o : Offlining). list_any (λ n. n == o.frame.0) (named_frames script) ≡ true) row.offlined
+      → EachMember (λ (o : Offlining). (x : Marking) → own_marking o.change ≡ Some x → x.frame ≡ o.frame) row.offlined → (command : Command) (who : Who) → command_at script who ≡ Some command → IsOwn command row.answer row.own
+      → EachMember Such (markings_in row)
+  picked-named row told offlined frames command who at own = each-append Such (filter_map act_marking (acts row.told row.offlined)) (cons_option (own_marking row.own) []) by-acts (by-own row.own command at own)
+    where
+      of-told : (t : EventOutcome) (x : Marking) (o : Option Found) → t.found ≡ o → option_map (λ (found : Found). poisoning (frame_of t.held) true found.cycle) o ≡ Some x → ((is_some t.found || has_watch script) ≡ true → IsNamed script seat last report end t.held.event.addr) → Such x
+      of-told t x None none is named = absurd (none-some x is)
+      of-told t x (Some found) some is named = subst Such (same_Some (poisoning (frame_of t.held) true found.cycle) x is) (λ poisons. named (ap (λ (o : Option Found). is_some o || has_watch script) some))
+
+      of-act : (a : Act) (x : Marking) → act_marking a ≡ Some x → IsOneOf row.told row.offlined a → Such x
+      of-act a x gives (inl is) = of-told is.t x is.t.found refl (ap act_marking is.same ∙ gives) (told is.j is.t is.there)
+      of-act a x gives (inr is) = λ poisons.
+          subst (λ (f : Frame). list_any (λ n. n == f.0) (named_frames script) ≡ true) (sym (frames is.j is.o is.there x (ap act_marking is.same ∙ gives))) (offlined is.j is.o is.there)
+
+      by-acts : EachMember Such (filter_map act_marking (acts row.told row.offlined))
+      by-acts k x there = let of = picked-is act_marking (acts row.told row.offlined) k x there in of-act of.1 x of.3 (act-of row.told row.offlined of.0 of.1 of.2)
 
       by-own : (o : Option FrameChange) (c : Command) → command_at script who ≡ Some c → IsOwn c row.answer o → EachMember Such (cons_option (own_marking o) [])
       by-own None c at own = λ i x there. absurd (none-some x there)
@@ -98,6 +131,24 @@ module _ (script : Script) (seat : Cpu → ℕ) (last : State) (report : Report)
       by-own (Some (owns.Offlined frame cycle moved)) (commands.Soft f) at own = each-cons Such (poisoning frame false cycle) [] (λ poisons. named-at script who (commands.Soft f) frame.0 at (ap (λ (y : Frame). Some y.0) (sym own.0))) (λ i y there. absurd (none-some y there))
       by-own (Some (owns.Revived frame cycle)) (commands.Unpoison f) at own = each-cons Such (marking_by (owns.Revived frame cycle)) [] (λ poisons. absurd (true≢false (sym poisons))) (λ i y there. absurd (none-some y there))
       by-own (Some x) c at own = absurd own
+
+  -- what was done to a frame that was taken out of use was done to that frame
+  frames-of : (who : Who) (offlined : List Offlining) → EachMember (IsOffliningServed script.layout (view_of last (seat who.cpu)) who) offlined → EachMember (λ (o : Offlining). (x : Marking) → own_marking o.change ≡ Some x → x.frame ≡ o.frame) offlined
+  frames-of who offlined served i o there x is = frame-is o.change o.result (served i o there).came is
+    where
+      none-so : (change : Option FrameChange) → change ≡ None → own_marking change ≡ Some x → x.frame ≡ o.frame
+      none-so change none is = absurd (none-some x (sym (ap own_marking none) ∙ is))
+
+      some-is : (change : Option FrameChange) (cycle : ℕ) (moved : Bool) → change ≡ Some (owns.Offlined o.frame cycle moved) → own_marking change ≡ Some x → x.frame ≡ o.frame
+      some-is change cycle moved some is = ap (λ (k : Marking). k.frame) (sym (same_Some (poisoning o.frame false cycle) x (sym (ap own_marking some) ∙ is)))
+
+      frame-is : (change : Option FrameChange) (result : OfflineResult) → IsOfflineServed script.layout (view_of last (seat who.cpu)) who o.frame change result → own_marking change ≡ Some x → x.frame ≡ o.frame
+      frame-is change (results.Moved other at) (users, (cycle, some), free) is = some-is change cycle true some is
+      frame-is change results.TakenFree (users, (cycle, some)) is = some-is change cycle false some is
+      frame-is change results.Already (users, saw, none) is = none-so change none is
+      frame-is change (results.HasBad mask) (users, lines, none) is = none-so change none is
+      frame-is change results.NoFrame (users, saw, none) is = none-so change none is
+      frame-is change results.Stopped (saw, none) is = none-so change none is
 
   -- a poisoned frame is named
   mark-named : (i j : ℕ) (v : View) (m : Mark) → slice_get last.views i ≡ Some v → slice_get v.marks j ≡ Some m → is_poisoning m.kind ≡ true → list_any (λ n. n == m.frame.0) (named_frames script) ≡ true
@@ -114,7 +165,7 @@ module _ (script : Script) (seat : Cpu → ℕ) (last : State) (report : Report)
       let told = events-named script seat last report end who.cpu of.list of.own own.0 of.list_is of.own_is who.seq of.row of.row_is in
       let found = filter-has (λ (k : Mark). is_same who k.stamp.who) (view_of last (seat who.cpu)).marks j m mine (same-self who who refl) in
       let among : slice_get (markings who (view_of last (seat who.cpu))) found.0 ≡ Some (marking_of m) = at_map marking_of _ found.0 m found.1 in
-      picked-named of.row told of.command who (command-is script who of.list of.command of.list_is of.command_is) of.served.accounted.own found.0 (marking_of m) (sym (ap (λ (l : List Marking). slice_get l found.0) of.served.accounted.marked) ∙ among) poisons
+      picked-named of.row told (offlined-named who of told) (frames-of who of.row.offlined of.served.offlined) of.command who (command-is script who of.list of.command of.list_is of.command_is) of.served.accounted.own found.0 (marking_of m) (sym (ap (λ (l : List Marking). slice_get l found.0) of.served.accounted.marked) ∙ among) poisons
 
   -- a frame without a name has no mark
   unmarked : (f : ℕ) → list_any (λ n. n == f) (named_frames script) ≡ false → sum_all (λ (m : Mark). from_bool (m.frame.0 == f)) all_marks ≡ 0

@@ -1,7 +1,7 @@
 -- Each command has its answer, in order, and the report shows its cause.
 use Rattle.std.proofs.Common.{◌≡◌, ◌≢◌, ◌⊎◌, inl, inr, ℕ, ◌<◌, Bool, true, false, bit_and, List, Option, Some, length, slice_get, option_and_then, option_map, take, unwrap_or, refl, sym, ap, ◌∙◌, subst}
 use Rattle.std.proofs.lemmas.List.{length-map}
-use Rattle.std.proofs.lemmas.Option.{get_or_from_slice_get, slice_get_within}
+use Rattle.std.proofs.lemmas.Option.{get_or_from_slice_get, none-some, same_Some, slice_get_within}
 use Rattle.hwp_law_records.specs.hwp_geom.declared.Cpu.{Cpu}
 use Rattle.hwp_law_records.specs.hwp_geom.declared.Frame.{Frame}
 use Rattle.hwp_law_records.specs.hwp_geom.declared.Mask.{Mask}
@@ -35,12 +35,15 @@ use Rattle.hwp_law_records.specs.hwp_report_text.declared.Answer.TheVariants as 
 use Rattle.hwp_law_records.specs.hwp_report_text.declared.EventLine.{EventLine}
 use Rattle.hwp_law_records.specs.hwp_report_text.declared.FrameLine.{FrameLine}
 use Rattle.hwp_law_records.specs.hwp_report_text.declared.MarkLine.{MarkLine}
+use Rattle.hwp_law_records.specs.hwp_report_text.declared.OfflineResult.{OfflineResult}
+use Rattle.hwp_law_records.specs.hwp_report_text.declared.OfflineResult.TheVariants as results
 use Rattle.hwp_law_records.specs.hwp_report_text.declared.Report.{Report}
 use Rattle.hwp_law_records.specs.hwp_law_commands.Outcomes.{reply_answer}
 use Rattle.hwp_law_records.specs.hwp_law.Answers.{StandsAt}
 use Rattle.hwp_law_records.specs.hwp_law.Causes.{AreBadLines, ComesTo, HadBadLines, HasMark, IsCaused as IsLawCaused, IsFailureAnswer, IsOfflineAnswer, IsOutAnswer, IsSigbus, IsUnpoisonAnswer, SendsSigbus, TakesBack}
 use Rattle.hwp_law_records.specs.hwp_law_commands.Commands.{command_at, current_thread}
 use Rattle.hwp_law_records.specs.hwp_law.Lines.{bad_lines_of, events_of}
+use Rattle.hwp_law_records.specs.hwp_law.Offlined.{IsOffline}
 use Rattle.hwp_law_records.specs.hwp_law.Places.{entry_at}
 use Rattle.hwp_law_records.specs.hwp_law_commands.Settings.{arguments, last_policy, settings}
 use Rattle.hwp_law_records.specs.hwp_law.Policies.{answered_before, policy_before}
@@ -54,10 +57,12 @@ use Rattle.hwp_law_records.specs.hwp_cpu_row.declared.Row.{Row}
 use Rattle.hwp_law_records.specs.hwp_cpu_check.declared.EventOutcome.{EventOutcome}
 use Rattle.hwp_law_records.specs.hwp_cpu_check.Told.{first_signal}
 use Rattle.hwp_law_records.specs.hwp_law_served.Causes.{HasCome, IsAnswerCaused, IsInjectCaused, IsOfflineCaused, IsSoftCaused, IsUnpoisonCaused, SawBadLines}
+use Rattle.hwp_law_records.specs.hwp_law_served.Offlinings.{IsOfflineServed, left_at}
 use Rattle.hwp_law_records.specs.hwp_law_served.Rows.{offlined}
 use Rattle.hwp_law_records.specs.hwp_law_served.hwp_cpu_row.Acts.{event_at}
 use Rattle.hwp_law_records.specs.hwp_law_served.Runs.{row_at}
 use Rattle.hwp_law_records.proofs.of_hwp_law_served.HadStates.{had}
+use Rattle.hwp_law_records.proofs.of_hwp_law_served.OfflineCames.{came-of}
 use Rattle.hwp_law_holds.proofs.AllowedThere.{had-so}
 use Rattle.hwp_law_holds.proofs.Ample.{not-ample}
 use Rattle.hwp_law_holds.proofs.PageLocks.{had-unlocked}
@@ -69,7 +74,7 @@ use Rattle.hwp_law_records.proofs.marks.RecordPlaces.{was-hardware-seen, was-poi
 use Rattle.hwp_law_records.proofs.of_hwp_law_served.RowLines.{answered-so, events-told}
 use Rattle.hwp_law_records.proofs.of_hwp_law_served.Seen.{HasSignalled, MadeWhat, has-signalled, made-what}
 use Rattle.hwp_law_holds.proofs.Signalled.{signalled-sends}
-use Rattle.hwp_law_records.proofs.of_hwp_law_served.Stops.{stop-there}
+use Rattle.hwp_law_records.proofs.of_hwp_law_served.Stops.{stop-by, stop-there}
 
 module _ (script : Script) (seat : Cpu → ℕ) (last : State) (report : Report) (end : IsEnd script seat last report) (cpu : Cpu) (inside : cpu.0 < script.layout.cpus) where
   abbrev view : View
@@ -79,11 +84,13 @@ module _ (script : Script) (seat : Cpu → ℕ) (last : State) (report : Report)
   there = end.seated.there cpu inside
 
   -- the entry that the command made stands in the report
-  stands : {Such : Made → Type 0} {who : Who} {at : At} {what : What} → HasMade Such view who at.page at.entry what → StandsAt report.pages who at what
-  stands {who = who} {at = at} {what = what} has =
-      let m : MadeWhat view who at what = made-what has in
+  pub made-stands : {who : Who} {at : At} {what : What} → MadeWhat view who at what → StandsAt report.pages who at what
+  made-stands m =
       let listed = listed-entry script.layout last report end.board (seat cpu) m.j view m.made there m.there in
       sym (ap (λ (b : At). entry_at report.pages b) m.place_is) ∙ listed ∙ ap (λ (e : Entry). Some e) m.entry_is
+
+  stands : {Such : Made → Type 0} {who : Who} {at : At} {what : What} → HasMade Such view who at.page at.entry what → StandsAt report.pages who at what
+  stands has = made-stands (made-what has)
 
   -- the entry that sent SIGBUS stands in the report
   sigbus : (who : Who) (command : Command) (thread : Thread) (at : At) (what : What) → current_thread command ≡ Some thread → SendsSigbus thread what → StandsAt report.pages who at what → IsSigbus report who command at
@@ -143,19 +150,32 @@ module _ (script : Script) (seat : Cpu → ℕ) (last : State) (report : Report)
   abbrev IsRevivedSo : Who → Option FrameChange → Type 0
   IsRevivedSo who own = (frame : Frame) (cycle : ℕ) → own ≡ Some (owns.Revived frame cycle) → HasMark report who frame TakesBack
 
+  -- the entry by which a page left the frame stands in the report
+  abbrev HasLeft : Who → OfflineResult → Type 0
+  HasLeft who result = (at : At) → left_at result ≡ Some at → StandsAt report.pages who at entries.Soft
+
+  -- what came of taking a frame out of use has its cause in the report: as an answer of `soft`, and beside another command
+  pub came : (who : Who) (frame : Frame) (change : Option FrameChange) (result : OfflineResult) → IsMarkedSo who change → HasLeft who result → IsOfflineServed script.layout view who frame change result → IsOffline script report who frame result
+  came who frame change (results.Moved other bt) marked left (users, (cycle, is), free) = (left bt refl, marked frame cycle true is)
+  came who frame change results.TakenFree marked left (users, (cycle, is)) = marked frame cycle false is
+  came who frame change results.Already marked left (users, saw, none) = was-poisoned script seat last report end cpu inside who frame saw.word true saw.poisoned saw.saw
+  came who frame change (results.HasBad mask) marked left (users, lines, none) = bad-at-end frame mask (users-inside frame users) lines.some (looked lines.page lines.saw)
+  came who frame change results.NoFrame marked left (users, saw, none) = not-ample script seat last report end cpu inside who saw
+  came who frame change results.Stopped marked left (saw, none) = stop-by script seat last report end cpu who inside (inl saw)
+
   -- an answer of a soft offline of a frame that isn't the kernel's
-  offline : (who : Who) (frame : Frame) (own : Option FrameChange) (answer : Answer) → frame.0 < script.layout.frames → IsMarkedSo who own → IsOfflineCaused script.layout view who frame own answer → IsOfflineAnswer script report who frame answer
-  offline who frame own (answers.Moved other bt) inside_ marked caused = (stands caused.made.made, marked frame caused.cycle true caused.own_is)
-  offline who frame own answers.TakenFree inside_ marked caused = marked frame caused.cycle false caused.own_is
-  offline who frame own answers.Already inside_ marked caused = was-poisoned script seat last report end cpu inside who frame caused.0.word true caused.0.poisoned caused.0.saw
-  offline who frame own (answers.HasBad mask) inside_ marked caused = bad-at-end frame mask inside_ caused.0.some (looked caused.0.page caused.0.saw)
-  offline who frame own answers.NoFrame inside_ marked caused = not-ample script seat last report end cpu inside who caused.1
-  offline who frame own _ inside_ marked caused = absurd caused
+  offline : (who : Who) (frame : Frame) (own : Option FrameChange) (answer : Answer) → IsUsers script.layout frame → IsMarkedSo who own → IsOfflineCaused script.layout view who frame own answer → IsOfflineAnswer script report who frame answer
+  offline who frame own (answers.Moved other bt) users marked caused = came who frame own (results.Moved other bt) marked (λ at is. subst (λ (b : At). StandsAt report.pages who b entries.Soft) (same_Some bt at is) (stands caused.made.made)) (came-of script.layout view who frame own (results.Moved other bt) users caused)
+  offline who frame own answers.TakenFree users marked caused = came who frame own results.TakenFree marked (λ at is. absurd (none-some at is)) (came-of script.layout view who frame own results.TakenFree users caused)
+  offline who frame own answers.Already users marked caused = came who frame own results.Already marked (λ at is. absurd (none-some at is)) (came-of script.layout view who frame own results.Already users caused)
+  offline who frame own (answers.HasBad mask) users marked caused = came who frame own (results.HasBad mask) marked (λ at is. absurd (none-some at is)) (came-of script.layout view who frame own (results.HasBad mask) users caused)
+  offline who frame own answers.NoFrame users marked caused = came who frame own results.NoFrame marked (λ at is. absurd (none-some at is)) (came-of script.layout view who frame own results.NoFrame users caused)
+  offline who frame own _ users marked caused = absurd caused
 
   soft : (who : Who) (frame : Frame) (own : Option FrameChange) (answer : Answer) → IsMarkedSo who own → IsSoftCaused script.layout view who frame own answer → IsLawCaused script report who (commands.Soft frame) answer
   soft who frame own answers.Stopped marked caused = absurd caused.1
   soft who frame own answers.Kernel marked caused = get_or_from_slice_get script.layout.kernel frame.0 true false caused.0.declared
-  soft who frame own answer marked caused = (get_or_from_slice_get script.layout.kernel frame.0 false false caused.0, offline who frame own answer (users-inside frame caused.0) marked caused.1)
+  soft who frame own answer marked caused = (get_or_from_slice_get script.layout.kernel frame.0 false false caused.0, offline who frame own answer caused.0 marked caused.1)
 
   -- an answer of a command that takes a poison back
   unpoison : (who : Who) (frame : Frame) (own : Option FrameChange) (answer : Answer) → IsRevivedSo who own → IsUnpoisonCaused script.layout view who frame own answer → IsUnpoisonAnswer report who frame answer
@@ -231,6 +251,7 @@ module _ (script : Script) (seat : Cpu → ℕ) (last : State) (report : Report)
   law-caused who earlier before (commands.Prctl thread args) told own (answers.Sigbus bt) at facts (inr was) = absurd was
   law-caused who earlier before (commands.Prctl thread args) told own answer at facts caused = caused.replied ∙ replied who earlier before thread args
   law-caused who earlier before (commands.Log status addr misc) told own answers.Done at facts caused = tt
+  law-caused who earlier before (commands.Watch threshold window) told own answers.Done at facts caused = tt
   law-caused who earlier before (commands.Bad frame line) told own answers.Done at facts caused = tt
   law-caused who earlier before (commands.Weak frame line) told own answers.Done at facts caused = tt
   law-caused who earlier before (commands.RaiseUser thread ripv eipv) told own (answers.Raised n) at facts caused = caused.1.count ∙ sym facts.count

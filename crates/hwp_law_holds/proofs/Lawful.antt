@@ -9,6 +9,7 @@ use Rattle.hwp_law_records.specs.hwp_law.Law.{AnswersFit, HasShape, HistoriesFit
 use Rattle.hwp_law_records.proofs.of_hwp_law_run.Reported.{histories-lead, histories-ordered}
 use Rattle.hwp_law_records.specs.hwp_law_served.Runs.{IsRunOf}
 use Rattle.hwp_law_holds.proofs.Caused.{all-caused, stop-agrees}
+use Rattle.hwp_law_holds.proofs.OfflinedLines.{are-offlined}
 use Rattle.hwp_law_records.proofs.of_hwp_law_served.RunEnds.{IsEnd}
 use Rattle.hwp_law_sights.proofs.endings.Endings.{endings-stay}
 use Rattle.hwp_law_records.proofs.lines.Framed.{frames-lawful}
@@ -43,6 +44,7 @@ module _ (script : Script) (seat : Cpu → ℕ) (turns : List Played) (last : St
     endings = endings-stay script seat turns last report run;
     events = events-are script seat turns last report run;
     stop = stop-agrees script seat turns last report run;
+    offlined = are-offlined script seat last report end;
   }
 
   -- the whole

@@ -3,6 +3,7 @@ pub mod Ample
 pub mod Answered
 pub mod StopCauses
 pub mod Caused
+pub mod OfflinedLines
 pub mod Lawful
 pub mod Settled
 pub mod Retired

@@ -9,6 +9,7 @@ pub mod PoisonMarks
 pub mod RunKeeps
 pub mod StepAdds
 pub mod Stops
+pub mod OfflineCames
 pub mod LastBoard
 pub mod Sums
 pub mod HomePages

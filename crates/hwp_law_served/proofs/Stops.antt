@@ -52,8 +52,8 @@ module _ (script : Script) (seat : Cpu → ℕ) (last : State) (report : Report)
   recorded (Some stop) on named = refl
 
   -- a command that found the machine stopped, or stopped it: the report has the record
-  pub stop-there : (cpu : Cpu) (who : Who) (command : Command) → cpu.0 < script.layout.cpus → FoundStopped script.layout (view_of last (seat cpu)) who command → IsSome report.stop
-  stop-there cpu who command inside found = recorded report.stop end.board.ends.stop (named found.stopped)
+  pub stop-by : (cpu : Cpu) (who : Who) → cpu.0 < script.layout.cpus → SawStop (view_of last (seat cpu)) who ⊎ SomeMember (λ (w : Who). w ≡ who) (view_of last (seat cpu)).stops → IsSome report.stop
+  stop-by cpu who inside stopped = recorded report.stop end.board.ends.stop (named stopped)
     where
       there : slice_get last.views (seat cpu) ≡ Some (view_of last (seat cpu))
       there = end.seated.there cpu inside
@@ -71,3 +71,6 @@ module _ (script : Script) (seat : Cpu → ℕ) (last : State) (report : Report)
           let is : stopper_of (words_of script.layout last.words).stop ≡ own.1.cpu.0 + 1 =
           end.board.holds.rule.processors.stops.named (seat cpu) (view_of last (seat cpu)).stops (at_map (λ (x : View). x.stops) last.views (seat cpu) (view_of last (seat cpu)) there) own.0 own.1 own.2 in
           absurd (omega (arith, unstopped))
+
+  pub stop-there : (cpu : Cpu) (who : Who) (command : Command) → cpu.0 < script.layout.cpus → FoundStopped script.layout (view_of last (seat cpu)) who command → IsSome report.stop
+  stop-there cpu who command inside found = stop-by cpu who inside found.stopped

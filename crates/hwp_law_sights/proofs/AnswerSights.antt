@@ -33,36 +33,38 @@ use Rattle.hwp_law_served.specs.hwp_law.Lines.{answer_of, answered, events_of}
 use Rattle.hwp_law_served.specs.hwp_law.Losses.{numbers_after}
 use Rattle.hwp_law_served.specs.hwp_law_commands.Outcomes.{outcome_act}
 use Rattle.hwp_law_served.specs.hwp_claim.declared.Found.{Found}
+use Rattle.hwp_law_served.specs.hwp_cpu_row.declared.Offlining.{Offlining}
 use Rattle.hwp_law_served.specs.hwp_cpu_row.declared.Row.{Row}
 use Rattle.hwp_law_served.specs.hwp_cpu_check.declared.EventOutcome.{EventOutcome}
 use Rattle.hwp_law_served.specs.hwp_cpu_check.Fits.{IsDone, IsFailed}
 use Rattle.hwp_law_served.specs.hwp_cpu_check.Told.{at_once, frame_of, is_already, required_by, severity_at_once}
 use Rattle.hwp_law_served.specs.hwp_law_run.Scrubs.{ScrubsShown}
-use Rattle.hwp_law_served.specs.hwp_law_run.Shown.{AlreadyShown, IsShown}
+use Rattle.hwp_law_served.specs.hwp_law_run.Shown.{AlreadyShown, IsShown, OfflineShown}
 use Rattle.hwp_law_served.proofs.of_hwp_law_run.SeatKnows.{Said}
 use Rattle.hwp_law_served.proofs.of_hwp_law_run.SeatTells.{all-told, told}
 use Rattle.hwp_law_served.specs.hwp_scrub.Visits.{AreBanks}
 use Rattle.hwp_law_served.specs.Causes.{IsAnswerCaused}
 use Rattle.hwp_law_served.specs.hwp_cpu_row.Acts.{event_at}
+use Rattle.hwp_law_served.specs.Rows.{offlined_at}
 use Rattle.hwp_law_served.specs.Runs.{IsRunOf, row_at}
-use Rattle.hwp_law_served.specs.Served.{IsRowServed, SawRunning}
+use Rattle.hwp_law_served.specs.Served.{IsOffliningServed, IsRowServed, SawRunning}
 use Rattle.hwp_law_served.specs.Told.{IsScrubTold}
 use Rattle.hwp_law_served.proofs.RunEnds.{command-of}
 use Rattle.hwp_law_served.proofs.LastBoard.{ended}
-use Rattle.hwp_law_served.proofs.RowLines.{answer-told, events-by-row, events-told, told_at}
+use Rattle.hwp_law_served.proofs.RowLines.{answer-told, events-by-row, events-told, offlined-by-row, offlines_at, told_at}
 use Rattle.hwp_law_served.proofs.lines.OfRows.{row-of}
 use Rattle.hwp_law_sights.proofs.lines.ScrubShown.{bad-shown, looked-at, weak-shown}
 use Rattle.hwp_law_served.proofs.RowTold.{IsToldRight, told-so}
-use Rattle.hwp_law_sights.proofs.Shown.{already-shown, answer-shown, goes-shown, runs-shown, word-shown}
+use Rattle.hwp_law_sights.proofs.Shown.{already-shown, answer-shown, beside-shown, goes-shown, runs-shown, word-shown}
 use Rattle.hwp_law_sights.proofs.losses.NumbersTold.{number-known}
 
 -- the list of a processor that has such a command
-record HasCommand (script : Script) (who : Who) (command : Command) : Type 0 where
-  list : List Command
-  list_is : slice_get script.lists who.cpu.0 ≡ Some list
-  command_is : slice_get list who.seq ≡ Some command
+pub record HasCommand (script : Script) (who : Who) (command : Command) : Type 0 where
+  pub list : List Command
+  pub list_is : slice_get script.lists who.cpu.0 ≡ Some list
+  pub command_is : slice_get list who.seq ≡ Some command
 
-has-command : (script : Script) (who : Who) (command : Command) → command_at script who ≡ Some command → HasCommand script who command
+pub has-command : (script : Script) (who : Who) (command : Command) → command_at script who ≡ Some command → HasCommand script who command
 has-command script who command is = which (slice_get script.lists who.cpu.0) refl is
   where
     which : (o : Option (List Command)) → slice_get script.lists who.cpu.0 ≡ o → option_and_then (λ (l : List Command). slice_get l who.seq) o ≡ Some command → HasCommand script who command
@@ -180,7 +182,17 @@ module _ (script : Script) (seat : Cpu → ℕ) (turns : List Played) (last : St
       (each-weaken (IsToldRight script.layout view who (current_thread r.of.command)) (λ (t : EventOutcome). AlreadyShown script.layout turns who (event_at who.seq t)) row.told
       (λ t is. already-shown script turns view (said who.cpu r.of.inside) who r.of.earlier t who.seq (saw-already script.layout view who (current_thread r.of.command) t is)) right)
 
-  -- each answer, each event line, and each number of a handle rests on what its command was shown
+  offlined-shown : (who : Who) (o : Option Row) → row_at (ended script seat turns last report run).rows who ≡ o → EachMember (OfflineShown script turns who) (map (offlined_at who.seq) (offlines_at o))
+  offlined-shown who None none = λ i l there. absurd (none-some l there)
+  offlined-shown who (Some row) some =
+      let r = row-of script seat last report (ended script seat turns last report run) who row some in
+      let view : View = view_of last (seat who.cpu) in
+      let served : EachMember (IsOffliningServed script.layout view who) row.offlined = subst (λ (x : Row). EachMember (IsOffliningServed script.layout view who) x.offlined) r.same r.of.served.offlined in
+      each-map (offlined_at who.seq) (OfflineShown script turns who) row.offlined
+      (each-weaken (IsOffliningServed script.layout view who) (λ (x : Offlining). OfflineShown script turns who (offlined_at who.seq x)) row.offlined
+      (λ x is. beside-shown script turns view (said who.cpu r.of.inside) who r.of.earlier x who.seq is) served)
+
+  -- each answer, each line of an event and of a frame taken out of use, and each number of a handle rests on what its command was shown
   pub report-shown : IsShown script report turns
   report-shown = record {
     answers = λ who command answer at is.
@@ -194,6 +206,7 @@ module _ (script : Script) (seat : Cpu → ℕ) (turns : List Played) (last : St
         let a = answers-of who command answer at is in
         runs-shown script.layout turns (view_of last (seat who.cpu)) (said who.cpu a.inside) who answer (subst (λ (x : Answer). (x ≡ answers.Stopped) ⊎ SawRunning (view_of last (seat who.cpu)) who) a.answer_is a.served.running);
     events = λ who. subst (EachMember (AlreadyShown script.layout turns who)) (sym (events-by-row script seat last report (ended script seat turns last report run) who)) (events-shown who (row_at (ended script seat turns last report run).rows who) refl);
+    offlined = λ who. subst (EachMember (OfflineShown script turns who)) (sym (offlined-by-row script seat last report (ended script seat turns last report run) who)) (offlined-shown who (row_at (ended script seat turns last report run).rows who) refl);
     handles = λ cpu list rows list_is rows_is file i p there tells.
         let known = number-known script seat last report (ended script seat turns last report run) cpu list rows list_is rows_is file i p there tells in
         word-shown script.layout turns (view_of last (seat cpu)) (said cpu known.0) (record { cpu = cpu; seq = i }) (λ (word : ℕ). word ≡ numbers_after file 0 (take (i + 1) (answered list rows))) (places.Loss file)

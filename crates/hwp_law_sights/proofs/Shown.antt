@@ -43,21 +43,29 @@ use Rattle.hwp_law_served.specs.hwp_script_read.declared.PrctlArgs.{PrctlArgs}
 use Rattle.hwp_law_served.specs.hwp_script_read.declared.Script.{Script}
 use Rattle.hwp_law_served.specs.hwp_report_text.declared.Answer.{Answer}
 use Rattle.hwp_law_served.specs.hwp_report_text.declared.Answer.TheVariants as answers
+use Rattle.hwp_law_served.specs.hwp_report_text.Offlines.{offline_answer}
+use Rattle.hwp_law_served.specs.hwp_report_text.declared.OfflineResult.{OfflineResult}
+use Rattle.hwp_law_served.specs.hwp_report_text.declared.OfflineResult.TheVariants as results
 use Rattle.hwp_law_served.specs.hwp_law_commands.Outcomes.{reply_answer}
 use Rattle.hwp_law_served.specs.hwp_report_text.declared.Acted.TheVariants as acts
 use Rattle.hwp_law_served.specs.hwp_law_commands.Commands.{Access, access_of, command_at, process_at, process_of_thread, thread_of}
 use Rattle.hwp_law_served.specs.hwp_law_commands.Settings.{arguments, last_policy, settings}
 use Rattle.hwp_law_served.specs.hwp_law.Runs.{slot_of}
 use Rattle.hwp_law_served.specs.hwp_cpu_row.declared.FrameChange.{FrameChange}
+use Rattle.hwp_law_served.specs.hwp_cpu_row.declared.Offlining.{Offlining}
 use Rattle.hwp_law_served.specs.hwp_cpu_check.declared.EventOutcome.{EventOutcome}
 use Rattle.hwp_law_served.specs.hwp_cpu_check.Told.{frame_of}
-use Rattle.hwp_law_served.specs.hwp_law_run.Shown.{AdoptShown, AlreadyShown, AnswerShown, GoesOn, GoneShown, IsFree, LengthShown, NoFrameShown, ProcessShown, RunningShown, StopShown, IsRevivable}
+use Rattle.hwp_law_served.specs.hwp_law_run.Shown.{AdoptShown, AlreadyShown, AnswerShown, GoesOn, GoneShown, IsFree, LengthShown, NoFrameShown, OfflineShown, ProcessShown, RunningShown, StopShown, IsRevivable}
 use Rattle.hwp_law_served.specs.hwp_law_run.Turns.{Finds, FindsBad, HasFrameOf, SawPage, SeesPage, TurnBy}
 use Rattle.hwp_law_served.proofs.of_hwp_law_run.SeatKnows.{IsUnder, Said}
 use Rattle.hwp_law_served.proofs.of_hwp_law_run.SeatTells.{ShowsAdopted, told}
 use Rattle.hwp_law_served.specs.Causes.{FoundGone, FoundNoFrame, FoundState, FoundStopped, IsAnswerCaused, IsOfflineCaused, IsSoftCaused, IsTableCaused, SawBadLines, SawProcess, WasSignalled, IsUnpoisonCaused}
 use Rattle.hwp_law_served.specs.hwp_cpu_row.Acts.{event_at}
-use Rattle.hwp_law_served.specs.Served.{SawRunning}
+use Rattle.hwp_law_served.specs.hwp_soft_move.Seizes.{IsUsers}
+use Rattle.hwp_law_served.specs.Offlinings.{IsOfflineServed}
+use Rattle.hwp_law_served.specs.Rows.{offlined_at}
+use Rattle.hwp_law_served.specs.Served.{IsOffliningServed, SawRunning}
+use Rattle.hwp_law_served.proofs.OfflineCames.{came-of}
 use Rattle.hwp_law_served.proofs.deeds.Made.{some-so}
 
 -- a translation is of one page
@@ -138,12 +146,12 @@ module _ (layout : Layout) (turns : List Played) (view : View) (said : Said (tol
   length-shown {at = at} {Such = Such} saw = page-shown (λ (log : Log). length log.entries ≡ at.entry) at.page at.entry Such saw saw.place_is
 
   -- the machine had stopped, or the command stopped it
+  stopped-shown : SawStop view who ⊎ SomeMember (λ (w : Who). w ≡ who) view.stops → StopShown layout turns who
+  stopped-shown (inl saw) = inl (word-shown (λ (word : ℕ). stopper_of word ≢ 0) places.Stop saw.word (λ none. true≢false (sym saw.stopped ∙ ap not (eq-eqb (stopper_of saw.word) 0 none))) saw.saw)
+  stopped-shown (inr own) = inr (subst (λ (by : Who). TurnBy layout turns by (λ (made : Rec) (v : View). (made.step ≡ steps.Stop by.cpu) × (made.found ≡ 0))) own.3 (said.stops own.0 own.1 own.2))
+
   pub stop-shown : (command : Command) → FoundStopped layout view who command → StopShown layout turns who
-  stop-shown command found = which found.stopped
-    where
-      which : SawStop view who ⊎ SomeMember (λ (w : Who). w ≡ who) view.stops → StopShown layout turns who
-      which (inl saw) = inl (word-shown (λ (word : ℕ). stopper_of word ≢ 0) places.Stop saw.word (λ none. true≢false (sym saw.stopped ∙ ap not (eq-eqb (stopper_of saw.word) 0 none))) saw.saw)
-      which (inr own) = inr (subst (λ (by : Who). TurnBy layout turns by (λ (made : Rec) (v : View). (made.step ≡ steps.Stop by.cpu) × (made.found ≡ 0))) own.3 (said.stops own.0 own.1 own.2))
+  stop-shown command found = stopped-shown found.stopped
 
   -- the machine ran
   running-shown : (answer : Answer) → SawRunning view who → RunningShown layout turns who answer
@@ -230,6 +238,7 @@ module _ (script : Script) (turns : List Played) (view : View) (said : Said (tol
   table-shown (commands.Prctl thread args) answer at caused =
       subst (AnswerShown script turns who (commands.Prctl thread args)) (sym caused.replied) (replied-shown thread args (reply (last_policy (settings thread earlier)) (arguments args)))
   table-shown (commands.Log status addr misc) answers.Done at caused = tt
+  table-shown (commands.Watch threshold window) answers.Done at caused = tt
   table-shown (commands.Bad frame line) answers.Done at caused = tt
   table-shown (commands.Weak frame line) answers.Done at caused = tt
   table-shown command answer at caused = absurd caused
@@ -242,25 +251,41 @@ module _ (script : Script) (turns : List Played) (view : View) (said : Said (tol
   sigbus-shown (commands.Fsync file) at = tt
   sigbus-shown command at = tt
 
-  -- what the answer of a soft offline rests on
-  offline-shown : (frame : Frame) (own : Option FrameChange) (answer : Answer) → IsOfflineCaused script.layout view who frame own answer → AnswerShown script turns who (commands.Soft frame) answer
-  offline-shown frame own (answers.Moved other entry) caused =
-      adopt-shown script.layout turns view said who other caused.word (record { bare = caused.free.bare; uncounted = caused.free.uncounted }) caused.free.saw
-  offline-shown frame own answers.TakenFree caused = tt
-  offline-shown frame own answers.Already caused =
-      word-shown script.layout turns view said who (λ (word : ℕ). is_poisoned word ≡ true) (places.Frame frame) caused.0.word caused.0.poisoned caused.0.saw
-  offline-shown frame own (answers.HasBad mask) caused =
-      word-shown script.layout turns view said who (λ (word : ℕ). word ≡ mask.0) (places.Bad frame) mask.0 refl (caused.0.saw.0, caused.0.saw.1, caused.0.saw.2, caused.0.saw.3.0)
-  offline-shown frame own answers.NoFrame caused = record {
-    available = word-shown script.layout turns view said who (λ (word : ℕ). word ≡ 0) places.Available 0 refl caused.1;
+  -- what came of taking a frame out of use rests on this, by the answer of a `soft` that says the same
+  came-shown : (frame : Frame) (change : Option FrameChange) (result : OfflineResult) → IsOfflineServed script.layout view who frame change result → AnswerShown script turns who (commands.Soft frame) (offline_answer result)
+  came-shown frame change (results.Moved other entry) (users, marked, (word, free)) =
+      adopt-shown script.layout turns view said who other word (record { bare = free.bare; uncounted = free.uncounted }) free.saw
+  came-shown frame change results.TakenFree came = tt
+  came-shown frame change results.Already (users, saw, none) = word-shown script.layout turns view said who (λ (word : ℕ). is_poisoned word ≡ true) (places.Frame frame) saw.word saw.poisoned saw.saw
+  came-shown frame change (results.HasBad mask) (users, lines, none) =
+      word-shown script.layout turns view said who (λ (word : ℕ). word ≡ mask.0) (places.Bad frame) mask.0 refl (lines.saw.0, lines.saw.1, lines.saw.2, lines.saw.3.0)
+  came-shown frame change results.NoFrame (users, saw, none) = record {
+    available = word-shown script.layout turns view said who (λ (word : ℕ). word ≡ 0) places.Available 0 refl saw;
     out = λ slot page of. absurd (none-some slot of);
   }
-  offline-shown frame own answer caused = absurd caused
+  came-shown frame change results.Stopped (saw, none) = stopped-shown script.layout turns view said who (inl saw)
+
+  -- what the answer of a soft offline rests on
+  offline-shown : (frame : Frame) (own : Option FrameChange) (answer : Answer) → IsUsers script.layout frame → IsOfflineCaused script.layout view who frame own answer → AnswerShown script turns who (commands.Soft frame) answer
+  offline-shown frame own (answers.Moved other entry) users caused = came-shown frame own (results.Moved other entry) (came-of script.layout view who frame own (results.Moved other entry) users caused)
+  offline-shown frame own answers.TakenFree users caused = tt
+  offline-shown frame own answers.Already users caused = came-shown frame own results.Already (came-of script.layout view who frame own results.Already users caused)
+  offline-shown frame own (answers.HasBad mask) users caused = came-shown frame own (results.HasBad mask) (came-of script.layout view who frame own (results.HasBad mask) users caused)
+  offline-shown frame own answers.NoFrame users caused = came-shown frame own results.NoFrame (came-of script.layout view who frame own results.NoFrame users caused)
+  offline-shown frame own answer users caused = absurd caused
 
   soft-shown : (frame : Frame) (own : Option FrameChange) (answer : Answer) → IsSoftCaused script.layout view who frame own answer → AnswerShown script turns who (commands.Soft frame) answer
   soft-shown frame own answers.Kernel caused =
       word-shown script.layout turns view said who (λ (word : ℕ). is_kernel word ≡ true) (places.Frame frame) caused.0.word caused.0.kernel caused.0.saw
-  soft-shown frame own answer caused = offline-shown frame own answer caused.1
+  soft-shown frame own answer caused = offline-shown frame own answer caused.0 caused.1
+
+  -- the line of a frame that was taken out of use beside the command
+  pub beside-shown : (o : Offlining) (seq : ℕ) → IsOffliningServed script.layout view who o → OfflineShown script turns who (offlined_at seq o)
+  beside-shown o seq is = (came-shown o.frame o.change o.result is.came, runs-shown script.layout turns view said who (offline_answer o.result) (ran is.running))
+    where
+      ran : (o.result ≡ results.Stopped) ⊎ SawRunning view who → (offline_answer o.result ≡ answers.Stopped) ⊎ SawRunning view who
+      ran (inl stopped) = inl (ap offline_answer stopped)
+      ran (inr saw) = inr saw
 
   -- what the answer of a command that takes a poison back rests on
   unpoison-shown : (frame : Frame) (own : Option FrameChange) (answer : Answer) → IsUnpoisonCaused script.layout view who frame own answer → AnswerShown script turns who (commands.Unpoison frame) answer
@@ -325,6 +350,7 @@ module _ (script : Script) (turns : List Played) (view : View) (said : Said (tol
     goes-table (commands.Fsync file) answer is caused = absurd (none-some process is)
     goes-table (commands.Open file) answer is caused = absurd (none-some process is)
     goes-table (commands.Log status addr misc) answer is caused = absurd (none-some process is)
+    goes-table (commands.Watch threshold window) answer is caused = absurd (none-some process is)
     goes-table (commands.Bad frame line) answer is caused = absurd (none-some process is)
     goes-table (commands.Weak frame line) answer is caused = absurd (none-some process is)
     goes-table command answer is caused = absurd caused

@@ -1,12 +1,13 @@
 -- Each event that a bank holds, and each failure that a command tells, is of a frame that the script names: a raw event's, or one that
--- has a bad line.
-use Rattle.std.proofs.Common.{◌≡◌, ◌⊎◌, inl, inr, ℕ, zero, suc, ◌+◌, ◌*◌, ◌<◌, ◌==◌, ◌||◌, Bool, true, false, cond, List, [], ◌∷◌, ◌++◌, Option, None, Some, length, slice_get, slice_index_or, refl, sym, ap, ◌∙◌, subst, arith}
+-- has a bad line. In a script with a `watch` so is each event that a command tells, also of a weak line, and so each frame that is noted.
+use Rattle.std.proofs.Common.{◌≡◌, ◌⊎◌, inl, inr, ℕ, zero, suc, ◌+◌, ◌*◌, ◌<◌, ◌==◌, nat_lt, ◌&&◌, ◌||◌, Bool, true, false, cond, if◌then◌else◌, List, [], ◌∷◌, ◌++◌, Option, None, Some, is_some, length, slice_get, slice_index_or, refl, sym, ap, ◌∙◌, subst, arith}
 use Rattle.std.specs.Int.{bit_at}
 use Rattle.std.specs.List.{cons_option, filter_map, flat_map, list_any}
 use Rattle.std.proofs.lemmas.Bool.{eq-eqb}
 use Rattle.std.proofs.lemmas.List.Folds.{list_any-append}
 use Rattle.std.proofs.lemmas.Option.{none-some, same_Some}
 use Rattle.hwp_law_records.specs.hwp_geom.declared.Cpu.{Cpu}
+use Rattle.hwp_law_records.specs.hwp_geom.declared.Damage.{Damage}
 use Rattle.hwp_law_records.specs.hwp_geom.declared.Damage.TheVariants as damages
 use Rattle.hwp_law_records.specs.hwp_geom.declared.Frame.{Frame}
 use Rattle.hwp_law_records.specs.hwp_geom.declared.Who.{Who}
@@ -14,6 +15,7 @@ use Rattle.hwp_law_records.specs.hwp_core_rule.declared.SharedWord.TheVariants a
 use Rattle.hwp_law_records.specs.hwp_core_rule.declared.State.{State}
 use Rattle.hwp_law_records.specs.hwp_core_rule.declared.View.{View}
 use Rattle.hwp_law_records.proofs.of_hwp_core_rule.Lists.{at_map, map-was}
+use Rattle.hwp_law_records.specs.hwp_core_rule.Steps.{damage_place}
 use Rattle.hwp_law_records.specs.hwp_core_task.Boards.{view_of}
 use Rattle.hwp_law_records.specs.hwp_core_task.Known.{Saw}
 use Rattle.hwp_law_records.specs.hwp_script_read.declared.Command.{Command}
@@ -21,6 +23,7 @@ use Rattle.hwp_law_records.specs.hwp_script_read.declared.Command.TheVariants as
 use Rattle.hwp_law_records.specs.hwp_script_read.declared.Script.{Script}
 use Rattle.hwp_law_records.specs.hwp_report_text.declared.Answer.{Answer}
 use Rattle.hwp_law_records.specs.hwp_report_text.declared.Answer.TheVariants as answers
+use Rattle.hwp_law_records.specs.hwp_report_text.declared.EventLine.{EventLine}
 use Rattle.hwp_law_records.specs.hwp_report_text.declared.Report.{Report}
 use Rattle.hwp_law_records.specs.hwp_law.Answers.{frame_named, named_frames}
 use Rattle.hwp_law_records.proofs.of_hwp_law_served.RunEnds.{IsEnd, served-of}
@@ -42,6 +45,9 @@ use Rattle.hwp_law_records.proofs.of_hwp_core_rule.Lists.{each-set}
 use Rattle.hwp_law_records.proofs.of_hwp_core_rule.MoreEntries.{each-append}
 use Rattle.hwp_law_records.specs.hwp_banks.Banks.{Banks, empty_banks, held_from, log_in}
 use Rattle.hwp_law_records.specs.hwp_law_commands.Commands.{arrival_of, command_at, has_watch}
+use Rattle.hwp_law_records.specs.hwp_law_commands.Notes.{checks, ends_machine, frame_of, is_corrected, is_for_pages, noted_frame, notes, notes_of_check, with_line}
+use Rattle.hwp_law_records.specs.hwp_law_commands.Watched.{Watched, due, offlining, told}
+use Rattle.hwp_law_records.specs.hwp_law_commands.hwp_cec.Ages.{Note, live}
 use Rattle.hwp_law_records.specs.hwp_severity.declared.Arrival.{Arrival}
 use Rattle.hwp_law_records.specs.hwp_law.Events.{logged_if_done}
 use Rattle.hwp_law_records.specs.hwp_banks.Banks.{raw_bank, raw_event}
@@ -54,8 +60,9 @@ use Rattle.hwp_law_records.specs.hwp_cpu_check.Events.{graded_in}
 use Rattle.hwp_law_records.specs.hwp_scrub.Visits as scrubs
 use Rattle.hwp_law_records.specs.hwp_scrub.Visits.{AreBanks, AreVisits, IsBadMet, IsWeakMet, SawLowest, Visit, left_by_bad, left_by_visit, left_by_weak, lines_of_visit, scrub_bank, scrubbing, with_bad}
 use Rattle.hwp_law_records.proofs.of_hwp_scrub.VisitLaws.{bad-leaves, left-banks}
-use Rattle.hwp_law_records.specs.hwp_law_served.Served.{AreRowsServed}
+use Rattle.hwp_law_records.specs.hwp_law_served.Served.{AreRowsServed, spoiling}
 use Rattle.hwp_law_records.specs.hwp_law_served.Told.{AreToldBy, IsAccessTold, IsCutShort, IsRaiseTold, IsScrubTold, IsUntold, is_raised}
+use Rattle.hwp_law_records.proofs.of_hwp_law_served.Picked.{picked-is}
 use Rattle.hwp_law_records.proofs.of_hwp_law_served.lines.ScrubBank.{empty-free, kept-so, row-free}
 use Rattle.hwp_law_records.proofs.lines.SpoiledLines.{set-at, spoiled-at-end, spoiled-so}
 use Rattle.hwp_law_records.proofs.marks.RowNotes.{each-cons}
@@ -63,7 +70,7 @@ use Rattle.std.proofs.lemmas.Option.{option_and_then_some}
 
 -- ---- named frames
 
-or-true : (b : Bool) → (b || true) ≡ true
+pub or-true : (b : Bool) → (b || true) ≡ true
 or-true true = refl
 or-true false = refl
 
@@ -98,14 +105,14 @@ named-at script who command f at is = option_and_then_some (λ (l : List Command
 abbrev HoldSuch : (ℕ → Type 0) → Banks → Type 0
 HoldSuch P banks = EachMember (λ (o : Option Event). (e : Event) → o ≡ Some e → P e.addr) banks
 
--- and each that is told as a failure
-abbrev IsSuch : (ℕ → Type 0) → EventOutcome → Type 0
-IsSuch P t = (found : Found) → t.found ≡ Some found → P t.held.event.addr
+-- and each that is told as a failure; or each that is told, where weak lines count too
+abbrev IsSuch : (ℕ → Type 0) → Bool → EventOutcome → Type 0
+IsSuch P weak t = (is_some t.found || weak) ≡ true → P t.held.event.addr
 
-abbrev pub AreSuch : (ℕ → Type 0) → List EventOutcome → Type 0
-AreSuch P told = EachMember (IsSuch P) told
+abbrev pub AreSuch : (ℕ → Type 0) → Bool → List EventOutcome → Type 0
+AreSuch P weak told = EachMember (IsSuch P weak) told
 
-module _ (P : ℕ → Type 0) where
+module _ (P : ℕ → Type 0) (weak : Bool) where
   stored-such : (b : Option Event) (e : Event) → ((x : Event) → b ≡ Some x → P x.addr) → P e.addr → P (stored b e).addr
   stored-such None e held new = new
   stored-such (Some x) e held new = which (class_of x.status) (class_of e.status)
@@ -149,16 +156,16 @@ module _ (P : ℕ → Type 0) where
   -- ---- of a command
 
   module _ (layout : Layout) (view : View) (who : Who) where
-    acted-such : (thread : Option Thread) (how : Arrival) (banks : Banks) (lines : List EventOutcome) → IsActedOn layout view who thread how banks lines → HoldSuch P banks → AreSuch P lines
-    acted-such thread how banks lines acted each i t there found some =
+    acted-such : (thread : Option Thread) (how : Arrival) (banks : Banks) (lines : List EventOutcome) → IsActedOn layout view who thread how banks lines → HoldSuch P banks → AreSuch P weak lines
+    acted-such thread how banks lines acted each i t there any =
         let was = map-was (graded_in how) (held_from 0 banks) i t.held (sym (ap (λ (l : List Held). slice_get l i) acted.events) ∙ at_map (λ (x : EventOutcome). x.held) lines i t there) in
         subst (λ (h : Held). P h.event.addr) was.2 (held-such 0 banks each i was.0 was.1)
 
     checks-such : (thread : Thread) (line : ℕ) (origin : Origin) (mode : Mode) (banks : Banks) (checks : List Check) → ((frame : Frame) → SawBad layout view who line frame → P (line_address frame line))
-        → AreChecks layout view who thread line origin mode banks checks → HoldSuch P banks → AreSuch P (lines_of checks)
+        → AreChecks layout view who thread line origin mode banks checks → HoldSuch P banks → AreSuch P weak (lines_of checks)
     checks-such thread line origin mode banks [] own are each = λ i t there. absurd (none-some t there)
     checks-such thread line origin mode banks (c ∷ cs) own (is, rest) each =
-        each-append (IsSuch P) c.lines (lines_of cs)
+        each-append (IsSuch P weak) c.lines (lines_of cs)
         (acted-such (Some thread) _ (with_own origin c.frame line banks) c.lines is.acted_on (log-such (bank_of origin) (own_event origin c.frame line) banks each (own c.frame is.bad)))
         (checks-such thread line origin mode empty_banks cs own rest (empty-such bank_count))
 
@@ -167,17 +174,17 @@ module _ (P : ℕ → Type 0) where
     left-such banks (c ∷ cs) each = empty-such bank_count
 
     access-such : (thread : Thread) (line : ℕ) (origin : Origin) (mode : Mode) (before : Banks) (told : List EventOutcome) (after : Banks) → ((frame : Frame) → SawBad layout view who line frame → P (line_address frame line))
-        → IsAccessTold layout view who thread line origin mode before told after → HoldSuch P before → AreSuch P told × HoldSuch P after
+        → IsAccessTold layout view who thread line origin mode before told after → HoldSuch P before → AreSuch P weak told × HoldSuch P after
     access-such thread line origin mode before told after own is each =
-        (subst (AreSuch P) (sym is.told_is) (checks-such thread line origin mode before is.checks own is.are each), subst (HoldSuch P) (sym is.after_is) (left-such before is.checks each))
+        (subst (AreSuch P weak) (sym is.told_is) (checks-such thread line origin mode before is.checks own is.are each), subst (HoldSuch P) (sym is.after_is) (left-such before is.checks each))
 
-    untold-such : (before : Banks) (told : List EventOutcome) (after : Banks) → IsUntold told before after → HoldSuch P before → AreSuch P told × HoldSuch P after
-    untold-such before told after (none, same) each = (subst (AreSuch P) (sym none) (λ i t there. absurd (none-some t there)), subst (HoldSuch P) (sym same) each)
+    untold-such : (before : Banks) (told : List EventOutcome) (after : Banks) → IsUntold told before after → HoldSuch P before → AreSuch P weak told × HoldSuch P after
+    untold-such before told after (none, same) each = (subst (AreSuch P weak) (sym none) (λ i t there. absurd (none-some t there)), subst (HoldSuch P) (sym same) each)
 
-    raise-such : (thread : Option Thread) (how : Arrival) (answer : Answer) (before : Banks) (told : List EventOutcome) (after : Banks) → IsRaiseTold layout view who thread how answer before told after → HoldSuch P before → AreSuch P told × HoldSuch P after
+    raise-such : (thread : Option Thread) (how : Arrival) (answer : Answer) (before : Banks) (told : List EventOutcome) (after : Banks) → IsRaiseTold layout view who thread how answer before told after → HoldSuch P before → AreSuch P weak told × HoldSuch P after
     raise-such thread how answer before told after is each = which (is_raised answer told) is
       where
-        which : (b : Bool) → MatchBool b (IsActedOn layout view who thread how before told × (after ≡ empty_banks)) (IsUntold told before after) → AreSuch P told × HoldSuch P after
+        which : (b : Bool) → MatchBool b (IsActedOn layout view who thread how before told × (after ≡ empty_banks)) (IsUntold told before after) → AreSuch P weak told × HoldSuch P after
         which true (acted, left) = (acted-such thread how before told acted each, subst (HoldSuch P) (sym left) (empty-such bank_count))
         which false none = untold-such before told after none each
 
@@ -187,67 +194,71 @@ module _ (P : ℕ → Type 0) where
 
     -- ---- of a scrub
 
-    module _ (own : (line mask : ℕ) (frame : Frame) → bit_at mask line ≡ 1 → Saw view who (places.Bad frame) mask → P (line_address frame line)) where
-      bad-such : (frame : Frame) (banks : Banks) (line : Option ℕ) (lines : List EventOutcome) → SawLowest view who (places.Bad frame) line → IsBadMet layout view who frame banks line lines → HoldSuch P banks → AreSuch P lines × HoldSuch P (left_by_bad line banks)
+    module _ (own : (line mask : ℕ) (frame : Frame) → bit_at mask line ≡ 1 → Saw view who (places.Bad frame) mask → P (line_address frame line))
+        (own_weak : weak ≡ true → (line mask : ℕ) (frame : Frame) → bit_at mask line ≡ 1 → Saw view who (places.Weak frame) mask → P (line_address frame line)) where
+      bad-such : (frame : Frame) (banks : Banks) (line : Option ℕ) (lines : List EventOutcome) → SawLowest view who (places.Bad frame) line → IsBadMet layout view who frame banks line lines → HoldSuch P banks → AreSuch P weak lines × HoldSuch P (left_by_bad line banks)
       bad-such frame banks None lines saw none each = untold-such banks lines banks (none, refl) each
       bad-such frame banks (Some line) lines saw acted each = (
         acted-such None scrubbing (with_bad frame line banks) lines acted (log-such scrub_bank (own_event origins.BadLine frame line) banks each (own line saw.word frame saw.lowest.is_set saw.saw)),
         empty-such bank_count,
       )
 
-      weak-such : (frame : Frame) (banks : Banks) (line : Option ℕ) (lines : List EventOutcome) → AreBanks banks → IsWeakMet layout view who frame banks line lines → HoldSuch P banks → AreSuch P lines × HoldSuch P (left_by_weak line banks)
-      weak-such frame banks None lines are none each = untold-such banks lines banks (none, refl) each
-      weak-such frame banks (Some line) lines are kept each =
-          let one = kept-so banks are frame line layout view who lines kept in (
-            subst (AreSuch P) (sym one.lines_are) (each-cons (IsSuch P) one.told [] (λ found some. absurd (none-some found (sym one.none ∙ some))) (λ i t there. absurd (none-some t there))),
+      weak-such : (frame : Frame) (banks : Banks) (line : Option ℕ) (lines : List EventOutcome) → AreBanks banks → SawLowest view who (places.Weak frame) line → IsWeakMet layout view who frame banks line lines → HoldSuch P banks → AreSuch P weak lines × HoldSuch P (left_by_weak line banks)
+      weak-such frame banks None lines are saw none each = untold-such banks lines banks (none, refl) each
+      weak-such frame banks (Some line) lines are saw kept each =
+          let one = kept-so banks are frame line layout view who lines kept in
+          let its : IsSuch P weak one.told = λ any. subst (λ (h : Held). P h.event.addr) (sym one.held) (own_weak (sym (ap (λ (o : Option Found). is_some o || weak) one.none) ∙ any) line saw.word frame saw.lowest.is_set saw.saw) in (
+            subst (AreSuch P weak) (sym one.lines_are) (each-cons (IsSuch P weak) one.told [] its (λ i t there. absurd (none-some t there))),
             each-set (λ (o : Option Event). (x : Event) → o ≡ Some x → P x.addr) banks scrub_bank None (λ x is. absurd (none-some x is)) each,
           )
 
-      visits-such : (frame : ℕ) (banks : Banks) (visits : List Visit) → AreBanks banks → AreVisits layout view who frame banks visits → HoldSuch P banks → AreSuch P (scrubs.lines_of visits) × HoldSuch P (scrubs.left_by banks visits)
+      visits-such : (frame : ℕ) (banks : Banks) (visits : List Visit) → AreBanks banks → AreVisits layout view who frame banks visits → HoldSuch P banks → AreSuch P weak (scrubs.lines_of visits) × HoldSuch P (scrubs.left_by banks visits)
       visits-such frame banks [] are visited each = ((λ i t there. absurd (none-some t there)), each)
       visits-such frame banks (v ∷ vs) are (is, rest) each =
           let f : Frame = record { 0 = frame } in
           let bad = bad-such f banks v.bad.line v.bad.lines is.bad.saw is.bad.met each in
-          let weak = weak-such f (left_by_bad v.bad.line banks) v.weak.line v.weak.lines (bad-leaves v.bad.line banks are) is.weak.met bad.1 in
-          let later = visits-such (frame + 1) (left_by_visit v banks) vs (left-banks banks (v ∷ []) are) rest weak.1 in (
-            each-append (IsSuch P) (lines_of_visit v) (scrubs.lines_of vs) (each-append (IsSuch P) v.bad.lines v.weak.lines bad.0 weak.0) later.0,
+          let faint = weak-such f (left_by_bad v.bad.line banks) v.weak.line v.weak.lines (bad-leaves v.bad.line banks are) is.weak.saw is.weak.met bad.1 in
+          let later = visits-such (frame + 1) (left_by_visit v banks) vs (left-banks banks (v ∷ []) are) rest faint.1 in (
+            each-append (IsSuch P weak) (lines_of_visit v) (scrubs.lines_of vs) (each-append (IsSuch P weak) v.bad.lines v.weak.lines bad.0 faint.0) later.0,
             later.1,
           )
 
-      cut-such : (first last : Frame) (before : Banks) (told : List EventOutcome) (after : Banks) → AreBanks before → IsUntold told before after ⊎ IsCutShort layout view who first last before told after → HoldSuch P before → AreSuch P told × HoldSuch P after
+      cut-such : (first last : Frame) (before : Banks) (told : List EventOutcome) (after : Banks) → AreBanks before → IsUntold told before after ⊎ IsCutShort layout view who first last before told after → HoldSuch P before → AreSuch P weak told × HoldSuch P after
       cut-such first last before told after are (inl none) each = untold-such before told after none each
       cut-such first last before told after are (inr cut) each =
           let visits = visits-such first.0 before cut.visits are cut.visited each in
           let bad = bad-such (record { 0 = first.0 + length cut.visits }) (scrubs.left_by before cut.visits) cut.bad.line cut.bad.lines cut.found.saw cut.found.met visits.1 in
-          (subst (AreSuch P) (sym cut.told_is) (each-append (IsSuch P) (scrubs.lines_of cut.visits) cut.bad.lines visits.0 bad.0), subst (HoldSuch P) (sym cut.after_is) bad.1)
+          (subst (AreSuch P weak) (sym cut.told_is) (each-append (IsSuch P weak) (scrubs.lines_of cut.visits) cut.bad.lines visits.0 bad.0), subst (HoldSuch P) (sym cut.after_is) bad.1)
 
-      scrub-such : (first last : Frame) (answer : Answer) (before : Banks) (told : List EventOutcome) (after : Banks) → AreBanks before → IsScrubTold layout view who first last answer before told after → HoldSuch P before → AreSuch P told × HoldSuch P after
+      scrub-such : (first last : Frame) (answer : Answer) (before : Banks) (told : List EventOutcome) (after : Banks) → AreBanks before → IsScrubTold layout view who first last answer before told after → HoldSuch P before → AreSuch P weak told × HoldSuch P after
       scrub-such first last (answers.Scrubbed n) before told after are is each =
           let visits = visits-such first.0 before is.visits are is.visited each in
-          (subst (AreSuch P) (sym is.told_is) visits.0, subst (HoldSuch P) (sym is.after_is) visits.1)
+          (subst (AreSuch P weak) (sym is.told_is) visits.0, subst (HoldSuch P) (sym is.after_is) visits.1)
       scrub-such first last answer before told after are is each = cut-such first last before told after are is each
 
     row-such : (command : Command) (answer : Answer) (before : Banks) (told : List EventOutcome) (after : Banks) → ((line mask : ℕ) (frame : Frame) → bit_at mask line ≡ 1 → Saw view who (places.Bad frame) mask → P (line_address frame line))
-        → ((status addr misc : ℕ) → command ≡ commands.Log status addr misc → P addr) → AreBanks before → AreToldBy layout view who command answer before told after → HoldSuch P before → AreSuch P told × HoldSuch P after
-    row-such (commands.Load thread slot line) answer before told after own raw are is each = access-such thread line origins.Access modes.User before told after (λ frame saw. own line saw.mask frame (set-at saw.mask line saw.bad) saw.saw) is each
-    row-such (commands.Fetch thread slot line) answer before told after own raw are is each = access-such thread line origins.Fetch modes.User before told after (λ frame saw. own line saw.mask frame (set-at saw.mask line saw.bad) saw.saw) is each
-    row-such (commands.KLoad thread slot line) answer before told after own raw are is each = access-such thread line origins.Access modes.Kernel before told after (λ frame saw. own line saw.mask frame (set-at saw.mask line saw.bad) saw.saw) is each
-    row-such (commands.Store thread slot line word) answer before told after own raw are is each = access-such thread line origins.Access modes.User before told after (λ frame saw. own line saw.mask frame (set-at saw.mask line saw.bad) saw.saw) is each
-    row-such (commands.RaiseUser thread ripv eipv) answer before told after own raw are is each = raise-such (Some thread) (arrival_of (commands.RaiseUser thread ripv eipv)) answer before told after is each
-    row-such (commands.RaiseKernel ripv eipv) answer before told after own raw are is each = raise-such None (arrival_of (commands.RaiseKernel ripv eipv)) answer before told after is each
-    row-such (commands.Scrub first last) answer before told after own raw are is each = scrub-such own first last answer before told after are is each
-    row-such (commands.Log status addr misc) answer before told after own raw are (none, left) each =
-        (subst (AreSuch P) (sym none) (λ i t there. absurd (none-some t there)), subst (HoldSuch P) (sym left) (raw-such answer (raw_event status addr misc) before (raw status addr misc refl) each))
-    row-such command answer before told after own raw are is each = untold-such before told after is each
+        → (weak ≡ true → (line mask : ℕ) (frame : Frame) → bit_at mask line ≡ 1 → Saw view who (places.Weak frame) mask → P (line_address frame line))
+        → ((status addr misc : ℕ) → command ≡ commands.Log status addr misc → P addr) → AreBanks before → AreToldBy layout view who command answer before told after → HoldSuch P before → AreSuch P weak told × HoldSuch P after
+    row-such (commands.Load thread slot line) answer before told after own own_weak raw are is each = access-such thread line origins.Access modes.User before told after (λ frame saw. own line saw.mask frame (set-at saw.mask line saw.bad) saw.saw) is each
+    row-such (commands.Fetch thread slot line) answer before told after own own_weak raw are is each = access-such thread line origins.Fetch modes.User before told after (λ frame saw. own line saw.mask frame (set-at saw.mask line saw.bad) saw.saw) is each
+    row-such (commands.KLoad thread slot line) answer before told after own own_weak raw are is each = access-such thread line origins.Access modes.Kernel before told after (λ frame saw. own line saw.mask frame (set-at saw.mask line saw.bad) saw.saw) is each
+    row-such (commands.Store thread slot line word) answer before told after own own_weak raw are is each = access-such thread line origins.Access modes.User before told after (λ frame saw. own line saw.mask frame (set-at saw.mask line saw.bad) saw.saw) is each
+    row-such (commands.RaiseUser thread ripv eipv) answer before told after own own_weak raw are is each = raise-such (Some thread) (arrival_of (commands.RaiseUser thread ripv eipv)) answer before told after is each
+    row-such (commands.RaiseKernel ripv eipv) answer before told after own own_weak raw are is each = raise-such None (arrival_of (commands.RaiseKernel ripv eipv)) answer before told after is each
+    row-such (commands.Scrub first last) answer before told after own own_weak raw are is each = scrub-such own own_weak first last answer before told after are is each
+    row-such (commands.Log status addr misc) answer before told after own own_weak raw are (none, left) each =
+        (subst (AreSuch P weak) (sym none) (λ i t there. absurd (none-some t there)), subst (HoldSuch P) (sym left) (raw-such answer (raw_event status addr misc) before (raw status addr misc refl) each))
+    row-such command answer before told after own own_weak raw are is each = untold-such before told after is each
 
   -- of all commands of a processor
   rows-such : (layout : Layout) (earlier : List (Command × Answer)) (view : View) (cpu : Cpu) (n : ℕ) (before : Banks) (cs : List Command) (rows : List Row) (after : Banks) → ((who : Who) (line mask : ℕ) (frame : Frame) → bit_at mask line ≡ 1 → Saw view who (places.Bad frame) mask → P (line_address frame line))
-      → ((k status addr misc : ℕ) → slice_get cs k ≡ Some (commands.Log status addr misc) → P addr) → AreBanks before → AreRowsServed layout earlier view cpu n before cs rows after → HoldSuch P before → EachMember (λ (row : Row). AreSuch P row.told) rows
-  rows-such layout earlier view cpu n before cs [] after own raw free are each = λ i row there. absurd (none-some row there)
-  rows-such layout earlier view cpu n before [] (row ∷ rows) after own raw free are each = absurd are
-  rows-such layout earlier view cpu n before (c ∷ cs) (row ∷ rows) after own raw free (between, served, rest) each =
-      let such = row-such layout view (record { cpu = cpu; seq = n }) c row.answer before row.told between (own (record { cpu = cpu; seq = n })) (λ status addr misc is. raw 0 status addr misc (ap (λ (x : Command). Some x) is)) free served.told each in
-      each-cons (λ (r : Row). AreSuch P r.told) row rows such.0 (rows-such layout (earlier ++ (c, row.answer) ∷ []) view cpu (n + 1) between cs rows after own (λ k status addr misc there. raw (suc k) status addr misc there) (row-free layout view (record { cpu = cpu; seq = n }) c row.answer before row.told between served.told free) rest such.1)
+      → (weak ≡ true → (who : Who) (line mask : ℕ) (frame : Frame) → bit_at mask line ≡ 1 → Saw view who (places.Weak frame) mask → P (line_address frame line))
+      → ((k status addr misc : ℕ) → slice_get cs k ≡ Some (commands.Log status addr misc) → P addr) → AreBanks before → AreRowsServed layout earlier view cpu n before cs rows after → HoldSuch P before → EachMember (λ (row : Row). AreSuch P weak row.told) rows
+  rows-such layout earlier view cpu n before cs [] after own own_weak raw free are each = λ i row there. absurd (none-some row there)
+  rows-such layout earlier view cpu n before [] (row ∷ rows) after own own_weak raw free are each = absurd are
+  rows-such layout earlier view cpu n before (c ∷ cs) (row ∷ rows) after own own_weak raw free (between, served, rest) each =
+      let such = row-such layout view (record { cpu = cpu; seq = n }) c row.answer before row.told between (own (record { cpu = cpu; seq = n })) (λ yes_. own_weak yes_ (record { cpu = cpu; seq = n })) (λ status addr misc is. raw 0 status addr misc (ap (λ (x : Command). Some x) is)) free served.told each in
+      each-cons (λ (r : Row). AreSuch P weak r.told) row rows such.0 (rows-such layout (earlier ++ (c, row.answer) ∷ []) view cpu (n + 1) between cs rows after own own_weak (λ k status addr misc there. raw (suc k) status addr misc there) (row-free layout view (record { cpu = cpu; seq = n }) c row.answer before row.told between served.told free) rest such.1)
 
 -- ---- at the end
 
@@ -256,16 +267,77 @@ module _ (script : Script) (seat : Cpu → ℕ) (last : State) (report : Report)
   abbrev pub IsNamed : ℕ → Type 0
   IsNamed addr = list_any (λ n. n == frame_at addr) (named_frames script) ≡ true
 
-  bad-named : (cpu : Cpu) → cpu.0 < script.layout.cpus → (who : Who) (line mask : ℕ) (frame : Frame) → bit_at mask line ≡ 1 → Saw (view_of last (seat cpu)) who (places.Bad frame) mask → IsNamed (line_address frame line)
-  bad-named cpu inside who line mask frame one saw =
-      let is = spoiled-at-end script seat last report end cpu inside who frame damages.Bad line mask one saw in
-      let was = (spoiled-so script seat last report end frame damages.Bad line is.word is.there).0 is.set in
+  -- a spoiled line, by the command that spoiled it
+  spoil-named : (damage : Damage) → ((frame : Frame) (line : ℕ) → frame_named (has_watch script) (spoiling damage frame line) ≡ Some frame.0) → (cpu : Cpu) → cpu.0 < script.layout.cpus → (who : Who) (line mask : ℕ) (frame : Frame) → bit_at mask line ≡ 1
+      → Saw (view_of last (seat cpu)) who (damage_place frame damage) mask → IsNamed (line_address frame line)
+  spoil-named damage names cpu inside who line mask frame one saw =
+      let is = spoiled-at-end script seat last report end cpu inside who frame damage line mask one saw in
+      let was = (spoiled-so script seat last report end frame damage line is.word is.there).0 is.set in
       let few : line < 64 = is.few in
       let at : (frame.0 * 4096 + line * 64) / 4096 ≡ frame.0 = omega (arith, few) in
-      subst (λ (f : ℕ). list_any (λ n. n == f) (named_frames script) ≡ true) (sym at) (named-at script was.who (commands.Bad frame line) frame.0 was.made refl)
+      subst (λ (f : ℕ). list_any (λ n. n == f) (named_frames script) ≡ true) (sym at) (named-at script was.who (spoiling damage frame line) frame.0 was.made (names frame line))
 
-  -- each failure that a row tells is of a named frame
-  pub events-named : (cpu : Cpu) (list : List Command) (own : List Row) → cpu.0 < script.layout.cpus → slice_get script.lists cpu.0 ≡ Some list → slice_get end.rows cpu.0 ≡ Some own → EachMember (λ (row : Row). AreSuch IsNamed row.told) own
+  weak-names : has_watch script ≡ true → (frame : Frame) (line : ℕ) → frame_named (has_watch script) (commands.Weak frame line) ≡ Some frame.0
+  weak-names watches frame line = ap (λ (b : Bool). frame_named b (commands.Weak frame line)) watches
+
+  -- each failure that a row tells is of a named frame; in a script with a `watch` each event is
+  pub events-named : (cpu : Cpu) (list : List Command) (own : List Row) → cpu.0 < script.layout.cpus → slice_get script.lists cpu.0 ≡ Some list → slice_get end.rows cpu.0 ≡ Some own → EachMember (λ (row : Row). AreSuch IsNamed (has_watch script) row.told) own
   events-named cpu list own inside list_is own_is =
       let served = (served-of script seat last report end cpu list own list_is own_is).0 in
-      rows-such IsNamed script.layout [] (view_of last (seat cpu)) cpu 0 empty_banks list own served.banks (bad-named cpu inside) (λ k status addr misc there. named-of (has_watch script) (frame_at addr) script.lists cpu.0 k list (commands.Log status addr misc) list_is there refl) empty-free served.rows_are (empty-such IsNamed bank_count)
+      rows-such IsNamed (has_watch script) script.layout [] (view_of last (seat cpu)) cpu 0 empty_banks list own served.banks (spoil-named damages.Bad (λ frame line. refl) cpu inside) (λ watches. spoil-named damages.Weak (weak-names watches) cpu inside)
+      (λ k status addr misc there. named-of (has_watch script) (frame_at addr) script.lists cpu.0 k list (commands.Log status addr misc) list_is there refl) empty-free served.rows_are (empty-such IsNamed (has_watch script) bank_count)
+
+-- ---- noted frames
+
+-- what holds of each line holds of each in its check
+lines-such : (P : EventLine → Type 0) (ls : List EventLine) → EachMember P ls → EachMember (EachMember P) (checks ls)
+lines-such P [] each = λ i c there. absurd (none-some c there)
+lines-such P (l ∷ ls) each = with-such (checks ls) (each 0 l refl) (lines-such P ls (λ i x there. each (suc i) x there))
+  where
+    alone : P l → EachMember P (l ∷ [])
+    alone here = each-cons P l [] here (λ i x there. absurd (none-some x there))
+
+    with-such : (cs : List (List EventLine)) → P l → EachMember (EachMember P) cs → EachMember (EachMember P) (with_line l cs)
+    with-such [] here are = each-cons (EachMember P) (l ∷ []) [] (alone here) are
+    with-such ([] ∷ cs) here are = each-cons (EachMember P) (l ∷ []) ([] ∷ cs) (alone here) are
+    with-such ((next ∷ more) ∷ cs) here are = which (nat_lt l.bank next.bank)
+      where
+        which : (b : Bool) → EachMember (EachMember P) (if b then (l ∷ next ∷ more) ∷ cs else (l ∷ []) ∷ (next ∷ more) ∷ cs)
+        which true = each-cons (EachMember P) (l ∷ next ∷ more) cs (each-cons P l (next ∷ more) here (are 0 (next ∷ more) refl)) (λ i c there. are (suc i) c there)
+        which false = each-cons (EachMember P) (l ∷ []) ((next ∷ more) ∷ cs) (alone here) are
+
+-- the frame that a line notes is that of its address
+noted-of : (layout : Layout) (l : EventLine) (f : Frame) → noted_frame layout l ≡ Some f → f.0 ≡ frame_at l.addr
+noted-of layout l f is = which (is_corrected l && is_for_pages layout (frame_of l)) is
+  where
+    which : (b : Bool) → (if b then Some (frame_of l) else None) ≡ Some f → f.0 ≡ frame_at l.addr
+    which true is = ap (λ (x : Frame). x.0) (sym (same_Some (frame_of l) f is))
+    which false is = absurd (none-some f is)
+
+-- so the frames that lines note are such as their addresses
+pub notes-such : (P : ℕ → Type 0) (layout : Layout) (ls : List EventLine) → EachMember (λ (l : EventLine). P (frame_at l.addr)) ls → EachMember (λ (f : Frame). P f.0) (notes layout ls)
+notes-such P layout ls each = all (checks ls) (lines-such (λ (l : EventLine). P (frame_at l.addr)) ls each)
+  where
+    of-check : (c : List EventLine) → EachMember (λ (l : EventLine). P (frame_at l.addr)) c → EachMember (λ (f : Frame). P f.0) (notes_of_check layout c)
+    of-check c each = which (list_any ends_machine c)
+      where
+        which : (b : Bool) → EachMember (λ (f : Frame). P f.0) (if b then [] else filter_map (noted_frame layout) c)
+        which true = λ i f there. absurd (none-some f there)
+        which false = λ i f there. let of = picked-is (noted_frame layout) c i f there in subst P (sym (noted-of layout of.1 f of.3)) (each of.0 of.1 of.2)
+
+    all : (cs : List (List EventLine)) → EachMember (EachMember (λ (l : EventLine). P (frame_at l.addr))) cs → EachMember (λ (f : Frame). P f.0) (flat_map (notes_of_check layout) cs)
+    all [] each = λ i f there. absurd (none-some f there)
+    all (c ∷ cs) each = each-append (λ (f : Frame). P f.0) (notes_of_check layout c) (flat_map (notes_of_check layout) cs) (of-check c (each 0 c refl)) (all cs (λ i x there. each (suc i) x there))
+
+-- and so are those of them that are due
+pub due-such : (P : Frame → Type 0) (w : Option Watched) (frames : List Frame) → EachMember P frames → EachMember P (due w frames)
+due-such P None frames each = λ i f there. absurd (none-some f there)
+due-such P (Some w) frames each = offlining-such w frames each
+  where
+    offlining-such : (w : Watched) (frames : List Frame) → EachMember P frames → EachMember P (offlining w frames)
+    offlining-such w [] each = each
+    offlining-such w (f ∷ fs) each = which (live w.threshold w.window w.events f.0 == w.threshold) (offlining-such (told (Note f ∷ []) w) fs (λ i x there. each (suc i) x there))
+      where
+        which : (b : Bool) → EachMember P (offlining (told (Note f ∷ []) w) fs) → EachMember P (if b then f ∷ offlining (told (Note f ∷ []) w) fs else offlining (told (Note f ∷ []) w) fs)
+        which true rest = each-cons P f (offlining (told (Note f ∷ []) w) fs) (each 0 f refl) rest
+        which false rest = rest

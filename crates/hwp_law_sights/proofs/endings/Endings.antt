@@ -70,6 +70,7 @@ module _ (layout : Layout) (earlier : List (Command × Answer)) (view : View) (w
   table-going (commands.Fsync file) answer is caused = absurd (none-some process is)
   table-going (commands.Open file) answer is caused = absurd (none-some process is)
   table-going (commands.Log status addr misc) answer is caused = absurd (none-some process is)
+  table-going (commands.Watch threshold window) answer is caused = absurd (none-some process is)
   table-going (commands.Bad frame line) answer is caused = absurd (none-some process is)
   table-going (commands.Weak frame line) answer is caused = absurd (none-some process is)
   table-going command answer is caused = absurd caused

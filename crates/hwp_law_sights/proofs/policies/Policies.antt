@@ -1,6 +1,6 @@
 -- The policies that a failure's entry lists as seen are policies that their threads had, those of the failing processor's threads
 -- the ones that they had then; and later commands of a processor see no fewer settings.
-use Rattle.std.proofs.Common.{◌≡◌, ℕ, zero, suc, ◌+◌, ◌*◌, ◌<◌, ◌≤◌, true, false, List, [], ◌∷◌, Option, None, Some, fold, filter, length, map, take, slice_get, slice_index, slice_index_or, option_and_then, option_map, unwrap_or, refl, sym, ap, ◌∙◌, subst, arith, true≢false}
+use Rattle.std.proofs.Common.{◌≡◌, ℕ, zero, suc, ◌+◌, ◌*◌, ◌<◌, ◌≤◌, Bool, true, false, List, [], ◌∷◌, Option, None, Some, fold, filter, length, map, take, slice_get, slice_index, slice_index_or, option_and_then, option_map, unwrap_or, refl, sym, ap, ◌∙◌, subst, arith, true≢false}
 use Rattle.std.specs.Prelude.{Contains}
 use Rattle.std.specs.List.{cons_option}
 use Rattle.std.proofs.lemmas.List.{length-map, length-take}
@@ -36,7 +36,7 @@ use Rattle.hwp_law_served.specs.hwp_script_read.declared.Command.TheVariants as 
 use Rattle.hwp_law_served.specs.hwp_script_read.declared.Script.{Script}
 use Rattle.hwp_law_served.specs.hwp_report_text.declared.Answer.{Answer}
 use Rattle.hwp_law_served.specs.hwp_report_text.declared.Report.{Report}
-use Rattle.hwp_law_served.specs.hwp_law_commands.Commands.{can_fail}
+use Rattle.hwp_law_served.specs.hwp_law_commands.Commands.{can_fail, has_watch}
 use Rattle.hwp_law_served.specs.hwp_law.Entries.{Makes}
 use Rattle.hwp_law_served.specs.hwp_law.Places.{entry_at}
 use Rattle.hwp_law_served.specs.hwp_law_commands.Settings.{last_policy, setting_of, settings}
@@ -103,9 +103,9 @@ no-setting : (command : Command) (answer : Answer) → can_fail command ≡ true
 no-setting (commands.Prctl thread args) answer fails = absurd (true≢false (sym fails))
 no-setting command answer fails = refl
 
-can-fail : (command : Command) (what : What) (seen : Seen) → Makes false command what → Contains (seen_in what) seen → can_fail command ≡ true
-can-fail command (entries.Fail situation required list signals) seen makes has = makes.0
-can-fail command what seen makes (k, within, is) = absurd (omega (arith, within))
+can-fail : (watches : Bool) (command : Command) (what : What) (seen : Seen) → Makes watches command what → Contains (seen_in what) seen → can_fail command ≡ true
+can-fail watches command (entries.Fail situation required list signals) seen makes has = makes.0
+can-fail watches command what seen makes (k, within, is) = absurd (omega (arith, within))
 
 module _ (script : Script) (seat : Cpu → ℕ) (turns : List Played) (last : State) (report : Report) (run : IsRunOf script seat turns last report) where
   abbrev end : IsEnd script seat last report
@@ -237,11 +237,11 @@ module _ (script : Script) (seat : Cpu → ℕ) (turns : List Played) (last : St
       let d = does script seat last report end at e is in
       (policy-seen e.who seen saw, own d.view d.of d.makes saw)
     where
-      own : (v : View) (of : IsOf script end.rows v e.who) → Makes false of.command e.what → SawPolicy e.who seen → IsOwnCount script report e.who seen
+      own : (v : View) (of : IsOf script end.rows v e.who) → Makes (has_watch script) of.command e.what → SawPolicy e.who seen → IsOwnCount script report e.who seen
       own v of makes saw =
           let mine = command-of script seat last report end e.who of.list of.command of.list_is of.command_is in
           let same : mine.command ≡ of.command = same_Some mine.command of.command (sym mine.command_is ∙ ap (λ (l : List Command). slice_get l e.who.seq) (same_Some mine.list of.list (sym mine.list_is ∙ of.list_is)) ∙ of.command_is) in
-          own-count e.who seen saw mine (ap can_fail same ∙ can-fail of.command e.what seen makes has)
+          own-count e.who seen saw mine (ap can_fail same ∙ can-fail (has_watch script) of.command e.what seen makes has)
 
   pub never-falls : SeenNeverFalls report
   never-falls at later e f seen again first second has more same_cpu earlier same_thread =
