@@ -14,6 +14,7 @@ pub mod LastBoard
 pub mod Sums
 pub mod HomePages
 pub mod AccountKeeps
+pub mod Acts
 pub mod Handles
 pub mod CheckTells
 pub mod Seats
