@@ -25,6 +25,7 @@ use Rattle.hwp_law_served.specs.hwp_law.Pairings.{situation_number}
 use Rattle.hwp_law_served.specs.hwp_law.Records.{who_in}
 use Rattle.hwp_law_served.specs.hwp_claim.declared.Found.{Found}
 use Rattle.hwp_law_served.specs.hwp_cpu_row.declared.FrameChange.{FrameChange}
+use Rattle.hwp_law_served.specs.hwp_cpu_row.declared.Offlining.{Offlining}
 use Rattle.hwp_law_served.specs.hwp_cpu_row.declared.Row.{Row}
 use Rattle.hwp_law_served.specs.hwp_cpu_check.declared.EventOutcome.{EventOutcome}
 use Rattle.hwp_law_served.specs.hwp_cpu_check.Told.{frame_of}
@@ -71,7 +72,8 @@ same-situation s t is = sym (at-number s) ∙ ap situation_at (eqb-true (situati
 abbrev pub failure_line : Who → Bool → Found → MarkLine
 failure_line who hardware found = marks.Poisoned found.cycle who (hows.Failure hardware found.situation (outcome_of found.situation))
 
--- a line of a frame's record by a command with this row: of an event, or of what the command did to a frame itself
+-- a line of a frame's record by a command with this row: of an event, of a frame that was taken out of use beside the command, or of what
+-- the command did to a frame itself
 pub record IsOfTold (who : Who) (row : Row) (frame : Frame) (x : MarkLine) : Type 0 where
   pub i : ℕ
   pub t : EventOutcome
@@ -87,8 +89,17 @@ pub record IsOfOwn (who : Who) (row : Row) (frame : Frame) (x : MarkLine) : Type
   pub frame_is : (note_by who own).0 ≡ frame
   pub line_is : x ≡ (note_by who own).1
 
+pub record IsOfBeside (who : Who) (row : Row) (frame : Frame) (x : MarkLine) : Type 0 where
+  pub i : ℕ
+  pub o : Offlining
+  pub there : slice_get row.offlined i ≡ Some o
+  pub change : FrameChange
+  pub change_is : o.change ≡ Some change
+  pub frame_is : (note_by who change).0 ≡ frame
+  pub line_is : x ≡ (note_by who change).1
+
 abbrev pub IsOfRow : Who → Row → Frame → MarkLine → Type 0
-IsOfRow who row frame x = IsOfTold who row frame x ⊎ IsOfOwn who row frame x
+IsOfRow who row frame x = IsOfTold who row frame x ⊎ (IsOfBeside who row frame x ⊎ IsOfOwn who row frame x)
 
 pub record OfItsRow (rows : List (List Row)) (frame : Frame) (x : MarkLine) : Type 0 where
   pub row : Row
@@ -108,7 +119,8 @@ note-row rows j n there =
       row = row;
       row_is = is;
       of = each-note (λ (x : Note). IsOfRow (who_in n.1) row x.0 x.1) (who_in n.1) row (λ i t found there some. inl (record { i = i; t = t; there = there; found = found; found_is = some; frame_is = refl; line_is = refl }))
-          (λ own is. inr (record { own = own; own_is = is; frame_is = refl; line_is = refl })) k n at;
+          (λ i o change there is. inr (inl (record { i = i; o = o; there = there; change = change; change_is = is; frame_is = refl; line_is = refl })))
+          (λ own is. inr (inr (record { own = own; own_is = is; frame_is = refl; line_is = refl }))) k n at;
     }
 
 -- and so is each line that is gathered

@@ -1,7 +1,7 @@
 -- What the marks of a command have in the histories: an entry for each failure that found a page in its frame, with a thread that needed
 -- the page exactly where row S9 graded the event, and one for each soft offline that moved a page; and in its lines: one for each soft
 -- offline of a frame, and its answer for one mark of an `inject` or `unpoison` at most.
-use Rattle.std.proofs.Common.{◌≡◌, inl, inr, ℕ, suc, ◌+◌, ◌<◌, ◌≤◌, ◌==◌, ◌&&◌, Bool, true, false, cond, List, [], ◌∷◌, ◌++◌, Option, Some, None, is_some, filter_map, length, map, option_and_then, option_map, slice_get, refl, sym, ap, ◌∙◌, subst, arith, true≢false}
+use Rattle.std.proofs.Common.{◌≡◌, inl, inr, ℕ, suc, ◌+◌, ◌<◌, ◌≤◌, ◌==◌, ◌&&◌, Bool, true, false, cond, List, [], ◌∷◌, ◌++◌, Option, Some, None, is_some, not, filter_map, length, map, option_and_then, option_map, slice_get, refl, sym, ap, ◌∙◌, subst, arith, true≢false}
 use Rattle.std.specs.List.{cons_option, count_by, sum_by, zip}
 use Rattle.std.proofs.lemmas.Bool.{and_left, and_right, cases_lt, false_from_ne_true}
 use Rattle.std.proofs.lemmas.List.Sums.{sum_by-append, sum_by-cons}
@@ -34,6 +34,9 @@ use Rattle.hwp_law_served.specs.hwp_script_read.declared.Script.{Script}
 use Rattle.hwp_law_served.specs.hwp_report_text.declared.Answer.{Answer}
 use Rattle.hwp_law_served.specs.hwp_report_text.declared.FrameLine.{FrameLine}
 use Rattle.hwp_law_served.specs.hwp_report_text.declared.MarkLine.{MarkLine}
+use Rattle.hwp_law_served.specs.hwp_report_text.declared.MarkLine.TheVariants as marks
+use Rattle.hwp_law_served.specs.hwp_report_text.declared.OfflineResult.{OfflineResult}
+use Rattle.hwp_law_served.specs.hwp_report_text.declared.OfflineResult.TheVariants as results
 use Rattle.hwp_law_served.specs.hwp_report_text.declared.OfflinedLine.{OfflinedLine}
 use Rattle.hwp_law_served.specs.hwp_report_text.declared.Report.{Report}
 use Rattle.hwp_law_served.specs.hwp_report_text.Offlines.{offline_answer}
@@ -41,11 +44,13 @@ use Rattle.hwp_law_served.specs.hwp_law_commands.Commands.{command_at, current_t
 use Rattle.hwp_law_served.specs.hwp_report_text.declared.EventLine.{EventLine}
 use Rattle.hwp_law_served.specs.hwp_law.Lines.{answer_of, is_same_command, marks_of, offlined_of}
 use Rattle.hwp_law_served.specs.hwp_law.Pairings.{AreRecorded, entries_of, finds, has_page, is_commands, is_failure, is_failure_mark, is_move, is_move_mark, is_required, is_soft, is_soft_mark, is_soft_of, is_take, is_urgent, marks_in, says_soft, situation_number, soft_lines, urgent_from}
-use Rattle.hwp_law_served.specs.hwp_law.Records.{hardware_marks, how_in, is_commanded, result_lines, who_in}
+use Rattle.hwp_law_served.specs.hwp_law.Records.{hardware_marks, how_in, is_commanded, is_moved, is_taken, result_lines, who_in}
 use Rattle.hwp_law_served.proofs.of_hwp_law_run.Homes.{there-is}
 use Rattle.hwp_law_served.specs.hwp_claim.declared.Found.{Found}
 use Rattle.hwp_law_served.specs.hwp_cpu_row.declared.FrameChange.{FrameChange}
 use Rattle.hwp_law_served.specs.hwp_cpu_row.declared.FrameChange.TheVariants as owns
+use Rattle.hwp_law_served.specs.hwp_cpu_row.Acts.{Act, Offlined, Told, acts}
+use Rattle.hwp_law_served.specs.hwp_cpu_row.declared.Offlining.{Offlining}
 use Rattle.hwp_law_served.specs.hwp_cpu_row.declared.Row.{Row}
 use Rattle.hwp_law_served.specs.hwp_cpu_check.declared.EventOutcome.{EventOutcome}
 use Rattle.hwp_law_served.specs.hwp_claim.Done.{entered_by}
@@ -53,19 +58,21 @@ use Rattle.hwp_law_served.specs.hwp_cpu_check.Done.{failed_by, failed_in}
 use Rattle.hwp_law_served.specs.hwp_cpu_check.Fits.{IsEntered}
 use Rattle.hwp_law_served.specs.hwp_cpu_check.Told.{frame_of, required_by}
 use Rattle.hwp_law_served.specs.Accounts.{failures_in, own_failure}
-use Rattle.hwp_law_served.specs.Rows.{Note, note_by, note_of, own_note, told_note}
+use Rattle.hwp_law_served.specs.Rows.{Note, act_note, note_by, note_of, offlined, offlined_at, own_note, told_note}
+use Rattle.hwp_law_served.specs.Offlinings.{IsOfflineServed}
 use Rattle.hwp_law_served.specs.Runs.{row_at}
 use Rattle.hwp_law_served.proofs.RunEnds.{IsEnd, command-of, list-of, rows-of, served-of}
 use Rattle.hwp_law_served.proofs.PoisonMarks.{same-who}
-use Rattle.hwp_law_served.proofs.RowLines.{answer-told, none-offlined, told_at}
+use Rattle.hwp_law_served.proofs.RowLines.{answer-told, offlined-by-row, offlines_at, told_at}
 use Rattle.hwp_law_served.proofs.Seen.{filter-is}
 use Rattle.hwp_law_served.proofs.Sums.{below-front, below-same, sum-same}
 use Rattle.hwp_law_records.proofs.deeds.CountedEntries.{entries-inside, entries-outside}
 use Rattle.hwp_law_served.proofs.deeds.Made.{command-is}
-use Rattle.hwp_law_records.proofs.deeds.Softs.{moves_by, softs-counted}
+use Rattle.hwp_law_records.proofs.deeds.Softs.{moves_beside, moves_by, softs-counted}
 use Rattle.hwp_law_records.proofs.marks.CountedMarks.{marks-of-command, marks-on-frame}
 use Rattle.hwp_law_records.proofs.marks.RowNotes.{notes_at}
-use Rattle.hwp_law_served.proofs.lines.OfRows.{OfRow, own-of, right-of, row-of}
+use Rattle.hwp_law_served.proofs.lines.OfRows.{OfRow, offlined-of, own-of, right-of, row-of}
+use Rattle.hwp_law_served.proofs.Acts.{sum-acts}
 use Rattle.hwp_law_records.proofs.lines.RecordLines.{same-situation}
 use Rattle.hwp_law_records.proofs.lines.Records.{hardware-are, results-of, told-line}
 use Rattle.hwp_law_records.proofs.lines.SoftLines.{no-soft, soft_by, soft-said}
@@ -100,6 +107,22 @@ count-more {A} f test l o =
     let picked : count_by test (filter_map f l) ≡ sum_by (λ (x : A). counts test (f x)) l = count-picked f test l in
     let last : count_by test (cons_option o []) ≡ counts test o + 0 = count-option test o [] in
     omega (arith, both, picked, last)
+
+-- and of what a command did beside its answer
+count-acts : {B : Type 0} (f : Act → Option B) (test : B → Bool) (told : List EventOutcome) (offlined : List Offlining) (o : Option B)
+    → count_by test (filter_map f (acts told offlined) ++ cons_option o []) ≡ sum_by (λ (t : EventOutcome). counts test (f (Told t))) told + sum_by (λ (x : Offlining). counts test (f (Offlined x))) offlined + counts test o
+count-acts f test told offlined o =
+    let all : count_by test (filter_map f (acts told offlined) ++ cons_option o []) ≡ sum_by (λ (a : Act). counts test (f a)) (acts told offlined) + counts test o = count-more f test (acts told offlined) o in
+    let each : sum_by (λ (a : Act). counts test (f a)) (acts told offlined) ≡ sum_by (λ (t : EventOutcome). counts test (f (Told t))) told + sum_by (λ (x : Offlining). counts test (f (Offlined x))) offlined = sum-acts (λ (a : Act). counts test (f a)) told offlined in
+    omega (arith, all, each)
+
+count-mapped : {A B : Type 0} (test : B → Bool) (f : A → B) (l : List A) → count_by test (map f l) ≡ sum_by (λ (x : A). flag (test (f x))) l
+count-mapped test f [] = refl
+count-mapped {A} {B} test f (x ∷ xs) =
+    let rest : count_by test (map f xs) ≡ sum_by (λ (y : A). flag (test (f y))) xs = count-mapped test f xs in
+    let one : count_by test (f x ∷ map f xs) ≡ flag (test (f x)) + count_by test (map f xs) = sum_by-cons (λ (y : B). flag (test y)) (f x) (map f xs) in
+    let other : sum_by (λ (y : A). flag (test (f y))) (x ∷ xs) ≡ flag (test (f x)) + sum_by (λ (y : A). flag (test (f y))) xs = sum_by-cons (λ (y : A). flag (test (f y))) x xs in
+    omega (arith, rest, one, other)
 
 -- ---- the soft offlines of a frame
 
@@ -199,6 +222,55 @@ module _ (layout : Layout) (view : View) (who : Who) (situation : Situation) (pa
   own-needed (Some (owns.Offlined frame cycle moved)) entered = refl
   own-needed (Some (owns.Revived frame cycle)) entered = refl
 
+-- ---- of a frame that was taken out of use beside a command
+
+-- what an option of a change is, where it is none or a frame taken out of use
+abbrev IsTaken : Frame → OfflineResult → Option FrameChange → Type 0
+IsTaken frame result None = (is_moved (Some (offline_answer result)) ≡ false) × (is_taken (Some (offline_answer result)) ≡ false)
+IsTaken frame result (Some (owns.Offlined f cycle moved)) = (f ≡ frame) × (is_moved (Some (offline_answer result)) ≡ moved) × (is_taken (Some (offline_answer result)) ≡ not moved)
+IsTaken frame result (Some own) = ⊥
+
+is-taken : (layout : Layout) (view : View) (who : Who) (frame : Frame) (change : Option FrameChange) (result : OfflineResult) → IsOfflineServed layout view who frame change result → IsTaken frame result change
+is-taken layout view who frame change (results.Moved other at) (users, changed, free) = subst (IsTaken frame (results.Moved other at)) (sym changed.1) (refl, refl, refl)
+is-taken layout view who frame change results.TakenFree (users, changed) = subst (IsTaken frame results.TakenFree) (sym changed.1) (refl, refl, refl)
+is-taken layout view who frame change results.Already (users, saw, none) = subst (IsTaken frame results.Already) (sym none) (refl, refl)
+is-taken layout view who frame change (results.HasBad mask) (users, saw, none) = subst (IsTaken frame (results.HasBad mask)) (sym none) (refl, refl)
+is-taken layout view who frame change results.NoFrame (users, saw, none) = subst (IsTaken frame results.NoFrame) (sym none) (refl, refl)
+is-taken layout view who frame change results.Stopped (saw, none) = subst (IsTaken frame results.Stopped) (sym none) (refl, refl)
+
+-- the mark is no failure's, and no command's own
+beside-still : (test : MarkLine → Bool) → ((cycle : ℕ) (who : Who) (moved : Bool) → test (marks.Poisoned cycle who (offlined moved)) ≡ false) → (who : Who) (frame : Frame) (result : OfflineResult) (change : Option FrameChange) → IsTaken frame result change → counts (λ (n : Note). test n.1) (own_note who change) ≡ 0
+beside-still test still who frame result None taken = refl
+beside-still test still who frame result (Some (owns.Failed f found)) taken = absurd taken
+beside-still test still who frame result (Some (owns.Offlined f cycle moved)) taken = ap flag (still cycle who moved)
+beside-still test still who frame result (Some (owns.Revived f cycle)) taken = absurd taken
+
+-- it tells that a page left, where one did
+beside-moves : (who : Who) (frame : Frame) (result : OfflineResult) (change : Option FrameChange) → IsTaken frame result change → counts (λ (n : Note). is_move (how_in n.1)) (own_note who change) ≡ moves_by change
+beside-moves who frame result None taken = refl
+beside-moves who frame result (Some (owns.Failed f found)) taken = absurd taken
+beside-moves who frame result (Some (owns.Offlined f cycle true)) taken = refl
+beside-moves who frame result (Some (owns.Offlined f cycle false)) taken = refl
+beside-moves who frame result (Some (owns.Revived f cycle)) taken = absurd taken
+
+-- and says the same as the line of the frame
+beside-says : (frame : Frame) (moved : Bool) (who : Who) (own : Frame) (result : OfflineResult) (change : Option FrameChange) → IsTaken own result change → counts (on_frame frame moved) (own_note who change) ≡ flag ((own.0 == frame.0) && says_soft moved (Some (offline_answer result)))
+beside-says frame moved who own result None taken =
+    sym (no-soft (own.0 == frame.0) moved)
+    ∙ sym (ap (λ (b : Bool). flag ((own.0 == frame.0) && cond moved b (is_taken (Some (offline_answer result))))) taken.0 ∙ ap (λ (b : Bool). flag ((own.0 == frame.0) && cond moved false b)) taken.1)
+beside-says frame moved who own result (Some (owns.Failed f found)) taken = absurd taken
+beside-says frame moved who own result (Some (owns.Offlined f cycle m)) taken =
+    ap (λ (x : Frame). flag ((x.0 == frame.0) && is_soft_line moved (marks.Poisoned cycle who (offlined m)))) taken.0
+    ∙ ap (λ (b : Bool). flag ((own.0 == frame.0) && b)) (which moved m)
+    ∙ sym (ap (λ (b : Bool). flag ((own.0 == frame.0) && cond moved b (is_taken (Some (offline_answer result))))) taken.1 ∙ ap (λ (b : Bool). flag ((own.0 == frame.0) && cond moved m b)) taken.2)
+  where
+    which : (moved m : Bool) → is_soft_line moved (marks.Poisoned cycle who (offlined m)) ≡ cond moved m (not m)
+    which true true = refl
+    which true false = refl
+    which false true = refl
+    which false false = refl
+beside-says frame moved who own result (Some (owns.Revived f cycle)) taken = absurd taken
+
 -- ---- marks beside event lines
 
 urgent-below : (report : Report) (who : Who) (situation : Situation) (g : ℕ → ℕ) (n : ℕ) (ls : List FrameLine)
@@ -252,7 +324,7 @@ module _ (script : Script) (seat : Cpu → ℕ) (last : State) (report : Report)
   softs-without frame moved none =
       marks-on-frame script seat last report end who frame (is_soft_line moved) ∙ ap (λ (o : Option Row). count_by (on_frame frame moved) (notes_at who o)) none
       ∙ sym (ap (λ (o : Option Command). by_lines frame moved o (answer_of report who) (offlined_of report who)) (no-command (command_at script who) refl)
-      ∙ ap (by_lines frame moved None (answer_of report who)) (none-offlined script seat last report end who))
+      ∙ ap (by_lines frame moved None (answer_of report who)) (offlined-by-row script seat last report end who ∙ ap (λ (o : Option Row). map (offlined_at who.seq) (offlines_at o)) none))
     where
       listed : (command : Command) (o : Option (List Command)) → slice_get script.lists who.cpu.0 ≡ o → option_and_then (λ (l : List Command). slice_get l who.seq) o ≡ Some command → ⊥
       listed command None list_is is = none-some command is
@@ -277,21 +349,40 @@ module _ (script : Script) (seat : Cpu → ℕ) (last : State) (report : Report)
         ∙ ap (count_by by) (of.of.served.accounted.failed ∙ ap (failures_in of.of.command) of.same)
         ∙ count-more (failed_in (current_thread of.of.command)) by row.told (own_failure row.own)
 
-    marks-are : (test : MarkLine → Bool) → marks_in report (λ (x : MarkLine). is_same_command who (who_in x) && test x) ≡ sum_by (λ (t : EventOutcome). counts (λ (n : Note). test n.1) (told_note who t)) row.told + counts (λ (n : Note). test n.1) (own_note who row.own)
+    marks-are : (test : MarkLine → Bool) → marks_in report (λ (x : MarkLine). is_same_command who (who_in x) && test x)
+        ≡ sum_by (λ (t : EventOutcome). counts (λ (n : Note). test n.1) (told_note who t)) row.told + sum_by (λ (o : Offlining). counts (λ (n : Note). test n.1) (own_note who o.change)) row.offlined + counts (λ (n : Note). test n.1) (own_note who row.own)
     marks-are test =
         marks-of-command script seat last report end who test ∙ ap (λ (o : Option Row). count_by (λ (n : Note). test n.1) (notes_at who o)) row_is
-        ∙ count-more (told_note who) (λ (n : Note). test n.1) row.told (own_note who row.own)
+        ∙ count-acts (act_note who) (λ (n : Note). test n.1) row.told row.offlined (own_note who row.own)
+
+    taken : EachMember (λ (o : Offlining). IsTaken o.frame o.result o.change) row.offlined
+    taken i o there = is-taken script.layout view who o.frame o.change o.result (offlined-of script seat last report end who row of i o there).came
+
+    -- no mark of such a frame passes
+    none-beside : (test : MarkLine → Bool) → ((cycle : ℕ) (by : Who) (moved : Bool) → test (marks.Poisoned cycle by (offlined moved)) ≡ false) → sum_by (λ (o : Offlining). counts (λ (n : Note). test n.1) (own_note who o.change)) row.offlined ≡ 0
+    none-beside test still = sum-zero (λ (o : Offlining). counts (λ (n : Note). test n.1) (own_note who o.change)) row.offlined (λ i o there. beside-still test still who o.frame o.result o.change (taken i o there))
 
     own-entered : (frame : Frame) (found : Found) → row.own ≡ Some (owns.Failed frame found) → IsEntered script.layout view who frame None found found.at
     own-entered frame found is = (own-of script seat last report end who row of (owns.Failed frame found) is).failed.entered
 
     failures-with : (situation : Situation) → has_page situation ≡ true → entries_of report who (is_failure situation) ≡ marks_in report (is_failure_mark who situation)
     failures-with situation page =
-        entries-are (is_failure situation) (is_in situation) (failure-counts situation)
-        ∙ ap (λ (k : ℕ). k + counts (is_in situation) (own_failure row.own)) (sum-same (λ (t : EventOutcome). counts (is_in situation) (failed_in (current_thread of.of.command) t)) (λ (t : EventOutcome). counts (λ (n : Note). finds situation (how_in n.1)) (told_note who t)) row.told
-        (λ i t there. told-counts script.layout view who situation page (current_thread of.of.command) t (right-of script seat last report end who row of i t there)))
-        ∙ ap (λ (k : ℕ). sum_by (λ (t : EventOutcome). counts (λ (n : Note). finds situation (how_in n.1)) (told_note who t)) row.told + k) (own-counts script.layout view who situation page row.own own-entered)
-        ∙ sym (marks-are (λ (x : MarkLine). finds situation (how_in x)))
+        let entries : entries_of report who (is_failure situation) ≡ sum_by (λ (t : EventOutcome). counts (is_in situation) (failed_in (current_thread of.of.command) t)) row.told + counts (is_in situation) (own_failure row.own)
+        = entries-are (is_failure situation) (is_in situation) (failure-counts situation) in
+        let told : sum_by (λ (t : EventOutcome). counts (is_in situation) (failed_in (current_thread of.of.command) t)) row.told ≡ sum_by (λ (t : EventOutcome). counts (λ (n : Note). finds situation (how_in n.1)) (told_note who t)) row.told
+        = sum-same (λ (t : EventOutcome). counts (is_in situation) (failed_in (current_thread of.of.command) t)) (λ (t : EventOutcome). counts (λ (n : Note). finds situation (how_in n.1)) (told_note who t)) row.told
+        (λ i t there. told-counts script.layout view who situation page (current_thread of.of.command) t (right-of script seat last report end who row of i t there)) in
+        let own : counts (is_in situation) (own_failure row.own) ≡ counts (λ (n : Note). finds situation (how_in n.1)) (own_note who row.own) = own-counts script.layout view who situation page row.own own-entered in
+        let beside : sum_by (λ (o : Offlining). counts (λ (n : Note). finds situation (how_in n.1)) (own_note who o.change)) row.offlined ≡ 0 = none-beside (λ (x : MarkLine). finds situation (how_in x)) not-found in
+        let all : marks_in report (is_failure_mark who situation)
+            ≡ sum_by (λ (t : EventOutcome). counts (λ (n : Note). finds situation (how_in n.1)) (told_note who t)) row.told + sum_by (λ (o : Offlining). counts (λ (n : Note). finds situation (how_in n.1)) (own_note who o.change)) row.offlined
+                + counts (λ (n : Note). finds situation (how_in n.1)) (own_note who row.own)
+        = marks-are (λ (x : MarkLine). finds situation (how_in x)) in
+        omega (arith, entries, told, own, beside, all)
+      where
+        not-found : (cycle : ℕ) (by : Who) (moved : Bool) → finds situation (how_in (marks.Poisoned cycle by (offlined moved))) ≡ false
+        not-found cycle by true = refl
+        not-found cycle by false = refl
 
     required-with : (situation : Situation) → has_page situation ≡ true → entries_of report who (is_required situation) ≡ sum_by (λ (t : EventOutcome). weigh (urgent_weight situation) t t.found) row.told
     required-with situation page =
@@ -305,13 +396,17 @@ module _ (script : Script) (seat : Cpu → ℕ) (last : State) (report : Report)
 
     moves-with : entries_of report who is_soft ≡ marks_in report (is_move_mark who)
     moves-with =
-        let entries : entries_of report who is_soft ≡ moves_by of.of.row.own
-        = entries-inside script seat last report end who is_soft of.of.inside ∙ softs-counted script.layout of.of.earlier view who of.of.command of.of.row of.of.served.caused of.of.served.accounted in
-        let same : moves_by of.of.row.own ≡ moves_by row.own = ap (λ (r : Row). moves_by r.own) of.same in
-        let all : marks_in report (is_move_mark who) ≡ sum_by (λ (t : EventOutcome). counts (λ (n : Note). is_move (how_in n.1)) (told_note who t)) row.told + counts (λ (n : Note). is_move (how_in n.1)) (own_note who row.own) = marks-are (λ (x : MarkLine). is_move (how_in x)) in
+        let entries : entries_of report who is_soft ≡ moves_by of.of.row.own + moves_beside of.of.row.offlined
+        = entries-inside script seat last report end who is_soft of.of.inside ∙ softs-counted script.layout of.of.earlier view who of.of.command of.of.before of.of.row of.of.after of.of.served in
+        let same : moves_by of.of.row.own + moves_beside of.of.row.offlined ≡ moves_by row.own + moves_beside row.offlined = ap (λ (r : Row). moves_by r.own + moves_beside r.offlined) of.same in
+        let all : marks_in report (is_move_mark who)
+            ≡ sum_by (λ (t : EventOutcome). counts (λ (n : Note). is_move (how_in n.1)) (told_note who t)) row.told + sum_by (λ (o : Offlining). counts (λ (n : Note). is_move (how_in n.1)) (own_note who o.change)) row.offlined + counts (λ (n : Note). is_move (how_in n.1)) (own_note who row.own)
+        = marks-are (λ (x : MarkLine). is_move (how_in x)) in
         let told : sum_by (λ (t : EventOutcome). counts (λ (n : Note). is_move (how_in n.1)) (told_note who t)) row.told ≡ 0 = sum-zero (λ (t : EventOutcome). counts (λ (n : Note). is_move (how_in n.1)) (told_note who t)) row.told (λ i t there. still t.found t) in
+        let beside : sum_by (λ (o : Offlining). counts (λ (n : Note). is_move (how_in n.1)) (own_note who o.change)) row.offlined ≡ moves_beside row.offlined
+        = sum-same (λ (o : Offlining). counts (λ (n : Note). is_move (how_in n.1)) (own_note who o.change)) (λ (o : Offlining). moves_by o.change) row.offlined (λ i o there. beside-moves who o.frame o.result o.change (taken i o there)) in
         let own : counts (λ (n : Note). is_move (how_in n.1)) (own_note who row.own) ≡ moves_by row.own = moves row.own in
-        omega (arith, entries, same, all, told, own)
+        omega (arith, entries, same, all, told, beside, own)
       where
         still : (o : Option Found) (t : EventOutcome) → counts (λ (n : Note). is_move (how_in n.1)) (option_map (note_of who true (frame_of t.held)) o) ≡ 0
         still None t = refl
@@ -326,14 +421,21 @@ module _ (script : Script) (seat : Cpu → ℕ) (last : State) (report : Report)
 
     one-with : marks_in report (is_commands who) ≤ 1
     one-with =
-        let all : marks_in report (is_commands who) ≡ sum_by (λ (t : EventOutcome). counts (λ (n : Note). is_commanded n.1) (told_note who t)) row.told + counts (λ (n : Note). is_commanded n.1) (own_note who row.own) = marks-are (λ (x : MarkLine). is_commanded x) in
+        let all : marks_in report (is_commands who)
+            ≡ sum_by (λ (t : EventOutcome). counts (λ (n : Note). is_commanded n.1) (told_note who t)) row.told + sum_by (λ (o : Offlining). counts (λ (n : Note). is_commanded n.1) (own_note who o.change)) row.offlined + counts (λ (n : Note). is_commanded n.1) (own_note who row.own)
+        = marks-are (λ (x : MarkLine). is_commanded x) in
         let told : sum_by (λ (t : EventOutcome). counts (λ (n : Note). is_commanded n.1) (told_note who t)) row.told ≡ 0 = sum-zero (λ (t : EventOutcome). counts (λ (n : Note). is_commanded n.1) (told_note who t)) row.told (λ i t there. still t.found t) in
+        let beside : sum_by (λ (o : Offlining). counts (λ (n : Note). is_commanded n.1) (own_note who o.change)) row.offlined ≡ 0 = none-beside (λ (x : MarkLine). is_commanded x) uncommanded in
         let own : counts (λ (n : Note). is_commanded n.1) (own_note who row.own) ≤ 1 = one row.own in
-        omega (arith, all, told, own)
+        omega (arith, all, told, beside, own)
       where
         still : (o : Option Found) (t : EventOutcome) → counts (λ (n : Note). is_commanded n.1) (option_map (note_of who true (frame_of t.held)) o) ≡ 0
         still None t = refl
         still (Some found) t = refl
+
+        uncommanded : (cycle : ℕ) (by : Who) (moved : Bool) → is_commanded (marks.Poisoned cycle by (offlined moved)) ≡ false
+        uncommanded cycle by true = refl
+        uncommanded cycle by false = refl
 
         one : (o : Option FrameChange) → counts (λ (n : Note). is_commanded n.1) (own_note who o) ≤ 1
         one None = omega arith
@@ -346,18 +448,27 @@ module _ (script : Script) (seat : Cpu → ℕ) (last : State) (report : Report)
     -- for a frame its answer says so, where it did so to the frame itself
     softs-with : (frame : Frame) (moved : Bool) → count_by (is_soft_mark who moved) (marks_of report frame.0) ≡ soft_lines script report who frame moved
     softs-with frame moved =
-        let all : count_by (is_soft_mark who moved) (marks_of report frame.0) ≡ sum_by (λ (t : EventOutcome). counts (on_frame frame moved) (told_note who t)) row.told + counts (on_frame frame moved) (own_note who row.own)
-        = marks-on-frame script seat last report end who frame (is_soft_line moved) ∙ ap (λ (o : Option Row). count_by (on_frame frame moved) (notes_at who o)) row_is ∙ count-more (told_note who) (on_frame frame moved) row.told (own_note who row.own) in
+        let all : count_by (is_soft_mark who moved) (marks_of report frame.0)
+            ≡ sum_by (λ (t : EventOutcome). counts (on_frame frame moved) (told_note who t)) row.told + sum_by (λ (o : Offlining). counts (on_frame frame moved) (own_note who o.change)) row.offlined + counts (on_frame frame moved) (own_note who row.own)
+        = marks-on-frame script seat last report end who frame (is_soft_line moved) ∙ ap (λ (o : Option Row). count_by (on_frame frame moved) (notes_at who o)) row_is ∙ count-acts (act_note who) (on_frame frame moved) row.told row.offlined (own_note who row.own) in
         let told : sum_by (λ (t : EventOutcome). counts (on_frame frame moved) (told_note who t)) row.told ≡ 0 = sum-zero (λ (t : EventOutcome). counts (on_frame frame moved) (told_note who t)) row.told (λ i t there. still t.found t) in
         let own : counts (on_frame frame moved) (own_note who row.own) ≡ soft_by frame moved row.own = softs row.own in
         let said : soft_by frame moved row.own ≡ cond (is_soft_of frame (Some of.of.command) && says_soft moved (Some of.of.row.answer)) 1 0
         = ap (λ (r : Row). soft_by frame moved r.own) (sym of.same) ∙ soft-said frame moved script.layout of.of.earlier view who of.of.command of.of.row.told of.of.row.own of.of.row.answer of.of.served.caused of.of.served.accounted.own in
-        let lines : soft_lines script report who frame moved ≡ cond (is_soft_of frame (Some of.of.command) && says_soft moved (Some of.of.row.answer)) 1 0 + 0
+        let beside : sum_by (λ (o : Offlining). counts (on_frame frame moved) (own_note who o.change)) row.offlined ≡ sum_by (λ (o : Offlining). flag (says o)) row.offlined
+        = sum-same (λ (o : Offlining). counts (on_frame frame moved) (own_note who o.change)) (λ (o : Offlining). flag (says o)) row.offlined (λ i o there. beside-says frame moved who o.frame o.result o.change (taken i o there)) in
+        let listed : count_by (λ (l : OfflinedLine). (l.frame.0 == frame.0) && says_soft moved (Some (offline_answer l.result))) (map (offlined_at who.seq) row.offlined) ≡ sum_by (λ (o : Offlining). flag (says o)) row.offlined
+        = count-mapped (λ (l : OfflinedLine). (l.frame.0 == frame.0) && says_soft moved (Some (offline_answer l.result))) (offlined_at who.seq) row.offlined in
+        let lines : soft_lines script report who frame moved
+            ≡ cond (is_soft_of frame (Some of.of.command) && says_soft moved (Some of.of.row.answer)) 1 0 + count_by (λ (l : OfflinedLine). (l.frame.0 == frame.0) && says_soft moved (Some (offline_answer l.result))) (map (offlined_at who.seq) row.offlined)
         = ap (λ (o : Option Command). by_lines frame moved o (answer_of report who) (offlined_of report who)) (command-is script who of.of.list of.of.command of.of.list_is of.of.command_is)
         ∙ ap (λ (o : Option Answer). by_lines frame moved (Some of.of.command) o (offlined_of report who)) (answer-told script seat last report end view who of.of)
-        ∙ ap (by_lines frame moved (Some of.of.command) (Some of.of.row.answer)) (none-offlined script seat last report end who) in
-        omega (arith, all, told, own, said, lines)
+        ∙ ap (by_lines frame moved (Some of.of.command) (Some of.of.row.answer)) (offlined-by-row script seat last report end who ∙ ap (λ (o : Option Row). map (offlined_at who.seq) (offlines_at o)) row_is) in
+        omega (arith, all, told, own, said, beside, listed, lines)
       where
+        says : Offlining → Bool
+        says o = (o.frame.0 == frame.0) && says_soft moved (Some (offline_answer o.result))
+
         still : (o : Option Found) (t : EventOutcome) → counts (on_frame frame moved) (option_map (note_of who true (frame_of t.held)) o) ≡ 0
         still None t = refl
         still (Some found) t = no-soft ((frame_of t.held).0 == frame.0) moved

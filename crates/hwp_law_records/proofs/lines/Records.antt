@@ -13,7 +13,7 @@ use Rattle.hwp_law_served.specs.hwp_core_rule.declared.Mark.{Mark}
 use Rattle.hwp_law_served.specs.hwp_core_rule.declared.State.{State}
 use Rattle.hwp_law_served.specs.hwp_core_rule.declared.View.{View}
 use Rattle.hwp_law_served.specs.hwp_core_rule.Lists.{EachMember}
-use Rattle.hwp_law_served.proofs.of_hwp_core_rule.Lists.{at_last, at_map}
+use Rattle.hwp_law_served.proofs.of_hwp_core_rule.Lists.{at_last, at_longer, at_map}
 use Rattle.hwp_law_served.specs.hwp_core_task.Boards.{view_of}
 use Rattle.hwp_law_served.specs.hwp_claim_frame.Claims.{is_own}
 use Rattle.hwp_law_served.specs.hwp_claim_frame.Done.{Marking}
@@ -28,6 +28,7 @@ use Rattle.hwp_law_served.specs.hwp_report_text.declared.FrameLine.{FrameLine}
 use Rattle.hwp_law_served.specs.hwp_report_text.declared.How.{How}
 use Rattle.hwp_law_served.specs.hwp_report_text.declared.How.TheVariants as hows
 use Rattle.hwp_law_served.specs.hwp_report_text.declared.MarkLine.{MarkLine}
+use Rattle.hwp_law_served.specs.hwp_report_text.declared.MarkLine.TheVariants as marks
 use Rattle.hwp_law_served.specs.hwp_report_text.declared.Report.{Report}
 use Rattle.hwp_law_served.specs.hwp_law.Causes.{HasMark}
 use Rattle.hwp_law_served.specs.hwp_law.Checks.{IsResult}
@@ -37,20 +38,23 @@ use Rattle.hwp_law_served.specs.hwp_law.Records.{HaveEvents, is_kernel_found, Is
 use Rattle.hwp_law_served.specs.hwp_claim.declared.Found.{Found}
 use Rattle.hwp_law_served.specs.hwp_cpu_row.declared.FrameChange.{FrameChange}
 use Rattle.hwp_law_served.specs.hwp_cpu_row.declared.FrameChange.TheVariants as owns
+use Rattle.hwp_law_served.specs.hwp_cpu_row.Acts.{Offlined, acts}
+use Rattle.hwp_law_served.specs.hwp_cpu_row.declared.Offlining.{Offlining}
 use Rattle.hwp_law_served.specs.hwp_cpu_row.declared.Row.{Row}
 use Rattle.hwp_law_served.specs.hwp_cpu_check.declared.EventOutcome.{EventOutcome}
-use Rattle.hwp_law_served.specs.hwp_cpu_check.Done.{marked_in}
 use Rattle.hwp_law_served.specs.hwp_cpu_check.Fits.{IsEntered}
 use Rattle.hwp_law_served.specs.hwp_cpu_check.Told.{required_by}
-use Rattle.hwp_law_served.specs.Accounts.{marking_by, markings, markings_in, own_marking}
-use Rattle.hwp_law_served.specs.Rows.{Note, lines_of, note_by, offlined, own_note, record_of, told_note}
+use Rattle.hwp_law_served.specs.Accounts.{act_marking, marking_by, markings, markings_in, own_marking}
+use Rattle.hwp_law_served.specs.Rows.{Note, act_note, lines_of, note_by, offlined, own_note, record_of, row_notes}
+use Rattle.hwp_law_served.proofs.Acts.{offlined-act}
+use Rattle.hwp_law_served.proofs.Picked.{picked-has}
 use Rattle.hwp_law_served.specs.Runs.{notes_of, row_at}
 use Rattle.hwp_law_served.proofs.RunEnds.{IsEnd, filter-has}
 use Rattle.hwp_law_served.proofs.PoisonMarks.{HasMarked, has-marked}
 use Rattle.hwp_law_served.proofs.RowLines.{answer-told, events-by-row, told_at}
 use Rattle.hwp_law_served.proofs.Seen.{filter-is}
 use Rattle.hwp_law_served.proofs.deeds.Made.{command-is}
-use Rattle.hwp_law_served.proofs.lines.OfRows.{IsOwnRight, kernel-found, own-of, right-of, row-of}
+use Rattle.hwp_law_served.proofs.lines.OfRows.{IsOwnRight, IsTakenSo, kernel-found, offlined-of, own-of, right-of, row-of, taken-so}
 use Rattle.hwp_law_records.proofs.lines.RecordLines.{IsOfRow, OfItsRow, failure_line, in-record, of-row}
 use Rattle.hwp_law_records.proofs.lines.LineOrder.{hardware-same}
 use Rattle.hwp_law_records.proofs.lines.RowEvents.{Came, TellsResult, came_line, found_in, found_on, hardware_line, results-are, row-lines, row-results, same-results}
@@ -124,17 +128,25 @@ module _ (script : Script) (seat : Cpu → ℕ) (last : State) (report : Report)
     line-found who hardware found x how line_is_ right is =
         subst (IsFound kernel) (same_Some (hows.Failure hardware found.situation (outcome_of found.situation)) how (sym (ap how_in line_is_) ∙ is)) (right, refl)
 
-    own-found : (who : Who) (command : Command) (answer : Answer) (x : MarkLine) (how : How) (own : FrameChange) → IsOwnRight script.layout (view_of last (seat who.cpu)) who command answer own → (note_by who own).0 ≡ frame → x ≡ (note_by who own).1 → how_in x ≡ Some how → IsFound kernel how
-    own-found who command answer x how (owns.Failed f found) right frame_is line_is_ is =
-        let entered = subst (λ (y : Frame). IsEntered script.layout (view_of last (seat who.cpu)) who y None found found.at) frame_is right.failed.entered in
-        line-found who false found x how line_is_ (kernel-found script.layout (view_of last (seat who.cpu)) who frame None kernel found kernel_is entered) is
-    own-found who command answer x how (owns.Offlined f cycle moved) right frame_is line_is_ is =
-        let users : slice_get script.layout.kernel frame.0 ≡ Some false = subst (λ (y : Frame). slice_get script.layout.kernel y.0 ≡ Some false) frame_is right.users in
-        subst (IsFound kernel) (same_Some (offlined moved) how (sym (ap how_in line_is_) ∙ is)) (which moved (same_Some kernel false (sym kernel_is ∙ users)))
+    -- a frame that was taken out of use isn't the kernel's
+    offlined-found : (f : Frame) (moved : Bool) (x : MarkLine) (how : How) → slice_get script.layout.kernel f.0 ≡ Some false → f ≡ frame → how_in x ≡ Some (offlined moved) → how_in x ≡ Some how → IsFound kernel how
+    offlined-found f moved x how users_ same line is =
+        let users : slice_get script.layout.kernel frame.0 ≡ Some false = subst (λ (y : Frame). slice_get script.layout.kernel y.0 ≡ Some false) same users_ in
+        subst (IsFound kernel) (same_Some (offlined moved) how (sym line ∙ is)) (which moved (same_Some kernel false (sym kernel_is ∙ users)))
       where
         which : (b : Bool) → kernel ≡ false → IsFound kernel (offlined b)
         which true none = none
         which false none = none
+
+    beside-found : (who : Who) (o : Offlining) (change : FrameChange) (x : MarkLine) (how : How) → IsTakenSo script.layout o.frame o.result change → (note_by who change).0 ≡ frame → x ≡ (note_by who change).1 → how_in x ≡ Some how → IsFound kernel how
+    beside-found who o change x how taken frame_is line_is_ is =
+        offlined-found o.frame taken.moved x how taken.users (sym (ap (λ (c : FrameChange). (note_by who c).0) taken.change_is) ∙ frame_is) (ap how_in (line_is_ ∙ ap (λ (c : FrameChange). (note_by who c).1) taken.change_is)) is
+
+    own-found : (who : Who) (command : Command) (answer : Answer) (x : MarkLine) (how : How) (own : FrameChange) → IsOwnRight script.layout (view_of last (seat who.cpu)) who command answer own → (note_by who own).0 ≡ frame → x ≡ (note_by who own).1 → how_in x ≡ Some how → IsFound kernel how
+    own-found who command answer x how (owns.Failed f found) right frame_is line_is_ is =
+        let entered = subst (λ (y : Frame). IsEntered script.layout (view_of last (seat who.cpu)) who y None found found.at) frame_is right.failed.entered in
+        line-found who false found x how line_is_ (kernel-found script.layout (view_of last (seat who.cpu)) who frame None kernel found kernel_is entered) is
+    own-found who command answer x how (owns.Offlined f cycle moved) right frame_is line_is_ is = offlined-found f moved x how right.users frame_is (ap how_in line_is_) is
     own-found who command answer x how (owns.Revived f cycle) right frame_is line_is_ is = absurd (none-some how (ap how_in (sym line_is_) ∙ is))
 
     found-so : (k : ℕ) (x : MarkLine) (how : How) → slice_get (marks_of report frame.0) k ≡ Some x → how_in x ≡ Some how → IsFound kernel how
@@ -147,7 +159,11 @@ module _ (script : Script) (seat : Cpu → ℕ) (last : State) (report : Report)
             let required = required_by (current_thread r.of.command) o.t.held.grade.severity in
             let entered = subst (λ (f : Frame). IsEntered script.layout (view_of last (seat (who_in x).cpu)) (who_in x) f required o.found o.found.at) o.frame_is (right.found o.found o.found_is).1 in
             line-found (who_in x) true o.found x how o.line_is (kernel-found script.layout (view_of last (seat (who_in x).cpu)) (who_in x) frame required kernel o.found kernel_is entered) is
-        which row row_is (inr o) =
+        which row row_is (inr (inl o)) =
+            let r = row-of script seat last report end (who_in x) row row_is in
+            let served = offlined-of script seat last report end (who_in x) row r o.i o.o o.there in
+            beside-found (who_in x) o.o o.change x how (taken-so script.layout (view_of last (seat (who_in x).cpu)) (who_in x) o.o.frame o.o.result o.o.change o.change served.came o.change_is) o.frame_is o.line_is is
+        which row row_is (inr (inr o)) =
             let r = row-of script seat last report end (who_in x) row row_is in
             own-found (who_in x) r.of.command r.of.row.answer x how o.own (own-of script seat last report end (who_in x) row r o.own o.own_is) o.frame_is o.line_is is
 
@@ -160,12 +176,22 @@ module _ (script : Script) (seat : Cpu → ℕ) (last : State) (report : Report)
     own-answered who command answer (owns.Revived f cycle) right frame_is at told =
         (at ∙ ap (λ (c : Command). Some c) right.command_is ∙ ap (λ (y : Frame). Some (commands.Unpoison y)) frame_is, told ∙ ap (λ (a : Answer). Some a) right.answer_is)
 
+    offlined-answered : (who : Who) (cycle : ℕ) (moved : Bool) → IsAnswered script report frame (marks.Poisoned cycle who (offlined moved))
+    offlined-answered who cycle true = tt
+    offlined-answered who cycle false = tt
+
     answered-so : (k : ℕ) (x : MarkLine) → slice_get (marks_of report frame.0) k ≡ Some x → IsAnswered script report frame x
     answered-so k x there = let o = of k x there in which o.row o.row_is o.of
       where
         which : (row : Row) → row_at end.rows (who_in x) ≡ Some row → IsOfRow (who_in x) row frame x → IsAnswered script report frame x
         which row row_is (inl o) = subst (IsAnswered script report frame) (sym o.line_is) tt
-        which row row_is (inr o) =
+        which row row_is (inr (inl o)) =
+            let who : Who = who_in x in
+            let r = row-of script seat last report end who row row_is in
+            let served = offlined-of script seat last report end who row r o.i o.o o.there in
+            let taken = taken-so script.layout (view_of last (seat who.cpu)) who o.o.frame o.o.result o.o.change o.change served.came o.change_is in
+            subst (IsAnswered script report frame) (sym (o.line_is ∙ ap (λ (c : FrameChange). (note_by who c).1) taken.change_is)) (offlined-answered who taken.cycle taken.moved)
+        which row row_is (inr (inr o)) =
             let who : Who = who_in x in
             let r = row-of script seat last report end who row row_is in
             subst (IsAnswered script report frame) (sym o.line_is)
@@ -213,33 +239,50 @@ module _ (script : Script) (seat : Cpu → ℕ) (last : State) (report : Report)
       = ap (λ (l : List Acted). slice_get l has.0) all ∙ at_map (λ (c : Came). found_act c.1) (found_on f row.told) has.0 (t, found) has.1 ∙ ap (λ (a : Acted). Some a) (sym acted) in
       (has.0, slice_get_within _ has.0 t.acted at, get_or_from_slice_get _ has.0 t.acted t.acted at)
 
-  -- and so is what the command did to a frame itself
-  pub own-mark : (who : Who) (row : Row) → row_at end.rows who ≡ Some row → (own : FrameChange) → row.own ≡ Some own → (Such : MarkLine → Type 0) → Such (note_by who own).1 → HasMark report who (marking_by own).frame Such
-  own-mark who row row_is own own_is Such such =
+  -- and so is what was done to a frame, where the row marks and notes it
+  change-mark : (who : Who) (row : Row) → row_at end.rows who ≡ Some row → (change : FrameChange) (i j : ℕ) → slice_get (markings_in row) i ≡ Some (marking_by change) → slice_get (row_notes who row) j ≡ Some (note_by who change) → (Such : MarkLine → Type 0) → Such (note_by who change).1
+      → HasMark report who (marking_by change).frame Such
+  change-mark who row row_is change i j marked noted Such such =
       let view : View = view_of last (seat who.cpu) in
       let r = row-of script seat last report end who row row_is in
-      let note : Note = note_by who own in
-      let frame : Frame = (marking_by own).frame in
-      let told : List Note = filter_map (told_note who) row.told in
+      let note : Note = note_by who change in
+      let frame : Frame = (marking_by change).frame in
       -- the mark, and so the frame's line
-      let marked : List Marking = filter_map marked_in row.told in
-      let marking_at : slice_get (markings who view) (length marked) ≡ Some (marking_by own)
-      = ap (λ (l : List Marking). slice_get l (length marked)) (r.of.served.accounted.marked ∙ ap markings_in r.same ∙ ap (λ (o : Option FrameChange). marked ++ cons_option (own_marking o) []) own_is) ∙ at_last marked (marking_by own) in
-      let has : HasMarked view who (marking_by own) = has-marked view who (marking_by own) (length marked) marking_at in
+      let marking_at : slice_get (markings who view) i ≡ Some (marking_by change) = ap (λ (l : List Marking). slice_get l i) (r.of.served.accounted.marked ∙ ap markings_in r.same) ∙ marked in
+      let has : HasMarked view who (marking_by change) = has-marked view who (marking_by change) i marking_at in
       let line = line-of script seat last report end (seat who.cpu) has.j view has.mark (end.seated.there who.cpu r.of.inside) has.there in
       let line_is : slice_get report.frames frame.0 ≡ Some line.0 = ap (λ (x : Frame). slice_get report.frames x.0) (sym (ap (λ (x : Marking). x.frame) has.marking_is)) ∙ line.1 in
       -- the note, and so the line of the record
-      let note_at : slice_get (notes_at who (row_at end.rows who)) (length told) ≡ Some note
-      = ap (λ (o : Option Row). slice_get (notes_at who o) (length told)) row_is ∙ ap (λ (o : Option FrameChange). slice_get (told ++ cons_option (own_note who o) []) (length told)) own_is ∙ at_last told note in
-      let among = filter-is (is_noted who) (all_notes (notes_of 0 end.rows)) (length told) note (ap (λ (l : List Note). slice_get l (length told)) (notes-of-command who end.rows) ∙ note_at) in
-      let on = filter-has (λ (n : Note). n.0.0 == frame.0) (all_notes (notes_of 0 end.rows)) among.0 note among.1 (eq-eqb note.0.0 frame.0 (ap (λ (x : Frame). x.0) (own-frame who own))) in
+      let note_at : slice_get (notes_at who (row_at end.rows who)) j ≡ Some note = ap (λ (o : Option Row). slice_get (notes_at who o) j) row_is ∙ noted in
+      let among = filter-is (is_noted who) (all_notes (notes_of 0 end.rows)) j note (ap (λ (l : List Note). slice_get l j) (notes-of-command who end.rows) ∙ note_at) in
+      let on = filter-has (λ (n : Note). n.0.0 == frame.0) (all_notes (notes_of 0 end.rows)) among.0 note among.1 (eq-eqb note.0.0 frame.0 (ap (λ (x : Frame). x.0) (own-frame who change))) in
       let in_record : slice_get (record_of frame (notes_of 0 end.rows)) on.0 ≡ Some note.1
       = ap (λ (l : List MarkLine). slice_get l on.0) (record-flat frame (notes_of 0 end.rows)) ∙ at_map (λ (n : Note). n.1) (filter (λ (n : Note). n.0.0 == frame.0) (all_notes (notes_of 0 end.rows))) on.0 note on.1 in
       let some = in-record script seat last report end frame line.0 line_is on.0 note.1 in_record in
       let at : slice_get (marks_of report frame.0) some.0 ≡ Some note.1 = ap (λ (l : List MarkLine). slice_get l some.0) (marks-are frame line.0 line_is) ∙ some.2 ∙ ap (λ (y : MarkLine). Some y) some.3 in
-      any-of (λ (y : MarkLine). (who_in y ≡ who) × Such y) (marks_of report frame.0) (some.0, note.1, at, (own-by who own, such))
+      any-of (λ (y : MarkLine). (who_in y ≡ who) × Such y) (marks_of report frame.0) (some.0, note.1, at, (own-by who change, such))
     where
       own-frame : (who : Who) (own : FrameChange) → (note_by who own).0 ≡ (marking_by own).frame
       own-frame who (owns.Failed f found) = refl
       own-frame who (owns.Offlined f cycle moved) = refl
       own-frame who (owns.Revived f cycle) = refl
+
+  -- so is what the command did to a frame itself
+  pub own-mark : (who : Who) (row : Row) → row_at end.rows who ≡ Some row → (own : FrameChange) → row.own ≡ Some own → (Such : MarkLine → Type 0) → Such (note_by who own).1 → HasMark report who (marking_by own).frame Such
+  own-mark who row row_is own own_is =
+      let marked : List Marking = filter_map act_marking (acts row.told row.offlined) in
+      let noted : List Note = filter_map (act_note who) (acts row.told row.offlined) in
+      change-mark who row row_is own (length marked) (length noted)
+      (ap (λ (o : Option FrameChange). slice_get (marked ++ cons_option (own_marking o) []) (length marked)) own_is ∙ at_last marked (marking_by own))
+      (ap (λ (o : Option FrameChange). slice_get (noted ++ cons_option (own_note who o) []) (length noted)) own_is ∙ at_last noted (note_by who own))
+
+  -- and what was done to a frame that was taken out of use beside it
+  pub beside-mark : (who : Who) (row : Row) → row_at end.rows who ≡ Some row → (j : ℕ) (o : Offlining) (change : FrameChange) → slice_get row.offlined j ≡ Some o → o.change ≡ Some change → (Such : MarkLine → Type 0) → Such (note_by who change).1
+      → HasMark report who (marking_by change).frame Such
+  beside-mark who row row_is j o change there change_is =
+      let act = offlined-act row.told row.offlined j o there in
+      let marked = picked-has act_marking (acts row.told row.offlined) act.0 (Offlined o) (marking_by change) act.1 (ap own_marking change_is) in
+      let noted = picked-has (act_note who) (acts row.told row.offlined) act.0 (Offlined o) (note_by who change) act.1 (ap (own_note who) change_is) in
+      change-mark who row row_is change marked.0 noted.0
+      (at_longer (filter_map act_marking (acts row.told row.offlined)) (cons_option (own_marking row.own) []) marked.0 (marking_by change) marked.1)
+      (at_longer (filter_map (act_note who) (acts row.told row.offlined)) (cons_option (own_note who row.own) []) noted.0 (note_by who change) noted.1)

@@ -1,6 +1,6 @@
 -- The lines of a frame's record that a command's events caused, and its event lines for the frame that tell a result, are of the same
 -- failures, in the same order.
-use Rattle.std.proofs.Common.{◌≡◌, ℕ, zero, suc, ◌+◌, ◌<◌, ◌==◌, ◌&&◌, Bool, true, false, cond, List, [], ◌∷◌, ◌++◌, Option, Some, None, is_some, filter, filter_map, map, option_map, refl, sym, ap, ◌∙◌, subst, arith, true≢false}
+use Rattle.std.proofs.Common.{◌≡◌, ℕ, zero, suc, ◌+◌, ◌<◌, ◌==◌, ◌&&◌, Bool, true, false, cond, List, [], ◌∷◌, ◌++◌, Option, Some, None, if◌then◌else◌, is_some, filter, filter_map, map, option_map, refl, sym, ap, ◌∙◌, subst, arith, true≢false}
 use Rattle.std.specs.List.{cons_option, count_by, sum_by, zip}
 use Rattle.std.proofs.lemmas.Bool.{eq-eqb, eqb-true, false_from_ne_true}
 use Rattle.std.proofs.lemmas.List.{append-nil}
@@ -25,11 +25,12 @@ use Rattle.hwp_law_served.specs.hwp_law.Records.{is_by_hardware, line_results, m
 use Rattle.hwp_law_served.specs.hwp_claim.declared.Found.{Found}
 use Rattle.hwp_law_served.specs.hwp_cpu_row.declared.FrameChange.{FrameChange}
 use Rattle.hwp_law_served.specs.hwp_cpu_row.declared.FrameChange.TheVariants as owns
+use Rattle.hwp_law_served.specs.hwp_cpu_row.declared.Offlining.{Offlining}
 use Rattle.hwp_law_served.specs.hwp_cpu_row.declared.Row.{Row}
 use Rattle.hwp_law_served.specs.hwp_cpu_check.declared.EventOutcome.{EventOutcome}
 use Rattle.hwp_law_served.specs.hwp_cpu_check.Told.{frame_of}
-use Rattle.hwp_law_served.specs.Rows.{Note, lines_of, note_by, note_of, own_note, row_notes, told_note}
-use Rattle.hwp_law_served.specs.hwp_cpu_row.Acts.{event_at}
+use Rattle.hwp_law_served.specs.Rows.{Note, act_note, lines_of, note_by, note_of, own_note, row_notes, told_note}
+use Rattle.hwp_law_served.specs.hwp_cpu_row.Acts.{Offlined, Told, acts, acts_from, event_at}
 use Rattle.hwp_law_served.proofs.Sums.{below-one, sum-same}
 use Rattle.hwp_law_served.proofs.lines.ToldRight.{found_act}
 use Rattle.hwp_law_records.proofs.marks.RowNotes.{lines-append, through-map}
@@ -75,39 +76,52 @@ came-so P f (t ∷ ts) each = which t.found (frame_at t.held.event.addr == f) re
 
 -- ---- in the record
 
-told-lines : (frame : Frame) (who : Who) (told : List EventOutcome) → filter is_by_hardware (lines_of frame (filter_map (told_note who) told)) ≡ map (hardware_line who) (found_on frame.0 told)
-told-lines frame who [] = refl
-told-lines frame who (t ∷ ts) = which t.found (told-lines frame who ts)
+-- by what was done to a frame otherwise there is none
+change-lines : (frame : Frame) (who : Who) (change : Option FrameChange) (rest : List Note) → filter is_by_hardware (lines_of frame (cons_option (own_note who change) rest)) ≡ filter is_by_hardware (lines_of frame rest)
+change-lines frame who None rest = refl
+change-lines frame who (Some change) rest = which change ((note_by who change).0.0 == frame.0)
   where
-    which : (o : Option Found) → filter is_by_hardware (lines_of frame (filter_map (told_note who) ts)) ≡ map (hardware_line who) (found_on frame.0 ts)
-        → filter is_by_hardware (lines_of frame (cons_option (option_map (note_of who true (frame_of t.held)) o) (filter_map (told_note who) ts))) ≡ map (hardware_line who) (found_in o (frame_at t.held.event.addr == frame.0) t (found_on frame.0 ts))
-    which None same = same
-    which (Some found) same =
-        let here : Bool = frame_at t.held.event.addr == frame.0 in
-        let of : List Note = filter (λ (n : Note). n.0.0 == frame.0) (filter_map (told_note who) ts) in
-        through-map (λ (n : Note). n.1) is_by_hardware (note_of who true (frame_of t.held) found) of here
-        ∙ ap (λ (l : List MarkLine). cond here (hardware_line who (t, found) ∷ l) l) same
-        ∙ sym (map-cond (hardware_line who) (t, found) (found_on frame.0 ts) here)
-
-own-lines : (frame : Frame) (who : Who) (own : Option FrameChange) → filter is_by_hardware (lines_of frame (cons_option (own_note who own) [])) ≡ []
-own-lines frame who None = refl
-own-lines frame who (Some own) = which own ((note_by who own).0.0 == frame.0)
-  where
-    which : (o : FrameChange) (b : Bool) → filter is_by_hardware (map (λ (n : Note). n.1) (cond b (note_by who o ∷ []) [])) ≡ []
-    which o false = refl
+    which : (c : FrameChange) (b : Bool) → filter is_by_hardware (map (λ (n : Note). n.1) (cond b (note_by who c ∷ filter (λ (n : Note). n.0.0 == frame.0) rest) (filter (λ (n : Note). n.0.0 == frame.0) rest))) ≡ filter is_by_hardware (lines_of frame rest)
+    which c false = refl
     which (owns.Failed f found) true = refl
     which (owns.Offlined f cycle true) true = refl
     which (owns.Offlined f cycle false) true = refl
     which (owns.Revived f cycle) true = refl
 
+-- by an event there is one, where it made its frame fail
+event-lines : (frame : Frame) (who : Who) (t : EventOutcome) (rest : List Note) (came : List Came) → filter is_by_hardware (lines_of frame rest) ≡ map (hardware_line who) came
+    → filter is_by_hardware (lines_of frame (cons_option (told_note who t) rest)) ≡ map (hardware_line who) (found_in t.found (frame_at t.held.event.addr == frame.0) t came)
+event-lines frame who t rest came same = which t.found
+  where
+    which : (o : Option Found) → filter is_by_hardware (lines_of frame (cons_option (option_map (note_of who true (frame_of t.held)) o) rest)) ≡ map (hardware_line who) (found_in o (frame_at t.held.event.addr == frame.0) t came)
+    which None = same
+    which (Some found) =
+        let here : Bool = frame_at t.held.event.addr == frame.0 in
+        let of : List Note = filter (λ (n : Note). n.0.0 == frame.0) rest in
+        through-map (λ (n : Note). n.1) is_by_hardware (note_of who true (frame_of t.held) found) of here
+        ∙ ap (λ (l : List MarkLine). cond here (hardware_line who (t, found) ∷ l) l) same
+        ∙ sym (map-cond (hardware_line who) (t, found) came here)
+
+acts-lines : (frame : Frame) (who : Who) (n : ℕ) (told : List EventOutcome) (offlined : List Offlining) → filter is_by_hardware (lines_of frame (filter_map (act_note who) (acts_from n told offlined))) ≡ map (hardware_line who) (found_on frame.0 told)
+acts-lines frame who n [] [] = refl
+acts-lines frame who n (t ∷ ts) [] = event-lines frame who t (filter_map (act_note who) (map Told ts)) (found_on frame.0 ts) (acts-lines frame who n ts [])
+acts-lines frame who n [] (o ∷ os) = change-lines frame who o.change (filter_map (act_note who) (acts_from n [] os)) ∙ acts-lines frame who n [] os
+acts-lines frame who n (t ∷ ts) (o ∷ os) = which (o.told == n) (acts-lines frame who n (t ∷ ts) os) (acts-lines frame who (n + 1) ts (o ∷ os))
+  where
+    which : (b : Bool) → filter is_by_hardware (lines_of frame (filter_map (act_note who) (acts_from n (t ∷ ts) os))) ≡ map (hardware_line who) (found_on frame.0 (t ∷ ts))
+        → filter is_by_hardware (lines_of frame (filter_map (act_note who) (acts_from (n + 1) ts (o ∷ os)))) ≡ map (hardware_line who) (found_on frame.0 ts)
+        → filter is_by_hardware (lines_of frame (filter_map (act_note who) (if b then Offlined o ∷ acts_from n (t ∷ ts) os else Told t ∷ acts_from (n + 1) ts (o ∷ os)))) ≡ map (hardware_line who) (found_on frame.0 (t ∷ ts))
+    which true more rest = change-lines frame who o.change (filter_map (act_note who) (acts_from n (t ∷ ts) os)) ∙ more
+    which false more rest = event-lines frame who t (filter_map (act_note who) (acts_from (n + 1) ts (o ∷ os))) (found_on frame.0 ts) rest
+
 pub row-lines : (frame : Frame) (who : Who) (row : Row) → filter is_by_hardware (lines_of frame (row_notes who row)) ≡ map (hardware_line who) (found_on frame.0 row.told)
 row-lines frame who row =
-    let told : List Note = filter_map (told_note who) row.told in
+    let did : List Note = filter_map (act_note who) (acts row.told row.offlined) in
     let own : List Note = cons_option (own_note who row.own) [] in
-    ap (filter is_by_hardware) (lines-append frame told own) ∙ filter-append is_by_hardware (lines_of frame told) (lines_of frame own)
-    ∙ ap (λ (l : List MarkLine). filter is_by_hardware (lines_of frame told) ++ l) (own-lines frame who row.own)
-    ∙ append-nil (filter is_by_hardware (lines_of frame told))
-    ∙ told-lines frame who row.told
+    ap (filter is_by_hardware) (lines-append frame did own) ∙ filter-append is_by_hardware (lines_of frame did) (lines_of frame own)
+    ∙ ap (λ (l : List MarkLine). filter is_by_hardware (lines_of frame did) ++ l) (change-lines frame who row.own [])
+    ∙ append-nil (filter is_by_hardware (lines_of frame did))
+    ∙ acts-lines frame who 0 row.told row.offlined
 
 -- ---- among the events
 

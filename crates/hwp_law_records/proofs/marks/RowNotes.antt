@@ -1,5 +1,5 @@
 -- The notes of a command among those of all processors are those of its row, and so are its lines in the record of a frame.
-use Rattle.std.proofs.Common.{◌≡◌, ℕ, zero, suc, ◌+◌, ◌<◌, ◌≤◌, ◌==◌, ◌&&◌, Bool, true, false, cond, List, [], ◌∷◌, ◌++◌, Option, Some, None, filter, filter_map, flat_map, length, map, option_and_then, option_map, slice_get, refl, sym, ap, ◌∙◌, subst, arith}
+use Rattle.std.proofs.Common.{◌≡◌, inl, inr, ℕ, zero, suc, ◌+◌, ◌<◌, ◌≤◌, ◌==◌, ◌&&◌, Bool, true, false, cond, List, [], ◌∷◌, ◌++◌, Option, Some, None, filter, filter_map, flat_map, length, map, option_and_then, option_map, slice_get, refl, sym, ap, ◌∙◌, subst, arith}
 use Rattle.std.specs.List.{cons_option}
 use Rattle.std.proofs.lemmas.Bool.{and_from, and_left, and_right, eq-eqb, ne_eqb}
 use Rattle.std.proofs.lemmas.List.{append-nil, map-append}
@@ -16,10 +16,14 @@ use Rattle.hwp_law_served.specs.hwp_law.Records.{hardware_marks, is_by_hardware,
 use Rattle.hwp_law_served.specs.hwp_claim.declared.Found.{Found}
 use Rattle.hwp_law_served.specs.hwp_cpu_row.declared.FrameChange.{FrameChange}
 use Rattle.hwp_law_served.specs.hwp_cpu_row.declared.FrameChange.TheVariants as owns
+use Rattle.hwp_law_served.specs.hwp_cpu_row.Acts.{Act, acts}
+use Rattle.hwp_law_served.specs.hwp_cpu_row.declared.Offlining.{Offlining}
 use Rattle.hwp_law_served.specs.hwp_cpu_row.declared.Row.{Row}
 use Rattle.hwp_law_served.specs.hwp_cpu_check.declared.EventOutcome.{EventOutcome}
 use Rattle.hwp_law_served.specs.hwp_cpu_check.Told.{frame_of}
-use Rattle.hwp_law_served.specs.Rows.{Note, lines_of, note_by, note_of, notes_from, own_note, record_of, row_notes, told_note}
+use Rattle.hwp_law_served.specs.Rows.{Note, act_note, lines_of, note_by, note_of, notes_from, own_note, record_of, row_notes}
+use Rattle.hwp_law_served.proofs.Acts.{IsOneOf, act-of}
+use Rattle.hwp_law_served.proofs.Picked.{picked-is}
 use Rattle.hwp_law_served.specs.Runs.{notes_of, row_at}
 
 -- ---- lists
@@ -47,18 +51,32 @@ notes_at who (Some row) = row_notes who row
 abbrev pub is_noted : Who → Note → Bool
 is_noted who n = is_same_command who (who_in n.1)
 
--- what holds of the notes of its events and of its own holds of all
+-- what holds of the notes of its events, of those of frames that were taken out of use beside it and of its own holds of all
 pub each-note : (Q : Note → Type 0) (who : Who) (row : Row) → ((i : ℕ) (t : EventOutcome) (found : Found) → slice_get row.told i ≡ Some t → t.found ≡ Some found → Q (note_of who true (frame_of t.held) found))
+    → ((i : ℕ) (o : Offlining) (change : FrameChange) → slice_get row.offlined i ≡ Some o → o.change ≡ Some change → Q (note_by who change))
     → ((own : FrameChange) → row.own ≡ Some own → Q (note_by who own)) → EachMember Q (row_notes who row)
-each-note Q who row told own = each-append Q (filter_map (told_note who) row.told) (cons_option (own_note who row.own) []) (by-told row.told told) (by-own row.own refl)
+each-note Q who row told beside own = each-append Q (filter_map (act_note who) (acts row.told row.offlined)) (cons_option (own_note who row.own) []) by-acts (by-own row.own refl)
   where
-    by-told : (ts : List EventOutcome) → ((i : ℕ) (t : EventOutcome) (found : Found) → slice_get ts i ≡ Some t → t.found ≡ Some found → Q (note_of who true (frame_of t.held) found)) → EachMember Q (filter_map (told_note who) ts)
-    by-told [] each = λ i n there. absurd (none-some n there)
-    by-told (t ∷ ts) each = which t.found refl (by-told ts (λ i x found at is. each (suc i) x found at is))
-      where
-        which : (o : Option Found) → t.found ≡ o → EachMember Q (filter_map (told_note who) ts) → EachMember Q (cons_option (option_map (note_of who true (frame_of t.held)) o) (filter_map (told_note who) ts))
-        which None is rest = rest
-        which (Some found) is rest = each-cons Q (note_of who true (frame_of t.held) found) (filter_map (told_note who) ts) (each 0 t found refl is) rest
+    of-told : (t : EventOutcome) (o : Option Found) (n : Note) → t.found ≡ o → option_map (note_of who true (frame_of t.held)) o ≡ Some n → (found : Found) × (t.found ≡ Some found) × (note_of who true (frame_of t.held) found ≡ n)
+    of-told t None n is gives = absurd (none-some n gives)
+    of-told t (Some found) n is gives = (found, is, same_Some (note_of who true (frame_of t.held) found) n gives)
+
+    of-change : (c o : Option FrameChange) (n : Note) → c ≡ o → own_note who o ≡ Some n → (change : FrameChange) × (c ≡ Some change) × (note_by who change ≡ n)
+    of-change c None n is gives = absurd (none-some n gives)
+    of-change c (Some change) n is gives = (change, is, same_Some (note_by who change) n gives)
+
+    of-act : (a : Act) (n : Note) → act_note who a ≡ Some n → IsOneOf row.told row.offlined a → Q n
+    of-act a n gives (inl is) =
+        let of = of-told is.t is.t.found n refl (ap (act_note who) is.same ∙ gives) in
+        subst Q of.2 (told is.j is.t of.0 is.there of.1)
+    of-act a n gives (inr is) =
+        let of = of-change is.o.change is.o.change n refl (ap (act_note who) is.same ∙ gives) in
+        subst Q of.2 (beside is.j is.o of.0 is.there of.1)
+
+    by-acts : EachMember Q (filter_map (act_note who) (acts row.told row.offlined))
+    by-acts k n there =
+        let picked = picked-is (act_note who) (acts row.told row.offlined) k n there in
+        of-act picked.1 n picked.3 (act-of row.told row.offlined picked.0 picked.1 picked.2)
 
     by-own : (o : Option FrameChange) → row.own ≡ o → EachMember Q (cons_option (own_note who o) [])
     by-own None is = λ i n there. absurd (none-some n there)
@@ -71,7 +89,7 @@ own-by who (owns.Offlined frame cycle moved) = refl
 own-by who (owns.Revived frame cycle) = refl
 
 noted-by : (who : Who) (row : Row) → EachMember (λ (n : Note). who_in n.1 ≡ who) (row_notes who row)
-noted-by who row = each-note (λ (n : Note). who_in n.1 ≡ who) who row (λ i t found at is. refl) (λ own is. own-by who own)
+noted-by who row = each-note (λ (n : Note). who_in n.1 ≡ who) who row (λ i t found at is. refl) (λ i o change at is. own-by who change) (λ own is. own-by who own)
 
 -- of another command none
 others-none : (who : Who) (cpu : Cpu) (n : ℕ) (rows : List Row) → ((m : ℕ) → n ≤ m → is_same_command who (record { cpu = cpu; seq = m }) ≡ false) → filter (is_noted who) (notes_from cpu n rows) ≡ []
