@@ -34,7 +34,7 @@ use Rattle.hwp_top_threads.proofs.Ended.{InTurns, all-ended, in-order}
 use Rattle.hwp_top_turns.proofs.ProcessorServes.{finished-over}
 
 -- a processor that is finished holds nothing
-holds-none : (layout : Layout) (view : View) (p : Processor) → Fits layout view p → p.job ≡ None → HoldsNothing view
+holds-none : (layout : Layout) (view : View) (p : Processor) → Fits layout view p → p.course ≡ None → HoldsNothing view
 holds-none layout view p fits none =
     let done : IsDone layout view p.cpu p.commands p.rows.items p.local = subst (FitsAt layout view p.cpu p.commands p.rows.items p.local) none fits.at in
     record {

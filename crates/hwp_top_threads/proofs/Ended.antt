@@ -167,7 +167,7 @@ module _ (script : Script) (last : State) (rows : List (List Row)) (valid : IsVa
         where
           of : (o : Own Processor) × (slice_get done.owns cpu ≡ Some o) × (o.to ≡ x) → Fits layout x.view x.task × (plan x.task ≡ None)
           of (o, there, is) =
-              let none : o.to.task.job ≡ None = finished-over tasks-then rows cpu o.to.task done.finished (at_map (λ (y : Own Processor). y.to.task) done.owns cpu o there) in
+              let none : o.to.task.course ≡ None = finished-over tasks-then rows cpu o.to.task done.finished (at_map (λ (y : Own Processor). y.to.task) done.owns cpu o there) in
               subst (λ (y : Standing Processor). Fits layout y.view y.task × (plan y.task ≡ None)) is ((done.begun cpu o there).fits, ap plan_of none)
 
   -- THE RUN HAS ENDED, in whatever order its turns were made

@@ -43,7 +43,7 @@ next-kept script layout cpu p q found got turn follows keeps =
     record { cpu_is = next.0 ∙ keeps.cpu_is; listed = keeps.listed ∙ ap (λ (l : List Command). Some l) (sym next.1) }
 
 -- the processor whose rows these are
-paired : (ps : List Processor) (rows : List (List Row)) (i : ℕ) (own : List Row) → AreFinished ps rows → slice_get rows i ≡ Some own → (p : Processor) × (slice_get ps i ≡ Some p) × ((own ≡ p.rows.items) × (p.job ≡ None))
+paired : (ps : List Processor) (rows : List (List Row)) (i : ℕ) (own : List Row) → AreFinished ps rows → slice_get rows i ≡ Some own → (p : Processor) × (slice_get ps i ≡ Some p) × ((own ≡ p.rows.items) × (p.course ≡ None))
 paired [] [] i own are there = absurd (none-some own there)
 paired [] (r ∷ rs) i own are there = absurd are
 paired (p ∷ ps) [] i own are there = absurd are
@@ -51,10 +51,10 @@ paired (p ∷ ps) (r ∷ rs) zero own are there = (p, refl, (sym (same_Some r ow
 paired (p ∷ ps) (r ∷ rs) (suc i) own are there = paired ps rs i own are.1 there
 
 -- one that is finished has no command left
-pub finished-over : (ps : List Processor) (rows : List (List Row)) (i : ℕ) (p : Processor) → AreFinished ps rows → slice_get ps i ≡ Some p → p.job ≡ None
+pub finished-over : (ps : List Processor) (rows : List (List Row)) (i : ℕ) (p : Processor) → AreFinished ps rows → slice_get ps i ≡ Some p → p.course ≡ None
 finished-over [] rows i p are at = absurd (none-some p at)
 finished-over (q ∷ qs) [] i p are at = absurd are
-finished-over (q ∷ qs) (r ∷ rs) zero p are at = subst (λ (x : Processor). x.job ≡ None) (same_Some q p at) are.0.1
+finished-over (q ∷ qs) (r ∷ rs) zero p are at = subst (λ (x : Processor). x.course ≡ None) (same_Some q p at) are.0.1
 finished-over (q ∷ qs) (r ∷ rs) (suc i) p are at = finished-over qs rs i p are.1 at
 
 pub served-kept : (script : Script) → IsValid script → (state : State) (ps : List Processor) → Holds script.layout state → AreSeated script.layout state own_seat

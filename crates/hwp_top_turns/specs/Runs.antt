@@ -44,7 +44,7 @@ pub record AreAtBeginning (script : Script) (tasks : List Processor) : Type 0 wh
 
 -- the processors have answered all their commands, and these are their rows
 abbrev pub AreFinished : List Processor → List (List Row) → Type 0
-AreFinished tasks rows = Pairs (λ (p : Processor) (own : List Row). (own ≡ p.rows.items) × (p.job ≡ None)) tasks rows
+AreFinished tasks rows = Pairs (λ (p : Processor) (own : List Row). (own ≡ p.rows.items) × (p.course ≡ None)) tasks rows
 
 -- The turns lead from the opening to this board, on which all commands are served by these rows, and each failure of a frame is
 -- ended. It says nothing of the order of the turns.
