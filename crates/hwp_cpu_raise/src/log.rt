@@ -15,10 +15,7 @@ pub enum LocalChange {
     /// A raw event is logged into a bank.
     Event(Event),
     /// The processor gets a new collector of corrected errors, of this threshold and window.
-    Watch {
-        threshold: u16,
-        window: u8,
-    },
+    Watch { threshold: u16, window: u8 },
 }
 
 /// A command that changes something of its own processor alone, unless the machine has stopped (this project's rule).
