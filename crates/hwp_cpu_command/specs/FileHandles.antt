@@ -60,8 +60,11 @@ watched_by (changes.Watch threshold window) answers.Done watching = option_map (
 watched_by _ _ watching = watching
 
 -- and behind a scrub that went to its end: a round has ended
+abbrev pub round_ended : Watching → Watching
+round_ended w = record w { collector = rounded w.collector }
+
 abbrev pub rounded_by : Answer → Option Watching → Option Watching
-rounded_by (answers.Scrubbed lines) watching = option_map (λ (w : Watching). record w { collector = rounded w.collector }) watching
+rounded_by (answers.Scrubbed lines) watching = option_map round_ended watching
 rounded_by _ watching = watching
 
 -- the collector after a command with this answer

@@ -114,10 +114,14 @@ fn begin(
 {
     match command {
         Command::Load { thread, slot, line } => {
-            access(alloc, layout, who, thread, slot, line, LOAD, collects, banks, job)
+            access(
+                alloc, layout, who, thread, slot, line, LOAD, collects, banks, job,
+            )
         }
         Command::Fetch { thread, slot, line } => {
-            access(alloc, layout, who, thread, slot, line, FETCH, collects, banks, job)
+            access(
+                alloc, layout, who, thread, slot, line, FETCH, collects, banks, job,
+            )
         }
         Command::KLoad { thread, slot, line } => {
             access(
@@ -141,7 +145,9 @@ fn begin(
         } => {
             let kind = AccessKind::Store { word };
             let store = Manner { kind, ..LOAD };
-            access(alloc, layout, who, thread, slot, line, store, collects, banks, job);
+            access(
+                alloc, layout, who, thread, slot, line, store, collects, banks, job,
+            );
         }
         Command::Free { slot } => evict(Evict::free_slot(who, slot, page_of(layout, slot)), job),
         Command::Drop { page } => evict(Evict::drop_page(who, page), job),
@@ -154,7 +160,12 @@ fn begin(
         Command::Weak { frame, line } => spoil_line(who, frame, line, Damage::Weak, job),
         Command::Scrub { first, last } => { scrub(alloc, who, first, last, banks, job) }
         Command::Log { status, addr, misc } => {
-            change(who, LocalChange::Event(raw_event(status, addr, misc)), banks, job)
+            change(
+                who,
+                LocalChange::Event(raw_event(status, addr, misc)),
+                banks,
+                job,
+            )
         }
         Command::Watch { threshold, window } => {
             change(who, LocalChange::Watch { threshold, window }, banks, job)
@@ -338,7 +349,15 @@ fn access(
     ensures banks { banks.new ≡ empty_banks }
 {
     let request = request(layout, who, thread, slot, line, manner.kind);
-    instruction(alloc, request, manner.origin, manner.mode, collects, banks, job);
+    instruction(
+        alloc,
+        request,
+        manner.origin,
+        manner.mode,
+        collects,
+        banks,
+        job,
+    );
 }
 
 /// The instruction of a request at its beginning, which takes what the banks hold.
@@ -357,9 +376,7 @@ fn instruction(
     let banks = taken(banks);
     set(
         job,
-        Job::Instruction(Instruction::new(
-            alloc, request, origin, mode, banks, collects,
-        )),
+        Job::Instruction(Instruction::new(alloc, request, origin, mode, banks, collects)),
     );
 }
 

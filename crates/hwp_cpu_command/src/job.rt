@@ -1,4 +1,4 @@
-ghost use Rattle.std.specs.Prelude.{◌≡◌, [], None, option_and_then};
+ghost use Rattle.std.specs.Prelude.{◌≡◌, [], None, option_and_then, option_map};
 
 use hwp_cpu_access::{Instruction, InstructionAnswer};
 use hwp_cpu_control::{
@@ -190,8 +190,7 @@ impl Job {
 ghost use Rattle.hwp_cpu_command.specs.Answers.{evict_answer, fail_answer, fsync_answer, instruction_answer, nested_answer, prctl_answer, raise_answer, read_stop_answer, refusal_answer, scrub_answer, soft_answer, spoil_answer, unpoison_answer};
 ghost use Rattle.hwp_cpu_command.specs.Jobs.{offlined_by, own_by, revived_by, row};
 ghost use Rattle.hwp_cpu_row.specs.hwp_law_commands.Outcomes.{outcome_answer, reply_answer};
-
-ghost use Rattle.hwp_cpu_command.specs.FileHandles.{IsChangeWithin, rounded_by, watched_by};
+ghost use Rattle.hwp_cpu_command.specs.FileHandles.{IsChangeWithin, round_ended, rounded_by, watched_by};
 
 fn row(
     told: List<EventOutcome>,
@@ -234,9 +233,16 @@ fn watch(change: LocalChange, answer: Answer, watching: &mut Option<Watching>)
 fn end_round(answer: Answer, watching: &mut Option<Watching>)
     ensures { watching.new ≡ rounded_by answer watching.old }
 {
-    if let Answer::Scrubbed(_) = answer
-        && let Some(watching) = watching
-    {
+    if let Answer::Scrubbed(_lines) = answer {
+        round(watching);
+    }
+}
+
+/// A round of the collector ends, if there is one.
+fn round(watching: &mut Option<Watching>)
+    ensures { watching.new ≡ option_map round_ended watching.old }
+{
+    if let Some(watching) = watching {
         watching.collector.round();
     }
 }
@@ -426,7 +432,7 @@ fn own_of(frame: Frame, answer: Option<FailAnswer>) -> Option<FrameChange>
 }
 
 /// What a command that takes a frame out of use did to it.
-fn offlined_by(frame: Frame, answer: SoftAnswer) -> Option<FrameChange>
+pub fn offlined_by(frame: Frame, answer: SoftAnswer) -> Option<FrameChange>
     ensures { result ≡ offlined_by frame answer }
 {
     match answer {

@@ -4,4 +4,4 @@
 mod begin;
 mod job;
 
-pub use job::Job;
+pub use job::{Job, offlined_by};
