@@ -54,9 +54,9 @@ use Rattle.hwp_cpu_access.proofs.Quiet.{access}
 
 -- ---- the entries of a view
 
-record More (v x : View) : Type 0 where
-  more : List Made
-  made_is : x.made ≡ v.made ++ more
+pub record More (v x : View) : Type 0 where
+  pub more : List Made
+  pub made_is : x.made ≡ v.made ++ more
 
 same : (v x : View) → x.made ≡ v.made → More v x
 same v x is = record { more = []; made_is = is ∙ sym (append-nil v.made) }
@@ -78,7 +78,7 @@ of-view who old new x is more = record { more = more.more; made_is = is ∙ more
 
 module _ {layout : Layout} {who : Who} {put : Option Log} {old new : View} {found : ℕ} {got : Option BodyValue} where
   -- the entries of a view only grow
-  made-more : (step : Step) → Steps layout who step put old new found got → More old new
+  pub made-more : (step : Step) → Steps layout who step put old new found got → More old new
   made-more (steps.UnlockFrame frame) made = of-view who old new (put_home layout who put (noted who old)) (ap (λ (v : View). v.made) made.told.next) (puts-more layout who put (noted who old))
   made-more (steps.UnlockPage page) made = of-view who old new (put_home layout who put (noted who old)) (ap (λ (v : View). v.made) made.told.next) (puts-more layout who put (noted who old))
   made-more (steps.Kill process page body) made =

@@ -58,6 +58,8 @@ use Rattle.hwp_law_served.specs.hwp_evict.declared.FsyncAnswer.TheVariants as fs
 use Rattle.hwp_law_served.specs.hwp_evict.declared.fsync.FsyncAt.TheVariants as fsync_at
 use Rattle.hwp_law_served.specs.hwp_evict.Fsyncs as fsyncs
 use Rattle.hwp_law_served.specs.hwp_cpu_check.declared.EventOutcome.{EventOutcome}
+use Rattle.hwp_cpu_command.specs.hwp_cpu_raise.declared.LocalChange.{LocalChange}
+use Rattle.hwp_cpu_command.specs.hwp_cpu_raise.declared.LocalChange.TheVariants as changes
 use Rattle.hwp_cpu_command.specs.hwp_cpu_raise.declared.Log.{Log}
 use Rattle.hwp_cpu_command.specs.hwp_cpu_raise.Logs as logs
 use Rattle.hwp_law_served.specs.hwp_cpu_row.declared.FrameChange.{FrameChange}
@@ -133,13 +135,22 @@ module _ {layout : Layout} (earlier : List (Command × Answer)) {view : View} {w
 
 -- ---- commands of machine checks
 
-pub log-caused : (layout : Layout) (earlier : List (Command × Answer)) (view : View) (told : List EventOutcome) (did : Option FrameChange) {who : Who} {status addr misc : ℕ} {banks : Banks} (j : Job) {a : Answer} → BeginsLog layout who (raw_event status addr misc) banks (anew j) → FitsFrom [] layout view j → answer j ≡ Some a
-    → IsAnswerCaused layout earlier view who (commands.Log status addr misc) told did a
-log-caused layout earlier view told did {who} {status} {addr} {misc} {banks} j {a} runs fits is =
-    subst (λ (l : Log). IsAnswerCaused layout earlier view l.read.who (commands.Log status addr misc) told did a) task.2
-    (subst (IsAnswerCaused layout earlier view task.0.read.who (commands.Log status addr misc) told did) own.2 (by own.0 (subst (read_stops.FitsAt view task.0.read.who) (read-over task.0.read own.1) fit.read.at)))
+-- what a command that changes its processor alone knows of its answer
+record KnowsLog (view : View) (who : Who) (answer : Answer) : Type 0 where
+  own : ReadStopAnswer
+  answer_is : read_stop_answer own ≡ answer
+  has : read_stops.FitsAt view who (read_at.Over own)
+  made : HasMadeNone view who
+
+knows-log : (layout : Layout) (view : View) {who : Who} {change : LocalChange} {banks : Banks} (j : Job) {a : Answer} → BeginsLog layout who change banks (anew j) → FitsFrom [] layout view j → answer j ≡ Some a → KnowsLog view who a
+knows-log layout view {who} {change} {banks} j {a} runs fits is = subst (λ (l : Log). KnowsLog view l.read.who a) task.2 (record {
+  own = own.0;
+  answer_is = own.2;
+  has = subst (read_stops.FitsAt view task.0.read.who) (read-over task.0.read own.1) fit.read.at;
+  made = fit.read.made;
+})
   where
-    task : (l : Log) × (j ≡ jobs.Log l) × (logs.begin l.read.who l.event l.before.value ≡ logs.begin who (raw_event status addr misc) banks)
+    task : (l : Log) × (j ≡ jobs.Log l) × (logs.begin l.read.who l.change l.before.value ≡ logs.begin who change banks)
     task = of-log j runs.job_is
 
     own : (x : ReadStopAnswer) × (logs.answer task.0 ≡ Some x) × (read_stop_answer x ≡ a)
@@ -148,9 +159,27 @@ log-caused layout earlier view told did {who} {status} {addr} {misc} {banks} j {
     fit : logs.Fits layout view task.0
     fit = (subst (FitsFrom [] layout view) task.1 fits).1
 
-    by : (x : ReadStopAnswer) → read_stops.FitsAt view task.0.read.who (read_at.Over x) → IsAnswerCaused layout earlier view task.0.read.who (commands.Log status addr misc) told did (read_stop_answer x)
-    by read_answers.Stopped has = found-stopped layout (commands.Log status addr misc) view task.0.read.who (inl has) fit.read.made
-    by read_answers.Done has = fit.read.made
+pub log-caused : (layout : Layout) (earlier : List (Command × Answer)) (view : View) (told : List EventOutcome) (did : Option FrameChange) {who : Who} {status addr misc : ℕ} {banks : Banks} (j : Job) {a : Answer} → BeginsLog layout who (changes.Event (raw_event status addr misc)) banks (anew j) → FitsFrom [] layout view j → answer j ≡ Some a
+    → IsAnswerCaused layout earlier view who (commands.Log status addr misc) told did a
+log-caused layout earlier view told did {who} {status} {addr} {misc} j {a} runs fits is = subst (IsAnswerCaused layout earlier view who (commands.Log status addr misc) told did) k.answer_is (by k.own k.has)
+  where
+    k : KnowsLog view who a
+    k = knows-log layout view j runs fits is
+
+    by : (x : ReadStopAnswer) → read_stops.FitsAt view who (read_at.Over x) → IsAnswerCaused layout earlier view who (commands.Log status addr misc) told did (read_stop_answer x)
+    by read_answers.Stopped has = found-stopped layout (commands.Log status addr misc) view who (inl has) k.made
+    by read_answers.Done has = k.made
+
+pub watch-caused : (layout : Layout) (earlier : List (Command × Answer)) (view : View) (told : List EventOutcome) (did : Option FrameChange) {who : Who} {threshold window : ℕ} {banks : Banks} (j : Job) {a : Answer} → BeginsLog layout who (changes.Watch threshold window) banks (anew j) → FitsFrom [] layout view j → answer j ≡ Some a
+    → IsAnswerCaused layout earlier view who (commands.Watch threshold window) told did a
+watch-caused layout earlier view told did {who} {threshold} {window} j {a} runs fits is = subst (IsAnswerCaused layout earlier view who (commands.Watch threshold window) told did) k.answer_is (by k.own k.has)
+  where
+    k : KnowsLog view who a
+    k = knows-log layout view j runs fits is
+
+    by : (x : ReadStopAnswer) → read_stops.FitsAt view who (read_at.Over x) → IsAnswerCaused layout earlier view who (commands.Watch threshold window) told did (read_stop_answer x)
+    by read_answers.Stopped has = found-stopped layout (commands.Watch threshold window) view who (inl has) k.made
+    by read_answers.Done has = k.made
 
 pub nested-caused : (layout : Layout) (earlier : List (Command × Answer)) (view : View) (told : List EventOutcome) (did : Option FrameChange) {who : Who} (j : Job) {a : Answer} → anew j ≡ jobs.Nested (nesteds.begin who) → FitsFrom [] layout view j → answer j ≡ Some a → IsAnswerCaused layout earlier view who commands.RaiseNested told did a
 nested-caused layout earlier view told did {who} j {a} runs fits is =

@@ -1,10 +1,11 @@
 -- When a command is answered, each handle of its processor has the number that the answer gives it, and where the answer tells the
 -- number a step of the command showed it.
-use Rattle.std.proofs.Common.{◌≡◌, ℕ, ◌+◌, ◌<◌, ◌==◌, eq-eqb, Bool, true, false, cond, List, Some, slice_get, slice_set, unwrap_or, refl, sym, ap, ◌∙◌, subst, arith, []}
+use Rattle.std.proofs.Common.{◌≡◌, ℕ, ◌+◌, ◌<◌, ◌==◌, eq-eqb, Bool, true, false, cond, List, Some, slice_get, slice_set, unwrap_or, refl, sym, ap, ◌∙◌, subst, arith}
 use Rattle.std.proofs.lemmas.Bool.{both_ways, eqb-true}
 use Rattle.hwp_law_served.specs.hwp_geom.declared.FileNo.{FileNo}
 use Rattle.hwp_law_served.specs.hwp_geom.declared.Layout.{Layout}
 use Rattle.hwp_law_served.specs.hwp_geom.declared.Who.{Who}
+use Rattle.hwp_law_served.specs.hwp_core_rule.declared.Made.{Made}
 use Rattle.hwp_law_served.specs.hwp_core_rule.declared.View.{View}
 use Rattle.hwp_law_served.proofs.of_hwp_core_rule.Lists.{set_else, set_here}
 use Rattle.hwp_law_served.specs.hwp_script_lines.declared.Command.{Command}
@@ -136,7 +137,7 @@ tells-inside layout who command j a file runs is = absurd (both_ways false refl 
 
 -- ---- each command
 
-module _ (layout : Layout) (view : View) (who : Who) (j : Job) {a : Answer} (fits : FitsFrom [] layout view j) (is : answer j ≡ Some a) (handles : List ℕ) (file : FileNo) (m : ℕ) (there : slice_get handles file.0 ≡ Some m) where
+module _ (base : List Made) (layout : Layout) (view : View) (who : Who) (j : Job) {a : Answer} (fits : FitsFrom base layout view j) (is : answer j ≡ Some a) (handles : List ℕ) (file : FileNo) (m : ℕ) (there : slice_get handles file.0 ≡ Some m) where
   -- one that is no `fsync` and no `open` leaves the handles
   leaves : (command : Command) {k : Job} → j ≡ k → handles_after k handles ≡ handles → number_by file m command a ≡ m → tells_number file command a ≡ false → IsNumbered layout view who command a file m (handles_after j handles)
   leaves command same kept number untold = record {
@@ -158,7 +159,7 @@ module _ (layout : Layout) (view : View) (who : Who) (j : Job) {a : Answer} (fit
       own = mapped fsync_answer (fsyncs.answer task.0) (sym (ap answer task.1) ∙ is)
 
       fit : fsyncs.Fits layout view task.0
-      fit = (subst (FitsFrom [] layout view) task.1 fits).1
+      fit = (subst (FitsFrom base layout view) task.1 fits).1
 
       over : task.0.at ≡ fsync_at.Over own.0 (fsyncs.number task.0)
       over = fsync-over task.0 own.1
@@ -182,6 +183,7 @@ module _ (layout : Layout) (view : View) (who : Who) (j : Job) {a : Answer} (fit
   numbered (commands.Weak frame line) runs has = leaves (commands.Weak frame line) (of-spoil j runs.job_is).1 refl refl refl
   numbered (commands.Scrub first last) runs has = leaves (commands.Scrub first last) (of-scrub j runs.job_is).1 refl refl refl
   numbered (commands.Log status addr misc) runs has = leaves (commands.Log status addr misc) (of-log j runs.job_is).1 refl refl refl
+  numbered (commands.Watch threshold window) runs has = leaves (commands.Watch threshold window) (of-log j runs.job_is).1 refl refl refl
   numbered (commands.RaiseUser thread ripv eipv) runs has = leaves (commands.RaiseUser thread ripv eipv) (of-raise j runs.job_is).1 refl refl refl
   numbered (commands.RaiseKernel ripv eipv) runs has = leaves (commands.RaiseKernel ripv eipv) (of-raise j runs.job_is).1 refl refl refl
   numbered commands.RaiseNested runs has = leaves commands.RaiseNested (of-nested j runs).1 refl refl refl

@@ -8,9 +8,14 @@ mod OfflineCauses
 mod UnpoisonCauses
 mod StopCauses
 mod CauseLaws
-mod RowAccounts
+pub mod RowAccounts
 mod CommandTells
 pub mod HandleNumbers
 pub mod RowServed
+pub mod LeftBeside
+pub mod OfflineServed
+pub mod OnTheWay
+pub mod BesideKeeps
+pub mod NotedLines
 pub use Rattle.hwp_law_served.proofs as of_hwp_law_served
 pub use Rattle.hwp_law_served.proofs.of_hwp_law_run as of_hwp_law_run

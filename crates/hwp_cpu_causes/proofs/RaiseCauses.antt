@@ -97,7 +97,7 @@ carried {layout} {view} {who} {raiser} {mcg} {j} {a} C k has =
 
 module _ (layout : Layout) (view : View) (r : Raise) (command : Command) (fails : can_fail command ≡ true) where
   only-met : HasOnlyFailed view r.who → HasOnlyMet layout view r.who command
-  only-met only i m there = inr (fails, only i m there)
+  only-met only i m there = inr (inl (fails, only i m there))
 
   stopped : IsEnd layout view r answers.Stopped → FoundStopped layout view r.who command
   stopped (inl has) = found-stopped layout command view r.who (inl has.1) has.0.made

@@ -1,5 +1,5 @@
 -- What a command has done beside its answer is what its row says.
-use Rattle.std.proofs.Common.{◌≡◌, ℕ, false, List, [], ◌++◌, Option, Some, None, map, refl, sym, ap, ◌∙◌, subst}
+use Rattle.std.proofs.Common.{◌≡◌, ℕ, false, List, [], ◌∷◌, ◌++◌, Option, Some, None, map, refl, sym, ap, ◌∙◌, subst}
 use Rattle.std.specs.Prelude.{filter_map, option_and_then}
 use Rattle.std.specs.List.{cons_option}
 use Rattle.std.proofs.lemmas.Option.{none-some, same_Some}
@@ -14,6 +14,7 @@ use Rattle.hwp_law_served.specs.hwp_kill.declared.Reply.TheVariants as replies
 use Rattle.hwp_law_served.specs.hwp_kill.Prctl.{policy_set}
 use Rattle.hwp_law_served.specs.hwp_banks.declared.Origin.{Origin}
 use Rattle.hwp_law_served.specs.hwp_severity.declared.McgBits.{McgBits}
+use Rattle.hwp_law_served.specs.hwp_core_rule.declared.Made.{Made}
 use Rattle.hwp_law_served.specs.hwp_core_rule.declared.View.{View}
 use Rattle.hwp_law_served.specs.hwp_script_lines.declared.Command.{Command}
 use Rattle.hwp_law_served.specs.hwp_script_lines.declared.Command.TheVariants as commands
@@ -69,7 +70,7 @@ use Rattle.hwp_cpu_command.specs.declared.Job.{Job}
 use Rattle.hwp_cpu_command.specs.declared.Job.TheVariants as jobs
 use Rattle.hwp_cpu_command.specs.Answers.{fail_answer, prctl_answer, soft_answer, unpoison_answer}
 use Rattle.hwp_cpu_command.specs.Done.{failed_at, failed_now, marked_now}
-use Rattle.hwp_cpu_command.specs.Jobs.{FitsFrom, answer, offlined_by, own_by, own_of, revived_by, row_of, told_of}
+use Rattle.hwp_cpu_command.specs.Jobs.{FitsFrom, answer, offlined_by, own_by, own_of, revived_by, told_of}
 use Rattle.hwp_cpu_command.specs.Runs.{Runs}
 use Rattle.hwp_cpu_command.specs.Settings.{policies_now, set_at}
 use Rattle.hwp_cpu_command.proofs.JobEnds.{instruction-over, raise-over, scrub-over, soft-over, unpoison-over}
@@ -81,7 +82,10 @@ use Rattle.hwp_cpu_causes.proofs.OfflineCauses.{KnowsSoft, knows-soft}
 use Rattle.hwp_cpu_causes.proofs.RaiseCauses.{KnowsRaise, knows-kernel-raise, knows-user-raise}
 use Rattle.hwp_cpu_causes.proofs.ScrubCauses.{KnowsScrub, knows-scrub}
 use Rattle.hwp_cpu_causes.proofs.UnpoisonCauses.{KnowsUnpoison, knows-unpoison}
-use Rattle.hwp_law_served.specs.Accounts.{IsOwn, failures_in, markings_in, own_failure, own_marking, set_by, set_for}
+use Rattle.hwp_law_served.specs.Accounts.{IsOwn, act_marking, own_failure, own_marking, set_by, set_for}
+use Rattle.hwp_law_served.specs.hwp_cpu_row.Acts.{Told}
+use Rattle.hwp_cpu_causes.specs.Beside.{ArePrior, DoesSo}
+use Rattle.hwp_cpu_causes.proofs.CauseLaws.{from-none}
 
 -- ---- the policy of a thread
 
@@ -191,13 +195,6 @@ module _ (frame : Frame) where
 
 -- ---- each command
 
--- what the command has done is what its row says
-pub record DoesSo (command : Command) (j : Job) (a : Answer) : Type 0 where
-  pub marked : marked_now j ≡ markings_in (row_of j a)
-  pub failed : failed_now j ≡ failures_in command (row_of j a)
-  pub set : policies_now j ≡ set_by command a
-  pub own : IsOwn command a (own_of j)
-
 inject-does : {layout : Layout} {view : View} {who : Who} {frame : Frame} {j : Job} {a : Answer} → KnowsFailure layout view who frame j a → DoesSo (commands.Inject frame) j a
 inject-does {frame = frame} {j} {a} k = subst (λ (q : Job). DoesSo (commands.Inject frame) q a) (sym k.job_is) (subst (DoesSo (commands.Inject frame) (jobs.Inject k.inject)) k.answer_is (subst (λ (f : Frame). DoesSo (commands.Inject f) (jobs.Inject k.inject) (fail_answer k.own)) k.frame_is (record {
   marked = k.ended.marked ∙ marked-so k.inject.frame k.own ∙ ap (λ (o : Option FailAnswer). cons_option (own_marking (own_by k.inject.frame o)) []) (sym k.said);
@@ -223,8 +220,8 @@ unpoison-does {frame = frame} {j} {a} k = subst (λ (q : Job). DoesSo (commands.
 })))
 
 -- a command whose machine checks have done it all: its task, once it is over, has done what its lines tell
-access-does : {layout : Layout} {view : View} {who : Who} {thread : Thread} {slot : VSlot} {line : ℕ} {kind : AccessKind} {origin : Origin} {mode : Mode} {j : Job} {a : Answer} (command : Command)
-    → current_thread command ≡ Some thread → set_by command a ≡ [] → IsOwn command a None → KnowsAccess layout view who thread slot line kind origin mode j a → DoesSo command j a
+access-does : {base : List Made} {layout : Layout} {view : View} {who : Who} {thread : Thread} {slot : VSlot} {line : ℕ} {kind : AccessKind} {origin : Origin} {mode : Mode} {j : Job} {a : Answer} (command : Command)
+    → current_thread command ≡ Some thread → set_by command a ≡ [] → IsOwn command a None → KnowsAccess base layout view who thread slot line kind origin mode j a → DoesSo command j a
 access-does {thread = thread} {a = a} command of set own k = subst (λ (q : Job). DoesSo command q a) (sym k.job_is) (record {
   marked = ap (λ (x : InstructionAt). filter_map marked_in k.task.lines.told ++ instruction_done.marked_at x) over;
   failed = ap (λ (x : InstructionAt). filter_map (failed_in (Some k.task.request.thread)) k.task.lines.told ++ instruction_done.failed_at x) over
@@ -263,31 +260,37 @@ scrub-does {first = first} {last} {a = a} k = subst (λ (q : Job). DoesSo (comma
 -- a command of which no memory fails
 by-kind : {command : Command} {j k : Job} {a : Answer} → j ≡ k → (told_of k ≡ []) × (own_of k ≡ None) × (marked_now k ≡ []) × (failed_now k ≡ []) → policies_now j ≡ set_by command a → IsOwn command a None → DoesSo command j a
 by-kind {command} {j} {k} {a} is none set own = record {
-  marked = ap marked_now is ∙ none.2 ∙ sym (ap (λ (q : Job). markings_in (row_of q a)) is ∙ ap (λ (told : List EventOutcome). filter_map marked_in told ++ cons_option (own_marking (own_of k)) []) none.0 ∙ ap (λ (o : Option FrameChange). cons_option (own_marking o) []) none.1);
-  failed = ap failed_now is ∙ none.3 ∙ sym (ap (λ (q : Job). failures_in command (row_of q a)) is ∙ ap (λ (told : List EventOutcome). filter_map (failed_in (current_thread command)) told ++ cons_option (own_failure (own_of k)) []) none.0 ∙ ap (λ (o : Option FrameChange). cons_option (own_failure o) []) none.1);
+  marked = ap marked_now is ∙ none.2 ∙ sym (ap (λ (q : Job). filter_map marked_in (told_of q) ++ cons_option (own_marking (own_of q)) []) is ∙ ap (λ (told : List EventOutcome). filter_map marked_in told ++ cons_option (own_marking (own_of k)) []) none.0 ∙ ap (λ (o : Option FrameChange). cons_option (own_marking o) []) none.1);
+  failed = ap failed_now is ∙ none.3 ∙ sym (ap (λ (q : Job). filter_map (failed_in (current_thread command)) (told_of q) ++ cons_option (own_failure (own_of q)) []) is ∙ ap (λ (told : List EventOutcome). filter_map (failed_in (current_thread command)) told ++ cons_option (own_failure (own_of k)) []) none.0 ∙ ap (λ (o : Option FrameChange). cons_option (own_failure o) []) none.1);
   set = set;
   own = subst (IsOwn command a) (sym (ap own_of is ∙ none.1)) own;
 }
 
-pub does : (layout : Layout) (view : View) (who : Who) (command : Command) (j : Job) {a : Answer} → Runs layout who command j → FitsFrom [] layout view j → answer j ≡ Some a → DoesSo command j a
-does layout view who (commands.Load thread slot line) j runs fits is = access-does (commands.Load thread slot line) refl refl tt (knows-access j runs fits is)
-does layout view who (commands.Fetch thread slot line) j runs fits is = access-does (commands.Fetch thread slot line) refl refl tt (knows-access j runs fits is)
-does layout view who (commands.KLoad thread slot line) j runs fits is = access-does (commands.KLoad thread slot line) refl refl tt (knows-access j runs fits is)
-does layout view who (commands.Store thread slot line word) j runs fits is = access-does (commands.Store thread slot line word) refl refl tt (knows-access j runs fits is)
-does layout view who (commands.Free slot) j runs fits is = let task = (of-evict j runs.1.job_is).1 in by-kind task (refl, refl, refl, refl) (ap policies_now task) tt
-does layout view who (commands.Drop page) j runs fits is = let task = (of-evict j runs.job_is).1 in by-kind task (refl, refl, refl, refl) (ap policies_now task) tt
-does layout view who (commands.Sync page) j runs fits is = let task = (of-evict j runs.job_is).1 in by-kind task (refl, refl, refl, refl) (ap policies_now task) tt
-does layout view who (commands.Out page) j runs fits is = let task = (of-evict j runs.job_is).1 in by-kind task (refl, refl, refl, refl) (ap policies_now task) tt
-does layout view who (commands.Fsync file) j runs fits is = let task = (of-fsync j runs.2).1 in by-kind task (refl, refl, refl, refl) (ap policies_now task) tt
-does layout view who (commands.Open file) j runs fits is = let task = (of-fsync j runs.2).1 in by-kind task (refl, refl, refl, refl) (ap policies_now task) tt
-does layout view who (commands.Prctl thread args) j runs fits is = let task = (of-prctl j runs.job_is).1 in by-kind task (refl, refl, refl, refl) (prctl-set (knows-prctl j runs fits is)) tt
-does layout view who (commands.Bad frame line) j runs fits is = let task = (of-spoil j runs.job_is).1 in by-kind task (refl, refl, refl, refl) (ap policies_now task) tt
-does layout view who (commands.Weak frame line) j runs fits is = let task = (of-spoil j runs.job_is).1 in by-kind task (refl, refl, refl, refl) (ap policies_now task) tt
-does layout view who (commands.Scrub first last) j runs fits is = scrub-does (knows-scrub j runs fits is)
-does layout view who (commands.Log status addr misc) j runs fits is = let task = (of-log j runs.job_is).1 in by-kind task (refl, refl, refl, refl) (ap policies_now task) tt
-does layout view who (commands.RaiseUser thread ripv eipv) j runs fits is = raise-does (commands.RaiseUser thread ripv eipv) refl refl tt (knows-user-raise j runs fits is).knows
-does layout view who (commands.RaiseKernel ripv eipv) j runs fits is = raise-does (commands.RaiseKernel ripv eipv) refl refl tt (knows-kernel-raise j runs fits is)
-does layout view who commands.RaiseNested j runs fits is = let task = (of-nested j runs).1 in by-kind task (refl, refl, refl, refl) (ap policies_now task) tt
-does layout view who (commands.Inject frame) j runs fits is = inject-does (knows-failure j runs fits is)
-does layout view who (commands.Soft frame) j runs fits is = soft-does (knows-soft j runs fits is)
-does layout view who (commands.Unpoison frame) j runs fits is = unpoison-does (knows-unpoison j runs fits is)
+pub does : (layout : Layout) (view : View) (who : Who) (command : Command) (j : Job) {a : Answer} (base : List Made) → Runs layout who command j → FitsFrom base layout view j → ArePrior layout command base → answer j ≡ Some a → DoesSo command j a
+does layout view who (commands.Load thread slot line) j base runs fits prior is = access-does (commands.Load thread slot line) refl refl tt (knows-access j runs fits is)
+does layout view who (commands.Fetch thread slot line) j base runs fits prior is = access-does (commands.Fetch thread slot line) refl refl tt (knows-access j runs fits is)
+does layout view who (commands.KLoad thread slot line) j base runs fits prior is = access-does (commands.KLoad thread slot line) refl refl tt (knows-access j runs fits is)
+does layout view who (commands.Store thread slot line word) j base runs fits prior is = access-does (commands.Store thread slot line word) refl refl tt (knows-access j runs fits is)
+does layout view who (commands.Free slot) j base runs fits prior is = let task = (of-evict j runs.1.job_is).1 in by-kind task (refl, refl, refl, refl) (ap policies_now task) tt
+does layout view who (commands.Drop page) j base runs fits prior is = let task = (of-evict j runs.job_is).1 in by-kind task (refl, refl, refl, refl) (ap policies_now task) tt
+does layout view who (commands.Sync page) j base runs fits prior is = let task = (of-evict j runs.job_is).1 in by-kind task (refl, refl, refl, refl) (ap policies_now task) tt
+does layout view who (commands.Out page) j base runs fits prior is = let task = (of-evict j runs.job_is).1 in by-kind task (refl, refl, refl, refl) (ap policies_now task) tt
+does layout view who (commands.Fsync file) j base runs fits prior is = let task = (of-fsync j runs.2).1 in by-kind task (refl, refl, refl, refl) (ap policies_now task) tt
+does layout view who (commands.Open file) j base runs fits prior is = let task = (of-fsync j runs.2).1 in by-kind task (refl, refl, refl, refl) (ap policies_now task) tt
+does layout view who (commands.Prctl thread args) j base runs fits prior is = let task = (of-prctl j runs.job_is).1 in by-kind task (refl, refl, refl, refl) (prctl-set (knows-prctl j runs (from-none layout view j prior fits) is)) tt
+does layout view who (commands.Bad frame line) j base runs fits prior is = let task = (of-spoil j runs.job_is).1 in by-kind task (refl, refl, refl, refl) (ap policies_now task) tt
+does layout view who (commands.Weak frame line) j base runs fits prior is = let task = (of-spoil j runs.job_is).1 in by-kind task (refl, refl, refl, refl) (ap policies_now task) tt
+does layout view who (commands.Scrub first last) j base runs fits prior is = scrub-does (knows-scrub j runs (from-none layout view j prior fits) is)
+does layout view who (commands.Log status addr misc) j base runs fits prior is = let task = (of-log j runs.job_is).1 in by-kind task (refl, refl, refl, refl) (ap policies_now task) tt
+does layout view who (commands.Watch threshold window) j base runs fits prior is = let task = (of-log j runs.job_is).1 in by-kind task (refl, refl, refl, refl) (ap policies_now task) tt
+does layout view who (commands.RaiseUser thread ripv eipv) j base runs fits prior is = raise-does (commands.RaiseUser thread ripv eipv) refl refl tt (knows-user-raise j runs (from-none layout view j prior fits) is).knows
+does layout view who (commands.RaiseKernel ripv eipv) j base runs fits prior is = raise-does (commands.RaiseKernel ripv eipv) refl refl tt (knows-kernel-raise j runs (from-none layout view j prior fits) is)
+does layout view who commands.RaiseNested j base runs fits prior is = let task = (of-nested j runs).1 in by-kind task (refl, refl, refl, refl) (ap policies_now task) tt
+does layout view who (commands.Inject frame) j base runs fits prior is = inject-does (knows-failure j runs (from-none layout view j prior fits) is)
+does layout view who (commands.Soft frame) j base runs fits prior is = soft-does (knows-soft j runs (from-none layout view j prior fits) is)
+does layout view who (commands.Unpoison frame) j base runs fits prior is = unpoison-does (knows-unpoison j runs (from-none layout view j prior fits) is)
+
+-- the marks of what a command told, where it is all that it did
+pub told-markings : (told : List EventOutcome) → filter_map act_marking (map Told told) ≡ filter_map marked_in told
+told-markings [] = refl
+told-markings (t ∷ ts) = ap (cons_option (marked_in t)) (told-markings ts)

@@ -71,7 +71,7 @@ carried {layout} {view} {who} {first} {last} {j} {a} C k has =
 
 module _ (layout : Layout) (earlier : List (Command × Answer)) (view : View) (s : Scrub) (did : Option FrameChange) where
   only-met : HasOnlyFailed view s.who → HasOnlyMet layout view s.who (commands.Scrub s.first s.last)
-  only-met only i m there = inr (refl, only i m there)
+  only-met only i m there = inr (inl (refl, only i m there))
 
   task-caused : (x : ScrubAnswer) → IsEnd layout view s x → IsAnswerCaused layout earlier view s.who (commands.Scrub s.first s.last) s.lines.told did (scrub_answer (length s.lines.told) x)
   task-caused answers.Scrubbed has = record { count = refl; only = only-met has.visited.only }

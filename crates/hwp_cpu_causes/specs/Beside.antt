@@ -1,5 +1,5 @@
 -- A command beside which frames are taken out of use: what is right of its own task, and what the other steps of the command make.
-use Rattle.std.specs.Prelude.{◌≡◌, ◌⊎◌, true, List, [], ◌∷◌, ◌++◌, filter_map}
+use Rattle.std.specs.Prelude.{◌≡◌, ◌⊎◌, true, List, [], ◌∷◌, ◌++◌, Option, Some, None, filter_map}
 use Rattle.std.specs.List.{cons_option}
 use Rattle.hwp_law_served.specs.hwp_geom.declared.Layout.{Layout}
 use Rattle.hwp_law_served.specs.hwp_geom.declared.Who.{Who}
@@ -12,22 +12,24 @@ use Rattle.hwp_law_served.specs.hwp_script_lines.declared.Command.TheVariants as
 use Rattle.hwp_law_served.specs.hwp_report_text.declared.Answer.{Answer}
 use Rattle.hwp_law_served.specs.hwp_report_text.declared.Answer.TheVariants as answers
 use Rattle.hwp_law_served.specs.hwp_banks.Banks.{Banks}
-use Rattle.hwp_law_served.specs.hwp_law_commands.Commands.{current_thread}
+use Rattle.hwp_law_served.specs.hwp_law_commands.Commands.{Access, access_of, current_thread}
 use Rattle.hwp_law_served.specs.hwp_cpu_check.Done.{failed_in, marked_in}
 use Rattle.hwp_law_served.specs.hwp_cpu_check.Told.{halts}
 use Rattle.hwp_cpu_command.specs.declared.Job.{Job}
-use Rattle.hwp_cpu_command.specs.declared.Job.TheVariants as jobs
 use Rattle.hwp_cpu_command.specs.Done.{failed_now, marked_now}
 use Rattle.hwp_cpu_command.specs.Jobs.{banks_after, banks_before, own_of, told_of}
 use Rattle.hwp_cpu_command.specs.Settings.{policies_now}
 use Rattle.hwp_law_served.specs.Accounts.{IsOwn, own_failure, own_marking, set_by}
-use Rattle.hwp_law_served.specs.Causes.{IsAnswerCaused, IsBefore, IsBeside}
+use Rattle.hwp_law_served.specs.Causes.{IsAnswerCaused, IsBeside, IsMet}
 use Rattle.hwp_law_served.specs.Told.{AreToldBy}
 
--- the entries that the command made before its own task went on may stand before those that answer it; only an instruction has any
-abbrev pub ArePrior : Job → List Made → Type 0
-ArePrior (jobs.Instruction i) base = EachMember (IsBefore i.request.page i.request.slot i.request.line) base
-ArePrior j base = base ≡ []
+-- the entries that the command made before its own task went on may stand before those that answer it; only an access has any
+abbrev pub ArePriorTo : Option Access → Layout → Command → List Made → Type 0
+ArePriorTo None layout command base = base ≡ []
+ArePriorTo (Some access) layout command base = EachMember (IsMet layout command) base
+
+abbrev pub ArePrior : Layout → Command → List Made → Type 0
+ArePrior layout command base = ArePriorTo (access_of command) layout command base
 
 -- the cause of its answer, and what it tells of its machine checks
 pub record IsOwnServed (layout : Layout) (earlier : List (Command × Answer)) (view : View) (who : Who) (command : Command) (j : Job) (a : Answer) (kept : Banks) : Type 0 where
@@ -43,8 +45,8 @@ pub record DoesSo (command : Command) (j : Job) (a : Answer) : Type 0 where
   pub own : IsOwn command a (own_of j)
 
 -- a step makes no entry of the command, or one by which a page left a frame beside it
-abbrev pub AddsBeside : Who → View → View → Type 0
-AddsBeside who old new = (deeds who new ≡ deeds who old) ⊎ ((m : Made) × (deeds who new ≡ deeds who old ++ m ∷ []) × IsBeside m)
+pub record AddsBeside (who : Who) (old new : View) : Type 0 where
+  pub adds : (deeds who new ≡ deeds who old) ⊎ ((m : Made) × (deeds who new ≡ deeds who old ++ m ∷ []) × IsBeside m)
 
 -- frames may be due when its own task has its answer
 abbrev pub CanCollect : Command → Type 0

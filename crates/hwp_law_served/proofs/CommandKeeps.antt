@@ -84,7 +84,7 @@ puts : (layout : Layout) (who : Who) (content : Option Log) (v : View) → (put_
 puts layout who None v = refl
 puts layout who (Some log) v = lists layout who log (body_of log.page v) v
 
-stops-by : (layout : Layout) (who : Who) (step : Step) (found : ℕ) (content : Option Log) (v : View) → MoreStops v (view_by layout who step found content v)
+pub stops-by : (layout : Layout) (who : Who) (step : Step) (found : ℕ) (content : Option Log) (v : View) → MoreStops v (view_by layout who step found content v)
 stops-by layout who (steps.Load place) found content v = same v _ (loads who place found v)
 stops-by layout who (steps.Reserve seen) found content v = either (found == seen) v _ _ (same v _ refl) (same v _ refl)
 stops-by layout who (steps.TakeBit frame) found content v = either (goes (steps.TakeBit frame) found) v _ _ (same v _ refl) (same v _ refl)
