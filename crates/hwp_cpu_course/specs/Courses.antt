@@ -1,87 +1,320 @@
--- A command as parts that are served one after the other: its own part, and then frames that are taken out of use, one by one. In all
--- that it plans, shows and needs it is the part that runs; each part begins with the entries that those before it have made.
-use Rattle.std.specs.Prelude.{◌≡◌, ℕ, ◌+◌, ◌-◌, ◌*◌, ◌^◌, ◌<◌, ◌≤◌, List, Option, Some, None, length, slice_get, option_map, unwrap_or}
+-- A command with the frames that are taken out of use beside it. In all that it plans, shows and comes to it is its own task, or the frame
+-- that is taken out of use while that rests.
+use Rattle.std.specs.Prelude.{◌≡◌, ◌⊎◌, ℕ, ◌+◌, ◌-◌, ◌*◌, ◌^◌, ◌<◌, ◌≤◌, ◌==◌, ◌&&◌, ◌||◌, nat_lt, Bool, true, false, cond, List, [], Option, Some, None, drop, is_some, length}
 use Rattle.hwp_cpu_row.specs.hwp_geom.declared.Frame.{Frame}
 use Rattle.hwp_cpu_row.specs.hwp_geom.declared.Layout.{Layout}
+use Rattle.hwp_cpu_row.specs.hwp_geom.declared.Who.{Who}
+use Rattle.hwp_cpu_row.specs.hwp_script_lines.declared.Command.{Command}
 use Rattle.hwp_cpu_row.specs.hwp_report_text.declared.Answer.{Answer}
+use Rattle.hwp_cpu_row.specs.hwp_report_text.declared.OfflineResult.{OfflineResult}
+use Rattle.hwp_cpu_row.specs.hwp_report_text.declared.OfflineResult.TheVariants as results
 use Rattle.hwp_cpu_row.specs.hwp_page.History.{BodyValue}
-use Rattle.hwp_cpu_row.specs.hwp_core_rule.declared.Made.{Made}
+use Rattle.hwp_cpu_row.specs.hwp_core_rule.declared.Step.{Step}
 use Rattle.hwp_cpu_row.specs.hwp_core_rule.declared.View.{View}
 use Rattle.hwp_cpu_row.specs.hwp_core_rule.Lists.{EachMember}
 use Rattle.hwp_cpu_row.specs.hwp_core_rule.Words.{Words}
 use Rattle.hwp_cpu_row.specs.hwp_core_task.declared.Turn.{Turn}
 use Rattle.hwp_cpu_row.specs.hwp_core_task.declared.Turn.TheVariants as turns
+use Rattle.hwp_cpu_row.specs.hwp_core_task.Calls.{IsOnTurn}
+use Rattle.hwp_cpu_row.specs.hwp_core_task.Hands.{empty, hand_of}
 use Rattle.hwp_cpu_row.specs.hwp_core_task.Ranks.{stale_weight}
 use Rattle.hwp_cpu_row.specs.hwp_core_task.Turns.{Member}
-use Rattle.hwp_cpu_command.specs.declared.job.Job.{Job}
+use Rattle.hwp_cpu_row.specs.hwp_law_commands.Notes.{is_for_pages}
+use Rattle.hwp_cpu_row.specs.hwp_law_commands.hwp_cec.Ages.{CecEvent}
+use Rattle.hwp_cpu_row.specs.hwp_law_commands.hwp_cec.Counters.{Counters, StandsFor}
+use Rattle.hwp_cpu_row.specs.hwp_cpu_check.declared.EventOutcome.{EventOutcome}
+use Rattle.hwp_cpu_row.specs.hwp_cpu_check.Told.{has_kept}
+use Rattle.hwp_cpu_row.specs.declared.Local.{Local}
+use Rattle.hwp_cpu_row.specs.declared.Offlining.{Offlining}
+use Rattle.hwp_cpu_row.specs.declared.Row.{Row}
+use Rattle.hwp_cpu_row.specs.declared.Watching.{Watching}
+use Rattle.hwp_cpu_row.specs.Locals.{collects}
+use Rattle.hwp_cpu_command.specs.declared.Job.{Job}
 use Rattle.hwp_cpu_command.specs.declared.job.Job.TheVariants as kinds
+use Rattle.hwp_cpu_command.specs.Begins.{Begins}
+use Rattle.hwp_cpu_command.specs.Done.{failed_now}
+use Rattle.hwp_cpu_command.specs.FileHandles as handles
 use Rattle.hwp_cpu_command.specs.Jobs as jobs
+use Rattle.hwp_cpu_command.specs.hwp_cpu_access.declared.instruction.InstructionAt.{InstructionAt}
+use Rattle.hwp_cpu_command.specs.hwp_cpu_access.declared.instruction.InstructionAt.TheVariants as instruction_at
+use Rattle.hwp_cpu_command.specs.hwp_cpu_access.declared.instruction.Pause.{Pause}
+use Rattle.hwp_cpu_command.specs.hwp_cpu_access.Costs.{anew_after_wait}
+use Rattle.hwp_cpu_command.specs.hwp_cpu_access.Fits.{IsResting}
+use Rattle.hwp_cpu_command.specs.hwp_cpu_raise.declared.raise.RaiseAt.{RaiseAt}
+use Rattle.hwp_cpu_command.specs.hwp_cpu_raise.declared.raise.RaiseAt.TheVariants as raise_at
+use Rattle.hwp_cpu_command.specs.hwp_scrub.declared.scrub.ScrubAt.{ScrubAt}
+use Rattle.hwp_cpu_command.specs.hwp_scrub.declared.scrub.ScrubAt.TheVariants as scrub_at
+use Rattle.hwp_cpu_command.specs.hwp_soft.declared.Soft.{Soft}
+use Rattle.hwp_cpu_command.specs.hwp_soft.declared.SoftAnswer.{SoftAnswer}
+use Rattle.hwp_cpu_command.specs.hwp_soft.declared.SoftAnswer.TheVariants as answers
+use Rattle.hwp_cpu_command.specs.hwp_soft.Offline as offline
 use Rattle.hwp_cpu_command.specs.hwp_soft.Softs as softs
 use Rattle.hwp_cpu_course.specs.declared.course.Course.{Course}
+use Rattle.hwp_cpu_course.specs.Dues.{DueValue, HasCollected, next_due, no_due, with_offlining}
 
-abbrev pub begin : Job → List Frame → Course
-begin part due = record { part = part; due = due; next = 0; answer = None }
+-- ---- its beginning and its end
 
--- what the command came to, where this frame comes next: nothing yet; and where none does, what its own part came to
-abbrev pub answer_by : Course → Option Frame → Option Answer
-answer_by c (Some frame) = None
-answer_by c None = option_map (unwrap_or c.answer) (jobs.answer c.part)
+-- no frame is due yet
+abbrev pub begin : Job → Option Watching → ℕ → Course
+begin own watching frames = record { own = own; beside = None; watching = watching; noted = 0; due = no_due; frames = frames }
+
+-- its own task begins as the command does, of a processor that carries this, and the collector is the processor's
+pub record BeginsCourse (layout : Layout) (who : Who) (command : Command) (local : Local) (c : Course) : Type 0 where
+  pub begins : Begins layout who command local.banks (collects local.watching) c.own
+  pub handle : handles.HasHandle local.handles c.own
+  pub is : c ≡ begin c.own local.watching layout.frames
+
+-- what the processor keeps while the command runs, and what it carries on after it
+abbrev pub local_left : Course → Local → Local
+local_left c local = record (handles.local_left c.own local) { watching = None }
+
+abbrev pub local_after : Course → Answer → Local → Local
+local_after c answer local = handles.local_after c.own answer (record local { watching = c.watching })
+
+abbrev pub row_of : Course → Answer → Row
+row_of c answer = jobs.row_of c.own answer c.due.offlined
+
+-- none while a frame is taken out of use beside it
+abbrev pub answer_of : Option Soft → Job → Option Answer
+answer_of (Some soft) own = None
+answer_of None own = jobs.answer own
 
 abbrev pub answer : Course → Option Answer
-answer c = answer_by c (slice_get c.due c.next)
+answer c = answer_of c.beside c.own
+
+-- ---- the part that goes on
+
+abbrev pub part_of : Option Soft → Job → Job
+part_of (Some soft) own = kinds.Soft soft
+part_of None own = own
+
+abbrev pub part : Course → Job
+part c = part_of c.beside c.own
+
+abbrev pub bare_of : Course → Option Soft → Course
+bare_of c (Some soft) = record c { beside = Some (softs.bare soft) }
+bare_of c None = record c { own = jobs.bare c.own }
 
 abbrev pub bare : Course → Course
-bare c = record c { part = jobs.bare c.part }
+bare c = bare_of c c.beside
 
--- the part that ran is over, with this answer: the next frame is taken out of use, or the command is over
-abbrev pub GoesOn : Course → Answer → Option Frame → Course → Turn → Type 0
-GoesOn c said None after turn = (after ≡ c) × (turn ≡ turns.Answered)
-GoesOn c said (Some frame) after turn =
-    (after ≡ record c { part = kinds.Soft (softs.begin (jobs.who c.part) frame); next = c.next + 1; answer = Some (unwrap_or c.answer said) }) × (turn ≡ turns.Moved)
+-- ---- what came of a frame
 
--- the turn is that of the part, until the part has its answer
-abbrev pub Follows : Course → Option Answer → Turn → Course → Turn → Type 0
-Follows c None t after turn = (after ≡ c) × (turn ≡ t)
-Follows c (Some said) t after turn = GoesOn c said (slice_get c.due c.next) after turn
+-- a frame that is due isn't the kernel's
+abbrev pub offline_result : SoftAnswer → OfflineResult
+offline_result answers.Stopped = results.Stopped
+offline_result answers.Kernel = results.Stopped
+offline_result answers.Already = results.Already
+offline_result (answers.HasBad mask) = results.HasBad mask
+offline_result answers.NoFrame = results.NoFrame
+offline_result (answers.TakenFree cycle) = results.TakenFree
+offline_result (answers.Moved to place cycle) = results.Moved to place
+
+abbrev pub offlining : Job → Frame → SoftAnswer → Offlining
+offlining own frame answer = record { frame = frame; result = offline_result answer; change = jobs.offlined_by frame answer; told = length (jobs.told_of own) }
+
+abbrev pub with_result : Course → Frame → SoftAnswer → Course
+with_result c frame answer = record c { due = with_offlining c.due (offlining c.own frame answer) }
+
+-- ---- a rest of its own task
+
+-- it pauses, or has its answer
+abbrev pub rests : Job → Bool
+rests j = jobs.pauses j || is_some (jobs.answer j)
+
+-- the frame that comes next is taken out of use, or the command's own task goes on
+abbrev pub going_on : Course → Option Frame → Course
+going_on c (Some frame) = record c { beside = Some (softs.begin (jobs.who c.own) frame) }
+going_on c None = record c { own = jobs.resume c.own; beside = None }
+
+abbrev pub turn_on : Course → Option Frame → Turn
+turn_on c (Some frame) = turns.Moved
+turn_on c None = cond (is_some (jobs.answer (jobs.resume c.own))) turns.Answered turns.Moved
+
+abbrev pub IsGoingOn : Course → Course → Turn → Type 0
+IsGoingOn c after turn = (after ≡ going_on c (next_due c.due)) × (turn ≡ turn_on c (next_due c.due))
+
+-- the events that it told of since the collector got some last
+abbrev pub told_since : Course → List EventOutcome
+told_since c = drop c.noted (jobs.told_of c.own)
+
+-- there are some, of a machine of so many frames as it began with
+abbrev pub has_more : Layout → Course → Bool
+has_more layout c = nat_lt c.noted (length (jobs.told_of c.own)) && (layout.frames == c.frames)
+
+-- the collector took what they note, and the frames that are due by them come last
+abbrev pub AfterCollectingBy : Layout → Course → Option Watching → Course → Type 0
+AfterCollectingBy layout c None after = ⊥
+AfterCollectingBy layout c (Some w) after =
+    (counters : Counters) × (d : DueValue) × HasCollected layout (told_since c) c.due w.collector d counters
+    × (after ≡ record c { watching = Some (record w { collector = counters }); noted = length (jobs.told_of c.own); due = d })
+
+abbrev pub AfterCollecting : Layout → Course → Course → Type 0
+AfterCollecting layout c after = AfterCollectingBy layout c c.watching after
+
+-- or there was no room, and the command gives up
+abbrev pub HasRefused : Course → Course → Turn → Type 0
+HasRefused c after turn = (after ≡ record c { own = jobs.give_up c.own }) × (turn ≡ turns.Moved)
+
+abbrev pub AfterRestBy : Layout → Course → Bool → Course → Turn → Type 0
+AfterRestBy layout c false after turn = IsGoingOn c after turn
+AfterRestBy layout c true after turn = HasRefused c after turn ⊎ ((k : Course) × AfterCollecting layout c k × IsGoingOn k after turn)
+
+abbrev pub AfterRest : Layout → Course → Course → Turn → Type 0
+AfterRest layout c after turn = AfterRestBy layout c (has_more layout c) after turn
+
+-- ---- a turn
+
+-- of its own task, until that rests where its processor collects
+abbrev pub AfterOwnBy : Layout → Course → Bool → Turn → Course → Turn → Type 0
+AfterOwnBy layout c false t after turn = (after ≡ c) × (turn ≡ t)
+AfterOwnBy layout c true t after turn = AfterRest layout c after turn
+
+abbrev pub AfterOwn : Layout → Course → Turn → Course → Turn → Type 0
+AfterOwn layout c t after turn = AfterOwnBy layout c (collects c.watching && rests c.own) t after turn
+
+-- of the frame that is taken out of use, until that is done
+abbrev pub AfterSoft : Course → Soft → Option SoftAnswer → Turn → Course → Turn → Type 0
+AfterSoft c s None t after turn = (after ≡ c) × (turn ≡ t)
+AfterSoft c s (Some answer) t after turn = IsGoingOn (with_result c s.frame answer) after turn
+
+abbrev pub NextOf : Layout → Course → Option Soft → ℕ → Option BodyValue → Course → Turn → Type 0
+NextOf layout c None found got after turn = (k : Job) × (t : Turn) × jobs.Next layout c.own found got k t × AfterOwn layout (record c { own = k }) t after turn
+NextOf layout c (Some soft) found got after turn = (s : Soft) × (t : Turn) × softs.Follows layout soft found got s t × AfterSoft (record c { beside = Some s }) s (softs.answer s) t after turn
 
 abbrev pub Next : Layout → Course → ℕ → Option BodyValue → Course → Turn → Type 0
-Next layout c found got after turn = (k : Job) × (t : Turn) × jobs.Next layout c.part found got k t × Follows (record c { part = k }) (jobs.answer k) t after turn
+Next layout c found got after turn = NextOf layout c c.beside found got after turn
+
+-- the collector has room for the frames
+abbrev pub Covers : ℕ → Option Watching → Type 0
+Covers frames None = Unit {0}
+Covers frames (Some w) = frames ≤ length w.collector.counts
+
+abbrev pub ShowsOf : Course → Option Soft → ℕ → Option BodyValue → Type 0
+ShowsOf c None found got = jobs.Shows c.own found got × Covers c.frames c.watching
+ShowsOf c (Some soft) found got = softs.Shows soft found got × (0 < c.due.spare)
+
+abbrev pub Shows : Course → ℕ → Option BodyValue → Type 0
+Shows c found got = ShowsOf c c.beside found got
+
+-- ---- why it ends
 
 -- more than all turns in which a frame is taken out of use
 abbrev pub soft_weight : ℕ
 soft_weight = 3 * stale_weight
 
--- no more frames than this come after a command
+-- no command that tells of many events tells of more
 abbrev pub due_room : ℕ
 due_room = 2 ^ 16
 
--- each frame that comes next costs more than all its turns, and the part that runs its own beside; the end is a turn of its own
-abbrev pub cost_of : Option Answer → ℕ → Job → Words → ℕ
-cost_of (Some said) left part words = 0
-cost_of None left part words = soft_weight * left + jobs.cost part words + 1
+-- such a command pays for all frames that may be due behind it
+abbrev pub flat : Job → ℕ
+flat (kinds.Raise r) = soft_weight * due_room
+flat (kinds.Scrub s) = soft_weight * due_room
+flat _ = 0
+
+-- its next step gives it up
+abbrev pub gives_up_access : InstructionAt → Bool
+gives_up_access instruction_at.GiveUp = true
+gives_up_access _ = false
+
+abbrev pub gives_up_raise : RaiseAt → Bool
+gives_up_raise raise_at.GiveUp = true
+gives_up_raise _ = false
+
+abbrev pub gives_up_scrub : ScrubAt → Bool
+gives_up_scrub scrub_at.GiveUp = true
+gives_up_scrub _ = false
+
+abbrev pub gives_up : Job → Bool
+gives_up (kinds.Instruction i) = gives_up_access i.at
+gives_up (kinds.Raise r) = gives_up_raise r.at
+gives_up (kinds.Scrub s) = gives_up_scrub s.at
+gives_up _ = false
+
+-- its own task goes on, or is over
+abbrev pub own_cost : Job → Option Step → Words → ℕ
+own_cost j None words = 0
+own_cost j (Some step) words = cond (gives_up j) 2 (jobs.cost j words + flat j + 3)
+
+-- each frame that comes next costs more than all its turns, and the one that is taken out of use its own; then its own task goes on
+abbrev pub cost_of : Course → Option Soft → Words → ℕ
+cost_of c None words = own_cost c.own (jobs.plan c.own) words
+cost_of c (Some soft) words = softs.cost soft words + soft_weight * (length c.due.frames - (length c.due.offlined + 1)) + cond (jobs.pauses c.own) (anew_after_wait + 4) 0 + 1
 
 abbrev pub cost : Course → Words → ℕ
-cost c words = cost_of (answer c) (length c.due - c.next) c.part words
+cost c words = cost_of c c.beside words
 
--- the part that runs fits beside the entries that those before it have made; the frames that come next are of the machine
+-- ---- what is held and known
+
+-- the collector is for the machine's frames, and stands for what it was told
+abbrev pub IsOfMachine : Layout → Option Watching → Type 0
+IsOfMachine layout None = Unit {0}
+IsOfMachine layout (Some w) = (length w.collector.counts ≡ layout.frames) × ((events : List CecEvent) × StandsFor events w.collector)
+
+-- an access that goes on told of no event that was kept since the collector got some last: it pauses where it did
+abbrev pub IsUnkept : Job → ℕ → Type 0
+IsUnkept (kinds.Instruction i) noted = (i.collects ≡ true) × (has_kept (drop noted i.lines.told) ≡ false)
+IsUnkept _ noted = Unit {0}
+
+-- its own task goes on, behind whatever entries the command made, and no frame is due
+pub record IsGoing (layout : Layout) (view : View) (c : Course) : Type 0 where
+  pub own : jobs.Fits layout view c.own
+  pub none_due : length c.due.frames ≡ length c.due.offlined
+  pub unkept : collects c.watching ≡ true → IsUnkept c.own c.noted
+
+-- all is done: nothing is held, and a command of which memory can fail owes no loss
+pub record IsDone (view : View) (c : Course) : Type 0 where
+  pub on_turn : IsOnTurn view (jobs.who c.own)
+  pub hand_is : hand_of view ≡ empty
+  pub paid : (view.owed.losses ≡ []) ⊎ (failed_now c.own ≡ [])
+
+-- its own task rests: it has its answer, or it pauses
+abbrev pub IsAtPause : Layout → View → Job → Type 0
+IsAtPause layout view (kinds.Instruction i) = (p : Pause) × IsResting layout view i p
+IsAtPause layout view _ = ⊥
+
+abbrev pub RestsNow : Layout → View → Job → Type 0
+RestsNow layout view j = (is_some (jobs.answer j) ≡ true) ⊎ IsAtPause layout view j
+
+-- a frame that is due is taken out of use, as a part of the same command
+pub record IsTakingOut (layout : Layout) (view : View) (c : Course) (soft : Soft) : Type 0 where
+  pub soft : offline.Fits layout view soft
+  pub own : soft.who ≡ jobs.who c.own
+  pub next : next_due c.due ≡ Some soft.frame
+  pub rests : RestsNow layout view c.own
+  pub noted : c.noted ≡ length (jobs.told_of c.own)
+  pub paid : view.owed.losses ≡ []
+
+abbrev pub FitsOwn : Layout → View → Course → Option Answer → Type 0
+FitsOwn layout view c None = IsGoing layout view c
+FitsOwn layout view c (Some answer) = IsDone view c
+
+abbrev pub FitsOf : Layout → View → Course → Option Soft → Type 0
+FitsOf layout view c None = FitsOwn layout view c (jobs.answer c.own)
+FitsOf layout view c (Some soft) = IsTakingOut layout view c soft
+
 pub record Fits (layout : Layout) (view : View) (c : Course) : Type 0 where
-  pub base : List Made
-  pub part : jobs.FitsFrom base layout view c.part
-  pub due : EachMember (λ (f : Frame). f.0 < layout.frames) c.due
-  pub few : length c.due ≤ due_room
+  pub frames_are : c.frames ≡ layout.frames
+  pub collector : IsOfMachine layout c.watching
+  pub noted : c.noted ≤ length (jobs.told_of c.own)
+  pub for_pages : EachMember (λ (f : Frame). is_for_pages layout f ≡ true) c.due.frames
+  pub few : length c.due.frames ≤ length c.due.offlined + due_room
+  pub room : length c.due.frames ≤ length c.due.offlined + c.due.spare
+  pub at : FitsOf layout view c c.beside
 
 -- the task, as the laws of tasks read it
 abbrev pub task : Member Course
 task = record {
-  who = λ c. jobs.who c.part;
-  plan = λ c. jobs.plan c.part;
-  put = λ c. jobs.put c.part;
+  who = λ c. jobs.who c.own;
+  plan = λ c. jobs.plan (part c);
+  put = λ c. jobs.put (part c);
   bare = bare;
-  shows = λ c found got. jobs.Shows c.part found got;
+  shows = Shows;
   next = Next;
   fits = Fits;
-  class = λ c. jobs.class c.part;
+  class = λ c. jobs.class (part c);
   cost = cost;
-  aborts = λ c. jobs.aborts c.part;
-  claims = λ c. jobs.claims c.part;
+  aborts = λ c. jobs.aborts (part c);
+  claims = λ c. jobs.claims (part c);
 }

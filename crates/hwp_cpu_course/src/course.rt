@@ -1,59 +1,180 @@
-ghost use Rattle.std.specs.Prelude.{◌≡◌, slice_get};
-ghost use Rattle.hwp_cpu_course.specs.Courses.{GoesOn, answer, begin};
+ghost use Rattle.std.specs.Prelude.{◌≡◌, ◌<◌, ◌≤◌, true, length, OnOk, OnErr};
+ghost use Rattle.hwp_cpu_row.specs.hwp_geom.Layout.{IsSound};
+ghost use Rattle.hwp_cpu_row.specs.hwp_script_read.Valid.{IsCommandOf};
+ghost use Rattle.hwp_cpu_row.specs.Locals.{collects};
+ghost use Rattle.hwp_cpu_command.specs.FileHandles.{HasChangeWithin};
+ghost use Rattle.hwp_cpu_course.specs.Courses.{AfterCollecting, AfterRest, BeginsCourse, Covers, IsGoingOn, answer, local_after, local_left, offline_result, rests, row_of, with_result};
 
-use hwp_cpu_command::Job;
-use hwp_cpu_row::{Answer, Body, Frame, Layout, List, Ranked, Scheduled, Step, Task, Turn, Who};
-use hwp_soft::Soft;
+use crate::due::DueFrames;
+use hwp_cpu_command::{Job, offlined_by};
+use hwp_cpu_row::{
+    Answer, Body, Command, Frame, Layout, Local, OfflineResult, Offlining, OutOfMemory, Ranked, Row,
+    Scheduled, Step, Task, Turn, Watching, Who,
+};
+use hwp_soft::{Soft, SoftAnswer};
+use std::alloc::Global;
 
-/// A command whose parts are served one after the other (this project's rule): its own part, and then frames that are taken out of use.
+/// A command with the frames that are taken out of use beside it (this project's rule). Where its own task pauses behind a machine check, and
+/// where that has its answer, its processor's collector takes the notes of what it told, the frames that are due are taken out of use one
+/// after the other, and then it goes on.
 #[derive(Drop)]
 pub struct Course {
-    part: Job,
-    /// The frames that are taken out of use once the command's own part is over, in order.
-    due: List<Frame>,
-    /// The number of the frame that comes next.
-    next: usize,
-    /// What the command's own part came to; none while it runs.
-    answer: Option<Answer>,
+    /// The command's own task.
+    own: Job,
+    /// The frame that is taken out of use now; none while the command's own task goes on.
+    beside: Option<Soft>,
+    /// The processor's collector, if it has one.
+    watching: Option<Watching>,
+    /// How many of the events that the command told of the collector has got.
+    noted: usize,
+    /// The frames that are due, and what came of them so far.
+    due: DueFrames,
+    /// How many frames the machine has. The collector has room for them.
+    frames: u16,
 }
 
 impl Course {
-    /// The command at its beginning, with the frames that come after it.
-    pub fn new(part: Job, due: List<Frame>) -> Course
-        ensures { result ≡ begin part due }
+    /// The command at its beginning. It takes what its processor's banks hold, where it can add to that, and its collector.
+    pub fn new(
+        alloc: Global,
+        layout: &Layout,
+        who: Who,
+        command: Command,
+        local: &mut Local,
+    ) -> Course
+        requires sound { IsSound layout.now }
+        requires of { IsCommandOf layout.now who.cpu.0 command }
+        ensures begins { BeginsCourse layout.now who command local.old result }
+        ensures local { local.new ≡ local_left result local.old }
     {
+        let own = Job::new(alloc, layout, who, command, local);
         Course {
-            part,
-            due,
-            next: 0,
-            answer: None,
+            own,
+            beside: None,
+            watching: local.watching.take(),
+            noted: 0,
+            due: DueFrames::new(alloc),
+            frames: layout.frames,
         }
     }
 
-    /// What the command answers; `None` until all its parts are over, and where a part gave up because memory ran out.
+    /// The same in place of the command that is there, which is let go: what it carries lies where the other one lay.
+    pub fn begin_next(
+        &mut self,
+        alloc: Global,
+        layout: &Layout,
+        who: Who,
+        command: Command,
+        local: &mut Local,
+    )
+        requires sound { IsSound layout.now }
+        requires of { IsCommandOf layout.now who.cpu.0 command }
+        ensures begins { BeginsCourse layout.now who command local.old self.new }
+        ensures local { local.new ≡ local_left self.new local.old }
+    {
+        self.own.begin_next(alloc, layout, who, command, local);
+        set(&mut self.beside, None);
+        set(&mut self.watching, local.watching.take());
+        self.noted = 0;
+        set(&mut self.due, DueFrames::new(alloc));
+        self.frames = layout.frames;
+    }
+
+    /// What the command answers; `None` until its own task is over and no frame is due, and where memory ran out.
+    #[inline(always)]
     pub fn answer(&self) -> Option<Answer>
         ensures { result ≡ answer self.now }
     {
-        if self.due.as_slice().get(self.next).is_some() {
-            return None;
+        match self.beside {
+            Some(_) => None,
+            None => self.own.answer(),
         }
-        let answer = self.part.answer()?;
-        Some(self.answer.unwrap_or(answer))
     }
 
-    /// The part that ran is over, with this answer: the next frame is taken out of use, or the command is over.
-    fn go_on(&mut self, answer: Answer) -> Turn
-        ensures { GoesOn self.old answer (slice_get self.old.due self.old.next) self.new result }
+    /// The row of a command that is over, with this answer. Its processor gets back what the command took of it.
+    pub fn finish(&mut self, alloc: Global, answer: Answer, local: &mut Local) -> Row
+        requires within { HasChangeWithin self.old.own }
+        ensures row { result ≡ row_of self.old answer }
+        ensures local { local.new ≡ local_after self.old answer local.old }
     {
-        let Some(frame) = self.due.as_slice().get(self.next) else {
-            return Turn::Answered;
+        set(&mut local.watching, self.watching.take());
+        let offlined = self.due.finish(alloc);
+        self.own.finish(alloc, answer, offlined, local)
+    }
+
+    /// Whether frames may be taken out of use: its own task pauses, or has its answer.
+    fn rests(&self) -> bool
+        ensures { result ≡ rests self.now.own }
+    {
+        self.own.pauses() || self.own.answer().is_some()
+    }
+
+    /// Its own task rests, and the processor collects: what it told since is noted, and the first frame that is due is taken out of use.
+    /// Without room for that the command is given up.
+    fn after_rest(&mut self, layout: &Layout) -> Turn
+        requires on { collects self.old.watching ≡ true }
+        requires covered { Covers self.old.frames self.old.watching }
+        ensures { AfterRest layout.now self.old self.new result }
+    {
+        let told = self.own.told().len();
+        if self.noted < told && layout.frames == self.frames && self.collect(layout, told).is_err() {
+            self.own.give_up();
+            return Turn::Moved;
+        }
+        self.go_on()
+    }
+
+    /// The collector takes the notes of what the command told since it got some last.
+    fn collect(&mut self, layout: &Layout, told: usize) -> Result<(), OutOfMemory>
+        requires on { collects self.old.watching ≡ true }
+        requires covered { Covers layout.now.frames self.old.watching }
+        ensures ok { OnOk result (AfterCollecting layout.now self.old self.new) }
+        ensures err { OnErr result (self.new ≡ self.old) }
+    {
+        let Some(watching) = &mut self.watching else {
+            unreachable!()
         };
-        let frame = *frame;
-        let who = self.part.who();
-        self.answer = Some(self.answer.unwrap_or(answer));
-        self.next += 1;
-        set(&mut self.part, Job::Soft(Soft::new(who, frame)));
-        Turn::Moved
+        let since = &self.own.told()[self.noted..];
+        self.due.collect(layout, since, &mut watching.collector)?;
+        self.noted = told;
+        Ok(())
+    }
+
+    /// The frame that was taken out of use beside it came to this.
+    fn after_soft(&mut self, frame: Frame, answer: SoftAnswer) -> Turn
+        requires room { 0 < self.old.due.spare }
+        ensures { IsGoingOn (with_result self.old frame answer) self.new result }
+    {
+        let offlining = Offlining {
+            frame,
+            result: offline_result(answer),
+            change: offlined_by(frame, answer),
+            told: self.own.told().len(),
+        };
+        self.due.push(offlining);
+        self.go_on()
+    }
+
+    /// The next frame that is due is taken out of use; or, where none is, the command's own task goes on.
+    fn go_on(&mut self) -> Turn
+        ensures { IsGoingOn self.old self.new result }
+    {
+        match self.due.next() {
+            Some(frame) => {
+                let soft = Soft::new(self.own.who(), frame);
+                set(&mut self.beside, Some(soft));
+                Turn::Moved
+            }
+            None => {
+                self.own.resume();
+                set(&mut self.beside, None);
+                if self.own.answer().is_some() {
+                    Turn::Answered
+                } else {
+                    Turn::Moved
+                }
+            }
+        }
     }
 }
 
@@ -64,43 +185,94 @@ fn set<T: Drop>(place: &mut T, value: T)
     *place = value;
 }
 
+/// Whether the processor collects corrected errors.
+#[inline(always)]
+fn collects(watching: &Option<Watching>) -> bool
+    ensures { result ≡ collects watching.now }
+{
+    match watching {
+        Some(watching) => watching.on,
+        None => false,
+    }
+}
+
+/// What came of a frame that was to be taken out of use. One that is due isn't the kernel's.
+fn offline_result(answer: SoftAnswer) -> OfflineResult
+    ensures { result ≡ offline_result answer }
+{
+    match answer {
+        SoftAnswer::Stopped | SoftAnswer::Kernel => OfflineResult::Stopped,
+        SoftAnswer::Already => OfflineResult::Already,
+        SoftAnswer::HasBad(mask) => OfflineResult::HasBad(mask),
+        SoftAnswer::NoFrame => OfflineResult::NoFrame,
+        SoftAnswer::TakenFree { .. } => OfflineResult::TakenFree,
+        SoftAnswer::Moved { frame, at, .. } => OfflineResult::Moved(frame, at),
+    }
+}
+
 impl Task for Course {
     ghost use Rattle.hwp_cpu_course.specs.Courses as courses;
 
     ghost task = { courses.task };
 
+    #[inline(always)]
     fn who(&self) -> Who {
-        self.part.who()
+        self.own.who()
     }
 
+    #[inline(always)]
     fn plan(&self) -> Option<Step> {
-        self.part.plan()
+        match &self.beside {
+            Some(soft) => soft.plan(),
+            None => self.own.plan(),
+        }
     }
 
+    #[inline(always)]
     fn give(&mut self) -> Option<Body> {
-        self.part.give()
+        match &mut self.beside {
+            Some(soft) => soft.give(),
+            None => self.own.give(),
+        }
     }
 
+    #[inline(always)]
     fn settle(&mut self, layout: &Layout, found: u64, body: Option<Body>) -> Turn {
-        let turn = self.part.settle(layout, found, body);
-        let Some(answer) = self.part.answer() else {
-            return turn;
-        };
-        self.go_on(answer)
+        if let Some(soft) = &mut self.beside {
+            let turn = soft.settle(layout, found, body);
+            let Some(answer) = soft.answer() else {
+                return turn;
+            };
+            let frame = soft.frame();
+            return self.after_soft(frame, answer);
+        }
+        let turn = self.own.settle(layout, found, body);
+        if collects(&self.watching) && self.rests() {
+            return self.after_rest(layout);
+        }
+        turn
     }
 }
 
 impl Ranked for Course {
+    #[inline(always)]
     fn class(&self) -> u8 {
-        self.part.class()
+        match &self.beside {
+            Some(soft) => soft.class(),
+            None => self.own.class(),
+        }
     }
 
     fn ranked(&self) {}
 }
 
 impl Scheduled for Course {
+    #[inline(always)]
     fn is_over(&self) -> bool {
-        self.part.is_over()
+        match &self.beside {
+            Some(soft) => soft.is_over(),
+            None => self.own.is_over(),
+        }
     }
 
     fn tells(&self) {}
