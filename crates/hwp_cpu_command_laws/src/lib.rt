@@ -2,4 +2,4 @@
 //! This crate has lemmas alone; the crates above cite them.
 #![tactic(auto)]
 
-pub use hwp_cpu_command::Job;
+pub use hwp_cpu_command::{Job, offlined_by};

@@ -14,13 +14,13 @@ use Rattle.hwp_cpu_row.specs.hwp_core_task.declared.Turn.{Turn}
 use Rattle.hwp_cpu_row.specs.hwp_core_task.Boards.{view_of}
 use Rattle.hwp_cpu_row.specs.hwp_core_task.Classes.{TellsClass}
 use Rattle.hwp_cpu_row.specs.hwp_core_task.Ranks.{CostFalls, HasFailed, IsRanked, Made, OtherHand, PaysRevival, Pending, Quiet, command_weight, failure_weight, failures_left, is_refused, is_waits, top, words_at}
-use Rattle.hwp_cpu_command.specs.declared.job.Job.{Job}
-use Rattle.hwp_cpu_command.specs.declared.job.Job.TheVariants as kinds
-use Rattle.hwp_cpu_command.specs.Jobs as jobs
-use Rattle.hwp_cpu_command.specs.hwp_soft.Softs as softs
-use Rattle.hwp_cpu_command.proofs.of_hwp_soft.SoftRank.{soft-small}
-use Rattle.hwp_cpu_command.proofs.JobEnds.{answered-over}
-use Rattle.hwp_cpu_command.proofs.JobLaws as jobbing
+use Rattle.hwp_cpu_command_laws.specs.hwp_cpu_command.declared.job.Job.{Job}
+use Rattle.hwp_cpu_command_laws.specs.hwp_cpu_command.declared.job.Job.TheVariants as kinds
+use Rattle.hwp_cpu_command_laws.specs.hwp_cpu_command.Jobs as jobs
+use Rattle.hwp_cpu_command_laws.specs.hwp_cpu_command.hwp_soft.Softs as softs
+use Rattle.hwp_cpu_command_laws.proofs.of_hwp_cpu_command.of_hwp_soft.SoftRank.{soft-small}
+use Rattle.hwp_cpu_command_laws.proofs.of_hwp_cpu_command.JobEnds.{answered-over}
+use Rattle.hwp_cpu_command_laws.proofs.of_hwp_cpu_command.JobLaws as jobbing
 use Rattle.hwp_cpu_command_laws.proofs.Below.{job-few}
 use Rattle.hwp_cpu_course.specs.declared.course.Course.{Course}
 use Rattle.hwp_cpu_course.specs.Courses.{Fits, Follows, GoesOn, Next, answer, answer_by, cost, cost_of, due_room, soft_weight, task as course-task}

@@ -10,10 +10,10 @@ use Rattle.hwp_cpu_row.specs.hwp_core_task.declared.Turn.{Turn}
 use Rattle.hwp_cpu_row.specs.hwp_core_task.Calls.{Steps, logs}
 use Rattle.hwp_cpu_row.specs.hwp_core_task.Known.{deeds}
 use Rattle.hwp_cpu_row.specs.hwp_core_task.Turns.{IsTask}
-use Rattle.hwp_cpu_command.specs.declared.job.Job.{Job}
-use Rattle.hwp_cpu_command.specs.Jobs as jobs
-use Rattle.hwp_cpu_command.proofs.JobEnds.{ends}
-use Rattle.hwp_cpu_command.proofs.JobLaws as jobbing
+use Rattle.hwp_cpu_command_laws.specs.hwp_cpu_command.declared.job.Job.{Job}
+use Rattle.hwp_cpu_command_laws.specs.hwp_cpu_command.Jobs as jobs
+use Rattle.hwp_cpu_command_laws.proofs.of_hwp_cpu_command.JobEnds.{ends}
+use Rattle.hwp_cpu_command_laws.proofs.of_hwp_cpu_command.JobLaws as jobbing
 use Rattle.hwp_cpu_course.specs.declared.course.Course.{Course}
 use Rattle.hwp_cpu_course.specs.Courses.{Fits, Follows, GoesOn, Next, bare, task as course-task}
 use Rattle.hwp_cpu_course.proofs.PartBegins.{on-turn, soft-begins}

@@ -8,10 +8,10 @@ use Rattle.hwp_cpu_row.specs.hwp_core_rule.declared.View.{View}
 use Rattle.hwp_cpu_row.specs.hwp_core_task.Calls.{IsOnTurn}
 use Rattle.hwp_cpu_row.specs.hwp_core_task.Hands.{empty, hand_of}
 use Rattle.hwp_cpu_row.specs.hwp_core_task.Known.{deeds}
-use Rattle.hwp_cpu_command.specs.declared.job.Job.{Job}
-use Rattle.hwp_cpu_command.specs.declared.job.Job.TheVariants as kinds
-use Rattle.hwp_cpu_command.specs.Jobs as jobs
-use Rattle.hwp_cpu_command.specs.hwp_soft.Softs as softs
+use Rattle.hwp_cpu_command_laws.specs.hwp_cpu_command.declared.job.Job.{Job}
+use Rattle.hwp_cpu_command_laws.specs.hwp_cpu_command.declared.job.Job.TheVariants as kinds
+use Rattle.hwp_cpu_command_laws.specs.hwp_cpu_command.Jobs as jobs
+use Rattle.hwp_cpu_command_laws.specs.hwp_cpu_command.hwp_soft.Softs as softs
 
 -- a part that fits is that of the turn
 pub on-turn : (base : List Made) (layout : Layout) (view : View) (j : Job) → jobs.FitsFrom base layout view j → IsOnTurn view (jobs.who j)

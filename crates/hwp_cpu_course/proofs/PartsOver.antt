@@ -20,13 +20,13 @@ use Rattle.hwp_cpu_row.proofs.of_hwp_core_task.Failures.{marks-by}
 use Rattle.hwp_cpu_row.proofs.of_hwp_core_task.SightKeeps.{saw-adopted-stays, saw-bad-of-stays, saw-stays}
 use Rattle.hwp_cpu_row.proofs.of_hwp_core_task.StepLeaves.{content_of}
 use Rattle.hwp_cpu_row.specs.hwp_claim_frame.Claims.{HasMarked, SawPoison, is_own, marks_by}
-use Rattle.hwp_cpu_command.proofs.of_hwp_claim.of_hwp_claim_act.SignalEnds.{filtered}
-use Rattle.hwp_cpu_command.specs.hwp_soft.declared.soft.Soft.{Soft}
-use Rattle.hwp_cpu_command.specs.hwp_soft.declared.soft.SoftAnswer.{SoftAnswer}
-use Rattle.hwp_cpu_command.specs.hwp_soft.declared.soft.SoftAnswer.TheVariants as answers
-use Rattle.hwp_cpu_command.specs.hwp_soft.Offline as offline
-use Rattle.hwp_cpu_command.specs.hwp_soft.Softs as softs
-use Rattle.hwp_cpu_command.proofs.JobEnds.{soft-ended}
+use Rattle.hwp_cpu_command_laws.proofs.of_hwp_cpu_command.of_hwp_claim.of_hwp_claim_act.SignalEnds.{filtered}
+use Rattle.hwp_cpu_command_laws.specs.hwp_cpu_command.hwp_soft.declared.soft.Soft.{Soft}
+use Rattle.hwp_cpu_command_laws.specs.hwp_cpu_command.hwp_soft.declared.soft.SoftAnswer.{SoftAnswer}
+use Rattle.hwp_cpu_command_laws.specs.hwp_cpu_command.hwp_soft.declared.soft.SoftAnswer.TheVariants as answers
+use Rattle.hwp_cpu_command_laws.specs.hwp_cpu_command.hwp_soft.Offline as offline
+use Rattle.hwp_cpu_command_laws.specs.hwp_cpu_command.hwp_soft.Softs as softs
+use Rattle.hwp_cpu_command_laws.proofs.of_hwp_cpu_command.JobEnds.{soft-ended}
 use Rattle.hwp_cpu_course.specs.PartCauses.{AreOver, EndsSoft, HasOfflined, IsPoisoning, IsSoftOver}
 
 -- ---- what the part knew when it was over

@@ -11,8 +11,8 @@ use Rattle.hwp_cpu_row.specs.hwp_page.declared.What.{What}
 use Rattle.hwp_cpu_row.specs.hwp_page.declared.What.TheVariants as entries
 use Rattle.hwp_cpu_row.specs.hwp_core_rule.declared.Made.{Made}
 use Rattle.hwp_cpu_row.specs.hwp_core_rule.declared.View.{View}
-use Rattle.hwp_cpu_command.specs.hwp_soft.declared.soft.SoftAnswer.{SoftAnswer}
-use Rattle.hwp_cpu_command.specs.hwp_soft.declared.soft.SoftAnswer.TheVariants as answers
+use Rattle.hwp_cpu_command_laws.specs.hwp_cpu_command.hwp_soft.declared.soft.SoftAnswer.{SoftAnswer}
+use Rattle.hwp_cpu_command_laws.specs.hwp_cpu_command.hwp_soft.declared.soft.SoftAnswer.TheVariants as answers
 use Rattle.hwp_cpu_course.specs.PartCauses.{AreOver, IsSoftOver, all_moved, at_of, moved_by, placed}
 
 -- ---- a test that finds the entries by which pages move

@@ -29,26 +29,26 @@ use Rattle.hwp_cpu_row.specs.declared.Offlining.{Offlining}
 use Rattle.hwp_cpu_row.specs.declared.Row.{Row}
 use Rattle.hwp_cpu_row.specs.declared.Watching.{Watching}
 use Rattle.hwp_cpu_row.specs.Locals.{collects}
-use Rattle.hwp_cpu_command.specs.declared.Job.{Job}
-use Rattle.hwp_cpu_command.specs.declared.job.Job.TheVariants as kinds
-use Rattle.hwp_cpu_command.specs.Begins.{Begins}
-use Rattle.hwp_cpu_command.specs.Done.{failed_now}
-use Rattle.hwp_cpu_command.specs.FileHandles as handles
-use Rattle.hwp_cpu_command.specs.Jobs as jobs
-use Rattle.hwp_cpu_command.specs.hwp_cpu_access.declared.instruction.InstructionAt.{InstructionAt}
-use Rattle.hwp_cpu_command.specs.hwp_cpu_access.declared.instruction.InstructionAt.TheVariants as instruction_at
-use Rattle.hwp_cpu_command.specs.hwp_cpu_access.declared.instruction.Pause.{Pause}
-use Rattle.hwp_cpu_command.specs.hwp_cpu_access.Costs.{anew_after_wait}
-use Rattle.hwp_cpu_command.specs.hwp_cpu_access.Fits.{IsResting}
-use Rattle.hwp_cpu_command.specs.hwp_cpu_raise.declared.raise.RaiseAt.{RaiseAt}
-use Rattle.hwp_cpu_command.specs.hwp_cpu_raise.declared.raise.RaiseAt.TheVariants as raise_at
-use Rattle.hwp_cpu_command.specs.hwp_scrub.declared.scrub.ScrubAt.{ScrubAt}
-use Rattle.hwp_cpu_command.specs.hwp_scrub.declared.scrub.ScrubAt.TheVariants as scrub_at
-use Rattle.hwp_cpu_command.specs.hwp_soft.declared.Soft.{Soft}
-use Rattle.hwp_cpu_command.specs.hwp_soft.declared.SoftAnswer.{SoftAnswer}
-use Rattle.hwp_cpu_command.specs.hwp_soft.declared.SoftAnswer.TheVariants as answers
-use Rattle.hwp_cpu_command.specs.hwp_soft.Offline as offline
-use Rattle.hwp_cpu_command.specs.hwp_soft.Softs as softs
+use Rattle.hwp_cpu_command_laws.specs.hwp_cpu_command.declared.Job.{Job}
+use Rattle.hwp_cpu_command_laws.specs.hwp_cpu_command.declared.job.Job.TheVariants as kinds
+use Rattle.hwp_cpu_command_laws.specs.hwp_cpu_command.Begins.{Begins}
+use Rattle.hwp_cpu_command_laws.specs.hwp_cpu_command.Done.{failed_now}
+use Rattle.hwp_cpu_command_laws.specs.hwp_cpu_command.FileHandles as handles
+use Rattle.hwp_cpu_command_laws.specs.hwp_cpu_command.Jobs as jobs
+use Rattle.hwp_cpu_command_laws.specs.hwp_cpu_command.hwp_cpu_access.declared.instruction.InstructionAt.{InstructionAt}
+use Rattle.hwp_cpu_command_laws.specs.hwp_cpu_command.hwp_cpu_access.declared.instruction.InstructionAt.TheVariants as instruction_at
+use Rattle.hwp_cpu_command_laws.specs.hwp_cpu_command.hwp_cpu_access.declared.instruction.Pause.{Pause}
+use Rattle.hwp_cpu_command_laws.specs.hwp_cpu_command.hwp_cpu_access.Costs.{anew_after_wait}
+use Rattle.hwp_cpu_command_laws.specs.hwp_cpu_command.hwp_cpu_access.Fits.{IsResting}
+use Rattle.hwp_cpu_command_laws.specs.hwp_cpu_command.hwp_cpu_raise.declared.raise.RaiseAt.{RaiseAt}
+use Rattle.hwp_cpu_command_laws.specs.hwp_cpu_command.hwp_cpu_raise.declared.raise.RaiseAt.TheVariants as raise_at
+use Rattle.hwp_cpu_command_laws.specs.hwp_cpu_command.hwp_scrub.declared.scrub.ScrubAt.{ScrubAt}
+use Rattle.hwp_cpu_command_laws.specs.hwp_cpu_command.hwp_scrub.declared.scrub.ScrubAt.TheVariants as scrub_at
+use Rattle.hwp_cpu_command_laws.specs.hwp_cpu_command.hwp_soft.declared.Soft.{Soft}
+use Rattle.hwp_cpu_command_laws.specs.hwp_cpu_command.hwp_soft.declared.SoftAnswer.{SoftAnswer}
+use Rattle.hwp_cpu_command_laws.specs.hwp_cpu_command.hwp_soft.declared.SoftAnswer.TheVariants as answers
+use Rattle.hwp_cpu_command_laws.specs.hwp_cpu_command.hwp_soft.Offline as offline
+use Rattle.hwp_cpu_command_laws.specs.hwp_cpu_command.hwp_soft.Softs as softs
 use Rattle.hwp_cpu_course.specs.declared.course.Course.{Course}
 use Rattle.hwp_cpu_course.specs.Dues.{DueValue, HasCollected, next_due, no_due, with_offlining}
 
@@ -278,10 +278,10 @@ abbrev pub RestsNow : Layout → View → Job → Type 0
 RestsNow layout view j = (is_some (jobs.answer j) ≡ true) ⊎ IsAtPause layout view j
 
 -- a frame that is due is taken out of use, as a part of the same command
-pub record IsTakingOut (layout : Layout) (view : View) (c : Course) (soft : Soft) : Type 0 where
-  pub soft : offline.Fits layout view soft
-  pub own : soft.who ≡ jobs.who c.own
-  pub next : next_due c.due ≡ Some soft.frame
+pub record IsTakingOut (layout : Layout) (view : View) (c : Course) (s : Soft) : Type 0 where
+  pub soft : offline.Fits layout view s
+  pub own : s.who ≡ jobs.who c.own
+  pub next : next_due c.due ≡ Some s.frame
   pub rests : RestsNow layout view c.own
   pub noted : c.noted ≡ length (jobs.told_of c.own)
   pub paid : view.owed.losses ≡ []

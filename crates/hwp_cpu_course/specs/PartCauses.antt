@@ -15,10 +15,10 @@ use Rattle.hwp_cpu_row.specs.hwp_core_rule.Lists.{SomeMember}
 use Rattle.hwp_cpu_row.specs.hwp_core_task.Known.{IsAt, Saw, SawStop, deeds}
 use Rattle.hwp_cpu_row.specs.hwp_claim_frame.Claims.{SawPoison, is_own}
 use Rattle.hwp_cpu_row.specs.hwp_claim_frame.Grabs.{WasFree}
-use Rattle.hwp_cpu_command.specs.hwp_soft.declared.soft.SoftAnswer.{SoftAnswer}
-use Rattle.hwp_cpu_command.specs.hwp_soft.declared.soft.SoftAnswer.TheVariants as answers
-use Rattle.hwp_cpu_command.specs.hwp_soft.Offline.{SawLines}
-use Rattle.hwp_cpu_command.specs.hwp_soft_move.Seizes.{IsUsers, SawKernel}
+use Rattle.hwp_cpu_command_laws.specs.hwp_cpu_command.hwp_soft.declared.soft.SoftAnswer.{SoftAnswer}
+use Rattle.hwp_cpu_command_laws.specs.hwp_cpu_command.hwp_soft.declared.soft.SoftAnswer.TheVariants as answers
+use Rattle.hwp_cpu_command_laws.specs.hwp_cpu_command.hwp_soft.Offline.{SawLines}
+use Rattle.hwp_cpu_command_laws.specs.hwp_cpu_command.hwp_soft_move.Seizes.{IsUsers, SawKernel}
 
 -- the command poisoned this frame, in this cycle of it
 abbrev pub IsPoisoning : Who → Frame → ℕ → Mark → Type 0

@@ -2,11 +2,11 @@ ghost use Rattle.std.specs.Prelude.{◌≡◌, ◌<◌, ◌≤◌, true, length,
 ghost use Rattle.hwp_cpu_row.specs.hwp_geom.Layout.{IsSound};
 ghost use Rattle.hwp_cpu_row.specs.hwp_script_read.Valid.{IsCommandOf};
 ghost use Rattle.hwp_cpu_row.specs.Locals.{collects};
-ghost use Rattle.hwp_cpu_command.specs.FileHandles.{HasChangeWithin};
+ghost use Rattle.hwp_cpu_command_laws.specs.hwp_cpu_command.FileHandles.{HasChangeWithin};
 ghost use Rattle.hwp_cpu_course.specs.Courses.{AfterCollecting, AfterRest, BeginsCourse, Covers, IsGoingOn, answer, local_after, local_left, offline_result, rests, row_of, with_result};
 
 use crate::due::DueFrames;
-use hwp_cpu_command::{Job, offlined_by};
+use hwp_cpu_command_laws::{Job, offlined_by};
 use hwp_cpu_row::{
     Answer, Body, Command, Frame, Layout, Local, OfflineResult, Offlining, OutOfMemory, Ranked, Row,
     Scheduled, Step, Task, Turn, Watching, Who,
