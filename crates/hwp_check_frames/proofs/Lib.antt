@@ -5,6 +5,7 @@ pub mod RecordLaws
 pub mod SaidLaws
 mod OwnLaws
 pub mod SoftLaws
+pub mod BesideLaws
 mod GivenLaws
 mod FlagLaws
 mod IndexLaws

@@ -1,23 +1,20 @@
 -- Marks of soft offlines are counted, and have as many lines of their commands as there are at most.
-use Rattle.std.proofs.Common.{◌≡◌, ◌↔◌, inl, inr, ℕ, zero, suc, ◌+◌, ◌<◌, ◌≤◌, ◌==◌, ◌&&◌, nat_lt, Bool, true, false, cond, List, [], ◌∷◌, Some, None, IsTrue, count_by, get_or, length, slice_get, sum_by, take, true≢false, refl, sym, ap, ◌∙◌, subst, arith}
+use Rattle.std.proofs.Common.{◌≡◌, ◌↔◌, inl, inr, ℕ, suc, ◌+◌, ◌<◌, ◌≤◌, ◌&&◌, nat_lt, Bool, true, false, cond, List, [], ◌∷◌, Some, IsTrue, count_by, get_or, length, slice_get, take, true≢false, refl, sym, ap, ◌∙◌, subst, arith}
 use Rattle.std.proofs.lemmas.Bool.{cases_Bool, cases_lt, lt-ltb, ltb-true}
 use Rattle.std.proofs.lemmas.List.Sums.{sum_by-cons, sum_by-take-le, sum_by_more, sum_by_more_le}
-use Rattle.std.proofs.lemmas.Option.{get_or_from_slice_get, none-some, same_Some, slice_get_within}
+use Rattle.std.proofs.lemmas.Option.{get_or_from_slice_get, slice_get_within}
 use Rattle.hwp_check_rules.specs.hwp_geom.declared.Frame.{Frame}
 use Rattle.hwp_check_rules.specs.hwp_geom.declared.Who.{Who}
 use Rattle.hwp_check_rules.specs.hwp_script_read.declared.Script.{Script}
 use Rattle.hwp_check_rules.specs.hwp_report_text.declared.How.TheVariants as hows
 use Rattle.hwp_check_rules.specs.hwp_report_text.declared.MarkLine.{MarkLine}
 use Rattle.hwp_check_rules.specs.hwp_report_text.declared.MarkLine.TheVariants as marks
-use Rattle.hwp_check_rules.specs.hwp_report_text.declared.OfflinedLine.{OfflinedLine}
 use Rattle.hwp_check_rules.specs.hwp_report_text.declared.Report.{Report}
-use Rattle.hwp_check_rules.specs.hwp_report_text.Offlines.{offline_answer}
-use Rattle.hwp_check_rules.specs.hwp_law.Lines.{answer_of, is_same_command, marks_of, offlined_of}
+use Rattle.hwp_check_rules.specs.hwp_law.Lines.{answer_of, is_same_command, marks_of}
 use Rattle.hwp_check_rules.specs.hwp_law.Pairings.{is_soft_mark, is_soft_of, says_soft, soft_lines}
 use Rattle.hwp_check_rules.specs.hwp_law_commands.Commands.{command_at}
-use Rattle.hwp_check_rules.specs.hwp_law.Records.{how_in, who_in}
-use Rattle.hwp_check_rules.specs.MarkFaults.{IsUnsaid}
-use Rattle.hwp_check_frames.specs.Index.{NoneOfflined}
+use Rattle.hwp_check_rules.specs.hwp_law.Records.{who_in}
+use Rattle.hwp_check_rules.specs.MarkFaults.{IsUnsaid, lines_beside}
 use Rattle.hwp_check_frames.specs.MarkScans.{AreSaid, IsSaid, IsSaidMore}
 use Rattle.hwp_check_frames.specs.Softs.{marks_soft, soft_key, soft_raise}
 use Rattle.hwp_check_frames.proofs.CountRises.{flag, raise-one, same-swap}
@@ -72,14 +69,12 @@ softs-are w moved (m ∷ ms) =
     let rest : marks_soft (soft_key w moved) ms ≡ count_by (is_soft_mark w moved) ms = softs-are w moved ms in
     omega (arith, all, count, one, rest)
 
--- a command's answer is the one line that says so
-pub lines-are : (script : Script) (report : Report) (who : Who) (frame : Frame) (moved said : Bool) (n : ℕ) → NoneOfflined report → n ≡ cond said 1 0 → said ≡ (is_soft_of frame (command_at script who) && says_soft moved (answer_of report who))
-    → n ≡ soft_lines script report who frame moved
-lines-are script report who frame moved said n none_beside is told =
+-- the lines that say so are a command's answer and those beside it
+pub lines-are : (script : Script) (report : Report) (who : Who) (frame : Frame) (moved said : Bool) (n beside : ℕ) → n ≡ cond said 1 0 → beside ≡ lines_beside report who frame.0 moved → said ≡ (is_soft_of frame (command_at script who) && says_soft moved (answer_of report who))
+    → n + beside ≡ soft_lines script report who frame moved
+lines-are script report who frame moved said n beside is are told =
     let own : n ≡ cond (is_soft_of frame (command_at script who) && says_soft moved (answer_of report who)) 1 0 = is ∙ ap (λ (b : Bool). cond b 1 0) told in
-    let rest : count_by (λ (l : OfflinedLine). (l.frame.0 == frame.0) && says_soft moved (Some (offline_answer l.result))) (offlined_of report who) ≡ 0 =
-    ap (λ (list : List OfflinedLine). count_by (λ (l : OfflinedLine). (l.frame.0 == frame.0) && says_soft moved (Some (offline_answer l.result))) list) (none_beside who) in
-    omega (arith, own, rest)
+    omega (arith, own, are)
 
 pub more-is : (script : Script) (report : Report) (frame : Frame) (before : List MarkLine) (who : Who) (moved : Bool) (n lines : ℕ) → n ≡ marks_soft (soft_key who moved) before → lines ≡ soft_lines script report who frame moved
     → IsTrue (nat_lt n lines) ↔ IsSaidMore script report frame before who moved

@@ -1,6 +1,7 @@
 pub mod Counts
 pub mod MarkScans
 pub mod Said
+pub mod Beside
 pub mod Own
 pub mod Softs
 pub mod Given

@@ -1,4 +1,4 @@
-ghost use Rattle.std.specs.Prelude.{◌≡◌, ◌<◌, ◌+◌, ◌^◌, length, IfOk, MatchBool, MatchOption};
+ghost use Rattle.std.specs.Prelude.{◌<◌, ◌+◌, ◌^◌, length, IfOk, MatchBool, MatchOption};
 ghost use Rattle.hwp_check_rules.specs.hwp_script_read.Valid.{IsValid};
 ghost use Rattle.hwp_check_rules.specs.hwp_law.Lines.{marks_of};
 ghost use Rattle.hwp_check_frames.specs.Index.{IsIndex};
@@ -6,7 +6,7 @@ ghost use Rattle.hwp_check_frames.specs.MarkScans.{AreRightMarks, FrameFits, IsC
 ghost use Rattle.hwp_check_rules.specs.Standing.{last_line};
 ghost use Rattle.hwp_check_rules.specs.Verdicts.{HoldBelow};
 
-use crate::index::{Index, index_of};
+use crate::index::Index;
 use crate::own::add_own;
 use crate::records::is_right;
 use crate::softs::add_soft;
@@ -80,20 +80,25 @@ fn frame_fault(
 }
 
 /// The first line of the frames' records that is wrong in its record, or by the lines of commands beside it.
-pub fn kept(alloc: Global, script: &Script, report: &Report) -> Result<Option<u64>, OutOfMemory>
+pub fn kept(
+    alloc: Global,
+    script: &Script,
+    report: &Report,
+    index: &Index,
+) -> Result<Option<u64>, OutOfMemory>
     requires valid { IsValid script.now }
     requires room { last_line report.now < 2 ^ 64 }
     requires below { HoldBelow 5 script.now report.now }
+    requires index { IsIndex report.now index.now }
     ensures { IfOk result (λ found. MatchOption found (IsClear (RecordsFit script.now report.now) (IsRecordFault script.now report.now)) (λ line. IsFirstFault (RecordsFit script.now report.now) (IsRecordFault script.now report.now) line)) }
 {
-    let index = index_of(alloc, script, report)?;
     let frames = report.frames.as_slice();
     let kernels = script.layout.kernel.as_slice();
     let mut heading = 4 + report.files.len() as u64;
     for frame in 0..script.layout.frames {
         let shown = &frames[usize::from(frame)];
         let kernel = kernels[usize::from(frame)];
-        match frame_fault(alloc, script, report, &index, kernel, Frame(frame), heading)? {
+        match frame_fault(alloc, script, report, index, kernel, Frame(frame), heading)? {
             Some(line) => return Ok(Some(line)),
             None => heading += 1 + shown.marks.len() as u64,
         }

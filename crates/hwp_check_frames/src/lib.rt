@@ -1,6 +1,7 @@
 //! The records of poisoning of frames: each in itself, and by the answers and the events of the commands that it names.
 #![tactic(auto)]
 
+mod beside;
 mod counts;
 mod flags;
 mod frames;
@@ -12,8 +13,11 @@ mod records;
 mod said;
 mod softs;
 
+pub use beside::{marking, spot_of};
 pub use counts::{Counts, Key, add, add_if, count};
 pub use frames::kept;
+pub use index::{Index, index_of};
 pub use noted::{Noted, is_result};
 pub use own::add_own;
+pub use records::soft_lines;
 pub use said::{Rows, Said, row_of, said_of};

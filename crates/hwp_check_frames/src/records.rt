@@ -11,6 +11,7 @@ ghost use Rattle.hwp_check_frames.specs.Own.{marks_own};
 ghost use Rattle.hwp_check_frames.specs.Softs.{marks_soft};
 ghost use Rattle.hwp_check_frames.specs.MarkScans.{FindsRight, HasEvent, IsInject, IsNextResult, IsRightMark, IsSaid, IsSaidHow, IsSaidMore, IsUnpoison, IsWrongMark, WasInjected, WasUnpoisoned};
 
+use crate::beside::spot_of;
 use crate::counts::{Counts, count};
 use crate::given::{Given, answer_in};
 use crate::index::Index;
@@ -153,8 +154,8 @@ fn is_soft_so(
     is_soft_of(command_of(script, who), frame) && says_soft(moved, answer_in(report, given, who))
 }
 
-/// How many lines of the command say so of the frame: its answer alone, since a report has no other lines that say it.
-fn soft_lines(
+/// How many lines of the command say so of the frame: its answer, and lines beside it.
+pub fn soft_lines(
     script: &Script,
     report: &Report,
     index: &Index,
@@ -165,7 +166,8 @@ fn soft_lines(
     requires { IsIndex report.now index.now }
     ensures { result ≡ soft_lines script.now report.now who frame moved }
 {
-    u64::from(is_soft_so(script, report, &index.given, who, frame, moved))
+    let answered = u64::from(is_soft_so(script, report, &index.given, who, frame, moved));
+    answered + count(&index.beside, spot_of(who, frame, moved))
 }
 
 /// Whether behind these marks the command has a line more that says so.

@@ -18,7 +18,7 @@ use Rattle.hwp_check_rules.specs.Firsts.{IsLeast, sooner_if}
 use Rattle.hwp_check_rules.specs.MarkFaults.{IsMarkLacking, LacksMarks, home_of}
 use Rattle.hwp_check_rules.specs.Standing.{entry_height, frame_line, page_height}
 use Rattle.hwp_check_frames.specs.Counts.{at_key}
-use Rattle.hwp_check_marks.specs.Lacking.{IsHomeLacking, has_fewer, is_lacking, kind_asked, lowest_entry, lowest_in}
+use Rattle.hwp_check_marks.specs.Lacking.{IsHomeLacking, entry_home, has_fewer, is_lacking, kind_asked, lowest_entry, lowest_in}
 use Rattle.hwp_check_marks.specs.Tallies.{frames_raise, key_of, pages_raise}
 use Rattle.hwp_check_marks.specs.Unpaired.{in_frames, in_pages}
 use Rattle.hwp_check_marks.specs.Walks.{IsAskedIn, IsLowest, walk_entries, walk_pages}
@@ -96,12 +96,12 @@ module _ {S : Type 0} (script : Script) (report : Report) (asked had : HashMap (
       lt-ltb (at_key had (key_of who kind)) (at_key asked (key_of who kind)) (omega (arith, less, a, b))
 
   -- an entry that has not its mark is of a command that lacks marks
-  lacks : (who : Who) (what : What) → has_fewer asked had who (kind_asked what) ≡ true → LacksMarks report who
+  lacks : (who : Who) (what : What) → has_fewer asked had who (kind_asked what) ≡ true → LacksMarks report who (is_soft what)
   lacks who (entries.Fail situation required seen signals) is = elim (cases_Bool (has_page situation)) [
-    | inl page ↦ inl (situation, page, fewer who (kinds.Failure situation) (sym (ap (λ (b : Bool). has_fewer asked had who (cond b (Some (kinds.Failure situation)) None)) page) ∙ is))
+    | inl page ↦ (situation, page, fewer who (kinds.Failure situation) (sym (ap (λ (b : Bool). has_fewer asked had who (cond b (Some (kinds.Failure situation)) None)) page) ∙ is))
     | inr none ↦ absurd (true≢false (sym is ∙ ap (λ (b : Bool). has_fewer asked had who (cond b (Some (kinds.Failure situation)) None)) none))
   ]
-  lacks who entries.Soft is = inr (fewer who kinds.Moved is)
+  lacks who entries.Soft is = fewer who kinds.Moved is
   lacks who _ is = absurd (true≢false (sym is))
 
   -- and such a command has such an entry
@@ -115,10 +115,14 @@ module _ {S : Type 0} (script : Script) (report : Report) (asked had : HashMap (
       ap (λ (s : Situation). cond (has_page s) (Some (kinds.Failure s)) None) same ∙ ap (λ (b : Bool). cond b (Some (kinds.Failure situation)) None) page
   failure-asks situation _ page is = absurd (true≢false (sym is))
 
-  asking : (who : Who) (kind : Kind) (test : What → Bool) → ((what : What) → test what ≡ true → kind_asked what ≡ Some kind) → in_frames who kind report.frames < in_pages who kind report.pages
+  failure-is : (situation : Situation) (what : What) → is_failure situation what ≡ true → is_soft what ≡ false
+  failure-is situation (entries.Fail other required seen signals) is = refl
+  failure-is situation _ is = absurd (true≢false (sym is))
+
+  asking : (who : Who) (soft : Bool) (kind : Kind) (test : What → Bool) → ((what : What) → test what ≡ true → kind_asked what ≡ Some kind) → ((what : What) → test what ≡ true → is_soft what ≡ soft) → in_frames who kind report.frames < in_pages who kind report.pages
       → 0 < entries_of report who test → (e : Entry) × SomeEntryIn (λ (x : Entry). is_same_command who x.who && test x.what) report.pages × (e.who ≡ who) × (is_lacking asked had e ≡ true)
-      × IsAskedIn (is_lacking asked had) (λ x n. home_of script report x.who) 0 report.pages (home_of script report who)
-  asking who kind test asks less some =
+      × IsAskedIn (is_lacking asked had) (λ x n. entry_home script report x) 0 report.pages (home_of script report who soft)
+  asking who soft kind test asks sort less some =
       let r = some-entry (λ (x : Entry). is_same_command who x.who && test x.what) report.pages some in
       let e = r.some.entry in
       let same : e.who ≡ who = same-who who e.who (and-left (is_same_command who e.who) (test e.what) r.some.so) in
@@ -131,39 +135,39 @@ module _ {S : Type 0} (script : Script) (report : Report) (asked had : HashMap (
           page = r.page;
           list = r.list;
           shown = r.shown;
-          asked = record { place = r.some.place; entry = e; there = r.some.there; so = is; line_is = sym (ap (home_of script report) same) };
+          asked = record { place = r.some.place; entry = e; there = r.some.there; so = is; line_is = sym (ap (λ (w : Who). home_of script report w (is_soft e.what)) same ∙ ap (home_of script report who) (sort e.what (and-right (is_same_command who e.who) (test e.what) r.some.so))) };
         },
       )
 
-  asked-home : (home : ℕ) → IsHomeLacking script report home → IsAskedIn (is_lacking asked had) (λ x n. home_of script report x.who) 0 report.pages home
-  asked-home home h = subst (λ (n : ℕ). IsAskedIn (is_lacking asked had) (λ x k. home_of script report x.who) 0 report.pages n) (sym h.home_is) (by h.lacks)
+  asked-home : (home : ℕ) → IsHomeLacking script report home → IsAskedIn (is_lacking asked had) (λ x n. entry_home script report x) 0 report.pages home
+  asked-home home h = subst (λ (n : ℕ). IsAskedIn (is_lacking asked had) (λ x k. entry_home script report x) 0 report.pages n) (sym h.home_is) (by h.soft h.lacks)
     where
-      by : LacksMarks report h.who → IsAskedIn (is_lacking asked had) (λ x n. home_of script report x.who) 0 report.pages (home_of script report h.who)
-      by (inl (situation, page, less)) = (asking h.who (kinds.Failure situation) (is_failure situation) (λ what is. failure-asks situation what page is) less (omega (arith, less))).4
-      by (inr less) = (asking h.who kinds.Moved is_soft soft-asks less (omega (arith, less))).4
+      by : (soft : Bool) → LacksMarks report h.who soft → IsAskedIn (is_lacking asked had) (λ x n. entry_home script report x) 0 report.pages (home_of script report h.who soft)
+      by false (situation, page, less) = (asking h.who false (kinds.Failure situation) (is_failure situation) (λ what is. failure-asks situation what page is) (failure-is situation) less (omega (arith, less))).4
+      by true less = (asking h.who true kinds.Moved is_soft soft-asks (λ what is. is) less (omega (arith, less))).4
 
-  home-asked : (home : ℕ) → IsAskedIn (is_lacking asked had) (λ x n. home_of script report x.who) 0 report.pages home → IsHomeLacking script report home
-  home-asked home a = record { who = a.asked.entry.who; lacks = lacks a.asked.entry.who a.asked.entry.what a.asked.so; home_is = a.asked.line_is }
+  home-asked : (home : ℕ) → IsAskedIn (is_lacking asked had) (λ x n. entry_home script report x) 0 report.pages home → IsHomeLacking script report home
+  home-asked home a = record { who = a.asked.entry.who; soft = is_soft a.asked.entry.what; lacks = lacks a.asked.entry.who a.asked.entry.what a.asked.so; home_is = a.asked.line_is }
 
-  pub lowest-home : IsLowest (IsHomeLacking script report) (lowest_in (is_lacking asked had) (λ (e : Entry). home_of script report e.who) None report.pages)
+  pub lowest-home : IsLowest (IsHomeLacking script report) (lowest_in (is_lacking asked had) (entry_home script report) None report.pages)
   lowest-home =
-      subst (λ (f : Option ℕ). IsLowest (IsHomeLacking script report) f) (same-pages (is_lacking asked had) (λ (e : Entry). home_of script report e.who) 0 None report.pages)
-      (other-words (IsAskedIn (is_lacking asked had) (λ x n. home_of script report x.who) 0 report.pages) (IsHomeLacking script report) _ home-asked asked-home
-      (walked (is_lacking asked had) (λ x n. home_of script report x.who) 0 report.pages))
+      subst (λ (f : Option ℕ). IsLowest (IsHomeLacking script report) f) (same-pages (is_lacking asked had) (entry_home script report) 0 None report.pages)
+      (other-words (IsAskedIn (is_lacking asked had) (λ x n. entry_home script report x) 0 report.pages) (IsHomeLacking script report) _ home-asked asked-home
+      (walked (is_lacking asked had) (λ x n. entry_home script report x) 0 report.pages))
 
 -- the line of the lowest frame is the first
 pub line-least : (script : Script) (report : Report) (home : ℕ) → IsLeast (IsHomeLacking script report) home → IsLeast (IsMarkLacking script report) (frame_line report home)
 line-least script report home least = record {
-  at = record { who = least.at.who; lacks = least.at.lacks; line_is = ap (frame_line report) least.at.home_is };
+  at = record { who = least.at.who; soft = least.at.soft; lacks = least.at.lacks; line_is = ap (frame_line report) least.at.home_is };
   first = λ other l.
-      let low : home ≤ home_of script report l.who = least.first (home_of script report l.who) (record { who = l.who; lacks = l.lacks; home_is = refl }) in
-      let rises : frame_line report home ≤ frame_line report (home_of script report l.who) = frame-rises report home (home_of script report l.who) low in
-      let is : other ≡ frame_line report (home_of script report l.who) = l.line_is in
+      let low : home ≤ home_of script report l.who l.soft = least.first (home_of script report l.who l.soft) (record { who = l.who; soft = l.soft; lacks = l.lacks; home_is = refl }) in
+      let rises : frame_line report home ≤ frame_line report (home_of script report l.who l.soft) = frame-rises report home (home_of script report l.who l.soft) low in
+      let is : other ≡ frame_line report (home_of script report l.who l.soft) = l.line_is in
       omega (arith, rises, is);
 }
 
 pub none-lacks : (script : Script) (report : Report) → ((home : ℕ) → IsHomeLacking script report home → ⊥) → (line : ℕ) → IsMarkLacking script report line → ⊥
-none-lacks script report none line l = none (home_of script report l.who) (record { who = l.who; lacks = l.lacks; home_is = refl })
+none-lacks script report none line l = none (home_of script report l.who l.soft) (record { who = l.who; soft = l.soft; lacks = l.lacks; home_is = refl })
 
 -- a page more of the walk
 pub pages-next : (asks : Entry → Bool) (wants : Entry → ℕ) (lowest next total : Option ℕ) (pages : List (List Entry)) (i : ℕ) (d x es : List Entry) → i < length pages → x ≡ get_or pages i d → es ≡ x → next ≡ lowest_entry asks wants lowest es
@@ -174,8 +178,8 @@ pages-next asks wants lowest next total pages i d x es within is same next_is wa
 
 -- the same of what was read of the report
 pub lowest-of : {S : Type 0} (script : Script) (report : Report) (asked had : HashMap ((ℕ × ℕ) × ℕ) ℕ S) (pages : List (List Entry)) (frames : List FrameLine) (found : Option ℕ) → pages ≡ report.pages → frames ≡ report.frames
-    → ((q : (ℕ × ℕ) × ℕ) → at_key asked q ≡ pages_raise q pages) → ((q : (ℕ × ℕ) × ℕ) → at_key had q ≡ frames_raise q frames) → found ≡ lowest_in (is_lacking asked had) (λ (e : Entry). home_of script report e.who) None pages
+    → ((q : (ℕ × ℕ) × ℕ) → at_key asked q ≡ pages_raise q pages) → ((q : (ℕ × ℕ) × ℕ) → at_key had q ≡ frames_raise q frames) → found ≡ lowest_in (is_lacking asked had) (entry_home script report) None pages
     → IsLowest (IsHomeLacking script report) found
 lowest-of script report asked had pages frames found pages_are frames_are of_entries of_marks is =
-    subst (λ (f : Option ℕ). IsLowest (IsHomeLacking script report) f) (sym (is ∙ ap (λ (p : List (List Entry)). lowest_in (is_lacking asked had) (λ (e : Entry). home_of script report e.who) None p) pages_are))
+    subst (λ (f : Option ℕ). IsLowest (IsHomeLacking script report) f) (sym (is ∙ ap (λ (p : List (List Entry)). lowest_in (is_lacking asked had) (entry_home script report) None p) pages_are))
     (lowest-home script report asked had (λ q. of_entries q ∙ ap (λ (p : List (List Entry)). pages_raise q p) pages_are) (λ q. of_marks q ∙ ap (λ (f : List FrameLine). frames_raise q f) frames_are))

@@ -7,5 +7,7 @@ mod LackLaws
 mod NeededLaws
 mod UrgentLaws
 mod MisLaws
+mod SpotLaws
+mod UnmarkedLaws
 mod SoftRule
 mod MarkRule

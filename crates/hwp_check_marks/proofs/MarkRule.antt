@@ -1,4 +1,4 @@
--- The rule of marks holds where none of its four parts finds a line, and else the lowest of the lines found is the first that
+-- The rule of marks holds where none of its five parts finds a line, and else the lowest of the lines found is the first that
 -- breaks it.
 use Rattle.std.proofs.Common.{◌≡◌, ◌≢◌, ◌⊎◌, inl, inr, ℕ, ◌+◌, ◌<◌, ◌≤◌, ◌==◌, ◌&&◌, min, Bool, true, false, cond, List, [], ◌∷◌, Option, Some, None, MatchOption, count_by, get_or, length, option_and_then, option_map, slice_get, sum_by, unwrap_or, true≢false, refl, sym, ap, ◌∙◌, subst, arith}
 use Rattle.std.specs.List.{zip}
@@ -22,7 +22,7 @@ use Rattle.hwp_check_rules.specs.hwp_law.Pairings.{AreRecorded, entries_of, find
 use Rattle.hwp_check_rules.specs.hwp_law.Places.{entry_at}
 use Rattle.hwp_check_rules.specs.hwp_law.Records.{IsAnswered, IsMarkAt, hardware_marks, how_in, is_by_hardware, result_lines, who_in}
 use Rattle.hwp_check_rules.specs.Firsts.{sooner, soonest}
-use Rattle.hwp_check_rules.specs.MarkFaults.{HasNoEvent, IsMarkFault, IsMarkLacking, IsMisfound, IsMisrequired, IsUnsaid, LacksMarks, home_of}
+use Rattle.hwp_check_rules.specs.MarkFaults.{HasNoEvent, IsMarkFault, IsMarkLacking, IsMisfound, IsMisrequired, IsSoftBeyond, IsUnsaid, LacksMarks, home_of}
 use Rattle.hwp_check_rules.specs.Rules.{MarksFit}
 use Rattle.hwp_check_rules.specs.Standing.{entry_line, frame_line}
 use Rattle.hwp_check_rules.specs.declared.Rule.TheVariants.{Marks}
@@ -155,18 +155,18 @@ module _ (script : Script) (report : Report) where
 
   module _ (few : AllFew report) (none_lacks : (line : ℕ) → IsMarkLacking script report line → ⊥) (none_differs : (line : ℕ) → IsMisrequired report line → ⊥)
       (are_softs : (who : Who) (frame : Frame) (moved : Bool) → count_by (is_soft_mark who moved) (marks_of report frame.0) ≡ soft_lines script report who frame moved) where
-    no-lack : (who : Who) → LacksMarks report who → ⊥
-    no-lack who lacks = none_lacks (frame_line report (home_of script report who)) (record { who = who; lacks = lacks; line_is = refl })
+    no-lack : (who : Who) (soft : Bool) → LacksMarks report who soft → ⊥
+    no-lack who soft lacks = none_lacks (frame_line report (home_of script report who soft)) (record { who = who; soft = soft; lacks = lacks; line_is = refl })
 
     failures-are : (who : Who) (s : Situation) → has_page s ≡ true → entries_of report who (is_failure s) ≡ marks_in report (is_failure_mark who s)
     failures-are who s page = elim (cases_lt (marks_in report (is_failure_mark who s)) (entries_of report who (is_failure s))) [
-      | inl less ↦ absurd (no-lack who (inl (s, page, less)))
+      | inl less ↦ absurd (no-lack who false (s, page, less))
       | inr most ↦ let many : marks_in report (is_failure_mark who s) ≤ entries_of report who (is_failure s) = (few who).failures s page in omega (arith, most, many)
     ]
 
     moves-are : (who : Who) → entries_of report who is_soft ≡ marks_in report (is_move_mark who)
     moves-are who = elim (cases_lt (marks_in report (is_move_mark who)) (entries_of report who is_soft)) [
-      | inl less ↦ absurd (no-lack who (inr less))
+      | inl less ↦ absurd (no-lack who true less)
       | inr most ↦ let many : marks_in report (is_move_mark who) ≤ entries_of report who is_soft = (few who).moves in omega (arith, most, many)
     ]
 
@@ -197,11 +197,17 @@ module _ (script : Script) (report : Report) where
   }
 
   none-lacking : MarksFit script report → (line : ℕ) → IsMarkLacking script report line → ⊥
-  none-lacking fits line l = by l.lacks
+  none-lacking fits line l = by l.soft l.lacks
     where
-      by : LacksMarks report l.who → ⊥
-      by (inl (s, page, less)) = let are : entries_of report l.who (is_failure s) ≡ marks_in report (is_failure_mark l.who s) = (fits.recorded l.who).failures s page in omega (arith, are, less)
-      by (inr less) = let are : entries_of report l.who is_soft ≡ marks_in report (is_move_mark l.who) = (fits.recorded l.who).moves in omega (arith, are, less)
+      by : (soft : Bool) → LacksMarks report l.who soft → ⊥
+      by false (s, page, less) = let are : entries_of report l.who (is_failure s) ≡ marks_in report (is_failure_mark l.who s) = (fits.recorded l.who).failures s page in omega (arith, are, less)
+      by true less = let are : entries_of report l.who is_soft ≡ marks_in report (is_move_mark l.who) = (fits.recorded l.who).moves in omega (arith, are, less)
+
+  none-short : MarksFit script report → (line : ℕ) → IsSoftBeyond script report line → ⊥
+  none-short fits line l =
+      let are : count_by (is_soft_mark l.who l.moved) (marks_of report l.frame.0) ≡ soft_lines script report l.who l.frame l.moved = (fits.recorded l.who).softs l.frame l.moved in
+      let less : count_by (is_soft_mark l.who l.moved) (marks_of report l.frame.0) < soft_lines script report l.who l.frame l.moved = l.beyond in
+      omega (arith, are, less)
 
   none-differing : MarksFit script report → (line : ℕ) → IsMisrequired report line → ⊥
   none-differing fits line m = m.wrong ((fits.recorded m.entry.who).required m.situation m.of_page)
@@ -231,12 +237,12 @@ module _ (script : Script) (report : Report) where
     said = λ who moved. let are : count_by (is_soft_mark who moved) (marks_of report frame.0) ≡ soft_lines script report who frame moved = (fits.recorded who).softs frame moved in omega (arith, are);
   }
 
-  -- the lines that the four parts name are those that break the rule
+  -- the lines that the five parts name are those that break the rule
   abbrev Parts : ℕ → Type 0
-  Parts line = (IsRecordFault script report line ⊎ IsExtra report line) ⊎ (IsMarkLacking script report line ⊎ IsMisrequired report line)
+  Parts line = ((IsRecordFault script report line ⊎ IsSoftBeyond script report line) ⊎ IsExtra report line) ⊎ (IsMarkLacking script report line ⊎ IsMisrequired report line)
 
   parts-fault : length report.frames ≤ length script.layout.kernel → (line : ℕ) → Parts line → IsMarkFault script report line
-  parts-fault many line (inl (inl (inl w))) = inl (record { frame = w.frame; kernel = w.kernel; place = w.place; mark = w.mark; declared = w.declared; there = w.there; line_is = w.line_is; wrong = wider w.wrong })
+  parts-fault many line (inl (inl (inl (inl w)))) = inl (record { frame = w.frame; kernel = w.kernel; place = w.place; mark = w.mark; declared = w.declared; there = w.there; line_is = w.line_is; wrong = wider w.wrong })
     where
       wider : {A B C D E F : Type 0} → A ⊎ B ⊎ C ⊎ D ⊎ E → A ⊎ B ⊎ C ⊎ D ⊎ E ⊎ F
       wider (inl a) = inl a
@@ -244,7 +250,8 @@ module _ (script : Script) (report : Report) where
       wider (inr (inr (inl c))) = inr (inr (inl c))
       wider (inr (inr (inr (inl d)))) = inr (inr (inr (inl d)))
       wider (inr (inr (inr (inr e)))) = inr (inr (inr (inr (inl e))))
-  parts-fault many line (inl (inl (inr beyond))) = inr (inl beyond)
+  parts-fault many line (inl (inl (inl (inr beyond)))) = inr (inl beyond)
+  parts-fault many line (inl (inl (inr short))) = inr (inr (inl short))
   parts-fault many line (inl (inr x)) =
       let s = shown-in report x.frame.0 x.place x.mark x.there in
       let within : x.frame.0 < length report.frames = slice_get_within report.frames x.frame.0 s.0 s.1 in
@@ -258,55 +265,58 @@ module _ (script : Script) (report : Report) where
         line_is = x.line_is;
         wrong = inr (inr (inr (inr (inr x.wrong))));
       })
-  parts-fault many line (inr (inl l)) = inr (inr (inl l))
-  parts-fault many line (inr (inr m)) = inr (inr (inr m))
+  parts-fault many line (inr (inl l)) = inr (inr (inr (inl l)))
+  parts-fault many line (inr (inr m)) = inr (inr (inr (inr m)))
 
   fault-parts : (line : ℕ) → IsMarkFault script report line → Parts line
   fault-parts line (inl w) = by w.wrong
     where
       by : (IsMarkAt w.place w.mark → ⊥) ⊎ IsMisfound w.kernel w.mark ⊎ (IsAnswered script report w.frame w.mark → ⊥) ⊎ IsUnsaid script report w.frame w.place w.mark ⊎ HasNoEvent report w.frame w.place w.mark ⊎ IsTooMany report w.frame w.place w.mark → Parts line
-      by (inl a) = inl (inl (inl (record { frame = w.frame; kernel = w.kernel; place = w.place; mark = w.mark; declared = w.declared; there = w.there; line_is = w.line_is; wrong = inl a })))
-      by (inr (inl b)) = inl (inl (inl (record { frame = w.frame; kernel = w.kernel; place = w.place; mark = w.mark; declared = w.declared; there = w.there; line_is = w.line_is; wrong = inr (inl b) })))
-      by (inr (inr (inl c))) = inl (inl (inl (record { frame = w.frame; kernel = w.kernel; place = w.place; mark = w.mark; declared = w.declared; there = w.there; line_is = w.line_is; wrong = inr (inr (inl c)) })))
-      by (inr (inr (inr (inl d)))) = inl (inl (inl (record { frame = w.frame; kernel = w.kernel; place = w.place; mark = w.mark; declared = w.declared; there = w.there; line_is = w.line_is; wrong = inr (inr (inr (inl d))) })))
-      by (inr (inr (inr (inr (inl l))))) = inl (inl (inl (record { frame = w.frame; kernel = w.kernel; place = w.place; mark = w.mark; declared = w.declared; there = w.there; line_is = w.line_is; wrong = inr (inr (inr (inr l))) })))
+      by (inl a) = inl (inl (inl (inl (record { frame = w.frame; kernel = w.kernel; place = w.place; mark = w.mark; declared = w.declared; there = w.there; line_is = w.line_is; wrong = inl a }))))
+      by (inr (inl b)) = inl (inl (inl (inl (record { frame = w.frame; kernel = w.kernel; place = w.place; mark = w.mark; declared = w.declared; there = w.there; line_is = w.line_is; wrong = inr (inl b) }))))
+      by (inr (inr (inl c))) = inl (inl (inl (inl (record { frame = w.frame; kernel = w.kernel; place = w.place; mark = w.mark; declared = w.declared; there = w.there; line_is = w.line_is; wrong = inr (inr (inl c)) }))))
+      by (inr (inr (inr (inl d)))) = inl (inl (inl (inl (record { frame = w.frame; kernel = w.kernel; place = w.place; mark = w.mark; declared = w.declared; there = w.there; line_is = w.line_is; wrong = inr (inr (inr (inl d))) }))))
+      by (inr (inr (inr (inr (inl l))))) = inl (inl (inl (inl (record { frame = w.frame; kernel = w.kernel; place = w.place; mark = w.mark; declared = w.declared; there = w.there; line_is = w.line_is; wrong = inr (inr (inr (inr l))) }))))
       by (inr (inr (inr (inr (inr e))))) = inl (inr (record { frame = w.frame; place = w.place; mark = w.mark; there = w.there; line_is = w.line_is; wrong = e }))
-  fault-parts line (inr (inl beyond)) = inl (inl (inr beyond))
-  fault-parts line (inr (inr (inl l))) = inr (inl l)
-  fault-parts line (inr (inr (inr m))) = inr (inr m)
+  fault-parts line (inr (inl beyond)) = inl (inl (inl (inr beyond)))
+  fault-parts line (inr (inr (inl short))) = inl (inl (inr short))
+  fault-parts line (inr (inr (inr (inl l)))) = inr (inl l)
+  fault-parts line (inr (inr (inr (inr m)))) = inr (inr m)
 
-  module _ (many : length report.frames ≤ length script.layout.kernel) (low : (who : Who) (frame : Frame) (moved : Bool) → soft_lines script report who frame moved ≤ count_by (is_soft_mark who moved) (marks_of report frame.0)) (kept extra lacks wrong : Option ℕ) (of_kept : MatchOption kept (IsClear (RecordsFit script report) (IsRecordFault script report)) (λ line. IsFirstFault (RecordsFit script report) (IsRecordFault script report) line))
+  module _ (many : length report.frames ≤ length script.layout.kernel) (low : ((line : ℕ) → IsSoftBeyond script report line → ⊥) → (who : Who) (frame : Frame) (moved : Bool) → soft_lines script report who frame moved ≤ count_by (is_soft_mark who moved) (marks_of report frame.0)) (kept short extra lacks wrong : Option ℕ) (of_short : IsLowest (IsSoftBeyond script report) short) (of_kept : MatchOption kept (IsClear (RecordsFit script report) (IsRecordFault script report)) (λ line. IsFirstFault (RecordsFit script report) (IsRecordFault script report) line))
       (of_extra : MatchOption extra (IsClear (AllFew report) (IsExtra report)) (λ line. IsFirstFault (AllFew report) (IsExtra report) line)) (of_lacks : IsLowest (IsMarkLacking script report) lacks) (of_wrong : IsLowest (IsMisrequired report) wrong) where
-    lowest : IsLowest (IsMarkFault script report) (soonest (soonest kept extra) (soonest lacks wrong))
+    lowest : IsLowest (IsMarkFault script report) (soonest (soonest (soonest kept short) extra) (soonest lacks wrong))
     lowest =
         other-words Parts (IsMarkFault script report) _ (parts-fault many) fault-parts
-        (both-lowest (λ (n : ℕ). IsRecordFault script report n ⊎ IsExtra report n) (λ (n : ℕ). IsMarkLacking script report n ⊎ IsMisrequired report n) (soonest kept extra) (soonest lacks wrong)
-        (both-lowest (IsRecordFault script report) (IsExtra report) kept extra (clear-lowest (RecordsFit script report) (IsRecordFault script report) kept of_kept) (clear-lowest (AllFew report) (IsExtra report) extra of_extra))
+        (both-lowest (λ (n : ℕ). (IsRecordFault script report n ⊎ IsSoftBeyond script report n) ⊎ IsExtra report n) (λ (n : ℕ). IsMarkLacking script report n ⊎ IsMisrequired report n) (soonest (soonest kept short) extra) (soonest lacks wrong)
+        (both-lowest (λ (n : ℕ). IsRecordFault script report n ⊎ IsSoftBeyond script report n) (IsExtra report) (soonest kept short) extra (both-lowest (IsRecordFault script report) (IsSoftBeyond script report) kept short (clear-lowest (RecordsFit script report) (IsRecordFault script report) kept of_kept) of_short) (clear-lowest (AllFew report) (IsExtra report) extra of_extra))
         (both-lowest (IsMarkLacking script report) (IsMisrequired report) lacks wrong of_lacks of_wrong))
 
-    holds : soonest (soonest kept extra) (soonest lacks wrong) ≡ None → MarksFit script report
+    holds : soonest (soonest (soonest kept short) extra) (soonest lacks wrong) ≡ None → MarksFit script report
     holds is =
-        let halves = none-both (soonest kept extra) (soonest lacks wrong) is in
-        let left = none-both kept extra halves.0 in
+        let halves = none-both (soonest (soonest kept short) extra) (soonest lacks wrong) is in
+        let left = none-both (soonest kept short) extra halves.0 in
+        let first = none-both kept short left.0 in
         let right = none-both lacks wrong halves.1 in
         record {
-          kept = λ frame kernel line declared there. (records left.0 frame kernel line declared there).kept;
+          kept = λ frame kernel line declared there. (records first.0 frame kernel line declared there).kept;
           recorded = recorded (clear-fits (AllFew report) (IsExtra report) extra of_extra left.1) (lowest-none (IsMarkLacking script report) lacks of_lacks right.0) (lowest-none (IsMisrequired report) wrong of_wrong right.1)
-              (softs-are many (records left.0) low);
+              (softs-are many (records first.0) (low (lowest-none (IsSoftBeyond script report) short of_short first.1)));
         }
       where
         records : kept ≡ None → RecordsFit script report
         records none = clear-fits (RecordsFit script report) (IsRecordFault script report) kept of_kept none
 
-    clear : MarksFit script report → soonest (soonest kept extra) (soonest lacks wrong) ≡ None
+    clear : MarksFit script report → soonest (soonest (soonest kept short) extra) (soonest lacks wrong) ≡ None
     clear fits =
-        ap (λ (o : Option ℕ). soonest (soonest kept extra) (soonest lacks o)) (none-least (IsMisrequired report) wrong of_wrong (none-differing fits))
-        ∙ ap (λ (o : Option ℕ). soonest (soonest kept extra) o) (none-least (IsMarkLacking script report) lacks of_lacks (none-lacking fits))
-        ∙ ap (λ (o : Option ℕ). soonest kept o) (fits-clear (AllFew report) (IsExtra report) extra of_extra (few-of fits)) ∙ fits-clear (RecordsFit script report) (IsRecordFault script report) kept of_kept (records-of fits)
+        ap (λ (o : Option ℕ). soonest (soonest (soonest kept short) extra) (soonest lacks o)) (none-least (IsMisrequired report) wrong of_wrong (none-differing fits))
+        ∙ ap (λ (o : Option ℕ). soonest (soonest (soonest kept short) extra) o) (none-least (IsMarkLacking script report) lacks of_lacks (none-lacking fits))
+        ∙ ap (λ (o : Option ℕ). soonest (soonest kept short) o) (fits-clear (AllFew report) (IsExtra report) extra of_extra (few-of fits))
+        ∙ ap (λ (o : Option ℕ). soonest kept o) (none-least (IsSoftBeyond script report) short of_short (none-short fits)) ∙ fits-clear (RecordsFit script report) (IsRecordFault script report) kept of_kept (records-of fits)
 
-    pub marks-decided : MatchOption (soonest (soonest kept extra) (soonest lacks wrong)) (MarksFit script report) (IsBroken Marks script report)
-    marks-decided = by (soonest (soonest kept extra) (soonest lacks wrong)) refl lowest
+    pub marks-decided : MatchOption (soonest (soonest (soonest kept short) extra) (soonest lacks wrong)) (MarksFit script report) (IsBroken Marks script report)
+    marks-decided = by (soonest (soonest (soonest kept short) extra) (soonest lacks wrong)) refl lowest
       where
-        by : (o : Option ℕ) → soonest (soonest kept extra) (soonest lacks wrong) ≡ o → IsLowest (IsMarkFault script report) o → MatchOption o (MarksFit script report) (IsBroken Marks script report)
+        by : (o : Option ℕ) → soonest (soonest (soonest kept short) extra) (soonest lacks wrong) ≡ o → IsLowest (IsMarkFault script report) o → MatchOption o (MarksFit script report) (IsBroken Marks script report)
         by None is low = holds is
         by (Some n) is low = record { broken = λ fits. none-some n (sym (clear fits) ∙ is); at = low.at; first = low.first }

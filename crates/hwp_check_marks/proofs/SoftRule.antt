@@ -1,6 +1,6 @@
--- In a report whose answers fit, each line that says so of a soft offline has its mark.
-use Rattle.std.proofs.Common.{◌≡◌, ℕ, zero, suc, ◌+◌, ◌<◌, ◌≤◌, ◌==◌, ◌&&◌, Bool, true, false, true≢false, cond, List, [], ◌∷◌, Option, Some, None, Any, count_by, length, option_and_then, slice_get, unwrap_or, refl, sym, ap, ◌∙◌, subst, arith}
-use Rattle.std.proofs.lemmas.Bool.{cases_Bool, cases_eq, eqb-true}
+-- In a report whose answers fit, an answer that says so of a soft offline has its mark; so each line has, where those beside answers have.
+use Rattle.std.proofs.Common.{◌≡◌, inl, inr, ℕ, zero, suc, ◌+◌, ◌≤◌, ◌&&◌, Bool, true, false, true≢false, cond, List, [], ◌∷◌, Option, Some, None, count_by, option_and_then, slice_get, unwrap_or, refl, sym, ap, ◌∙◌, arith}
+use Rattle.std.proofs.lemmas.Bool.{cases_lt, eqb-true}
 use Rattle.std.proofs.lemmas.List.Sums.{sum_by-cons}
 use Rattle.std.proofs.lemmas.Option.{none-some, same_Some, slice_get-get_or}
 use Rattle.hwp_check_rules.specs.hwp_geom.declared.Frame.{Frame}
@@ -16,18 +16,17 @@ use Rattle.hwp_check_rules.specs.hwp_report_text.declared.CpuLine.{CpuLine}
 use Rattle.hwp_check_rules.specs.hwp_report_text.declared.How.{How}
 use Rattle.hwp_check_rules.specs.hwp_report_text.declared.How.TheVariants as hows
 use Rattle.hwp_check_rules.specs.hwp_report_text.declared.MarkLine.{MarkLine}
-use Rattle.hwp_check_rules.specs.hwp_report_text.declared.OfflinedLine.{OfflinedLine}
 use Rattle.hwp_check_rules.specs.hwp_report_text.declared.Report.{Report}
-use Rattle.hwp_check_rules.specs.hwp_report_text.Offlines.{offline_answer}
 use Rattle.hwp_check_rules.specs.hwp_law.Causes.{HasMark, IsCaused}
-use Rattle.hwp_check_rules.specs.hwp_law.Lines.{answer_among, answer_of, is_same_command, marks_of, offlined_of, rows_of}
+use Rattle.hwp_check_rules.specs.hwp_law.Lines.{answer_among, answer_of, is_same_command, marks_of}
 use Rattle.hwp_check_rules.specs.hwp_law.Pairings.{is_move, is_soft_mark, is_soft_of, is_take, says_soft, soft_lines}
 use Rattle.hwp_check_rules.specs.hwp_law_commands.Commands.{command_at}
-use Rattle.hwp_check_rules.specs.hwp_law.Records.{how_in, is_moved, is_taken, who_in}
+use Rattle.hwp_check_rules.specs.hwp_law.Records.{how_in, is_moved, is_taken}
 use Rattle.hwp_check_rules.proofs.of_hwp_law.Extents.{answer_there}
+use Rattle.hwp_check_rules.specs.MarkFaults.{IsSoftBeyond, lines_beside}
+use Rattle.hwp_check_rules.specs.Standing.{frame_line}
 use Rattle.hwp_check_rules.specs.Rules.{AnswersFit, ShapeFits}
 use Rattle.hwp_check_rules.proofs.Lawful.{both_there}
-use Rattle.hwp_check_rules.proofs.NoOfflined.{none_offlined}
 use Rattle.hwp_check_frames.proofs.FramePlaces.{and-both, and-left, and-right, same-self}
 
 abbrev flag : Bool → ℕ
@@ -95,15 +94,19 @@ module _ (script : Script) (report : Report) (valid : IsValid script) (shape : S
   answered-low who frame false soft told =
       has-one who frame false hows.TakenFree refl (caused who (commands.Soft frame) answers.TakenFree (is-soft frame (command_at script who) soft) (taken-is (answer_of report who) told)).1
 
-  pub softs_low : (who : Who) (frame : Frame) (moved : Bool) → soft_lines script report who frame moved ≤ count_by (is_soft_mark who moved) (marks_of report frame.0)
-  softs_low who frame moved = by (is_soft_of frame (command_at script who) && says_soft moved (answer_of report who)) refl
+  -- where lines beside an answer have their marks
+  pub softs_low : ((line : ℕ) → IsSoftBeyond script report line → ⊥) → (who : Who) (frame : Frame) (moved : Bool) → soft_lines script report who frame moved ≤ count_by (is_soft_mark who moved) (marks_of report frame.0)
+  softs_low none who frame moved = elim (cases_lt 0 (lines_beside report who frame.0 moved)) [
+    | inl some ↦ elim (cases_lt (count_by (is_soft_mark who moved) (marks_of report frame.0)) (soft_lines script report who frame moved)) [
+      | inl less ↦ absurd (none (frame_line report frame.0) (record { frame = frame; who = who; moved = moved; beside = some; line_is = refl; beyond = less }))
+      | inr most ↦ most
+    ]
+    | inr few ↦ by (is_soft_of frame (command_at script who) && says_soft moved (answer_of report who)) refl few
+  ]
     where
-      beside : count_by (λ (l : OfflinedLine). (l.frame.0 == frame.0) && says_soft moved (Some (offline_answer l.result))) (offlined_of report who) ≡ 0
-      beside = ap (λ (list : List OfflinedLine). count_by (λ (l : OfflinedLine). (l.frame.0 == frame.0) && says_soft moved (Some (offline_answer l.result))) list) (none_offlined script report valid shape fits who)
-
-      by : (b : Bool) → (is_soft_of frame (command_at script who) && says_soft moved (answer_of report who)) ≡ b → soft_lines script report who frame moved ≤ count_by (is_soft_mark who moved) (marks_of report frame.0)
-      by false is = let none : flag (is_soft_of frame (command_at script who) && says_soft moved (answer_of report who)) ≡ 0 = ap flag is in omega (arith, none, beside)
-      by true is =
+      by : (b : Bool) → (is_soft_of frame (command_at script who) && says_soft moved (answer_of report who)) ≡ b → lines_beside report who frame.0 moved ≤ 0 → soft_lines script report who frame moved ≤ count_by (is_soft_mark who moved) (marks_of report frame.0)
+      by false is few = let none_said : flag (is_soft_of frame (command_at script who) && says_soft moved (answer_of report who)) ≡ 0 = ap flag is in omega (arith, none_said, few)
+      by true is few =
           let one : flag (is_soft_of frame (command_at script who) && says_soft moved (answer_of report who)) ≡ 1 = ap flag is in
           let low : 1 ≤ count_by (is_soft_mark who moved) (marks_of report frame.0) = answered-low who frame moved (and-left (is_soft_of frame (command_at script who)) (says_soft moved (answer_of report who)) is) (and-right (is_soft_of frame (command_at script who)) (says_soft moved (answer_of report who)) is) in
-          omega (arith, one, beside, low)
+          omega (arith, one, few, low)

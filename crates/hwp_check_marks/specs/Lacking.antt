@@ -7,7 +7,7 @@ use Rattle.hwp_check_rules.specs.hwp_page.declared.What.{What}
 use Rattle.hwp_check_rules.specs.hwp_page.declared.What.TheVariants as entries
 use Rattle.hwp_check_rules.specs.hwp_script_read.declared.Script.{Script}
 use Rattle.hwp_check_rules.specs.hwp_report_text.declared.Report.{Report}
-use Rattle.hwp_check_rules.specs.hwp_law.Pairings.{has_page}
+use Rattle.hwp_check_rules.specs.hwp_law.Pairings.{has_page, is_soft}
 use Rattle.hwp_check_rules.specs.Firsts.{sooner_if}
 use Rattle.hwp_check_rules.specs.MarkFaults.{LacksMarks, home_of}
 use Rattle.hwp_check_frames.specs.Counts.{at_key}
@@ -38,8 +38,13 @@ abbrev pub lowest_in : (Entry → Bool) → (Entry → ℕ) → Option ℕ → L
 lowest_in asks wants found [] = found
 lowest_in asks wants found (es ∷ rest) = lowest_in asks wants (lowest_entry asks wants found es) rest
 
--- a command that lacks marks belongs to the frame with this number
+-- the frame with this number is that of a command's failures, or of its soft offlines, that lack marks
 pub record IsHomeLacking (script : Script) (report : Report) (home : ℕ) : Type 0 where
   pub who : Who
-  pub lacks : LacksMarks report who
-  pub home_is : home ≡ home_of script report who
+  pub soft : Bool
+  pub lacks : LacksMarks report who soft
+  pub home_is : home ≡ home_of script report who soft
+
+-- the frame of the entry's command, by what the entry is
+abbrev pub entry_home : Script → Report → Entry → ℕ
+entry_home script report e = home_of script report e.who (is_soft e.what)

@@ -4,3 +4,5 @@ pub mod Walks
 pub mod Lows
 pub mod Lacking
 pub mod Needed
+pub mod Spots
+pub mod Unmarked

@@ -1,13 +1,14 @@
 ghost use Rattle.std.specs.Prelude.{◌≡◌, ◌<◌, ◌^◌, None, length, IfOk};
 ghost use Rattle.hwp_check_rules.specs.MarkFaults.{IsMarkLacking, home_of};
 ghost use Rattle.hwp_check_rules.specs.Standing.{frame_line, last_line};
-ghost use Rattle.hwp_check_marks.specs.Lacking.{has_fewer, is_lacking, kind_asked, lowest_entry, lowest_in};
-ghost use Rattle.hwp_check_marks.specs.Lows.{AreLows};
+ghost use Rattle.hwp_check_rules.specs.hwp_law.Pairings.{is_soft};
+ghost use Rattle.hwp_check_marks.specs.Lacking.{entry_home, has_fewer, is_lacking, kind_asked, lowest_entry, lowest_in};
+ghost use Rattle.hwp_check_marks.specs.Lows.{AreHomes};
 ghost use Rattle.hwp_check_marks.specs.Walks.{IsLowest};
 
 use crate::keys::{has_page, key_of};
 use crate::kinds::Kind;
-use crate::lows::{Lows, low_of, lows_of};
+use crate::lows::{Homes, homes_of, lowest_said};
 use crate::tallies::{entry_counts, mark_counts};
 use hwp_check_frames::{Counts, count};
 use hwp_check_rules::{
@@ -45,16 +46,22 @@ fn has_fewer(asked: &Counts, had: &Counts, who: Who, kind: Option<Kind>) -> bool
     }
 }
 
-/// The frame that a command's failure or soft offline is of.
-fn home_of(script: &Script, report: &Report, lows: &Lows, who: Who) -> u64
-    requires lows { AreLows report.now lows.now }
-    ensures { result ≡ home_of script.now report.now who }
+/// The frame that a command's failures, or its soft offlines, are of.
+fn home_of(script: &Script, report: &Report, homes: &Homes, who: Who, soft: bool) -> u64
+    requires homes { AreHomes report.now homes.now }
+    ensures { result ≡ home_of script.now report.now who soft }
 {
-    let _report = report;
     match command_of(script, who) {
         Some(Command::Inject { frame } | Command::Soft { frame }) => u64::from(frame.0),
-        _ => low_of(lows, (who.cpu.0, who.seq)).unwrap_or(0),
+        _ => lowest_said(report, homes, who, soft).unwrap_or(0),
     }
+}
+
+/// Whether the entry is a soft offline.
+fn is_soft(what: &What) -> bool
+    ensures { result ≡ is_soft what.now }
+{
+    matches!(what, What::Soft)
 }
 
 /// The lowest frame so far, and those of a page's entries that have not the marks that they ask for.
@@ -63,17 +70,18 @@ fn lowest_entry(
     report: &Report,
     asked: &Counts,
     had: &Counts,
-    lows: &Lows,
+    homes: &Homes,
     found: Option<u64>,
     entries: &[Entry],
 ) -> Option<u64>
-    requires lows { AreLows report.now lows.now }
-    ensures { result ≡ lowest_entry (is_lacking asked.now had.now) (λ e. home_of script.now report.now e.who) found entries.now }
+    requires homes { AreHomes report.now homes.now }
+    ensures { result ≡ lowest_entry (is_lacking asked.now had.now) (entry_home script.now report.now) found entries.now }
 {
     let mut lowest = found;
     for entry in entries {
         let lacks = has_fewer(asked, had, entry.who, kind_asked(&entry.what));
-        lowest = sooner_if(lacks, lowest, home_of(script, report, lows, entry.who));
+        let home = home_of(script, report, homes, entry.who, is_soft(&entry.what));
+        lowest = sooner_if(lacks, lowest, home);
     }
     lowest
 }
@@ -84,21 +92,29 @@ fn lowest_in(
     report: &Report,
     asked: &Counts,
     had: &Counts,
-    lows: &Lows,
+    homes: &Homes,
     pages: &[List<Entry>],
 ) -> Option<u64>
-    requires lows { AreLows report.now lows.now }
-    ensures { result ≡ lowest_in (is_lacking asked.now had.now) (λ e. home_of script.now report.now e.who) None pages.now }
+    requires homes { AreHomes report.now homes.now }
+    ensures { result ≡ lowest_in (is_lacking asked.now had.now) (entry_home script.now report.now) None pages.now }
 {
     let mut lowest = None;
     for entries in pages {
-        lowest = lowest_entry(script, report, asked, had, lows, lowest, entries.as_slice());
+        lowest = lowest_entry(
+            script,
+            report,
+            asked,
+            had,
+            homes,
+            lowest,
+            entries.as_slice(),
+        );
     }
     lowest
 }
 
 /// The line of a frame, given its number; of a number that no frame has, the line behind the frames.
-fn line_of(report: &Report, home: u64) -> u64
+pub(crate) fn line_of(report: &Report, home: u64) -> u64
     requires room { last_line report.now < 2 ^ 64 }
     ensures { result ≡ frame_line report.now home }
 {
@@ -124,8 +140,8 @@ pub(crate) fn lacking(
     let pages = report.pages.as_slice();
     let asked = entry_counts(alloc, pages)?;
     let had = mark_counts(alloc, report.frames.as_slice())?;
-    let lows = lows_of(alloc, script.layout.cpus, report)?;
-    match lowest_in(script, report, &asked, &had, &lows, pages) {
+    let homes = homes_of(alloc, script.layout.cpus, report)?;
+    match lowest_in(script, report, &asked, &had, &homes, pages) {
         Some(home) => Ok(Some(line_of(report, home))),
         None => Ok(None),
     }

@@ -8,7 +8,9 @@ mod lows;
 mod marks;
 mod misrequired;
 mod needed;
+mod spots;
 mod tallies;
+mod unmarked;
 mod unpaired;
 mod urgent;
 

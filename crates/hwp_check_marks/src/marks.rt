@@ -6,8 +6,9 @@ ghost use Rattle.hwp_check_rules.specs.Verdicts.{HoldBelow, Holds, IsBroken};
 
 use crate::lacking::lacking;
 use crate::misrequired::misrequired;
+use crate::unmarked::unmarked;
 use crate::unpaired::unpaired;
-use hwp_check_frames::kept;
+use hwp_check_frames::{index_of, kept};
 use hwp_check_rules::{OutOfMemory, Report, Script, soonest};
 use std::alloc::Global;
 
@@ -25,6 +26,9 @@ pub fn marks_fault(
     let extra = unpaired(alloc, report)?;
     let lacks = lacking(alloc, script, report)?;
     let wrong = misrequired(alloc, script, report)?;
-    let record = kept(alloc, script, report)?;
-    Ok(soonest(soonest(record, extra), soonest(lacks, wrong)))
+    let index = index_of(alloc, script, report)?;
+    let record = kept(alloc, script, report, &index)?;
+    let short = unmarked(alloc, script, report, &index)?;
+    let records = soonest(soonest(record, short), extra);
+    Ok(soonest(records, soonest(lacks, wrong)))
 }

@@ -2,7 +2,7 @@ ghost use Rattle.std.specs.Prelude.{◌≡◌, ◌+◌, ◌<◌, ◌^◌, ℕ, I
 ghost use Rattle.std.specs.List.{sum_by};
 ghost use Rattle.hwp_check_frames.specs.Counts.{at_key};
 ghost use Rattle.hwp_check_marks.specs.Tallies.{entry_raise, frames_raise, how_raise, mark_raise, marks_raise, page_raise, pages_raise};
-ghost use Rattle.hwp_check_rules.specs.Standing.{entry_height, frame_height, page_height};
+ghost use Rattle.hwp_check_rules.specs.Standing.{frame_height, page_height};
 
 use crate::keys::key_of;
 use crate::kinds::Kind;

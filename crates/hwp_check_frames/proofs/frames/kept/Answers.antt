@@ -4,13 +4,8 @@ use Rattle.hwp_check_rules.specs.hwp_report_text.declared.MarkLine.{MarkLine}
 use Rattle.hwp_check_rules.specs.hwp_law.Lines.{marks_of}
 use Rattle.hwp_check_rules.specs.Standing.{last_line}
 use Rattle.hwp_check_frames.proofs.RecordLaws.{as-many, frame-room, kept-clear, kept-first, kept-next, kernel-at, shown-at}
-use Rattle.hwp_check_rules.specs.declared.Rule.TheVariants.{Answers, Shape}
-use Rattle.hwp_check_rules.proofs.NoOfflined.{none_offlined}
 use Rattle.hwp_check_frames.proofs.FramePlaces.{marks-are}
 use Rattle.hwp_check_frames.proofs.frames.kept.Goals as goal
-
-pub index_of-requires-clause-beside : goal.index_of-requires-clause-beside
-index_of-requires-clause-beside c = none_offlined c.args.script.now c.args.report.now c.requires.valid (c.requires.below Shape (omega arith)) (c.requires.below Answers (omega arith))
 
 pub bounds-frames-from : goal.bounds-frames-from
 bounds-frames-from c =

@@ -11,7 +11,7 @@ returns c =
     let own : (q : (ℕ × ℕ) × ℕ) → at_key c.in_ok-own.own q ≡ frames_own 0 q c.args.report.now.frames = λ q. c.in_ok-own.ensures q ∙ ap (λ (l : List FrameLine). frames_own 0 q l) c.as_slice.ensures in
     record {
       given = c.in_ok-given.ensures;
-      none_beside = c.requires.beside;
+      beside = c.in_ok-beside.ensures;
       noted = c.in_ok-said.ensures;
       long = long;
       some = λ frame d within is.

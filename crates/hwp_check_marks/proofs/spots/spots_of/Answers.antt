@@ -1,0 +1,16 @@
+use Rattle.std.proofs.Common.{◌<◌, ℕ, get_or, length, ap, arith}
+use Rattle.hwp_check_frames.specs.Counts.{at_key}
+use Rattle.hwp_check_marks.proofs.SpotLaws.{frames-most, frames-next}
+use Rattle.hwp_check_marks.proofs.spots.spots_of.Goals as goal
+
+pub loop-frame-preserved : goal.loop-frame-preserved
+loop-frame-preserved c =
+    let low : c.loop-frame.frame < c.args.many = c.loop-frame-test.true in
+    let within : c.loop-frame.frame < length c.args.frames.now = omega (arith, low, c.requires.many) in (
+      λ q.
+          frames-next c.args.lines.now c.loop-frame.frame q c.args.frames.now c.index-frames-from.result (get_or c.args.frames.now c.from.result c.index-frames-from.result) c.as_slice-list.result.now (at_key c.loop-frame.marks q) (at_key c.add_marks.new.marks q) _ within
+          (ap (λ (k : ℕ). get_or c.args.frames.now k c.index-frames-from.result) c.from.ensures) c.as_slice-list.ensures (c.in_ok-add_marks.ensures q) (c.loop-frame.invariant.0 q),
+      λ q.
+          frames-most c.args.lines.now c.loop-frame.frame q c.args.frames.now c.index-frames-from.result (get_or c.args.frames.now c.from.result c.index-frames-from.result) c.as_slice-list.result.now (at_key c.loop-frame.marks q) (at_key c.add_marks.new.marks q) within
+          (ap (λ (k : ℕ). get_or c.args.frames.now k c.index-frames-from.result) c.from.ensures) c.as_slice-list.ensures (c.in_ok-add_marks.ensures q) (c.loop-frame.invariant.1 q),
+    )
