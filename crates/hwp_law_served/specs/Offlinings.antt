@@ -1,6 +1,6 @@
 -- The frames that are taken out of use beside a command: what came of each, why, and which entries that made; and which frames those are,
 -- by what the commands of the processor note.
-use Rattle.std.specs.Prelude.{◌≡◌, ℕ, true, false, List, [], ◌∷◌, Option, Some, None, filter, filter_map, map, slice_get, take}
+use Rattle.std.specs.Prelude.{◌≡◌, ℕ, true, false, List, ◌∷◌, Option, Some, None, filter, filter_map, map, slice_get, take}
 use Rattle.std.specs.List.{cons_option}
 use Rattle.hwp_law_run.specs.hwp_geom.declared.Frame.{Frame}
 use Rattle.hwp_law_run.specs.hwp_geom.declared.Layout.{Layout}

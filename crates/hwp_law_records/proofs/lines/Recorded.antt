@@ -375,8 +375,8 @@ module _ (script : Script) (seat : Cpu → ℕ) (last : State) (report : Report)
         let own : counts (is_in situation) (own_failure row.own) ≡ counts (λ (n : Note). finds situation (how_in n.1)) (own_note who row.own) = own-counts script.layout view who situation page row.own own-entered in
         let beside : sum_by (λ (o : Offlining). counts (λ (n : Note). finds situation (how_in n.1)) (own_note who o.change)) row.offlined ≡ 0 = none-beside (λ (x : MarkLine). finds situation (how_in x)) not-found in
         let all : marks_in report (is_failure_mark who situation)
-            ≡ sum_by (λ (t : EventOutcome). counts (λ (n : Note). finds situation (how_in n.1)) (told_note who t)) row.told + sum_by (λ (o : Offlining). counts (λ (n : Note). finds situation (how_in n.1)) (own_note who o.change)) row.offlined
-                + counts (λ (n : Note). finds situation (how_in n.1)) (own_note who row.own)
+        ≡ sum_by (λ (t : EventOutcome). counts (λ (n : Note). finds situation (how_in n.1)) (told_note who t)) row.told + sum_by (λ (o : Offlining). counts (λ (n : Note). finds situation (how_in n.1)) (own_note who o.change)) row.offlined
+        + counts (λ (n : Note). finds situation (how_in n.1)) (own_note who row.own)
         = marks-are (λ (x : MarkLine). finds situation (how_in x)) in
         omega (arith, entries, told, own, beside, all)
       where
@@ -400,7 +400,7 @@ module _ (script : Script) (seat : Cpu → ℕ) (last : State) (report : Report)
         = entries-inside script seat last report end who is_soft of.of.inside ∙ softs-counted script.layout of.of.earlier view who of.of.command of.of.before of.of.row of.of.after of.of.served in
         let same : moves_by of.of.row.own + moves_beside of.of.row.offlined ≡ moves_by row.own + moves_beside row.offlined = ap (λ (r : Row). moves_by r.own + moves_beside r.offlined) of.same in
         let all : marks_in report (is_move_mark who)
-            ≡ sum_by (λ (t : EventOutcome). counts (λ (n : Note). is_move (how_in n.1)) (told_note who t)) row.told + sum_by (λ (o : Offlining). counts (λ (n : Note). is_move (how_in n.1)) (own_note who o.change)) row.offlined + counts (λ (n : Note). is_move (how_in n.1)) (own_note who row.own)
+        ≡ sum_by (λ (t : EventOutcome). counts (λ (n : Note). is_move (how_in n.1)) (told_note who t)) row.told + sum_by (λ (o : Offlining). counts (λ (n : Note). is_move (how_in n.1)) (own_note who o.change)) row.offlined + counts (λ (n : Note). is_move (how_in n.1)) (own_note who row.own)
         = marks-are (λ (x : MarkLine). is_move (how_in x)) in
         let told : sum_by (λ (t : EventOutcome). counts (λ (n : Note). is_move (how_in n.1)) (told_note who t)) row.told ≡ 0 = sum-zero (λ (t : EventOutcome). counts (λ (n : Note). is_move (how_in n.1)) (told_note who t)) row.told (λ i t there. still t.found t) in
         let beside : sum_by (λ (o : Offlining). counts (λ (n : Note). is_move (how_in n.1)) (own_note who o.change)) row.offlined ≡ moves_beside row.offlined
@@ -422,7 +422,7 @@ module _ (script : Script) (seat : Cpu → ℕ) (last : State) (report : Report)
     one-with : marks_in report (is_commands who) ≤ 1
     one-with =
         let all : marks_in report (is_commands who)
-            ≡ sum_by (λ (t : EventOutcome). counts (λ (n : Note). is_commanded n.1) (told_note who t)) row.told + sum_by (λ (o : Offlining). counts (λ (n : Note). is_commanded n.1) (own_note who o.change)) row.offlined + counts (λ (n : Note). is_commanded n.1) (own_note who row.own)
+        ≡ sum_by (λ (t : EventOutcome). counts (λ (n : Note). is_commanded n.1) (told_note who t)) row.told + sum_by (λ (o : Offlining). counts (λ (n : Note). is_commanded n.1) (own_note who o.change)) row.offlined + counts (λ (n : Note). is_commanded n.1) (own_note who row.own)
         = marks-are (λ (x : MarkLine). is_commanded x) in
         let told : sum_by (λ (t : EventOutcome). counts (λ (n : Note). is_commanded n.1) (told_note who t)) row.told ≡ 0 = sum-zero (λ (t : EventOutcome). counts (λ (n : Note). is_commanded n.1) (told_note who t)) row.told (λ i t there. still t.found t) in
         let beside : sum_by (λ (o : Offlining). counts (λ (n : Note). is_commanded n.1) (own_note who o.change)) row.offlined ≡ 0 = none-beside (λ (x : MarkLine). is_commanded x) uncommanded in
@@ -449,7 +449,7 @@ module _ (script : Script) (seat : Cpu → ℕ) (last : State) (report : Report)
     softs-with : (frame : Frame) (moved : Bool) → count_by (is_soft_mark who moved) (marks_of report frame.0) ≡ soft_lines script report who frame moved
     softs-with frame moved =
         let all : count_by (is_soft_mark who moved) (marks_of report frame.0)
-            ≡ sum_by (λ (t : EventOutcome). counts (on_frame frame moved) (told_note who t)) row.told + sum_by (λ (o : Offlining). counts (on_frame frame moved) (own_note who o.change)) row.offlined + counts (on_frame frame moved) (own_note who row.own)
+        ≡ sum_by (λ (t : EventOutcome). counts (on_frame frame moved) (told_note who t)) row.told + sum_by (λ (o : Offlining). counts (on_frame frame moved) (own_note who o.change)) row.offlined + counts (on_frame frame moved) (own_note who row.own)
         = marks-on-frame script seat last report end who frame (is_soft_line moved) ∙ ap (λ (o : Option Row). count_by (on_frame frame moved) (notes_at who o)) row_is ∙ count-acts (act_note who) (on_frame frame moved) row.told row.offlined (own_note who row.own) in
         let told : sum_by (λ (t : EventOutcome). counts (on_frame frame moved) (told_note who t)) row.told ≡ 0 = sum-zero (λ (t : EventOutcome). counts (on_frame frame moved) (told_note who t)) row.told (λ i t there. still t.found t) in
         let own : counts (on_frame frame moved) (own_note who row.own) ≡ soft_by frame moved row.own = softs row.own in
@@ -460,7 +460,7 @@ module _ (script : Script) (seat : Cpu → ℕ) (last : State) (report : Report)
         let listed : count_by (λ (l : OfflinedLine). (l.frame.0 == frame.0) && says_soft moved (Some (offline_answer l.result))) (map (offlined_at who.seq) row.offlined) ≡ sum_by (λ (o : Offlining). flag (says o)) row.offlined
         = count-mapped (λ (l : OfflinedLine). (l.frame.0 == frame.0) && says_soft moved (Some (offline_answer l.result))) (offlined_at who.seq) row.offlined in
         let lines : soft_lines script report who frame moved
-            ≡ cond (is_soft_of frame (Some of.of.command) && says_soft moved (Some of.of.row.answer)) 1 0 + count_by (λ (l : OfflinedLine). (l.frame.0 == frame.0) && says_soft moved (Some (offline_answer l.result))) (map (offlined_at who.seq) row.offlined)
+        ≡ cond (is_soft_of frame (Some of.of.command) && says_soft moved (Some of.of.row.answer)) 1 0 + count_by (λ (l : OfflinedLine). (l.frame.0 == frame.0) && says_soft moved (Some (offline_answer l.result))) (map (offlined_at who.seq) row.offlined)
         = ap (λ (o : Option Command). by_lines frame moved o (answer_of report who) (offlined_of report who)) (command-is script who of.of.list of.of.command of.of.list_is of.of.command_is)
         ∙ ap (λ (o : Option Answer). by_lines frame moved (Some of.of.command) o (offlined_of report who)) (answer-told script seat last report end view who of.of)
         ∙ ap (by_lines frame moved (Some of.of.command) (Some of.of.row.answer)) (offlined-by-row script seat last report end who ∙ ap (λ (o : Option Row). map (offlined_at who.seq) (offlines_at o)) row_is) in

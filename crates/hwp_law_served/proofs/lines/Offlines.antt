@@ -1,6 +1,6 @@
 -- The frames that a row tells of are those that its notes make due, as the report's law counts them.
-use Rattle.std.proofs.Common.{◌≡◌, ◌≢◌, ℕ, zero, suc, ◌+◌, Bool, true, false, ◌||◌, not, if◌then◌else◌, List, [], ◌∷◌, ◌++◌, Option, Some, None, filter_map, flat_map, map, option_map, slice_get, take, unwrap_or, refl, sym, ap, ◌∙◌, subst, arith, true≢false}
-use Rattle.std.specs.Prelude.{nat_lt, filter}
+use Rattle.std.proofs.Common.{◌≡◌, ◌≢◌, ℕ, zero, suc, ◌+◌, Bool, true, false, ◌||◌, if◌then◌else◌, List, [], ◌∷◌, ◌++◌, Option, Some, None, filter_map, flat_map, map, slice_get, take, unwrap_or, refl, sym, ap, ◌∙◌, subst, arith, true≢false}
+use Rattle.std.specs.Prelude.{nat_lt}
 use Rattle.std.specs.List.{cons_option, list_any}
 use Rattle.std.proofs.lemmas.Option.{none-some, same_Some}
 use Rattle.hwp_law_run.specs.hwp_geom.declared.Cpu.{Cpu}
@@ -24,7 +24,6 @@ use Rattle.hwp_law_run.specs.hwp_law_commands.Notes.{checks, ends_machine, noted
 use Rattle.hwp_law_run.specs.hwp_law_commands.Watched.{Watched, due, watched_after}
 use Rattle.hwp_law_run.specs.hwp_law.Lines.{events_of, offlined_of, rows_of}
 use Rattle.hwp_law_run.specs.hwp_law.Offlined.{due_of, watched_before, watched_from}
-use Rattle.hwp_law_run.specs.hwp_law.Policies.{answered_before}
 use Rattle.hwp_cpu_row.specs.declared.Offlining.{Offlining}
 use Rattle.hwp_cpu_row.specs.declared.Row.{Row}
 use Rattle.hwp_cpu_row.specs.hwp_cpu_check.declared.EventOutcome.{EventOutcome}
@@ -176,10 +175,10 @@ module _ (script : Script) (seat : Cpu → ℕ) (last : State) (report : Report)
   -- a command with such frames is one that can have them, and its script has a `watch`
   pub can-offline : of.row.offlined ≢ [] → (has_watch script ≡ true) × (can_offline of.command ≡ true)
   can-offline some = (
-      any-there (list_any is_watch) script.lists who.cpu.0 of.list of.list_is (watched (list_any is_watch of.list) refl),
-      tells-can script.layout view who of.command of.row.answer of.before of.row.told of.after of.served.told
-          (λ none. some (frameless of.row.offlined (are-due ∙ ap (λ (told : List EventOutcome). due (watched_at script.layout of.list of.own who.seq) (told_notes script.layout told)) none ∙ none-due (watched_at script.layout of.list of.own who.seq)))),
-    )
+    any-there (list_any is_watch) script.lists who.cpu.0 of.list of.list_is (watched (list_any is_watch of.list) refl),
+    tells-can script.layout view who of.command of.row.answer of.before of.row.told of.after of.served.told
+        (λ none. some (frameless of.row.offlined (are-due ∙ ap (λ (told : List EventOutcome). due (watched_at script.layout of.list of.own who.seq) (told_notes script.layout told)) none ∙ none-due (watched_at script.layout of.list of.own who.seq)))),
+  )
     where
       watched : (b : Bool) → list_any is_watch of.list ≡ b → list_any is_watch of.list ≡ true
       watched true is = is
