@@ -1,6 +1,6 @@
 -- A command with the frames that are taken out of use beside it. In all that it plans, shows and comes to it is its own task, or the frame
 -- that is taken out of use while that rests.
-use Rattle.std.specs.Prelude.{◌≡◌, ◌⊎◌, ℕ, ◌+◌, ◌-◌, ◌*◌, ◌^◌, ◌<◌, ◌≤◌, ◌==◌, ◌&&◌, ◌||◌, nat_lt, Bool, true, false, cond, List, [], Option, Some, None, drop, is_some, length}
+use Rattle.std.specs.Prelude.{◌≡◌, ◌⊎◌, ℕ, ◌+◌, ◌-◌, ◌*◌, ◌^◌, ◌<◌, ◌≤◌, ◌==◌, ◌&&◌, nat_lt, Bool, true, false, cond, List, [], Option, Some, None, drop, is_some, length}
 use Rattle.hwp_cpu_row.specs.hwp_geom.declared.Frame.{Frame}
 use Rattle.hwp_cpu_row.specs.hwp_geom.declared.Layout.{Layout}
 use Rattle.hwp_cpu_row.specs.hwp_geom.declared.Who.{Who}
@@ -23,7 +23,6 @@ use Rattle.hwp_cpu_row.specs.hwp_law_commands.Notes.{is_for_pages}
 use Rattle.hwp_cpu_row.specs.hwp_law_commands.hwp_cec.Ages.{CecEvent}
 use Rattle.hwp_cpu_row.specs.hwp_law_commands.hwp_cec.Counters.{Counters, StandsFor}
 use Rattle.hwp_cpu_row.specs.hwp_cpu_check.declared.EventOutcome.{EventOutcome}
-use Rattle.hwp_cpu_row.specs.hwp_cpu_check.Told.{has_kept}
 use Rattle.hwp_cpu_row.specs.declared.Local.{Local}
 use Rattle.hwp_cpu_row.specs.declared.Offlining.{Offlining}
 use Rattle.hwp_cpu_row.specs.declared.Row.{Row}
@@ -40,6 +39,7 @@ use Rattle.hwp_cpu_command_laws.specs.hwp_cpu_command.hwp_cpu_access.declared.in
 use Rattle.hwp_cpu_command_laws.specs.hwp_cpu_command.hwp_cpu_access.declared.instruction.Pause.{Pause}
 use Rattle.hwp_cpu_command_laws.specs.hwp_cpu_command.hwp_cpu_access.Costs.{anew_after_wait}
 use Rattle.hwp_cpu_command_laws.specs.hwp_cpu_command.hwp_cpu_access.Fits.{IsResting}
+use Rattle.hwp_cpu_command_laws.specs.hwp_cpu_command.hwp_cpu_access.Instructions as instructions
 use Rattle.hwp_cpu_command_laws.specs.hwp_cpu_command.hwp_cpu_raise.declared.raise.RaiseAt.{RaiseAt}
 use Rattle.hwp_cpu_command_laws.specs.hwp_cpu_command.hwp_cpu_raise.declared.raise.RaiseAt.TheVariants as raise_at
 use Rattle.hwp_cpu_command_laws.specs.hwp_cpu_command.hwp_scrub.declared.scrub.ScrubAt.{ScrubAt}
@@ -118,9 +118,15 @@ with_result c frame answer = record c { due = with_offlining c.due (offlining c.
 
 -- ---- a rest of its own task
 
--- it pauses, or has its answer
+-- an access at its pause, any other command with its answer
 abbrev pub rests : Job → Bool
-rests j = jobs.pauses j || is_some (jobs.answer j)
+rests (kinds.Instruction i) = is_some (instructions.pause i)
+rests j = is_some (jobs.answer j)
+
+-- what an access told without a pause notes nothing, and the collector passes it over
+abbrev pub passed : Job → ℕ → ℕ
+passed (kinds.Instruction i) noted = length i.lines.told
+passed j noted = noted
 
 -- the frame that comes next is taken out of use, or the command's own task goes on
 abbrev pub going_on : Course → Option Frame → Course
@@ -167,11 +173,15 @@ AfterRest layout c after turn = AfterRestBy layout c (has_more layout c) after t
 
 -- of its own task, until that rests where its processor collects
 abbrev pub AfterOwnBy : Layout → Course → Bool → Turn → Course → Turn → Type 0
-AfterOwnBy layout c false t after turn = (after ≡ c) × (turn ≡ t)
+AfterOwnBy layout c false t after turn = (after ≡ record c { noted = passed c.own c.noted }) × (turn ≡ t)
 AfterOwnBy layout c true t after turn = AfterRest layout c after turn
 
+abbrev pub AfterOwnIf : Layout → Course → Bool → Turn → Course → Turn → Type 0
+AfterOwnIf layout c false t after turn = (after ≡ c) × (turn ≡ t)
+AfterOwnIf layout c true t after turn = AfterOwnBy layout c (rests c.own) t after turn
+
 abbrev pub AfterOwn : Layout → Course → Turn → Course → Turn → Type 0
-AfterOwn layout c t after turn = AfterOwnBy layout c (collects c.watching && rests c.own) t after turn
+AfterOwn layout c t after turn = AfterOwnIf layout c (collects c.watching) t after turn
 
 -- of the frame that is taken out of use, until that is done
 abbrev pub AfterSoft : Course → Soft → Option SoftAnswer → Turn → Course → Turn → Type 0
@@ -252,16 +262,16 @@ abbrev pub IsOfMachine : Layout → Option Watching → Type 0
 IsOfMachine layout None = Unit {0}
 IsOfMachine layout (Some w) = (length w.collector.counts ≡ layout.frames) × ((events : List CecEvent) × StandsFor events w.collector)
 
--- an access that goes on told of no event that was kept since the collector got some last: it pauses where it did
-abbrev pub IsUnkept : Job → ℕ → Type 0
-IsUnkept (kinds.Instruction i) noted = (i.collects ≡ true) × (has_kept (drop noted i.lines.told) ≡ false)
-IsUnkept _ noted = Unit {0}
+-- the collector has got or passed over all that an access told that goes on
+abbrev pub HasPassed : Job → ℕ → Type 0
+HasPassed (kinds.Instruction i) noted = (i.collects ≡ true) × (noted ≡ length i.lines.told)
+HasPassed _ noted = Unit {0}
 
 -- its own task goes on, behind whatever entries the command made, and no frame is due
 pub record IsGoing (layout : Layout) (view : View) (c : Course) : Type 0 where
   pub own : jobs.Fits layout view c.own
   pub none_due : length c.due.frames ≡ length c.due.offlined
-  pub unkept : collects c.watching ≡ true → IsUnkept c.own c.noted
+  pub passed : collects c.watching ≡ true → HasPassed c.own c.noted
 
 -- all is done: nothing is held, and a command of which memory can fail owes no loss
 pub record IsDone (view : View) (c : Course) : Type 0 where

@@ -3,7 +3,7 @@ ghost use Rattle.hwp_cpu_row.specs.hwp_geom.Layout.{IsSound};
 ghost use Rattle.hwp_cpu_row.specs.hwp_script_read.Valid.{IsCommandOf};
 ghost use Rattle.hwp_cpu_row.specs.Locals.{collects};
 ghost use Rattle.hwp_cpu_command_laws.specs.hwp_cpu_command.FileHandles.{HasChangeWithin};
-ghost use Rattle.hwp_cpu_course.specs.Courses.{AfterCollecting, AfterRest, BeginsCourse, Covers, IsGoingOn, answer, local_after, local_left, offline_result, rests, row_of, with_result};
+ghost use Rattle.hwp_cpu_course.specs.Courses.{AfterCollecting, AfterOwnBy, AfterRest, BeginsCourse, Covers, IsGoingOn, answer, local_after, local_left, offline_result, passed, rests, row_of, with_result};
 
 use crate::due::DueFrames;
 use hwp_cpu_command_laws::{Job, offlined_by};
@@ -102,11 +102,37 @@ impl Course {
         self.own.finish(alloc, answer, offlined, local)
     }
 
-    /// Whether frames may be taken out of use: its own task pauses, or has its answer.
+    /// Whether frames may be taken out of use: an access pauses, or any other command has its answer.
     fn rests(&self) -> bool
         ensures { result ≡ rests self.now.own }
     {
-        self.own.pauses() || self.own.answer().is_some()
+        match &self.own {
+            Job::Instruction(instruction) => instruction.pause().is_some(),
+            other => other.answer().is_some(),
+        }
+    }
+
+    /// What an access told without a pause notes nothing, and the collector passes it over.
+    fn pass(&mut self)
+        ensures { self.new ≡ record self.old { noted = passed self.old.own self.old.noted } }
+    {
+        if let Job::Instruction(instruction) = &self.own {
+            self.noted = instruction.told().len();
+        }
+    }
+
+    /// The turn of its own task, where the processor collects.
+    fn after_own(&mut self, layout: &Layout, turn: Turn) -> Turn
+        requires on { collects self.old.watching ≡ true }
+        requires covered { Covers self.old.frames self.old.watching }
+        ensures { AfterOwnBy layout.now self.old (rests self.old.own) turn self.new result }
+    {
+        if self.rests() {
+            self.after_rest(layout)
+        } else {
+            self.pass();
+            turn
+        }
     }
 
     /// Its own task rests, and the processor collects: what it told since is noted, and the first frame that is due is taken out of use.
@@ -247,10 +273,11 @@ impl Task for Course {
             return self.after_soft(frame, answer);
         }
         let turn = self.own.settle(layout, found, body);
-        if collects(&self.watching) && self.rests() {
-            return self.after_rest(layout);
+        if collects(&self.watching) {
+            self.after_own(layout, turn)
+        } else {
+            turn
         }
-        turn
     }
 }
 
