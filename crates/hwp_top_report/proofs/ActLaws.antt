@@ -50,6 +50,12 @@ drop-past [] k past = drop-nil k
 drop-past (x ∷ xs) zero past = absurd (omega arith)
 drop-past (x ∷ xs) (suc k) past = drop-past xs k (omega arith)
 
+front-of : {A : Type 0} (xs : List A) (j : ℕ) (d : A) → j < length xs → drop j xs ≡ get_or xs j d ∷ drop (j + 1) xs
+front-of xs j d inside = drop-cons xs j d inside ∙ ap (λ (n : ℕ). get_or xs j d ∷ drop n xs) (let same : suc j ≡ j + 1 = omega arith in same)
+
+not-equal : (a b : ℕ) → a < b → (a == b) ≡ false
+not-equal a b less = ne_eqb a b (λ same. omega (arith, less, same))
+
 -- one note more
 onto : (notes rest : List Note) (note : Option Note) → (notes ++ cons_option note []) ++ rest ≡ notes ++ cons_option note rest
 onto notes rest None = ap (λ (l : List Note). l ++ rest) (append-nil notes)
@@ -57,21 +63,21 @@ onto notes rest (Some note) = append_assoc notes (note ∷ []) rest
 
 module _ (who : Who) (told : List EventOutcome) (offlined : List Offlining) where
   -- a frame is next
-  frame-left : (n k : ℕ) (o : Offlining) → k < length offlined → o ≡ get_or offlined k o → n ≤ length told → is_frame_next (length told) offlined n k ≡ true → left who told offlined n k ≡ cons_option (own_note who o.change) (left who told offlined n (k + 1))
-  frame-left n k o inside is within next = ap (λ (os : List Offlining). filter_map (act_note who) (acts_from n (drop n told) os)) here ∙ which (slice_get_cases told n).1
+  frame-left : (n k : ℕ) (d : Offlining) → k < length offlined → n ≤ length told → is_frame_next (length told) offlined n k ≡ true → left who told offlined n k ≡ cons_option (own_note who (get_or offlined k d).change) (left who told offlined n (k + 1))
+  frame-left n k d inside within next = ap (λ (os : List Offlining). filter_map (act_note who) (acts_from n (drop n told) os)) (front-of offlined k d inside) ∙ which (slice_get_cases told n).1
     where
-      here : drop k offlined ≡ o ∷ drop (k + 1) offlined
-      here = drop-cons offlined k o inside ∙ ap (λ (x : Offlining). x ∷ drop (k + 1) offlined) (sym is)
+      o : Offlining
+      o = get_or offlined k d
 
       now : ((n == length told) || (o.told == n)) ≡ true
-      now = sym (ap (is_frame_by (length told) n) (slice_get-get_or offlined k o inside ∙ ap (λ (x : Offlining). Some x) (sym is))) ∙ next
+      now = sym (ap (is_frame_by (length told) n) (slice_get-get_or offlined k d inside)) ∙ next
 
       which : ((t : EventOutcome) × (n < length told) × (slice_get told n ≡ Some t) × (get_or told n t ≡ t)) ⊎ ((length told ≤ n) × (slice_get told n ≡ None)) → filter_map (act_note who) (acts_from n (drop n told) (o ∷ drop (k + 1) offlined)) ≡ cons_option (own_note who o.change) (left who told offlined n (k + 1))
       which (inl (t, less, there, got)) =
-          let front : drop n told ≡ t ∷ drop (n + 1) told = drop-cons told n t less ∙ ap (λ (x : EventOutcome). x ∷ drop (n + 1) told) got in
+          let front : drop n told ≡ get_or told n t ∷ drop (n + 1) told = front-of told n t less in
           let at : (o.told == n) ≡ true = sym (ap (λ (b : Bool). b || (o.told == n)) (not-equal n (length told) less)) ∙ now in
           ap (λ (ts : List EventOutcome). filter_map (act_note who) (acts_from n ts (o ∷ drop (k + 1) offlined))) front
-          ∙ ap (λ (b : Bool). filter_map (act_note who) (cond b (Offlined o ∷ acts_from n (t ∷ drop (n + 1) told) (drop (k + 1) offlined)) (Told t ∷ acts_from (n + 1) (drop (n + 1) told) (o ∷ drop (k + 1) offlined)))) at
+          ∙ ap (λ (b : Bool). filter_map (act_note who) (cond b (Offlined o ∷ acts_from n (get_or told n t ∷ drop (n + 1) told) (drop (k + 1) offlined)) (Told (get_or told n t) ∷ acts_from (n + 1) (drop (n + 1) told) (o ∷ drop (k + 1) offlined)))) at
           ∙ ap (λ (ts : List EventOutcome). cons_option (own_note who o.change) (filter_map (act_note who) (acts_from n ts (drop (k + 1) offlined)))) (sym front)
       which (inr (past, none)) =
           let all : n ≡ length told = omega (arith, past, within) in
@@ -79,19 +85,16 @@ module _ (who : Who) (told : List EventOutcome) (offlined : List Offlining) wher
           ap (λ (ts : List EventOutcome). filter_map (act_note who) (acts_from n ts (o ∷ drop (k + 1) offlined))) gone
           ∙ ap (λ (ts : List EventOutcome). cons_option (own_note who o.change) (filter_map (act_note who) (acts_from n ts (drop (k + 1) offlined)))) (sym gone)
 
-      not-equal : (a b : ℕ) → a < b → (a == b) ≡ false
-      not-equal a b less = ne_eqb a b (λ same. omega (arith, less, same))
-
   -- an event is next
-  event-left : (n k : ℕ) (t : EventOutcome) → n < length told → t ≡ get_or told n t → is_frame_next (length told) offlined n k ≡ false → left who told offlined n k ≡ cons_option (told_note who t) (left who told offlined (n + 1) k)
-  event-left n k t less is next = ap (λ (ts : List EventOutcome). filter_map (act_note who) (acts_from n ts (drop k offlined))) front ∙ which (slice_get_cases offlined k).1
+  event-left : (n k : ℕ) (d : EventOutcome) → n < length told → is_frame_next (length told) offlined n k ≡ false → left who told offlined n k ≡ cons_option (told_note who (get_or told n d)) (left who told offlined (n + 1) k)
+  event-left n k d less next = ap (λ (ts : List EventOutcome). filter_map (act_note who) (acts_from n ts (drop k offlined))) (front-of told n d less) ∙ which (slice_get_cases offlined k).1
     where
-      front : drop n told ≡ t ∷ drop (n + 1) told
-      front = drop-cons told n t less ∙ ap (λ (x : EventOutcome). x ∷ drop (n + 1) told) (sym is)
+      t : EventOutcome
+      t = get_or told n d
 
       which : ((o : Offlining) × (k < length offlined) × (slice_get offlined k ≡ Some o) × (get_or offlined k o ≡ o)) ⊎ ((length offlined ≤ k) × (slice_get offlined k ≡ None)) → filter_map (act_note who) (acts_from n (t ∷ drop (n + 1) told) (drop k offlined)) ≡ cons_option (told_note who t) (left who told offlined (n + 1) k)
       which (inl (o, inside, there, got)) =
-          let here : drop k offlined ≡ o ∷ drop (k + 1) offlined = drop-cons offlined k o inside ∙ ap (λ (x : Offlining). x ∷ drop (k + 1) offlined) got in
+          let here : drop k offlined ≡ o ∷ drop (k + 1) offlined = front-of offlined k o inside ∙ ap (λ (x : Offlining). x ∷ drop (k + 1) offlined) got in
           let not : (o.told == n) ≡ false = or-false-right (n == length told) (o.told == n) (sym (ap (is_frame_by (length told) n) there) ∙ next) in
           ap (λ (os : List Offlining). filter_map (act_note who) (acts_from n (t ∷ drop (n + 1) told) os)) here
           ∙ ap (λ (b : Bool). filter_map (act_note who) (cond b (Offlined o ∷ acts_from n (t ∷ drop (n + 1) told) (drop (k + 1) offlined)) (Told t ∷ acts_from (n + 1) (drop (n + 1) told) (o ∷ drop (k + 1) offlined)))) not
@@ -102,22 +105,22 @@ module _ (who : Who) (told : List EventOutcome) (offlined : List Offlining) wher
           ∙ ap (λ (os : List Offlining). cons_option (told_note who t) (filter_map (act_note who) (acts_from (n + 1) (drop (n + 1) told) os))) (sym gone)
 
   module _ (start notes after : List Note) (step n k : ℕ) (is : IsNoted who told offlined start notes step n k) where
-    pub noted-frame : (o : Offlining) (note : Option Note) → k < length offlined → o ≡ get_or offlined k o → is_frame_next (length told) offlined n k ≡ true → note ≡ own_note who o.change → after ≡ notes ++ cons_option note [] → IsNoted who told offlined start after (step + 1) n (k + 1)
-    noted-frame o note inside at next note_is more = record {
+    pub noted-frame : (d : Offlining) (note : Option Note) → k < length offlined → is_frame_next (length told) offlined n k ≡ true → note ≡ own_note who (get_or offlined k d).change → after ≡ notes ++ cons_option note [] → IsNoted who told offlined start after (step + 1) n (k + 1)
+    noted-frame d note inside next note_is more = record {
       sum = let sum = is.sum in omega (arith, sum);
       events = is.events;
       frames = omega (arith, inside);
       noted = ap (λ (l : List Note). l ++ left who told offlined n (k + 1)) more ∙ onto notes (left who told offlined n (k + 1)) note
-          ∙ ap (λ (x : Option Note). notes ++ cons_option x (left who told offlined n (k + 1))) note_is ∙ ap (λ (l : List Note). notes ++ l) (sym (frame-left n k o inside at is.events next)) ∙ is.noted;
+          ∙ ap (λ (x : Option Note). notes ++ cons_option x (left who told offlined n (k + 1))) note_is ∙ ap (λ (l : List Note). notes ++ l) (sym (frame-left n k d inside is.events next)) ∙ is.noted;
     }
 
-    pub noted-event : (t : EventOutcome) (note : Option Note) → n < length told → t ≡ get_or told n t → is_frame_next (length told) offlined n k ≡ false → note ≡ told_note who t → after ≡ notes ++ cons_option note [] → IsNoted who told offlined start after (step + 1) (n + 1) k
-    noted-event t note less at next note_is more = record {
+    pub noted-event : (d : EventOutcome) (note : Option Note) → n < length told → is_frame_next (length told) offlined n k ≡ false → note ≡ told_note who (get_or told n d) → after ≡ notes ++ cons_option note [] → IsNoted who told offlined start after (step + 1) (n + 1) k
+    noted-event d note less next note_is more = record {
       sum = let sum = is.sum in omega (arith, sum);
       events = omega (arith, less);
       frames = is.frames;
       noted = ap (λ (l : List Note). l ++ left who told offlined (n + 1) k) more ∙ onto notes (left who told offlined (n + 1) k) note
-          ∙ ap (λ (x : Option Note). notes ++ cons_option x (left who told offlined (n + 1) k)) note_is ∙ ap (λ (l : List Note). notes ++ l) (sym (event-left n k t less at next)) ∙ is.noted;
+          ∙ ap (λ (x : Option Note). notes ++ cons_option x (left who told offlined (n + 1) k)) note_is ∙ ap (λ (l : List Note). notes ++ l) (sym (event-left n k d less next)) ∙ is.noted;
     }
 
     -- where a frame is next there is one
