@@ -60,7 +60,7 @@ use Rattle.hwp_cpu_command.specs.hwp_fault.hwp_fault_fill.declared.take.Take.{Ta
 use Rattle.hwp_cpu_command.specs.hwp_fault.hwp_fault_fill.declared.take.TakeAnswer.{TakeAnswer}
 use Rattle.hwp_cpu_command.specs.hwp_fault.hwp_fault_fill.declared.take.TakeAnswer.TheVariants as take_answers
 use Rattle.hwp_cpu_command.specs.hwp_fault.hwp_fault_fill.Takes as takes
-use Rattle.hwp_law_served.specs.hwp_soft.hwp_claim_frame.Grabs.{WasFree}
+use Rattle.hwp_law_served.specs.hwp_claim_frame.Meets.{AsTaken}
 use Rattle.hwp_cpu_command.proofs.of_hwp_soft_unpoison.of_hwp_claim_frame.ViewKeeps.{Account, OnlyHolds, account_of, kept, planned, release-only}
 use Rattle.hwp_cpu_command.proofs.of_hwp_soft.SpareSteps.{free-stays}
 use Rattle.hwp_law_served.specs.hwp_cpu_check.declared.EventOutcome.{EventOutcome}
@@ -218,7 +218,7 @@ give-up-none {layout} {old} {new} {found} {got} {who} {step} g has is made = whi
     same : account_of new ≡ account_of old → deeds who new ≡ deeds who old
     same is = ap (λ (a : Account). filter (is_by who) a.made) is
 
-    which : (x : GiveUpAt) → give_ups.plan_at x ≡ Some step → Steps layout who step (logs (give_ups.put_at x)) old new found got → _ → deeds who new ≡ deeds who old
+    which : (x : GiveUpAt) → give_ups.plan_at x ≡ Some step → Steps layout who step (logs (give_ups.put_at x)) old new found got → AsTaken old (give_ups.put_at x) → deeds who new ≡ deeds who old
     which give_up_at.GiveUp e by taken = deeds-same who tt (steps-planned e by)
     which (give_up_at.Unhold u) e by taken = same (kept (unholds.put u) (unhold-only u step e) taken by)
     which (give_up_at.Unlock u) e by taken = same (kept (unlocks.put u) (unlock-only u step e) taken by)

@@ -17,5 +17,6 @@ pub mod OfflineServed
 pub mod OnTheWay
 pub mod BesideKeeps
 pub mod NotedLines
+pub use Rattle.hwp_law_commands.proofs as of_hwp_law_commands
 pub use Rattle.hwp_law_served.proofs as of_hwp_law_served
 pub use Rattle.hwp_law_served.proofs.of_hwp_law_run as of_hwp_law_run

@@ -24,7 +24,7 @@ use Rattle.hwp_law_served.specs.hwp_report_text.declared.EventLine.{EventLine}
 use Rattle.hwp_law_served.specs.hwp_report_text.Acts.{is_panic}
 use Rattle.hwp_law_served.specs.hwp_report_text.declared.Acted.TheVariants as acts
 use Rattle.hwp_law_served.specs.hwp_law_commands.Notes.{AreApart, IsRising, ends_machine, frame_of, is_corrected, is_for_pages, noted_frame, notes, notes_of_check}
-use Rattle.hwp_law_served.proofs.of_hwp_law_commands.NoteLaws.{notes-append, notes-rising}
+use Rattle.hwp_law_commands.proofs.NoteLaws.{notes-append, notes-rising}
 use Rattle.hwp_law_served.specs.hwp_severity.declared.Arrival.{Arrival}
 use Rattle.hwp_law_served.specs.hwp_severity.declared.McgBits.{McgBits}
 use Rattle.hwp_law_served.specs.hwp_severity.declared.Severity.{Severity}
@@ -32,7 +32,7 @@ use Rattle.hwp_law_served.specs.hwp_severity.declared.Severity.TheVariants as se
 use Rattle.hwp_law_served.specs.hwp_severity.Graded.{Row, first_match, graded, rows}
 use Rattle.hwp_law_served.specs.hwp_cpu_check.declared.EventOutcome.{EventOutcome}
 use Rattle.hwp_law_served.specs.hwp_cpu_check.declared.Held.{Held}
-use Rattle.hwp_law_served.specs.hwp_cpu_check.Checks.{AreChecks, Check, IsCheck, left_by, lines_of, with_own}
+use Rattle.hwp_law_served.specs.hwp_cpu_check.Checks.{AreChecks, Check, IsCheck, left_by, lines_of, restarting, with_own}
 use Rattle.hwp_law_served.specs.hwp_cpu_check.Events.{graded_in, held_in}
 use Rattle.hwp_law_served.specs.hwp_cpu_check.Fits.{AreTold, IsDone, IsTold}
 use Rattle.hwp_law_served.specs.hwp_cpu_check.Told.{at_once, halts, has_kept, is_kept, required_by, severity_at_once}
@@ -105,7 +105,7 @@ record IsUpTo (n : ℕ) (l : List ℕ) : Type 0 where
   ends : Ends n (first ∷ rest)
 
 own-banks : (origin : Origin) (frame : Frame) (line : ℕ) (banks : Banks) → IsOfAccess origin → length banks ≡ bank_count → IsUpTo (bank_of origin) (numbers (with_own origin frame line banks))
-own-banks origins.Access frame line (a ∷ b ∷ c ∷ []) is three = record { first = 0; rest = map (λ (x : ℕ × Event). x.0) (held_from (0 + 1) (b ∷ c ∷ [])); all = refl; ends = ends-zero _ }
+own-banks origins.Access frame line (a ∷ b ∷ c ∷ []) is three = record { first = 0; rest = map (λ (x : ℕ × Event). x.0) (held_from (0 + 1) (b ∷ c ∷ [])); all = refl; ends = ends-zero (0 ∷ map (λ (x : ℕ × Event). x.0) (held_from (0 + 1) (b ∷ c ∷ []))) }
 own-banks origins.Fetch frame line (None ∷ b ∷ None ∷ []) is three = record { first = 1; rest = []; all = refl; ends = omega arith }
 own-banks origins.Fetch frame line (None ∷ b ∷ Some c ∷ []) is three = record { first = 1; rest = 2 ∷ []; all = refl; ends = omega arith }
 own-banks origins.Fetch frame line (Some a ∷ b ∷ None ∷ []) is three = record { first = 0; rest = 1 ∷ []; all = refl; ends = omega arith }
@@ -127,7 +127,7 @@ module _ {layout : Layout} {view : View} {who : Who} {thread : Thread} {line : �
   check-ends : (banks : Banks) (c : Check) → length banks ≡ bank_count → IsCheck layout view who thread line origin mode banks c → IsUpTo (bank_of origin) (banks_in c.lines)
   check-ends banks c three has =
       let own = own-banks origin c.frame line banks is three in
-      record { first = own.first; rest = own.rest; all = banks-are c.lines _ _ has.acted_on.events ∙ own.all; ends = own.ends }
+      record { first = own.first; rest = own.rest; all = banks-are c.lines (restarting mode) (with_own origin c.frame line banks) has.acted_on.events ∙ own.all; ends = own.ends }
 
   checks-end : (banks : Banks) (c : Check) (cs : List Check) → length banks ≡ bank_count → AreChecks layout view who thread line origin mode banks (c ∷ cs) → IsUpTo (bank_of origin) (banks_in (lines_of (c ∷ cs)))
   checks-end banks c [] three are = let one = check-ends banks c three are.0 in record { first = one.first; rest = one.rest; all = ap banks_in (append-nil c.lines) ∙ one.all; ends = one.ends }
@@ -151,7 +151,7 @@ notes-more {past} {layout} {old} {new} i fits more tells = ap (notes layout) (ma
     which (c ∷ cs) are of =
         let all = checks-end fits.origin i.before.value c cs fits.three are in
         apart (bank_of i.origin) (lines (lines_of (c ∷ cs))) (lines more) (subst (Ends (bank_of i.origin)) (sym all.all) all.ends)
-        (subst (Starts (bank_of i.origin)) (sym (banks-are more _ _ of.events ∙ own-alone i.origin of.frame i.request.line fits.origin)) refl)
+        (subst (Starts (bank_of i.origin)) (sym (banks-are more (restarting i.mode) (with_own i.origin of.frame i.request.line empty_banks) of.events ∙ own-alone i.origin of.frame i.request.line fits.origin)) refl)
 
 -- ---- what a machine check notes
 
@@ -162,11 +162,11 @@ Keeps (r ∷ rs) = (r.0 ≡ 4 → r.2 ≡ severities.Keep) × Keeps rs
 
 match-keeps : (rs : List Row) → Keeps rs → (first_match rs).row ≡ 4 → (first_match rs).severity ≡ severities.Keep
 match-keeps [] keeps is = absurd (omega (arith, is))
-match-keeps (r ∷ rs) keeps = which r.1
+match-keeps (r ∷ rs) keeps = which r.1 (match-keeps rs keeps.1)
   where
-    which : (b : Bool) → (if b then record { severity = r.2; row = r.0 } else first_match rs).row ≡ 4 → (if b then record { severity = r.2; row = r.0 } else first_match rs).severity ≡ severities.Keep
-    which true is = keeps.0 is
-    which false is = match-keeps rs keeps.1 is
+    which : (b : Bool) → ((first_match rs).row ≡ 4 → (first_match rs).severity ≡ severities.Keep) → (if b then record { severity = r.2; row = r.0 } else first_match rs).row ≡ 4 → (if b then record { severity = r.2; row = r.0 } else first_match rs).severity ≡ severities.Keep
+    which true rest is = keeps.0 is
+    which false rest is = rest is
 
 other : {A : Type 0} {n : ℕ} → (n ≡ 4 → ⊥) → n ≡ 4 → A
 other apart is = absurd (apart is)
@@ -209,10 +209,10 @@ are-graded how (t ∷ ts) (b ∷ bs) is = (
   are-graded how ts bs (ap behind is),
 )
 
-kept-act : {layout : Layout} {view : View} {who : Who} {thread : Option Thread} {held_back : Bool} (t : EventOutcome) → IsTold layout view who thread held_back t → t.held.grade.severity ≡ severities.Keep → t.acted ≡ acts.Keep
-kept-act {layout} {view} {who} {thread} {held_back} t told keep = (subst (IsDone layout view who (required_by thread t.held.grade.severity) t) (ap (severity_at_once layout held_back (frame_at t.held.event.addr)) keep) told).0
+kept-act : (layout : Layout) (view : View) (who : Who) (thread : Option Thread) (held_back : Bool) (t : EventOutcome) → IsTold layout view who thread held_back t → t.held.grade.severity ≡ severities.Keep → t.acted ≡ acts.Keep
+kept-act layout view who thread held_back t told keep = (subst (IsDone layout view who (required_by thread t.held.grade.severity) t) (ap (severity_at_once layout held_back (frame_at t.held.event.addr)) keep) told).0
 
-module _ (layout : Layout) {view : View} {who : Who} {thread : Option Thread} where
+module _ (layout : Layout) (view : View) (who : Who) (thread : Option Thread) where
   none-noted : (held_back : Bool) (told : List EventOutcome) → AreTold layout view who thread held_back told → AreGraded told → has_kept told ≡ false → filter_map (noted_frame layout) (lines told) ≡ []
   none-noted held_back [] right grades none = refl
   none-noted held_back (t ∷ ts) right grades none = ap (λ (o : Option Frame). cons_option o (filter_map (noted_frame layout) (lines ts))) (which (t.held.grade.row == 4) refl) ∙ none-noted (held_back || is_panic t.acted) ts right.1 grades.1 (or_parts (is_kept t.acted) (has_kept ts) none).1
@@ -222,7 +222,7 @@ module _ (layout : Layout) {view : View} {who : Who} {thread : Option Thread} wh
 
       which : (b : Bool) → (t.held.grade.row == 4) ≡ b → noted_frame layout line ≡ None
       which false is = ap (λ (b : Bool). if (b && is_addr_valid (record { 0 = line.status })) && is_for_pages layout (frame_of line) then Some (frame_of line) else None) is
-      which true is = absurd (both_ways (is_kept t.acted) (or_parts (is_kept t.acted) (has_kept ts) none).0 (ap is_kept (kept-act t right.0 (grades.0 (eqb-true t.held.grade.row 4 is)))))
+      which true is = absurd (both_ways (is_kept t.acted) (or_parts (is_kept t.acted) (has_kept ts) none).0 (ap is_kept (kept-act layout view who thread held_back t right.0 (grades.0 (eqb-true t.held.grade.row 4 is)))))
 
 -- the lines of a machine check are of rising banks
 abbrev Rising : List ℕ → Type 0
@@ -264,10 +264,10 @@ answered-unnoted {past} {layout} {old} {new} i fits more tells why = by more ref
     three = own-three i tells.frame (left_by i.before.value fits.checks) (left-three i.before.value fits.checks fits.three)
 
     rising : IsRising (lines more)
-    rising = is-rising (lines more) (subst Rising (sym (banks-are more _ _ tells.events)) (numbers-rise banks three))
+    rising = is-rising (lines more) (subst Rising (sym (banks-are more (restarting i.mode) banks tells.events)) (numbers-rise banks three))
 
     grades : AreGraded more
-    grades = are-graded _ more (held_from 0 banks) tells.events
+    grades = are-graded (restarting i.mode) more (held_from 0 banks) tells.events
 
     none : (b : Bool) (l : List Frame) → l ≡ [] → (if b then [] else l) ≡ []
     none true l is = refl
@@ -276,7 +276,7 @@ answered-unnoted {past} {layout} {old} {new} i fits more tells why = by more ref
     check : notes_of_check layout (lines more) ≡ []
     check = elim why [
       | inl halted ↦ ap (λ (b : Bool). if b then [] else filter_map (noted_frame layout) (lines more)) (ends-same more ∙ halted)
-      | inr unkept ↦ none (list_any ends_machine (lines more)) (filter_map (noted_frame layout) (lines more)) (none-noted layout tells.held_back more tells.told grades unkept)
+      | inr unkept ↦ none (list_any ends_machine (lines more)) (filter_map (noted_frame layout) (lines more)) (none-noted layout new i.request.who (Some i.request.thread) tells.held_back more tells.told grades unkept)
     ]
 
     by : (l : List EventOutcome) → l ≡ more → told_notes layout l ≡ []
