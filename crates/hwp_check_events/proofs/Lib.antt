@@ -7,7 +7,7 @@ pub mod CommandEvents
 pub mod Walks
 pub mod ValidLaws
 mod JudgeLaws
-mod IndexLaws
+pub mod IndexLaws
 mod FirstAnswers
 mod CheckCounts
 mod TableLaws
