@@ -162,7 +162,7 @@ Keeps (r ∷ rs) = (r.0 ≡ 4 → r.2 ≡ severities.Keep) × Keeps rs
 
 match-keeps : (rs : List Row) → Keeps rs → (first_match rs).row ≡ 4 → (first_match rs).severity ≡ severities.Keep
 match-keeps [] keeps is = absurd (omega (arith, is))
-match-keeps (r ∷ rs) keeps = which r.1 (match-keeps rs keeps.1)
+match-keeps (r ∷ rs) keeps is = which r.1 (match-keeps rs keeps.1) is
   where
     which : (b : Bool) → ((first_match rs).row ≡ 4 → (first_match rs).severity ≡ severities.Keep) → (if b then record { severity = r.2; row = r.0 } else first_match rs).row ≡ 4 → (if b then record { severity = r.2; row = r.0 } else first_match rs).severity ≡ severities.Keep
     which true rest is = keeps.0 is
@@ -174,19 +174,43 @@ other apart is = absurd (apart is)
 rows-keep : (s : Status) (g : McgBits) (m : Mode) → Keeps (rows s g m)
 rows-keep s g m = (
   other (λ is. omega (arith, is)),
-  (other (λ is. omega (arith, is)),
-  (other (λ is. omega (arith, is)),
-  (λ is. refl,
-  (other (λ is. omega (arith, is)),
-  (other (λ is. omega (arith, is)),
-  (other (λ is. omega (arith, is)),
-  (other (λ is. omega (arith, is)),
-  (other (λ is. omega (arith, is)),
-  (other (λ is. omega (arith, is)),
-  (other (λ is. omega (arith, is)),
-  (other (λ is. omega (arith, is)),
-  (other (λ is. omega (arith, is)),
-  tt)))))))))))),
+  (
+    other (λ is. omega (arith, is)),
+    (
+      other (λ is. omega (arith, is)),
+      (
+        λ is. refl,
+        (
+          other (λ is. omega (arith, is)),
+          (
+            other (λ is. omega (arith, is)),
+            (
+              other (λ is. omega (arith, is)),
+              (
+                other (λ is. omega (arith, is)),
+                (
+                  other (λ is. omega (arith, is)),
+                  (
+                    other (λ is. omega (arith, is)),
+                    (
+                      other (λ is. omega (arith, is)),
+                      (
+                        other (λ is. omega (arith, is)),
+                        (
+                          other (λ is. omega (arith, is)),
+                          tt,
+                        ),
+                      ),
+                    ),
+                  ),
+                ),
+              ),
+            ),
+          ),
+        ),
+      ),
+    ),
+  ),
 )
 
 pub graded-keeps : (s : Status) (g : McgBits) (m : Mode) → (graded s g m).row ≡ 4 → (graded s g m).severity ≡ severities.Keep
