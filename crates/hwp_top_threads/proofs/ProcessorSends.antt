@@ -6,10 +6,14 @@ use Rattle.std.proofs.Crossing.{crosses}
 use Rattle.hwp_threads.specs.hwp_geom.contracts.list.List as List
 use Rattle.hwp_threads.specs.hwp_geom.contracts.layout.Layout as Layout
 use Rattle.hwp_top_turns.specs.hwp_script_lines.contracts.command.Command as Command
+use Rattle.hwp_top_turns.specs.hwp_cpu_row.hwp_cec.contracts.ring.Ring as Ring
+use Rattle.hwp_top_turns.specs.hwp_cpu_row.hwp_cec.contracts.collector.Collector as Collector
+use Rattle.hwp_top_turns.specs.hwp_cpu_row.contracts.local.Watching as Watching
 use Rattle.hwp_top_turns.specs.hwp_cpu_row.contracts.local.Local as Local
 use Rattle.hwp_top_turns.specs.hwp_report_text.contracts.lines.Answer as Answer
 use Rattle.hwp_top_turns.specs.hwp_cpu_check.contracts.told.EventOutcome as EventOutcome
 use Rattle.hwp_top_turns.specs.hwp_cpu_row.contracts.row.FrameChange as FrameChange
+use Rattle.hwp_top_turns.specs.hwp_cpu_row.contracts.row.Offlining as Offlining
 use Rattle.hwp_top_turns.specs.hwp_cpu_row.contracts.row.Row as Row
 use Rattle.hwp_threads.specs.hwp_page.contracts.entry.Entry as Entry
 use Rattle.hwp_threads.specs.hwp_page.contracts.body.Body as Body
@@ -36,6 +40,8 @@ use Rattle.hwp_top_turns.specs.hwp_soft.contracts.soft.SoftAt as SoftAt
 use Rattle.hwp_top_turns.specs.hwp_soft.contracts.soft.Soft as Soft
 use Rattle.hwp_top_turns.specs.hwp_soft_unpoison.contracts.unpoison.Unpoison as Unpoison
 use Rattle.hwp_top_turns.specs.hwp_cpu_command.contracts.job.Job as Job
+use Rattle.hwp_top_turns.specs.hwp_cpu_course.contracts.due.DueFrames as DueFrames
+use Rattle.hwp_top_turns.specs.hwp_cpu_course.contracts.course.Course as Course
 use Rattle.hwp_top_turns.specs.hwp_cpu.contracts.processor.Processor as Processor
 
 list-send : (T : RattleType) → IsSend T → IsSend (List.the_row T)
@@ -62,11 +68,23 @@ event-outcome-send = search (sendable, crosses) depth 100 fits 20000
 frame-change-send : IsSend FrameChange.the_field.row
 frame-change-send = search (sendable, crosses) depth 100 fits 20000
 
+offlining-send : IsSend Offlining.the_field.row
+offlining-send = search (frame-change-send, sendable, crosses) depth 100 fits 20000
+
 row-send : IsSend Row.the_field.row
-row-send = search (list-send, answer-send, event-outcome-send, frame-change-send, sendable, crosses) depth 100 fits 20000
+row-send = search (list-send, answer-send, event-outcome-send, frame-change-send, offlining-send, sendable, crosses) depth 100 fits 20000
+
+ring-send : IsSend Ring.the_row
+ring-send = search (sendable, crosses) depth 100 fits 20000
+
+collector-send : IsSend Collector.the_row
+collector-send = search (ring-send, sendable, crosses) depth 100 fits 20000
+
+watching-send : IsSend Watching.the_field.row
+watching-send = search (collector-send, sendable, crosses) depth 100 fits 20000
 
 local-send : IsSend Local.the_field.row
-local-send = search (sendable, crosses) depth 100 fits 20000
+local-send = search (watching-send, sendable, crosses) depth 100 fits 20000
 
 entry-send : IsSend Entry.the_field.row
 entry-send = search (list-send, sendable, crosses) depth 100 fits 20000
@@ -143,8 +161,14 @@ unpoison-send = search (sendable, crosses) depth 100 fits 20000
 job-send : IsSend Job.the_field.row
 job-send = search (instruction-send, evict-send, fsync-send, prctl-send, log-send, raise-send, scrub-send, spoil-send, nested-send, inject-send, soft-send, unpoison-send, sendable, crosses) depth 100 fits 20000
 
+due-frames-send : IsSend DueFrames.the_row
+due-frames-send = search (offlining-send, sendable, crosses) depth 100 fits 20000
+
+course-send : IsSend Course.the_field.row
+course-send = search (job-send, soft-send, watching-send, due-frames-send, sendable, crosses) depth 100 fits 20000
+
 processor-send : IsSend Processor.the_field.row
-processor-send = search (layout-send, list-send, command-send, row-send, local-send, job-send, layout-sync, sendable, crosses) depth 100 fits 20000
+processor-send = search (layout-send, list-send, command-send, row-send, local-send, course-send, layout-sync, sendable, crosses) depth 100 fits 20000
 
 -- A PROCESSOR may go to another thread
 pub processor-sent : IsSend Processor.the_row
