@@ -1,5 +1,5 @@
 -- How many lines a scrub tells.
-use Rattle.std.proofs.Common.{◌≡◌, inl, inr, ℕ, ◌+◌, ◌*◌, ◌≤◌, Bool, true, false, List, [], ◌∷◌, ◌++◌, Option, Some, None, length, refl, sym, ap, ◌∙◌, arith}
+use Rattle.std.proofs.Common.{◌≡◌, inl, inr, ℕ, ◌+◌, ◌*◌, ◌<◌, ◌≤◌, Bool, true, false, List, [], ◌∷◌, ◌++◌, Option, Some, None, length, refl, sym, ap, ◌∙◌, arith}
 use Rattle.std.proofs.lemmas.List.{length-append, length-map, length-set}
 use Rattle.std.proofs.lemmas.Option.{none-some}
 use Rattle.hwp_cpu_check.specs.hwp_geom.declared.Frame.{Frame}
@@ -26,7 +26,7 @@ use Rattle.hwp_scrub.proofs.VisitLaws.{bad-leaves, left-banks}
 abbrev pub frame_lines : ℕ
 frame_lines = bank_count + 1
 
-module _ {layout : Layout} {view : View} {who : Who} where
+module _ (layout : Layout) (view : View) (who : Who) where
   bad-few : (frame : Frame) (banks : Banks) (line : Option ℕ) (lines : List EventOutcome) → length banks ≡ bank_count → IsBadMet layout view who frame banks line lines → length lines ≤ bank_count
   bad-few frame banks None lines three none = let same : length lines ≡ 0 = ap length none in omega (arith, same)
   bad-few frame banks (Some line) lines three has =
@@ -53,20 +53,20 @@ pub scrub-few : {layout : Layout} {view : View} (s : Scrub) (a : ScrubAnswer) �
 scrub-few {layout} {view} s a fits is = which s.at fits.at is
   where
     within : s.last.0 + 1 ≤ layout.frames
-    within = fits.frames.within
+    within = let below : s.last.0 < layout.frames = fits.frames.within in omega (arith, below)
 
     ends : (b : ScrubAnswer) → IsEnd layout view s b → length s.lines.told ≤ frame_lines * layout.frames
     ends answers.Scrubbed has =
         let same : length s.lines.told ≡ length (lines_of has.visits) = ap length has.told_is in
-        let few : length (lines_of has.visits) ≤ frame_lines * length has.visits = visits-few s.first.0 s.before.value has.visits fits.banks has.visited.visited in
+        let few : length (lines_of has.visits) ≤ frame_lines * length has.visits = visits-few layout view s.who s.first.0 s.before.value has.visits fits.banks has.visited.visited in
         let many : s.first.0 + length has.visits ≡ s.last.0 + 1 = has.visited.next_is in
         let inside : s.last.0 + 1 ≤ layout.frames = within in
         omega (arith, same, few, many, inside)
     ends answers.Stopped (inl has) = let none : length s.lines.told ≡ 0 = ap length has.0.told_none in omega (arith, none)
     ends answers.Stopped (inr (frame, has)) =
         let same : length s.lines.told ≡ length (lines_of has.visits) + length has.bad.lines = ap length has.told_is ∙ length-append (lines_of has.visits) has.bad.lines in
-        let few : length (lines_of has.visits) ≤ frame_lines * length has.visits = visits-few s.first.0 s.before.value has.visits fits.banks has.visited.visited in
-        let bad : length has.bad.lines ≤ bank_count = bad-few frame (left_by s.before.value has.visits) has.bad.line has.bad.lines (left-banks s.before.value has.visits fits.banks).three has.found.met in
+        let few : length (lines_of has.visits) ≤ frame_lines * length has.visits = visits-few layout view s.who s.first.0 s.before.value has.visits fits.banks has.visited.visited in
+        let bad : length has.bad.lines ≤ bank_count = bad-few layout view s.who frame (left_by s.before.value has.visits) has.bad.line has.bad.lines (left-banks s.before.value has.visits fits.banks).three has.found.met in
         let many : s.first.0 + length has.visits ≡ frame.0 = has.visited.next_is in
         let before : frame.0 ≤ s.last.0 = has.inside in
         let inside : s.last.0 + 1 ≤ layout.frames = within in
