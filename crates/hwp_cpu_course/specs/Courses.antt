@@ -47,6 +47,8 @@ use Rattle.hwp_cpu_command_laws.specs.hwp_cpu_command.hwp_scrub.declared.scrub.S
 use Rattle.hwp_cpu_command_laws.specs.hwp_cpu_command.hwp_soft.declared.Soft.{Soft}
 use Rattle.hwp_cpu_command_laws.specs.hwp_cpu_command.hwp_soft.declared.SoftAnswer.{SoftAnswer}
 use Rattle.hwp_cpu_command_laws.specs.hwp_cpu_command.hwp_soft.declared.SoftAnswer.TheVariants as answers
+use Rattle.hwp_cpu_command_laws.specs.hwp_cpu_command.hwp_soft.declared.soft.SoftAt.{SoftAt}
+use Rattle.hwp_cpu_command_laws.specs.hwp_cpu_command.hwp_soft.declared.soft.SoftAt.TheVariants as soft_at
 use Rattle.hwp_cpu_command_laws.specs.hwp_cpu_command.hwp_soft.Offline as offline
 use Rattle.hwp_cpu_command_laws.specs.hwp_cpu_command.hwp_soft.Softs as softs
 use Rattle.hwp_cpu_course.specs.declared.course.Course.{Course}
@@ -93,7 +95,7 @@ part c = part_of c.beside c.own
 
 abbrev pub bare_of : Course → Option Soft → Course
 bare_of c (Some soft) = record c { beside = Some (softs.bare soft) }
-bare_of c None = record c { own = jobs.bare c.own }
+bare_of c None = record c { own = jobs.bare c.own; beside = None }
 
 abbrev pub bare : Course → Course
 bare c = bare_of c c.beside
@@ -171,10 +173,10 @@ AfterRest layout c after turn = AfterRestBy layout c (has_more layout c) after t
 
 -- ---- a turn
 
--- of its own task, until that rests where its processor collects
+-- of its own task, until that has its answer where its processor collects
 abbrev pub AfterOwnBy : Layout → Course → Bool → Turn → Course → Turn → Type 0
 AfterOwnBy layout c false t after turn = (after ≡ record c { noted = passed c.own c.noted }) × (turn ≡ t)
-AfterOwnBy layout c true t after turn = AfterRest layout c after turn
+AfterOwnBy layout c true t after turn = (u : Turn) × AfterRest layout c after u × (turn ≡ cond (jobs.pauses c.own) t u)
 
 abbrev pub AfterOwnIf : Layout → Course → Bool → Turn → Course → Turn → Type 0
 AfterOwnIf layout c false t after turn = (after ≡ c) × (turn ≡ t)
@@ -262,14 +264,14 @@ abbrev pub IsOfMachine : Layout → Option Watching → Type 0
 IsOfMachine layout None = Unit {0}
 IsOfMachine layout (Some w) = (length w.collector.counts ≡ layout.frames) × ((events : List CecEvent) × StandsFor events w.collector)
 
--- the collector has got or passed over all that an access told that goes on
+-- the collector has got or passed over all that an access told that goes on, if memory hasn't run out for that
 abbrev pub HasPassed : Job → ℕ → Type 0
-HasPassed (kinds.Instruction i) noted = (i.collects ≡ true) × (noted ≡ length i.lines.told)
+HasPassed (kinds.Instruction i) noted = (i.collects ≡ true) × (gives_up_access i.at ≡ false → noted ≡ length i.lines.told)
 HasPassed _ noted = Unit {0}
 
 -- its own task goes on, behind whatever entries the command made, and no frame is due
 pub record IsGoing (layout : Layout) (view : View) (c : Course) : Type 0 where
-  pub own : jobs.Fits layout view c.own
+  pub fits : jobs.Fits layout view c.own
   pub none_due : length c.due.frames ≡ length c.due.offlined
   pub passed : collects c.watching ≡ true → HasPassed c.own c.noted
 
@@ -278,6 +280,7 @@ pub record IsDone (view : View) (c : Course) : Type 0 where
   pub on_turn : IsOnTurn view (jobs.who c.own)
   pub hand_is : hand_of view ≡ empty
   pub paid : (view.owed.losses ≡ []) ⊎ (failed_now c.own ≡ [])
+  pub idle : jobs.claims c.own ≡ None
 
 -- its own task rests: it has its answer, or it pauses
 abbrev pub IsAtPause : Layout → View → Job → Type 0
@@ -285,16 +288,25 @@ IsAtPause layout view (kinds.Instruction i) = (p : Pause) × IsResting layout vi
 IsAtPause layout view _ = ⊥
 
 abbrev pub RestsNow : Layout → View → Job → Type 0
-RestsNow layout view j = (is_some (jobs.answer j) ≡ true) ⊎ IsAtPause layout view j
+RestsNow layout view j = ((is_some (jobs.answer j) ≡ true) × (jobs.claims j ≡ None)) ⊎ (IsAtPause layout view j × (view.owed.losses ≡ []))
+
+-- memory ran out while the frame was taken out of use: the command is never answered
+abbrev pub is_abandoned : SoftAt → Bool
+is_abandoned (soft_at.GiveUp g) = true
+is_abandoned _ = false
+
+-- what is so of the command's own task meanwhile
+pub record IsWaiting (layout : Layout) (view : View) (c : Course) : Type 0 where
+  pub rests : RestsNow layout view c.own
+  pub paid : view.owed.losses ≡ []
 
 -- a frame that is due is taken out of use, as a part of the same command
 pub record IsTakingOut (layout : Layout) (view : View) (c : Course) (s : Soft) : Type 0 where
   pub soft : offline.Fits layout view s
   pub own : s.who ≡ jobs.who c.own
   pub next : next_due c.due ≡ Some s.frame
-  pub rests : RestsNow layout view c.own
+  pub own_waits : is_abandoned s.at ≡ false → IsWaiting layout view c
   pub noted : c.noted ≡ length (jobs.told_of c.own)
-  pub paid : view.owed.losses ≡ []
 
 abbrev pub FitsOwn : Layout → View → Course → Option Answer → Type 0
 FitsOwn layout view c None = IsGoing layout view c
@@ -308,6 +320,7 @@ pub record Fits (layout : Layout) (view : View) (c : Course) : Type 0 where
   pub frames_are : c.frames ≡ layout.frames
   pub collector : IsOfMachine layout c.watching
   pub noted : c.noted ≤ length (jobs.told_of c.own)
+  pub behind : length c.due.offlined ≤ length c.due.frames
   pub for_pages : EachMember (λ (f : Frame). is_for_pages layout f ≡ true) c.due.frames
   pub few : length c.due.frames ≤ length c.due.offlined + due_room
   pub room : length c.due.frames ≤ length c.due.offlined + c.due.spare

@@ -1,10 +1,11 @@
 -- The frames that are taken out of use beside a command, and how the collector of corrected errors makes them due.
 use Rattle.std.specs.Prelude.{◌≡◌, ℕ, ◌+◌, ◌-◌, ◌≤◌, nat_lt, List, [], ◌∷◌, ◌++◌, Option, cond, length, map, slice_get}
+use Rattle.std.specs.List.{cons_option}
 use Rattle.hwp_cpu_row.specs.hwp_geom.declared.Frame.{Frame}
 use Rattle.hwp_cpu_row.specs.hwp_geom.declared.Layout.{Layout}
 use Rattle.hwp_cpu_row.specs.hwp_cpu_check.declared.EventOutcome.{EventOutcome}
 use Rattle.hwp_cpu_row.specs.hwp_law_commands.hwp_cec.Counters.{Counters}
-use Rattle.hwp_cpu_row.specs.hwp_law_commands.Notes.{notes_of_check}
+use Rattle.hwp_cpu_row.specs.hwp_law_commands.Notes.{noted_frame, notes_of_check}
 use Rattle.hwp_cpu_row.specs.declared.Offlining.{Offlining}
 use Rattle.hwp_cpu_row.specs.Acts.{event_at, told_notes}
 use Rattle.hwp_cpu_row.specs.Locals.{Collects}
@@ -35,6 +36,10 @@ first_check (t ∷ next ∷ rest) = cond (nat_lt t.held.bank next.held.bank) (1 
 -- what the events of one machine check note
 abbrev pub notes_of_lines : Layout → List EventOutcome → List Frame
 notes_of_lines layout told = notes_of_check layout (map (event_at 0) told)
+
+-- and what one of them notes, where none stopped the machine
+abbrev pub notes_of_event : Layout → EventOutcome → List Frame
+notes_of_event layout t = cons_option (noted_frame layout (event_at 0 t)) []
 
 -- a collector took these notes, and the frames that are due by them came last
 abbrev pub HasNoted : List Frame → Counters → List Frame → Counters → List Frame → Type 0

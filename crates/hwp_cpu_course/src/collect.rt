@@ -2,7 +2,7 @@ ghost use Rattle.std.specs.Prelude.{◌≡◌, ◌+◌, ◌<◌, ◌≤◌, leng
 ghost use Rattle.hwp_cpu_row.specs.Acts.{event_at, told_notes};
 ghost use Rattle.hwp_cpu_row.specs.hwp_law_commands.Commands.{is_kernels};
 ghost use Rattle.hwp_cpu_row.specs.hwp_law_commands.Notes.{ends_machine, is_corrected, noted_frame};
-ghost use Rattle.hwp_cpu_course.specs.Dues.{HasNoted, first_check, notes_of_lines};
+ghost use Rattle.hwp_cpu_course.specs.Dues.{HasNoted, first_check, notes_of_event, notes_of_lines};
 
 use hwp_cpu_row::{Acted, Collector, EventOutcome, Frame, Layout, Noted};
 
@@ -48,17 +48,36 @@ fn note(
 )
     requires frames { layout.now.frames ≤ length collector.old.counts }
     requires room { vec_len due.old + length check.now ≤ vec_capacity due.old }
-    ensures { HasNoted (notes_of_lines layout.now check.now) collector.old due.old.items collector.new due.new.items }
+    ensures noted { HasNoted (notes_of_lines layout.now check.now) collector.old due.old.items collector.new due.new.items }
+    ensures len { vec_len due.new ≤ vec_len due.old + length check.now }
+    ensures capacity { vec_capacity due.new ≡ vec_capacity due.old }
 {
     if check.iter().any(|told| ends_machine(told)) {
         return;
     }
     for told in check {
-        if let Some(frame) = noted_frame(layout, told)
-            && let Noted::Offline = collector.note(frame)
-        {
-            due.push_reserved(frame);
-        }
+        note_event(layout, told, collector, due);
+    }
+}
+
+/// The collector takes the note of one event, if it makes one.
+fn note_event(
+    layout: &Layout,
+    told: &EventOutcome,
+    collector: &mut Collector,
+    due: &mut Vec<Frame>,
+)
+    requires frames { layout.now.frames ≤ length collector.old.counts }
+    requires room { vec_len due.old < vec_capacity due.old }
+    ensures noted { HasNoted (notes_of_event layout.now told.now) collector.old due.old.items collector.new due.new.items }
+    ensures len { vec_len due.new ≤ vec_len due.old + 1 }
+    ensures capacity { vec_capacity due.new ≡ vec_capacity due.old }
+{
+    let Some(frame) = noted_frame(layout, told) else {
+        return;
+    };
+    if let Noted::Offline = collector.note(frame) {
+        due.push_reserved(frame);
     }
 }
 

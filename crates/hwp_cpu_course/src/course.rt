@@ -127,12 +127,13 @@ impl Course {
         requires covered { Covers self.old.frames self.old.watching }
         ensures { AfterOwnBy layout.now self.old (rests self.old.own) turn self.new result }
     {
-        if self.rests() {
-            self.after_rest(layout)
-        } else {
+        if !self.rests() {
             self.pass();
-            turn
+            return turn;
         }
+        let pauses = self.own.pauses();
+        let then = self.after_rest(layout);
+        if pauses { turn } else { then }
     }
 
     /// Its own task rests, and the processor collects: what it told since is noted, and the first frame that is due is taken out of use.

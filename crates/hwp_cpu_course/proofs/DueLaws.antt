@@ -1,0 +1,320 @@
+-- How the collector makes frames due: its notes one after the other, the events by machine checks, and what is so of each due frame.
+use Rattle.std.proofs.Common.{◌≡◌, ◌⊎◌, inl, inr, ℕ, zero, suc, ◌+◌, ◌<◌, ◌≤◌, ◌==◌, ◌&&◌, nat_lt, Bool, true, false, cond, List, [], ◌∷◌, ◌++◌, Option, Some, None, drop, filter_map, flat_map, length, map, slice_get, take, if◌then◌else◌, append-nil, append_assoc, refl, sym, ap, ◌∙◌, subst, arith}
+use Rattle.std.specs.List.{cons_option, list_any}
+use Rattle.std.proofs.lemmas.Bool.{both_ways}
+use Rattle.std.proofs.lemmas.List.{length-append, length-map, map-append}
+use Rattle.std.proofs.lemmas.Option.{none-some, same_Some}
+use Rattle.hwp_cpu_row.specs.hwp_geom.declared.Frame.{Frame}
+use Rattle.hwp_cpu_row.specs.hwp_geom.declared.Layout.{Layout}
+use Rattle.hwp_cpu_row.specs.hwp_report_text.declared.EventLine.{EventLine}
+use Rattle.hwp_cpu_row.specs.hwp_core_rule.Lists.{EachMember}
+use Rattle.hwp_cpu_row.specs.hwp_cpu_check.declared.EventOutcome.{EventOutcome}
+use Rattle.hwp_cpu_row.specs.hwp_cec.declared.Noted.{Noted}
+use Rattle.hwp_cpu_row.specs.hwp_cec.declared.Noted.TheVariants.{Counted, Offline}
+use Rattle.hwp_cpu_row.specs.hwp_cec.Ages.{CecEvent, Note, live}
+use Rattle.hwp_cpu_row.specs.hwp_cec.Counters.{Counters, StandsFor, answer, noted_in}
+use Rattle.hwp_cpu_row.specs.hwp_law_commands.Notes.{AreApart, IsRising, checks, ends_machine, frame_of, is_corrected, is_for_pages, noted_frame, notes, notes_of_check, with_line}
+use Rattle.hwp_cpu_row.specs.hwp_law_commands.Watched.{Watched, offlining, told}
+use Rattle.hwp_law_commands.proofs.NoteLaws.{notes-append, notes-rising, offlining-append}
+use Rattle.hwp_cpu_row.specs.Acts.{event_at, told_notes}
+use Rattle.hwp_cpu_row.specs.Locals.{Collects}
+use Rattle.hwp_cpu_course.specs.Dues.{HasNoted, first_check, notes_of_event, notes_of_lines}
+
+-- ---- notes, one after the other
+
+pub collects-none : (c : Counters) → Collects [] c c []
+collects-none c = record {
+  threshold = refl;
+  window = refl;
+  many = refl;
+  few = omega arith;
+  within = λ i f there. absurd (none-some f there);
+  stands = λ events has. (subst (λ (l : List CecEvent). StandsFor l c) (sym (append-nil events)) has, refl);
+}
+
+within-both : (n : ℕ) (a b : List Frame) → EachMember (λ (f : Frame). f.0 < n) a → EachMember (λ (f : Frame). f.0 < n) b → EachMember (λ (f : Frame). f.0 < n) (a ++ b)
+within-both n [] b one other = other
+within-both n (x ∷ xs) b one other = first
+  where
+    first : EachMember (λ (f : Frame). f.0 < n) (x ∷ (xs ++ b))
+    first zero f there = subst (λ (g : Frame). g.0 < n) (same_Some x f there) (one 0 x refl)
+    first (suc i) f there = within-both n xs b (λ j g at. one (suc j) g at) other i f there
+
+pub collects-both : {a b x y : List Frame} {c d e : Counters} → Collects a c d x → Collects b d e y → Collects (a ++ b) c e (x ++ y)
+collects-both {a} {b} {x} {y} {c} {d} {e} one other = record {
+  threshold = other.threshold ∙ one.threshold;
+  window = other.window ∙ one.window;
+  many = other.many ∙ one.many;
+  few =
+      let first : length x ≤ length a = one.few in
+      let second : length y ≤ length b = other.few in
+      let left : length (x ++ y) ≡ length x + length y = length-append x y in
+      let right : length (a ++ b) ≡ length a + length b = length-append a b in
+      omega (arith, first, second, left, right);
+  within = within-both (length c.counts) x y one.within (subst (λ (n : ℕ). EachMember (λ (f : Frame). f.0 < n) y) one.many other.within);
+  stands = λ events has.
+      let first = one.stands events has in
+      let second = other.stands (events ++ map Note a) first.0 in
+      (
+        subst (λ (l : List CecEvent). StandsFor l e) (append_assoc events (map Note a) (map Note b) ∙ ap (λ (l : List CecEvent). events ++ l) (sym (map-append Note a b))) second.0,
+        ap (λ (l : List Frame). l ++ y) first.1
+        ∙ ap (λ (l : List Frame). offlining (watched c events) a ++ l) (second.1 ∙ ap (λ (w : Watched). offlining w b) (same events))
+        ∙ sym (offlining-append (watched c events) a b),
+      );
+}
+  where
+    watched : Counters → List CecEvent → Watched
+    watched k events = record { threshold = k.threshold; window = k.window; events = events }
+
+    same : (events : List CecEvent) → watched d (events ++ map Note a) ≡ told (map Note a) (watched c events)
+    same events = ap (λ (n : ℕ). record { threshold = n; window = d.window; events = events ++ map Note a }) one.threshold ∙ ap (λ (n : ℕ). record { threshold = c.threshold; window = n; events = events ++ map Note a }) one.window
+
+-- the one that brings the notes to the threshold is offlining
+is-offline : (threshold n : ℕ) → answer threshold n ≡ Offline → (n == threshold) ≡ true
+is-offline threshold n = which (n == threshold)
+  where
+    which : (b : Bool) → (if b then Offline else Counted n) ≡ Offline → b ≡ true
+    which true is = refl
+    which false is = absurd (differs is)
+      where
+        counted : Noted → Bool
+        counted (Counted k) = true
+        counted Offline = false
+
+        differs : Counted n ≡ Offline → ⊥
+        differs same = both_ways true (sym (ap counted same)) refl
+
+is-counted : (threshold n k : ℕ) → answer threshold n ≡ Counted k → (n == threshold) ≡ false
+is-counted threshold n k = which (n == threshold)
+  where
+    which : (b : Bool) → (if b then Offline else Counted n) ≡ Counted k → b ≡ false
+    which false is = refl
+    which true is = absurd (differs is)
+      where
+        counted : Noted → Bool
+        counted (Counted j) = true
+        counted Offline = false
+
+        differs : Offline ≡ Counted k → ⊥
+        differs same = both_ways true (ap counted same) refl
+
+-- what the collector says of one note
+pub record Notes (c : Counters) (frame : Frame) (said : Noted) (after : Counters) : Type 0 where
+  pub counts : after ≡ noted_in c frame.0
+  pub stands : (events : List CecEvent) → StandsFor events c → StandsFor (events ++ Note frame ∷ []) after
+  pub live : (events : List CecEvent) → StandsFor events c → said ≡ answer c.threshold (live c.threshold c.window events frame.0)
+
+module _ {c after : Counters} {frame : Frame} (within : frame.0 < length c.counts) (many : length after.counts ≡ length c.counts) where
+  pub collects-offline : Notes c frame Offline after → Collects (frame ∷ []) c after (frame ∷ [])
+  collects-offline has = record {
+    threshold = ap (λ (k : Counters). k.threshold) has.counts;
+    window = ap (λ (k : Counters). k.window) has.counts;
+    many = many;
+    few = omega arith;
+    within = one;
+    stands = λ events stand. (has.stands events stand, sym (ap (λ (b : Bool). if b then frame ∷ [] else []) (is-offline c.threshold (live c.threshold c.window events frame.0) (sym (has.live events stand)))));
+  }
+    where
+      one : EachMember (λ (f : Frame). f.0 < length c.counts) (frame ∷ [])
+      one zero f there = subst (λ (g : Frame). g.0 < length c.counts) (same_Some frame f there) within
+      one (suc i) f there = absurd (none-some f there)
+
+  pub collects-counted : (k : ℕ) → Notes c frame (Counted k) after → Collects (frame ∷ []) c after []
+  collects-counted k has = record {
+    threshold = ap (λ (x : Counters). x.threshold) has.counts;
+    window = ap (λ (x : Counters). x.window) has.counts;
+    many = many;
+    few = omega arith;
+    within = λ i f there. absurd (none-some f there);
+    stands = λ events stand. (has.stands events stand, sym (ap (λ (b : Bool). if b then frame ∷ [] else []) (is-counted c.threshold (live c.threshold c.window events frame.0) k (sym (has.live events stand)))));
+  }
+
+pub noted-none : {c : Counters} {due : List Frame} → HasNoted [] c due c due
+noted-none {c} {due} = ([], sym (append-nil due), collects-none c)
+
+pub noted-both : {a b due mid all : List Frame} {c d e : Counters} → HasNoted a c due d mid → HasNoted b d mid e all → HasNoted (a ++ b) c due e all
+noted-both {due = due} one other = (one.0 ++ other.0, other.1 ∙ ap (λ (l : List Frame). l ++ other.0) one.1 ∙ append_assoc due one.0 other.0, collects-both one.2 other.2)
+
+pub noted-by : {a b due all : List Frame} {c d : Counters} → a ≡ b → HasNoted a c due d all → HasNoted b c due d all
+noted-by {due = due} {all = all} {c = c} {d = d} is has = subst (λ (l : List Frame). HasNoted l c due d all) is has
+
+-- ---- the frames that are noted
+
+-- a frame that a line notes is one for pages
+noted-line : (layout : Layout) (line : EventLine) (f : Frame) → noted_frame layout line ≡ Some f → is_for_pages layout f ≡ true
+noted-line layout line f = which (is_corrected line)
+  where
+    both : (b : Bool) → is_for_pages layout (frame_of line) ≡ b → (if b then Some (frame_of line) else None) ≡ Some f → is_for_pages layout f ≡ true
+    both true is some = ap (is_for_pages layout) (sym (same_Some (frame_of line) f some)) ∙ is
+    both false is none = absurd (none-some f none)
+
+    which : (b : Bool) → (if b && is_for_pages layout (frame_of line) then Some (frame_of line) else None) ≡ Some f → is_for_pages layout f ≡ true
+    which true is = both (is_for_pages layout (frame_of line)) refl is
+    which false none = absurd (none-some f none)
+
+pub for-pages-within : (layout : Layout) (f : Frame) → is_for_pages layout f ≡ true → f.0 < layout.frames
+for-pages-within layout f is = which (nat_lt f.0 layout.frames) refl is
+  where
+    which : (b : Bool) {other : Bool} → nat_lt f.0 layout.frames ≡ b → (b && other) ≡ true → f.0 < layout.frames
+    which true lower both = lower-lt lower
+      where
+        lower-lt : nat_lt f.0 layout.frames ≡ true → f.0 < layout.frames
+        lower-lt same = omega (arith, same)
+    which false lower both = absurd (both_ways true (sym both) refl)
+
+pub noted-within : (layout : Layout) (line : EventLine) (f : Frame) → noted_frame layout line ≡ Some f → f.0 < layout.frames
+noted-within layout line f is = for-pages-within layout f (noted-line layout line f is)
+
+abbrev pub ForPages : Layout → List Frame → Type 0
+ForPages layout l = EachMember (λ (f : Frame). is_for_pages layout f ≡ true) l
+
+pub pages-both : (layout : Layout) (a b : List Frame) → ForPages layout a → ForPages layout b → ForPages layout (a ++ b)
+pages-both layout [] b one other = other
+pages-both layout (x ∷ xs) b one other = first
+  where
+    first : ForPages layout (x ∷ (xs ++ b))
+    first zero f there = subst (λ (g : Frame). is_for_pages layout g ≡ true) (same_Some x f there) (one 0 x refl)
+    first (suc i) f there = pages-both layout xs b (λ j g at. one (suc j) g at) other i f there
+
+pages-one : (layout : Layout) (o : Option Frame) (l : List Frame) → ((f : Frame) → o ≡ Some f → is_for_pages layout f ≡ true) → ForPages layout l → ForPages layout (cons_option o l)
+pages-one layout None l one other = other
+pages-one layout (Some x) l one other = first
+  where
+    first : ForPages layout (x ∷ l)
+    first zero f there = subst (λ (g : Frame). is_for_pages layout g ≡ true) (same_Some x f there) (one x refl)
+    first (suc i) f there = other i f there
+
+pages-none : (layout : Layout) → ForPages layout []
+pages-none layout i f there = absurd (none-some f there)
+
+pages-noted : (layout : Layout) (lines : List EventLine) → ForPages layout (filter_map (noted_frame layout) lines)
+pages-noted layout [] = pages-none layout
+pages-noted layout (l ∷ ls) = pages-one layout (noted_frame layout l) (filter_map (noted_frame layout) ls) (noted-line layout l) (pages-noted layout ls)
+
+pages-check : (layout : Layout) (lines : List EventLine) → ForPages layout (notes_of_check layout lines)
+pages-check layout lines = which (list_any ends_machine lines)
+  where
+    which : (b : Bool) → ForPages layout (if b then [] else filter_map (noted_frame layout) lines)
+    which true = pages-none layout
+    which false = pages-noted layout lines
+
+pages-checks : (layout : Layout) (cs : List (List EventLine)) → ForPages layout (flat_map (notes_of_check layout) cs)
+pages-checks layout [] = pages-none layout
+pages-checks layout (c ∷ cs) = pages-both layout (notes_of_check layout c) (flat_map (notes_of_check layout) cs) (pages-check layout c) (pages-checks layout cs)
+
+-- and so are those of them that are due
+pages-due : (layout : Layout) (w : Watched) (l : List Frame) → ForPages layout l → ForPages layout (offlining w l)
+pages-due layout w [] each = each
+pages-due layout w (x ∷ xs) each = which (live w.threshold w.window w.events x.0 == w.threshold)
+  where
+    rest : ForPages layout (offlining (told (Note x ∷ []) w) xs)
+    rest = pages-due layout (told (Note x ∷ []) w) xs (λ i f there. each (suc i) f there)
+
+    which : (b : Bool) → ForPages layout (if b then x ∷ offlining (told (Note x ∷ []) w) xs else offlining (told (Note x ∷ []) w) xs)
+    which true = pages-one layout (Some x) (offlining (told (Note x ∷ []) w) xs) (λ f is. subst (λ (g : Frame). is_for_pages layout g ≡ true) (same_Some x f is) (each 0 x refl)) rest
+    which false = rest
+
+pub due-for-pages : (layout : Layout) (told : List EventOutcome) {c after : Counters} {due : List Frame} (events : List CecEvent) → StandsFor events c → Collects (told_notes layout told) c after due → ForPages layout due
+due-for-pages layout told {c} events stands has = subst (ForPages layout) (sym (has.stands events stands).1) (pages-due layout _ (told_notes layout told) (pages-checks layout (checks (map (event_at 0) told))))
+
+-- ---- no more notes than events
+
+filter-few : (layout : Layout) (lines : List EventLine) → length (filter_map (noted_frame layout) lines) ≤ length lines
+filter-few layout [] = omega arith
+filter-few layout (l ∷ ls) = which (noted_frame layout l) (filter-few layout ls)
+  where
+    which : (o : Option Frame) → length (filter_map (noted_frame layout) ls) ≤ length ls → length (cons_option o (filter_map (noted_frame layout) ls)) ≤ suc (length ls)
+    which None few = omega (arith, few)
+    which (Some f) few = omega (arith, few)
+
+check-few : (layout : Layout) (lines : List EventLine) → length (notes_of_check layout lines) ≤ length lines
+check-few layout lines = which (list_any ends_machine lines)
+  where
+    which : (b : Bool) → length (if b then [] else filter_map (noted_frame layout) lines) ≤ length lines
+    which true = omega arith
+    which false = filter-few layout lines
+
+-- the lines of all machine checks
+all-lines : List (List EventLine) → ℕ
+all-lines [] = 0
+all-lines (c ∷ cs) = length c + all-lines cs
+
+with-lines : (line : EventLine) (cs : List (List EventLine)) → all-lines (with_line line cs) ≡ suc (all-lines cs)
+with-lines line [] = refl
+with-lines line ([] ∷ cs) = refl
+with-lines line ((n ∷ m) ∷ cs) = which (nat_lt line.bank n.bank)
+  where
+    which : (b : Bool) → all-lines (if b then (line ∷ n ∷ m) ∷ cs else (line ∷ []) ∷ (n ∷ m) ∷ cs) ≡ suc (suc (length m) + all-lines cs)
+    which true = omega arith
+    which false = omega arith
+
+lines-all : (lines : List EventLine) → all-lines (checks lines) ≡ length lines
+lines-all [] = refl
+lines-all (l ∷ ls) = with-lines l (checks ls) ∙ ap suc (lines-all ls)
+
+checks-few : (layout : Layout) (cs : List (List EventLine)) → length (flat_map (notes_of_check layout) cs) ≤ all-lines cs
+checks-few layout [] = omega arith
+checks-few layout (c ∷ cs) =
+    let one : length (notes_of_check layout c) ≤ length c = check-few layout c in
+    let rest : length (flat_map (notes_of_check layout) cs) ≤ all-lines cs = checks-few layout cs in
+    let both : length (notes_of_check layout c ++ flat_map (notes_of_check layout) cs) ≡ length (notes_of_check layout c) + length (flat_map (notes_of_check layout) cs) = length-append (notes_of_check layout c) (flat_map (notes_of_check layout) cs) in
+    omega (arith, one, rest, both)
+
+pub notes-few : (layout : Layout) (told : List EventOutcome) → length (told_notes layout told) ≤ length told
+notes-few layout told =
+    let few : length (told_notes layout told) ≤ all-lines (checks (map (event_at 0) told)) = checks-few layout (checks (map (event_at 0) told)) in
+    let all : all-lines (checks (map (event_at 0) told)) ≡ length (map (event_at 0) told) = lines-all (map (event_at 0) told) in
+    let same : length (map (event_at 0) told) ≡ length told = length-map told (event_at 0) in
+    omega (arith, few, all, same)
+
+-- ---- the first machine check and those behind it
+
+pub first-within : (l : List EventOutcome) → first_check l ≤ length l
+first-within [] = omega arith
+first-within (t ∷ []) = omega arith
+first-within (t ∷ n ∷ r) = which (nat_lt t.held.bank n.held.bank) (first-within (n ∷ r))
+  where
+    which : (b : Bool) → first_check (n ∷ r) ≤ length (n ∷ r) → cond b (1 + first_check (n ∷ r)) 1 ≤ length (t ∷ n ∷ r)
+    which true rest = omega (arith, rest)
+    which false rest = omega arith
+
+pub first-some : (t : EventOutcome) (l : List EventOutcome) → 0 < first_check (t ∷ l)
+first-some t [] = omega arith
+first-some t (n ∷ r) = which (nat_lt t.held.bank n.held.bank)
+  where
+    which : (b : Bool) → 0 < cond b (1 + first_check (n ∷ r)) 1
+    which true = omega arith
+    which false = omega arith
+
+abbrev lines : List EventOutcome → List EventLine
+lines l = map (event_at 0) l
+
+-- what the first notes and what the others note is what all note
+pub first-notes : (layout : Layout) (l : List EventOutcome) → told_notes layout l ≡ notes_of_lines layout (take (first_check l) l) ++ told_notes layout (drop (first_check l) l)
+first-notes layout [] = refl
+first-notes layout (t ∷ l) = whole (parts t l)
+  where
+    Parts : EventOutcome → List EventOutcome → ℕ → Type 0
+    Parts x xs n = (more : List EventOutcome) × (take n (x ∷ xs) ≡ x ∷ more) × IsRising (lines (x ∷ more)) × AreApart (lines (x ∷ more)) (lines (drop n (x ∷ xs)))
+
+    parts : (x : EventOutcome) (xs : List EventOutcome) → Parts x xs (first_check (x ∷ xs))
+    parts x [] = ([], refl, tt, tt)
+    parts x (y ∷ ys) = which (nat_lt x.held.bank y.held.bank) refl (parts y ys)
+      where
+        which : (b : Bool) → nat_lt x.held.bank y.held.bank ≡ b → Parts y ys (first_check (y ∷ ys)) → Parts x (y ∷ ys) (cond b (1 + first_check (y ∷ ys)) 1)
+        which true lower rest = (y ∷ rest.0, ap (λ (k : List EventOutcome). x ∷ k) rest.1, (lower, rest.2), rest.3)
+        which false lower rest = ([], refl, tt, lower)
+
+    whole : Parts t l (first_check (t ∷ l)) → told_notes layout (t ∷ l) ≡ notes_of_lines layout (take (first_check (t ∷ l)) (t ∷ l)) ++ told_notes layout (drop (first_check (t ∷ l)) (t ∷ l))
+    whole p =
+        let n : ℕ = first_check (t ∷ l) in
+        ap (told_notes layout) (sym (split n (t ∷ l)))
+        ∙ ap (λ (k : List EventOutcome). notes layout (lines (k ++ drop n (t ∷ l)))) p.1
+        ∙ ap (notes layout) (map-append (event_at 0) (t ∷ p.0) (drop n (t ∷ l)))
+        ∙ notes-append layout (lines (t ∷ p.0)) (lines (drop n (t ∷ l))) p.3
+        ∙ ap (λ (k : List Frame). k ++ notes layout (lines (drop n (t ∷ l)))) (notes-rising layout (event_at 0 t) (lines p.0) p.2 ∙ ap (notes_of_lines layout) (sym p.1))
+      where
+        split : (n : ℕ) (k : List EventOutcome) → take n k ++ drop n k ≡ k
+        split zero k = refl
+        split (suc n) [] = refl
+        split (suc n) (x ∷ xs) = ap (λ (r : List EventOutcome). x ∷ r) (split n xs)
