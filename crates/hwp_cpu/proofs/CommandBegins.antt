@@ -74,122 +74,128 @@ next-turn view cpu n none on = record {
 -- ---- a command that stops the machine
 
 -- it is answered `stopped`, as the first of its processor
-module _ (layout : Layout) (view : View) (cpu : Cpu) (list : List Command) (rows : List Row) (local : Local) (k : Job) (a : Answer) (run : IsRunning layout view cpu list rows local k) (has : jobs.answer k ≡ Some a) where
-  own-stop : (who : Who) → HasStoppedIt rows k who → IsOwnStop layout cpu list (rows ++ jobs.row_of k a ∷ []) who
-  own-stop who it = subst (IsOwnStop layout cpu list (rows ++ jobs.row_of k a ∷ [])) (sym named) (record {
-    cpu_is = refl;
-    command = run.command;
-    there = run.there;
-    row = jobs.row_of k a;
-    can = can-stop layout view (at_number cpu (length rows)) run.command k run.runs run.fits it.has;
-    answered = record {
-      row_is = at_last rows (jobs.row_of k a);
-      stopped = same_Some a answers.Stopped (sym has ∙ has-stopped k it.has);
-      first = λ i earlier less is stopped. it.first (i, earlier, at_front rows (jobs.row_of k a ∷ []) i earlier less is, stopped);
-    };
-  })
-    where
-      named : who ≡ at_number cpu (length rows)
-      named = sym it.who_is ∙ runs-who layout (at_number cpu (length rows)) run.command k run.runs
+own-stop : (layout : Layout) (cpu : Cpu) (list : List Command) (rows : List Row) (command : Command) (j : Job) (a : Answer) (offlined : List Offlining) → slice_get list (length rows) ≡ Some command → Runs layout (at_number cpu (length rows)) command j → jobs.answer j ≡ Some a
+    → (who : Who) → HasStoppedIt layout command rows j who → IsOwnStop layout cpu list (rows ++ jobs.row_of j a offlined ∷ []) who
+own-stop layout cpu list rows command j a offlined there runs has who it = subst (IsOwnStop layout cpu list (rows ++ jobs.row_of j a offlined ∷ [])) (sym named) (record {
+  cpu_is = refl;
+  command = command;
+  there = there;
+  row = jobs.row_of j a offlined;
+  can = it.can;
+  answered = record {
+    row_is = at_last rows (jobs.row_of j a offlined);
+    stopped = same_Some a answers.Stopped (sym has ∙ has-stopped j it.has);
+    first = λ i earlier less is stopped. it.first (i, earlier, at_front rows (jobs.row_of j a offlined ∷ []) i earlier less is, stopped);
+  };
+})
+  where
+    named : who ≡ at_number cpu (length rows)
+    named = sym it.who_is ∙ runs-who layout (at_number cpu (length rows)) command j runs
 
 -- ---- the answer
 
-module _ (layout : Layout) (old new : View) (cpu : Cpu) (list : List Command) (rows : List Row) (local : Local) (j k : Job) (run : IsRunning layout old cpu list rows local j) (made : Stepped layout old new j k)
-    (a : Answer) (has : jobs.answer k ≡ Some a) (few : length list ≤ command_limit) where
+module _ (layout : Layout) (new : View) (cpu : Cpu) (list : List Command) (rows : List Row) (local : Local) (c : Course) (a : Answer) (now : IsEnding layout new cpu list rows local c a) (later-none : (q : ℕ) → length rows < q → HasMadeNone new (at_number cpu q))
+    (few : length list ≤ command_limit) where
   abbrev n : ℕ
   n = length rows
 
+  abbrev at : Who
+  at = at_number cpu n
+
+  abbrev command : Command
+  command = now.command
+
   abbrev row : Row
-  row = jobs.row_of k a
+  row = row_of c a
 
   abbrev longer : List Row
   longer = rows ++ row ∷ []
 
   -- what the command leaves to the next one
   abbrev after : Local
-  after = local_after k local
-
-  now : IsRunning layout new cpu list rows local k
-  now = carried layout old new cpu list rows local j k run made
-
-  named : jobs.who k ≡ at_number cpu n
-  named = runs-who layout (at_number cpu n) now.command k now.runs
+  after = local_after c a local
 
   number : length longer ≡ n + 1
   number = length-append rows (row ∷ [])
 
   -- a command with another answer than `stopped` saw the machine running
-  running : EndsStopped k ⊎ SawRunning new (at_number cpu n) → (a ≡ answers.Stopped) ⊎ SawRunning new (at_number cpu n)
-  running (inl ends) = inl (only-stopped k ends has)
-  running (inr saw) = inr saw
+  running : (a ≡ answers.Stopped) ⊎ SawRunning new at
+  running = elim now.way.looked [
+    | inl ends ↦ inl (only-stopped c.own ends.0 now.known.answered)
+    | inr saw ↦ inr saw
+  ]
 
-  served : IsRowServed layout (answers_by list rows) new (at_number cpu n) now.command (banks_before k local.banks) row after.banks
-  served = row-served layout (answers_by list rows) new (at_number cpu n) now.command k local.banks now.runs now.fits has now.policies
-      (running now.looked) now.account.marked (failed-end layout new (at_number cpu n) k a now.fits has named now.account) now.account.set local.handles now.handle
+  -- what it marked is what its events and the frames tell, and what it did to a frame itself
+  marks : marked_so_far c ≡ markings_in row
+  marks = ap (λ (o : Option Soft). by_acts (told_of c.own) c.due.offlined ++ (marked_beyond c.own ++ marked_beside o)) now.none
+      ∙ ap (λ (l : List Marking). by_acts (told_of c.own) c.due.offlined ++ l) (append-nil (marked_beyond c.own)
+      ∙ append_cancel_left (filter_map marked_in (told_of c.own)) (marked_beyond c.own) (cons_option (own_marking (jobs.own_of c.own)) []) (sym (marked-parts c.own) ∙ now.known.does.marked))
+
+  served : IsRowServed layout (answers_by list rows) new at command (banks_before c.own local.banks) row after.banks
+  served = row-served layout (answers_by list rows) new at command c.own local.banks c.due.offlined now.known.served now.known.does running (now.way.account.marked ∙ marks) now.known.failed now.way.account.set now.known.left now.way.collected.offlined
 
   unowing : new.owed ≡ no_debts
-  unowing = owes-nothing layout new (at_number cpu n) k a now.fits has named now.account
+  unowing = owes-nothing new (subst (λ (o : Option Soft). HasCounted (part_of o c.own) new) now.none now.way.account.counted ∙ now.known.unowed) now.known.paid
 
   noting : Pairs IsNote (notes_from cpu 0 longer) new.marks
-  noting = noted-end new cpu rows k row now.noted (sym now.account.marked ∙ served.accounted.marked)
+  noting = noted-end new cpu rows c row now.way.noted marks
 
   spoiling : EachMember (IsOwnSpoil cpu list longer) new.spoiled
-  spoiling i s there = spoils-end layout cpu list rows now.command k a s now.there now.runs has (now.spoiled i s there)
+  spoiling i s there = spoils-end layout cpu list rows command c.own a c.due.offlined s now.way.there now.way.runs now.known.answered (now.way.spoiled i s there)
 
   -- what each thread had set is what the commands so far set
   policies : (thread : Thread) → policies_in thread new ≡ settings thread (answers_by list longer)
-  policies = counted-ends list rows new now.command k row now.policies (sym now.account.set ∙ served.accounted.set) now.there
-
-  -- each handle has the number that the answer gives it
-  numbering : (file : FileNo) → file.0 < layout.files → IsNumbered layout new (at_number cpu n) now.command a file (number_at file list rows n) after.handles
-  numbering file inside = numbered layout new (at_number cpu n) k now.fits has local.handles file (number_at file list rows n) (now.serves.handles_are.each file inside) now.command now.runs now.handle
+  policies = counted-ends list rows new command c.own row now.way.policies (sym now.way.account.set ∙ served.accounted.set) now.way.there
 
   handles_are : AreNumbered layout list longer after.handles
   handles_are = record {
-    many = handles-many k local.handles ∙ now.serves.handles_are.many;
-    each = λ file inside. (numbering file inside).has ∙ ap (λ (m : ℕ). Some m) (sym (number-last file list rows now.command row now.there)) ∙ ap (λ (m : ℕ). Some (number_at file list longer m)) (sym number);
+    many = handles-many c.own local.handles ∙ now.way.serves.handles_are.many;
+    each = λ file inside. (now.known.numbers file inside).has ∙ ap (λ (m : ℕ). Some m) (sym (number-last file list rows command row now.way.there)) ∙ ap (λ (m : ℕ). Some (number_at file list longer m)) (sym number);
   }
+
+  -- the frames that were due are those that its notes make due
+  due-now : AreDue layout (watched_at layout list rows n) row
+  due-now = now.way.collected.frames ∙ take_all (length c.due.offlined) c.due.frames (let all : length c.due.offlined ≡ length c.due.frames = now.all in omega (arith, all)) ∙ sym now.complete.due
 
   serves : Serves layout new cpu list longer after.banks after.handles
   serves = record {
-    rows_are = rows-more layout [] new cpu 0 empty_banks list rows (banks_before k local.banks) n now.command row after.banks (omega arith) now.serves.rows_are now.there served;
-    stays = stays-more rows row now.serves.stays (λ some. only-stopped k (now.stopped some) has);
+    rows_are = rows-more layout [] new cpu 0 empty_banks list rows (banks_before c.own local.banks) n command row after.banks (omega arith) now.way.serves.rows_are now.way.there served;
+    stays = stays-more rows row now.way.serves.stays (λ some. only-stopped c.own (now.way.stopped some).0 now.known.answered);
     halted = λ some. by (stopped-was rows row some);
-    numbers = numbers-more layout new cpu list rows now.command row now.there now.serves.numbers
-        (λ file told. (numbering file (tells-inside layout (at_number cpu n) now.command k a file now.runs told)).knows told);
+    numbers = numbers-more layout new cpu list rows command row now.way.there now.way.serves.numbers
+        (λ file told. (now.known.numbers file (tells-inside layout at command c.own a file now.way.runs told)).knows told);
     handles_are = handles_are;
+    due = due-more layout list rows row now.way.serves.due due-now;
   }
     where
       by : HasStopped rows ⊎ (a ≡ answers.Stopped) → IsHalted new
-      by (inl early) = now.serves.halted early
-      by (inr last) = stopped-halts layout new k now.fits (has ∙ ap (λ (x : Answer). Some x) last)
+      by (inl early) = now.way.serves.halted early
+      by (inr last) = now.known.halted last
 
   stops : EachMember (IsOwnStop layout cpu list longer) new.stops
-  stops i who there = which (now.stops i who there)
+  stops i who there = which (now.way.stops i who there)
     where
-      which : IsOwnStop layout cpu list rows who ⊎ HasStoppedIt rows k who → IsOwnStop layout cpu list longer who
+      which : IsOwnStop layout cpu list rows who ⊎ HasStoppedIt layout command rows c.own who → IsOwnStop layout cpu list longer who
       which (inl early) = stop-more layout cpu list rows row who early
-      which (inr it) = own-stop layout new cpu list rows local k a now has who it
+      which (inr it) = own-stop layout cpu list rows command c.own a c.due.offlined now.way.there now.way.runs now.known.answered who it
 
-  -- no later command has made an entry
-  later-none : (q : ℕ) → n < q → HasMadeNone new (at_number cpu q)
-  later-none q less = made-none-later (can layout old new cpu list rows local j k run made) made.made (at_number cpu q) (other layout old new cpu list rows local j k run made q (λ same. absurd (omega arith))) (made-none made.made (at_number cpu q) n less later)
-    where
-      later : IsLater old (at_number cpu q) n
-      later = (subst (IsOnTurn old) (own layout old new cpu list rows local j k run made) (on-turn layout old j run.fits)).later
+  -- the collector that the next command begins with
+  watching-now : IsWatching layout.frames (watched_at layout list longer (length longer)) after.watching
+  watching-now = subst (λ (w : Option Watched). IsWatching layout.frames w after.watching) (sym (watched-more layout list rows command row now.way.there))
+      (watching-ends layout at command c.own a (told_notes layout (told_of c.own)) (watched_at layout list rows n) c.watching now.way.runs now.known.answered now.complete.watching (λ watches. now.way.collected.room (has-watch list n command now.way.there watches)))
 
-  nothing : hand_of new ≡ empty
-  nothing = (ends [] layout new k now.fits has).0
+  room-now : list_any is_watch list ≡ true → IsSome after.watching
+  room-now has = room-stays c.own a c.watching (now.way.collected.room has)
 
   done : slice_get list (n + 1) ≡ None → IsDone layout new cpu list longer after
   done none = record {
     serves = serves;
     all = same;
-    made = λ q past. later-none q (let at : length longer ≡ n + 1 = number in let all : length longer ≡ length list = same in omega (arith, past));
-    hand_is = nothing;
+    made = λ q past. later-none q (let at_end : length longer ≡ n + 1 = number in let all : length longer ≡ length list = same in omega (arith, past));
+    hand_is = now.known.hand_is;
     owed = unowing;
     stops = stops;
-    listed = subst (IsListed new cpu) (let at : length longer ≡ n + 1 = number in let all : length longer ≡ length list = same in omega arith) now.listed;
+    listed = subst (IsListed new cpu) (let at_end : length longer ≡ n + 1 = number in let all : length longer ≡ length list = same in omega arith) now.way.listed;
     noted = noting;
     spoiled = spoiling;
     policies = policies;
@@ -198,49 +204,65 @@ module _ (layout : Layout) (old new : View) (cpu : Cpu) (list : List Command) (r
       same : length longer ≡ length list
       same =
           let most : length list ≤ n + 1 = past-end list (n + 1) none in
-          let within : n < length list = slice_get_within list n now.command now.there in
-          let at : length longer ≡ n + 1 = number in
+          let within : n < length list = slice_get_within list n command now.way.there in
+          let at_end : length longer ≡ n + 1 = number in
           omega arith
 
-  begun : (command : Command) (b : Job) → slice_get list (n + 1) ≡ Some command → Begins layout (at_number cpu (n + 1)) command after.banks b → HasHandle after.handles b → IsRunning layout new cpu list longer (local_left b after) b
-  begun command b there begins has_handle = record {
-    serves = subst (λ (l : Banks). Serves layout new cpu list longer l after.handles) (sym (before-begins layout (at_number cpu (n + 1)) command after.banks b begins)) serves;
-    command = command;
-    there = subst (λ (i : ℕ). slice_get list i ≡ Some command) (sym number) there;
-    runs = subst (λ (i : ℕ). Runs layout (at_number cpu i) command b) (sym number) (begins-runs layout (at_number cpu (n + 1)) command after.banks b begins);
-    handle = has_handle;
-    fits = begins-fits layout new (at_number cpu (n + 1)) command after.banks b begins (banks-free layout [] new cpu 0 empty_banks list longer after.banks serves.rows_are empty-free) (record {
-      on_turn = next-turn new cpu n (ap (λ (h : Hand). h.bodies) nothing) (subst (IsOnTurn new) named (on-turn layout new k now.fits));
-      hand_is = nothing;
+  module _ (next : Command) (b : Course) (there : slice_get list (n + 1) ≡ Some next) (begins : BeginsCourse layout (at_number cpu (n + 1)) next after b) where
+    start : IsAtStop b.own
+    start = begins-stop layout (at_number cpu (n + 1)) next after.banks (collects after.watching) b.own begins.begins
+
+    within : n + 1 < length list
+    within = slice_get_within list (n + 1) next there
+
+    own-fits : jobs.FitsFrom [] layout new b.own
+    own-fits = begins-fits layout new (at_number cpu (n + 1)) next after.banks (collects after.watching) b.own begins.begins (banks-free layout [] new cpu 0 empty_banks list longer after.banks serves.rows_are empty-free) (record {
+      on_turn = next-turn new cpu n (ap (λ (h : Hand). h.bodies) now.known.hand_is) now.known.on_turn;
+      hand_is = now.known.hand_is;
       paid = ap (λ (d : Debts). d.losses) unowing;
       made = later-none (n + 1) (omega arith);
-      unmarked = unmarked-starts new cpu (n + 1) now.listed;
-      left = setting-left list longer new policies (let within : n + 1 < length list = slice_get_within list (n + 1) command there in omega (arith, few, within, number));
-      revivals = revival-left new cpu longer noting (let within : n + 1 < length list = slice_get_within list (n + 1) command there in omega (arith, few, within, number));
-    }) (handle-known layout new cpu list longer after.handles b serves.numbers serves.handles_are (let within : n + 1 < length list = slice_get_within list (n + 1) command there in omega (arith, within, number)) has_handle);
-    policies = counted-starts (λ (thread : Thread). settings thread (answers_by list longer)) new b start policies;
-    stopped = λ some. inl start;
-    looked = inl (inl start);
-    stops = λ i who at. inl (stops i who at);
-    listed = subst (λ (i : ℕ). IsListed new cpu (i + 1)) (sym number) (record { marked = later (λ (m : Mark). m.stamp.who) new.marks now.listed.marked; set = later (λ (g : Setting). g.stamp.who) new.settings now.listed.set });
-    account = subst (λ (i : ℕ). HasAccount new (at_number cpu i) b) (sym number) (account-starts new cpu (n + 1) b now.listed (later-none (n + 1) (omega arith)) unowing start);
-    noted = noted-starts new cpu longer b (subst (IsListed new cpu) (sym number) now.listed) start noting;
-    spoiled = λ i s at. inl (spoiling i s at);
-  }
-    where
-      start : IsAtStop b
-      start = begins-stop layout (at_number cpu (n + 1)) command after.banks b begins
+      unmarked = unmarked-starts new cpu (n + 1) now.way.listed;
+      left = setting-left list longer new policies (omega (arith, few, within, number));
+      revivals = revival-left new cpu longer noting (omega (arith, few, within, number));
+    }) (handle-known layout new cpu list longer after.handles b.own serves.numbers serves.handles_are (omega (arith, within, number)) begins.handle)
 
-      -- what is of the commands so far is of them and the next one
-      later : {A : Type 0} (by : A → Who) (l : List A) → EachMember (λ (x : A). IsOneOf cpu (n + 1) (by x)) l → EachMember (λ (x : A). IsOneOf cpu (n + 1 + 1) (by x)) l
-      later by l each i x at = ((each i x at).0, (let less = (each i x at).1 in omega (arith, less)))
+    -- what is of the commands so far is of them and the next one
+    later : {A : Type 0} (by : A → Who) (l : List A) → EachMember (λ (x : A). IsOneOf cpu (n + 1) (by x)) l → EachMember (λ (x : A). IsOneOf cpu (n + 1 + 1) (by x)) l
+    later by l each i x is = ((each i x is).0, (let less = (each i x is).1 in omega (arith, less)))
+
+    way : IsUnderWay layout new cpu list longer (local_left b after) next b
+    way = record {
+      serves = subst (λ (l : Banks). Serves layout new cpu list longer l after.handles) (sym (before-begins layout (at_number cpu (n + 1)) next after.banks (collects after.watching) b.own begins.begins)) serves;
+      there = subst (λ (i : ℕ). slice_get list i ≡ Some next) (sym number) there;
+      runs = subst (λ (i : ℕ). Runs layout (at_number cpu i) next b.own) (sym number) (begins-runs layout (at_number cpu (n + 1)) next after.banks (collects after.watching) b.own begins.begins);
+      handle = begins.handle;
+      policies = counted-starts (λ (thread : Thread). settings thread (answers_by list longer)) new b.own start policies;
+      stopped = λ some. (inl start, untold-at-start b.own start);
+      looked = inl (inl start, untold-at-start b.own start);
+      stops = λ i who is. inl (stops i who is);
+      listed = subst (λ (i : ℕ). IsListed new cpu (i + 1)) (sym number) (record { marked = later (λ (m : Mark). m.stamp.who) new.marks now.way.listed.marked; set = later (λ (g : Setting). g.stamp.who) new.settings now.way.listed.set });
+      account = subst (λ (i : ℕ). HasAccount new (at_number cpu i) b) (sym number) (account-starts new cpu (n + 1) b after.watching layout.frames begins.is now.way.listed (later-none (n + 1) (omega arith)) unowing start);
+      noted = noted-starts new cpu longer b after.watching layout.frames begins.is (subst (IsListed new cpu) (sym number) now.way.listed) start noting;
+      spoiled = λ i s is. inl (spoiling i s is);
+      collected = watch-starts layout new (at_number cpu (length longer)) list (watched_at layout list longer (length longer)) b after.watching begins.is start watching-now room-now;
+    }
+
+    begun : courses.Fits layout new b × (IsRunning layout new cpu list longer (local_left b after) b ⊎ GivesUp layout new cpu list longer b)
+    begun = (
+      course-begins layout new (at_number cpu (n + 1)) next after b begins own-fits (of-machine layout.frames (watched_at layout list longer (length longer)) after.watching watching-now),
+      inl (record {
+        command = next;
+        way = way;
+        on = subst (GoesOn layout new cpu list longer (local_left b after) next b) (sym (ap (λ (d : Course). d.beside) begins.is)) (own-starts layout new next b after.watching begins.is start own-fits);
+      }),
+    )
 
   -- the next command begins, where there is one
-  pub settled : (b : Option Job) → BeginsAt layout (at_number cpu (n + 1)) (slice_get list (n + 1)) after b → FitsAt layout new cpu list longer (left_of b after) b
+  pub settled : (b : Option Course) → BeginsAt layout (at_number cpu (n + 1)) (slice_get list (n + 1)) after b → FitsAt layout new cpu list longer (left_of b after) b
   settled b begins = which (slice_get list (n + 1)) refl b begins
     where
-      which : (o : Option Command) → slice_get list (n + 1) ≡ o → (x : Option Job) → BeginsAt layout (at_number cpu (n + 1)) o after x → FitsAt layout new cpu list longer (left_of x after) x
-      which (Some command) there (Some x) at = begun command x there at.0 at.1
-      which None there None at = done there
-      which (Some command) there None at = absurd at
-      which None there (Some x) at = absurd at
+      which : (o : Option Command) → slice_get list (n + 1) ≡ o → (x : Option Course) → BeginsAt layout (at_number cpu (n + 1)) o after x → FitsAt layout new cpu list longer (left_of x after) x
+      which (Some next) there (Some x) is = begun next x there is
+      which None there None is = done there
+      which (Some next) there None is = absurd is
+      which None there (Some x) is = absurd is

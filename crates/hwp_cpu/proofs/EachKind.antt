@@ -1,5 +1,5 @@
 -- What is so of each kind of command.
-use Rattle.std.proofs.Common.{◌≡◌, ℕ, true, sym, ap, ◌∙◌, subst, []}
+use Rattle.std.proofs.Common.{◌≡◌, ℕ, true, sym, ap, ◌∙◌, subst, [], List, false}
 use Rattle.hwp_cpu_course.specs.hwp_cpu_row.hwp_geom.declared.Damage.{Damage}
 use Rattle.hwp_cpu_course.specs.hwp_cpu_row.hwp_geom.declared.Damage.TheVariants as damages
 use Rattle.hwp_cpu_course.specs.hwp_cpu_row.hwp_geom.declared.Frame.{Frame}
@@ -24,21 +24,52 @@ use Rattle.hwp_cpu_course.specs.hwp_cpu_command.Stays as stays
 use Rattle.hwp_cpu_course.proofs.of_hwp_cpu_command.OfKind.{of-evict, of-fsync, of-inject, of-instruction, of-log, of-nested, of-prctl, of-raise, of-scrub, of-soft, of-spoil, of-unpoison}
 use Rattle.hwp_cpu_course.proofs.of_hwp_cpu_command_laws.CommandStops.{unrecovered}
 use Rattle.hwp_cpu_causes.specs.hwp_law_served.Served.{CanStop, spoiling}
+use Rattle.hwp_cpu_course.specs.hwp_cpu_command.Done.{can_fail}
+use Rattle.hwp_cpu_causes.specs.Beside.{ArePrior}
+use Rattle.hwp_cpu_course.specs.hwp_cpu_row.hwp_core_rule.declared.Made.{Made}
+use Rattle.std.proofs.lemmas.Bool.{both_ways}
 
 -- a command that fits is that of the turn
-pub on-turn : (layout : Layout) (view : View) (j : Job) → jobs.FitsFrom [] layout view j → IsOnTurn view (jobs.who j)
-on-turn layout view (kinds.Instruction i) fits = fits.on_turn
-on-turn layout view (kinds.Evict e) fits = fits.on_turn
-on-turn layout view (kinds.Fsync f) fits = fits.1.on_turn
-on-turn layout view (kinds.Prctl p) fits = fits.1.on_turn
-on-turn layout view (kinds.Log l) fits = fits.1.read.on_turn
-on-turn layout view (kinds.Raise r) fits = fits.1.on_turn
-on-turn layout view (kinds.Scrub s) fits = fits.1.on_turn
-on-turn layout view (kinds.Spoil s) fits = fits.1.on_turn
-on-turn layout view (kinds.Nested n) fits = fits.1.on_turn
-on-turn layout view (kinds.Inject i) fits = fits.1.on_turn
-on-turn layout view (kinds.Soft s) fits = fits.on_turn
-on-turn layout view (kinds.Unpoison u) fits = fits.1.on_turn
+pub on-turn : (base : List Made) (layout : Layout) (view : View) (j : Job) → jobs.FitsFrom base layout view j → IsOnTurn view (jobs.who j)
+on-turn base layout view (kinds.Instruction i) fits = fits.on_turn
+on-turn base layout view (kinds.Evict e) fits = fits.on_turn
+on-turn base layout view (kinds.Fsync f) fits = fits.1.on_turn
+on-turn base layout view (kinds.Prctl p) fits = fits.1.on_turn
+on-turn base layout view (kinds.Log l) fits = fits.1.read.on_turn
+on-turn base layout view (kinds.Raise r) fits = fits.1.on_turn
+on-turn base layout view (kinds.Scrub s) fits = fits.1.on_turn
+on-turn base layout view (kinds.Spoil s) fits = fits.1.on_turn
+on-turn base layout view (kinds.Nested n) fits = fits.1.on_turn
+on-turn base layout view (kinds.Inject i) fits = fits.1.on_turn
+on-turn base layout view (kinds.Soft s) fits = fits.on_turn
+on-turn base layout view (kinds.Unpoison u) fits = fits.1.on_turn
+
+-- ---- a command of which memory can't fail
+
+-- had made no entry before its own task
+pub prior-none : (layout : Layout) (who : Who) (command : Command) (j : Job) (base : List Made) → Runs layout who command j → ArePrior layout command base → can_fail j ≡ false → base ≡ []
+prior-none layout who (commands.Load thread slot line) j base runs prior cannot = absurd (both_ways (can_fail j) cannot (ap can_fail (of-instruction j runs.job_is).1))
+prior-none layout who (commands.Fetch thread slot line) j base runs prior cannot = absurd (both_ways (can_fail j) cannot (ap can_fail (of-instruction j runs.job_is).1))
+prior-none layout who (commands.KLoad thread slot line) j base runs prior cannot = absurd (both_ways (can_fail j) cannot (ap can_fail (of-instruction j runs.job_is).1))
+prior-none layout who (commands.Store thread slot line word) j base runs prior cannot = absurd (both_ways (can_fail j) cannot (ap can_fail (of-instruction j runs.job_is).1))
+prior-none layout who (commands.Free slot) j base runs prior cannot = prior
+prior-none layout who (commands.Drop page) j base runs prior cannot = prior
+prior-none layout who (commands.Sync page) j base runs prior cannot = prior
+prior-none layout who (commands.Out page) j base runs prior cannot = prior
+prior-none layout who (commands.Fsync file) j base runs prior cannot = prior
+prior-none layout who (commands.Open file) j base runs prior cannot = prior
+prior-none layout who (commands.Prctl thread args) j base runs prior cannot = prior
+prior-none layout who (commands.Bad frame line) j base runs prior cannot = prior
+prior-none layout who (commands.Weak frame line) j base runs prior cannot = prior
+prior-none layout who (commands.Scrub first last) j base runs prior cannot = prior
+prior-none layout who (commands.Log status addr misc) j base runs prior cannot = prior
+prior-none layout who (commands.Watch threshold window) j base runs prior cannot = prior
+prior-none layout who (commands.RaiseUser thread ripv eipv) j base runs prior cannot = prior
+prior-none layout who (commands.RaiseKernel ripv eipv) j base runs prior cannot = prior
+prior-none layout who (commands.Inject frame) j base runs prior cannot = prior
+prior-none layout who (commands.Soft frame) j base runs prior cannot = prior
+prior-none layout who (commands.Unpoison frame) j base runs prior cannot = prior
+prior-none layout who commands.RaiseNested j base runs prior cannot = prior
 
 -- ---- a command that stops the machine
 
@@ -54,28 +85,29 @@ module _ (j : Job) (has : stays.HasStopped j) where
   scrub-halts is = let task = of-scrub j is in ap (λ (k : Job). halts (jobs.told_of k)) task.1 ∙ (subst stays.HasStopped task.1 has).1
 
 -- is one that can
-pub can-stop : (layout : Layout) (view : View) (who : Who) (command : Command) (j : Job) → Runs layout who command j → jobs.FitsFrom [] layout view j → stays.HasStopped j → CanStop layout command (jobs.told_of j)
-can-stop layout view who (commands.Load thread slot line) j runs fits has = instruction-halts j has runs.job_is
-can-stop layout view who (commands.Fetch thread slot line) j runs fits has = instruction-halts j has runs.job_is
-can-stop layout view who (commands.KLoad thread slot line) j runs fits has = instruction-halts j has runs.job_is
-can-stop layout view who (commands.Store thread slot line word) j runs fits has = instruction-halts j has runs.job_is
-can-stop layout view who (commands.RaiseUser thread ripv eipv) j runs fits has = raise-halts j has runs.job_is
-can-stop layout view who (commands.RaiseKernel ripv eipv) j runs fits has = raise-halts j has runs.job_is
-can-stop layout view who (commands.Scrub first last) j runs fits has = scrub-halts j has runs.job_is
-can-stop layout view who commands.RaiseNested j runs fits has = tt
-can-stop layout view who (commands.Inject frame) j runs fits has = let task = of-inject j runs.job_is in unrecovered layout view task.0 (subst (jobs.FitsFrom [] layout view) task.1 fits).1 (subst stays.HasStopped task.1 has)
-can-stop layout view who (commands.Free slot) j runs fits has = absurd (subst stays.HasStopped (of-evict j runs.1.job_is).1 has)
-can-stop layout view who (commands.Drop page) j runs fits has = absurd (subst stays.HasStopped (of-evict j runs.job_is).1 has)
-can-stop layout view who (commands.Sync page) j runs fits has = absurd (subst stays.HasStopped (of-evict j runs.job_is).1 has)
-can-stop layout view who (commands.Out page) j runs fits has = absurd (subst stays.HasStopped (of-evict j runs.job_is).1 has)
-can-stop layout view who (commands.Fsync file) j runs fits has = absurd (subst stays.HasStopped (of-fsync j runs.2).1 has)
-can-stop layout view who (commands.Open file) j runs fits has = absurd (subst stays.HasStopped (of-fsync j runs.2).1 has)
-can-stop layout view who (commands.Prctl thread args) j runs fits has = absurd (subst stays.HasStopped (of-prctl j runs.job_is).1 has)
-can-stop layout view who (commands.Log status addr misc) j runs fits has = absurd (subst stays.HasStopped (of-log j runs.job_is).1 has)
-can-stop layout view who (commands.Bad frame line) j runs fits has = absurd (subst stays.HasStopped (of-spoil j runs.job_is).1 has)
-can-stop layout view who (commands.Weak frame line) j runs fits has = absurd (subst stays.HasStopped (of-spoil j runs.job_is).1 has)
-can-stop layout view who (commands.Soft frame) j runs fits has = absurd (subst stays.HasStopped (of-soft j runs.job_is).1 has)
-can-stop layout view who (commands.Unpoison frame) j runs fits has = absurd (subst stays.HasStopped (of-unpoison j runs.job_is).1 has)
+pub can-stop : (base : List Made) (layout : Layout) (view : View) (who : Who) (command : Command) (j : Job) → Runs layout who command j → jobs.FitsFrom base layout view j → stays.HasStopped j → CanStop layout command (jobs.told_of j)
+can-stop base layout view who (commands.Load thread slot line) j runs fits has = instruction-halts j has runs.job_is
+can-stop base layout view who (commands.Fetch thread slot line) j runs fits has = instruction-halts j has runs.job_is
+can-stop base layout view who (commands.KLoad thread slot line) j runs fits has = instruction-halts j has runs.job_is
+can-stop base layout view who (commands.Store thread slot line word) j runs fits has = instruction-halts j has runs.job_is
+can-stop base layout view who (commands.RaiseUser thread ripv eipv) j runs fits has = raise-halts j has runs.job_is
+can-stop base layout view who (commands.RaiseKernel ripv eipv) j runs fits has = raise-halts j has runs.job_is
+can-stop base layout view who (commands.Scrub first last) j runs fits has = scrub-halts j has runs.job_is
+can-stop base layout view who commands.RaiseNested j runs fits has = tt
+can-stop base layout view who (commands.Inject frame) j runs fits has = let task = of-inject j runs.job_is in unrecovered layout view task.0 (subst (jobs.FitsFrom base layout view) task.1 fits).1 (subst stays.HasStopped task.1 has)
+can-stop base layout view who (commands.Free slot) j runs fits has = absurd (subst stays.HasStopped (of-evict j runs.1.job_is).1 has)
+can-stop base layout view who (commands.Drop page) j runs fits has = absurd (subst stays.HasStopped (of-evict j runs.job_is).1 has)
+can-stop base layout view who (commands.Sync page) j runs fits has = absurd (subst stays.HasStopped (of-evict j runs.job_is).1 has)
+can-stop base layout view who (commands.Out page) j runs fits has = absurd (subst stays.HasStopped (of-evict j runs.job_is).1 has)
+can-stop base layout view who (commands.Fsync file) j runs fits has = absurd (subst stays.HasStopped (of-fsync j runs.2).1 has)
+can-stop base layout view who (commands.Open file) j runs fits has = absurd (subst stays.HasStopped (of-fsync j runs.2).1 has)
+can-stop base layout view who (commands.Prctl thread args) j runs fits has = absurd (subst stays.HasStopped (of-prctl j runs.job_is).1 has)
+can-stop base layout view who (commands.Log status addr misc) j runs fits has = absurd (subst stays.HasStopped (of-log j runs.job_is).1 has)
+can-stop base layout view who (commands.Watch threshold window) j runs fits has = absurd (subst stays.HasStopped (of-log j runs.job_is).1 has)
+can-stop base layout view who (commands.Bad frame line) j runs fits has = absurd (subst stays.HasStopped (of-spoil j runs.job_is).1 has)
+can-stop base layout view who (commands.Weak frame line) j runs fits has = absurd (subst stays.HasStopped (of-spoil j runs.job_is).1 has)
+can-stop base layout view who (commands.Soft frame) j runs fits has = absurd (subst stays.HasStopped (of-soft j runs.job_is).1 has)
+can-stop base layout view who (commands.Unpoison frame) j runs fits has = absurd (subst stays.HasStopped (of-unpoison j runs.job_is).1 has)
 
 -- ---- a command that spoils a line
 
@@ -115,6 +147,7 @@ spoils-line layout who (commands.Fsync file) j s runs has = absurd (none j s has
 spoils-line layout who (commands.Open file) j s runs has = absurd (none j s has (of-fsync j runs.2).1)
 spoils-line layout who (commands.Prctl thread args) j s runs has = absurd (none j s has (of-prctl j runs.job_is).1)
 spoils-line layout who (commands.Log status addr misc) j s runs has = absurd (none j s has (of-log j runs.job_is).1)
+spoils-line layout who (commands.Watch threshold window) j s runs has = absurd (none j s has (of-log j runs.job_is).1)
 spoils-line layout who (commands.RaiseUser thread ripv eipv) j s runs has = absurd (none j s has (of-raise j runs.job_is).1)
 spoils-line layout who (commands.RaiseKernel ripv eipv) j s runs has = absurd (none j s has (of-raise j runs.job_is).1)
 spoils-line layout who (commands.Scrub first last) j s runs has = absurd (none j s has (of-scrub j runs.job_is).1)

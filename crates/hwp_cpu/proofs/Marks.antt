@@ -1,17 +1,19 @@
 -- What a command has marked so far: as its own task goes on, as a frame is taken out of use beside it, and where that is done.
-use Rattle.std.proofs.Common.{◌≡◌, inl, inr, ℕ, List, [], ◌∷◌, ◌++◌, Option, Some, None, filter_map, length, map, append_assoc, append-nil, refl, sym, ap, ◌∙◌, subst}
+use Rattle.hwp_cpu_course.specs.hwp_cpu_row.hwp_core_task.declared.Turn.{Turn}
+use Rattle.hwp_cpu_course.specs.hwp_cpu_row.hwp_page.History.{BodyValue}
+use Rattle.std.proofs.Common.{◌≡◌, inl, inr, ℕ, List, [], ◌∷◌, ◌++◌, Option, Some, None, filter_map, length, map, append_assoc, append-nil, refl, sym, ap, ◌∙◌}
 use Rattle.std.specs.List.{cons_option}
-use Rattle.std.proofs.lemmas.List.{append_cancel_left, filter_map-append}
+use Rattle.std.proofs.lemmas.List.{append_cancel_left}
+use Rattle.std.proofs.lemmas.List.Elements.{filter_map-append}
 use Rattle.hwp_cpu_course.specs.hwp_cpu_row.hwp_geom.declared.Frame.{Frame}
 use Rattle.hwp_cpu_course.specs.hwp_cpu_row.hwp_geom.declared.Layout.{Layout}
 use Rattle.hwp_cpu_course.specs.hwp_cpu_row.hwp_geom.declared.Who.{Who}
 use Rattle.hwp_cpu_course.specs.hwp_cpu_row.hwp_core_rule.declared.Mark.{Mark}
-use Rattle.hwp_cpu_course.specs.hwp_cpu_row.hwp_core_rule.declared.View.{View}
 use Rattle.hwp_cpu_course.specs.hwp_cpu_row.hwp_claim_frame.Done.{Grows, Marking, marking_of}
 use Rattle.hwp_cpu_course.specs.hwp_cpu_row.hwp_cpu_check.declared.EventOutcome.{EventOutcome}
 use Rattle.hwp_cpu_course.specs.hwp_cpu_row.hwp_cpu_check.Done.{marked_in}
 use Rattle.hwp_cpu_course.specs.hwp_cpu_row.declared.Offlining.{Offlining}
-use Rattle.hwp_cpu_course.specs.hwp_cpu_row.Acts.{Act, AreInTime, Offlined, Told, acts}
+use Rattle.hwp_cpu_course.specs.hwp_cpu_row.Acts.{AreInTime, Offlined, Told, acts}
 use Rattle.hwp_cpu_course.proofs.of_hwp_cpu_row.Acts.{acts-offlined, acts-told}
 use Rattle.hwp_cpu_course.specs.hwp_cpu_command.declared.Job.{Job}
 use Rattle.hwp_cpu_course.specs.hwp_cpu_command.declared.job.Job.TheVariants as kinds
@@ -20,7 +22,6 @@ use Rattle.hwp_cpu_course.specs.hwp_cpu_command.Jobs.{Next, bare, offlined_by, t
 use Rattle.hwp_cpu_course.specs.hwp_cpu_command.hwp_soft.declared.Soft.{Soft}
 use Rattle.hwp_cpu_course.specs.hwp_cpu_command.hwp_soft.declared.SoftAnswer.{SoftAnswer}
 use Rattle.hwp_cpu_course.specs.hwp_cpu_command.hwp_soft.declared.SoftAnswer.TheVariants as soft_answers
-use Rattle.hwp_cpu_course.specs.hwp_cpu_command.hwp_soft.declared.soft.SoftAt.{SoftAt}
 use Rattle.hwp_cpu_course.specs.hwp_cpu_command.hwp_soft.declared.soft.SoftAt.TheVariants as soft_at
 use Rattle.hwp_cpu_course.specs.hwp_cpu_command.hwp_soft.Done as soft_done
 use Rattle.hwp_cpu_course.specs.hwp_cpu_command.hwp_soft.Softs as softs
@@ -77,9 +78,9 @@ regrown alike (inr (m, more, own, longer)) = inr (m, more, own, alike (marking_o
 -- ---- a turn
 
 -- its own task goes on
-pub own-alike : (layout : Layout) (c : Course) (k : Job) {found : ℕ} {got : _} {turn : _} → Next layout (bare c.own) found got k turn → AreInTime 0 (length (told_of c.own)) c.due.offlined → c.beside ≡ None
+pub own-alike : (layout : Layout) (c : Course) (k : Job) (found : ℕ) (got : Option BodyValue) (turn : Turn) → Next layout (bare c.own) found got k turn → AreInTime 0 (length (told_of c.own)) c.due.offlined → c.beside ≡ None
     → GrowAlike (marked_now c.own) (marked_now k) (marked_so_far c) (marked_so_far (record c { own = k }))
-own-alike layout c k {found} {got} {turn} next within none x longer =
+own-alike layout c k found got turn next within none x longer =
     ap (λ (o : Option Soft). by_acts (told_of k) c.due.offlined ++ (marked_beyond k ++ marked_beside o)) none
     ∙ ap (λ (l : List EventOutcome). by_acts l c.due.offlined ++ (marked_beyond k ++ [])) told.1
     ∙ own-swap (told_of c.own) told.0 c.due.offlined (marked_beyond c.own) (marked_beyond k) x within (

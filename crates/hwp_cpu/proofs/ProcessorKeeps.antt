@@ -1,43 +1,60 @@
 -- A step of the command that runs leaves what the processor keeps.
-use Rattle.std.proofs.Common.{◌≡◌, ◌≢◌, ℕ, ◌⊎◌, inl, inr, false, List, [], Some, length, slice_get, refl, subst, sym, ap, ◌∙◌, arith}
+use Rattle.std.proofs.Common.{◌≡◌, ◌≢◌, ℕ, ◌⊎◌, inl, inr, false, List, [], Some, length, slice_get, refl, subst, sym, ap, ◌∙◌, arith, None, ◌<◌, map, Option, append-nil}
 use Rattle.std.proofs.lemmas.Option.{none-some}
 use Rattle.hwp_cpu_course.specs.hwp_cpu_row.hwp_geom.declared.Cpu.{Cpu}
 use Rattle.hwp_cpu_course.specs.hwp_cpu_row.hwp_geom.declared.Layout.{Layout}
 use Rattle.hwp_cpu_course.specs.hwp_cpu_row.hwp_geom.declared.Thread.{Thread}
 use Rattle.hwp_cpu_course.specs.hwp_cpu_row.hwp_geom.declared.Who.{Who}
 use Rattle.hwp_cpu_course.specs.hwp_cpu_row.hwp_script_lines.declared.Command.{Command}
-use Rattle.hwp_cpu_course.specs.hwp_cpu_row.hwp_report_text.declared.Answer.TheVariants as answers
 use Rattle.hwp_cpu_course.specs.hwp_cpu_row.hwp_law_commands.Settings.{settings}
 use Rattle.hwp_cpu_course.specs.hwp_cpu_row.hwp_core_rule.declared.SharedWord.TheVariants as places
 use Rattle.hwp_cpu_course.specs.hwp_cpu_row.hwp_core_rule.declared.Step.{Step}
 use Rattle.hwp_cpu_course.specs.hwp_cpu_row.hwp_core_rule.declared.View.{View}
 use Rattle.hwp_cpu_course.specs.hwp_cpu_row.hwp_core_rule.Lists.{EachMember}
 use Rattle.hwp_cpu_course.proofs.of_hwp_cpu_row.of_hwp_core_rule.Lists.{at_push}
-use Rattle.hwp_cpu_course.specs.hwp_cpu_row.hwp_core_task.Calls.{CanMake}
-use Rattle.hwp_cpu_course.specs.hwp_cpu_row.hwp_core_task.Known.{Saw}
+use Rattle.hwp_cpu_course.specs.hwp_cpu_row.hwp_core_task.Calls.{CanMake, IsOnTurn}
+use Rattle.hwp_cpu_course.specs.hwp_cpu_row.hwp_core_task.Known.{Saw, HasMadeNone}
 use Rattle.hwp_cpu_course.specs.hwp_cpu_row.declared.Row.{Row}
 use Rattle.hwp_cpu_course.specs.hwp_cpu_row.declared.Local.{Local}
-use Rattle.hwp_cpu_course.specs.hwp_cpu_row.hwp_banks.Banks.{empty_banks}
+use Rattle.hwp_cpu_course.specs.hwp_cpu_row.hwp_banks.Banks.{empty_banks, Banks}
 use Rattle.hwp_cpu_course.specs.hwp_cpu_command.hwp_words.Stops.{is_stopped}
 use Rattle.hwp_cpu_course.specs.hwp_cpu_command.declared.job.Job.{Job}
 use Rattle.hwp_cpu_course.specs.hwp_cpu_command.Jobs as jobs
-use Rattle.hwp_cpu_course.specs.hwp_cpu_command.Jobs.{banks_before}
+use Rattle.hwp_cpu_course.specs.hwp_cpu_command.Jobs.{banks_before, told_of, row}
 use Rattle.hwp_cpu_course.specs.hwp_cpu_command.Runs.{Runs}
-use Rattle.hwp_cpu_course.specs.hwp_cpu_command.Stays.{EndsStopped, Stepped, StopsItself}
+use Rattle.hwp_cpu_course.specs.hwp_cpu_command.Stays.{EndsStopped, Stepped, StopsItself, IsHalted, EndsAtOnce}
 use Rattle.hwp_cpu_course.proofs.of_hwp_cpu_command.JobLaws as jobbing
-use Rattle.hwp_cpu_course.proofs.of_hwp_cpu_command.JobEnds.{answered-over}
+use Rattle.hwp_cpu_course.proofs.of_hwp_cpu_command.JobEnds.{answered-over, ends}
 use Rattle.hwp_cpu_course.proofs.of_hwp_cpu_command_laws.CommandRuns.{before-stays, runs-on, runs-who}
 use Rattle.hwp_cpu_course.proofs.of_hwp_cpu_command_laws.HandleKeeps.{handle-stays}
 use Rattle.hwp_cpu_course.proofs.of_hwp_cpu_command_laws.CommandStops.{halted-stays, has-stopped, looks-first, no-own-stop, stops-after}
 use Rattle.hwp_cpu_causes.specs.hwp_law_served.Handles.{answers_by}
-use Rattle.hwp_cpu_causes.specs.hwp_law_served.Served.{AreRowsServed, IsOwnStop, SawRunning}
-use Rattle.hwp_cpu_causes.proofs.of_hwp_law_served.CommandKeeps.{row-stays, saw-running-stays}
+use Rattle.hwp_cpu_causes.specs.hwp_law_served.Served.{IsOwnStop, SawRunning}
+use Rattle.hwp_cpu_causes.proofs.of_hwp_law_served.CommandKeeps.{row-stays, saw-running-stays, made-none-later}
 use Rattle.hwp_cpu_causes.proofs.of_hwp_law_served.Handles.{numbers-stay}
 use Rattle.hwp_cpu.specs.Processors.{at_number}
-use Rattle.hwp_cpu.specs.Serving.{HasStoppedIt, IsRunning, Serves}
+use Rattle.hwp_cpu.specs.Serving.{HasStoppedIt, Serves, IsUnderWay, marked_so_far, HasStopped, KeepsWatch}
 use Rattle.hwp_cpu.proofs.KnownPolicies.{counted-on}
-use Rattle.hwp_cpu.proofs.ProcessorNotes.{account-on, listed-on, noted-on, spoils-on}
+use Rattle.hwp_cpu.proofs.ProcessorNotes.{listed-on, noted-on, spoils-on, account-beside, account-own}
 use Rattle.hwp_cpu.proofs.Rows.{rows-stay}
+use Rattle.hwp_cpu_course.specs.hwp_cpu_row.hwp_law_commands.Watched.{told, due, Watched}
+use Rattle.hwp_cpu_course.proofs.of_hwp_cpu_command_laws.TaskLeaves.{soft-leaves, Left}
+use Rattle.hwp_cpu_course.proofs.of_hwp_cpu_row.of_hwp_core_task.MadeEntries.{made-none}
+use Rattle.hwp_cpu_course.proofs.of_hwp_cpu_command_laws.ToldGrows.{told-longer}
+use Rattle.hwp_cpu_course.specs.declared.Course.{Course}
+use Rattle.hwp_cpu.proofs.Marks.{GrowAlike, own-alike, beside-alike}
+use Rattle.hwp_cpu_course.specs.hwp_cpu_command.hwp_soft.declared.Soft.{Soft}
+use Rattle.hwp_cpu_course.specs.hwp_cpu_row.hwp_core_rule.declared.Setting.{Setting}
+use Rattle.hwp_cpu_causes.specs.hwp_law_served.Offlinings.{watched_at}
+use Rattle.hwp_cpu_causes.specs.Beside.{AddsBeside}
+use Rattle.hwp_cpu_course.specs.hwp_cpu_command.Settings.{AreCounted}
+use Rattle.hwp_cpu_course.specs.hwp_cpu_row.hwp_core_rule.declared.Spoiled.{Spoiled}
+use Rattle.hwp_cpu_course.specs.hwp_cpu_command.Done.{marked_now}
+use Rattle.hwp_cpu_course.specs.hwp_cpu_row.hwp_core_rule.parts.Policies.{settings_of}
+use Rattle.hwp_cpu.proofs.EachKind.{on-turn, can-stop}
+use Rattle.hwp_cpu_course.specs.hwp_cpu_command.declared.job.Job.TheVariants as kinds
+use Rattle.hwp_cpu_course.specs.hwp_cpu_command.hwp_soft.Softs as softs
+use Rattle.hwp_cpu.proofs.Collected.{keeps-longer}
 
 -- a command that has stopped the machine makes no step
 over : (layout : Layout) (command : Command) (rows : List Row) (who : Who) (j : Job) (step : Step) → HasStoppedIt layout command rows j who → jobs.plan j ≡ Some step → ⊥
@@ -167,24 +184,17 @@ module _ (layout : Layout) (old new : View) (cpu : Cpu) (list : List Command) (r
       step-can = can layout old new cpu list rows c.own k own made
 
       alike : GrowAlike (marked_now c.own) (marked_now k) (marked_so_far c) (marked_so_far next)
-      alike = own-alike layout c k made.follows way.collected.behind none
+      alike = own-alike layout c k made.found made.got made.turn made.follows way.collected.behind none
 
 -- ---- a frame is taken out of use beside it
 
 module _ (layout : Layout) (old new : View) (cpu : Cpu) (list : List Command) (rows : List Row) (local : Local) (command : Command) (c : Course) (s t : Soft) (way : IsUnderWay layout old cpu list rows local command c) (own : s.who ≡ at_number cpu (length rows))
-    (made : Stepped layout old new (kinds.Soft s) (kinds.Soft t)) (is : c.beside ≡ Some s) where
+    (made : Stepped layout old new (kinds.Soft s) (kinds.Soft t)) (is : c.beside ≡ Some s) (adds : AddsBeside (at_number cpu (length rows)) old new) where
   abbrev later : Course
   later = record c { beside = Some t }
 
   step-can : CanMake layout s.who made.step (softs.put s) old
   step-can = can layout old new cpu list rows (kinds.Soft s) (kinds.Soft t) own made
-
-  -- it makes at most one entry, by which a page left the frame
-  pub adds : AddsBeside (at_number cpu (length rows)) old new
-  adds = subst (λ (w : Who). AddsBeside w old new) own (soft-beside s made.fits made.planned made.made (beside-follows s t made))
-    where
-      beside-follows : (o p : Soft) (m : Stepped layout old new (kinds.Soft o) (kinds.Soft p)) → softs.Follows layout (softs.bare o) m.found m.got m.follows.0 m.turn
-      beside-follows o p m = m.follows.2
 
   left : Left old new
   left = soft-leaves s made.planned made.made

@@ -5,7 +5,8 @@ use Rattle.std.specs.List.{cons_option}
 use Rattle.std.specs.Int.{from_bool}
 use Rattle.std.specs.Prelude.{option_map}
 use Rattle.std.proofs.lemmas.Bool.{false_from_ne_true}
-use Rattle.std.proofs.lemmas.List.{filter_map-append, length-map, map-append, nil_from_length}
+use Rattle.std.proofs.lemmas.List.{length-map, map-append, nil_from_length}
+use Rattle.std.proofs.lemmas.List.Elements.{filter_map-append}
 use Rattle.std.proofs.lemmas.Option.{none-some, same_Some}
 use Rattle.hwp_cpu_course.specs.hwp_cpu_row.hwp_geom.declared.Cpu.{Cpu}
 use Rattle.hwp_cpu_course.specs.hwp_cpu_row.hwp_geom.declared.Frame.{Frame}
@@ -59,8 +60,8 @@ use Rattle.hwp_cpu_course.specs.hwp_cpu_command.Jobs as jobs
 use Rattle.hwp_cpu_course.specs.hwp_cpu_command.Runs.{Runs}
 use Rattle.hwp_cpu_course.specs.hwp_cpu_command.Stays.{HasSpoiled, IsAtStop, Stepped}
 use Rattle.hwp_cpu_course.proofs.of_hwp_cpu_command.JobEnds.{answered-over, paid-at-end}
-use Rattle.hwp_cpu_course.proofs.of_hwp_cpu_command_laws.CommandDeeds.{done, failures-at-end, grown, none-listed, unfailed-at-start, unmarked-at-start, unowed-at-end, unowed-at-start, unset-policies-at-start}
-use Rattle.hwp_cpu_course.proofs.of_hwp_cpu_command_laws.CommandRuns.{can-fail-stays}
+use Rattle.hwp_cpu_course.proofs.of_hwp_cpu_command_laws.CommandDeeds.{done, failures-at-end, grown, none-listed, unfailed-at-start, unmarked-at-start, unowed-at-start, unset-policies-at-start}
+use Rattle.hwp_cpu_course.proofs.of_hwp_cpu_command_laws.CommandRuns.{can-fail-stays, runs-who}
 use Rattle.hwp_cpu_course.proofs.of_hwp_cpu_command_laws.Beside.{marked-parts}
 use Rattle.hwp_cpu_course.proofs.of_hwp_cpu_command_laws.CommandStops.{has-spoiled, spoils-after, untold-at-start}
 use Rattle.hwp_cpu_course.proofs.of_hwp_cpu_command_laws.TaskLeaves.{soft-leaves}
@@ -81,7 +82,8 @@ use Rattle.hwp_cpu.specs.Processors.{at_number}
 use Rattle.hwp_cpu.specs.Serving.{AreNoted, HasAccount, IsListed, marked_so_far}
 use Rattle.hwp_cpu.proofs.Marks.{GrowAlike, beside-alike, regrown}
 use Rattle.hwp_cpu.proofs.Rows.{notes-more, spoil-more}
-use Rattle.hwp_cpu.proofs.EachKind.{spoils-line}
+use Rattle.hwp_cpu.proofs.EachKind.{spoils-line, prior-none}
+use Rattle.hwp_cpu_course.specs.hwp_cpu_row.hwp_core_task.Hands.{empty}
 
 -- ---- over a step
 
@@ -299,26 +301,14 @@ unfailed-lossless view who none = sum-zero loss_of (deeds who view) (λ i m at. 
     by page place (entries.Fail situation required seen signals) is = absurd (none-some _ (sym is))
     by page place what is = refl
 
--- of which memory can't fail, a command had made no entry before its own task
-pub prior-none : (j : Job) {base : List Made} → ArePrior j base → can_fail j ≡ false → base ≡ []
-prior-none (kinds.Instruction i) prior cannot = absurd (true≢false cannot)
-prior-none (kinds.Evict e) prior cannot = prior
-prior-none (kinds.Fsync f) prior cannot = prior
-prior-none (kinds.Prctl p) prior cannot = prior
-prior-none (kinds.Log l) prior cannot = prior
-prior-none (kinds.Raise r) prior cannot = prior
-prior-none (kinds.Scrub s) prior cannot = prior
-prior-none (kinds.Spoil s) prior cannot = prior
-prior-none (kinds.Nested n) prior cannot = prior
-prior-none (kinds.Inject i) prior cannot = prior
-prior-none (kinds.Soft s) prior cannot = prior
-prior-none (kinds.Unpoison u) prior cannot = prior
-
 -- when a command is answered its failures are those that it knows of
-module _ (base : List Made) (layout : Layout) (view : View) (who : Who) (j : Job) (a : Answer) (fits : jobs.FitsFrom base layout view j) (prior : ArePrior j base) (has : jobs.answer j ≡ Some a) (own : jobs.who j ≡ who)
+module _ (base : List Made) (layout : Layout) (view : View) (who : Who) (command : Command) (j : Job) (a : Answer) (runs : Runs layout who command j) (fits : jobs.FitsFrom base layout view j) (prior : ArePrior layout command base) (has : jobs.answer j ≡ Some a)
     (failed : can_fail j ≡ true → failures who view ≡ failed_now j) (owes : OwesOwn who view) where
+  own-who : jobs.who j ≡ who
+  own-who = runs-who layout who command j runs
+
   pub failed-end : failures who view ≡ failed_now j
-  failed-end = subst (λ (w : Who). failures w view ≡ failed_now j) own (failures-at-end layout view j fits (prior-none j prior) has (λ fails. subst (λ (w : Who). failures w view ≡ failed_now j) (sym own) (failed fails)))
+  failed-end = subst (λ (w : Who). failures w view ≡ failed_now j) own-who (failures-at-end layout view j fits (prior-none layout who command j base runs prior) has (λ fails. subst (λ (w : Who). failures w view ≡ failed_now j) (sym own-who) (failed fails)))
 
   -- it owes no loss: a command that may make some owes none by then, and the others make none
   pub no-loss : view.owed.losses ≡ []

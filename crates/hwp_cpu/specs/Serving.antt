@@ -1,6 +1,7 @@
 -- What a processor keeps while it runs its commands.
-use Rattle.std.specs.Prelude.{◌≡◌, ℕ, ◌+◌, ◌<◌, ◌≤◌, ◌⊎◌, ◌≢◌, true, List, [], ◌++◌, Option, Some, None, IsSome, length, list_any, drop, map, filter_map, option_map, slice_get, take}
+use Rattle.std.specs.Prelude.{◌≡◌, ℕ, ◌+◌, ◌<◌, ◌≤◌, ◌⊎◌, ◌≢◌, true, List, [], ◌++◌, Option, Some, None, IsSome, length, drop, map, filter_map, option_map, slice_get, take}
 use Rattle.std.specs.Arc.{arc_value}
+use Rattle.std.specs.List.{list_any}
 use Rattle.hwp_cpu_course.specs.hwp_cpu_row.hwp_geom.declared.Cpu.{Cpu}
 use Rattle.hwp_cpu_course.specs.hwp_cpu_row.hwp_geom.declared.FileNo.{FileNo}
 use Rattle.hwp_cpu_course.specs.hwp_cpu_row.hwp_geom.declared.Frame.{Frame}
@@ -24,11 +25,12 @@ use Rattle.hwp_cpu_course.specs.hwp_cpu_row.hwp_core_task.Turns.{Member}
 use Rattle.hwp_cpu_course.specs.hwp_cpu_row.hwp_claim_frame.Done.{Marking, marking_of}
 use Rattle.hwp_cpu_course.specs.hwp_cpu_row.declared.Local.{Local}
 use Rattle.hwp_cpu_course.specs.hwp_cpu_row.declared.Row.{Row}
+use Rattle.hwp_cpu_course.specs.hwp_cpu_row.declared.Watching.{Watching}
 use Rattle.hwp_cpu_course.specs.hwp_cpu_row.hwp_banks.Banks.{Banks, empty_banks}
 use Rattle.hwp_cpu_course.specs.hwp_cpu_row.hwp_law_commands.Settings.{settings}
 use Rattle.hwp_cpu_course.specs.hwp_cpu_row.declared.Offlining.{Offlining}
 use Rattle.hwp_cpu_course.specs.hwp_cpu_row.Acts.{AreInTime, acts, event_at, told_notes}
-use Rattle.hwp_cpu_course.specs.hwp_cpu_row.Locals.{IsWatching}
+use Rattle.hwp_cpu_course.specs.hwp_cpu_row.Locals.{IsWatching, collects}
 use Rattle.hwp_cpu_course.specs.hwp_cpu_row.hwp_cec.Ages.{Note}
 use Rattle.hwp_cpu_course.specs.hwp_cpu_row.hwp_law_commands.Commands.{is_watch}
 use Rattle.hwp_cpu_course.specs.hwp_cpu_row.hwp_law_commands.Notes.{AreApart}
@@ -54,12 +56,13 @@ use Rattle.hwp_cpu_course.specs.declared.Course.{Course}
 use Rattle.hwp_cpu_course.specs.Courses as courses
 use Rattle.hwp_cpu_course.specs.Courses.{part}
 use Rattle.hwp_cpu_causes.specs.Beside.{ArePrior, CanCollect, DoesSo, IsOwnServed}
+use Rattle.hwp_cpu_causes.specs.hwp_law_served.Causes.{HasOnlyMet}
 use Rattle.hwp_cpu_causes.specs.hwp_law_served.Accounts.{IsNote, act_marking, failures, markings, policies_set}
 use Rattle.hwp_cpu_causes.specs.hwp_law_served.Handles.{KnowsNumbers, answers_by, number_at}
-use Rattle.hwp_cpu_causes.specs.hwp_law_served.Offlinings.{IsOffliningServed, KnowsDue, left_among, left_beside, watched_at}
+use Rattle.hwp_cpu_causes.specs.hwp_law_served.Offlinings.{KnowsDue, left_among, left_beside, watched_at}
 use Rattle.hwp_cpu_causes.specs.hwp_law_served.Owed.{OwesOwn}
 use Rattle.hwp_cpu_causes.specs.hwp_law_served.Rows.{notes_from}
-use Rattle.hwp_cpu_causes.specs.hwp_law_served.Served.{AreRowsServed, CanStop, IsOneOf, IsOwnSpoil, IsOwnStop, SawRunning, StaysStopped}
+use Rattle.hwp_cpu_causes.specs.hwp_law_served.Served.{AreRowsServed, CanStop, IsOffliningServed, IsOneOf, IsOwnSpoil, IsOwnStop, SawRunning, StaysStopped}
 use Rattle.hwp_cpu.specs.declared.processor.Processor.{Processor}
 use Rattle.hwp_cpu.specs.Processors.{IsReady, Next, Shows, aborts, at_number, bare, claims, class, cost, plan, put, who}
 
@@ -146,30 +149,31 @@ pub record KeepsWatch (layout : Layout) (view : View) (who : Who) (list : List C
   pub offlined : EachMember (IsOffliningServed layout view who) c.due.offlined
   pub behind : AreInTime 0 (length (told_of c.own)) c.due.offlined
 
--- the events that an access told of since the collector got some last are of other machine checks; of another task it gets none while
--- that goes on
-abbrev pub TellsApart : Job → ℕ → Type 0
-TellsApart (kinds.Instruction i) noted = AreApart (map (event_at 0) (take noted i.lines.told)) (map (event_at 0) (drop noted i.lines.told))
-TellsApart j noted = noted ≡ 0
+-- the events that an access told of since the collector got some last are of other machine checks, and of a processor that collects they
+-- note nothing; of another task the collector gets none while that goes on
+abbrev pub TellsApart : Layout → Option Watching → Job → ℕ → Type 0
+TellsApart layout watching (kinds.Instruction i) noted =
+    AreApart (map (event_at 0) (take noted i.lines.told)) (map (event_at 0) (drop noted i.lines.told)) × (collects watching ≡ true → told_notes layout (drop noted i.lines.told) ≡ [])
+TellsApart layout watching j noted = noted ≡ 0
 
 -- its own task goes on, behind entries that may stand before its answer: those of frames that were taken out of use are those that the
 -- course tells, and no frame is left to be taken out of use
-pub record OwnGoesOn (layout : Layout) (view : View) (c : Course) : Type 0 where
+pub record OwnGoesOn (layout : Layout) (view : View) (command : Command) (c : Course) : Type 0 where
   pub base : List Made
   pub fits : jobs.FitsFrom base layout view c.own
-  pub before : ArePrior c.own base
+  pub prior : ArePrior layout command base
   pub left : left_among base ≡ left_beside c.due.offlined
   pub all : length c.due.offlined ≡ length c.due.frames
-  pub apart : TellsApart c.own c.noted
+  pub apart : TellsApart layout c.watching c.own c.noted
 
 -- its own task pauses behind a machine check, and all entries so far may stand before its answer
-pub record IsPaused (layout : Layout) (view : View) (base : List Made) (j : Job) : Type 0 where
+pub record IsPaused (layout : Layout) (view : View) (who : Who) (command : Command) (j : Job) : Type 0 where
   pub instruction : Instruction
   pub is : j ≡ kinds.Instruction instruction
   pub pause : Pause
   pub paused : instructions.pause instruction ≡ Some pause
   pub rests : IsResting layout view instruction pause
-  pub before : ArePrior j base
+  pub met : HasOnlyMet layout view who command
 
 -- its own task has its answer, and that has its cause; frames may be due behind it
 pub record HasAnswered (layout : Layout) (view : View) (cpu : Cpu) (list : List Command) (rows : List Row) (local : Local) (command : Command) (j : Job) : Type 0 where
@@ -180,8 +184,8 @@ pub record HasAnswered (layout : Layout) (view : View) (cpu : Cpu) (list : List 
   pub served : IsOwnServed layout (answers_by list rows) view (at_number cpu (length rows)) command j answer local.banks
   pub does : DoesSo command j answer
 
-abbrev pub Rests : Layout → View → Cpu → List Command → List Row → Local → Command → List Made → Job → Type 0
-Rests layout view cpu list rows local command base j = IsPaused layout view base j ⊎ HasAnswered layout view cpu list rows local command j
+abbrev pub Rests : Layout → View → Cpu → List Command → List Row → Local → Command → Job → Type 0
+Rests layout view cpu list rows local command j = IsPaused layout view (at_number cpu (length rows)) command j ⊎ HasAnswered layout view cpu list rows local command j
 
 -- the next frame is taken out of use, behind these entries, while its own task rests and has told the collector all
 pub record RunsBeside (layout : Layout) (view : View) (cpu : Cpu) (list : List Command) (rows : List Row) (local : Local) (command : Command) (c : Course) (s : Soft) : Type 0 where
@@ -192,10 +196,10 @@ pub record RunsBeside (layout : Layout) (view : View) (cpu : Cpu) (list : List C
   pub next : slice_get c.due.frames (length c.due.offlined) ≡ Some s.frame
   pub all : c.noted ≡ length (told_of c.own)
   pub paid : view.owed.losses ≡ []
-  pub rests : Rests layout view cpu list rows local command base c.own
+  pub rests : Rests layout view cpu list rows local command c.own
 
 abbrev pub GoesOn : Layout → View → Cpu → List Command → List Row → Local → Command → Course → Option Soft → Type 0
-GoesOn layout view cpu list rows local command c None = OwnGoesOn layout view c
+GoesOn layout view cpu list rows local command c None = OwnGoesOn layout view command c
 GoesOn layout view cpu list rows local command c (Some s) = RunsBeside layout view cpu list rows local command c s
 
 -- what is so of the command after those that are answered, whether its own task goes on or rests: it knows what those left; it has yet

@@ -70,6 +70,10 @@ pub answered-resumes : (j : Job) → is_some (answer j) ≡ true → resume j �
 answered-resumes (jobs.Instruction i) is = ap (λ (o : Option Pause). jobs.Instruction (instructions.resume_by i o)) (unpaused i.at (answers-some (instructions.answer i) is))
 answered-resumes _ is = refl
 
+-- and doesn't pause
+pub answered-unpaused : (i : Instruction) → is_some (answer (jobs.Instruction i)) ≡ true → is_paused (jobs.Instruction i) ≡ false
+answered-unpaused i is = ap is_some (unpaused i.at (answers-some (instructions.answer i) is))
+
 -- one that doesn't pause has its answer where it rests
 pub rests-by : (j : Job) → (is_paused j || is_some (answer j)) ≡ true → ((i : Instruction) × (p : Pause) × (j ≡ jobs.Instruction i) × (instructions.pause i ≡ Some p)) ⊎ ((a : Answer) × (answer j ≡ Some a))
 rests-by j rests = which (answer j) refl
@@ -186,6 +190,18 @@ given-up-rests (jobs.Nested n) up = absurd up
 given-up-rests (jobs.Inject i) up = absurd up
 given-up-rests (jobs.Soft s) up = absurd up
 given-up-rests (jobs.Unpoison u) up = absurd up
+
+or-false : (a b : Bool) → (a || b) ≡ false → b ≡ false
+or-false false b is = is
+or-false true b is = absurd (true≢false is)
+
+-- so it has no answer
+pub given-up-unanswered : (j : Job) → HasGivenUp j → answer j ≡ None
+given-up-unanswered j up = which (answer j) refl
+  where
+    which : (o : Option Answer) → answer j ≡ o → answer j ≡ None
+    which None is = is
+    which (Some a) is = absurd (true≢false (sym (ap is_some is) ∙ or-false (is_paused j) (is_some (answer j)) (given-up-rests j up)))
 
 -- it has given up after the step in which it does
 pub given-up-stays : (layout : Layout) (j after : Job) (step : Step) (found : ℕ) (got : Option BodyValue) (turn : Turn) → plan j ≡ Some step → Next layout (bare j) found got after turn → HasGivenUp j → HasGivenUp after

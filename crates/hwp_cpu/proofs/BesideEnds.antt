@@ -1,0 +1,272 @@
+-- A turn of the frame that is taken out of use beside a command, and what is so when that is done.
+use Rattle.std.proofs.lemmas.Bool.{and_right, not-true}
+use Rattle.hwp_cpu_course.proofs.CourseLaws.{soft-pays}
+use Rattle.hwp_cpu_course.proofs.of_hwp_cpu_command.of_hwp_cpu_access.Resting.{resting-stays}
+use Rattle.hwp_cpu_causes.proofs.OnTheWay.{met-beside}
+use Rattle.hwp_cpu_causes.proofs.BesideKeeps.{own-stays, soft-beside}
+use Rattle.hwp_cpu_causes.proofs.OfflineServed.{left-offline, no-kernel, offline-served}
+use Rattle.hwp_cpu_course.specs.hwp_cpu_row.hwp_law_commands.Notes.{is_for_pages}
+use Rattle.hwp_cpu_course.specs.hwp_cpu_row.hwp_law_commands.Commands.{is_check, is_kernels}
+use Rattle.hwp_cpu_course.specs.hwp_cpu_row.hwp_report_text.Offlines.{offline_answer}
+use Rattle.hwp_cpu_course.proofs.of_hwp_cpu_command.JobLaws as jobbing
+use Rattle.hwp_cpu_course.specs.hwp_cpu_command.Jobs.{offlined_by, told_of}
+use Rattle.hwp_cpu.specs.Serving.{RunsBeside, marked_so_far, IsPaused, IsUnderWay, Rests, IsRunning}
+use Rattle.hwp_cpu_causes.specs.hwp_law_served.Offlinings.{left_beside, left_by, watched_at, IsOfflineServed, left_at}
+use Rattle.std.proofs.lemmas.List.{length-append, map-append}
+use Rattle.std.proofs.lemmas.List.Elements.{filter_map-append}
+use Rattle.hwp_cpu_course.specs.hwp_cpu_command.hwp_soft.declared.SoftAnswer.{SoftAnswer}
+use Rattle.hwp_cpu_course.specs.Courses.{with_result, offline_result, offlining}
+use Rattle.hwp_cpu.proofs.Marks.{beside-over}
+use Rattle.hwp_cpu_course.specs.hwp_cpu_row.hwp_law_commands.Watched.{due, Watched}
+use Rattle.std.proofs.lemmas.List.Elements.{filter-append}
+use Rattle.hwp_cpu_course.specs.declared.Course.{Course}
+use Rattle.hwp_cpu_course.proofs.of_hwp_cpu_command_laws.Beside.{answered-unmarked, paused-unowed, paused-unmarked}
+use Rattle.std.proofs.lemmas.Option.{none-some, same_Some}
+use Rattle.std.proofs.Common.{arith, inl, suc, true, ◌++◌, subst, option_map, ◌∷◌, zero, refl, not, Option, ◌+◌, map, cond, ◌≡◌, false, ap, Bool, true≢false, inr, append-nil, filter, Some, slice_get, sym, ℕ, List, length, ◌∙◌, []}
+use Rattle.hwp_cpu_course.proofs.of_hwp_cpu_row.of_hwp_core_rule.Lists.{each-push}
+use Rattle.hwp_cpu_course.specs.hwp_cpu_row.hwp_geom.declared.Frame.{Frame}
+use Rattle.hwp_cpu.proofs.BesideTurns.{at_rest}
+use Rattle.hwp_cpu_causes.specs.hwp_law_served.Handles.{answers_by}
+use Rattle.hwp_cpu_course.specs.hwp_cpu_command.declared.job.Job.{Job}
+use Rattle.hwp_cpu_course.specs.hwp_cpu_row.hwp_core_rule.declared.View.{View}
+use Rattle.hwp_cpu_causes.specs.Beside.{AddsBeside}
+use Rattle.hwp_cpu_course.proofs.of_hwp_cpu_command_laws.CommandRuns.{runs-who}
+use Rattle.hwp_cpu.proofs.OwnRests.{HoldsNone}
+use Rattle.hwp_cpu_course.specs.hwp_cpu_row.hwp_cpu_check.declared.EventOutcome.{EventOutcome}
+use Rattle.hwp_cpu_course.specs.hwp_cpu_row.hwp_core_task.Calls.{IsOnTurn, logs, Steps}
+use Rattle.hwp_cpu_course.specs.hwp_cpu_row.hwp_geom.declared.Layout.{Layout}
+use Rattle.hwp_cpu_causes.specs.hwp_law.Pairings.{is_soft}
+use Rattle.std.specs.Prelude.{take}
+use Rattle.hwp_cpu_course.specs.hwp_cpu_row.hwp_core_rule.declared.Made.{Made}
+use Rattle.hwp_cpu_course.specs.hwp_cpu_command.hwp_cpu_access.Fits.{checks_made, checks_in}
+use Rattle.hwp_cpu_course.specs.hwp_cpu_row.hwp_geom.declared.Cpu.{Cpu}
+use Rattle.hwp_cpu_causes.specs.hwp_law_served.Served.{SawRunning, IsOffliningServed}
+use Rattle.hwp_cpu_causes.specs.hwp_law_served.hwp_page.declared.At.{At}
+use Rattle.hwp_cpu_course.proofs.of_hwp_cpu_command.JobEnds.{soft-ended}
+use Rattle.hwp_cpu_course.specs.hwp_cpu_row.hwp_script_lines.declared.Command.{Command}
+use Rattle.hwp_cpu_course.specs.hwp_cpu_row.hwp_geom.declared.Who.{Who}
+use Rattle.hwp_cpu_course.specs.hwp_cpu_row.declared.Local.{Local}
+use Rattle.hwp_cpu.specs.Processors.{at_number}
+use Rattle.hwp_cpu_course.specs.hwp_cpu_row.hwp_page.History.{BodyValue}
+use Rattle.hwp_cpu_course.specs.hwp_cpu_row.declared.Offlining.{Offlining}
+use Rattle.hwp_cpu_course.specs.hwp_cpu_command.Done.{marked_beyond, owed_now}
+use Rattle.hwp_cpu_course.proofs.of_hwp_cpu_row.Acts.{in-time-push}
+use Rattle.hwp_cpu.proofs.ProcessorKeeps.{way-beside}
+use Rattle.hwp_cpu_course.proofs.of_hwp_cpu_command_laws.CommandDeeds.{unowed-at-end}
+use Rattle.hwp_cpu_course.specs.hwp_cpu_command.hwp_soft.declared.Soft.{Soft}
+use Rattle.hwp_cpu_course.specs.hwp_cpu_row.hwp_core_rule.declared.Step.{Step}
+use Rattle.hwp_cpu_course.specs.hwp_cpu_command.Stays.{Stepped}
+use Rattle.hwp_cpu_course.specs.hwp_cpu_row.declared.Row.{Row}
+use Rattle.hwp_cpu_course.specs.hwp_cpu_row.hwp_core_task.declared.Turn.{Turn}
+use Rattle.hwp_cpu_course.specs.hwp_cpu_row.Acts.{told_notes}
+use Rattle.hwp_cpu_course.specs.hwp_cpu_row.hwp_page.declared.What.{What}
+use Rattle.std.specs.List.{cons_option}
+use Rattle.hwp_cpu_course.specs.hwp_cpu_command.Answers.{soft_answer}
+use Rattle.hwp_cpu_course.specs.hwp_cpu_row.hwp_core_task.Known.{deeds}
+use Rattle.hwp_cpu_course.specs.hwp_cpu_command.Jobs as jobs
+use Rattle.hwp_cpu_course.specs.hwp_cpu_command.hwp_soft.declared.SoftAnswer.TheVariants as soft_answers
+use Rattle.hwp_cpu_course.specs.hwp_cpu_command.hwp_soft.Offline as offline
+use Rattle.hwp_cpu_course.specs.hwp_cpu_command.hwp_soft.Softs as softs
+use Rattle.hwp_cpu_course.specs.hwp_cpu_row.hwp_page.declared.What.TheVariants as entries
+use Rattle.hwp_cpu_course.specs.hwp_cpu_command.declared.job.Job.TheVariants as kinds
+
+-- the first of a list with one more
+take-more : {A : Type 0} (l : List A) (n : ℕ) (x : A) → slice_get l n ≡ Some x → take (n + 1) l ≡ take n l ++ x ∷ []
+take-more l n x is = subst (λ (k : ℕ). take k l ≡ take n l ++ x ∷ []) (let same : suc n ≡ n + 1 = omega arith in same) (by l n is)
+  where
+    by : (l : List _) (n : ℕ) → slice_get l n ≡ Some x → take (suc n) l ≡ take n l ++ x ∷ []
+    by [] n none = absurd (none-some x none)
+    by (y ∷ ys) zero some = ap (λ z. z ∷ []) (same_Some y x some)
+    by (y ∷ ys) (suc n) some = ap (λ (r : List _). y ∷ r) (by ys n some)
+
+-- the line of what came of a frame says what the answer of `soft` does
+said-so : (x : SoftAnswer) → (x ≡ soft_answers.Kernel → ⊥) → offline_answer (offline_result x) ≡ soft_answer x
+said-so soft_answers.Stopped no = refl
+said-so soft_answers.Kernel no = absurd (no refl)
+said-so soft_answers.Already no = refl
+said-so (soft_answers.HasBad mask) no = refl
+said-so soft_answers.NoFrame no = refl
+said-so (soft_answers.TakenFree cycle) no = refl
+said-so (soft_answers.Moved to at cycle) no = refl
+
+-- a command where it rests: what it has under way, and that it has told of some event where a frame is due
+rests-still : (layout : Layout) (view : View) (cpu : Cpu) (list : List Command) (rows : List Row) (local : Local) (command : Command) (j : Job) → Rests layout view cpu list rows local command j → (owed_now j ≡ 0) × (marked_beyond j ≡ [])
+rests-still layout view cpu list rows local command j (inl paused) =
+    (ap owed_now paused.is ∙ paused-unowed paused.instruction paused.paused, ap marked_beyond paused.is ∙ paused-unmarked paused.instruction paused.paused)
+rests-still layout view cpu list rows local command j (inr has) = (unowed-at-end j has.answered, answered-unmarked j has.answered has.some)
+
+due-none : (watched : Option Watched) → due watched [] ≡ []
+due-none None = refl
+due-none (Some v) = refl
+
+module _ (layout : Layout) (old new : View) (cpu : Cpu) (list : List Command) (rows : List Row) (local : Local) (command : Command) (c : Course) (s : Soft) (way : IsUnderWay layout old cpu list rows local command c) (run : RunsBeside layout old cpu list rows local command c s) (is : c.beside ≡ Some s)
+    (step : Step) (found : ℕ) (got : Option BodyValue) (planned : softs.plan s ≡ Some step) (made : Steps layout s.who step (logs (softs.put s)) old new found got) (t : Soft) (turn : Turn) (follows : softs.Follows layout (softs.bare s) found got t turn) where
+  abbrev at : Who
+  at = at_number cpu (length rows)
+
+  stepped : Stepped layout old new (kinds.Soft s) (kinds.Soft t)
+  stepped = record { step = step; found = found; got = got; turn = turn; base = run.base; fits = run.fits; planned = planned; made = made; follows = (t, refl, follows) }
+
+  fits-on : offline.FitsFrom run.base layout new t
+  fits-on = ((jobbing.stays run.base layout old new (kinds.Soft s) step found got run.fits planned made).1 (kinds.Soft t) turn (t, refl, follows)).0
+
+  adds : AddsBeside at old new
+  adds = subst (λ (w : Who). AddsBeside w old new) run.who_is (soft-beside layout old new s step found got run.fits planned made t turn fits-on follows)
+
+  abbrev later : Course
+  later = record c { beside = Some t }
+
+  pub way-later : IsUnderWay layout new cpu list rows local command later
+  way-later = way-beside layout old new cpu list rows local command c s t way run.who_is stepped is adds
+
+  paid : new.owed.losses ≡ []
+  paid = soft-pays layout old new s step found got run.fits planned made run.paid
+
+  named : t.who ≡ at
+  named = ap (λ (x : Soft). x.who) follows.0 ∙ run.who_is
+
+  frame-is : t.frame ≡ s.frame
+  frame-is = ap (λ (x : Soft). x.frame) follows.0
+
+  unchecked : checks_made at new ≡ checks_made at old
+  unchecked = which adds
+    where
+      none : (what : What) → is_soft what ≡ true → is_check what ≡ false
+      none (entries.Mce slot line mask) beside = absurd (true≢false (sym beside))
+      none what beside = refl
+
+      which : AddsBeside at old new → checks_made at new ≡ checks_made at old
+      which (inl same) = ap checks_in same
+      which (inr (m, more, beside)) = ap checks_in more ∙ ap (length {A = Made}) (filter-append (λ (x : Made). is_check x.entry.what) (deeds at old) (m ∷ []))
+          ∙ ap (λ (b : Bool). length (filter (λ (x : Made). is_check x.entry.what) (deeds at old) ++ cond b (m ∷ []) [])) (none m.entry.what beside) ∙ ap length (append-nil (filter (λ (x : Made). is_check x.entry.what) (deeds at old)))
+
+  made-by : (who : Who) → who ≡ at → Steps layout who step (logs (softs.put s)) old new found got
+  made-by who same = subst (λ (w : Who). Steps layout w step (logs (softs.put s)) old new found got) (run.who_is ∙ sym same) made
+
+  pub rests-on : Rests layout new cpu list rows local command c.own
+  rests-on = elim run.rests [
+    | inl paused ↦ inl (record {
+      instruction = paused.instruction;
+      is = paused.is;
+      pause = paused.pause;
+      paused = paused.paused;
+      rests = resting-stays paused.instruction paused.pause paused.rests (made-by paused.instruction.request.who (own-request paused)) (subst (λ (w : Who). checks_made w new ≡ checks_made w old) (sym (own-request paused)) unchecked);
+      met = met-beside command adds paused.met;
+    })
+    | inr has ↦ inr (record {
+      answer = has.answer;
+      answered = has.answered;
+      collects = has.collects;
+      some = has.some;
+      served = own-stays (made-by at refl) adds (answers_by list rows) command c.own has.answer local.banks has.collects has.some has.served;
+      does = has.does;
+    })
+  ]
+    where
+      own-request : (paused : IsPaused layout old at command c.own) → paused.instruction.request.who ≡ at
+      own-request paused = sym (ap jobs.who paused.is) ∙ runs-who layout at command c.own way.runs
+
+  -- ---- it goes on
+
+  pub beside-on : IsRunning layout new cpu list rows local later
+  beside-on = record {
+    command = command;
+    way = way-later;
+    on = record {
+      base = run.base;
+      fits = fits-on;
+      who_is = named;
+      left = run.left;
+      next = run.next ∙ ap (λ (f : Frame). Some f) (sym frame-is);
+      all = run.all;
+      paid = paid;
+      rests = rests-on;
+    };
+  }
+
+  -- ---- it is done
+
+  module _ (x : SoftAnswer) (over : softs.answer t ≡ Some x) (pages : is_for_pages layout t.frame ≡ true) where
+    abbrev o : Offlining
+    o = offlining c.own t.frame x
+
+    abbrev done : Course
+    done = with_result later t.frame x
+
+    still : (owed_now c.own ≡ 0) × (marked_beyond c.own ≡ [])
+    still = rests-still layout new cpu list rows local command c.own rests-on
+
+    no-kernels : x ≡ soft_answers.Kernel → ⊥
+    no-kernels kernel = no-kernel t fits-on (over ∙ ap (λ (y : SoftAnswer). Some y) kernel) (not-true (is_kernels layout t.frame) (and_right (nat_lt t.frame.0 layout.frames) (not (is_kernels layout t.frame)) pages))
+
+    marks : marked_so_far (at_rest done) ≡ marked_so_far later
+    marks = beside-over later t x refl over still.1 way-later.collected.behind
+
+    -- the command saw the machine running: else it had told of no event, and no frame was due
+    saw : SawRunning new at
+    saw = elim way-later.looked [
+      | inl ends ↦ absurd (none-some t.frame (ap (λ (l : List Frame). slice_get l (length c.due.offlined)) (sym (none-due ends.1)) ∙ run.next ∙ ap (λ (f : Frame). Some f) (sym frame-is)))
+      | inr running ↦ running
+    ]
+      where
+        abbrev nothing : List EventOutcome
+        nothing = []
+
+        taken-none : (n : ℕ) → take n nothing ≡ []
+        taken-none zero = refl
+        taken-none (suc n) = refl
+
+        none-due : told_of c.own ≡ [] → c.due.frames ≡ []
+        none-due none = way.collected.due ∙ ap (λ (l : List EventOutcome). due (watched_at layout list rows (length rows)) (told_notes layout (take c.noted l))) none
+            ∙ ap (λ (l : List EventOutcome). due (watched_at layout list rows (length rows)) (told_notes layout l)) (taken-none c.noted) ∙ due-none (watched_at layout list rows (length rows))
+
+    came : IsOffliningServed layout new at o
+    came = record {
+      came = subst (λ (w : Who). IsOfflineServed layout new w t.frame (offlined_by t.frame x) (offline_result x)) named (offline-served t x (offline_result x) fits-on over (said-so x no-kernels));
+      running = inr saw;
+    }
+
+    pub way-done : IsUnderWay layout new cpu list rows local command (at_rest done)
+    way-done = record {
+      serves = way-later.serves;
+      there = way-later.there;
+      runs = way-later.runs;
+      handle = way-later.handle;
+      policies = way-later.policies;
+      stopped = way-later.stopped;
+      looked = way-later.looked;
+      stops = way-later.stops;
+      listed = way-later.listed;
+      account = record { marked = way-later.account.marked ∙ sym marks; failed = way-later.account.failed; set = way-later.account.set; counted = way-later.account.counted ∙ unowed-at-end (kinds.Soft t) (ap (option_map soft_answer) over) ∙ sym still.0; losses = way-later.account.losses };
+      noted = record { earlier = way-later.noted.earlier; last = way-later.noted.last; all = way-later.noted.all; noted = way-later.noted.noted; before = way-later.noted.before; own = way-later.noted.own; marked = way-later.noted.marked ∙ sym marks };
+      spoiled = way-later.spoiled;
+      collected = record {
+        few = way-later.collected.few;
+        frames_are = way-later.collected.frames_are;
+        watching = way-later.collected.watching;
+        room = way-later.collected.room;
+        due = way-later.collected.due;
+        frames = frames;
+        offlined = each-push (IsOffliningServed layout new at) c.due.offlined o came way-later.collected.offlined;
+        behind = in-time-push 0 (length (told_of c.own)) c.due.offlined o way-later.collected.behind refl;
+      };
+    }
+      where
+        frames : map (λ (p : Offlining). p.frame) (c.due.offlined ++ o ∷ []) ≡ take (length (c.due.offlined ++ o ∷ [])) c.due.frames
+        frames = map-append (λ (p : Offlining). p.frame) c.due.offlined (o ∷ []) ∙ ap (λ (l : List Frame). l ++ t.frame ∷ []) way-later.collected.frames
+            ∙ sym (take-more c.due.frames (length c.due.offlined) t.frame (run.next ∙ ap (λ (f : Frame). Some f) (sym frame-is)))
+            ∙ ap (λ (n : ℕ). take n c.due.frames) (sym (length-append c.due.offlined (o ∷ [])))
+
+    pub holds-done : HoldsNone new at (at_rest done)
+    holds-done = record {
+      on_turn = subst (IsOnTurn new) named fits-on.on_turn;
+      hand_is = (soft-ended t fits-on over).0;
+      paid = paid;
+      unowed = still.0;
+      beyond = still.1;
+      left = subst (λ (w : Who). left_by w new ≡ left_beside (c.due.offlined ++ o ∷ [])) named (
+          left-offline t x (offline_result x) fits-on over (said-so x no-kernels)
+          ∙ ap (λ (l : List At). l ++ cons_option (left_at (offline_result x)) []) run.left
+          ∙ sym (filter_map-append (λ (p : Offlining). left_at p.result) c.due.offlined (o ∷ []))
+          );
+    }

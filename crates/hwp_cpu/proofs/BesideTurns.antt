@@ -1,0 +1,266 @@
+-- A frame that is taken out of use beside a command: how that begins, goes on and ends, and how the command's own task goes on behind it.
+use Rattle.std.proofs.lemmas.Bool.{cases_lt}
+use Rattle.hwp_cpu_course.proofs.of_hwp_cpu_command.of_hwp_cpu_access.Resting.{resumes}
+use Rattle.hwp_cpu_course.specs.Dues.{next_due}
+use Rattle.std.proofs.Common.{subst, filter_map, ℕ, Some, Option, ◌∷◌, ◌++◌, ap, map, append-nil, None, refl, inr, ◌≡◌, true, is_some, List, drop, ◌<◌, ◌≤◌, sym, length, inl, arith, ◌∙◌, [], ◌⊎◌}
+use Rattle.hwp_cpu_course.specs.hwp_cpu_row.hwp_claim_frame.Done.{Marking}
+use Rattle.hwp_cpu_course.specs.hwp_cpu_command.Stays.{EndsAtOnce, EndsStopped, HasSpoiled}
+use Rattle.std.specs.Prelude.{take}
+use Rattle.std.proofs.lemmas.List.{length-map, drop_all, take_all}
+use Rattle.hwp_cpu_course.proofs.of_hwp_cpu_command_laws.Beside.{paused-late, paused-unanswered, IsSameBehind, behind-same, resume-goes}
+use Rattle.hwp_cpu_causes.specs.hwp_law_served.Accounts.{act_marking}
+use Rattle.hwp_cpu_course.specs.hwp_cpu_row.hwp_report_text.declared.EventLine.{EventLine}
+use Rattle.hwp_cpu.specs.Serving.{Rests, IsRunning, Serves, marked_so_far, IsUnderWay, IsPaused, TellsApart, OwnGoesOn}
+use Rattle.hwp_cpu_causes.proofs.OnTheWay.{runs-access, IsAccessOf, prior-behind}
+use Rattle.hwp_cpu_course.specs.hwp_cpu_command.FileHandles.{HasHandle}
+use Rattle.hwp_cpu_course.specs.hwp_cpu_row.declared.Local.{Local}
+use Rattle.hwp_cpu_course.proofs.of_hwp_cpu_command_laws.CommandRuns.{runs-who, GoesOn as CommandGoesOn, runs-alike}
+use Rattle.hwp_cpu_course.specs.hwp_cpu_row.Locals.{collects}
+use Rattle.hwp_cpu_course.specs.hwp_cpu_command.Jobs.{told_of}
+use Rattle.hwp_cpu_course.proofs.of_hwp_cpu_command_laws.CommandStops.{has-stopped}
+use Rattle.hwp_cpu_course.specs.hwp_cpu_row.hwp_cpu_check.declared.EventOutcome.{EventOutcome}
+use Rattle.hwp_cpu_causes.specs.hwp_law_served.Offlinings.{watched_at}
+use Rattle.hwp_cpu_course.specs.hwp_cpu_row.hwp_law_commands.Settings.{settings}
+use Rattle.hwp_cpu_course.specs.hwp_cpu_row.hwp_geom.declared.Layout.{Layout}
+use Rattle.hwp_cpu_course.specs.hwp_cpu_command.Settings.{policies_now, of_thread}
+use Rattle.hwp_cpu_course.specs.hwp_cpu_row.declared.Row.{Row}
+use Rattle.hwp_cpu_course.specs.hwp_cpu_row.hwp_core_task.Known.{deeds}
+use Rattle.hwp_cpu_course.specs.hwp_cpu_row.Acts.{acts, told_notes, event_at}
+use Rattle.hwp_cpu_course.specs.hwp_cpu_command.Done.{marked_beyond}
+use Rattle.hwp_cpu_course.specs.hwp_cpu_row.declared.Watching.{Watching}
+use Rattle.hwp_cpu_course.specs.hwp_cpu_command.hwp_kill.declared.Policy.{Policy}
+use Rattle.hwp_cpu_course.specs.hwp_cpu_row.hwp_banks.Banks.{Banks}
+use Rattle.hwp_cpu.proofs.OwnRests.{HoldsNone}
+use Rattle.hwp_cpu_course.specs.hwp_cpu_row.hwp_core_rule.declared.Spoiled.{Spoiled}
+use Rattle.hwp_cpu_course.specs.hwp_cpu_row.hwp_geom.declared.Who.{Who}
+use Rattle.hwp_cpu.proofs.Collected.{keeps-longer}
+use Rattle.hwp_cpu_course.specs.hwp_cpu_row.hwp_geom.declared.Cpu.{Cpu}
+use Rattle.hwp_cpu_causes.specs.hwp_law_served.Handles.{answers_by}
+use Rattle.hwp_cpu_course.specs.hwp_cpu_row.hwp_geom.declared.Thread.{Thread}
+use Rattle.hwp_cpu_course.specs.declared.Course.{Course}
+use Rattle.hwp_cpu_course.specs.hwp_cpu_row.hwp_core_task.Calls.{IsOnTurn}
+use Rattle.hwp_cpu_course.specs.hwp_cpu_command.Stays as stays
+use Rattle.hwp_cpu_course.specs.hwp_cpu_row.hwp_geom.declared.Frame.{Frame}
+use Rattle.hwp_cpu_course.specs.hwp_cpu_row.hwp_law_commands.Notes.{AreApart}
+use Rattle.hwp_cpu_course.specs.hwp_cpu_command.hwp_soft.declared.Soft.{Soft}
+use Rattle.hwp_cpu.specs.Processors.{at_number}
+use Rattle.hwp_cpu_course.specs.hwp_cpu_command.declared.job.Job.{Job}
+use Rattle.hwp_cpu_course.specs.hwp_cpu_row.hwp_script_lines.declared.Command.{Command}
+use Rattle.hwp_cpu_course.specs.hwp_cpu_row.hwp_core_rule.declared.View.{View}
+use Rattle.hwp_cpu.proofs.Rows.{past-end}
+use Rattle.hwp_cpu_course.specs.hwp_cpu_row.declared.Offlining.{Offlining}
+use Rattle.hwp_cpu_course.specs.hwp_cpu_command.hwp_cpu_access.declared.instruction.Pause.{Pause}
+use Rattle.hwp_cpu_course.specs.hwp_cpu_command.hwp_cpu_access.declared.Instruction.{Instruction}
+use Rattle.hwp_cpu_course.specs.hwp_cpu_command.hwp_soft.Softs as softs
+use Rattle.hwp_cpu_course.specs.hwp_cpu_command.declared.job.Job.TheVariants as kinds
+use Rattle.hwp_cpu_course.specs.hwp_cpu_command.Jobs as jobs
+use Rattle.hwp_cpu_course.specs.hwp_cpu_command.hwp_cpu_access.Instructions as instructions
+
+-- ---- where its own task rests
+
+-- the course where no frame is taken out of use
+abbrev pub at_rest : Course → Course
+at_rest c = record c { beside = None }
+
+-- all that it told is noted
+abbrev pub HasNotedAll : Course → Type 0
+HasNotedAll c = c.noted ≡ length (told_of c.own)
+
+-- ---- the next frame
+
+module _ (layout : Layout) (view : View) (cpu : Cpu) (list : List Command) (rows : List Row) (local : Local) (command : Command) (c : Course) (way : IsUnderWay layout view cpu list rows local command (at_rest c)) (holds : HoldsNone view (at_number cpu (length rows)) (at_rest c))
+    (rests : Rests layout view cpu list rows local command c.own) (noted : HasNotedAll c) where
+  abbrev at : Who
+  at = at_number cpu (length rows)
+
+  owner : jobs.who c.own ≡ at
+  owner = runs-who layout at command c.own way.runs
+
+  module _ (frame : Frame) (is : next_due c.due ≡ Some frame) (within : frame.0 < layout.frames) where
+    abbrev soft : Soft
+    soft = softs.begin (jobs.who c.own) frame
+
+    abbrev taking : Course
+    taking = record c { beside = Some soft }
+
+    marks : marked_so_far taking ≡ marked_so_far (at_rest c)
+    marks = refl
+
+    way-taking : IsUnderWay layout view cpu list rows local command taking
+    way-taking = record {
+      serves = way.serves;
+      there = way.there;
+      runs = way.runs;
+      handle = way.handle;
+      policies = way.policies;
+      stopped = way.stopped;
+      looked = way.looked;
+      stops = way.stops;
+      listed = way.listed;
+      account = record { marked = way.account.marked ∙ sym marks; failed = way.account.failed; set = way.account.set; counted = way.account.counted ∙ holds.unowed; losses = way.account.losses };
+      noted = record { earlier = way.noted.earlier; last = way.noted.last; all = way.noted.all; noted = way.noted.noted; before = way.noted.before; own = way.noted.own; marked = way.noted.marked ∙ sym marks };
+      spoiled = way.spoiled;
+      collected = record {
+        few = way.collected.few;
+        frames_are = way.collected.frames_are;
+        watching = way.collected.watching;
+        room = way.collected.room;
+        due = way.collected.due;
+        frames = way.collected.frames;
+        offlined = way.collected.offlined;
+        behind = way.collected.behind;
+      };
+    }
+
+    pub begins-beside : IsRunning layout view cpu list rows local taking
+    begins-beside = record {
+      command = command;
+      way = way-taking;
+      on = record {
+        base = deeds at view;
+        fits = record { on_turn = subst (IsOnTurn view) (sym owner) holds.on_turn; frame = within; at = (holds.hand_is, ap (λ (w : Who). deeds w view) owner) };
+        who_is = owner;
+        left = holds.left;
+        next = is;
+        all = noted;
+        paid = holds.paid;
+        rests = rests;
+      };
+    }
+
+-- ---- its own task goes on behind its pause
+
+-- an access sets no policy, and has no handle
+no-policies : (i : Instruction) → policies_now (jobs.resume (kinds.Instruction i)) ≡ policies_now (kinds.Instruction i)
+no-policies i = refl
+
+no-handle : (i : Instruction) (handles : List ℕ) → HasHandle handles (jobs.resume (kinds.Instruction i))
+no-handle i handles = tt
+
+-- as many as were taken are there
+pub taken-few : {A : Type 0} (l : List A) (n : ℕ) → n ≡ length (take n l) → n ≤ length l
+taken-few l n is = which (cases_lt (length l) n)
+  where
+    which : (length l < n) ⊎ (n ≤ length l) → n ≤ length l
+    which (inl less) = let all : length (take n l) ≡ length l = ap length (take_all n l (omega (arith, less))) in absurd (omega (arith, is, all, less))
+    which (inr most) = most
+
+-- it told the collector all
+all-apart : (layout : Layout) (watching : Option Watching) (i : Instruction) (noted : ℕ) → noted ≡ length i.lines.told → TellsApart layout watching (jobs.resume (kinds.Instruction i)) noted
+all-apart layout watching i noted is = by (instructions.pause i)
+  where
+    dropped : drop noted i.lines.told ≡ []
+    dropped = drop_all noted i.lines.told (omega (arith, is))
+
+    apart-none : (a : List EventLine) → AreApart a []
+    apart-none [] = tt
+    apart-none (l ∷ []) = tt
+    apart-none (l ∷ m ∷ rest) = apart-none (m ∷ rest)
+
+    of-lines : AreApart (map (event_at 0) (take noted i.lines.told)) (map (event_at 0) (drop noted i.lines.told)) × (collects watching ≡ true → told_notes layout (drop noted i.lines.told) ≡ [])
+    of-lines = (
+      subst (λ (l : List EventOutcome). AreApart (map (event_at 0) (take noted i.lines.told)) (map (event_at 0) l)) (sym dropped) (apart-none (map (event_at 0) (take noted i.lines.told))),
+      λ on. ap (told_notes layout) dropped,
+    )
+
+    by : (o : Option Pause) → TellsApart layout watching (kinds.Instruction (instructions.resume_by i o)) noted
+    by None = of-lines
+    by (Some p) = of-lines
+
+module _ (layout : Layout) (view : View) (cpu : Cpu) (list : List Command) (rows : List Row) (local : Local) (command : Command) (c : Course) (way : IsUnderWay layout view cpu list rows local command (at_rest c)) (holds : HoldsNone view (at_number cpu (length rows)) (at_rest c))
+    (paused : IsPaused layout view (at_number cpu (length rows)) command c.own) (noted : HasNotedAll c) (none : next_due c.due ≡ None) where
+  abbrev by : Who
+  by = at_number cpu (length rows)
+
+  abbrev behind : Course
+  behind = record c { own = jobs.resume c.own; beside = None }
+
+  abbrev i : Instruction
+  i = paused.instruction
+
+  goes : CommandGoesOn c.own (jobs.resume c.own)
+  goes = resume-goes c.own
+
+  same : IsSameBehind c.own (jobs.resume c.own)
+  same = subst (λ (j : Job). IsSameBehind j (jobs.resume j)) (sym paused.is) (behind-same i paused.paused)
+
+  of-access : IsAccessOf command by c.own
+  of-access = runs-access layout by command c.own way.runs (ap jobs.pauses paused.is ∙ ap is_some paused.paused)
+
+  request-who : i.request.who ≡ by
+  request-who = sym (ap jobs.who paused.is) ∙ runs-who layout by command c.own way.runs
+
+  late : {A : Type 0} → EndsAtOnce c.own → A
+  late ends = absurd (paused-late i paused.paused (subst EndsStopped paused.is ends.0))
+
+  unstopped : {A : Type 0} → stays.HasStopped c.own → A
+  unstopped has = absurd (paused-unanswered i paused.paused (sym (ap jobs.answer paused.is) ∙ has-stopped c.own has))
+
+  unspoiled : {A : Type 0} {x : Spoiled} → HasSpoiled c.own x → A
+  unspoiled {A} {x} has = absurd (subst (λ (j : Job). HasSpoiled j x) paused.is has)
+
+  marks : marked_so_far behind ≡ marked_so_far (at_rest c)
+  marks = ap (λ (l : List EventOutcome). filter_map act_marking (acts l c.due.offlined) ++ (marked_beyond (jobs.resume c.own) ++ [])) same.told
+      ∙ ap (λ (l : List Marking). filter_map act_marking (acts (told_of c.own) c.due.offlined) ++ (l ++ [])) (same.beyond ∙ sym holds.beyond)
+
+  same-settings : policies_now (jobs.resume c.own) ≡ policies_now c.own
+  same-settings = subst (λ (j : Job). policies_now (jobs.resume j) ≡ policies_now j) (sym paused.is) (no-policies i)
+
+  pub way-behind : IsUnderWay layout view cpu list rows local command behind
+  way-behind = record {
+    serves = subst (λ (b : Banks). Serves layout view cpu list rows b local.handles) (sym (goes.before local.banks)) way.serves;
+    there = way.there;
+    runs = runs-alike layout by command c.own (jobs.resume c.own) goes way.runs;
+    handle = subst (λ (j : Job). HasHandle local.handles (jobs.resume j)) (sym paused.is) (no-handle i local.handles);
+    policies = λ thread. way.policies thread ∙ ap (λ (l : List (Thread × Policy)). settings thread (answers_by list rows) ++ of_thread thread l) (sym same-settings);
+    stopped = λ some. late (way.stopped some);
+    looked = elim way.looked [
+      | inl ends ↦ late ends
+      | inr saw ↦ inr saw
+    ];
+    stops = λ n who there. elim (way.stops n who there) [
+      | inl own ↦ inl own
+      | inr it ↦ unstopped it.has
+    ];
+    listed = way.listed;
+    account = record {
+      marked = way.account.marked ∙ sym marks;
+      failed = λ can. way.account.failed (sym goes.fails ∙ can) ∙ sym same.failed;
+      set = way.account.set ∙ sym same-settings;
+      counted = way.account.counted ∙ holds.unowed ∙ sym same.owed;
+      losses = way.account.losses;
+    };
+    noted = record { earlier = way.noted.earlier; last = way.noted.last; all = way.noted.all; noted = way.noted.noted; before = way.noted.before; own = way.noted.own; marked = way.noted.marked ∙ sym marks };
+    spoiled = λ n x there. elim (way.spoiled n x there) [
+      | inl own ↦ inl own
+      | inr has ↦ unspoiled has
+    ];
+    collected = keeps-longer layout view by list (watched_at layout list rows (length rows)) (at_rest c) behind ([], same.told ∙ sym (append-nil (told_of c.own))) refl refl refl refl way.collected;
+  }
+
+  -- no frame is left
+  all : length c.due.offlined ≡ length c.due.frames
+  all =
+      let few : length c.due.offlined ≤ length c.due.frames = taken-few c.due.frames (length c.due.offlined) (sym (length-map c.due.offlined (λ (o : Offlining). o.frame)) ∙ ap length way.collected.frames) in
+      let most : length c.due.frames ≤ length c.due.offlined = past-end c.due.frames (length c.due.offlined) none in
+      omega arith
+
+  told-apart : TellsApart layout c.watching (jobs.resume c.own) c.noted
+  told-apart = subst (λ (j : Job). TellsApart layout c.watching (jobs.resume j) c.noted) (sym paused.is) (all-apart layout c.watching i c.noted (noted ∙ ap (λ (j : Job). length (told_of j)) paused.is))
+
+  pub told-behind : told_of (jobs.resume c.own) ≡ told_of c.own
+  told-behind = same.told
+
+  pub own-behind : OwnGoesOn layout view command behind
+  own-behind = record {
+    base = deeds by view;
+    fits = subst (λ (w : Who). jobs.FitsFrom (deeds w view) layout view (jobs.resume c.own)) request-who
+        (subst (λ (j : Job). jobs.FitsFrom (deeds i.request.who view) layout view (jobs.resume j)) (sym paused.is) (resumes i paused.pause paused.rests (subst (IsOnTurn view) (sym request-who) holds.on_turn) holds.hand_is holds.paid));
+    prior = prior-behind of-access paused.met;
+    left = holds.left;
+    all = all;
+    apart = told-apart;
+  }
+
+  pub goes-behind : IsRunning layout view cpu list rows local behind
+  goes-behind = record { command = command; way = way-behind; on = own-behind }

@@ -1,0 +1,79 @@
+-- The entry by which a page left its frame, of a command that is answered: that of the command `soft` itself, beside those before.
+use Rattle.hwp_cpu_causes.proofs.LeftBeside.{IsNoSoft, left-answered, left-moved, moved_at}
+use Rattle.hwp_cpu_course.specs.hwp_cpu_row.hwp_geom.declared.Who.{Who}
+use Rattle.hwp_cpu_course.specs.hwp_cpu_command.declared.job.Job.{Job}
+use Rattle.hwp_cpu_course.specs.hwp_cpu_row.hwp_core_rule.declared.View.{View}
+use Rattle.hwp_cpu_causes.specs.hwp_law_served.hwp_page.declared.At.{At}
+use Rattle.std.proofs.Common.{refl, ◌≡◌, Option, ap, ◌++◌, subst, sym, Some, List, ◌∙◌, []}
+use Rattle.hwp_cpu_course.proofs.of_hwp_cpu_command.OfKind.{of-evict, of-scrub, of-instruction, of-soft, of-fsync, of-raise, of-spoil, of-unpoison, of-prctl, of-inject, of-nested, of-log}
+use Rattle.hwp_cpu_causes.specs.Beside.{ArePrior}
+use Rattle.hwp_cpu_course.specs.hwp_cpu_row.hwp_geom.declared.Layout.{Layout}
+use Rattle.hwp_cpu_course.specs.hwp_cpu_row.hwp_core_rule.declared.Made.{Made}
+use Rattle.std.specs.List.{cons_option}
+use Rattle.hwp_cpu_course.specs.hwp_cpu_row.hwp_geom.declared.Frame.{Frame}
+use Rattle.hwp_cpu_course.specs.hwp_cpu_command.hwp_soft.declared.SoftAnswer.{SoftAnswer}
+use Rattle.hwp_cpu_causes.specs.hwp_law_served.Offlinings.{left_among, left_by, left_itself}
+use Rattle.hwp_cpu_course.proofs.of_hwp_cpu_command_laws.CommandRuns.{runs-who}
+use Rattle.hwp_cpu_course.specs.hwp_cpu_row.hwp_script_lines.declared.Command.{Command}
+use Rattle.hwp_cpu_course.specs.hwp_cpu_command.Answers.{soft_answer}
+use Rattle.hwp_cpu_course.specs.hwp_cpu_row.hwp_report_text.declared.Answer.{Answer}
+use Rattle.hwp_cpu_course.proofs.of_hwp_cpu_command.JobEnds.{mapped}
+use Rattle.hwp_cpu_course.specs.hwp_cpu_command.hwp_soft.declared.Soft.{Soft}
+use Rattle.hwp_cpu_course.specs.hwp_cpu_command.Runs.{Runs}
+use Rattle.hwp_cpu_course.specs.hwp_cpu_command.Jobs as jobs
+use Rattle.hwp_cpu_course.specs.hwp_cpu_command.hwp_soft.Softs as softs
+use Rattle.hwp_cpu_course.specs.hwp_cpu_command.declared.job.Job.TheVariants as kinds
+use Rattle.hwp_cpu_course.specs.hwp_cpu_row.hwp_script_lines.declared.Command.TheVariants as commands
+use Rattle.hwp_cpu_course.specs.hwp_cpu_command.hwp_soft.declared.SoftAnswer.TheVariants as soft_answers
+
+module _ (layout : Layout) (view : View) (who : Who) (j : Job) (a : Answer) (base : List Made) (fits : jobs.FitsFrom base layout view j) (has : jobs.answer j ≡ Some a) where
+  -- of another command
+  plain : {k : Job} {command : Command} → Runs layout who command j → j ≡ k → IsNoSoft k → left_by who view ≡ left_among base
+  plain {k} {command} runs is no = subst (λ (w : Who). left_by w view ≡ left_among base) (runs-who layout who command j runs) (left-answered j (subst IsNoSoft (sym is) no) fits has)
+
+  itself : (frame : Frame) (x : SoftAnswer) → moved_at x ≡ left_itself (commands.Soft frame) (soft_answer x)
+  itself frame soft_answers.Stopped = refl
+  itself frame soft_answers.Kernel = refl
+  itself frame soft_answers.Already = refl
+  itself frame (soft_answers.HasBad mask) = refl
+  itself frame soft_answers.NoFrame = refl
+  itself frame (soft_answers.TakenFree cycle) = refl
+  itself frame (soft_answers.Moved to place cycle) = refl
+
+  -- and of that one
+  own-page : (frame : Frame) → Runs layout who (commands.Soft frame) j → base ≡ [] → left_by who view ≡ cons_option (left_itself (commands.Soft frame) a) (left_among base)
+  own-page frame runs none = subst (λ (w : Who). left_by w view ≡ cons_option (left_itself (commands.Soft frame) a) (left_among base)) (sym (ap jobs.who task.1) ∙ runs-who layout who (commands.Soft frame) j runs)
+      (left-moved task.0 came.0 (subst (jobs.FitsFrom base layout view) task.1 fits) came.1
+      ∙ ap (λ (b : List Made). left_among b ++ cons_option (moved_at came.0) []) none
+      ∙ ap (λ (o : Option At). cons_option o []) (itself frame came.0 ∙ ap (left_itself (commands.Soft frame)) came.2)
+      ∙ ap (λ (b : List Made). cons_option (left_itself (commands.Soft frame) a) (left_among b)) (sym none))
+    where
+      task : (s : Soft) × (j ≡ kinds.Soft s) × _
+      task = of-soft j runs.job_is
+
+      came : (x : SoftAnswer) × (softs.answer task.0 ≡ Some x) × (soft_answer x ≡ a)
+      came = mapped soft_answer (softs.answer task.0) (sym (ap jobs.answer task.1) ∙ has)
+
+  pub left-command : (command : Command) → Runs layout who command j → ArePrior layout command base → left_by who view ≡ cons_option (left_itself command a) (left_among base)
+  left-command (commands.Load thread slot line) runs prior = plain runs (of-instruction j runs.job_is).1 tt
+  left-command (commands.Fetch thread slot line) runs prior = plain runs (of-instruction j runs.job_is).1 tt
+  left-command (commands.KLoad thread slot line) runs prior = plain runs (of-instruction j runs.job_is).1 tt
+  left-command (commands.Store thread slot line word) runs prior = plain runs (of-instruction j runs.job_is).1 tt
+  left-command (commands.Free slot) runs prior = plain runs (of-evict j runs.1.job_is).1 tt
+  left-command (commands.Drop page) runs prior = plain runs (of-evict j runs.job_is).1 tt
+  left-command (commands.Sync page) runs prior = plain runs (of-evict j runs.job_is).1 tt
+  left-command (commands.Out page) runs prior = plain runs (of-evict j runs.job_is).1 tt
+  left-command (commands.Fsync file) runs prior = plain runs (of-fsync j runs.2).1 tt
+  left-command (commands.Open file) runs prior = plain runs (of-fsync j runs.2).1 tt
+  left-command (commands.Prctl thread args) runs prior = plain runs (of-prctl j runs.job_is).1 tt
+  left-command (commands.Bad frame line) runs prior = plain runs (of-spoil j runs.job_is).1 tt
+  left-command (commands.Weak frame line) runs prior = plain runs (of-spoil j runs.job_is).1 tt
+  left-command (commands.Scrub first last) runs prior = plain runs (of-scrub j runs.job_is).1 tt
+  left-command (commands.Log status addr misc) runs prior = plain runs (of-log j runs.job_is).1 tt
+  left-command (commands.Watch threshold window) runs prior = plain runs (of-log j runs.job_is).1 tt
+  left-command (commands.RaiseUser thread ripv eipv) runs prior = plain runs (of-raise j runs.job_is).1 tt
+  left-command (commands.RaiseKernel ripv eipv) runs prior = plain runs (of-raise j runs.job_is).1 tt
+  left-command commands.RaiseNested runs prior = plain runs (of-nested j runs).1 tt
+  left-command (commands.Inject frame) runs prior = plain runs (of-inject j runs.job_is).1 tt
+  left-command (commands.Soft frame) runs prior = own-page frame runs prior
+  left-command (commands.Unpoison frame) runs prior = plain runs (of-unpoison j runs.job_is).1 tt

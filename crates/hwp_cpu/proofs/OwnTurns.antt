@@ -1,0 +1,331 @@
+-- A turn of a command's own task.
+use Rattle.std.proofs.Common.{◌++◌, ◌<◌, Some, ◌≡◌, refl, is_some, length, ◌≤◌, sym, arith, true≢false, subst, ◌≢◌, ◌==◌, None, inl, ◌&&◌, Option, List, suc, append-nil, ◌⊎◌, inr, true, ℕ, drop, Bool, false, ap, filter_map, map, ◌∙◌, []}
+use Rattle.hwp_cpu_course.specs.hwp_cpu_row.hwp_core_rule.Lists.{EachMember}
+use Rattle.hwp_cpu.specs.Serving.{noted_by, GoesOn, task, marked_so_far, IsUnderWay, marked_beside, TellsApart, KeepsWatch, OwnGoesOn, GivesUp, IsPaused}
+use Rattle.hwp_cpu.proofs.OwnRests.{pause-holds, answer-known, own-on, HoldsNone, AnswerKnown, pause-known, fits-still}
+use Rattle.hwp_cpu_course.specs.Courses.{IsUnkept, going_on, answer, part_of, IsGoingOn, told_since, AfterCollecting, AfterCollectingBy, AfterRest, AfterRestBy, FitsOf, FitsOwn, HasRefused, IsGoing, answer_of, has_more, rests}
+use Rattle.hwp_cpu_causes.specs.Beside.{CanCollect}
+use Rattle.hwp_cpu_course.specs.hwp_cpu_row.Locals.{collects}
+use Rattle.std.specs.List.{cons_option}
+use Rattle.hwp_cpu_course.specs.hwp_cpu_row.hwp_core_rule.declared.View.{View}
+use Rattle.hwp_cpu_course.specs.hwp_cpu_row.hwp_script_lines.declared.Command.{Command}
+use Rattle.hwp_cpu_course.specs.hwp_cpu_row.hwp_core_task.declared.Turn.{Turn}
+use Rattle.hwp_cpu_course.specs.hwp_cpu_row.hwp_law_commands.Notes.{AreApart, is_for_pages}
+use Rattle.hwp_cpu_course.specs.Dues.{DueValue, next_due}
+use Rattle.hwp_cpu.proofs.GoingOn.{Turned, ends-now, complete-off, go-on, complete-by}
+use Rattle.hwp_cpu.proofs.ProcessorKeeps.{way-own}
+use Rattle.hwp_cpu_course.specs.hwp_cpu_command.hwp_cpu_access.declared.Instruction.{Instruction}
+use Rattle.hwp_cpu_course.specs.hwp_cpu_row.declared.Row.{Row}
+use Rattle.hwp_cpu_course.specs.hwp_cpu_command.Jobs.{told_of}
+use Rattle.hwp_cpu_course.specs.declared.Course.{Course}
+use Rattle.hwp_cpu_course.specs.hwp_cpu_row.Acts.{acts, told_notes, event_at}
+use Rattle.hwp_cpu_course.specs.hwp_cpu_command.Done.{HasCounted, marked_beyond}
+use Rattle.hwp_cpu_course.specs.hwp_cpu_command.declared.job.Job.{Job}
+use Rattle.hwp_cpu.proofs.OwnLines.{own-apart, notes-by}
+use Rattle.hwp_cpu_causes.specs.hwp_law_served.hwp_page.declared.At.{At}
+use Rattle.hwp_cpu_course.specs.hwp_cpu_row.hwp_geom.declared.Layout.{Layout}
+use Rattle.std.proofs.lemmas.List.{nil_from_length, take_all}
+use Rattle.hwp_cpu.proofs.Collecting.{collect-left, tells-kind}
+use Rattle.hwp_cpu.proofs.Collected.{keeps-same, by-collector}
+use Rattle.hwp_cpu_course.specs.hwp_cpu_row.hwp_geom.declared.Who.{Who}
+use Rattle.hwp_cpu_course.proofs.of_hwp_cpu_command.JobEnds.{answered-over}
+use Rattle.hwp_cpu_causes.specs.hwp_law_served.Offlinings.{left_beside, watched_at}
+use Rattle.hwp_cpu_course.specs.hwp_cpu_row.hwp_report_text.declared.Answer.{Answer}
+use Rattle.hwp_cpu_course.proofs.of_hwp_cpu_command_laws.Beside.{give-up-goes, rests-by, answered-unpaused, answered-unmarked, gives-up, given-up-unanswered}
+use Rattle.hwp_cpu_course.specs.hwp_cpu_command.hwp_cpu_access.declared.instruction.Pause.{Pause}
+use Rattle.hwp_cpu_course.specs.hwp_cpu_row.hwp_geom.declared.Frame.{Frame}
+use Rattle.hwp_cpu.specs.Processors.{at_number}
+use Rattle.hwp_cpu_course.proofs.of_hwp_cpu_command_laws.CommandRuns.{runs-alike}
+use Rattle.hwp_cpu_course.specs.hwp_cpu_command.Stays.{Stepped, HasGivenUp}
+use Rattle.hwp_cpu.proofs.BesideTurns.{at_rest}
+use Rattle.std.proofs.lemmas.Option.{slice_get_within, none-some}
+use Rattle.hwp_cpu_course.specs.hwp_cpu_row.declared.Local.{Local}
+use Rattle.hwp_cpu_course.specs.hwp_cpu_row.hwp_cpu_check.declared.EventOutcome.{EventOutcome}
+use Rattle.hwp_cpu_course.specs.hwp_cpu_command.hwp_soft.declared.Soft.{Soft}
+use Rattle.std.proofs.lemmas.Bool.{eq-eqb, ltb-false, ltb-true}
+use Rattle.hwp_cpu_course.specs.hwp_cpu_row.hwp_geom.declared.Cpu.{Cpu}
+use Rattle.hwp_cpu_course.specs.hwp_cpu_row.declared.Watching.{Watching}
+use Rattle.std.specs.Prelude.{take}
+use Rattle.hwp_cpu_course.specs.hwp_cpu_row.hwp_law_commands.Watched.{Watched}
+use Rattle.hwp_cpu_causes.specs.hwp_law_served.Accounts.{act_marking}
+use Rattle.hwp_cpu_course.specs.Courses as courses
+use Rattle.hwp_cpu_course.specs.hwp_cpu_command.Jobs as jobs
+use Rattle.hwp_cpu_course.specs.hwp_cpu_command.hwp_cpu_access.Instructions as instructions
+use Rattle.hwp_cpu_course.specs.hwp_cpu_command.declared.job.Job.TheVariants as kinds
+
+-- nothing is noted where nothing was told
+dropped-none : (layout : Layout) (n : ℕ) (told : List EventOutcome) → told ≡ [] → told_notes layout (drop n told) ≡ []
+dropped-none layout n told none = ap (λ (l : List EventOutcome). told_notes layout (drop n l)) none ∙ ap (told_notes layout) (by n)
+  where
+    abbrev nothing : List EventOutcome
+    nothing = []
+
+    by : (k : ℕ) → drop k nothing ≡ []
+    by zero = refl
+    by (suc k) = refl
+
+both-true : (a b : Bool) → a && b ≡ true → (a ≡ true) × (b ≡ true)
+both-true true b is = (refl, is)
+both-true false b is = absurd (true≢false (sym is))
+
+-- the frames that are due are for pages, where the course that goes on fits
+more-pages : (layout : Layout) (new : View) (after : Course) (turn : Turn) (d e : Course) → d ≡ e → IsGoingOn d after turn → courses.Fits layout new after → EachMember (λ (g : Frame). is_for_pages layout g ≡ true) e.due.frames
+more-pages layout new after turn d e same follows rule = subst (EachMember (λ (g : Frame). is_for_pages layout g ≡ true)) after-frames rule.for_pages
+  where
+    which : (o : Option Frame) → (going_on d o).due.frames ≡ d.due.frames
+    which None = refl
+    which (Some frame) = refl
+
+    after-frames : after.due.frames ≡ e.due.frames
+    after-frames = ap (λ (x : Course). x.due.frames) follows.0 ∙ which (next_due d.due) ∙ ap (λ (x : Course). x.due.frames) same
+
+module _ (layout : Layout) (old new : View) (cpu : Cpu) (list : List Command) (rows : List Row) (local : Local) (command : Command) (c : Course) (k : Job) (way : IsUnderWay layout old cpu list rows local command c) (on : OwnGoesOn layout old command c)
+    (rule : courses.Fits layout old c) (beside_is : c.beside ≡ None) (made : Stepped layout old new c.own k) (base_is : made.base ≡ on.base) where
+  abbrev at : Who
+  at = at_number cpu (length rows)
+
+  abbrev watched : Option Watched
+  watched = watched_at layout list rows (length rows)
+
+  abbrev next : Course
+  next = record c { own = k }
+
+  way-next : IsUnderWay layout new cpu list rows local command next
+  way-next = way-own layout old new cpu list rows local command c k way made beside_is
+
+  fits-next : jobs.FitsFrom on.base layout new k
+  fits-next = fits-still layout old new command c k on made base_is
+
+  -- an access that goes on was told that its processor collects
+  unkept : collects c.watching ≡ true → IsUnkept c.own c.noted
+  unkept collecting = going-on.unkept collecting
+    where
+      unanswered : jobs.answer c.own ≡ None
+      unanswered = which (jobs.answer c.own) refl
+        where
+          which : (o : Option Answer) → jobs.answer c.own ≡ o → jobs.answer c.own ≡ None
+          which None is = is
+          which (Some a) is = absurd (none-some made.step (sym (answered-over c.own is) ∙ made.planned))
+
+      going-on : IsGoing layout old c
+      going-on = subst (FitsOwn layout old c) unanswered (subst (FitsOf layout old c) beside_is rule.at)
+
+  apart : TellsApart layout c.watching k c.noted ⊎ ((jobs.pauses k ≡ true) × AreApart (map (event_at 0) (take c.noted (told_of k))) (map (event_at 0) (drop c.noted (told_of k))))
+  apart = own-apart layout old new c.watching c.own k c.noted way.collected.few fits-own made unkept on.apart
+    where
+      fits-own : jobs.FitsFrom made.base layout old c.own
+      fits-own = made.fits
+
+  notes : told_notes layout (told_of k) ≡ noted_by layout next ++ told_notes layout (told_since next)
+  notes = notes-by layout c.watching k c.noted apart
+
+  -- ---- it goes on
+
+  turned-on : (collects c.watching && rests k) ≡ false → Turned layout new cpu list rows local next (answer next)
+  turned-on still = subst (λ (o : Option Soft). Turned layout new cpu list rows local next (answer_of o k)) (sym beside_is) (by (jobs.answer k) refl)
+    where
+      apart-still : TellsApart layout c.watching k c.noted
+      apart-still = elim apart [
+        | inl has ↦ has
+        | inr pauses_now ↦ paused-apart k pauses_now.0 pauses_now.1
+      ]
+        where
+          off : jobs.pauses k ≡ true → collects c.watching ≡ false
+          off paused = which (collects c.watching) refl
+            where
+              which : (b : Bool) → collects c.watching ≡ b → collects c.watching ≡ false
+              which false is = is
+              which true is = absurd (true≢false (ap (λ (b : Bool). b || is_some (jobs.answer k)) (sym paused) ∙ ap (λ (b : Bool). b && rests k) (sym is) ∙ still))
+
+          paused-apart : (j : Job) → jobs.pauses k ≡ true → AreApart (map (event_at 0) (take c.noted (told_of k))) (map (event_at 0) (drop c.noted (told_of k))) → TellsApart layout c.watching k c.noted
+          paused-apart j paused lines-apart = by-kind k paused lines-apart
+            where
+              by-kind : (x : Job) → jobs.pauses x ≡ true → AreApart (map (event_at 0) (take c.noted (told_of x))) (map (event_at 0) (drop c.noted (told_of x))) → TellsApart layout c.watching x c.noted
+              by-kind (kinds.Instruction i) is has = (has, λ collecting. absurd (true≢false (sym collecting ∙ off paused)))
+              by-kind _ is has = absurd (true≢false (sym is))
+
+      going : OwnGoesOn layout new command next
+      going = own-on layout old new command c k on made base_is apart-still
+
+      by : (o : Option Answer) → jobs.answer k ≡ o → Turned layout new cpu list rows local next o
+      by None is = inl (record { command = command; way = way-next; on = subst (GoesOn layout new cpu list rows local command next) (sym beside_is) going })
+      by (Some a) is = record {
+        command = command;
+        way = way-next;
+        known = answer-known layout new cpu list rows local command next way-next on.base fits-next on.prior on.left a is;
+        none = beside_is;
+        all = on.all;
+        complete = complete-off layout new at list watched next off way-next.collected;
+      }
+        where
+          off : collects c.watching ≡ false
+          off = which (collects c.watching) refl
+            where
+              which : (b : Bool) → collects c.watching ≡ b → collects c.watching ≡ false
+              which false at_is = at_is
+              which true at_is = absurd (true≢false (sym (or-some (jobs.pauses k)) ∙ ap (λ (x : Option Answer). jobs.pauses k || is_some x) (sym is) ∙ ap (λ (b : Bool). b && rests k) (sym at_is) ∙ still))
+                where
+                  or-some : (b : Bool) → b || true ≡ true
+                  or-some true = refl
+                  or-some false = refl
+
+  -- ---- it rests
+
+  module _ (collecting : collects c.watching ≡ true) (resting : rests k ≡ true) where
+    -- what is so of a course with the same task, once all is noted
+    module _ (w : Option Watching) (n : ℕ) (f : List Frame) (spare : ℕ) (is_all : n ≡ length (told_of k)) (keeps : KeepsWatch layout new at list watched (record next { watching = w; noted = n; due = record { frames = f; offlined = c.due.offlined; spare = spare } }))
+        (pages : EachMember (λ (g : Frame). is_for_pages layout g ≡ true) f) (alone : told_notes layout (told_since next) ≡ [] → f ≡ c.due.frames) where
+      abbrev d : Course
+      d = record next { watching = w; noted = n; due = record { frames = f; offlined = c.due.offlined; spare = spare } }
+
+      marks : marked_so_far (at_rest d) ≡ marked_so_far next
+      marks = ap (λ (o : Option Soft). filter_map act_marking (acts (told_of k) c.due.offlined) ++ (marked_beyond k ++ marked_beside o)) (sym beside_is)
+
+      rest-way : IsUnderWay layout new cpu list rows local command (at_rest d)
+      rest-way = record {
+        serves = way-next.serves;
+        there = way-next.there;
+        runs = way-next.runs;
+        handle = way-next.handle;
+        policies = way-next.policies;
+        stopped = way-next.stopped;
+        looked = way-next.looked;
+        stops = way-next.stops;
+        listed = way-next.listed;
+        account = record {
+          marked = way-next.account.marked ∙ sym marks;
+          failed = way-next.account.failed;
+          set = way-next.account.set;
+          counted = subst (λ (o : Option Soft). HasCounted (part_of o k) new) beside_is way-next.account.counted;
+          losses = way-next.account.losses;
+        };
+        noted = record { earlier = way-next.noted.earlier; last = way-next.noted.last; all = way-next.noted.all; noted = way-next.noted.noted; before = way-next.noted.before; own = way-next.noted.own; marked = way-next.noted.marked ∙ sym marks };
+        spoiled = way-next.spoiled;
+        collected = record {
+          few = keeps.few;
+          frames_are = keeps.frames_are;
+          watching = keeps.watching;
+          room = keeps.room;
+          due = keeps.due;
+          frames = keeps.frames;
+          offlined = keeps.offlined;
+          behind = keeps.behind;
+        };
+      }
+
+      holds-rest : HoldsNone new at next → HoldsNone new at (at_rest d)
+      holds-rest has = record { on_turn = has.on_turn; hand_is = has.hand_is; paid = has.paid; unowed = has.unowed; beyond = has.beyond; left = has.left }
+
+      known-next : (a : Answer) → jobs.answer k ≡ Some a → AnswerKnown layout new cpu list rows local command next a
+      known-next a is = answer-known layout new cpu list rows local command next way-next on.base fits-next on.prior on.left a is
+
+      known-rest : (a : Answer) → jobs.answer k ≡ Some a → AnswerKnown layout new cpu list rows local command (at_rest d) a
+      known-rest a is = let has = known-next a is in record {
+        answered = has.answered;
+        served = has.served;
+        does = has.does;
+        failed = has.failed;
+        on_turn = has.on_turn;
+        hand_is = has.hand_is;
+        paid = has.paid;
+        unowed = has.unowed;
+        left = has.left;
+        numbers = has.numbers;
+        halted = has.halted;
+      }
+
+      rest-due : (a : Answer) → jobs.answer k ≡ Some a → (frame : Frame) → next_due d.due ≡ Some frame → CanCollect command × (told_of k ≢ [])
+      rest-due a is frame comes = which (tells-kind layout at command k way-next.runs)
+        where
+          nothing-due : told_notes layout (told_since next) ≡ [] → ⊥
+          nothing-due none = let within : length c.due.offlined < length f = slice_get_within f (length c.due.offlined) frame comes in
+              let few : length f ≡ length c.due.frames = ap length (alone none) in let all : length c.due.offlined ≡ length c.due.frames = on.all in omega (arith, within, few, all)
+
+          unnoted : (i : Instruction) → k ≡ kinds.Instruction i → told_notes layout (told_since next) ≡ []
+          unnoted i task = elim apart [
+            | inl has ↦ ap (λ (j : Job). told_notes layout (drop c.noted (told_of j))) task ∙ (subst (λ (j : Job). TellsApart layout c.watching j c.noted) task has).1 collecting
+            | inr paused ↦ absurd (true≢false (sym paused.0 ∙ ap jobs.pauses task ∙ answered-unpaused i (ap is_some (sym (ap jobs.answer task) ∙ is))))
+          ]
+
+          which : CanCollect command ⊎ (((i : Instruction) × (k ≡ kinds.Instruction i)) ⊎ (told_of k ≡ [])) → CanCollect command × (told_of k ≢ [])
+          which (inl can) = (can, λ none. nothing-due (dropped-none layout c.noted (told_of k) none))
+          which (inr (inl task)) = absurd (nothing-due (unnoted task.0 task.1))
+          which (inr (inr none)) = absurd (nothing-due (dropped-none layout c.noted (told_of k) none))
+
+      -- so the command goes on
+      pub goes-on-by : (after : Course) (turn : Turn) → IsGoingOn d after turn → Turned layout new cpu list rows local after (answer after)
+      goes-on-by after turn follows = which (rests-by k resting)
+        where
+          by-frame : (a : Answer) → jobs.answer k ≡ Some a → (o : Option Frame) → next_due d.due ≡ o → Turned layout new cpu list rows local after (answer after)
+          by-frame a is (Some frame) comes =
+              let so = rest-due a is frame comes in
+              let known = known-next a is in
+              go-on layout new cpu list rows local command d rest-way
+              (holds-rest (record {
+                on_turn = known.on_turn;
+                hand_is = known.hand_is;
+                paid = known.paid;
+                unowed = known.unowed;
+                beyond = answered-unmarked k is so.1;
+                left = known.left ∙ ap (λ (o : Option At). cons_option o (left_beside c.due.offlined)) (collect-left command a so.0);
+              }))
+              (inr (record { answer = a; answered = is; collects = so.0; some = so.1; served = known.served; does = known.does })) is_all pages after turn follows
+          by-frame a is None comes = subst (λ (x : Course). Turned layout new cpu list rows local x (answer x)) (sym (follows.0 ∙ ap (going_on d) comes))
+              (ends-now layout new cpu list rows local command d rest-way a (known-rest a is)
+              (complete-by layout new at list watched (at_rest d) rest-way.collected (ap (told_notes layout) (sym (take_all n (told_of k) (omega (arith, is_all)))))) comes)
+
+          which : ((i : Instruction) × (p : Pause) × (k ≡ kinds.Instruction i) × (instructions.pause i ≡ Some p)) ⊎ ((a : Answer) × (jobs.answer k ≡ Some a)) → Turned layout new cpu list rows local after (answer after)
+          which (inl (i, p, task, paused)) = go-on layout new cpu list rows local command d rest-way (holds-rest (pause-holds layout new at command next way-next.runs on.base fits-next on.prior on.left i task p paused))
+              (inl (pause-known layout new at command next way-next.runs on.base fits-next on.prior on.left i task p paused)) is_all pages after turn follows
+          which (inr (a, is)) = by-frame a is (next_due d.due) refl
+
+    -- the frames so far are for pages
+    pages-next : EachMember (λ (g : Frame). is_for_pages layout g ≡ true) c.due.frames
+    pages-next = rule.for_pages
+
+    collected-turn : (d after : Course) (turn : Turn) → courses.Fits layout new after → AfterCollecting layout next d → IsGoingOn d after turn → Turned layout new cpu list rows local after (answer after)
+    collected-turn d after turn rule_after took follows = which c.watching refl collecting took
+      where
+        which : (o : Option Watching) → c.watching ≡ o → collects o ≡ true → AfterCollectingBy layout next o d → Turned layout new cpu list rows local after (answer after)
+        which None is collecting_by none = absurd none
+        which (Some w) is collecting_by (counters, value, (more, spare, value_is, room, took_by), d_is) =
+            goes-on-by (Some (record w { collector = counters })) (length (told_of k)) (c.due.frames ++ more) spare refl
+            (by-collector layout new at list watched next way-next.collected on.all notes w is collecting_by counters more spare took_by)
+            (more-pages layout new after turn d _ same follows rule_after)
+            (λ none. ap (λ (l : List Frame). c.due.frames ++ l) (nil_from_length more (let few : length more ≤ length (told_notes layout (told_since next)) = took_by.few in let zero_is : length (told_notes layout (told_since next)) ≡ 0 = ap length none in omega (arith, few, zero_is))) ∙ append-nil c.due.frames)
+            after turn (subst (λ (x : Course). IsGoingOn x after turn) same follows)
+          where
+            same : d ≡ record next { watching = Some (record w { collector = counters }); noted = length (told_of k); due = record { frames = c.due.frames ++ more; offlined = c.due.offlined; spare = spare } }
+            same = d_is ∙ ap (λ (x : DueValue). record next { watching = Some (record w { collector = counters }); noted = length (told_of k); due = x }) value_is
+
+    pub rest-turn : (after : Course) (turn : Turn) → courses.Fits layout new after → AfterRest layout next after turn → Turned layout new cpu list rows local after (answer after)
+    rest-turn after turn rule_after follows = which (has_more layout next) refl follows
+      where
+        refused : has_more layout next ≡ true → HasRefused next after turn → Turned layout new cpu list rows local after (answer after)
+        refused more (after_is, turn_is) = subst (λ (x : Course). Turned layout new cpu list rows local x (answer x)) (sym after_is)
+            (subst (λ (o : Option Soft). Turned layout new cpu list rows local (record next { own = jobs.give_up k }) (answer_of o (jobs.give_up k))) (sym beside_is)
+            (subst (λ (o : Option Answer). Turned layout new cpu list rows local (record next { own = jobs.give_up k }) o) (sym (given-up-unanswered (jobs.give_up k) up)) (inr (record {
+              command = command;
+              there = way-next.there;
+              runs = runs-alike layout at command k (jobs.give_up k) (give-up-goes k) way-next.runs;
+              up = up;
+              none = beside_is;
+            }))))
+          where
+            told-some : told_of k ≢ []
+            told-some none = let less : c.noted < length (told_of k) = ltb-true c.noted (length (told_of k)) (both-true (nat_lt c.noted (length (told_of k))) (layout.frames == c.frames) more).0 in let zero_is : length (told_of k) ≡ 0 = ap length none in absurd (omega (arith, less, zero_is))
+
+            up : HasGivenUp (jobs.give_up k)
+            up = gives-up k told-some
+
+        which : (b : Bool) → has_more layout next ≡ b → AfterRestBy layout next b after turn → Turned layout new cpu list rows local after (answer after)
+        which true more (inl no) = refused more no
+        which true more (inr (d, took, goes)) = collected-turn d after turn rule_after took goes
+        which false none goes = goes-on-by c.watching c.noted c.due.frames c.due.spare noted_is (keeps-same layout new at list watched next way-next.collected) pages-next (λ nothing. refl) after turn goes
+          where
+            noted_is : c.noted ≡ length (told_of k)
+            noted_is = let most : length (told_of k) ≤ c.noted = no-more (nat_lt c.noted (length (told_of k))) refl in let few : c.noted ≤ length (told_of k) = way-next.collected.few in omega arith
+              where
+                no-more : (b : Bool) → nat_lt c.noted (length (told_of k)) ≡ b → length (told_of k) ≤ c.noted
+                no-more false is = ltb-false c.noted (length (told_of k)) is
+                no-more true is = absurd (true≢false (sym (ap (λ (b : Bool). true && b) (eq-eqb layout.frames c.frames (sym way-next.collected.frames_are)) ) ∙ ap (λ (b : Bool). b && (layout.frames == c.frames)) (sym is) ∙ none))
