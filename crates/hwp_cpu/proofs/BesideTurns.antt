@@ -2,20 +2,18 @@
 use Rattle.std.proofs.lemmas.Bool.{cases_lt}
 use Rattle.hwp_cpu_course.proofs.of_hwp_cpu_command.of_hwp_cpu_access.Resting.{resumes}
 use Rattle.hwp_cpu_course.specs.Dues.{next_due}
-use Rattle.std.proofs.Common.{subst, filter_map, ℕ, Some, Option, ◌∷◌, ◌++◌, ap, map, append-nil, None, refl, inr, ◌≡◌, true, is_some, List, drop, ◌<◌, ◌≤◌, sym, length, inl, arith, ◌∙◌, [], ◌⊎◌}
+use Rattle.std.proofs.Common.{subst, filter_map, ℕ, Some, Option, ◌++◌, ap, append-nil, None, refl, inr, ◌≡◌, is_some, List, ◌<◌, ◌≤◌, sym, length, inl, arith, ◌∙◌, [], ◌⊎◌}
 use Rattle.hwp_cpu_course.specs.hwp_cpu_row.hwp_claim_frame.Done.{Marking}
 use Rattle.hwp_cpu_course.specs.hwp_cpu_command.Stays.{EndsAtOnce, EndsStopped, HasSpoiled}
 use Rattle.std.specs.Prelude.{take}
-use Rattle.std.proofs.lemmas.List.{length-map, drop_all, take_all}
+use Rattle.std.proofs.lemmas.List.{length-map, take_all}
 use Rattle.hwp_cpu_course.proofs.of_hwp_cpu_command_laws.Beside.{paused-late, paused-unanswered, IsSameBehind, behind-same, resume-goes}
 use Rattle.hwp_cpu_causes.specs.hwp_law_served.Accounts.{act_marking}
-use Rattle.hwp_cpu_course.specs.hwp_cpu_row.hwp_report_text.declared.EventLine.{EventLine}
-use Rattle.hwp_cpu.specs.Serving.{Rests, IsRunning, Serves, marked_so_far, IsUnderWay, IsPaused, TellsApart, OwnGoesOn}
+use Rattle.hwp_cpu.specs.Serving.{Rests, IsRunning, Serves, marked_so_far, IsUnderWay, IsPaused, HasToldAll, OwnGoesOn}
 use Rattle.hwp_cpu_causes.proofs.OnTheWay.{runs-access, IsAccessOf, prior-behind}
 use Rattle.hwp_cpu_course.specs.hwp_cpu_command.FileHandles.{HasHandle}
 use Rattle.hwp_cpu_course.specs.hwp_cpu_row.declared.Local.{Local}
 use Rattle.hwp_cpu_course.proofs.of_hwp_cpu_command_laws.CommandRuns.{runs-who, GoesOn as CommandGoesOn, runs-alike}
-use Rattle.hwp_cpu_course.specs.hwp_cpu_row.Locals.{collects}
 use Rattle.hwp_cpu_course.specs.hwp_cpu_command.Jobs.{told_of}
 use Rattle.hwp_cpu_course.proofs.of_hwp_cpu_command_laws.CommandStops.{has-stopped}
 use Rattle.hwp_cpu_course.specs.hwp_cpu_row.hwp_cpu_check.declared.EventOutcome.{EventOutcome}
@@ -25,7 +23,7 @@ use Rattle.hwp_cpu_course.specs.hwp_cpu_row.hwp_geom.declared.Layout.{Layout}
 use Rattle.hwp_cpu_course.specs.hwp_cpu_command.Settings.{policies_now, of_thread}
 use Rattle.hwp_cpu_course.specs.hwp_cpu_row.declared.Row.{Row}
 use Rattle.hwp_cpu_course.specs.hwp_cpu_row.hwp_core_task.Known.{deeds}
-use Rattle.hwp_cpu_course.specs.hwp_cpu_row.Acts.{acts, told_notes, event_at}
+use Rattle.hwp_cpu_course.specs.hwp_cpu_row.Acts.{acts}
 use Rattle.hwp_cpu_course.specs.hwp_cpu_command.Done.{marked_beyond}
 use Rattle.hwp_cpu_course.specs.hwp_cpu_row.declared.Watching.{Watching}
 use Rattle.hwp_cpu_course.specs.hwp_cpu_command.hwp_kill.declared.Policy.{Policy}
@@ -41,7 +39,6 @@ use Rattle.hwp_cpu_course.specs.declared.Course.{Course}
 use Rattle.hwp_cpu_course.specs.hwp_cpu_row.hwp_core_task.Calls.{IsOnTurn}
 use Rattle.hwp_cpu_course.specs.hwp_cpu_command.Stays as stays
 use Rattle.hwp_cpu_course.specs.hwp_cpu_row.hwp_geom.declared.Frame.{Frame}
-use Rattle.hwp_cpu_course.specs.hwp_cpu_row.hwp_law_commands.Notes.{AreApart}
 use Rattle.hwp_cpu_course.specs.hwp_cpu_command.hwp_soft.declared.Soft.{Soft}
 use Rattle.hwp_cpu.specs.Processors.{at_number}
 use Rattle.hwp_cpu_course.specs.hwp_cpu_command.declared.job.Job.{Job}
@@ -146,26 +143,12 @@ taken-few l n is = which (cases_lt (length l) n)
     which (inr most) = most
 
 -- it told the collector all
-all-apart : (layout : Layout) (watching : Option Watching) (i : Instruction) (noted : ℕ) → noted ≡ length i.lines.told → TellsApart layout watching (jobs.resume (kinds.Instruction i)) noted
-all-apart layout watching i noted is = by (instructions.pause i)
+told-all : (watching : Option Watching) (i : Instruction) (noted : ℕ) → noted ≡ length i.lines.told → HasToldAll watching (jobs.resume (kinds.Instruction i)) noted
+told-all watching i noted is = by (instructions.pause i)
   where
-    dropped : drop noted i.lines.told ≡ []
-    dropped = drop_all noted i.lines.told (omega (arith, is))
-
-    apart-none : (a : List EventLine) → AreApart a []
-    apart-none [] = tt
-    apart-none (l ∷ []) = tt
-    apart-none (l ∷ m ∷ rest) = apart-none (m ∷ rest)
-
-    of-lines : AreApart (map (event_at 0) (take noted i.lines.told)) (map (event_at 0) (drop noted i.lines.told)) × (collects watching ≡ true → told_notes layout (drop noted i.lines.told) ≡ [])
-    of-lines = (
-      subst (λ (l : List EventOutcome). AreApart (map (event_at 0) (take noted i.lines.told)) (map (event_at 0) l)) (sym dropped) (apart-none (map (event_at 0) (take noted i.lines.told))),
-      λ on. ap (told_notes layout) dropped,
-    )
-
-    by : (o : Option Pause) → TellsApart layout watching (kinds.Instruction (instructions.resume_by i o)) noted
-    by None = of-lines
-    by (Some p) = of-lines
+    by : (o : Option Pause) → HasToldAll watching (kinds.Instruction (instructions.resume_by i o)) noted
+    by None = λ on. is
+    by (Some p) = λ on. is
 
 module _ (layout : Layout) (view : View) (cpu : Cpu) (list : List Command) (rows : List Row) (local : Local) (command : Command) (c : Course) (way : IsUnderWay layout view cpu list rows local command (at_rest c)) (holds : HoldsNone view (at_number cpu (length rows)) (at_rest c))
     (paused : IsPaused layout view (at_number cpu (length rows)) command c.own) (noted : HasNotedAll c) (none : next_due c.due ≡ None) where
@@ -245,8 +228,8 @@ module _ (layout : Layout) (view : View) (cpu : Cpu) (list : List Command) (rows
       let most : length c.due.frames ≤ length c.due.offlined = past-end c.due.frames (length c.due.offlined) none in
       omega arith
 
-  told-apart : TellsApart layout c.watching (jobs.resume c.own) c.noted
-  told-apart = subst (λ (j : Job). TellsApart layout c.watching (jobs.resume j) c.noted) (sym paused.is) (all-apart layout c.watching i c.noted (noted ∙ ap (λ (j : Job). length (told_of j)) paused.is))
+  all-told : HasToldAll c.watching (jobs.resume c.own) c.noted
+  all-told = subst (λ (j : Job). HasToldAll c.watching (jobs.resume j) c.noted) (sym paused.is) (told-all c.watching i c.noted (noted ∙ ap (λ (j : Job). length (told_of j)) paused.is))
 
   pub told-behind : told_of (jobs.resume c.own) ≡ told_of c.own
   told-behind = same.told
@@ -259,7 +242,7 @@ module _ (layout : Layout) (view : View) (cpu : Cpu) (list : List Command) (rows
     prior = prior-behind of-access paused.met;
     left = holds.left;
     all = all;
-    apart = told-apart;
+    told = all-told;
   }
 
   pub goes-behind : IsRunning layout view cpu list rows local behind

@@ -123,3 +123,17 @@ keeps-same layout view who list watched c has = record {
   offlined = has.offlined;
   behind = has.behind;
 }
+
+-- events that note nothing are passed over
+pub keeps-noted : (layout : Layout) (view : View) (who : Who) (list : List Command) (watched : Option Watched) (c : Course) (noted : ℕ) → KeepsWatch layout view who list watched c → noted ≤ length (told_of c.own) → told_notes layout (take noted (told_of c.own)) ≡ noted_by layout c
+    → KeepsWatch layout view who list watched (record c { noted = noted })
+keeps-noted layout view who list watched c noted has few same = record {
+  few = few;
+  frames_are = has.frames_are;
+  watching = subst (λ (l : List Frame). IsWatching layout.frames (noting l watched) c.watching) (sym same) has.watching;
+  room = has.room;
+  due = has.due ∙ ap (due watched) (sym same);
+  frames = has.frames;
+  offlined = has.offlined;
+  behind = has.behind;
+}

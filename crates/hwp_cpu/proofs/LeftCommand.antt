@@ -28,8 +28,8 @@ use Rattle.hwp_cpu_course.specs.hwp_cpu_command.hwp_soft.declared.SoftAnswer.The
 
 module _ (layout : Layout) (view : View) (who : Who) (j : Job) (a : Answer) (base : List Made) (fits : jobs.FitsFrom base layout view j) (has : jobs.answer j ≡ Some a) where
   -- of another command
-  plain : {k : Job} {command : Command} → Runs layout who command j → j ≡ k → IsNoSoft k → left_by who view ≡ left_among base
-  plain {k} {command} runs is no = subst (λ (w : Who). left_by w view ≡ left_among base) (runs-who layout who command j runs) (left-answered j (subst IsNoSoft (sym is) no) fits has)
+  plain : (command : Command) {k : Job} → Runs layout who command j → j ≡ k → IsNoSoft k → left_by who view ≡ left_among base
+  plain command {k} runs is apart = subst (λ (w : Who). left_by w view ≡ left_among base) (runs-who layout who command j runs) (left-answered j (subst IsNoSoft (sym is) apart) fits has)
 
   itself : (frame : Frame) (x : SoftAnswer) → moved_at x ≡ left_itself (commands.Soft frame) (soft_answer x)
   itself frame soft_answers.Stopped = refl
@@ -48,32 +48,32 @@ module _ (layout : Layout) (view : View) (who : Who) (j : Job) (a : Answer) (bas
       ∙ ap (λ (o : Option At). cons_option o []) (itself frame came.0 ∙ ap (left_itself (commands.Soft frame)) came.2)
       ∙ ap (λ (b : List Made). cons_option (left_itself (commands.Soft frame) a) (left_among b)) (sym none))
     where
-      task : (s : Soft) × (j ≡ kinds.Soft s) × _
+      task : (s : Soft) × (j ≡ kinds.Soft s) × (softs.begin s.who s.frame ≡ softs.begin who frame)
       task = of-soft j runs.job_is
 
       came : (x : SoftAnswer) × (softs.answer task.0 ≡ Some x) × (soft_answer x ≡ a)
       came = mapped soft_answer (softs.answer task.0) (sym (ap jobs.answer task.1) ∙ has)
 
   pub left-command : (command : Command) → Runs layout who command j → ArePrior layout command base → left_by who view ≡ cons_option (left_itself command a) (left_among base)
-  left-command (commands.Load thread slot line) runs prior = plain runs (of-instruction j runs.job_is).1 tt
-  left-command (commands.Fetch thread slot line) runs prior = plain runs (of-instruction j runs.job_is).1 tt
-  left-command (commands.KLoad thread slot line) runs prior = plain runs (of-instruction j runs.job_is).1 tt
-  left-command (commands.Store thread slot line word) runs prior = plain runs (of-instruction j runs.job_is).1 tt
-  left-command (commands.Free slot) runs prior = plain runs (of-evict j runs.1.job_is).1 tt
-  left-command (commands.Drop page) runs prior = plain runs (of-evict j runs.job_is).1 tt
-  left-command (commands.Sync page) runs prior = plain runs (of-evict j runs.job_is).1 tt
-  left-command (commands.Out page) runs prior = plain runs (of-evict j runs.job_is).1 tt
-  left-command (commands.Fsync file) runs prior = plain runs (of-fsync j runs.2).1 tt
-  left-command (commands.Open file) runs prior = plain runs (of-fsync j runs.2).1 tt
-  left-command (commands.Prctl thread args) runs prior = plain runs (of-prctl j runs.job_is).1 tt
-  left-command (commands.Bad frame line) runs prior = plain runs (of-spoil j runs.job_is).1 tt
-  left-command (commands.Weak frame line) runs prior = plain runs (of-spoil j runs.job_is).1 tt
-  left-command (commands.Scrub first last) runs prior = plain runs (of-scrub j runs.job_is).1 tt
-  left-command (commands.Log status addr misc) runs prior = plain runs (of-log j runs.job_is).1 tt
-  left-command (commands.Watch threshold window) runs prior = plain runs (of-log j runs.job_is).1 tt
-  left-command (commands.RaiseUser thread ripv eipv) runs prior = plain runs (of-raise j runs.job_is).1 tt
-  left-command (commands.RaiseKernel ripv eipv) runs prior = plain runs (of-raise j runs.job_is).1 tt
-  left-command commands.RaiseNested runs prior = plain runs (of-nested j runs).1 tt
-  left-command (commands.Inject frame) runs prior = plain runs (of-inject j runs.job_is).1 tt
+  left-command (commands.Load thread slot line) runs prior = plain (commands.Load thread slot line) runs (of-instruction j runs.job_is).1 tt
+  left-command (commands.Fetch thread slot line) runs prior = plain (commands.Fetch thread slot line) runs (of-instruction j runs.job_is).1 tt
+  left-command (commands.KLoad thread slot line) runs prior = plain (commands.KLoad thread slot line) runs (of-instruction j runs.job_is).1 tt
+  left-command (commands.Store thread slot line word) runs prior = plain (commands.Store thread slot line word) runs (of-instruction j runs.job_is).1 tt
+  left-command (commands.Free slot) runs prior = plain (commands.Free slot) runs (of-evict j runs.1.job_is).1 tt
+  left-command (commands.Drop page) runs prior = plain (commands.Drop page) runs (of-evict j runs.job_is).1 tt
+  left-command (commands.Sync page) runs prior = plain (commands.Sync page) runs (of-evict j runs.job_is).1 tt
+  left-command (commands.Out page) runs prior = plain (commands.Out page) runs (of-evict j runs.job_is).1 tt
+  left-command (commands.Fsync file) runs prior = plain (commands.Fsync file) runs (of-fsync j runs.2).1 tt
+  left-command (commands.Open file) runs prior = plain (commands.Open file) runs (of-fsync j runs.2).1 tt
+  left-command (commands.Prctl thread args) runs prior = plain (commands.Prctl thread args) runs (of-prctl j runs.job_is).1 tt
+  left-command (commands.Bad frame line) runs prior = plain (commands.Bad frame line) runs (of-spoil j runs.job_is).1 tt
+  left-command (commands.Weak frame line) runs prior = plain (commands.Weak frame line) runs (of-spoil j runs.job_is).1 tt
+  left-command (commands.Scrub first last) runs prior = plain (commands.Scrub first last) runs (of-scrub j runs.job_is).1 tt
+  left-command (commands.Log status addr misc) runs prior = plain (commands.Log status addr misc) runs (of-log j runs.job_is).1 tt
+  left-command (commands.Watch threshold window) runs prior = plain (commands.Watch threshold window) runs (of-log j runs.job_is).1 tt
+  left-command (commands.RaiseUser thread ripv eipv) runs prior = plain (commands.RaiseUser thread ripv eipv) runs (of-raise j runs.job_is).1 tt
+  left-command (commands.RaiseKernel ripv eipv) runs prior = plain (commands.RaiseKernel ripv eipv) runs (of-raise j runs.job_is).1 tt
+  left-command commands.RaiseNested runs prior = plain commands.RaiseNested runs (of-nested j runs).1 tt
+  left-command (commands.Inject frame) runs prior = plain (commands.Inject frame) runs (of-inject j runs.job_is).1 tt
   left-command (commands.Soft frame) runs prior = own-page frame runs prior
-  left-command (commands.Unpoison frame) runs prior = plain runs (of-unpoison j runs.job_is).1 tt
+  left-command (commands.Unpoison frame) runs prior = plain (commands.Unpoison frame) runs (of-unpoison j runs.job_is).1 tt

@@ -1,133 +1,205 @@
--- The events that a command's own task tells of are of other machine checks than those that the collector got.
-use Rattle.hwp_cpu_course.specs.hwp_cpu_row.hwp_law_commands.Notes.{AreApart, notes}
-use Rattle.hwp_cpu_causes.proofs.of_hwp_law_served.of_hwp_law_commands.NoteLaws.{notes-append}
-use Rattle.hwp_cpu_course.specs.hwp_cpu_row.hwp_report_text.declared.EventLine.{EventLine}
+-- What a step of a command's own task tells of events, and what those note.
 use Rattle.hwp_cpu_course.specs.hwp_cpu_row.hwp_cpu_check.Told.{halts, has_kept}
-use Rattle.hwp_cpu_causes.proofs.NotedLines.{answered-unnoted, apart-more}
-use Rattle.hwp_cpu_course.specs.Courses.{IsUnkept}
+use Rattle.hwp_cpu_causes.proofs.NotedLines.{answered-unnoted, notes-more}
 use Rattle.hwp_cpu_course.proofs.of_hwp_cpu_command.of_hwp_cpu_access.ToldMore.{Tells, told-more}
-use Rattle.std.proofs.Common.{false, refl, ◌⊎◌, List, ℕ, inl, drop, ◌∷◌, true, ◌≤◌, ◌&&◌, append-nil, inr, Option, ◌≡◌, Bool, sym, length, map, ◌++◌, subst, ◌∙◌, [], ap}
-use Rattle.std.proofs.lemmas.List.{drop-append-le, map-append, take-append-drop, take-append-le}
-use Rattle.hwp_cpu_course.specs.hwp_cpu_row.hwp_geom.declared.Layout.{Layout}
-use Rattle.hwp_cpu_course.specs.hwp_cpu_row.hwp_core_rule.declared.View.{View}
-use Rattle.hwp_cpu.specs.Serving.{TellsApart}
-use Rattle.hwp_cpu_course.specs.hwp_cpu_row.declared.Watching.{Watching}
-use Rattle.hwp_cpu_course.specs.hwp_cpu_row.hwp_core_rule.declared.Made.{Made}
-use Rattle.hwp_cpu_course.specs.hwp_cpu_row.Locals.{collects}
-use Rattle.hwp_cpu_course.specs.hwp_cpu_command.hwp_cpu_access.declared.Instruction.{Instruction}
-use Rattle.hwp_cpu_course.specs.hwp_cpu_row.Acts.{event_at, told_notes}
-use Rattle.std.specs.Prelude.{take}
-use Rattle.hwp_cpu_course.specs.hwp_cpu_row.hwp_geom.declared.Frame.{Frame}
-use Rattle.hwp_cpu_course.specs.hwp_cpu_command.declared.job.Job.{Job}
 use Rattle.hwp_cpu_course.specs.hwp_cpu_command.Jobs.{told_of}
-use Rattle.hwp_cpu_course.specs.hwp_cpu_command.Stays.{Stepped}
+use Rattle.std.proofs.Common.{Bool, true, ◌≡◌, ◌⊎◌, is_some, subst, false, sym, drop, length, append-nil, inl, true≢false, ◌++◌, refl, List, ◌&&◌, Option, arith, ap, ℕ, inr, ◌∙◌, [], None, Some}
+use Rattle.hwp_cpu_course.specs.hwp_cpu_command.hwp_cpu_access.declared.Instruction.{Instruction}
 use Rattle.hwp_cpu_course.specs.hwp_cpu_row.hwp_cpu_check.declared.EventOutcome.{EventOutcome}
+use Rattle.hwp_cpu_course.specs.hwp_cpu_command.declared.job.Job.{Job}
+use Rattle.hwp_cpu_course.specs.hwp_cpu_row.Locals.{collects}
+use Rattle.hwp_cpu.specs.Serving.{HasToldAll}
+use Rattle.hwp_cpu_course.specs.hwp_cpu_row.hwp_core_rule.declared.View.{View}
+use Rattle.std.proofs.lemmas.List.{drop_all, take-append-le, take_all}
+use Rattle.hwp_cpu_course.specs.hwp_cpu_row.Acts.{told_notes}
+use Rattle.hwp_cpu_course.specs.hwp_cpu_row.hwp_core_rule.declared.Made.{Made}
+use Rattle.hwp_cpu_course.specs.hwp_cpu_row.hwp_geom.declared.Frame.{Frame}
+use Rattle.hwp_cpu_course.specs.hwp_cpu_row.declared.Watching.{Watching}
+use Rattle.hwp_cpu_course.specs.hwp_cpu_command.Stays.{Stepped, HasGivenUp}
+use Rattle.hwp_cpu_course.specs.hwp_cpu_row.hwp_geom.declared.Layout.{Layout}
+use Rattle.hwp_cpu_course.specs.hwp_cpu_command.hwp_cpu_access.Instructions as instructions
 use Rattle.hwp_cpu_course.specs.hwp_cpu_command.declared.job.Job.TheVariants as kinds
 use Rattle.hwp_cpu_course.specs.hwp_cpu_command.Jobs as jobs
+use Rattle.hwp_cpu_course.proofs.of_hwp_cpu_command_laws.Beside.{given-up-rests}
+use Rattle.hwp_cpu_course.proofs.of_hwp_cpu_command_laws.ToldGrows.{told-longer}
+use Rattle.hwp_cpu_course.specs.hwp_cpu_command.hwp_cpu_access.declared.instruction.InstructionAt.{InstructionAt}
+use Rattle.hwp_cpu_course.specs.hwp_cpu_row.hwp_core_rule.Steps.{goes}
+use Rattle.std.specs.Prelude.{take}
+use Rattle.hwp_cpu_course.specs.hwp_cpu_command.hwp_cpu_access.declared.instruction.Pause.{Pause}
+use Rattle.hwp_cpu_course.proofs.of_hwp_cpu_command.of_hwp_cpu_access.Resting.{rests}
+use Rattle.hwp_cpu_course.specs.hwp_cpu_row.hwp_report_text.declared.Answer.{Answer}
+use Rattle.hwp_cpu_course.specs.Courses.{passed, HasPassed}
 
-abbrev lines : List EventOutcome → List EventLine
-lines told = map (event_at 0) told
+-- what stands behind a list
+drop-length : {A : Type 0} (a b : List A) → drop (length a) (a ++ b) ≡ b
+drop-length a b = drop-append-le (length a) a b (omega arith) ∙ ap (λ l. l ++ b) (drop_all (length a) a (omega arith))
 
--- ---- where one machine check ends
+-- ---- an access
 
--- only the first of the lines behind counts
-apart-head : (a : List EventLine) (x : EventLine) (xs ys : List EventLine) → AreApart a (x ∷ xs) → AreApart a (x ∷ ys)
-apart-head [] x xs ys apart = tt
-apart-head (l ∷ []) x xs ys apart = apart
-apart-head (l ∷ m ∷ rest) x xs ys apart = apart-head (m ∷ rest) x xs ys apart
+module _ {base : List Made} (layout : Layout) (old new : View) (i : Instruction) (k : Job) (fits : jobs.FitsFrom base layout old (kinds.Instruction i)) (made : Stepped layout old new (kinds.Instruction i) k) where
+  abbrev next : Instruction
+  next = made.follows.0
 
--- and only the last of those before
-apart-tail : (a : List EventLine) (x : EventLine) (b others : List EventLine) → AreApart (a ++ x ∷ b) others → AreApart (x ∷ b) others
-apart-tail [] x b others apart = apart
-apart-tail (l ∷ []) x b others apart = apart
-apart-tail (l ∷ m ∷ rest) x b others apart = apart-tail (m ∷ rest) x b others apart
+  tells : Tells layout new i fits.checks next
+  tells = told-more layout old new i made.step made.found made.got fits made.planned made.made next made.turn made.follows.2
 
-module _ (told more : List EventOutcome) (n : ℕ) (behind : AreApart (lines told) (lines more)) where
-  -- of what the collector got the lines that come are apart as those since were
-  pub apart-on : AreApart (lines (take n told)) (lines (drop n told)) → AreApart (lines (take n told)) (lines (drop n told ++ more))
-  apart-on apart = which (drop n told) refl
+  -- what it tells notes for itself
+  pub access-notes : told_notes layout (told_of k) ≡ told_notes layout i.lines.told ++ told_notes layout (drop (length i.lines.told) (told_of k))
+  access-notes = subst (λ (j : Job). told_notes layout (told_of j) ≡ told_notes layout i.lines.told ++ told_notes layout (drop (length i.lines.told) (told_of j))) (sym made.follows.1) (which tells)
     where
-      all : take n told ≡ take n told ++ []
-      all = sym (append-nil (take n told))
+      which : Tells layout new i fits.checks next → told_notes layout next.lines.told ≡ told_notes layout i.lines.told ++ told_notes layout (drop (length i.lines.told) next.lines.told)
+      which (inl same) = ap (told_notes layout) same ∙ sym (append-nil (told_notes layout i.lines.told))
+          ∙ ap (λ (l : List EventOutcome). told_notes layout i.lines.told ++ told_notes layout l) (sym (ap (drop (length i.lines.told)) same ∙ drop_all (length i.lines.told) i.lines.told (omega arith)))
+      which (inr more) = ap (told_notes layout) more.told_is ∙ notes-more i fits more.more more.of_check
+          ∙ ap (λ (l : List EventOutcome). told_notes layout i.lines.told ++ told_notes layout l) (sym (ap (drop (length i.lines.told)) more.told_is ∙ drop-length i.lines.told more.more))
 
-      which : (l : List EventOutcome) → drop n told ≡ l → AreApart (lines (take n told)) (lines (drop n told ++ more))
-      which [] is = subst (λ (l : List EventOutcome). AreApart (lines (take n told)) (lines (l ++ more))) (sym is)
-          (subst (λ (l : List EventOutcome). AreApart (lines l) (lines more)) (sym (all ∙ ap (λ (l : List EventOutcome). take n told ++ l) (sym is) ∙ take-append-drop n told)) behind)
-      which (x ∷ xs) is = subst (λ (l : List EventOutcome). AreApart (lines (take n told)) (lines (l ++ more))) (sym is)
-          (apart-head (lines (take n told)) (event_at 0 x) (lines xs) (lines (xs ++ more)) (subst (λ (l : List EventOutcome). AreApart (lines (take n told)) (lines l)) is apart))
-
-  -- and they note for themselves
-  pub notes-since : (layout : Layout) → told_notes layout (drop n told ++ more) ≡ told_notes layout (drop n told) ++ told_notes layout more
-  notes-since layout = ap (notes layout) (map-append (event_at 0) (drop n told) more) ∙ notes-append layout (lines (drop n told)) (lines more) (which (drop n told) refl)
+  -- where it doesn't pause, of a processor that collects, that is nothing
+  pub access-unnoted : i.collects ≡ true → jobs.pauses k ≡ false → told_notes layout (told_of k) ≡ told_notes layout i.lines.told
+  access-unnoted on goes = subst (λ (j : Job). jobs.pauses j ≡ false → told_notes layout (told_of j) ≡ told_notes layout i.lines.told) (sym made.follows.1) (λ still. which still tells) goes
     where
-      which : (l : List EventOutcome) → drop n told ≡ l → AreApart (lines (drop n told)) (lines more)
-      which [] is = subst (λ (l : List EventOutcome). AreApart (lines l) (lines more)) (sym is) tt
-      which (x ∷ xs) is = subst (λ (l : List EventOutcome). AreApart (lines l) (lines more)) (sym is)
-          (apart-tail (lines (take n told)) (event_at 0 x) (lines xs) (lines more)
-          (subst (λ (l : List EventLine). AreApart l (lines more)) (map-append (event_at 0) (take n told) (x ∷ xs))
-          (subst (λ (l : List EventOutcome). AreApart (lines l) (lines more)) (sym (ap (λ (l : List EventOutcome). take n told ++ l) (sym is) ∙ take-append-drop n told)) behind)))
+      unkept-by : (more : List EventOutcome) → (halts more ≡ true) ⊎ (has_kept more && i.collects ≡ false) → (halts more ≡ true) ⊎ (has_kept more ≡ false)
+      unkept-by more (inl halted) = inl halted
+      unkept-by more (inr none) = inr (both (has_kept more) (ap (λ (b : Bool). has_kept more && b) (sym on) ∙ none))
+        where
+          both : (b : Bool) → (b && true) ≡ false → b ≡ false
+          both true is = is
+          both false is = refl
 
--- what the command noted in all is what the collector got, and what it told since
-pub notes-all : (layout : Layout) (told : List EventOutcome) (n : ℕ) → AreApart (lines (take n told)) (lines (drop n told)) → told_notes layout told ≡ told_notes layout (take n told) ++ told_notes layout (drop n told)
-notes-all layout told n apart =
-    ap (told_notes layout) (sym (take-append-drop n told)) ∙ ap (notes layout) (map-append (event_at 0) (take n told) (drop n told)) ∙ notes-append layout (lines (take n told)) (lines (drop n told)) apart
+      which : jobs.pauses (kinds.Instruction next) ≡ false → Tells layout new i fits.checks next → told_notes layout next.lines.told ≡ told_notes layout i.lines.told
+      which still (inl same) = ap (told_notes layout) same
+      which still (inr more) = ap (told_notes layout) more.told_is ∙ notes-more i fits more.more more.of_check ∙ ap (λ (l : List Frame). told_notes layout i.lines.told ++ l) (none more.next) ∙ append-nil (told_notes layout i.lines.told)
+        where
+          none : (is_some (instructions.pause next) ≡ true) ⊎ ((halts more.more ≡ true) ⊎ (has_kept more.more && i.collects ≡ false)) → told_notes layout more.more ≡ []
+          none (inl pauses_now) = absurd (true≢false (sym pauses_now ∙ still))
+          none (inr why) = answered-unnoted i fits more.more more.of_check (unkept-by more.more why)
 
-from-first : (layout : Layout) (told : List EventOutcome) (n : ℕ) → n ≡ 0 → told_notes layout told ≡ told_notes layout (take n told) ++ told_notes layout (drop n told)
-from-first layout told n none = sym (ap (λ (k : ℕ). told_notes layout (take k told) ++ told_notes layout (drop k told)) none)
+-- ---- whatever the task
 
--- ---- a step of its own task
+some-of : {A : Type 0} (o : Option A) → is_some o ≡ true → (a : A) × (o ≡ Some a)
+some-of (Some a) is = (a, refl)
+some-of None is = absurd (true≢false (sym is))
 
--- an access that goes on, or has its answer, told nothing since that is noted; and where it pauses what it told since is apart
-pub own-apart : {base : List Made} (layout : Layout) (old new : View) (watching : Option Watching) (j k : Job) (noted : ℕ) → noted ≤ length (told_of j) → (fits : jobs.FitsFrom base layout old j) → (made : Stepped layout old new j k)
-    → (collects watching ≡ true → IsUnkept j noted) → TellsApart layout watching j noted → TellsApart layout watching k noted ⊎ ((jobs.pauses k ≡ true) × AreApart (lines (take noted (told_of k))) (lines (drop noted (told_of k))))
-own-apart {base} layout old new watching (kinds.Instruction i) k noted few fits made unkept apart = subst (λ (x : Job). TellsApart layout watching x noted ⊎ ((jobs.pauses x ≡ true) × AreApart (lines (take noted (told_of x))) (lines (drop noted (told_of x))))) (sym made.follows.1)
-    (which (told-more layout old new i made.step made.found made.got fits made.planned made.made next made.turn made.follows.2))
+none-of : {A : Type 0} (o : Option A) → is_some o ≡ false → o ≡ None
+none-of None is = refl
+none-of (Some a) is = absurd (true≢false is)
+
+abbrev pub is_access : Job → Bool
+is_access (kinds.Instruction i) = true
+is_access _ = false
+
+-- of another task the collector still gets nothing
+pub none-told : (layout : Layout) (old new : View) (watching : Option Watching) (j k : Job) (noted : ℕ) (made : Stepped layout old new j k) → HasToldAll watching j noted → (collects watching ≡ false) ⊎ (is_access k ≡ false) → HasToldAll watching k noted
+none-told layout old new watching (kinds.Instruction i) k noted made told off = subst (λ (x : Job). (collects watching ≡ false) ⊎ (is_access x ≡ false) → HasToldAll watching x noted) (sym made.follows.1) by off
   where
-    next : Instruction
-    next = made.follows.0
+    by : (collects watching ≡ false) ⊎ (true ≡ false) → collects watching ≡ true → noted ≡ length made.follows.0.lines.told
+    by (inl none) on = absurd (true≢false (sym on ∙ none))
+    by (inr none) on = absurd (true≢false none)
+none-told layout old new watching (kinds.Raise r) k noted made told off = subst (λ (x : Job). HasToldAll watching x noted) (sym made.follows.1) told
+none-told layout old new watching (kinds.Scrub s) k noted made told off = subst (λ (x : Job). HasToldAll watching x noted) (sym made.follows.1) told
+none-told layout old new watching (kinds.Evict e) k noted made told off = subst (λ (x : Job). HasToldAll watching x noted) (sym made.follows.1) told
+none-told layout old new watching (kinds.Inject i) k noted made told off = subst (λ (x : Job). HasToldAll watching x noted) (sym made.follows.1) told
+none-told layout old new watching (kinds.Soft s) k noted made told off = subst (λ (x : Job). HasToldAll watching x noted) (sym made.follows.1) told
+none-told layout old new watching (kinds.Fsync f) k noted made told off = subst (λ (x : Job). HasToldAll watching x noted) (sym made.follows.0) told
+none-told layout old new watching (kinds.Prctl p) k noted made told off = subst (λ (x : Job). HasToldAll watching x noted) (sym made.follows.0) told
+none-told layout old new watching (kinds.Log l) k noted made told off = subst (λ (x : Job). HasToldAll watching x noted) (sym made.follows.0) told
+none-told layout old new watching (kinds.Spoil s) k noted made told off = subst (λ (x : Job). HasToldAll watching x noted) (sym made.follows.0) told
+none-told layout old new watching (kinds.Nested n) k noted made told off = subst (λ (x : Job). HasToldAll watching x noted) (sym made.follows.0) told
+none-told layout old new watching (kinds.Unpoison u) k noted made told off = subst (λ (x : Job). HasToldAll watching x noted) (sym made.follows.0) told
 
-    which : Tells layout new i fits.checks next → TellsApart layout watching (kinds.Instruction next) noted ⊎ ((jobs.pauses (kinds.Instruction next) ≡ true) × AreApart (lines (take noted next.lines.told)) (lines (drop noted next.lines.told)))
-    which (inl same) = inl (subst (λ (l : List EventOutcome). AreApart (lines (take noted l)) (lines (drop noted l)) × (collects watching ≡ true → told_notes layout (drop noted l) ≡ [])) (sym same) apart)
-    which (inr more) = elim more.next [
-      | inl pauses_now ↦ inr (pauses_now, now)
-      | inr why ↦ inl (now, λ on. ap (told_notes layout) since ∙ notes-since i.lines.told more.more noted behind layout ∙ ap (λ (l : List Frame). l ++ told_notes layout more.more) (apart.1 on)
-          ∙ answered-unnoted i fits more.more more.of_check (unkept-by (unkept on).0 why))
-    ]
-      where
-        behind : AreApart (lines i.lines.told) (lines more.more)
-        behind = apart-more i fits more.more more.of_check
+from-first : (layout : Layout) (lines : List EventOutcome) (n : ℕ) → n ≡ 0 → told_notes layout lines ≡ told_notes layout (take n lines) ++ told_notes layout (drop n lines)
+from-first layout lines n none = sym (ap (λ (k : ℕ). told_notes layout (take k lines) ++ told_notes layout (drop k lines)) none)
 
-        since : drop noted next.lines.told ≡ drop noted i.lines.told ++ more.more
-        since = ap (drop noted) more.told_is ∙ drop-append-le noted i.lines.told more.more few
+taken-told : (told more : List EventOutcome) (n : ℕ) → n ≡ length told → take n (told ++ more) ≡ told
+taken-told told more n is = ap (λ (k : ℕ). take k (told ++ more)) is ∙ take-append-le (length told) told more (omega arith) ∙ take_all (length told) told (omega arith)
 
-        now : AreApart (lines (take noted next.lines.told)) (lines (drop noted next.lines.told))
-        now = subst (λ (l : List EventOutcome). AreApart (lines (take noted next.lines.told)) (lines l)) (sym since)
-            (subst (λ (l : List EventOutcome). AreApart (lines l) (lines (drop noted i.lines.told ++ more.more))) (sym (ap (take noted) more.told_is ∙ take-append-le noted i.lines.told more.more few)) (apart-on i.lines.told more.more noted behind apart.0))
+-- what it noted in all is what the collector got, and what it told since
+pub own-notes : {base : List Made} (layout : Layout) (old new : View) (watching : Option Watching) (j k : Job) (noted : ℕ) → jobs.FitsFrom base layout old j → Stepped layout old new j k → collects watching ≡ true → HasToldAll watching j noted
+    → told_notes layout (told_of k) ≡ told_notes layout (take noted (told_of k)) ++ told_notes layout (drop noted (told_of k))
+own-notes {base} layout old new watching (kinds.Instruction i) k noted fits made on told =
+    access-notes layout old new i k fits made
+    ∙ ap (λ (l : List EventOutcome). told_notes layout l ++ told_notes layout (drop (length i.lines.told) (told_of k))) (sym (ap (take noted) grown.1 ∙ taken-told i.lines.told grown.0 noted (told on)))
+    ∙ ap (λ (n : ℕ). told_notes layout (take noted (told_of k)) ++ told_notes layout (drop n (told_of k))) (sym (told on))
+  where
+    grown : (more : List EventOutcome) × (told_of k ≡ i.lines.told ++ more)
+    grown = told-longer layout (kinds.Instruction i) k made.found made.got made.turn made.follows
+own-notes layout old new watching (kinds.Raise r) k noted fits made on told = from-first layout (told_of k) noted told
+own-notes layout old new watching (kinds.Scrub s) k noted fits made on told = from-first layout (told_of k) noted told
+own-notes layout old new watching (kinds.Evict e) k noted fits made on told = from-first layout (told_of k) noted told
+own-notes layout old new watching (kinds.Inject i) k noted fits made on told = from-first layout (told_of k) noted told
+own-notes layout old new watching (kinds.Soft s) k noted fits made on told = from-first layout (told_of k) noted told
+own-notes layout old new watching (kinds.Fsync f) k noted fits made on told = from-first layout (told_of k) noted told
+own-notes layout old new watching (kinds.Prctl p) k noted fits made on told = from-first layout (told_of k) noted told
+own-notes layout old new watching (kinds.Log l) k noted fits made on told = from-first layout (told_of k) noted told
+own-notes layout old new watching (kinds.Spoil s) k noted fits made on told = from-first layout (told_of k) noted told
+own-notes layout old new watching (kinds.Nested n) k noted fits made on told = from-first layout (told_of k) noted told
+own-notes layout old new watching (kinds.Unpoison u) k noted fits made on told = from-first layout (told_of k) noted told
 
-        unkept-by : i.collects ≡ true → (halts more.more ≡ true) ⊎ (has_kept more.more && i.collects ≡ false) → (halts more.more ≡ true) ⊎ (has_kept more.more ≡ false)
-        unkept-by on (inl halted) = inl halted
-        unkept-by on (inr none) = inr (both (has_kept more.more) (ap (λ (b : Bool). has_kept more.more && b) (sym on) ∙ none))
-          where
-            both : (b : Bool) → b && true ≡ false → b ≡ false
-            both true is = is
-            both false is = refl
-own-apart layout old new watching (kinds.Raise r) k noted few fits made unkept apart = inl (subst (λ (x : Job). TellsApart layout watching x noted) (sym made.follows.1) apart)
-own-apart layout old new watching (kinds.Scrub s) k noted few fits made unkept apart = inl (subst (λ (x : Job). TellsApart layout watching x noted) (sym made.follows.1) apart)
-own-apart layout old new watching (kinds.Evict e) k noted few fits made unkept apart = inl (subst (λ (x : Job). TellsApart layout watching x noted) (sym made.follows.1) apart)
-own-apart layout old new watching (kinds.Inject i) k noted few fits made unkept apart = inl (subst (λ (x : Job). TellsApart layout watching x noted) (sym made.follows.1) apart)
-own-apart layout old new watching (kinds.Soft s) k noted few fits made unkept apart = inl (subst (λ (x : Job). TellsApart layout watching x noted) (sym made.follows.1) apart)
-own-apart layout old new watching (kinds.Fsync f) k noted few fits made unkept apart = inl (subst (λ (x : Job). TellsApart layout watching x noted) (sym made.follows.0) apart)
-own-apart layout old new watching (kinds.Prctl p) k noted few fits made unkept apart = inl (subst (λ (x : Job). TellsApart layout watching x noted) (sym made.follows.0) apart)
-own-apart layout old new watching (kinds.Log l) k noted few fits made unkept apart = inl (subst (λ (x : Job). TellsApart layout watching x noted) (sym made.follows.0) apart)
-own-apart layout old new watching (kinds.Spoil s) k noted few fits made unkept apart = inl (subst (λ (x : Job). TellsApart layout watching x noted) (sym made.follows.0) apart)
-own-apart layout old new watching (kinds.Nested n) k noted few fits made unkept apart = inl (subst (λ (x : Job). TellsApart layout watching x noted) (sym made.follows.0) apart)
-own-apart layout old new watching (kinds.Unpoison u) k noted few fits made unkept apart = inl (subst (λ (x : Job). TellsApart layout watching x noted) (sym made.follows.0) apart)
+-- and of an access that doesn't pause, what the collector got
+pub own-unnoted : {base : List Made} (layout : Layout) (old new : View) (watching : Option Watching) (j k : Job) (noted : ℕ) → jobs.FitsFrom base layout old j → Stepped layout old new j k → collects watching ≡ true → HasPassed j noted → is_access k ≡ true → jobs.pauses k ≡ false
+    → told_notes layout (told_of k) ≡ told_notes layout (take noted (told_of k))
+own-unnoted {base} layout old new watching (kinds.Instruction i) k noted fits made on passed is still =
+    access-unnoted layout old new i k fits made passed.0 still ∙ ap (told_notes layout) (sym (ap (take noted) grown.1 ∙ taken-told i.lines.told grown.0 noted passed.1))
+  where
+    grown : (more : List EventOutcome) × (told_of k ≡ i.lines.told ++ more)
+    grown = told-longer layout (kinds.Instruction i) k made.found made.got made.turn made.follows
+own-unnoted layout old new watching (kinds.Raise r) k noted fits made on passed is still = absurd (true≢false (sym is ∙ ap is_access made.follows.1))
+own-unnoted layout old new watching (kinds.Scrub s) k noted fits made on passed is still = absurd (true≢false (sym is ∙ ap is_access made.follows.1))
+own-unnoted layout old new watching (kinds.Evict e) k noted fits made on passed is still = absurd (true≢false (sym is ∙ ap is_access made.follows.1))
+own-unnoted layout old new watching (kinds.Inject i) k noted fits made on passed is still = absurd (true≢false (sym is ∙ ap is_access made.follows.1))
+own-unnoted layout old new watching (kinds.Soft s) k noted fits made on passed is still = absurd (true≢false (sym is ∙ ap is_access made.follows.1))
+own-unnoted layout old new watching (kinds.Fsync f) k noted fits made on passed is still = absurd (true≢false (sym is ∙ ap is_access made.follows.0))
+own-unnoted layout old new watching (kinds.Prctl p) k noted fits made on passed is still = absurd (true≢false (sym is ∙ ap is_access made.follows.0))
+own-unnoted layout old new watching (kinds.Log l) k noted fits made on passed is still = absurd (true≢false (sym is ∙ ap is_access made.follows.0))
+own-unnoted layout old new watching (kinds.Spoil s) k noted fits made on passed is still = absurd (true≢false (sym is ∙ ap is_access made.follows.0))
+own-unnoted layout old new watching (kinds.Nested n) k noted fits made on passed is still = absurd (true≢false (sym is ∙ ap is_access made.follows.0))
+own-unnoted layout old new watching (kinds.Unpoison u) k noted fits made on passed is still = absurd (true≢false (sym is ∙ ap is_access made.follows.0))
 
--- so what it noted in all is what the collector got, and what it told since
-pub notes-by : (layout : Layout) (watching : Option Watching) (j : Job) (noted : ℕ) → TellsApart layout watching j noted ⊎ ((jobs.pauses j ≡ true) × AreApart (lines (take noted (told_of j))) (lines (drop noted (told_of j))))
-    → told_notes layout (told_of j) ≡ told_notes layout (take noted (told_of j)) ++ told_notes layout (drop noted (told_of j))
-notes-by layout watching j noted (inr apart) = notes-all layout (told_of j) noted apart.1
-notes-by layout watching (kinds.Instruction i) noted (inl apart) = notes-all layout i.lines.told noted apart.0
-notes-by layout watching (kinds.Raise r) noted (inl none) = from-first layout r.lines.told noted none
-notes-by layout watching (kinds.Scrub s) noted (inl none) = from-first layout s.lines.told noted none
-notes-by layout watching _ noted (inl none) = from-first layout [] noted none
+-- a command other than an access rests with its answer, an access at its pause
+pub rests-so : (j : Job) → rests j ≡ true → ((i : Instruction) × (p : Pause) × (j ≡ kinds.Instruction i) × (instructions.pause i ≡ Some p)) ⊎ ((is_access j ≡ false) × ((a : Answer) × (jobs.answer j ≡ Some a)))
+rests-so (kinds.Instruction i) is = by (instructions.pause i) refl is
+  where
+    by : (o : Option Pause) → instructions.pause i ≡ o → is_some o ≡ true → ((x : Instruction) × (p : Pause) × (kinds.Instruction i ≡ kinds.Instruction x) × (instructions.pause x ≡ Some p)) ⊎ ((true ≡ false) × ((a : Answer) × (jobs.answer (kinds.Instruction i) ≡ Some a)))
+    by (Some p) at some = inl (i, p, refl, at)
+    by None at none = absurd (true≢false (sym none))
+rests-so (kinds.Evict e) is = inr (refl, some-of (jobs.answer (kinds.Evict e)) is)
+rests-so (kinds.Fsync f) is = inr (refl, some-of (jobs.answer (kinds.Fsync f)) is)
+rests-so (kinds.Prctl p) is = inr (refl, some-of (jobs.answer (kinds.Prctl p)) is)
+rests-so (kinds.Log l) is = inr (refl, some-of (jobs.answer (kinds.Log l)) is)
+rests-so (kinds.Raise r) is = inr (refl, some-of (jobs.answer (kinds.Raise r)) is)
+rests-so (kinds.Scrub s) is = inr (refl, some-of (jobs.answer (kinds.Scrub s)) is)
+rests-so (kinds.Spoil s) is = inr (refl, some-of (jobs.answer (kinds.Spoil s)) is)
+rests-so (kinds.Nested n) is = inr (refl, some-of (jobs.answer (kinds.Nested n)) is)
+rests-so (kinds.Inject i) is = inr (refl, some-of (jobs.answer (kinds.Inject i)) is)
+rests-so (kinds.Soft s) is = inr (refl, some-of (jobs.answer (kinds.Soft s)) is)
+rests-so (kinds.Unpoison u) is = inr (refl, some-of (jobs.answer (kinds.Unpoison u)) is)
+
+-- one that goes on has no answer, but for an access, which goes past what it told
+pub goes-so : (j : Job) → rests j ≡ false → ((is_access j ≡ true) × (jobs.pauses j ≡ false) × ((noted : ℕ) → passed j noted ≡ length (told_of j))) ⊎ ((is_access j ≡ false) × (jobs.answer j ≡ None) × ((noted : ℕ) → passed j noted ≡ noted))
+goes-so (kinds.Instruction i) is = inl (refl, is, λ noted. refl)
+goes-so (kinds.Evict e) is = inr (refl, none-of (jobs.answer (kinds.Evict e)) is, λ noted. refl)
+goes-so (kinds.Fsync f) is = inr (refl, none-of (jobs.answer (kinds.Fsync f)) is, λ noted. refl)
+goes-so (kinds.Prctl p) is = inr (refl, none-of (jobs.answer (kinds.Prctl p)) is, λ noted. refl)
+goes-so (kinds.Log l) is = inr (refl, none-of (jobs.answer (kinds.Log l)) is, λ noted. refl)
+goes-so (kinds.Raise r) is = inr (refl, none-of (jobs.answer (kinds.Raise r)) is, λ noted. refl)
+goes-so (kinds.Scrub s) is = inr (refl, none-of (jobs.answer (kinds.Scrub s)) is, λ noted. refl)
+goes-so (kinds.Spoil s) is = inr (refl, none-of (jobs.answer (kinds.Spoil s)) is, λ noted. refl)
+goes-so (kinds.Nested n) is = inr (refl, none-of (jobs.answer (kinds.Nested n)) is, λ noted. refl)
+goes-so (kinds.Inject i) is = inr (refl, none-of (jobs.answer (kinds.Inject i)) is, λ noted. refl)
+goes-so (kinds.Soft s) is = inr (refl, none-of (jobs.answer (kinds.Soft s)) is, λ noted. refl)
+goes-so (kinds.Unpoison u) is = inr (refl, none-of (jobs.answer (kinds.Unpoison u)) is, λ noted. refl)
+
+-- memory that ran out beside it leaves it no rest
+pub given-up-goes : (j : Job) → HasGivenUp j → rests j ≡ false
+given-up-goes (kinds.Instruction i) (inl is) = ap (λ (x : InstructionAt). is_some (instructions.pause_at x)) is
+given-up-goes (kinds.Instruction i) (inr is) = ap (λ (x : InstructionAt). is_some (instructions.pause_at x)) is
+given-up-goes (kinds.Raise r) up = given-up-rests (kinds.Raise r) up
+given-up-goes (kinds.Scrub s) up = given-up-rests (kinds.Scrub s) up
+given-up-goes (kinds.Evict e) up = absurd up
+given-up-goes (kinds.Fsync f) up = absurd up
+given-up-goes (kinds.Prctl p) up = absurd up
+given-up-goes (kinds.Log l) up = absurd up
+given-up-goes (kinds.Spoil s) up = absurd up
+given-up-goes (kinds.Nested n) up = absurd up
+given-up-goes (kinds.Inject i) up = absurd up
+given-up-goes (kinds.Soft s) up = absurd up
+given-up-goes (kinds.Unpoison u) up = absurd up

@@ -6,9 +6,9 @@ use Rattle.hwp_cpu_causes.proofs.OnTheWay.{on-the-way, runs-access}
 use Rattle.hwp_cpu_course.proofs.of_hwp_cpu_command.of_hwp_cpu_access.InstructionLaws.{paused}
 use Rattle.hwp_cpu_course.proofs.of_hwp_cpu_command.of_hwp_cpu_access.Resting.{rests}
 use Rattle.hwp_cpu_course.proofs.of_hwp_cpu_command.JobLaws as jobbing
-use Rattle.hwp_cpu.specs.Serving.{IsUnderWay, TellsApart, IsPaused, OwnGoesOn}
+use Rattle.hwp_cpu.specs.Serving.{IsUnderWay, HasToldAll, IsPaused, OwnGoesOn}
 use Rattle.hwp_cpu_course.specs.hwp_cpu_row.declared.Local.{Local}
-use Rattle.std.proofs.Common.{◌<◌, length, is_some, Some, subst, sym, true, ap, ◌≡◌, List, ◌∙◌, []}
+use Rattle.std.proofs.Common.{◌<◌, length, is_some, Some, subst, sym, true, ap, ◌≡◌, List, ◌∙◌, [], ℕ}
 use Rattle.hwp_cpu_course.specs.hwp_cpu_command.hwp_cpu_access.declared.Instruction.{Instruction}
 use Rattle.hwp_cpu_course.specs.hwp_cpu_command.FileHandles.{handles_after}
 use Rattle.hwp_cpu_causes.specs.Beside.{IsOwnServed, ArePrior, DoesSo}
@@ -57,8 +57,8 @@ module _ (layout : Layout) (old new : View) (command : Command) (c : Course) (k 
   pub fits-still : jobs.FitsFrom on.base layout new k
   fits-still = subst (λ (b : List Made). jobs.FitsFrom b layout new k) base_is ((jobbing.stays made.base layout old new c.own made.step made.found made.got made.fits made.planned made.made).1 k made.turn made.follows).0
 
-  pub own-on : TellsApart layout c.watching k c.noted → OwnGoesOn layout new command next
-  own-on apart = record { base = on.base; fits = fits-still; prior = on.prior; left = on.left; all = on.all; apart = apart }
+  pub own-on : (noted : ℕ) → HasToldAll c.watching k noted → OwnGoesOn layout new command (record next { noted = noted })
+  own-on noted told = record { base = on.base; fits = fits-still; prior = on.prior; left = on.left; all = on.all; told = told }
 
 -- ---- it rests
 

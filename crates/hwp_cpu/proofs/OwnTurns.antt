@@ -1,37 +1,37 @@
 -- A turn of a command's own task.
-use Rattle.std.proofs.Common.{◌++◌, ◌<◌, Some, ◌≡◌, refl, is_some, length, ◌≤◌, sym, arith, true≢false, subst, ◌≢◌, ◌==◌, None, inl, ◌&&◌, Option, List, suc, append-nil, ◌⊎◌, inr, true, ℕ, drop, Bool, false, ap, filter_map, map, ◌∙◌, []}
+use Rattle.std.proofs.Common.{◌++◌, ◌<◌, Some, ◌≡◌, refl, length, ◌≤◌, sym, arith, true≢false, subst, ◌≢◌, ◌==◌, None, inl, ◌&&◌, Option, List, suc, append-nil, ◌⊎◌, inr, true, ℕ, drop, Bool, false, ap, filter_map, ◌∙◌, [], nat_lt}
 use Rattle.hwp_cpu_course.specs.hwp_cpu_row.hwp_core_rule.Lists.{EachMember}
-use Rattle.hwp_cpu.specs.Serving.{noted_by, GoesOn, task, marked_so_far, IsUnderWay, marked_beside, TellsApart, KeepsWatch, OwnGoesOn, GivesUp, IsPaused}
+use Rattle.hwp_cpu.specs.Serving.{noted_by, GoesOn, task, marked_so_far, IsUnderWay, marked_beside, KeepsWatch, OwnGoesOn, HasToldAll}
 use Rattle.hwp_cpu.proofs.OwnRests.{pause-holds, answer-known, own-on, HoldsNone, AnswerKnown, pause-known, fits-still}
-use Rattle.hwp_cpu_course.specs.Courses.{IsUnkept, going_on, answer, part_of, IsGoingOn, told_since, AfterCollecting, AfterCollectingBy, AfterRest, AfterRestBy, FitsOf, FitsOwn, HasRefused, IsGoing, answer_of, has_more, rests}
+use Rattle.hwp_cpu_course.specs.Courses.{going_on, answer, part_of, IsGoingOn, told_since, AfterCollecting, AfterCollectingBy, AfterRest, AfterRestBy, FitsOf, FitsOwn, HasRefused, IsGoing, answer_of, has_more, rests, AfterOwnIf, AfterOwnBy, AfterOwn, passed}
 use Rattle.hwp_cpu_causes.specs.Beside.{CanCollect}
 use Rattle.hwp_cpu_course.specs.hwp_cpu_row.Locals.{collects}
 use Rattle.std.specs.List.{cons_option}
 use Rattle.hwp_cpu_course.specs.hwp_cpu_row.hwp_core_rule.declared.View.{View}
 use Rattle.hwp_cpu_course.specs.hwp_cpu_row.hwp_script_lines.declared.Command.{Command}
 use Rattle.hwp_cpu_course.specs.hwp_cpu_row.hwp_core_task.declared.Turn.{Turn}
-use Rattle.hwp_cpu_course.specs.hwp_cpu_row.hwp_law_commands.Notes.{AreApart, is_for_pages}
+use Rattle.hwp_cpu_course.specs.hwp_cpu_row.hwp_law_commands.Notes.{is_for_pages}
 use Rattle.hwp_cpu_course.specs.Dues.{DueValue, next_due}
-use Rattle.hwp_cpu.proofs.GoingOn.{Turned, ends-now, complete-off, go-on, complete-by}
-use Rattle.hwp_cpu.proofs.ProcessorKeeps.{way-own}
+use Rattle.hwp_cpu.proofs.GoingOn.{Turned, ends-now, complete-off, go-on, complete-by, IsComplete}
+use Rattle.hwp_cpu.proofs.ProcessorKeeps.{way-own, other}
 use Rattle.hwp_cpu_course.specs.hwp_cpu_command.hwp_cpu_access.declared.Instruction.{Instruction}
 use Rattle.hwp_cpu_course.specs.hwp_cpu_row.declared.Row.{Row}
 use Rattle.hwp_cpu_course.specs.hwp_cpu_command.Jobs.{told_of}
 use Rattle.hwp_cpu_course.specs.declared.Course.{Course}
-use Rattle.hwp_cpu_course.specs.hwp_cpu_row.Acts.{acts, told_notes, event_at}
+use Rattle.hwp_cpu_course.specs.hwp_cpu_row.Acts.{acts, told_notes}
 use Rattle.hwp_cpu_course.specs.hwp_cpu_command.Done.{HasCounted, marked_beyond}
 use Rattle.hwp_cpu_course.specs.hwp_cpu_command.declared.job.Job.{Job}
-use Rattle.hwp_cpu.proofs.OwnLines.{own-apart, notes-by}
+use Rattle.hwp_cpu.proofs.OwnLines.{none-told, is_access, own-notes, rests-so, goes-so, own-unnoted}
 use Rattle.hwp_cpu_causes.specs.hwp_law_served.hwp_page.declared.At.{At}
 use Rattle.hwp_cpu_course.specs.hwp_cpu_row.hwp_geom.declared.Layout.{Layout}
 use Rattle.std.proofs.lemmas.List.{nil_from_length, take_all}
 use Rattle.hwp_cpu.proofs.Collecting.{collect-left, tells-kind}
-use Rattle.hwp_cpu.proofs.Collected.{keeps-same, by-collector}
+use Rattle.hwp_cpu.proofs.Collected.{keeps-same, by-collector, keeps-noted}
 use Rattle.hwp_cpu_course.specs.hwp_cpu_row.hwp_geom.declared.Who.{Who}
 use Rattle.hwp_cpu_course.proofs.of_hwp_cpu_command.JobEnds.{answered-over}
 use Rattle.hwp_cpu_causes.specs.hwp_law_served.Offlinings.{left_beside, watched_at}
 use Rattle.hwp_cpu_course.specs.hwp_cpu_row.hwp_report_text.declared.Answer.{Answer}
-use Rattle.hwp_cpu_course.proofs.of_hwp_cpu_command_laws.Beside.{give-up-goes, rests-by, answered-unpaused, answered-unmarked, gives-up, given-up-unanswered}
+use Rattle.hwp_cpu_course.proofs.of_hwp_cpu_command_laws.Beside.{give-up-goes, answered-unmarked, gives-up, given-up-unanswered}
 use Rattle.hwp_cpu_course.specs.hwp_cpu_command.hwp_cpu_access.declared.instruction.Pause.{Pause}
 use Rattle.hwp_cpu_course.specs.hwp_cpu_row.hwp_geom.declared.Frame.{Frame}
 use Rattle.hwp_cpu.specs.Processors.{at_number}
@@ -45,13 +45,14 @@ use Rattle.hwp_cpu_course.specs.hwp_cpu_command.hwp_soft.declared.Soft.{Soft}
 use Rattle.std.proofs.lemmas.Bool.{eq-eqb, ltb-false, ltb-true}
 use Rattle.hwp_cpu_course.specs.hwp_cpu_row.hwp_geom.declared.Cpu.{Cpu}
 use Rattle.hwp_cpu_course.specs.hwp_cpu_row.declared.Watching.{Watching}
-use Rattle.std.specs.Prelude.{take}
 use Rattle.hwp_cpu_course.specs.hwp_cpu_row.hwp_law_commands.Watched.{Watched}
 use Rattle.hwp_cpu_causes.specs.hwp_law_served.Accounts.{act_marking}
 use Rattle.hwp_cpu_course.specs.Courses as courses
 use Rattle.hwp_cpu_course.specs.hwp_cpu_command.Jobs as jobs
 use Rattle.hwp_cpu_course.specs.hwp_cpu_command.hwp_cpu_access.Instructions as instructions
 use Rattle.hwp_cpu_course.specs.hwp_cpu_command.declared.job.Job.TheVariants as kinds
+use Rattle.hwp_cpu_causes.specs.hwp_law_served.hwp_law_commands.Commands.{access}
+use Rattle.hwp_cpu_course.specs.hwp_cpu_row.hwp_core_rule.Steps.{goes}
 
 -- nothing is noted where nothing was told
 dropped-none : (layout : Layout) (n : ℕ) (told : List EventOutcome) → told ≡ [] → told_notes layout (drop n told) ≡ []
@@ -96,9 +97,9 @@ module _ (layout : Layout) (old new : View) (cpu : Cpu) (list : List Command) (r
   fits-next : jobs.FitsFrom on.base layout new k
   fits-next = fits-still layout old new command c k on made base_is
 
-  -- an access that goes on was told that its processor collects
-  unkept : collects c.watching ≡ true → IsUnkept c.own c.noted
-  unkept collecting = going-on.unkept collecting
+  -- its own task goes on
+  going : IsGoing layout old c
+  going = subst (FitsOwn layout old c) unanswered (subst (FitsOf layout old c) beside_is rule.at)
     where
       unanswered : jobs.answer c.own ≡ None
       unanswered = which (jobs.answer c.own) refl
@@ -107,71 +108,89 @@ module _ (layout : Layout) (old new : View) (cpu : Cpu) (list : List Command) (r
           which None is = is
           which (Some a) is = absurd (none-some made.step (sym (answered-over c.own is) ∙ made.planned))
 
-      going-on : IsGoing layout old c
-      going-on = subst (FitsOwn layout old c) unanswered (subst (FitsOf layout old c) beside_is rule.at)
-
-  apart : TellsApart layout c.watching k c.noted ⊎ ((jobs.pauses k ≡ true) × AreApart (map (event_at 0) (take c.noted (told_of k))) (map (event_at 0) (drop c.noted (told_of k))))
-  apart = own-apart layout old new c.watching c.own k c.noted way.collected.few fits-own made unkept on.apart
-    where
-      fits-own : jobs.FitsFrom made.base layout old c.own
-      fits-own = made.fits
-
-  notes : told_notes layout (told_of k) ≡ noted_by layout next ++ told_notes layout (told_since next)
-  notes = notes-by layout c.watching k c.noted apart
-
   -- ---- it goes on
 
-  turned-on : (collects c.watching && rests k) ≡ false → Turned layout new cpu list rows local next (answer next)
-  turned-on still = subst (λ (o : Option Soft). Turned layout new cpu list rows local next (answer_of o k)) (sym beside_is) (by (jobs.answer k) refl)
+  -- the command goes on, or has its answer, and all that it noted so far is told
+  module _ (noted : ℕ) (keeps : KeepsWatch layout new at list watched (record next { noted = noted })) (told : HasToldAll c.watching k noted)
+      (complete : (a : Answer) → jobs.answer k ≡ Some a → IsComplete layout watched (record next { noted = noted })) where
+    abbrev past : Course
+    past = record next { noted = noted }
+
+    way-past : IsUnderWay layout new cpu list rows local command past
+    way-past = record {
+      serves = way-next.serves;
+      there = way-next.there;
+      runs = way-next.runs;
+      handle = way-next.handle;
+      policies = way-next.policies;
+      stopped = way-next.stopped;
+      looked = way-next.looked;
+      stops = way-next.stops;
+      listed = way-next.listed;
+      account = record { marked = way-next.account.marked; failed = way-next.account.failed; set = way-next.account.set; counted = way-next.account.counted; losses = way-next.account.losses };
+      noted = record { earlier = way-next.noted.earlier; last = way-next.noted.last; all = way-next.noted.all; noted = way-next.noted.noted; before = way-next.noted.before; own = way-next.noted.own; marked = way-next.noted.marked };
+      spoiled = way-next.spoiled;
+      collected = keeps;
+    }
+
+    turned-past : Turned layout new cpu list rows local past (answer past)
+    turned-past = subst (λ (o : Option Soft). Turned layout new cpu list rows local past (answer_of o k)) (sym beside_is) (by (jobs.answer k) refl)
+      where
+        by : (o : Option Answer) → jobs.answer k ≡ o → Turned layout new cpu list rows local past o
+        by None is = inl (record { command = command; way = way-past; on = subst (GoesOn layout new cpu list rows local command past) (sym beside_is) (own-on layout old new command c k on made base_is noted told) })
+        by (Some a) is = record {
+          command = command;
+          way = way-past;
+          known = answer-known layout new cpu list rows local command past way-past on.base fits-next on.prior on.left a is;
+          none = beside_is;
+          all = on.all;
+          complete = complete a is;
+        }
+
+  keeps-next : KeepsWatch layout new at list watched (record next { noted = c.noted })
+  keeps-next = keeps-noted layout new at list watched next c.noted way-next.collected way-next.collected.few refl
+
+  -- of a processor that collects nothing
+  turned-off : collects c.watching ≡ false → Turned layout new cpu list rows local (record next { noted = c.noted }) (answer (record next { noted = c.noted }))
+  turned-off off = turned-past c.noted keeps-next (none-told layout old new c.watching c.own k c.noted made on.told (inl off)) (λ a is. complete-off layout new at list watched (record next { noted = c.noted }) off keeps-next)
+
+  -- and of one that collects
+  turned-on : collects c.watching ≡ true → rests k ≡ false → Turned layout new cpu list rows local (record next { noted = passed k c.noted }) (answer (record next { noted = passed k c.noted }))
+  turned-on collecting still = which (goes-so k still)
     where
-      apart-still : TellsApart layout c.watching k c.noted
-      apart-still = elim apart [
-        | inl has ↦ has
-        | inr pauses_now ↦ paused-apart k pauses_now.0 pauses_now.1
-      ]
+      abbrev Now : ℕ → Type 0
+      Now n = Turned layout new cpu list rows local (record next { noted = n }) (answer (record next { noted = n }))
+
+      which : ((is_access k ≡ true) × (jobs.pauses k ≡ false) × ((noted : ℕ) → passed k noted ≡ length (told_of k))) ⊎ ((is_access k ≡ false) × (jobs.answer k ≡ None) × ((noted : ℕ) → passed k noted ≡ noted)) → Now (passed k c.noted)
+      which (inr (other, none, same)) = subst Now (sym (same c.noted)) (turned-past c.noted keeps-next (none-told layout old new c.watching c.own k c.noted made on.told (inr other)) (λ a is. absurd (none-some a (sym none ∙ is))))
+      which (inl (access, goes, all)) = subst Now (sym (all c.noted)) (turned-past (length (told_of k)) keeps-all (all-told k access) (λ a is. complete-by layout new at list watched (record next { noted = length (told_of k) }) keeps-all (ap (told_notes layout) (sym (take_all (length (told_of k)) (told_of k) (omega arith))))))
         where
-          off : jobs.pauses k ≡ true → collects c.watching ≡ false
-          off paused = which (collects c.watching) refl
-            where
-              which : (b : Bool) → collects c.watching ≡ b → collects c.watching ≡ false
-              which false is = is
-              which true is = absurd (true≢false (ap (λ (b : Bool). b || is_some (jobs.answer k)) (sym paused) ∙ ap (λ (b : Bool). b && rests k) (sym is) ∙ still))
+          unnoted : told_notes layout (told_of k) ≡ noted_by layout next
+          unnoted = own-unnoted layout old new c.watching c.own k c.noted made.fits made collecting (going.passed collecting) access goes
 
-          paused-apart : (j : Job) → jobs.pauses k ≡ true → AreApart (map (event_at 0) (take c.noted (told_of k))) (map (event_at 0) (drop c.noted (told_of k))) → TellsApart layout c.watching k c.noted
-          paused-apart j paused lines-apart = by-kind k paused lines-apart
-            where
-              by-kind : (x : Job) → jobs.pauses x ≡ true → AreApart (map (event_at 0) (take c.noted (told_of x))) (map (event_at 0) (drop c.noted (told_of x))) → TellsApart layout c.watching x c.noted
-              by-kind (kinds.Instruction i) is has = (has, λ collecting. absurd (true≢false (sym collecting ∙ off paused)))
-              by-kind _ is has = absurd (true≢false (sym is))
+          keeps-all : KeepsWatch layout new at list watched (record next { noted = length (told_of k) })
+          keeps-all = keeps-noted layout new at list watched next (length (told_of k)) way-next.collected (omega arith) (ap (told_notes layout) (take_all (length (told_of k)) (told_of k) (omega arith)) ∙ unnoted)
 
-      going : OwnGoesOn layout new command next
-      going = own-on layout old new command c k on made base_is apart-still
-
-      by : (o : Option Answer) → jobs.answer k ≡ o → Turned layout new cpu list rows local next o
-      by None is = inl (record { command = command; way = way-next; on = subst (GoesOn layout new cpu list rows local command next) (sym beside_is) going })
-      by (Some a) is = record {
-        command = command;
-        way = way-next;
-        known = answer-known layout new cpu list rows local command next way-next on.base fits-next on.prior on.left a is;
-        none = beside_is;
-        all = on.all;
-        complete = complete-off layout new at list watched next off way-next.collected;
-      }
-        where
-          off : collects c.watching ≡ false
-          off = which (collects c.watching) refl
-            where
-              which : (b : Bool) → collects c.watching ≡ b → collects c.watching ≡ false
-              which false at_is = at_is
-              which true at_is = absurd (true≢false (sym (or-some (jobs.pauses k)) ∙ ap (λ (x : Option Answer). jobs.pauses k || is_some x) (sym is) ∙ ap (λ (b : Bool). b && rests k) (sym at_is) ∙ still))
-                where
-                  or-some : (b : Bool) → b || true ≡ true
-                  or-some true = refl
-                  or-some false = refl
+          all-told : (j : Job) → is_access j ≡ true → HasToldAll c.watching j (length (told_of j))
+          all-told (kinds.Instruction i) is = λ on_now. refl
+          all-told (kinds.Evict e) is = absurd (true≢false (sym is))
+          all-told (kinds.Fsync f) is = absurd (true≢false (sym is))
+          all-told (kinds.Prctl p) is = absurd (true≢false (sym is))
+          all-told (kinds.Log l) is = absurd (true≢false (sym is))
+          all-told (kinds.Raise r) is = absurd (true≢false (sym is))
+          all-told (kinds.Scrub s) is = absurd (true≢false (sym is))
+          all-told (kinds.Spoil s) is = absurd (true≢false (sym is))
+          all-told (kinds.Nested n) is = absurd (true≢false (sym is))
+          all-told (kinds.Inject i) is = absurd (true≢false (sym is))
+          all-told (kinds.Soft s) is = absurd (true≢false (sym is))
+          all-told (kinds.Unpoison u) is = absurd (true≢false (sym is))
 
   -- ---- it rests
 
   module _ (collecting : collects c.watching ≡ true) (resting : rests k ≡ true) where
+    notes : told_notes layout (told_of k) ≡ noted_by layout next ++ told_notes layout (told_since next)
+    notes = own-notes layout old new c.watching c.own k c.noted made.fits made collecting on.told
+
     -- what is so of a course with the same task, once all is noted
     module _ (w : Option Watching) (n : ℕ) (f : List Frame) (spare : ℕ) (is_all : n ≡ length (told_of k)) (keeps : KeepsWatch layout new at list watched (record next { watching = w; noted = n; due = record { frames = f; offlined = c.due.offlined; spare = spare } }))
         (pages : EachMember (λ (g : Frame). is_for_pages layout g ≡ true) f) (alone : told_notes layout (told_since next) ≡ [] → f ≡ c.due.frames) where
@@ -234,18 +253,15 @@ module _ (layout : Layout) (old new : View) (cpu : Cpu) (list : List Command) (r
         halted = has.halted;
       }
 
-      rest-due : (a : Answer) → jobs.answer k ≡ Some a → (frame : Frame) → next_due d.due ≡ Some frame → CanCollect command × (told_of k ≢ [])
-      rest-due a is frame comes = which (tells-kind layout at command k way-next.runs)
+      rest-due : (a : Answer) → jobs.answer k ≡ Some a → is_access k ≡ false → (frame : Frame) → next_due d.due ≡ Some frame → CanCollect command × (told_of k ≢ [])
+      rest-due a is other frame comes = which (tells-kind layout at command k way-next.runs)
         where
           nothing-due : told_notes layout (told_since next) ≡ [] → ⊥
           nothing-due none = let within : length c.due.offlined < length f = slice_get_within f (length c.due.offlined) frame comes in
               let few : length f ≡ length c.due.frames = ap length (alone none) in let all : length c.due.offlined ≡ length c.due.frames = on.all in omega (arith, within, few, all)
 
           unnoted : (i : Instruction) → k ≡ kinds.Instruction i → told_notes layout (told_since next) ≡ []
-          unnoted i task = elim apart [
-            | inl has ↦ ap (λ (j : Job). told_notes layout (drop c.noted (told_of j))) task ∙ (subst (λ (j : Job). TellsApart layout c.watching j c.noted) task has).1 collecting
-            | inr paused ↦ absurd (true≢false (sym paused.0 ∙ ap jobs.pauses task ∙ answered-unpaused i (ap is_some (sym (ap jobs.answer task) ∙ is))))
-          ]
+          unnoted i task = absurd (true≢false (ap is_access (sym task) ∙ other))
 
           which : CanCollect command ⊎ (((i : Instruction) × (k ≡ kinds.Instruction i)) ⊎ (told_of k ≡ [])) → CanCollect command × (told_of k ≢ [])
           which (inl can) = (can, λ none. nothing-due (dropped-none layout c.noted (told_of k) none))
@@ -254,11 +270,11 @@ module _ (layout : Layout) (old new : View) (cpu : Cpu) (list : List Command) (r
 
       -- so the command goes on
       pub goes-on-by : (after : Course) (turn : Turn) → IsGoingOn d after turn → Turned layout new cpu list rows local after (answer after)
-      goes-on-by after turn follows = which (rests-by k resting)
+      goes-on-by after turn follows = which (rests-so k resting)
         where
-          by-frame : (a : Answer) → jobs.answer k ≡ Some a → (o : Option Frame) → next_due d.due ≡ o → Turned layout new cpu list rows local after (answer after)
-          by-frame a is (Some frame) comes =
-              let so = rest-due a is frame comes in
+          by-frame : (a : Answer) → jobs.answer k ≡ Some a → is_access k ≡ false → (o : Option Frame) → next_due d.due ≡ o → Turned layout new cpu list rows local after (answer after)
+          by-frame a is other (Some frame) comes =
+              let so = rest-due a is other frame comes in
               let known = known-next a is in
               go-on layout new cpu list rows local command d rest-way
               (holds-rest (record {
@@ -270,14 +286,14 @@ module _ (layout : Layout) (old new : View) (cpu : Cpu) (list : List Command) (r
                 left = known.left ∙ ap (λ (o : Option At). cons_option o (left_beside c.due.offlined)) (collect-left command a so.0);
               }))
               (inr (record { answer = a; answered = is; collects = so.0; some = so.1; served = known.served; does = known.does })) is_all pages after turn follows
-          by-frame a is None comes = subst (λ (x : Course). Turned layout new cpu list rows local x (answer x)) (sym (follows.0 ∙ ap (going_on d) comes))
+          by-frame a is other None comes = subst (λ (x : Course). Turned layout new cpu list rows local x (answer x)) (sym (follows.0 ∙ ap (going_on d) comes))
               (ends-now layout new cpu list rows local command d rest-way a (known-rest a is)
               (complete-by layout new at list watched (at_rest d) rest-way.collected (ap (told_notes layout) (sym (take_all n (told_of k) (omega (arith, is_all)))))) comes)
 
-          which : ((i : Instruction) × (p : Pause) × (k ≡ kinds.Instruction i) × (instructions.pause i ≡ Some p)) ⊎ ((a : Answer) × (jobs.answer k ≡ Some a)) → Turned layout new cpu list rows local after (answer after)
+          which : ((i : Instruction) × (p : Pause) × (k ≡ kinds.Instruction i) × (instructions.pause i ≡ Some p)) ⊎ ((is_access k ≡ false) × ((a : Answer) × (jobs.answer k ≡ Some a))) → Turned layout new cpu list rows local after (answer after)
           which (inl (i, p, task, paused)) = go-on layout new cpu list rows local command d rest-way (holds-rest (pause-holds layout new at command next way-next.runs on.base fits-next on.prior on.left i task p paused))
               (inl (pause-known layout new at command next way-next.runs on.base fits-next on.prior on.left i task p paused)) is_all pages after turn follows
-          which (inr (a, is)) = by-frame a is (next_due d.due) refl
+          which (inr (other, (a, is))) = by-frame a is other (next_due d.due) refl
 
     -- the frames so far are for pages
     pages-next : EachMember (λ (g : Frame). is_for_pages layout g ≡ true) c.due.frames
@@ -329,3 +345,15 @@ module _ (layout : Layout) (old new : View) (cpu : Cpu) (list : List Command) (r
                 no-more : (b : Bool) → nat_lt c.noted (length (told_of k)) ≡ b → length (told_of k) ≤ c.noted
                 no-more false is = ltb-false c.noted (length (told_of k)) is
                 no-more true is = absurd (true≢false (sym (ap (λ (b : Bool). true && b) (eq-eqb layout.frames c.frames (sym way-next.collected.frames_are)) ) ∙ ap (λ (b : Bool). b && (layout.frames == c.frames)) (sym is) ∙ none))
+
+  -- a turn of the command's own task
+  pub own-turn : (t : Turn) (after : Course) (turn : Turn) → courses.Fits layout new after → AfterOwn layout next t after turn → Turned layout new cpu list rows local after (answer after)
+  own-turn t after turn rule_after follows = which (collects c.watching) refl follows
+    where
+      by-rest : collects c.watching ≡ true → (b : Bool) → rests k ≡ b → AfterOwnBy layout next b t after turn → Turned layout new cpu list rows local after (answer after)
+      by-rest collecting false still (after_is, turn_is) = subst (λ (x : Course). Turned layout new cpu list rows local x (answer x)) (sym after_is) (turned-on collecting still)
+      by-rest collecting true resting goes = rest-turn collecting resting after turn rule_after goes
+
+      which : (b : Bool) → collects c.watching ≡ b → AfterOwnIf layout next b t after turn → Turned layout new cpu list rows local after (answer after)
+      which false off (after_is, turn_is) = subst (λ (x : Course). Turned layout new cpu list rows local x (answer x)) (sym after_is) (turned-off off)
+      which true collecting goes = by-rest collecting (rests k) refl goes

@@ -1,5 +1,5 @@
 -- What a processor keeps while it runs its commands.
-use Rattle.std.specs.Prelude.{◌≡◌, ℕ, ◌+◌, ◌<◌, ◌≤◌, ◌⊎◌, ◌≢◌, true, List, [], ◌++◌, Option, Some, None, IsSome, length, drop, map, filter_map, option_map, slice_get, take}
+use Rattle.std.specs.Prelude.{◌≡◌, ℕ, ◌+◌, ◌<◌, ◌≤◌, ◌⊎◌, ◌≢◌, true, List, [], ◌++◌, Option, Some, None, IsSome, length, map, filter_map, option_map, slice_get, take}
 use Rattle.std.specs.Arc.{arc_value}
 use Rattle.std.specs.List.{list_any}
 use Rattle.hwp_cpu_course.specs.hwp_cpu_row.hwp_geom.declared.Cpu.{Cpu}
@@ -29,11 +29,10 @@ use Rattle.hwp_cpu_course.specs.hwp_cpu_row.declared.Watching.{Watching}
 use Rattle.hwp_cpu_course.specs.hwp_cpu_row.hwp_banks.Banks.{Banks, empty_banks}
 use Rattle.hwp_cpu_course.specs.hwp_cpu_row.hwp_law_commands.Settings.{settings}
 use Rattle.hwp_cpu_course.specs.hwp_cpu_row.declared.Offlining.{Offlining}
-use Rattle.hwp_cpu_course.specs.hwp_cpu_row.Acts.{AreInTime, acts, event_at, told_notes}
+use Rattle.hwp_cpu_course.specs.hwp_cpu_row.Acts.{AreInTime, acts, told_notes}
 use Rattle.hwp_cpu_course.specs.hwp_cpu_row.Locals.{IsWatching, collects}
 use Rattle.hwp_cpu_course.specs.hwp_cpu_row.hwp_cec.Ages.{Note}
 use Rattle.hwp_cpu_course.specs.hwp_cpu_row.hwp_law_commands.Commands.{is_watch}
-use Rattle.hwp_cpu_course.specs.hwp_cpu_row.hwp_law_commands.Notes.{AreApart}
 use Rattle.hwp_cpu_course.specs.hwp_cpu_row.hwp_law_commands.Watched.{Watched, due, told}
 use Rattle.hwp_cpu_course.specs.hwp_cpu_command.hwp_cpu_access.declared.Instruction.{Instruction}
 use Rattle.hwp_cpu_course.specs.hwp_cpu_command.hwp_cpu_access.declared.instruction.Pause.{Pause}
@@ -149,12 +148,11 @@ pub record KeepsWatch (layout : Layout) (view : View) (who : Who) (list : List C
   pub offlined : EachMember (IsOffliningServed layout view who) c.due.offlined
   pub behind : AreInTime 0 (length (told_of c.own)) c.due.offlined
 
--- the events that an access told of since the collector got some last are of other machine checks, and of a processor that collects they
--- note nothing; of another task the collector gets none while that goes on
-abbrev pub TellsApart : Layout → Option Watching → Job → ℕ → Type 0
-TellsApart layout watching (kinds.Instruction i) noted =
-    AreApart (map (event_at 0) (take noted i.lines.told)) (map (event_at 0) (drop noted i.lines.told)) × (collects watching ≡ true → told_notes layout (drop noted i.lines.told) ≡ [])
-TellsApart layout watching j noted = noted ≡ 0
+-- an access that goes on has told the collector all, where its processor collects; of another task the collector gets nothing while that
+-- goes on
+abbrev pub HasToldAll : Option Watching → Job → ℕ → Type 0
+HasToldAll watching (kinds.Instruction i) noted = collects watching ≡ true → noted ≡ length i.lines.told
+HasToldAll watching j noted = noted ≡ 0
 
 -- its own task goes on, behind entries that may stand before its answer: those of frames that were taken out of use are those that the
 -- course tells, and no frame is left to be taken out of use
@@ -164,7 +162,7 @@ pub record OwnGoesOn (layout : Layout) (view : View) (command : Command) (c : Co
   pub prior : ArePrior layout command base
   pub left : left_among base ≡ left_beside c.due.offlined
   pub all : length c.due.offlined ≡ length c.due.frames
-  pub apart : TellsApart layout c.watching c.own c.noted
+  pub told : HasToldAll c.watching c.own c.noted
 
 -- its own task pauses behind a machine check, and all entries so far may stand before its answer
 pub record IsPaused (layout : Layout) (view : View) (who : Who) (command : Command) (j : Job) : Type 0 where

@@ -1,6 +1,6 @@
 -- What a processor carries on while its commands run: the handles, one for each file, which say how many losses of the file the
 -- processor has seen, and its collector of corrected errors.
-use Rattle.std.specs.Prelude.{◌≡◌, ◌⊎◌, ℕ, Bool, false, true, List, length, slice_set, Option, option_map}
+use Rattle.std.specs.Prelude.{◌≡◌, ◌⊎◌, ℕ, Bool, false, true, List, [], ◌∷◌, ◌++◌, length, slice_set, Option, Some, option_map}
 use Rattle.hwp_cpu_control.specs.hwp_core_rule.declared.View.{View}
 use Rattle.hwp_cpu_control.specs.hwp_core_task.Known.{HasSeenLoss}
 use Rattle.hwp_evict.specs.declared.FsyncAnswer.TheVariants as fsync_answers
@@ -10,7 +10,8 @@ use Rattle.hwp_evict.specs.Fsyncs as fsyncs
 use Rattle.hwp_cpu_row.specs.hwp_report_text.declared.Answer.{Answer}
 use Rattle.hwp_cpu_row.specs.hwp_report_text.declared.Answer.TheVariants as answers
 use Rattle.hwp_cpu_row.specs.hwp_script_lines.Grammar.{IsCollectorWithin}
-use Rattle.hwp_cpu_row.specs.hwp_law_commands.hwp_cec.Counters.{begun, rounded}
+use Rattle.hwp_cpu_row.specs.hwp_law_commands.hwp_cec.Ages.{CecEvent, Round}
+use Rattle.hwp_cpu_row.specs.hwp_law_commands.hwp_cec.Counters.{StandsFor, begun, rounded}
 use Rattle.hwp_cpu_row.specs.declared.Local.{Local}
 use Rattle.hwp_cpu_row.specs.declared.Watching.{Watching}
 use Rattle.hwp_cpu_row.specs.Locals.{number_in}
@@ -66,6 +67,15 @@ round_ended w = record w { collector = rounded w.collector }
 abbrev pub rounded_by : Answer → Option Watching → Option Watching
 rounded_by (answers.Scrubbed lines) watching = option_map round_ended watching
 rounded_by _ watching = watching
+
+-- whatever the collector stood for, it stands for that and the end of a round
+abbrev pub RoundStands : Answer → Option Watching → Type 0
+RoundStands (answers.Scrubbed lines) (Some w) = (events : List CecEvent) → StandsFor events w.collector → StandsFor (events ++ Round ∷ []) (rounded w.collector)
+RoundStands _ _ = Unit {0}
+
+abbrev pub StandsOn : Job → Answer → Option Watching → Type 0
+StandsOn (jobs.Scrub s) answer watching = RoundStands answer watching
+StandsOn _ answer watching = Unit {0}
 
 -- the collector after a command with this answer
 abbrev pub watching_after : Job → Answer → Option Watching → Option Watching

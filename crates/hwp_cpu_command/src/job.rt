@@ -46,7 +46,7 @@ pub enum Job {
 }
 
 impl Job {
-    ghost use Rattle.hwp_cpu_command.specs.FileHandles.{HasChangeWithin, local_after};
+    ghost use Rattle.hwp_cpu_command.specs.FileHandles.{HasChangeWithin, StandsOn, local_after};
     ghost use Rattle.hwp_cpu_command.specs.Jobs.{answer, give_up, pauses, resume, row_of, told_of};
 
     /// What the command answers; `None` until it is over, and where it gave up because memory ran out.
@@ -143,6 +143,7 @@ impl Job {
         requires within { HasChangeWithin self.old }
         ensures row { result ≡ row_of self.old answer offlined }
         ensures local { local.new ≡ local_after self.old answer local.old }
+        ensures stands { StandsOn self.old answer local.old.watching }
     {
         match self {
             Job::Instruction(instruction) => {
@@ -231,7 +232,8 @@ fn watch(change: LocalChange, answer: Answer, watching: &mut Option<Watching>)
 
 /// A scrub that went to its end ends a round of the collector.
 fn end_round(answer: Answer, watching: &mut Option<Watching>)
-    ensures { watching.new ≡ rounded_by answer watching.old }
+    ensures ends { watching.new ≡ rounded_by answer watching.old }
+    ensures stands { RoundStands answer watching.old }
 {
     if let Answer::Scrubbed(_lines) = answer {
         round(watching);
