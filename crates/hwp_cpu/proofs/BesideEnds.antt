@@ -1,6 +1,9 @@
 -- A turn of the frame that is taken out of use beside a command, and what is so when that is done.
-use Rattle.std.proofs.lemmas.Bool.{and_right, not-true}
-use Rattle.hwp_cpu_course.proofs.CourseLaws.{soft-pays}
+use Rattle.hwp_cpu_causes.specs.hwp_law_served.Causes.{IsBeside}
+use Rattle.std.proofs.lemmas.Bool.{and_parts, not-true}
+use Rattle.hwp_cpu_course.proofs.CourseLaws.{abandoned-stays, over-stays}
+use Rattle.hwp_cpu_course.proofs.SoftMade.{HasLeft, soft-left, soft-pays}
+use Rattle.hwp_cpu_course.specs.Courses.{is_abandoned}
 use Rattle.hwp_cpu_course.proofs.of_hwp_cpu_command.of_hwp_cpu_access.Resting.{resting-stays}
 use Rattle.hwp_cpu_causes.proofs.OnTheWay.{met-beside}
 use Rattle.hwp_cpu_causes.proofs.BesideKeeps.{own-stays, soft-beside}
@@ -95,7 +98,7 @@ rests-still layout view cpu list rows local command j (inl paused) =
     (ap owed_now paused.is ∙ paused-unowed paused.instruction paused.paused, ap marked_beyond paused.is ∙ paused-unmarked paused.instruction paused.paused)
 rests-still layout view cpu list rows local command j (inr has) = (unowed-at-end j has.answered, answered-unmarked j has.answered has.some)
 
-due-none : (watched : Option Watched) → due watched [] ≡ []
+pub due-none : (watched : Option Watched) → due watched [] ≡ []
 due-none None = refl
 due-none (Some v) = refl
 
@@ -119,8 +122,11 @@ module _ (layout : Layout) (old new : View) (cpu : Cpu) (list : List Command) (r
   pub way-later : IsUnderWay layout new cpu list rows local command later
   way-later = way-beside layout old new cpu list rows local command c s t way run.who_is stepped is adds
 
-  paid : new.owed.losses ≡ []
-  paid = soft-pays layout old new s step found got run.fits planned made run.paid
+  paid : is_abandoned t.at ≡ false → new.owed.losses ≡ []
+  paid goes = soft-pays (soft-left s was-on run.fits) (subst (HasLeft run.base new) (ap (λ (x : Soft). x.who) follows.0) (soft-left t goes fits-on)) (jobbing.can run.base layout old (kinds.Soft s) step run.fits planned) made (run.paid was-on)
+    where
+      was-on : is_abandoned s.at ≡ false
+      was-on = abandoned-stays layout s.who s.frame s.at t.at found got turn follows.1 goes
 
   named : t.who ≡ at
   named = ap (λ (x : Soft). x.who) follows.0 ∙ run.who_is
@@ -129,13 +135,13 @@ module _ (layout : Layout) (old new : View) (cpu : Cpu) (list : List Command) (r
   frame-is = ap (λ (x : Soft). x.frame) follows.0
 
   unchecked : checks_made at new ≡ checks_made at old
-  unchecked = which adds
+  unchecked = which adds.adds
     where
       none : (what : What) → is_soft what ≡ true → is_check what ≡ false
       none (entries.Mce slot line mask) beside = absurd (true≢false (sym beside))
       none what beside = refl
 
-      which : AddsBeside at old new → checks_made at new ≡ checks_made at old
+      which : (deeds at new ≡ deeds at old) ⊎ ((m : Made) × (deeds at new ≡ deeds at old ++ m ∷ []) × IsBeside m) → checks_made at new ≡ checks_made at old
       which (inl same) = ap checks_in same
       which (inr (m, more, beside)) = ap checks_in more ∙ ap (length {A = Made}) (filter-append (λ (x : Made). is_check x.entry.what) (deeds at old) (m ∷ []))
           ∙ ap (λ (b : Bool). length (filter (λ (x : Made). is_check x.entry.what) (deeds at old) ++ cond b (m ∷ []) [])) (none m.entry.what beside) ∙ ap length (append-nil (filter (λ (x : Made). is_check x.entry.what) (deeds at old)))
@@ -151,7 +157,7 @@ module _ (layout : Layout) (old new : View) (cpu : Cpu) (list : List Command) (r
       pause = paused.pause;
       paused = paused.paused;
       rests = resting-stays paused.instruction paused.pause paused.rests (made-by paused.instruction.request.who (own-request paused)) (subst (λ (w : Who). checks_made w new ≡ checks_made w old) (sym (own-request paused)) unchecked);
-      met = met-beside command adds paused.met;
+      met = met-beside layout command adds paused.met;
     })
     | inr has ↦ inr (record {
       answer = has.answer;
@@ -197,7 +203,7 @@ module _ (layout : Layout) (old new : View) (cpu : Cpu) (list : List Command) (r
     still = rests-still layout new cpu list rows local command c.own rests-on
 
     no-kernels : x ≡ soft_answers.Kernel → ⊥
-    no-kernels kernel = no-kernel t fits-on (over ∙ ap (λ (y : SoftAnswer). Some y) kernel) (not-true (is_kernels layout t.frame) (and_right (nat_lt t.frame.0 layout.frames) (not (is_kernels layout t.frame)) pages))
+    no-kernels kernel = no-kernel t fits-on (over ∙ ap (λ (y : SoftAnswer). Some y) kernel) (not-true (is_kernels layout t.frame) (and_parts (nat_lt t.frame.0 layout.frames) (not (is_kernels layout t.frame)) pages).1)
 
     marks : marked_so_far (at_rest done) ≡ marked_so_far later
     marks = beside-over later t x refl over still.1 way-later.collected.behind
@@ -261,7 +267,7 @@ module _ (layout : Layout) (old new : View) (cpu : Cpu) (list : List Command) (r
     holds-done = record {
       on_turn = subst (IsOnTurn new) named fits-on.on_turn;
       hand_is = (soft-ended t fits-on over).0;
-      paid = paid;
+      paid = paid (over-stays t x over);
       unowed = still.0;
       beyond = still.1;
       left = subst (λ (w : Who). left_by w new ≡ left_beside (c.due.offlined ++ o ∷ [])) named (

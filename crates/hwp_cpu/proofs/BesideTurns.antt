@@ -120,7 +120,7 @@ module _ (layout : Layout) (view : View) (cpu : Cpu) (list : List Command) (rows
         left = holds.left;
         next = is;
         all = noted;
-        paid = holds.paid;
+        paid = λ on. holds.paid;
         rests = rests;
       };
     }
@@ -239,7 +239,7 @@ module _ (layout : Layout) (view : View) (cpu : Cpu) (list : List Command) (rows
     base = deeds by view;
     fits = subst (λ (w : Who). jobs.FitsFrom (deeds w view) layout view (jobs.resume c.own)) request-who
         (subst (λ (j : Job). jobs.FitsFrom (deeds i.request.who view) layout view (jobs.resume j)) (sym paused.is) (resumes i paused.pause paused.rests (subst (IsOnTurn view) (sym request-who) holds.on_turn) holds.hand_is holds.paid));
-    prior = prior-behind of-access paused.met;
+    prior = prior-behind layout view of-access paused.met;
     left = holds.left;
     all = all;
     told = all-told;

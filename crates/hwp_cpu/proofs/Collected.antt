@@ -23,7 +23,7 @@ use Rattle.hwp_cpu_course.specs.hwp_cpu_row.declared.Offlining.{Offlining}
 use Rattle.hwp_cpu_course.specs.hwp_cpu_row.hwp_cec.Ages.{CecEvent, Note}
 use Rattle.hwp_cpu_course.specs.hwp_cpu_row.hwp_cec.Counters.{Counters, StandsFor}
 use Rattle.hwp_cpu_course.proofs.of_hwp_cpu_row.Acts.{in-time-more}
-use Rattle.hwp_cpu_causes.proofs.of_hwp_law_served.of_hwp_law_commands.NoteLaws.{offlining-append}
+use Rattle.hwp_cpu_causes.proofs.of_hwp_law_commands.NoteLaws.{offlining-append}
 
 -- ---- as the command goes on
 

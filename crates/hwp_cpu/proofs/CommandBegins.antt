@@ -1,9 +1,9 @@
 -- When the command that runs has its answer, its row is right, and the next command may begin.
-use Rattle.std.proofs.Common.{◌≡◌, ℕ, ◌+◌, ◌<◌, ◌≤◌, ◌⊎◌, inl, inr, List, [], ◌∷◌, ◌++◌, Option, Some, None, length, slice_get, refl, sym, ap, ◌∙◌, subst, arith}
-use Rattle.std.proofs.lemmas.List.{length-append}
+use Rattle.hwp_cpu_course.proofs.CourseLaws.{course-begins}
+use Rattle.std.proofs.Common.{◌≡◌, ℕ, ◌+◌, ◌<◌, ◌≤◌, ◌⊎◌, inl, inr, List, [], ◌∷◌, ◌++◌, Option, Some, None, length, slice_get, refl, sym, ap, ◌∙◌, subst, arith, append-nil, true, filter_map}
+use Rattle.std.proofs.lemmas.List.{length-append, append_cancel_left, take_all}
 use Rattle.std.proofs.lemmas.Option.{same_Some, slice_get_within}
 use Rattle.hwp_cpu_course.specs.hwp_cpu_row.hwp_geom.declared.Cpu.{Cpu}
-use Rattle.hwp_cpu_course.specs.hwp_cpu_row.hwp_geom.declared.FileNo.{FileNo}
 use Rattle.hwp_cpu_course.specs.hwp_cpu_row.hwp_geom.declared.Layout.{Layout}
 use Rattle.hwp_cpu_course.specs.hwp_cpu_row.hwp_geom.declared.Thread.{Thread}
 use Rattle.hwp_cpu_course.specs.hwp_cpu_row.hwp_geom.declared.Who.{Who}
@@ -21,42 +21,57 @@ use Rattle.hwp_cpu_course.specs.hwp_cpu_row.hwp_core_rule.declared.View.{View}
 use Rattle.hwp_cpu_course.specs.hwp_cpu_row.hwp_core_rule.Lists.{EachMember, SomeMember}
 use Rattle.hwp_cpu_course.specs.hwp_cpu_row.hwp_core_rule.Views.{no_debts}
 use Rattle.hwp_cpu_course.proofs.of_hwp_cpu_row.of_hwp_core_rule.Lists.{at_last}
-use Rattle.hwp_cpu_course.specs.hwp_cpu_row.hwp_core_task.Calls.{IsLater, IsOnTurn}
-use Rattle.hwp_cpu_course.specs.hwp_cpu_row.hwp_core_task.Hands.{Hand, hand_of, empty}
+use Rattle.hwp_cpu_course.specs.hwp_cpu_row.hwp_core_task.Calls.{IsOnTurn}
+use Rattle.hwp_cpu_course.specs.hwp_cpu_row.hwp_core_task.Hands.{Hand}
 use Rattle.hwp_cpu_course.specs.hwp_cpu_row.hwp_core_task.Known.{HasMadeNone}
-use Rattle.hwp_cpu_course.proofs.of_hwp_cpu_row.of_hwp_core_task.MadeEntries.{made-none}
 use Rattle.hwp_cpu_course.specs.hwp_cpu_row.declared.Row.{Row}
 use Rattle.hwp_cpu_course.specs.hwp_cpu_row.hwp_banks.Banks.{Banks, empty_banks}
 use Rattle.hwp_cpu_course.specs.hwp_cpu_row.declared.Local.{Local}
 use Rattle.hwp_cpu_course.specs.hwp_cpu_command.declared.job.Job.{Job}
-use Rattle.hwp_cpu_course.specs.hwp_cpu_command.Begins.{Begins}
-use Rattle.hwp_cpu_course.specs.hwp_cpu_command.FileHandles.{HasHandle, local_after, local_left}
+use Rattle.hwp_cpu_course.specs.hwp_cpu_command.FileHandles.{local_after, local_left, StandsOn}
 use Rattle.hwp_cpu_course.specs.hwp_cpu_command.Jobs as jobs
-use Rattle.hwp_cpu_course.specs.hwp_cpu_command.Jobs.{banks_before}
+use Rattle.hwp_cpu_course.specs.hwp_cpu_command.Jobs.{banks_before, told_of}
 use Rattle.hwp_cpu_course.specs.hwp_cpu_command.Runs.{Runs}
 use Rattle.hwp_cpu_course.specs.hwp_cpu_command.Settings.{policies_in}
-use Rattle.hwp_cpu_course.specs.hwp_cpu_command.Stays.{EndsStopped, IsAtStop, IsHalted, Stepped}
+use Rattle.hwp_cpu_course.specs.hwp_cpu_command.Stays.{IsAtStop, IsHalted}
 use Rattle.hwp_cpu_course.proofs.of_hwp_cpu_command.JobEnds.{ends}
 use Rattle.hwp_cpu_course.proofs.of_hwp_cpu_command_laws.CommandRuns.{before-begins, begins-fits, begins-runs, runs-who}
-use Rattle.hwp_cpu_course.proofs.of_hwp_cpu_command_laws.CommandStops.{begins-stop, has-stopped, only-stopped, stopped-halts}
-use Rattle.hwp_cpu_causes.specs.hwp_law_served.Accounts.{IsNote}
+use Rattle.hwp_cpu_course.proofs.of_hwp_cpu_command_laws.CommandStops.{begins-stop, has-stopped, only-stopped, untold-at-start}
+use Rattle.hwp_cpu_causes.specs.hwp_law_served.Accounts.{IsNote, own_marking, markings_in}
 use Rattle.hwp_cpu_causes.specs.hwp_law_served.Handles.{answers_by, number_at}
 use Rattle.hwp_cpu_causes.specs.hwp_law_served.Rows.{notes_from}
 use Rattle.hwp_cpu_causes.specs.hwp_law_served.Served.{IsOneOf, IsOwnSpoil, IsOwnStop, IsRowServed, SawRunning}
-use Rattle.hwp_cpu_causes.proofs.of_hwp_law_served.CommandKeeps.{made-none-later}
 use Rattle.hwp_cpu_causes.proofs.of_hwp_law_served.Handles.{number-last, numbers-more}
 use Rattle.hwp_cpu_causes.proofs.of_hwp_law_served.lines.ScrubBank.{banks-free, empty-free}
-use Rattle.hwp_cpu_causes.proofs.HandleNumbers.{IsNumbered, numbered, tells-inside}
+use Rattle.hwp_cpu_causes.proofs.HandleNumbers.{tells-inside}
 use Rattle.hwp_cpu_causes.proofs.RowServed.{row-served}
 use Rattle.hwp_cpu.specs.Processors.{BeginsAt, at_number, left_of}
-use Rattle.hwp_cpu.specs.Serving.{AreNumbered, FitsAt, HasAccount, HasStopped, HasStoppedIt, IsDone, IsListed, IsRunning, Serves}
-use Rattle.hwp_cpu.proofs.ProcessorKeeps.{can, carried, other, own}
-use Rattle.hwp_cpu.proofs.EachKind.{can-stop, on-turn}
-use Rattle.hwp_cpu.proofs.ProcessorNotes.{account-starts, failed-end, noted-end, noted-starts, owes-nothing, spoils-end, unmarked-starts}
+use Rattle.hwp_cpu.specs.Serving.{AreNumbered, FitsAt, HasAccount, HasStopped, HasStoppedIt, IsDone, IsListed, IsRunning, Serves, IsUnderWay, marked_beside, marked_so_far, GivesUp, GoesOn}
+use Rattle.hwp_cpu.proofs.ProcessorKeeps.{can, own}
+use Rattle.hwp_cpu.proofs.ProcessorNotes.{account-starts, noted-end, noted-starts, owes-nothing, spoils-end, unmarked-starts}
 use Rattle.hwp_cpu.proofs.KnownHandles.{handle-known, handles-many}
 use Rattle.hwp_cpu.proofs.KnownPolicies.{counted-ends, counted-starts, setting-left}
 use Rattle.hwp_cpu.proofs.Revivals.{revival-left}
 use Rattle.hwp_cpu.proofs.Rows.{at_front, past-end, rows-more, stays-more, stop-more, stopped-was}
+use Rattle.std.specs.List.{list_any, cons_option}
+use Rattle.hwp_cpu_course.specs.hwp_cpu_row.hwp_law_commands.Watched.{told, Watched}
+use Rattle.hwp_cpu_causes.specs.hwp_law_served.Offlinings.{watched_at, AreDue}
+use Rattle.hwp_cpu_course.specs.hwp_cpu_row.Locals.{IsWatching, collects}
+use Rattle.hwp_cpu_course.specs.hwp_cpu_command.Done.{marked_beyond, HasCounted}
+use Rattle.hwp_cpu_course.specs.Courses.{BeginsCourse, part_of, row_of, local_after, local_left}
+use Rattle.hwp_cpu.proofs.Watching.{watched-more, room-stays, of-machine, has-watch, watching-ends, watch-starts, own-starts, due-more}
+use Rattle.hwp_cpu_course.specs.hwp_cpu_row.declared.Offlining.{Offlining}
+use Rattle.hwp_cpu_course.specs.hwp_cpu_row.Acts.{told_notes}
+use Rattle.hwp_cpu_course.specs.hwp_cpu_row.hwp_law_commands.Commands.{is_watch}
+use Rattle.hwp_cpu.proofs.GoingOn.{IsEnding}
+use Rattle.hwp_cpu_course.specs.declared.Course.{Course}
+use Rattle.std.specs.Prelude.{IsSome}
+use Rattle.hwp_cpu_course.specs.hwp_cpu_row.hwp_claim_frame.Done.{Marking}
+use Rattle.hwp_cpu.proofs.Marks.{by_acts}
+use Rattle.hwp_cpu_course.proofs.of_hwp_cpu_command_laws.Beside.{marked-parts}
+use Rattle.hwp_cpu_course.specs.hwp_cpu_row.hwp_cpu_check.Done.{marked_in}
+use Rattle.hwp_cpu_course.specs.hwp_cpu_command.hwp_soft.declared.Soft.{Soft}
+use Rattle.hwp_cpu_course.specs.Courses as courses
 
 -- ---- the turn
 
@@ -95,7 +110,7 @@ own-stop layout cpu list rows command j a offlined there runs has who it = subst
 -- ---- the answer
 
 module _ (layout : Layout) (new : View) (cpu : Cpu) (list : List Command) (rows : List Row) (local : Local) (c : Course) (a : Answer) (now : IsEnding layout new cpu list rows local c a) (later-none : (q : ℕ) → length rows < q → HasMadeNone new (at_number cpu q))
-    (few : length list ≤ command_limit) where
+    (few : length list ≤ command_limit) (round : StandsOn c.own a c.watching) where
   abbrev n : ℕ
   n = length rows
 
@@ -182,7 +197,7 @@ module _ (layout : Layout) (new : View) (cpu : Cpu) (list : List Command) (rows 
   -- the collector that the next command begins with
   watching-now : IsWatching layout.frames (watched_at layout list longer (length longer)) after.watching
   watching-now = subst (λ (w : Option Watched). IsWatching layout.frames w after.watching) (sym (watched-more layout list rows command row now.way.there))
-      (watching-ends layout at command c.own a (told_notes layout (told_of c.own)) (watched_at layout list rows n) c.watching now.way.runs now.known.answered now.complete.watching (λ watches. now.way.collected.room (has-watch list n command now.way.there watches)))
+      (watching-ends layout.frames (told_notes layout (told_of c.own)) (watched_at layout list rows n) c.watching now.complete.watching layout at command c.own a now.way.runs round (λ watches. now.way.collected.room (has-watch list n command now.way.there watches)))
 
   room-now : list_any is_watch list ≡ true → IsSome after.watching
   room-now has = room-stays c.own a c.watching (now.way.collected.room has)
@@ -223,7 +238,7 @@ module _ (layout : Layout) (new : View) (cpu : Cpu) (list : List Command) (rows 
       made = later-none (n + 1) (omega arith);
       unmarked = unmarked-starts new cpu (n + 1) now.way.listed;
       left = setting-left list longer new policies (omega (arith, few, within, number));
-      revivals = revival-left new cpu longer noting (omega (arith, few, within, number));
+      revivals = revival-left layout new cpu list longer after.banks serves.rows_are noting (omega (arith, few, within, number));
     }) (handle-known layout new cpu list longer after.handles b.own serves.numbers serves.handles_are (omega (arith, within, number)) begins.handle)
 
     -- what is of the commands so far is of them and the next one
@@ -249,7 +264,7 @@ module _ (layout : Layout) (new : View) (cpu : Cpu) (list : List Command) (rows 
 
     begun : courses.Fits layout new b × (IsRunning layout new cpu list longer (local_left b after) b ⊎ GivesUp layout new cpu list longer b)
     begun = (
-      course-begins layout new (at_number cpu (n + 1)) next after b begins own-fits (of-machine layout.frames (watched_at layout list longer (length longer)) after.watching watching-now),
+      course-begins layout new (at_number cpu (n + 1)) next after b begins own-fits (of-machine layout (watched_at layout list longer (length longer)) after.watching watching-now),
       inl (record {
         command = next;
         way = way;

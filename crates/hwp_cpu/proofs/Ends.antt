@@ -19,8 +19,6 @@ use Rattle.hwp_cpu_course.proofs.of_hwp_cpu_row.of_hwp_core_rule.Lists.{at_map}
 use Rattle.hwp_cpu_course.proofs.of_hwp_cpu_row.of_hwp_core_rule.WordsOpen.{below-at, length-below}
 use Rattle.hwp_cpu_course.specs.hwp_cpu_row.hwp_core_task.declared.Turn.{Turn}
 use Rattle.hwp_cpu_course.specs.hwp_cpu_row.hwp_core_task.Boards.{AreSeated, view_of}
-use Rattle.hwp_cpu_course.specs.hwp_cpu_command.declared.job.Job.{Job}
-use Rattle.hwp_cpu_course.specs.hwp_cpu_command.Jobs as jobs
 use Rattle.hwp_cpu_causes.specs.hwp_law_served.Served.{IsServed}
 use Rattle.hwp_cpu.specs.declared.processor.Processor.{Processor}
 use Rattle.hwp_cpu.specs.Processors.{AtBeginning, Follows, Next, NextOf, bare, who}
@@ -28,6 +26,9 @@ use Rattle.hwp_cpu.specs.Serving.{Fits, FitsAt}
 use Rattle.hwp_cpu.proofs.ProcessorOpens.{begun}
 use Rattle.hwp_cpu.proofs.ProcessorServes.{served}
 use Rattle.hwp_cpu.proofs.ProcessorLaws.{own-cpu}
+use Rattle.hwp_cpu_course.specs.declared.Course.{Course}
+use Rattle.hwp_cpu_causes.specs.hwp_law_served.hwp_soft.declared.soft.SoftAt.TheVariants as at
+use Rattle.hwp_cpu_course.specs.Courses as courses
 
 -- ---- the beginning
 
@@ -43,16 +44,16 @@ pub opening-fits : (layout : Layout) (cpu : Cpu) (list : List Command) (p : Proc
 opening-fits layout cpu list p at = subst (λ (v : View). Fits layout v p) (sym (opening-view layout cpu.0)) (record {
   ready = at.ready;
   layout_is = at.layout_is;
-  at = subst (λ (c : Cpu). FitsAt layout (opening_view cpu.0) c p.commands p.rows.items p.local p.job) (sym at.cpu_is)
-      (subst (λ (l : List Command). FitsAt layout (opening_view cpu.0) cpu l p.rows.items p.local p.job) (sym at.commands_are)
-      (subst (λ (l : List Row). FitsAt layout (opening_view cpu.0) cpu list l p.local p.job) (sym at.no_row)
-      (subst (λ (l : Local). FitsAt layout (opening_view cpu.0) cpu list [] l p.job) (sym at.local_is)
-      (begun layout cpu list (subst (λ (l : List Command). length l ≤ command_limit) at.commands_are at.ready.commands.few) p.job at.begins))));
+  at = subst (λ (c : Cpu). FitsAt layout (opening_view cpu.0) c p.commands p.rows.items p.local p.course) (sym at.cpu_is)
+      (subst (λ (l : List Command). FitsAt layout (opening_view cpu.0) cpu l p.rows.items p.local p.course) (sym at.commands_are)
+      (subst (λ (l : List Row). FitsAt layout (opening_view cpu.0) cpu list l p.local p.course) (sym at.no_row)
+      (subst (λ (l : Local). FitsAt layout (opening_view cpu.0) cpu list [] l p.course) (sym at.local_is)
+      (begun layout cpu list (subst (λ (l : List Command). length l ≤ command_limit) at.commands_are at.ready.commands.few) at.first at.is_first p.course at.begins))));
 })
 
 -- its commands are those of the processor
 fits-own : (layout : Layout) (view : View) (p : Processor) → Fits layout view p → (who p).cpu ≡ p.cpu
-fits-own layout view p fits = own-cpu layout view p.cpu p.commands p.rows.items p.local p.job fits.at
+fits-own layout view p fits = own-cpu layout view p.cpu p.commands p.rows.items p.local p.course fits.at
 
 pub opening-own : (layout : Layout) (cpu : Cpu) (list : List Command) (p : Processor) → AtBeginning layout cpu list p → (who p).cpu ≡ cpu
 opening-own layout cpu list p at = fits-own layout (view_of (opening layout) cpu.0) p (opening-fits layout cpu list p at) ∙ at.cpu_is
@@ -60,19 +61,19 @@ opening-own layout cpu list p at = fits-own layout (view_of (opening layout) cpu
 -- ---- a turn
 
 pub next-keeps : (layout : Layout) (p after : Processor) (found : ℕ) (got : Option BodyValue) (turn : Turn) → Next layout (bare p) found got after turn → (after.cpu ≡ p.cpu) × (after.commands ≡ p.commands)
-next-keeps layout p after found got turn next = which (option_map jobs.bare p.job) next
+next-keeps layout p after found got turn next = which (option_map courses.bare p.course) next
   where
-    by : (k : Job) (t : Turn) (o : Option Answer) → Follows (bare p) k o t after turn → (after.cpu ≡ p.cpu) × (after.commands ≡ p.commands)
+    by : (k : Course) (t : Turn) (o : Option Answer) → Follows (bare p) k o t after turn → (after.cpu ≡ p.cpu) × (after.commands ≡ p.commands)
     by k t None (is, turn_is) = (ap (λ (x : Processor). x.cpu) is, ap (λ (x : Processor). x.commands) is)
     by k t (Some a) (answered, turn_is) = (answered.cpu_is, answered.commands_are)
 
-    which : (x : Option Job) → NextOf layout (bare p) x found got after turn → (after.cpu ≡ p.cpu) × (after.commands ≡ p.commands)
-    which (Some j) so = by so.0 so.1 (jobs.answer so.0) so.3
+    which : (x : Option Course) → NextOf layout (bare p) x found got after turn → (after.cpu ≡ p.cpu) × (after.commands ≡ p.commands)
+    which (Some c) so = by so.0 so.1 (courses.answer so.0) so.3
     which None so = (ap (λ (x : Processor). x.cpu) so.0, ap (λ (x : Processor). x.commands) so.0)
 
 -- ---- the end
 
 pub served-of : (layout : Layout) (last : State) (seat : Cpu → ℕ) → Holds layout last → AreSeated layout last seat → (p : Processor) → p.cpu.0 < layout.cpus
-    → Fits layout (view_of last (seat p.cpu)) p → p.job ≡ None → IsServed layout (view_of last (seat p.cpu)) p.cpu p.commands p.rows.items
+    → Fits layout (view_of last (seat p.cpu)) p → p.course ≡ None → IsServed layout (view_of last (seat p.cpu)) p.cpu p.commands p.rows.items
 served-of layout last seat holds seated p inside fits none =
     served layout last seat holds seated p.cpu inside p.commands p.rows.items p.local (subst (FitsAt layout (view_of last (seat p.cpu)) p.cpu p.commands p.rows.items p.local) none fits.at)

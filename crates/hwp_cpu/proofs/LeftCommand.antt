@@ -29,7 +29,7 @@ use Rattle.hwp_cpu_course.specs.hwp_cpu_command.hwp_soft.declared.SoftAnswer.The
 module _ (layout : Layout) (view : View) (who : Who) (j : Job) (a : Answer) (base : List Made) (fits : jobs.FitsFrom base layout view j) (has : jobs.answer j ≡ Some a) where
   -- of another command
   plain : (command : Command) {k : Job} → Runs layout who command j → j ≡ k → IsNoSoft k → left_by who view ≡ left_among base
-  plain command {k} runs is apart = subst (λ (w : Who). left_by w view ≡ left_among base) (runs-who layout who command j runs) (left-answered j (subst IsNoSoft (sym is) apart) fits has)
+  plain command {k} runs is apart = subst (λ (w : Who). left_by w view ≡ left_among base) (runs-who layout who command j runs) (left-answered base layout view j (subst IsNoSoft (sym is) apart) fits has)
 
   itself : (frame : Frame) (x : SoftAnswer) → moved_at x ≡ left_itself (commands.Soft frame) (soft_answer x)
   itself frame soft_answers.Stopped = refl

@@ -10,7 +10,7 @@ use Rattle.hwp_cpu_course.specs.hwp_cpu_command.declared.job.Job.{Job}
 use Rattle.hwp_cpu_course.specs.hwp_cpu_row.Locals.{collects}
 use Rattle.hwp_cpu.specs.Serving.{HasToldAll}
 use Rattle.hwp_cpu_course.specs.hwp_cpu_row.hwp_core_rule.declared.View.{View}
-use Rattle.std.proofs.lemmas.List.{drop_all, take-append-le, take_all}
+use Rattle.std.proofs.lemmas.List.{drop_all, take-append-le, take_all, drop-append-le}
 use Rattle.hwp_cpu_course.specs.hwp_cpu_row.Acts.{told_notes}
 use Rattle.hwp_cpu_course.specs.hwp_cpu_row.hwp_core_rule.declared.Made.{Made}
 use Rattle.hwp_cpu_course.specs.hwp_cpu_row.hwp_geom.declared.Frame.{Frame}
@@ -23,12 +23,10 @@ use Rattle.hwp_cpu_course.specs.hwp_cpu_command.Jobs as jobs
 use Rattle.hwp_cpu_course.proofs.of_hwp_cpu_command_laws.Beside.{given-up-rests}
 use Rattle.hwp_cpu_course.proofs.of_hwp_cpu_command_laws.ToldGrows.{told-longer}
 use Rattle.hwp_cpu_course.specs.hwp_cpu_command.hwp_cpu_access.declared.instruction.InstructionAt.{InstructionAt}
-use Rattle.hwp_cpu_course.specs.hwp_cpu_row.hwp_core_rule.Steps.{goes}
 use Rattle.std.specs.Prelude.{take}
 use Rattle.hwp_cpu_course.specs.hwp_cpu_command.hwp_cpu_access.declared.instruction.Pause.{Pause}
-use Rattle.hwp_cpu_course.proofs.of_hwp_cpu_command.of_hwp_cpu_access.Resting.{rests}
 use Rattle.hwp_cpu_course.specs.hwp_cpu_row.hwp_report_text.declared.Answer.{Answer}
-use Rattle.hwp_cpu_course.specs.Courses.{passed, HasPassed}
+use Rattle.hwp_cpu_course.specs.Courses.{passed, HasPassed, rests}
 
 -- what stands behind a list
 drop-length : {A : Type 0} (a b : List A) → drop (length a) (a ++ b) ≡ b

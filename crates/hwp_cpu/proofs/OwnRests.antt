@@ -90,7 +90,7 @@ module _ (layout : Layout) (view : View) (who : Who) (command : Command) (c : Co
     pause = p;
     paused = paused_is;
     rests = rests i p own-fits paused_is;
-    met = on-the-way c.own (runs-access layout who command c.own runs pauses-now) fits prior pauses-now;
+    met = on-the-way base layout view c.own (runs-access layout who command c.own runs pauses-now) fits prior pauses-now;
   }
 
   pub pause-holds : HoldsNone view who c

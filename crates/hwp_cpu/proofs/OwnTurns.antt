@@ -13,7 +13,7 @@ use Rattle.hwp_cpu_course.specs.hwp_cpu_row.hwp_core_task.declared.Turn.{Turn}
 use Rattle.hwp_cpu_course.specs.hwp_cpu_row.hwp_law_commands.Notes.{is_for_pages}
 use Rattle.hwp_cpu_course.specs.Dues.{DueValue, next_due}
 use Rattle.hwp_cpu.proofs.GoingOn.{Turned, ends-now, complete-off, go-on, complete-by, IsComplete}
-use Rattle.hwp_cpu.proofs.ProcessorKeeps.{way-own, other}
+use Rattle.hwp_cpu.proofs.ProcessorKeeps.{way-own}
 use Rattle.hwp_cpu_course.specs.hwp_cpu_command.hwp_cpu_access.declared.Instruction.{Instruction}
 use Rattle.hwp_cpu_course.specs.hwp_cpu_row.declared.Row.{Row}
 use Rattle.hwp_cpu_course.specs.hwp_cpu_command.Jobs.{told_of}
@@ -51,8 +51,6 @@ use Rattle.hwp_cpu_course.specs.Courses as courses
 use Rattle.hwp_cpu_course.specs.hwp_cpu_command.Jobs as jobs
 use Rattle.hwp_cpu_course.specs.hwp_cpu_command.hwp_cpu_access.Instructions as instructions
 use Rattle.hwp_cpu_course.specs.hwp_cpu_command.declared.job.Job.TheVariants as kinds
-use Rattle.hwp_cpu_causes.specs.hwp_law_served.hwp_law_commands.Commands.{access}
-use Rattle.hwp_cpu_course.specs.hwp_cpu_row.hwp_core_rule.Steps.{goes}
 
 -- nothing is noted where nothing was told
 dropped-none : (layout : Layout) (n : ℕ) (told : List EventOutcome) → told ≡ [] → told_notes layout (drop n told) ≡ []

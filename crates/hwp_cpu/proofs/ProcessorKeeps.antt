@@ -1,4 +1,5 @@
 -- A step of the command that runs leaves what the processor keeps.
+use Rattle.hwp_cpu_causes.proofs.BesideKeeps.{offlinings-stay}
 use Rattle.std.proofs.Common.{◌≡◌, ◌≢◌, ℕ, ◌⊎◌, inl, inr, false, List, [], Some, length, slice_get, refl, subst, sym, ap, ◌∙◌, arith, None, ◌<◌, map, Option, append-nil}
 use Rattle.std.proofs.lemmas.Option.{none-some}
 use Rattle.hwp_cpu_course.specs.hwp_cpu_row.hwp_geom.declared.Cpu.{Cpu}
@@ -27,7 +28,7 @@ use Rattle.hwp_cpu_course.proofs.of_hwp_cpu_command.JobLaws as jobbing
 use Rattle.hwp_cpu_course.proofs.of_hwp_cpu_command.JobEnds.{answered-over, ends}
 use Rattle.hwp_cpu_course.proofs.of_hwp_cpu_command_laws.CommandRuns.{before-stays, runs-on, runs-who}
 use Rattle.hwp_cpu_course.proofs.of_hwp_cpu_command_laws.HandleKeeps.{handle-stays}
-use Rattle.hwp_cpu_course.proofs.of_hwp_cpu_command_laws.CommandStops.{halted-stays, has-stopped, looks-first, no-own-stop, stops-after}
+use Rattle.hwp_cpu_course.proofs.of_hwp_cpu_command_laws.CommandStops.{halted-stays, has-stopped, looks-first, no-own-stop, stops-after, still-halted}
 use Rattle.hwp_cpu_causes.specs.hwp_law_served.Handles.{answers_by}
 use Rattle.hwp_cpu_causes.specs.hwp_law_served.Served.{IsOwnStop, SawRunning}
 use Rattle.hwp_cpu_causes.proofs.of_hwp_law_served.CommandKeeps.{row-stays, saw-running-stays, made-none-later}
@@ -98,7 +99,7 @@ module _ (layout : Layout) (old new : View) (cpu : Cpu) (list : List Command) (r
         room = has.room;
         due = has.due;
         frames = has.frames;
-        offlined = offlinings-stay made.made has.offlined;
+        offlined = offlinings-stay made.made (at_number cpu (length rows)) c.due.offlined has.offlined;
         behind = has.behind;
       }
 

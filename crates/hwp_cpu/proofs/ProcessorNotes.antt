@@ -1,5 +1,6 @@
 -- What a processor's view lists of its commands beside entries, and its notes: over a step, when a command is answered, and when the
 -- next one begins.
+use Rattle.hwp_cpu_causes.specs.hwp_law_served.Causes.{IsBeside}
 use Rattle.std.proofs.Common.{◌≡◌, ◌⊎◌, inl, inr, ℕ, suc, ◌+◌, ◌≤◌, Bool, true, false, List, [], ◌∷◌, ◌++◌, Option, Some, None, drop, filter, filter_map, length, map, slice_get, append_assoc, append-nil, refl, sym, ap, ◌∙◌, subst, arith, true≢false}
 use Rattle.std.specs.List.{cons_option}
 use Rattle.std.specs.Int.{from_bool}
@@ -161,13 +162,13 @@ module _ {layout : Layout} {old new : View} {cpu : Cpu} {n : ℕ} (c : Course) (
     (is : c.beside ≡ Some o) (adds : AddsBeside (at_number cpu n) old new) where
   -- no entry of that tells a failure
   failures-beside : failures (at_number cpu n) new ≡ failures (at_number cpu n) old
-  failures-beside = which adds
+  failures-beside = which adds.adds
     where
       lossless : (what : What) (page : Page) (place : ℕ) → is_soft what ≡ true → abandoned.failed_of page place what ≡ None
       lossless (entries.Fail situation required seen signals) page place beside = absurd (true≢false (sym beside))
       lossless what page place beside = refl
 
-      which : AddsBeside (at_number cpu n) old new → failures (at_number cpu n) new ≡ failures (at_number cpu n) old
+      which : (deeds (at_number cpu n) new ≡ deeds (at_number cpu n) old) ⊎ ((m : Made) × (deeds (at_number cpu n) new ≡ deeds (at_number cpu n) old ++ m ∷ []) × IsBeside m) → failures (at_number cpu n) new ≡ failures (at_number cpu n) old
       which (inl same) = ap (filter_map abandoned.failed_in) same
       which (inr (m, more, beside)) =
           ap (filter_map abandoned.failed_in) more ∙ filter_map-append abandoned.failed_in (deeds (at_number cpu n) old) (m ∷ [])

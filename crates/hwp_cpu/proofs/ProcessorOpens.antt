@@ -1,5 +1,5 @@
 -- At opening a processor fits: it has made no step, and its first command begins.
-use Rattle.std.proofs.Common.{◌≡◌, ℕ, zero, suc, ◌<◌, ◌≤◌, inl, List, [], ◌∷◌, Option, Some, None, length, slice_get, refl, sym, ap, subst, arith}
+use Rattle.std.proofs.Common.{◌≡◌, ℕ, zero, suc, ◌<◌, ◌≤◌, inl, List, [], ◌∷◌, Option, Some, None, length, slice_get, refl, sym, ap, subst, arith, Bool, true≢false, false, true, ◌∙◌}
 use Rattle.std.proofs.lemmas.Option.{none-some, same_Some, slice_get_within}
 use Rattle.hwp_cpu_course.specs.hwp_cpu_row.hwp_geom.declared.Cpu.{Cpu}
 use Rattle.hwp_cpu_course.specs.hwp_cpu_row.hwp_geom.declared.Layout.{Layout}
@@ -10,31 +10,41 @@ use Rattle.hwp_cpu_course.specs.hwp_cpu_row.hwp_core_rule.declared.Part.{Part}
 use Rattle.hwp_cpu_course.specs.hwp_cpu_row.hwp_core_rule.declared.View.{View}
 use Rattle.hwp_cpu_course.specs.hwp_cpu_row.hwp_core_rule.Opening.{opening_view}
 use Rattle.hwp_cpu_course.specs.hwp_cpu_row.hwp_core_task.Calls.{IsOnTurn}
-use Rattle.hwp_cpu_course.specs.hwp_cpu_command.declared.job.Job.{Job}
-use Rattle.hwp_cpu_course.specs.hwp_cpu_command.Begins.{Begins}
-use Rattle.hwp_cpu_course.specs.hwp_cpu_command.FileHandles.{HasHandle, local_left}
+use Rattle.hwp_cpu_course.specs.hwp_cpu_command.FileHandles.{local_left}
 use Rattle.hwp_cpu_course.specs.hwp_cpu_command.Jobs.{banks_before, left_in}
 use Rattle.hwp_cpu_course.specs.hwp_cpu_command.Settings.{policies_in}
 use Rattle.hwp_cpu_course.specs.hwp_cpu_command.Stays.{IsAtStop}
 use Rattle.hwp_cpu_course.proofs.of_hwp_cpu_command_laws.CommandRuns.{before-begins, begins-fits, begins-runs}
-use Rattle.hwp_cpu_course.proofs.of_hwp_cpu_command_laws.CommandStops.{begins-stop}
+use Rattle.hwp_cpu_course.proofs.of_hwp_cpu_command_laws.CommandStops.{begins-stop, untold-at-start}
 use Rattle.hwp_cpu_course.specs.hwp_cpu_row.hwp_banks.Banks.{Banks, empty_banks}
 use Rattle.hwp_cpu_course.specs.hwp_cpu_row.declared.Local.{Local}
-use Rattle.hwp_cpu_course.specs.hwp_cpu_row.Locals.{first_local}
+use Rattle.hwp_cpu_course.specs.hwp_cpu_row.Locals.{IsWatching, IsFirst, collects, HasRoom}
 use Rattle.hwp_cpu_course.specs.hwp_cpu_row.hwp_law_commands.Settings.{settings}
 use Rattle.hwp_cpu_causes.specs.hwp_law_served.Handles.{answers_by}
 use Rattle.hwp_cpu_causes.specs.hwp_law_served.Served.{AreRowsServed}
 use Rattle.hwp_cpu_causes.proofs.of_hwp_law_served.Handles.{numbers-begin}
 use Rattle.hwp_cpu_causes.proofs.of_hwp_law_served.lines.ScrubBank.{empty-free}
 use Rattle.hwp_cpu.specs.Processors.{BeginsAt, at_number, left_of}
-use Rattle.hwp_cpu.specs.Serving.{FitsAt, IsDone, IsListed, IsRunning, Serves}
+use Rattle.hwp_cpu.specs.Serving.{FitsAt, IsDone, IsListed, Serves, AreNumbered, GoesOn, IsUnderWay}
 use Rattle.hwp_cpu.proofs.KnownHandles.{handle-known, numbers-first}
 use Rattle.hwp_cpu.proofs.KnownPolicies.{counted-starts, setting-left}
 use Rattle.hwp_cpu.proofs.Rows.{past-end}
 use Rattle.hwp_cpu.proofs.ProcessorNotes.{account-starts, noted-starts}
 use Rattle.hwp_cpu.proofs.Revivals.{revival-left}
+use Rattle.hwp_cpu.proofs.Watching.{of-machine, watch-starts, own-starts}
+use Rattle.hwp_cpu_course.specs.Courses.{BeginsCourse}
+use Rattle.std.specs.List.{list_any}
+use Rattle.hwp_cpu_course.specs.hwp_cpu_row.declared.Watching.{Watching}
+use Rattle.hwp_cpu_course.specs.hwp_cpu_row.hwp_law_commands.Watched.{Watched}
+use Rattle.hwp_cpu_causes.specs.hwp_law_served.Offlinings.{watched_at}
+use Rattle.hwp_cpu_course.proofs.CourseLaws.{course-begins}
+use Rattle.std.specs.Prelude.{IsSome}
+use Rattle.hwp_cpu_course.specs.hwp_cpu_row.hwp_law_commands.Commands.{is_watch}
+use Rattle.hwp_cpu_course.specs.hwp_cpu_command.hwp_scrub.Visits.{AreBanks}
+use Rattle.hwp_cpu_course.specs.declared.Course.{Course}
+use Rattle.hwp_cpu_course.specs.hwp_cpu_command.Jobs as jobs
 
-module _ (layout : Layout) (cpu : Cpu) (list : List Command) (few : length list ≤ command_limit) where
+module _ (layout : Layout) (cpu : Cpu) (list : List Command) (few : length list ≤ command_limit) (at-first : Local) (is_first : IsFirst layout.files (list_any is_watch list) layout.frames at-first) where
   abbrev view : View
   view = opening_view cpu.0
 
@@ -61,48 +71,94 @@ module _ (layout : Layout) (cpu : Cpu) (list : List Command) (few : length list 
       none-yet [] = refl
       none-yet (c ∷ cs) = refl
 
-  abbrev at-first : Local
-  at-first = first_local layout.files
-
   -- none is answered, so the banks and the handles are as at first
+  numbered : AreNumbered layout list [] at-first.handles
+  numbered = subst (AreNumbered layout list []) (sym is_first.handles) (numbers-first layout list)
+
   serves : (banks : Banks) → banks ≡ empty_banks → Serves layout view cpu list [] banks at-first.handles
   serves banks none = record {
     rows_are = by list;
     stays = λ i j row later less first second stopped. absurd (none-some _ first);
     halted = λ some. absurd (none-some _ some.2);
     numbers = numbers-begin layout view cpu list;
-    handles_are = numbers-first layout list;
+    handles_are = numbered;
+    due = λ n row there. absurd (none-some row there);
   }
     where
       by : (l : List Command) → AreRowsServed layout [] view cpu 0 empty_banks l [] banks
       by [] = none
       by (c ∷ cs) = none
 
-  running : (command : Command) (j : Job) → slice_get list 0 ≡ Some command → Begins layout (at_number cpu 0) command empty_banks j → HasHandle at-first.handles j → IsRunning layout view cpu list [] (local_left j at-first) j
-  running command j there begins has = record {
-    serves = serves (banks_before j (left_in j empty_banks)) (before-begins layout (at_number cpu 0) command empty_banks j begins);
-    command = command;
-    there = there;
-    runs = begins-runs layout (at_number cpu 0) command empty_banks j begins;
-    handle = has;
-    fits = begins-fits layout view (at_number cpu 0) command empty_banks j begins empty-free (record { on_turn = first-turn; hand_is = refl; paid = refl; made = refl; unmarked = refl; left = setting-left list [] view unset (let within : 0 < length list = slice_get_within list 0 command there in omega (arith, few, within)); revivals = revival-left view cpu [] tt (omega arith) })
-        (handle-known layout view cpu list [] at-first.handles j (numbers-begin layout view cpu list) (numbers-first layout list) (omega arith) has);
-    policies = counted-starts (λ (thread : Thread). settings thread (answers_by list [])) view j start unset;
-    stopped = λ some. inl start;
-    looked = inl (inl start);
-    stops = λ i who at. absurd (none-some who at);
-    listed = listed 1;
-    account = account-starts view cpu 0 j (listed 0) refl refl start;
-    noted = noted-starts view cpu [] j (listed 0) start tt;
-    spoiled = λ i s at. absurd (none-some s at);
-  }
+  -- nothing is collected yet
+  unwatched : watched_at layout list [] 0 ≡ None
+  unwatched = which list
     where
-      start : IsAtStop j
-      start = begins-stop layout (at_number cpu 0) command empty_banks j begins
+      which : (l : List Command) → watched_at layout l [] 0 ≡ None
+      which [] = refl
+      which (c ∷ cs) = refl
+
+  watching : IsWatching layout.frames (watched_at layout list [] 0) at-first.watching
+  watching = subst (λ (w : Option Watched). IsWatching layout.frames w at-first.watching) (sym unwatched) (which (list_any is_watch list) at-first.watching is_first.watching)
+    where
+      which : (b : Bool) (w : Option Watching) → HasRoom layout.frames b w → IsWatching layout.frames None w
+      which true (Some w) has = has
+      which true None has = absurd has
+      which false None has = tt
+      which false (Some w) has = absurd has
+
+  room : list_any is_watch list ≡ true → IsSome at-first.watching
+  room watches = which (list_any is_watch list) at-first.watching watches is_first.watching
+    where
+      which : (b : Bool) (w : Option Watching) → b ≡ true → HasRoom layout.frames b w → IsSome w
+      which true (Some w) is has = tt
+      which true None is has = absurd has
+      which false w is has = absurd (true≢false (sym is))
+
+  module _ (command : Command) (c : Course) (there : slice_get list 0 ≡ Some command) (begins : BeginsCourse layout (at_number cpu 0) command at-first c) where
+    start : IsAtStop c.own
+    start = begins-stop layout (at_number cpu 0) command at-first.banks (collects at-first.watching) c.own begins.begins
+
+    own-fits : jobs.FitsFrom [] layout view c.own
+    own-fits = begins-fits layout view (at_number cpu 0) command at-first.banks (collects at-first.watching) c.own begins.begins (subst AreBanks (sym is_first.banks) empty-free) (record {
+      on_turn = first-turn;
+      hand_is = refl;
+      paid = refl;
+      made = refl;
+      unmarked = refl;
+      left = setting-left list [] view unset (let within : 0 < length list = slice_get_within list 0 command there in omega (arith, few, within));
+      revivals = revival-left layout view cpu list [] empty_banks (serves empty_banks refl).rows_are tt (omega arith);
+    }) (handle-known layout view cpu list [] at-first.handles c.own (numbers-begin layout view cpu list) numbered (omega arith) begins.handle)
+
+    way : IsUnderWay layout view cpu list [] (local_left c at-first) command c
+    way = record {
+      serves = serves (banks_before c.own (left_in c.own at-first.banks)) (before-begins layout (at_number cpu 0) command at-first.banks (collects at-first.watching) c.own begins.begins ∙ is_first.banks);
+      there = there;
+      runs = begins-runs layout (at_number cpu 0) command at-first.banks (collects at-first.watching) c.own begins.begins;
+      handle = begins.handle;
+      policies = counted-starts (λ (thread : Thread). settings thread (answers_by list [])) view c.own start unset;
+      stopped = λ some. absurd (none-some _ some.2);
+      looked = inl (inl start, untold-at-start c.own start);
+      stops = λ i who at. absurd (none-some who at);
+      listed = listed 1;
+      account = account-starts view cpu 0 c at-first.watching layout.frames begins.is (listed 0) refl refl start;
+      noted = noted-starts view cpu [] c at-first.watching layout.frames begins.is (listed 0) start tt;
+      spoiled = λ i s at. absurd (none-some s at);
+      collected = watch-starts layout view (at_number cpu 0) list (watched_at layout list [] 0) c at-first.watching begins.is start watching room;
+    }
+
+    running : FitsAt layout view cpu list [] (local_left c at-first) (Some c)
+    running = (
+      course-begins layout view (at_number cpu 0) command at-first c begins own-fits (of-machine layout (watched_at layout list [] 0) at-first.watching watching),
+      inl (record {
+        command = command;
+        way = way;
+        on = subst (GoesOn layout view cpu list [] (local_left c at-first) command c) (sym (ap (λ (d : Course). d.beside) begins.is)) (own-starts layout view command c at-first.watching begins.is start own-fits);
+      }),
+    )
 
   done : slice_get list 0 ≡ None → IsDone layout view cpu list [] at-first
   done none = record {
-    serves = serves empty_banks refl;
+    serves = serves at-first.banks is_first.banks;
     all = sym (let most : length list ≤ 0 = past-end list 0 none in omega arith);
     made = λ k past. refl;
     hand_is = refl;
@@ -114,11 +170,11 @@ module _ (layout : Layout) (cpu : Cpu) (list : List Command) (few : length list 
     policies = unset;
   }
 
-  pub begun : (x : Option Job) → BeginsAt layout (at_number cpu 0) (slice_get list 0) at-first x → FitsAt layout view cpu list [] (left_of x at-first) x
+  pub begun : (x : Option Course) → BeginsAt layout (at_number cpu 0) (slice_get list 0) at-first x → FitsAt layout view cpu list [] (left_of x at-first) x
   begun x begins = which (slice_get list 0) refl x begins
     where
-      which : (o : Option Command) → slice_get list 0 ≡ o → (y : Option Job) → BeginsAt layout (at_number cpu 0) o at-first y → FitsAt layout view cpu list [] (left_of y at-first) y
-      which (Some command) there (Some j) at = running command j there at.0 at.1
+      which : (o : Option Command) → slice_get list 0 ≡ o → (y : Option Course) → BeginsAt layout (at_number cpu 0) o at-first y → FitsAt layout view cpu list [] (left_of y at-first) y
+      which (Some command) there (Some c) at = running command c there at
       which None there None at = done there
       which (Some command) there None at = absurd at
-      which None there (Some j) at = absurd at
+      which None there (Some c) at = absurd at

@@ -68,6 +68,7 @@ module _ (layout : Layout) (last : State) (seat : Cpu → ℕ) (holds : Holds la
     spoiled = done.spoiled;
     stays = done.serves.stays;
     numbers = done.serves.numbers;
+    due = done.serves.due;
     nothing = record {
       refs = ap (λ (h : Hand). h.refs) done.hand_is;
       locks = ap (λ (h : Hand). h.locks) done.hand_is;

@@ -1,5 +1,6 @@
 -- The class of a processor tells what it holds.
-use Rattle.std.proofs.Common.{◌≡◌, ◌≢◌, ℕ, ◌≤◌, Option, Some, None, []}
+use Rattle.hwp_cpu_course.proofs.CourseLaws as course-class
+use Rattle.std.proofs.Common.{◌≡◌, ◌≢◌, ℕ, ◌≤◌, Option, Some, None}
 use Rattle.std.proofs.lemmas.Option.{none-some}
 use Rattle.hwp_cpu_course.specs.hwp_cpu_row.hwp_geom.declared.Frame.{Frame}
 use Rattle.hwp_cpu_course.specs.hwp_cpu_row.hwp_geom.declared.Layout.{Layout}
@@ -7,32 +8,32 @@ use Rattle.hwp_cpu_course.specs.hwp_cpu_row.hwp_core_rule.declared.View.{View}
 use Rattle.hwp_cpu_course.specs.hwp_cpu_row.hwp_core_task.Classes.{TellsClass}
 use Rattle.hwp_cpu_course.specs.hwp_cpu_row.hwp_core_task.Ranks.{HasFrame, HasPage}
 use Rattle.hwp_cpu_course.proofs.of_hwp_cpu_command.of_hwp_cpu_control.EmptyHands.{no-frame, no-page}
-use Rattle.hwp_cpu_course.specs.hwp_cpu_command.declared.job.Job.{Job}
-use Rattle.hwp_cpu_course.proofs.of_hwp_cpu_command.JobLaws as jobbing
 use Rattle.hwp_cpu.specs.declared.processor.Processor.{Processor}
 use Rattle.hwp_cpu.specs.Processors.{claims, claims_of, class, class_of, plan, plan_of}
 use Rattle.hwp_cpu.specs.Serving.{Fits, FitsAt, task}
+use Rattle.hwp_cpu_course.specs.declared.Course.{Course}
+use Rattle.hwp_cpu_causes.specs.hwp_law_served.hwp_soft.declared.soft.SoftAt.TheVariants as at
 
 pub tells : TellsClass task
 tells = record { frame = frame; page = page; claim = claim }
   where
     frame : (layout : Layout) (view : View) (p : Processor) → Fits layout view p → HasFrame view → (class p ≡ 1) × (plan p ≢ None)
-    frame layout view p fits has = which p.job fits.at
+    frame layout view p fits has = which p.course fits.at
       where
-        which : (x : Option Job) → FitsAt layout view p.cpu p.commands p.rows.items p.local x → (class_of x ≡ 1) × (plan_of x ≢ None)
-        which (Some j) at = jobbing.tells.frame layout view j ([], at.fits) has
+        which : (x : Option Course) → FitsAt layout view p.cpu p.commands p.rows.items p.local x → (class_of x ≡ 1) × (plan_of x ≢ None)
+        which (Some c) at = course-class.tells.frame layout view c at.0 has
         which None at = absurd (no-frame view at.hand_is has)
 
     page : (layout : Layout) (view : View) (p : Processor) → Fits layout view p → HasPage view → (class p ≤ 2) × (plan p ≢ None)
-    page layout view p fits has = which p.job fits.at
+    page layout view p fits has = which p.course fits.at
       where
-        which : (x : Option Job) → FitsAt layout view p.cpu p.commands p.rows.items p.local x → (class_of x ≤ 2) × (plan_of x ≢ None)
-        which (Some j) at = jobbing.tells.page layout view j ([], at.fits) has
+        which : (x : Option Course) → FitsAt layout view p.cpu p.commands p.rows.items p.local x → (class_of x ≤ 2) × (plan_of x ≢ None)
+        which (Some c) at = course-class.tells.page layout view c at.0 has
         which None at = absurd (no-page view at.hand_is has)
 
     claim : (layout : Layout) (view : View) (p : Processor) (f : Frame) (cycle : ℕ) → Fits layout view p → claims p ≡ Some (f, cycle) → (class p ≤ 3) × (plan p ≢ None)
-    claim layout view p f cycle fits has = which p.job fits.at has
+    claim layout view p f cycle fits has = which p.course fits.at has
       where
-        which : (x : Option Job) → FitsAt layout view p.cpu p.commands p.rows.items p.local x → claims_of x ≡ Some (f, cycle) → (class_of x ≤ 3) × (plan_of x ≢ None)
-        which (Some j) at is = jobbing.tells.claim layout view j f cycle ([], at.fits) is
+        which : (x : Option Course) → FitsAt layout view p.cpu p.commands p.rows.items p.local x → claims_of x ≡ Some (f, cycle) → (class_of x ≤ 3) × (plan_of x ≢ None)
+        which (Some c) at is = course-class.tells.claim layout view c f cycle at.0 is
         which None at is = absurd (none-some (f, cycle) is)

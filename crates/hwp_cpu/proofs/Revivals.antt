@@ -1,5 +1,6 @@
 -- A command takes poison back once at most, so a processor can do it with each of its commands.
-use Rattle.std.proofs.Common.{◌≡◌, ℕ, ◌+◌, ◌<◌, ◌≤◌, ◌==◌, ◌&&◌, Bool, true, false, not, List, [], ◌∷◌, ◌++◌, Option, Some, None, length, filter_map, ap, ◌∙◌, refl, arith}
+use Rattle.hwp_cpu_course.specs.hwp_cpu_row.hwp_report_text.declared.OfflineResult.{OfflineResult}
+use Rattle.std.proofs.Common.{◌≡◌, ℕ, ◌+◌, ◌<◌, ◌≤◌, ◌==◌, ◌&&◌, Bool, true, false, not, List, [], ◌∷◌, ◌++◌, Option, Some, None, length, filter_map, ap, ◌∙◌, refl, arith, suc, map}
 use Rattle.std.proofs.lemmas.List.Sums.{sum_by-append, sum_by-cons}
 use Rattle.std.specs.Int.{from_bool}
 use Rattle.std.specs.List.{cons_option, sum_by}
@@ -22,9 +23,21 @@ use Rattle.hwp_cpu_course.specs.hwp_cpu_row.declared.FrameChange.{FrameChange}
 use Rattle.hwp_cpu_course.specs.hwp_cpu_row.declared.FrameChange.TheVariants as owns
 use Rattle.hwp_cpu_course.specs.hwp_cpu_row.declared.Row.{Row}
 use Rattle.hwp_cpu_causes.specs.hwp_law_served.Accounts.{IsLineOf, IsNote}
-use Rattle.hwp_cpu_causes.specs.hwp_law_served.Rows.{Note, note_by, note_of, notes_from, own_note, row_notes, told_note}
+use Rattle.hwp_cpu_causes.specs.hwp_law_served.Rows.{Note, note_by, note_of, notes_from, own_note, row_notes, told_note, act_note}
 use Rattle.hwp_cpu_course.specs.hwp_cpu_command.hwp_soft_unpoison.Unpoisons.{HasRevivalLeft}
 use Rattle.hwp_cpu.specs.Processors.{at_number}
+use Rattle.hwp_cpu_course.specs.hwp_cpu_row.Acts.{Act, Told, acts, Offlined, acts_from}
+use Rattle.hwp_cpu_causes.specs.hwp_law_served.hwp_report_text.declared.OfflineResult.{OfflineResult}
+use Rattle.hwp_cpu_course.specs.hwp_cpu_row.hwp_core_rule.Lists.{EachMember}
+use Rattle.hwp_cpu_causes.specs.hwp_law_served.Served.{IsOffliningServed, AreRowsServed}
+use Rattle.hwp_cpu_course.specs.hwp_cpu_row.hwp_script_lines.declared.Command.{Command}
+use Rattle.hwp_cpu_course.specs.hwp_cpu_row.hwp_banks.Banks.{empty_banks, Banks}
+use Rattle.hwp_cpu_course.specs.hwp_cpu_row.hwp_geom.declared.Layout.{Layout}
+use Rattle.hwp_cpu_course.specs.hwp_cpu_row.hwp_report_text.declared.Answer.{Answer}
+use Rattle.hwp_cpu_causes.specs.hwp_law_served.Offlinings.{IsOfflineServed}
+use Rattle.hwp_cpu_course.specs.hwp_cpu_row.declared.Offlining.{Offlining}
+use Rattle.hwp_cpu_course.specs.hwp_cpu_row.hwp_geom.declared.Frame.{Frame}
+use Rattle.hwp_cpu_causes.specs.hwp_law_served.hwp_report_text.declared.OfflineResult.TheVariants as results
 
 -- 1 for the note of a poison that was taken back, else 0
 abbrev taken_back : Note → ℕ
@@ -74,6 +87,57 @@ told-none who (t ∷ ts) = which t.found (told-none who ts)
         let none : sum_by taken_back (filter_map (told_note who) ts) ≡ 0 = rest in
         omega (arith, one, none)
 
+-- nor does a frame that was taken out of use beside it
+change-none : (who : Who) (frame : Frame) (cycle : ℕ) (moved : Bool) (change : Option FrameChange) → change ≡ Some (owns.Offlined frame cycle moved) → sum_by taken_back (cons_option (own_note who change) []) ≡ 0
+change-none who frame cycle moved change is = ap (λ (c : Option FrameChange). sum_by taken_back (cons_option (own_note who c) [])) is ∙ which moved
+  where
+    which : (b : Bool) → sum_by taken_back (note_by who (owns.Offlined frame cycle b) ∷ []) ≡ 0
+    which true = refl
+    which false = refl
+
+offlined-none : (layout : Layout) (view : View) (who : Who) (o : Offlining) → IsOffliningServed layout view who o → sum_by taken_back (cons_option (own_note who o.change) []) ≡ 0
+offlined-none layout view who o served = which o.result served.came
+  where
+    none : o.change ≡ None → sum_by taken_back (cons_option (own_note who o.change) []) ≡ 0
+    none is = ap (λ (c : Option FrameChange). sum_by taken_back (cons_option (own_note who c) [])) is
+
+    which : (r : OfflineResult) → IsOfflineServed layout view who o.frame o.change r → sum_by taken_back (cons_option (own_note who o.change) []) ≡ 0
+    which (results.Moved other at) came = change-none who o.frame came.1.0 true o.change came.1.1
+    which results.TakenFree came = change-none who o.frame came.1.0 false o.change came.1.1
+    which results.Already came = none came.2
+    which (results.HasBad mask) came = none came.2
+    which results.NoFrame came = none came.2
+    which results.Stopped came = none came.1
+
+-- one act more
+act-more : (who : Who) (act : Act) (rest : List Act) → sum_by taken_back (cons_option (act_note who act) []) ≡ 0 → sum_by taken_back (filter_map (act_note who) rest) ≡ 0 → sum_by taken_back (filter_map (act_note who) (act ∷ rest)) ≡ 0
+act-more who act rest = which (act_note who act)
+  where
+    which : (o : Option Note) → sum_by taken_back (cons_option o []) ≡ 0 → sum_by taken_back (filter_map (act_note who) rest) ≡ 0 → sum_by taken_back (cons_option o (filter_map (act_note who) rest)) ≡ 0
+    which None one more = more
+    which (Some note) one more =
+        let both : sum_by taken_back (note ∷ filter_map (act_note who) rest) ≡ taken_back note + sum_by taken_back (filter_map (act_note who) rest) = sum_by-cons taken_back note (filter_map (act_note who) rest) in
+        let alone : sum_by taken_back (note ∷ []) ≡ taken_back note + 0 = sum_by-cons taken_back note [] in
+        omega (arith, both, alone, one, more)
+
+told-act : (who : Who) (t : EventOutcome) → sum_by taken_back (cons_option (told_note who t) []) ≡ 0
+told-act who t = told-none who (t ∷ [])
+
+told-acts : (who : Who) (told : List EventOutcome) → sum_by taken_back (filter_map (act_note who) (map Told told)) ≡ 0
+told-acts who [] = refl
+told-acts who (t ∷ ts) = act-more who (Told t) (map Told ts) (told-act who t) (told-acts who ts)
+
+either : (who : Who) (b : Bool) (x y : List Act) → sum_by taken_back (filter_map (act_note who) x) ≡ 0 → sum_by taken_back (filter_map (act_note who) y) ≡ 0 → sum_by taken_back (filter_map (act_note who) (if b then x else y)) ≡ 0
+either who true x y first second = first
+either who false x y first second = second
+
+acts-none : (layout : Layout) (view : View) (who : Who) (n : ℕ) (told : List EventOutcome) (os : List Offlining) → EachMember (IsOffliningServed layout view who) os → sum_by taken_back (filter_map (act_note who) (acts_from n told os)) ≡ 0
+acts-none layout view who n told [] each = told-acts who told
+acts-none layout view who n [] (o ∷ os) each = act-more who (Offlined o) (acts_from n [] os) (offlined-none layout view who o (each 0 o refl)) (acts-none layout view who n [] os (λ i x there. each (suc i) x there))
+acts-none layout view who n (t ∷ ts) (o ∷ os) each = either who (o.told == n) (Offlined o ∷ acts_from n (t ∷ ts) os) (Told t ∷ acts_from (n + 1) ts (o ∷ os))
+    (act-more who (Offlined o) (acts_from n (t ∷ ts) os) (offlined-none layout view who o (each 0 o refl)) (acts-none layout view who n (t ∷ ts) os (λ i x there. each (suc i) x there)))
+    (act-more who (Told t) (acts_from (n + 1) ts (o ∷ os)) (told-act who t) (acts-none layout view who (n + 1) ts (o ∷ os) each))
+
 own-few : (who : Who) (own : Option FrameChange) → sum_by taken_back (cons_option (own_note who own) []) ≤ 1
 own-few who None = omega arith
 own-few who (Some own) =
@@ -86,26 +150,27 @@ own-few who (Some own) =
     which (owns.Offlined frame cycle moved) = omega arith
     which (owns.Revived frame cycle) = omega arith
 
-row-few : (who : Who) (row : Row) → sum_by taken_back (row_notes who row) ≤ 1
-row-few who row =
-    let both : sum_by taken_back (row_notes who row) ≡ sum_by taken_back (filter_map (told_note who) row.told) + sum_by taken_back (cons_option (own_note who row.own) []) =
-    sum_by-append taken_back (filter_map (told_note who) row.told) (cons_option (own_note who row.own) []) in
-    let none : sum_by taken_back (filter_map (told_note who) row.told) ≡ 0 = told-none who row.told in
+row-few : (layout : Layout) (view : View) (who : Who) (row : Row) → EachMember (IsOffliningServed layout view who) row.offlined → sum_by taken_back (row_notes who row) ≤ 1
+row-few layout view who row each =
+    let both : sum_by taken_back (row_notes who row) ≡ sum_by taken_back (filter_map (act_note who) (acts row.told row.offlined)) + sum_by taken_back (cons_option (own_note who row.own) []) =
+    sum_by-append taken_back (filter_map (act_note who) (acts row.told row.offlined)) (cons_option (own_note who row.own) []) in
+    let none : sum_by taken_back (filter_map (act_note who) (acts row.told row.offlined)) ≡ 0 = acts-none layout view who 0 row.told row.offlined each in
     let few : sum_by taken_back (cons_option (own_note who row.own) []) ≤ 1 = own-few who row.own in
     omega (arith, both, none, few)
 
-rows-few : (cpu : Cpu) (n : ℕ) (rows : List Row) → sum_by taken_back (notes_from cpu n rows) ≤ length rows
-rows-few cpu n [] = omega arith
-rows-few cpu n (row ∷ rows) =
+rows-few : (layout : Layout) (earlier : List (Command × Answer)) (view : View) (cpu : Cpu) (n : ℕ) (before : Banks) (commands : List Command) (rows : List Row) (after : Banks) → AreRowsServed layout earlier view cpu n before commands rows after → sum_by taken_back (notes_from cpu n rows) ≤ length rows
+rows-few layout earlier view cpu n before commands [] after are = omega arith
+rows-few layout earlier view cpu n before [] (row ∷ rows) after are = absurd are
+rows-few layout earlier view cpu n before (command ∷ commands) (row ∷ rows) after are =
     let both : sum_by taken_back (row_notes (at_number cpu n) row ++ notes_from cpu (n + 1) rows) ≡ sum_by taken_back (row_notes (at_number cpu n) row) + sum_by taken_back (notes_from cpu (n + 1) rows) =
     sum_by-append taken_back (row_notes (at_number cpu n) row) (notes_from cpu (n + 1) rows) in
-    let first : sum_by taken_back (row_notes (at_number cpu n) row) ≤ 1 = row-few (at_number cpu n) row in
-    let rest : sum_by taken_back (notes_from cpu (n + 1) rows) ≤ length rows = rows-few cpu (n + 1) rows in
+    let first : sum_by taken_back (row_notes (at_number cpu n) row) ≤ 1 = row-few layout view (at_number cpu n) row are.1.offlined in
+    let rest : sum_by taken_back (notes_from cpu (n + 1) rows) ≤ length rows = rows-few layout (earlier ++ (command, row.answer) ∷ []) view cpu (n + 1) are.0 commands rows after are.2 in
     omega (arith, both, first, rest)
 
 -- where all marks are noted, and fewer commands answered than a processor may have, it can take a poison back
-pub revival-left : (view : View) (cpu : Cpu) (rows : List Row) → Pairs IsNote (notes_from cpu 0 rows) view.marks → length rows < command_limit → HasRevivalLeft cpu view
-revival-left view cpu rows noted within =
+pub revival-left : (layout : Layout) (view : View) (cpu : Cpu) (list : List Command) (rows : List Row) (after : Banks) → AreRowsServed layout [] view cpu 0 empty_banks list rows after → Pairs IsNote (notes_from cpu 0 rows) view.marks → length rows < command_limit → HasRevivalLeft cpu view
+revival-left layout view cpu list rows after are noted within =
     let marks : revivals_by cpu view.marks ≤ sum_by taken_back (notes_from cpu 0 rows) = marks-taken cpu (notes_from cpu 0 rows) view.marks noted in
-    let few : sum_by taken_back (notes_from cpu 0 rows) ≤ length rows = rows-few cpu 0 rows in
+    let few : sum_by taken_back (notes_from cpu 0 rows) ≤ length rows = rows-few layout [] view cpu 0 empty_banks list rows after are in
     omega (arith, marks, few, within)

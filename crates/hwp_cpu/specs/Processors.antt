@@ -19,7 +19,7 @@ use Rattle.hwp_cpu_course.specs.hwp_cpu_row.hwp_core_rule.Words.{Words}
 use Rattle.hwp_cpu_course.specs.hwp_cpu_row.hwp_core_task.declared.Turn.{Turn}
 use Rattle.hwp_cpu_course.specs.hwp_cpu_row.hwp_core_task.declared.Turn.TheVariants as turns
 use Rattle.hwp_cpu_course.specs.hwp_cpu_row.hwp_core_task.Ranks.{command_weight}
-use Rattle.hwp_cpu_course.specs.hwp_cpu_command.FileHandles.{HasChangeWithin}
+use Rattle.hwp_cpu_course.specs.hwp_cpu_command.FileHandles.{HasChangeWithin, StandsOn}
 use Rattle.hwp_cpu_course.specs.hwp_cpu_command.Jobs as jobs
 use Rattle.hwp_cpu_course.specs.declared.Course.{Course}
 use Rattle.hwp_cpu_course.specs.Courses as courses
@@ -134,13 +134,15 @@ ShowsOf p None found got = Unit {0}
 abbrev pub Shows : Processor → ℕ → Option BodyValue → Type 0
 Shows p found got = ShowsOf p p.course found got
 
--- the command that ran is answered so, its row is the last one, and the next command begins with what it left
+-- the command that ran is answered so, its row is the last one, and the next command begins with what it left, perhaps in a new round of
+-- the collector
 pub record IsAnswered (p : Processor) (c : Course) (answer : Answer) (after : Processor) : Type 0 where
   pub layout_is : arc_value after.layout ≡ arc_value p.layout
   pub cpu_is : after.cpu ≡ p.cpu
   pub commands_are : after.commands ≡ p.commands
   pub rows_are : after.rows.items ≡ p.rows.items ++ row_of c answer ∷ []
   pub room : vec_capacity after.rows ≡ vec_capacity p.rows
+  pub round : StandsOn c.own answer c.watching
   pub begins : BeginsAt (arc_value p.layout) (at_number p.cpu (length p.rows.items + 1)) (slice_get p.commands (length p.rows.items + 1)) (local_after c answer p.local) after.course
   pub local_is : after.local ≡ left_of after.course (local_after c answer p.local)
 

@@ -1,5 +1,5 @@
 -- What a processor keeps while it runs its commands.
-use Rattle.std.specs.Prelude.{◌≡◌, ℕ, ◌+◌, ◌<◌, ◌≤◌, ◌⊎◌, ◌≢◌, true, List, [], ◌++◌, Option, Some, None, IsSome, length, map, filter_map, option_map, slice_get, take}
+use Rattle.std.specs.Prelude.{◌≡◌, ℕ, ◌+◌, ◌<◌, ◌≤◌, ◌⊎◌, ◌≢◌, true, false, List, [], ◌++◌, Option, Some, None, IsSome, length, map, filter_map, option_map, slice_get, take}
 use Rattle.std.specs.Arc.{arc_value}
 use Rattle.std.specs.List.{list_any}
 use Rattle.hwp_cpu_course.specs.hwp_cpu_row.hwp_geom.declared.Cpu.{Cpu}
@@ -53,7 +53,7 @@ use Rattle.hwp_cpu_course.specs.hwp_cpu_command.Stays as stays
 use Rattle.hwp_cpu_course.specs.hwp_cpu_command.Stays.{EndsAtOnce, HasGivenUp, HasSpoiled, IsHalted}
 use Rattle.hwp_cpu_course.specs.declared.Course.{Course}
 use Rattle.hwp_cpu_course.specs.Courses as courses
-use Rattle.hwp_cpu_course.specs.Courses.{part}
+use Rattle.hwp_cpu_course.specs.Courses.{is_abandoned, part}
 use Rattle.hwp_cpu_causes.specs.Beside.{ArePrior, CanCollect, DoesSo, IsOwnServed}
 use Rattle.hwp_cpu_causes.specs.hwp_law_served.Causes.{HasOnlyMet}
 use Rattle.hwp_cpu_causes.specs.hwp_law_served.Accounts.{IsNote, act_marking, failures, markings, policies_set}
@@ -193,7 +193,7 @@ pub record RunsBeside (layout : Layout) (view : View) (cpu : Cpu) (list : List C
   pub left : left_among base ≡ left_beside c.due.offlined
   pub next : slice_get c.due.frames (length c.due.offlined) ≡ Some s.frame
   pub all : c.noted ≡ length (told_of c.own)
-  pub paid : view.owed.losses ≡ []
+  pub paid : is_abandoned s.at ≡ false → view.owed.losses ≡ []
   pub rests : Rests layout view cpu list rows local command c.own
 
 abbrev pub GoesOn : Layout → View → Cpu → List Command → List Row → Local → Command → Course → Option Soft → Type 0

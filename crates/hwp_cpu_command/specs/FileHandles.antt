@@ -1,6 +1,6 @@
 -- What a processor carries on while its commands run: the handles, one for each file, which say how many losses of the file the
 -- processor has seen, and its collector of corrected errors.
-use Rattle.std.specs.Prelude.{◌≡◌, ◌⊎◌, ℕ, Bool, false, true, List, [], ◌∷◌, ◌++◌, length, slice_set, Option, Some, option_map}
+use Rattle.std.specs.Prelude.{◌≡◌, ◌⊎◌, ℕ, Bool, false, true, List, [], ◌∷◌, ◌++◌, length, slice_set, Option, Some, None, option_map}
 use Rattle.hwp_cpu_control.specs.hwp_core_rule.declared.View.{View}
 use Rattle.hwp_cpu_control.specs.hwp_core_task.Known.{HasSeenLoss}
 use Rattle.hwp_evict.specs.declared.FsyncAnswer.TheVariants as fsync_answers
@@ -69,9 +69,13 @@ rounded_by (answers.Scrubbed lines) watching = option_map round_ended watching
 rounded_by _ watching = watching
 
 -- whatever the collector stood for, it stands for that and the end of a round
+abbrev pub CanRound : Option Watching → Type 0
+CanRound None = Unit {0}
+CanRound (Some w) = (events : List CecEvent) → StandsFor events w.collector → StandsFor (events ++ Round ∷ []) (rounded w.collector)
+
 abbrev pub RoundStands : Answer → Option Watching → Type 0
-RoundStands (answers.Scrubbed lines) (Some w) = (events : List CecEvent) → StandsFor events w.collector → StandsFor (events ++ Round ∷ []) (rounded w.collector)
-RoundStands _ _ = Unit {0}
+RoundStands (answers.Scrubbed lines) watching = CanRound watching
+RoundStands _ watching = Unit {0}
 
 abbrev pub StandsOn : Job → Answer → Option Watching → Type 0
 StandsOn (jobs.Scrub s) answer watching = RoundStands answer watching

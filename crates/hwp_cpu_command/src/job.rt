@@ -191,7 +191,7 @@ impl Job {
 ghost use Rattle.hwp_cpu_command.specs.Answers.{evict_answer, fail_answer, fsync_answer, instruction_answer, nested_answer, prctl_answer, raise_answer, read_stop_answer, refusal_answer, scrub_answer, soft_answer, spoil_answer, unpoison_answer};
 ghost use Rattle.hwp_cpu_command.specs.Jobs.{offlined_by, own_by, revived_by, row};
 ghost use Rattle.hwp_cpu_row.specs.hwp_law_commands.Outcomes.{outcome_answer, reply_answer};
-ghost use Rattle.hwp_cpu_command.specs.FileHandles.{IsChangeWithin, round_ended, rounded_by, watched_by};
+ghost use Rattle.hwp_cpu_command.specs.FileHandles.{CanRound, IsChangeWithin, RoundStands, round_ended, rounded_by, watched_by};
 
 fn row(
     told: List<EventOutcome>,
@@ -242,7 +242,8 @@ fn end_round(answer: Answer, watching: &mut Option<Watching>)
 
 /// A round of the collector ends, if there is one.
 fn round(watching: &mut Option<Watching>)
-    ensures { watching.new ≡ option_map round_ended watching.old }
+    ensures ends { watching.new ≡ option_map round_ended watching.old }
+    ensures stands { CanRound watching.old }
 {
     if let Some(watching) = watching {
         watching.collector.round();

@@ -230,7 +230,7 @@ given-up-stays layout (jobs.Unpoison u) after step found got turn e next up = ab
 -- ---- the numbers of a collector
 
 -- they stay within their limits
-pub within-stays : (layout : Layout) (j after : Job) (found : ℕ) (got : Option BodyValue) (turn : Turn) → Next layout (bare j) found got after turn → HasChangeWithin j → HasChangeWithin after
+pub within-stays : (layout : Layout) (j after : Job) (found : ℕ) (got : Option BodyValue) (turn : Turn) → Next layout j found got after turn → HasChangeWithin j → HasChangeWithin after
 within-stays layout (jobs.Log l) after found got turn next has = subst HasChangeWithin (sym next.0) (subst IsChangeWithin (sym (ap (λ (a : Who × LocalChange × Banks). a.1) (log-kept l found))) has)
 within-stays layout (jobs.Instruction i) after found got turn next has = subst HasChangeWithin (sym next.1) tt
 within-stays layout (jobs.Evict e) after found got turn next has = subst HasChangeWithin (sym next.1) tt
@@ -243,3 +243,32 @@ within-stays layout (jobs.Prctl p) after found got turn next has = subst HasChan
 within-stays layout (jobs.Spoil s) after found got turn next has = subst HasChangeWithin (sym next.0) tt
 within-stays layout (jobs.Nested n) after found got turn next has = subst HasChangeWithin (sym next.0) tt
 within-stays layout (jobs.Unpoison u) after found got turn next has = subst HasChangeWithin (sym next.0) tt
+
+-- also behind a pause, and where memory runs out
+pub behind-within : (j : Job) → HasChangeWithin j → HasChangeWithin (resume j)
+behind-within (jobs.Log l) has = has
+behind-within (jobs.Instruction i) has = tt
+behind-within (jobs.Evict e) has = tt
+behind-within (jobs.Fsync f) has = tt
+behind-within (jobs.Prctl p) has = tt
+behind-within (jobs.Raise r) has = tt
+behind-within (jobs.Scrub s) has = tt
+behind-within (jobs.Spoil s) has = tt
+behind-within (jobs.Nested n) has = tt
+behind-within (jobs.Inject i) has = tt
+behind-within (jobs.Soft s) has = tt
+behind-within (jobs.Unpoison u) has = tt
+
+pub give-up-within : (j : Job) → HasChangeWithin j → HasChangeWithin (give_up j)
+give-up-within (jobs.Log l) has = has
+give-up-within (jobs.Instruction i) has = tt
+give-up-within (jobs.Evict e) has = tt
+give-up-within (jobs.Fsync f) has = tt
+give-up-within (jobs.Prctl p) has = tt
+give-up-within (jobs.Raise r) has = tt
+give-up-within (jobs.Scrub s) has = tt
+give-up-within (jobs.Spoil s) has = tt
+give-up-within (jobs.Nested n) has = tt
+give-up-within (jobs.Inject i) has = tt
+give-up-within (jobs.Soft s) has = tt
+give-up-within (jobs.Unpoison u) has = tt

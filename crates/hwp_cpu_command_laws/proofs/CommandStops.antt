@@ -289,7 +289,7 @@ module _ {layout : Layout} {old new : View} {j after : Job} (s : Stepped layout 
       which (inr own) = subst (SomeMember P) (sym own.stops_are) (some-push P old.stops (who j) some)
 
   -- what was shown is still shown
-  still-halted : IsHalted old → IsHalted new
+  pub still-halted : IsHalted old → IsHalted new
   still-halted (inl shown) =
       let still = saw-stays s.made {by = shown.1.stamp.who} {place = shown.1.place} {word = shown.1.word} (shown.0, shown.1, shown.2, (refl, refl, refl)) in
       inl (still.0, still.1, still.2, (still.3.1 ∙ shown.3.0, ap is_stopped still.3.2 ∙ shown.3.1))
