@@ -25,7 +25,7 @@ use Rattle.std.proofs.lemmas.List.Elements.{filter-append}
 use Rattle.hwp_cpu_course.specs.declared.Course.{Course}
 use Rattle.hwp_cpu_course.proofs.of_hwp_cpu_command_laws.Beside.{answered-unmarked, paused-unowed, paused-unmarked}
 use Rattle.std.proofs.lemmas.Option.{none-some, same_Some}
-use Rattle.std.proofs.Common.{arith, inl, suc, true, ◌++◌, subst, option_map, ◌∷◌, zero, refl, not, Option, ◌+◌, map, cond, ◌≡◌, false, ap, Bool, true≢false, inr, append-nil, filter, Some, slice_get, sym, ℕ, List, length, ◌∙◌, []}
+use Rattle.std.proofs.Common.{arith, inl, suc, true, ◌++◌, subst, option_map, ◌∷◌, zero, refl, not, Option, ◌+◌, map, cond, ◌≡◌, false, ap, Bool, true≢false, inr, append-nil, filter, Some, slice_get, sym, ℕ, List, length, ◌∙◌, [], nat_lt, ◌⊎◌}
 use Rattle.hwp_cpu_course.proofs.of_hwp_cpu_row.of_hwp_core_rule.Lists.{each-push}
 use Rattle.hwp_cpu_course.specs.hwp_cpu_row.hwp_geom.declared.Frame.{Frame}
 use Rattle.hwp_cpu.proofs.BesideTurns.{at_rest}
@@ -81,6 +81,9 @@ take-more l n x is = subst (λ (k : ℕ). take k l ≡ take n l ++ x ∷ []) (le
     by [] n none = absurd (none-some x none)
     by (y ∷ ys) zero some = ap (λ z. z ∷ []) (same_Some y x some)
     by (y ∷ ys) (suc n) some = ap (λ (r : List _). y ∷ r) (by ys n some)
+
+abbrev no_lines : List EventOutcome
+no_lines = []
 
 -- the line of what came of a frame says what the answer of `soft` does
 said-so : (x : SoftAnswer) → (x ≡ soft_answers.Kernel → ⊥) → offline_answer (offline_result x) ≡ soft_answer x
@@ -215,10 +218,7 @@ module _ (layout : Layout) (old new : View) (cpu : Cpu) (list : List Command) (r
       | inr running ↦ running
     ]
       where
-        abbrev nothing : List EventOutcome
-        nothing = []
-
-        taken-none : (n : ℕ) → take n nothing ≡ []
+        taken-none : (n : ℕ) → take n no_lines ≡ []
         taken-none zero = refl
         taken-none (suc n) = refl
 

@@ -179,11 +179,11 @@ module _ (layout : Layout) (view : View) (cpu : Cpu) (list : List Command) (rows
   unstopped : {A : Type 0} → stays.HasStopped c.own → A
   unstopped has = absurd (paused-unanswered i paused.paused (sym (ap jobs.answer paused.is) ∙ has-stopped c.own has))
 
-  unspoiled : {A : Type 0} {x : Spoiled} → HasSpoiled c.own x → A
-  unspoiled {A} {x} has = absurd (subst (λ (j : Job). HasSpoiled j x) paused.is has)
+  unspoiled : {A : Type 0} (x : Spoiled) → HasSpoiled c.own x → A
+  unspoiled x has = absurd (subst (λ (j : Job). HasSpoiled j x) paused.is has)
 
-  marks : marked_so_far behind ≡ marked_so_far (at_rest c)
-  marks = ap (λ (l : List EventOutcome). filter_map act_marking (acts l c.due.offlined) ++ (marked_beyond (jobs.resume c.own) ++ [])) same.told
+  marks-behind : marked_so_far behind ≡ marked_so_far (at_rest c)
+  marks-behind = ap (λ (l : List EventOutcome). filter_map act_marking (acts l c.due.offlined) ++ (marked_beyond (jobs.resume c.own) ++ [])) same.told
       ∙ ap (λ (l : List Marking). filter_map act_marking (acts (told_of c.own) c.due.offlined) ++ (l ++ [])) (same.beyond ∙ sym holds.beyond)
 
   same-settings : policies_now (jobs.resume c.own) ≡ policies_now c.own
@@ -207,16 +207,16 @@ module _ (layout : Layout) (view : View) (cpu : Cpu) (list : List Command) (rows
     ];
     listed = way.listed;
     account = record {
-      marked = way.account.marked ∙ sym marks;
+      marked = way.account.marked ∙ sym marks-behind;
       failed = λ can. way.account.failed (sym goes.fails ∙ can) ∙ sym same.failed;
       set = way.account.set ∙ sym same-settings;
       counted = way.account.counted ∙ holds.unowed ∙ sym same.owed;
       losses = way.account.losses;
     };
-    noted = record { earlier = way.noted.earlier; last = way.noted.last; all = way.noted.all; noted = way.noted.noted; before = way.noted.before; own = way.noted.own; marked = way.noted.marked ∙ sym marks };
+    noted = record { earlier = way.noted.earlier; last = way.noted.last; all = way.noted.all; noted = way.noted.noted; before = way.noted.before; own = way.noted.own; marked = way.noted.marked ∙ sym marks-behind };
     spoiled = λ n x there. elim (way.spoiled n x there) [
       | inl own ↦ inl own
-      | inr has ↦ unspoiled has
+      | inr has ↦ unspoiled x has
     ];
     collected = keeps-longer layout view by list (watched_at layout list rows (length rows)) (at_rest c) behind ([], same.told ∙ sym (append-nil (told_of c.own))) refl refl refl refl way.collected;
   }

@@ -82,7 +82,7 @@ module _ (layout : Layout) (view : View) (who : Who) (list : List Command) (watc
           window = took.window ∙ of-watched.2.window;
           stands = subst (λ (es : List CecEvent). StandsFor es counters) events (took.stands (v.events ++ map Note N0) of-watched.2.stands).0;
         }, took.many ∙ of-watched.3));
-    room = λ has. tt;
+    room = λ has. refl;
     due = ap (λ (l : List Frame). l ++ more) (was.due ∙ ap (λ (x : Option Watched). due x N0) of-watched.1) ∙ ap (λ (l : List Frame). offlining v N0 ++ l) due-more ∙ sym (offlining-append v N0 N1)
         ∙ ap (offlining v) (sym now) ∙ ap (λ (x : Option Watched). due x noted_now) (sym of-watched.1);
     frames = was.frames ∙ sym (take-append-le (length c.due.offlined) c.due.frames more (omega (arith, all)));

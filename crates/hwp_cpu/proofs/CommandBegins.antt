@@ -28,7 +28,7 @@ use Rattle.hwp_cpu_course.specs.hwp_cpu_row.declared.Row.{Row}
 use Rattle.hwp_cpu_course.specs.hwp_cpu_row.hwp_banks.Banks.{Banks, empty_banks}
 use Rattle.hwp_cpu_course.specs.hwp_cpu_row.declared.Local.{Local}
 use Rattle.hwp_cpu_course.specs.hwp_cpu_command.declared.job.Job.{Job}
-use Rattle.hwp_cpu_course.specs.hwp_cpu_command.FileHandles.{local_after, local_left, StandsOn}
+use Rattle.hwp_cpu_course.specs.hwp_cpu_command.FileHandles.{StandsOn}
 use Rattle.hwp_cpu_course.specs.hwp_cpu_command.Jobs as jobs
 use Rattle.hwp_cpu_course.specs.hwp_cpu_command.Jobs.{banks_before, told_of}
 use Rattle.hwp_cpu_course.specs.hwp_cpu_command.Runs.{Runs}

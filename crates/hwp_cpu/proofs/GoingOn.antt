@@ -1,7 +1,7 @@
 -- What a command comes to where its own task rests: the next frame is taken out of use, or its own task goes on, or its answer is the
 -- command's.
 use Rattle.hwp_cpu.proofs.Rows.{past-end}
-use Rattle.std.proofs.Common.{arith, inl, subst, ◌≡◌, refl, true, length, ◌<◌, not, ◌≤◌, slice_get, ap, List, ◌⊎◌, false, is_some, ℕ, None, Some, inr, Option, sym, ◌∙◌}
+use Rattle.std.proofs.Common.{arith, inl, subst, ◌≡◌, refl, true, length, ◌<◌, not, ◌≤◌, slice_get, ap, List, ◌⊎◌, false, is_some, ℕ, None, Some, inr, Option, sym, ◌∙◌, nat_lt}
 use Rattle.hwp_cpu_course.specs.hwp_cpu_row.hwp_core_rule.declared.View.{View}
 use Rattle.hwp_cpu_course.specs.hwp_cpu_row.hwp_law_commands.Commands.{is_kernels}
 use Rattle.hwp_cpu.proofs.BesideTurns.{at_rest, own-behind, told-behind, begins-beside, HasNotedAll, goes-behind, way-behind, taken-few}

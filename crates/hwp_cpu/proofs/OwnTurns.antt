@@ -52,14 +52,14 @@ use Rattle.hwp_cpu_course.specs.hwp_cpu_command.Jobs as jobs
 use Rattle.hwp_cpu_course.specs.hwp_cpu_command.hwp_cpu_access.Instructions as instructions
 use Rattle.hwp_cpu_course.specs.hwp_cpu_command.declared.job.Job.TheVariants as kinds
 
+abbrev no_lines : List EventOutcome
+no_lines = []
+
 -- nothing is noted where nothing was told
 dropped-none : (layout : Layout) (n : ℕ) (told : List EventOutcome) → told ≡ [] → told_notes layout (drop n told) ≡ []
 dropped-none layout n told none = ap (λ (l : List EventOutcome). told_notes layout (drop n l)) none ∙ ap (told_notes layout) (by n)
   where
-    abbrev nothing : List EventOutcome
-    nothing = []
-
-    by : (k : ℕ) → drop k nothing ≡ []
+    by : (k : ℕ) → drop k no_lines ≡ []
     by zero = refl
     by (suc k) = refl
 
@@ -156,15 +156,12 @@ module _ (layout : Layout) (old new : View) (cpu : Cpu) (list : List Command) (r
   turned-on : collects c.watching ≡ true → rests k ≡ false → Turned layout new cpu list rows local (record next { noted = passed k c.noted }) (answer (record next { noted = passed k c.noted }))
   turned-on collecting still = which (goes-so k still)
     where
-      abbrev Now : ℕ → Type 0
-      Now n = Turned layout new cpu list rows local (record next { noted = n }) (answer (record next { noted = n }))
-
-      which : ((is_access k ≡ true) × (jobs.pauses k ≡ false) × ((noted : ℕ) → passed k noted ≡ length (told_of k))) ⊎ ((is_access k ≡ false) × (jobs.answer k ≡ None) × ((noted : ℕ) → passed k noted ≡ noted)) → Now (passed k c.noted)
-      which (inr (other, none, same)) = subst Now (sym (same c.noted)) (turned-past c.noted keeps-next (none-told layout old new c.watching c.own k c.noted made on.told (inr other)) (λ a is. absurd (none-some a (sym none ∙ is))))
-      which (inl (access, goes, all)) = subst Now (sym (all c.noted)) (turned-past (length (told_of k)) keeps-all (all-told k access) (λ a is. complete-by layout new at list watched (record next { noted = length (told_of k) }) keeps-all (ap (told_notes layout) (sym (take_all (length (told_of k)) (told_of k) (omega arith))))))
+      which : ((is_access k ≡ true) × (jobs.pauses k ≡ false) × ((noted : ℕ) → passed k noted ≡ length (told_of k))) ⊎ ((is_access k ≡ false) × (jobs.answer k ≡ None) × ((noted : ℕ) → passed k noted ≡ noted)) → Turned layout new cpu list rows local (record next { noted = passed k c.noted }) (answer (record next { noted = passed k c.noted }))
+      which (inr (other, none, same)) = subst (λ (n : ℕ). Turned layout new cpu list rows local (record next { noted = n }) (answer (record next { noted = n }))) (sym (same c.noted)) (turned-past c.noted keeps-next (none-told layout old new c.watching c.own k c.noted made on.told (inr other)) (λ a is. absurd (none-some a (sym none ∙ is))))
+      which (inl (access, goes, all)) = subst (λ (n : ℕ). Turned layout new cpu list rows local (record next { noted = n }) (answer (record next { noted = n }))) (sym (all c.noted)) (turned-past (length (told_of k)) keeps-all (all-told k access) (λ a is. complete-by layout new at list watched (record next { noted = length (told_of k) }) keeps-all (ap (told_notes layout) (sym (take_all (length (told_of k)) (told_of k) (omega arith))))))
         where
           unnoted : told_notes layout (told_of k) ≡ noted_by layout next
-          unnoted = own-unnoted layout old new c.watching c.own k c.noted made.fits made collecting (going.passed collecting) access goes
+          unnoted = own-unnoted made.base layout old new c.watching c.own k c.noted made.fits made collecting (going.passed collecting) access goes
 
           keeps-all : KeepsWatch layout new at list watched (record next { noted = length (told_of k) })
           keeps-all = keeps-noted layout new at list watched next (length (told_of k)) way-next.collected (omega arith) (ap (told_notes layout) (take_all (length (told_of k)) (told_of k) (omega arith)) ∙ unnoted)
@@ -187,7 +184,7 @@ module _ (layout : Layout) (old new : View) (cpu : Cpu) (list : List Command) (r
 
   module _ (collecting : collects c.watching ≡ true) (resting : rests k ≡ true) where
     notes : told_notes layout (told_of k) ≡ noted_by layout next ++ told_notes layout (told_since next)
-    notes = own-notes layout old new c.watching c.own k c.noted made.fits made collecting on.told
+    notes = own-notes made.base layout old new c.watching c.own k c.noted made.fits made collecting on.told
 
     -- what is so of a course with the same task, once all is noted
     module _ (w : Option Watching) (n : ℕ) (f : List Frame) (spare : ℕ) (is_all : n ≡ length (told_of k)) (keeps : KeepsWatch layout new at list watched (record next { watching = w; noted = n; due = record { frames = f; offlined = c.due.offlined; spare = spare } }))
@@ -350,7 +347,7 @@ module _ (layout : Layout) (old new : View) (cpu : Cpu) (list : List Command) (r
     where
       by-rest : collects c.watching ≡ true → (b : Bool) → rests k ≡ b → AfterOwnBy layout next b t after turn → Turned layout new cpu list rows local after (answer after)
       by-rest collecting false still (after_is, turn_is) = subst (λ (x : Course). Turned layout new cpu list rows local x (answer x)) (sym after_is) (turned-on collecting still)
-      by-rest collecting true resting goes = rest-turn collecting resting after turn rule_after goes
+      by-rest collecting true resting (u, goes, turn_is) = rest-turn collecting resting after u rule_after goes
 
       which : (b : Bool) → collects c.watching ≡ b → AfterOwnIf layout next b t after turn → Turned layout new cpu list rows local after (answer after)
       which false off (after_is, turn_is) = subst (λ (x : Course). Turned layout new cpu list rows local x (answer x)) (sym after_is) (turned-off off)

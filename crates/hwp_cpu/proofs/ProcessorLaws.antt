@@ -71,7 +71,10 @@ ready-after p after c a ready answered = record {
 -- which of the two it is of
 bare-own : (layout : Layout) (c : Course) (found : ℕ) (got : Option BodyValue) (d : Course) (turn : Turn) → c.beside ≡ None → courses.Next layout (courses.bare c) found got d turn
     → (k : Job) × (t : Turn) × jobs.Next layout (jobs.bare c.own) found got k t × AfterOwn layout (record c { own = k }) t d turn
-bare-own layout c found got d turn none so = subst (λ (o : Option Soft). courses.NextOf layout (record c { own = jobs.bare c.own }) o found got d turn) none (subst (λ (o : Option Soft). courses.NextOf layout (bare_of c o) (bare_of c o).beside found got d turn) none so)
+bare-own layout c found got d turn none so = (its.0, its.1, its.2, subst (λ (o : Option Soft). AfterOwn layout (record c { own = its.0; beside = o }) its.1 d turn) (sym none) its.3)
+  where
+    its : (k : Job) × (t : Turn) × jobs.Next layout (jobs.bare c.own) found got k t × AfterOwn layout (record c { own = k; beside = None }) t d turn
+    its = subst (λ (o : Option Soft). courses.NextOf layout (bare_of c o) (bare_of c o).beside found got d turn) none so
 
 bare-beside : (layout : Layout) (c : Course) (s : Soft) (found : ℕ) (got : Option BodyValue) (d : Course) (turn : Turn) → c.beside ≡ Some s → courses.Next layout (courses.bare c) found got d turn
     → (k : Soft) × (t : Turn) × softs.Follows layout (softs.bare s) found got k t × AfterSoft (record c { beside = Some k }) k (softs.answer k) t d turn
@@ -160,7 +163,7 @@ module _ (layout : Layout) (old new : View) (cpu : Cpu) (list : List Command) (r
       going = subst (FitsOwn layout old c) (given-up-unanswered c.own up.up) (subst (FitsOf layout old c) up.none rule.at)
 
       stepped : Stepped layout old new c.own k
-      stepped = record { step = step; found = found; got = got; turn = t; base = going.own.0; fits = going.own.1; planned = planned; made = own-made; follows = next }
+      stepped = record { step = step; found = found; got = got; turn = t; base = going.fits.0; fits = going.fits.1; planned = planned; made = own-made; follows = next }
 
       still-up : HasGivenUp k
       still-up = given-up-stays layout c.own k step found got t planned next up.up

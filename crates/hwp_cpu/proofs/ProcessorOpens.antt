@@ -110,7 +110,7 @@ module _ (layout : Layout) (cpu : Cpu) (list : List Command) (few : length list 
   room watches = which (list_any is_watch list) at-first.watching watches is_first.watching
     where
       which : (b : Bool) (w : Option Watching) → b ≡ true → HasRoom layout.frames b w → IsSome w
-      which true (Some w) is has = tt
+      which true (Some w) is has = refl
       which true None is has = absurd has
       which false w is has = absurd (true≢false (sym is))
 

@@ -2,7 +2,7 @@
 use Rattle.hwp_cpu_course.specs.hwp_cpu_row.hwp_banks.declared.Event.{Event}
 use Rattle.hwp_cpu.proofs.BesideEnds.{due-none}
 use Rattle.hwp_cpu_causes.proofs.of_hwp_law_commands.NoteLaws.{told-none}
-use Rattle.std.proofs.Common.{suc, ◌≤◌, get_or, append_assoc, slice_get, length, refl, ◌∷◌, ℕ, false, arith, inr, map, ◌<◌, Some, sym, ◌≡◌, ap, None, subst, option_map, true, Option, zero, replicate, ◌++◌, List, ◌⊎◌, ◌+◌, inl, Bool, ◌∙◌, []}
+use Rattle.std.proofs.Common.{suc, ◌≤◌, get_or, append_assoc, slice_get, length, refl, ◌∷◌, ℕ, false, arith, inr, map, ◌<◌, Some, sym, ◌≡◌, ap, None, subst, option_map, true, Option, zero, replicate, ◌++◌, List, ◌⊎◌, ◌+◌, inl, Bool, ◌∙◌, [], true≢false}
 use Rattle.hwp_cpu_course.specs.hwp_cpu_row.hwp_cec.Ages.{CecEvent, Note, Round}
 use Rattle.hwp_cpu_course.specs.hwp_cpu_command.FileHandles.{watched_by, watching_after, RoundStands, anew_with, StandsOn, rounded_by, CanRound, round_ended}
 use Rattle.hwp_cpu_course.specs.hwp_cpu_row.declared.Row.{Row}
@@ -179,14 +179,14 @@ room-stays j a None some = absurd some
 room-stays (kinds.Log l) a (Some w) some = by l.change a
   where
     by : (c : LocalChange) (x : Answer) → IsSome (watched_by c x (Some w))
-    by (changes.Watch threshold window) answers.Done = tt
-    by _ _ = tt
+    by (changes.Watch threshold window) answers.Done = refl
+    by _ _ = refl
 room-stays (kinds.Scrub s) a (Some w) some = by a
   where
     by : (x : Answer) → IsSome (rounded_by x (Some w))
-    by (answers.Scrubbed n) = tt
-    by _ = tt
-room-stays _ a (Some w) some = tt
+    by (answers.Scrubbed n) = refl
+    by _ = refl
+room-stays _ a (Some w) some = refl
 
 -- ---- where a command begins
 
@@ -229,6 +229,6 @@ own-starts layout view command c watching is start fits = subst (OwnGoesOn layou
 -- the collector is of the machine
 pub of-machine : (layout : Layout) (watched : Option Watched) (w : Option Watching) → IsWatching layout.frames watched w → IsOfMachine layout w
 of-machine layout None None is = tt
-of-machine layout None (Some w) is = machine-off layout w is
+of-machine layout None (Some w) is = (is.1, λ on. absurd (true≢false (sym on ∙ is.0)))
 of-machine layout (Some v) None is = absurd is
-of-machine layout (Some v) (Some w) is = (is.1, (v.events, is.0.stands))
+of-machine layout (Some v) (Some w) is = (is.1, λ on. (v.events, is.0.stands))

@@ -35,14 +35,14 @@ course-within layout c found got d turn next has = which c.beside next
         collected None e none = absurd none
         collected (Some w) e (counters, value, took, is) = subst (λ (x : Course). HasChangeWithin x.own) (sym is) now
 
-        at-rest : (b : Bool) → AfterRestBy layout (record c { own = k }) b d turn → HasChangeWithin d.own
-        at-rest false goes = goes-within (record c { own = k }) now d turn goes
-        at-rest true (inl refused) = subst (λ (x : Course). HasChangeWithin x.own) (sym refused.0) (give-up-within k now)
-        at-rest true (inr (e, took, goes)) = goes-within e (collected c.watching e took) d turn goes
+        at-rest : (b : Bool) (u : Turn) → AfterRestBy layout (record c { own = k }) b d u → HasChangeWithin d.own
+        at-rest false u goes = goes-within (record c { own = k }) now d u goes
+        at-rest true u (inl refused) = subst (λ (x : Course). HasChangeWithin x.own) (sym refused.0) (give-up-within k now)
+        at-rest true u (inr (e, took, goes)) = goes-within e (collected c.watching e took) d u goes
 
         by-rest : (b : Bool) → AfterOwnBy layout (record c { own = k }) b t d turn → HasChangeWithin d.own
         by-rest false same = subst (λ (x : Course). HasChangeWithin x.own) (sym same.0) now
-        by-rest true goes = at-rest (has_more layout (record c { own = k })) goes
+        by-rest true (u, goes, same) = at-rest (has_more layout (record c { own = k })) u goes
 
         by : (b : Bool) → AfterOwnIf layout (record c { own = k }) b t d turn → HasChangeWithin d.own
         by false same = subst (λ (x : Course). HasChangeWithin x.own) (sym same.0) now

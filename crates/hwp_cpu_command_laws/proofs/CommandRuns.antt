@@ -233,7 +233,7 @@ pub can-fail-stays : (layout : Layout) (j after : Job) (found : ℕ) (got : Opti
 can-fail-stays layout j after found got turn next = (goes-on layout found got turn j after next).fails
 
 -- so the command is the same
-runs-alike : (layout : Layout) (by : Who) (command : Command) (j after : Job) → GoesOn j after → Runs layout by command j → Runs layout by command after
+pub runs-alike : (layout : Layout) (by : Who) (command : Command) (j after : Job) → GoesOn j after → Runs layout by command j → Runs layout by command after
 runs-alike layout by command j after on runs = subst (λ (c : Bool). Begins layout by command (banks_before after []) c (anew after)) (sym on.collects)
     (subst (λ (b : Banks). Begins layout by command b (collects_now j) (anew after)) (sym (on.before [])) (subst (Begins layout by command (banks_before j []) (collects_now j)) (sym on.anew_is) runs))
 
