@@ -2,7 +2,7 @@ ghost use Rattle.std.specs.Prelude.{◌≡◌, ◌<◌, ◌≤◌, true, length,
 ghost use Rattle.hwp_cpu_row.specs.hwp_geom.Layout.{IsSound};
 ghost use Rattle.hwp_cpu_row.specs.hwp_script_read.Valid.{IsCommandOf};
 ghost use Rattle.hwp_cpu_row.specs.Locals.{collects};
-ghost use Rattle.hwp_cpu_command_laws.specs.hwp_cpu_command.FileHandles.{HasChangeWithin};
+ghost use Rattle.hwp_cpu_command_laws.specs.hwp_cpu_command.FileHandles.{HasChangeWithin, StandsOn};
 ghost use Rattle.hwp_cpu_course.specs.Courses.{AfterCollecting, AfterOwnBy, AfterRest, BeginsCourse, Covers, IsGoingOn, answer, local_after, local_left, offline_result, passed, rests, row_of, with_result};
 
 use crate::due::DueFrames;
@@ -96,6 +96,7 @@ impl Course {
         requires within { HasChangeWithin self.old.own }
         ensures row { result ≡ row_of self.old answer }
         ensures local { local.new ≡ local_after self.old answer local.old }
+        ensures stands { StandsOn self.old.own answer self.old.watching }
     {
         set(&mut local.watching, self.watching.take());
         let offlined = self.due.finish(alloc);
