@@ -18,4 +18,4 @@ pub use case::Case;
 pub use facts::{CommandFacts, ProcessorFacts, ReportFacts};
 pub use gathering::{known_of, own_of};
 pub use known::process_at;
-pub use right::is_right;
+pub use right::{is_offlined, is_right};

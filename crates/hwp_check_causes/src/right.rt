@@ -1,6 +1,7 @@
 ghost use Rattle.std.specs.Prelude.{◌≡◌, ◌≢◌, ◌↔◌, ◌<◌, IsSome, IsTrue, true};
 ghost use Rattle.hwp_check_evidence.specs.hwp_report_text.declared.Answer.TheVariants as answers;
 ghost use Rattle.hwp_check_evidence.specs.hwp_law.Causes.{IsCaused, IsHeeded};
+ghost use Rattle.hwp_check_evidence.specs.hwp_law.Offlined.{IsOffline};
 ghost use Rattle.hwp_check_rules.specs.Answered.{IsRight};
 ghost use Rattle.hwp_check_causes.specs.Asking.{is_by_state as is_by_state_of};
 ghost use Rattle.hwp_check_causes.specs.Befores.{thread_numbers};
@@ -13,7 +14,7 @@ use crate::causes::{is_failure, is_offline, is_reply, is_unpoison};
 use crate::known::{is_by_end, is_by_lines, is_by_state};
 use crate::plain::{is_kernels, is_plain};
 use crate::telling::is_by_entry;
-use hwp_check_rules::{Answer, Command, Report, Thread};
+use hwp_check_rules::{Answer, Command, Frame, OfflineResult, Report, Thread};
 
 /// Whether an answer that names an entry is of that kind.
 fn names_entry(answer: &Answer) -> bool
@@ -146,4 +147,15 @@ pub fn is_right(case: &Case<'_>, answer: &Answer) -> bool
         return tells_stop(case.report());
     }
     is_caused(case, answer)
+}
+
+/// Whether the report shows the cause of what came of a frame that the command took out of use beside its answer: that of the same
+/// answer of `soft`, or that the machine had stopped.
+pub fn is_offlined(case: &Case<'_>, frame: Frame, told: OfflineResult) -> bool
+    ensures { IsTrue result ↔ IsOffline case.now.script case.now.report case.now.who frame told }
+{
+    match told {
+        OfflineResult::Stopped => tells_stop(case.report()),
+        _ => is_offline(case, frame, &told.answer()),
+    }
 }

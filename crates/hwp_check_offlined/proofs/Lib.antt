@@ -1,0 +1,5 @@
+mod NoteLoop
+mod CollectLaws
+mod DueLaws
+mod TallyLaws
+mod JudgeLaws

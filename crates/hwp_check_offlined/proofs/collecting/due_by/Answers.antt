@@ -1,0 +1,14 @@
+use Rattle.std.proofs.Common.{◌≡◌, ℕ, ◌<◌, All, List, length, sym, subst, ◌∙◌}
+use Rattle.hwp_check_rules.specs.hwp_geom.declared.Frame.{Frame}
+use Rattle.hwp_check_rules.specs.hwp_check_event_line.Firsts.{shown_lines}
+use Rattle.hwp_check_offlined.proofs.CollectLaws.{due-same}
+use Rattle.hwp_check_offlined.proofs.DueLaws.{notes-within}
+use Rattle.hwp_check_offlined.proofs.collecting.due_by.Goals as goal
+
+pub due-requires : goal.due-requires
+due-requires c =
+    subst (λ (n : ℕ). All (λ (f : Frame). f.0 < n) c.as_slice.result.now) (sym c.requires)
+    (subst (All (λ (f : Frame). f.0 < c.args.layout.now.frames)) (sym (c.as_slice.ensures.value ∙ c.in_ok-noted.ensures)) (notes-within c.args.layout.now (shown_lines c.args.lines.now)))
+
+pub returns : goal.returns
+returns c = due-same c.args.on _ _ _ _ _ (c.as_slice.ensures.value ∙ c.in_ok-noted.ensures) c.in_ok-frames.ensures
