@@ -1,14 +1,13 @@
 -- A course is a task: where it fits, its step can be made, and what follows fits.
-use Rattle.std.proofs.Common.{◌≡◌, ◌≢◌, ◌⊎◌, inl, inr, ℕ, ◌+◌, ◌<◌, ◌≤◌, ◌==◌, ◌&&◌, nat_lt, Bool, true, false, List, [], ◌∷◌, ◌++◌, Option, Some, None, drop, is_some, length, slice_get, refl, sym, ap, ◌∙◌, subst, arith}
-use Rattle.std.proofs.lemmas.Bool.{both_ways}
+use Rattle.std.proofs.Common.{◌≡◌, ◌≢◌, ◌⊎◌, inl, inr, ℕ, ◌+◌, ◌<◌, ◌≤◌, ◌==◌, ◌&&◌, nat_lt, Bool, true, false, List, [], ◌∷◌, ◌++◌, Option, Some, None, drop, is_some, length, map, slice_get, refl, sym, ap, ◌∙◌, subst, arith}
+use Rattle.std.proofs.lemmas.Bool.{both_ways, ltb-false, ltb-true}
 use Rattle.std.proofs.lemmas.List.{length-append}
-use Rattle.std.proofs.lemmas.Option.{none-some, same_Some, slice_get_cases, slice_get_past, slice_get_within}
+use Rattle.std.proofs.lemmas.Option.{none-some, slice_get_cases, slice_get_past, slice_get_within}
 use Rattle.hwp_cpu_row.specs.hwp_geom.declared.Frame.{Frame}
 use Rattle.hwp_cpu_row.specs.hwp_geom.declared.Layout.{Layout}
 use Rattle.hwp_cpu_row.specs.hwp_geom.declared.Who.{Who}
 use Rattle.hwp_cpu_row.specs.hwp_report_text.declared.Answer.{Answer}
 use Rattle.hwp_cpu_row.specs.hwp_page.History.{BodyValue}
-use Rattle.hwp_cpu_row.specs.hwp_core_rule.declared.Made.{Made}
 use Rattle.hwp_cpu_row.specs.hwp_core_rule.declared.Step.{Step}
 use Rattle.hwp_cpu_row.specs.hwp_core_rule.declared.View.{View}
 use Rattle.hwp_cpu_row.specs.hwp_core_task.declared.Turn.{Turn}
@@ -17,12 +16,10 @@ use Rattle.hwp_cpu_row.specs.hwp_core_task.Hands.{empty, hand_of}
 use Rattle.hwp_cpu_row.specs.hwp_core_task.Known.{deeds}
 use Rattle.hwp_cpu_row.specs.hwp_core_task.Turns.{IsTask}
 use Rattle.hwp_cpu_row.proofs.of_hwp_core_rule.Lists.{same-number}
-use Rattle.hwp_cpu_row.specs.hwp_cec.Ages.{CecEvent, Note}
-use Rattle.hwp_cpu_row.specs.hwp_cec.Counters.{Counters, StandsFor}
 use Rattle.hwp_cpu_row.specs.hwp_cpu_check.declared.EventOutcome.{EventOutcome}
 use Rattle.hwp_cpu_row.specs.declared.Watching.{Watching}
 use Rattle.hwp_cpu_row.specs.Acts.{told_notes}
-use Rattle.hwp_cpu_row.specs.Locals.{Collects, collects}
+use Rattle.hwp_cpu_row.specs.Locals.{collects}
 use Rattle.hwp_cpu_command_laws.specs.hwp_cpu_command.declared.Job.{Job}
 use Rattle.hwp_cpu_command_laws.specs.hwp_cpu_command.declared.job.Job.TheVariants as kinds
 use Rattle.hwp_cpu_command_laws.specs.hwp_cpu_command.Jobs as jobs
@@ -44,10 +41,10 @@ use Rattle.hwp_cpu_command_laws.specs.hwp_cpu_command.hwp_soft.Offline as offlin
 use Rattle.hwp_cpu_command_laws.specs.hwp_cpu_command.hwp_soft.Softs as softs
 use Rattle.hwp_cpu_course.specs.declared.course.Course.{Course}
 use Rattle.hwp_cpu_course.specs.Dues.{DueValue, HasCollected, next_due}
-use Rattle.hwp_cpu_course.specs.Courses.{AfterCollectingBy, AfterOwn, AfterOwnBy, AfterOwnIf, AfterRest, AfterRestBy, AfterSoft, Covers, Fits, FitsOf, FitsOwn, HasPassed, HasRefused, IsAtPause, IsGoing, IsGoingOn, IsOfMachine, IsTakingOut, IsWaiting, Next, NextOf, RestsNow, ShowsOf, bare, bare_of, due_room, going_on, gives_up, gives_up_access, has_more, is_abandoned, part_of, passed, rests, task as course-task, with_result}
+use Rattle.hwp_cpu_course.specs.Courses.{AfterCollectingBy, AfterOwn, AfterOwnBy, AfterOwnIf, AfterRestBy, AfterSoft, Covers, Fits, FitsOf, FitsOwn, HasPassed, IsAtPause, IsGoing, IsGoingOn, IsOfMachine, IsTakingOut, IsWaiting, Next, NextOf, RestsNow, ShowsOf, bare, bare_of, due_room, going_on, has_more, is_abandoned, part_of, passed, rests, task as course-task, with_result}
 use Rattle.hwp_cpu_course.proofs.DueLaws.{ForPages, due-for-pages, for-pages-within, notes-few, pages-both}
-use Rattle.hwp_cpu_course.proofs.PartBegins.{on-turn, soft-begins}
-use Rattle.hwp_cpu_course.proofs.RestLaws.{OrPaid, at-rest, behind, given-up-none, gives-up-fits, own-on}
+use Rattle.hwp_cpu_course.proofs.PartBegins.{soft-begins}
+use Rattle.hwp_cpu_course.proofs.RestLaws.{AtRest, OrPaid, at-rest, behind, given-up-none, gives-up-fits, own-on}
 use Rattle.hwp_cpu_course.proofs.SoftMade.{HasLeft, checks-same, soft-left, soft-pays}
 use Rattle.hwp_cpu_course.proofs.ToldSince.{most, since-few}
 
@@ -126,19 +123,19 @@ covered layout c are of = which c.watching of
 -- ---- behind a rest
 
 -- all that is so of a course whose own task rests, but of what runs
-record Rested (layout : Layout) (view : View) (x : Course) : Type 0 where
-  frames_are : x.frames ≡ layout.frames
-  collector : IsOfMachine layout x.watching
-  noted : x.noted ≡ length (jobs.told_of x.own)
-  order : length x.due.offlined ≤ length x.due.frames
-  for_pages : ForPages layout x.due.frames
-  few : length x.due.frames ≤ length x.due.offlined + due_room
-  room : length x.due.frames ≤ length x.due.offlined + x.due.spare
-  on_turn : IsOnTurn view (jobs.who x.own)
-  hand_is : hand_of view ≡ empty
-  now : RestsNow layout view x.own
-  paid : OrPaid view x.own
-  due_paid : (f : Frame) → next_due x.due ≡ Some f → view.owed.losses ≡ []
+pub record Rested (layout : Layout) (view : View) (x : Course) : Type 0 where
+  pub frames_are : x.frames ≡ layout.frames
+  pub collector : IsOfMachine layout x.watching
+  pub noted : x.noted ≡ length (jobs.told_of x.own)
+  pub order : length x.due.offlined ≤ length x.due.frames
+  pub for_pages : ForPages layout x.due.frames
+  pub few : length x.due.frames ≤ length x.due.offlined + due_room
+  pub room : length x.due.frames ≤ length x.due.offlined + x.due.spare
+  pub on_turn : IsOnTurn view (jobs.who x.own)
+  pub hand_is : hand_of view ≡ empty
+  pub now : RestsNow layout view x.own
+  pub paid : OrPaid view x.own
+  pub due_paid : (f : Frame) → next_due x.due ≡ Some f → view.owed.losses ≡ []
 
 module _ {layout : Layout} {view : View} (x : Course) (r : Rested layout view x) where
   goes-by : (o : Option Frame) → next_due x.due ≡ o → Fits layout view (going_on x o)
@@ -166,12 +163,12 @@ module _ {layout : Layout} {view : View} (x : Course) (r : Rested layout view x)
     for_pages = r.for_pages;
     few = r.few;
     room = r.room;
-    at = behind (record x { beside = None }) all-done x.own r.on_turn r.hand_is r.paid r.noted r.now;
+    at = behind layout view (record x { beside = None }) all-done x.own r.on_turn r.hand_is r.paid r.noted r.now;
   }
     where
       all-done : length x.due.frames ≡ length x.due.offlined
       all-done = elim (slice_get_cases x.due.frames (length x.due.offlined)).1 [
-        | inl some ↦ absurd (none-some some.0 (sym is ∙ some.2.0))
+        | inl some ↦ absurd (none-some some.0 (sym is ∙ some.2))
         | inr past ↦ let order = r.order in let end : length x.due.frames ≤ length x.due.offlined = past.0 in omega (arith, order, end)
       ]
 
@@ -263,7 +260,7 @@ module _ {layout : Layout} {old new : View} (c : Course) (fits : Fits layout old
       for_pages = fits.for_pages;
       few = fits.few;
       room = fits.room;
-      at = own-on (record e { noted = noted }) going.none_due going.fits.0 k fit passed-it;
+      at = own-on layout new (record e { noted = noted }) going.none_due going.fits.0 k fit passed-it;
     }
 
     -- nothing is due where it rests
@@ -283,13 +280,14 @@ module _ {layout : Layout} {old new : View} (c : Course) (fits : Fits layout old
       due_paid = λ f is. absurd (none-some f (sym (slice_get_past c.due.frames (length c.due.offlined) (let same = going.none_due in omega (arith, same))) ∙ is));
     }
       where
+        own : AtRest layout new k
         own = at-rest going.fits.0 layout new k fit rest
 
-    told-some : has_more layout e ≡ true → jobs.told_of k ≢ []
+    pub told-some : has_more layout e ≡ true → jobs.told_of k ≢ []
     told-some is none = low (nat_lt c.noted (length (jobs.told_of k))) refl (and-parts (nat_lt c.noted (length (jobs.told_of k))) (layout.frames == c.frames) is).0
       where
         low : (b : Bool) → nat_lt c.noted (length (jobs.told_of k)) ≡ b → b ≡ true → ⊥
-        low b same is_so = let less : nat_lt c.noted (length (jobs.told_of k)) ≡ true = same ∙ is_so in let empty : length (jobs.told_of k) ≡ 0 = ap length none in omega (arith, less, empty)
+        low b same is_so = let less : c.noted < length (jobs.told_of k) = ltb-true c.noted (length (jobs.told_of k)) (same ∙ is_so) in let empty : length (jobs.told_of k) ≡ 0 = ap length none in omega (arith, less, empty)
 
     all-told : has_more layout e ≡ false → c.noted ≡ length (jobs.told_of k)
     all-told is = which (nat_lt c.noted (length (jobs.told_of k))) refl is
@@ -299,7 +297,7 @@ module _ {layout : Layout} {old new : View} (c : Course) (fits : Fits layout old
 
         which : (b : Bool) → nat_lt c.noted (length (jobs.told_of k)) ≡ b → (b && (layout.frames == c.frames)) ≡ false → c.noted ≡ length (jobs.told_of k)
         which true less no_ = absurd (both_ways true (sym no_ ∙ same-frames) refl)
-        which false less no_ = let within = grown in omega (arith, less, within)
+        which false less no_ = let within = grown in let least : length (jobs.told_of k) ≤ c.noted = ltb-false c.noted (length (jobs.told_of k)) less in omega (arith, least, within)
 
     -- there was no room
     refused : rests k ≡ true → has_more layout e ≡ true → (collects c.watching ≡ true → HasPassed c.own c.noted) → Fits layout new (record e { own = jobs.give_up k })
@@ -311,12 +309,13 @@ module _ {layout : Layout} {old new : View} (c : Course) (fits : Fits layout old
       for_pages = fits.for_pages;
       few = fits.few;
       room = fits.room;
-      at = own-on e going.none_due going.fits.0 (jobs.give_up k) (gives-up-fits going.fits.0 layout new k fit (at-rest going.fits.0 layout new k fit rest).hand_is rest told) (λ on_. given-passed layout c.own k found got t c.noted next (passed-it on_));
+      at = own-on layout new e going.none_due going.fits.0 (jobs.give_up k) (gives-up-fits going.fits.0 layout new k fit (at-rest going.fits.0 layout new k fit rest).hand_is rest told) (λ on_. given-passed layout c.own k found got t c.noted next (passed-it on_));
     }
       where
         told : jobs.told_of k ≢ []
         told = told-some more
 
+        up : (jobs.answer (jobs.give_up k) ≡ None) × (gives_up (jobs.give_up k) ≡ true) × (jobs.told_of (jobs.give_up k) ≡ jobs.told_of k)
         up = given-up-none k told
 
     -- the collector got what was told
@@ -324,12 +323,12 @@ module _ {layout : Layout} {old new : View} (c : Course) (fits : Fits layout old
     collected rest more passed-it None of x has = absurd has
     collected rest more passed-it (Some w) of x has = subst (Rested layout new) (sym has.3) (record {
       frames_are = fits.frames_are;
-      collector = (taken.2.4.many ∙ of.0, (of.1.0 ++ _, (taken.2.4.stands of.1.0 of.1.1).0));
+      collector = (taken.4.many ∙ of.0, (of.1 ++ map Note (told_notes layout since), (taken.4.stands of.1 of.2).0));
       noted = refl;
-      order = subst (λ (v : DueValue). length v.offlined ≤ length v.frames) (sym taken.2.2) ordered;
-      for_pages = subst (λ (v : DueValue). ForPages layout v.frames) (sym taken.2.2) (pages-both layout c.due.frames taken.0 fits.for_pages (due-for-pages layout since of.1.0 of.1.1 taken.2.4));
-      few = subst (λ (v : DueValue). length v.frames ≤ length v.offlined + due_room) (sym taken.2.2) few;
-      room = subst (λ (v : DueValue). length v.frames ≤ length v.offlined + v.spare) (sym taken.2.2) room;
+      order = subst (λ (v : DueValue). length v.offlined ≤ length v.frames) (sym taken.2) ordered;
+      for_pages = subst (λ (v : DueValue). ForPages layout v.frames) (sym taken.2) (pages-both layout c.due.frames taken.0 fits.for_pages (due-for-pages layout since of.1 of.2 taken.4));
+      few = subst (λ (v : DueValue). length v.frames ≤ length v.offlined + due_room) (sym taken.2) few;
+      room = subst (λ (v : DueValue). length v.frames ≤ length v.offlined + v.spare) (sym taken.2) room;
       on_turn = own.on_turn;
       hand_is = own.hand_is;
       now = own.now;
@@ -337,6 +336,7 @@ module _ {layout : Layout} {old new : View} (c : Course) (fits : Fits layout old
       due_paid = λ f is. own.told_paid (told-some more);
     })
       where
+        own : AtRest layout new k
         own = at-rest going.fits.0 layout new k fit rest
 
         since : List EventOutcome
@@ -346,7 +346,7 @@ module _ {layout : Layout} {old new : View} (c : Course) (fits : Fits layout old
         taken = has.2
 
         due-few : length taken.0 ≤ length since
-        due-few = let noted : length taken.0 ≤ length (told_notes layout since) = taken.2.4.few in let told : length (told_notes layout since) ≤ length since = notes-few layout since in omega (arith, noted, told)
+        due-few = let noted : length taken.0 ≤ length (told_notes layout since) = taken.4.few in let told : length (told_notes layout since) ≤ length since = notes-few layout since in omega (arith, noted, told)
 
         lengths : length (c.due.frames ++ taken.0) ≡ length c.due.frames + length taken.0
         lengths = length-append c.due.frames taken.0
@@ -372,13 +372,13 @@ module _ {layout : Layout} {old new : View} (c : Course) (fits : Fits layout old
         few =
             let all = lengths in
             let due = due-few in
-            let told : length since ≤ most k = since-few c.own k step found got t going.fits.1 fit planned made next c.noted passed-it rest in
+            let told : length since ≤ most k = since-few going.fits.0 layout old new c.own k step found got t going.fits.1 fit planned made next c.noted passed-it rest in
             let room : most k ≤ due_room = most-room k in
             let none = going.none_due in
             omega (arith, all, due, told, room, none)
 
         room : length (c.due.frames ++ taken.0) ≤ length c.due.offlined + taken.1
-        room = let all = lengths in let due = due-few in let spare : length since ≤ taken.1 = taken.2.3 in let none = going.none_due in omega (arith, all, due, spare, none)
+        room = let all = lengths in let due = due-few in let spare : length since ≤ taken.1 = taken.3 in let none = going.none_due in omega (arith, all, due, spare, none)
 
     -- each way that its turn may go
     own-next : (after : Course) (turn : Turn) → AfterOwn layout e t after turn → Fits layout new after × ((jobs.who after.own).cpu ≡ (jobs.who c.own).cpu)
@@ -412,21 +412,21 @@ module _ {layout : Layout} {old new : View} (c : Course) (fits : Fits layout old
 
 -- ---- a step of a frame that is taken out of use
 
-abandoned-stays : (layout : Layout) (who : Who) (frame : Frame) (x y : SoftAt) (found : ℕ) (got : Option BodyValue) (turn : Turn) → softs.FollowsAt layout who frame (softs.bare_at x) found got y turn → is_abandoned y ≡ false → is_abandoned x ≡ false
-abandoned-stays layout who frame (soft_at.GiveUp g) y found got turn follows goes = absurd (both_ways true (sym (ap is_abandoned follows.0) ∙ goes) refl)
-abandoned-stays layout who frame soft_at.LoadStop y found got turn follows goes = refl
-abandoned-stays layout who frame (soft_at.Seize s) y found got turn follows goes = refl
-abandoned-stays layout who frame (soft_at.Discard d) y found got turn follows goes = refl
-abandoned-stays layout who frame (soft_at.LoadBad page body) y found got turn follows goes = refl
-abandoned-stays layout who frame (soft_at.Take page body t) y found got turn follows goes = refl
-abandoned-stays layout who frame (soft_at.Poison page body to) y found got turn follows goes = refl
-abandoned-stays layout who frame (soft_at.UnlockSpare page body to) y found got turn follows goes = refl
-abandoned-stays layout who frame (soft_at.ReleaseSpare page body r) y found got turn follows goes = refl
-abandoned-stays layout who frame (soft_at.Relocate r answer) y found got turn follows goes = refl
-abandoned-stays layout who frame (soft_at.Unhold u answer) y found got turn follows goes = refl
-abandoned-stays layout who frame (soft_at.Over answer) y found got turn follows goes = refl
+pub abandoned-stays : (layout : Layout) (who : Who) (frame : Frame) (x y : SoftAt) (found : ℕ) (got : Option BodyValue) (turn : Turn) → softs.FollowsAt layout who frame (softs.bare_at x) found got y turn → is_abandoned y ≡ false → is_abandoned x ≡ false
+abandoned-stays layout who frame (soft_at.GiveUp g) y found got turn follows on_ = absurd (both_ways true (sym (ap is_abandoned follows.0) ∙ on_) refl)
+abandoned-stays layout who frame soft_at.LoadStop y found got turn follows on_ = refl
+abandoned-stays layout who frame (soft_at.Seize s) y found got turn follows on_ = refl
+abandoned-stays layout who frame (soft_at.Discard d) y found got turn follows on_ = refl
+abandoned-stays layout who frame (soft_at.LoadBad page body) y found got turn follows on_ = refl
+abandoned-stays layout who frame (soft_at.Take page body t) y found got turn follows on_ = refl
+abandoned-stays layout who frame (soft_at.Poison page body to) y found got turn follows on_ = refl
+abandoned-stays layout who frame (soft_at.UnlockSpare page body to) y found got turn follows on_ = refl
+abandoned-stays layout who frame (soft_at.ReleaseSpare page body r) y found got turn follows on_ = refl
+abandoned-stays layout who frame (soft_at.Relocate r answer) y found got turn follows on_ = refl
+abandoned-stays layout who frame (soft_at.Unhold u answer) y found got turn follows on_ = refl
+abandoned-stays layout who frame (soft_at.Over answer) y found got turn follows on_ = refl
 
-over-stays : (s : Soft) (a : SoftAnswer) → softs.answer s ≡ Some a → is_abandoned s.at ≡ false
+pub over-stays : (s : Soft) (a : SoftAnswer) → softs.answer s ≡ Some a → is_abandoned s.at ≡ false
 over-stays s a said = which s.at said
   where
     which : (x : SoftAt) → softs.answer_at x ≡ Some a → is_abandoned x ≡ false
@@ -477,8 +477,10 @@ module _ {layout : Layout} {old new : View} (c : Course) (fits : Fits layout old
         was : IsWaiting layout old c
         was = at.own_waits was-on
 
+        before : HasLeft at.soft.0 old s.who
         before = soft-left s was-on at.soft.1
 
+        after : HasLeft at.soft.0 new s.who
         after = subst (λ (w : Who). HasLeft at.soft.0 new w) same-who (soft-left k goes-so soft-fit)
 
         pays : old.owed.losses ≡ [] → new.owed.losses ≡ []
@@ -501,7 +503,7 @@ module _ {layout : Layout} {old new : View} (c : Course) (fits : Fits layout old
       for_pages = fits.for_pages;
       few = fits.few;
       room = fits.room;
-      at = record { soft = (at.soft.0, soft-fit); own = same-who ∙ at.own; next = at.next ∙ ap Some (sym same-frame); own_waits = waits-on; noted = at.noted };
+      at = record { soft = (at.soft.0, soft-fit); own = same-who ∙ at.own; next = at.next ∙ ap Some (sym same-frame); own_waits = λ goes-so. let now = waits-on goes-so in record { rests = now.rests; paid = now.paid }; noted = at.noted };
     }
 
     soft-over : (a : SoftAnswer) → softs.answer k ≡ Some a → Rested layout new (with_result (record c { beside = Some k }) k.frame a)

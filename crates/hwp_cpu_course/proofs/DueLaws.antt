@@ -1,7 +1,7 @@
 -- How the collector makes frames due: its notes one after the other, the events by machine checks, and what is so of each due frame.
-use Rattle.std.proofs.Common.{◌≡◌, ◌⊎◌, inl, inr, ℕ, zero, suc, ◌+◌, ◌<◌, ◌≤◌, ◌==◌, ◌&&◌, nat_lt, Bool, true, false, cond, List, [], ◌∷◌, ◌++◌, Option, Some, None, drop, filter_map, flat_map, length, map, slice_get, take, if◌then◌else◌, append-nil, append_assoc, refl, sym, ap, ◌∙◌, subst, arith}
+use Rattle.std.proofs.Common.{◌≡◌, ◌⊎◌, inl, inr, ℕ, zero, suc, ◌+◌, ◌<◌, ◌≤◌, ◌==◌, ◌&&◌, nat_lt, Bool, true, false, cond, List, [], ◌∷◌, ◌++◌, Option, Some, None, drop, filter_map, flat_map, length, map, not, take, if◌then◌else◌, append-nil, append_assoc, refl, sym, ap, ◌∙◌, subst, arith}
 use Rattle.std.specs.List.{cons_option, list_any}
-use Rattle.std.proofs.lemmas.Bool.{both_ways}
+use Rattle.std.proofs.lemmas.Bool.{both_ways, ltb-true}
 use Rattle.std.proofs.lemmas.List.{length-append, length-map, map-append}
 use Rattle.std.proofs.lemmas.Option.{none-some, same_Some}
 use Rattle.hwp_cpu_row.specs.hwp_geom.declared.Frame.{Frame}
@@ -13,12 +13,13 @@ use Rattle.hwp_cpu_row.specs.hwp_cec.declared.Noted.{Noted}
 use Rattle.hwp_cpu_row.specs.hwp_cec.declared.Noted.TheVariants.{Counted, Offline}
 use Rattle.hwp_cpu_row.specs.hwp_cec.Ages.{CecEvent, Note, live}
 use Rattle.hwp_cpu_row.specs.hwp_cec.Counters.{Counters, StandsFor, answer, noted_in}
+use Rattle.hwp_cpu_row.specs.hwp_law_commands.Commands.{is_kernels}
 use Rattle.hwp_cpu_row.specs.hwp_law_commands.Notes.{AreApart, IsRising, checks, ends_machine, frame_of, is_corrected, is_for_pages, noted_frame, notes, notes_of_check, with_line}
 use Rattle.hwp_cpu_row.specs.hwp_law_commands.Watched.{Watched, offlining, told}
 use Rattle.hwp_law_commands.proofs.NoteLaws.{notes-append, notes-rising, offlining-append}
 use Rattle.hwp_cpu_row.specs.Acts.{event_at, told_notes}
 use Rattle.hwp_cpu_row.specs.Locals.{Collects}
-use Rattle.hwp_cpu_course.specs.Dues.{HasNoted, first_check, notes_of_event, notes_of_lines}
+use Rattle.hwp_cpu_course.specs.Dues.{HasNoted, first_check, notes_of_lines}
 
 -- ---- notes, one after the other
 
@@ -32,13 +33,14 @@ collects-none c = record {
   stands = λ events has. (subst (λ (l : List CecEvent). StandsFor l c) (sym (append-nil events)) has, refl);
 }
 
-within-both : (n : ℕ) (a b : List Frame) → EachMember (λ (f : Frame). f.0 < n) a → EachMember (λ (f : Frame). f.0 < n) b → EachMember (λ (f : Frame). f.0 < n) (a ++ b)
-within-both n [] b one other = other
-within-both n (x ∷ xs) b one other = first
-  where
-    first : EachMember (λ (f : Frame). f.0 < n) (x ∷ (xs ++ b))
-    first zero f there = subst (λ (g : Frame). g.0 < n) (same_Some x f there) (one 0 x refl)
-    first (suc i) f there = within-both n xs b (λ j g at. one (suc j) g at) other i f there
+-- of a list and one more before it, and of two lists
+pub each-cons : {A : Type 0} (P : A → Type 0) (x : A) (l : List A) → P x → EachMember P l → EachMember P (x ∷ l)
+each-cons P x l here rest zero y there = subst P (same_Some x y there) here
+each-cons P x l here rest (suc i) y there = rest i y there
+
+each-both : {A : Type 0} (P : A → Type 0) (a b : List A) → EachMember P a → EachMember P b → EachMember P (a ++ b)
+each-both P [] b one other = other
+each-both P (x ∷ xs) b one other = each-cons P x (xs ++ b) (one 0 x refl) (each-both P xs b (λ i y there. one (suc i) y there) other)
 
 pub collects-both : {a b x y : List Frame} {c d e : Counters} → Collects a c d x → Collects b d e y → Collects (a ++ b) c e (x ++ y)
 collects-both {a} {b} {x} {y} {c} {d} {e} one other = record {
@@ -51,7 +53,7 @@ collects-both {a} {b} {x} {y} {c} {d} {e} one other = record {
       let left : length (x ++ y) ≡ length x + length y = length-append x y in
       let right : length (a ++ b) ≡ length a + length b = length-append a b in
       omega (arith, first, second, left, right);
-  within = within-both (length c.counts) x y one.within (subst (λ (n : ℕ). EachMember (λ (f : Frame). f.0 < n) y) one.many other.within);
+  within = each-both (λ (f : Frame). f.0 < length c.counts) x y one.within (subst (λ (n : ℕ). EachMember (λ (f : Frame). f.0 < n) y) one.many other.within);
   stands = λ events has.
       let first = one.stands events has in
       let second = other.stands (events ++ map Note a) first.0 in
@@ -82,7 +84,7 @@ is-offline threshold n = which (n == threshold)
         counted Offline = false
 
         differs : Counted n ≡ Offline → ⊥
-        differs same = both_ways true (sym (ap counted same)) refl
+        differs same = both_ways true (ap counted same) refl
 
 is-counted : (threshold n k : ℕ) → answer threshold n ≡ Counted k → (n == threshold) ≡ false
 is-counted threshold n k = which (n == threshold)
@@ -96,47 +98,40 @@ is-counted threshold n k = which (n == threshold)
         counted Offline = false
 
         differs : Offline ≡ Counted k → ⊥
-        differs same = both_ways true (ap counted same) refl
+        differs same = both_ways true (sym (ap counted same)) refl
 
 -- what the collector says of one note
-pub record Notes (c : Counters) (frame : Frame) (said : Noted) (after : Counters) : Type 0 where
+pub record Says (c : Counters) (frame : Frame) (said : Noted) (after : Counters) : Type 0 where
   pub counts : after ≡ noted_in c frame.0
   pub stands : (events : List CecEvent) → StandsFor events c → StandsFor (events ++ Note frame ∷ []) after
-  pub live : (events : List CecEvent) → StandsFor events c → said ≡ answer c.threshold (live c.threshold c.window events frame.0)
+  pub says : (events : List CecEvent) → StandsFor events c → said ≡ answer c.threshold (live c.threshold c.window events frame.0)
 
 module _ {c after : Counters} {frame : Frame} (within : frame.0 < length c.counts) (many : length after.counts ≡ length c.counts) where
-  pub collects-offline : Notes c frame Offline after → Collects (frame ∷ []) c after (frame ∷ [])
+  pub collects-offline : Says c frame Offline after → Collects (frame ∷ []) c after (frame ∷ [])
   collects-offline has = record {
     threshold = ap (λ (k : Counters). k.threshold) has.counts;
     window = ap (λ (k : Counters). k.window) has.counts;
     many = many;
     few = omega arith;
-    within = one;
-    stands = λ events stand. (has.stands events stand, sym (ap (λ (b : Bool). if b then frame ∷ [] else []) (is-offline c.threshold (live c.threshold c.window events frame.0) (sym (has.live events stand)))));
+    within = each-cons (λ (f : Frame). f.0 < length c.counts) frame [] within (λ i f there. absurd (none-some f there));
+    stands = λ events stand. (has.stands events stand, sym (ap (λ (b : Bool). if b then frame ∷ [] else []) (is-offline c.threshold (live c.threshold c.window events frame.0) (sym (has.says events stand)))));
   }
-    where
-      one : EachMember (λ (f : Frame). f.0 < length c.counts) (frame ∷ [])
-      one zero f there = subst (λ (g : Frame). g.0 < length c.counts) (same_Some frame f there) within
-      one (suc i) f there = absurd (none-some f there)
 
-  pub collects-counted : (k : ℕ) → Notes c frame (Counted k) after → Collects (frame ∷ []) c after []
+  pub collects-counted : (k : ℕ) → Says c frame (Counted k) after → Collects (frame ∷ []) c after []
   collects-counted k has = record {
     threshold = ap (λ (x : Counters). x.threshold) has.counts;
     window = ap (λ (x : Counters). x.window) has.counts;
     many = many;
     few = omega arith;
     within = λ i f there. absurd (none-some f there);
-    stands = λ events stand. (has.stands events stand, sym (ap (λ (b : Bool). if b then frame ∷ [] else []) (is-counted c.threshold (live c.threshold c.window events frame.0) k (sym (has.live events stand)))));
+    stands = λ events stand. (has.stands events stand, sym (ap (λ (b : Bool). if b then frame ∷ [] else []) (is-counted c.threshold (live c.threshold c.window events frame.0) k (sym (has.says events stand)))));
   }
 
-pub noted-none : {c : Counters} {due : List Frame} → HasNoted [] c due c due
-noted-none {c} {due} = ([], sym (append-nil due), collects-none c)
+pub noted-none : (c : Counters) (due : List Frame) → HasNoted [] c due c due
+noted-none c due = ([], sym (append-nil due), collects-none c)
 
-pub noted-both : {a b due mid all : List Frame} {c d e : Counters} → HasNoted a c due d mid → HasNoted b d mid e all → HasNoted (a ++ b) c due e all
-noted-both {due = due} one other = (one.0 ++ other.0, other.1 ∙ ap (λ (l : List Frame). l ++ other.0) one.1 ∙ append_assoc due one.0 other.0, collects-both one.2 other.2)
-
-pub noted-by : {a b due all : List Frame} {c d : Counters} → a ≡ b → HasNoted a c due d all → HasNoted b c due d all
-noted-by {due = due} {all = all} {c = c} {d = d} is has = subst (λ (l : List Frame). HasNoted l c due d all) is has
+pub noted-both : (a b due mid all : List Frame) (c d e : Counters) → HasNoted a c due d mid → HasNoted b d mid e all → HasNoted (a ++ b) c due e all
+noted-both a b due mid all c d e one other = (one.0 ++ other.0, other.1 ∙ ap (λ (l : List Frame). l ++ other.0) one.1 ∙ append_assoc due one.0 other.0, collects-both one.2 other.2)
 
 -- ---- the frames that are noted
 
@@ -155,11 +150,8 @@ noted-line layout line f = which (is_corrected line)
 pub for-pages-within : (layout : Layout) (f : Frame) → is_for_pages layout f ≡ true → f.0 < layout.frames
 for-pages-within layout f is = which (nat_lt f.0 layout.frames) refl is
   where
-    which : (b : Bool) {other : Bool} → nat_lt f.0 layout.frames ≡ b → (b && other) ≡ true → f.0 < layout.frames
-    which true lower both = lower-lt lower
-      where
-        lower-lt : nat_lt f.0 layout.frames ≡ true → f.0 < layout.frames
-        lower-lt same = omega (arith, same)
+    which : (b : Bool) → nat_lt f.0 layout.frames ≡ b → (b && not (is_kernels layout f)) ≡ true → f.0 < layout.frames
+    which true lower both = ltb-true f.0 layout.frames lower
     which false lower both = absurd (both_ways true (sym both) refl)
 
 pub noted-within : (layout : Layout) (line : EventLine) (f : Frame) → noted_frame layout line ≡ Some f → f.0 < layout.frames
@@ -169,20 +161,11 @@ abbrev pub ForPages : Layout → List Frame → Type 0
 ForPages layout l = EachMember (λ (f : Frame). is_for_pages layout f ≡ true) l
 
 pub pages-both : (layout : Layout) (a b : List Frame) → ForPages layout a → ForPages layout b → ForPages layout (a ++ b)
-pages-both layout [] b one other = other
-pages-both layout (x ∷ xs) b one other = first
-  where
-    first : ForPages layout (x ∷ (xs ++ b))
-    first zero f there = subst (λ (g : Frame). is_for_pages layout g ≡ true) (same_Some x f there) (one 0 x refl)
-    first (suc i) f there = pages-both layout xs b (λ j g at. one (suc j) g at) other i f there
+pages-both layout a b one other = each-both (λ (f : Frame). is_for_pages layout f ≡ true) a b one other
 
 pages-one : (layout : Layout) (o : Option Frame) (l : List Frame) → ((f : Frame) → o ≡ Some f → is_for_pages layout f ≡ true) → ForPages layout l → ForPages layout (cons_option o l)
 pages-one layout None l one other = other
-pages-one layout (Some x) l one other = first
-  where
-    first : ForPages layout (x ∷ l)
-    first zero f there = subst (λ (g : Frame). is_for_pages layout g ≡ true) (same_Some x f there) (one x refl)
-    first (suc i) f there = other i f there
+pages-one layout (Some x) l one other = each-cons (λ (f : Frame). is_for_pages layout f ≡ true) x l (one x refl) other
 
 pages-none : (layout : Layout) → ForPages layout []
 pages-none layout i f there = absurd (none-some f there)
@@ -205,14 +188,11 @@ pages-checks layout (c ∷ cs) = pages-both layout (notes_of_check layout c) (fl
 -- and so are those of them that are due
 pages-due : (layout : Layout) (w : Watched) (l : List Frame) → ForPages layout l → ForPages layout (offlining w l)
 pages-due layout w [] each = each
-pages-due layout w (x ∷ xs) each = which (live w.threshold w.window w.events x.0 == w.threshold)
+pages-due layout w (x ∷ xs) each = which (live w.threshold w.window w.events x.0 == w.threshold) (offlining (told (Note x ∷ []) w) xs) (pages-due layout (told (Note x ∷ []) w) xs (λ i f there. each (suc i) f there))
   where
-    rest : ForPages layout (offlining (told (Note x ∷ []) w) xs)
-    rest = pages-due layout (told (Note x ∷ []) w) xs (λ i f there. each (suc i) f there)
-
-    which : (b : Bool) → ForPages layout (if b then x ∷ offlining (told (Note x ∷ []) w) xs else offlining (told (Note x ∷ []) w) xs)
-    which true = pages-one layout (Some x) (offlining (told (Note x ∷ []) w) xs) (λ f is. subst (λ (g : Frame). is_for_pages layout g ≡ true) (same_Some x f is) (each 0 x refl)) rest
-    which false = rest
+    which : (b : Bool) (l : List Frame) → ForPages layout l → ForPages layout (if b then x ∷ l else l)
+    which true l rest = each-cons (λ (f : Frame). is_for_pages layout f ≡ true) x l (each 0 x refl) rest
+    which false l rest = rest
 
 pub due-for-pages : (layout : Layout) (told : List EventOutcome) {c after : Counters} {due : List Frame} (events : List CecEvent) → StandsFor events c → Collects (told_notes layout told) c after due → ForPages layout due
 due-for-pages layout told {c} events stands has = subst (ForPages layout) (sym (has.stands events stands).1) (pages-due layout _ (told_notes layout told) (pages-checks layout (checks (map (event_at 0) told))))
@@ -235,16 +215,16 @@ check-few layout lines = which (list_any ends_machine lines)
     which false = filter-few layout lines
 
 -- the lines of all machine checks
-all-lines : List (List EventLine) → ℕ
+abbrev all-lines : List (List EventLine) → ℕ
 all-lines [] = 0
 all-lines (c ∷ cs) = length c + all-lines cs
 
 with-lines : (line : EventLine) (cs : List (List EventLine)) → all-lines (with_line line cs) ≡ suc (all-lines cs)
-with-lines line [] = refl
-with-lines line ([] ∷ cs) = refl
+with-lines line [] = omega arith
+with-lines line ([] ∷ cs) = omega arith
 with-lines line ((n ∷ m) ∷ cs) = which (nat_lt line.bank n.bank)
   where
-    which : (b : Bool) → all-lines (if b then (line ∷ n ∷ m) ∷ cs else (line ∷ []) ∷ (n ∷ m) ∷ cs) ≡ suc (suc (length m) + all-lines cs)
+    which : (b : Bool) → all-lines (if b then (line ∷ n ∷ m) ∷ cs else (line ∷ []) ∷ (n ∷ m) ∷ cs) ≡ suc (length (n ∷ m) + all-lines cs)
     which true = omega arith
     which false = omega arith
 
@@ -274,7 +254,7 @@ first-within [] = omega arith
 first-within (t ∷ []) = omega arith
 first-within (t ∷ n ∷ r) = which (nat_lt t.held.bank n.held.bank) (first-within (n ∷ r))
   where
-    which : (b : Bool) → first_check (n ∷ r) ≤ length (n ∷ r) → cond b (1 + first_check (n ∷ r)) 1 ≤ length (t ∷ n ∷ r)
+    which : (b : Bool) → first_check (n ∷ r) ≤ length (n ∷ r) → cond b (suc (first_check (n ∷ r))) 1 ≤ length (t ∷ n ∷ r)
     which true rest = omega (arith, rest)
     which false rest = omega arith
 
@@ -282,7 +262,7 @@ pub first-some : (t : EventOutcome) (l : List EventOutcome) → 0 < first_check 
 first-some t [] = omega arith
 first-some t (n ∷ r) = which (nat_lt t.held.bank n.held.bank)
   where
-    which : (b : Bool) → 0 < cond b (1 + first_check (n ∷ r)) 1
+    which : (b : Bool) → 0 < cond b (suc (first_check (n ∷ r))) 1
     which true = omega arith
     which false = omega arith
 
@@ -299,11 +279,11 @@ first-notes layout (t ∷ l) = whole (parts t l)
 
     parts : (x : EventOutcome) (xs : List EventOutcome) → Parts x xs (first_check (x ∷ xs))
     parts x [] = ([], refl, tt, tt)
-    parts x (y ∷ ys) = which (nat_lt x.held.bank y.held.bank) refl (parts y ys)
+    parts x (y ∷ ys) = which (nat_lt x.held.bank y.held.bank) refl (first_check (y ∷ ys)) (parts y ys)
       where
-        which : (b : Bool) → nat_lt x.held.bank y.held.bank ≡ b → Parts y ys (first_check (y ∷ ys)) → Parts x (y ∷ ys) (cond b (1 + first_check (y ∷ ys)) 1)
-        which true lower rest = (y ∷ rest.0, ap (λ (k : List EventOutcome). x ∷ k) rest.1, (lower, rest.2), rest.3)
-        which false lower rest = ([], refl, tt, lower)
+        which : (b : Bool) → nat_lt x.held.bank y.held.bank ≡ b → (n : ℕ) → Parts y ys n → Parts x (y ∷ ys) (cond b (suc n) 1)
+        which true lower n rest = (y ∷ rest.0, ap (λ (k : List EventOutcome). x ∷ k) rest.1, (lower, rest.2), rest.3)
+        which false lower n rest = ([], refl, tt, lower)
 
     whole : Parts t l (first_check (t ∷ l)) → told_notes layout (t ∷ l) ≡ notes_of_lines layout (take (first_check (t ∷ l)) (t ∷ l)) ++ told_notes layout (drop (first_check (t ∷ l)) (t ∷ l))
     whole p =

@@ -1,43 +1,47 @@
 -- What is so of a command's own task where it rests, behind that, and where memory runs out there.
-use Rattle.std.proofs.Common.{◌≡◌, ◌≢◌, ◌⊎◌, inl, inr, ℕ, ◌≤◌, ◌×◌, Bool, true, false, List, [], Option, Some, None, is_some, length, refl, sym, ap, ◌∙◌, subst, arith}
+use Rattle.std.proofs.Common.{◌≡◌, ◌≢◌, ◌⊎◌, inl, inr, ℕ, Bool, true, false, List, [], Option, Some, None, is_some, length, refl, sym, ap, ◌∙◌, subst, arith}
 use Rattle.std.proofs.lemmas.Bool.{both_ways}
-use Rattle.std.proofs.lemmas.Option.{none-some, same_Some}
 use Rattle.hwp_cpu_row.specs.hwp_geom.declared.Frame.{Frame}
 use Rattle.hwp_cpu_row.specs.hwp_geom.declared.Layout.{Layout}
-use Rattle.hwp_cpu_row.specs.hwp_geom.Layout.{IsSound}
 use Rattle.hwp_cpu_row.specs.hwp_report_text.declared.Answer.{Answer}
-use Rattle.hwp_cpu_row.specs.hwp_banks.Banks.{Banks}
 use Rattle.hwp_cpu_row.specs.hwp_core_rule.declared.Made.{Made}
 use Rattle.hwp_cpu_row.specs.hwp_core_rule.declared.View.{View}
 use Rattle.hwp_cpu_row.specs.hwp_core_task.Calls.{IsOnTurn}
 use Rattle.hwp_cpu_row.specs.hwp_core_task.Hands.{empty, hand_of}
 use Rattle.hwp_cpu_row.specs.hwp_core_task.Known.{deeds}
-use Rattle.hwp_cpu_row.specs.hwp_cpu_check.declared.EventOutcome.{EventOutcome}
 use Rattle.hwp_cpu_row.specs.Locals.{collects}
 use Rattle.hwp_cpu_command_laws.specs.hwp_cpu_command.declared.Job.{Job}
 use Rattle.hwp_cpu_command_laws.specs.hwp_cpu_command.declared.job.Job.TheVariants as kinds
 use Rattle.hwp_cpu_command_laws.specs.hwp_cpu_command.Done.{failed_now}
 use Rattle.hwp_cpu_command_laws.specs.hwp_cpu_command.Jobs as jobs
-use Rattle.hwp_cpu_command_laws.proofs.of_hwp_cpu_command.JobEnds.{answered-over, empty-handed, instruction-ended, mapped, paid-at-end, raise-ended, raise-over, scrub-ended, scrub-over, scrub-rests}
+use Rattle.hwp_cpu_command_laws.proofs.of_hwp_cpu_command.JobEnds.{answered-over, ends, instruction-ended, mapped, paid-at-end, raise-ended, scrub-ended}
 use Rattle.hwp_cpu_command_laws.proofs.of_hwp_cpu_command.JobLaws as jobbing
 use Rattle.hwp_cpu_command_laws.proofs.Beside.{answered-resumes, at-pause}
 use Rattle.hwp_cpu_command_laws.specs.hwp_cpu_command.hwp_cpu_access.declared.Instruction.{Instruction}
 use Rattle.hwp_cpu_command_laws.specs.hwp_cpu_command.hwp_cpu_access.declared.instruction.InstructionAt.{InstructionAt}
-use Rattle.hwp_cpu_command_laws.specs.hwp_cpu_command.hwp_cpu_access.declared.instruction.InstructionAt.TheVariants as instruction_at
 use Rattle.hwp_cpu_command_laws.specs.hwp_cpu_command.hwp_cpu_access.declared.instruction.Pause.{Pause}
 use Rattle.hwp_cpu_command_laws.specs.hwp_cpu_command.hwp_cpu_access.Fits as instruction_fits
 use Rattle.hwp_cpu_command_laws.specs.hwp_cpu_command.hwp_cpu_access.Instructions as instructions
 use Rattle.hwp_cpu_command_laws.proofs.of_hwp_cpu_command.of_hwp_cpu_access.Resting.{resumes, rests as pauses-rest}
 use Rattle.hwp_cpu_command_laws.specs.hwp_cpu_command.hwp_cpu_raise.Raises as raises
+use Rattle.hwp_cpu_command_laws.specs.hwp_cpu_command.hwp_scrub.declared.Scrub.{Scrub}
+use Rattle.hwp_cpu_command_laws.specs.hwp_cpu_command.hwp_scrub.declared.ScrubAnswer.{ScrubAnswer}
+use Rattle.hwp_cpu_command_laws.specs.hwp_cpu_command.hwp_scrub.declared.ScrubAnswer.TheVariants as scrub_answers
+use Rattle.hwp_cpu_command_laws.specs.hwp_cpu_command.hwp_scrub.Fits as scrub_fits
 use Rattle.hwp_cpu_command_laws.specs.hwp_cpu_command.hwp_scrub.Scrubs as scrubs
 use Rattle.hwp_cpu_course.specs.declared.course.Course.{Course}
-use Rattle.hwp_cpu_course.specs.Courses.{FitsOwn, HasPassed, IsDone, RestsNow, gives_up, rests}
+use Rattle.hwp_cpu_course.specs.Courses.{FitsOwn, HasPassed, RestsNow, gives_up, rests}
 use Rattle.hwp_cpu_course.proofs.PartBegins.{on-turn}
 
 -- ---- where it rests
 
 abbrev pub OrPaid : View → Job → Type 0
 OrPaid view j = (view.owed.losses ≡ []) ⊎ (failed_now j ≡ [])
+
+scrub-paid : (layout : Layout) (view : View) (s : Scrub) (x : ScrubAnswer) → scrub_fits.IsEnd layout view s x → view.owed.losses ≡ []
+scrub-paid layout view s scrub_answers.Scrubbed ended = ended.rest.paid
+scrub-paid layout view s scrub_answers.Stopped (inl unbegun) = unbegun.0.rest.paid
+scrub-paid layout view s scrub_answers.Stopped (inr halted) = halted.1.rest.paid
 
 -- it is that of the turn, holds nothing, and claims nothing; one that tells of events owes no loss
 pub record AtRest (layout : Layout) (view : View) (j : Job) : Type 0 where
@@ -58,13 +62,13 @@ idle-end base layout view j fits said = by (jobs.claims j) refl
 told-end : (base : List Made) (layout : Layout) (view : View) (j : Job) {a : Answer} → jobs.FitsFrom base layout view j → jobs.answer j ≡ Some a → jobs.told_of j ≢ [] → view.owed.losses ≡ []
 told-end base layout view (kinds.Instruction i) fits said told = (instruction-ended i fits (mapped _ (instructions.answer i) said).1).paid
 told-end base layout view (kinds.Raise r) fits said told = (raise-ended r fits.1 (mapped _ (raises.answer r) said).1).0.paid
-told-end base layout view (kinds.Scrub s) fits said told = let own = mapped _ (scrubs.answer s) said in (scrub-rests layout view s own.0 (scrub-ended s fits.1 own.1)).paid
+told-end base layout view (kinds.Scrub s) fits said told = let own = mapped _ (scrubs.answer s) said in scrub-paid layout view s own.0 (scrub-ended s fits.1 own.1)
 told-end base layout view _ fits said told = absurd (told refl)
 
 answered-rest : (base : List Made) (layout : Layout) (view : View) (j : Job) (a : Answer) → jobs.FitsFrom base layout view j → jobs.answer j ≡ Some a → AtRest layout view j
 answered-rest base layout view j a fits said = record {
   on_turn = on-turn base layout view j fits;
-  hand_is = empty-handed base layout view j fits said;
+  hand_is = (ends base layout view j fits said).0;
   now = inl (ap is_some said, idle-end base layout view j fits said);
   paid = paid-at-end base layout view j fits said;
   told_paid = told-end base layout view j fits said;
@@ -99,14 +103,14 @@ at-rest base layout view (kinds.Unpoison x) fits is = other-rest base layout vie
 
 -- ---- a course whose own task has just moved
 
-module _ {layout : Layout} {view : View} (c : Course) (none_due : length c.due.frames ≡ length c.due.offlined) where
+module _ (layout : Layout) (view : View) (c : Course) (none_due : length c.due.frames ≡ length c.due.offlined) where
   -- it goes on, or all is done
   pub own-on : (base : List Made) (j : Job) → jobs.FitsFrom base layout view j → (collects c.watching ≡ true → HasPassed j c.noted) → FitsOwn layout view (record c { own = j }) (jobs.answer j)
   own-on base j fits passed = which (jobs.answer j) refl
     where
       which : (o : Option Answer) → jobs.answer j ≡ o → FitsOwn layout view (record c { own = j }) o
       which None is = record { fits = (base, fits); none_due = none_due; passed = passed }
-      which (Some a) is = record { on_turn = on-turn base layout view j fits; hand_is = empty-handed base layout view j fits is; paid = paid-at-end base layout view j fits is; idle = idle-end base layout view j fits is }
+      which (Some a) is = record { on_turn = on-turn base layout view j fits; hand_is = (ends base layout view j fits is).0; paid = paid-at-end base layout view j fits is; idle = idle-end base layout view j fits is }
 
   done : (j : Job) (a : Answer) → jobs.answer j ≡ Some a → IsOnTurn view (jobs.who j) → hand_of view ≡ empty → OrPaid view j → jobs.claims j ≡ None → FitsOwn layout view (record c { own = j }) (jobs.answer j)
   done j a said on hand paid idle = subst (FitsOwn layout view (record c { own = j })) (sym said) (record { on_turn = on; hand_is = hand; paid = paid; idle = idle })

@@ -10,7 +10,6 @@ use Rattle.hwp_cpu_row.specs.hwp_geom.declared.Frame.{Frame}
 use Rattle.hwp_cpu_row.specs.hwp_geom.declared.Layout.{Layout}
 use Rattle.hwp_cpu_row.specs.hwp_geom.declared.Page.{Page}
 use Rattle.hwp_cpu_row.specs.hwp_geom.declared.Who.{Who}
-use Rattle.hwp_cpu_row.specs.hwp_page.declared.At.{At}
 use Rattle.hwp_cpu_row.specs.hwp_page.declared.Entry.{Entry}
 use Rattle.hwp_cpu_row.specs.hwp_page.declared.What.TheVariants as entries
 use Rattle.hwp_cpu_row.specs.hwp_page.History.{BodyValue}
@@ -48,6 +47,7 @@ use Rattle.hwp_cpu_command_laws.specs.hwp_cpu_command.hwp_soft.declared.soft.Sof
 use Rattle.hwp_cpu_command_laws.specs.hwp_cpu_command.hwp_soft.declared.soft.SoftAt.TheVariants as at
 use Rattle.hwp_cpu_command_laws.specs.hwp_cpu_command.hwp_soft.Offline as offline
 use Rattle.hwp_cpu_course.specs.Courses.{is_abandoned}
+use Rattle.hwp_cpu_course.proofs.DueLaws.{each-cons}
 
 -- ---- what the part made
 
@@ -140,7 +140,7 @@ own-test who m is = ap (λ (w : Who). (w.cpu.0 == who.cpu.0) && (w.seq == who.se
 -- entries of the command that are such are no losses
 unlost : (who : Who) (stamp : Stamp) (page : Page) (frame : Option Frame) (place : ℕ) (l : List Entry) → EachMember (λ (e : Entry). e.who ≡ who) l → EachMember IsLeaving (filter (is_by who) (made_from stamp page frame place l)) → EachMember (λ (e : Entry). is_loss e.what ≡ false) l
 unlost who stamp page frame place [] own leaving = λ i e there. absurd (none-some e there)
-unlost who stamp page frame place (e ∷ es) own leaving = first
+unlost who stamp page frame place (e ∷ es) own leaving = each-cons (λ (x : Entry). is_loss x.what ≡ false) e es (ap is_loss (all 0 m refl)) (unlost who stamp page frame (suc place) es (λ i x there. own (suc i) x there) (λ i x there. all (suc i) x there))
   where
     m : Made
     m = record { stamp = stamp; page = page; place = place; entry = e; frame = frame }
@@ -150,13 +150,6 @@ unlost who stamp page frame place (e ∷ es) own leaving = first
 
     all : EachMember IsLeaving (m ∷ rest)
     all = subst (λ (b : Bool). EachMember IsLeaving (cond b (m ∷ rest) rest)) (own-test who m (own 0 e refl)) leaving
-
-    others : EachMember (λ (x : Entry). is_loss x.what ≡ false) es
-    others = unlost who stamp page frame (suc place) es (λ i x there. own (suc i) x there) (λ i x there. all (suc i) x there)
-
-    first : EachMember (λ (x : Entry). is_loss x.what ≡ false) (e ∷ es)
-    first zero x there = subst (λ (y : Entry). is_loss y.what ≡ false) (same_Some e x there) (ap is_loss (all 0 m refl))
-    first (suc i) x there = others i x there
 
 -- what a body's way home lists is among them
 listed-left : {base : List Made} {old new : View} {who : Who} {stamp : Stamp} {body : InHand} {log : Log} → HasLeft base old who → HasLeft base new who → Lists old new stamp body log
@@ -221,6 +214,14 @@ by-none layout who (steps.Kill process page body) found content v none = absurd 
 by-none layout who (steps.Lose file body) found content v none = absurd none
 by-none layout who _ found content v none = refl
 
+-- what is listed of a body that stays in hand
+listed-pays : {base : List Made} (layout : Layout) {who : Who} {old new : View} (body : InHand) (log : Log) → HasLeft base old who → HasLeft base new who → body_of log.page old ≡ Some body → EachMember (λ (e : Entry). e.who ≡ who) (more_of body log) → Lists old new (stamp_of who old) body log
+    → (listed layout who log (noted who old)).owed.losses ≡ old.owed.losses
+listed-pays layout {who} {old} body log before after there own lists =
+    ap (λ (b : Option InHand). (listed_of layout who log b (noted who old)).owed.losses) there
+    ∙ ap (λ (l : List FileNo). old.owed.losses ++ l) (lossless layout log.page (more_of body log) (unlost who _ _ _ _ (more_of body log) own (listed-left before after lists)))
+    ∙ append-nil old.owed.losses
+
 module _ {base : List Made} {layout : Layout} {who : Who} {old new : View} {found : ℕ} {got : Option BodyValue} (before : HasLeft base old who) (after : HasLeft base new who) where
   frame-pays : (frame : Frame) (body : Option BodyValue) → CanMake layout who (steps.UnlockFrame frame) body old → Steps layout who (steps.UnlockFrame frame) (logs body) old new found got → new.owed.losses ≡ old.owed.losses
   frame-pays frame None can made = losses-same tt made
@@ -230,22 +231,15 @@ module _ {base : List Made} {layout : Layout} {who : Who} {old new : View} {foun
   page-pays page None can made = losses-same tt made
   page-pays page (Some b) can made = page-owes can.asks.kind.put.body_is (unlost who _ _ _ _ (more_of can.asks.kind.put.body (log_of b)) can.asks.kind.put.extends.own (listed-left before after (page-lists can.asks.kind.put.body_is made))) made
 
-  -- what is listed of a body that stays in hand
-  listed-pays : (body : InHand) (log : Log) → body_of log.page old ≡ Some body → EachMember (λ (e : Entry). e.who ≡ who) (more_of body log) → Lists old new (stamp_of who old) body log → (listed layout who log (noted who old)).owed.losses ≡ old.owed.losses
-  listed-pays body log there own lists =
-      ap (λ (b : Option InHand). (listed_of layout who log b (noted who old)).owed.losses) there
-      ∙ ap (λ (l : List FileNo). old.owed.losses ++ l) (lossless layout log.page (more_of body log) (unlost who _ _ _ _ (more_of body log) own (listed-left before after lists)))
-      ∙ append-nil old.owed.losses
-
   by-step : (step : Step) (body : Option BodyValue) → CanMake layout who step body old → Steps layout who step (logs body) old new found got → old.owed.losses ≡ [] → new.owed.losses ≡ []
   by-step (steps.UnlockFrame frame) body can made paid = frame-pays frame body can made ∙ paid
   by-step (steps.UnlockPage page) body can made paid = page-pays page body can made ∙ paid
   by-step (steps.Kill process page body) put can made paid =
-      let kept = listed-pays can.asks.kind.page_held.body (log_of body.value) can.asks.kind.page_held.body_is can.asks.kind.extends.own (kill-lists can.asks.kind.page_held.body_is made) ∙ paid in
+      let kept = listed-pays layout can.asks.kind.page_held.body (log_of body.value) before after can.asks.kind.page_held.body_is can.asks.kind.extends.own (kill-lists can.asks.kind.page_held.body_is made) ∙ paid in
       ap (λ (v : View). v.owed.losses) made.told.next ∙ either (found == 0) _ _ [] kept kept
   by-step (steps.Lose file body) put can made paid =
       ap (λ (v : View). v.owed.losses) made.told.next
-      ∙ ap (without (λ (n : FileNo). n.0 == file.0)) (listed-pays can.asks.kind.page_held.body (log_of body.value) can.asks.kind.page_held.body_is can.asks.kind.extends.own (loss-lists can.asks.kind.page_held.body_is made) ∙ paid)
+      ∙ ap (without (λ (n : FileNo). n.0 == file.0)) (listed-pays layout can.asks.kind.page_held.body (log_of body.value) before after can.asks.kind.page_held.body_is can.asks.kind.extends.own (loss-lists can.asks.kind.page_held.body_is made) ∙ paid)
   by-step step body can made paid = ap (λ (v : View). v.owed.losses) made.told.next ∙ by-none layout who step found (content_of layout who step (logs body) found got) (noted who old) tt ∙ paid
 
 -- THE COMMAND OWES NO LOSS MORE

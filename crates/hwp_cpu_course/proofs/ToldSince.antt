@@ -4,7 +4,6 @@ use Rattle.std.proofs.Common.{◌≡◌, ◌⊎◌, inl, inr, ℕ, zero, suc, �
 use Rattle.std.proofs.lemmas.Bool.{both_ways}
 use Rattle.std.proofs.lemmas.List.{length-append, length-drop}
 use Rattle.hwp_cpu_row.specs.hwp_geom.declared.Layout.{Layout}
-use Rattle.hwp_cpu_row.specs.hwp_geom.Layout.{IsSound}
 use Rattle.hwp_cpu_row.specs.hwp_banks.Events.{bank_count}
 use Rattle.hwp_cpu_row.specs.hwp_page.History.{BodyValue}
 use Rattle.hwp_cpu_row.specs.hwp_core_rule.declared.Made.{Made}
@@ -82,11 +81,11 @@ module _ {base : List Made} {layout : Layout} {old new : View} (i k : Instructio
 none-told : (noted : ℕ) (n : ℕ) → length (drop {A = EventOutcome} noted []) ≤ n
 none-told noted n = let few : length (drop {A = EventOutcome} noted []) ≤ 0 = drop-few noted [] in omega (arith, few)
 
-pub since-few : {base : List Made} {layout : Layout} {old new : View} (j k : Job) (step : Step) (found : ℕ) (got : Option BodyValue) (turn : Turn) → jobs.FitsFrom base layout old j → jobs.FitsFrom base layout new k → jobs.plan j ≡ Some step
+pub since-few : (base : List Made) (layout : Layout) (old new : View) (j k : Job) (step : Step) (found : ℕ) (got : Option BodyValue) (turn : Turn) → jobs.FitsFrom base layout old j → jobs.FitsFrom base layout new k → jobs.plan j ≡ Some step
     → Steps layout (jobs.who j) step (logs (jobs.put j)) old new found got → jobs.Next layout (jobs.bare j) found got k turn → (noted : ℕ) → HasPassed j noted → rests k ≡ true → length (drop noted (jobs.told_of k)) ≤ most k
-since-few {base} {layout} {old} {new} (kinds.Instruction i) k step found got turn fits after planned made next noted passed rest =
+since-few base layout old new (kinds.Instruction i) k step found got turn fits after planned made next noted passed rest =
     subst (λ (x : Job). length (drop noted (jobs.told_of x)) ≤ most x) (sym next.1) (access-since i next.0 step found got turn fits planned made next.2 noted passed.1 (sym (ap rests next.1) ∙ rest))
-since-few (kinds.Raise r) k step found got turn fits after planned made next noted passed rest = subst (λ (x : Job). length (drop noted (jobs.told_of x)) ≤ most x) (sym next.1) (of-raise next.0 (subst (jobs.FitsFrom _ _ _) next.1 after) (sym (ap rests next.1) ∙ rest))
+since-few base layout old new (kinds.Raise r) k step found got turn fits after planned made next noted passed rest = subst (λ (x : Job). length (drop noted (jobs.told_of x)) ≤ most x) (sym next.1) (of-raise next.0 (subst (jobs.FitsFrom _ _ _) next.1 after) (sym (ap rests next.1) ∙ rest))
   where
     of-raise : {base : List Made} {layout : Layout} {view : View} (x : _) → jobs.FitsFrom base layout view (kinds.Raise x) → rests (kinds.Raise x) ≡ true → length (drop noted x.lines.told) ≤ due_room
     of-raise x has is =
@@ -94,7 +93,7 @@ since-few (kinds.Raise r) k step found got turn fits after planned made next not
         let few : length x.lines.told ≤ bank_count = raise-few x (mapped _ (raises.answer x) said.1).0 has.1 (mapped _ (raises.answer x) said.1).1 in
         let less : length (drop noted x.lines.told) ≤ length x.lines.told = drop-few noted x.lines.told in
         omega (arith, few, less)
-since-few (kinds.Scrub s) k step found got turn fits after planned made next noted passed rest = subst (λ (x : Job). length (drop noted (jobs.told_of x)) ≤ most x) (sym next.1) (of-scrub next.0 (subst (jobs.FitsFrom _ _ _) next.1 after) (sym (ap rests next.1) ∙ rest))
+since-few base layout old new (kinds.Scrub s) k step found got turn fits after planned made next noted passed rest = subst (λ (x : Job). length (drop noted (jobs.told_of x)) ≤ most x) (sym next.1) (of-scrub next.0 (subst (jobs.FitsFrom _ _ _) next.1 after) (sym (ap rests next.1) ∙ rest))
   where
     of-scrub : {base : List Made} {layout : Layout} {view : View} (x : _) → jobs.FitsFrom base layout view (kinds.Scrub x) → rests (kinds.Scrub x) ≡ true → length (drop noted x.lines.told) ≤ due_room
     of-scrub {layout = layout} x has is =
@@ -103,12 +102,12 @@ since-few (kinds.Scrub s) k step found got turn fits after planned made next not
         let frames : layout.frames ≤ 4096 = has.1.sound.frames in
         let less : length (drop noted x.lines.told) ≤ length x.lines.told = drop-few noted x.lines.told in
         omega (arith, few, frames, less)
-since-few (kinds.Evict x) k step found got turn fits after planned made next noted passed rest = subst (λ (x : Job). length (drop noted (jobs.told_of x)) ≤ most x) (sym next.1) (none-told noted due_room)
-since-few (kinds.Fsync x) k step found got turn fits after planned made next noted passed rest = subst (λ (x : Job). length (drop noted (jobs.told_of x)) ≤ most x) (sym next.0) (none-told noted due_room)
-since-few (kinds.Prctl x) k step found got turn fits after planned made next noted passed rest = subst (λ (x : Job). length (drop noted (jobs.told_of x)) ≤ most x) (sym next.0) (none-told noted due_room)
-since-few (kinds.Log x) k step found got turn fits after planned made next noted passed rest = subst (λ (x : Job). length (drop noted (jobs.told_of x)) ≤ most x) (sym next.0) (none-told noted due_room)
-since-few (kinds.Spoil x) k step found got turn fits after planned made next noted passed rest = subst (λ (x : Job). length (drop noted (jobs.told_of x)) ≤ most x) (sym next.0) (none-told noted due_room)
-since-few (kinds.Nested x) k step found got turn fits after planned made next noted passed rest = subst (λ (x : Job). length (drop noted (jobs.told_of x)) ≤ most x) (sym next.0) (none-told noted due_room)
-since-few (kinds.Inject x) k step found got turn fits after planned made next noted passed rest = subst (λ (x : Job). length (drop noted (jobs.told_of x)) ≤ most x) (sym next.1) (none-told noted due_room)
-since-few (kinds.Soft x) k step found got turn fits after planned made next noted passed rest = subst (λ (x : Job). length (drop noted (jobs.told_of x)) ≤ most x) (sym next.1) (none-told noted due_room)
-since-few (kinds.Unpoison x) k step found got turn fits after planned made next noted passed rest = subst (λ (x : Job). length (drop noted (jobs.told_of x)) ≤ most x) (sym next.0) (none-told noted due_room)
+since-few base layout old new (kinds.Evict x) k step found got turn fits after planned made next noted passed rest = subst (λ (x : Job). length (drop noted (jobs.told_of x)) ≤ most x) (sym next.1) (none-told noted due_room)
+since-few base layout old new (kinds.Fsync x) k step found got turn fits after planned made next noted passed rest = subst (λ (x : Job). length (drop noted (jobs.told_of x)) ≤ most x) (sym next.0) (none-told noted due_room)
+since-few base layout old new (kinds.Prctl x) k step found got turn fits after planned made next noted passed rest = subst (λ (x : Job). length (drop noted (jobs.told_of x)) ≤ most x) (sym next.0) (none-told noted due_room)
+since-few base layout old new (kinds.Log x) k step found got turn fits after planned made next noted passed rest = subst (λ (x : Job). length (drop noted (jobs.told_of x)) ≤ most x) (sym next.0) (none-told noted due_room)
+since-few base layout old new (kinds.Spoil x) k step found got turn fits after planned made next noted passed rest = subst (λ (x : Job). length (drop noted (jobs.told_of x)) ≤ most x) (sym next.0) (none-told noted due_room)
+since-few base layout old new (kinds.Nested x) k step found got turn fits after planned made next noted passed rest = subst (λ (x : Job). length (drop noted (jobs.told_of x)) ≤ most x) (sym next.0) (none-told noted due_room)
+since-few base layout old new (kinds.Inject x) k step found got turn fits after planned made next noted passed rest = subst (λ (x : Job). length (drop noted (jobs.told_of x)) ≤ most x) (sym next.1) (none-told noted due_room)
+since-few base layout old new (kinds.Soft x) k step found got turn fits after planned made next noted passed rest = subst (λ (x : Job). length (drop noted (jobs.told_of x)) ≤ most x) (sym next.1) (none-told noted due_room)
+since-few base layout old new (kinds.Unpoison x) k step found got turn fits after planned made next noted passed rest = subst (λ (x : Job). length (drop noted (jobs.told_of x)) ≤ most x) (sym next.0) (none-told noted due_room)

@@ -1,5 +1,5 @@
 -- The frames that are taken out of use beside a command, and how the collector of corrected errors makes them due.
-use Rattle.std.specs.Prelude.{◌≡◌, ℕ, ◌+◌, ◌-◌, ◌≤◌, nat_lt, List, [], ◌∷◌, ◌++◌, Option, cond, length, map, slice_get}
+use Rattle.std.specs.Prelude.{◌≡◌, ℕ, suc, ◌-◌, ◌≤◌, nat_lt, List, [], ◌∷◌, ◌++◌, Option, cond, length, map, slice_get}
 use Rattle.std.specs.List.{cons_option}
 use Rattle.hwp_cpu_row.specs.hwp_geom.declared.Frame.{Frame}
 use Rattle.hwp_cpu_row.specs.hwp_geom.declared.Layout.{Layout}
@@ -31,7 +31,7 @@ with_offlining d o = record d { offlined = d.offlined ++ o ∷ []; spare = d.spa
 abbrev pub first_check : List EventOutcome → ℕ
 first_check [] = 0
 first_check (t ∷ []) = 1
-first_check (t ∷ next ∷ rest) = cond (nat_lt t.held.bank next.held.bank) (1 + first_check (next ∷ rest)) 1
+first_check (t ∷ next ∷ rest) = cond (nat_lt t.held.bank next.held.bank) (suc (first_check (next ∷ rest))) 1
 
 -- what the events of one machine check note
 abbrev pub notes_of_lines : Layout → List EventOutcome → List Frame
