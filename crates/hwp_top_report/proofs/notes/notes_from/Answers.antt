@@ -20,6 +20,6 @@ pub loop-number-preserved : goal.loop-number-preserved
 loop-number-preserved c =
     notes-next c.args.cpu c.args.rows.now c.loop-number.number c.index-rows-number.result c.loop-number.notes.items c.add_acts.new.notes.items c.add.new.notes.items c.own_note.result c.loop-number-test.true c.index-rows-number.is c.loop-number.invariant
     (c.in_ok-add_acts.ensures
-    ∙ ap (λ (l : List EventOutcome). c.loop-number.notes.items ++ filter_map (act_note (at_number c.args.cpu c.loop-number.number)) (acts l c.as_slice-1.result.now)) c.as_slice.ensures
-    ∙ ap (λ (l : List Offlining). c.loop-number.notes.items ++ filter_map (act_note (at_number c.args.cpu c.loop-number.number)) (acts c.index-rows-number.result.told l)) c.as_slice-1.ensures)
+    ∙ ap (λ (l : List EventOutcome). c.loop-number.notes.items ++ filter_map (act_note (at_number c.args.cpu c.loop-number.number)) (acts l c.as_slice-in-loop-number.result.now)) c.as_slice.ensures
+    ∙ ap (λ (l : List Offlining). c.loop-number.notes.items ++ filter_map (act_note (at_number c.args.cpu c.loop-number.number)) (acts c.index-rows-number.result.told l)) c.as_slice-in-loop-number.ensures)
     c.own_note.ensures c.in_ok-add.ensures
