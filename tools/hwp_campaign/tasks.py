@@ -35,8 +35,15 @@ def called(program: str, words: List[str], text: str, seconds: float) -> Called:
     return Called(ran.returncode, ran.stdout.decode("utf-8", "replace"), ran.stderr.decode("utf-8", "replace"))
 
 
+def without_places(answer: List[str]) -> str:
+    """An answer, or what came of a frame that was taken out of use, without pages and entries."""
+    places = 2 if answer[0] == "done" and len(answer) == 3 else PLACES.get(answer[0], 0)
+    return " ".join(answer[: len(answer) - places])
+
+
 def outcome(report: str) -> Outcome:
-    """What a report says of the stop, and the answer to each command, by its processor and its number, without pages and entries."""
+    """What a report says of the stop, the answer to each command, by its processor and its number, and what came of each frame that was
+    taken out of use beside it, without pages and entries."""
     found, cpu = [], ""
     for line in report.splitlines():
         words = line.split()
@@ -44,10 +51,10 @@ def outcome(report: str) -> Outcome:
             found.append(("stop", " ".join(words[1:])))
         elif words[0] == "cpu":
             cpu = words[1]
-        elif cpu and words[0].isdigit() and words[1] not in ("event", "offlined", "guest"):
-            answer = words[1:]
-            places = 2 if answer[0] == "done" and len(answer) == 3 else PLACES.get(answer[0], 0)
-            found.append((f"{cpu} {words[0]}", " ".join(answer[: len(answer) - places])))
+        elif cpu and words[0].isdigit() and words[1] == "offlined":
+            found.append((f"{cpu} {words[0]} offlined {words[2]}", without_places(words[3:])))
+        elif cpu and words[0].isdigit() and words[1] not in ("event", "guest"):
+            found.append((f"{cpu} {words[0]}", without_places(words[1:])))
     return tuple(found)
 
 
