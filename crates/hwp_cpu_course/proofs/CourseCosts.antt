@@ -45,9 +45,10 @@ use Rattle.hwp_cpu_command_laws.proofs.of_hwp_cpu_command.of_hwp_soft.SoftRank.{
 use Rattle.hwp_cpu_command_laws.specs.hwp_cpu_command.Answers.{soft_answer}
 use Rattle.hwp_cpu_course.specs.declared.course.Course.{Course}
 use Rattle.hwp_cpu_course.specs.Dues.{DueValue, HasCollected, next_due}
-use Rattle.hwp_cpu_course.specs.Courses.{AfterCollectingBy, AfterOwn, AfterOwnBy, AfterOwnIf, AfterRestBy, AfterSoft, Fits, FitsOf, FitsOwn, HasPassed, IsGoing, NextOf, RestsNow, bare_of, cost, cost_of, due_room, flat, gives_up, going_on, has_more, own_cost, part_of, passed, rests, soft_weight, task as course-task, turn_on, with_result}
+use Rattle.hwp_cpu_course.specs.Courses.{AfterCollectingBy, AfterOwn, AfterOwnBy, AfterOwnIf, AfterRestBy, AfterSoft, Fits, FitsOf, FitsOwn, HasPassed, IsGoing, NextOf, RestsNow, answer, answer_of, bare_of, cost, cost_of, due_room, flat, gives_up, going_on, has_more, own_cost, part_of, passed, rests, soft_weight, task as course-task, turn_on, with_result}
 use Rattle.hwp_cpu_course.proofs.CourseLaws.{abandoned-stays, over-stays, told-some}
 use Rattle.hwp_cpu_course.proofs.DueLaws.{notes-few}
+use Rattle.hwp_cpu_course.proofs.PauseOwns.{pause-owns}
 use Rattle.hwp_cpu_course.proofs.RestCosts.{GoesOnFrom, IsIdle, IsOver, flat-stays, given-up-class, given-up-cost, gives-over, goes-from, next-cost, over-cost, own-is, own-most, paused-idle, pays-flat, pays-for}
 use Rattle.hwp_cpu_course.proofs.RestLaws.{at-rest, given-up-none, some-of}
 use Rattle.hwp_cpu_course.proofs.ToldSince.{most, since-few}
@@ -212,6 +213,7 @@ module _ {layout : Layout} {seat : ℕ} {a b : State} (c : Course) (fits : Fits 
   -- on
   record IsSame (d : Course) (turn : Turn) : Type 0 where
     part_is : part_of d.beside d.own ≡ k
+    answer_is : answer_of d.beside d.own ≡ jobs.answer k
     cost_is : cost d w ≡ own_cost k (jobs.plan k) w
     turn_is : turn ≡ t
 
@@ -238,7 +240,7 @@ module _ {layout : Layout} {seat : ℕ} {a b : State} (c : Course) (fits : Fits 
   ways d turn follows = which (collects c.watching) refl follows
     where
       same : (n : ℕ) → d ≡ record e { noted = n } → turn ≡ t → Ways d turn
-      same n is turn_is = inl (record { part_is = ap (λ (x : Course). part_of x.beside x.own) is; cost_is = ap (λ (x : Course). cost x w) is; turn_is = turn_is })
+      same n is turn_is = inl (record { part_is = ap (λ (x : Course). part_of x.beside x.own) is; answer_is = ap (λ (x : Course). answer_of x.beside x.own) is; cost_is = ap (λ (x : Course). cost x w) is; turn_is = turn_is })
 
       by-rest : collects c.watching ≡ true → (r : Bool) → rests k ≡ r → AfterOwnBy layout e r t d turn → Ways d turn
       by-rest on_ false is next = same (passed k c.noted) next.0 next.1
@@ -425,6 +427,7 @@ module _ {layout : Layout} {seat : ℕ} {a b : State} {c d : Course} {turn : Tur
     -- it goes on
     record SoftGoes : Type 0 where
       part_is : part_of d.beside d.own ≡ kinds.Soft m
+      unanswered : answer_of d.beside d.own ≡ None
       cost_is : cost d wb ≡ softs.cost m wb + soft_weight * (length c.due.frames - (length c.due.offlined + 1)) + rest-weight + 1
       turn_is : turn ≡ u
 
@@ -462,7 +465,7 @@ module _ {layout : Layout} {seat : ℕ} {a b : State} {c d : Course} {turn : Tur
         from = goes-from layout (view_of a seat) c.own wb (few-frees layout b made.kept) (x.at.own_waits (abandoned-stays layout s.who s.frame s.at m.at made.found made.got u x.follows.2.1 (over-stays m r said))).rests
 
     soft-ways : (o : Option SoftAnswer) → softs.answer m ≡ o → AfterSoft (record (bare_of c (Some s)) { beside = Some m }) m o u d turn → SoftGoes ⊎ SoftEnds
-    soft-ways None said next = inl (record { part_is = ap (λ (z : Course). part_of z.beside z.own) next.0; cost_is = ap (λ (z : Course). cost z wb) next.0; turn_is = next.1 })
+    soft-ways None said next = inl (record { part_is = ap (λ (z : Course). part_of z.beside z.own) next.0; unanswered = ap (λ (z : Course). answer_of z.beside z.own) next.0; cost_is = ap (λ (z : Course). cost z wb) next.0; turn_is = next.1 })
     soft-ways (Some r) said next =
         let y : Course = with_result (record (bare_of c (Some s)) { beside = Some m }) m.frame r in
         let all = ends-low r said y refl (next_due y.due) refl in
@@ -548,6 +551,20 @@ module _ {layout : Layout} {seat : ℕ} {a b : State} {c d : Course} {turn : Tur
   pays-by None x = pays-own x
   pays-by (Some s) x = pays-soft s x
 
+  -- a course with its answer claims nothing that is pending
+  owns-over : (o : Option Soft) → Turned o → (r : Answer) → answer_of d.beside d.own ≡ Some r → (frame : Frame) (cycle : ℕ) → Pending wb frame cycle → Pending wa frame cycle × (jobs.claims (part_of o c.own) ≢ Some (frame, cycle))
+  owns-over None x r said frame cycle pending = by (own-ways x)
+    where
+      by : Ways c made.fits (going x) (own-made x) d turn → Pending wa frame cycle × (jobs.claims c.own ≢ Some (frame, cycle))
+      by (inl same) = jobbing.owns-answered layout seat a b c.own x.follows.0 x.follows.1 frame cycle (own-made x) (sym same.answer_is ∙ said) pending
+      by (inr (inl paused)) = pause-owns frame cycle paused.pauses pending c.own (own-made x)
+      by (inr (inr ended)) = jobbing.owns-answered layout seat a b c.own x.follows.0 x.follows.1 frame cycle (own-made x) ended.said pending
+  owns-over (Some s) x r said frame cycle pending = by (soft-by s x)
+    where
+      by : SoftGoes s x ⊎ SoftEnds s x → Pending wa frame cycle × (softs.claims s ≢ Some (frame, cycle))
+      by (inl goes) = absurd (none-some r (sym goes.unanswered ∙ said))
+      by (inr ends) = jobbing.owns-answered layout seat a b (kinds.Soft s) (kinds.Soft x.follows.0) x.follows.1 frame cycle (soft-made s x) (ap (λ (o : Option SoftAnswer). option_map soft_answer o) ends.said) pending
+
   fell : Falls c.beside → CostFalls course-task layout a b c d ⊎ HasFailed course-task layout a b c d
   fell (inl less) = inl less
   fell (inr fails) = inr (record { fewer = fails.0; bounded = fails.1 })
@@ -607,41 +624,6 @@ ranked = record {
 pub pays : PaysRevival course-task
 pays layout seat a b c d turn made = pays-by made c.beside (turned made)
 
--- ---- what the class tells
-
--- a processor with an empty hand has neither lock
-no-frame : (view : View) → hand_of view ≡ empty → HasFrame view → ⊥
-no-frame view is (inl locks) = locks (ap (λ h. h.locks) is)
-no-frame view is (inr (inl hands)) = hands (ap (λ h. h.hands) is)
-no-frame view is (inr (inr reserved)) = reserved (ap (λ h. h.reserved) is)
-
-no-page : (view : View) → hand_of view ≡ empty → HasPage view → ⊥
-no-page view is pages = pages (ap (λ h. h.pages) is)
-
--- what runs fits, or all is done
-runs : (layout : Layout) (view : View) (c : Course) → Fits layout view c → jobs.Fits layout view (part_of c.beside c.own) ⊎ ((hand_of view ≡ empty) × (jobs.claims (part_of c.beside c.own) ≡ None))
-runs layout view c fits = which c.beside fits.at
-  where
-    own : (o : Option Answer) → FitsOwn layout view c o → jobs.Fits layout view c.own ⊎ ((hand_of view ≡ empty) × (jobs.claims c.own ≡ None))
-    own None going = inl going.fits
-    own (Some r) done = inr (done.hand_is, done.idle)
-
-    which : (o : Option Soft) → FitsOf layout view c o → jobs.Fits layout view (part_of o c.own) ⊎ ((hand_of view ≡ empty) × (jobs.claims (part_of o c.own) ≡ None))
-    which None at = own (jobs.answer c.own) at
-    which (Some s) at = inl at.soft
-
-pub tells : TellsClass course-task
-tells = record {
-  frame = λ layout view c fits has. elim (runs layout view c fits) [
-    | inl part ↦ jobbing.tells.frame layout view (part_of c.beside c.own) part has
-    | inr done ↦ absurd (no-frame view done.0 has)
-  ];
-  page = λ layout view c fits has. elim (runs layout view c fits) [
-    | inl part ↦ jobbing.tells.page layout view (part_of c.beside c.own) part has
-    | inr done ↦ absurd (no-page view done.0 has)
-  ];
-  claim = λ layout view c frame cycle fits is. elim (runs layout view c fits) [
-    | inl part ↦ jobbing.tells.claim layout view (part_of c.beside c.own) frame cycle part is
-    | inr done ↦ absurd (none-some (frame, cycle) (sym done.1 ∙ is))
-  ];
-}
+pub owns-answered : (layout : Layout) (seat : ℕ) (a b : State) (c d : Course) (turn : Turn) (frame : Frame) (cycle : ℕ) {r : Answer} → Made course-task layout seat a b c d turn → answer d ≡ Some r → Pending (words_at layout b) frame cycle
+    → Pending (words_at layout a) frame cycle × (jobs.claims (part_of c.beside c.own) ≢ Some (frame, cycle))
+owns-answered layout seat a b c d turn frame cycle {r} made said pending = owns-over made c.beside (turned made) r said frame cycle pending

@@ -13,7 +13,9 @@ use Rattle.hwp_cpu_row.specs.hwp_core_rule.declared.View.{View}
 use Rattle.hwp_cpu_row.specs.hwp_core_task.declared.Turn.{Turn}
 use Rattle.hwp_cpu_row.specs.hwp_core_task.Calls.{CanMake, IsOnTurn, Steps, logs}
 use Rattle.hwp_cpu_row.specs.hwp_core_task.Hands.{empty, hand_of}
+use Rattle.hwp_cpu_row.specs.hwp_core_task.Classes.{TellsClass}
 use Rattle.hwp_cpu_row.specs.hwp_core_task.Known.{deeds}
+use Rattle.hwp_cpu_row.specs.hwp_core_task.Ranks.{HasFrame, HasPage}
 use Rattle.hwp_cpu_row.specs.hwp_core_task.Turns.{IsTask}
 use Rattle.hwp_cpu_row.proofs.of_hwp_core_rule.Lists.{same-number}
 use Rattle.hwp_cpu_row.specs.hwp_cpu_check.declared.EventOutcome.{EventOutcome}
@@ -319,14 +321,14 @@ module _ {layout : Layout} {old new : View} (c : Course) (fits : Fits layout old
         up = given-up-none k told
 
     -- the collector got what was told
-    collected : rests k ≡ true → has_more layout e ≡ true → (passed-it : HasPassed c.own c.noted) → (o : Option Watching) → IsOfMachine layout o → (x : Course) → AfterCollectingBy layout e o x → Rested layout new x
-    collected rest more passed-it None of x has = absurd has
-    collected rest more passed-it (Some w) of x has = subst (Rested layout new) (sym has.3) (record {
+    collected : rests k ≡ true → has_more layout e ≡ true → (passed-it : HasPassed c.own c.noted) → (o : Option Watching) → collects o ≡ true → IsOfMachine layout o → (x : Course) → AfterCollectingBy layout e o x → Rested layout new x
+    collected rest more passed-it None on_ of x has = absurd has
+    collected rest more passed-it (Some w) on_ of x has = subst (Rested layout new) (sym has.3) (record {
       frames_are = fits.frames_are;
-      collector = (taken.4.many ∙ of.0, (of.1 ++ map Note (told_notes layout since), (taken.4.stands of.1 of.2).0));
+      collector = (taken.4.many ∙ of.0, λ still. (was.0 ++ map Note (told_notes layout since), (taken.4.stands was.0 was.1).0));
       noted = refl;
       order = subst (λ (v : DueValue). length v.offlined ≤ length v.frames) (sym taken.2) ordered;
-      for_pages = subst (λ (v : DueValue). ForPages layout v.frames) (sym taken.2) (pages-both layout c.due.frames taken.0 fits.for_pages (due-for-pages layout since of.1 of.2 taken.4));
+      for_pages = subst (λ (v : DueValue). ForPages layout v.frames) (sym taken.2) (pages-both layout c.due.frames taken.0 fits.for_pages (due-for-pages layout since was.0 was.1 taken.4));
       few = subst (λ (v : DueValue). length v.frames ≤ length v.offlined + due_room) (sym taken.2) few;
       room = subst (λ (v : DueValue). length v.frames ≤ length v.offlined + v.spare) (sym taken.2) room;
       on_turn = own.on_turn;
@@ -338,6 +340,9 @@ module _ {layout : Layout} {old new : View} (c : Course) (fits : Fits layout old
       where
         own : AtRest layout new k
         own = at-rest going.fits.0 layout new k fit rest
+
+        was : (events : List CecEvent) × StandsFor events w.collector
+        was = of.1 on_
 
         since : List EventOutcome
         since = drop c.noted (jobs.told_of k)
@@ -400,7 +405,7 @@ module _ {layout : Layout} {old new : View} (c : Course) (fits : Fits layout old
         by-more : collects c.watching ≡ true → rests k ≡ true → (b : Bool) → has_more layout e ≡ b → (u : Turn) → AfterRestBy layout e b after u → Fits layout new after × ((jobs.who after.own).cpu ≡ (jobs.who c.own).cpu)
         by-more on_ rest false is u goes-so = behind-rest e u (rested rest (all-told is)) refl goes-so
         by-more on_ rest true is u (inl refuses) = to (record e { own = jobs.give_up k }) refuses.0 (refused rest is going.passed) (ap (λ (w : Who). w.cpu) (give-up-who k))
-        by-more on_ rest true is u (inr (x, has, goes-so)) = behind-rest x u (collected rest is (going.passed on_) c.watching fits.collector x has) (collected-own c.watching x has) goes-so
+        by-more on_ rest true is u (inr (x, has, goes-so)) = behind-rest x u (collected rest is (going.passed on_) c.watching on_ fits.collector x has) (collected-own c.watching x has) goes-so
 
         by-rest : collects c.watching ≡ true → (b : Bool) → rests k ≡ b → AfterOwnBy layout e b t after turn → Fits layout new after × ((jobs.who after.own).cpu ≡ (jobs.who c.own).cpu)
         by-rest on_ false is next-so = to (record e { noted = passed k c.noted }) next-so.0 (on (passed k c.noted) (passed-within k c.noted grown) (λ on_. passes-on layout c.own k found got t c.noted next (going.passed on_))) refl
@@ -552,4 +557,43 @@ pub lawful : IsTask course-task
 lawful = record {
   can = can;
   stays = λ layout old new c step found got fits is made. stays-by layout old new c step found got fits c.beside fits.at is made;
+}
+
+-- ---- what the class tells
+
+-- a processor with an empty hand has neither lock
+no-frame : (view : View) → hand_of view ≡ empty → HasFrame view → ⊥
+no-frame view is (inl locks) = locks (ap (λ h. h.locks) is)
+no-frame view is (inr (inl hands)) = hands (ap (λ h. h.hands) is)
+no-frame view is (inr (inr reserved)) = reserved (ap (λ h. h.reserved) is)
+
+no-page : (view : View) → hand_of view ≡ empty → HasPage view → ⊥
+no-page view is pages = pages (ap (λ h. h.pages) is)
+
+-- what runs fits, or all is done
+runs : (layout : Layout) (view : View) (c : Course) → Fits layout view c → jobs.Fits layout view (part_of c.beside c.own) ⊎ ((hand_of view ≡ empty) × (jobs.claims (part_of c.beside c.own) ≡ None))
+runs layout view c fits = which c.beside fits.at
+  where
+    own : (o : Option Answer) → FitsOwn layout view c o → jobs.Fits layout view c.own ⊎ ((hand_of view ≡ empty) × (jobs.claims c.own ≡ None))
+    own None going = inl going.fits
+    own (Some r) done = inr (done.hand_is, done.idle)
+
+    which : (o : Option Soft) → FitsOf layout view c o → jobs.Fits layout view (part_of o c.own) ⊎ ((hand_of view ≡ empty) × (jobs.claims (part_of o c.own) ≡ None))
+    which None at = own (jobs.answer c.own) at
+    which (Some s) at = inl at.soft
+
+pub tells : TellsClass course-task
+tells = record {
+  frame = λ layout view c fits has. elim (runs layout view c fits) [
+    | inl part ↦ jobbing.tells.frame layout view (part_of c.beside c.own) part has
+    | inr done ↦ absurd (no-frame view done.0 has)
+  ];
+  page = λ layout view c fits has. elim (runs layout view c fits) [
+    | inl part ↦ jobbing.tells.page layout view (part_of c.beside c.own) part has
+    | inr done ↦ absurd (no-page view done.0 has)
+  ];
+  claim = λ layout view c frame cycle fits is. elim (runs layout view c fits) [
+    | inl part ↦ jobbing.tells.claim layout view (part_of c.beside c.own) frame cycle part is
+    | inr done ↦ absurd (none-some (frame, cycle) (sym done.1 ∙ is))
+  ];
 }

@@ -259,10 +259,10 @@ cost c words = cost_of c c.beside words
 
 -- ---- what is held and known
 
--- the collector is for the machine's frames, and stands for what it was told
+-- the collector is for the machine's frames, and where it collects it stands for what it was told
 abbrev pub IsOfMachine : Layout → Option Watching → Type 0
 IsOfMachine layout None = Unit {0}
-IsOfMachine layout (Some w) = (length w.collector.counts ≡ layout.frames) × ((events : List CecEvent) × StandsFor events w.collector)
+IsOfMachine layout (Some w) = (length w.collector.counts ≡ layout.frames) × (w.on ≡ true → (events : List CecEvent) × StandsFor events w.collector)
 
 -- the collector has got or passed over all that an access told that goes on, if memory hasn't run out for that
 abbrev pub HasPassed : Job → ℕ → Type 0

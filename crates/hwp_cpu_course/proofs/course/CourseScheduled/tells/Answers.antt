@@ -1,5 +1,6 @@
 use Rattle.hwp_cpu_course.proofs.course.CourseScheduled.tells.Goals as goal
-use Rattle.hwp_cpu_course.proofs.CourseCosts.{pays, tells}
+use Rattle.hwp_cpu_course.proofs.CourseCosts.{pays}
+use Rattle.hwp_cpu_course.proofs.CourseLaws.{tells}
 
 pub returns-clause-class : goal.returns-clause-class
 returns-clause-class c = tells
