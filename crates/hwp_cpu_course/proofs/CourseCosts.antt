@@ -22,6 +22,7 @@ use Rattle.hwp_cpu_row.specs.hwp_core_task.Classes.{TellsClass}
 use Rattle.hwp_cpu_row.specs.hwp_core_task.Hands.{empty, hand_of}
 use Rattle.hwp_cpu_row.specs.hwp_core_task.Ranks.{CostFalls, HasFailed, HasFrame, HasPage, IsRanked, Made, OtherHand, PaysRevival, Pending, Quiet, command_weight, failure_weight, failures_left, free_room, is_refused, is_waits, words_at}
 use Rattle.hwp_cpu_row.proofs.of_hwp_core_task.StepRanks.{steps-on}
+use Rattle.hwp_cpu_row.specs.hwp_cpu_check.declared.EventOutcome.{EventOutcome}
 use Rattle.hwp_cpu_row.specs.declared.Watching.{Watching}
 use Rattle.hwp_cpu_row.specs.Acts.{told_notes}
 use Rattle.hwp_cpu_row.specs.Locals.{collects}
@@ -96,7 +97,7 @@ module _ {layout : Layout} {seat : ℕ} {a b : State} (c : Course) (fits : Fits 
             let some = some-of (instructions.pause i) is in
             let costs : instruction_costs.cost i w ≡ instruction_costs.paused_cost = ap (λ (x : InstructionAt). instruction_costs.cost_at i.banks x w) (at-pause i.at some.1) in
             let paused : cond (is_some (instructions.pause i)) (anew_after_wait + 3) 0 ≡ anew_after_wait + 3 = ap (λ (b : Bool). cond b (anew_after_wait + 3) 0) is in
-            (omega (arith, costs, paused), λ off. absurd (both_ways true (sym off ∙ is) refl))
+            (omega (arith, costs, paused), λ off. absurd (both_ways true (sym is ∙ off) refl))
         by (kinds.Evict x) is = (omega arith, λ off. is)
         by (kinds.Fsync x) is = (omega arith, λ off. is)
         by (kinds.Prctl x) is = (omega arith, λ off. is)

@@ -43,7 +43,9 @@ use Rattle.hwp_cpu_command_laws.specs.hwp_cpu_command.hwp_soft.Offline as offlin
 use Rattle.hwp_cpu_command_laws.specs.hwp_cpu_command.hwp_soft.Softs as softs
 use Rattle.hwp_cpu_course.specs.declared.course.Course.{Course}
 use Rattle.hwp_cpu_course.specs.Dues.{DueValue, HasCollected, next_due}
-use Rattle.hwp_cpu_course.specs.Courses.{AfterCollectingBy, AfterOwn, AfterOwnBy, AfterOwnIf, AfterRestBy, AfterSoft, Covers, Fits, FitsOf, FitsOwn, HasPassed, IsAtPause, IsGoing, IsGoingOn, IsOfMachine, IsTakingOut, IsWaiting, Next, NextOf, RestsNow, ShowsOf, bare, bare_of, due_room, going_on, has_more, is_abandoned, part_of, passed, rests, task as course-task, with_result}
+use Rattle.hwp_cpu_row.specs.hwp_cec.Ages.{CecEvent, Note}
+use Rattle.hwp_cpu_row.specs.hwp_cec.Counters.{StandsFor}
+use Rattle.hwp_cpu_course.specs.Courses.{gives_up, AfterCollectingBy, AfterOwn, AfterOwnBy, AfterOwnIf, AfterRestBy, AfterSoft, Covers, Fits, FitsOf, FitsOwn, HasPassed, IsAtPause, IsGoing, IsGoingOn, IsOfMachine, IsTakingOut, IsWaiting, Next, NextOf, RestsNow, ShowsOf, bare, bare_of, due_room, going_on, has_more, is_abandoned, part_of, passed, rests, task as course-task, with_result}
 use Rattle.hwp_cpu_course.proofs.DueLaws.{ForPages, due-for-pages, for-pages-within, notes-few, pages-both}
 use Rattle.hwp_cpu_course.proofs.PartBegins.{soft-begins}
 use Rattle.hwp_cpu_course.proofs.RestLaws.{AtRest, OrPaid, at-rest, behind, given-up-none, gives-up-fits, own-on}
@@ -298,7 +300,7 @@ module _ {layout : Layout} {old new : View} (c : Course) (fits : Fits layout old
         same-frames = same-number layout.frames c.frames (sym fits.frames_are)
 
         which : (b : Bool) → nat_lt c.noted (length (jobs.told_of k)) ≡ b → (b && (layout.frames == c.frames)) ≡ false → c.noted ≡ length (jobs.told_of k)
-        which true less no_ = absurd (both_ways true (sym no_ ∙ same-frames) refl)
+        which true less no_ = absurd (both_ways true (sym same-frames ∙ no_) refl)
         which false less no_ = let within = grown in let least : length (jobs.told_of k) ≤ c.noted = ltb-false c.noted (length (jobs.told_of k)) less in omega (arith, least, within)
 
     -- there was no room

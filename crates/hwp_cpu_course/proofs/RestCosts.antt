@@ -203,7 +203,7 @@ pays-for _ w is told = absurd (told refl)
 
 -- and one with its answer for all
 pub pays-flat : (k : Job) → rests k ≡ true → jobs.told_of k ≢ [] → jobs.pauses k ≡ false → soft_weight * most k ≤ flat k
-pays-flat (kinds.Instruction i) is told off = absurd (both_ways true (sym off ∙ is) refl)
+pays-flat (kinds.Instruction i) is told off = absurd (both_ways true (sym is ∙ off) refl)
 pays-flat (kinds.Raise r) is told off = omega arith
 pays-flat (kinds.Scrub s) is told off = omega arith
 pays-flat _ is told off = absurd (told refl)
