@@ -1,5 +1,5 @@
 -- When the command that runs has its answer, its row is right, and the next command may begin.
-use Rattle.hwp_cpu_course.proofs.CourseLaws.{course-begins}
+use Rattle.hwp_cpu.proofs.CourseBegins.{course-begins}
 use Rattle.std.proofs.Common.{◌≡◌, ℕ, ◌+◌, ◌<◌, ◌≤◌, ◌⊎◌, inl, inr, List, [], ◌∷◌, ◌++◌, Option, Some, None, length, slice_get, refl, sym, ap, ◌∙◌, subst, arith, append-nil, true, filter_map}
 use Rattle.std.proofs.lemmas.List.{length-append, append_cancel_left, take_all}
 use Rattle.std.proofs.lemmas.Option.{same_Some, slice_get_within}

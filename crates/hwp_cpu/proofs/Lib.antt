@@ -18,6 +18,7 @@ pub mod GoingOn
 pub mod OwnTurns
 pub mod Watching
 pub mod Within
+pub mod CourseBegins
 pub mod ProcessorLaws
 pub mod ProcessorCosts
 pub mod ProcessorTells

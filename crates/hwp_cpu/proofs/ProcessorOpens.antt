@@ -37,7 +37,7 @@ use Rattle.std.specs.List.{list_any}
 use Rattle.hwp_cpu_course.specs.hwp_cpu_row.declared.Watching.{Watching}
 use Rattle.hwp_cpu_course.specs.hwp_cpu_row.hwp_law_commands.Watched.{Watched}
 use Rattle.hwp_cpu_causes.specs.hwp_law_served.Offlinings.{watched_at}
-use Rattle.hwp_cpu_course.proofs.CourseLaws.{course-begins}
+use Rattle.hwp_cpu.proofs.CourseBegins.{course-begins}
 use Rattle.std.specs.Prelude.{IsSome}
 use Rattle.hwp_cpu_course.specs.hwp_cpu_row.hwp_law_commands.Commands.{is_watch}
 use Rattle.hwp_cpu_course.specs.hwp_cpu_command.hwp_scrub.Visits.{AreBanks}

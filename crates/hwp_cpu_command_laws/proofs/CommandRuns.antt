@@ -243,6 +243,11 @@ runs-on layout by command j after found got turn runs next = let on = goes-on la
 
 -- ---- where it begins
 
+-- an access was told whether its processor collects
+abbrev pub IsTold : Bool → Job → Type 0
+IsTold collects (jobs.Instruction i) = i.collects ≡ collects
+IsTold collects _ = Unit {0}
+
 -- a task at the beginning of its command
 pub record HasBegun (layout : Layout) (by : Who) (command : Command) (banks : Banks) (collects : Bool) (j : Job) : Type 0 where
   pub runs : Runs layout by command j
@@ -250,7 +255,7 @@ pub record HasBegun (layout : Layout) (by : Who) (command : Command) (banks : Ba
   pub start : IsAtStop j
   pub before : banks_before j (left_in j banks) ≡ banks
   pub idle : (class j ≡ 4) × (claims j ≡ None)
-  pub told : collects_now j ≡ true → collects ≡ true
+  pub told : IsTold collects j
   pub within : HasChangeWithin j
 
 pub has-begun : (layout : Layout) (by : Who) (command : Command) (banks : Banks) (collects : Bool) (j : Job) → Begins layout by command banks collects j → HasBegun layout by command banks collects j
@@ -260,28 +265,28 @@ has-begun layout by command banks collects j begun = which command begun
     from c x is has b = subst (HasBegun layout by c banks collects) (sym is) (has (subst (Begins layout by c banks collects) is b))
 
     which : (c : Command) → Begins layout by c banks collects j → HasBegun layout by c banks collects j
-    which (commands.Load thread slot line) b = from (commands.Load thread slot line) _ b.job_is (λ r. record { runs = r; who_is = refl; start = (_, refl, refl, refl); before = refl; idle = (refl, refl); told = λ on. on; within = tt }) b
-    which (commands.Fetch thread slot line) b = from (commands.Fetch thread slot line) _ b.job_is (λ r. record { runs = r; who_is = refl; start = (_, refl, refl, refl); before = refl; idle = (refl, refl); told = λ on. on; within = tt }) b
-    which (commands.KLoad thread slot line) b = from (commands.KLoad thread slot line) _ b.job_is (λ r. record { runs = r; who_is = refl; start = (_, refl, refl, refl); before = refl; idle = (refl, refl); told = λ on. on; within = tt }) b
-    which (commands.Store thread slot line word) b = from (commands.Store thread slot line word) _ b.job_is (λ r. record { runs = r; who_is = refl; start = (_, refl, refl, refl); before = refl; idle = (refl, refl); told = λ on. on; within = tt }) b
-    which (commands.Free slot) b = from (commands.Free slot) _ b.1.job_is (λ r. record { runs = r; who_is = refl; start = refl; before = refl; idle = (refl, refl); told = λ on. absurd (true≢false (sym on)); within = tt }) b
-    which (commands.Drop page) b = from (commands.Drop page) _ b.job_is (λ r. record { runs = r; who_is = refl; start = refl; before = refl; idle = (refl, refl); told = λ on. absurd (true≢false (sym on)); within = tt }) b
-    which (commands.Sync page) b = from (commands.Sync page) _ b.job_is (λ r. record { runs = r; who_is = refl; start = refl; before = refl; idle = (refl, refl); told = λ on. absurd (true≢false (sym on)); within = tt }) b
-    which (commands.Out page) b = from (commands.Out page) _ b.job_is (λ r. record { runs = r; who_is = refl; start = refl; before = refl; idle = (refl, refl); told = λ on. absurd (true≢false (sym on)); within = tt }) b
-    which (commands.Fsync file) b = from (commands.Fsync file) _ b.2 (λ r. record { runs = r; who_is = refl; start = refl; before = refl; idle = (refl, refl); told = λ on. absurd (true≢false (sym on)); within = tt }) b
-    which (commands.Open file) b = from (commands.Open file) _ b.2 (λ r. record { runs = r; who_is = refl; start = refl; before = refl; idle = (refl, refl); told = λ on. absurd (true≢false (sym on)); within = tt }) b
-    which (commands.Prctl thread args) b = from (commands.Prctl thread args) _ b.job_is (λ r. record { runs = r; who_is = refl; start = refl; before = refl; idle = (refl, refl); told = λ on. absurd (true≢false (sym on)); within = tt }) b
-    which (commands.Bad frame line) b = from (commands.Bad frame line) _ b.job_is (λ r. record { runs = r; who_is = refl; start = refl; before = refl; idle = (refl, refl); told = λ on. absurd (true≢false (sym on)); within = tt }) b
-    which (commands.Weak frame line) b = from (commands.Weak frame line) _ b.job_is (λ r. record { runs = r; who_is = refl; start = refl; before = refl; idle = (refl, refl); told = λ on. absurd (true≢false (sym on)); within = tt }) b
-    which (commands.Scrub first last) b = from (commands.Scrub first last) _ b.job_is (λ r. record { runs = r; who_is = refl; start = (refl, refl); before = refl; idle = (refl, refl); told = λ on. absurd (true≢false (sym on)); within = tt }) b
-    which (commands.Log status addr misc) b = from (commands.Log status addr misc) _ b.job_is (λ r. record { runs = r; who_is = refl; start = refl; before = refl; idle = (refl, refl); told = λ on. absurd (true≢false (sym on)); within = r.within }) b
-    which (commands.Watch threshold window) b = from (commands.Watch threshold window) _ b.job_is (λ r. record { runs = r; who_is = refl; start = refl; before = refl; idle = (refl, refl); told = λ on. absurd (true≢false (sym on)); within = r.within }) b
-    which (commands.RaiseUser thread ripv eipv) b = from (commands.RaiseUser thread ripv eipv) _ b.job_is (λ r. record { runs = r; who_is = refl; start = (refl, refl); before = refl; idle = (refl, refl); told = λ on. absurd (true≢false (sym on)); within = tt }) b
-    which (commands.RaiseKernel ripv eipv) b = from (commands.RaiseKernel ripv eipv) _ b.job_is (λ r. record { runs = r; who_is = refl; start = (refl, refl); before = refl; idle = (refl, refl); told = λ on. absurd (true≢false (sym on)); within = tt }) b
-    which commands.RaiseNested b = from commands.RaiseNested _ b (λ r. record { runs = r; who_is = refl; start = refl; before = refl; idle = (refl, refl); told = λ on. absurd (true≢false (sym on)); within = tt }) b
-    which (commands.Inject frame) b = from (commands.Inject frame) _ b.job_is (λ r. record { runs = r; who_is = refl; start = refl; before = refl; idle = (refl, refl); told = λ on. absurd (true≢false (sym on)); within = tt }) b
-    which (commands.Soft frame) b = from (commands.Soft frame) _ b.job_is (λ r. record { runs = r; who_is = refl; start = refl; before = refl; idle = (refl, refl); told = λ on. absurd (true≢false (sym on)); within = tt }) b
-    which (commands.Unpoison frame) b = from (commands.Unpoison frame) _ b.job_is (λ r. record { runs = r; who_is = refl; start = refl; before = refl; idle = (refl, refl); told = λ on. absurd (true≢false (sym on)); within = tt }) b
+    which (commands.Load thread slot line) b = from (commands.Load thread slot line) _ b.job_is (λ r. record { runs = r; who_is = refl; start = (_, refl, refl, refl); before = refl; idle = (refl, refl); told = refl; within = tt }) b
+    which (commands.Fetch thread slot line) b = from (commands.Fetch thread slot line) _ b.job_is (λ r. record { runs = r; who_is = refl; start = (_, refl, refl, refl); before = refl; idle = (refl, refl); told = refl; within = tt }) b
+    which (commands.KLoad thread slot line) b = from (commands.KLoad thread slot line) _ b.job_is (λ r. record { runs = r; who_is = refl; start = (_, refl, refl, refl); before = refl; idle = (refl, refl); told = refl; within = tt }) b
+    which (commands.Store thread slot line word) b = from (commands.Store thread slot line word) _ b.job_is (λ r. record { runs = r; who_is = refl; start = (_, refl, refl, refl); before = refl; idle = (refl, refl); told = refl; within = tt }) b
+    which (commands.Free slot) b = from (commands.Free slot) _ b.1.job_is (λ r. record { runs = r; who_is = refl; start = refl; before = refl; idle = (refl, refl); told = tt; within = tt }) b
+    which (commands.Drop page) b = from (commands.Drop page) _ b.job_is (λ r. record { runs = r; who_is = refl; start = refl; before = refl; idle = (refl, refl); told = tt; within = tt }) b
+    which (commands.Sync page) b = from (commands.Sync page) _ b.job_is (λ r. record { runs = r; who_is = refl; start = refl; before = refl; idle = (refl, refl); told = tt; within = tt }) b
+    which (commands.Out page) b = from (commands.Out page) _ b.job_is (λ r. record { runs = r; who_is = refl; start = refl; before = refl; idle = (refl, refl); told = tt; within = tt }) b
+    which (commands.Fsync file) b = from (commands.Fsync file) _ b.2 (λ r. record { runs = r; who_is = refl; start = refl; before = refl; idle = (refl, refl); told = tt; within = tt }) b
+    which (commands.Open file) b = from (commands.Open file) _ b.2 (λ r. record { runs = r; who_is = refl; start = refl; before = refl; idle = (refl, refl); told = tt; within = tt }) b
+    which (commands.Prctl thread args) b = from (commands.Prctl thread args) _ b.job_is (λ r. record { runs = r; who_is = refl; start = refl; before = refl; idle = (refl, refl); told = tt; within = tt }) b
+    which (commands.Bad frame line) b = from (commands.Bad frame line) _ b.job_is (λ r. record { runs = r; who_is = refl; start = refl; before = refl; idle = (refl, refl); told = tt; within = tt }) b
+    which (commands.Weak frame line) b = from (commands.Weak frame line) _ b.job_is (λ r. record { runs = r; who_is = refl; start = refl; before = refl; idle = (refl, refl); told = tt; within = tt }) b
+    which (commands.Scrub first last) b = from (commands.Scrub first last) _ b.job_is (λ r. record { runs = r; who_is = refl; start = (refl, refl); before = refl; idle = (refl, refl); told = tt; within = tt }) b
+    which (commands.Log status addr misc) b = from (commands.Log status addr misc) _ b.job_is (λ r. record { runs = r; who_is = refl; start = refl; before = refl; idle = (refl, refl); told = tt; within = r.within }) b
+    which (commands.Watch threshold window) b = from (commands.Watch threshold window) _ b.job_is (λ r. record { runs = r; who_is = refl; start = refl; before = refl; idle = (refl, refl); told = tt; within = r.within }) b
+    which (commands.RaiseUser thread ripv eipv) b = from (commands.RaiseUser thread ripv eipv) _ b.job_is (λ r. record { runs = r; who_is = refl; start = (refl, refl); before = refl; idle = (refl, refl); told = tt; within = tt }) b
+    which (commands.RaiseKernel ripv eipv) b = from (commands.RaiseKernel ripv eipv) _ b.job_is (λ r. record { runs = r; who_is = refl; start = (refl, refl); before = refl; idle = (refl, refl); told = tt; within = tt }) b
+    which commands.RaiseNested b = from commands.RaiseNested _ b (λ r. record { runs = r; who_is = refl; start = refl; before = refl; idle = (refl, refl); told = tt; within = tt }) b
+    which (commands.Inject frame) b = from (commands.Inject frame) _ b.job_is (λ r. record { runs = r; who_is = refl; start = refl; before = refl; idle = (refl, refl); told = tt; within = tt }) b
+    which (commands.Soft frame) b = from (commands.Soft frame) _ b.job_is (λ r. record { runs = r; who_is = refl; start = refl; before = refl; idle = (refl, refl); told = tt; within = tt }) b
+    which (commands.Unpoison frame) b = from (commands.Unpoison frame) _ b.job_is (λ r. record { runs = r; who_is = refl; start = refl; before = refl; idle = (refl, refl); told = tt; within = tt }) b
 
 pub begins-runs : (layout : Layout) (who : Who) (command : Command) (banks : Banks) (collects : Bool) (j : Job) → Begins layout who command banks collects j → Runs layout who command j
 begins-runs layout by command banks collects j begun = (has-begun layout by command banks collects j begun).runs

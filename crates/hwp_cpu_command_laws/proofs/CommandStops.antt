@@ -296,7 +296,7 @@ module _ {layout : Layout} {old new : View} {j after : Job} (s : Stepped layout 
   still-halted (inr own) = inr (more-stops (λ (w : Who). Unit {0}) own)
 
 -- the step of a command that has yet to look is the load of the stop word
-look-first : (j : Job) → IsAtStop j → plan j ≡ Some (steps.Load places.Stop)
+pub look-first : (j : Job) → IsAtStop j → plan j ≡ Some (steps.Load places.Stop)
 look-first (jobs.Instruction i) (a, start, look, none) = ap instructions.plan_at start ∙ ap (accesses.plan_at a.request) look
 look-first (jobs.Evict e) start = ap evicts.plan_at start
 look-first (jobs.Fsync f) start = ap (fsyncs.plan_at f.file) start
