@@ -1,11 +1,11 @@
 -- While a frame is taken out of use beside a command, the command makes no entry but that by which its page leaves it, and what is right
 -- of its own task, which has its answer, stays.
-use Rattle.std.proofs.Common.{◌≡◌, ◌⊎◌, inl, inr, ℕ, ◌+◌, ◌==◌, Bool, true, false, cond, List, [], ◌∷◌, ◌++◌, Option, Some, None, filter, is_none, length, append-nil, refl, sym, ap, ◌∙◌, subst, arith}
+use Rattle.std.proofs.Common.{◌≡◌, ◌⊎◌, inl, inr, ℕ, ◌+◌, Bool, true, false, cond, List, [], ◌∷◌, ◌++◌, Option, Some, None, filter, is_none, length, append-nil, refl, sym, ap, ◌∙◌, subst, arith}
 use Rattle.std.specs.Prelude.{MatchBool}
 use Rattle.std.proofs.lemmas.Bool.{both_ways}
 use Rattle.std.proofs.lemmas.List.{length-append}
 use Rattle.std.proofs.lemmas.List.Elements.{filter-append}
-use Rattle.std.proofs.lemmas.Option.{none-some, same_Some}
+use Rattle.std.proofs.lemmas.Option.{none-some}
 use Rattle.hwp_law_served.specs.hwp_geom.declared.Frame.{Frame}
 use Rattle.hwp_law_served.specs.hwp_geom.declared.Layout.{Layout}
 use Rattle.hwp_law_served.specs.hwp_geom.declared.Page.{Page}
@@ -20,9 +20,7 @@ use Rattle.hwp_law_served.specs.hwp_words.Stops.{is_stopped}
 use Rattle.hwp_law_served.specs.hwp_core_rule.declared.Log.{Log}
 use Rattle.hwp_law_served.specs.hwp_core_rule.declared.Made.{Made}
 use Rattle.hwp_law_served.specs.hwp_core_rule.declared.SharedWord.{SharedWord}
-use Rattle.hwp_law_served.specs.hwp_core_rule.declared.SharedWord.TheVariants as places
 use Rattle.hwp_law_served.specs.hwp_core_rule.declared.Step.{Step}
-use Rattle.hwp_law_served.specs.hwp_core_rule.declared.Step.TheVariants as steps
 use Rattle.hwp_law_served.specs.hwp_core_rule.declared.View.{View}
 use Rattle.hwp_law_served.specs.hwp_core_rule.Lists.{EachMember, SomeMember}
 use Rattle.hwp_law_served.specs.hwp_core_rule.Views.{noted}
@@ -65,7 +63,7 @@ use Rattle.hwp_cpu_command.proofs.of_hwp_soft_unpoison.of_hwp_claim_frame.ViewKe
 use Rattle.hwp_cpu_command.proofs.of_hwp_soft.SpareSteps.{free-stays}
 use Rattle.hwp_law_served.specs.hwp_cpu_check.declared.EventOutcome.{EventOutcome}
 use Rattle.hwp_law_served.specs.hwp_cpu_check.Checks.{IsActedOn}
-use Rattle.hwp_cpu_command.proofs.of_hwp_cpu_check.FailureKeeps.{Stay, told-stays}
+use Rattle.hwp_cpu_command.proofs.of_hwp_cpu_check.FailureKeeps.{told-stays}
 use Rattle.hwp_cpu_command.proofs.of_hwp_cpu_access.CommandGrows.{made-more}
 use Rattle.hwp_cpu_command.proofs.of_hwp_cpu_access.Resting.{any-stay}
 use Rattle.hwp_law_served.specs.hwp_scrub.Visits as scrubs
@@ -73,7 +71,6 @@ use Rattle.hwp_cpu_command.proofs.of_hwp_scrub.VisitLaws.{bad-stays, visits-stay
 use Rattle.hwp_law_served.specs.hwp_soft_move.declared.relocate.Relocate.{Relocate}
 use Rattle.hwp_law_served.specs.hwp_soft_move.declared.relocate.RelocateAt.{RelocateAt}
 use Rattle.hwp_law_served.specs.hwp_soft_move.declared.relocate.RelocateAt.TheVariants as relocate_at
-use Rattle.hwp_law_served.specs.hwp_soft_move.declared.relocate.Transfer.{Transfer}
 use Rattle.hwp_law_served.specs.hwp_soft_move.Relocating as relocating
 use Rattle.hwp_law_served.specs.hwp_soft_move.Relocations as relocations
 use Rattle.hwp_law_served.specs.hwp_soft_move.declared.discard.Discard.{Discard}
@@ -98,7 +95,7 @@ use Rattle.hwp_law_served.specs.hwp_cpu_row.declared.Offlining.{Offlining}
 use Rattle.hwp_law_served.specs.Causes.{FoundStopped, IsAnswerCaused, SawProcess, WasRaised}
 use Rattle.hwp_law_served.specs.Offlinings.{IsOfflineServed}
 use Rattle.hwp_law_served.specs.Served.{IsOffliningServed, SawRunning}
-use Rattle.hwp_law_served.specs.Told.{AreToldBy, HasScrubbed, IsCutShort, IsRaiseTold, IsScrubTold, is_raised}
+use Rattle.hwp_law_served.specs.Told.{HasScrubbed, IsCutShort, IsRaiseTold, IsScrubTold, is_raised}
 use Rattle.hwp_law_served.proofs.CommandKeeps.{saw-running-stays, stops-by}
 use Rattle.hwp_cpu_causes.specs.Beside.{AddsBeside, CanCollect, IsOwnServed}
 use Rattle.hwp_cpu_causes.proofs.OnTheWay.{met-beside}

@@ -2,7 +2,7 @@
 use Rattle.std.proofs.Common.{◌≡◌, inl, inr, ℕ, suc, Bool, true, false, cond, List, [], ◌∷◌, ◌++◌, Option, Some, None, filter, map, append-nil, refl, sym, ap, ◌∙◌, subst}
 use Rattle.std.specs.List.{cons_option}
 use Rattle.std.proofs.lemmas.Bool.{both_ways}
-use Rattle.std.proofs.lemmas.List.{append_assoc, map-append}
+use Rattle.std.proofs.lemmas.List.{map-append}
 use Rattle.std.proofs.lemmas.List.Elements.{filter-append}
 use Rattle.std.proofs.lemmas.Option.{none-some}
 use Rattle.hwp_law_served.specs.hwp_geom.declared.Layout.{Layout}
@@ -18,7 +18,6 @@ use Rattle.hwp_law_served.specs.hwp_core_rule.Lists.{EachMember}
 use Rattle.hwp_law_served.proofs.of_hwp_core_rule.Lists.{each-push}
 use Rattle.hwp_law_served.specs.hwp_core_task.Known.{HasMadeBeside, HasMadeNoneBeside, HasOnlyBeside, IsOnTheWay, Precedes, deeds, is_failure}
 use Rattle.hwp_law_served.specs.hwp_report_text.declared.Answer.{Answer}
-use Rattle.hwp_law_served.specs.hwp_report_text.declared.OfflineResult.{OfflineResult}
 use Rattle.hwp_law_served.specs.hwp_law.Pairings.{is_soft}
 use Rattle.hwp_law_served.specs.hwp_claim.declared.FailAnswer.{FailAnswer}
 use Rattle.hwp_law_served.specs.hwp_claim.declared.FailAnswer.TheVariants as fail_answers
@@ -36,7 +35,6 @@ use Rattle.hwp_cpu_command.specs.hwp_fault.declared.AccessKind.{AccessKind}
 use Rattle.hwp_cpu_command.specs.hwp_fault.declared.AccessKind.TheVariants as kinds
 use Rattle.hwp_cpu_command.specs.hwp_fault.declared.Request.{Request}
 use Rattle.hwp_cpu_command.specs.hwp_fault.Accesses.{what_by}
-use Rattle.hwp_law_served.specs.hwp_page.Situations.{outcome_of}
 use Rattle.hwp_cpu_command.specs.hwp_fault.Touches.{refusal_by}
 use Rattle.hwp_cpu_command.specs.hwp_cpu_access.declared.Instruction.{Instruction}
 use Rattle.hwp_cpu_command.specs.hwp_cpu_access.declared.InstructionAnswer.{InstructionAnswer}

@@ -23,11 +23,10 @@ use Rattle.hwp_law_served.specs.hwp_core_rule.declared.View.{View}
 use Rattle.hwp_law_served.specs.hwp_report_text.declared.EventLine.{EventLine}
 use Rattle.hwp_law_served.specs.hwp_report_text.Acts.{is_panic}
 use Rattle.hwp_law_served.specs.hwp_report_text.declared.Acted.TheVariants as acts
-use Rattle.hwp_law_served.specs.hwp_law_commands.Notes.{AreApart, IsRising, ends_machine, frame_of, is_corrected, is_for_pages, noted_frame, notes, notes_of_check}
+use Rattle.hwp_law_served.specs.hwp_law_commands.Notes.{AreApart, IsRising, ends_machine, frame_of, is_for_pages, noted_frame, notes, notes_of_check}
 use Rattle.hwp_law_commands.proofs.NoteLaws.{notes-append, notes-rising}
 use Rattle.hwp_law_served.specs.hwp_severity.declared.Arrival.{Arrival}
 use Rattle.hwp_law_served.specs.hwp_severity.declared.McgBits.{McgBits}
-use Rattle.hwp_law_served.specs.hwp_severity.declared.Severity.{Severity}
 use Rattle.hwp_law_served.specs.hwp_severity.declared.Severity.TheVariants as severities
 use Rattle.hwp_law_served.specs.hwp_severity.Graded.{Row, first_match, graded, rows}
 use Rattle.hwp_law_served.specs.hwp_cpu_check.declared.EventOutcome.{EventOutcome}
@@ -35,7 +34,7 @@ use Rattle.hwp_law_served.specs.hwp_cpu_check.declared.Held.{Held}
 use Rattle.hwp_law_served.specs.hwp_cpu_check.Checks.{AreChecks, Check, IsCheck, left_by, lines_of, restarting, with_own}
 use Rattle.hwp_law_served.specs.hwp_cpu_check.Events.{graded_in, held_in}
 use Rattle.hwp_law_served.specs.hwp_cpu_check.Fits.{AreTold, IsDone, IsTold}
-use Rattle.hwp_law_served.specs.hwp_cpu_check.Told.{at_once, halts, has_kept, is_kept, required_by, severity_at_once}
+use Rattle.hwp_law_served.specs.hwp_cpu_check.Told.{halts, has_kept, is_kept, required_by, severity_at_once}
 use Rattle.hwp_law_served.specs.hwp_cpu_row.Acts.{event_at, told_notes}
 use Rattle.hwp_cpu_command.specs.hwp_cpu_access.declared.Instruction.{Instruction}
 use Rattle.hwp_cpu_command.specs.hwp_cpu_access.Fits.{FitsFrom, IsOfAccess}

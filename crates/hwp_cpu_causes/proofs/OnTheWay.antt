@@ -1,5 +1,5 @@
 -- What an access that pauses has made may stand before the entry that answers it.
-use Rattle.std.proofs.Common.{◌≡◌, inl, inr, Bool, true, false, List, [], Option, Some, None, is_some, refl, sym, ap, ◌∙◌, subst}
+use Rattle.std.proofs.Common.{◌≡◌, inl, inr, true, false, List, [], Option, Some, None, is_some, refl, sym, ap, ◌∙◌, subst}
 use Rattle.std.proofs.lemmas.Bool.{both_ways}
 use Rattle.std.proofs.lemmas.Option.{none-some}
 use Rattle.hwp_law_served.specs.hwp_geom.declared.Layout.{Layout}
@@ -26,7 +26,7 @@ use Rattle.hwp_cpu_command.specs.Jobs as all
 use Rattle.hwp_cpu_command.specs.Jobs.{FitsFrom}
 use Rattle.hwp_cpu_command.specs.Runs.{Runs, anew}
 use Rattle.hwp_cpu_command.proofs.OfKind.{of-evict, of-fsync, of-inject, of-instruction, of-log, of-nested, of-prctl, of-raise, of-scrub, of-soft, of-spoil, of-unpoison}
-use Rattle.hwp_law_served.specs.Causes.{HasOnlyMet, IsBefore, IsMet}
+use Rattle.hwp_law_served.specs.Causes.{HasOnlyMet, IsMet}
 use Rattle.hwp_cpu_causes.specs.Beside.{AddsBeside, ArePrior, ArePriorTo}
 use Rattle.hwp_cpu_causes.proofs.AccessCauses.{only-before, only-met, prior-before}
 
