@@ -25,7 +25,7 @@ use Rattle.std.proofs.lemmas.List.Elements.{filter-append}
 use Rattle.hwp_cpu_course.specs.declared.Course.{Course}
 use Rattle.hwp_cpu_course.proofs.of_hwp_cpu_command_laws.Beside.{answered-unmarked, paused-unowed, paused-unmarked}
 use Rattle.std.proofs.lemmas.Option.{none-some, same_Some}
-use Rattle.std.proofs.Common.{arith, inl, suc, true, ◌++◌, subst, option_map, ◌∷◌, zero, refl, not, Option, ◌+◌, map, cond, ◌≡◌, false, ap, Bool, true≢false, inr, append-nil, filter, Some, slice_get, sym, ℕ, List, length, ◌∙◌, [], nat_lt, ◌⊎◌}
+use Rattle.std.proofs.Common.{None, arith, inl, suc, true, ◌++◌, subst, option_map, ◌∷◌, zero, refl, not, Option, ◌+◌, map, cond, ◌≡◌, false, ap, Bool, true≢false, inr, append-nil, filter, Some, slice_get, sym, ℕ, List, length, ◌∙◌, [], nat_lt, ◌⊎◌}
 use Rattle.hwp_cpu_course.proofs.of_hwp_cpu_row.of_hwp_core_rule.Lists.{each-push}
 use Rattle.hwp_cpu_course.specs.hwp_cpu_row.hwp_geom.declared.Frame.{Frame}
 use Rattle.hwp_cpu.proofs.BesideTurns.{at_rest}
@@ -87,13 +87,13 @@ no_lines = []
 
 -- the line of what came of a frame says what the answer of `soft` does
 said-so : (x : SoftAnswer) → (x ≡ soft_answers.Kernel → ⊥) → offline_answer (offline_result x) ≡ soft_answer x
-said-so soft_answers.Stopped no = refl
-said-so soft_answers.Kernel no = absurd (no refl)
-said-so soft_answers.Already no = refl
-said-so (soft_answers.HasBad mask) no = refl
-said-so soft_answers.NoFrame no = refl
-said-so (soft_answers.TakenFree cycle) no = refl
-said-so (soft_answers.Moved to at cycle) no = refl
+said-so soft_answers.Stopped foreign = refl
+said-so soft_answers.Kernel foreign = absurd (foreign refl)
+said-so soft_answers.Already foreign = refl
+said-so (soft_answers.HasBad mask) foreign = refl
+said-so soft_answers.NoFrame foreign = refl
+said-so (soft_answers.TakenFree cycle) foreign = refl
+said-so (soft_answers.Moved to at cycle) foreign = refl
 
 -- a command where it rests: what it has under way, and that it has told of some event where a frame is due
 rests-still : (layout : Layout) (view : View) (cpu : Cpu) (list : List Command) (rows : List Row) (local : Local) (command : Command) (j : Job) → Rests layout view cpu list rows local command j → (owed_now j ≡ 0) × (marked_beyond j ≡ [])

@@ -133,24 +133,24 @@ own-notes base layout old new watching (kinds.Nested n) k noted fits made on tol
 own-notes base layout old new watching (kinds.Unpoison u) k noted fits made on told = from-first layout (told_of k) noted told
 
 -- and of an access that doesn't pause, what the collector got
-pub own-unnoted : (base : List Made) (layout : Layout) (old new : View) (watching : Option Watching) (j k : Job) (noted : ℕ) → jobs.FitsFrom base layout old j → Stepped layout old new j k → collects watching ≡ true → HasPassed j noted → is_access k ≡ true → jobs.pauses k ≡ false
+pub own-unnoted : (base : List Made) (layout : Layout) (old new : View) (watching : Option Watching) (j k : Job) (noted : ℕ) → jobs.FitsFrom base layout old j → Stepped layout old new j k → collects watching ≡ true → HasPassed j noted → HasToldAll watching j noted → is_access k ≡ true → jobs.pauses k ≡ false
     → told_notes layout (told_of k) ≡ told_notes layout (take noted (told_of k))
-own-unnoted base layout old new watching (kinds.Instruction i) k noted fits made on past is still =
-    access-unnoted layout old new i k fits made past.0 still ∙ ap (told_notes layout) (sym (ap (take noted) grown.1 ∙ taken-told i.lines.told grown.0 noted past.1))
+own-unnoted base layout old new watching (kinds.Instruction i) k noted fits made on past told is still =
+    access-unnoted layout old new i k fits made past.0 still ∙ ap (told_notes layout) (sym (ap (take noted) grown.1 ∙ taken-told i.lines.told grown.0 noted told))
   where
     grown : (more : List EventOutcome) × (told_of k ≡ i.lines.told ++ more)
     grown = told-longer layout (kinds.Instruction i) k made.found made.got made.turn made.follows
-own-unnoted base layout old new watching (kinds.Raise r) k noted fits made on past is still = absurd (true≢false (sym is ∙ ap is_access made.follows.1))
-own-unnoted base layout old new watching (kinds.Scrub s) k noted fits made on past is still = absurd (true≢false (sym is ∙ ap is_access made.follows.1))
-own-unnoted base layout old new watching (kinds.Evict e) k noted fits made on past is still = absurd (true≢false (sym is ∙ ap is_access made.follows.1))
-own-unnoted base layout old new watching (kinds.Inject i) k noted fits made on past is still = absurd (true≢false (sym is ∙ ap is_access made.follows.1))
-own-unnoted base layout old new watching (kinds.Soft s) k noted fits made on past is still = absurd (true≢false (sym is ∙ ap is_access made.follows.1))
-own-unnoted base layout old new watching (kinds.Fsync f) k noted fits made on past is still = absurd (true≢false (sym is ∙ ap is_access made.follows.0))
-own-unnoted base layout old new watching (kinds.Prctl p) k noted fits made on past is still = absurd (true≢false (sym is ∙ ap is_access made.follows.0))
-own-unnoted base layout old new watching (kinds.Log l) k noted fits made on past is still = absurd (true≢false (sym is ∙ ap is_access made.follows.0))
-own-unnoted base layout old new watching (kinds.Spoil s) k noted fits made on past is still = absurd (true≢false (sym is ∙ ap is_access made.follows.0))
-own-unnoted base layout old new watching (kinds.Nested n) k noted fits made on past is still = absurd (true≢false (sym is ∙ ap is_access made.follows.0))
-own-unnoted base layout old new watching (kinds.Unpoison u) k noted fits made on past is still = absurd (true≢false (sym is ∙ ap is_access made.follows.0))
+own-unnoted base layout old new watching (kinds.Raise r) k noted fits made on past told is still = absurd (true≢false (sym is ∙ ap is_access made.follows.1))
+own-unnoted base layout old new watching (kinds.Scrub s) k noted fits made on past told is still = absurd (true≢false (sym is ∙ ap is_access made.follows.1))
+own-unnoted base layout old new watching (kinds.Evict e) k noted fits made on past told is still = absurd (true≢false (sym is ∙ ap is_access made.follows.1))
+own-unnoted base layout old new watching (kinds.Inject i) k noted fits made on past told is still = absurd (true≢false (sym is ∙ ap is_access made.follows.1))
+own-unnoted base layout old new watching (kinds.Soft s) k noted fits made on past told is still = absurd (true≢false (sym is ∙ ap is_access made.follows.1))
+own-unnoted base layout old new watching (kinds.Fsync f) k noted fits made on past told is still = absurd (true≢false (sym is ∙ ap is_access made.follows.0))
+own-unnoted base layout old new watching (kinds.Prctl p) k noted fits made on past told is still = absurd (true≢false (sym is ∙ ap is_access made.follows.0))
+own-unnoted base layout old new watching (kinds.Log l) k noted fits made on past told is still = absurd (true≢false (sym is ∙ ap is_access made.follows.0))
+own-unnoted base layout old new watching (kinds.Spoil s) k noted fits made on past told is still = absurd (true≢false (sym is ∙ ap is_access made.follows.0))
+own-unnoted base layout old new watching (kinds.Nested n) k noted fits made on past told is still = absurd (true≢false (sym is ∙ ap is_access made.follows.0))
+own-unnoted base layout old new watching (kinds.Unpoison u) k noted fits made on past told is still = absurd (true≢false (sym is ∙ ap is_access made.follows.0))
 
 -- a command other than an access rests with its answer, an access at its pause
 pub rests-so : (j : Job) → rests j ≡ true → ((i : Instruction) × (p : Pause) × (j ≡ kinds.Instruction i) × (instructions.pause i ≡ Some p)) ⊎ ((is_access j ≡ false) × ((a : Answer) × (jobs.answer j ≡ Some a)))

@@ -1,5 +1,5 @@
 -- A turn of a command's own task.
-use Rattle.std.proofs.Common.{◌++◌, ◌<◌, Some, ◌≡◌, refl, length, ◌≤◌, sym, arith, true≢false, subst, ◌≢◌, ◌==◌, None, inl, ◌&&◌, Option, List, suc, append-nil, ◌⊎◌, inr, true, ℕ, drop, Bool, false, ap, filter_map, ◌∙◌, [], nat_lt}
+use Rattle.std.proofs.Common.{zero, ◌++◌, ◌<◌, Some, ◌≡◌, refl, length, ◌≤◌, sym, arith, true≢false, subst, ◌≢◌, ◌==◌, None, inl, ◌&&◌, Option, List, suc, append-nil, ◌⊎◌, inr, true, ℕ, drop, Bool, false, ap, filter_map, ◌∙◌, [], nat_lt}
 use Rattle.hwp_cpu_course.specs.hwp_cpu_row.hwp_core_rule.Lists.{EachMember}
 use Rattle.hwp_cpu.specs.Serving.{noted_by, GoesOn, task, marked_so_far, IsUnderWay, marked_beside, KeepsWatch, OwnGoesOn, HasToldAll}
 use Rattle.hwp_cpu.proofs.OwnRests.{pause-holds, answer-known, own-on, HoldsNone, AnswerKnown, pause-known, fits-still}
@@ -161,7 +161,7 @@ module _ (layout : Layout) (old new : View) (cpu : Cpu) (list : List Command) (r
       which (inl (access, goes, all)) = subst (λ (n : ℕ). Turned layout new cpu list rows local (record next { noted = n }) (answer (record next { noted = n }))) (sym (all c.noted)) (turned-past (length (told_of k)) keeps-all (all-told k access) (λ a is. complete-by layout new at list watched (record next { noted = length (told_of k) }) keeps-all (ap (told_notes layout) (sym (take_all (length (told_of k)) (told_of k) (omega arith))))))
         where
           unnoted : told_notes layout (told_of k) ≡ noted_by layout next
-          unnoted = own-unnoted made.base layout old new c.watching c.own k c.noted made.fits made collecting (going.passed collecting) access goes
+          unnoted = own-unnoted made.base layout old new c.watching c.own k c.noted made.fits made collecting (going.passed collecting) on.told access goes
 
           keeps-all : KeepsWatch layout new at list watched (record next { noted = length (told_of k) })
           keeps-all = keeps-noted layout new at list watched next (length (told_of k)) way-next.collected (omega arith) (ap (told_notes layout) (take_all (length (told_of k)) (told_of k) (omega arith)) ∙ unnoted)
@@ -330,7 +330,7 @@ module _ (layout : Layout) (old new : View) (cpu : Cpu) (list : List Command) (r
             up = gives-up k told-some
 
         which : (b : Bool) → has_more layout next ≡ b → AfterRestBy layout next b after turn → Turned layout new cpu list rows local after (answer after)
-        which true more (inl no) = refused more no
+        which true more (inl refusal) = refused more refusal
         which true more (inr (d, took, goes)) = collected-turn d after turn rule_after took goes
         which false none goes = goes-on-by c.watching c.noted c.due.frames c.due.spare noted_is (keeps-same layout new at list watched next way-next.collected) pages-next (λ nothing. refl) after turn goes
           where

@@ -22,13 +22,12 @@ use Rattle.hwp_cpu_course.specs.hwp_cpu_row.declared.Row.{Row}
 use Rattle.hwp_cpu_course.specs.hwp_cpu_row.declared.Local.{Local}
 use Rattle.hwp_cpu_course.specs.hwp_cpu_command.declared.job.Job.{Job}
 use Rattle.hwp_cpu_course.specs.hwp_cpu_command.Jobs as jobs
-use Rattle.hwp_cpu_course.specs.hwp_cpu_command.FileHandles.{local_after}
 use Rattle.hwp_cpu_course.proofs.of_hwp_cpu_command_laws.Below.{begins-few}
 use Rattle.hwp_cpu_course.proofs.of_hwp_cpu_command_laws.CommandRuns.{has-begun}
 use Rattle.hwp_cpu.specs.declared.processor.Processor.{Processor}
 use Rattle.hwp_cpu.specs.Processors.{BeginsAt, Follows, IsAnswered, NextOf, aborts, aborts_of, at_number, bare, claims, claims_of, class, class_of, cost, cost_of, plan, plan_of, put_of, who_of}
 use Rattle.hwp_cpu.specs.Serving.{Fits, FitsAt, task}
-use Rattle.hwp_cpu_course.specs.Courses.{part_of, BeginsCourse, part, row_of, gives_up}
+use Rattle.hwp_cpu_course.specs.Courses.{local_after, part_of, BeginsCourse, part, row_of, gives_up}
 use Rattle.hwp_cpu_course.specs.hwp_cpu_row.hwp_core_rule.declared.View.{View}
 use Rattle.hwp_cpu_course.specs.hwp_cpu_command.hwp_soft.declared.Soft.{Soft}
 use Rattle.hwp_cpu_course.specs.hwp_cpu_row.hwp_core_rule.declared.Step.{Step}

@@ -16,7 +16,7 @@ use Rattle.hwp_cpu_course.specs.hwp_cpu_row.hwp_core_task.declared.Turn.{Turn}
 use Rattle.hwp_cpu_course.specs.hwp_cpu_row.hwp_core_task.Calls.{CanMake, Steps, logs}
 use Rattle.hwp_cpu_course.specs.hwp_cpu_command.declared.job.Job.{Job}
 use Rattle.hwp_cpu_course.specs.hwp_cpu_command.Jobs as jobs
-use Rattle.hwp_cpu_course.specs.hwp_cpu_command.FileHandles.{local_after, HasChangeWithin}
+use Rattle.hwp_cpu_course.specs.hwp_cpu_command.FileHandles.{HasChangeWithin}
 use Rattle.hwp_cpu_course.specs.hwp_cpu_command.Stays.{Stepped, HasGivenUp}
 use Rattle.hwp_cpu_course.proofs.of_hwp_cpu_command_laws.CommandRuns.{runs-who, runs-on, runs-within}
 use Rattle.hwp_cpu_course.specs.hwp_cpu_row.declared.Row.{Row}
@@ -26,7 +26,7 @@ use Rattle.hwp_cpu.specs.Processors.{AreCommands, BeginsAt, Follows, IsAnswered,
 use Rattle.hwp_cpu.specs.Serving.{Fits, FitsAt, IsRunning, GivesUp, OwnGoesOn, GoesOn, RunsBeside}
 use Rattle.hwp_cpu.proofs.CommandBegins.{settled}
 use Rattle.hwp_cpu.proofs.ProcessorKeeps.{later-none}
-use Rattle.hwp_cpu_course.specs.Courses.{FitsOf, IsGoing, rests, row_of, AfterOwn, AfterOwnIf, FitsOwn, AfterSoft, bare_of, AfterOwnBy, answer_of, part, with_result, part_of, answer, passed}
+use Rattle.hwp_cpu_course.specs.Courses.{local_after, FitsOf, IsGoing, rests, row_of, AfterOwn, AfterOwnIf, FitsOwn, AfterSoft, bare_of, AfterOwnBy, answer_of, part, with_result, part_of, answer, passed}
 use Rattle.hwp_cpu.proofs.BesideEnds.{beside-on, rests-on, holds-done, way-done}
 use Rattle.hwp_cpu_course.specs.hwp_cpu_row.Locals.{collects}
 use Rattle.hwp_cpu_course.proofs.of_hwp_cpu_command_laws.Beside.{given-up-unanswered, given-up-stays}

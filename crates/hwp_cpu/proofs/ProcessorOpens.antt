@@ -10,7 +10,6 @@ use Rattle.hwp_cpu_course.specs.hwp_cpu_row.hwp_core_rule.declared.Part.{Part}
 use Rattle.hwp_cpu_course.specs.hwp_cpu_row.hwp_core_rule.declared.View.{View}
 use Rattle.hwp_cpu_course.specs.hwp_cpu_row.hwp_core_rule.Opening.{opening_view}
 use Rattle.hwp_cpu_course.specs.hwp_cpu_row.hwp_core_task.Calls.{IsOnTurn}
-use Rattle.hwp_cpu_course.specs.hwp_cpu_command.FileHandles.{local_left}
 use Rattle.hwp_cpu_course.specs.hwp_cpu_command.Jobs.{banks_before, left_in}
 use Rattle.hwp_cpu_course.specs.hwp_cpu_command.Settings.{policies_in}
 use Rattle.hwp_cpu_course.specs.hwp_cpu_command.Stays.{IsAtStop}
@@ -32,7 +31,7 @@ use Rattle.hwp_cpu.proofs.Rows.{past-end}
 use Rattle.hwp_cpu.proofs.ProcessorNotes.{account-starts, noted-starts}
 use Rattle.hwp_cpu.proofs.Revivals.{revival-left}
 use Rattle.hwp_cpu.proofs.Watching.{of-machine, watch-starts, own-starts}
-use Rattle.hwp_cpu_course.specs.Courses.{BeginsCourse}
+use Rattle.hwp_cpu_course.specs.Courses.{local_left, BeginsCourse}
 use Rattle.std.specs.List.{list_any}
 use Rattle.hwp_cpu_course.specs.hwp_cpu_row.declared.Watching.{Watching}
 use Rattle.hwp_cpu_course.specs.hwp_cpu_row.hwp_law_commands.Watched.{Watched}

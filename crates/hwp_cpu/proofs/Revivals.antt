@@ -1,6 +1,6 @@
 -- A command takes poison back once at most, so a processor can do it with each of its commands.
 use Rattle.hwp_cpu_course.specs.hwp_cpu_row.hwp_report_text.declared.OfflineResult.{OfflineResult}
-use Rattle.std.proofs.Common.{◌≡◌, ℕ, ◌+◌, ◌<◌, ◌≤◌, ◌==◌, ◌&&◌, Bool, true, false, not, List, [], ◌∷◌, ◌++◌, Option, Some, None, length, filter_map, ap, ◌∙◌, refl, arith, suc, map}
+use Rattle.std.proofs.Common.{if◌then◌else◌, ◌≡◌, ℕ, ◌+◌, ◌<◌, ◌≤◌, ◌==◌, ◌&&◌, Bool, true, false, not, List, [], ◌∷◌, ◌++◌, Option, Some, None, length, filter_map, ap, ◌∙◌, refl, arith, suc, map}
 use Rattle.std.proofs.lemmas.List.Sums.{sum_by-append, sum_by-cons}
 use Rattle.std.specs.Int.{from_bool}
 use Rattle.std.specs.List.{cons_option, sum_by}

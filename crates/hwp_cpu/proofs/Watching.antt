@@ -2,7 +2,7 @@
 use Rattle.hwp_cpu_course.specs.hwp_cpu_row.hwp_banks.declared.Event.{Event}
 use Rattle.hwp_cpu.proofs.BesideEnds.{due-none}
 use Rattle.hwp_cpu_causes.proofs.of_hwp_law_commands.NoteLaws.{told-none}
-use Rattle.std.proofs.Common.{suc, ◌≤◌, get_or, append_assoc, slice_get, length, refl, ◌∷◌, ℕ, false, arith, inr, map, ◌<◌, Some, sym, ◌≡◌, ap, None, subst, option_map, true, Option, zero, replicate, ◌++◌, List, ◌⊎◌, ◌+◌, inl, Bool, ◌∙◌, [], true≢false}
+use Rattle.std.proofs.Common.{◌||◌, suc, ◌≤◌, get_or, append_assoc, slice_get, length, refl, ◌∷◌, ℕ, false, arith, inr, map, ◌<◌, Some, sym, ◌≡◌, ap, None, subst, option_map, true, Option, zero, replicate, ◌++◌, List, ◌⊎◌, ◌+◌, inl, Bool, ◌∙◌, [], true≢false}
 use Rattle.hwp_cpu_course.specs.hwp_cpu_row.hwp_cec.Ages.{CecEvent, Note, Round}
 use Rattle.hwp_cpu_course.specs.hwp_cpu_command.FileHandles.{watched_by, watching_after, RoundStands, anew_with, StandsOn, rounded_by, CanRound, round_ended}
 use Rattle.hwp_cpu_course.specs.hwp_cpu_row.declared.Row.{Row}
@@ -109,11 +109,15 @@ round-ends frames notes (Some v) (Some w) stands is = (record {
   stands = subst (λ (es : List CecEvent). StandsFor es (rounded w.collector)) (append_assoc v.events (map Note notes) (Round ∷ [])) (stands (v.events ++ map Note notes) is.0.stands);
 }, length-map w.collector.counts next_row ∙ is.1)
 
+-- no error counted yet
+abbrev no_counts : ℕ → List ℕ
+no_counts window = replicate window 0
+
 -- new counters stand for no event
 begun-stands : (threshold window frames : ℕ) → StandsFor [] (begun threshold window frames)
 begun-stands threshold window frames = record {
   each = λ frame k in_frames in_window.
-      ap (λ (cells : List ℕ). get_or cells k 0) (get_or-replicate frames frame (replicate window 0) [] (let many : length (replicate frames (replicate window 0)) ≡ frames = length-replicate frames (replicate window 0) in omega (arith, in_frames, many)))
+      ap (λ (cells : List ℕ). get_or cells k 0) (get_or-replicate frames frame (no_counts window) [] (let many : length (replicate frames (no_counts window)) ≡ frames = length-replicate frames (no_counts window) in omega (arith, in_frames, many)))
       ∙ get_or-replicate window k 0 0 in_window;
 }
 
@@ -122,10 +126,10 @@ counts-are frames None w is = is.1
 counts-are frames (Some v) w is = is.1
 
 watch-begins : (frames threshold window : ℕ) (watched : Option Watched) (w : Option Watching) → IsSome w → IsWatching frames watched w → IsWatching frames (Some (record { threshold = threshold; window = window; events = [] })) (option_map (anew_with threshold window) w)
-watch-begins frames threshold window watched None some is = absurd some
+watch-begins frames threshold window watched None some is = absurd (true≢false (sym some))
 watch-begins frames threshold window watched (Some w) some is = (
   record { on = refl; threshold = refl; window = refl; stands = begun-stands threshold window (length w.collector.counts) },
-  length-replicate (length w.collector.counts) (replicate window 0) ∙ counts-are frames watched w is,
+  length-replicate (length w.collector.counts) (no_counts window) ∙ counts-are frames watched w is,
 )
 
 -- what a `log` or a `watch` leaves of it, and a scrub
@@ -175,7 +179,7 @@ module _ (frames : ℕ) (notes : List Frame) (watched : Option Watched) (w : Opt
 
 -- a collector stays one
 pub room-stays : (j : Job) (a : Answer) (w : Option Watching) → IsSome w → IsSome (watching_after j a w)
-room-stays j a None some = absurd some
+room-stays j a None some = absurd (true≢false (sym some))
 room-stays (kinds.Log l) a (Some w) some = by l.change a
   where
     by : (c : LocalChange) (x : Answer) → IsSome (watched_by c x (Some w))
