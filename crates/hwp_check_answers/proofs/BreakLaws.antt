@@ -1,5 +1,5 @@
 -- A line that is out of place, or a wrong answer, breaks the rule of answers.
-use Rattle.std.proofs.Common.{◌≡◌, inl, inr, ℕ, ◌<◌, List, [], Option, Some, IsSomeAnd, count_by, slice_get, take, unwrap_or, refl, sym, ap, ◌∙◌, subst, arith}
+use Rattle.std.proofs.Common.{◌≡◌, inl, inr, ℕ, ◌<◌, List, [], Option, Some, IsSomeAnd, count_by, option_and_then, slice_get, take, unwrap_or, refl, sym, ap, ◌∙◌, subst, arith}
 use Rattle.std.proofs.lemmas.Bool.{cases_lt}
 use Rattle.std.proofs.lemmas.Option.{none-some, same_Some}
 use Rattle.hwp_check_evidence.specs.hwp_geom.declared.Cpu.{Cpu}
@@ -19,8 +19,10 @@ use Rattle.hwp_check_rules.specs.AnswerFaults.{IsOutside, IsRevived, IsUnnamed}
 use Rattle.hwp_check_rules.specs.Answered.{is_answer}
 use Rattle.hwp_check_rules.specs.Rules.{AnswersFit}
 use Rattle.hwp_check_answers.specs.Disorders.{AreOrderly}
-use Rattle.hwp_check_answers.specs.Facts.{at_number}
-use Rattle.hwp_check_answers.specs.Sifting.{IsAnswerLine, IsWrongAnswer}
+use Rattle.hwp_check_rules.proofs.OfflinedFaults.{line-caused}
+use Rattle.hwp_check_evidence.specs.hwp_law_commands.Commands.{command_at}
+use Rattle.hwp_check_answers.specs.Facts.{IsBadOf, at_number}
+use Rattle.hwp_check_answers.specs.Sifting.{IsAnswerLine, IsWrongLine}
 use Rattle.hwp_check_answers.proofs.NextLaws.{count-rises, next_of}
 
 abbrev told_in : CpuLine → Answer
@@ -54,15 +56,29 @@ module _ (script : Script) (report : Report) (fit : AnswersFit script report) wh
   orderly-of : (cpu : Cpu) (commands : List Command) (rows : List CpuLine) → slice_get script.lists cpu.0 ≡ Some commands → slice_get report.cpus cpu.0 ≡ Some rows → AreOrderly commands rows
   orderly-of cpu commands rows of_script of_report = let a = fit.answered cpu commands rows of_script of_report in record { in_place = a.in_place; each = a.each }
 
+  -- a wrong answer
+  record IsWrong (line : ℕ) : Type 0 where
+    cpu : Cpu
+    commands : List Command
+    rows : List CpuLine
+    row : ℕ
+    seq : ℕ
+    answer : Answer
+    command : Command
+    of_script : slice_get script.lists cpu.0 ≡ Some commands
+    of_report : slice_get report.cpus cpu.0 ≡ Some rows
+    there : slice_get rows row ≡ Some (lines.Answer seq answer)
+    made : slice_get commands seq ≡ Some command
+
   -- the answer of a wrong answer's command is that
-  told-is : (line : ℕ) (w : IsWrongAnswer script report line) → answer_of report (at_number w.cpu w.seq) ≡ Some w.answer
+  told-is : (line : ℕ) (w : IsWrong line) → answer_of report (at_number w.cpu w.seq) ≡ Some w.answer
   told-is line w =
       let orderly = orderly-of w.cpu w.commands w.rows w.of_script w.of_report in
       let number : w.seq ≡ count_by is_answer (take w.row w.rows) = (orderly.in_place w.row (lines.Answer w.seq w.answer) w.there).of_next in
       let next = next_of w.commands w.rows w.row (lines.Answer w.seq w.answer) w.there (λ row shown less is. orderly.in_place row shown is) in
       ap (λ (o : Option (List CpuLine)). answer_among (unwrap_or o []) w.seq) w.of_report ∙ ap (answer_among w.rows) number ∙ next.first w.answer (ap (λ (n : ℕ). lines.Answer n w.answer) number)
 
-  no-unnamed : (line : ℕ) (w : IsWrongAnswer script report line) → IsUnnamed report (at_number w.cpu w.seq) w.answer → ⊥
+  no-unnamed : (line : ℕ) (w : IsWrong line) → IsUnnamed report (at_number w.cpu w.seq) w.answer → ⊥
   no-unnamed line w u = by named.0 there named.3 named.4
     where
       named : (shown : CpuLine) × (i : ℕ) × IsSomeAnd (slice_get report.cpus w.cpu.0) (λ (rows : List CpuLine). slice_get rows i ≡ Some shown) × (seq_of shown ≡ w.seq) × (named_in shown ≡ Some u.at)
@@ -83,7 +99,7 @@ module _ (script : Script) (report : Report) (fit : AnswersFit script report) wh
       by (lines.Answer seq answer) at own names =
           u.other (ap entry_named (one-answer w.commands w.rows w.row named.1 w.seq w.answer answer (orderly-of w.cpu w.commands w.rows w.of_script w.of_report) w.there (at ∙ ap (λ (n : ℕ). Some (lines.Answer n answer)) own)) ∙ names)
 
-  no-outside : (line : ℕ) (w : IsWrongAnswer script report line) → IsOutside report (take w.row w.rows) (at_number w.cpu w.seq) w.answer → ⊥
+  no-outside : (line : ℕ) (w : IsWrong line) → IsOutside report (take w.row w.rows) (at_number w.cpu w.seq) w.answer → ⊥
   no-outside line w o =
       let window = fit.windows w.cpu w.rows w.row w.seq w.answer o.at w.of_report w.there o.names in
       o.outside (record {
@@ -92,19 +108,32 @@ module _ (script : Script) (report : Report) (fit : AnswersFit script report) wh
         before_later = window.before_later;
       })
 
-  no-revived : (line : ℕ) (w : IsWrongAnswer script report line) → IsRevived script report (at_number w.cpu w.seq) w.answer → ⊥
+  no-revived : (line : ℕ) (w : IsWrong line) → IsRevived script report (at_number w.cpu w.seq) w.answer → ⊥
   no-revived line w r = r.wrong (fit.endings r.who (at_number w.cpu w.seq) r.process w.answer r.ended r.before r.process_is (told-is line w))
 
   pub line_breaks : (line : ℕ) → IsAnswerLine script report line → ⊥
   line_breaks line (inl (inl u)) = u.lacks ((fit.answered u.cpu u.commands u.rows u.of_script u.of_report).each u.seq u.within)
   line_breaks line (inl (inr m)) = m.out ((fit.answered (record { 0 = m.cpu }) m.commands m.rows m.of_script m.of_report).in_place m.row m.shown m.there)
-  line_breaks line (inr w) = elim w.wrong [
-    | inl wrong ↦ wrong ((fit.answered w.cpu w.commands w.rows w.of_script w.of_report).right w.row w.seq w.answer w.command w.there w.made)
-    | inr rest ↦ elim rest [
-      | inl unnamed ↦ no-unnamed line w unnamed
-      | inr more ↦ elim more [
-        | inl outside ↦ no-outside line w outside
-        | inr revived ↦ no-revived line w revived
+  line_breaks line (inr w) = by w.shown w.there w.made w.wrong
+    where
+      by : (shown : CpuLine) → slice_get w.rows w.row ≡ Some shown → slice_get w.commands (seq_of shown) ≡ Some w.command → IsBadOf script report w.cpu (take w.row w.rows) w.command shown → ⊥
+      by (lines.Event event) there made wrong = wrong
+      by (lines.Guest guest) there made wrong = wrong
+      by (lines.Offlined offlined) there made wrong =
+          let at : command_at script (at_number w.cpu offlined.seq) ≡ Some w.command = ap (λ (o : Option (List Command)). option_and_then (λ (list : List Command). slice_get list offlined.seq) o) w.of_script ∙ made in
+          let rows_are : rows_of report (at_number w.cpu offlined.seq) ≡ w.rows = ap (λ (o : Option (List CpuLine)). unwrap_or o []) w.of_report in
+          wrong (line-caused script report (at_number w.cpu offlined.seq) (fit.offlined (at_number w.cpu offlined.seq) w.command at) w.row offlined
+          (ap (λ (r : List CpuLine). slice_get r w.row) rows_are ∙ there) refl)
+      by (lines.Answer seq answer) there made wrong = elim wrong [
+        | inl wrong ↦ wrong ((fit.answered w.cpu w.commands w.rows w.of_script w.of_report).right w.row seq answer w.command there made)
+        | inr rest ↦ elim rest [
+          | inl unnamed ↦ no-unnamed line a unnamed
+          | inr more ↦ elim more [
+            | inl outside ↦ no-outside line a outside
+            | inr revived ↦ no-revived line a revived
+          ]
+        ]
       ]
-    ]
-  ]
+        where
+          a : IsWrong line
+          a = record { cpu = w.cpu; commands = w.commands; rows = w.rows; row = w.row; seq = seq; answer = answer; command = w.command; of_script = w.of_script; of_report = w.of_report; there = there; made = made }

@@ -6,11 +6,10 @@ use Rattle.hwp_check_evidence.specs.hwp_geom.declared.Cpu.{Cpu}
 use Rattle.hwp_check_evidence.specs.hwp_script_read.declared.Command.{Command}
 use Rattle.hwp_check_evidence.specs.hwp_script_read.declared.Script.{Script}
 use Rattle.hwp_check_evidence.specs.hwp_report_text.declared.CpuLine.{CpuLine}
-use Rattle.hwp_check_evidence.specs.hwp_report_text.declared.CpuLine.TheVariants as lines
 use Rattle.hwp_check_evidence.specs.hwp_report_text.declared.Report.{Report}
 use Rattle.hwp_check_rules.specs.Firsts.{IsLeast, soonest}
 use Rattle.hwp_check_answers.specs.Disorders.{AreAllOrderly, AreOrderly, IsDisorder}
-use Rattle.hwp_check_answers.specs.Facts.{AreGoodRows, at_number}
+use Rattle.hwp_check_answers.specs.Facts.{AreGoodRows}
 use Rattle.hwp_check_answers.proofs.SiftLaws.{behind, good-not-wrong}
 use Rattle.hwp_check_answers.specs.Sifting.{AreAllRight, AreAllSound, AreSound, IsAnswerLine, IsFirstAnswer}
 
@@ -23,8 +22,7 @@ module _ (script : Script) (report : Report) where
   pub no_answer_line : AreAllRight script report → (line : ℕ) → IsAnswerLine script report line → ⊥
   no_answer_line all line (inl disorder) = no_disorder all.orderly line disorder
   no_answer_line all line (inr w) =
-      good-not-wrong script report (take w.row w.rows) (at_number w.cpu w.seq) w.command w.answer
-      (all.good w.cpu w.commands w.rows w.of_script w.of_report w.row (lines.Answer w.seq w.answer) (slice_get_within w.rows w.row (lines.Answer w.seq w.answer) w.there) w.there w.seq w.answer w.command refl w.made) w.wrong
+      good-not-wrong script report w.cpu (take w.row w.rows) w.command w.shown (all.good w.cpu w.commands w.rows w.of_script w.of_report w.row w.shown (slice_get_within w.rows w.row w.shown w.there) w.there w.command w.made) w.wrong
 
   -- where all lines are in place, nothing is wrong about any answer of a sound processor
   whole : (cpu : Cpu) (commands : List Command) (rows : List CpuLine) → AreOrderly commands rows → AreSound script report cpu commands rows → AreGoodRows script report cpu commands rows (length rows)

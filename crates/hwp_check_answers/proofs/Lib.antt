@@ -13,3 +13,5 @@ mod RuleJoin
 mod Places
 mod Processors
 mod Reports
+mod OfflinedOrder
+mod AnswerCounts

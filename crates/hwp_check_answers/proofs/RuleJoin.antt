@@ -1,5 +1,5 @@
 -- The first of the lines of answers and of events that are wrong is the first that breaks the rule of answers.
-use Rattle.std.proofs.Common.{◌≡◌, ◌⊎◌, inl, inr, ℕ, ◌<◌, ◌≤◌, min, true, false, Option, Some, None, MatchOption, slice_get, refl, sym, subst, true≢false, arith}
+use Rattle.std.proofs.Common.{◌≡◌, ◌⊎◌, inl, inr, ℕ, ◌<◌, ◌≤◌, min, true, false, Option, Some, None, MatchOption, slice_get, take, refl, sym, ◌∙◌, subst, true≢false, arith}
 use Rattle.std.proofs.lemmas.Bool.{cases_lt}
 use Rattle.hwp_check_evidence.specs.hwp_script_read.Valid.{IsValid}
 use Rattle.hwp_check_evidence.specs.hwp_script_read.declared.Command.{Command}
@@ -13,31 +13,36 @@ use Rattle.hwp_check_rules.specs.Answered.{is_event}
 use Rattle.hwp_check_rules.specs.hwp_law.Lines.{seq_of}
 use Rattle.hwp_check_rules.specs.Firsts.{IsLeast, soonest}
 use Rattle.hwp_check_rules.specs.Rules.{AnswersFit}
-use Rattle.hwp_check_rules.specs.declared.Rule.TheVariants.{Answers}
+use Rattle.hwp_check_rules.specs.declared.Rule.TheVariants.{Answers, Shape}
 use Rattle.hwp_check_rules.specs.Verdicts.{HoldBelow, IsBroken}
-use Rattle.hwp_check_answers.specs.Facts.{at_number}
+use Rattle.hwp_check_answers.specs.Facts.{IsBadOf, at_number}
 use Rattle.hwp_check_answers.specs.Joining.{BreakEvents, IsEventLine, IsWrongEvent}
-use Rattle.hwp_check_answers.specs.Sifting.{AreAllRight, IsAnswerLine}
+use Rattle.hwp_check_answers.specs.Offlining.{AreAllOfflined, IsOfflinedLine}
+use Rattle.hwp_check_answers.specs.Sifting.{AreAllRight, IsAnswerLine, IsWrongLine}
 use Rattle.hwp_check_answers.proofs.BreakLaws.{line_breaks}
 use Rattle.hwp_check_answers.proofs.JoinLaws.{no_answer_line}
-use Rattle.hwp_check_answers.proofs.RuleLaws.{all_answered, all_endings, all_named, all_windows}
+use Rattle.hwp_check_answers.proofs.OfflinedOrder.{no_offlined, offlined_breaks}
+use Rattle.hwp_check_answers.proofs.RuleLaws.{all_answered, all_endings, all_named, all_offlined, all_windows}
 
 module _ (script : Script) (report : Report) where
   abbrev IsLine : ℕ → Type 0
-  IsLine line = IsAnswerLine script report line ⊎ IsEventLine script report line
+  IsLine line = IsAnswerLine script report line ⊎ IsEventLine script report line ⊎ IsOfflinedLine script report line
 
-  -- a fault of a line is one of an answer or of an event
+  -- a fault of a line is one of what it says, of an event, or of a frame that isn't due
   row-line : (line : ℕ) → IsRowFault script report line → IsLine line
   row-line line f = elim f.wrong [
     | inl out ↦ inl (inl (inr (record { cpu = f.cpu.0; commands = f.commands; rows = f.rows; row = f.row; shown = f.shown; of_script = f.of_script; of_report = f.of_report; there = f.there; line_is = f.line_is; out = out })))
     | inr wrong ↦ by f.shown f.there wrong.0 wrong.1 wrong.2
   ]
     where
+      said : (shown : CpuLine) → slice_get f.rows f.row ≡ Some shown → (command : Command) → slice_get f.commands (seq_of shown) ≡ Some command → IsBadOf script report f.cpu (take f.row f.rows) command shown → IsLine line
+      said shown there command made wrong =
+          inl (inr (record { cpu = f.cpu; commands = f.commands; rows = f.rows; row = f.row; shown = shown; command = command; of_script = f.of_script; of_report = f.of_report; there = there; made = made; line_is = f.line_is; wrong = wrong }))
+
       by : (shown : CpuLine) → slice_get f.rows f.row ≡ Some shown → (command : Command) → slice_get f.commands (seq_of shown) ≡ Some command → IsLineWrong script report f.cpu f.rows f.row shown command → IsLine line
-      by (lines.Answer seq answer) there command made wrong =
-          inl (inr (record { cpu = f.cpu; commands = f.commands; rows = f.rows; row = f.row; seq = seq; answer = answer; command = command; of_script = f.of_script; of_report = f.of_report; there = there; made = made; line_is = f.line_is; wrong = wrong }))
+      by (lines.Answer seq answer) there command made wrong = said (lines.Answer seq answer) there command made wrong
       by (lines.Event line) there command made wrong =
-          inr (inr (record {
+          inr (inl (inr (record {
             cpu = f.cpu;
             commands = f.commands;
             rows = f.rows;
@@ -51,14 +56,17 @@ module _ (script : Script) (report : Report) where
             made = made;
             line_is = f.line_is;
             wrong = wrong;
-          }))
-      by (lines.Offlined offlined) there command made wrong = absurd wrong
+          })))
+      by (lines.Offlined offlined) there command made (inl undue) =
+          inr (inr (inr (inr (record { cpu = f.cpu; commands = f.commands; rows = f.rows; row = f.row; offlined = offlined; command = command; of_script = f.of_script; of_report = f.of_report; there = there; made = made; line_is = f.line_is; undue = undue }))))
+      by (lines.Offlined offlined) there command made (inr uncaused) = said (lines.Offlined offlined) there command made uncaused
       by (lines.Guest guest) there command made wrong = absurd wrong
 
   fault-line : (line : ℕ) → IsAnswerFault script report line → IsLine line
   fault-line line (inl unanswered) = inl (inl (inl unanswered))
-  fault-line line (inr (inl lacks)) = inr (inl lacks)
-  fault-line line (inr (inr fault)) = row-line line fault
+  fault-line line (inr (inl lacks)) = inr (inl (inl lacks))
+  fault-line line (inr (inr (inl lacks))) = inr (inr (inr (inl lacks)))
+  fault-line line (inr (inr (inr fault))) = row-line line fault
 
   event-row : (line : ℕ) (w : IsWrongEvent script report line) → IsLineWrong script report w.cpu w.rows w.row w.shown w.command
   event-row line w = by w.shown w.event w.wrong
@@ -69,71 +77,109 @@ module _ (script : Script) (report : Report) where
       by (lines.Guest guest) event wrong = absurd (true≢false (sym event))
       by (lines.Answer seq answer) event wrong = absurd (true≢false (sym event))
 
+  said-row : (line : ℕ) (w : IsWrongLine script report line) → IsLineWrong script report w.cpu w.rows w.row w.shown w.command
+  said-row line w = by w.shown w.wrong
+    where
+      by : (shown : CpuLine) → IsBadOf script report w.cpu (take w.row w.rows) w.command shown → IsLineWrong script report w.cpu w.rows w.row shown w.command
+      by (lines.Answer seq answer) wrong = wrong
+      by (lines.Offlined offlined) wrong = inr wrong
+      by (lines.Event event) wrong = absurd wrong
+      by (lines.Guest guest) wrong = absurd wrong
+
+  row-fault : {line : ℕ} → IsRowFault script report line → IsAnswerFault script report line
+  row-fault fault = inr (inr (inr fault))
+
   line-fault : (line : ℕ) → IsLine line → IsAnswerFault script report line
   line-fault line (inl (inl (inl unanswered))) = inl unanswered
   line-fault line (inl (inl (inr m))) =
-      inr (inr (record { cpu = record { 0 = m.cpu }; commands = m.commands; rows = m.rows; row = m.row; shown = m.shown; of_script = m.of_script; of_report = m.of_report; there = m.there; line_is = m.line_is; wrong = inl m.out }))
+      row-fault (record { cpu = record { 0 = m.cpu }; commands = m.commands; rows = m.rows; row = m.row; shown = m.shown; of_script = m.of_script; of_report = m.of_report; there = m.there; line_is = m.line_is; wrong = inl m.out })
   line-fault line (inl (inr w)) =
-      inr (inr (record {
+      row-fault (record { cpu = w.cpu; commands = w.commands; rows = w.rows; row = w.row; shown = w.shown; of_script = w.of_script; of_report = w.of_report; there = w.there; line_is = w.line_is; wrong = inr (w.command, w.made, said-row line w) })
+  line-fault line (inr (inl (inl lacks))) = inr (inl lacks)
+  line-fault line (inr (inl (inr w))) =
+      row-fault (record { cpu = w.cpu; commands = w.commands; rows = w.rows; row = w.row; shown = w.shown; of_script = w.of_script; of_report = w.of_report; there = w.there; line_is = w.line_is; wrong = inr (w.command, w.made, event-row line w) })
+  line-fault line (inr (inr (inl unanswered))) = inl unanswered.0
+  line-fault line (inr (inr (inr (inl lacks)))) = inr (inr (inl lacks))
+  line-fault line (inr (inr (inr (inr w)))) =
+      row-fault (record {
         cpu = w.cpu;
         commands = w.commands;
         rows = w.rows;
         row = w.row;
-        shown = lines.Answer w.seq w.answer;
+        shown = lines.Offlined w.offlined;
         of_script = w.of_script;
         of_report = w.of_report;
         there = w.there;
         line_is = w.line_is;
-        wrong = inr (w.command, w.made, w.wrong);
-      }))
-  line-fault line (inr (inl lacks)) = inr (inl lacks)
-  line-fault line (inr (inr w)) =
-      inr (inr (record {
-        cpu = w.cpu;
-        commands = w.commands;
-        rows = w.rows;
-        row = w.row;
-        shown = w.shown;
-        of_script = w.of_script;
-        of_report = w.of_report;
-        there = w.there;
-        line_is = w.line_is;
-        wrong = inr (w.command, w.made, event-row line w);
-      }))
+        wrong = inr (w.command, w.made, inl w.undue);
+      })
 
   module _ (valid : IsValid script) (below : HoldBelow 3 script report) (breaks : BreakEvents script report) where
-    fits : AreAllRight script report → AreEvents script report → AnswersFit script report
-    fits all events = record {
-      answered = all_answered script report valid below all;
+    fits : AreAllRight script report → AreEvents script report → AreAllOfflined script report → AnswersFit script report
+    fits all events offlined = record {
+      answered = all_answered script report valid below all offlined;
       named = all_named script report valid below all;
       windows = all_windows script report valid below all;
       endings = all_endings script report valid below all;
       events = events;
+      offlined = all_offlined script report valid below all offlined;
     }
 
     no-line : AnswersFit script report → (line : ℕ) → IsLine line → ⊥
     no-line fit line (inl of-answers) = line_breaks script report fit line of-answers
-    no-line fit line (inr of-events) = breaks fit.events line of-events
+    no-line fit line (inr (inl of-events)) = breaks fit.events line of-events
+    no-line fit line (inr (inr of-offlined)) = offlined_breaks script report fit line of-offlined
 
     broken-by : (line : ℕ) → IsLine line → ((other : ℕ) → IsLine other → line ≤ other) → IsBroken Answers script report line
     broken-by line at first = record { broken = λ fit. no-line fit line at; at = line-fault line at; first = λ other fault. first other (fault-line other fault) }
 
-    pub both_lines : (of-answers of-events : Option ℕ) → MatchOption of-answers (AreAllRight script report) (IsLeast (IsAnswerLine script report)) → MatchOption of-events (AreEvents script report) (IsLeast (IsEventLine script report))
-        → MatchOption (soonest of-answers of-events) (AnswersFit script report) (IsBroken Answers script report)
-    both_lines None None all events = fits all events
-    both_lines (Some a) None least events = broken-by a (inl least.at) (λ other of. elim of [
-      | inl answer ↦ least.first other answer
-      | inr event ↦ absurd (breaks events other event)
-    ])
-    both_lines None (Some e) all least = broken-by e (inr least.at) (λ other of. elim of [
-      | inl answer ↦ absurd (no_answer_line script report all other answer)
-      | inr event ↦ least.first other event
-    ])
-    both_lines (Some a) (Some e) answers events = broken-by (min a e) (which (cases_lt a e)) (λ other of. elim of [
-      | inl answer ↦ let low : a ≤ other = answers.first other answer in omega (arith, low)
-      | inr event ↦ let low : e ≤ other = events.first other event in omega (arith, low)
-    ])
+    -- the lower of two first lines is the first of both kinds
+    lower : (P Q R : ℕ → Type 0) (a b : ℕ) → ((line : ℕ) → P line → R line) → ((line : ℕ) → Q line → R line) → P a → Q b → R (min a b)
+    lower P Q R a b of-p of-q p q = elim (cases_lt a b) [
+      | inl less ↦ let is : a ≡ min a b = omega (arith, less) in subst R is (of-p a p)
+      | inr less ↦ let is : b ≡ min a b = omega (arith, less) in subst R is (of-q b q)
+    ]
+
+    -- of each kind: no such line, or the first one
+    abbrev Of : (ℕ → Type 0) → Type 0 → Option ℕ → Type 0
+    Of P Whole found = MatchOption found Whole (IsLeast P)
+
+    -- two kinds together
+    two : (P Q : ℕ → Type 0) (A B : Type 0) (a b : Option ℕ) → (A → (line : ℕ) → P line → ⊥) → (B → (line : ℕ) → Q line → ⊥) → Of P A a → Of Q B b → Of (λ line. P line ⊎ Q line) (A × B) (soonest a b)
+    two P Q A B None None no-p no-q all others = (all, others)
+    two P Q A B (Some a) None no-p no-q least others = record { at = inl least.at; first = λ other of. elim of [ inl p ↦ least.first other p | inr q ↦ absurd (no-q others other q) ] }
+    two P Q A B None (Some b) no-p no-q all least = record { at = inr least.at; first = λ other of. elim of [ inl p ↦ absurd (no-p all other p) | inr q ↦ least.first other q ] }
+    two P Q A B (Some a) (Some b) no-p no-q one least = record {
+      at = lower P Q (λ line. P line ⊎ Q line) a b (λ line p. inl p) (λ line q. inr q) one.at least.at;
+      first = λ other of. elim of [
+        | inl p ↦ let low : a ≤ other = one.first other p in omega (arith, low)
+        | inr q ↦ let low : b ≤ other = least.first other q in omega (arith, low)
+      ];
+    }
+
+    pub all_lines : (of-answers of-events of-offlined : Option ℕ) → MatchOption of-answers (AreAllRight script report) (IsLeast (IsAnswerLine script report)) → MatchOption of-events (AreEvents script report) (IsLeast (IsEventLine script report))
+        → MatchOption of-offlined (AreAllOfflined script report) (IsLeast (IsOfflinedLine script report)) → MatchOption (soonest (soonest of-answers of-events) of-offlined) (AnswersFit script report) (IsBroken Answers script report)
+    all_lines of-answers of-events of-offlined answers events offlined =
+        by (soonest (soonest of-answers of-events) of-offlined)
+        (two (λ line. IsAnswerLine script report line ⊎ IsEventLine script report line) (IsOfflinedLine script report) (AreAllRight script report × AreEvents script report) (AreAllOfflined script report) (soonest of-answers of-events) of-offlined
+        (λ both line is. elim is [ inl a ↦ no_answer_line script report both.0 line a | inr e ↦ breaks both.1 line e ])
+        (λ all line is. none-offlined all line is)
+        (two (IsAnswerLine script report) (IsEventLine script report) (AreAllRight script report) (AreEvents script report) of-answers of-events (λ all line is. no_answer_line script report all line is) (λ all line is. breaks all line is) answers events) offlined)
       where
-        which : (a < e) ⊎ (e ≤ a) → IsLine (min a e)
-        which (inl less) = let is : a ≡ min a e = omega (arith, less) in subst IsLine is (inl answers.at)
-        which (inr less) = let is : e ≡ min a e = omega (arith, less) in subst IsLine is (inr events.at)
+        none-offlined : AreAllOfflined script report → (line : ℕ) → IsOfflinedLine script report line → ⊥
+        none-offlined all line is = no_offlined script report (valid.one_each ∙ sym (below Shape (omega arith)).cpus) all line is
+
+        by : (found : Option ℕ) → Of (λ line. (IsAnswerLine script report line ⊎ IsEventLine script report line) ⊎ IsOfflinedLine script report line) ((AreAllRight script report × AreEvents script report) × AreAllOfflined script report) found
+            → MatchOption found (AnswersFit script report) (IsBroken Answers script report)
+        by None all = fits all.0.0 all.0.1 all.1
+        by (Some line) least = broken-by line (turned line least.at) (λ other is. least.first other (back other is))
+          where
+            turned : (line : ℕ) → (IsAnswerLine script report line ⊎ IsEventLine script report line) ⊎ IsOfflinedLine script report line → IsLine line
+            turned line (inl (inl a)) = inl a
+            turned line (inl (inr e)) = inr (inl e)
+            turned line (inr o) = inr (inr o)
+
+            back : (line : ℕ) → IsLine line → (IsAnswerLine script report line ⊎ IsEventLine script report line) ⊎ IsOfflinedLine script report line
+            back line (inl a) = inl (inl a)
+            back line (inr (inl e)) = inl (inr e)
+            back line (inr (inr o)) = inr o

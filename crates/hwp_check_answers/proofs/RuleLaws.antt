@@ -15,6 +15,7 @@ use Rattle.hwp_check_evidence.specs.hwp_report_text.declared.Answer.{Answer}
 use Rattle.hwp_check_evidence.specs.hwp_report_text.declared.Answer.TheVariants as answers
 use Rattle.hwp_check_evidence.specs.hwp_report_text.declared.CpuLine.{CpuLine}
 use Rattle.hwp_check_evidence.specs.hwp_report_text.declared.CpuLine.TheVariants as lines
+use Rattle.hwp_check_evidence.specs.hwp_report_text.declared.OfflinedLine.{OfflinedLine}
 use Rattle.hwp_check_evidence.specs.hwp_report_text.declared.Report.{Report}
 use Rattle.hwp_check_evidence.specs.hwp_law.Answers.{AreInWindows, AreNamed, IsNamed}
 use Rattle.hwp_check_evidence.specs.hwp_law_commands.Commands.{command_at, process_at, process_of_thread, thread_of}
@@ -25,12 +26,16 @@ use Rattle.hwp_check_evidence.specs.Firsts.{is_at, names_beside}
 use Rattle.hwp_check_evidence.proofs.NamedLaws.{at-is, named-at}
 use Rattle.hwp_check_evidence.proofs.NameLaws.{beside-some, some-beside}
 use Rattle.hwp_check_evidence.proofs.ListItems.{item_at, item_of_take}
+use Rattle.hwp_check_evidence.specs.hwp_law.Offlined.{AreOfflined, IsOffline}
+use Rattle.hwp_check_rules.proofs.OfflinedFaults.{lines-offlined}
+use Rattle.hwp_check_rules.specs.AnswerFaults.{IsDue}
 use Rattle.hwp_check_rules.specs.Answered.{AreAnswered, HasAnswer, is_answer}
 use Rattle.hwp_check_rules.specs.declared.Rule.TheVariants.{Histories, Shape}
 use Rattle.hwp_check_rules.specs.Verdicts.{HoldBelow}
 use Rattle.hwp_check_answers.specs.Disorders.{AreOrderly}
 use Rattle.hwp_check_answers.specs.Facts.{at_number}
 use Rattle.hwp_check_answers.specs.Judging.{IsGood}
+use Rattle.hwp_check_answers.specs.Offlining.{AreAllDue, AreAllOfflined}
 use Rattle.hwp_check_answers.specs.Sifting.{AreAllRight}
 use Rattle.hwp_check_answers.proofs.NextLaws.{count-rises}
 
@@ -126,14 +131,46 @@ module _ (script : Script) (report : Report) (valid : IsValid script) (below : H
     good-at : (cpu : Cpu) (list : List Command) (rows : List CpuLine) (row seq : ℕ) (answer : Answer) (command : Command) → slice_get script.lists cpu.0 ≡ Some list → slice_get report.cpus cpu.0 ≡ Some rows
         → slice_get rows row ≡ Some (lines.Answer seq answer) → slice_get list seq ≡ Some command → IsGood script report (take row rows) (at_number cpu seq) command answer
     good-at cpu list rows row seq answer command of_script of_report there is =
-        all.good cpu list rows of_script of_report row (lines.Answer seq answer) (slice_get_within rows row (lines.Answer seq answer) there) there seq answer command refl is
+        all.good cpu list rows of_script of_report row (lines.Answer seq answer) (slice_get_within rows row (lines.Answer seq answer) there) there command is
 
-    pub all_answered : (cpu : Cpu) (list : List Command) (rows : List CpuLine) → slice_get script.lists cpu.0 ≡ Some list → slice_get report.cpus cpu.0 ≡ Some rows → AreAnswered script report cpu list rows
-    all_answered cpu list rows of_script of_report = record {
+    pub all_answered : AreAllOfflined script report → (cpu : Cpu) (list : List Command) (rows : List CpuLine) → slice_get script.lists cpu.0 ≡ Some list → slice_get report.cpus cpu.0 ≡ Some rows → AreAnswered script report cpu list rows
+    all_answered offlined cpu list rows of_script of_report = record {
       in_place = (all.orderly cpu.0 list rows of_script of_report).in_place;
+      past = λ row line there.
+          let inside : line.seq < length list = ((all.orderly cpu.0 list rows of_script of_report).in_place row (lines.Offlined line) there).of_some in
+          ((offlined cpu list rows of_script of_report).due row line (slice_get_within rows row (lines.Offlined line) there) there inside).past;
       each = (all.orderly cpu.0 list rows of_script of_report).each;
       right = λ row seq answer command there is. (good-at cpu list rows row seq answer command of_script of_report there is).right;
     }
+
+    pub all_offlined : AreAllOfflined script report → (who : Who) (command : Command) → command_at script who ≡ Some command → AreOfflined script report who
+    all_offlined offlined who command is = lines-offlined script report who (a.enough who.seq inside) (λ row line there own. (due-at row line (sym (at row) ∙ there) own, cause-at row line (sym (at row) ∙ there) own))
+      where
+        m : Made who command
+        m = made who command is
+
+        a : AreAllDue script report who.cpu m.list m.rows
+        a = offlined who.cpu m.list m.rows m.of_script m.of_report
+
+        inside : who.seq < length m.list
+        inside = slice_get_within m.list who.seq command m.there
+
+        rows_are : rows_of report who ≡ m.rows
+        rows_are = ap (λ (o : Option (List CpuLine)). unwrap_or o []) m.of_report
+
+        at : (row : ℕ) → slice_get (rows_of report who) row ≡ slice_get m.rows row
+        at row = ap (λ (r : List CpuLine). slice_get r row) rows_are
+
+        due-at : (row : ℕ) (line : OfflinedLine) → slice_get m.rows row ≡ Some (lines.Offlined line) → line.seq ≡ who.seq → IsDue script report (rows_of report who) row who line
+        due-at row line there own =
+            subst (λ (r : List CpuLine). IsDue script report r row who line) (sym rows_are)
+            (subst (λ (n : ℕ). IsDue script report m.rows row (at_number who.cpu n) line) own
+            (a.due row line (slice_get_within m.rows row (lines.Offlined line) there) there (subst (λ (n : ℕ). n < length m.list) (sym own) inside)))
+
+        cause-at : (row : ℕ) (line : OfflinedLine) → slice_get m.rows row ≡ Some (lines.Offlined line) → line.seq ≡ who.seq → IsOffline script report who line.frame line.result
+        cause-at row line there own =
+            subst (λ (n : ℕ). IsOffline script report (at_number who.cpu n) line.frame line.result) own
+            (all.good who.cpu m.list m.rows m.of_script m.of_report row (lines.Offlined line) (slice_get_within m.rows row (lines.Offlined line) there) there command (ap (slice_get m.list) own ∙ m.there))
 
     pub all_named : AreNamed report.pages report.cpus
     all_named at e there answering = which (is_at (entry_named has.answer) at) (list_any (names_beside e.who.seq at) m.rows) refl refl

@@ -12,22 +12,24 @@ use Rattle.hwp_check_evidence.specs.hwp_report_text.declared.CpuLine.{CpuLine}
 use Rattle.hwp_check_evidence.specs.hwp_report_text.declared.CpuLine.TheVariants as lines
 use Rattle.hwp_check_evidence.specs.hwp_report_text.declared.Report.{Report}
 use Rattle.hwp_check_evidence.proofs.ListItems.{item_at}
-use Rattle.hwp_check_rules.specs.AnswerFaults.{IsAnswerWrong}
+use Rattle.hwp_check_rules.specs.hwp_law.Lines.{seq_of}
 use Rattle.hwp_check_rules.specs.Standing.{cpu_line}
 use Rattle.hwp_check_rules.specs.declared.Rule.TheVariants.{Shape}
 use Rattle.hwp_check_rules.specs.Verdicts.{HoldBelow}
-use Rattle.hwp_check_answers.specs.Facts.{at_number}
-use Rattle.hwp_check_answers.specs.Judging.{IsGood}
+use Rattle.hwp_check_answers.specs.Facts.{IsBadOf, IsGoodOf}
 use Rattle.hwp_check_answers.specs.Placing.{AreInPlace, IsFirstOut}
-use Rattle.hwp_check_answers.specs.Sifting.{AreAllSound, AreSound, IsBehind, IsCut, IsFirstAnswer, IsUnsound, IsWrongAnswer}
+use Rattle.hwp_check_answers.specs.Sifting.{AreAllSound, AreSound, IsBehind, IsCut, IsFirstAnswer, IsUnsound, IsWrongLine}
 use Rattle.hwp_check_answers.proofs.OrderLaws.{later-line, next-line}
 
 -- what is good isn't wrong
-pub good-not-wrong : (script : Script) (report : Report) (before : List CpuLine) (who : Who) (command : Command) (answer : Answer) → IsGood script report before who command answer → IsAnswerWrong script report before who command answer → ⊥
-good-not-wrong script report before who command answer good (inl wrong) = wrong good.right
-good-not-wrong script report before who command answer good (inr (inl wrong)) = good.named wrong
-good-not-wrong script report before who command answer good (inr (inr (inl wrong))) = good.within wrong
-good-not-wrong script report before who command answer good (inr (inr (inr wrong))) = good.stays wrong
+pub good-not-wrong : (script : Script) (report : Report) (cpu : Cpu) (before : List CpuLine) (command : Command) (shown : CpuLine) → IsGoodOf script report cpu before command shown → IsBadOf script report cpu before command shown → ⊥
+good-not-wrong script report cpu before command (lines.Answer seq answer) good (inl wrong) = wrong good.right
+good-not-wrong script report cpu before command (lines.Answer seq answer) good (inr (inl wrong)) = good.named wrong
+good-not-wrong script report cpu before command (lines.Answer seq answer) good (inr (inr (inl wrong))) = good.within wrong
+good-not-wrong script report cpu before command (lines.Answer seq answer) good (inr (inr (inr wrong))) = good.stays wrong
+good-not-wrong script report cpu before command (lines.Offlined line) good wrong = wrong good
+good-not-wrong script report cpu before command (lines.Event event) good wrong = wrong
+good-not-wrong script report cpu before command (lines.Guest guest) good wrong = wrong
 
 same-cpu : (a b : Cpu) → a.0 ≡ b.0 → a ≡ b
 same-cpu a b is = λ i. record { 0 = is i }
@@ -66,12 +68,11 @@ all_sound script report n all below cpu commands rows one other =
 
 module _ (script : Script) (report : Report) where
   -- a wrong answer of a sound processor stands behind a line that is out of place
-  pub behind : (w : ℕ) (wrong : IsWrongAnswer script report w) → AreSound script report wrong.cpu wrong.commands wrong.rows → IsBehind script report w
+  pub behind : (w : ℕ) (wrong : IsWrongLine script report w) → AreSound script report wrong.cpu wrong.commands wrong.rows → IsBehind script report w
   behind w wrong sound = elim (cases_lt wrong.row sound.end) [
-    | inl low ↦ absurd (good-not-wrong script report (take wrong.row wrong.rows) (at_number wrong.cpu wrong.seq) wrong.command wrong.answer
-        (sound.good wrong.row (lines.Answer wrong.seq wrong.answer) low wrong.there wrong.seq wrong.answer wrong.command refl wrong.made) wrong.wrong)
+    | inl low ↦ absurd (good-not-wrong script report wrong.cpu (take wrong.row wrong.rows) wrong.command wrong.shown (sound.good wrong.row wrong.shown low wrong.there wrong.command wrong.made) wrong.wrong)
     | inr high ↦ elim sound.cut.whole [
-      | inl whole ↦ absurd (let inside : wrong.row < length wrong.rows = slice_get_within wrong.rows wrong.row (lines.Answer wrong.seq wrong.answer) wrong.there in let e : sound.end ≡ length wrong.rows = whole in omega (arith, high, inside, e))
+      | inl whole ↦ absurd (let inside : wrong.row < length wrong.rows = slice_get_within wrong.rows wrong.row wrong.shown wrong.there in let e : sound.end ≡ length wrong.rows = whole in omega (arith, high, inside, e))
       | inr out ↦ record {
         other = cpu_line report wrong.cpu.0 + 1 + sound.end;
         disorder = inr (record { cpu = wrong.cpu.0; commands = wrong.commands; rows = wrong.rows; row = sound.end; shown = out.line; of_script = wrong.of_script; of_report = wrong.of_report; there = out.there; line_is = refl; out = out.out });
@@ -92,12 +93,11 @@ module _ (script : Script) (report : Report) where
         commands = commands;
         rows = rows;
         row = u.row;
-        seq = u.bad.bad.seq;
-        answer = u.bad.bad.answer;
+        shown = u.bad.line;
         command = u.bad.bad.command;
         of_script = of_script;
         of_report = of_report;
-        there = u.bad.there ∙ ap Some u.bad.bad.line_is;
+        there = u.bad.there;
         made = u.bad.bad.made;
         line_is = let l : line ≡ heading + 1 + u.row = u.line_is in omega (arith, l, heading_is);
         wrong = u.bad.bad.wrong;
@@ -117,7 +117,7 @@ module _ (script : Script) (report : Report) where
           | inr most ↦ absurd (apart (omega (arith, high, most)))
         ]
 
-        after : (other : ℕ) (w : IsWrongAnswer script report other) → n + 1 ≤ w.cpu.0 → IsUnsound script report here commands rows heading line → line ≤ other
+        after : (other : ℕ) (w : IsWrongLine script report other) → n + 1 ≤ w.cpu.0 → IsUnsound script report here commands rows heading line → line ≤ other
         after other w less v =
             let next : cpu_line report (n + 1) ≡ cpu_line report n + 1 + length rows = next-line report n rows of_report in
             let rises : cpu_line report (n + 1) ≤ cpu_line report w.cpu.0 = later-line report (n + 1) w.cpu.0 less in
@@ -126,18 +126,18 @@ module _ (script : Script) (report : Report) where
             let o : other ≡ cpu_line report w.cpu.0 + 1 + w.row = w.line_is in
             omega (arith, next, rises, inside, l, o, heading_is)
 
-        in-here : (other : ℕ) (w : IsWrongAnswer script report other) → n ≡ w.cpu.0 → IsUnsound script report here commands rows heading line → line ≤ other
+        in-here : (other : ℕ) (w : IsWrongLine script report other) → n ≡ w.cpu.0 → IsUnsound script report here commands rows heading line → line ≤ other
         in-here other w same v = elim (cases_lt w.row v.row) [
           | inl low ↦
               let rows_are : w.rows ≡ rows = same_Some _ _ (sym w.of_report ∙ ap (slice_get report.cpus) (sym same) ∙ of_report) in
               let commands_are : w.commands ≡ commands = same_Some _ _ (sym w.of_script ∙ ap (slice_get script.lists) (sym same) ∙ of_script) in
               let cpu_is : here ≡ w.cpu = same-cpu here w.cpu same in
-              let there : slice_get rows w.row ≡ Some (lines.Answer w.seq w.answer) = subst (λ (r : List CpuLine). slice_get r w.row ≡ Some (lines.Answer w.seq w.answer)) rows_are w.there in
-              let made : slice_get commands w.seq ≡ Some w.command = subst (λ (c : List Command). slice_get c w.seq ≡ Some w.command) commands_are w.made in
-              let good : IsGood script report (take w.row rows) (at_number here w.seq) w.command w.answer = v.bad.before w.row (lines.Answer w.seq w.answer) low there w.seq w.answer w.command refl made in
-              absurd (good-not-wrong script report (take w.row w.rows) (at_number w.cpu w.seq) w.command w.answer
-              (subst (λ (c : Cpu). IsGood script report (take w.row w.rows) (at_number c w.seq) w.command w.answer) cpu_is
-              (subst (λ (r : List CpuLine). IsGood script report (take w.row r) (at_number here w.seq) w.command w.answer) (sym rows_are) good)) w.wrong)
+              let there : slice_get rows w.row ≡ Some w.shown = subst (λ (r : List CpuLine). slice_get r w.row ≡ Some w.shown) rows_are w.there in
+              let made : slice_get commands (seq_of w.shown) ≡ Some w.command = subst (λ (c : List Command). slice_get c (seq_of w.shown) ≡ Some w.command) commands_are w.made in
+              let good : IsGoodOf script report here (take w.row rows) w.command w.shown = v.bad.before w.row w.shown low there w.command made in
+              absurd (good-not-wrong script report w.cpu (take w.row w.rows) w.command w.shown
+              (subst (λ (c : Cpu). IsGoodOf script report c (take w.row w.rows) w.command w.shown) cpu_is
+              (subst (λ (r : List CpuLine). IsGoodOf script report here (take w.row r) w.command w.shown) (sym rows_are) good)) w.wrong)
           | inr high ↦
               let l : line ≡ heading + 1 + v.row = v.line_is in
               let o : other ≡ cpu_line report w.cpu.0 + 1 + w.row = w.line_is in

@@ -8,7 +8,8 @@ use Rattle.hwp_check_evidence.specs.hwp_report_text.declared.Answer.{Answer}
 use Rattle.hwp_check_evidence.specs.hwp_report_text.declared.CpuLine.{CpuLine}
 use Rattle.hwp_check_evidence.specs.hwp_report_text.declared.CpuLine.TheVariants as lines
 use Rattle.hwp_check_evidence.specs.hwp_report_text.declared.Report.{Report}
-use Rattle.hwp_check_evidence.specs.hwp_law.Lines.{answer_among}
+use Rattle.hwp_check_evidence.specs.hwp_law.Lines.{answer_among, seq_of}
+use Rattle.hwp_check_evidence.specs.hwp_law.Offlined.{IsOffline}
 use Rattle.hwp_check_evidence.specs.Counts.{AreCounts, AreFlags}
 use Rattle.hwp_check_evidence.specs.Firsts.{AreNames, is_named}
 use Rattle.hwp_check_evidence.specs.Named.{flagged_pages}
@@ -35,21 +36,30 @@ pub record AreNamings (report : Report) (cpu : Cpu) (commands : List Command) (r
   pub many : length naming.others.items ≡ length commands
   pub others : naming.others.items ≡ flagged_pages (is_named naming.names) cpu (replicate (length commands) false) 0 report.pages
 
--- where the line is the answer of a command, nothing is wrong about it; or something is
 abbrev pub at_number : Cpu → ℕ → Who
 at_number cpu seq = record { cpu = cpu; seq = seq }
 
+-- nothing is wrong about a line of the command: an answer is good, and the report shows the cause of what came of a frame that was taken
+-- out of use beside it
+abbrev pub IsGoodOf : Script → Report → Cpu → List CpuLine → Command → CpuLine → Type 0
+IsGoodOf script report cpu before command (lines.Answer seq answer) = IsGood script report before (at_number cpu seq) command answer
+IsGoodOf script report cpu before command (lines.Offlined line) = IsOffline script report (at_number cpu line.seq) line.frame line.result
+IsGoodOf script report cpu before command _ = Unit {0}
+
+-- or something is
+abbrev pub IsBadOf : Script → Report → Cpu → List CpuLine → Command → CpuLine → Type 0
+IsBadOf script report cpu before command (lines.Answer seq answer) = IsAnswerWrong script report before (at_number cpu seq) command answer
+IsBadOf script report cpu before command (lines.Offlined line) = IsOffline script report (at_number cpu line.seq) line.frame line.result → ⊥
+IsBadOf script report cpu before command _ = ⊥
+
+-- the same of a line, if it is of a command
 abbrev pub IsGoodRow : Script → Report → Cpu → List Command → List CpuLine → CpuLine → Type 0
-IsGoodRow script report cpu commands before line =
-    (seq : ℕ) (answer : Answer) (command : Command) → line ≡ lines.Answer seq answer → slice_get commands seq ≡ Some command → IsGood script report before (at_number cpu seq) command answer
+IsGoodRow script report cpu commands before line = (command : Command) → slice_get commands (seq_of line) ≡ Some command → IsGoodOf script report cpu before command line
 
 pub record IsBadRow (script : Script) (report : Report) (cpu : Cpu) (commands : List Command) (before : List CpuLine) (line : CpuLine) : Type 0 where
-  pub seq : ℕ
-  pub answer : Answer
   pub command : Command
-  pub line_is : line ≡ lines.Answer seq answer
-  pub made : slice_get commands seq ≡ Some command
-  pub wrong : IsAnswerWrong script report before (at_number cpu seq) command answer
+  pub made : slice_get commands (seq_of line) ≡ Some command
+  pub wrong : IsBadOf script report cpu before command line
 
 -- the first lines are good
 abbrev pub AreGoodRows : Script → Report → Cpu → List Command → List CpuLine → ℕ → Type 0

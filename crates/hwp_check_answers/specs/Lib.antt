@@ -2,6 +2,7 @@ pub mod Placing
 pub mod Disorders
 pub mod Judging
 pub mod Facts
+pub mod Offlining
 pub mod Sifting
 pub mod Joining
 pub mod Firsts

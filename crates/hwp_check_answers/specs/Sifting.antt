@@ -3,14 +3,12 @@ use Rattle.std.specs.Prelude.{◌≡◌, ◌⊎◌, ℕ, ◌+◌, ◌≤◌, Lis
 use Rattle.hwp_check_evidence.specs.hwp_geom.declared.Cpu.{Cpu}
 use Rattle.hwp_check_evidence.specs.hwp_script_read.declared.Command.{Command}
 use Rattle.hwp_check_evidence.specs.hwp_script_read.declared.Script.{Script}
-use Rattle.hwp_check_evidence.specs.hwp_report_text.declared.Answer.{Answer}
 use Rattle.hwp_check_evidence.specs.hwp_report_text.declared.CpuLine.{CpuLine}
-use Rattle.hwp_check_evidence.specs.hwp_report_text.declared.CpuLine.TheVariants as lines
 use Rattle.hwp_check_evidence.specs.hwp_report_text.declared.Report.{Report}
-use Rattle.hwp_check_rules.specs.AnswerFaults.{IsAnswerWrong}
 use Rattle.hwp_check_rules.specs.Standing.{row_line}
 use Rattle.hwp_check_answers.specs.Disorders.{AreAllOrderly, IsDisorder}
-use Rattle.hwp_check_answers.specs.Facts.{AreGoodRows, IsFirstBad, at_number}
+use Rattle.hwp_check_rules.specs.hwp_law.Lines.{seq_of}
+use Rattle.hwp_check_answers.specs.Facts.{AreGoodRows, IsBadOf, IsFirstBad}
 use Rattle.hwp_check_answers.specs.Placing.{FirstInPlace, IsFirstOut}
 
 -- so many lines of a processor are in place, and the next isn't, if there is one
@@ -19,7 +17,7 @@ pub record IsCut (commands : List Command) (rows : List CpuLine) (end : ℕ) : T
   pub places : FirstInPlace commands rows end
   pub whole : (end ≡ length rows) ⊎ IsFirstOut commands rows end
 
--- nothing is wrong about the answers among them; or this is the line of the first that has something wrong about it, where the
+-- nothing is wrong about what they say; or this is the line of the first that has something wrong about it, where the
 -- processor's heading stands at `heading`
 pub record AreSound (script : Script) (report : Report) (cpu : Cpu) (commands : List Command) (rows : List CpuLine) : Type 0 where
   pub end : ℕ
@@ -37,21 +35,20 @@ pub record IsUnsound (script : Script) (report : Report) (cpu : Cpu) (commands :
 abbrev pub AreAllSound : Script → Report → Type 0
 AreAllSound script report = (cpu : Cpu) (commands : List Command) (rows : List CpuLine) → slice_get script.lists cpu.0 ≡ Some commands → slice_get report.cpus cpu.0 ≡ Some rows → AreSound script report cpu commands rows
 
--- an answer that has something wrong about it
-pub record IsWrongAnswer (script : Script) (report : Report) (line : ℕ) : Type 0 where
+-- a line of a command that has something wrong about it: an answer, or what came of a frame that was taken out of use
+pub record IsWrongLine (script : Script) (report : Report) (line : ℕ) : Type 0 where
   pub cpu : Cpu
   pub commands : List Command
   pub rows : List CpuLine
   pub row : ℕ
-  pub seq : ℕ
-  pub answer : Answer
+  pub shown : CpuLine
   pub command : Command
   pub of_script : slice_get script.lists cpu.0 ≡ Some commands
   pub of_report : slice_get report.cpus cpu.0 ≡ Some rows
-  pub there : slice_get rows row ≡ Some (lines.Answer seq answer)
-  pub made : slice_get commands seq ≡ Some command
+  pub there : slice_get rows row ≡ Some shown
+  pub made : slice_get commands (seq_of shown) ≡ Some command
   pub line_is : line ≡ row_line report cpu.0 row
-  pub wrong : IsAnswerWrong script report (take row rows) (at_number cpu seq) command answer
+  pub wrong : IsBadOf script report cpu (take row rows) command shown
 
 -- a line that is out of place stands before
 pub record IsBehind (script : Script) (report : Report) (line : ℕ) : Type 0 where
@@ -59,16 +56,16 @@ pub record IsBehind (script : Script) (report : Report) (line : ℕ) : Type 0 wh
   pub disorder : IsDisorder script report other
   pub before : other ≤ line
 
--- the line is that of a wrong answer, and of none before, but for those behind a line that is out of place
+-- the line is that of a wrong line, and of none before, but for those behind a line that is out of place
 pub record IsFirstAnswer (script : Script) (report : Report) (line : ℕ) : Type 0 where
-  pub at : IsWrongAnswer script report line
-  pub first : (other : ℕ) → IsWrongAnswer script report other → (line ≤ other) ⊎ IsBehind script report other
+  pub at : IsWrongLine script report line
+  pub first : (other : ℕ) → IsWrongLine script report other → (line ≤ other) ⊎ IsBehind script report other
 
 -- each line is in its place, each command has an answer, and nothing is wrong about any
 pub record AreAllRight (script : Script) (report : Report) : Type 0 where
   pub orderly : AreAllOrderly script report
   pub good : (cpu : Cpu) (commands : List Command) (rows : List CpuLine) → slice_get script.lists cpu.0 ≡ Some commands → slice_get report.cpus cpu.0 ≡ Some rows → AreGoodRows script report cpu commands rows (length rows)
 
--- a line that is out of place, the heading of a processor where a command has no answer, or a wrong answer
+-- a line that is out of place, the heading of a processor where a command has no answer, or a wrong line
 abbrev pub IsAnswerLine : Script → Report → ℕ → Type 0
-IsAnswerLine script report line = IsDisorder script report line ⊎ IsWrongAnswer script report line
+IsAnswerLine script report line = IsDisorder script report line ⊎ IsWrongLine script report line

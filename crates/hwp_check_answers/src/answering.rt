@@ -6,6 +6,7 @@ ghost use Rattle.hwp_check_rules.specs.declared.Rule.TheVariants.{Answers};
 ghost use Rattle.hwp_check_rules.specs.Verdicts.{HoldBelow, Holds, IsBroken};
 ghost use Rattle.hwp_check_evidence.specs.hwp_law.Events.{AreEvents};
 ghost use Rattle.hwp_check_answers.specs.Joining.{BreakEvents, IsEventLine};
+ghost use Rattle.hwp_check_answers.specs.Offlining.{AreAllOfflined, IsOfflinedLine};
 ghost use Rattle.hwp_check_answers.specs.Sifting.{AreAllRight, IsAnswerLine};
 
 use crate::disorders::disorders;
@@ -31,23 +32,25 @@ pub(crate) fn answer_lines(
     Ok(soonest(disorder, wrong))
 }
 
-/// The first line of a report that breaks the rule of answers, by the first of those of its answers and the first of its event
-/// lines.
-#[tactic(auto, using(crate::proofs::RuleJoin::both_lines))]
-pub(crate) fn first_of_both(
+/// The first line of a report that breaks the rule of answers, by the first of those of its answers, the first of its event lines and
+/// the first of its lines of frames taken out of use.
+#[tactic(auto, using(crate::proofs::RuleJoin::all_lines))]
+pub(crate) fn first_of_all(
     script: &Script,
     report: &Report,
     lines: Option<u64>,
     events: Option<u64>,
+    offlined: Option<u64>,
 ) -> Option<u64>
     requires valid { IsValid script.now }
     requires below { HoldBelow 3 script.now report.now }
     requires lines { MatchOption lines (AreAllRight script.now report.now) (IsLeast (IsAnswerLine script.now report.now)) }
     requires events { MatchOption events (AreEvents script.now report.now) (IsLeast (IsEventLine script.now report.now)) }
+    requires offlined { MatchOption offlined (AreAllOfflined script.now report.now) (IsLeast (IsOfflinedLine script.now report.now)) }
     requires breaks { BreakEvents script.now report.now }
     ensures { MatchOption result (Holds Answers script.now report.now) (IsBroken Answers script.now report.now) }
 {
     let _script = script;
     let _report = report;
-    soonest(lines, events)
+    soonest(soonest(lines, events), offlined)
 }

@@ -13,7 +13,7 @@ use hwp_check_rules::{
 use std::alloc::Global;
 
 /// The first line of a processor, whose heading stands at `heading`, where its event lines are wrong.
-fn line_of(found: Misfits, heading: u64) -> Option<u64>
+pub(crate) fn line_of(found: Misfits, heading: u64) -> Option<u64>
     requires { IfSome found.wrong (λ row. heading + 1 + row < 2 ^ 64) }
     ensures { result ≡ line_of found heading }
 {

@@ -9,6 +9,7 @@ mod events;
 mod facts;
 mod given;
 mod judging;
+mod offlines;
 mod placing;
 mod processor;
 mod rule;

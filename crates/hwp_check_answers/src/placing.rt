@@ -1,5 +1,5 @@
 ghost use Rattle.std.specs.Prelude.{◌≡◌, ◌↔◌, IsTrue, IfOk, MatchOption, Some, false, slice_get};
-ghost use Rattle.hwp_check_rules.specs.Answered.{is_event_or_answer};
+ghost use Rattle.hwp_check_rules.specs.Answered.{is_of_command};
 ghost use Rattle.hwp_check_rules.specs.hwp_law.Lines.{seq_of};
 ghost use Rattle.hwp_check_answers.specs.Placing.{AreInPlace, AreSet, HasNone, HaveAnswers, IsFirstOut, IsOfNext, TellAnswers, marked};
 
@@ -18,13 +18,13 @@ fn seq_of(row: &CpuLine) -> u32
     }
 }
 
-/// Whether the line is an event line or an answer.
-fn is_event_or_answer(row: &CpuLine) -> bool
-    ensures { result ≡ is_event_or_answer row.now }
+/// Whether the line is of a kind that commands have.
+fn is_of_command(row: &CpuLine) -> bool
+    ensures { result ≡ is_of_command row.now }
 {
     match row {
-        CpuLine::Event(_) | CpuLine::Answer { .. } => true,
-        CpuLine::Offlined(_) | CpuLine::Guest(_) => false,
+        CpuLine::Event(_) | CpuLine::Offlined(_) | CpuLine::Answer { .. } => true,
+        CpuLine::Guest(_) => false,
     }
 }
 
@@ -33,7 +33,7 @@ fn is_of_next(answered: usize, commands: usize, row: &CpuLine) -> bool
     ensures { IsTrue result ↔ IsOfNext answered commands row.now }
 {
     let seq = seq_of(row) as usize;
-    seq == answered && seq < commands && is_event_or_answer(row)
+    seq == answered && seq < commands && is_of_command(row)
 }
 
 /// The number of the first line of a processor that is not of the command whose answer comes next.

@@ -4,8 +4,9 @@ ghost use Rattle.hwp_check_rules.specs.Standing.{last_line};
 ghost use Rattle.hwp_check_rules.specs.declared.Rule.TheVariants.{Answers};
 ghost use Rattle.hwp_check_rules.specs.Verdicts.{HoldBelow, Holds, IsBroken};
 
-use crate::answering::{answer_lines, first_of_both};
+use crate::answering::{answer_lines, first_of_all};
 use crate::events::{event_lines, lines_break};
+use crate::offlines::offlined_lines;
 use hwp_check_rules::{OutOfMemory, Report, Script};
 use std::alloc::Global;
 
@@ -22,6 +23,7 @@ pub fn answers_fault(
 {
     let lines = answer_lines(alloc, script, report)?;
     let events = event_lines(alloc, script, report)?;
+    let offlined = offlined_lines(alloc, script, report)?;
     lines_break(script, report);
-    Ok(first_of_both(script, report, lines, events))
+    Ok(first_of_all(script, report, lines, events, offlined))
 }

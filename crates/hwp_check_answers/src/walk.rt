@@ -1,6 +1,8 @@
-ghost use Rattle.std.specs.Prelude.{◌≡◌, ◌≤◌, MatchBool, MatchOption, Some, length, slice_get};
+ghost use Rattle.std.specs.Prelude.{◌≡◌, ◌≤◌, ◌↔◌, IsTrue, MatchBool, MatchOption, Some, length, slice_get};
 ghost use Rattle.hwp_check_evidence.specs.hwp_report_text.declared.CpuLine.TheVariants as lines;
 ghost use Rattle.hwp_check_evidence.specs.hwp_law.Lines.{answer_among};
+ghost use Rattle.hwp_check_evidence.specs.hwp_law.Offlined.{IsOffline};
+ghost use Rattle.hwp_check_answers.specs.Facts.{at_number};
 ghost use Rattle.hwp_check_answers.specs.Judging.{IsNextOf};
 ghost use Rattle.hwp_check_answers.specs.Placing.{FirstInPlace};
 ghost use Rattle.hwp_check_answers.specs.Walk.{AreGoodLines, IsBadLine, IsCourseAt, IsFirstBadLine, IsGoodAt, IsGoodLine, IsWrongAt, answered_before};
@@ -9,7 +11,8 @@ use crate::course::note;
 use crate::given::GivenAnswer;
 use crate::judging::{Course, is_good};
 use crate::processor::JudgedProcessor;
-use hwp_check_rules::{Answer, Command, CpuLine};
+use hwp_check_causes::is_offlined;
+use hwp_check_rules::{Answer, Command, CpuLine, OfflinedLine};
 
 /// Whether nothing is wrong about the answer of this command.
 fn is_good_command<'a>(
@@ -35,7 +38,27 @@ fn is_good_command<'a>(
     })
 }
 
+/// Whether the report shows the cause of what came of the frame that this command took out of use.
+fn is_caused(processor: &JudgedProcessor<'_>, line: &OfflinedLine, command: &Command) -> bool
+    requires { slice_get processor.now.commands line.now.seq ≡ Some command.now }
+    ensures { IsTrue result ↔ IsOffline processor.now.script processor.now.report (at_number processor.now.cpu line.now.seq) line.now.frame line.now.result }
+{
+    is_offlined(&processor.case(line.seq, command), line.frame, line.result)
+}
+
+/// The same of any line of a frame taken out of use, if it is of a command.
+#[tactic(auto, using(crate::proofs::WalkLaws::offlined_there, crate::proofs::WalkLaws::offlined_free))]
+fn is_good_offlined(processor: &JudgedProcessor<'_>, number: usize, line: &OfflinedLine) -> bool
+    ensures { MatchBool result (IsGoodLine processor.now number (lines.Offlined line.now)) (IsBadLine processor.now number (lines.Offlined line.now)) }
+{
+    match processor.command(line.seq) {
+        Some(command) => is_caused(processor, line, command),
+        None => true,
+    }
+}
+
 /// Whether nothing is wrong about the answer of a command, if there is such a command.
+#[tactic(auto, using(crate::proofs::WalkLaws::good_there, crate::proofs::WalkLaws::good_free))]
 fn is_good_answer(
     processor: &JudgedProcessor<'_>,
     number: usize,
@@ -67,7 +90,8 @@ fn is_good_row(
     ensures { MatchBool result (IsGoodLine processor.now number row.now) (IsBadLine processor.now number row.now) }
 {
     match row {
-        CpuLine::Event(_) | CpuLine::Offlined(_) | CpuLine::Guest(_) => true,
+        CpuLine::Event(_) | CpuLine::Guest(_) => true,
+        CpuLine::Offlined(line) => is_good_offlined(processor, number, line),
         CpuLine::Answer { seq, answer } => {
             is_good_answer(processor, number, course, *seq, answer)
         }
