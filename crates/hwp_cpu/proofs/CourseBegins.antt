@@ -32,7 +32,7 @@ start-unanswered j start = which (jobs.answer j) refl
 
 -- an access whose processor collects knows that, and has told of no event
 passed-none : (watching : Option Watching) (j : Job) → IsTold (collects watching) j → IsAtStop j → collects watching ≡ true → HasPassed j 0
-passed-none watching (kinds.Instruction i) told start on = (told ∙ on, sym (ap length (untold-at-start (kinds.Instruction i) start)))
+passed-none watching (kinds.Instruction i) told start on = (told ∙ on, λ goes. sym (ap length (untold-at-start (kinds.Instruction i) start)))
 passed-none watching _ told start on = tt
 
 pub course-begins : (layout : Layout) (view : View) (who : Who) (command : Command) (local : Local) (c : Course) → BeginsCourse layout who command local c → jobs.FitsFrom [] layout view c.own → IsOfMachine layout local.watching → courses.Fits layout view c

@@ -136,7 +136,7 @@ own-notes base layout old new watching (kinds.Unpoison u) k noted fits made on t
 pub own-unnoted : (base : List Made) (layout : Layout) (old new : View) (watching : Option Watching) (j k : Job) (noted : ℕ) → jobs.FitsFrom base layout old j → Stepped layout old new j k → collects watching ≡ true → HasPassed j noted → HasToldAll watching j noted → is_access k ≡ true → jobs.pauses k ≡ false
     → told_notes layout (told_of k) ≡ told_notes layout (take noted (told_of k))
 own-unnoted base layout old new watching (kinds.Instruction i) k noted fits made on past told is still =
-    access-unnoted layout old new i k fits made past.0 still ∙ ap (told_notes layout) (sym (ap (take noted) grown.1 ∙ taken-told i.lines.told grown.0 noted told))
+    access-unnoted layout old new i k fits made past.0 still ∙ ap (told_notes layout) (sym (ap (take noted) grown.1 ∙ taken-told i.lines.told grown.0 noted (told on)))
   where
     grown : (more : List EventOutcome) × (told_of k ≡ i.lines.told ++ more)
     grown = told-longer layout (kinds.Instruction i) k made.found made.got made.turn made.follows
