@@ -1,9 +1,9 @@
 -- How the collector makes frames due: its notes one after the other, the events by machine checks, and what is so of each due frame.
-use Rattle.std.proofs.Common.{◌≡◌, ◌⊎◌, inl, inr, ℕ, zero, suc, ◌+◌, ◌<◌, ◌≤◌, ◌==◌, ◌&&◌, nat_lt, Bool, true, false, cond, List, [], ◌∷◌, ◌++◌, Option, Some, None, drop, filter_map, flat_map, length, map, not, take, if◌then◌else◌, append-nil, append_assoc, refl, sym, ap, ◌∙◌, subst, arith}
+use Rattle.std.proofs.Common.{◌≡◌, ◌⊎◌, inl, inr, ℕ, zero, suc, ◌+◌, ◌<◌, ◌≤◌, ◌==◌, ◌&&◌, ◌||◌, nat_lt, Bool, true, false, cond, List, [], ◌∷◌, ◌++◌, Option, Some, None, drop, filter_map, flat_map, length, map, not, slice_get, take, if◌then◌else◌, append-nil, append_assoc, refl, sym, ap, ◌∙◌, subst, arith}
 use Rattle.std.specs.List.{cons_option, list_any}
 use Rattle.std.proofs.lemmas.Bool.{both_ways, ltb-true}
-use Rattle.std.proofs.lemmas.List.{length-append, length-map, map-append}
-use Rattle.std.proofs.lemmas.Option.{none-some, same_Some}
+use Rattle.std.proofs.lemmas.List.{length-append, length-map, length-set, map-append, take_all, take_more}
+use Rattle.std.proofs.lemmas.Option.{get_or_from_slice_get, none-some, same_Some, slice_get_within}
 use Rattle.hwp_cpu_row.specs.hwp_geom.declared.Frame.{Frame}
 use Rattle.hwp_cpu_row.specs.hwp_geom.declared.Layout.{Layout}
 use Rattle.hwp_cpu_row.specs.hwp_report_text.declared.EventLine.{EventLine}
@@ -19,7 +19,7 @@ use Rattle.hwp_cpu_row.specs.hwp_law_commands.Watched.{Watched, offlining, told}
 use Rattle.hwp_law_commands.proofs.NoteLaws.{notes-append, notes-rising, offlining-append}
 use Rattle.hwp_cpu_row.specs.Acts.{event_at, told_notes}
 use Rattle.hwp_cpu_row.specs.Locals.{Collects}
-use Rattle.hwp_cpu_course.specs.Dues.{HasNoted, first_check, notes_of_lines}
+use Rattle.hwp_cpu_course.specs.Dues.{HasNoted, first_check, notes_of_event, notes_of_lines}
 
 -- ---- notes, one after the other
 
@@ -298,3 +298,90 @@ first-notes layout (t ∷ l) = whole (parts t l)
         split zero k = refl
         split (suc n) [] = refl
         split (suc n) (x ∷ xs) = ap (λ (r : List EventOutcome). x ∷ r) (split n xs)
+
+-- ---- an event, and the events of a machine check one after the other
+
+pub event-none : (layout : Layout) (t : EventOutcome) (c : Counters) (due : List Frame) → noted_frame layout (event_at 0 t) ≡ None → HasNoted (notes_of_event layout t) c due c due
+event-none layout t c due is = subst (λ (o : Option Frame). HasNoted (cons_option o []) c due c due) (sym is) (noted-none c due)
+
+many-noted : (c after : Counters) (frame : Frame) → after ≡ noted_in c frame.0 → length after.counts ≡ length c.counts
+many-noted c after frame is = ap (λ (k : Counters). length k.counts) is ∙ length-set c.counts frame.0 _
+
+pub event-offline : (layout : Layout) (t : EventOutcome) (f : Frame) (c after : Counters) (due all : List Frame) → noted_frame layout (event_at 0 t) ≡ Some f → f.0 < length c.counts → Says c f Offline after → all ≡ due ++ f ∷ [] → HasNoted (notes_of_event layout t) c due after all
+event-offline layout t f c after due all is within says same =
+    subst (λ (o : Option Frame). HasNoted (cons_option o []) c due after all) (sym is) (f ∷ [], same, collects-offline within (many-noted c after f says.counts) says)
+
+pub event-counted : (layout : Layout) (t : EventOutcome) (f : Frame) (k : ℕ) (c after : Counters) (due : List Frame) → noted_frame layout (event_at 0 t) ≡ Some f → f.0 < length c.counts → Says c f (Counted k) after → HasNoted (notes_of_event layout t) c due after due
+event-counted layout t f k c after due is within says =
+    subst (λ (o : Option Frame). HasNoted (cons_option o []) c due after due) (sym is) ([], sym (append-nil due), collects-counted within (many-noted c after f says.counts) k says)
+
+-- one event more
+filtered-one : (layout : Layout) (l : List EventOutcome) (t : EventOutcome) → filter_map (noted_frame layout) (lines (l ++ t ∷ [])) ≡ filter_map (noted_frame layout) (lines l) ++ notes_of_event layout t
+filtered-one layout [] t = refl
+filtered-one layout (x ∷ xs) t = which (noted_frame layout (event_at 0 x)) (filtered-one layout xs t)
+  where
+    which : (o : Option Frame) → filter_map (noted_frame layout) (lines (xs ++ t ∷ [])) ≡ filter_map (noted_frame layout) (lines xs) ++ notes_of_event layout t
+        → cons_option o (filter_map (noted_frame layout) (lines (xs ++ t ∷ []))) ≡ cons_option o (filter_map (noted_frame layout) (lines xs)) ++ notes_of_event layout t
+    which None is = is
+    which (Some f) is = ap (λ (l : List Frame). f ∷ l) is
+
+take-next : (l : List EventOutcome) (i : ℕ) (t : EventOutcome) → slice_get l i ≡ Some t → take (i + 1) l ≡ take i l ++ t ∷ []
+take-next l i t is = take_more l i t (slice_get_within l i t is) ∙ ap (λ (x : EventOutcome). take i l ++ x ∷ []) (get_or_from_slice_get l i t t is)
+
+pub check-more : (layout : Layout) (check : List EventOutcome) (i : ℕ) (t : EventOutcome) (c d e : Counters) (due mid all : List Frame) → slice_get check i ≡ Some t
+    → HasNoted (filter_map (noted_frame layout) (lines (take i check))) c due d mid → HasNoted (notes_of_event layout t) d mid e all → HasNoted (filter_map (noted_frame layout) (lines (take (i + 1) check))) c due e all
+check-more layout check i t c d e due mid all is so_far one =
+    subst (λ (l : List Frame). HasNoted l c due e all) (sym (ap (λ (l : List EventOutcome). filter_map (noted_frame layout) (lines l)) (take-next check i t is) ∙ filtered-one layout (take i check) t))
+    (noted-both (filter_map (noted_frame layout) (lines (take i check))) (notes_of_event layout t) due mid all c d e so_far one)
+
+-- and all of them, where none stopped the machine
+pub check-all : (layout : Layout) (check : List EventOutcome) (c d : Counters) (due all : List Frame) → list_any ends_machine (lines check) ≡ false → HasNoted (filter_map (noted_frame layout) (lines check)) c due d all → HasNoted (notes_of_lines layout check) c due d all
+check-all layout check c d due all goes has = subst (λ (b : Bool). HasNoted (if b then [] else filter_map (noted_frame layout) (lines check)) c due d all) (sym goes) has
+
+pub check-stopped : (layout : Layout) (check : List EventOutcome) (c : Counters) (due : List Frame) → list_any ends_machine (lines check) ≡ true → HasNoted (notes_of_lines layout check) c due c due
+check-stopped layout check c due stopped = subst (λ (b : Bool). HasNoted (if b then [] else filter_map (noted_frame layout) (lines check)) c due c due) (sym stopped) (noted-none c due)
+
+-- ---- one machine check after the other
+
+pub collect-step : (layout : Layout) (all_told rest : List EventOutcome) (so_far : List Frame) (c d e : Counters) (due mid all : List Frame) → HasNoted so_far c due d mid → told_notes layout all_told ≡ so_far ++ told_notes layout rest
+    → HasNoted (notes_of_lines layout (take (first_check rest) rest)) d mid e all → (new : List Frame) × HasNoted new c due e all × (told_notes layout all_told ≡ new ++ told_notes layout (drop (first_check rest) rest))
+collect-step layout all_told rest so_far c d e due mid all has is one = (
+  so_far ++ notes_of_lines layout (take (first_check rest) rest),
+  noted-both so_far (notes_of_lines layout (take (first_check rest) rest)) due mid all c d e has one,
+  is ∙ ap (λ (l : List Frame). so_far ++ l) (first-notes layout rest) ∙ sym (append_assoc so_far (notes_of_lines layout (take (first_check rest) rest)) (told_notes layout (drop (first_check rest) rest))),
+)
+
+pub collect-begins : (layout : Layout) (told : List EventOutcome) (c : Counters) (due : List Frame) → (new : List Frame) × HasNoted new c due c due × (told_notes layout told ≡ new ++ told_notes layout told)
+collect-begins layout told c due = ([], noted-none c due, refl)
+
+pub collect-done : (layout : Layout) (all_told rest : List EventOutcome) (so_far : List Frame) (c d : Counters) (due all : List Frame) → length rest ≡ 0 → HasNoted so_far c due d all → told_notes layout all_told ≡ so_far ++ told_notes layout rest → HasNoted (told_notes layout all_told) c due d all
+collect-done layout all_told [] so_far c d due all none has is = subst (λ (l : List Frame). HasNoted l c due d all) (sym (is ∙ append-nil so_far)) has
+collect-done layout all_told (x ∷ xs) so_far c d due all none has is = absurd (omega (arith, none))
+
+-- what the functions say
+
+any-lines : (l : List EventOutcome) → list_any ends_machine (lines l) ≡ list_any (λ (t : EventOutcome). ends_machine (event_at 0 t)) l
+any-lines [] = refl
+any-lines (t ∷ ts) = ap (λ (b : Bool). ends_machine (event_at 0 t) || b) (any-lines ts)
+
+pub one-check : (l : List EventOutcome) → length l ≡ 1 → 1 ≡ first_check l
+one-check [] one = absurd (omega (arith, one))
+one-check (t ∷ []) one = refl
+one-check (t ∷ n ∷ r) one = absurd (omega (arith, one))
+
+pub stopped-notes : (layout : Layout) (check : List EventOutcome) (c : Counters) (due : List Frame) → list_any (λ (t : EventOutcome). ends_machine (event_at 0 t)) check ≡ true → HasNoted (notes_of_lines layout check) c due c due
+stopped-notes layout check c due stopped = check-stopped layout check c due (any-lines check ∙ stopped)
+
+pub all-notes : (layout : Layout) (check : List EventOutcome) (i : ℕ) (c d : Counters) (due all : List Frame) → list_any (λ (t : EventOutcome). ends_machine (event_at 0 t)) check ≡ false → length check ≤ i
+    → HasNoted (filter_map (noted_frame layout) (lines (take i check))) c due d all → HasNoted (notes_of_lines layout check) c due d all
+all-notes layout check i c d due all goes past has = check-all layout check c d due all (any-lines check ∙ goes) (subst (λ (l : List EventOutcome). HasNoted (filter_map (noted_frame layout) (lines l)) c due d all) (take_all i check past) has)
+
+pub first-lower : (l : List EventOutcome) → false ≡ (length l == 0) → 0 < first_check l
+first-lower [] some = absurd (both_ways true (sym some) refl)
+first-lower (t ∷ ts) some = first-some t ts
+
+pub collect-next : (layout : Layout) (all_told rest front back : List EventOutcome) (n : ℕ) (c d e : Counters) (due mid all : List Frame) → (so_far : List Frame) × HasNoted so_far c due d mid × (told_notes layout all_told ≡ so_far ++ told_notes layout rest)
+    → n ≡ first_check rest → front ≡ take n rest → back ≡ drop n rest → HasNoted (notes_of_lines layout front) d mid e all → (new : List Frame) × HasNoted new c due e all × (told_notes layout all_told ≡ new ++ told_notes layout back)
+collect-next layout all_told rest front back n c d e due mid all so_far count is_front is_back one =
+    subst (λ (l : List EventOutcome). (new : List Frame) × HasNoted new c due e all × (told_notes layout all_told ≡ new ++ told_notes layout l)) (sym (is_back ∙ ap (λ (k : ℕ). drop k rest) count))
+    (collect-step layout all_told rest so_far.0 c d e due mid all so_far.1 so_far.2 (subst (λ (l : List EventOutcome). HasNoted (notes_of_lines layout l) d mid e all) (is_front ∙ ap (λ (k : ℕ). take k rest) count) one))

@@ -27,22 +27,22 @@ use Rattle.hwp_cpu_command_laws.specs.hwp_cpu_command.hwp_cpu_access.Instruction
 use Rattle.hwp_fault.proofs.AccessCosts.{access-mild}
 use Rattle.hwp_cpu_course.proofs.RestCosts.{paused-idle}
 
-module _ {layout : Layout} {seat : ℕ} {a b : State} {k : Job} {t : Turn} (frame : Frame) (cycle : ℕ) (pauses : jobs.pauses k ≡ true) (pending : Pending (words_at layout b) frame cycle) where
-  abbrev None-owned : Job → Type 0
-  None-owned j = Pending (words_at layout a) frame cycle × (jobs.claims j ≢ Some (frame, cycle))
+abbrev pub OwnsNone : Layout → State → Frame → ℕ → Job → Type 0
+OwnsNone layout a frame cycle j = Pending (words_at layout a) frame cycle × (jobs.claims j ≢ Some (frame, cycle))
 
+module _ {layout : Layout} {seat : ℕ} {a b : State} {k : Job} {t : Turn} (frame : Frame) (cycle : ℕ) (pauses : jobs.pauses k ≡ true) (pending : Pending (words_at layout b) frame cycle) where
   -- where its turn wasn't refused memory
-  by-rank : (j : Job) → Made jobs.task layout seat a b j k t → is_refused t ≡ false → None-owned j
+  by-rank : (j : Job) → Made jobs.task layout seat a b j k t → is_refused t ≡ false → OwnsNone layout a frame cycle j
   by-rank j made goes = elim (jobbing.ranked.owns layout seat a b j k t frame cycle made goes pending) [
     | inl claimed ↦ absurd (none-some (frame, cycle) (sym (paused-idle k pauses).0 ∙ claimed))
     | inr was ↦ was
   ]
 
   -- where its step leaves the failures of frames alone
-  by-step : (i : Instruction) (made : Made jobs.task layout seat a b (kinds.Instruction i) k t) (x : InstructionAt) → i.at ≡ x → instruction_costs.claims_at x ≡ None → IsMild made.step → None-owned (kinds.Instruction i)
+  by-step : (i : Instruction) (made : Made jobs.task layout seat a b (kinds.Instruction i) k t) (x : InstructionAt) → i.at ≡ x → instruction_costs.claims_at x ≡ None → IsMild made.step → OwnsNone layout a frame cycle (kinds.Instruction i)
   by-step i made x is none mild = (pending-kept made mild frame cycle pending, λ claimed. none-some (frame, cycle) (sym none ∙ sym (ap instruction_costs.claims_at is) ∙ claimed))
 
-  pub access-owns : (i : Instruction) → Made jobs.task layout seat a b (kinds.Instruction i) k t → None-owned (kinds.Instruction i)
+  pub access-owns : (i : Instruction) → Made jobs.task layout seat a b (kinds.Instruction i) k t → OwnsNone layout a frame cycle (kinds.Instruction i)
   access-owns i made = which i.at refl made.planned made.follows.2
     where
       handled : (f : Frame) (h : Handler) → instructions.FollowsAt layout (instructions.bare i) (instruction_at.Handle f (handlers.bare h)) made.found made.got made.follows.0 t → is_refused t ≡ true → ⊥
@@ -50,11 +50,11 @@ module _ {layout : Layout} {seat : ℕ} {a b : State} {k : Job} {t : Turn} (fram
           (sym pauses ∙ ap jobs.pauses made.follows.1 ∙ ap (λ (x : Instruction). is_some (instructions.pause x)) next.next_is
           ∙ ap (λ (o : Option Bool). is_some (instructions.pause (instructions.after_handler_by (instructions.bare i) f next.handler o))) (handler-unanswered layout h next.handler made.found made.got t next.follows no_)) refl
 
-      which-turn : (f : Frame) (h : Handler) → instructions.FollowsAt layout (instructions.bare i) (instruction_at.Handle f (handlers.bare h)) made.found made.got made.follows.0 t → (r : Bool) → is_refused t ≡ r → None-owned (kinds.Instruction i)
+      which-turn : (f : Frame) (h : Handler) → instructions.FollowsAt layout (instructions.bare i) (instruction_at.Handle f (handlers.bare h)) made.found made.got made.follows.0 t → (r : Bool) → is_refused t ≡ r → OwnsNone layout a frame cycle (kinds.Instruction i)
       which-turn f h next true no_ = absurd (handled f h next no_)
       which-turn f h next false goes = by-rank (kinds.Instruction i) made goes
 
-      which : (x : InstructionAt) → i.at ≡ x → instructions.plan_at x ≡ Some made.step → instructions.FollowsAt layout (instructions.bare i) (instructions.bare_at x) made.found made.got made.follows.0 t → None-owned (kinds.Instruction i)
+      which : (x : InstructionAt) → i.at ≡ x → instructions.plan_at x ≡ Some made.step → instructions.FollowsAt layout (instructions.bare i) (instructions.bare_at x) made.found made.got made.follows.0 t → OwnsNone layout a frame cycle (kinds.Instruction i)
       which (instruction_at.Handle f h) is e next = which-turn f h next (is_refused t) refl
       which (instruction_at.Access c) is e next = by-step i made (instruction_at.Access c) is refl (access-mild c made.step e)
       which (instruction_at.LoadFrame f) is e next = by-step i made (instruction_at.LoadFrame f) is refl (subst IsMild (same_Some (steps.Load (places.Frame f)) made.step e) tt)
@@ -64,7 +64,7 @@ module _ {layout : Layout} {seat : ℕ} {a b : State} {k : Job} {t : Turn} (fram
       which (instruction_at.Over o) is e next = absurd (none-some made.step e)
 
   -- of whatever command
-  pub pause-owns : (j : Job) → Made jobs.task layout seat a b j k t → None-owned j
+  pub pause-owns : (j : Job) → Made jobs.task layout seat a b j k t → OwnsNone layout a frame cycle j
   pause-owns (kinds.Instruction i) made = access-owns i made
   pause-owns (kinds.Evict x) made = absurd (both_ways true (sym pauses ∙ ap jobs.pauses made.follows.1) refl)
   pause-owns (kinds.Fsync x) made = absurd (both_ways true (sym pauses ∙ ap jobs.pauses made.follows.0) refl)

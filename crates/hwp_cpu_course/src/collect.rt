@@ -1,4 +1,5 @@
 ghost use Rattle.std.specs.Prelude.{◌≡◌, ◌+◌, ◌<◌, ◌≤◌, length, vec_len, vec_capacity};
+ghost use Rattle.std.specs.List.{list_any};
 ghost use Rattle.hwp_cpu_row.specs.Acts.{event_at, told_notes};
 ghost use Rattle.hwp_cpu_row.specs.hwp_law_commands.Commands.{is_kernels};
 ghost use Rattle.hwp_cpu_row.specs.hwp_law_commands.Notes.{ends_machine, is_corrected, noted_frame};
@@ -22,15 +23,16 @@ pub(crate) fn collect(
 {
     let mut rest = told;
     while !rest.is_empty() {
-        let count = first_check(rest);
-        note(layout, &rest[..count], collector, due);
-        rest = &rest[count..];
+        let (check, behind) = rest.split_at(first_check(rest));
+        note(layout, check, collector, due);
+        rest = behind;
     }
 }
 
 /// How many of the events are the first machine check's: each of its banks is above the one before.
 fn first_check(told: &[EventOutcome]) -> usize
-    ensures { result ≡ first_check told.now }
+    ensures count { result ≡ first_check told.now }
+    ensures within { result ≤ length told.now }
 {
     match told {
         [first, next, ..] if first.held.bank < next.held.bank => 1 + first_check(&told[1..]),
@@ -52,7 +54,7 @@ fn note(
     ensures len { vec_len due.new ≤ vec_len due.old + length check.now }
     ensures capacity { vec_capacity due.new ≡ vec_capacity due.old }
 {
-    if check.iter().any(|told| ends_machine(told)) {
+    if stops_machine(check) {
         return;
     }
     for told in check {
@@ -76,9 +78,17 @@ fn note_event(
     let Some(frame) = noted_frame(layout, told) else {
         return;
     };
-    if let Noted::Offline = collector.note(frame) {
-        due.push_reserved(frame);
+    match collector.note(frame) {
+        Noted::Offline => due.push_reserved(frame),
+        Noted::Counted(_) => {}
     }
+}
+
+/// Whether one of the events stopped the machine, or was a panic.
+fn stops_machine(check: &[EventOutcome]) -> bool
+    ensures { result ≡ list_any (λ t. ends_machine (event_at 0 t)) check.now }
+{
+    check.iter().any(|told| ends_machine(told))
 }
 
 /// Whether the event stopped the machine, or was a panic.
