@@ -3,6 +3,7 @@ ghost use Rattle.hwp_cpu_row.specs.hwp_geom.Layout.{IsSound};
 ghost use Rattle.hwp_cpu_row.specs.hwp_script_read.Valid.{IsCommandOf};
 ghost use Rattle.hwp_cpu_row.specs.Locals.{collects};
 ghost use Rattle.hwp_cpu_command_laws.specs.hwp_cpu_command.FileHandles.{HasChangeWithin, StandsOn};
+ghost use Rattle.hwp_cpu_command_laws.specs.hwp_cpu_command.Jobs.{told_of};
 ghost use Rattle.hwp_cpu_course.specs.Courses.{AfterCollecting, AfterOwnBy, AfterRest, BeginsCourse, Covers, IsGoingOn, answer, local_after, local_left, offline_result, passed, rests, row_of, with_result};
 
 use crate::due::DueFrames;
@@ -145,7 +146,7 @@ impl Course {
         ensures { AfterRest layout.now self.old self.new result }
     {
         let told = self.own.told().len();
-        if self.noted < told && layout.frames == self.frames && self.collect(layout, told).is_err() {
+        if self.noted < told && layout.frames == self.frames && self.collect(layout).is_err() {
             self.own.give_up();
             return Turn::Moved;
         }
@@ -153,19 +154,26 @@ impl Course {
     }
 
     /// The collector takes the notes of what the command told since it got some last.
-    fn collect(&mut self, layout: &Layout, told: usize) -> Result<(), OutOfMemory>
+    fn collect(&mut self, layout: &Layout) -> Result<(), OutOfMemory>
         requires on { collects self.old.watching ≡ true }
         requires covered { Covers layout.now.frames self.old.watching }
+        requires noted { self.old.noted ≤ length (told_of self.old.own) }
         ensures ok { OnOk result (AfterCollecting layout.now self.old self.new) }
         ensures err { OnErr result (self.new ≡ self.old) }
     {
         let Some(watching) = &mut self.watching else {
             unreachable!()
         };
-        let since = &self.own.told()[self.noted..];
-        self.due.collect(layout, since, &mut watching.collector)?;
-        self.noted = told;
-        Ok(())
+        let told = self.own.told();
+        let (_, since) = told.split_at(self.noted);
+        let noted = told.len();
+        match self.due.collect(layout, since, &mut watching.collector) {
+            Ok(()) => {
+                self.noted = noted;
+                Ok(())
+            }
+            Err(refused) => Err(refused),
+        }
     }
 
     /// The frame that was taken out of use beside it came to this.
