@@ -444,17 +444,17 @@ module _ {layout : Layout} {seat : ℕ} {a b : State} {c d : Course} {turn : Tur
         → (cost (going_on y o) wb ≤ soft_weight * (length c.due.frames - (length c.due.offlined + 1)) + rest-weight) × IsIdle (part_of (going_on y o).beside (going_on y o).own)
     ends-low r said y is (Some frame) next = (
       let all : cost (going_on y (Some frame)) wb + 4 ≤ soft_weight * (length y.due.frames - length y.due.offlined) + cond (jobs.pauses y.own) (anew_after_wait + 4) 0 = next-cost layout b y frame made.kept next in
-      let more : length y.due.offlined ≡ length c.due.offlined + 1 = ap (λ (z : Course). length z.due.offlined) is ∙ length-append c.due.offlined (_ ∷ []) in
-      let frames : length y.due.frames ≡ length c.due.frames = ap (λ (z : Course). length z.due.frames) is in
-      let own : cond (jobs.pauses y.own) (anew_after_wait + 4) 0 ≡ rest-weight = ap (λ (z : Course). cond (jobs.pauses z.own) (anew_after_wait + 4) 0) is in
-      omega (arith, all, more, frames, own),
+          let more : length y.due.offlined ≡ length c.due.offlined + 1 = ap (λ (z : Course). length z.due.offlined) is ∙ length-append c.due.offlined (_ ∷ []) in
+          let frames : length y.due.frames ≡ length c.due.frames = ap (λ (z : Course). length z.due.frames) is in
+          let own : cond (jobs.pauses y.own) (anew_after_wait + 4) 0 ≡ rest-weight = ap (λ (z : Course). cond (jobs.pauses z.own) (anew_after_wait + 4) 0) is in
+          omega (arith, all, more, frames, own),
       inr (omega arith),
     )
     ends-low r said y is None next = (
       let from-low = from.cost in
-      let own : own_cost (jobs.resume y.own) (jobs.plan (jobs.resume y.own)) wb ≡ own_cost (jobs.resume c.own) (jobs.plan (jobs.resume c.own)) wb = ap (λ (z : Course). own_cost (jobs.resume z.own) (jobs.plan (jobs.resume z.own)) wb) is in
-      let four : cond (jobs.pauses c.own) (anew_after_wait + 3) 0 ≤ rest-weight = by-four (jobs.pauses c.own) in
-      omega (arith, from-low, own, four),
+          let own : own_cost (jobs.resume y.own) (jobs.plan (jobs.resume y.own)) wb ≡ own_cost (jobs.resume c.own) (jobs.plan (jobs.resume c.own)) wb = ap (λ (z : Course). own_cost (jobs.resume z.own) (jobs.plan (jobs.resume z.own)) wb) is in
+          let four : cond (jobs.pauses c.own) (anew_after_wait + 3) 0 ≤ rest-weight = by-four (jobs.pauses c.own) in
+          omega (arith, from-low, own, four),
       subst (λ (z : Course). IsIdle (jobs.resume z.own)) (sym is) from.idle,
     )
       where

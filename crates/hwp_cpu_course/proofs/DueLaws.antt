@@ -56,12 +56,11 @@ collects-both {a} {b} {x} {y} {c} {d} {e} one other = record {
   within = each-both (λ (f : Frame). f.0 < length c.counts) x y one.within (subst (λ (n : ℕ). EachMember (λ (f : Frame). f.0 < n) y) one.many other.within);
   stands = λ events has.
       let first = one.stands events has in
-      let second = other.stands (events ++ map Note a) first.0 in
-      (
+      let second = other.stands (events ++ map Note a) first.0 in (
         subst (λ (l : List CecEvent). StandsFor l e) (append_assoc events (map Note a) (map Note b) ∙ ap (λ (l : List CecEvent). events ++ l) (sym (map-append Note a b))) second.0,
         ap (λ (l : List Frame). l ++ y) first.1
-        ∙ ap (λ (l : List Frame). offlining (watched c events) a ++ l) (second.1 ∙ ap (λ (w : Watched). offlining w b) (same events))
-        ∙ sym (offlining-append (watched c events) a b),
+            ∙ ap (λ (l : List Frame). offlining (watched c events) a ++ l) (second.1 ∙ ap (λ (w : Watched). offlining w b) (same events))
+            ∙ sym (offlining-append (watched c events) a b),
       );
 }
   where

@@ -158,7 +158,6 @@ goes-from layout view j w few (inl (said, idle)) = record {
   where
     over : jobs.plan j ≡ None
     over = answered-over j (some-of (jobs.answer j) said).1
-
 goes-from layout view (kinds.Instruction i) w few (inr ((p, rest), none)) = record {
   cost =
       let all : own_cost (kinds.Instruction (instructions.resume i)) (jobs.plan (kinds.Instruction (instructions.resume i))) w ≤ jobs.cost (kinds.Instruction (instructions.resume i)) w + 0 + 3 = own-most (kinds.Instruction (instructions.resume i)) _ w in
@@ -233,4 +232,3 @@ given-up-class _ told = absurd (told refl)
 -- it plans nothing, or has nothing in hand
 abbrev pub IsIdle : Job → Type 0
 IsIdle j = (jobs.plan j ≡ None) ⊎ (1 < jobs.class j)
-

@@ -42,12 +42,7 @@ fn first_check(told: &[EventOutcome]) -> usize
 }
 
 /// The collector takes the notes of one machine check: none where that stopped the machine.
-fn note(
-    layout: &Layout,
-    check: &[EventOutcome],
-    collector: &mut Collector,
-    due: &mut Vec<Frame>,
-)
+fn note(layout: &Layout, check: &[EventOutcome], collector: &mut Collector, due: &mut Vec<Frame>)
     requires frames { layout.now.frames ≤ length collector.old.counts }
     requires room { vec_len due.old + length check.now ≤ vec_capacity due.old }
     ensures noted { HasNoted (notes_of_lines layout.now check.now) collector.old due.old.items collector.new due.new.items }
@@ -63,12 +58,7 @@ fn note(
 }
 
 /// The collector takes the note of one event, if it makes one.
-fn note_event(
-    layout: &Layout,
-    told: &EventOutcome,
-    collector: &mut Collector,
-    due: &mut Vec<Frame>,
-)
+fn note_event(layout: &Layout, told: &EventOutcome, collector: &mut Collector, due: &mut Vec<Frame>)
     requires frames { layout.now.frames ≤ length collector.old.counts }
     requires room { vec_len due.old < vec_capacity due.old }
     ensures noted { HasNoted (notes_of_event layout.now told.now) collector.old due.old.items collector.new due.new.items }

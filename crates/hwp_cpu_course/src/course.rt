@@ -9,8 +9,8 @@ ghost use Rattle.hwp_cpu_course.specs.Courses.{AfterCollecting, AfterOwnBy, Afte
 use crate::due::DueFrames;
 use hwp_cpu_command_laws::{Job, offlined_by};
 use hwp_cpu_row::{
-    Answer, Body, Command, Frame, Layout, Local, OfflineResult, Offlining, OutOfMemory, Ranked, Row,
-    Scheduled, Step, Task, Turn, Watching, Who,
+    Answer, Body, Command, Frame, Layout, Local, OfflineResult, Offlining, OutOfMemory, Ranked,
+    Row, Scheduled, Step, Task, Turn, Watching, Who,
 };
 use hwp_soft::{Soft, SoftAnswer};
 use std::alloc::Global;

@@ -15,8 +15,7 @@ loop-rest-preserved c =
     let more = c.note.ensures.len in
     let capacity = c.note.ensures.capacity in
     let front = c.split_at.ensures.front_len in
-    let back = c.split_at.ensures.back_len in
-    (
+    let back = c.split_at.ensures.back_len in (
       collect-next c.args.layout.now c.args.told.now c.loop-rest.rest.now c.split_at.result.0.now c.split_at.result.1.now _ _ _ _ _ _ _ noted c.first_check.ensures.count c.split_at.ensures.front c.split_at.ensures.back c.note.ensures.noted,
       omega (arith, len, more, capacity, front, back),
     )
