@@ -3,5 +3,4 @@
 
 mod processor;
 
-pub use hwp_cpu_row::{Decision, handle};
 pub use processor::Processor;
