@@ -154,7 +154,7 @@ notes-more {past} {layout} {old} {new} i fits more tells = ap (notes layout) (ma
 
 -- ---- what a machine check notes
 
--- row 4 keeps
+-- row S4 keeps
 abbrev Keeps : List Row → Type 0
 Keeps [] = Unit {0}
 Keeps (r ∷ rs) = (r.0 ≡ 4 → r.2 ≡ severities.Keep) × Keeps rs
@@ -245,7 +245,7 @@ module _ (layout : Layout) (view : View) (who : Who) (thread : Option Thread) wh
 
       which : (b : Bool) → (t.held.grade.row == 4) ≡ b → noted_frame layout line ≡ None
       which false is = ap (λ (b : Bool). if (b && is_addr_valid (record { 0 = line.status })) && is_for_pages layout (frame_of line) then Some (frame_of line) else None) is
-      which true is = absurd (both_ways (is_kept t.acted) (or_parts (is_kept t.acted) (has_kept ts) none).0 (ap is_kept (kept-act layout view who thread held_back t right.0 (grades.0 (eqb-true t.held.grade.row 4 is)))))
+      which true is = absurd (both_ways (is_kept t.acted) (or_parts (is_kept t.acted) (has_kept ts) none).0 (ap is_kept (kept-act layout view who thread held_back t right.0 (grades.0 (eqb-true (t.held.grade.row) 4 is)))))
 
 -- the lines of a machine check are of rising banks
 abbrev Rising : List ℕ → Type 0
