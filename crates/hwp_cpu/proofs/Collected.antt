@@ -64,13 +64,13 @@ is-watched frames notes (Some v) w on is = (v, refl, is.0, is.1)
 
 module _ (layout : Layout) (view : View) (who : Who) (list : List Command) (watched : Option Watched) (c : Course) (was : KeepsWatch layout view who list watched c) (all : length c.due.offlined ≡ length c.due.frames)
     (notes : told_notes layout (told_of c.own) ≡ noted_by layout c ++ told_notes layout (told_since c)) where
-  abbrev N0 : List Frame
-  N0 = noted_by layout c
+  abbrev given : List Frame
+  given = noted_by layout c
 
-  abbrev N1 : List Frame
-  N1 = told_notes layout (told_since c)
+  abbrev fresh : List Frame
+  fresh = told_notes layout (told_since c)
 
-  pub by-collector : (w : Watching) (watching_is : c.watching ≡ Some w) (on : w.on ≡ true) (counters : Counters) (more : List Frame) (spare : ℕ) → Collects N1 w.collector counters more
+  pub by-collector : (w : Watching) (watching_is : c.watching ≡ Some w) (on : w.on ≡ true) (counters : Counters) (more : List Frame) (spare : ℕ) → Collects fresh w.collector counters more
       → KeepsWatch layout view who list watched (record c { watching = Some (record w { collector = counters }); noted = length (told_of c.own); due = record { frames = c.due.frames ++ more; offlined = c.due.offlined; spare = spare } })
   by-collector w watching_is on counters more spare took = record {
     few = omega arith;
@@ -80,18 +80,18 @@ module _ (layout : Layout) (view : View) (who : Who) (list : List Command) (watc
           on = on;
           threshold = took.threshold ∙ of-watched.2.threshold;
           window = took.window ∙ of-watched.2.window;
-          stands = subst (λ (es : List CecEvent). StandsFor es counters) events (took.stands (v.events ++ map Note N0) of-watched.2.stands).0;
+          stands = subst (λ (es : List CecEvent). StandsFor es counters) events (took.stands (v.events ++ map Note given) of-watched.2.stands).0;
         }, took.many ∙ of-watched.3));
     room = λ has. refl;
-    due = ap (λ (l : List Frame). l ++ more) (was.due ∙ ap (λ (x : Option Watched). due x N0) of-watched.1) ∙ ap (λ (l : List Frame). offlining v N0 ++ l) due-more ∙ sym (offlining-append v N0 N1)
+    due = ap (λ (l : List Frame). l ++ more) (was.due ∙ ap (λ (x : Option Watched). due x given) of-watched.1) ∙ ap (λ (l : List Frame). offlining v given ++ l) due-more ∙ sym (offlining-append v given fresh)
         ∙ ap (offlining v) (sym now) ∙ ap (λ (x : Option Watched). due x noted_now) (sym of-watched.1);
     frames = was.frames ∙ sym (take-append-le (length c.due.offlined) c.due.frames more (omega (arith, all)));
     offlined = was.offlined;
     behind = was.behind;
   }
     where
-      of-watched : (v : Watched) × (watched ≡ Some v) × IsCollecting (told (map Note N0) v) w × (length w.collector.counts ≡ layout.frames)
-      of-watched = is-watched layout.frames N0 watched w on (subst (IsWatching layout.frames (noting N0 watched)) watching_is was.watching)
+      of-watched : (v : Watched) × (watched ≡ Some v) × IsCollecting (told (map Note given) v) w × (length w.collector.counts ≡ layout.frames)
+      of-watched = is-watched layout.frames given watched w on (subst (IsWatching layout.frames (noting given watched)) watching_is was.watching)
 
       v : Watched
       v = of-watched.0
@@ -99,16 +99,16 @@ module _ (layout : Layout) (view : View) (who : Who) (list : List Command) (watc
       noted_now : List Frame
       noted_now = told_notes layout (take (length (told_of c.own)) (told_of c.own))
 
-      now : noted_now ≡ N0 ++ N1
+      now : noted_now ≡ given ++ fresh
       now = ap (told_notes layout) (take_all (length (told_of c.own)) (told_of c.own) (omega arith)) ∙ notes
 
-      events : (v.events ++ map Note N0) ++ map Note N1 ≡ v.events ++ map Note (N0 ++ N1)
-      events = append_assoc v.events (map Note N0) (map Note N1) ∙ ap (λ (l : List CecEvent). v.events ++ l) (sym (map-append Note N0 N1))
+      events : (v.events ++ map Note given) ++ map Note fresh ≡ v.events ++ map Note (given ++ fresh)
+      events = append_assoc v.events (map Note given) (map Note fresh) ∙ ap (λ (l : List CecEvent). v.events ++ l) (sym (map-append Note given fresh))
 
-      due-more : more ≡ offlining (told (map Note N0) v) N1
-      due-more = (took.stands (v.events ++ map Note N0) of-watched.2.stands).1
-          ∙ ap (λ (n : ℕ). offlining (record { threshold = n; window = w.collector.window; events = v.events ++ map Note N0 }) N1) of-watched.2.threshold
-          ∙ ap (λ (n : ℕ). offlining (record { threshold = v.threshold; window = n; events = v.events ++ map Note N0 }) N1) of-watched.2.window
+      due-more : more ≡ offlining (told (map Note given) v) fresh
+      due-more = (took.stands (v.events ++ map Note given) of-watched.2.stands).1
+          ∙ ap (λ (n : ℕ). offlining (record { threshold = n; window = w.collector.window; events = v.events ++ map Note given }) fresh) of-watched.2.threshold
+          ∙ ap (λ (n : ℕ). offlining (record { threshold = v.threshold; window = n; events = v.events ++ map Note given }) fresh) of-watched.2.window
 
 -- a course is the one with its own fields
 pub keeps-same : (layout : Layout) (view : View) (who : Who) (list : List Command) (watched : Option Watched) (c : Course) → KeepsWatch layout view who list watched c
