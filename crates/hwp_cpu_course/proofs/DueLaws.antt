@@ -1,9 +1,9 @@
 -- How the collector makes frames due: its notes one after the other, the events by machine checks, and what is so of each due frame.
-use Rattle.std.proofs.Common.{◌≡◌, ◌⊎◌, inl, inr, ℕ, zero, suc, ◌+◌, ◌<◌, ◌≤◌, ◌==◌, ◌&&◌, ◌||◌, nat_lt, Bool, true, false, cond, List, [], ◌∷◌, ◌++◌, Option, Some, None, drop, filter_map, flat_map, length, map, not, slice_get, take, if◌then◌else◌, append-nil, append_assoc, refl, sym, ap, ◌∙◌, subst, arith}
+use Rattle.std.proofs.Common.{◌≡◌, ◌⊎◌, inl, inr, ℕ, zero, suc, ◌+◌, ◌<◌, ◌≤◌, ◌==◌, ◌&&◌, ◌||◌, nat_lt, Bool, true, false, cond, List, [], ◌∷◌, ◌++◌, Option, Some, None, drop, filter_map, flat_map, get_or, length, map, not, slice_get, take, if◌then◌else◌, append-nil, append_assoc, refl, sym, ap, ◌∙◌, subst, arith}
 use Rattle.std.specs.List.{cons_option, list_any}
 use Rattle.std.proofs.lemmas.Bool.{both_ways, ltb-true}
 use Rattle.std.proofs.lemmas.List.{length-append, length-map, length-set, map-append, take_all, take_more}
-use Rattle.std.proofs.lemmas.Option.{get_or_from_slice_get, none-some, same_Some, slice_get_within}
+use Rattle.std.proofs.lemmas.Option.{get_or_from_slice_get, none-some, same_Some, slice_get-get_or, slice_get_within}
 use Rattle.hwp_cpu_row.specs.hwp_geom.declared.Frame.{Frame}
 use Rattle.hwp_cpu_row.specs.hwp_geom.declared.Layout.{Layout}
 use Rattle.hwp_cpu_row.specs.hwp_report_text.declared.EventLine.{EventLine}
@@ -332,6 +332,11 @@ pub check-more : (layout : Layout) (check : List EventOutcome) (i : ℕ) (t : Ev
 check-more layout check i t c d e due mid all is so_far one =
     subst (λ (l : List Frame). HasNoted l c due e all) (sym (ap (λ (l : List EventOutcome). filter_map (noted_frame layout) (lines l)) (take-next check i t is) ∙ filtered-one layout (take i check) t))
     (noted-both (filter_map (noted_frame layout) (lines (take i check))) (notes_of_event layout t) due mid all c d e so_far one)
+
+-- the event at a place, whatever is read past the end
+pub check-next : (layout : Layout) (check : List EventOutcome) (i : ℕ) (past : EventOutcome) (c d e : Counters) (due mid all : List Frame) → i < length check
+    → HasNoted (filter_map (noted_frame layout) (lines (take i check))) c due d mid → HasNoted (notes_of_event layout (get_or check i past)) d mid e all → HasNoted (filter_map (noted_frame layout) (lines (take (i + 1) check))) c due e all
+check-next layout check i past c d e due mid all within so_far one = check-more layout check i (get_or check i past) c d e due mid all (slice_get-get_or check i past within) so_far one
 
 -- and all of them, where none stopped the machine
 pub check-all : (layout : Layout) (check : List EventOutcome) (c d : Counters) (due all : List Frame) → list_any ends_machine (lines check) ≡ false → HasNoted (filter_map (noted_frame layout) (lines check)) c due d all → HasNoted (notes_of_lines layout check) c due d all
