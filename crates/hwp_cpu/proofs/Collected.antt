@@ -76,12 +76,15 @@ module _ (layout : Layout) (view : View) (who : Who) (list : List Command) (watc
     few = omega arith;
     frames_are = was.frames_are;
     watching = subst (λ (x : Option Watched). IsWatching layout.frames (noting noted_now x) (Some (record w { collector = counters }))) (sym of-watched.1)
-        (subst (λ (l : List Frame). IsWatching layout.frames (Some (told (map Note l) v)) (Some (record w { collector = counters }))) (sym now) (record {
-          on = on;
-          threshold = took.threshold ∙ of-watched.2.threshold;
-          window = took.window ∙ of-watched.2.window;
-          stands = subst (λ (es : List CecEvent). StandsFor es counters) events (took.stands (v.events ++ map Note given) of-watched.2.stands).0;
-        }, took.many ∙ of-watched.3));
+        (subst (λ (l : List Frame). IsWatching layout.frames (Some (told (map Note l) v)) (Some (record w { collector = counters }))) (sym now) (
+          record {
+            on = on;
+            threshold = took.threshold ∙ of-watched.2.threshold;
+            window = took.window ∙ of-watched.2.window;
+            stands = subst (λ (es : List CecEvent). StandsFor es counters) events (took.stands (v.events ++ map Note given) of-watched.2.stands).0;
+          },
+          took.many ∙ of-watched.3,
+        ));
     room = λ has. refl;
     due = ap (λ (l : List Frame). l ++ more) (was.due ∙ ap (λ (x : Option Watched). due x given) of-watched.1) ∙ ap (λ (l : List Frame). offlining v given ++ l) due-more ∙ sym (offlining-append v given fresh)
         ∙ ap (offlining v) (sym now) ∙ ap (λ (x : Option Watched). due x noted_now) (sym of-watched.1);

@@ -84,8 +84,8 @@ own-alike layout c k found got turn next within none x longer =
     ap (λ (o : Option Soft). by_acts (told_of k) c.due.offlined ++ (marked_beyond k ++ marked_beside o)) none
     ∙ ap (λ (l : List EventOutcome). by_acts l c.due.offlined ++ (marked_beyond k ++ [])) told.1
     ∙ own-swap (told_of c.own) told.0 c.due.offlined (marked_beyond c.own) (marked_beyond k) x within (
-        ap (λ (l : List EventOutcome). filter_map marked_in l ++ marked_beyond k) (sym told.1) ∙ sym (marked-parts k) ∙ longer ∙ ap (λ (l : List Marking). l ++ x) (marked-parts c.own)
-        )
+    ap (λ (l : List EventOutcome). filter_map marked_in l ++ marked_beyond k) (sym told.1) ∙ sym (marked-parts k) ∙ longer ∙ ap (λ (l : List Marking). l ++ x) (marked-parts c.own)
+    )
     ∙ ap (λ (o : Option Soft). (by_acts (told_of c.own) c.due.offlined ++ (marked_beyond c.own ++ marked_beside o)) ++ x) (sym none)
   where
     told : (more : List EventOutcome) × (told_of k ≡ told_of c.own ++ more)

@@ -339,7 +339,7 @@ module _ (layout : Layout) (old new : View) (cpu : Cpu) (list : List Command) (r
               where
                 no-more : (b : Bool) → nat_lt c.noted (length (told_of k)) ≡ b → length (told_of k) ≤ c.noted
                 no-more false is = ltb-false c.noted (length (told_of k)) is
-                no-more true is = absurd (true≢false (sym (ap (λ (b : Bool). true && b) (eq-eqb layout.frames c.frames (sym way-next.collected.frames_are)) ) ∙ ap (λ (b : Bool). b && (layout.frames == c.frames)) (sym is) ∙ none))
+                no-more true is = absurd (true≢false (sym (ap (λ (b : Bool). true && b) (eq-eqb layout.frames c.frames (sym way-next.collected.frames_are))) ∙ ap (λ (b : Bool). b && (layout.frames == c.frames)) (sym is) ∙ none))
 
   -- a turn of the command's own task
   pub own-turn : (t : Turn) (after : Course) (turn : Turn) → courses.Fits layout new after → AfterOwn layout next t after turn → Turned layout new cpu list rows local after (answer after)

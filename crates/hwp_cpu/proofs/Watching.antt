@@ -102,12 +102,15 @@ round-ends : (frames : ℕ) (notes : List Frame) (watched : Option Watched) (w :
 round-ends frames notes None None stands is = tt
 round-ends frames notes None (Some w) stands is = (is.0, length-map w.collector.counts next_row ∙ is.1)
 round-ends frames notes (Some v) None stands is = absurd is
-round-ends frames notes (Some v) (Some w) stands is = (record {
-  on = is.0.on;
-  threshold = is.0.threshold;
-  window = is.0.window;
-  stands = subst (λ (es : List CecEvent). StandsFor es (rounded w.collector)) (append_assoc v.events (map Note notes) (Round ∷ [])) (stands (v.events ++ map Note notes) is.0.stands);
-}, length-map w.collector.counts next_row ∙ is.1)
+round-ends frames notes (Some v) (Some w) stands is = (
+  record {
+    on = is.0.on;
+    threshold = is.0.threshold;
+    window = is.0.window;
+    stands = subst (λ (es : List CecEvent). StandsFor es (rounded w.collector)) (append_assoc v.events (map Note notes) (Round ∷ [])) (stands (v.events ++ map Note notes) is.0.stands);
+  },
+  length-map w.collector.counts next_row ∙ is.1,
+)
 
 -- no error counted yet
 abbrev no_counts : ℕ → List ℕ

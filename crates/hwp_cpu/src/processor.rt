@@ -7,8 +7,8 @@ ghost use Rattle.hwp_cpu_course.specs.hwp_cpu_command.FileHandles.{HasChangeWith
 ghost use Rattle.hwp_cpu.specs.Processors.{AreCommands, AtBeginning, BeginsAt, IsAnswered, IsReady, at_number, left_of};
 
 use hwp_cpu_course::{
-    Answer, Body, Command, Course, Cpu, Layout, List, Local, OutOfMemory, Ranked, Row,
-    Scheduled, Step, Task, Turn, Who,
+    Answer, Body, Command, Course, Cpu, Layout, List, Local, OutOfMemory, Ranked, Row, Scheduled,
+    Step, Task, Turn, Who,
 };
 use std::alloc::{AllocError, Global};
 use std::sync::Arc;
