@@ -17,9 +17,10 @@ use Rattle.hwp_cpu_row.specs.hwp_law_commands.Commands.{is_kernels}
 use Rattle.hwp_cpu_row.specs.hwp_law_commands.Notes.{AreApart, IsRising, checks, ends_machine, frame_of, is_corrected, is_for_pages, noted_frame, notes, notes_of_check, with_line}
 use Rattle.hwp_cpu_row.specs.hwp_law_commands.Watched.{Watched, offlining, told}
 use Rattle.hwp_law_commands.proofs.NoteLaws.{notes-append, notes-rising, offlining-append}
+use Rattle.hwp_cpu_row.specs.declared.Offlining.{Offlining}
 use Rattle.hwp_cpu_row.specs.Acts.{event_at, told_notes}
 use Rattle.hwp_cpu_row.specs.Locals.{Collects}
-use Rattle.hwp_cpu_course.specs.Dues.{HasNoted, first_check, notes_of_event, notes_of_lines}
+use Rattle.hwp_cpu_course.specs.Dues.{DueValue, HasNoted, first_check, notes_of_event, notes_of_lines}
 
 -- ---- notes, one after the other
 
@@ -389,3 +390,10 @@ pub collect-next : (layout : Layout) (all_told rest front back : List EventOutco
 collect-next layout all_told rest front back n c d e due mid all so_far count is_front is_back one =
     subst (λ (l : List EventOutcome). (new : List Frame) × HasNoted new c due e all × (told_notes layout all_told ≡ new ++ told_notes layout l)) (sym (is_back ∙ ap (λ (k : ℕ). drop k rest) count))
     (collect-step layout all_told rest so_far.0 c d e due mid all so_far.1 so_far.2 (subst (λ (l : List EventOutcome). HasNoted (notes_of_lines layout l) d mid e all) (is_front ∙ ap (λ (k : ℕ). take k rest) count) one))
+
+-- the frames and what came of them, in other words
+abbrev pub due_of : List Frame → List Offlining → ℕ → DueValue
+due_of frames offlined n = record { frames = frames; offlined = offlined; spare = n }
+
+pub due-same : (frames all : List Frame) (offlined same : List Offlining) (n : ℕ) → frames ≡ all → offlined ≡ same → due_of frames offlined n ≡ due_of all same n
+due-same frames all offlined same n is are = ap (λ (l : List Frame). due_of l offlined n) is ∙ ap (λ (l : List Offlining). due_of all l n) are
