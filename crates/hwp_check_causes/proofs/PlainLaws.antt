@@ -1,5 +1,5 @@
 -- Answers of the plain kinds have their cause exactly where they are right by themselves.
-use Rattle.std.proofs.Common.{◌≡◌, true, sym, true≢false}
+use Rattle.std.proofs.Common.{◌≡◌, ◌↔◌, IsTrue, Bool, true, false, true≢false, not, refl, sym, ◌∙◌}
 use Rattle.hwp_check_evidence.specs.hwp_geom.declared.Who.{Who}
 use Rattle.hwp_check_evidence.specs.hwp_script_read.declared.Command.{Command}
 use Rattle.hwp_check_evidence.specs.hwp_script_read.declared.Command.TheVariants as commands
@@ -9,6 +9,11 @@ use Rattle.hwp_check_evidence.specs.hwp_report_text.declared.Answer.TheVariants 
 use Rattle.hwp_check_evidence.specs.hwp_report_text.declared.Report.{Report}
 use Rattle.hwp_check_evidence.specs.hwp_law.Causes.{IsCaused}
 use Rattle.hwp_check_causes.specs.Plain.{IsPlain, is_plain}
+
+-- a flag isn't set exactly where what it stands for isn't so
+pub not-so : (a b : Bool) → a ≡ b → IsTrue (not a) ↔ (b ≡ false)
+not-so true b is = (λ t. absurd (true≢false (sym t)), λ f. absurd (true≢false (is ∙ f)))
+not-so false b is = (λ t. sym is, λ f. refl)
 
 pub caused-plain : (script : Script) (report : Report) (who : Who) (command : Command) (answer : Answer) → is_plain command answer ≡ true → IsCaused script report who command answer → IsPlain script report who command answer
 caused-plain script report who (commands.Load thread slot line) answers.NoFrame plain h = h

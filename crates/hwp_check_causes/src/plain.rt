@@ -1,4 +1,5 @@
-ghost use Rattle.std.specs.Prelude.{◌≡◌, ◌↔◌, IsTrue, true};
+ghost use Rattle.std.specs.Prelude.{◌≡◌, ◌↔◌, IsTrue, false, true};
+ghost use Rattle.hwp_check_evidence.specs.hwp_law.Answers.{is_ample};
 ghost use Rattle.hwp_check_evidence.specs.hwp_law.Causes.{AreBadLines, IsCaused};
 ghost use Rattle.hwp_check_evidence.specs.hwp_law_commands.Commands.{is_kernels};
 ghost use Rattle.hwp_check_evidence.specs.hwp_law.Lines.{bad_lines_of};
@@ -34,6 +35,13 @@ pub(crate) fn are_bad_lines(bad: u64, mask: Mask) -> bool
     mask.0 != 0 && mask.0 & bad == mask.0
 }
 
+/// Whether there can have been no free frame.
+fn can_lack(case: &Case<'_>) -> bool
+    ensures { IsTrue result ↔ is_ample case.now.script ≡ false }
+{
+    !case.known.ample
+}
+
 /// Whether the command can have found no free frame.
 fn is_short(case: &Case<'_>) -> bool
     ensures { IsTrue result ↔ IsShort case.now.script case.now.command }
@@ -42,8 +50,8 @@ fn is_short(case: &Case<'_>) -> bool
         Command::Load { .. }
         | Command::Fetch { .. }
         | Command::KLoad { .. }
-        | Command::Store { .. } => !case.known.ample,
-        Command::Soft { frame } => !is_kernels(&case.script.layout, frame) && !case.known.ample,
+        | Command::Store { .. } => can_lack(case),
+        Command::Soft { frame } => !is_kernels(&case.script.layout, frame) && can_lack(case),
         _ => false,
     }
 }
