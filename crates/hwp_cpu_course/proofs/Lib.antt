@@ -1,3 +1,4 @@
+pub mod Collecting
 pub mod DueLaws
 pub mod SoftMade
 pub mod PartBegins

@@ -161,7 +161,7 @@ impl Course {
         ensures ok { OnOk result (AfterCollecting layout.now self.old self.new) }
         ensures err { OnErr result (self.new ≡ self.old) }
     {
-        let Some(watching) = &mut self.watching else {
+        let Some(mut watching) = self.watching.take() else {
             unreachable!()
         };
         let told = self.own.told();
@@ -170,9 +170,13 @@ impl Course {
         match self.due.collect(layout, since, &mut watching.collector) {
             Ok(()) => {
                 self.noted = noted;
+                set(&mut self.watching, Some(watching));
                 Ok(())
             }
-            Err(refused) => Err(refused),
+            Err(refused) => {
+                set(&mut self.watching, Some(watching));
+                Err(refused)
+            }
         }
     }
 
