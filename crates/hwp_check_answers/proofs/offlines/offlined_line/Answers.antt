@@ -7,11 +7,11 @@ use Rattle.hwp_check_answers.proofs.offlines.offlined_line.Goals as goal
 pub returns-in-Some : goal.returns-in-Some
 returns-in-Some c = heading-first c.args.script.now c.args.report.now c.args.cpu c.args.commands.now c.args.rows.now c.args.heading _ c.in_ok-lacking.lacking c.in-Some.is c.in_ok-lacking.ensures
 
-pub offlined_faults-requires-clause-answered-in-None : goal.offlined_faults-requires-clause-answered-in-None
-offlined_faults-requires-clause-answered-in-None c = λ watch. answers-enough c.args.commands.now c.args.rows.now (none-lacking c.args.commands.now c.args.rows.now c.in_ok-lacking.lacking c.in-None.is c.in_ok-lacking.ensures watch)
+pub offlined_faults-requires-clause-answered : goal.offlined_faults-requires-clause-answered
+offlined_faults-requires-clause-answered c = λ watch. answers-enough c.args.commands.now c.args.rows.now (none-lacking c.args.commands.now c.args.rows.now c.in_ok-lacking.lacking c.in-None.is c.in_ok-lacking.ensures watch)
 
-pub line_of-requires-in-None : goal.line_of-requires-in-None
-line_of-requires-in-None c =
+pub line_of-requires : goal.line_of-requires
+line_of-requires c =
     row-within c.args.script.now c.args.report.now c.args.cpu c.args.commands.now c.args.rows.now c.in_ok-found.found c.args.heading c.requires.room c.in_ok-found.ensures
 
 pub returns-in-None : goal.returns-in-None
