@@ -285,6 +285,10 @@ class Twin:
 
     make_weak = make_log = make_bad
 
+    def make_watch(self, step: Step, world: World, seen: Seen) -> Optional[str]:
+        """watch: the guest has no order for it."""
+        raise NoForm("Linux collects corrected errors by rules of its own")
+
     def make_scrub(self, step: Step, world: World, seen: Seen) -> Optional[str]:
         """scrub: a machine check for each bad line that it meets, while no thread runs."""
         group: list[Event] = []
