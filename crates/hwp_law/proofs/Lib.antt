@@ -5,4 +5,5 @@ pub mod Forgeries
 pub mod WatchExamples
 pub mod WatchForgeries
 pub mod OfflinedLaws
+pub mod CheckRuns
 pub use Rattle.hwp_law_commands.proofs.of_hwp_page as of_hwp_page
