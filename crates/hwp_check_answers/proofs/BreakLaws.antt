@@ -22,7 +22,7 @@ use Rattle.hwp_check_answers.specs.Disorders.{AreOrderly}
 use Rattle.hwp_check_rules.proofs.OfflinedFaults.{line-caused}
 use Rattle.hwp_check_evidence.specs.hwp_law_commands.Commands.{command_at}
 use Rattle.hwp_check_answers.specs.Facts.{IsBadOf, at_number}
-use Rattle.hwp_check_answers.specs.Sifting.{IsAnswerLine, IsWrongLine}
+use Rattle.hwp_check_answers.specs.Sifting.{IsAnswerLine}
 use Rattle.hwp_check_answers.proofs.NextLaws.{count-rises, next_of}
 
 abbrev told_in : CpuLine → Answer

@@ -1,5 +1,5 @@
 -- The first line that is out of place, and the first wrong answer as far as lines are in place, are the first of both.
-use Rattle.std.proofs.Common.{◌≡◌, ◌⊎◌, inl, inr, ℕ, ◌<◌, ◌≤◌, min, List, Option, Some, None, MatchOption, length, take, refl, subst, arith}
+use Rattle.std.proofs.Common.{◌≡◌, ◌⊎◌, inl, inr, ℕ, ◌<◌, ◌≤◌, min, List, Option, Some, None, MatchOption, length, take, subst, arith}
 use Rattle.std.proofs.lemmas.Bool.{cases_lt}
 use Rattle.std.proofs.lemmas.Option.{slice_get_within}
 use Rattle.hwp_check_evidence.specs.hwp_geom.declared.Cpu.{Cpu}

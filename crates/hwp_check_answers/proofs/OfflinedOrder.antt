@@ -25,7 +25,7 @@ use Rattle.hwp_check_rules.proofs.OfflinedFaults.{frame-due, none-lacks}
 use Rattle.hwp_check_offlined.specs.Judged.{AreSuch, IsFirstOther, IsJudged, IsTold, LacksNone, LacksOne}
 use Rattle.hwp_check_answers.specs.Facts.{at_number}
 use Rattle.hwp_check_answers.specs.Firsts.{line_of}
-use Rattle.hwp_check_answers.specs.Offlining.{AreAllDue, AreAllOfflined, AreDueTo, IsAnsweredIf, IsFirstOfflined, IsFirstUndue, IsOfflinedLine, IsUndueLine, LacksSome}
+use Rattle.hwp_check_answers.specs.Offlining.{AreAllDue, AreAllOfflined, AreDueTo, IsAnsweredIf, IsFirstOfflined, IsFirstUndue, IsOfflinedLine, IsUndueLine}
 use Rattle.hwp_check_answers.specs.Placing.{HasNone, HaveAnswers}
 use Rattle.hwp_check_answers.proofs.OrderLaws.{later-line, next-line}
 

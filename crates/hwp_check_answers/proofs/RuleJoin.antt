@@ -1,5 +1,5 @@
 -- The first of the lines of answers and of events that are wrong is the first that breaks the rule of answers.
-use Rattle.std.proofs.Common.{◌≡◌, ◌⊎◌, inl, inr, ℕ, ◌<◌, ◌≤◌, min, true, false, Option, Some, None, MatchOption, slice_get, take, refl, sym, ◌∙◌, subst, true≢false, arith}
+use Rattle.std.proofs.Common.{◌≡◌, ◌⊎◌, inl, inr, ℕ, ◌≤◌, min, true, Option, Some, None, MatchOption, slice_get, take, refl, sym, ◌∙◌, subst, true≢false, arith}
 use Rattle.std.proofs.lemmas.Bool.{cases_lt}
 use Rattle.hwp_check_evidence.specs.hwp_script_read.Valid.{IsValid}
 use Rattle.hwp_check_evidence.specs.hwp_script_read.declared.Command.{Command}

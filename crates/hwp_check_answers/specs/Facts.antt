@@ -1,5 +1,5 @@
 -- What is known of the commands of one processor by their numbers.
-use Rattle.std.specs.Prelude.{◌≡◌, ◌<◌, ℕ, false, List, Some, None, length, replicate, slice_get, slice_index_or, take}
+use Rattle.std.specs.Prelude.{◌≡◌, ◌<◌, ℕ, false, List, Some, length, replicate, slice_get, take}
 use Rattle.hwp_check_evidence.specs.hwp_geom.declared.Cpu.{Cpu}
 use Rattle.hwp_check_evidence.specs.hwp_geom.declared.Who.{Who}
 use Rattle.hwp_check_evidence.specs.hwp_script_read.declared.Command.{Command}
@@ -8,7 +8,7 @@ use Rattle.hwp_check_evidence.specs.hwp_report_text.declared.Answer.{Answer}
 use Rattle.hwp_check_evidence.specs.hwp_report_text.declared.CpuLine.{CpuLine}
 use Rattle.hwp_check_evidence.specs.hwp_report_text.declared.CpuLine.TheVariants as lines
 use Rattle.hwp_check_evidence.specs.hwp_report_text.declared.Report.{Report}
-use Rattle.hwp_check_evidence.specs.hwp_law.Lines.{answer_among, seq_of}
+use Rattle.hwp_check_evidence.specs.hwp_law.Lines.{seq_of}
 use Rattle.hwp_check_evidence.specs.hwp_law.Offlined.{IsOffline}
 use Rattle.hwp_check_evidence.specs.Counts.{AreCounts, AreFlags}
 use Rattle.hwp_check_evidence.specs.Firsts.{AreNames, is_named}

@@ -1,5 +1,5 @@
 -- The translations in use behind some entries are those of the last set that was kept, changed by the entries since.
-use Rattle.std.proofs.Common.{◌≡◌, ◌≢◌, ◌↔◌, inl, inr, ℕ, ◌==◌, ◌<◌, ◌≤◌, ◌&&◌, ◌||◌, ◌+◌, ◌-◌, ◌*◌, ◌/◌, ◌%◌, not, Bool, true, false, cond, List, [], ◌∷◌, ◌++◌, Option, Some, None, IsTrue, drop, get_or, length, take, slice_get, unwrap_or, option_map, refl, sym, ap, ◌∙◌, subst, true≢false, arith}
+use Rattle.std.proofs.Common.{◌≡◌, ◌≢◌, ◌↔◌, inl, inr, ℕ, ◌==◌, ◌<◌, ◌≤◌, ◌&&◌, ◌||◌, ◌+◌, ◌-◌, ◌*◌, ◌/◌, ◌%◌, not, Bool, false, cond, List, [], ◌∷◌, ◌++◌, Option, Some, IsTrue, drop, get_or, length, take, slice_get, unwrap_or, option_map, refl, sym, ap, ◌∙◌, subst, arith}
 use Rattle.std.proofs.lemmas.Bool.{cases_Bool, eqb-false, eqb-true}
 use Rattle.std.proofs.lemmas.List.{drop-take, length_push, take-append-drop, take-take}
 use Rattle.std.proofs.lemmas.List.Sums.{fold-append, fold_more}

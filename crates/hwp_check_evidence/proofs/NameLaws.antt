@@ -1,5 +1,5 @@
 -- What is kept of the places that lines name beside answers is what the lines name.
-use Rattle.std.proofs.Common.{◌≡◌, ◌≢◌, ℕ, zero, suc, ◌<◌, ◌==◌, ◌&&◌, ◌||◌, Bool, true, false, cond, List, [], ◌∷◌, Option, Some, None, fold, get_or, is_some, length, map, option_map, slice_get, refl, sym, ap, ◌∙◌, subst, true≢false}
+use Rattle.std.proofs.Common.{◌≡◌, ℕ, zero, suc, ◌<◌, ◌==◌, ◌&&◌, ◌||◌, Bool, true, false, cond, List, [], ◌∷◌, Option, Some, None, fold, get_or, is_some, length, map, option_map, slice_get, refl, sym, ap, ◌∙◌, subst, true≢false}
 use Rattle.std.specs.List.{list_any}
 use Rattle.std.proofs.lemmas.Bool.{eq-eqb, eqb-true}
 use Rattle.std.proofs.lemmas.Option.{get_or_from_slice_get, none-some, same_Some, slice_get-get_or, slice_get-map}
@@ -9,9 +9,8 @@ use Rattle.hwp_law.specs.hwp_report_text.declared.CpuLine.{CpuLine}
 use Rattle.hwp_law.specs.hwp_report_text.declared.CpuLine.TheVariants as lines
 use Rattle.hwp_law.specs.hwp_report_text.declared.OfflinedLine.{OfflinedLine}
 use Rattle.hwp_law.specs.hwp_report_text.Offlines.{offline_answer}
-use Rattle.hwp_law.specs.Lines.{answer_among}
 use Rattle.hwp_law.specs.States.{entry_named}
-use Rattle.hwp_check_evidence.specs.Firsts.{AreAnswersOf, AreNames, entry_of, is_at, is_noted, names_beside, noted_at, noted_by, row_noted, rows_noted}
+use Rattle.hwp_check_evidence.specs.Firsts.{AreAnswersOf, AreNames, entry_of, is_at, names_beside, noted_at, noted_by, row_noted, rows_noted}
 use Rattle.hwp_check_evidence.specs.declared.names.Names.{Names}
 use Rattle.hwp_check_evidence.proofs.NamedLaws.{at-is, named-at}
 

@@ -1,5 +1,5 @@
 -- What a collector makes of notes, one by one, and of a command.
-use Rattle.std.proofs.Common.{◌≡◌, ℕ, ◌+◌, ◌<◌, ◌≤◌, ◌==◌, Bool, true, false, true≢false, ◌&&◌, All, List, [], ◌∷◌, ◌++◌, Option, Some, None, MatchBool, MatchOption, get_or, length, map, option_map, replicate, take, if◌then◌else◌, refl, sym, ap, ◌∙◌, subst, arith}
+use Rattle.std.proofs.Common.{◌≡◌, ℕ, ◌+◌, ◌<◌, ◌≤◌, ◌==◌, Bool, true, false, true≢false, ◌&&◌, List, [], ◌∷◌, ◌++◌, Option, Some, None, MatchBool, MatchOption, get_or, length, map, option_map, replicate, take, if◌then◌else◌, refl, sym, ap, ◌∙◌, subst}
 use Rattle.std.proofs.lemmas.List.{length-map, length-replicate, length-set, map-append, take_all, take_more}
 use Rattle.hwp_check_rules.specs.hwp_geom.declared.Frame.{Frame}
 use Rattle.hwp_check_rules.specs.hwp_script_read.declared.Command.{Command}
@@ -12,7 +12,7 @@ use Rattle.hwp_cec.specs.Ages.{CecEvent, Note, Round, live}
 use Rattle.hwp_cec.specs.Counters.{Counters, StandsFor, answer, begun, next_row, noted_in, noted_row, row_of, rounded}
 use Rattle.hwp_cec.specs.declared.collector.Noted.{Noted}
 use Rattle.hwp_cec.specs.declared.collector.Noted.TheVariants as noted
-use Rattle.hwp_check_offlined.specs.Collecting.{AreDue, AreTaken, IsBegun, IsGoneOn, IsNoted, IsRounded, IsWatching, Stands, begun_by, ends_round, fresh, goes_out, if_goes, is_offline}
+use Rattle.hwp_check_offlined.specs.Collecting.{AreDue, AreTaken, IsBegun, IsGoneOn, IsNoted, IsRounded, IsWatching, Stands, begun_by, ends_round, fresh, if_goes, is_offline}
 use Rattle.hwp_check_offlined.specs.declared.collecting.Limits.{Limits}
 
 length-rows : (old : Counters) → length (rounded old).counts ≡ length old.counts

@@ -1,11 +1,11 @@
 -- The frames that are due of each command of a processor, from the first on.
-use Rattle.std.proofs.Common.{◌≡◌, ◌⊎◌, inl, inr, ℕ, zero, suc, ◌+◌, ◌<◌, ◌≤◌, ◌==◌, ◌&&◌, ◌||◌, Bool, true, false, true≢false, not, nat_lt, All, List, [], ◌∷◌, ◌++◌, Option, Some, None, flat_map, get_or, if◌then◌else◌, length, map, slice_get, take, unwrap_or, refl, sym, ap, ◌∙◌, subst, arith}
+use Rattle.std.proofs.Common.{◌≡◌, ◌⊎◌, inl, inr, ℕ, zero, suc, ◌+◌, ◌<◌, ◌≤◌, ◌&&◌, ◌||◌, Bool, true, false, true≢false, not, nat_lt, All, List, [], ◌∷◌, ◌++◌, Option, Some, None, flat_map, get_or, if◌then◌else◌, length, map, slice_get, take, unwrap_or, refl, sym, ap, ◌∙◌, subst, arith}
 use Rattle.std.specs.List.{filter_map, list_any, zip}
 use Rattle.std.specs.Option.{option_to_list}
 use Rattle.std.proofs.lemmas.Bool.{and_parts, ltb-true}
 use Rattle.std.proofs.lemmas.List.{take_more}
 use Rattle.std.proofs.lemmas.List.Elements.{All-append, All-cons, All-nil, filter_map-append}
-use Rattle.std.proofs.lemmas.Option.{get_or_from_slice_get, none-some, same_Some, slice_get-get_or, slice_get_within}
+use Rattle.std.proofs.lemmas.Option.{get_or_from_slice_get, none-some, same_Some, slice_get_within}
 use Rattle.hwp_check_rules.specs.hwp_geom.declared.Cpu.{Cpu}
 use Rattle.hwp_check_rules.specs.hwp_geom.declared.Frame.{Frame}
 use Rattle.hwp_check_rules.specs.hwp_geom.declared.Layout.{Layout}
@@ -19,15 +19,14 @@ use Rattle.hwp_check_rules.specs.hwp_report_text.declared.CpuLine.{CpuLine}
 use Rattle.hwp_check_rules.specs.hwp_report_text.declared.CpuLine.TheVariants as lines
 use Rattle.hwp_check_rules.specs.hwp_report_text.declared.EventLine.{EventLine}
 use Rattle.hwp_check_rules.specs.hwp_report_text.declared.Report.{Report}
-use Rattle.hwp_check_rules.specs.hwp_check_events.Indexed.{AreShown, shown_from}
+use Rattle.hwp_check_rules.specs.hwp_check_events.Indexed.{AreShown}
 use Rattle.hwp_check_rules.specs.hwp_check_event_line.Firsts.{shown_lines}
 use Rattle.hwp_check_rules.specs.hwp_check_event_line.declared.Shown.{Shown}
 use Rattle.hwp_check_rules.specs.hwp_law_commands.Commands.{is_kernels, is_watch}
 use Rattle.hwp_check_rules.specs.hwp_law_commands.Notes.{checks, ends_machine, frame_of, is_corrected, is_for_pages, noted_frame, notes, notes_of_check}
 use Rattle.hwp_check_rules.specs.hwp_law_commands.Watched.{Watched, due, watched_after}
-use Rattle.hwp_check_rules.specs.hwp_law.Lines.{AnswerLine, answer_in, answered, events_among, rows_of}
+use Rattle.hwp_check_rules.specs.hwp_law.Lines.{AnswerLine, answer_in, answered, events_among}
 use Rattle.hwp_check_rules.specs.hwp_law.Offlined.{due_of, watched_from}
-use Rattle.hwp_check_rules.specs.hwp_law.Policies.{answered_on}
 use Rattle.hwp_check_rules.proofs.of_hwp_law.OfflinedLaws.{watched-more}
 use Rattle.hwp_check_rules.proofs.of_hwp_check_events.IndexLaws.{told-is}
 use Rattle.hwp_check_rules.proofs.of_hwp_check_events.ValidLaws.{command-of}

@@ -1,5 +1,5 @@
 -- What was found by the frames that were found due is so by the law.
-use Rattle.std.proofs.Common.{◌≡◌, ℕ, ◌<◌, ◌≤◌, Bool, true, false, List, [], Option, Some, None, MatchBool, MatchOption, get_or, length, slice_get, sym, ap, ◌∙◌, subst, arith}
+use Rattle.std.proofs.Common.{◌≡◌, ℕ, ◌<◌, ◌≤◌, Bool, true, false, List, [], Option, Some, None, MatchBool, MatchOption, get_or, length, slice_get, sym, ◌∙◌, subst, arith}
 use Rattle.std.specs.List.{list_any}
 use Rattle.std.proofs.lemmas.Option.{slice_get-get_or}
 use Rattle.hwp_check_rules.specs.hwp_geom.declared.Cpu.{Cpu}
@@ -14,7 +14,7 @@ use Rattle.hwp_check_rules.specs.hwp_law.Lines.{offlined_among}
 use Rattle.hwp_check_rules.specs.hwp_law.Offlined.{due_of}
 use Rattle.hwp_check_rules.specs.hwp_law_commands.Commands.{is_watch}
 use Rattle.hwp_check_rules.specs.Answered.{offlined_before}
-use Rattle.hwp_check_offlined.specs.Dues.{AreDues, due_at}
+use Rattle.hwp_check_offlined.specs.Dues.{AreDues}
 use Rattle.hwp_check_offlined.specs.Judged.{AreSuch, IsFirstOther, IsJudged, IsScanned, IsTold, LacksNone, LacksOne, who_at}
 use Rattle.hwp_check_offlined.specs.Tallied.{due_in}
 use Rattle.hwp_check_offlined.proofs.DueLaws.{due-is, none-due}

@@ -1,18 +1,18 @@
 -- The scan over a processor's lines: the counts before each row, and whether a line of a frame taken out of use is the one that is due.
-use Rattle.std.proofs.Common.{◌≡◌, ◌⊎◌, inl, inr, ℕ, zero, suc, ◌+◌, ◌<◌, ◌≤◌, ◌==◌, ◌&&◌, ◌||◌, ◌^◌, Bool, true, false, true≢false, not, nat_lt, List, [], ◌∷◌, ◌++◌, Option, Some, None, MatchBool, MatchOption, cond, count_by, drop, get_or, if◌then◌else◌, length, map, replicate, set, slice_get, take, refl, sym, ap, ◌∙◌, subst, arith}
+use Rattle.std.proofs.Common.{◌≡◌, ◌⊎◌, inl, inr, ℕ, zero, suc, ◌+◌, ◌<◌, ◌≤◌, ◌==◌, ◌&&◌, ◌||◌, ◌^◌, Bool, true, false, true≢false, not, nat_lt, List, [], ◌∷◌, Option, Some, None, MatchBool, MatchOption, cond, count_by, drop, get_or, length, replicate, set, slice_get, take, refl, sym, ap, ◌∙◌, subst, arith}
 use Rattle.std.proofs.lemmas.Bool.{and_parts, cases_eq, cases_lt, eq-eqb, eqb-true, le-ltb, lt-ltb, ltb-false, ltb-true, ne_eqb}
 use Rattle.std.proofs.lemmas.List.{drop_all, get_or-replicate, get_or-set_other, get_or-set_same, get_or_past, length-replicate, length-set, length-take-le, take_all}
 use Rattle.std.proofs.lemmas.List.Sums.{count_by-le-length, count_by_more_no, count_by_more_yes, sum_by-cons}
-use Rattle.std.proofs.lemmas.Option.{get_or_from_slice_get, none-some, same_Some, slice_get-get_or, slice_get_within}
+use Rattle.std.proofs.lemmas.Option.{none-some, same_Some, slice_get-get_or}
 use Rattle.hwp_check_rules.specs.hwp_geom.declared.Frame.{Frame}
 use Rattle.hwp_check_rules.specs.hwp_report_text.declared.CpuLine.{CpuLine}
 use Rattle.hwp_check_rules.specs.hwp_report_text.declared.CpuLine.TheVariants as lines
 use Rattle.hwp_check_rules.specs.hwp_report_text.declared.OfflinedLine.{OfflinedLine}
 use Rattle.hwp_check_rules.specs.hwp_check_events.Indexed.{AreShown}
-use Rattle.hwp_check_rules.specs.hwp_check_event_line.Firsts.{first_of, shown_lines}
+use Rattle.hwp_check_rules.specs.hwp_check_event_line.Firsts.{first_of}
 use Rattle.hwp_check_rules.specs.hwp_check_event_line.declared.Shown.{Shown}
 use Rattle.hwp_check_rules.specs.hwp_law.Lines.{events_among, offlined_among, seq_of}
-use Rattle.hwp_check_rules.specs.Answered.{IsBehindEvents, is_event, is_offlined, offlined_before}
+use Rattle.hwp_check_rules.specs.Answered.{is_event, is_offlined, offlined_before}
 use Rattle.hwp_check_offlined.specs.Judged.{AreSuch, IsFirstOther, IsScanned, IsTold, LacksNone, LacksOne}
 use Rattle.hwp_check_offlined.specs.Tallied.{AreBefore, AreTallied, counted, due_in, is_due, is_fit, is_frame, is_of, lacks_from}
 use Rattle.hwp_check_offlined.proofs.DueLaws.{shown-at}

@@ -1,5 +1,5 @@
 -- What is said of a processor's lines of frames taken out of use.
-use Rattle.std.specs.Prelude.{◌≡◌, ℕ, ◌<◌, ◌≤◌, true, List, Some, MatchBool, MatchOption, length, slice_get}
+use Rattle.std.specs.Prelude.{◌≡◌, ℕ, ◌<◌, ◌≤◌, List, Some, MatchBool, MatchOption, length, slice_get}
 use Rattle.hwp_check_rules.specs.hwp_geom.declared.Cpu.{Cpu}
 use Rattle.hwp_check_rules.specs.hwp_geom.declared.Frame.{Frame}
 use Rattle.hwp_check_rules.specs.hwp_geom.declared.Who.{Who}
@@ -9,10 +9,9 @@ use Rattle.hwp_check_rules.specs.hwp_report_text.declared.CpuLine.{CpuLine}
 use Rattle.hwp_check_rules.specs.hwp_report_text.declared.CpuLine.TheVariants as lines
 use Rattle.hwp_check_rules.specs.hwp_report_text.declared.OfflinedLine.{OfflinedLine}
 use Rattle.hwp_check_rules.specs.hwp_report_text.declared.Report.{Report}
-use Rattle.hwp_check_rules.specs.hwp_law.Lines.{offlined_among, offlined_of}
+use Rattle.hwp_check_rules.specs.hwp_law.Lines.{offlined_among}
 use Rattle.hwp_check_rules.specs.hwp_law.Offlined.{due_of}
 use Rattle.hwp_check_rules.specs.hwp_check_events.declared.Misfits.{Misfits}
-use Rattle.hwp_check_rules.specs.AnswerFaults.{IsDue}
 use Rattle.hwp_check_rules.specs.Answered.{IsBehindEvents, offlined_before}
 
 abbrev pub who_at : Cpu → ℕ → Who

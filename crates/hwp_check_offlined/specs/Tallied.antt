@@ -1,6 +1,5 @@
 -- How many lines of each command stand before a row, and whether a line of a frame taken out of use is the one that is due there.
 use Rattle.std.specs.Prelude.{◌≡◌, ℕ, ◌+◌, ◌<◌, ◌==◌, ◌&&◌, ◌||◌, Bool, true, false, not, nat_lt, List, [], ◌∷◌, Option, Some, None, MatchOption, count_by, length, slice_get, slice_index_or, slice_set, take, if◌then◌else◌}
-use Rattle.std.specs.List.{list_any}
 use Rattle.hwp_check_rules.specs.hwp_geom.declared.Frame.{Frame}
 use Rattle.hwp_check_rules.specs.hwp_report_text.declared.CpuLine.{CpuLine}
 use Rattle.hwp_check_rules.specs.hwp_report_text.declared.CpuLine.TheVariants as lines

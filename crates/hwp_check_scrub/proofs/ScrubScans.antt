@@ -1,5 +1,5 @@
 -- The lines of a scrub gone through one after another.
-use Rattle.std.proofs.Common.{◌≡◌, ◌↔◌, ℕ, suc, ◌+◌, ◌<◌, ◌++◌, Bool, false, List, [], ◌∷◌, fold, get_or, length, map, slice_get, take, Option, None, sym, ap, ◌∙◌, subst, arith}
+use Rattle.std.proofs.Common.{◌≡◌, ◌↔◌, ℕ, suc, ◌+◌, ◌<◌, ◌++◌, Bool, false, List, [], ◌∷◌, fold, get_or, length, slice_get, take, Option, None, sym, ap, ◌∙◌, subst, arith}
 use Rattle.std.proofs.lemmas.List.{get_or-map, length-map, take_more}
 use Rattle.std.proofs.lemmas.List.Sums.{fold-append}
 use Rattle.hwp_banks.specs.hwp_geom.declared.Who.{Who}

@@ -1,5 +1,5 @@
 -- The settings of a thread before a command.
-use Rattle.std.proofs.Common.{◌≡◌, ◌↔◌, IsTrue, slice_get, option_and_then, inl, ℕ, ◌-◌, ◌≤◌, List, [], None, Option, option_map, unwrap_or, arith, min, ◌==◌, Bool, true, false, not, true≢false, Some, MatchBool, length, take, slice_index, refl, sym, ap, ◌∙◌}
+use Rattle.std.proofs.Common.{◌≡◌, ◌↔◌, IsTrue, option_and_then, inl, ℕ, ◌-◌, ◌≤◌, List, [], None, Option, option_map, unwrap_or, arith, min, ◌==◌, Bool, true, false, not, true≢false, Some, MatchBool, length, take, slice_index, refl, sym, ap, ◌∙◌}
 use Rattle.std.proofs.lemmas.Bool.{eqb-false, eqb-true}
 use Rattle.std.proofs.lemmas.Option.{none-some, slice_get_past}
 use Rattle.hwp_check_rules.specs.hwp_geom.declared.Cpu.{Cpu}

@@ -1,5 +1,5 @@
 -- The tables of frames and pages say what going through all commands and frames says.
-use Rattle.std.proofs.Common.{◌≡◌, inl, inr, ℕ, ◌+◌, ◌<◌, ◌==◌, ◌^◌, ◌||◌, Bool, true, false, not, cond, List, [], ◌∷◌, bit_or, fold, get_or, length, replicate, set, slice_index_or, refl, sym, ap, ◌∙◌, subst, arith}
+use Rattle.std.proofs.Common.{◌≡◌, inl, inr, ℕ, ◌+◌, ◌<◌, ◌==◌, ◌^◌, ◌||◌, Bool, true, false, not, cond, List, [], ◌∷◌, bit_or, fold, get_or, length, replicate, set, refl, sym, ap, ◌∙◌, subst, arith}
 use Rattle.std.proofs.lemmas.Bool.{cases_eq, eq-eqb, ne_eqb}
 use Rattle.std.proofs.lemmas.List.{get_or-replicate, get_or-set_other, get_or-set_same, length-replicate, length-set}
 use Rattle.std.proofs.lemmas.List.Sums.{sum_by-cons}

@@ -26,7 +26,7 @@ use Rattle.hwp_cpu_check.specs.hwp_claim_act.Abandoned.{AddsFailure}
 use Rattle.hwp_fault.specs.hwp_core_rule.declared.Made.{Made}
 use Rattle.hwp_fault.specs.hwp_core_task.Known.{HasMadeNoneBeside, deeds}
 use Rattle.hwp_fault.specs.hwp_core_task.Turns.{IsTask}
-use Rattle.hwp_fault.proofs.of_hwp_core_task.MadeEntries.{deeds-same, only-beside-stays, only-of-none}
+use Rattle.hwp_fault.proofs.of_hwp_core_task.MadeEntries.{deeds-same, only-beside-stays}
 use Rattle.hwp_fault.proofs.of_hwp_core_task.SightKeeps.{saw-stays}
 use Rattle.hwp_fault.specs.declared.Access.{Access}
 use Rattle.hwp_fault.specs.declared.AccessAnswer.{AccessAnswer}

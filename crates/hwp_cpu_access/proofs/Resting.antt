@@ -1,6 +1,5 @@
 -- An instruction at its pause: what stays of it while another task of its command goes on, and how it goes on behind the pause.
-use Rattle.std.proofs.Common.{◌≡◌, inr, ℕ, ◌+◌, ◌==◌, Bool, true, false, cond, List, [], ◌∷◌, ◌++◌, Option, Some, None, filter, length, append-nil, refl, sym, ap, ◌∙◌, subst, arith}
-use Rattle.std.specs.Int.{from_bool}
+use Rattle.std.proofs.Common.{◌≡◌, inr, ℕ, ◌+◌, ◌==◌, Bool, true, false, cond, List, [], ◌∷◌, ◌++◌, Option, Some, filter, length, append-nil, refl, sym, ap, ◌∙◌, subst, arith}
 use Rattle.std.proofs.lemmas.List.Elements.{filter-append}
 use Rattle.std.proofs.lemmas.Option.{none-some, same_Some}
 use Rattle.hwp_fault.specs.hwp_geom.declared.Frame.{Frame}
@@ -13,7 +12,6 @@ use Rattle.hwp_fault.specs.hwp_core_rule.declared.Log.{Log}
 use Rattle.hwp_fault.specs.hwp_core_rule.declared.Made.{Made}
 use Rattle.hwp_fault.specs.hwp_core_rule.declared.Mark.{Mark}
 use Rattle.hwp_fault.specs.hwp_core_rule.declared.MarkKind.TheVariants as mark_kinds
-use Rattle.hwp_fault.specs.hwp_core_rule.declared.SharedWord.{SharedWord}
 use Rattle.hwp_fault.specs.hwp_core_rule.declared.SharedWord.TheVariants as places
 use Rattle.hwp_fault.specs.hwp_core_rule.declared.Step.{Step}
 use Rattle.hwp_fault.specs.hwp_core_rule.declared.Step.TheVariants as steps
@@ -35,7 +33,7 @@ use Rattle.hwp_cpu_check.specs.hwp_claim_frame.Claims.{is_own, marks_by}
 use Rattle.hwp_cpu_check.specs.hwp_law_commands.Commands.{is_check}
 use Rattle.hwp_cpu_check.proofs.FailureKeeps.{Stay}
 use Rattle.hwp_cpu_check.specs.Checks.{left_by}
-use Rattle.hwp_cpu_access.specs.Fits.{FitsAt, FitsFrom, HasOnlyBefore, IsLeft, IsLeftAt, IsResting, IsWaiting, banks_at, checks_in, checks_made}
+use Rattle.hwp_cpu_access.specs.Fits.{FitsAt, FitsFrom, HasOnlyBefore, IsLeft, IsLeftAt, IsResting, banks_at, checks_in, checks_made}
 use Rattle.hwp_cpu_access.specs.Instructions.{pause, pause_at, resume, resume_by, resumed}
 use Rattle.hwp_cpu_access.specs.declared.instruction.Instruction.{Instruction}
 use Rattle.hwp_cpu_access.specs.declared.instruction.InstructionAnswer.TheVariants as answers

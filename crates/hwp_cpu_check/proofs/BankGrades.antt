@@ -7,8 +7,6 @@ use Rattle.hwp_banks.specs.declared.Event.{Event}
 use Rattle.hwp_banks.specs.Events.{bank_count}
 use Rattle.hwp_law_commands.specs.hwp_severity.declared.Grade.{Grade}
 use Rattle.hwp_law_commands.specs.hwp_severity.declared.McgBits.{McgBits}
-use Rattle.hwp_law_commands.specs.hwp_severity.declared.Severity.{Severity}
-use Rattle.hwp_law_commands.specs.hwp_severity.declared.Severity.TheVariants as severities
 use Rattle.hwp_law_commands.specs.hwp_severity.Handling.{grade_of, lowest_stop}
 use Rattle.hwp_banks.specs.Banks.{Banks, held_from}
 use Rattle.hwp_law_commands.specs.hwp_severity.Handling.{has_stop, is_stop, severity_of}

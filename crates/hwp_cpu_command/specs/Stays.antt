@@ -1,5 +1,5 @@
 -- What stays true from one command of a processor to the next: the stop of the machine, and damage.
-use Rattle.std.specs.Prelude.{◌≡◌, ◌⊎◌, ℕ, ◌+◌, true, List, [], ◌∷◌, ◌++◌, Option, Some, None}
+use Rattle.std.specs.Prelude.{◌≡◌, ◌⊎◌, ℕ, true, List, [], ◌∷◌, ◌++◌, Option, Some, None}
 use Rattle.hwp_cpu_control.specs.hwp_geom.declared.Frame.{Frame}
 use Rattle.hwp_cpu_control.specs.hwp_geom.declared.Layout.{Layout}
 use Rattle.hwp_cpu_control.specs.hwp_geom.declared.Who.{Who}

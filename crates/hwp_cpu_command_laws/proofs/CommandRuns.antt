@@ -1,5 +1,5 @@
 -- A task stays one of its command, from the beginning on; and a command that may begin fits.
-use Rattle.std.proofs.Common.{◌≡◌, inl, inr, ℕ, Bool, true, false, true≢false, List, [], Option, Some, None, refl, sym, ap, ◌∙◌, subst}
+use Rattle.std.proofs.Common.{◌≡◌, inl, inr, ℕ, Bool, true, false, [], Option, Some, None, refl, sym, ap, ◌∙◌, subst}
 use Rattle.std.specs.declared.alloc.Global.{Global}
 use Rattle.hwp_cpu_command.specs.hwp_geom.declared.Damage.{Damage}
 use Rattle.hwp_cpu_command.specs.hwp_geom.declared.FileNo.{FileNo}
@@ -18,7 +18,6 @@ use Rattle.hwp_cpu_command.specs.hwp_words.Stops.{is_stopped}
 use Rattle.hwp_cpu_command.specs.hwp_script_lines.declared.Command.{Command}
 use Rattle.hwp_cpu_command.specs.hwp_script_lines.declared.Command.TheVariants as commands
 use Rattle.hwp_cpu_command.specs.hwp_script_lines.declared.PrctlArgs.{PrctlArgs}
-use Rattle.hwp_cpu_command.specs.hwp_core_rule.declared.Made.{Made}
 use Rattle.hwp_cpu_command.specs.hwp_core_rule.declared.View.{View}
 use Rattle.hwp_cpu_command.specs.hwp_core_task.declared.Turn.{Turn}
 use Rattle.hwp_cpu_command.specs.hwp_banks.Banks.{Banks}
@@ -40,7 +39,6 @@ use Rattle.hwp_cpu_command.specs.hwp_cpu_access.Fits.{IsOfAccess}
 use Rattle.hwp_cpu_command.specs.hwp_cpu_access.Instructions as instructions
 use Rattle.hwp_cpu_command.proofs.of_hwp_cpu_access.InstructionLaws as instructing
 use Rattle.hwp_cpu_command.specs.hwp_cpu_raise.declared.LocalChange.{LocalChange}
-use Rattle.hwp_cpu_command.specs.hwp_cpu_raise.declared.LocalChange.TheVariants as changes
 use Rattle.hwp_cpu_command.specs.hwp_cpu_raise.declared.Log.{Log}
 use Rattle.hwp_cpu_command.specs.hwp_cpu_raise.declared.Raise.{Raise}
 use Rattle.hwp_cpu_command.specs.hwp_cpu_raise.declared.Raiser.{Raiser}

@@ -1,5 +1,5 @@
 -- A course comes to an end: each turn that doesn't wait lowers what is left.
-use Rattle.std.proofs.Common.{◌≡◌, ◌≢◌, ℕ, ◌+◌, ◌-◌, ◌*◌, ◌<◌, ◌≤◌, ◌==◌, ◌&&◌, nat_lt, ◌⊎◌, inl, inr, Bool, true, false, cond, List, [], ◌∷◌, ◌++◌, Option, Some, None, ◌^◌, drop, is_some, length, option_map, slice_get, refl, sym, ap, ◌∙◌, subst, arith}
+use Rattle.std.proofs.Common.{◌≡◌, ◌≢◌, ℕ, ◌+◌, ◌-◌, ◌*◌, ◌<◌, ◌≤◌, ◌⊎◌, inl, inr, Bool, true, false, cond, List, [], ◌∷◌, ◌++◌, Option, Some, None, drop, is_some, length, option_map, refl, sym, ap, ◌∙◌, subst, arith}
 use Rattle.std.proofs.lemmas.Bool.{both_ways}
 use Rattle.std.proofs.lemmas.List.{length-append}
 use Rattle.std.proofs.lemmas.Option.{none-some, slice_get_within}
@@ -18,9 +18,7 @@ use Rattle.hwp_cpu_row.specs.hwp_core_task.declared.Turn.{Turn}
 use Rattle.hwp_cpu_row.specs.hwp_core_task.declared.Turn.TheVariants as turns
 use Rattle.hwp_cpu_row.specs.hwp_core_task.Boards.{view_of}
 use Rattle.hwp_cpu_row.specs.hwp_core_task.Calls.{Steps, logs, rec_of}
-use Rattle.hwp_cpu_row.specs.hwp_core_task.Classes.{TellsClass}
-use Rattle.hwp_cpu_row.specs.hwp_core_task.Hands.{empty, hand_of}
-use Rattle.hwp_cpu_row.specs.hwp_core_task.Ranks.{CostFalls, HasFailed, HasFrame, HasPage, IsRanked, Made, OtherHand, PaysRevival, Pending, Quiet, command_weight, failure_weight, failures_left, free_room, is_refused, is_waits, words_at}
+use Rattle.hwp_cpu_row.specs.hwp_core_task.Ranks.{CostFalls, HasFailed, IsRanked, Made, OtherHand, PaysRevival, Pending, Quiet, command_weight, failure_weight, failures_left, free_room, is_refused, is_waits, words_at}
 use Rattle.hwp_cpu_row.proofs.of_hwp_core_task.StepRanks.{steps-on}
 use Rattle.hwp_cpu_row.specs.hwp_cpu_check.declared.EventOutcome.{EventOutcome}
 use Rattle.hwp_cpu_row.specs.declared.Watching.{Watching}

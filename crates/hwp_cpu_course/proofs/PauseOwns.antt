@@ -1,12 +1,11 @@
 -- A frame whose failure is pending where an access comes to its pause was pending before, and is none of the access's own.
-use Rattle.std.proofs.Common.{◌≡◌, ◌≢◌, ◌⊎◌, inl, inr, ℕ, Bool, true, false, Option, Some, None, is_some, refl, sym, ap, ◌∙◌, subst}
+use Rattle.std.proofs.Common.{◌≡◌, ◌≢◌, inl, inr, ℕ, Bool, true, false, Option, Some, None, is_some, refl, sym, ap, ◌∙◌, subst}
 use Rattle.std.proofs.lemmas.Bool.{both_ways}
 use Rattle.std.proofs.lemmas.Option.{none-some, same_Some}
 use Rattle.hwp_cpu_row.specs.hwp_geom.declared.Frame.{Frame}
 use Rattle.hwp_cpu_row.specs.hwp_geom.declared.Layout.{Layout}
 use Rattle.hwp_cpu_row.specs.hwp_core_rule.declared.SharedWord.TheVariants as places
 use Rattle.hwp_cpu_row.specs.hwp_core_rule.declared.State.{State}
-use Rattle.hwp_cpu_row.specs.hwp_core_rule.declared.Step.{Step}
 use Rattle.hwp_cpu_row.specs.hwp_core_rule.declared.Step.TheVariants as steps
 use Rattle.hwp_cpu_row.specs.hwp_core_rule.Lasting.{IsMild}
 use Rattle.hwp_cpu_row.specs.hwp_core_task.declared.Turn.{Turn}

@@ -1,6 +1,5 @@
 -- The event lines of one machine check.
-use Rattle.std.specs.Prelude.{◌≡◌, ◌⊎◌, ℕ, ◌+◌, nat_le, Bool, true, false, not, ◌||◌, List, [], ◌∷◌, Option, Some, None, replicate, slice_index_or, slice_set, MatchBool, Contains}
-use Rattle.std.specs.List.{list_any}
+use Rattle.std.specs.Prelude.{◌≡◌, ◌⊎◌, ℕ, nat_le, Bool, true, not, ◌||◌, List, [], ◌∷◌, None, MatchBool, Contains}
 use Rattle.hwp_law_commands.specs.hwp_geom.declared.Who.{Who}
 use Rattle.hwp_law_commands.specs.hwp_banks.declared.Event.{Event}
 use Rattle.hwp_law_commands.specs.hwp_banks.Addresses.{frame_at}

@@ -1,5 +1,5 @@
 -- How many lines a scrub tells.
-use Rattle.std.proofs.Common.{◌≡◌, inl, inr, ℕ, ◌+◌, ◌*◌, ◌<◌, ◌≤◌, Bool, true, false, List, [], ◌∷◌, ◌++◌, Option, Some, None, length, refl, sym, ap, ◌∙◌, arith}
+use Rattle.std.proofs.Common.{◌≡◌, inl, inr, ℕ, ◌+◌, ◌*◌, ◌<◌, ◌≤◌, List, [], ◌∷◌, Option, Some, None, length, sym, ap, ◌∙◌, arith}
 use Rattle.std.proofs.lemmas.List.{length-append, length-map, length-set}
 use Rattle.std.proofs.lemmas.Option.{none-some}
 use Rattle.hwp_cpu_check.specs.hwp_geom.declared.Frame.{Frame}
@@ -20,7 +20,7 @@ use Rattle.hwp_scrub.specs.declared.scrub.ScrubAnswer.{ScrubAnswer}
 use Rattle.hwp_scrub.specs.declared.scrub.ScrubAnswer.TheVariants as answers
 use Rattle.hwp_scrub.specs.declared.scrub.ScrubAt.{ScrubAt}
 use Rattle.hwp_scrub.specs.declared.scrub.ScrubAt.TheVariants as at
-use Rattle.hwp_scrub.proofs.VisitLaws.{bad-leaves, left-banks}
+use Rattle.hwp_scrub.proofs.VisitLaws.{left-banks}
 
 -- a frame tells of no more events than its machine check found in the banks, and of one weak line
 abbrev pub frame_lines : ℕ

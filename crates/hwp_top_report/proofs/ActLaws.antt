@@ -1,5 +1,5 @@
 -- The notes of what a command did beside its answer, one act after the other.
-use Rattle.std.proofs.Common.{◌≡◌, ◌⊎◌, inl, inr, ℕ, zero, suc, ◌+◌, ◌<◌, ◌≤◌, ◌==◌, ◌||◌, Bool, true, false, cond, List, [], ◌∷◌, ◌++◌, Option, Some, None, drop, filter_map, get_or, length, map, slice_get, append-nil, append_assoc, refl, sym, ap, ◌∙◌, subst, arith, true≢false}
+use Rattle.std.proofs.Common.{◌≡◌, ◌⊎◌, inl, inr, ℕ, zero, suc, ◌+◌, ◌<◌, ◌≤◌, ◌==◌, ◌||◌, Bool, true, false, cond, List, [], ◌∷◌, ◌++◌, Option, Some, None, drop, filter_map, get_or, length, slice_get, append-nil, append_assoc, refl, sym, ap, ◌∙◌, arith, true≢false}
 use Rattle.std.specs.List.{cons_option}
 use Rattle.std.proofs.Math.Seq.{drop-cons, drop-length, drop-nil}
 use Rattle.std.proofs.lemmas.Bool.{eqb-false, ne_eqb}
@@ -7,7 +7,7 @@ use Rattle.std.proofs.lemmas.Option.{slice_get-get_or, slice_get_cases}
 use Rattle.hwp_plain_words.specs.hwp_geom.declared.Who.{Who}
 use Rattle.hwp_cpu_row.specs.declared.Offlining.{Offlining}
 use Rattle.hwp_cpu_row.specs.hwp_cpu_check.declared.EventOutcome.{EventOutcome}
-use Rattle.hwp_cpu_row.specs.Acts.{Act, Offlined, Told, acts, acts_from}
+use Rattle.hwp_cpu_row.specs.Acts.{Offlined, Told, acts, acts_from}
 use Rattle.hwp_cpu.specs.hwp_law_served.Rows.{Note, act_note, own_note, told_note}
 use Rattle.hwp_top_report.specs.Closing.{is_frame_by, is_frame_next}
 

@@ -1,4 +1,4 @@
-use Rattle.std.proofs.Common.{◌≡◌, ℕ, ◌+◌, ◌<◌, ◌≤◌, ◌^◌, Option, Some, None, IfSome, length, subst, refl, sym, ap, ◌∙◌, arith, MatchOption}
+use Rattle.std.proofs.Common.{ℕ, Option, subst, sym, MatchOption}
 use Rattle.hwp_check_answers.specs.Offlining.{AreAllDue, IsFirstOfflined}
 use Rattle.hwp_check_answers.proofs.AnswerCounts.{answers-enough}
 use Rattle.hwp_check_answers.proofs.OfflinedOrder.{heading-first, judged-line, none-lacking, row-within}

@@ -1,4 +1,4 @@
-use Rattle.std.proofs.Common.{◌≡◌, ◌↔◌, IsTrue, not, sym, subst}
+use Rattle.std.proofs.Common.{◌↔◌, IsTrue, not, sym, subst}
 use Rattle.hwp_check_evidence.specs.hwp_report_text.declared.Answer.{Answer}
 use Rattle.hwp_check_evidence.specs.hwp_law.Answers.{is_ample}
 use Rattle.hwp_check_evidence.specs.hwp_law.Causes.{IsOfflineAnswer}

@@ -1,4 +1,4 @@
-use Rattle.std.proofs.Common.{◌↔◌, ◌&&◌, not, Bool, IsTrue, ap, ◌∙◌, sym, subst}
+use Rattle.std.proofs.Common.{◌↔◌, ◌&&◌, Bool, IsTrue, ap, ◌∙◌, sym, subst}
 use Rattle.std.specs.Option.{option_copied}
 use Rattle.hwp_law.specs.hwp_page.Refusals.{IsLockedIn}
 use Rattle.hwp_law.specs.States.{HadState}

@@ -1,4 +1,4 @@
-use Rattle.std.proofs.Common.{◌≡◌, ℕ, ◌<◌, All, List, length, sym, subst, ◌∙◌}
+use Rattle.std.proofs.Common.{ℕ, ◌<◌, All, sym, subst, ◌∙◌}
 use Rattle.hwp_check_rules.specs.hwp_geom.declared.Frame.{Frame}
 use Rattle.hwp_check_rules.specs.hwp_check_event_line.Firsts.{shown_lines}
 use Rattle.hwp_check_offlined.proofs.CollectLaws.{due-same}

@@ -1,4 +1,3 @@
-use Rattle.std.proofs.Common.{◌≡◌, sym}
 use Rattle.hwp_check_offlined.proofs.CollectLaws.{taken-more}
 use Rattle.hwp_check_offlined.proofs.collecting.take_out.Goals as goal
 

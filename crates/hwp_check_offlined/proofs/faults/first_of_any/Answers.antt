@@ -1,4 +1,4 @@
-use Rattle.std.proofs.Common.{◌≡◌, sym, arith}
+use Rattle.std.proofs.Common.{sym, arith}
 use Rattle.hwp_check_offlined.proofs.TallyLaws.{any-all, any-here, any-next, any-none}
 use Rattle.hwp_check_offlined.proofs.faults.first_of_any.Goals as goal
 

@@ -1,4 +1,4 @@
-use Rattle.std.proofs.Common.{◌≡◌, sym}
+use Rattle.std.proofs.Common.{sym}
 use Rattle.hwp_check_offlined.proofs.JudgeLaws.{judged-by, judged-none}
 use Rattle.hwp_check_offlined.proofs.faults.offlined_faults.Goals as goal
 

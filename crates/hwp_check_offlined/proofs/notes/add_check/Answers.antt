@@ -1,7 +1,7 @@
-use Rattle.std.proofs.Common.{◌≡◌, ◌++◌, List, sym, ap, ◌∙◌}
+use Rattle.std.proofs.Common.{◌++◌, List, sym, ap, ◌∙◌}
 use Rattle.std.proofs.lemmas.List.{append-nil}
 use Rattle.hwp_check_rules.specs.hwp_geom.declared.Frame.{Frame}
-use Rattle.hwp_check_offlined.proofs.NoteLoop.{check_ended, check_noted}
+use Rattle.hwp_check_offlined.proofs.NoteLoop.{check_ended}
 use Rattle.hwp_check_offlined.proofs.notes.add_check.Goals as goal
 
 pub returns-then-has_end : goal.returns-then-has_end

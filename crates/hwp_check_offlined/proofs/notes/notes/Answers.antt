@@ -1,6 +1,6 @@
-use Rattle.std.proofs.Common.{◌≡◌, ℕ, length, sym, ◌∙◌, arith}
+use Rattle.std.proofs.Common.{◌≡◌, length, arith}
 use Rattle.hwp_check_rules.specs.hwp_check_event_line.Firsts.{shown_lines}
-use Rattle.hwp_check_offlined.proofs.NoteLoop.{begins, gathered, many-shown}
+use Rattle.hwp_check_offlined.proofs.NoteLoop.{gathered, many-shown}
 use Rattle.hwp_check_offlined.proofs.notes.notes.Goals as goal
 
 pub returns : goal.returns

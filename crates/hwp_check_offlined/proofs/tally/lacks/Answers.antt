@@ -1,4 +1,4 @@
-use Rattle.std.proofs.Common.{◌≡◌, ◌<◌, [], length, refl, sym, ◌∙◌, arith}
+use Rattle.std.proofs.Common.{◌<◌, [], length, refl, sym, ◌∙◌, arith}
 use Rattle.hwp_check_offlined.proofs.TallyLaws.{lacks-end, lacks-here, lacks-on}
 use Rattle.hwp_check_offlined.proofs.tally.lacks.Goals as goal
 

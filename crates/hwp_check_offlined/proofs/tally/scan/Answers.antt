@@ -1,4 +1,4 @@
-use Rattle.std.proofs.Common.{◌≡◌, None, length, refl, sym, ap, ◌∙◌, arith}
+use Rattle.std.proofs.Common.{None, length, refl, ap, ◌∙◌, arith}
 use Rattle.hwp_check_offlined.specs.Tallied.{lacks_from}
 use Rattle.hwp_check_offlined.proofs.TallyLaws.{few, few-told, scanned, tallied-more, tallied-none}
 use Rattle.hwp_check_offlined.proofs.tally.scan.Goals as goal

@@ -1,4 +1,4 @@
-use Rattle.std.proofs.Common.{◌≡◌, ◌+◌, ◌<◌, ◌≤◌, ◌∙◌, List, [], ◌∷◌, sym, ap, subst, arith, length}
+use Rattle.std.proofs.Common.{arith}
 use Rattle.hwp_cpu_course.proofs.DueLaws.{collect-next, first-lower}
 use Rattle.hwp_cpu_course.proofs.collect.collect.Goals as goal
 
