@@ -1,6 +1,6 @@
 -- What a collector makes of notes, one by one, and of a command.
-use Rattle.std.proofs.Common.{◌≡◌, ℕ, ◌+◌, ◌<◌, ◌≤◌, ◌==◌, Bool, true, false, true≢false, ◌&&◌, List, [], ◌∷◌, ◌++◌, Option, Some, None, MatchBool, MatchOption, get_or, length, map, option_map, replicate, take, if◌then◌else◌, refl, sym, ap, ◌∙◌, subst}
-use Rattle.std.proofs.lemmas.List.{length-map, length-replicate, length-set, map-append, take_all, take_more}
+use Rattle.std.proofs.Common.{◌≡◌, ℕ, ◌+◌, ◌<◌, ◌==◌, Bool, true, false, true≢false, ◌&&◌, List, [], ◌∷◌, ◌++◌, Option, Some, None, MatchBool, MatchOption, get_or, length, map, option_map, replicate, take, if◌then◌else◌, refl, sym, ap, ◌∙◌, subst}
+use Rattle.std.proofs.lemmas.List.{length-map, length-replicate, length-set, map-append, take_more}
 use Rattle.hwp_check_rules.specs.hwp_geom.declared.Frame.{Frame}
 use Rattle.hwp_check_rules.specs.hwp_script_read.declared.Command.{Command}
 use Rattle.hwp_check_rules.specs.hwp_script_read.declared.Command.TheVariants as commands
@@ -78,22 +78,6 @@ taken-more old now new notes frames more i d goes within so next more_is = recor
 
     with-here : take (i + 1) notes ≡ front ++ here ∷ []
     with-here = take_more notes i d within
-
-pub taken-all : (old new : Counters) (notes frames : List Frame) (i : ℕ) → length notes ≤ i → AreTaken old new (take i notes) frames → AreTaken old new notes frames
-taken-all old new notes frames i all so = subst (λ (l : List Frame). AreTaken old new l frames) (take_all i notes all) so
-
--- a round, and a new beginning
-pub rounded-once : (old new : Counters) → new ≡ rounded old → ((events : List CecEvent) → StandsFor events old → StandsFor (events ++ Round ∷ []) new) → IsRounded old new
-rounded-once old new counts stands = record {
-  many = ap (λ (c : Counters). length c.counts) counts ∙ length-rows old;
-  stands = λ v s. record { threshold = ap (λ (c : Counters). c.threshold) counts ∙ s.threshold; window = ap (λ (c : Counters). c.window) counts ∙ s.window; stands = stands v.events s.stands };
-}
-
-pub begun-once : (limits : Limits) (old new : Counters) → new ≡ begun limits.threshold limits.window (length old.counts) → StandsFor [] new → IsBegun limits old new
-begun-once limits old new counts stands = record {
-  many = ap (λ (c : Counters). length c.counts) counts ∙ length-begun limits.threshold limits.window (length old.counts);
-  stands = record { threshold = ap (λ (c : Counters). c.threshold) counts; window = ap (λ (c : Counters). c.window) counts; stands = stands };
-}
 
 -- the collector after a command, by whether it begins one and whether it ends a round
 abbrev after_by : Option Limits → Bool → List Frame → Option Watched → Option Watched

@@ -47,15 +47,6 @@ dones-at (row ∷ rows) k = dones-at rows k
 abbrev pub AreCopied : List Bool → ℕ → List Bool → Type 0
 AreCopied told number flags = (k : ℕ) (d : Bool) → k < number → slice_index_or flags k d ≡ slice_index_or told k false
 
-pub copied-more : (told flags : List Bool) (number : ℕ) → length flags ≡ number → AreCopied told number flags → AreCopied told (number + 1) (flags ++ slice_index_or told number false ∷ [])
-copied-more told flags number many are k d less = which (cases_lt k number)
-  where
-    which : (k < number) ⊎ (number ≤ k) → slice_index_or (flags ++ slice_index_or told number false ∷ []) k d ≡ slice_index_or told k false
-    which (inl low) = get_or_append_left flags (slice_index_or told number false ∷ []) d k (subst (λ (n : ℕ). k < n) (sym many) low) ∙ are k d low
-    which (inr high) =
-        let at : k ≡ number = omega (arith, less, high) in
-        get_or_push flags (slice_index_or told number false) d k (many ∙ sym at) ∙ ap (λ (n : ℕ). slice_index_or told n false) (sym at)
-
 -- the first answer of a command is the one in this line, or in those behind it
 same-answer : (seq : ℕ) (answer : Answer) (rest : List CpuLine) (k : ℕ) → k ≡ seq → answer_among (lines.Answer seq answer ∷ rest) k ≡ Some answer
 same-answer seq answer rest k same =

@@ -3,7 +3,7 @@ use Rattle.std.proofs.Common.{◌≡◌, inl, inr, ℕ, ◌+◌, ◌≤◌, ◌&
 use Rattle.std.specs.Int.{from_bool}
 use Rattle.std.specs.List.{list_any}
 use Rattle.std.proofs.lemmas.List.{length-set}
-use Rattle.std.proofs.lemmas.Bool.{and_parts, both_ways}
+use Rattle.std.proofs.lemmas.Bool.{and_parts}
 use Rattle.std.proofs.lemmas.Option.{none-some, same_Some}
 use Rattle.hwp_fault.specs.hwp_geom.declared.Frame.{Frame}
 use Rattle.hwp_fault.specs.hwp_geom.declared.Layout.{Layout}
@@ -610,11 +610,3 @@ paused {past} {layout} {view} i p fits is = which i.at fits.at is
     which : (x : InstructionAt) → FitsAt past layout view i fits.checks x → pause_at x ≡ Some p → IsPaused past layout view i fits.checks p
     which (at.Paused other) has some = subst (IsPaused past layout view i fits.checks) (same_Some other p some) has
     which _ has none = absurd (none-some p none)
-
--- where its processor doesn't collect, an instruction doesn't pause
-pub never-pauses : {past : List Made} {layout : Layout} {view : View} (i : Instruction) → FitsFrom past layout view i → i.collects ≡ false → pause i ≡ None
-never-pauses {past} {layout} {view} i fits none = which (pause i) refl
-  where
-    which : (o : Option Pause) → pause i ≡ o → pause i ≡ None
-    which None is = is
-    which (Some p) is = absurd (both_ways i.collects none (paused i p fits is).collects)

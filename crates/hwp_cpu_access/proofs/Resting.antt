@@ -1,12 +1,10 @@
 -- An instruction at its pause: what stays of it while another task of its command goes on, and how it goes on behind the pause.
-use Rattle.std.proofs.Common.{◌≡◌, inr, ℕ, ◌+◌, ◌==◌, Bool, true, false, cond, List, [], ◌∷◌, ◌++◌, Option, Some, filter, length, append-nil, refl, sym, ap, ◌∙◌, subst, arith}
+use Rattle.std.proofs.Common.{◌≡◌, inr, ℕ, ◌==◌, Bool, true, false, cond, List, [], ◌∷◌, ◌++◌, Option, Some, filter, length, append-nil, refl, sym, ap, ◌∙◌, subst, arith}
 use Rattle.std.proofs.lemmas.List.Elements.{filter-append}
 use Rattle.std.proofs.lemmas.Option.{none-some, same_Some}
 use Rattle.hwp_fault.specs.hwp_geom.declared.Frame.{Frame}
 use Rattle.hwp_fault.specs.hwp_geom.declared.Layout.{Layout}
-use Rattle.hwp_fault.specs.hwp_geom.declared.Page.{Page}
 use Rattle.hwp_fault.specs.hwp_geom.declared.Who.{Who}
-use Rattle.hwp_fault.specs.hwp_page.declared.What.TheVariants as entries
 use Rattle.hwp_fault.specs.hwp_page.History.{BodyValue}
 use Rattle.hwp_fault.specs.hwp_core_rule.declared.Log.{Log}
 use Rattle.hwp_fault.specs.hwp_core_rule.declared.Made.{Made}
@@ -22,7 +20,7 @@ use Rattle.hwp_fault.specs.hwp_core_rule.Views.{marked, noted, owing_count, pois
 use Rattle.hwp_fault.proofs.of_hwp_core_rule.Lists.{at_longer}
 use Rattle.hwp_fault.specs.hwp_core_task.Calls.{IsOnTurn, Steps}
 use Rattle.hwp_fault.specs.hwp_core_task.Hands.{hand_of, empty}
-use Rattle.hwp_fault.specs.hwp_core_task.Known.{HasMadeBeside, HasMadeNoneBeside, deeds}
+use Rattle.hwp_fault.specs.hwp_core_task.Known.{deeds}
 use Rattle.hwp_fault.proofs.of_hwp_core_task.Failures.{marks-by}
 use Rattle.hwp_fault.proofs.of_hwp_core_task.MadeEntries.{only-of-none}
 use Rattle.hwp_fault.proofs.of_hwp_core_task.SightKeeps.{saw-stays}
@@ -30,7 +28,6 @@ use Rattle.hwp_fault.proofs.of_hwp_core_task.StepLeaves.{content_of}
 use Rattle.hwp_fault.proofs.AccessLaws.{begins-again}
 use Rattle.hwp_fault.specs.Accesses as accesses
 use Rattle.hwp_cpu_check.specs.hwp_claim_frame.Claims.{is_own, marks_by}
-use Rattle.hwp_cpu_check.specs.hwp_law_commands.Commands.{is_check}
 use Rattle.hwp_cpu_check.proofs.FailureKeeps.{Stay}
 use Rattle.hwp_cpu_check.specs.Checks.{left_by}
 use Rattle.hwp_cpu_access.specs.Fits.{FitsAt, FitsFrom, HasOnlyBefore, IsLeft, IsLeftAt, IsResting, banks_at, checks_in, checks_made}
@@ -41,7 +38,7 @@ use Rattle.hwp_cpu_access.specs.declared.instruction.InstructionAt.{InstructionA
 use Rattle.hwp_cpu_access.specs.declared.instruction.InstructionAt.TheVariants as at
 use Rattle.hwp_cpu_access.specs.declared.instruction.Pause.{Pause}
 use Rattle.hwp_cpu_access.specs.declared.instruction.Pause.TheVariants as pauses
-use Rattle.hwp_cpu_access.proofs.CommandGrows.{checks-stay, deeds-grow, such-more}
+use Rattle.hwp_cpu_access.proofs.CommandGrows.{checks-stay, deeds-grow}
 
 -- ---- what a command has marked and made only grows
 
@@ -75,17 +72,6 @@ module _ {layout : Layout} {who : Who} {step : Step} {put : Option Log} {old new
   }
 
 -- ---- the entries of machine checks
-
--- of these entries, where the command made none beside them
-pub none-unchecked : {base : List Made} (view : View) (who : Who) → HasMadeNoneBeside base view who → checks_made who view ≡ checks_in base
-none-unchecked view who none = ap checks_in none
-
--- and where it made one more, by which a page left its frame
-pub soft-unchecked : {base : List Made} {view : View} (who : Who) {page : Page} {place : ℕ} → HasMadeBeside base (λ m. ⊥) view who page place entries.Soft → checks_made who view ≡ checks_in base
-soft-unchecked {base} who has = ap checks_in has.all ∙ which has.before has.such
-  where
-    one : checks_in (base ++ has.last ∷ []) ≡ checks_in base
-    one = let more : checks_in (base ++ has.last ∷ []) ≡ checks_in base + 0 = such-more is_check base has.last false (ap is_check has.at.2) in omega (arith, more)
 
     which : (before : List Made) → EachMember (λ (m : Made). ⊥) before → checks_in (base ++ (before ++ has.last ∷ [])) ≡ checks_in base
     which [] none = one

@@ -1,5 +1,5 @@
 -- What a command has done beside its answer is what its row says.
-use Rattle.std.proofs.Common.{◌≡◌, ℕ, false, List, [], ◌∷◌, ◌++◌, Option, Some, None, map, refl, sym, ap, ◌∙◌, subst}
+use Rattle.std.proofs.Common.{◌≡◌, ℕ, false, List, [], ◌++◌, Option, Some, None, map, refl, sym, ap, ◌∙◌, subst}
 use Rattle.std.specs.Prelude.{filter_map, option_and_then}
 use Rattle.std.specs.List.{cons_option}
 use Rattle.std.proofs.lemmas.Option.{none-some, same_Some}
@@ -82,8 +82,7 @@ use Rattle.hwp_cpu_causes.proofs.OfflineCauses.{KnowsSoft, knows-soft}
 use Rattle.hwp_cpu_causes.proofs.RaiseCauses.{KnowsRaise, knows-kernel-raise, knows-user-raise}
 use Rattle.hwp_cpu_causes.proofs.ScrubCauses.{KnowsScrub, knows-scrub}
 use Rattle.hwp_cpu_causes.proofs.UnpoisonCauses.{KnowsUnpoison, knows-unpoison}
-use Rattle.hwp_law_served.specs.Accounts.{IsOwn, act_marking, own_failure, own_marking, set_by, set_for}
-use Rattle.hwp_law_served.specs.hwp_cpu_row.Acts.{Told}
+use Rattle.hwp_law_served.specs.Accounts.{IsOwn, own_failure, own_marking, set_by, set_for}
 use Rattle.hwp_cpu_causes.specs.Beside.{ArePrior, DoesSo}
 use Rattle.hwp_cpu_causes.proofs.CauseLaws.{from-none}
 
@@ -289,8 +288,3 @@ does layout view who commands.RaiseNested j base runs fits prior is = let task =
 does layout view who (commands.Inject frame) j base runs fits prior is = inject-does (knows-failure j runs (from-none layout view j prior fits) is)
 does layout view who (commands.Soft frame) j base runs fits prior is = soft-does (knows-soft j runs (from-none layout view j prior fits) is)
 does layout view who (commands.Unpoison frame) j base runs fits prior is = unpoison-does (knows-unpoison j runs (from-none layout view j prior fits) is)
-
--- the marks of what a command told, where it is all that it did
-pub told-markings : (told : List EventOutcome) → filter_map act_marking (map Told told) ≡ filter_map marked_in told
-told-markings [] = refl
-told-markings (t ∷ ts) = ap (cons_option (marked_in t)) (told-markings ts)

@@ -13,7 +13,7 @@ use Rattle.hwp_cpu_command.specs.hwp_core_rule.declared.State.{State}
 use Rattle.hwp_cpu_command.specs.hwp_core_rule.declared.View.{View}
 use Rattle.hwp_cpu_command.specs.hwp_core_rule.Rule.{Holds}
 use Rattle.hwp_cpu_command.specs.hwp_core_rule.Words.{Words}
-use Rattle.hwp_cpu_command.specs.hwp_core_task.Ranks.{words_at, again_most, command_weight, failure_weight, free_room}
+use Rattle.hwp_cpu_command.specs.hwp_core_task.Ranks.{words_at, again_most, failure_weight, free_room}
 use Rattle.hwp_cpu_command.proofs.of_hwp_cpu_control.PrctlLaws as calling
 use Rattle.hwp_cpu_command.proofs.of_hwp_cpu_control.NestedLaws as nesting
 use Rattle.hwp_cpu_command.proofs.of_hwp_cpu_control.ReadStopLaws as reading
@@ -99,9 +99,6 @@ job-few layout a view (jobs.Inject i) rule fits = let most = inject-below i (wor
 job-few layout a view (jobs.Soft s) rule fits = let most : softs.cost s (words_at layout a) ≤ softs.soft_most = soft-small layout a s rule in omega (arith, most)
 job-few layout a view (jobs.Unpoison u) rule fits = let most : unpoisons.cost u (words_at layout a) ≤ unpoisons.unpoison_most = unpoison-small u (words_at layout a) in omega (arith, most)
 
-pub job-below : (layout : Layout) (a : State) (view : View) (j : Job) → Holds layout a → Fits layout view j → cost j (words_at layout a) < command_weight
-job-below layout a view j rule fits = let few : cost j (words_at layout a) < 4 * failure_weight = job-few layout a view j rule fits in omega (arith, few)
-
 -- ---- and one that begins
 
 access-begins : {layout : Layout} {by : Who} {thread : Thread} {slot : VSlot} {line : ℕ} {kind : AccessKind} {origin : Origin} {mode : Mode} {banks : Banks} {collects : Bool} {j : Job} (w : Words) → length w.frees ≤ free_room → BeginsAccess layout by thread slot line kind origin mode banks collects j → cost j w < 4 * failure_weight
@@ -145,6 +142,3 @@ begins-few layout a by command banks collects j rule begun = which command begun
     which (commands.Inject frame) b = below b.job_is (let most = inject-below (injects.begin b.alloc by frame) w in omega (arith, most))
     which (commands.Soft frame) b = below b.job_is (omega arith)
     which (commands.Unpoison frame) b = below b.job_is (omega arith)
-
-pub begins-below : (layout : Layout) (a : State) (by : Who) (command : Command) (banks : Banks) (collects : Bool) (j : Job) → Holds layout a → Begins layout by command banks collects j → cost j (words_at layout a) < command_weight
-begins-below layout a by command banks collects j rule begun = let few : cost j (words_at layout a) < 4 * failure_weight = begins-few layout a by command banks collects j rule begun in omega (arith, few)

@@ -70,22 +70,6 @@ pub answered-resumes : (j : Job) → is_some (answer j) ≡ true → resume j �
 answered-resumes (jobs.Instruction i) is = ap (λ (o : Option Pause). jobs.Instruction (instructions.resume_by i o)) (unpaused i.at (answers-some (instructions.answer i) is))
 answered-resumes _ is = refl
 
--- and doesn't pause
-pub answered-unpaused : (i : Instruction) → is_some (answer (jobs.Instruction i)) ≡ true → is_paused (jobs.Instruction i) ≡ false
-answered-unpaused i is = ap is_some (unpaused i.at (answers-some (instructions.answer i) is))
-
--- one that doesn't pause has its answer where it rests
-pub rests-by : (j : Job) → (is_paused j || is_some (answer j)) ≡ true → ((i : Instruction) × (p : Pause) × (j ≡ jobs.Instruction i) × (instructions.pause i ≡ Some p)) ⊎ ((a : Answer) × (answer j ≡ Some a))
-rests-by j rests = which (answer j) refl
-  where
-    paused : (k : Job) → is_paused k ≡ true → (i : Instruction) × (p : Pause) × (k ≡ jobs.Instruction i) × (instructions.pause i ≡ Some p)
-    paused (jobs.Instruction i) is = by (instructions.pause i) refl is
-      where
-        by : (o : Option Pause) → instructions.pause i ≡ o → is_some o ≡ true → (x : Instruction) × (p : Pause) × (jobs.Instruction i ≡ jobs.Instruction x) × (instructions.pause x ≡ Some p)
-        by (Some p) at some = (i, p, refl, at)
-        by None at none = absurd (true≢false (sym none))
-    paused _ is = absurd (true≢false (sym is))
-
     no-answer : (b : Bool) → (b || false) ≡ true → b ≡ true
     no-answer true is = refl
     no-answer false is = is

@@ -249,15 +249,6 @@ notes-few layout told =
 
 -- ---- the first machine check and those behind it
 
-pub first-within : (l : List EventOutcome) → first_check l ≤ length l
-first-within [] = omega arith
-first-within (t ∷ []) = omega arith
-first-within (t ∷ n ∷ r) = which (nat_lt t.held.bank n.held.bank) (first-within (n ∷ r))
-  where
-    which : (b : Bool) → first_check (n ∷ r) ≤ length (n ∷ r) → cond b (suc (first_check (n ∷ r))) 1 ≤ length (t ∷ n ∷ r)
-    which true rest = omega (arith, rest)
-    which false rest = omega arith
-
 pub first-some : (t : EventOutcome) (l : List EventOutcome) → 0 < first_check (t ∷ l)
 first-some t [] = omega arith
 first-some t (n ∷ r) = which (nat_lt t.held.bank n.held.bank)
@@ -301,15 +292,8 @@ first-notes layout (t ∷ l) = whole (parts t l)
 
 -- ---- an event, and the events of a machine check one after the other
 
-pub event-none : (layout : Layout) (t : EventOutcome) (c : Counters) (due : List Frame) → noted_frame layout (event_at 0 t) ≡ None → HasNoted (notes_of_event layout t) c due c due
-event-none layout t c due is = subst (λ (o : Option Frame). HasNoted (cons_option o []) c due c due) (sym is) (noted-none c due)
-
 many-noted : (c after : Counters) (frame : Frame) → after ≡ noted_in c frame.0 → length after.counts ≡ length c.counts
 many-noted c after frame is = ap (λ (k : Counters). length k.counts) is ∙ length-set c.counts frame.0 _
-
-pub event-offline : (layout : Layout) (t : EventOutcome) (f : Frame) (c after : Counters) (due all : List Frame) → noted_frame layout (event_at 0 t) ≡ Some f → f.0 < length c.counts → Says c f Offline after → all ≡ due ++ f ∷ [] → HasNoted (notes_of_event layout t) c due after all
-event-offline layout t f c after due all is within says same =
-    subst (λ (o : Option Frame). HasNoted (cons_option o []) c due after all) (sym is) (f ∷ [], same, collects-offline within (many-noted c after f says.counts) says)
 
 pub event-counted : (layout : Layout) (t : EventOutcome) (f : Frame) (k : ℕ) (c after : Counters) (due : List Frame) → noted_frame layout (event_at 0 t) ≡ Some f → f.0 < length c.counts → Says c f (Counted k) after → HasNoted (notes_of_event layout t) c due after due
 event-counted layout t f k c after due is within says =
@@ -355,13 +339,6 @@ collect-step layout all_told rest so_far c d e due mid all has is one = (
   noted-both so_far (notes_of_lines layout (take (first_check rest) rest)) due mid all c d e has one,
   is ∙ ap (λ (l : List Frame). so_far ++ l) (first-notes layout rest) ∙ sym (append_assoc so_far (notes_of_lines layout (take (first_check rest) rest)) (told_notes layout (drop (first_check rest) rest))),
 )
-
-pub collect-begins : (layout : Layout) (told : List EventOutcome) (c : Counters) (due : List Frame) → (new : List Frame) × HasNoted new c due c due × (told_notes layout told ≡ new ++ told_notes layout told)
-collect-begins layout told c due = ([], noted-none c due, refl)
-
-pub collect-done : (layout : Layout) (all_told rest : List EventOutcome) (so_far : List Frame) (c d : Counters) (due all : List Frame) → length rest ≡ 0 → HasNoted so_far c due d all → told_notes layout all_told ≡ so_far ++ told_notes layout rest → HasNoted (told_notes layout all_told) c due d all
-collect-done layout all_told [] so_far c d due all none has is = subst (λ (l : List Frame). HasNoted l c due d all) (sym (is ∙ append-nil so_far)) has
-collect-done layout all_told (x ∷ xs) so_far c d due all none has is = absurd (omega (arith, none))
 
 -- what the functions say
 
