@@ -1,5 +1,5 @@
 -- An instruction at its pause: what stays of it while another task of its command goes on, and how it goes on behind the pause.
-use Rattle.std.proofs.Common.{◌≡◌, inr, ℕ, ◌==◌, Bool, true, false, cond, List, [], ◌∷◌, ◌++◌, Option, Some, filter, length, append-nil, refl, sym, ap, ◌∙◌, subst, arith}
+use Rattle.std.proofs.Common.{◌≡◌, inr, ℕ, ◌==◌, Bool, true, false, cond, List, [], ◌++◌, Option, Some, filter, length, append-nil, refl, sym, ap, ◌∙◌, subst, arith}
 use Rattle.std.proofs.lemmas.List.Elements.{filter-append}
 use Rattle.std.proofs.lemmas.Option.{none-some, same_Some}
 use Rattle.hwp_fault.specs.hwp_geom.declared.Frame.{Frame}
@@ -14,7 +14,7 @@ use Rattle.hwp_fault.specs.hwp_core_rule.declared.SharedWord.TheVariants as plac
 use Rattle.hwp_fault.specs.hwp_core_rule.declared.Step.{Step}
 use Rattle.hwp_fault.specs.hwp_core_rule.declared.Step.TheVariants as steps
 use Rattle.hwp_fault.specs.hwp_core_rule.declared.View.{View}
-use Rattle.hwp_fault.specs.hwp_core_rule.Lists.{EachMember, SomeMember}
+use Rattle.hwp_fault.specs.hwp_core_rule.Lists.{SomeMember}
 use Rattle.hwp_fault.specs.hwp_core_rule.Steps.{goes}
 use Rattle.hwp_fault.specs.hwp_core_rule.Views.{marked, noted, owing_count, poison_listed, revived_by, sighted, view_by}
 use Rattle.hwp_fault.proofs.of_hwp_core_rule.Lists.{at_longer}
@@ -30,7 +30,7 @@ use Rattle.hwp_fault.specs.Accesses as accesses
 use Rattle.hwp_cpu_check.specs.hwp_claim_frame.Claims.{is_own, marks_by}
 use Rattle.hwp_cpu_check.proofs.FailureKeeps.{Stay}
 use Rattle.hwp_cpu_check.specs.Checks.{left_by}
-use Rattle.hwp_cpu_access.specs.Fits.{FitsAt, FitsFrom, HasOnlyBefore, IsLeft, IsLeftAt, IsResting, banks_at, checks_in, checks_made}
+use Rattle.hwp_cpu_access.specs.Fits.{FitsAt, FitsFrom, HasOnlyBefore, IsLeft, IsLeftAt, IsResting, banks_at, checks_made}
 use Rattle.hwp_cpu_access.specs.Instructions.{pause, pause_at, resume, resume_by, resumed}
 use Rattle.hwp_cpu_access.specs.declared.instruction.Instruction.{Instruction}
 use Rattle.hwp_cpu_access.specs.declared.instruction.InstructionAnswer.TheVariants as answers
@@ -70,12 +70,6 @@ module _ {layout : Layout} {who : Who} {step : Step} {put : Option Log} {old new
     deeds = λ P some. deeds-grow made who P some;
     saw = λ frame saw. record { word = saw.word; poisoned = saw.poisoned; saw = saw-stays made saw.saw };
   }
-
--- ---- the entries of machine checks
-
-    which : (before : List Made) → EachMember (λ (m : Made). ⊥) before → checks_in (base ++ (before ++ has.last ∷ [])) ≡ checks_in base
-    which [] none = one
-    which (m ∷ ms) none = absurd (none 0 m refl)
 
 -- ---- while another task of its command goes on
 

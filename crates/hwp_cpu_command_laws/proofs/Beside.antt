@@ -1,6 +1,6 @@
 -- A command while frames are taken out of use beside it: what it has done so far where it rests, behind its pause, and where memory ran
 -- out for that.
-use Rattle.std.proofs.Common.{◌≡◌, ◌⊎◌, inl, inr, ℕ, ◌||◌, Bool, true, false, true≢false, List, [], ◌++◌, Option, Some, None, is_some, length, option_map, filter_map, refl, sym, ap, ◌∙◌, subst}
+use Rattle.std.proofs.Common.{◌≡◌, inl, inr, ℕ, ◌||◌, Bool, true, false, true≢false, List, [], ◌++◌, Option, Some, None, is_some, length, option_map, filter_map, refl, sym, ap, ◌∙◌, subst}
 use Rattle.std.proofs.lemmas.Option.{none-some, same_Some}
 use Rattle.hwp_cpu_command.specs.hwp_geom.declared.Layout.{Layout}
 use Rattle.hwp_cpu_command.specs.hwp_geom.declared.Who.{Who}
@@ -69,14 +69,6 @@ answers-some (Some a) is = refl
 pub answered-resumes : (j : Job) → is_some (answer j) ≡ true → resume j ≡ j
 answered-resumes (jobs.Instruction i) is = ap (λ (o : Option Pause). jobs.Instruction (instructions.resume_by i o)) (unpaused i.at (answers-some (instructions.answer i) is))
 answered-resumes _ is = refl
-
-    no-answer : (b : Bool) → (b || false) ≡ true → b ≡ true
-    no-answer true is = refl
-    no-answer false is = is
-
-    which : (o : Option Answer) → answer j ≡ o → ((i : Instruction) × (p : Pause) × (j ≡ jobs.Instruction i) × (instructions.pause i ≡ Some p)) ⊎ ((a : Answer) × (answer j ≡ Some a))
-    which (Some a) is = inr (a, is)
-    which None is = inl (paused j (no-answer (is_paused j) (ap (λ (o : Option Answer). is_paused j || is_some o) (sym is) ∙ rests)))
 
 -- where an instruction pauses
 pub at-pause : (x : InstructionAt) {p : Pause} → instructions.pause_at x ≡ Some p → x ≡ instruction_at.Paused p
