@@ -18,7 +18,7 @@ pub fn spot_of(who: Who, frame: Frame, moved: bool) -> Key
     )
 }
 
-/// Whether a result that leaves a mark says that the content moved; none of the other results.
+/// Whether the content moved, where the result leaves a mark; `None` for the other results.
 pub fn marking(came: OfflineResult) -> Option<bool>
     ensures { result ≡ marking came }
 {

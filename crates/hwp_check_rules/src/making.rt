@@ -250,14 +250,14 @@ fn is_watch(command: &Command) -> bool
     matches!(*command, Command::Watch { .. })
 }
 
-/// Whether one of the commands does.
+/// Whether one of the commands is a `watch`.
 pub fn watches(commands: &[Command]) -> bool
     ensures { result ≡ list_any is_watch commands.now }
 {
     commands.iter().any(is_watch)
 }
 
-/// Whether a command of the script does.
+/// Whether a command of the script is a `watch`.
 pub fn has_watch(script: &Script) -> bool
     ensures { result ≡ has_watch script.now }
 {

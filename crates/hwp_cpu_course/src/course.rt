@@ -30,7 +30,7 @@ pub struct Course {
     noted: usize,
     /// The frames that are due, and what came of them so far.
     due: DueFrames,
-    /// How many frames the machine has. The collector has room for them.
+    /// How many frames the machine has, for which the collector has room. A turn on a machine with another number notes nothing.
     frames: u16,
 }
 

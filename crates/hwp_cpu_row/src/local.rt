@@ -52,6 +52,7 @@ impl Handles {
 /// first `watch` that is done (this project's rule).
 #[derive(Drop)]
 pub struct Watching {
+    /// What it counts. Its threshold and window are 1 until it collects.
     pub collector: Collector,
     /// Whether it collects.
     pub on: bool,
