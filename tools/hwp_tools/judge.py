@@ -21,13 +21,14 @@ RULES = {
     2: "Each page's history must be legal from its opening, the command numbers of one processor may not fall in it, and each "
     "entry must be one that its command makes, with that command's numbers. The line named is the entry; of a failure its "
     "`fail` line, whichever of its lines is wrong.",
-    3: "Each command must have exactly one answer, in order, and answers and event lines must have their causes in the report. "
-    "The line named is the answer or the event; the `cpu` line if one is missing.",
+    3: "Each command must have exactly one answer, in order, and answers, event lines and `offlined` lines must have their causes in "
+    "the report. The `offlined` lines of a command must be those that its processor's collector asks for, in their order. The line named "
+    "is the answer, the event or the `offlined` line; the `cpu` line if one is missing.",
     4: "Each policy that a failure saw must be that of the thread after as many settings as the line says; of a thread of the "
     "failing processor these are the settings done before, and along one processor the number of a thread's settings never "
     "falls. The line named is the `seen` line.",
     5: "The records of a frame must alternate from `poisoned`, in cycles from 0. Each must have what it found, with that result, "
-    "its entry if it found a page or moved one, and its answer or event, and the reverse. The line named is the record; the "
+    "its entry if it found a page or moved one, and its answer, event or `offlined` line, and the reverse. The line named is the record; the "
     "`frame` line if one is missing; the first entry of a failure if the number of those that a thread needed is another than "
     "that of the events of row S9.",
     6: "The count must be that of the frames whose last record is `poisoned`. The line named is the `count` line.",
