@@ -89,8 +89,7 @@ pub(crate) fn due_by(
     ensures { IfOk result (λ frames. AreDue on collector.old collector.new (notes layout.now (shown_lines lines.now)) frames) }
 {
     let noted = notes(alloc, layout, lines)?;
-    let frames = due(alloc, collector, on, noted.as_slice())?;
-    Ok(frames)
+    due(alloc, collector, on, noted.as_slice())
 }
 
 /// The numbers of the collector that a command with this answer gives its processor, if it gives one.
