@@ -53,9 +53,9 @@ fn take_out(
     ensures { IfOk result (λ frames. AreTaken collector.old collector.new notes.now frames) }
 {
     let mut frames = List::new(alloc);
-    for number in 0..notes.len() {
-        let goes = note(collector, notes[number]);
-        add_if(&mut frames, goes, notes[number])?;
+    for frame in notes {
+        let goes = note(collector, *frame);
+        add_if(&mut frames, goes, *frame)?;
     }
     Ok(frames)
 }
