@@ -72,6 +72,12 @@ def _events(outcome: Outcome, numbers: Sequence[int]) -> list[Words]:
     return [words[2:] for words in _cpu_lines(outcome, numbers) if words[1] == "event"]
 
 
+def _offlined(outcome: Outcome, numbers: Sequence[int]) -> list[Words]:
+    """What came of a frame that a command took out of use beside its answer."""
+    cpu, command, frame = numbers
+    return [words[3:] for words in _cpu_lines(outcome, (cpu, command)) if words[1:3] == ("offlined", str(frame))]
+
+
 def _cpu_lines(outcome: Outcome, numbers: Sequence[int]) -> Iterator[Words]:
     """The lines of a command below its processor."""
     cpu, command = numbers
@@ -140,6 +146,7 @@ def _status(outcome: Outcome, _: Sequence[int]) -> list[Words]:
 FORMS = (
     Form("C S is ANSWER", _answer, False),
     Form("C S event EVENT", _events, False),
+    Form("C S offlined F RESULT", _offlined, False),
     Form("C S signals SIGNAL", _sent, False),
     Form("C S poisons F MARK", _poisons, False),
     Form("C S unpoisons F", _unpoisons, False),

@@ -1,7 +1,7 @@
 mod InPlace
 pub mod OrderLaws
 mod JudgeLaws
-mod CourseLaws
+mod SoFarLaws
 mod NextLaws
 mod FactLaws
 mod WalkLaws

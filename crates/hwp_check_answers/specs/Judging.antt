@@ -22,7 +22,7 @@ use Rattle.hwp_check_evidence.specs.Named.{flagged_pages}
 use Rattle.hwp_check_evidence.specs.Windows.{AreOfEarlier, floors_of}
 use Rattle.hwp_check_rules.specs.AnswerFaults.{IsOutside, IsRevived, IsUnnamed}
 use Rattle.hwp_check_rules.specs.Answered.{IsRight}
-use Rattle.hwp_check_answers.specs.declared.judging.Course.{Course}
+use Rattle.hwp_check_answers.specs.declared.judging.LinesSoFar.{LinesSoFar}
 use Rattle.hwp_check_answers.specs.declared.judging.Naming.{Naming}
 
 -- an earlier command of the processor was answered that the process had ended
@@ -36,11 +36,11 @@ abbrev pub process_numbers : ℕ
 process_numbers = 256
 
 -- what the lines before a command's answer tell is right
-pub record IsCourse (script : Script) (report : Report) (before : List CpuLine) (later : Who) (course : Course) : Type 0 where
-  pub floors : course.floors.items ≡ floors_of (length report.pages) before
+pub record AreSoFar (script : Script) (report : Report) (before : List CpuLine) (later : Who) (so_far : LinesSoFar) : Type 0 where
+  pub floors : so_far.floors.items ≡ floors_of (length report.pages) before
   pub earlier : AreOfEarlier before later.seq
-  pub many : length course.gone.items ≡ process_numbers
-  pub gone : (process : Proc) → process.0 < process_numbers → (slice_index_or course.gone.items process.0 false ≡ true) ↔ HadGone script report later process
+  pub many : length so_far.gone.items ≡ process_numbers
+  pub gone : (process : Proc) → process.0 < process_numbers → (slice_index_or so_far.gone.items process.0 false ≡ true) ↔ HadGone script report later process
 
 -- the flags after an answer of a command of this process
 abbrev pub gone_after : List Bool → Option Proc → Answer → List Bool
@@ -81,6 +81,6 @@ pub record IsNaming (report : Report) (who : Who) (answer : Answer) (naming : Na
   pub others : naming.others.items ≡ flagged_pages (is_named naming.names) who.cpu (replicate (length naming.others.items) false) 0 report.pages
 
 -- what is known of an answer, and of the lines before it, is right
-pub record IsKnownAnswer (script : Script) (report : Report) (before : List CpuLine) (who : Who) (answer : Answer) (course : Course) (naming : Naming) : Type 0 where
-  pub on_course : IsCourse script report before who course
+pub record IsKnownAnswer (script : Script) (report : Report) (before : List CpuLine) (who : Who) (answer : Answer) (so_far : LinesSoFar) (naming : Naming) : Type 0 where
+  pub are_so_far : AreSoFar script report before who so_far
   pub are_named : IsNaming report who answer naming

@@ -6,18 +6,18 @@ use Rattle.hwp_check_evidence.specs.hwp_report_text.declared.CpuLine.{CpuLine}
 use Rattle.hwp_check_rules.specs.Answered.{is_answer}
 use Rattle.hwp_check_rules.specs.AnswerFaults.{IsAnswerWrong}
 use Rattle.hwp_check_answers.specs.Facts.{AreGoodRows, IsBadRow, IsFirstBad, IsGoodRow, at_number}
-use Rattle.hwp_check_answers.specs.Judging.{IsCourse, IsGood}
+use Rattle.hwp_check_answers.specs.Judging.{AreSoFar, IsGood}
 use Rattle.hwp_check_answers.specs.Sifting.{AreSound, IsUnsound}
 use Rattle.hwp_check_answers.specs.Values.{AnswerValue, ProcessorValue}
-use Rattle.hwp_check_answers.specs.declared.judging.Course.{Course}
+use Rattle.hwp_check_answers.specs.declared.judging.LinesSoFar.{LinesSoFar}
 
 -- how many commands are answered before the line with the number
 abbrev pub answered_before : ProcessorValue → ℕ → ℕ
 answered_before p number = count_by is_answer (take number p.rows)
 
 -- what the lines before it tell is right, where the command `seq` is answered next
-abbrev pub IsCourseAt : ProcessorValue → ℕ → ℕ → Course → Type 0
-IsCourseAt p number seq course = IsCourse p.script p.report (take number p.rows) (at_number p.cpu seq) course
+abbrev pub AreSoFarAt : ProcessorValue → ℕ → ℕ → LinesSoFar → Type 0
+AreSoFarAt p number seq so_far = AreSoFar p.script p.report (take number p.rows) (at_number p.cpu seq) so_far
 
 -- nothing is wrong about the answer of the command `seq` there; or something is
 abbrev pub IsGoodAt : ProcessorValue → ℕ → ℕ → Command → Answer → Type 0

@@ -1,4 +1,4 @@
-use crate::judging::{Course, Naming};
+use crate::judging::{LinesSoFar, Naming};
 use hwp_check_causes::Case;
 use hwp_check_rules::{Answer, CpuLine};
 use std::marker::Model;
@@ -10,7 +10,7 @@ pub(crate) struct GivenAnswer<'a> {
     pub(crate) case: Case<'a>,
     pub(crate) answer: &'a Answer,
     pub(crate) before: &'a [CpuLine],
-    pub(crate) course: &'a Course,
+    pub(crate) so_far: &'a LinesSoFar,
     pub(crate) naming: &'a Naming,
 }
 
@@ -22,5 +22,5 @@ impl<'a> Model for GivenAnswer<'a> {
 
     ghost view = { λ g. record { script = g.case.script; report = g.case.report; who = g.case.who; command = g.case.command; before = g.before.now; answer = g.answer.now } };
 
-    ghost invariant = { λ g. IsKnownAnswer g.case.script g.case.report g.before.now g.case.who g.answer.now g.course.now g.naming.now };
+    ghost invariant = { λ g. IsKnownAnswer g.case.script g.case.report g.before.now g.case.who g.answer.now g.so_far.now g.naming.now };
 }

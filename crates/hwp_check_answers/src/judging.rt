@@ -14,7 +14,7 @@ use hwp_check_rules::{Answer, At, Proc};
 
 /// What the lines before an answer tell.
 #[derive(Drop)]
-pub struct Course {
+pub struct LinesSoFar {
     /// The highest place of each page that an answer named.
     pub floors: Vec<u64>,
     /// Of which processes a command was answered that they had ended.
@@ -58,7 +58,7 @@ fn is_flagged(gone: &[bool], process: Proc) -> bool
 fn had_gone(given: &GivenAnswer<'_>, process: Proc) -> bool
     ensures { IsTrue result ↔ HadGone given.now.script given.now.report given.now.who process }
 {
-    is_flagged(given.course.gone.as_slice(), process)
+    is_flagged(given.so_far.gone.as_slice(), process)
 }
 
 /// Whether an earlier command of the processor ended the process, or was answered that it had ended.
@@ -91,7 +91,7 @@ fn is_in_window(given: &GivenAnswer<'_>, at: At) -> bool
 {
     let case = &given.case;
     let pages = case.report().pages.as_slice();
-    let floors = given.course.floors.as_slice();
+    let floors = given.so_far.floors.as_slice();
     is_in_span(pages, case.own().spans.as_slice(), case.who(), at)
         && is_not_below(pages.len(), given.before, floors, case.who(), at)
 }

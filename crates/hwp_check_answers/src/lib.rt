@@ -3,7 +3,6 @@
 #![tactic(auto)]
 
 mod answering;
-mod course;
 mod disorders;
 mod events;
 mod facts;
@@ -14,6 +13,7 @@ mod placing;
 mod processor;
 mod rule;
 mod sifting;
+mod so_far;
 mod walk;
 
 pub use rule::answers_fault;

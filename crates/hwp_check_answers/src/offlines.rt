@@ -22,8 +22,7 @@ fn unanswered_if(
     if !watches(commands) {
         return Ok(None);
     }
-    let found = unanswered(alloc, commands, rows)?;
-    Ok(found)
+    unanswered(alloc, commands, rows)
 }
 
 /// The first line of a processor, whose heading stands at `heading`, where its lines of frames taken out of use are wrong: the heading

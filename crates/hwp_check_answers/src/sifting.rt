@@ -5,9 +5,9 @@ ghost use Rattle.hwp_check_answers.specs.Walk.{AreGoodLines, AreSoundLines, IsFi
 ghost use Rattle.hwp_check_rules.specs.Standing.{last_line};
 ghost use Rattle.hwp_check_rules.specs.Verdicts.{HoldBelow};
 
-use crate::course::begin;
 use crate::placing::first_out;
 use crate::processor::JudgedProcessor;
+use crate::so_far::begin;
 use crate::walk::first_bad;
 use hwp_check_causes::known_of;
 use hwp_check_rules::{

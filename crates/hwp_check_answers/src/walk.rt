@@ -5,12 +5,12 @@ ghost use Rattle.hwp_check_evidence.specs.hwp_law.Offlined.{IsOffline};
 ghost use Rattle.hwp_check_answers.specs.Facts.{at_number};
 ghost use Rattle.hwp_check_answers.specs.Judging.{IsNextOf};
 ghost use Rattle.hwp_check_answers.specs.Placing.{FirstInPlace};
-ghost use Rattle.hwp_check_answers.specs.Walk.{AreGoodLines, IsBadLine, IsCourseAt, IsFirstBadLine, IsGoodAt, IsGoodLine, IsWrongAt, answered_before};
+ghost use Rattle.hwp_check_answers.specs.Walk.{AreGoodLines, IsBadLine, AreSoFarAt, IsFirstBadLine, IsGoodAt, IsGoodLine, IsWrongAt, answered_before};
 
-use crate::course::note;
 use crate::given::GivenAnswer;
-use crate::judging::{Course, is_good};
+use crate::judging::{LinesSoFar, is_good};
 use crate::processor::JudgedProcessor;
+use crate::so_far::note;
 use hwp_check_causes::is_offlined;
 use hwp_check_rules::{Answer, Command, CpuLine, OfflinedLine};
 
@@ -18,14 +18,14 @@ use hwp_check_rules::{Answer, Command, CpuLine, OfflinedLine};
 fn is_good_command<'a>(
     processor: &'a JudgedProcessor<'_>,
     number: usize,
-    course: &'a Course,
+    so_far: &'a LinesSoFar,
     seq: u32,
     command: &'a Command,
     answer: &'a Answer,
 ) -> bool
     requires within { number ≤ length processor.now.rows }
     requires made { slice_get processor.now.commands seq ≡ Some command.now }
-    requires course { IsCourseAt processor.now number seq course.now }
+    requires so_far { AreSoFarAt processor.now number seq so_far.now }
     requires first { answer_among processor.now.rows seq ≡ Some answer.now }
     ensures { MatchBool result (IsGoodAt processor.now number seq command.now answer.now) (IsWrongAt processor.now number seq command.now answer.now) }
 {
@@ -33,7 +33,7 @@ fn is_good_command<'a>(
         case: processor.case(seq, command),
         answer,
         before: &processor.rows[..number],
-        course,
+        so_far,
         naming: &processor.naming,
     })
 }
@@ -62,17 +62,17 @@ fn is_good_offlined(processor: &JudgedProcessor<'_>, number: usize, line: &Offli
 fn is_good_answer(
     processor: &JudgedProcessor<'_>,
     number: usize,
-    course: &Course,
+    so_far: &LinesSoFar,
     seq: u32,
     answer: &Answer,
 ) -> bool
     requires within { number ≤ length processor.now.rows }
-    requires course { IsCourseAt processor.now number seq course.now }
+    requires so_far { AreSoFarAt processor.now number seq so_far.now }
     requires first { answer_among processor.now.rows seq ≡ Some answer.now }
     ensures { MatchBool result (IsGoodLine processor.now number (lines.Answer seq answer.now)) (IsBadLine processor.now number (lines.Answer seq answer.now)) }
 {
     match processor.command(seq) {
-        Some(command) => is_good_command(processor, number, course, seq, command, answer),
+        Some(command) => is_good_command(processor, number, so_far, seq, command, answer),
         None => true,
     }
 }
@@ -81,11 +81,11 @@ fn is_good_answer(
 fn is_good_row(
     processor: &JudgedProcessor<'_>,
     number: usize,
-    course: &Course,
+    so_far: &LinesSoFar,
     row: &CpuLine,
 ) -> bool
     requires within { number ≤ length processor.now.rows }
-    requires course { IsCourseAt processor.now number (answered_before processor.now number) course.now }
+    requires so_far { AreSoFarAt processor.now number (answered_before processor.now number) so_far.now }
     requires next { IsNextOf processor.now.rows (answered_before processor.now number) row.now }
     ensures { MatchBool result (IsGoodLine processor.now number row.now) (IsBadLine processor.now number row.now) }
 {
@@ -93,25 +93,29 @@ fn is_good_row(
         CpuLine::Event(_) | CpuLine::Guest(_) => true,
         CpuLine::Offlined(line) => is_good_offlined(processor, number, line),
         CpuLine::Answer { seq, answer } => {
-            is_good_answer(processor, number, course, *seq, answer)
+            is_good_answer(processor, number, so_far, *seq, answer)
         }
     }
 }
 
 /// The number of the first of so many lines that is a command's answer with something wrong about it.
-pub(crate) fn first_bad(processor: &JudgedProcessor<'_>, end: usize, start: Course) -> Option<usize>
+pub(crate) fn first_bad(
+    processor: &JudgedProcessor<'_>,
+    end: usize,
+    start: LinesSoFar,
+) -> Option<usize>
     requires within { end ≤ length processor.now.rows }
     requires places { FirstInPlace processor.now.commands processor.now.rows end }
-    requires course { IsCourseAt processor.now 0 0 start }
+    requires so_far { AreSoFarAt processor.now 0 0 start }
     ensures { MatchOption result (AreGoodLines processor.now end) (IsFirstBadLine processor.now end) }
 {
-    let mut course = start;
+    let mut so_far = start;
     for number in 0..end {
         let row = processor.line(number);
-        if !is_good_row(processor, number, &course, row) {
+        if !is_good_row(processor, number, &so_far, row) {
             return Some(number);
         }
-        note(processor, &mut course, row);
+        note(processor, &mut so_far, row);
     }
     None
 }

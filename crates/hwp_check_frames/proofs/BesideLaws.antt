@@ -1,10 +1,10 @@
 -- The counts of lines beside answers are those of each command's lines for each frame.
-use Rattle.std.proofs.Common.{◌≡◌, ℕ, zero, suc, ◌+◌, ◌*◌, ◌<◌, ◌≤◌, ◌==◌, ◌&&◌, ◌^◌, not, Bool, true, false, cond, List, [], ◌∷◌, Option, Some, count_by, drop, get_or, length, slice_get, sum_by, take, true≢false, unwrap_or, refl, sym, ap, ◌∙◌, arith}
+use Rattle.std.proofs.Common.{◌≡◌, ℕ, zero, suc, ◌+◌, ◌*◌, ◌<◌, ◌≤◌, ◌==◌, ◌&&◌, ◌^◌, not, Bool, true, false, cond, List, [], ◌∷◌, Option, None, Some, count_by, drop, get_or, length, slice_get, sum_by, take, true≢false, unwrap_or, refl, sym, ap, ◌∙◌, arith}
 use Rattle.std.specs.HashMap.{HashMap}
 use Rattle.std.proofs.lemmas.Bool.{eq-eqb, eqb-true, ne_eqb}
 use Rattle.std.proofs.lemmas.List.{drop_all, drop_more, take_all}
 use Rattle.std.proofs.lemmas.List.Sums.{sum_by-cons, sum_by-take-le, sum_by_more, sum_by_more_le}
-use Rattle.std.proofs.lemmas.Option.{slice_get-get_or}
+use Rattle.std.proofs.lemmas.Option.{none-some, same_Some, slice_get-get_or}
 use Rattle.hwp_check_rules.specs.hwp_geom.declared.Who.{Who}
 use Rattle.hwp_check_rules.specs.hwp_report_text.Offlines.{offline_answer}
 use Rattle.hwp_check_rules.specs.hwp_report_text.declared.CpuLine.{CpuLine}
@@ -17,7 +17,7 @@ use Rattle.hwp_check_rules.specs.hwp_law.Lines.{offlined_among}
 use Rattle.hwp_check_rules.specs.hwp_law.Pairings.{says_soft}
 use Rattle.hwp_check_rules.specs.MarkFaults.{lines_beside}
 use Rattle.hwp_check_rules.specs.Standing.{cpu_height, last_line}
-use Rattle.hwp_check_frames.specs.Beside.{AreBeside, cpus_beside, result_beside, row_beside, rows_beside, spot}
+use Rattle.hwp_check_frames.specs.Beside.{AreBeside, cpus_beside, marking, result_beside, row_beside, rows_beside, spot}
 use Rattle.hwp_check_frames.specs.Counts.{at_key, raise}
 use Rattle.hwp_check_frames.proofs.CountRises.{eqb-swap, flag, raise-one}
 use Rattle.hwp_check_frames.proofs.FramePlaces.{and-both, and-left, and-right}
@@ -49,6 +49,23 @@ none-none : (a b : Bool) → 0 ≡ flag (a && (b && false))
 none-none true true = refl
 none-none true false = refl
 none-none false b = refl
+
+-- what a result that leaves a mark counts, and one that leaves none
+pub marked-raise : (q : (ℕ × ℕ) × ℕ) (who : Who) (frame : ℕ) (came : OfflineResult) (moved : Bool) → marking came ≡ Some moved → raise (spot who frame moved) q ≡ result_beside q who frame came
+marked-raise q who frame (results.Moved to at) moved is = ap (λ (m : Bool). raise (spot who frame m) q) (sym (same_Some true moved is))
+marked-raise q who frame results.TakenFree moved is = ap (λ (m : Bool). raise (spot who frame m) q) (sym (same_Some false moved is))
+marked-raise q who frame results.Already moved is = absurd (none-some moved is)
+marked-raise q who frame (results.HasBad mask) moved is = absurd (none-some moved is)
+marked-raise q who frame results.NoFrame moved is = absurd (none-some moved is)
+marked-raise q who frame results.Stopped moved is = absurd (none-some moved is)
+
+pub unmarked-raise : (q : (ℕ × ℕ) × ℕ) (who : Who) (frame : ℕ) (came : OfflineResult) → marking came ≡ None → 0 ≡ result_beside q who frame came
+unmarked-raise q who frame (results.Moved to at) is = absurd (none-some true (sym is))
+unmarked-raise q who frame results.TakenFree is = absurd (none-some false (sym is))
+unmarked-raise q who frame results.Already is = refl
+unmarked-raise q who frame (results.HasBad mask) is = refl
+unmarked-raise q who frame results.NoFrame is = refl
+unmarked-raise q who frame results.Stopped is = refl
 
 -- what a line counts
 line-one : (cpu seq frame other f : ℕ) (moved : Bool) (came : OfflineResult) → result_beside (spot (who-at cpu seq) frame moved) (who-at cpu other) f came ≡ flag ((seq == other) && ((f == frame) && says_soft moved (Some (offline_answer came))))

@@ -42,13 +42,9 @@ fn add_result(
     requires room { (q : (ℕ × ℕ) × ℕ) → at_key lines.old q + 1 < 2 ^ 64 }
     ensures { OnOk result ((q : (ℕ × ℕ) × ℕ) → at_key lines.new q ≡ at_key lines.old q + result_beside q who frame.0 came) }
 {
-    match came {
-        OfflineResult::Moved(..) => add(lines, spot_of(who, frame, true)),
-        OfflineResult::TakenFree => add(lines, spot_of(who, frame, false)),
-        OfflineResult::Already
-        | OfflineResult::HasBad(_)
-        | OfflineResult::NoFrame
-        | OfflineResult::Stopped => Ok(()),
+    match marking(came) {
+        Some(moved) => add(lines, spot_of(who, frame, moved)),
+        None => Ok(()),
     }
 }
 

@@ -5,7 +5,7 @@ ghost use Rattle.hwp_check_rules.specs.MarkFaults.{lower, lowest_said};
 ghost use Rattle.hwp_check_frames.specs.Counts.{is_pair};
 ghost use Rattle.hwp_check_marks.specs.Lows.{AreHomes, AreLows, low_at, row_low, rows_low};
 
-use hwp_check_frames::is_result;
+use hwp_check_frames::{is_result, marking};
 use hwp_check_rules::{Acted, Cpu, CpuLine, OfflineResult, OutOfMemory, Report, Who, rows_on};
 use std::alloc::Global;
 use std::collections::HashMap;
@@ -66,7 +66,7 @@ fn names_failure(soft: bool, acted: Acted) -> bool
 fn is_moved(came: OfflineResult) -> bool
     ensures { result ≡ is_moved (Some (offline_answer came)) }
 {
-    matches!(came, OfflineResult::Moved(..))
+    matches!(marking(came), Some(true))
 }
 
 /// Whether a line beside an answer names its frame.

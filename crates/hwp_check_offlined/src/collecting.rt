@@ -53,9 +53,9 @@ fn take_out(
     ensures { IfOk result (λ frames. AreTaken collector.old collector.new notes.now frames) }
 {
     let mut frames = List::new(alloc);
-    for number in 0..notes.len() {
-        let goes = note(collector, notes[number]);
-        add_if(&mut frames, goes, notes[number])?;
+    for frame in notes {
+        let goes = note(collector, *frame);
+        add_if(&mut frames, goes, *frame)?;
     }
     Ok(frames)
 }
@@ -89,8 +89,7 @@ pub(crate) fn due_by(
     ensures { IfOk result (λ frames. AreDue on collector.old collector.new (notes layout.now (shown_lines lines.now)) frames) }
 {
     let noted = notes(alloc, layout, lines)?;
-    let frames = due(alloc, collector, on, noted.as_slice())?;
-    Ok(frames)
+    due(alloc, collector, on, noted.as_slice())
 }
 
 /// The numbers of the collector that a command with this answer gives its processor, if it gives one.

@@ -71,6 +71,5 @@ pub fn offlined_faults(
         events.as_slice(),
         answers.as_slice(),
     )?;
-    let found = scan(alloc, rows, events.as_slice(), dues.as_slice())?;
-    Ok(found)
+    scan(alloc, rows, events.as_slice(), dues.as_slice())
 }

@@ -1,7 +1,7 @@
 use Rattle.std.proofs.Common.{ℕ, ◌+◌, ◌<◌, ◌≤◌, subst, arith}
 use Rattle.hwp_check_answers.specs.Judging.{IsNextOf}
-use Rattle.hwp_check_answers.specs.Walk.{IsCourseAt, answered_before}
-use Rattle.hwp_check_answers.proofs.CourseLaws.{course_next}
+use Rattle.hwp_check_answers.specs.Walk.{AreSoFarAt, answered_before}
+use Rattle.hwp_check_answers.proofs.SoFarLaws.{so_far_next}
 use Rattle.hwp_check_answers.proofs.NextLaws.{next_of}
 use Rattle.hwp_check_answers.proofs.WalkLaws.{good_more, next_count}
 use Rattle.hwp_check_answers.proofs.walk.first_bad.Goals as goal
@@ -27,8 +27,8 @@ loop-number-preserved c =
     let row = c.line-row.result.now in
     let low : n < c.args.end = c.loop-number-test.true in
     let next : IsNextOf p.rows (answered_before p n) row = next_of p.commands p.rows n row c.line-row.ensures.there (λ r line less is. c.requires.places r line (omega (arith, less, low)) is) in (
-      subst (λ (seq : ℕ). IsCourseAt p (n + 1) seq c.note.new.course) (next_count p.rows n row c.line-row.ensures.there)
-          (course_next p.script p.report p.cpu p.rows c.line-row.ensures.shown n (answered_before p n) row c.loop-number.course c.note.new.course c.line-row.ensures.there next c.loop-number.invariant.0 c.note.ensures.floors c.note.ensures.gone),
+      subst (λ (seq : ℕ). AreSoFarAt p (n + 1) seq c.note.new.so_far) (next_count p.rows n row c.line-row.ensures.there)
+          (so_far_next p.script p.report p.cpu p.rows c.line-row.ensures.shown n (answered_before p n) row c.loop-number.so_far c.note.new.so_far c.line-row.ensures.there next c.loop-number.invariant.0 c.note.ensures.floors c.note.ensures.gone),
       good_more p.script p.report p.cpu p.commands p.rows n row c.line-row.ensures.there c.if-not-is_good_row.ensures c.loop-number.invariant.1,
     )
 

@@ -18,8 +18,8 @@ use Rattle.hwp_check_evidence.specs.hwp_law.Lines.{answer_among, answer_of, seq_
 use Rattle.hwp_check_evidence.specs.Windows.{AreOfEarlier, floors_of, raised}
 use Rattle.hwp_check_evidence.proofs.ListItems.{item_of_push}
 use Rattle.hwp_check_rules.specs.Answered.{is_answer}
-use Rattle.hwp_check_answers.specs.declared.judging.Course.{Course}
-use Rattle.hwp_check_answers.specs.Judging.{HadGone, IsCourse, IsNextOf, gone_after, gone_by, next_seq, process_numbers}
+use Rattle.hwp_check_answers.specs.declared.judging.LinesSoFar.{LinesSoFar}
+use Rattle.hwp_check_answers.specs.Judging.{HadGone, AreSoFar, IsNextOf, gone_after, gone_by, next_seq, process_numbers}
 
 no-flag : (n k : ℕ) → get_or (replicate {A = Bool} n false) k false ≡ false
 no-flag n k = elim (cases_lt k n) [
@@ -27,9 +27,9 @@ no-flag n k = elim (cases_lt k n) [
   | inr past ↦ get_or_past (replicate {A = Bool} n false) k false (let many : length (replicate {A = Bool} n false) ≡ n = length-replicate {A = Bool} n false in omega (arith, many, past))
 ]
 
-pub begins : (script : Script) (report : Report) (cpu : Cpu) (course : Course) → course.floors.items ≡ floors_of (length report.pages) [] → course.gone.items ≡ replicate process_numbers false
-    → IsCourse script report [] (record { cpu = cpu; seq = 0 }) course
-begins script report cpu course floors gone = record {
+pub begins : (script : Script) (report : Report) (cpu : Cpu) (so_far : LinesSoFar) → so_far.floors.items ≡ floors_of (length report.pages) [] → so_far.gone.items ≡ replicate process_numbers false
+    → AreSoFar script report [] (record { cpu = cpu; seq = 0 }) so_far
+begins script report cpu so_far floors gone = record {
   floors = floors;
   earlier = λ i seq answer is. absurd (none-some _ is);
   many = ap length gone ∙ length-replicate {A = Bool} process_numbers false;
@@ -134,50 +134,50 @@ module _ (script : Script) (report : Report) (cpu : Cpu) (rows : List CpuLine) (
   floors-next row line there = ap (floors_of (length report.pages)) (take-next rows row line there) ∙ fold-push raised (replicate (length report.pages) 0) (take row rows) line
 
   -- what the lines before tell, with one line more
-  pub course_next : (row seq : ℕ) (line : CpuLine) (course after : Course) → slice_get rows row ≡ Some line → IsNextOf rows seq line → IsCourse script report (take row rows) (at_seq seq) course
-      → after.floors.items ≡ raised course.floors.items line → after.gone.items ≡ gone_by script cpu course.gone.items line → IsCourse script report (take (row + 1) rows) (at_seq (next_seq seq line)) after
-  course_next row seq (lines.Event line) course after there next is floors gone = record {
+  pub so_far_next : (row seq : ℕ) (line : CpuLine) (so_far after : LinesSoFar) → slice_get rows row ≡ Some line → IsNextOf rows seq line → AreSoFar script report (take row rows) (at_seq seq) so_far
+      → after.floors.items ≡ raised so_far.floors.items line → after.gone.items ≡ gone_by script cpu so_far.gone.items line → AreSoFar script report (take (row + 1) rows) (at_seq (next_seq seq line)) after
+  so_far_next row seq (lines.Event line) so_far after there next is floors gone = record {
     floors = floors ∙ ap (λ (f : List ℕ). raised f (lines.Event line)) is.floors ∙ sym (floors-next row (lines.Event line) there);
     earlier = earlier-event row seq (lines.Event line) there refl is.earlier;
     many = ap length gone ∙ is.many;
     gone = λ process small. (λ set. (is.gone process small).0 (sym (ap (λ (l : List Bool). get_or l process.0 false) gone) ∙ set), λ had. ap (λ (l : List Bool). get_or l process.0 false) gone ∙ (is.gone process small).1 had);
   }
-  course_next row seq (lines.Offlined line) course after there next is floors gone = record {
+  so_far_next row seq (lines.Offlined line) so_far after there next is floors gone = record {
     floors = floors ∙ ap (λ (f : List ℕ). raised f (lines.Offlined line)) is.floors ∙ sym (floors-next row (lines.Offlined line) there);
     earlier = earlier-event row seq (lines.Offlined line) there refl is.earlier;
     many = ap length gone ∙ is.many;
     gone = λ process small. (λ set. (is.gone process small).0 (sym (ap (λ (l : List Bool). get_or l process.0 false) gone) ∙ set), λ had. ap (λ (l : List Bool). get_or l process.0 false) gone ∙ (is.gone process small).1 had);
   }
-  course_next row seq (lines.Guest line) course after there next is floors gone = record {
+  so_far_next row seq (lines.Guest line) so_far after there next is floors gone = record {
     floors = floors ∙ ap (λ (f : List ℕ). raised f (lines.Guest line)) is.floors ∙ sym (floors-next row (lines.Guest line) there);
     earlier = earlier-event row seq (lines.Guest line) there refl is.earlier;
     many = ap length gone ∙ is.many;
     gone = λ process small. (λ set. (is.gone process small).0 (sym (ap (λ (l : List Bool). get_or l process.0 false) gone) ∙ set), λ had. ap (λ (l : List Bool). get_or l process.0 false) gone ∙ (is.gone process small).1 had);
   }
-  course_next row seq (lines.Answer s answer) course after there next is floors gone = record {
+  so_far_next row seq (lines.Answer s answer) so_far after there next is floors gone = record {
     floors = floors ∙ ap (λ (f : List ℕ). raised f (lines.Answer s answer)) is.floors ∙ sym (floors-next row (lines.Answer s answer) there);
     earlier = earlier-next row seq (lines.Answer s answer) there next.of_next is.earlier;
-    many = ap length flags ∙ after-many (process_at script (at_seq seq)) answer course.gone.items ∙ is.many;
+    many = ap length flags ∙ after-many (process_at script (at_seq seq)) answer so_far.gone.items ∙ is.many;
     gone = λ process small. (λ set. forth process small (sym (ap (λ (l : List Bool). get_or l process.0 false) flags) ∙ set), λ had. ap (λ (l : List Bool). get_or l process.0 false) flags ∙ back process small had);
   }
     where
-      flags : after.gone.items ≡ gone_after course.gone.items (process_at script (at_seq seq)) answer
-      flags = gone ∙ ap (λ (n : ℕ). gone_after course.gone.items (process_at script (at_seq n)) answer) next.of_next
+      flags : after.gone.items ≡ gone_after so_far.gone.items (process_at script (at_seq seq)) answer
+      flags = gone ∙ ap (λ (n : ℕ). gone_after so_far.gone.items (process_at script (at_seq n)) answer) next.of_next
 
       told : answer_among rows seq ≡ Some answer
       told = next.first answer (ap (λ (n : ℕ). lines.Answer n answer) next.of_next)
 
-      inside : (process : Proc) → process.0 < process_numbers → process.0 < length course.gone.items
+      inside : (process : Proc) → process.0 < process_numbers → process.0 < length so_far.gone.items
       inside process small = subst (λ (n : ℕ). process.0 < n) (sym is.many) small
 
-      forth : (process : Proc) → process.0 < process_numbers → get_or (gone_after course.gone.items (process_at script (at_seq seq)) answer) process.0 false ≡ true → HadGone script report (at_seq (seq + 1)) process
-      forth process small set = elim (set-after process (process_at script (at_seq seq)) answer course.gone.items (inside process small) set) [
+      forth : (process : Proc) → process.0 < process_numbers → get_or (gone_after so_far.gone.items (process_at script (at_seq seq)) answer) process.0 false ≡ true → HadGone script report (at_seq (seq + 1)) process
+      forth process small set = elim (set-after process (process_at script (at_seq seq)) answer so_far.gone.items (inside process small) set) [
         | inl old ↦ old-next seq process ((is.gone process small).0 old)
         | inr says ↦ new-next seq answer process told says
       ]
 
-      back : (process : Proc) → process.0 < process_numbers → HadGone script report (at_seq (seq + 1)) process → get_or (gone_after course.gone.items (process_at script (at_seq seq)) answer) process.0 false ≡ true
+      back : (process : Proc) → process.0 < process_numbers → HadGone script report (at_seq (seq + 1)) process → get_or (gone_after so_far.gone.items (process_at script (at_seq seq)) answer) process.0 false ≡ true
       back process small had = elim (had-next seq answer process told had) [
-        | inl old ↦ old-after process (process_at script (at_seq seq)) answer course.gone.items (inside process small) ((is.gone process small).1 old)
-        | inr says ↦ new-after process (process_at script (at_seq seq)) answer course.gone.items (inside process small) says
+        | inl old ↦ old-after process (process_at script (at_seq seq)) answer so_far.gone.items (inside process small) ((is.gone process small).1 old)
+        | inr says ↦ new-after process (process_at script (at_seq seq)) answer so_far.gone.items (inside process small) says
       ]

@@ -1,8 +1,8 @@
 use Rattle.std.proofs.Common.{ℕ, [], ap, length, ◌∙◌}
 use Rattle.hwp_check_evidence.specs.Windows.{floors_of}
 use Rattle.hwp_check_answers.specs.Values.{ProcessorValue}
-use Rattle.hwp_check_answers.proofs.CourseLaws.{begins}
-use Rattle.hwp_check_answers.proofs.course.begin.Goals as goal
+use Rattle.hwp_check_answers.proofs.SoFarLaws.{begins}
+use Rattle.hwp_check_answers.proofs.so_far.begin.Goals as goal
 
 pub returns : goal.returns
 returns c =

@@ -1,9 +1,9 @@
 ghost use Rattle.std.specs.Prelude.{◌≡◌, IfOk, false, length, replicate};
 ghost use Rattle.hwp_check_evidence.specs.Windows.{raised};
 ghost use Rattle.hwp_check_answers.specs.Judging.{gone_after, gone_by, process_numbers};
-ghost use Rattle.hwp_check_answers.specs.Walk.{IsCourseAt};
+ghost use Rattle.hwp_check_answers.specs.Walk.{AreSoFarAt};
 
-use crate::judging::Course;
+use crate::judging::LinesSoFar;
 use crate::processor::JudgedProcessor;
 use hwp_check_causes::process_at;
 use hwp_check_evidence::{no_floors, raise};
@@ -40,13 +40,13 @@ fn flag_by(script: &Script, cpu: Cpu, gone: &mut Vec<bool>, row: &CpuLine)
 }
 
 /// Notes a line more.
-pub(crate) fn note(processor: &JudgedProcessor<'_>, course: &mut Course, row: &CpuLine)
-    requires { length course.old.gone.items ≡ process_numbers }
-    ensures floors { course.new.floors.items ≡ raised course.old.floors.items row.now }
-    ensures gone { course.new.gone.items ≡ gone_by processor.now.script processor.now.cpu course.old.gone.items row.now }
+pub(crate) fn note(processor: &JudgedProcessor<'_>, so_far: &mut LinesSoFar, row: &CpuLine)
+    requires { length so_far.old.gone.items ≡ process_numbers }
+    ensures floors { so_far.new.floors.items ≡ raised so_far.old.floors.items row.now }
+    ensures gone { so_far.new.gone.items ≡ gone_by processor.now.script processor.now.cpu so_far.old.gone.items row.now }
 {
-    raise(&mut course.floors, row);
-    flag_by(processor.script, processor.cpu, &mut course.gone, row);
+    raise(&mut so_far.floors, row);
+    flag_by(processor.script, processor.cpu, &mut so_far.gone, row);
 }
 
 /// Flags of so many processes, none set.
@@ -57,11 +57,14 @@ fn no_flags(alloc: Global, processes: usize) -> Result<Vec<bool>, OutOfMemory>
 }
 
 /// What is known before any line.
-#[tactic(auto, using(crate::proofs::CourseLaws::begins))]
-pub(crate) fn begin(alloc: Global, processor: &JudgedProcessor<'_>) -> Result<Course, OutOfMemory>
-    ensures { IfOk result (λ course. IsCourseAt processor.now 0 0 course) }
+#[tactic(auto, using(crate::proofs::SoFarLaws::begins))]
+pub(crate) fn begin(
+    alloc: Global,
+    processor: &JudgedProcessor<'_>,
+) -> Result<LinesSoFar, OutOfMemory>
+    ensures { IfOk result (λ so_far. AreSoFarAt processor.now 0 0 so_far) }
 {
     let floors = no_floors(alloc, processor.report.pages.len())?;
     let gone = no_flags(alloc, PROCESS_NUMBERS)?;
-    Ok(Course { floors, gone })
+    Ok(LinesSoFar { floors, gone })
 }
