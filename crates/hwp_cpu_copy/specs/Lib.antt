@@ -1,0 +1,5 @@
+pub mod Copyings
+pub mod Runs
+pub mod Fits
+pub mod Costs
+pub use Rattle.hwp_fork.specs as hwp_fork
