@@ -78,7 +78,7 @@ can {base} layout view c step fits is = which c.at fits.at is
 -- ---- what stays of the runs
 
 -- over a step
-runs-kept : {layout : Layout} {step : Step} {found : ℕ} {got : Option BodyValue} {old new : View} {put : Option Log} (c : Copying) (runs : List Run) → HasRun layout old c runs → Steps layout c.store.who step put old new found got → HasRun layout new c runs
+pub runs-kept : {layout : Layout} {step : Step} {found : ℕ} {got : Option BodyValue} {old new : View} {put : Option Log} (c : Copying) (runs : List Run) → HasRun layout old c runs → Steps layout c.store.who step put old new found got → HasRun layout new c runs
 runs-kept c runs has made = record {
   sound = has.sound;
   names = has.names;
@@ -94,7 +94,7 @@ runs-kept c runs has made = record {
 }
 
 -- of an access that asks for the same
-runs-with : {layout : Layout} {view : View} (c : Copying) (k : Instruction) (x : CopyingAt) (runs : List Run) → HasRun layout view c runs → asked k ≡ asked c.instruction → HasRun layout view (record c { instruction = k; at = x }) runs
+pub runs-with : {layout : Layout} {view : View} (c : Copying) (k : Instruction) (x : CopyingAt) (runs : List Run) → HasRun layout view c runs → asked k ≡ asked c.instruction → HasRun layout view (record c { instruction = k; at = x }) runs
 runs-with {layout} {view} c k x runs has same = record {
   sound = has.sound;
   names = has.names;
@@ -111,7 +111,7 @@ runs-with {layout} {view} c k x runs has same = record {
 
 -- ---- the end of a part
 
-over-instruction : (i : Instruction) {x : InstructionAnswer} → instructions.answer i ≡ Some x → i.at ≡ instruction_at.Over (Some x)
+pub over-instruction : (i : Instruction) {x : InstructionAnswer} → instructions.answer i ≡ Some x → i.at ≡ instruction_at.Over (Some x)
 over-instruction i {x} is = which i.at is
   where
     which : (y : InstructionAt) → instructions.answer_at y ≡ Some x → y ≡ instruction_at.Over (Some x)
@@ -123,7 +123,7 @@ over-instruction i {x} is = which i.at is
     which instruction_at.GiveUp e = absurd (none-some x e)
     which (instruction_at.Paused pause) e = absurd (none-some x e)
 
-over-evict : (e : Evict) {x : EvictAnswer} → evicts.answer e ≡ Some x → e.at ≡ evict_at.Over x
+pub over-evict : (e : Evict) {x : EvictAnswer} → evicts.answer e ≡ Some x → e.at ≡ evict_at.Over x
 over-evict e {x} is = which e.at is
   where
     which : (y : EvictAt) → evicts.answer_at y ≡ Some x → y ≡ evict_at.Over x

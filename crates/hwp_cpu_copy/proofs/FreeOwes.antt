@@ -5,6 +5,7 @@ use Rattle.std.proofs.lemmas.Option.{none-some, same_Some}
 use Rattle.hwp_evict.specs.hwp_geom.declared.Layout.{Layout}
 use Rattle.hwp_evict.specs.hwp_geom.declared.Page.{Page}
 use Rattle.hwp_evict.specs.hwp_geom.declared.Who.{Who}
+use Rattle.hwp_evict.specs.hwp_page.declared.At.{At}
 use Rattle.hwp_evict.specs.hwp_page.declared.Entry.{Entry}
 use Rattle.hwp_evict.specs.hwp_page.History.{BodyValue}
 use Rattle.hwp_evict.specs.hwp_core_rule.declared.Log.{Log}
@@ -81,7 +82,7 @@ module _ {layout : Layout} {old new : View} {step : Step} {found : ℕ} {got : O
       which unhold_at.Over e made knows = absurd (none-some step e)
 
   -- the page leaves its frame
-  vacate-owes : {base : List Made} {page : Page} {what : Eviction} {done : _} (v : Vacate) → IsVacating base layout old v.who page what v done → vacates.plan v ≡ Some step → Steps layout v.who step (logs (vacates.put v)) old new found got → Same
+  vacate-owes : {base : List Made} {page : Page} {what : Eviction} {done : At} (v : Vacate) → IsVacating base layout old v.who page what v done → vacates.plan v ≡ Some step → Steps layout v.who step (logs (vacates.put v)) old new found got → Same
   vacate-owes {base} {page} {what} {done} v has is made = which v.at is made
     where
       which : (x : VacateAt) → vacates.plan_at v.page v.frame x ≡ Some step → Steps layout v.who step (logs (vacates.put_at v.body x)) old new found got → Same

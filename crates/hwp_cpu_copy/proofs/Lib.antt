@@ -5,3 +5,6 @@ pub mod CowSteps
 pub mod WentWell
 pub mod CopyLaws
 pub mod CopyRank
+pub mod CopyResting
+pub mod FreeLists
+pub mod CopyAdds
