@@ -580,8 +580,8 @@ stays {past} layout old new i step found got fits is made = let all = both layou
 -- the law of the task, whatever its command had made before
 pub law : IsTask instruction-task
 law = record {
-  can = λ layout view s step fits is. can layout view s step fits.1.1 is;
-  stays = λ layout old new s step found got fits is made. let all = stays layout old new s step found got fits.1.1 is made in (all.0, λ after turn follows. let kept = all.1 after turn follows in ((fits.0, (fits.1.0, kept.0)), kept.1));
+  can = λ layout view s step fits is. can layout view s step fits.2 is;
+  stays = λ layout old new s step found got fits is made. let all = stays layout old new s step found got fits.2 is made in (all.0, λ after turn follows. let kept = all.1 after turn follows in ((fits.0, fits.1, kept.0), kept.1));
 }
 
 -- ---- before it

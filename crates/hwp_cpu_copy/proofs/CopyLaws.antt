@@ -102,11 +102,11 @@ runs-with {layout} {view} c k x runs has same = record {
   kind = has.kind;
   twin = has.twin;
   line = has.line;
-  user = ap (λ (s : Asked). s.2.0) same ∙ has.user;
+  user = ap (λ (s : Asked). s.2) same ∙ has.user;
   origin = ap (λ (s : Asked). s.1) same ∙ has.origin;
-  three = ap (λ (s : Asked). length s.2.1) same ∙ has.three;
+  three = ap (λ (s : Asked). length s.3) same ∙ has.three;
   cow_is = has.cow_is;
-  are = subst (λ (s : Asked). AreRuns layout view c.store c.page (begun c.cow) s.2.1 runs) (sym same) has.are;
+  are = subst (λ (s : Asked). AreRuns layout view c.store c.page (begun c.cow) s.3 runs) (sym same) has.are;
 }
 
 -- ---- the end of a part
@@ -277,7 +277,7 @@ module _ (base : List Made) (layout : Layout) (view : View) (c : Copying) (runs 
   }
   frees-fits (Some (evict_answers.Done place)) is = let end = caused is in
       freed-fits (end.1.1.last ∷ []) place end.0 (paid-now is) (end.1.1.all ∙ ap (λ (l : List Made). (base ++ made_by runs) ++ (l ++ end.1.1.last ∷ [])) (none-before end.1.1.before end.1.1.such))
-      (record { made_is = inr (end.1.1.last, (refl, (end.1.1.at.0, end.1.1.at.2))); unchecked = refl })
+      (record { made_is = inr (end.1.1.last, refl, end.1.1.at.0, end.1.1.at.2); unchecked = refl })
   frees-fits (Some (evict_answers.Refused refusal place)) is = let end = caused is in
       freed-fits [] place end.0 (paid-now is) (end.1.0 ∙ sym (append-nil (base ++ made_by runs))) (record { made_is = inl refl; unchecked = refl })
 

@@ -144,7 +144,7 @@ module _ {layout : Layout} {seat : ℕ} {a b : State} {s t : Copying} {turn : Tu
 
   module _ (has : IsAccessing made.fits.0 layout (view_of a seat) s made.fits.1.runs) (e : instructions.plan s.instruction ≡ Some made.step) (move : Moves (instructions.put s.instruction)) (next : AccessStepped layout (bare_at s at.Access) made.found made.got t turn) where
     access-made : Made instruction-task layout seat a b s.instruction next.instruction turn
-    access-made = part-made made instruction-task s.instruction next.instruction (request-who s.store s.page (sub_of s.cow) has.request_is).0 (_, (_, has.instruction)) e move next.follows
+    access-made = part-made made instruction-task s.instruction next.instruction (request-who s.store s.page (sub_of s.cow) has.request_is).0 (_, _, has.instruction) e move next.follows
 
     abbrev gone : Copying
     gone = record s { instruction = next.instruction; at = at.Access }
@@ -322,17 +322,17 @@ copy-pays = lasting-pays copy-task copy-lasting
 
 module _ {base : List Deed} (layout : Layout) (view : View) (c : Copying) (fits : FitsFrom base layout view c) where
   frame-told : (x : CopyingAt) → FitsAt base layout view c fits.runs x → HasFrame view → (class_at c.instruction x ≡ 1) × (plan_at c.instruction x ≢ None)
-  frame-told at.Access has some = instruction-tells.frame layout view c.instruction (_, (_, has.instruction)) some
+  frame-told at.Access has some = instruction-tells.frame layout view c.instruction (_, _, has.instruction) some
   frame-told (at.Free e stored) has some = evict-tells.frame layout view e (_, has.evict) some
   frame-told (at.Over answer) has some = absurd (no-frame view has.hand_is refl refl refl some)
 
   page-told : (x : CopyingAt) → FitsAt base layout view c fits.runs x → HasPage view → (class_at c.instruction x ≤ 2) × (plan_at c.instruction x ≢ None)
-  page-told at.Access has some = instruction-tells.page layout view c.instruction (_, (_, has.instruction)) some
+  page-told at.Access has some = instruction-tells.page layout view c.instruction (_, _, has.instruction) some
   page-told (at.Free e stored) has some = evict-tells.page layout view e (_, has.evict) some
   page-told (at.Over answer) has some = absurd (no-page view has.hand_is refl some)
 
   claim-told : (x : CopyingAt) (frame : Frame) (cycle : ℕ) → FitsAt base layout view c fits.runs x → claims_at c.instruction x ≡ Some (frame, cycle) → (class_at c.instruction x ≤ 3) × (plan_at c.instruction x ≢ None)
-  claim-told at.Access frame cycle has claimed = instruction-tells.claim layout view c.instruction frame cycle (_, (_, has.instruction)) claimed
+  claim-told at.Access frame cycle has claimed = instruction-tells.claim layout view c.instruction frame cycle (_, _, has.instruction) claimed
   claim-told (at.Free e stored) frame cycle has claimed = absurd (none-some (frame, cycle) claimed)
   claim-told (at.Over answer) frame cycle has claimed = absurd (none-some (frame, cycle) claimed)
 
