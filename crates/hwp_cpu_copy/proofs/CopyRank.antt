@@ -50,7 +50,7 @@ use Rattle.hwp_cpu_access.proofs.InstructionRank.{instruction-lasting, instructi
 use Rattle.hwp_cpu_copy.specs.declared.copying.Copying.{Copying}
 use Rattle.hwp_cpu_copy.specs.declared.copying.CopyingAt.{CopyingAt}
 use Rattle.hwp_cpu_copy.specs.declared.copying.CopyingAt.TheVariants as at
-use Rattle.hwp_cpu_copy.specs.Copyings.{AccessStepped, FollowsAt, FreeStepped, after_access, after_free_by, bare_at, going_on, plan, plan_at, put, put_at, request_by}
+use Rattle.hwp_cpu_copy.specs.Copyings.{AccessStepped, FollowsAt, FreeStepped, after_access, after_free_by, bare_at, going_on, load_of, plan, plan_at, put, put_at, request_by, store_of}
 use Rattle.hwp_cpu_copy.specs.Costs.{aborts, aborts_at, behind, claims, claims_at, class, class_at, cost, cost_at}
 use Rattle.hwp_cpu_copy.specs.Fits.{FitsAt, FitsFrom, IsAccessing, IsFreeing, task as copy-task}
 use Rattle.hwp_cpu_copy.specs.Runs.{checks_by, made_by, words_of}
@@ -85,8 +85,14 @@ cow-going c place subs.Switched = refl
 
 -- an access that has just begun, the freeing, or nothing any more: they claim nothing and are of the highest class
 fresh : (c : Copying) (place : At) (sub : Sub) → c.at ≡ at.Access → (class (going_on c place sub) ≡ 4) × (claims (going_on c place sub) ≡ None)
-fresh c place (subs.Load slot line) is = (ap (class_at (instructions.again_with c.instruction _)) is, ap (claims_at (instructions.again_with c.instruction _)) is)
-fresh c place (subs.Store slot line word) is = (ap (class_at (instructions.again_with c.instruction _)) is, ap (claims_at (instructions.again_with c.instruction _)) is)
+fresh c place (subs.Load slot line) is = (
+  ap (class_at (instructions.again_with c.instruction (load_of c.store c.page slot line))) is,
+  ap (claims_at (instructions.again_with c.instruction (load_of c.store c.page slot line))) is,
+)
+fresh c place (subs.Store slot line word) is = (
+  ap (class_at (instructions.again_with c.instruction (store_of c.store slot line word))) is,
+  ap (claims_at (instructions.again_with c.instruction (store_of c.store slot line word))) is,
+)
 fresh c place (subs.Free slot) is = (refl, refl)
 fresh c place subs.Switched is = (refl, refl)
 

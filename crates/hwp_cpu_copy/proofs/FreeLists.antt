@@ -118,9 +118,9 @@ module _ {layout : Layout} {old new : View} {step : Step} {found : ℕ} {got : O
   unlisted : (who : Who) → ListsNone step → Steps layout who step None old new found got → failures_by who new ≡ failures_by who old
   unlisted who none made = ap (filter_map failed_in) (deeds-same who none made)
 
-  unhold-fails : {base : List Made} (page : Page) (what : Eviction) (u : Unhold) (answer : EvictAnswer) → unholds.plan u ≡ Some step → Steps layout u.who step (logs (unholds.put u)) old new found got → KnowsPut base layout old u.who page what answer (unholds.put u)
+  unhold-fails : (base : List Made) (page : Page) (what : Eviction) (u : Unhold) (answer : EvictAnswer) → unholds.plan u ≡ Some step → Steps layout u.who step (logs (unholds.put u)) old new found got → KnowsPut base layout old u.who page what answer (unholds.put u)
       → failures_by u.who new ≡ failures_by u.who old
-  unhold-fails {base} page what u answer is made knows = which u.at is made knows
+  unhold-fails base page what u answer is made knows = which u.at is made knows
     where
       which : (x : UnholdAt) → unholds.plan_at u.page x ≡ Some step → Steps layout u.who step (logs (unholds.put_at x)) old new found got → KnowsPut base layout old u.who page what answer (unholds.put_at x) → failures_by u.who new ≡ failures_by u.who old
       which (unhold_at.UnlockFrame frame count None) e made knows = unlisted u.who (subst ListsNone (same_Some (steps.UnlockFrame frame) step e) tt) made
@@ -155,7 +155,7 @@ module _ {layout : Layout} {old new : View} {step : Step} {found : ℕ} {got : O
       which (at.Vacate v done) has own made goes = subst (λ (w : Who). failures_by w new ≡ failures_by w old) has.own
           (vacate-fails v (subst (λ (w : Who). IsVacating base layout old w e.page e.what v done) (sym has.own) has) own (subst (λ (w : Who). Steps layout w step (logs (vacates.put v)) old new found got) (sym has.own) made))
       which (at.Unhold u answer) has own made goes = subst (λ (w : Who). failures_by w new ≡ failures_by w old) has.own
-          (unhold-fails e.page e.what u answer own (subst (λ (w : Who). Steps layout w step (logs (unholds.put u)) old new found got) (sym has.own) made)
+          (unhold-fails base e.page e.what u answer own (subst (λ (w : Who). Steps layout w step (logs (unholds.put u)) old new found got) (sym has.own) made)
           (subst (λ (w : Who). KnowsPut base layout old w e.page e.what answer (unholds.put u)) (sym has.own) has.knows))
       which (at.GiveUp g) has own made goes = absurd (both_ways true goes refl)
       which (at.Over answer) has own made goes = absurd (none-some step own)

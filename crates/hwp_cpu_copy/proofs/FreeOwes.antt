@@ -66,14 +66,11 @@ unlost {layout} {view} {who} {page} what answer {base} {body} ahead = which answ
     which (answers.Refused refusal place) comes = subst (EachMember (λ (e : Entry). is_loss e.what ≡ false)) (sym comes.0) (λ n e there. absurd (none-some e there))
 
 module _ {layout : Layout} {old new : View} {step : Step} {found : ℕ} {got : Option BodyValue} where
-  abbrev Same : Type 0
-  Same = new.owed.losses ≡ old.owed.losses
-
   -- the page is let go
-  unhold-owes : {base : List Made} (page : Page) (what : Eviction) (u : Unhold) (answer : EvictAnswer) → unholds.plan u ≡ Some step → Steps layout u.who step (logs (unholds.put u)) old new found got → KnowsPut base layout old u.who page what answer (unholds.put u) → Same
-  unhold-owes {base} page what u answer is made knows = which u.at is made knows
+  unhold-owes : (base : List Made) (page : Page) (what : Eviction) (u : Unhold) (answer : EvictAnswer) → unholds.plan u ≡ Some step → Steps layout u.who step (logs (unholds.put u)) old new found got → KnowsPut base layout old u.who page what answer (unholds.put u) → new.owed.losses ≡ old.owed.losses
+  unhold-owes base page what u answer is made knows = which u.at is made knows
     where
-      which : (x : UnholdAt) → unholds.plan_at u.page x ≡ Some step → Steps layout u.who step (logs (unholds.put_at x)) old new found got → KnowsPut base layout old u.who page what answer (unholds.put_at x) → Same
+      which : (x : UnholdAt) → unholds.plan_at u.page x ≡ Some step → Steps layout u.who step (logs (unholds.put_at x)) old new found got → KnowsPut base layout old u.who page what answer (unholds.put_at x) → new.owed.losses ≡ old.owed.losses
       which (unhold_at.UnlockFrame frame count None) e made knows = losses-same (subst ListsNone (same_Some (steps.UnlockFrame frame) step e) tt) made
       which (unhold_at.UnlockFrame frame count (Some body)) e made knows = frame-owes knows.there (unlost what answer knows) (steps-planned e made)
       which (unhold_at.Release r) e made knows = losses-same (release-lists r step e) made
@@ -82,10 +79,10 @@ module _ {layout : Layout} {old new : View} {step : Step} {found : ℕ} {got : O
       which unhold_at.Over e made knows = absurd (none-some step e)
 
   -- the page leaves its frame
-  vacate-owes : {base : List Made} {page : Page} {what : Eviction} {done : At} (v : Vacate) → IsVacating base layout old v.who page what v done → vacates.plan v ≡ Some step → Steps layout v.who step (logs (vacates.put v)) old new found got → Same
+  vacate-owes : {base : List Made} {page : Page} {what : Eviction} {done : At} (v : Vacate) → IsVacating base layout old v.who page what v done → vacates.plan v ≡ Some step → Steps layout v.who step (logs (vacates.put v)) old new found got → new.owed.losses ≡ old.owed.losses
   vacate-owes {base} {page} {what} {done} v has is made = which v.at is made
     where
-      which : (x : VacateAt) → vacates.plan_at v.page v.frame x ≡ Some step → Steps layout v.who step (logs (vacates.put_at v.body x)) old new found got → Same
+      which : (x : VacateAt) → vacates.plan_at v.page v.frame x ≡ Some step → Steps layout v.who step (logs (vacates.put_at v.body x)) old new found got → new.owed.losses ≡ old.owed.losses
       which vacate_at.SetCache e made = losses-same (subst ListsNone (same_Some (steps.SetCache v.page None) step e) tt) made
       which vacate_at.SetOwner e made = losses-same (subst ListsNone (same_Some (steps.SetOwner v.frame v.page false) step e) tt) made
       which vacate_at.UnlockFrame e made = losses-same (subst ListsNone (same_Some (steps.UnlockFrame v.frame) step e) tt) made
@@ -94,10 +91,10 @@ module _ {layout : Layout} {old new : View} {step : Step} {found : ℕ} {got : O
           (steps-planned e (subst (λ (b : Option BodyValue). Steps layout v.who step (logs b) old new found got) has.body_is made))
       which vacate_at.Over e made = absurd (none-some step e)
 
-  pub evict-owes : {base : List Made} (e : Evict) → FitsFrom base layout old e → plan e ≡ Some step → Steps layout e.who step (logs (put e)) old new found got → is_given_up e.at ≡ false → Same
+  pub evict-owes : {base : List Made} (e : Evict) → FitsFrom base layout old e → plan e ≡ Some step → Steps layout e.who step (logs (put e)) old new found got → is_given_up e.at ≡ false → new.owed.losses ≡ old.owed.losses
   evict-owes {base} e fits is made goes = which e.at fits.at is made goes
     where
-      which : (x : EvictAt) → FitsAt base layout old e.who e.page e.what x → plan_at x ≡ Some step → Steps layout e.who step (logs (put_at x)) old new found got → is_given_up x ≡ false → Same
+      which : (x : EvictAt) → FitsAt base layout old e.who e.page e.what x → plan_at x ≡ Some step → Steps layout e.who step (logs (put_at x)) old new found got → is_given_up x ≡ false → new.owed.losses ≡ old.owed.losses
       which at.LoadStop has own made goes = losses-same (subst ListsNone (same_Some (steps.Load places.Stop) step own) tt) made
       which (at.Hold h) has own made goes = losses-same (hold-lists h step own) made
       which (at.LoadBad frame body) has own made goes = losses-same (subst ListsNone (same_Some (steps.Load (places.Bad frame)) step own) tt) made
@@ -106,7 +103,7 @@ module _ {layout : Layout} {old new : View} {step : Step} {found : ℕ} {got : O
       which (at.Vacate v done) has own made goes =
           vacate-owes v (subst (λ (w : Who). IsVacating base layout old w e.page e.what v done) (sym has.own) has) own (subst (λ (w : Who). Steps layout w step (logs (vacates.put v)) old new found got) (sym has.own) made)
       which (at.Unhold u answer) has own made goes =
-          unhold-owes e.page e.what u answer own (subst (λ (w : Who). Steps layout w step (logs (unholds.put u)) old new found got) (sym has.own) made)
+          unhold-owes base e.page e.what u answer own (subst (λ (w : Who). Steps layout w step (logs (unholds.put u)) old new found got) (sym has.own) made)
           (subst (λ (w : Who). KnowsPut base layout old w e.page e.what answer (unholds.put u)) (sym has.own) has.knows)
       which (at.GiveUp g) has own made goes = absurd (both_ways true goes refl)
       which (at.Over answer) has own made goes = absurd (none-some step own)
