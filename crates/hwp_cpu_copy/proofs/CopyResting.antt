@@ -53,10 +53,10 @@ accessing : {base : List Made} {layout : Layout} {view : View} (c : Copying) (fi
 accessing {base} {layout} {view} c fits is = subst (FitsAt base layout view c fits.runs) is fits.at
 
 -- the access made only such entries as it makes on its way
-only-so-far : {base : List Made} {layout : Layout} {view : View} (i : Instruction) (p : Pause) {told : List EventOutcome} → instruction_fits.IsLeft base layout view i.request told p → HasOnlyBefore base view i.request
-only-so-far i (pauses.Sigbus place) left = left.only
-only-so-far i (pauses.Wait frame) left = left.1
-only-so-far i pauses.Again left = left.1
+only-so-far : (base : List Made) (layout : Layout) (view : View) (i : Instruction) (told : List EventOutcome) (p : Pause) → instruction_fits.IsLeft base layout view i.request told p → HasOnlyBefore base view i.request
+only-so-far base layout view i told (pauses.Sigbus place) left = left.only
+only-so-far base layout view i told (pauses.Wait frame) left = left.1
+only-so-far base layout view i told pauses.Again left = left.1
 
 -- ---- at its pause
 
@@ -81,7 +81,7 @@ rests {base} {layout} {view} c p fits is = record {
     has = accessing c fits own.0
 
     only : HasOnlyBefore (base ++ (made_by fits.runs ++ has.since)) view c.instruction.request
-    only = only-so-far c.instruction p (paused c.instruction p has.instruction own.1).left
+    only = only-so-far (base ++ (made_by fits.runs ++ has.since)) layout view c.instruction c.instruction.lines.told p (paused c.instruction p has.instruction own.1).left
 
 -- ---- while another task of its command goes on
 

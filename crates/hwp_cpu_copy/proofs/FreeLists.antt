@@ -111,10 +111,10 @@ unfailed {layout} {view} {who} {page} what answer {base} {body} ahead = which an
         one (suc n) e there = absurd (none-some e there)
     which (answers.Refused refusal place) comes = subst (EachMember (λ (e : Entry). is_failure e.what ≡ false)) (sym comes.0) (λ n e there. absurd (none-some e there))
 
-module _ {layout : Layout} {old new : View} {step : Step} {found : ℕ} {got : Option BodyValue} where
-  listed : (who : Who) → such_deeds is_failure who new ≡ such_deeds is_failure who old → failures_by who new ≡ failures_by who old
-  listed who same = failures-such (deeds who new) ∙ ap (filter_map failed_in) same ∙ sym (failures-such (deeds who old))
+listed : (old new : View) (who : Who) → such_deeds is_failure who new ≡ such_deeds is_failure who old → failures_by who new ≡ failures_by who old
+listed old new who same = failures-such (deeds who new) ∙ ap (filter_map failed_in) same ∙ sym (failures-such (deeds who old))
 
+module _ {layout : Layout} {old new : View} {step : Step} {found : ℕ} {got : Option BodyValue} where
   unlisted : (who : Who) → ListsNone step → Steps layout who step None old new found got → failures_by who new ≡ failures_by who old
   unlisted who none made = ap (filter_map failed_in) (deeds-same who none made)
 
@@ -124,10 +124,10 @@ module _ {layout : Layout} {old new : View} {step : Step} {found : ℕ} {got : O
     where
       which : (x : UnholdAt) → unholds.plan_at u.page x ≡ Some step → Steps layout u.who step (logs (unholds.put_at x)) old new found got → KnowsPut base layout old u.who page what answer (unholds.put_at x) → failures_by u.who new ≡ failures_by u.who old
       which (unhold_at.UnlockFrame frame count None) e made knows = unlisted u.who (subst ListsNone (same_Some (steps.UnlockFrame frame) step e) tt) made
-      which (unhold_at.UnlockFrame frame count (Some body)) e made knows = listed u.who (such-kept u.who is_failure (frame-lists knows.there (steps-planned e made)) (unfailed what answer knows))
+      which (unhold_at.UnlockFrame frame count (Some body)) e made knows = listed old new u.who (such-kept u.who is_failure (frame-lists knows.there (steps-planned e made)) (unfailed what answer knows))
       which (unhold_at.Release r) e made knows = unlisted u.who (release-lists r step e) made
       which (unhold_at.UnlockPage None) e made knows = unlisted u.who (subst ListsNone (same_Some (steps.UnlockPage u.page) step e) tt) made
-      which (unhold_at.UnlockPage (Some body)) e made knows = listed u.who (such-kept u.who is_failure (page-lists knows.there (steps-planned e made)) (unfailed what answer knows))
+      which (unhold_at.UnlockPage (Some body)) e made knows = listed old new u.who (such-kept u.who is_failure (page-lists knows.there (steps-planned e made)) (unfailed what answer knows))
       which unhold_at.Over e made knows = absurd (none-some step e)
 
   vacate-fails : {base : List Made} {page : Page} {what : Eviction} {done : At} (v : Vacate) → IsVacating base layout old v.who page what v done → vacates.plan v ≡ Some step → Steps layout v.who step (logs (vacates.put v)) old new found got → failures_by v.who new ≡ failures_by v.who old
@@ -138,7 +138,7 @@ module _ {layout : Layout} {old new : View} {step : Step} {found : ℕ} {got : O
       which vacate_at.SetOwner e made = unlisted v.who (subst ListsNone (same_Some (steps.SetOwner v.frame v.page false) step e) tt) made
       which vacate_at.UnlockFrame e made = unlisted v.who (subst ListsNone (same_Some (steps.UnlockFrame v.frame) step e) tt) made
       which (vacate_at.Release r) e made = unlisted v.who (release-lists r step e) made
-      which vacate_at.UnlockPage e made = listed v.who (such-kept v.who is_failure
+      which vacate_at.UnlockPage e made = listed old new v.who (such-kept v.who is_failure
           (page-lists has.ahead.there (steps-planned e (subst (λ (b : Option BodyValue). Steps layout v.who step (logs b) old new found got) has.body_is made))) (unfailed what (answers.Done done) has.ahead))
       which vacate_at.Over e made = absurd (none-some step e)
 
