@@ -8,3 +8,5 @@ pub mod CopyRank
 pub mod CopyResting
 pub mod FreeLists
 pub mod CopyAdds
+pub mod CopiedWords
+pub mod CopyEnds

@@ -45,6 +45,13 @@ length-copies v w told from (suc n) =
     let more : length (copies v w told from (suc n)) ≡ suc (suc (length (copies v w told (from + 1) n))) = refl in
     omega (arith, before, more)
 
+-- of all lines with what comes behind
+pub length-subs : (v w : VSlot) (line x : ℕ) (told : List ℕ) → length (subs v w line x told) ≡ 2 * line_limit + 2
+length-subs v w line x told =
+    let copied : length (copies v w told 0 line_limit) ≡ 2 * line_limit = length-copies v w told 0 line_limit in
+    let all : length (subs v w line x told) ≡ length (copies v w told 0 line_limit) + 2 = length-append (copies v w told 0 line_limit) (Store w line x ∷ Free v ∷ []) in
+    omega (arith, copied, all)
+
 -- ---- the access that is due
 
 due-at : (c : Cow) (told : List ℕ) (n : ℕ) (sub : Sub) → length told ≡ n → slice_index_or (subs c.v c.w c.line c.x told) n Switched ≡ sub → sub ≡ due c told
@@ -72,7 +79,4 @@ pub due-free : (c : Cow) (told : List ℕ) → length told ≡ 2 * line_limit + 
 due-free c told so_many = due-at c told (2 * line_limit + 1) (Free c.v) so_many (at-behind c.v c.w told 0 line_limit 1 (ends c) Switched)
 
 pub due-switched : (c : Cow) (told : List ℕ) → 2 * line_limit + 2 ≤ length told → Switched ≡ due c told
-due-switched c told past =
-    let copied : length (copies c.v c.w told 0 line_limit) ≡ 2 * line_limit = length-copies c.v c.w told 0 line_limit in
-    let all : length (subs c.v c.w c.line c.x told) ≡ length (copies c.v c.w told 0 line_limit) + 2 = length-append (copies c.v c.w told 0 line_limit) (ends c) in
-    sym (get_or_past (subs c.v c.w c.line c.x told) (length told) Switched (omega (arith, copied, all, past)))
+due-switched c told past = sym (get_or_past (subs c.v c.w c.line c.x told) (length told) Switched (omega (arith, past, length-subs c.v c.w c.line c.x told)))

@@ -1,6 +1,4 @@
 use Rattle.hwp_cpu_copy.proofs.copying.CopyingScheduled.tells.Goals as goal
-use Rattle.hwp_cpu_copy.proofs.CopyAdds.{copy-adds}
-use Rattle.hwp_cpu_copy.proofs.CopyResting.{rests, resting-stays, resumes, gives-up}
 use Rattle.hwp_cpu_copy.proofs.CopyRank.{copy-pays, copy-tells}
 
 pub returns-clause-class : goal.returns-clause-class

@@ -1,0 +1,91 @@
+-- A copy at its beginning and at its end, and what it asks for, which never changes.
+use Rattle.std.proofs.Common.{◌≡◌, ◌⊎◌, inl, inr, ℕ, Bool, List, [], ◌∷◌, ◌++◌, Option, Some, None, length, append-nil, refl, sym, ap, ◌∙◌, subst, arith}
+use Rattle.std.specs.declared.alloc.Global.{Global}
+use Rattle.std.proofs.lemmas.Option.{none-some}
+use Rattle.hwp_fault.specs.hwp_geom.declared.Layout.{Layout}
+use Rattle.hwp_fault.specs.hwp_geom.declared.Page.{Page}
+use Rattle.hwp_fault.specs.hwp_geom.declared.VSlot.{VSlot}
+use Rattle.hwp_fault.specs.hwp_geom.Layout.{IsSound}
+use Rattle.hwp_fault.specs.hwp_page.declared.At.{At}
+use Rattle.hwp_fault.specs.hwp_page.History.{BodyValue}
+use Rattle.hwp_fault.specs.hwp_core_rule.declared.Made.{Made}
+use Rattle.hwp_fault.specs.hwp_core_rule.declared.View.{View}
+use Rattle.hwp_fault.specs.hwp_core_task.declared.Turn.{Turn}
+use Rattle.hwp_fault.specs.hwp_core_task.Calls.{IsOnTurn}
+use Rattle.hwp_fault.specs.hwp_core_task.Hands.{hand_of, empty}
+use Rattle.hwp_fault.specs.hwp_core_task.Known.{HasMadeNoneBeside, deeds}
+use Rattle.hwp_fault.specs.declared.AccessKind.TheVariants as kinds
+use Rattle.hwp_fault.specs.declared.Request.{Request}
+use Rattle.hwp_fault.specs.Accesses as accesses
+use Rattle.hwp_cpu_check.specs.hwp_banks.Banks.{Banks}
+use Rattle.hwp_cpu_check.specs.hwp_banks.Events.{bank_count}
+use Rattle.hwp_cpu_check.specs.hwp_banks.declared.Origin.TheVariants as origins
+use Rattle.hwp_fault.specs.hwp_geom.declared.Mode.TheVariants as modes
+use Rattle.hwp_evict.specs.declared.evict.Evict.{Evict}
+use Rattle.hwp_evict.specs.declared.evict.EvictAnswer.{EvictAnswer}
+use Rattle.hwp_evict.specs.declared.evict.EvictAnswer.TheVariants as evict_answers
+use Rattle.hwp_evict.specs.Evicts as evicts
+use Rattle.hwp_fork.specs.declared.cow.Sub.{Sub}
+use Rattle.hwp_fork.specs.declared.cow.Sub.TheVariants as subs
+use Rattle.hwp_fork.specs.Cows.{sub_of, told_by}
+use Rattle.hwp_cpu_access.specs.declared.instruction.InstructionAnswer.{InstructionAnswer}
+use Rattle.hwp_cpu_access.specs.declared.instruction.InstructionAnswer.TheVariants as answers
+use Rattle.hwp_cpu_access.specs.Fits as instruction_fits
+use Rattle.hwp_cpu_access.specs.Fits.{FitsBehind, checks_in}
+use Rattle.hwp_cpu_access.specs.Instructions as instructions
+use Rattle.hwp_cpu_access.proofs.InstructionLaws as instructing
+use Rattle.hwp_cpu_copy.specs.declared.copying.Copying.{Copying}
+use Rattle.hwp_cpu_copy.specs.declared.copying.CopyingAt.{CopyingAt}
+use Rattle.hwp_cpu_copy.specs.declared.copying.CopyingAt.TheVariants as at
+use Rattle.hwp_cpu_copy.specs.Copyings.{answer, answer_at, begin, load_of, plan, plan_at}
+use Rattle.hwp_cpu_copy.specs.Fits.{FitsAt, FitsFrom}
+use Rattle.hwp_cpu_copy.specs.Runs.{checks_by}
+use Rattle.hwp_cpu_copy.proofs.CopyLaws.{over-instruction}
+
+-- a copy fits at its beginning, where its processor holds and owes nothing, and its command has made nothing beside entries that are of no
+-- machine check
+pub begins : (base : List Made) (layout : Layout) (view : View) (alloc : Global) (store : Request) (x : ℕ) (slot : VSlot) (page : Page) (banks : Banks) (collects : Bool) → IsOnTurn view store.who → IsSound layout → accesses.IsDeclared layout store
+    → accesses.IsDeclared layout (load_of store page slot 0) → store.kind ≡ kinds.Store x → length banks ≡ bank_count → hand_of view ≡ empty → view.owed.losses ≡ [] → HasMadeNoneBeside base view store.who → checks_in base ≡ 0
+    → FitsFrom base layout view (begin alloc store x slot page banks collects)
+begins base layout view alloc store x slot page banks collects on sound names own kind three hand paid none unchecked = record {
+  on_turn = on;
+  unchecked = unchecked;
+  runs = [];
+  has = record {
+    sound = sound;
+    names = names;
+    own = own;
+    kind = kind;
+    twin = refl;
+    line = refl;
+    user = refl;
+    origin = refl;
+    three = three;
+    cow_is = refl;
+    are = tt;
+  };
+  at = record {
+    since = [];
+    such = λ i m there. absurd (none-some m there);
+    instruction = subst (λ (l : List Made). FitsBehind l [] layout view (instructions.begin alloc (load_of store page slot 0) origins.Access modes.User banks collects)) (sym (append-nil base))
+        (instructing.begins layout view (instructions.begin alloc (load_of store page slot 0) origins.Access modes.User banks collects) refl on sound own tt three hand paid none unchecked);
+    request_is = refl;
+    unwell = refl;
+  };
+}
+
+-- a copy that is answered holds nothing and owes no loss, and makes no more steps
+pub record IsEnded (view : View) (c : Copying) : Type 0 where
+  pub hand_is : hand_of view ≡ empty
+  pub paid : view.owed.losses ≡ []
+  pub over : plan c ≡ None
+
+pub ends : {base : List Made} {layout : Layout} {view : View} (c : Copying) {x : InstructionAnswer} → FitsFrom base layout view c → answer c ≡ Some x → IsEnded view c
+ends {base} {layout} {view} c {x} fits is = which c.at refl fits.at is
+  where
+    which : (y : CopyingAt) → c.at ≡ y → FitsAt base layout view c fits.runs y → answer_at c.instruction y ≡ Some x → IsEnded view c
+    which at.Access own has e = let over = over-instruction c.instruction e in
+        let end : instruction_fits.IsAnswered _ layout view c.instruction (checks_by fits.runs ++ has.instruction.checks) x = subst (instruction_fits.FitsAt _ layout view c.instruction (checks_by fits.runs ++ has.instruction.checks)) over has.instruction.at in
+        record { hand_is = end.hand_is; paid = end.paid; over = ap (plan_at c.instruction) own ∙ ap instructions.plan_at over }
+    which (at.Free e stored) own has none = absurd (none-some x none)
+    which (at.Over a) own has e = record { hand_is = has.hand_is; paid = has.paid; over = ap (plan_at c.instruction) own }
