@@ -148,14 +148,14 @@ copies-none k v w told from (suc n) past =
 
 copies-last : (k : ℕ) (v w : VSlot) (told : List ℕ) (from n : ℕ) → from ≤ k → k < from + n → last_sub k (lists.copies v w told from n) ≡ Some (slice_index told (2 * k))
 copies-last k v w told from zero low high = absurd (omega (arith, low, high))
-copies-last k v w told from (suc n) low high = which (cases_eq from k)
+copies-last k v w told from (suc n) low high = which (cases_eq from k) (λ other. copies-last k v w told (from + 1) n (omega (arith, low, other)) (omega (arith, high)))
   where
-    which : (from ≡ k) ⊎ (from ≢ k) → last_sub k (lists.copies v w told from (suc n)) ≡ Some (slice_index told (2 * k))
-    which (inl is) =
+    which : (from ≡ k) ⊎ (from ≢ k) → (from ≢ k → last_sub k (lists.copies v w told (from + 1) n) ≡ Some (slice_index told (2 * k))) → last_sub k (lists.copies v w told from (suc n)) ≡ Some (slice_index told (2 * k))
+    which (inl is) rest =
         ap (λ (o : Option ℕ). later (later o (if from == k then Some (slice_index told (2 * from)) else None)) None) (copies-none k v w told (from + 1) n (omega (arith, is)))
         ∙ ap (λ (b : Bool). later (if b then Some (slice_index told (2 * from)) else None) None) (eq-eqb from k is)
         ∙ ap (λ (i : ℕ). Some (slice_index told (2 * i))) is
-    which (inr other) = ap (λ (o : Option ℕ). later (later o (if from == k then Some (slice_index told (2 * from)) else None)) None) (copies-last k v w told (from + 1) n (omega (arith, low, other)) (omega (arith, high)))
+    which (inr other) rest = ap (λ (o : Option ℕ). later (later o (if from == k then Some (slice_index told (2 * from)) else None)) None) (rest other)
 
 abbrev word_at : ℕ → ℕ → ℕ → List ℕ → ℕ
 word_at k line x told = if line == k then x else slice_index told (2 * k)

@@ -1,11 +1,13 @@
 -- A copy at its beginning and at its end, and what it asks for, which never changes.
-use Rattle.std.proofs.Common.{◌≡◌, ◌⊎◌, inl, inr, ℕ, Bool, List, [], ◌∷◌, ◌++◌, Option, Some, None, length, append-nil, refl, sym, ap, ◌∙◌, subst, arith}
+use Rattle.std.proofs.Common.{◌≡◌, ℕ, ◌*◌, ◌<◌, ◌==◌, if◌then◌else◌, Bool, List, [], ◌∷◌, ◌++◌, Option, Some, None, length, slice_index, append-nil, refl, sym, ap, ◌∙◌, subst}
 use Rattle.std.specs.declared.alloc.Global.{Global}
-use Rattle.std.proofs.lemmas.Option.{none-some}
+use Rattle.std.proofs.lemmas.Bool.{both_ways}
+use Rattle.std.proofs.lemmas.Option.{none-some, same_Some}
 use Rattle.hwp_fault.specs.hwp_geom.declared.Layout.{Layout}
 use Rattle.hwp_fault.specs.hwp_geom.declared.Page.{Page}
 use Rattle.hwp_fault.specs.hwp_geom.declared.VSlot.{VSlot}
 use Rattle.hwp_fault.specs.hwp_geom.Layout.{IsSound}
+use Rattle.hwp_fault.specs.hwp_geom.Limits.{line_limit}
 use Rattle.hwp_fault.specs.hwp_page.declared.At.{At}
 use Rattle.hwp_fault.specs.hwp_page.History.{BodyValue}
 use Rattle.hwp_fault.specs.hwp_core_rule.declared.Made.{Made}
@@ -38,8 +40,10 @@ use Rattle.hwp_cpu_copy.specs.declared.copying.Copying.{Copying}
 use Rattle.hwp_cpu_copy.specs.declared.copying.CopyingAt.{CopyingAt}
 use Rattle.hwp_cpu_copy.specs.declared.copying.CopyingAt.TheVariants as at
 use Rattle.hwp_cpu_copy.specs.Copyings.{answer, answer_at, begin, load_of, plan, plan_at}
-use Rattle.hwp_cpu_copy.specs.Fits.{FitsAt, FitsFrom}
-use Rattle.hwp_cpu_copy.specs.Runs.{checks_by}
+use Rattle.hwp_cpu_copy.specs.Fits.{FitsAt, FitsFrom, HasCopied, IsEnd, is_well}
+use Rattle.hwp_cpu_copy.specs.Runs.{Run, checks_by, made_by, words_of}
+use Rattle.hwp_cpu_copy.proofs.CopiedWords.{copied-words, last_stored}
+use Rattle.hwp_cpu_copy.proofs.CowSteps.{told-of, told-of-all}
 use Rattle.hwp_cpu_copy.proofs.CopyLaws.{over-instruction}
 
 -- a copy fits at its beginning, where its processor holds and owes nothing, and its command has made nothing beside entries that are of no
@@ -89,3 +93,24 @@ ends {base} {layout} {view} c {x} fits is = which c.at refl fits.at is
         record { hand_is = end.hand_is; paid = end.paid; over = ap (plan_at c.instruction) own ∙ ap instructions.plan_at over }
     which (at.Free e stored) own has none = absurd (none-some x none)
     which (at.Over a) own has e = record { hand_is = has.hand_is; paid = has.paid; over = ap (plan_at c.instruction) own }
+
+-- a copy that is answered `stored` made, beside the entries before it, those of its accesses; and of its stores on a line the last one is of
+-- the word that was asked for, where it was asked for on that line, and else of the word that the load of the line read
+pub record HasStored (base : List Made) (view : View) (c : Copying) (runs : List Run) : Type 0 where
+  pub all : deeds c.store.who view ≡ base ++ made_by runs
+  pub last : (k : ℕ) → k < line_limit → last_stored k (made_by runs) ≡ Some (if c.store.line == k then c.cow.x else slice_index (words_of runs) (2 * k))
+
+pub stored-words : {base : List Made} {layout : Layout} {view : View} (c : Copying) {place : At} (fits : FitsFrom base layout view c) → answer c ≡ Some (answers.Stored place) → HasStored base view c fits.runs
+stored-words {base} {layout} {view} c {place} fits is = which c.at fits.at is
+  where
+    which : (y : CopyingAt) → FitsAt base layout view c fits.runs y → answer_at c.instruction y ≡ Some (answers.Stored place) → HasStored base view c fits.runs
+    which at.Access has e = absurd (both_ways (is_well (instructions.answer c.instruction)) has.unwell (ap is_well e))
+    which (at.Free e stored) has none = absurd (none-some (answers.Stored place) none)
+    which (at.Over a) has e =
+        let copied : HasCopied base view c fits.runs place = subst (IsEnd base view c fits.runs) (same_Some a (answers.Stored place) e) has.ended in
+        record {
+          all = copied.all;
+          last = λ k within. copied-words k layout view c.store c.page c.cow.v c.cow.w c.cow.line c.cow.x c.instruction.before.value fits.runs within
+              (told-of-all c.cow (words_of fits.runs) (told-of c.cow (words_of fits.runs) fits.has.cow_is) copied.sub_is) fits.has.are
+              ∙ ap (λ (n : ℕ). Some (if n == k then c.cow.x else slice_index (words_of fits.runs) (2 * k))) fits.has.line;
+        }

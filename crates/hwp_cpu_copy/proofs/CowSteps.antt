@@ -1,5 +1,5 @@
 -- The accesses of a copy, one after the other: whose lines and translations they are, and how many come.
-use Rattle.std.proofs.Common.{◌≡◌, ◌⊎◌, inl, inr, ℕ, ◌+◌, ◌-◌, ◌*◌, ◌<◌, ◌≤◌, Bool, true, false, nat_lt, List, [], Option, Some, None, if◌then◌else◌, refl, sym, ap, ◌∙◌, subst, arith}
+use Rattle.std.proofs.Common.{◌≡◌, ◌⊎◌, inl, inr, ℕ, ◌+◌, ◌-◌, ◌*◌, ◌<◌, ◌≤◌, Bool, true, false, nat_lt, List, [], Option, Some, None, length, if◌then◌else◌, refl, sym, ap, ◌∙◌, subst, arith}
 use Rattle.std.proofs.lemmas.Bool.{both_ways, ltb-true, ltb-false}
 use Rattle.std.proofs.lemmas.Option.{none-some, same_Some}
 use Rattle.hwp_fault.specs.hwp_geom.declared.Page.{Page}
@@ -56,6 +56,17 @@ is_end _ = false
 
 ended : (sub : Sub) → is_end sub ≡ false → sub ≡ subs.Switched → ⊥
 ended sub other is = both_ways (is_end sub) other (ap is_end is)
+
+-- a copy that is at its end was told of all of them
+pub told-of-all : (c : Cow) (told : List ℕ) → HasTold told c → sub_of c ≡ subs.Switched → 2 * line_limit + 2 ≤ length told
+told-of-all c told = which c.at
+  where
+    which : (x : CowAt) → HasToldAt told x → sub_at c x ≡ subs.Switched → 2 * line_limit + 2 ≤ length told
+    which cow_at.Switched has is = has
+    which (cow_at.Load line) has is = absurd (ended (subs.Load c.v line) refl is)
+    which (cow_at.Store line word) has is = absurd (ended (subs.Store c.w line word) refl is)
+    which cow_at.Last has is = absurd (ended (subs.Store c.w c.line c.x) refl is)
+    which cow_at.Free has is = absurd (ended (subs.Free c.v) refl is)
 
 module _ (store : Request) (page : Page) (value : ℕ) where
   -- behind an access the copy isn't at its end
