@@ -1,5 +1,5 @@
 -- What a step of a copy adds to what the view lists of the command, and to what the command has done: what a step of its access adds.
-use Rattle.std.proofs.Common.{◌≡◌, ◌⊎◌, inl, inr, ℕ, ◌+◌, false, List, [], ◌∷◌, ◌++◌, Option, Some, None, refl, sym, ap, ◌∙◌, subst, arith}
+use Rattle.std.proofs.Common.{◌≡◌, inl, ℕ, ◌+◌, false, List, [], ◌++◌, Option, Some, None, refl, sym, ap, ◌∙◌, subst}
 use Rattle.std.proofs.lemmas.Option.{none-some, same_Some}
 use Rattle.hwp_fault.specs.hwp_geom.declared.Layout.{Layout}
 use Rattle.hwp_fault.specs.hwp_geom.declared.Page.{Page}
@@ -14,7 +14,6 @@ use Rattle.hwp_fault.specs.hwp_core_rule.declared.View.{View}
 use Rattle.hwp_fault.specs.hwp_core_task.declared.Turn.{Turn}
 use Rattle.hwp_fault.specs.hwp_core_task.Calls.{Steps, logs}
 use Rattle.hwp_fault.specs.declared.Request.{Request}
-use Rattle.hwp_cpu_check.specs.declared.EventOutcome.{EventOutcome}
 use Rattle.hwp_cpu_check.specs.hwp_claim_act.declared.Failed.{Failed}
 use Rattle.hwp_cpu_check.specs.hwp_claim_frame.Done.{Grows, Marking, counts_owed, marking_of}
 use Rattle.hwp_evict.specs.declared.evict.Evict.{Evict}
@@ -27,7 +26,6 @@ use Rattle.hwp_fork.specs.Cows.{sub_of, told_by}
 use Rattle.hwp_cpu_access.specs.declared.instruction.Instruction.{Instruction}
 use Rattle.hwp_cpu_access.specs.declared.instruction.InstructionAnswer.{InstructionAnswer}
 use Rattle.hwp_cpu_access.specs.declared.instruction.InstructionAnswer.TheVariants as answers
-use Rattle.hwp_cpu_access.specs.declared.instruction.InstructionAt.{InstructionAt}
 use Rattle.hwp_cpu_access.specs.declared.instruction.InstructionAt.TheVariants as instruction_at
 use Rattle.hwp_cpu_check.proofs.of_hwp_claim.Quiet.{Alike}
 use Rattle.hwp_cpu_access.specs.Done as instruction_done
@@ -40,7 +38,7 @@ use Rattle.hwp_cpu_copy.specs.declared.copying.CopyingAt.TheVariants as at
 use Rattle.hwp_cpu_copy.specs.Copyings.{AccessStepped, Follows, FollowsAt, FreeStepped, after_access, after_free_by, bare, bare_at, going_on, load_of, plan, plan_at, put, put_at, request_by, store_of}
 use Rattle.hwp_cpu_copy.specs.Done.{Adds, failed_now, marked_now, owed_now}
 use Rattle.hwp_cpu_copy.specs.Fits.{FitsAt, FitsFrom, IsAccessing, IsFreeing, is_given_up}
-use Rattle.hwp_cpu_copy.proofs.AskedSame.{Asked, asked, asked-same}
+use Rattle.hwp_cpu_copy.proofs.AskedSame.{Asked, asked-same}
 use Rattle.hwp_cpu_copy.proofs.CopyLaws.{over-instruction}
 use Rattle.hwp_cpu_copy.proofs.CowSteps.{request-who}
 use Rattle.hwp_cpu_copy.proofs.FreeLists.{evict-alike, evict-fails}

@@ -1,41 +1,34 @@
 -- The law of a copy: its steps can be made, and what follows them fits.
-use Rattle.std.proofs.Common.{◌≡◌, ◌⊎◌, inl, inr, ℕ, ◌+◌, Bool, true, false, List, [], ◌∷◌, ◌++◌, Option, Some, None, length, append-nil, refl, sym, ap, ◌∙◌, subst, arith}
+use Rattle.std.proofs.Common.{◌≡◌, inl, inr, ℕ, Bool, true, false, List, [], ◌∷◌, ◌++◌, Option, Some, None, length, append-nil, refl, sym, ap, ◌∙◌, subst}
 use Rattle.std.proofs.lemmas.Bool.{both_ways}
 use Rattle.std.proofs.lemmas.List.{append_assoc}
 use Rattle.std.proofs.lemmas.Option.{none-some, same_Some}
 use Rattle.hwp_fault.specs.hwp_geom.declared.Layout.{Layout}
-use Rattle.hwp_fault.specs.hwp_geom.declared.Mode.{Mode}
 use Rattle.hwp_fault.specs.hwp_geom.declared.VSlot.{VSlot}
 use Rattle.hwp_fault.specs.hwp_geom.declared.Who.{Who}
 use Rattle.hwp_fault.specs.hwp_page.declared.At.{At}
 use Rattle.hwp_fault.specs.hwp_page.History.{BodyValue}
 use Rattle.hwp_fault.specs.hwp_core_rule.declared.Log.{Log}
 use Rattle.hwp_fault.specs.hwp_core_rule.declared.Made.{Made}
-use Rattle.hwp_fault.specs.hwp_core_rule.declared.SharedWord.TheVariants as places
 use Rattle.hwp_fault.specs.hwp_core_rule.declared.Step.{Step}
 use Rattle.hwp_fault.specs.hwp_core_rule.declared.View.{View}
 use Rattle.hwp_fault.specs.hwp_core_rule.Lists.{EachMember}
 use Rattle.hwp_fault.specs.hwp_core_task.declared.Turn.{Turn}
 use Rattle.hwp_fault.specs.hwp_core_task.Calls.{CanMake, IsOnTurn, Steps, logs}
 use Rattle.hwp_fault.specs.hwp_core_task.Hands.{hand_of, empty}
-use Rattle.hwp_fault.specs.hwp_core_task.Known.{HasMadeBeside, HasMadeNoneBeside, SawStop, deeds}
+use Rattle.hwp_fault.specs.hwp_core_task.Known.{deeds}
 use Rattle.hwp_fault.specs.hwp_core_task.Turns.{IsTask}
 use Rattle.hwp_fault.proofs.of_hwp_core_task.SightKeeps.{saw-stays}
 use Rattle.hwp_fault.proofs.of_hwp_core_task.StepLeaves.{on-turn-after}
 use Rattle.hwp_fault.specs.declared.Request.{Request}
-use Rattle.hwp_fault.specs.Accesses as accesses
-use Rattle.hwp_cpu_check.specs.Checks.{Check, left_by, lines_of}
-use Rattle.hwp_cpu_check.specs.hwp_banks.Banks.{Banks}
-use Rattle.hwp_cpu_check.specs.hwp_banks.Events.{bank_count}
-use Rattle.hwp_cpu_check.specs.hwp_banks.declared.Origin.{Origin}
+use Rattle.hwp_cpu_check.specs.Checks.{left_by, lines_of}
 use Rattle.hwp_evict.specs.declared.evict.Evict.{Evict}
 use Rattle.hwp_evict.specs.declared.evict.EvictAnswer.{EvictAnswer}
 use Rattle.hwp_evict.specs.declared.evict.EvictAnswer.TheVariants as evict_answers
 use Rattle.hwp_evict.specs.declared.evict.EvictAt.{EvictAt}
 use Rattle.hwp_evict.specs.declared.evict.EvictAt.TheVariants as evict_at
-use Rattle.hwp_evict.specs.declared.evict.Eviction.{Eviction}
 use Rattle.hwp_evict.specs.declared.evict.Eviction.TheVariants as evictions
-use Rattle.hwp_evict.specs.Evictions.{IsCaused, entry_of}
+use Rattle.hwp_evict.specs.Evictions.{IsCaused}
 use Rattle.hwp_evict.specs.Evicts as evicts
 use Rattle.hwp_evict.proofs.EvictLaws as evicting
 use Rattle.hwp_fork.specs.declared.cow.Cow.{Cow}
@@ -56,8 +49,8 @@ use Rattle.hwp_cpu_access.proofs.InstructionLaws as instructing
 use Rattle.hwp_cpu_copy.specs.declared.copying.Copying.{Copying}
 use Rattle.hwp_cpu_copy.specs.declared.copying.CopyingAt.{CopyingAt}
 use Rattle.hwp_cpu_copy.specs.declared.copying.CopyingAt.TheVariants as at
-use Rattle.hwp_cpu_copy.specs.Copyings.{AccessStepped, Follows, FollowsAt, FreeStepped, Shows, ShowsAt, after_access, after_free, after_free_by, bare, bare_at, going_on, plan, plan_at, put, put_at, request_by}
-use Rattle.hwp_cpu_copy.specs.Fits.{FitsAt, FitsFrom, HasRun, HasTold, IsAccessing, IsFreeing, IsGoing, IsLastPlace, IsOver, begun, is_given_up, is_well, task as copy-task}
+use Rattle.hwp_cpu_copy.specs.Copyings.{Follows, FollowsAt, Shows, ShowsAt, after_access, after_free_by, bare, bare_at, going_on, plan, plan_at, put, put_at, request_by}
+use Rattle.hwp_cpu_copy.specs.Fits.{FitsAt, FitsFrom, HasRun, HasTold, IsAccessing, IsFreeing, IsGoing, IsLastPlace, begun, is_given_up, is_well, task as copy-task}
 use Rattle.hwp_cpu_copy.specs.Runs.{AreRuns, IsBetween, IsFreeRun, IsRun, Run, checks_by, made_by, words_of}
 use Rattle.hwp_cpu_copy.proofs.AskedSame.{Asked, asked, asked-same}
 use Rattle.hwp_cpu_copy.proofs.CowSteps.{request-who}

@@ -1,11 +1,10 @@
 -- The rank of a copy: each turn is one of the access or of the freeing, and behind an access that went well there is one fewer.
-use Rattle.std.proofs.Common.{◌≡◌, ◌≢◌, ◌⊎◌, inl, inr, ℕ, ◌+◌, ◌*◌, ◌^◌, ◌<◌, ◌≤◌, Bool, true, false, List, ◌++◌, Option, Some, None, refl, sym, ap, ◌∙◌, subst, arith}
+use Rattle.std.proofs.Common.{◌≡◌, ◌≢◌, ◌⊎◌, inl, inr, ℕ, ◌+◌, ◌*◌, ◌<◌, ◌≤◌, Bool, true, false, List, Option, Some, None, refl, sym, ap, ◌∙◌, subst, arith}
 use Rattle.std.proofs.lemmas.Bool.{both_ways}
 use Rattle.std.proofs.lemmas.Option.{none-some}
 use Rattle.hwp_fault.specs.hwp_geom.declared.Frame.{Frame}
 use Rattle.hwp_fault.specs.hwp_geom.declared.Layout.{Layout}
 use Rattle.hwp_fault.specs.hwp_geom.declared.VSlot.{VSlot}
-use Rattle.hwp_fault.specs.hwp_geom.declared.Who.{Who}
 use Rattle.hwp_fault.specs.hwp_page.declared.At.{At}
 use Rattle.hwp_fault.specs.hwp_page.History.{BodyValue}
 use Rattle.hwp_fault.specs.hwp_core_rule.declared.Made.{Made as Deed}
@@ -20,8 +19,7 @@ use Rattle.hwp_fault.specs.hwp_core_task.declared.Turn.{Turn}
 use Rattle.hwp_fault.specs.hwp_core_task.Boards.{view_of}
 use Rattle.hwp_fault.specs.hwp_core_task.Calls.{logs, rec_of}
 use Rattle.hwp_fault.specs.hwp_core_task.Classes.{TellsClass}
-use Rattle.hwp_fault.specs.hwp_core_task.Hands.{empty, hand_of}
-use Rattle.hwp_fault.specs.hwp_core_task.Ranks.{CostFalls, HasFailed, HasFrame, HasPage, IsRanked, Made, OtherHand, PaysRevival, Pending, Quiet, failure_weight, failures_left, is_refused, is_waits, top, words_at}
+use Rattle.hwp_fault.specs.hwp_core_task.Ranks.{CostFalls, HasFailed, HasFrame, HasPage, IsRanked, Made, OtherHand, PaysRevival, Pending, Quiet, failure_weight, failures_left, is_refused, is_waits, words_at}
 use Rattle.hwp_fault.proofs.of_hwp_core_task.Failures.{mild-leaves}
 use Rattle.hwp_fault.specs.hwp_core_rule.Lasting.{LeavesPoison}
 use Rattle.hwp_fault.proofs.of_hwp_core_task.Revivals.{lasting-pays}
@@ -39,7 +37,6 @@ use Rattle.hwp_fork.specs.declared.cow.CowAt.TheVariants as cow_at
 use Rattle.hwp_fork.specs.declared.cow.Sub.{Sub}
 use Rattle.hwp_fork.specs.declared.cow.Sub.TheVariants as subs
 use Rattle.hwp_fork.specs.Cows.{sub_at, sub_of, told_at, told_by}
-use Rattle.hwp_cpu_access.specs.declared.instruction.Instruction.{Instruction}
 use Rattle.hwp_cpu_access.specs.declared.instruction.InstructionAnswer.{InstructionAnswer}
 use Rattle.hwp_cpu_access.specs.declared.instruction.InstructionAnswer.TheVariants as answers
 use Rattle.hwp_cpu_access.specs.Costs as instruction_costs
@@ -50,10 +47,10 @@ use Rattle.hwp_cpu_access.proofs.InstructionRank.{instruction-lasting, instructi
 use Rattle.hwp_cpu_copy.specs.declared.copying.Copying.{Copying}
 use Rattle.hwp_cpu_copy.specs.declared.copying.CopyingAt.{CopyingAt}
 use Rattle.hwp_cpu_copy.specs.declared.copying.CopyingAt.TheVariants as at
-use Rattle.hwp_cpu_copy.specs.Copyings.{AccessStepped, FollowsAt, FreeStepped, after_access, after_free_by, bare_at, going_on, load_of, plan, plan_at, put, put_at, request_by, store_of}
+use Rattle.hwp_cpu_copy.specs.Copyings.{AccessStepped, FollowsAt, FreeStepped, after_access, after_free_by, bare_at, going_on, load_of, plan, plan_at, put, put_at, store_of}
 use Rattle.hwp_cpu_copy.specs.Costs.{aborts, aborts_at, behind, claims, claims_at, class, class_at, cost, cost_at}
 use Rattle.hwp_cpu_copy.specs.Fits.{FitsAt, FitsFrom, IsAccessing, IsFreeing, task as copy-task}
-use Rattle.hwp_cpu_copy.specs.Runs.{checks_by, made_by, words_of}
+use Rattle.hwp_cpu_copy.specs.Runs.{words_of}
 use Rattle.hwp_cpu_copy.proofs.CopyLaws.{over-instruction, stays}
 use Rattle.hwp_cpu_copy.proofs.CowSteps.{behind-few, fewer, request-who, told-of}
 

@@ -1,6 +1,6 @@
 -- A copy at its pause, while another task of its command goes on, and behind it; and where memory ran out for that.
-use Rattle.std.proofs.Common.{◌≡◌, inl, inr, ℕ, suc, ◌+◌, Bool, true, false, cond, List, [], ◌∷◌, ◌++◌, Option, Some, None, filter, length, append_assoc, refl, sym, ap, ◌∙◌, subst, arith}
-use Rattle.std.proofs.lemmas.Option.{none-some, same_Some}
+use Rattle.std.proofs.Common.{◌≡◌, inl, inr, ℕ, suc, ◌+◌, Bool, false, cond, List, [], ◌∷◌, ◌++◌, Option, Some, None, filter, length, append_assoc, refl, sym, ap, ◌∙◌, subst, arith}
+use Rattle.std.proofs.lemmas.Option.{none-some}
 use Rattle.hwp_fault.specs.hwp_geom.declared.Layout.{Layout}
 use Rattle.hwp_fault.specs.hwp_geom.declared.Who.{Who}
 use Rattle.hwp_fault.specs.hwp_page.declared.What.TheVariants as entries
@@ -14,7 +14,7 @@ use Rattle.hwp_fault.proofs.of_hwp_core_rule.Lists.{each-weaken}
 use Rattle.hwp_fault.proofs.of_hwp_core_rule.MoreEntries.{each-append}
 use Rattle.hwp_fault.specs.hwp_core_task.Calls.{IsOnTurn, Steps}
 use Rattle.hwp_fault.specs.hwp_core_task.Hands.{hand_of, empty}
-use Rattle.hwp_fault.specs.hwp_core_task.Known.{HasOnlyBeside, Precedes, deeds}
+use Rattle.hwp_fault.specs.hwp_core_task.Known.{Precedes, deeds}
 use Rattle.hwp_cpu_check.specs.hwp_law_commands.Commands.{is_check}
 use Rattle.hwp_cpu_check.specs.declared.EventOutcome.{EventOutcome}
 use Rattle.hwp_fault.specs.declared.Request.{Request}

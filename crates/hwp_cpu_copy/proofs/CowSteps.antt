@@ -1,5 +1,5 @@
 -- The accesses of a copy, one after the other: whose lines and translations they are, and how many come.
-use Rattle.std.proofs.Common.{◌≡◌, ◌⊎◌, inl, inr, ℕ, ◌+◌, ◌-◌, ◌*◌, ◌<◌, ◌≤◌, Bool, true, false, nat_lt, List, [], Option, Some, None, length, if◌then◌else◌, refl, sym, ap, ◌∙◌, subst, arith}
+use Rattle.std.proofs.Common.{◌≡◌, ◌⊎◌, inl, inr, ℕ, ◌+◌, ◌-◌, ◌*◌, ◌<◌, ◌≤◌, Bool, true, false, nat_lt, List, [], Some, length, if◌then◌else◌, refl, sym, ap, subst, arith}
 use Rattle.std.proofs.lemmas.Bool.{both_ways, ltb-true, ltb-false}
 use Rattle.std.proofs.lemmas.Option.{none-some, same_Some}
 use Rattle.hwp_fault.specs.hwp_geom.declared.Page.{Page}
@@ -10,7 +10,7 @@ use Rattle.hwp_fork.specs.declared.cow.CowAt.{CowAt}
 use Rattle.hwp_fork.specs.declared.cow.CowAt.TheVariants as cow_at
 use Rattle.hwp_fork.specs.declared.cow.Sub.{Sub}
 use Rattle.hwp_fork.specs.declared.cow.Sub.TheVariants as subs
-use Rattle.hwp_fork.specs.Cows.{HasTold, HasToldAt, begin, loading, sub_at, sub_of, told_all, told_at, told_by}
+use Rattle.hwp_fork.specs.Cows.{HasTold, HasToldAt, sub_at, sub_of, told_all, told_at, told_by}
 use Rattle.hwp_fork.proofs.CowLaws.{has-told-all}
 use Rattle.hwp_cpu_copy.specs.Copyings.{load_of, request_by, store_of}
 use Rattle.hwp_cpu_copy.specs.Costs.{behind}

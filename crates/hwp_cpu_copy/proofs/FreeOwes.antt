@@ -1,5 +1,5 @@
 -- The freeing of a translation owes no loss of a file.
-use Rattle.std.proofs.Common.{◌≡◌, ℕ, zero, suc, Bool, true, false, List, [], ◌∷◌, Option, Some, None, refl, sym, ap, ◌∙◌, subst, arith}
+use Rattle.std.proofs.Common.{◌≡◌, ℕ, zero, suc, true, false, List, [], ◌∷◌, Option, Some, None, refl, sym, subst}
 use Rattle.std.proofs.lemmas.Bool.{both_ways}
 use Rattle.std.proofs.lemmas.Option.{none-some, same_Some}
 use Rattle.hwp_evict.specs.hwp_geom.declared.Layout.{Layout}
@@ -8,7 +8,6 @@ use Rattle.hwp_evict.specs.hwp_geom.declared.Who.{Who}
 use Rattle.hwp_evict.specs.hwp_page.declared.At.{At}
 use Rattle.hwp_evict.specs.hwp_page.declared.Entry.{Entry}
 use Rattle.hwp_evict.specs.hwp_page.History.{BodyValue}
-use Rattle.hwp_evict.specs.hwp_core_rule.declared.Log.{Log}
 use Rattle.hwp_evict.specs.hwp_core_rule.declared.Made.{Made}
 use Rattle.hwp_evict.specs.hwp_core_rule.declared.SharedWord.TheVariants as places
 use Rattle.hwp_evict.specs.hwp_core_rule.declared.Step.{Step}
@@ -42,7 +41,6 @@ use Rattle.hwp_evict.specs.Evictions.{entry_of}
 use Rattle.hwp_evict.specs.Evicts.{Comes, FitsAt, FitsFrom, IsAhead, IsVacating, KnowsPut, plan, plan_at, put, put_at}
 use Rattle.hwp_evict.specs.Vacates as vacates
 use Rattle.hwp_evict.proofs.ClearLaws.{clear-lists}
-use Rattle.hwp_evict.proofs.VacateCosts.{vacate-lists}
 use Rattle.hwp_cpu_copy.specs.Fits.{is_given_up}
 
 -- no entry of an eviction is a loss

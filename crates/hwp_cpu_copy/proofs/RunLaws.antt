@@ -1,6 +1,5 @@
 -- The accesses of a copy that went well: one more of them, what stays of them over a step, and how many machine checks they had.
-use Rattle.std.proofs.Common.{◌≡◌, ◌⊎◌, inl, inr, ℕ, ◌+◌, Bool, false, cond, List, [], ◌∷◌, ◌++◌, Option, filter, length, map, append-nil, append_assoc, refl, sym, ap, ◌∙◌, subst, arith}
-use Rattle.std.specs.List.{flat_map}
+use Rattle.std.proofs.Common.{◌≡◌, ◌⊎◌, inl, inr, ℕ, ◌+◌, Bool, cond, List, [], ◌∷◌, ◌++◌, Option, filter, length, append-nil, refl, sym, ap, ◌∙◌, subst, arith}
 use Rattle.std.proofs.lemmas.List.{length-append, map-append}
 use Rattle.std.proofs.lemmas.Grind.{flat_map-append}
 use Rattle.std.proofs.lemmas.List.Elements.{filter-append}
@@ -25,13 +24,12 @@ use Rattle.hwp_fork.specs.declared.cow.Cow.{Cow}
 use Rattle.hwp_fork.specs.declared.cow.Sub.{Sub}
 use Rattle.hwp_fork.specs.declared.cow.Sub.TheVariants as subs
 use Rattle.hwp_fork.specs.Cows.{sub_of, told_all, told_by}
-use Rattle.hwp_cpu_access.specs.Checks.{AreChecks}
 use Rattle.hwp_cpu_access.specs.Fits.{checks_in}
 use Rattle.hwp_cpu_access.proofs.CheckLaws.{left-behind}
 use Rattle.hwp_cpu_access.proofs.CommandGrows.{checks-stay}
 use Rattle.hwp_cpu_access.proofs.Resting.{any-stay}
 use Rattle.hwp_cpu_copy.specs.Copyings.{load_of, store_of}
-use Rattle.hwp_cpu_copy.specs.Runs.{AreRuns, IsAccessRun, IsFreeRun, IsRun, Run, checks_by, made_by, words_of}
+use Rattle.hwp_cpu_copy.specs.Runs.{AreRuns, IsFreeRun, IsRun, Run, checks_by, made_by, words_of}
 
 -- ---- one more
 

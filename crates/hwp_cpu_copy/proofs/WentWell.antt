@@ -1,10 +1,9 @@
 -- An access of a copy that went well: it is one more run, and the access that comes behind it begins.
-use Rattle.std.proofs.Common.{◌≡◌, ◌⊎◌, inl, inr, ℕ, ◌+◌, ◌<◌, List, [], ◌∷◌, ◌++◌, Option, Some, None, IsBitSet, IsSomeAnd, length, map, append-nil, append_assoc, refl, sym, ap, ◌∙◌, subst, arith}
+use Rattle.std.proofs.Common.{◌≡◌, ◌⊎◌, inl, inr, ℕ, ◌+◌, ◌<◌, List, [], ◌∷◌, ◌++◌, Option, Some, IsBitSet, IsSomeAnd, length, append-nil, append_assoc, refl, sym, ap, ◌∙◌, subst, arith}
 use Rattle.std.proofs.lemmas.Option.{none-some, same_Some}
 use Rattle.std.proofs.lemmas.List.{length-append}
 use Rattle.hwp_fault.specs.hwp_geom.declared.Layout.{Layout}
 use Rattle.hwp_fault.specs.hwp_geom.declared.Mode.{Mode}
-use Rattle.hwp_fault.specs.hwp_geom.declared.Mode.TheVariants as modes
 use Rattle.hwp_fault.specs.hwp_geom.declared.Page.{Page}
 use Rattle.hwp_fault.specs.hwp_geom.declared.Proc.{Proc}
 use Rattle.hwp_fault.specs.hwp_geom.declared.TransDecl.{TransDecl}
@@ -28,11 +27,10 @@ use Rattle.hwp_fault.specs.declared.AccessKind.TheVariants as kinds
 use Rattle.hwp_fault.specs.declared.Request.{Request}
 use Rattle.hwp_fault.specs.Accesses as accesses
 use Rattle.hwp_fault.specs.Accesses.{what_by, what_of}
-use Rattle.hwp_cpu_check.specs.Checks.{Check, left_by, lines_of}
+use Rattle.hwp_cpu_check.specs.Checks.{left_by, lines_of}
 use Rattle.hwp_cpu_check.specs.hwp_banks.Banks.{Banks}
 use Rattle.hwp_cpu_check.specs.hwp_banks.declared.Origin.{Origin}
 use Rattle.hwp_cpu_check.specs.hwp_banks.declared.Origin.TheVariants as origins
-use Rattle.hwp_cpu_check.specs.declared.EventOutcome.{EventOutcome}
 use Rattle.hwp_evict.specs.declared.evict.Eviction.TheVariants as evictions
 use Rattle.hwp_evict.specs.Evicts as evicts
 use Rattle.hwp_fork.specs.declared.cow.Cow.{Cow}
@@ -48,8 +46,8 @@ use Rattle.hwp_cpu_access.proofs.InstructionLaws.{begins-behind}
 use Rattle.hwp_cpu_copy.specs.declared.copying.Copying.{Copying}
 use Rattle.hwp_cpu_copy.specs.declared.copying.CopyingAt.TheVariants as at
 use Rattle.hwp_cpu_copy.specs.Copyings.{going_on, load_of, request_by, store_of, went}
-use Rattle.hwp_cpu_copy.specs.Fits.{FitsAt, FitsFrom, HasRun, HasTold, IsGoing, begun}
-use Rattle.hwp_cpu_copy.specs.Runs.{AreRuns, IsAccessRun, IsBetween, IsRun, Run, checks_by, made_by, words_of}
+use Rattle.hwp_cpu_copy.specs.Fits.{FitsAt, FitsFrom, HasRun, IsGoing, begun}
+use Rattle.hwp_cpu_copy.specs.Runs.{IsAccessRun, IsBetween, IsRun, Run, checks_by, made_by, words_of}
 use Rattle.hwp_cpu_copy.proofs.CowSteps.{IsOwn, goes-on, request-who, sub-own, told-of}
 use Rattle.hwp_cpu_copy.proofs.RunLaws.{checks-append, checks-more, made-more, runs-counted, runs-more, told-more, words-more}
 
