@@ -1,11 +1,11 @@
 -- Whatever words a copy is told one after the other, the accesses that come are, one after the other, those of one list.
-use Rattle.std.proofs.Common.{◌≡◌, ℕ, zero, suc, ◌+◌, ◌*◌, ◌<◌, ◌≤◌, List, [], ◌∷◌, ◌++◌, length, take, slice_index, slice_index_or, refl, sym, ap, ◌∙◌, arith}
+use Rattle.std.proofs.Common.{◌≡◌, ℕ, zero, suc, ◌+◌, ◌*◌, ◌<◌, ◌≤◌, List, [], ◌∷◌, ◌++◌, length, take, slice_index, slice_index_or, refl, ap, ◌∙◌, arith}
 use Rattle.std.proofs.lemmas.List.{get_or-take, length-take-le}
 use Rattle.hwp_geom.specs.declared.VSlot.{VSlot}
 use Rattle.hwp_geom.specs.Limits.{line_limit}
 use Rattle.hwp_fork.specs.declared.cow.Cow.{Cow}
 use Rattle.hwp_fork.specs.declared.cow.Sub.{Sub}
-use Rattle.hwp_fork.specs.declared.cow.Sub.TheVariants.{Load, Store, Free, Switched}
+use Rattle.hwp_fork.specs.declared.cow.Sub.TheVariants.{Store, Free, Switched}
 use Rattle.hwp_fork.specs.Subs.{copies, sub_after, subs}
 use Rattle.hwp_fork.specs.Cows.{HasTold, begin, due, sub_of, told_all}
 use Rattle.hwp_fork.proofs.CowLaws.{asks-same, has-told-all, sub-due}

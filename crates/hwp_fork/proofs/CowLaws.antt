@@ -1,13 +1,12 @@
 -- What a copy has been told, and which access comes by that.
-use Rattle.std.proofs.Common.{◌≡◌, ℕ, ◌+◌, ◌*◌, ◌<◌, ◌≤◌, Bool, true, false, nat_lt, List, [], ◌∷◌, ◌++◌, length, slice_index, if◌then◌else◌, append-nil, refl, sym, ap, ◌∙◌, subst, arith}
+use Rattle.std.proofs.Common.{◌≡◌, ℕ, ◌+◌, ◌*◌, ◌<◌, ◌≤◌, Bool, true, false, nat_lt, List, [], ◌∷◌, ◌++◌, length, if◌then◌else◌, append-nil, refl, sym, subst, arith}
 use Rattle.std.proofs.lemmas.Bool.{ltb-true, ltb-false}
-use Rattle.std.proofs.lemmas.List.{append_assoc, get_or_append_left, get_or_push, length_push}
-use Rattle.hwp_geom.specs.declared.VSlot.{VSlot}
+use Rattle.std.proofs.lemmas.List.{append_assoc, get_or_push, length_push}
 use Rattle.hwp_geom.specs.Limits.{line_limit}
 use Rattle.hwp_fork.specs.declared.cow.Cow.{Cow}
 use Rattle.hwp_fork.specs.declared.cow.CowAt.{CowAt}
 use Rattle.hwp_fork.specs.declared.cow.CowAt.TheVariants as at
-use Rattle.hwp_fork.specs.Cows.{HasTold, HasToldAt, begin, due, loading, sub_at, sub_of, told_all, told_at, told_by}
+use Rattle.hwp_fork.specs.Cows.{HasTold, HasToldAt, due, sub_at, sub_of, told_all, told_at, told_by}
 use Rattle.hwp_fork.proofs.SubLaws.{due-free, due-last, due-load, due-store, due-switched}
 
 -- the access that comes is the one that is due
