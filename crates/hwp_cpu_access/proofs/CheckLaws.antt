@@ -45,6 +45,11 @@ left-empty : (checks : List Check) → left_by empty_banks checks ≡ empty_bank
 left-empty [] = refl
 left-empty (c ∷ cs) = refl
 
+-- they leave what the later ones leave in what the earlier ones left
+pub left-behind : (banks : Banks) (earlier checks : List Check) → left_by banks (earlier ++ checks) ≡ left_by (left_by banks earlier) checks
+left-behind banks [] checks = refl
+left-behind banks (c ∷ cs) checks = sym (left-empty checks)
+
 pub left-more : (banks : Banks) (checks : List Check) (c : Check) → left_by banks (checks ++ c ∷ []) ≡ empty_banks
 left-more banks [] c = refl
 left-more banks (d ∷ ds) c = refl

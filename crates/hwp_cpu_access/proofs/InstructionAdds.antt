@@ -42,9 +42,9 @@ use Rattle.hwp_cpu_check.specs.Told.{first_signal, has_kept, was_poisoned}
 use Rattle.hwp_cpu_check.proofs.HandlerAdds.{grows-behind, handler-adds}
 use Rattle.hwp_cpu_check.proofs.EventTells.{kept, tell-done, tell-idle}
 use Rattle.hwp_cpu_check.specs.hwp_severity.Handling.{has_stop}
-use Rattle.hwp_cpu_check.specs.Checks.{restarting, with_own}
+use Rattle.hwp_cpu_check.specs.Checks.{Check, restarting, with_own}
 use Rattle.hwp_cpu_access.specs.Done.{Adds, FailuresGrow, failed_at, failed_by, failed_now, failures_by, marked_at, marked_by, marked_now, owed_at, owed_now}
-use Rattle.hwp_cpu_access.specs.Fits.{FitsAt, FitsFrom, IsAccessing, IsHandling}
+use Rattle.hwp_cpu_access.specs.Fits.{FitsAt, FitsBehind, IsAccessing, IsHandling}
 use Rattle.hwp_cpu_access.specs.Instructions.{AfterAccess, AfterAccessBy, Follows, FollowsAt, after_handler, after_handler_by, bare, bare_at, emptied, going_on, handler_of, is_pending, left_to_do, plan, plan_at, put, put_at, restarted}
 use Rattle.hwp_cpu_access.specs.declared.instruction.Instruction.{Instruction}
 use Rattle.hwp_cpu_access.specs.declared.instruction.InstructionAnswer.TheVariants as answers
@@ -138,7 +138,7 @@ fails-behind : (front : List Failed) {old new before after : List Failed} → Fa
 fails-behind front (inl same) = inl (same.0, ap (λ (l : List Failed). front ++ l) same.1)
 fails-behind front {old} {new} {before} (inr grown) = inr (grown.0, grown.1, ap (λ (l : List Failed). front ++ l) grown.2 ∙ sym (append_assoc front before (grown.0 ∷ [])))
 
-module _ {past : List Made} (layout : Layout) (old new : View) (i after : Instruction) (step : Step) (found : ℕ) (got : Option BodyValue) (turn : Turn) (fits : FitsFrom past layout old i) where
+module _ {past : List Made} {earlier : List Check} (layout : Layout) (old new : View) (i after : Instruction) (step : Step) (found : ℕ) (got : Option BodyValue) (turn : Turn) (fits : FitsBehind past earlier layout old i) where
   -- what leaves the marks, the counts and the failures, where the command has done nothing more
   nothing : (x : InstructionAt) → i.at ≡ x → IsIdle x → new.marks ≡ old.marks → counts_owed new ≡ counts_owed old → failures_by i.request.who new ≡ failures_by i.request.who old → IsDone i [] [] 0 after → Adds old new i after
   nothing x is idle marks counts failures done = record {
@@ -154,7 +154,7 @@ module _ {past : List Made} (layout : Layout) (old new : View) (i after : Instru
     owed_is = ap owed_now is ∙ idle.2;
   }
 
-  access-step : (a : Access) → i.at ≡ at.Access a → IsAccessing past layout old i fits.checks a → accesses.plan a ≡ Some step → Steps layout i.request.who step (logs (accesses.put a)) old new found got → FollowsAt layout (bare i) (at.Access (accesses.bare a)) found got after turn → Adds old new i after
+  access-step : (a : Access) → i.at ≡ at.Access a → IsAccessing past layout old i (earlier ++ fits.checks) a → accesses.plan a ≡ Some step → Steps layout i.request.who step (logs (accesses.put a)) old new found got → FollowsAt layout (bare i) (at.Access (accesses.bare a)) found got after turn → Adds old new i after
   access-step a is has e made next = nothing (at.Access a) is (refl, refl, refl) alike.marks alike.owed
       (subst (λ (r : Request). failures_by r.who new ≡ failures_by r.who old) has.own (failures-same a.request old new (has_checked a.at) (has_checked next.access.at) (access-adds layout old new a step found got has.access e own next.access turn next.follows)))
       (access-done layout i next.access after next.next_is)
@@ -165,7 +165,7 @@ module _ {past : List Made} (layout : Layout) (old new : View) (i after : Instru
       alike : Alike old new
       alike = access-alike a e own
 
-  handler-step : (frame : Frame) (h : Handler) → i.at ≡ at.Handle frame h → IsHandling past layout old i fits.checks frame h → handlers.plan h ≡ Some step → Steps layout i.request.who step (logs (handlers.put h)) old new found got
+  handler-step : (frame : Frame) (h : Handler) → i.at ≡ at.Handle frame h → IsHandling past layout old i (earlier ++ fits.checks) frame h → handlers.plan h ≡ Some step → Steps layout i.request.who step (logs (handlers.put h)) old new found got
       → FollowsAt layout (bare i) (at.Handle frame (handlers.bare h)) found got after turn → Adds old new i after
   handler-step frame h is going e made next = record {
     marked = subst (λ (l : List Marking). Grows (λ (m : Mark). m.stamp.who) marking_of old.marks new.marks i.request.who l (marked_now after)) (sym (ap (λ (l : List Marking). marked_by i.lines.told ++ l) (ap marked_at is)))
@@ -203,11 +203,11 @@ module _ {past : List Made} (layout : Layout) (old new : View) (i after : Instru
   give-up-step is e made next = let own = steps-planned e made in
       nothing at.GiveUp is (refl, refl, refl) (ap (λ (v : View). v.marks) own.told.next) (ap counts_owed own.told.next) (ap (filter_map failed_of_entry) (deeds-same i.request.who tt own)) (plain-done (at.Over None) (refl, refl, refl) next)
 
-pub instruction-adds : {past : List Made} (layout : Layout) (old new : View) (i : Instruction) (step : Step) (found : ℕ) (got : Option BodyValue) → FitsFrom past layout old i → plan i ≡ Some step → Steps layout i.request.who step (logs (put i)) old new found got
+pub instruction-adds : {past : List Made} {earlier : List Check} (layout : Layout) (old new : View) (i : Instruction) (step : Step) (found : ℕ) (got : Option BodyValue) → FitsBehind past earlier layout old i → plan i ≡ Some step → Steps layout i.request.who step (logs (put i)) old new found got
     → (after : Instruction) (turn : Turn) → Follows layout (bare i) found got after turn → Adds old new i after
-instruction-adds {past} layout old new i step found got fits is made after turn follows = which i.at refl fits.at is made follows
+instruction-adds {past} {earlier} layout old new i step found got fits is made after turn follows = which i.at refl fits.at is made follows
   where
-    which : (x : InstructionAt) → i.at ≡ x → FitsAt past layout old i fits.checks x → plan_at x ≡ Some step → Steps layout i.request.who step (logs (put_at x)) old new found got → FollowsAt layout (bare i) (bare_at x) found got after turn → Adds old new i after
+    which : (x : InstructionAt) → i.at ≡ x → FitsAt past layout old i (earlier ++ fits.checks) x → plan_at x ≡ Some step → Steps layout i.request.who step (logs (put_at x)) old new found got → FollowsAt layout (bare i) (bare_at x) found got after turn → Adds old new i after
     which (at.Access a) own has e made next = access-step layout old new i after step found got turn fits a own has e made next
     which (at.Handle frame h) own has e made next = handler-step layout old new i after step found got turn fits frame h own has e made next
     which (at.LoadFrame frame) own has e made next = frame-step layout old new i after step found got turn fits frame own e made (is_pending found) next.0

@@ -1,5 +1,5 @@
 -- What an instruction costs: it is little, and what follows a machine check costs no more than an access that begins again.
-use Rattle.std.proofs.Common.{◌≡◌, ◌+◌, ◌&&◌, ◌<◌, ◌≤◌, Bool, true, false, cond, List, Option, Some, None, is_some, length, map, refl, sym, ap, ◌∙◌, arith}
+use Rattle.std.proofs.Common.{◌≡◌, ◌+◌, ◌&&◌, ◌<◌, ◌≤◌, Bool, true, false, cond, List, ◌++◌, Option, Some, None, is_some, length, map, refl, sym, ap, ◌∙◌, arith}
 use Rattle.std.specs.List.{list_any}
 use Rattle.std.proofs.lemmas.List.{length-append}
 use Rattle.hwp_fault.specs.hwp_geom.declared.Frame.{Frame}
@@ -32,8 +32,9 @@ use Rattle.hwp_cpu_check.specs.Fits.{events_of}
 use Rattle.hwp_cpu_check.specs.Handlers as handlers
 use Rattle.hwp_cpu_check.specs.Queue.{Queue}
 use Rattle.hwp_cpu_check.specs.Told.{first_signal, has_kept, was_poisoned}
+use Rattle.hwp_cpu_check.specs.Checks.{Check}
 use Rattle.hwp_cpu_access.specs.Costs.{aborts, aborts_at, anew, anew_after_wait, check_cost, claims, claims_at, cost, cost_at, ended_cost, held_cost, is_alone, past_cost, paused_cost, rest_at, word_of}
-use Rattle.hwp_cpu_access.specs.Fits.{FitsAt, FitsFrom}
+use Rattle.hwp_cpu_access.specs.Fits.{FitsAt, FitsBehind}
 use Rattle.hwp_cpu_access.specs.Instructions.{after_check, after_handler, after_handler_by, going_on, left_to_do, resumed}
 use Rattle.hwp_cpu_access.specs.declared.instruction.Instruction.{Instruction}
 use Rattle.hwp_cpu_access.specs.declared.instruction.InstructionAnswer.TheVariants as answers
@@ -108,13 +109,13 @@ pub left-few : (h : Handler) → length (events_of h.events) ≤ bank_count → 
 left-few h few = let all : length (events_of h.events) ≡ length (map (λ (t : EventOutcome). t.held) h.events.told) + length h.events.left = length-append (map (λ (t : EventOutcome). t.held) h.events.told) h.events.left in omega (arith, all, few)
 
 -- an instruction costs less than the weight of a failure
-pub instruction-below : {past : List Made} (layout : Layout) (a : State) (view : View) (i : Instruction) → Holds layout a → FitsFrom past layout view i → cost i (words_at layout a) < failure_weight
-instruction-below {past} layout a view i rule fits = which i.at fits.at
+pub instruction-below : {past : List Made} {earlier : List Check} (layout : Layout) (a : State) (view : View) (i : Instruction) → Holds layout a → FitsBehind past earlier layout view i → cost i (words_at layout a) < failure_weight
+instruction-below {past} {earlier} layout a view i rule fits = which i.at fits.at
   where
     w : Words
     w = words_at layout a
 
-    which : (x : InstructionAt) → FitsAt past layout view i fits.checks x → cost_at i.banks x w < failure_weight
+    which : (x : InstructionAt) → FitsAt past layout view i (earlier ++ fits.checks) x → cost_at i.banks x w < failure_weight
     which (at.Access b) has = let one : accesses.cost b w ≤ access_most = access-small w b (few-frees layout a rule) in let two : held_cost i.banks ≤ paused_cost = held-most i.banks in let three : check_cost b.at w ≤ 5 + anew = check-most b.at w in omega (arith, one, two, three)
     which (at.Handle frame h) has = let one : handlers.cost h w ≤ handlers.handler_most = handler-few h w (left-few h has.has.handler.found.few) in let two : rest_at frame h.events h.at w ≤ paused_cost = rest-most frame h.events h.at w in omega (arith, one, two)
     which (at.LoadFrame frame) has = let most : ended_cost (word_of frame w) ≤ anew = ended-most (word_of frame w) in omega (arith, most)

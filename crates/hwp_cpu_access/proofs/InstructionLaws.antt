@@ -2,8 +2,8 @@
 use Rattle.std.proofs.Common.{◌≡◌, inl, inr, ℕ, ◌+◌, ◌≤◌, ◌&&◌, Bool, true, false, cond, List, [], ◌∷◌, ◌++◌, Option, Some, None, filter, length, map, append-nil, refl, sym, ap, ◌∙◌, subst, arith}
 use Rattle.std.specs.Int.{from_bool}
 use Rattle.std.specs.List.{list_any}
-use Rattle.std.proofs.lemmas.List.{length-set}
-use Rattle.std.proofs.lemmas.Bool.{and_parts}
+use Rattle.std.proofs.lemmas.List.{append_assoc, length-set}
+use Rattle.std.proofs.lemmas.Bool.{and_parts, both_ways}
 use Rattle.std.proofs.lemmas.Option.{none-some, same_Some}
 use Rattle.hwp_fault.specs.hwp_geom.declared.Frame.{Frame}
 use Rattle.hwp_fault.specs.hwp_geom.declared.Layout.{Layout}
@@ -61,8 +61,8 @@ use Rattle.hwp_cpu_check.proofs.EventTells.{events-stay, kept}
 use Rattle.hwp_cpu_check.specs.Lines.{with_lines}
 use Rattle.hwp_cpu_check.specs.Checks.{Check, left_by, lines_of, restarting, with_own}
 use Rattle.hwp_cpu_access.specs.Checks.{AreChecks, IsCheck, SawBad}
-use Rattle.hwp_cpu_access.specs.Fits.{FitsAt, FitsFrom, HasHandler, HasOnlyBefore, IsAccessing, IsEnd, IsGoing, IsLeft, IsOfAccess, IsOwnEnd, IsPaused, IsSignalled, IsWaiting, LetsGoOn, banks_at, checks_in, checks_made, task as instruction-task}
-use Rattle.hwp_cpu_access.specs.Instructions.{AfterAccess, AfterAccessBy, BeginsCheck, Follows, FollowsAt, Shows, ShowsAt, after_handler, after_handler_by, after_load, after_stop, bare, bare_at, begin, emptied, going_on, handler_of, is_pending, left_to_do, pause, pause_at, plan, plan_at, put, put_at, restarted}
+use Rattle.hwp_cpu_access.specs.Fits.{FitsAt, FitsBehind, FitsFrom, HasHandler, HasOnlyBefore, IsAccessing, IsEnd, IsGoing, IsLeft, IsOfAccess, IsOwnEnd, IsPaused, IsSignalled, IsWaiting, LetsGoOn, banks_at, checks_in, checks_made, task as instruction-task}
+use Rattle.hwp_cpu_access.specs.Instructions.{AfterAccess, AfterAccessBy, BeginsCheck, Follows, FollowsAt, Shows, ShowsAt, after_handler, after_handler_by, after_load, after_stop, again_with, bare, bare_at, begin, emptied, going_on, handler_of, is_pending, left_to_do, pause, pause_at, plan, plan_at, put, put_at, restarted}
 use Rattle.hwp_cpu_access.specs.declared.instruction.Instruction.{Instruction}
 use Rattle.hwp_cpu_access.specs.declared.instruction.InstructionAnswer.{InstructionAnswer}
 use Rattle.hwp_cpu_access.specs.declared.instruction.InstructionAnswer.TheVariants as answers
@@ -70,15 +70,15 @@ use Rattle.hwp_cpu_access.specs.declared.instruction.InstructionAt.{InstructionA
 use Rattle.hwp_cpu_access.specs.declared.instruction.InstructionAt.TheVariants as at
 use Rattle.hwp_cpu_access.specs.declared.instruction.Pause.{Pause}
 use Rattle.hwp_cpu_access.specs.declared.instruction.Pause.TheVariants as pauses
-use Rattle.hwp_cpu_access.proofs.CheckLaws.{checks-more, count-more, halts-more, left-more, lets-more, lines-more, signal-more}
+use Rattle.hwp_cpu_access.proofs.CheckLaws.{checks-more, count-more, halts-more, left-behind, left-more, lets-more, lines-more, signal-more}
 use Rattle.hwp_cpu_access.proofs.CommandGrows.{access-stay, bad-stays, checks-stay, count-after, count-kept, only-checked, only-kept}
 
 -- ---- the steps can be made
 
-pub can : {past : List Made} (layout : Layout) (view : View) (i : Instruction) (step : Step) → FitsFrom past layout view i → plan i ≡ Some step → CanMake layout i.request.who step (put i) view
-can {past} layout view i step fits is = which i.at fits.at is
+pub can : {past : List Made} {earlier : List Check} (layout : Layout) (view : View) (i : Instruction) (step : Step) → FitsBehind past earlier layout view i → plan i ≡ Some step → CanMake layout i.request.who step (put i) view
+can {past} {earlier} layout view i step fits is = which i.at fits.at is
   where
-    which : (x : InstructionAt) → FitsAt past layout view i fits.checks x → plan_at x ≡ Some step → CanMake layout i.request.who step (put_at x) view
+    which : (x : InstructionAt) → FitsAt past layout view i (earlier ++ fits.checks) x → plan_at x ≡ Some step → CanMake layout i.request.who step (put_at x) view
     which (at.Access a) has e = subst (λ (r : Request). CanMake layout r.who step (accesses.put a) view) has.own (access-can layout view a step has.access e)
     which (at.Handle frame h) has e = subst (λ (w : Who). CanMake layout w step (handlers.put h) view) has.has.own (handler-can layout view h step has.has.handler e)
     which (at.LoadFrame frame) has e = can-make fits.on_turn e has.within tt
@@ -90,24 +90,24 @@ can {past} layout view i step fits is = which i.at fits.at is
 -- ---- what stays whatever the state
 
 -- the command, its names, and the machine checks so far
-pub record Base (layout : Layout) (view : View) (i : Instruction) (checks : List Check) : Type 0 where
+pub record Base (earlier : List Check) (layout : Layout) (view : View) (i : Instruction) (checks : List Check) : Type 0 where
   pub on_turn : IsOnTurn view i.request.who
   pub sound : IsSound layout
   pub names : accesses.IsDeclared layout i.request
   pub origin : IsOfAccess i.origin
   pub three : length i.before.value ≡ bank_count
-  pub checked : AreChecks layout view i.request i.origin i.mode i.before.value checks
-  pub told_is : i.lines.told ≡ lines_of checks
+  pub checked : AreChecks layout view i.request i.origin i.mode (left_by i.before.value earlier) checks
+  pub told_is : i.lines.told ≡ lines_of (earlier ++ checks)
 
-module _ {past : List Made} {layout : Layout} {old new : View} {i : Instruction} {step : Step} {found : ℕ} {got : Option BodyValue} (fits : FitsFrom past layout old i) (made : Steps layout i.request.who step (logs (put i)) old new found got) where
-  base-after : Stay i.request.who old new → Base layout new i fits.checks
+module _ {past : List Made} {earlier : List Check} {layout : Layout} {old new : View} {i : Instruction} {step : Step} {found : ℕ} {got : Option BodyValue} (fits : FitsBehind past earlier layout old i) (made : Steps layout i.request.who step (logs (put i)) old new found got) where
+  base-after : Stay i.request.who old new → Base earlier layout new i fits.checks
   base-after stay = record {
     on_turn = on-turn-after fits.on_turn made;
     sound = fits.sound;
     names = fits.names;
     origin = fits.origin;
     three = fits.three;
-    checked = checks-stay layout i.request i.origin i.mode stay (λ place word saw. saw-stays made saw) i.before.value fits.checks fits.checked;
+    checked = checks-stay layout i.request i.origin i.mode stay (λ place word saw. saw-stays made saw) (left_by i.before.value earlier) fits.checks fits.checked;
     told_is = fits.told_is;
   }
 
@@ -128,7 +128,11 @@ own-three i frame banks three = length-set banks (bank_of i.origin) _ ∙ three
 
 -- ---- a machine check that is over
 
-module _ {past : List Made} {layout : Layout} {view : View} {i : Instruction} {checks : List Check} {frame : Frame} {h : Handler} (base : Base layout view i checks) (empty_are : i.banks ≡ empty_banks) (has : HasHandler past layout view i checks frame h) where
+module _ {past : List Made} {earlier : List Check} {layout : Layout} {view : View} {i : Instruction} {own : List Check} {frame : Frame} {h : Handler} (base : Base earlier layout view i own) (empty_are : i.banks ≡ empty_banks) (has : HasHandler past layout view i (earlier ++ own) frame h) where
+  -- those before it
+  abbrev checks : List Check
+  checks = earlier ++ own
+
   abbrev now-banks : Banks
   now-banks = with_own i.origin frame i.request.line (left_by i.before.value checks)
 
@@ -138,6 +142,9 @@ module _ {past : List Made} {layout : Layout} {view : View} {i : Instruction} {c
 
   abbrev all : List Check
   all = checks ++ latest ∷ []
+
+  all-behind : all ≡ earlier ++ (own ++ latest ∷ [])
+  all-behind = append_assoc earlier own (latest ∷ [])
 
   stops-now : h.stops ≡ has_stop (restarting i.mode) now-banks
   stops-now = has.handler.found.stops_is ∙ ap (list_any stops_machine) has.events ∙ sym (found-in (restarting i.mode) now-banks (own-three i frame (left_by i.before.value checks) (left-three i.before.value checks base.three))).stops_is
@@ -165,21 +172,21 @@ module _ {past : List Made} {layout : Layout} {view : View} {i : Instruction} {c
 
   -- what follows, where nothing is held any more
   over-fits : h.events.left ≡ [] → (x : InstructionAt) → banks_at i.before.value all x ≡ left_by i.before.value all → FitsAt past layout view (record i { lines = with_lines i.lines h.events.told; at = x }) all x
-      → FitsFrom past layout view (record i { lines = with_lines i.lines h.events.told; at = x })
+      → FitsBehind past earlier layout view (record i { lines = with_lines i.lines h.events.told; at = x })
   over-fits none x held fits = record {
     on_turn = base.on_turn;
     sound = base.sound;
     names = base.names;
     origin = base.origin;
     three = base.three;
-    checks = all;
-    checked = checks-more i.before.value checks latest base.checked (is-check none);
-    told_is = told-all;
-    banks_are = empty_are ∙ sym (left-more i.before.value checks latest) ∙ sym held;
-    at = fits;
+    checks = own ++ latest ∷ [];
+    checked = checks-more (left_by i.before.value earlier) own latest base.checked (subst (λ (b : Banks). IsCheck layout view i.request i.origin i.mode b latest) (left-behind i.before.value earlier own) (is-check none));
+    told_is = told-all ∙ ap lines_of all-behind;
+    banks_are = empty_are ∙ sym (left-more i.before.value checks latest) ∙ sym held ∙ ap (λ (l : List Check). banks_at i.before.value l x) all-behind;
+    at = subst (λ (l : List Check). FitsAt past layout view (record i { lines = with_lines i.lines h.events.told; at = x }) l x) all-behind fits;
   }
 
-  stopped-fits : handler_fits.IsAllTold view h.events true → handler_fits.IsStoppedIf true view h.who → FitsFrom past layout view (after_handler_by i frame h (Some true))
+  stopped-fits : handler_fits.IsAllTold view h.events true → handler_fits.IsStoppedIf true view h.who → FitsBehind past earlier layout view (after_handler_by i frame h (Some true))
   stopped-fits told stopped = over-fits told.none_left (at.Over (Some answers.Stopped)) refl (record {
     hand_is = told.rest.hand_is;
     paid = told.rest.paid;
@@ -203,7 +210,7 @@ module _ {past : List Made} {layout : Layout} {view : View} {i : Instruction} {c
     lets-now : first_signal h.events.told ≡ None → LetsGoOn (i.lines.told ++ h.events.told)
     lets-now none = lets-more i.lines.told h.events.told has.lets told.halts_is none
 
-    signalled-fits : (place : At) → first_signal h.events.told ≡ Some place → FitsFrom past layout view (record i { lines = with_lines i.lines h.events.told; at = at.Over (Some (answers.Sigbus place)) })
+    signalled-fits : (place : At) → first_signal h.events.told ≡ Some place → FitsBehind past earlier layout view (record i { lines = with_lines i.lines h.events.told; at = at.Over (Some (answers.Sigbus place)) })
     signalled-fits place is = over-fits told.none_left (at.Over (Some (answers.Sigbus place))) refl (record {
       hand_is = told.rest.hand_is;
       paid = told.rest.paid;
@@ -211,7 +218,7 @@ module _ {past : List Made} {layout : Layout} {view : View} {i : Instruction} {c
       ended = inr (signalled-now place is);
     })
 
-    waiting-fits : first_signal h.events.told ≡ None → FitsFrom past layout view (record i { lines = with_lines i.lines h.events.told; at = at.LoadFrame frame })
+    waiting-fits : first_signal h.events.told ≡ None → FitsBehind past earlier layout view (record i { lines = with_lines i.lines h.events.told; at = at.LoadFrame frame })
     waiting-fits none = over-fits told.none_left (at.LoadFrame frame) refl (record {
       hand_is = told.rest.hand_is;
       paid = told.rest.paid;
@@ -222,7 +229,7 @@ module _ {past : List Made} {layout : Layout} {view : View} {i : Instruction} {c
       empty_are = empty_are;
     })
 
-    again-fits : first_signal h.events.told ≡ None → FitsFrom past layout view (record i { lines = with_lines i.lines h.events.told; at = restarted i })
+    again-fits : first_signal h.events.told ≡ None → FitsBehind past earlier layout view (record i { lines = with_lines i.lines h.events.told; at = restarted i })
     again-fits none = over-fits told.none_left (restarted i) refl (record {
       access = begins-again layout view i.request base.on_turn base.names told.rest.hand_is has.only;
       own = refl;
@@ -232,7 +239,7 @@ module _ {past : List Made} {layout : Layout} {view : View} {i : Instruction} {c
       made = let count : checks_made i.request.who view ≡ length all = count-all in omega (arith, count);
     })
 
-    paused-fits : (pause : Pause) → IsLeft past layout view i.request (i.lines.told ++ h.events.told) pause → i.collects ≡ true → FitsFrom past layout view (record i { lines = with_lines i.lines h.events.told; at = at.Paused pause })
+    paused-fits : (pause : Pause) → IsLeft past layout view i.request (i.lines.told ++ h.events.told) pause → i.collects ≡ true → FitsBehind past earlier layout view (record i { lines = with_lines i.lines h.events.told; at = at.Paused pause })
     paused-fits pause left collects = over-fits told.none_left (at.Paused pause) refl (record {
       hand_is = told.rest.hand_is;
       paid = told.rest.paid;
@@ -242,13 +249,13 @@ module _ {past : List Made} {layout : Layout} {view : View} {i : Instruction} {c
       empty_are = empty_are;
     })
 
-    goes-fits : FitsFrom past layout view (after_handler_by i frame h (Some false))
+    goes-fits : FitsBehind past earlier layout view (after_handler_by i frame h (Some false))
     goes-fits = which (first_signal h.events.told) refl (has_kept h.events.told && i.collects) refl (was_poisoned frame h.events.told)
       where
         collects : has_kept h.events.told && i.collects ≡ true → i.collects ≡ true
         collects kept_now = (and_parts (has_kept h.events.told) i.collects kept_now).1
 
-        which : (o : Option At) → first_signal h.events.told ≡ o → (kept : Bool) → has_kept h.events.told && i.collects ≡ kept → (b : Bool) → FitsFrom past layout view (record i { lines = with_lines i.lines h.events.told; at = going_on i.request kept (left_to_do o frame b) })
+        which : (o : Option At) → first_signal h.events.told ≡ o → (kept : Bool) → has_kept h.events.told && i.collects ≡ kept → (b : Bool) → FitsBehind past earlier layout view (record i { lines = with_lines i.lines h.events.told; at = going_on i.request kept (left_to_do o frame b) })
         which (Some place) is true kept_now b = paused-fits (pauses.Sigbus place) (signalled-now place is) (collects kept_now)
         which (Some place) is false goes b = signalled-fits place is
         which None is true kept_now true = paused-fits (pauses.Wait frame) (lets-now is, has.only, has.bad.within) (collects kept_now)
@@ -256,14 +263,14 @@ module _ {past : List Made} {layout : Layout} {view : View} {i : Instruction} {c
         which None is false goes true = waiting-fits is
         which None is false goes false = again-fits is
 
-  going-fits : handlers.answer h ≡ None → FitsFrom past layout view (record i { at = at.Handle frame h })
+  going-fits : handlers.answer h ≡ None → FitsBehind past earlier layout view (record i { at = at.Handle frame h })
   going-fits none = record {
     on_turn = base.on_turn;
     sound = base.sound;
     names = base.names;
     origin = base.origin;
     three = base.three;
-    checks = checks;
+    checks = own;
     checked = base.checked;
     told_is = base.told_is;
     banks_are = empty_are;
@@ -271,10 +278,10 @@ module _ {past : List Made} {layout : Layout} {view : View} {i : Instruction} {c
   }
 
   -- the machine check goes on, or is over
-  pub after-handler-fits : FitsFrom past layout view (after_handler i frame h)
+  pub after-handler-fits : FitsBehind past earlier layout view (after_handler i frame h)
   after-handler-fits = which h.at refl has.handler.at
     where
-      which : (x : HandlerAt) → h.at ≡ x → handler_fits.FitsAt layout view h.who h.thread h.stops h.events x → FitsFrom past layout view (after_handler_by i frame h (handlers.answer_at x))
+      which : (x : HandlerAt) → h.at ≡ x → handler_fits.FitsAt layout view h.who h.thread h.stops h.events x → FitsBehind past earlier layout view (after_handler_by i frame h (handlers.answer_at x))
       which handler_at.Stop is told = going-fits (ap handlers.answer_at is)
       which (handler_at.Fail f) is told = going-fits (ap handlers.answer_at is)
       which handler_at.GaveUp is told = going-fits (ap handlers.answer_at is)
@@ -283,9 +290,9 @@ module _ {past : List Made} {layout : Layout} {view : View} {i : Instruction} {c
 
 -- ---- an access that went on, or has its answer
 
-module _ (past : List Made) {layout : Layout} {view : View} {i : Instruction} {checks : List Check} (base : Base layout view i checks) (banks_are : i.banks ≡ left_by i.before.value checks) where
+module _ (past : List Made) {earlier : List Check} {layout : Layout} {view : View} {i : Instruction} {checks : List Check} (base : Base earlier layout view i checks) (banks_are : i.banks ≡ left_by i.before.value (earlier ++ checks)) where
   -- in each state but that of a machine check
-  plain-fits : (x : InstructionAt) → banks_at i.before.value checks x ≡ left_by i.before.value checks → FitsAt past layout view (record i { at = x }) checks x → FitsFrom past layout view (record i { at = x })
+  plain-fits : (x : InstructionAt) → banks_at i.before.value (earlier ++ checks) x ≡ left_by i.before.value (earlier ++ checks) → FitsAt past layout view (record i { at = x }) (earlier ++ checks) x → FitsBehind past earlier layout view (record i { at = x })
   plain-fits x held fits = record {
     on_turn = base.on_turn;
     sound = base.sound;
@@ -301,10 +308,10 @@ module _ (past : List Made) {layout : Layout} {view : View} {i : Instruction} {c
 
   module _ (paid : view.owed.losses ≡ []) (lets : LetsGoOn i.lines.told) where
     -- the machine check of a line that was bad in the frame
-    module _ (frame : Frame) (going : IsGoing view i.request) (bad : SawBad layout view i.request frame) (hand_is : hand_of view ≡ empty) (only : HasOnlyBefore past view i.request) (made : checks_made i.request.who view ≡ length checks + 1) where
-      begun : (spare : ℕ) → bank_count ≤ spare → HasHandler past layout view (emptied i spare) checks frame (handler_of layout i frame)
+    module _ (frame : Frame) (going : IsGoing view i.request) (bad : SawBad layout view i.request frame) (hand_is : hand_of view ≡ empty) (only : HasOnlyBefore past view i.request) (made : checks_made i.request.who view ≡ length (earlier ++ checks) + 1) where
+      begun : (spare : ℕ) → bank_count ≤ spare → HasHandler past layout view (emptied i spare) (earlier ++ checks) frame (handler_of layout i frame)
       begun spare room = record {
-        handler = begins-fit layout view i.alloc i.request.who (Some i.request.thread) (restarting i.mode) (with_own i.origin frame i.request.line i.banks) (own-three i frame i.banks (ap length banks_are ∙ left-three i.before.value checks base.three)) base.on_turn base.sound (record { hand_is = hand_is; paid = paid });
+        handler = begins-fit layout view i.alloc i.request.who (Some i.request.thread) (restarting i.mode) (with_own i.origin frame i.request.line i.banks) (own-three i frame i.banks (ap length banks_are ∙ left-three i.before.value (earlier ++ checks) base.three)) base.on_turn base.sound (record { hand_is = hand_is; paid = paid });
         own = refl;
         thread_is = refl;
         going = going;
@@ -317,14 +324,14 @@ module _ (past : List Made) {layout : Layout} {view : View} {i : Instruction} {c
         made = made;
       }
 
-      emptied-base : (spare : ℕ) → Base layout view (emptied i spare) checks
+      emptied-base : (spare : ℕ) → Base earlier layout view (emptied i spare) checks
       emptied-base spare = record { on_turn = base.on_turn; sound = base.sound; names = base.names; origin = base.origin; three = base.three; checked = base.checked; told_is = base.told_is }
 
-      check-fits : (after : Instruction) → BeginsCheck layout i frame after → FitsFrom past layout view after
-      check-fits after (inl refused) = subst (FitsFrom past layout view) (sym refused) (plain-fits at.GiveUp refl hand_is)
-      check-fits after (inr (spare, room, is)) = subst (FitsFrom past layout view) (sym is) (after-handler-fits (emptied-base spare) refl (begun spare room))
+      check-fits : (after : Instruction) → BeginsCheck layout i frame after → FitsBehind past earlier layout view after
+      check-fits after (inl refused) = subst (FitsBehind past earlier layout view) (sym refused) (plain-fits at.GiveUp refl hand_is)
+      check-fits after (inr (spare, room, is)) = subst (FitsBehind past earlier layout view) (sym is) (after-handler-fits (emptied-base spare) refl (begun spare room))
 
-    module _ (a : Access) (fits : accesses.FitsFrom past layout view a) (own : a.request ≡ i.request) (made : checks_made i.request.who view ≡ length checks + from_bool (has_checked a.at)) where
+    module _ (a : Access) (fits : accesses.FitsFrom past layout view a) (own : a.request ≡ i.request) (made : checks_made i.request.who view ≡ length (earlier ++ checks) + from_bool (has_checked a.at)) where
       -- its answer
       module _ (x : AccessAnswer) (is : accesses.answer a ≡ Some x) where
         ended : accesses.IsAnswered past layout view i.request x
@@ -349,7 +356,7 @@ module _ (past : List Made) {layout : Layout} {view : View} {i : Instruction} {c
             which (access_at.Fault f) e = absurd (none-some x e)
             which (access_at.GiveUp g) e = absurd (none-some x e)
 
-        answer-fits : (answer : InstructionAnswer) → is_checked x ≡ false → IsEnd past layout view i.request i.lines.told answer → FitsFrom past layout view (record i { at = at.Over (Some answer) })
+        answer-fits : (answer : InstructionAnswer) → is_checked x ≡ false → IsEnd past layout view i.request i.lines.told answer → FitsBehind past earlier layout view (record i { at = at.Over (Some answer) })
         answer-fits answer unchecked end = plain-fits (at.Over (Some answer)) refl (record {
           hand_is = ended.hand_is;
           paid = paid;
@@ -357,37 +364,37 @@ module _ (past : List Made) {layout : Layout} {view : View} {i : Instruction} {c
           ended = end;
         })
 
-      after-access-fits : (after : Instruction) → AfterAccess layout i a after → FitsFrom past layout view after
+      after-access-fits : (after : Instruction) → AfterAccess layout i a after → FitsBehind past earlier layout view after
       after-access-fits after = which (accesses.answer a) refl
         where
-          which : (o : Option AccessAnswer) → accesses.answer a ≡ o → AfterAccessBy layout i a o after → FitsFrom past layout view after
-          which None is next = subst (FitsFrom past layout view) (sym next) (plain-fits (at.Access a) refl (record { access = fits; own = own; unanswered = is; paid = paid; lets = lets; made = made }))
+          which : (o : Option AccessAnswer) → accesses.answer a ≡ o → AfterAccessBy layout i a o after → FitsBehind past earlier layout view after
+          which None is next = subst (FitsBehind past earlier layout view) (sym next) (plain-fits (at.Access a) refl (record { access = fits; own = own; unanswered = is; paid = paid; lets = lets; made = made }))
           which (Some (access_answers.Checked frame place)) is next =
               let end = ended (access_answers.Checked frame place) is in let has = end.answered.1 in
               check-fits frame has.alive (record { mask = has.mask; bad = has.bad; saw = has.saw; within = has.within }) end.hand_is (only-checked i.request view place.entry has.mask has.made)
-              (made ∙ ap (λ (b : Bool). length checks + from_bool b) (checked-is (access_answers.Checked frame place) is)) after next
-          which (Some (access_answers.Value word place)) is next = subst (FitsFrom past layout view) (sym next) (answer-fits (access_answers.Value word place) is (answers.Value word place) refl (own-end (access_answers.Value word place) is))
-          which (Some (access_answers.Stored place)) is next = subst (FitsFrom past layout view) (sym next) (answer-fits (access_answers.Stored place) is (answers.Stored place) refl (own-end (access_answers.Stored place) is))
-          which (Some (access_answers.Sigbus place)) is next = subst (FitsFrom past layout view) (sym next) (answer-fits (access_answers.Sigbus place) is (answers.Sigbus place) refl (inl (own-end (access_answers.Sigbus place) is)))
-          which (Some access_answers.NoFrame) is next = subst (FitsFrom past layout view) (sym next) (answer-fits access_answers.NoFrame is answers.NoFrame refl (own-end access_answers.NoFrame is))
-          which (Some (access_answers.Gone page)) is next = subst (FitsFrom past layout view) (sym next) (answer-fits (access_answers.Gone page) is (answers.Gone page) refl (own-end (access_answers.Gone page) is))
-          which (Some access_answers.Stopped) is next = subst (FitsFrom past layout view) (sym next) (answer-fits access_answers.Stopped is answers.Stopped refl (inl (own-end access_answers.Stopped is)))
+              (made ∙ ap (λ (b : Bool). length (earlier ++ checks) + from_bool b) (checked-is (access_answers.Checked frame place) is)) after next
+          which (Some (access_answers.Value word place)) is next = subst (FitsBehind past earlier layout view) (sym next) (answer-fits (access_answers.Value word place) is (answers.Value word place) refl (own-end (access_answers.Value word place) is))
+          which (Some (access_answers.Stored place)) is next = subst (FitsBehind past earlier layout view) (sym next) (answer-fits (access_answers.Stored place) is (answers.Stored place) refl (own-end (access_answers.Stored place) is))
+          which (Some (access_answers.Sigbus place)) is next = subst (FitsBehind past earlier layout view) (sym next) (answer-fits (access_answers.Sigbus place) is (answers.Sigbus place) refl (inl (own-end (access_answers.Sigbus place) is)))
+          which (Some access_answers.NoFrame) is next = subst (FitsBehind past earlier layout view) (sym next) (answer-fits access_answers.NoFrame is answers.NoFrame refl (own-end access_answers.NoFrame is))
+          which (Some (access_answers.Gone page)) is next = subst (FitsBehind past earlier layout view) (sym next) (answer-fits (access_answers.Gone page) is (answers.Gone page) refl (own-end (access_answers.Gone page) is))
+          which (Some access_answers.Stopped) is next = subst (FitsBehind past earlier layout view) (sym next) (answer-fits access_answers.Stopped is answers.Stopped refl (inl (own-end access_answers.Stopped is)))
 
 -- ---- each step
 
-module _ {past : List Made} (layout : Layout) (old new : View) (i : Instruction) (step : Step) (found : ℕ) (got : Option BodyValue) (fits : FitsFrom past layout old i) where
+module _ {past : List Made} {earlier : List Check} (layout : Layout) (old new : View) (i : Instruction) (step : Step) (found : ℕ) (got : Option BodyValue) (fits : FitsBehind past earlier layout old i) where
   abbrev Then : InstructionAt → Type 0
-  Then x = ShowsAt i.lines.spare (bare_at x) found got × ((after : Instruction) (turn : Turn) → FollowsAt layout (bare i) (bare_at x) found got after turn → FitsFrom past layout new after)
+  Then x = ShowsAt i.lines.spare (bare_at x) found got × ((after : Instruction) (turn : Turn) → FollowsAt layout (bare i) (bare_at x) found got after turn → FitsBehind past earlier layout new after)
 
   -- a step of the access
-  access-moved : (a : Access) → i.at ≡ at.Access a → IsAccessing past layout old i fits.checks a → accesses.plan a ≡ Some step → Steps layout i.request.who step (logs (accesses.put a)) old new found got → Then (at.Access a)
+  access-moved : (a : Access) → i.at ≡ at.Access a → IsAccessing past layout old i (earlier ++ fits.checks) a → accesses.plan a ≡ Some step → Steps layout i.request.who step (logs (accesses.put a)) old new found got → Then (at.Access a)
   access-moved a is has e made = (
     moved.0,
     λ after turn next. after-access-fits past (base-after fits (subst (λ (x : InstructionAt). Steps layout i.request.who step (logs (put_at x)) old new found got) (sym is) made) stay)
-        (fits.banks_are ∙ ap (banks_at i.before.value fits.checks) is)
+        (fits.banks_are ∙ ap (banks_at i.before.value (earlier ++ fits.checks)) is)
         (access-owes layout old new a step found got has.access e own ∙ has.paid) has.lets next.access (moved.1 next.access turn next.follows).0 (ap (λ (x : Access). x.request) next.follows.rest ∙ has.own)
-        (subst (λ (r : Request). checks_made r.who new ≡ length fits.checks + from_bool (has_checked next.access.at)) has.own
-        (count-after a.request old new (has_checked a.at) (has_checked next.access.at) (access-adds layout old new a step found got has.access e own next.access turn next.follows) (length fits.checks) (subst (λ (r : Request). checks_made r.who old ≡ length fits.checks + from_bool (has_checked a.at)) (sym has.own) has.made)))
+        (subst (λ (r : Request). checks_made r.who new ≡ length (earlier ++ fits.checks) + from_bool (has_checked next.access.at)) has.own
+        (count-after a.request old new (has_checked a.at) (has_checked next.access.at) (access-adds layout old new a step found got has.access e own next.access turn next.follows) (length (earlier ++ fits.checks)) (subst (λ (r : Request). checks_made r.who old ≡ length (earlier ++ fits.checks) + from_bool (has_checked a.at)) (sym has.own) has.made)))
         after next.next_is,
   )
     where
@@ -401,7 +408,7 @@ module _ {past : List Made} (layout : Layout) (old new : View) (i : Instruction)
       stay = subst (λ (r : Request). Stay r.who old new) has.own (access-stay a e own)
 
   -- a step of the machine check
-  module _ (frame : Frame) (h : Handler) (has : HasHandler past layout old i fits.checks frame h) (e : handlers.plan h ≡ Some step) (made : Steps layout i.request.who step (logs (handlers.put h)) old new found got) where
+  module _ (frame : Frame) (h : Handler) (has : HasHandler past layout old i (earlier ++ fits.checks) frame h) (e : handlers.plan h ≡ Some step) (made : Steps layout i.request.who step (logs (handlers.put h)) old new found got) where
     handler-own : Steps layout h.who step (logs (handlers.put h)) old new found got
     handler-own = subst (λ (w : Who). Steps layout w step (logs (handlers.put h)) old new found got) (sym has.own) made
 
@@ -415,7 +422,7 @@ module _ {past : List Made} (layout : Layout) (old new : View) (i : Instruction)
       failure-added : AddsFailure i.request.who old new (handler_done.failed_now h) (handler_done.failed_now after)
       failure-added = subst (λ (w : Who). AddsFailure w old new (handler_done.failed_now h) (handler_done.failed_now after)) has.own handler-done.failed
 
-      handler-goes : HasHandler past layout new i fits.checks frame after
+      handler-goes : HasHandler past layout new i (earlier ++ fits.checks) frame after
       handler-goes = let left = kept layout (handlers.bare h) found got after turn next in record {
         handler = ((handler-stays layout old new h step found got has.handler e handler-own).1 after turn next).0;
         own = left.who ∙ has.own;
@@ -432,9 +439,9 @@ module _ {past : List Made} (layout : Layout) (old new : View) (i : Instruction)
     handler-moved : i.at ≡ at.Handle frame h → Then (at.Handle frame h)
     handler-moved is = (
       shows-within h i.lines.spare found got has.handler.found has.room (handler-stays layout old new h step found got has.handler e handler-own).0,
-      λ after turn next. subst (FitsFrom past layout new) (sym next.next_is)
+      λ after turn next. subst (FitsBehind past earlier layout new) (sym next.next_is)
           (after-handler-fits (base-after fits (subst (λ (x : InstructionAt). Steps layout i.request.who step (logs (put_at x)) old new found got) (sym is) made) (handler-stay next.handler turn next.follows))
-          (fits.banks_are ∙ ap (banks_at i.before.value fits.checks) is) (handler-goes next.handler turn next.follows)),
+          (fits.banks_are ∙ ap (banks_at i.before.value (earlier ++ fits.checks)) is) (handler-goes next.handler turn next.follows)),
     )
 
   -- a step that neither marks nor lists, and takes nothing
@@ -447,11 +454,11 @@ module _ {past : List Made} (layout : Layout) (old new : View) (i : Instruction)
     here : Steps layout i.request.who step (logs (put i)) old new found got
     here = subst (λ (b : Option BodyValue). Steps layout i.request.who step (logs b) old new found got) (sym (ap put_at is ∙ none)) made
 
-    quiet-base : Base layout new i fits.checks
+    quiet-base : Base earlier layout new i fits.checks
     quiet-base = base-after fits here (quiet-stay made leaves.marks leaves.entries)
 
-    module _ (frame : Frame) (has : IsWaiting past layout old i fits.checks frame) (hand_is : hand_of new ≡ empty) where
-      waits-on : IsWaiting past layout new i fits.checks frame
+    module _ (frame : Frame) (has : IsWaiting past layout old i (earlier ++ fits.checks) frame) (hand_is : hand_of new ≡ empty) where
+      waits-on : IsWaiting past layout new i (earlier ++ fits.checks) frame
       waits-on = record {
         hand_is = hand_is;
         paid = leaves.losses ∙ has.paid;
@@ -462,14 +469,14 @@ module _ {past : List Made} (layout : Layout) (old new : View) (i : Instruction)
         empty_are = has.empty_are;
       }
 
-      restarts : IsAccessing past layout new (record i { at = restarted i }) fits.checks (accesses.again i.request)
+      restarts : IsAccessing past layout new (record i { at = restarted i }) (earlier ++ fits.checks) (accesses.again i.request)
       restarts = record {
         access = begins-again layout new i.request quiet-base.on_turn quiet-base.names hand_is waits-on.only;
         own = refl;
         unanswered = refl;
         paid = waits-on.paid;
         lets = has.lets;
-        made = let count : checks_made i.request.who new ≡ length fits.checks = waits-on.made in omega (arith, count);
+        made = let count : checks_made i.request.who new ≡ length (earlier ++ fits.checks) = waits-on.made in omega (arith, count);
       }
 
   frame-leaves : (frame : Frame) → Steps layout i.request.who (steps.Load (places.Frame frame)) None old new found got → Leaves
@@ -481,54 +488,54 @@ module _ {past : List Made} (layout : Layout) (old new : View) (i : Instruction)
   give-up-leaves : Steps layout i.request.who steps.GiveUp None old new found got → Leaves
   give-up-leaves made = record { marks = ap (λ (v : View). v.marks) made.told.next; losses = ap (λ (v : View). v.owed.losses) made.told.next; entries = deeds-same i.request.who tt made }
 
-  banks-now : (x : InstructionAt) → i.at ≡ x → i.banks ≡ banks_at i.before.value fits.checks x
-  banks-now x is = fits.banks_are ∙ ap (banks_at i.before.value fits.checks) is
+  banks-now : (x : InstructionAt) → i.at ≡ x → i.banks ≡ banks_at i.before.value (earlier ++ fits.checks) x
+  banks-now x is = fits.banks_are ∙ ap (banks_at i.before.value (earlier ++ fits.checks)) is
 
-  frame-loaded : (frame : Frame) → i.at ≡ at.LoadFrame frame → IsWaiting past layout old i fits.checks frame → Some (steps.Load (places.Frame frame)) ≡ Some step → Steps layout i.request.who step None old new found got → FitsFrom past layout new (after_load i frame found)
+  frame-loaded : (frame : Frame) → i.at ≡ at.LoadFrame frame → IsWaiting past layout old i (earlier ++ fits.checks) frame → Some (steps.Load (places.Frame frame)) ≡ Some step → Steps layout i.request.who step None old new found got → FitsBehind past earlier layout new (after_load i frame found)
   frame-loaded frame is has e made = which (is_pending found)
     where
       leaves : Leaves
       leaves = frame-leaves frame (steps-planned e made)
 
-      base : Base layout new i fits.checks
+      base : Base earlier layout new i fits.checks
       base = quiet-base (at.LoadFrame frame) is refl made leaves
 
       hand : hand_of new ≡ empty
       hand = hand-planned made e has.hand_is
 
-      which : (b : Bool) → FitsFrom past layout new (record i { at = cond b (at.LoadStop frame) (restarted i) })
+      which : (b : Bool) → FitsBehind past earlier layout new (record i { at = cond b (at.LoadStop frame) (restarted i) })
       which true = plain-fits past base (banks-now (at.LoadFrame frame) is) (at.LoadStop frame) refl (still-waiting i (at.LoadStop frame) (waits-on (at.LoadFrame frame) is refl made leaves frame has hand))
       which false = plain-fits past base (banks-now (at.LoadFrame frame) is) (restarted i) refl (restarts (at.LoadFrame frame) is refl made leaves frame has hand)
 
-  stop-loaded : (frame : Frame) → i.at ≡ at.LoadStop frame → IsWaiting past layout old i fits.checks frame → Some (steps.Load places.Stop) ≡ Some step → Steps layout i.request.who step None old new found got → FitsFrom past layout new (after_stop i frame found)
+  stop-loaded : (frame : Frame) → i.at ≡ at.LoadStop frame → IsWaiting past layout old i (earlier ++ fits.checks) frame → Some (steps.Load places.Stop) ≡ Some step → Steps layout i.request.who step None old new found got → FitsBehind past earlier layout new (after_stop i frame found)
   stop-loaded frame is has e made = which (has_no_memory found)
     where
       leaves : Leaves
       leaves = stop-leaves (steps-planned e made)
 
-      base : Base layout new i fits.checks
+      base : Base earlier layout new i fits.checks
       base = quiet-base (at.LoadStop frame) is refl made leaves
 
       hand : hand_of new ≡ empty
       hand = hand-planned made e has.hand_is
 
-      which : (b : Bool) → FitsFrom past layout new (record i { at = cond b (at.Over None) (at.LoadFrame frame) })
+      which : (b : Bool) → FitsBehind past earlier layout new (record i { at = cond b (at.Over None) (at.LoadFrame frame) })
       which true = plain-fits past base (banks-now (at.LoadStop frame) is) (at.Over None) refl hand
       which false = plain-fits past base (banks-now (at.LoadStop frame) is) (at.LoadFrame frame) refl (still-waiting i (at.LoadFrame frame) (waits-on (at.LoadStop frame) is refl made leaves frame has hand))
 
-  given-up : i.at ≡ at.GiveUp → hand_of old ≡ empty → Some steps.GiveUp ≡ Some step → Steps layout i.request.who step None old new found got → FitsFrom past layout new (record i { at = at.Over None })
+  given-up : i.at ≡ at.GiveUp → hand_of old ≡ empty → Some steps.GiveUp ≡ Some step → Steps layout i.request.who step None old new found got → FitsBehind past earlier layout new (record i { at = at.Over None })
   given-up is has e made = plain-fits past (quiet-base at.GiveUp is refl made (give-up-leaves (steps-planned e made))) (banks-now at.GiveUp is) (at.Over None) refl (hand-planned made e has)
 
-both : {past : List Made} (layout : Layout) (old new : View) (i : Instruction) (step : Step) (found : ℕ) (got : Option BodyValue) → FitsFrom past layout old i → plan i ≡ Some step → Steps layout i.request.who step (logs (put i)) old new found got
-    → Shows (bare i) found got × ((after : Instruction) (turn : Turn) → Follows layout (bare i) found got after turn → FitsFrom past layout new after)
-both {past} layout old new i step found got fits is made = which i.at refl fits.at is made
+both : {past : List Made} {earlier : List Check} (layout : Layout) (old new : View) (i : Instruction) (step : Step) (found : ℕ) (got : Option BodyValue) → FitsBehind past earlier layout old i → plan i ≡ Some step → Steps layout i.request.who step (logs (put i)) old new found got
+    → Shows (bare i) found got × ((after : Instruction) (turn : Turn) → Follows layout (bare i) found got after turn → FitsBehind past earlier layout new after)
+both {past} {earlier} layout old new i step found got fits is made = which i.at refl fits.at is made
   where
-    which : (x : InstructionAt) → i.at ≡ x → FitsAt past layout old i fits.checks x → plan_at x ≡ Some step → Steps layout i.request.who step (logs (put_at x)) old new found got → Then layout old new i step found got fits x
+    which : (x : InstructionAt) → i.at ≡ x → FitsAt past layout old i (earlier ++ fits.checks) x → plan_at x ≡ Some step → Steps layout i.request.who step (logs (put_at x)) old new found got → Then layout old new i step found got fits x
     which (at.Access a) at_is has e made = access-moved layout old new i step found got fits a at_is has e made
     which (at.Handle frame h) at_is has e made = handler-moved layout old new i step found got fits frame h has.has e made at_is
-    which (at.LoadFrame frame) at_is has e made = (tt, λ after turn next. subst (FitsFrom past layout new) (sym next.0) (frame-loaded layout old new i step found got fits frame at_is has e made))
-    which (at.LoadStop frame) at_is has e made = (tt, λ after turn next. subst (FitsFrom past layout new) (sym next.0) (stop-loaded layout old new i step found got fits frame at_is has e made))
-    which at.GiveUp at_is has e made = (tt, λ after turn next. subst (FitsFrom past layout new) (sym next.0) (given-up layout old new i step found got fits at_is has e made))
+    which (at.LoadFrame frame) at_is has e made = (tt, λ after turn next. subst (FitsBehind past earlier layout new) (sym next.0) (frame-loaded layout old new i step found got fits frame at_is has e made))
+    which (at.LoadStop frame) at_is has e made = (tt, λ after turn next. subst (FitsBehind past earlier layout new) (sym next.0) (stop-loaded layout old new i step found got fits frame at_is has e made))
+    which at.GiveUp at_is has e made = (tt, λ after turn next. subst (FitsBehind past earlier layout new) (sym next.0) (given-up layout old new i step found got fits at_is has e made))
     which (at.Paused pause) at_is has e made = absurd (none-some step e)
     which (at.Over answer) at_is has e made = absurd (none-some step e)
 
@@ -565,16 +572,16 @@ own-after layout i found got after turn follows = which i.at follows
     which (at.Paused pause) next = ap (λ (x : Instruction). x.request) next.0
     which (at.Over answer) next = ap (λ (x : Instruction). x.request) next.0
 
-pub stays : {past : List Made} (layout : Layout) (old new : View) (i : Instruction) (step : Step) (found : ℕ) (got : Option BodyValue) → FitsFrom past layout old i → plan i ≡ Some step → Steps layout i.request.who step (logs (put i)) old new found got
-    → Shows (bare i) found got × ((after : Instruction) (turn : Turn) → Follows layout (bare i) found got after turn → FitsFrom past layout new after × (after.request.who.cpu ≡ i.request.who.cpu))
+pub stays : {past : List Made} {earlier : List Check} (layout : Layout) (old new : View) (i : Instruction) (step : Step) (found : ℕ) (got : Option BodyValue) → FitsBehind past earlier layout old i → plan i ≡ Some step → Steps layout i.request.who step (logs (put i)) old new found got
+    → Shows (bare i) found got × ((after : Instruction) (turn : Turn) → Follows layout (bare i) found got after turn → FitsBehind past earlier layout new after × (after.request.who.cpu ≡ i.request.who.cpu))
 stays {past} layout old new i step found got fits is made = let all = both layout old new i step found got fits is made in
     (all.0, λ after turn follows. (all.1 after turn follows, ap (λ (r : Request). r.who.cpu) (own-after layout (bare i) found got after turn follows)))
 
 -- the law of the task, whatever its command had made before
 pub law : IsTask instruction-task
 law = record {
-  can = λ layout view s step fits is. can layout view s step fits.1 is;
-  stays = λ layout old new s step found got fits is made. let all = stays layout old new s step found got fits.1 is made in (all.0, λ after turn follows. let kept = all.1 after turn follows in ((fits.0, kept.0), kept.1));
+  can = λ layout view s step fits is. can layout view s step fits.2 is;
+  stays = λ layout old new s step found got fits is made. let all = stays layout old new s step found got fits.2 is made in (all.0, λ after turn follows. let kept = all.1 after turn follows in ((fits.0, fits.1, kept.0), kept.1));
 }
 
 -- ---- before it
@@ -603,10 +610,40 @@ begins {past} layout view i is on sound names origin three hand paid none unchec
   };
 })
 
--- where an instruction pauses
-pub paused : {past : List Made} {layout : Layout} {view : View} (i : Instruction) (p : Pause) (fits : FitsFrom past layout view i) → pause i ≡ Some p → IsPaused past layout view i fits.checks p
-paused {past} {layout} {view} i p fits is = which i.at fits.at is
+-- and so does another access of the same command, where it lets the command go on: behind the machine checks of those before it
+pub begins-behind : {past : List Made} (earlier : List Check) (layout : Layout) (view : View) (i : Instruction) (request : Request) → IsOnTurn view request.who → IsSound layout → accesses.IsDeclared layout request → IsOfAccess i.origin
+    → length i.before.value ≡ bank_count → i.lines.told ≡ lines_of earlier → i.banks ≡ left_by i.before.value earlier → LetsGoOn i.lines.told → hand_of view ≡ empty → view.owed.losses ≡ [] → HasMadeNoneBeside past view request.who
+    → checks_in past ≡ length earlier → FitsBehind past earlier layout view (again_with i request)
+begins-behind {past} earlier layout view i request on sound names origin three told banks lets hand paid none unchecked = record {
+  on_turn = on;
+  sound = sound;
+  names = names;
+  origin = origin;
+  three = three;
+  checks = [];
+  checked = tt;
+  told_is = told ∙ ap lines_of all;
+  banks_are = banks ∙ ap (left_by i.before.value) all;
+  at = record {
+    access = access-begins layout view request on names hand none;
+    own = refl;
+    unanswered = refl;
+    paid = paid;
+    lets = lets;
+    made =
+        let same : checks_made request.who view ≡ length earlier = ap checks_in none ∙ unchecked in
+        let long : length earlier ≡ length (earlier ++ []) = ap length all in
+        omega (arith, same, long);
+  };
+}
   where
-    which : (x : InstructionAt) → FitsAt past layout view i fits.checks x → pause_at x ≡ Some p → IsPaused past layout view i fits.checks p
-    which (at.Paused other) has some = subst (IsPaused past layout view i fits.checks) (same_Some other p some) has
+    all : earlier ≡ earlier ++ []
+    all = sym (append-nil earlier)
+
+-- where an instruction pauses
+pub paused : {past : List Made} {earlier : List Check} {layout : Layout} {view : View} (i : Instruction) (p : Pause) (fits : FitsBehind past earlier layout view i) → pause i ≡ Some p → IsPaused past layout view i (earlier ++ fits.checks) p
+paused {past} {earlier} {layout} {view} i p fits is = which i.at fits.at is
+  where
+    which : (x : InstructionAt) → FitsAt past layout view i (earlier ++ fits.checks) x → pause_at x ≡ Some p → IsPaused past layout view i (earlier ++ fits.checks) p
+    which (at.Paused other) has some = subst (IsPaused past layout view i (earlier ++ fits.checks)) (same_Some other p some) has
     which _ has none = absurd (none-some p none)

@@ -1,5 +1,5 @@
 -- Each turn of an `Instruction` lowers its cost, or leaves a failure fewer, and its class tells what it holds.
-use Rattle.std.proofs.Common.{◌≡◌, ◌≢◌, ◌⊎◌, inl, inr, ℕ, ◌+◌, ◌&&◌, ◌<◌, ◌≤◌, ◌==◌, Bool, true, false, cond, List, [], Option, Some, None, is_some, length, refl, sym, ap, ◌∙◌, subst, arith}
+use Rattle.std.proofs.Common.{◌≡◌, ◌≢◌, ◌⊎◌, inl, inr, ℕ, ◌+◌, ◌&&◌, ◌<◌, ◌≤◌, ◌==◌, Bool, true, false, cond, List, [], ◌++◌, Option, Some, None, is_some, length, refl, sym, ap, ◌∙◌, subst, arith}
 use Rattle.std.specs.List.{list_any}
 use Rattle.std.proofs.lemmas.Bool.{both_ways}
 use Rattle.std.proofs.lemmas.Option.{none-some, same_Some}
@@ -57,9 +57,9 @@ use Rattle.hwp_cpu_check.specs.Told.{first_signal, has_kept, was_poisoned}
 use Rattle.hwp_cpu_check.proofs.BankGrades.{found-in}
 use Rattle.hwp_cpu_check.proofs.HandlerRank.{handler-lasting, handler-ranked, handler-tells}
 use Rattle.hwp_cpu_check.proofs.EventTells.{tell-cost}
-use Rattle.hwp_cpu_check.specs.Checks.{restarting, with_own}
+use Rattle.hwp_cpu_check.specs.Checks.{Check, restarting, with_own}
 use Rattle.hwp_cpu_access.specs.Costs.{aborts, aborts_at, anew, paused_cost, check_cost, claims, claims_at, class, class_at, cost, cost_at, ended_cost, held_cost, is_alone, past_cost, rest_at, word_of}
-use Rattle.hwp_cpu_access.specs.Fits.{FitsAt, FitsFrom, IsOfAccess, banks_at, task as instruction-task}
+use Rattle.hwp_cpu_access.specs.Fits.{FitsAt, FitsBehind, IsOfAccess, banks_at, task as instruction-task}
 use Rattle.hwp_cpu_access.specs.Instructions.{AfterAccessBy, BeginsCheck, FollowsAt, after_handler, after_handler_by, after_load, after_stop, answered, bare, bare_at, emptied, going_on, handler_of, is_pending, left_to_do, plan, plan_at, put, put_at, restarted, turn_of_load}
 use Rattle.hwp_cpu_access.specs.declared.instruction.Instruction.{Instruction}
 use Rattle.hwp_cpu_access.specs.declared.instruction.InstructionAnswer.{InstructionAnswer}
@@ -209,7 +209,7 @@ module _ {layout : Layout} {seat : ℕ} {a b : State} {s t : Instruction} {turn 
       over o is less = let none : cost t now ≡ 0 = ap (λ (z : Instruction). cost z now) is in omega (arith, none, less)
 
       three : length s.banks ≡ bank_count
-      three = ap (λ (bs : Banks). length bs) (made.fits.1.banks_are ∙ ap (banks_at s.before.value made.fits.1.checks) own) ∙ left-three s.before.value made.fits.1.checks made.fits.1.three
+      three = ap (λ (bs : Banks). length bs) (made.fits.2.banks_are ∙ ap (banks_at s.before.value (made.fits.1 ++ made.fits.2.checks)) own) ∙ left-three s.before.value (made.fits.1 ++ made.fits.2.checks) made.fits.2.three
 
       after-fits : accesses.FitsFrom stepped.fits.0 layout (view_after layout (rec_of layout x.request.who stepped.step (logs (accesses.put x)) stepped.found stepped.got) (view_of a seat)) y
       after-fits = ((access-stays layout (view_of a seat) (view_after layout (rec_of layout x.request.who stepped.step (logs (accesses.put x)) stepped.found stepped.got) (view_of a seat)) x stepped.step stepped.found stepped.got stepped.fits.1 stepped.planned (steps-on stepped)).1 y turn stepped.follows).0
@@ -219,7 +219,7 @@ module _ {layout : Layout} {seat : ℕ} {a b : State} {s t : Instruction} {turn 
       which (Some (access_answers.Checked frame place)) is then less =
           let checked : check_cost y.at now ≡ 5 + past_cost (word_of frame now) = ap (λ (z : AccessAt). check_cost z now) (over-at y.at (access_answers.Checked frame place) is) in
           let ended = access-answered layout (view_after layout (rec_of layout x.request.who stepped.step (logs (accesses.put x)) stepped.found stepped.got) (view_of a seat)) y (access_answers.Checked frame place) after-fits is in
-          let begun : cost t now ≤ held_cost s.banks + (5 + past_cost (word_of frame now)) = begins-cost layout (bare s) t frame now made.fits.1.origin made.fits.1.names.line ended.answered.1.within three few then in
+          let begun : cost t now ≤ held_cost s.banks + (5 + past_cost (word_of frame now)) = begins-cost layout (bare s) t frame now made.fits.2.origin made.fits.2.names.line ended.answered.1.within three few then in
           omega (arith, checked, begun, less)
       which (Some (access_answers.Value word place)) is then less = over (answers.Value word place) then less
       which (Some (access_answers.Stored place)) is then less = over (answers.Stored place) then less
@@ -299,20 +299,20 @@ module _ {layout : Layout} {seat : ℕ} {a b : State} {s t : Instruction} {turn 
   unwaiting goes (inl less) = inl less
   unwaiting goes (inr fails) = inr (goes, fails)
 
-  falls-at : (x : InstructionAt) → s.at ≡ x → plan_at x ≡ Some made.step → FitsAt made.fits.0 layout (view_of a seat) s made.fits.1.checks x → Moves (put_at x) → FollowsAt layout (bare s) (bare_at x) made.found made.got t turn → is_waits turn ≡ false → Falls x
+  falls-at : (x : InstructionAt) → s.at ≡ x → plan_at x ≡ Some made.step → FitsAt made.fits.0 layout (view_of a seat) s (made.fits.1 ++ made.fits.2.checks) x → Moves (put_at x) → FollowsAt layout (bare s) (bare_at x) made.found made.got t turn → is_waits turn ≡ false → Falls x
   falls-at (at.Access x) own e has move next goes =
       let stepped = access-made x next.access has.access has.own e move next.follows in
       access-goes x next.access own stepped (unwaiting goes (access-ranked.falls layout seat a b x next.access turn stepped goes)) next.next_is
   falls-at (at.Handle frame h) own e has move next goes =
       let stepped = handler-made h next.handler has.has.handler has.has.own e move next.follows in
-      handler-goes frame h next.handler (made.fits.1.banks_are ∙ ap (banks_at s.before.value made.fits.1.checks) own) stepped next.next_is (unwaiting goes (handler-ranked.falls layout seat a b h next.handler turn stepped goes))
+      handler-goes frame h next.handler (made.fits.2.banks_are ∙ ap (banks_at s.before.value (made.fits.1 ++ made.fits.2.checks)) own) stepped next.next_is (unwaiting goes (handler-ranked.falls layout seat a b h next.handler turn stepped goes))
   falls-at (at.LoadFrame frame) own e has move next goes = inl (frame-goes frame e has.empty_are next.0 next.1 goes)
   falls-at (at.LoadStop frame) own e has move next goes = inl (stop-goes frame e next.0)
   falls-at at.GiveUp own e has move next goes = let none : cost t now ≡ 0 = ap (λ (i : Instruction). cost i now) next.0 in inl (omega (arith, none))
   falls-at (at.Paused pause) own e has move next goes = absurd (none-some made.step e)
   falls-at (at.Over answer) own e has move next goes = absurd (none-some made.step e)
 
-  owns-at : (x : InstructionAt) (of : Frame) (cycle : ℕ) → s.at ≡ x → plan_at x ≡ Some made.step → FitsAt made.fits.0 layout (view_of a seat) s made.fits.1.checks x → Moves (put_at x) → FollowsAt layout (bare s) (bare_at x) made.found made.got t turn → is_refused turn ≡ false → Pending now of cycle
+  owns-at : (x : InstructionAt) (of : Frame) (cycle : ℕ) → s.at ≡ x → plan_at x ≡ Some made.step → FitsAt made.fits.0 layout (view_of a seat) s (made.fits.1 ++ made.fits.2.checks) x → Moves (put_at x) → FollowsAt layout (bare s) (bare_at x) made.found made.got t turn → is_refused turn ≡ false → Pending now of cycle
       → (claims t ≡ Some (of, cycle)) ⊎ (Pending w of cycle × (claims_at x ≢ Some (of, cycle)))
   owns-at (at.Access x) of cycle own e has move next going pending = inr (pending-kept made (access-mild x made.step e) of cycle pending, λ claimed. none-some (of, cycle) claimed)
   owns-at (at.Handle frame h) of cycle own e has move next going pending = elim (handler-ranked.owns layout seat a b h next.handler turn of cycle (handler-made h next.handler has.has.handler has.has.own e move next.follows) going pending) [
@@ -336,7 +336,7 @@ module _ {layout : Layout} {seat : ℕ} {a b : State} {s t : Instruction} {turn 
   abbrev Lowers-at : InstructionAt → Type 0
   Lowers-at x = (cost t now < cost_at s.banks x w) ⊎ ((aborts t ≡ true) × OtherHand a seat)
 
-  waits-at : (x : InstructionAt) → s.at ≡ x → plan_at x ≡ Some made.step → FitsAt made.fits.0 layout (view_of a seat) s made.fits.1.checks x → Moves (put_at x) → FollowsAt layout (bare s) (bare_at x) made.found made.got t turn → is_waits turn ≡ true → Quiet (class_at x) layout a seat
+  waits-at : (x : InstructionAt) → s.at ≡ x → plan_at x ≡ Some made.step → FitsAt made.fits.0 layout (view_of a seat) s (made.fits.1 ++ made.fits.2.checks) x → Moves (put_at x) → FollowsAt layout (bare s) (bare_at x) made.found made.got t turn → is_waits turn ≡ true → Quiet (class_at x) layout a seat
       → Lowers-at x
   waits-at (at.Access x) own e has move next is quiet =
       let stepped = access-made x next.access has.access has.own e move next.follows in
@@ -347,7 +347,7 @@ module _ {layout : Layout} {seat : ℕ} {a b : State} {s t : Instruction} {turn 
   waits-at (at.Handle frame h) own e has move next is quiet =
       let stepped = handler-made h next.handler has.has.handler has.has.own e move next.follows in
       elim (handler-ranked.waits layout seat a b h next.handler turn stepped is quiet) [
-        | inl less ↦ inl (strictly (at.Handle frame h) is (handler-goes frame h next.handler (made.fits.1.banks_are ∙ ap (banks_at s.before.value made.fits.1.checks) own) stepped next.next_is (inl less)))
+        | inl less ↦ inl (strictly (at.Handle frame h) is (handler-goes frame h next.handler (made.fits.2.banks_are ∙ ap (banks_at s.before.value (made.fits.1 ++ made.fits.2.checks)) own) stepped next.next_is (inl less)))
         | inr gives ↦ inr (ap aborts next.next_is ∙ (after-same (bare s) frame next.handler).1 ∙ gives.0, gives.1)
       ]
   waits-at (at.LoadFrame frame) own e has move next is quiet = which (is_pending made.found) refl
@@ -360,7 +360,7 @@ module _ {layout : Layout} {seat : ℕ} {a b : State} {s t : Instruction} {turn 
   waits-at (at.Paused pause) own e has move next is quiet = absurd (none-some made.step e)
   waits-at (at.Over answer) own e has move next is quiet = absurd (none-some made.step e)
 
-  leaves-at : (x : InstructionAt) → plan_at x ≡ Some made.step → FitsAt made.fits.0 layout (view_of a seat) s made.fits.1.checks x → Moves (put_at x) → FollowsAt layout (bare s) (bare_at x) made.found made.got t turn → aborts_at x ≡ true → (plan t ≡ None) ⊎ (1 < class t)
+  leaves-at : (x : InstructionAt) → plan_at x ≡ Some made.step → FitsAt made.fits.0 layout (view_of a seat) s (made.fits.1 ++ made.fits.2.checks) x → Moves (put_at x) → FollowsAt layout (bare s) (bare_at x) made.found made.got t turn → aborts_at x ≡ true → (plan t ≡ None) ⊎ (1 < class t)
   leaves-at (at.Handle frame h) e has move next gives = subst (λ (z : Instruction). (plan z ≡ None) ⊎ (1 < class z)) (sym next.next_is)
       (left-after (bare s) frame next.handler (handler-ranked.leaves layout seat a b h next.handler turn (handler-made h next.handler has.has.handler has.has.own e move next.follows) gives))
   leaves-at (at.Access x) e has move next gives = absurd (both_ways false refl gives)
@@ -371,15 +371,15 @@ module _ {layout : Layout} {seat : ℕ} {a b : State} {s t : Instruction} {turn 
   leaves-at (at.Over answer) e has move next gives = absurd (none-some made.step e)
 
   -- what follows fits what its processor then knows
-  after-fits : FitsFrom made.fits.0 layout (view_after layout (rec_of layout s.request.who made.step (logs (put s)) made.found made.got) (view_of a seat)) t
-  after-fits = ((stays layout (view_of a seat) (view_after layout (rec_of layout s.request.who made.step (logs (put s)) made.found made.got) (view_of a seat)) s made.step made.found made.got made.fits.1 made.planned (steps-on made)).1 t turn made.follows).0
+  after-fits : FitsBehind made.fits.0 made.fits.1 layout (view_after layout (rec_of layout s.request.who made.step (logs (put s)) made.found made.got) (view_of a seat)) t
+  after-fits = ((stays layout (view_of a seat) (view_after layout (rec_of layout s.request.who made.step (logs (put s)) made.found made.got) (view_of a seat)) s made.step made.found made.got made.fits.2 made.planned (steps-on made)).1 t turn made.follows).0
 
   fell : Falls s.at → CostFalls instruction-task layout a b s t ⊎ HasFailed instruction-task layout a b s t
   fell (inl less) = inl less
   fell (inr fails) = inr (failed fails.1 (instruction-below layout b (view_after layout (rec_of layout s.request.who made.step (logs (put s)) made.found made.got) (view_of a seat)) t made.kept after-fits))
 
   falls : is_waits turn ≡ false → CostFalls instruction-task layout a b s t ⊎ HasFailed instruction-task layout a b s t
-  falls goes = fell (falls-at s.at refl made.planned made.fits.1.at made.move made.follows goes)
+  falls goes = fell (falls-at s.at refl made.planned made.fits.2.at made.move made.follows goes)
 
 instruction-class : (i : Instruction) → (1 ≤ class i) × (class i ≤ 4)
 instruction-class i = which i.at
@@ -396,18 +396,18 @@ instruction-class i = which i.at
 pub instruction-ranked : IsRanked instruction-task
 instruction-ranked = record {
   classes = instruction-class;
-  small = λ layout a seat s rule fits. let below : cost s (words_at layout a) < failure_weight = instruction-below layout a (view_of a seat) s rule fits.1 in omega (arith, below);
+  small = λ layout a seat s rule fits. let below : cost s (words_at layout a) < failure_weight = instruction-below layout a (view_of a seat) s rule fits.2 in omega (arith, below);
   falls = λ layout seat a b s t turn made goes. falls made goes;
-  waits = λ layout seat a b s t turn made is quiet. waits-at made s.at refl made.planned made.fits.1.at made.move made.follows is quiet;
-  leaves = λ layout seat a b s t turn made gives. leaves-at made s.at made.planned made.fits.1.at made.move made.follows gives;
-  owns = λ layout seat a b s t turn frame cycle made going pending. owns-at made s.at frame cycle refl made.planned made.fits.1.at made.move made.follows going pending;
+  waits = λ layout seat a b s t turn made is quiet. waits-at made s.at refl made.planned made.fits.2.at made.move made.follows is quiet;
+  leaves = λ layout seat a b s t turn made gives. leaves-at made s.at made.planned made.fits.2.at made.move made.follows gives;
+  owns = λ layout seat a b s t turn frame cycle made going pending. owns-at made s.at frame cycle refl made.planned made.fits.2.at made.move made.follows going pending;
 }
 
 -- ---- what is held
 
-module _ {past : List Deed} (layout : Layout) (view : View) (i : Instruction) (fits : FitsFrom past layout view i) where
+module _ {past : List Deed} {earlier : List Check} (layout : Layout) (view : View) (i : Instruction) (fits : FitsBehind past earlier layout view i) where
   abbrev Fit : InstructionAt → Type 0
-  Fit x = FitsAt past layout view i fits.checks x
+  Fit x = FitsAt past layout view i (earlier ++ fits.checks) x
 
   frame-told : (x : InstructionAt) → Fit x → HasFrame view → (class_at x ≡ 1) × (plan_at x ≢ None)
   frame-told (at.Access x) has some = access-tells.frame layout view x (past, has.access) some
@@ -440,9 +440,9 @@ module _ {past : List Deed} (layout : Layout) (view : View) (i : Instruction) (f
 
 pub instruction-tells : TellsClass instruction-task
 instruction-tells = record {
-  frame = λ layout view i fits some. frame-told layout view i fits.1 i.at fits.1.at some;
-  page = λ layout view i fits some. page-told layout view i fits.1 i.at fits.1.at some;
-  claim = λ layout view i frame cycle fits claimed. claim-told layout view i fits.1 i.at frame cycle fits.1.at claimed;
+  frame = λ layout view i fits some. frame-told layout view i fits.2 i.at fits.2.at some;
+  page = λ layout view i fits some. page-told layout view i fits.2 i.at fits.2.at some;
+  claim = λ layout view i frame cycle fits claimed. claim-told layout view i fits.2 i.at frame cycle fits.2.at claimed;
 }
 
 -- none of its steps takes a frame's poison back

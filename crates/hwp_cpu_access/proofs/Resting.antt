@@ -29,8 +29,8 @@ use Rattle.hwp_fault.proofs.AccessLaws.{begins-again}
 use Rattle.hwp_fault.specs.Accesses as accesses
 use Rattle.hwp_cpu_check.specs.hwp_claim_frame.Claims.{is_own, marks_by}
 use Rattle.hwp_cpu_check.proofs.FailureKeeps.{Stay}
-use Rattle.hwp_cpu_check.specs.Checks.{left_by}
-use Rattle.hwp_cpu_access.specs.Fits.{FitsAt, FitsFrom, HasOnlyBefore, IsLeft, IsLeftAt, IsResting, banks_at, checks_made}
+use Rattle.hwp_cpu_check.specs.Checks.{Check, left_by}
+use Rattle.hwp_cpu_access.specs.Fits.{FitsAt, FitsBehind, HasOnlyBefore, IsLeft, IsLeftAt, IsRestingBehind, banks_at, checks_in, checks_made}
 use Rattle.hwp_cpu_access.specs.Instructions.{pause, pause_at, resume, resume_by, resumed}
 use Rattle.hwp_cpu_access.specs.declared.instruction.Instruction.{Instruction}
 use Rattle.hwp_cpu_access.specs.declared.instruction.InstructionAnswer.TheVariants as answers
@@ -73,15 +73,15 @@ module _ {layout : Layout} {who : Who} {step : Step} {put : Option Log} {old new
 
 -- ---- while another task of its command goes on
 
-pub resting-stays : {layout : Layout} {step : Step} {put : Option Log} {old new : View} {found : ℕ} {got : Option BodyValue} (i : Instruction) (p : Pause) → IsResting layout old i p → Steps layout i.request.who step put old new found got
-    → checks_made i.request.who new ≡ checks_made i.request.who old → IsResting layout new i p
-resting-stays {layout} {old} {new} i p has made same = record {
+pub resting-stays : {earlier : List Check} {layout : Layout} {step : Step} {put : Option Log} {old new : View} {found : ℕ} {got : Option BodyValue} (i : Instruction) (p : Pause) → IsRestingBehind earlier layout old i p → Steps layout i.request.who step put old new found got
+    → checks_made i.request.who new ≡ checks_made i.request.who old → IsRestingBehind earlier layout new i p
+resting-stays {earlier} {layout} {old} {new} i p has made same = record {
   sound = has.sound;
   names = has.names;
   origin = has.origin;
   three = has.three;
   checks = has.checks;
-  checked = checks-stay layout i.request i.origin i.mode (any-stay made) (λ place word saw. saw-stays made saw) i.before.value has.checks has.checked;
+  checked = checks-stay layout i.request i.origin i.mode (any-stay made) (λ place word saw. saw-stays made saw) (left_by i.before.value earlier) has.checks has.checked;
   told_is = has.told_is;
   banks_are = has.banks_are;
   at_is = has.at_is;
@@ -99,16 +99,16 @@ resting-stays {layout} {old} {new} i p has made same = record {
 -- ---- at its pause, and behind it
 
 -- an instruction at its pause
-pub rests : {past : List Made} {layout : Layout} {view : View} (i : Instruction) (p : Pause) → FitsFrom past layout view i → pause i ≡ Some p → IsResting layout view i p
-rests {past} {layout} {view} i p fits is = which i.at refl fits.at is
+pub rests : {past : List Made} {earlier : List Check} {layout : Layout} {view : View} (i : Instruction) (p : Pause) → FitsBehind past earlier layout view i → pause i ≡ Some p → IsRestingBehind earlier layout view i p
+rests {past} {earlier} {layout} {view} i p fits is = which i.at refl fits.at is
   where
     left : (q : Pause) → IsLeft past layout view i.request i.lines.told q → IsLeftAt layout view i.request i.lines.told q
     left (pauses.Sigbus place) has = record { first = has.first; halts_none = has.halts_none; going = has.going }
     left (pauses.Wait frame) has = (has.0, has.2)
     left pauses.Again has = (has.0, has.2)
 
-    which : (x : InstructionAt) → i.at ≡ x → FitsAt past layout view i fits.checks x → pause_at x ≡ Some p → IsResting layout view i p
-    which (at.Paused q) at_is has some = subst (IsResting layout view i) (same_Some q p some) (record {
+    which : (x : InstructionAt) → i.at ≡ x → FitsAt past layout view i (earlier ++ fits.checks) x → pause_at x ≡ Some p → IsRestingBehind earlier layout view i p
+    which (at.Paused q) at_is has some = subst (IsRestingBehind earlier layout view i) (same_Some q p some) (record {
       sound = fits.sound;
       names = fits.names;
       origin = fits.origin;
@@ -116,7 +116,7 @@ rests {past} {layout} {view} i p fits is = which i.at refl fits.at is
       checks = fits.checks;
       checked = fits.checked;
       told_is = fits.told_is;
-      banks_are = fits.banks_are ∙ ap (banks_at i.before.value fits.checks) at_is;
+      banks_are = fits.banks_are ∙ ap (banks_at i.before.value (earlier ++ fits.checks)) at_is;
       at_is = at_is;
       made = has.made;
       left = left q has.left;
@@ -126,8 +126,8 @@ rests {past} {layout} {view} i p fits is = which i.at refl fits.at is
     which _ at_is has none = absurd (none-some p none)
 
 -- it goes on behind the pause, whatever its command has made meanwhile
-pub resumes : {layout : Layout} {view : View} (i : Instruction) (p : Pause) → IsResting layout view i p → IsOnTurn view i.request.who → hand_of view ≡ empty → view.owed.losses ≡ [] → FitsFrom (deeds i.request.who view) layout view (resume i)
-resumes {layout} {view} i p has on hand paid = subst (FitsFrom base layout view) (sym (ap (λ (x : InstructionAt). resume_by i (pause_at x)) has.at_is)) (which p has.left)
+pub resumes : {earlier : List Check} {layout : Layout} {view : View} (i : Instruction) (p : Pause) → IsRestingBehind earlier layout view i p → IsOnTurn view i.request.who → hand_of view ≡ empty → view.owed.losses ≡ [] → FitsBehind (deeds i.request.who view) earlier layout view (resume i)
+resumes {earlier} {layout} {view} i p has on hand paid = subst (FitsBehind base earlier layout view) (sym (ap (λ (x : InstructionAt). resume_by i (pause_at x)) has.at_is)) (which p has.left)
   where
     base : List Made
     base = deeds i.request.who view
@@ -135,7 +135,7 @@ resumes {layout} {view} i p has on hand paid = subst (FitsFrom base layout view)
     only : HasOnlyBefore base view i.request
     only = only-of-none view i.request.who refl
 
-    by : (x : InstructionAt) → banks_at i.before.value has.checks x ≡ left_by i.before.value has.checks → FitsAt base layout view (record i { at = x }) has.checks x → FitsFrom base layout view (record i { at = x })
+    by : (x : InstructionAt) → banks_at i.before.value (earlier ++ has.checks) x ≡ left_by i.before.value (earlier ++ has.checks) → FitsAt base layout view (record i { at = x }) (earlier ++ has.checks) x → FitsBehind base earlier layout view (record i { at = x })
     by x held fits = record {
       on_turn = on;
       sound = has.sound;
@@ -149,10 +149,10 @@ resumes {layout} {view} i p has on hand paid = subst (FitsFrom base layout view)
       at = fits;
     }
 
-    made : checks_made i.request.who view ≡ length has.checks
+    made : checks_made i.request.who view ≡ length (earlier ++ has.checks)
     made = has.made
 
-    which : (q : Pause) → IsLeftAt layout view i.request i.lines.told q → FitsFrom base layout view (record i { at = resumed i.request q })
+    which : (q : Pause) → IsLeftAt layout view i.request i.lines.told q → FitsBehind base earlier layout view (record i { at = resumed i.request q })
     which (pauses.Sigbus place) left = by (at.Over (Some (answers.Sigbus place))) refl (record {
       hand_is = hand;
       paid = paid;

@@ -35,7 +35,7 @@ use Rattle.hwp_cpu_check.specs.Handlers as handlers
 use Rattle.hwp_cpu_check.specs.Told.{first_signal, halts, has_kept, was_poisoned}
 use Rattle.hwp_cpu_check.proofs.EventTells.{events-stay, kept}
 use Rattle.hwp_cpu_check.proofs.HandlerLaws.{begins-fit, stays as handler-stays}
-use Rattle.hwp_cpu_access.specs.Fits.{FitsAt, FitsFrom, HasHandler, IsAccessing, banks_at}
+use Rattle.hwp_cpu_access.specs.Fits.{FitsAt, FitsBehind, HasHandler, IsAccessing, banks_at}
 use Rattle.hwp_cpu_access.specs.Instructions.{AfterAccessBy, BeginsCheck, Follows, FollowsAt, after_handler, after_handler_by, bare, bare_at, emptied, going_on, handler_of, left_to_do, pause, plan, plan_at, put, put_at}
 use Rattle.hwp_cpu_access.specs.declared.instruction.Instruction.{Instruction}
 use Rattle.hwp_cpu_access.specs.declared.instruction.InstructionAt.{InstructionAt}
@@ -112,21 +112,21 @@ module _ {layout : Layout} {view : View} (i : Instruction) {checks : List Check}
         which (handler_at.Fail f) over = inl same
         which handler_at.GaveUp over = inl same
 
-module _ {past : List Made} (layout : Layout) (old new : View) (i : Instruction) (step : Step) (found : ℕ) (got : Option BodyValue) (fits : FitsFrom past layout old i) where
-  begun-tells : (frame : Frame) (after : Instruction) → i.banks ≡ left_by i.before.value fits.checks → IsOnTurn new i.request.who → handler_fits.IsAtRest new → BeginsCheck layout (bare i) frame after → Tells layout new i fits.checks after
+module _ {past : List Made} {earlier : List Check} (layout : Layout) (old new : View) (i : Instruction) (step : Step) (found : ℕ) (got : Option BodyValue) (fits : FitsBehind past earlier layout old i) where
+  begun-tells : (frame : Frame) (after : Instruction) → i.banks ≡ left_by i.before.value (earlier ++ fits.checks) → IsOnTurn new i.request.who → handler_fits.IsAtRest new → BeginsCheck layout (bare i) frame after → Tells layout new i (earlier ++ fits.checks) after
   begun-tells frame after banks_are on rest (inl refused) = inl (ap (λ (x : Instruction). x.lines.told) refused)
-  begun-tells frame after banks_are on rest (inr (spare, room, is)) = subst (Tells layout new i fits.checks) (sym is) (handler-tells i own (emptied (bare i) spare) refl refl)
+  begun-tells frame after banks_are on rest (inr (spare, room, is)) = subst (Tells layout new i (earlier ++ fits.checks)) (sym is) (handler-tells i own (emptied (bare i) spare) refl refl)
     where
-      own : IsOwnCheck layout new i fits.checks frame (handler_of layout i frame)
+      own : IsOwnCheck layout new i (earlier ++ fits.checks) frame (handler_of layout i frame)
       own = record {
-        handler = begins-fit layout new i.alloc i.request.who (Some i.request.thread) (restarting i.mode) (with_own i.origin frame i.request.line i.banks) (own-three i frame i.banks (ap length banks_are ∙ left-three i.before.value fits.checks fits.three)) on fits.sound rest;
+        handler = begins-fit layout new i.alloc i.request.who (Some i.request.thread) (restarting i.mode) (with_own i.origin frame i.request.line i.banks) (own-three i frame i.banks (ap length banks_are ∙ left-three i.before.value (earlier ++ fits.checks) fits.three)) on fits.sound rest;
         own = refl;
         thread_is = refl;
         events = events-stay layout i.alloc i.request.who (Some i.request.thread) (has_stop (restarting i.mode) (with_own i.origin frame i.request.line i.banks)) (held_in (restarting i.mode) (with_own i.origin frame i.request.line i.banks)) []
             ∙ ap (λ (b : Banks). held_in (restarting i.mode) (with_own i.origin frame i.request.line b)) banks_are;
       }
 
-  access-tells : (a : Access) → accesses.FitsFrom past layout new a → i.banks ≡ left_by i.before.value fits.checks → IsOnTurn new i.request.who → new.owed.losses ≡ [] → (o : Option AccessAnswer) → accesses.answer a ≡ o → (after : Instruction) → AfterAccessBy layout (bare i) a o after → Tells layout new i fits.checks after
+  access-tells : (a : Access) → accesses.FitsFrom past layout new a → i.banks ≡ left_by i.before.value (earlier ++ fits.checks) → IsOnTurn new i.request.who → new.owed.losses ≡ [] → (o : Option AccessAnswer) → accesses.answer a ≡ o → (after : Instruction) → AfterAccessBy layout (bare i) a o after → Tells layout new i (earlier ++ fits.checks) after
   access-tells a has banks_are on paid (Some (access_answers.Checked frame place)) is after next =
       begun-tells frame after banks_are on (record { hand_is = (access-answered layout new a (access_answers.Checked frame place) has is).hand_is; paid = paid }) next
   access-tells a has banks_are on paid None is after next = inl (ap (λ (x : Instruction). x.lines.told) next)
@@ -137,10 +137,10 @@ module _ {past : List Made} (layout : Layout) (old new : View) (i : Instruction)
   access-tells a has banks_are on paid (Some (access_answers.Gone page)) is after next = inl (ap (λ (x : Instruction). x.lines.told) next)
   access-tells a has banks_are on paid (Some access_answers.Stopped) is after next = inl (ap (λ (x : Instruction). x.lines.told) next)
 
-  access-went : (a : Access) → i.at ≡ at.Access a → IsAccessing past layout old i fits.checks a → accesses.plan a ≡ Some step → Steps layout i.request.who step (logs (accesses.put a)) old new found got
-      → (after : Instruction) (turn : Turn) → FollowsAt layout (bare i) (bare_at (at.Access a)) found got after turn → Tells layout new i fits.checks after
+  access-went : (a : Access) → i.at ≡ at.Access a → IsAccessing past layout old i (earlier ++ fits.checks) a → accesses.plan a ≡ Some step → Steps layout i.request.who step (logs (accesses.put a)) old new found got
+      → (after : Instruction) (turn : Turn) → FollowsAt layout (bare i) (bare_at (at.Access a)) found got after turn → Tells layout new i (earlier ++ fits.checks) after
   access-went a at_is has e made after turn next =
-      access-tells next.access (moved.1 next.access turn next.follows).0 (fits.banks_are ∙ ap (banks_at i.before.value fits.checks) at_is) (on-turn-after fits.on_turn made) (access-owes layout old new a step found got has.access e own ∙ has.paid) (accesses.answer next.access) refl after next.next_is
+      access-tells next.access (moved.1 next.access turn next.follows).0 (fits.banks_are ∙ ap (banks_at i.before.value (earlier ++ fits.checks)) at_is) (on-turn-after fits.on_turn made) (access-owes layout old new a step found got has.access e own ∙ has.paid) (accesses.answer next.access) refl after next.next_is
     where
       own : Steps layout a.request.who step (logs (accesses.put a)) old new found got
       own = subst (λ (r : Request). Steps layout r.who step (logs (accesses.put a)) old new found got) (sym has.own) made
@@ -148,14 +148,14 @@ module _ {past : List Made} (layout : Layout) (old new : View) (i : Instruction)
       moved : accesses.Shows (accesses.bare a) found got × ((after : Access) (result : Turn) → accesses.Next layout (accesses.bare a) found got after result → accesses.FitsFrom past layout new after × (after.request.who.cpu ≡ a.request.who.cpu))
       moved = access-stays layout old new a step found got has.access e own
 
-  handler-went : (frame : Frame) (h : Handler) → HasHandler past layout old i fits.checks frame h → handlers.plan h ≡ Some step → Steps layout i.request.who step (logs (handlers.put h)) old new found got
-      → (after : Instruction) (turn : Turn) → FollowsAt layout (bare i) (bare_at (at.Handle frame h)) found got after turn → Tells layout new i fits.checks after
-  handler-went frame h has e made after turn next = subst (Tells layout new i fits.checks) (sym next.next_is) (handler-tells i own (bare i) refl refl)
+  handler-went : (frame : Frame) (h : Handler) → HasHandler past layout old i (earlier ++ fits.checks) frame h → handlers.plan h ≡ Some step → Steps layout i.request.who step (logs (handlers.put h)) old new found got
+      → (after : Instruction) (turn : Turn) → FollowsAt layout (bare i) (bare_at (at.Handle frame h)) found got after turn → Tells layout new i (earlier ++ fits.checks) after
+  handler-went frame h has e made after turn next = subst (Tells layout new i (earlier ++ fits.checks)) (sym next.next_is) (handler-tells i own (bare i) refl refl)
     where
       here : Steps layout h.who step (logs (handlers.put h)) old new found got
       here = subst (λ (w : Who). Steps layout w step (logs (handlers.put h)) old new found got) (sym has.own) made
 
-      own : IsOwnCheck layout new i fits.checks frame next.handler
+      own : IsOwnCheck layout new i (earlier ++ fits.checks) frame next.handler
       own = let left = kept layout (handlers.bare h) found got next.handler turn next.follows in record {
         handler = ((handler-stays layout old new h step found got has.handler e here).1 next.handler turn next.follows).0;
         own = left.who ∙ has.own;
@@ -163,11 +163,11 @@ module _ {past : List Made} (layout : Layout) (old new : View) (i : Instruction)
         events = left.events ∙ has.events;
       }
 
-pub told-more : {past : List Made} (layout : Layout) (old new : View) (i : Instruction) (step : Step) (found : ℕ) (got : Option BodyValue) (fits : FitsFrom past layout old i) → plan i ≡ Some step → Steps layout i.request.who step (logs (put i)) old new found got
-    → (after : Instruction) (turn : Turn) → Follows layout (bare i) found got after turn → Tells layout new i fits.checks after
-told-more {past} layout old new i step found got fits is made after turn follows = which i.at refl fits.at is made follows
+pub told-more : {past : List Made} {earlier : List Check} (layout : Layout) (old new : View) (i : Instruction) (step : Step) (found : ℕ) (got : Option BodyValue) (fits : FitsBehind past earlier layout old i) → plan i ≡ Some step → Steps layout i.request.who step (logs (put i)) old new found got
+    → (after : Instruction) (turn : Turn) → Follows layout (bare i) found got after turn → Tells layout new i (earlier ++ fits.checks) after
+told-more {past} {earlier} layout old new i step found got fits is made after turn follows = which i.at refl fits.at is made follows
   where
-    which : (x : InstructionAt) → i.at ≡ x → FitsAt past layout old i fits.checks x → plan_at x ≡ Some step → Steps layout i.request.who step (logs (put_at x)) old new found got → FollowsAt layout (bare i) (bare_at x) found got after turn → Tells layout new i fits.checks after
+    which : (x : InstructionAt) → i.at ≡ x → FitsAt past layout old i (earlier ++ fits.checks) x → plan_at x ≡ Some step → Steps layout i.request.who step (logs (put_at x)) old new found got → FollowsAt layout (bare i) (bare_at x) found got after turn → Tells layout new i (earlier ++ fits.checks) after
     which (at.Access a) at_is has e by next = access-went layout old new i step found got fits a at_is has e by after turn next
     which (at.Handle frame h) at_is has e by next = handler-went layout old new i step found got fits frame h has.has e by after turn next
     which (at.LoadFrame frame) at_is has e by next = inl (ap (λ (x : Instruction). x.lines.told) next.0)

@@ -1,5 +1,5 @@
 -- What is held and known while an instruction accesses a line, and acts on the machine checks that it meets.
-use Rattle.std.specs.Prelude.{◌≡◌, ◌⊎◌, ℕ, ◌+◌, ◌<◌, ◌≤◌, true, false, List, [], Some, None, filter, length}
+use Rattle.std.specs.Prelude.{◌≡◌, ◌⊎◌, ℕ, ◌+◌, ◌<◌, ◌≤◌, true, false, List, [], ◌++◌, Some, None, filter, length}
 use Rattle.std.specs.Int.{from_bool}
 use Rattle.hwp_fault.specs.hwp_geom.declared.Frame.{Frame}
 use Rattle.hwp_fault.specs.hwp_geom.declared.Layout.{Layout}
@@ -178,18 +178,23 @@ banks_at before checks (at.Handle frame h) = empty_banks
 banks_at before checks x = left_by before checks
 
 -- all machine checks so far, the lines that tell of them, and what they left in the banks; beside these entries the command made only
--- such as the instruction makes on its way
-pub record FitsFrom (base : List Made) (layout : Layout) (view : View) (i : Instruction) : Type 0 where
+-- such as the instruction makes on its way. The command may be one of many accesses: then it had these machine checks earlier, by accesses
+-- before this one, whose entries are among those
+pub record FitsBehind (base : List Made) (earlier : List Check) (layout : Layout) (view : View) (i : Instruction) : Type 0 where
   pub on_turn : IsOnTurn view i.request.who
   pub sound : IsSound layout
   pub names : accesses.IsDeclared layout i.request
   pub origin : IsOfAccess i.origin
   pub three : length i.before.value ≡ bank_count
   pub checks : List Check
-  pub checked : AreChecks layout view i.request i.origin i.mode i.before.value checks
-  pub told_is : i.lines.told ≡ lines_of checks
-  pub banks_are : i.banks ≡ banks_at i.before.value checks i.at
-  pub at : FitsAt base layout view i checks i.at
+  pub checked : AreChecks layout view i.request i.origin i.mode (left_by i.before.value earlier) checks
+  pub told_is : i.lines.told ≡ lines_of (earlier ++ checks)
+  pub banks_are : i.banks ≡ banks_at i.before.value (earlier ++ checks) i.at
+  pub at : FitsAt base layout view i (earlier ++ checks) i.at
+
+-- it is the only access of its command
+abbrev pub FitsFrom : List Made → Layout → View → Instruction → Type 0
+FitsFrom base layout view i = FitsBehind base [] layout view i
 
 -- the thread was signalled, by this entry first
 pub record IsSigned (view : View) (a : Request) (told : List EventOutcome) (place : At) : Type 0 where
@@ -203,25 +208,29 @@ IsLeftAt layout view a told (pauses.Sigbus place) = IsSigned view a told place
 IsLeftAt layout view a told pause = LetsGoOn told × CanResume layout pause
 
 -- what stays of an instruction at its pause while another task of its command goes on: what is held isn't said, nor which entries were
--- made, but how many of them are of machine checks
-pub record IsResting (layout : Layout) (view : View) (i : Instruction) (pause : Pause) : Type 0 where
+-- made, but how many of them are of machine checks; the command had some earlier, by accesses before this one
+pub record IsRestingBehind (earlier : List Check) (layout : Layout) (view : View) (i : Instruction) (pause : Pause) : Type 0 where
   pub sound : IsSound layout
   pub names : accesses.IsDeclared layout i.request
   pub origin : IsOfAccess i.origin
   pub three : length i.before.value ≡ bank_count
   pub checks : List Check
-  pub checked : AreChecks layout view i.request i.origin i.mode i.before.value checks
-  pub told_is : i.lines.told ≡ lines_of checks
-  pub banks_are : i.banks ≡ left_by i.before.value checks
+  pub checked : AreChecks layout view i.request i.origin i.mode (left_by i.before.value earlier) checks
+  pub told_is : i.lines.told ≡ lines_of (earlier ++ checks)
+  pub banks_are : i.banks ≡ left_by i.before.value (earlier ++ checks)
   pub at_is : i.at ≡ at.Paused pause
-  pub made : checks_made i.request.who view ≡ length checks
+  pub made : checks_made i.request.who view ≡ length (earlier ++ checks)
   pub left : IsLeftAt layout view i.request i.lines.told pause
   pub collects : i.collects ≡ true
   pub empty_are : i.banks ≡ empty_banks
 
--- whatever entries those are
+-- where it is the only access of its command
+abbrev pub IsResting : Layout → View → Instruction → Pause → Type 0
+IsResting layout view i pause = IsRestingBehind [] layout view i pause
+
+-- whatever entries and machine checks those are
 abbrev pub Fits : Layout → View → Instruction → Type 0
-Fits layout view i = (base : List Made) × FitsFrom base layout view i
+Fits layout view i = (base : List Made) × (earlier : List Check) × FitsBehind base earlier layout view i
 
 -- the task, as the laws of tasks read it
 abbrev pub task : Member Instruction

@@ -52,6 +52,10 @@ begin alloc request origin mode banks collects = record {
   at = first request;
 }
 
+-- another access of the same command begins, with what the banks hold by then, and behind what was told so far
+abbrev pub again_with : Instruction → Request → Instruction
+again_with i request = record i { request = request; at = first request }
+
 -- ---- the step that comes
 
 abbrev pub plan_at : InstructionAt → Option Step

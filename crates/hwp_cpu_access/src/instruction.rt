@@ -4,7 +4,7 @@ ghost use Rattle.hwp_cpu_check.specs.Checks.{with_own};
 ghost use Rattle.hwp_cpu_check.specs.hwp_banks.Events.{bank_count};
 ghost use Rattle.hwp_fault.specs.hwp_core_task.declared.Turn.TheVariants.{NoMemory};
 ghost use Rattle.hwp_cpu_access.specs.declared.instruction.InstructionAt.TheVariants as states;
-ghost use Rattle.hwp_cpu_access.specs.Instructions.{AfterAccessBy, BeginsCheck, after_handler, after_load, after_stop, answer, answered, begin, first, give_up, going_on, is_pending, left_to_do, over, over_with, pause, restarted, resume, resumed, turn_of_load, turn_of_stop};
+ghost use Rattle.hwp_cpu_access.specs.Instructions.{AfterAccessBy, BeginsCheck, after_handler, after_load, again_with, after_stop, answer, answered, begin, first, give_up, going_on, is_pending, left_to_do, over, over_with, pause, restarted, resume, resumed, turn_of_load, turn_of_stop};
 
 use hwp_cpu_check::{
     At, BANKS, Bank, Body, EventOutcome, Frame, FrameWord, Handler, Layout, List, McgBits, Mode,
@@ -102,6 +102,15 @@ impl Instruction {
             lines: ToldLines::new(alloc),
             at: first(&request),
         }
+    }
+
+    /// Another access of the same command begins where this one lies: with what the banks hold by now, and behind what was told so far.
+    pub fn again_with(&mut self, request: Request)
+        ensures { self.new ≡ again_with self.old request }
+    {
+        self.request = request;
+        let at = first(&request);
+        self.set(at);
     }
 
     /// Goes on behind its pause, with what is left of it. Where it doesn't pause nothing changes.

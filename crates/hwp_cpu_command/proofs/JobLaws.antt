@@ -185,7 +185,7 @@ module _ {layout : Layout} {seat : ℕ} {a b : State} {t : Job} {turn : Turn} wh
   of-instruction made = record {
     after = made.follows.0;
     after_is = made.follows.1;
-    made = record { step = made.step; found = made.found; got = made.got; rule = made.rule; kept = made.kept; fits = made.fits; planned = made.planned; move = made.move; brings = made.brings; follows = made.follows.2 };
+    made = record { step = made.step; found = made.found; got = made.got; rule = made.rule; kept = made.kept; fits = (made.fits.0, [], made.fits.1); planned = made.planned; move = made.move; brings = made.brings; follows = made.follows.2 };
   }
 
   of-evict : {x : Evict} → Made job-task layout seat a b (jobs.Evict x) t turn → IsTurnOf evict-task jobs.Evict layout seat a b x t turn
@@ -329,7 +329,7 @@ classes (jobs.Soft x) = soft-ranked.classes x
 classes (jobs.Unpoison x) = unpoisoning.ranked.classes x
 
 small : (layout : Layout) (a : State) (seat : ℕ) (j : Job) → Holds layout a → Fits layout (view_of a seat) j → cost j (words_at layout a) < top
-small layout a seat (jobs.Instruction x) rule fits = instruction-ranked.small layout a seat x rule fits
+small layout a seat (jobs.Instruction x) rule fits = instruction-ranked.small layout a seat x rule (fits.0, [], fits.1)
 small layout a seat (jobs.Evict x) rule fits = evict-ranked.small layout a seat x rule fits
 small layout a seat (jobs.Fsync x) rule fits = fsync-ranked.small layout a seat x rule fits.1.1
 small layout a seat (jobs.Prctl x) rule fits = calling.ranked.small layout a seat x rule fits.1.1
@@ -551,7 +551,7 @@ pub tells : TellsClass job-task
 tells = record { frame = frame; page = page; claim = claim }
   where
     frame : (layout : Layout) (view : View) (j : Job) → Fits layout view j → HasFrame view → (class j ≡ 1) × (plan j ≢ None)
-    frame layout view (jobs.Instruction x) fits has = instruction-tells.frame layout view x fits has
+    frame layout view (jobs.Instruction x) fits has = instruction-tells.frame layout view x (fits.0, [], fits.1) has
     frame layout view (jobs.Evict x) fits has = evict-tells.frame layout view x fits has
     frame layout view (jobs.Fsync x) fits has = fsync-tells.frame layout view x fits.1.1 has
     frame layout view (jobs.Prctl x) fits has = calling.tells.frame layout view x fits.1.1 has
@@ -565,7 +565,7 @@ tells = record { frame = frame; page = page; claim = claim }
     frame layout view (jobs.Unpoison x) fits has = unpoisoning.tells.frame layout view x fits.1.1 has
 
     page : (layout : Layout) (view : View) (j : Job) → Fits layout view j → HasPage view → (class j ≤ 2) × (plan j ≢ None)
-    page layout view (jobs.Instruction x) fits has = instruction-tells.page layout view x fits has
+    page layout view (jobs.Instruction x) fits has = instruction-tells.page layout view x (fits.0, [], fits.1) has
     page layout view (jobs.Evict x) fits has = evict-tells.page layout view x fits has
     page layout view (jobs.Fsync x) fits has = fsync-tells.page layout view x fits.1.1 has
     page layout view (jobs.Prctl x) fits has = calling.tells.page layout view x fits.1.1 has
@@ -579,7 +579,7 @@ tells = record { frame = frame; page = page; claim = claim }
     page layout view (jobs.Unpoison x) fits has = unpoisoning.tells.page layout view x fits.1.1 has
 
     claim : (layout : Layout) (view : View) (j : Job) (f : Frame) (cycle : ℕ) → Fits layout view j → claims j ≡ Some (f, cycle) → (class j ≤ 3) × (plan j ≢ None)
-    claim layout view (jobs.Instruction x) f cycle fits has = instruction-tells.claim layout view x f cycle fits has
+    claim layout view (jobs.Instruction x) f cycle fits has = instruction-tells.claim layout view x f cycle (fits.0, [], fits.1) has
     claim layout view (jobs.Raise x) f cycle fits has = raise-tells.claim layout view x f cycle fits.1.1 has
     claim layout view (jobs.Scrub x) f cycle fits has = scrub-tells.claim layout view x f cycle fits.1.1 has
     claim layout view (jobs.Inject x) f cycle fits has = inject-tells.claim layout view x f cycle fits.1.1 has

@@ -1,11 +1,13 @@
 //! Tests of the small crates: numbers and lists, sources and sinks, packed words, banks, the grading of a machine check,
-//! the collector of corrected errors, and guests.
+//! the collector of corrected errors, guests, and copy on write.
 #![tactic(auto)]
 
 #[cfg(test)]
 mod banks;
 #[cfg(test)]
 mod collecting;
+#[cfg(test)]
+mod forking;
 #[cfg(test)]
 mod guests;
 #[cfg(test)]

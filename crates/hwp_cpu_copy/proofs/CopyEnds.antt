@@ -1,0 +1,107 @@
+-- A copy at its beginning and at its end, and what it asks for, which never changes.
+use Rattle.std.proofs.Common.{◌≡◌, ℕ, ◌*◌, ◌<◌, ◌==◌, if◌then◌else◌, Bool, List, [], ◌++◌, Some, None, length, slice_index, append-nil, refl, sym, ap, ◌∙◌, subst}
+use Rattle.std.specs.declared.alloc.Global.{Global}
+use Rattle.std.proofs.lemmas.Bool.{both_ways}
+use Rattle.std.proofs.lemmas.Option.{none-some, same_Some}
+use Rattle.hwp_fault.specs.hwp_geom.declared.Layout.{Layout}
+use Rattle.hwp_fault.specs.hwp_geom.declared.Page.{Page}
+use Rattle.hwp_fault.specs.hwp_geom.declared.VSlot.{VSlot}
+use Rattle.hwp_fault.specs.hwp_geom.Layout.{IsSound}
+use Rattle.hwp_fault.specs.hwp_geom.Limits.{line_limit}
+use Rattle.hwp_fault.specs.hwp_page.declared.At.{At}
+use Rattle.hwp_fault.specs.hwp_core_rule.declared.Made.{Made}
+use Rattle.hwp_fault.specs.hwp_core_rule.declared.View.{View}
+use Rattle.hwp_fault.specs.hwp_core_task.Calls.{IsOnTurn}
+use Rattle.hwp_fault.specs.hwp_core_task.Hands.{hand_of, empty}
+use Rattle.hwp_fault.specs.hwp_core_task.Known.{HasMadeNoneBeside, deeds}
+use Rattle.hwp_fault.specs.declared.AccessKind.TheVariants as kinds
+use Rattle.hwp_fault.specs.declared.Request.{Request}
+use Rattle.hwp_fault.specs.Accesses as accesses
+use Rattle.hwp_cpu_check.specs.hwp_banks.Banks.{Banks}
+use Rattle.hwp_cpu_check.specs.hwp_banks.Events.{bank_count}
+use Rattle.hwp_cpu_check.specs.hwp_banks.declared.Origin.TheVariants as origins
+use Rattle.hwp_fault.specs.hwp_geom.declared.Mode.TheVariants as modes
+use Rattle.hwp_cpu_access.specs.declared.instruction.InstructionAnswer.{InstructionAnswer}
+use Rattle.hwp_cpu_access.specs.declared.instruction.InstructionAnswer.TheVariants as answers
+use Rattle.hwp_cpu_access.specs.Fits as instruction_fits
+use Rattle.hwp_cpu_access.specs.Fits.{FitsBehind, checks_in}
+use Rattle.hwp_cpu_access.specs.Instructions as instructions
+use Rattle.hwp_cpu_access.proofs.InstructionLaws as instructing
+use Rattle.hwp_cpu_copy.specs.declared.copying.Copying.{Copying}
+use Rattle.hwp_cpu_copy.specs.declared.copying.CopyingAt.{CopyingAt}
+use Rattle.hwp_cpu_copy.specs.declared.copying.CopyingAt.TheVariants as at
+use Rattle.hwp_cpu_copy.specs.Copyings.{answer, answer_at, begin, load_of, plan, plan_at}
+use Rattle.hwp_cpu_copy.specs.Fits.{FitsAt, FitsFrom, HasCopied, IsEnd, is_well}
+use Rattle.hwp_cpu_copy.specs.Runs.{Run, checks_by, made_by, words_of}
+use Rattle.hwp_cpu_copy.proofs.CopiedWords.{copied-words, last_stored}
+use Rattle.hwp_cpu_copy.proofs.CowSteps.{told-of, told-of-all}
+use Rattle.hwp_cpu_copy.proofs.CopyLaws.{over-instruction}
+
+-- a copy fits at its beginning, where its processor holds and owes nothing, and its command has made nothing beside entries that are of no
+-- machine check
+pub begins : (base : List Made) (layout : Layout) (view : View) (alloc : Global) (store : Request) (x : ℕ) (slot : VSlot) (page : Page) (banks : Banks) (collects : Bool) → IsOnTurn view store.who → IsSound layout → accesses.IsDeclared layout store
+    → accesses.IsDeclared layout (load_of store page slot 0) → store.kind ≡ kinds.Store x → length banks ≡ bank_count → hand_of view ≡ empty → view.owed.losses ≡ [] → HasMadeNoneBeside base view store.who → checks_in base ≡ 0
+    → FitsFrom base layout view (begin alloc store x slot page banks collects)
+begins base layout view alloc store x slot page banks collects on sound names own kind three hand paid none unchecked = record {
+  on_turn = on;
+  unchecked = unchecked;
+  runs = [];
+  has = record {
+    sound = sound;
+    names = names;
+    own = own;
+    kind = kind;
+    twin = refl;
+    line = refl;
+    user = refl;
+    origin = refl;
+    three = three;
+    cow_is = refl;
+    are = tt;
+  };
+  at = record {
+    since = [];
+    such = λ i m there. absurd (none-some m there);
+    instruction = subst (λ (l : List Made). FitsBehind l [] layout view (instructions.begin alloc (load_of store page slot 0) origins.Access modes.User banks collects)) (sym (append-nil base))
+        (instructing.begins layout view (instructions.begin alloc (load_of store page slot 0) origins.Access modes.User banks collects) refl on sound own tt three hand paid none unchecked);
+    request_is = refl;
+    unwell = refl;
+  };
+}
+
+-- a copy that is answered holds nothing and owes no loss, and makes no more steps
+pub record IsEnded (view : View) (c : Copying) : Type 0 where
+  pub hand_is : hand_of view ≡ empty
+  pub paid : view.owed.losses ≡ []
+  pub over : plan c ≡ None
+
+pub ends : {base : List Made} {layout : Layout} {view : View} (c : Copying) {x : InstructionAnswer} → FitsFrom base layout view c → answer c ≡ Some x → IsEnded view c
+ends {base} {layout} {view} c {x} fits is = which c.at refl fits.at is
+  where
+    which : (y : CopyingAt) → c.at ≡ y → FitsAt base layout view c fits.runs y → answer_at c.instruction y ≡ Some x → IsEnded view c
+    which at.Access own has e = let over = over-instruction c.instruction e in
+        let end : instruction_fits.IsAnswered _ layout view c.instruction (checks_by fits.runs ++ has.instruction.checks) x = subst (instruction_fits.FitsAt _ layout view c.instruction (checks_by fits.runs ++ has.instruction.checks)) over has.instruction.at in
+        record { hand_is = end.hand_is; paid = end.paid; over = ap (plan_at c.instruction) own ∙ ap instructions.plan_at over }
+    which (at.Free e stored) own has none = absurd (none-some x none)
+    which (at.Over a) own has e = record { hand_is = has.hand_is; paid = has.paid; over = ap (plan_at c.instruction) own }
+
+-- a copy that is answered `stored` made, beside the entries before it, those of its accesses; and of its stores on a line the last one is of
+-- the word that was asked for, where it was asked for on that line, and else of the word that the load of the line read
+pub record HasStored (base : List Made) (view : View) (c : Copying) (runs : List Run) : Type 0 where
+  pub all : deeds c.store.who view ≡ base ++ made_by runs
+  pub last : (k : ℕ) → k < line_limit → last_stored k (made_by runs) ≡ Some (if c.store.line == k then c.cow.x else slice_index (words_of runs) (2 * k))
+
+pub stored-words : {base : List Made} {layout : Layout} {view : View} (c : Copying) {place : At} (fits : FitsFrom base layout view c) → answer c ≡ Some (answers.Stored place) → HasStored base view c fits.runs
+stored-words {base} {layout} {view} c {place} fits is = which c.at fits.at is
+  where
+    which : (y : CopyingAt) → FitsAt base layout view c fits.runs y → answer_at c.instruction y ≡ Some (answers.Stored place) → HasStored base view c fits.runs
+    which at.Access has e = absurd (both_ways (is_well (instructions.answer c.instruction)) has.unwell (ap is_well e))
+    which (at.Free e stored) has none = absurd (none-some (answers.Stored place) none)
+    which (at.Over a) has e =
+        let copied : HasCopied base view c fits.runs place = subst (IsEnd base view c fits.runs) (same_Some a (answers.Stored place) e) has.ended in
+        record {
+          all = copied.all;
+          last = λ k within. copied-words k layout view c.store c.page c.cow.v c.cow.w c.cow.line c.cow.x c.instruction.before.value fits.runs within
+              (told-of-all c.cow (words_of fits.runs) (told-of c.cow (words_of fits.runs) fits.has.cow_is) copied.sub_is) fits.has.are
+              ∙ ap (λ (n : ℕ). Some (if n == k then c.cow.x else slice_index (words_of fits.runs) (2 * k))) fits.has.line;
+        }

@@ -1,0 +1,13 @@
+pub mod AskedSame
+pub mod FreeOwes
+pub mod FreeLists
+pub mod RunLaws
+pub mod CowSteps
+pub mod WentWell
+pub mod CopyLaws
+pub mod CopyRank
+pub mod CopyResting
+pub mod CopyAdds
+pub mod CopiedWords
+pub mod CopyEnds
+pub use Rattle.hwp_fork.proofs as of_hwp_fork

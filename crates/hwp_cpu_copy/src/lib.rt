@@ -1,0 +1,6 @@
+//! A store through a translation whose page is copied first, to the page of the translation's twin.
+#![tactic(auto)]
+
+mod copying;
+
+pub use copying::Copying;

@@ -1,0 +1,3 @@
+pub mod SubLaws
+pub mod CowLaws
+pub mod CopyOrder
