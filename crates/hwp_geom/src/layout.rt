@@ -141,7 +141,7 @@ impl Layout {
 }
 
 /// Whether it is this translation that is here.
-pub fn is_slot(slot: VSlot, other: Option<VSlot>) -> bool
+fn is_slot(slot: VSlot, other: Option<VSlot>) -> bool
     ensures { result ≡ is_slot slot other }
 {
     match other {

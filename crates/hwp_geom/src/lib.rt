@@ -15,7 +15,7 @@ pub use bits::lowest_bit;
 pub use kind::Kind;
 pub use layout::{
     Layout, MAX_COMMANDS, MAX_CPUS, MAX_FILES, MAX_FRAMES, MAX_PAGES, MAX_PROCS, MAX_THREADS,
-    MAX_TRANS, PageKind, ThreadDecl, TransDecl, is_slot,
+    MAX_TRANS, PageKind, ThreadDecl, TransDecl,
 };
 pub use line::{LINES, Line};
 pub use lines::Lines;
