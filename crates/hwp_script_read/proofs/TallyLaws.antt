@@ -46,11 +46,11 @@ length-weight : (xs : List Command) → length xs ≡ weight one xs
 length-weight [] = refl
 length-weight (x ∷ xs) = omega (arith, length-weight xs)
 
-sum-weight : (w : Command → ℕ) (xs : List Command) → sum_by w xs ≡ weight w xs
+pub sum-weight : (w : Command → ℕ) (xs : List Command) → sum_by w xs ≡ weight w xs
 sum-weight w [] = refl
 sum-weight w (x ∷ xs) = sum_by-cons w x xs ∙ ap (λ n. w x + n) (sum-weight w xs)
 
-total-sum : (w : Command → ℕ) (f : List Command → ℕ) → ((xs : List Command) → f xs ≡ weight w xs) → (lists : List (List Command)) → sum_by f lists ≡ total w lists
+pub total-sum : (w : Command → ℕ) (f : List Command → ℕ) → ((xs : List Command) → f xs ≡ weight w xs) → (lists : List (List Command)) → sum_by f lists ≡ total w lists
 total-sum w f is [] = refl
 total-sum w f is (list ∷ lists) = sum_by-cons f list lists ∙ ap (λ n. n + sum_by f lists) (is list) ∙ ap (λ n. weight w list + n) (total-sum w f is lists)
 

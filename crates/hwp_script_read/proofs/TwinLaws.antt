@@ -25,10 +25,10 @@ use Rattle.hwp_script_read.proofs.NameLaws.{anon_page}
 abbrev pub IsNone : Option VSlot → Type 0
 IsNone twin = twin ≡ None
 
-same_slot : (u v : VSlot) → u.0 ≡ v.0 → u ≡ v
+pub same_slot : (u v : VSlot) → u.0 ≡ v.0 → u ≡ v
 same_slot u v e = ap slot_of e
 
-clash : (b : Bool) → b ≡ true → b ≡ false → ⊥
+pub clash : (b : Bool) → b ≡ true → b ≡ false → ⊥
 clash true e f = absurd (cc f)
 clash false e f = absurd (cc e)
 
