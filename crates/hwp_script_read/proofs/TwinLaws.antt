@@ -45,7 +45,7 @@ left_out y (t ∷ ts) zero x n h = let parts = or_parts (is_slot y t) (list_any 
 left_out y (t ∷ ts) (suc i) x n h =
     let parts = or_parts (is_slot y t) (list_any (is_slot y) ts) h in or_from (is_slot y t) (list_any (is_slot y) (set ts i x)) parts.0 (left_out y ts i x n parts.1)
 
-none_at : (ts : List (Option VSlot)) (i : ℕ) → All IsNone ts → get_or ts i None ≡ None
+pub none_at : (ts : List (Option VSlot)) (i : ℕ) → All IsNone ts → get_or ts i None ≡ None
 none_at [] i h = refl
 none_at (t ∷ ts) zero h = All-head IsNone t ts h
 none_at (t ∷ ts) (suc i) h = none_at ts i (All-tail IsNone t ts h)
