@@ -39,7 +39,7 @@ abbrev pub one : Command → ℕ
 one c = 1
 
 weight-append : (w : Command → ℕ) (xs ys : List Command) → weight w (xs ++ ys) ≡ weight w xs + weight w ys
-weight-append w [] ys = refl
+weight-append w [] ys = omega arith
 weight-append w (x ∷ xs) ys = omega (arith, weight-append w xs ys)
 
 length-weight : (xs : List Command) → length xs ≡ weight one xs
@@ -103,7 +103,7 @@ lists_total w (f ∷ fs) place a n =
 commands-weigh : (fs : List ScriptLine) → lines_weight one fs ≡ commands_in fs
 commands-weigh [] = refl
 commands-weigh (forms.Command c ∷ fs) = omega (arith, commands-weigh fs)
-commands-weigh (f ∷ fs) = commands-weigh fs
+commands-weigh (f ∷ fs) = omega (arith, commands-weigh fs)
 
 -- the lists have no more commands than the lines are
 pub few_listed : (fs : List ScriptLine) (n : ℕ) → sum_by length (map (λ c. commands_from None c fs) (range_with_len 0 n)) ≤ commands_in fs
@@ -128,7 +128,7 @@ none_forked p [] h = refl
 none_forked p (forms.Command c ∷ fs) h =
     let parts = or_parts (is_fork_of p c) (list_any (forks p) fs) h in
     let zero : one_fork p c ≡ 0 = ap (λ b. cond b 1 0) parts.0 in omega (arith, zero, none_forked p fs parts.1)
-none_forked p (f ∷ fs) h = none_forked p fs h
+none_forked p (f ∷ fs) h = omega (arith, none_forked p fs h)
 
 no_fork : (b r : Bool) (n : ℕ) → cond b 1 0 + n ≡ 0 → (n ≡ 0 → r ≡ false) → (b || r) ≡ false
 no_fork true r n e k = absurd (omega (arith, e))
