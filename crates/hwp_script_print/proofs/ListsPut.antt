@@ -275,9 +275,9 @@ next_fork l c done x rest h =
     let before : take (length done) (done ++ x ∷ rest) ≡ done = take_at done (x ∷ rest) (length done) refl in
     rw before at (h (length done) x there)
 
-fork_right : {fs : List ScriptLine} {l : Layout} (c : ℕ) (done : List Command) (x : Command) (rest : List Command) → names_in fs ≡ bare l → place_in fs ≡ Some c → commands_of fs c ≡ done
+fork_right : (fs : List ScriptLine) (l : Layout) (c : ℕ) (done : List Command) (x : Command) (rest : List Command) → names_in fs ≡ bare l → place_in fs ≡ Some c → commands_of fs c ≡ done
     → AreForksFit l c (done ++ x ∷ rest) → IsSomeAnd (place_in fs) (λ (cpu : ℕ). is_wrong_fork (names_in fs) cpu (commands_of fs cpu) x ≡ true) → ⊥
-fork_right {fs} {l} c done x rest names place list h e =
+fork_right fs l c done x rest names place list h e =
     let here : is_wrong_fork (names_in fs) c (commands_of fs c) x ≡ true = rw place at e in
     let is : is_wrong_fork (names_in fs) c (commands_of fs c) x ≡ is_wrong_fork l c done x =
     ap (λ (m : Layout). is_wrong_fork m c (commands_of fs c) x) names ∙ ap (λ (xs : List Command). is_wrong_fork (bare l) c xs x) list ∙ bare_fork l c done x in
@@ -312,7 +312,7 @@ made_commands {fs} k l c n (cmd ∷ cmds) h laid some_c some_f here own old word
       named = not_undeclared c cmd above own_it;
       here = λ e. not_elsewhere l c cmd own_it (rw (place, above.threads) at e);
       no_twin = ap (λ (m : Layout). names_twin m cmd) names ∙ All-head (NamesNoTwin l) cmd cmds untwinned;
-      fork = fork_right c done cmd cmds names place list forks;
+      fork = fork_right fs l c done cmd cmds names place list forks;
       once = fork_once fs cmd (λ p. omega (arith, once p));
     }) in
     let rest = made_commands k l c (n + 1) cmds (made_push (forms.Command cmd) h (omega arith) (plain (command_fits l c cmd laid.sound own_it (All-head HasWords cmd cmds words)) refl) clean)

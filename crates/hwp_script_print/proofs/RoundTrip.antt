@@ -120,7 +120,7 @@ no_commands s v = ap (λ (x : Known). x.commands) (made_of s v).same
 no_forks : (w : Command → ℕ) (fs : List ScriptLine) → commands_in fs ≡ 0 → lines_weight w fs ≡ 0
 no_forks w [] h = refl
 no_forks w (forms.Command c ∷ fs) h = absurd (omega (arith, h))
-no_forks w (f ∷ fs) h = no_forks w fs h
+no_forks w (f ∷ fs) h = omega (arith, no_forks w fs h)
 
 made_script : (s : Script) → IsValid s → IsMade (script_forms s) 14 (said s)
 made_script s v =
