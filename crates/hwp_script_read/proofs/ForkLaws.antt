@@ -1,10 +1,10 @@
 -- Why the commands of clean lines name no twin, and why their forks may stand where they do.
-use Rattle.std.proofs.Common.{ℕ, ◌≡◌, ◌<◌, ◌≤◌, ◌+◌, ◌++◌, ◌==◌, Bool, true, false, if◌then◌else◌, List, [], ◌∷◌, length, map, take, Option, Some, None, zero, suc, ap, subst, ◌∙◌, sym, refl, arith, ⊎_elim}
-use Rattle.std.specs.Prelude.{All, slice_get, option_to_list, IsSomeAnd}
+use Rattle.std.proofs.Common.{ℕ, ◌≡◌, ◌<◌, ◌≤◌, ◌+◌, ◌++◌, ◌==◌, Bool, true, false, if◌then◌else◌, List, [], ◌∷◌, length, get_or, map, take, Option, Some, None, zero, suc, ap, subst, ◌∙◌, sym, refl, arith, ⊎_elim}
+use Rattle.std.specs.Prelude.{◌↔◌, All, slice_get, option_to_list, IsSomeAnd}
 use Rattle.std.specs.List.{range_with_len}
 use Rattle.std.proofs.lemmas.List.{take-append-le, take_at, length_push, append-nil}
 use Rattle.std.proofs.lemmas.List.Elements.{All-nil, All-push}
-use Rattle.std.proofs.lemmas.Option.{none-some, slice_get_within, same_Some}
+use Rattle.std.proofs.lemmas.Option.{none-some, slice_get-get_or, slice_get_within, same_Some}
 use Rattle.std.proofs.lemmas.Bool.{cases_lt, false_from_ne_true}
 use Rattle.std.proofs.lemmas.Bool.Decides.{nat_tests}
 use Rattle.hwp_script_lines.specs.hwp_geom.declared.Layout.{Layout}
@@ -12,12 +12,15 @@ use Rattle.hwp_script_lines.specs.declared.ScriptLine.{ScriptLine}
 use Rattle.hwp_script_lines.specs.declared.ScriptLine.TheVariants as forms
 use Rattle.hwp_script_lines.specs.declared.Command.{Command}
 use Rattle.hwp_script_lines.specs.declared.Command.TheVariants as commands
-use Rattle.hwp_script_read.specs.Context.{names_in, place_in, highest}
+use Rattle.hwp_script_read.specs.Context.{cpus_in, names_in, place_in, highest}
+use Rattle.hwp_script_read.specs.Sums.{Sums, names_of}
+use Rattle.hwp_script_read.specs.declared.context.Summary.{Summary}
 use Rattle.hwp_script_read.specs.Collects.{command_at, commands_of}
 use Rattle.hwp_script_read.specs.Forks.{is_wrong_fork, names_twin}
 use Rattle.hwp_script_read.specs.Reasons.{IsClean}
 use Rattle.hwp_script_read.specs.Valid.{NamesNoTwin, AreForksFit}
-use Rattle.hwp_script_read.proofs.ContextLaws.{pushed}
+use Rattle.hwp_script_read.proofs.ContextLaws.{pushed, names-kept}
+use Rattle.hwp_script_read.proofs.SumLaws.{many_lists}
 use Rattle.hwp_script_read.proofs.CleanLaws.{clean_command, clean_late}
 use Rattle.hwp_script_read.proofs.CleanLists.{slice_get-append_at, slice_get-append_left}
 use Rattle.hwp_script_read.proofs.CollectLaws.{commands_of-push, no_command, none_from}
@@ -91,3 +94,21 @@ pub list_at : (g : ℕ → List Command) (a n i : ℕ) (list : List Command) →
 list_at g a zero i list e = absurd (none-some list e)
 list_at g a (suc n) zero list e = let at : a + 0 ≡ a = omega arith in rw at (sym (same_Some (g a) list e))
 list_at g a (suc n) (suc i) list e = let at : a + suc i ≡ a + 1 + i = omega arith in rw at (list_at g (a + 1) n i list e)
+
+-- a command that is looked up in the list that a summary keeps
+pub fork_found : {above : List ScriptLine} {s : Summary} (x : Command) (cpu : ℕ) (list : List Command) (r : Bool) → Sums above s → s.place ≡ Some cpu → slice_get s.lists.items cpu ≡ Some list
+    → r ≡ is_wrong_fork (names_of s) cpu list x → (r ≡ true) ↔ IsSomeAnd (place_in above) (λ (c : ℕ). is_wrong_fork (names_in above) c (commands_of above c) x ≡ true)
+fork_found {above} {s} x cpu list r h place there is =
+    let at : 0 + cpu ≡ cpu = omega arith in
+    let same : list ≡ commands_of above cpu = rw at at (list_at (commands_of above) 0 (cpus_in above) cpu list (ap (λ ls. slice_get ls cpu) (sym h.lists) ∙ there)) in
+    let full : r ≡ is_wrong_fork (names_in above) cpu (commands_of above cpu) x =
+    is ∙ ap (λ (l : Layout). is_wrong_fork l cpu list x) (names-kept h) ∙ ap (λ (xs : List Command). is_wrong_fork (names_in above) cpu xs x) same in
+    let here : place_in above ≡ Some cpu = sym h.place ∙ place in
+    rw here (λ (e : r ≡ true). sym full ∙ e, λ (e : is_wrong_fork (names_in above) cpu (commands_of above cpu) x ≡ true). full ∙ e)
+
+pub fork_lost : {above : List ScriptLine} {s : Summary} (x : Command) (cpu : ℕ) → Sums above s → s.place ≡ Some cpu → slice_get s.lists.items cpu ≡ None
+    → (false ≡ true) ↔ IsSomeAnd (place_in above) (λ (c : ℕ). is_wrong_fork (names_in above) c (commands_of above c) x ≡ true)
+fork_lost {above} {s} x cpu h place none =
+    let within : cpu < s.cpus = rw place at h.within in
+    let there : slice_get s.lists.items cpu ≡ Some (get_or s.lists.items cpu []) = slice_get-get_or s.lists.items cpu [] (omega (arith, within, many_lists h)) in
+    absurd (none-some (get_or s.lists.items cpu []) (sym none ∙ there))

@@ -6,11 +6,11 @@ use Rattle.hwp_script_read.proofs.CleanLaws.{clean_cow, cow_declared, small_twin
 use Rattle.hwp_script_read.proofs.SumLaws.{next_sums, same_marks}
 use Rattle.hwp_script_read.proofs.context.Summary.add_cow.Goals as goal
 
-pub set_twin-requires-slot : goal.set_twin-requires-slot
-set_twin-requires-slot c = omega (arith, cow_declared c.requires.clean, twins-long c.args.above.now, ap length c.requires.sums.twins)
+pub set_twin-requires-clause-slot : goal.set_twin-requires-clause-slot
+set_twin-requires-clause-slot c = omega (arith, cow_declared c.requires.clean, twins-long c.args.above.now, ap length c.requires.sums.twins)
 
-pub set_twin-requires-twin : goal.set_twin-requires-twin
-set_twin-requires-twin c = small_twin c.requires.clean
+pub set_twin-requires-clause-twin : goal.set_twin-requires-clause-twin
+set_twin-requires-clause-twin c = small_twin c.requires.clean
 
 pub returns : goal.returns
 returns c =
