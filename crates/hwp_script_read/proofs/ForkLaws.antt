@@ -1,10 +1,10 @@
 -- Why the commands of clean lines name no twin, and why their forks may stand where they do.
-use Rattle.std.proofs.Common.{ℕ, ◌≡◌, ◌<◌, ◌≤◌, ◌+◌, ◌++◌, ◌==◌, Bool, true, false, if◌then◌else◌, List, [], ◌∷◌, length, get_or, map, take, Option, Some, None, zero, suc, ap, subst, ◌∙◌, sym, refl, arith, ⊎_elim}
+use Rattle.std.proofs.Common.{ℕ, ◌≡◌, ◌<◌, ◌≤◌, ◌+◌, ◌++◌, ◌==◌, Bool, true, false, if◌then◌else◌, List, [], ◌∷◌, length, map, take, Option, Some, None, zero, suc, ap, subst, ◌∙◌, sym, refl, arith, ⊎_elim}
 use Rattle.std.specs.Prelude.{◌↔◌, All, slice_get, option_to_list, IsSomeAnd}
 use Rattle.std.specs.List.{range_with_len}
 use Rattle.std.proofs.lemmas.List.{take-append-le, take_at, length_push, append-nil}
 use Rattle.std.proofs.lemmas.List.Elements.{All-nil, All-push}
-use Rattle.std.proofs.lemmas.Option.{none-some, slice_get-get_or, slice_get_within, same_Some}
+use Rattle.std.proofs.lemmas.Option.{none-some, slice_get_within, same_Some}
 use Rattle.std.proofs.lemmas.Bool.{cases_lt, false_from_ne_true}
 use Rattle.std.proofs.lemmas.Bool.Decides.{nat_tests}
 use Rattle.hwp_script_lines.specs.hwp_geom.declared.Layout.{Layout}
@@ -106,9 +106,7 @@ fork_found {above} {s} x cpu list r h place there is =
     let here : place_in above ≡ Some cpu = sym h.place ∙ place in
     rw here (λ (e : r ≡ true). sym full ∙ e, λ (e : is_wrong_fork (names_in above) cpu (commands_of above cpu) x ≡ true). full ∙ e)
 
-pub fork_lost : {above : List ScriptLine} {s : Summary} (x : Command) (cpu : ℕ) → Sums above s → s.place ≡ Some cpu → slice_get s.lists.items cpu ≡ None
+pub fork_lost : {above : List ScriptLine} {s : Summary} (x : Command) (cpu : ℕ) → Sums above s → s.place ≡ Some cpu → length s.lists.items ≤ cpu
     → (false ≡ true) ↔ IsSomeAnd (place_in above) (λ (c : ℕ). is_wrong_fork (names_in above) c (commands_of above c) x ≡ true)
-fork_lost {above} {s} x cpu h place none =
-    let within : cpu < s.cpus = rw place at h.within in
-    let there : slice_get s.lists.items cpu ≡ Some (get_or s.lists.items cpu []) = slice_get-get_or s.lists.items cpu [] (omega (arith, within, many_lists h)) in
-    absurd (none-some (get_or s.lists.items cpu []) (sym none ∙ there))
+fork_lost {above} {s} x cpu h place most =
+    let within : cpu < s.cpus = rw place at h.within in absurd (omega (arith, within, many_lists h, most))

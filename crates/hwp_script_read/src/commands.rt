@@ -128,7 +128,6 @@ fn is_elsewhere(summary: &Summary, thread: Option<usize>) -> bool
 }
 
 /// Whether a command is a fork that may not stand in its list here.
-#[tactic(auto, using(crate::proofs::ForkLaws::fork_found, crate::proofs::ForkLaws::fork_lost))]
 fn forks_wrongly(summary: &Summary, above: &[ScriptLine], command: &Command) -> bool
     requires { Sums above.now summary.now }
     ensures { IsTrue result ↔ IsSomeAnd (place_in above.now) (λ cpu. is_wrong_fork (names_in above.now) cpu (commands_of above.now cpu) command.now ≡ true) }
