@@ -1,10 +1,10 @@
 ghost use Rattle.std.specs.Prelude.{◌≡◌, IfOk};
-ghost use Rattle.hwp_geom.specs.Layout.{is_locked};
+ghost use Rattle.hwp_geom.specs.Layout.{has_twin, is_locked, is_slot, is_twin, twin_of};
 ghost use Rattle.hwp_geom.specs.Limits.{cpu_limit, frame_limit, file_limit, process_limit, thread_limit, page_limit, translation_limit, command_limit};
 
 use crate::OutOfMemory;
 use crate::list::List;
-use crate::numbers::{Cpu, FileNo, Page, Proc};
+use crate::numbers::{Cpu, FileNo, Page, Proc, VSlot};
 use crate::version::Version;
 use std::alloc::Global;
 
@@ -61,7 +61,8 @@ pub struct TransDecl {
 
 /// What a script declares of the machine. `kernel` has a value for each frame, `locked` one for each page: a locked page is never
 /// dropped or swapped out on request. `recovery` and `early` are the settings `vm.memory_failure_recovery` and
-/// `vm.memory_failure_early_kill` (Linux hwpoison.rst).
+/// `vm.memory_failure_early_kill` (Linux hwpoison.rst). `twins` has a value for each translation: the private one that stands for it
+/// once it is stored through behind a fork (copy on write).
 #[derive(Drop)]
 pub struct Layout {
     pub version: Version,
@@ -76,6 +77,7 @@ pub struct Layout {
     pub pages: List<PageKind>,
     pub trans: List<TransDecl>,
     pub locked: List<bool>,
+    pub twins: List<Option<VSlot>>,
 }
 
 impl Layout {
@@ -96,6 +98,7 @@ impl Layout {
             pages: self.pages.copy(alloc)?,
             trans: self.trans.copy(alloc)?,
             locked: self.locked.copy(alloc)?,
+            twins: self.twins.copy(alloc)?,
         })
     }
 
@@ -107,5 +110,42 @@ impl Layout {
             Some(locked) => *locked,
             None => false,
         }
+    }
+
+    /// The private twin of a translation, if it has one.
+    pub fn twin_of(&self, slot: VSlot) -> Option<VSlot>
+        ensures { result ≡ twin_of self.now slot }
+    {
+        match self.twins.as_slice().get(usize::from(slot.0)) {
+            Some(twin) => *twin,
+            None => None,
+        }
+    }
+
+    /// Whether a translation has a twin.
+    pub fn has_twin(&self, slot: VSlot) -> bool
+        ensures { result ≡ has_twin self.now slot }
+    {
+        self.twin_of(slot).is_some()
+    }
+
+    /// Whether a translation is the twin of another.
+    pub fn is_twin(&self, slot: VSlot) -> bool
+        ensures { result ≡ is_twin self.now slot }
+    {
+        self.twins
+            .as_slice()
+            .iter()
+            .any(|twin| is_slot(slot, *twin))
+    }
+}
+
+/// Whether it is this translation that is here.
+fn is_slot(slot: VSlot, other: Option<VSlot>) -> bool
+    ensures { result ≡ is_slot slot other }
+{
+    match other {
+        Some(other) => other.0 == slot.0,
+        None => false,
     }
 }

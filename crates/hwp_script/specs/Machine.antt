@@ -1,11 +1,12 @@
 -- The machine of all generated scripts: four processors, eight threads, forty pages and eighty translations.
-use Rattle.std.specs.Prelude.{ℕ, zero, suc, ◌+◌, ◌/◌, ◌%◌, ◌==◌, Bool, true, false, List, [], ◌∷◌, ◌++◌, if◌then◌else◌}
+use Rattle.std.specs.Prelude.{ℕ, zero, suc, ◌+◌, ◌/◌, ◌%◌, ◌==◌, Bool, true, false, List, [], ◌∷◌, ◌++◌, Option, None, if◌then◌else◌}
 use Rattle.hwp_script_read.specs.hwp_geom.declared.Layout.{Layout}
 use Rattle.hwp_script_read.specs.hwp_geom.declared.Version.TheVariants as versions
 use Rattle.hwp_script_read.specs.hwp_geom.declared.PageKind.{PageKind}
 use Rattle.hwp_script_read.specs.hwp_geom.declared.PageKind.TheVariants as kinds
 use Rattle.hwp_script_read.specs.hwp_geom.declared.ThreadDecl.{ThreadDecl}
 use Rattle.hwp_script_read.specs.hwp_geom.declared.TransDecl.{TransDecl}
+use Rattle.hwp_script_read.specs.hwp_geom.declared.VSlot.{VSlot}
 
 -- what the numbers below n make, in their order
 unfoldable pub first : {A : Type 0} → (ℕ → A) → ℕ → List A
@@ -32,6 +33,10 @@ trans_decl v = record { process = record { 0 = (v + v / 40) % 4 }; page = record
 abbrev pub is_locked : ℕ → Bool
 is_locked page = false
 
+-- no translation has a twin
+abbrev pub twin_decl : ℕ → Option VSlot
+twin_decl slot = None
+
 -- the machine, of version One: recovery is on, and no process is killed early
 abbrev pub machine : Layout
 machine = record {
@@ -47,4 +52,5 @@ machine = record {
   pages = first page_kind 40;
   trans = first trans_decl 80;
   locked = first is_locked 40;
+  twins = first twin_decl 80;
 }

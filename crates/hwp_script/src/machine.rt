@@ -1,8 +1,9 @@
 ghost use Rattle.std.specs.Prelude.{◌≡◌, ◌<◌, IfOk};
-ghost use Rattle.hwp_script.specs.Machine.{first, is_kernel, is_locked, machine, page_kind, thread_decl, trans_decl};
+ghost use Rattle.hwp_script.specs.Machine.{first, is_kernel, is_locked, machine, page_kind, thread_decl, trans_decl, twin_decl};
 
 use hwp_script_read::{
-    Cpu, FileNo, Layout, List, OutOfMemory, Page, PageKind, Proc, ThreadDecl, TransDecl, Version,
+    Cpu, FileNo, Layout, List, OutOfMemory, Page, PageKind, Proc, ThreadDecl, TransDecl, VSlot,
+    Version,
 };
 use std::alloc::Global;
 
@@ -23,6 +24,7 @@ pub(crate) fn machine(alloc: Global) -> Result<Layout, OutOfMemory>
         pages: pages(alloc)?,
         trans: translations(alloc)?,
         locked: locked(alloc)?,
+        twins: twins(alloc)?,
     })
 }
 
@@ -84,6 +86,17 @@ fn locked(alloc: Global) -> Result<List<bool>, OutOfMemory>
         locked.push(false)?;
     }
     Ok(locked)
+}
+
+/// No translation has a twin.
+fn twins(alloc: Global) -> Result<List<Option<VSlot>>, OutOfMemory>
+    ensures { IfOk result (λ twins. twins ≡ first twin_decl 80) }
+{
+    let mut twins = List::new(alloc);
+    for _slot in 0..80u8 {
+        twins.push(None)?;
+    }
+    Ok(twins)
 }
 
 fn translations(alloc: Global) -> Result<List<TransDecl>, OutOfMemory>

@@ -5,7 +5,7 @@ use Rattle.std.specs.Str.Parse.{digits_value}
 use Rattle.std.proofs.lemmas.Fmt.{decimal_is_IsNumeral}
 use Rattle.std.proofs.lemmas.List.{get_or-map, length-map}
 use Rattle.std.proofs.lemmas.List.Elements.{All-from_recursion, All-same, All-get_or}
-use Rattle.hwp_geom.specs.Limits.{number, line_limit, frame_limit, file_limit, thread_limit, page_limit, translation_limit}
+use Rattle.hwp_geom.specs.Limits.{number, line_limit, frame_limit, file_limit, process_limit, thread_limit, page_limit, translation_limit}
 use Rattle.hwp_geom.specs.declared.Version.{Version}
 use Rattle.hwp_geom.specs.declared.Version.TheVariants as versions
 use Rattle.hwp_cec.specs.Limits.{threshold_limit, window_limit}
@@ -69,6 +69,7 @@ command_at words.Inject ws = commands.Inject (record { 0 = value ws 0 })
 command_at words.Soft ws = commands.Soft (record { 0 = value ws 0 })
 command_at words.Unpoison ws = commands.Unpoison (record { 0 = value ws 0 })
 command_at words.Watch ws = commands.Watch (value ws 0) (value ws 1)
+command_at words.Fork ws = commands.Fork (record { 0 = value ws 0 }) (record { 0 = value ws 1 })
 command_at words.Prctl ws = commands.Prctl (record { 0 = value ws 0 }) (record { operation = value ws 1; arg2 = value ws 2; arg3 = value ws 3; arg4 = value ws 4; arg5 = value ws 5 })
 command_at words.Log ws = commands.Log (register_value (get_or ws 0 [])) (register_value (get_or ws 1 [])) (register_value (get_or ws 2 []))
 command_at words.Raise ws = cond (length ws == 4) (commands.RaiseUser (record { 0 = value ws 1 }) (value ws 2 == 1) (value ws 3 == 1)) (cond (length ws == 3) (commands.RaiseKernel (value ws 1 == 1) (value ws 2 == 1)) commands.RaiseNested)
@@ -136,6 +137,11 @@ command_found ws (commands.Watch t w) h e =
     rw (
       value_is ws 0 t (low_to t threshold_limit h.1 (omega arith)) (ap (λ us. get_or us 0 []) e),
       value_is ws 1 w (low_to w window_limit h.3 (omega arith)) (ap (λ us. get_or us 1 []) e),
+    ) refl
+command_found ws (commands.Fork t p) h e =
+    rw (
+      value_is ws 0 t.0 (low t.0 thread_limit h.0 (omega arith)) (ap (λ us. get_or us 0 []) e),
+      value_is ws 1 p.0 (low p.0 process_limit h.1 (omega arith)) (ap (λ us. get_or us 1 []) e),
     ) refl
 command_found ws (commands.Prctl t args) h e =
     rw (
@@ -260,6 +266,7 @@ no_user ws m n p h out (commands.Inject f) j = absurd (cc j.kind)
 no_user ws m n p h out (commands.Soft f) j = absurd (cc j.kind)
 no_user ws m n p h out (commands.Unpoison f) j = absurd (cc j.kind)
 no_user ws m n p h out (commands.Watch t w) j = absurd (cc j.kind)
+no_user ws m n p h out (commands.Fork t w) j = absurd (cc j.kind)
 
 -- the numbers behind `kernel`, where they are outside their ranges
 no_kernel : (ws : List (List ℕ)) (m n : ℕ) → (m < 2 ^ 64) × (n < 2 ^ 64) × (ws ≡ codes "kernel" ∷ decimal m ∷ decimal n ∷ [])
@@ -289,6 +296,7 @@ no_kernel ws m n h out (commands.Inject f) j = absurd (cc j.kind)
 no_kernel ws m n h out (commands.Soft f) j = absurd (cc j.kind)
 no_kernel ws m n h out (commands.Unpoison f) j = absurd (cc j.kind)
 no_kernel ws m n h out (commands.Watch t w) j = absurd (cc j.kind)
+no_kernel ws m n h out (commands.Fork t w) j = absurd (cc j.kind)
 
 pub over_user : (ws us : List (List ℕ)) (m n p : ℕ) → ws ≡ codes "user" ∷ us → (m < 2 ^ 64) × (n < 2 ^ 64) × (p < 2 ^ 64) × (us ≡ decimal m ∷ decimal n ∷ decimal p ∷ [])
     → (thread_limit ≤ m) ⊎ (1 < n) ⊎ (1 < p) → IsCommandOver words.Raise ws

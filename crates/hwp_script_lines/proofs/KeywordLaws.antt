@@ -2,7 +2,7 @@
 use Rattle.std.proofs.Common.{ℕ, ◌≡◌, ◌<◌, ◌^◌, true, List, [], ◌∷◌, length, get_or, decimal, refl, ap, arith}
 use Rattle.std.specs.Prelude.{All}
 use Rattle.hwp_script_lines.specs.Numbers.{IsNumberWord}
-use Rattle.hwp_script_lines.specs.Grammar.{keyword, Fits, AreRestWords, IsSentence, IsCommand, HasShape, HaveNumbers, trans_keyword, command_keyword}
+use Rattle.hwp_script_lines.specs.Grammar.{keyword, Fits, AreRestWords, IsSentence, IsCommand, HasShape, HaveNumbers, trans_keyword, cow_keyword, command_keyword}
 use Rattle.hwp_script_lines.specs.Misfits.{AreMisfit, AreNumbers, IsCommandMisfit, IsSentenceMisfit, has_one_number, form_with}
 use Rattle.hwp_script_lines.specs.declared.command.Command.{Command}
 use Rattle.hwp_script_lines.specs.declared.script_line.ScriptLine.{ScriptLine}
@@ -38,6 +38,7 @@ is_one keywords.Hwp h ws = absurd (cc h)
 is_one keywords.Thread h ws = absurd (cc h)
 is_one keywords.Page h ws = absurd (cc h)
 is_one keywords.Trans h ws = absurd (cc h)
+is_one keywords.Cow h ws = absurd (cc h)
 is_one (keywords.Command w) h ws = absurd (cc h)
 is_one keywords.Schedule h ws = absurd (cc h)
 is_one keywords.End h ws = absurd (cc h)
@@ -64,6 +65,7 @@ no_line w ws none (forms.Command o) h = none o (record { kind = same_word h.kind
 no_line w ws none (forms.Schedule ts) h = absurd (cc h.kind)
 no_line w ws none (forms.Header v) h = absurd (cc h.kind)
 no_line w ws none (forms.Trans m n p) h = absurd (cc h.kind)
+no_line w ws none (forms.Cow m n) h = absurd (cc h.kind)
 no_line w ws none (forms.Thread m n p b) h = absurd (cc h.kind)
 no_line w ws none (forms.Page q b l) h = absurd (cc h.kind)
 no_line w ws none forms.End h = absurd (cc h.kind)
@@ -87,3 +89,6 @@ trans_sentence ws ns h = record {
   fits = ((h.each 0 (omega arith)).fits, (h.each 1 (omega arith)).fits, (h.each 2 (omega arith)).fits);
   same = words_are 3 ws ns h;
 }
+
+pub cow_sentence : (ws : List (List ℕ)) (ns : List ℕ) → AreNumbers 2 ws ns → IsSentence cow_keyword ws (forms.Cow (get_or ns 0 0) (get_or ns 1 0))
+cow_sentence ws ns h = record { kind = refl; fits = ((h.each 0 (omega arith)).fits, (h.each 1 (omega arith)).fits); same = words_are 2 ws ns h }

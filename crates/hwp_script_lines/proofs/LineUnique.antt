@@ -120,6 +120,7 @@ form_at turns keywords.End ws = forms.End
 form_at turns keywords.Schedule ws = forms.Schedule turns
 form_at turns (keywords.Command w) ws = forms.Command (command_at w ws)
 form_at turns keywords.Trans ws = forms.Trans (value ws 0) (value ws 1) (value ws 2)
+form_at turns keywords.Cow ws = forms.Cow (value ws 0) (value ws 1)
 form_at turns keywords.Thread ws = forms.Thread (value ws 0) (value ws 1) (value ws 2) (length (get_or ws 3 []) == 7)
 form_at turns keywords.Page ws = forms.Page (value ws 0) (backing_at ws (length ws)) (locked_at (length ws))
 form_at turns keywords.Cpus ws = forms.Cpus (value ws 0)
@@ -163,6 +164,7 @@ form_found turns ws forms.End one h e = refl
 form_found turns ws (forms.Schedule ts) one h e = ap forms.Schedule (one refl)
 form_found turns ws (forms.Command o) one h e = ap forms.Command (command_found ws o h e)
 form_found turns ws (forms.Trans m n p) one h e = cc (value_is ws 0 m h.0 (ap (λ us. get_or us 0 []) e), value_is ws 1 n h.1 (ap (λ us. get_or us 1 []) e), value_is ws 2 p h.2 (ap (λ us. get_or us 2 []) e))
+form_found turns ws (forms.Cow m n) one h e = cc (value_is ws 0 m h.0 (ap (λ us. get_or us 0 []) e), value_is ws 1 n h.1 (ap (λ us. get_or us 1 []) e))
 form_found turns ws (forms.Thread m n p b) one h e =
     let last : (length (get_or ws 3 []) == 7) ≡ b = ap (λ us. length (get_or us 3 []) == 7) e ∙ handler_found b in
     cc (value_is ws 0 m h.0 (ap (λ us. get_or us 0 []) e), value_is ws 1 n h.1 (ap (λ us. get_or us 1 []) e), value_is ws 2 p h.2 (ap (λ us. get_or us 2 []) e), last)
@@ -192,6 +194,7 @@ turns_unique ws turns (forms.Schedule ts) h k e = Pairs-unique IsTurn turn_uniqu
 turns_unique ws turns (forms.Header v) h k e = absurd (cc e)
 turns_unique ws turns (forms.Command o) h k e = absurd (cc e)
 turns_unique ws turns (forms.Trans m n p) h k e = absurd (cc e)
+turns_unique ws turns (forms.Cow m n) h k e = absurd (cc e)
 turns_unique ws turns (forms.Thread m n p b) h k e = absurd (cc e)
 turns_unique ws turns (forms.Page q b l) h k e = absurd (cc e)
 turns_unique ws turns forms.End h k e = absurd (cc e)
@@ -212,6 +215,7 @@ turns_agree ws (forms.Schedule ts) g same h k e = turns_unique ws ts g h k e
 turns_agree ws (forms.Header v) g same h k e = absurd (cc (same ∙ e))
 turns_agree ws (forms.Command o) g same h k e = absurd (cc (same ∙ e))
 turns_agree ws (forms.Trans m n p) g same h k e = absurd (cc (same ∙ e))
+turns_agree ws (forms.Cow m n) g same h k e = absurd (cc (same ∙ e))
 turns_agree ws (forms.Thread m n p b) g same h k e = absurd (cc (same ∙ e))
 turns_agree ws (forms.Page q b l) g same h k e = absurd (cc (same ∙ e))
 turns_agree ws forms.End g same h k e = absurd (cc (same ∙ e))

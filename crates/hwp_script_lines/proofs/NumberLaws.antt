@@ -73,6 +73,7 @@ plain words.Inject d ws ns = record { shape = λ h. h; long = λ h. h; numbers =
 plain words.Soft d ws ns = record { shape = λ h. h; long = λ h. h; numbers = λ h. h; all = λ h. h; kind = refl; same = λ e. e; at = λ f. rw (f 0 (omega arith)) refl }
 plain words.Unpoison d ws ns = record { shape = λ h. h; long = λ h. h; numbers = λ h. h; all = λ h. h; kind = refl; same = λ e. e; at = λ f. rw (f 0 (omega arith)) refl }
 plain words.Watch d ws ns = record { shape = λ h. h; long = λ h. h; numbers = λ h. h; all = λ h. h; kind = refl; same = λ e. e; at = λ f. rw (f 0 (omega arith), f 1 (omega arith)) refl }
+plain words.Fork d ws ns = record { shape = λ h. h; long = λ h. h; numbers = λ h. h; all = λ h. h; kind = refl; same = λ e. e; at = λ f. rw (f 0 (omega arith), f 1 (omega arith)) refl }
 plain words.Log d ws ns = absurd (d.0 refl)
 plain words.Raise d ws ns = absurd (d.1 refl)
 

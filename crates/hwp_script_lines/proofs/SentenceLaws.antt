@@ -35,6 +35,7 @@ keyword_found keywords.Proc = refl
 keyword_found keywords.Thread = refl
 keyword_found keywords.Page = refl
 keyword_found keywords.Trans = refl
+keyword_found keywords.Cow = refl
 keyword_found keywords.Cpu = refl
 keyword_found keywords.Schedule = refl
 keyword_found keywords.End = refl
@@ -58,6 +59,7 @@ keyword_found (keywords.Command words.Inject) = refl
 keyword_found (keywords.Command words.Soft) = refl
 keyword_found (keywords.Command words.Unpoison) = refl
 keyword_found (keywords.Command words.Watch) = refl
+keyword_found (keywords.Command words.Fork) = refl
 
 -- first words of one text are one
 pub keyword_text_injective : (j k : Keyword) → keyword_text j ≡ keyword_text k → j ≡ k

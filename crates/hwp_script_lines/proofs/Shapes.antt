@@ -9,7 +9,7 @@ use Rattle.std.proofs.lemmas.Bool.Decides.{nat_tests}
 use Rattle.std.proofs.lemmas.Fmt.{decimal_is_IsNumeral}
 use Rattle.std.proofs.lemmas.List.Elements.{All-nil, All-cons, All-push, All-append, All-from_recursion, All-same, All-weaker}
 use Rattle.std.proofs.lemmas.List.Splits.{join_with_byte-slice_split}
-use Rattle.hwp_geom.specs.Limits.{number, line_limit, frame_limit, file_limit, thread_limit, page_limit, translation_limit}
+use Rattle.hwp_geom.specs.Limits.{number, line_limit, frame_limit, file_limit, process_limit, thread_limit, page_limit, translation_limit}
 use Rattle.hwp_geom.specs.Pairs.{Pairs}
 use Rattle.hwp_geom.specs.declared.Kind.{Kind}
 use Rattle.hwp_geom.specs.declared.Kind.TheVariants as kinds
@@ -71,6 +71,7 @@ printable-keyword keywords.Proc = plain (keyword_text keywords.Proc) refl
 printable-keyword keywords.Thread = plain (keyword_text keywords.Thread) refl
 printable-keyword keywords.Page = plain (keyword_text keywords.Page) refl
 printable-keyword keywords.Trans = plain (keyword_text keywords.Trans) refl
+printable-keyword keywords.Cow = plain (keyword_text keywords.Cow) refl
 printable-keyword keywords.Cpu = plain (keyword_text keywords.Cpu) refl
 printable-keyword keywords.Schedule = plain (keyword_text keywords.Schedule) refl
 printable-keyword keywords.End = plain (keyword_text keywords.End) refl
@@ -94,6 +95,7 @@ printable-keyword (keywords.Command words.Inject) = plain (command_text words.In
 printable-keyword (keywords.Command words.Soft) = plain (command_text words.Soft) refl
 printable-keyword (keywords.Command words.Unpoison) = plain (command_text words.Unpoison) refl
 printable-keyword (keywords.Command words.Watch) = plain (command_text words.Watch) refl
+printable-keyword (keywords.Command words.Fork) = plain (command_text words.Fork) refl
 
 printable-kind : (k : Kind) → All IsPrintable (kind_text k)
 printable-kind kinds.LoadPte = plain (kind_text kinds.LoadPte) refl
@@ -206,6 +208,7 @@ command_printable words.Inject ws h shape = numbers_printable ws h
 command_printable words.Soft ws h shape = numbers_printable ws h
 command_printable words.Unpoison ws h shape = numbers_printable ws h
 command_printable words.Watch ws h shape = numbers_printable ws h
+command_printable words.Fork ws h shape = numbers_printable ws h
 
 -- the words of a command have its shape, and their numbers stand in place
 command_shaped : (ws : List (List ℕ)) (c : Command) → CommandFits c → AreCommandWords ws c → HaveCommandNumbers (command_word c) ws × HasCommandShape (command_word c) ws
@@ -232,6 +235,8 @@ command_shaped ws (commands.Scrub a b) h e =
     (two ws a.0 b.0 (low a.0 frame_limit (omega (arith, h.0, h.1)) (omega arith), low b.0 frame_limit h.1 (omega arith), e), ap length e)
 command_shaped ws (commands.Watch t w) h e =
     (two ws t w (low_to t threshold_limit h.1 (omega arith), low_to w window_limit h.3 (omega arith), e), ap length e)
+command_shaped ws (commands.Fork t p) h e =
+    (two ws t.0 p.0 (low t.0 thread_limit h.0 (omega arith), low p.0 process_limit h.1 (omega arith), e), ap length e)
 command_shaped ws (commands.Prctl t args) h e =
     (six ws t.0 args.operation args.arg2 args.arg3 args.arg4 args.arg5 (low t.0 thread_limit h.0 (omega arith), h.1, h.2, h.3, h.4, h.5, e), ap length e)
 command_shaped ws (commands.Log s a m) h e = (registers ws s a m e, e.three)
@@ -278,6 +283,8 @@ form_rest ws (forms.Proc n) h e = let all = one ws n (h, e) in record { printabl
 form_rest ws (forms.Cpu n) h e = let all = one ws n (h, e) in record { printable = numbers_printable ws all; shape = ap length e; numbers = all }
 form_rest ws (forms.Trans m n p) h e =
     let all = three ws m n p (h.0, h.1, h.2, e) in record { printable = numbers_printable ws all; shape = ap length e; numbers = all }
+form_rest ws (forms.Cow m n) h e =
+    let all = two ws m n (h.0, h.1, e) in record { printable = numbers_printable ws all; shape = ap length e; numbers = all }
 form_rest ws (forms.Thread m n p b) h e = record {
   printable = same_printable ws (rest_words (forms.Thread m n p b)) e (All-from_recursion (All IsPrintable) (rest_words (forms.Thread m n p b)) (printable-decimal m h.0, (printable-decimal n h.1, (printable-decimal p h.2, (printable-handler b, tt)))));
   shape = (ap length e, (b, ap (λ us. get_or us 3 []) e));

@@ -112,6 +112,7 @@ no_schedule ws none (forms.Schedule ts) h = none ts h.same
 no_schedule ws none (forms.Header v) h = absurd (cc h.kind)
 no_schedule ws none (forms.Command o) h = absurd (cc h.kind)
 no_schedule ws none (forms.Trans m n p) h = absurd (cc h.kind)
+no_schedule ws none (forms.Cow m n) h = absurd (cc h.kind)
 no_schedule ws none (forms.Thread m n p b) h = absurd (cc h.kind)
 no_schedule ws none (forms.Page q b l) h = absurd (cc h.kind)
 no_schedule ws none forms.End h = absurd (cc h.kind)

@@ -6,7 +6,7 @@ use Rattle.hwp_geom.specs.declared.Thread.{Thread}
 use Rattle.hwp_geom.specs.declared.VSlot.{VSlot}
 use Rattle.hwp_geom.specs.declared.Version.{Version}
 use Rattle.hwp_geom.specs.Pairs.{Pairs}
-use Rattle.hwp_geom.specs.Limits.{number, line_limit, cpu_limit, frame_limit, file_limit, thread_limit, page_limit, translation_limit}
+use Rattle.hwp_geom.specs.Limits.{number, line_limit, cpu_limit, frame_limit, file_limit, process_limit, thread_limit, page_limit, translation_limit}
 use Rattle.hwp_cec.specs.Limits.{threshold_limit, window_limit}
 use Rattle.hwp_script_lines.specs.Numbers.{IsNumberWord, IsRegister, IsRegisterWord, register}
 use Rattle.hwp_script_lines.specs.Kinds.{kind_text}
@@ -46,6 +46,7 @@ command_text words.Inject = codes "inject"
 command_text words.Soft = codes "soft"
 command_text words.Unpoison = codes "unpoison"
 command_text words.Watch = codes "watch"
+command_text words.Fork = codes "fork"
 
 -- the first word of a line
 abbrev pub keyword_text : Keyword → List ℕ
@@ -60,6 +61,7 @@ keyword_text keywords.Proc = codes "proc"
 keyword_text keywords.Thread = codes "thread"
 keyword_text keywords.Page = codes "page"
 keyword_text keywords.Trans = codes "trans"
+keyword_text keywords.Cow = codes "cow"
 keyword_text keywords.Cpu = codes "cpu"
 keyword_text keywords.Schedule = codes "schedule"
 keyword_text keywords.End = codes "end"
@@ -89,6 +91,7 @@ command_word (commands.Inject f) = words.Inject
 command_word (commands.Soft f) = words.Soft
 command_word (commands.Unpoison f) = words.Unpoison
 command_word (commands.Watch t w) = words.Watch
+command_word (commands.Fork t p) = words.Fork
 
 -- which first word a line has
 abbrev pub keyword : ScriptLine → Keyword
@@ -103,6 +106,7 @@ keyword (forms.Proc p) = keywords.Proc
 keyword (forms.Thread t p c h) = keywords.Thread
 keyword (forms.Page q b locked) = keywords.Page
 keyword (forms.Trans v p q) = keywords.Trans
+keyword (forms.Cow v w) = keywords.Cow
 keyword (forms.Cpu c) = keywords.Cpu
 keyword (forms.Command o) = keywords.Command (command_word o)
 keyword (forms.Schedule turns) = keywords.Schedule
@@ -191,6 +195,7 @@ command_words (commands.Inject f) = decimal f.0 ∷ []
 command_words (commands.Soft f) = decimal f.0 ∷ []
 command_words (commands.Unpoison f) = decimal f.0 ∷ []
 command_words (commands.Watch t w) = decimal t ∷ decimal w ∷ []
+command_words (commands.Fork t p) = decimal t.0 ∷ decimal p.0 ∷ []
 
 -- whether a thread has a handler, as its last word says it
 abbrev pub handler_text : Bool → List ℕ
@@ -230,6 +235,7 @@ rest_words (forms.Proc p) = decimal p ∷ []
 rest_words (forms.Thread t p c h) = decimal t ∷ decimal p ∷ decimal c ∷ handler_text h ∷ []
 rest_words (forms.Page q b locked) = page_words q b ++ locked_words locked
 rest_words (forms.Trans v p q) = decimal v ∷ decimal p ∷ decimal q ∷ []
+rest_words (forms.Cow v w) = decimal v ∷ decimal w ∷ []
 rest_words (forms.Cpu c) = decimal c ∷ []
 rest_words (forms.Command o) = command_words o
 rest_words (forms.Schedule turns) = map turn_text turns
@@ -271,6 +277,7 @@ CommandFits (commands.Inject f) = f.0 < frame_limit
 CommandFits (commands.Soft f) = f.0 < frame_limit
 CommandFits (commands.Unpoison f) = f.0 < frame_limit
 CommandFits (commands.Watch t w) = IsCollectorWithin t w
+CommandFits (commands.Fork t p) = (t.0 < thread_limit) × (p.0 < process_limit)
 
 -- the numbers of a declaration are below 2 ^ 64, those of a command are within their ranges, and a schedule has a word
 abbrev pub Fits : ScriptLine → Type 0
@@ -286,6 +293,7 @@ Fits (forms.Thread t p c h) = (t < 2 ^ 64) × (p < 2 ^ 64) × (c < 2 ^ 64)
 Fits (forms.Page q backings.Anon locked) = q < 2 ^ 64
 Fits (forms.Page q (backings.File n x) locked) = (q < 2 ^ 64) × (n < 2 ^ 64) × (x < 2 ^ 64)
 Fits (forms.Trans v p q) = (v < 2 ^ 64) × (p < 2 ^ 64) × (q < 2 ^ 64)
+Fits (forms.Cow v w) = (v < 2 ^ 64) × (w < 2 ^ 64)
 Fits (forms.Cpu c) = c < 2 ^ 64
 Fits (forms.Command c) = CommandFits c
 Fits (forms.Schedule turns) = 0 < length turns
@@ -358,6 +366,7 @@ HasCommandShape words.Inject ws = length ws ≡ 1
 HasCommandShape words.Soft ws = length ws ≡ 1
 HasCommandShape words.Unpoison ws = length ws ≡ 1
 HasCommandShape words.Watch ws = length ws ≡ 2
+HasCommandShape words.Fork ws = length ws ≡ 2
 
 -- the fixed words of a page are in place: nothing stands behind it, or a file
 abbrev pub HasPageShape : List (List ℕ) → Type 0
@@ -382,6 +391,7 @@ HasShape keywords.Proc ws = length ws ≡ 1
 HasShape keywords.Thread ws = (length ws ≡ 4) × ((handler : Bool) × (get_or ws 3 [] ≡ handler_text handler))
 HasShape keywords.Page ws = HasPageShape ws ⊎ HasLockedShape ws
 HasShape keywords.Trans ws = length ws ≡ 3
+HasShape keywords.Cow ws = length ws ≡ 2
 HasShape keywords.Cpu ws = length ws ≡ 1
 HasShape (keywords.Command w) ws = HasCommandShape w ws
 HasShape keywords.Schedule ws = (0 < length ws) × All HasTurnShape ws
@@ -417,7 +427,7 @@ pub record IsSentenceOver (k : Keyword) (ws : List (List ℕ)) : Type 0 where
   pub numbers : HaveNumbers k ws
   pub none : (f : ScriptLine) → IsSentence k ws f → ⊥
 
--- the first word of the head, of the end, of a translation, of a command, of a schedule, of a thread, and of a page
+-- the first word of the head, of the end, of a translation, of a twin, of a command, of a schedule, of a thread, and of a page
 abbrev pub header_keyword : Keyword
 header_keyword = keywords.Hwp
 
@@ -426,6 +436,9 @@ end_keyword = keywords.End
 
 abbrev pub trans_keyword : Keyword
 trans_keyword = keywords.Trans
+
+abbrev pub cow_keyword : Keyword
+cow_keyword = keywords.Cow
 
 abbrev pub command_keyword : CommandWord → Keyword
 command_keyword word = keywords.Command word
@@ -455,12 +468,14 @@ pub record IsShaped (ws : List (List ℕ)) : Type 0 where
 abbrev pub is_newer_word : CommandWord → Bool
 is_newer_word words.Open = true
 is_newer_word words.Watch = true
+is_newer_word words.Fork = true
 is_newer_word w = false
 
 -- a keyword with so many words behind it has a form in version Two alone
 abbrev pub is_newer : Keyword → ℕ → Bool
 is_newer (keywords.Command w) count = is_newer_word w
 is_newer keywords.Page count = (count == 3) || (count == 6)
+is_newer keywords.Cow count = true
 is_newer k count = false
 
 -- no shape fits the words

@@ -70,6 +70,7 @@ number_count words.Bad = 2
 number_count words.Weak = 2
 number_count words.Scrub = 2
 number_count words.Watch = 2
+number_count words.Fork = 2
 number_count words.Prctl = 6
 number_count w = 1
 
@@ -109,6 +110,10 @@ is_frame_word w = false
 abbrev pub watch : ℕ → ℕ → Command
 watch threshold window = commands.Watch threshold window
 
+-- the thread's process becomes the parent of the process
+abbrev pub fork : ℕ → ℕ → Command
+fork thread process = commands.Fork (record { 0 = thread }) (record { 0 = process })
+
 -- the command of a first word behind which these numbers stand; a log and a raise have others
 abbrev pub command_with : CommandWord → List ℕ → Command
 command_with words.Load ns = commands.Load (record { 0 = get_or ns 0 0 }) (record { 0 = get_or ns 1 0 }) (get_or ns 2 0)
@@ -131,6 +136,7 @@ command_with words.Inject ns = commands.Inject (record { 0 = get_or ns 0 0 })
 command_with words.Soft ns = commands.Soft (record { 0 = get_or ns 0 0 })
 command_with words.Unpoison ns = commands.Unpoison (record { 0 = get_or ns 0 0 })
 command_with words.Watch ns = watch (get_or ns 0 0) (get_or ns 1 0)
+command_with words.Fork ns = fork (get_or ns 0 0) (get_or ns 1 0)
 
 -- the lines behind whose first word just one number stands
 abbrev pub has_one_number : Keyword → Bool

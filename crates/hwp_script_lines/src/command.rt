@@ -1,4 +1,4 @@
-use hwp_geom::{Cpu, FileNo, Frame, Kind, Line, Page, Thread, VSlot};
+use hwp_geom::{Cpu, FileNo, Frame, Kind, Line, Page, Proc, Thread, VSlot};
 
 /// The five numbers of a `prctl` command, named as in prctl(2): the operation and its four arguments.
 #[derive(Clone, Copy)]
@@ -118,6 +118,11 @@ pub enum Command {
     Watch {
         threshold: u16,
         window: u8,
+    },
+    /// The thread's process makes the process its child, as fork(2) does: both read the same memory until one of them stores.
+    Fork {
+        thread: Thread,
+        process: Proc,
     },
 }
 

@@ -1,7 +1,7 @@
 ghost use Rattle.std.specs.Prelude.{◌≡◌, ◌≢◌, ◌<◌, ◌≤◌, ◌⊎◌, ◌∷◌, map, codes, true, MatchOption, MatchResult};
-ghost use Rattle.hwp_geom.specs.Limits.{line_limit, frame_limit, file_limit, thread_limit, page_limit, translation_limit};
+ghost use Rattle.hwp_geom.specs.Limits.{line_limit, frame_limit, file_limit, process_limit, thread_limit, page_limit, translation_limit};
 ghost use Rattle.hwp_script_lines.specs.Grammar.{bit, CommandFits, IsAccessWithin, IsCollectorWithin, IsCommand, raise_word};
-ghost use Rattle.hwp_script_lines.specs.Misfits.{IsCommandMisfit, command_with, is_access_word, is_frame_word, is_page_word, log_word, watch};
+ghost use Rattle.hwp_script_lines.specs.Misfits.{IsCommandMisfit, command_with, fork, is_access_word, is_frame_word, is_page_word, log_word, watch};
 
 use crate::command::{Command, PrctlArgs};
 use crate::keywords::CommandWord;
@@ -9,8 +9,8 @@ use crate::numbers::{Misfit, read_numbers, three_registers};
 use crate::words::is_text;
 use hwp_cec::{MAX_THRESHOLD, MAX_WINDOW};
 use hwp_geom::{
-    FileNo, Frame, LINES, Line, MAX_FILES, MAX_FRAMES, MAX_PAGES, MAX_THREADS, MAX_TRANS, Page,
-    Thread, VSlot,
+    FileNo, Frame, LINES, Line, MAX_FILES, MAX_FRAMES, MAX_PAGES, MAX_PROCS, MAX_THREADS,
+    MAX_TRANS, Page, Proc, Thread, VSlot,
 };
 
 /// The thread of this number, if there may be one.
@@ -63,6 +63,17 @@ fn file_of(number: u64) -> Option<FileNo>
 {
     if number < u64::from(MAX_FILES) {
         Some(FileNo(number as u8))
+    } else {
+        None
+    }
+}
+
+/// The process of this number, if there may be one.
+fn process_of(number: u64) -> Option<Proc>
+    ensures { MatchOption result (process_limit ≤ number) (λ process. (process ≡ record { 0 = number }) × (number < process_limit)) }
+{
+    if number < u64::from(MAX_PROCS) {
+        Some(Proc(number as u8))
     } else {
         None
     }
@@ -290,6 +301,15 @@ fn watch_with(threshold: u64, window: u64) -> Option<Command>
     Some(Command::Watch { threshold, window })
 }
 
+/// The fork of this thread and process, if there may be both.
+fn fork_with(thread: u64, process: u64) -> Option<Command>
+    ensures { MatchOption result (CommandFits (fork thread process) → ⊥) (λ c. (c ≡ fork thread process) × CommandFits (fork thread process)) }
+{
+    let thread = thread_of(thread)?;
+    let process = process_of(process)?;
+    Some(Command::Fork { thread, process })
+}
+
 /// The command of this first word behind which these numbers stand, if each is within its range.
 fn command_with(word: CommandWord, numbers: [u64; 6]) -> Option<Command>
     requires { (word ≢ log_word) × (word ≢ raise_word) }
@@ -324,6 +344,7 @@ fn command_with(word: CommandWord, numbers: [u64; 6]) -> Option<Command>
         | CommandWord::Soft
         | CommandWord::Unpoison => frame_with(word, numbers),
         CommandWord::Watch => watch_with(numbers[0], numbers[1]),
+        CommandWord::Fork => fork_with(numbers[0], numbers[1]),
         CommandWord::Log | CommandWord::Raise => unreachable!(),
     }
 }

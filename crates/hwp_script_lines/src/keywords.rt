@@ -20,6 +20,7 @@ pub(crate) enum Keyword {
     Thread,
     Page,
     Trans,
+    Cow,
     Cpu,
     Schedule,
     End,
@@ -49,10 +50,11 @@ pub(crate) enum CommandWord {
     Soft,
     Unpoison,
     Watch,
+    Fork,
 }
 
 /// The first words of all commands.
-const COMMAND_WORDS: [CommandWord; 20] = [
+const COMMAND_WORDS: [CommandWord; 21] = [
     CommandWord::Load,
     CommandWord::Fetch,
     CommandWord::KLoad,
@@ -73,10 +75,11 @@ const COMMAND_WORDS: [CommandWord; 20] = [
     CommandWord::Soft,
     CommandWord::Unpoison,
     CommandWord::Watch,
+    CommandWord::Fork,
 ];
 
 /// The first words of all other lines.
-const HEADS: [Keyword; 14] = [
+const HEADS: [Keyword; 15] = [
     Keyword::Hwp,
     Keyword::Cpus,
     Keyword::Frames,
@@ -88,6 +91,7 @@ const HEADS: [Keyword; 14] = [
     Keyword::Thread,
     Keyword::Page,
     Keyword::Trans,
+    Keyword::Cow,
     Keyword::Cpu,
     Keyword::Schedule,
     Keyword::End,
@@ -119,6 +123,7 @@ impl CommandWord {
             CommandWord::Soft => "soft",
             CommandWord::Unpoison => "unpoison",
             CommandWord::Watch => "watch",
+            CommandWord::Fork => "fork",
         }
     }
 
@@ -126,7 +131,10 @@ impl CommandWord {
     fn is_newer(self) -> bool
         ensures { result ≡ is_newer_word self }
     {
-        matches!(self, CommandWord::Open | CommandWord::Watch)
+        matches!(
+            self,
+            CommandWord::Open | CommandWord::Watch | CommandWord::Fork
+        )
     }
 
     /// How many numbers stand behind the word, where only numbers do.
@@ -137,7 +145,11 @@ impl CommandWord {
         match self {
             CommandWord::Load | CommandWord::Fetch | CommandWord::KLoad => 3,
             CommandWord::Store => 4,
-            CommandWord::Bad | CommandWord::Weak | CommandWord::Scrub | CommandWord::Watch => 2,
+            CommandWord::Bad
+            | CommandWord::Weak
+            | CommandWord::Scrub
+            | CommandWord::Watch
+            | CommandWord::Fork => 2,
             CommandWord::Prctl => 6,
             _ => 1,
         }
@@ -161,6 +173,7 @@ impl Keyword {
             Keyword::Thread => "thread",
             Keyword::Page => "page",
             Keyword::Trans => "trans",
+            Keyword::Cow => "cow",
             Keyword::Cpu => "cpu",
             Keyword::Schedule => "schedule",
             Keyword::End => "end",
@@ -174,6 +187,7 @@ impl Keyword {
     {
         match self {
             Keyword::Page => count == 3 || count == 6,
+            Keyword::Cow => true,
             Keyword::Command(word) => word.is_newer(),
             _ => false,
         }

@@ -50,6 +50,11 @@ pub enum ScriptLine {
         process: u64,
         page: u64,
     },
+    /// `cow V W`: the private twin of a translation, behind a fork.
+    Cow {
+        slot: u64,
+        twin: u64,
+    },
     /// `cpu C`: the head of a processor's commands.
     Cpu(u64),
     /// A command.

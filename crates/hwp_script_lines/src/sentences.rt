@@ -1,7 +1,7 @@
 ghost use Rattle.std.specs.Prelude.{◌≡◌, ◌≢◌, ℕ, map, decimal, true, Bool, IfOk, MatchOption, MatchResult};
 ghost use Rattle.hwp_geom.specs.Limits.{number};
 ghost use Rattle.hwp_geom.specs.declared.Version.{Version};
-ghost use Rattle.hwp_script_lines.specs.Grammar.{IsSentence, HasLockedShape, thread_keyword, page_keyword, schedule_keyword, header_keyword, trans_keyword, command_keyword, end_keyword, handler_text};
+ghost use Rattle.hwp_script_lines.specs.Grammar.{IsSentence, HasLockedShape, thread_keyword, page_keyword, schedule_keyword, header_keyword, trans_keyword, cow_keyword, command_keyword, end_keyword, handler_text};
 ghost use Rattle.hwp_script_lines.specs.Numbers.{IsNumber};
 ghost use Rattle.hwp_script_lines.specs.Misfits.{ArePageWords, IsLockedFront, IsPageMisfit, IsSentenceMisfit, form_with, has_one_number};
 
@@ -198,6 +198,19 @@ fn read_trans(words: &[&[u8]]) -> Result<ScriptLine, Misfit>
     }
 }
 
+/// The twin that these words behind `cow` give a translation.
+fn read_cow(words: &[&[u8]]) -> Result<ScriptLine, Misfit>
+    ensures { MatchResult result (IsSentence cow_keyword (map (λ w. w.now) words.now)) (IsSentenceMisfit cow_keyword (map (λ w. w.now) words.now)) }
+{
+    match read_numbers(words, 2) {
+        Ok(numbers) => Ok(ScriptLine::Cow {
+            slot: numbers[0],
+            twin: numbers[1],
+        }),
+        Err(misfit) => Err(misfit),
+    }
+}
+
 /// The line of a command with this first word that these words behind it say.
 fn read_command_line(word: CommandWord, words: &[&[u8]]) -> Result<ScriptLine, Misfit>
     ensures { MatchResult result (IsSentence (command_keyword word) (map (λ w. w.now) words.now)) (IsSentenceMisfit (command_keyword word) (map (λ w. w.now) words.now)) }
@@ -218,6 +231,7 @@ fn read_plain_sentence(keyword: Keyword, words: &[&[u8]]) -> Result<ScriptLine, 
         Keyword::Thread => read_thread(words),
         Keyword::Page => read_page(words),
         Keyword::Trans => read_trans(words),
+        Keyword::Cow => read_cow(words),
         Keyword::Command(word) => read_command_line(word, words),
         Keyword::End => read_end(words),
         Keyword::Schedule => unreachable!(),

@@ -13,7 +13,8 @@ use Rattle.hwp_script_read.specs.hwp_script_lines.declared.ScriptLine.{ScriptLin
 use Rattle.hwp_script_read.specs.hwp_script_lines.declared.ScriptLine.TheVariants as forms
 use Rattle.hwp_script_read.specs.declared.Why.{Why}
 use Rattle.hwp_script_read.specs.declared.Why.TheVariants as whys
-use Rattle.hwp_script_read.proofs.CleanLaws.{IsPlaced, IsCpusClean, IsFramesClean, IsKernelClean, IsRecoveryClean, IsEarlyClean, IsFileClean, IsProcClean, IsThreadClean, IsPageClean, IsTransClean, IsCpuClean, IsCommandClean, IsScheduleClean}
+use Rattle.hwp_script_read.proofs.CleanLaws.{IsPlaced, IsCpusClean, IsFramesClean, IsKernelClean, IsRecoveryClean, IsEarlyClean, IsFileClean, IsProcClean, IsThreadClean, IsPageClean, IsTransClean, IsCowClean, IsCpuClean, IsCommandClean, IsScheduleClean}
+use Rattle.hwp_script_read.proofs.TwinLaws.{clash}
 
 not_misplaced : {above : List ScriptLine} {g : ℕ} → IsPlaced above g → IsMisplaced above g → ⊥
 not_misplaced h (inl e) = omega (arith, h.late, e)
@@ -156,6 +157,23 @@ no_trans l h w e = e
 pub put_trans : {above : List ScriptLine} {v p q : ℕ} → 0 < length above → IsTransClean above v p q → IsClean above (forms.Trans v p q)
 put_trans l h = record { none = no_trans l h }
 
+no_cow : {above : List ScriptLine} {v t : ℕ} → 0 < length above → IsCowClean above v t → (w : Why) → Applies above (forms.Cow v t) w → ⊥
+no_cow l h whys.BadHeader e = omega (arith, l, e)
+no_cow l h whys.UnknownWord e = h.newer e
+no_cow {above} {v} l h whys.OverLimit (inl e) = let big : translation_limit_of (version_in above) ≤ v = e in omega (arith, h.low, big)
+no_cow {above} {v} {t} l h whys.OverLimit (inr e) = let big : translation_limit_of (version_in above) ≤ t = e in omega (arith, h.low_twin, big)
+no_cow l h whys.Undeclared e = h.paired e
+no_cow l h whys.Twice (inl e) = clash _ e h.free
+no_cow l h whys.Twice (inr e) = clash _ e h.fresh
+no_cow l h whys.WrongPlace (inl e) = not_misplaced h.placed e
+no_cow l h whys.WrongPlace (inr (inl e)) = clash _ e h.no_twin
+no_cow l h whys.WrongPlace (inr (inr (inl e))) = clash _ e h.last
+no_cow l h whys.WrongPlace (inr (inr (inr e))) = clash _ e h.alone
+no_cow l h w e = e
+
+pub put_cow : {above : List ScriptLine} {v t : ℕ} → 0 < length above → IsCowClean above v t → IsClean above (forms.Cow v t)
+put_cow l h = record { none = no_cow l h }
+
 no_cpu : {above : List ScriptLine} {c : ℕ} → 0 < length above → IsCpuClean above c → (Contains (lists_in above) c → ⊥) → (w : Why) → Applies above (forms.Cpu c) w → ⊥
 no_cpu l h k whys.BadHeader e = omega (arith, l, e)
 no_cpu {above} {c} l h k whys.OverLimit e = let big : cpu_limit_of (version_in above) ≤ c = e in omega (arith, h.low, big)
@@ -174,7 +192,10 @@ no_command {above} l h whys.OverLimit (inl e) = let big : command_limit ≤ comm
 no_command l h whys.OverLimit (inr e) = h.low e
 no_command l h whys.Undeclared e = h.named e
 no_command l h whys.WrongPlace (inl e) = not_misplaced h.placed e
-no_command l h whys.WrongPlace (inr e) = h.here e
+no_command l h whys.WrongPlace (inr (inl e)) = h.here e
+no_command l h whys.WrongPlace (inr (inr (inl e))) = clash _ e h.no_twin
+no_command l h whys.WrongPlace (inr (inr (inr (inl e)))) = h.fork e
+no_command l h whys.WrongPlace (inr (inr (inr (inr e)))) = clash _ e h.once
 no_command l h w e = e
 
 pub put_command : {above : List ScriptLine} {c : Command} → 0 < length above → IsCommandClean above c → IsClean above (forms.Command c)
@@ -191,10 +212,10 @@ no_schedule l h w e = e
 pub put_schedule : {above : List ScriptLine} {ws : List Go} → 0 < length above → IsScheduleClean above ws → IsClean above (forms.Schedule ws)
 put_schedule l h = record { none = no_schedule l h }
 
-no_end : {above : List ScriptLine} → 0 < length above → IsPlaced above 12 → (w : Why) → Applies above forms.End w → ⊥
+no_end : {above : List ScriptLine} → 0 < length above → IsPlaced above 13 → (w : Why) → Applies above forms.End w → ⊥
 no_end l h whys.BadHeader e = omega (arith, l, e)
 no_end l h whys.WrongPlace e = not_misplaced h e
 no_end l h w e = e
 
-pub put_end : {above : List ScriptLine} → 0 < length above → IsPlaced above 12 → IsClean above forms.End
+pub put_end : {above : List ScriptLine} → 0 < length above → IsPlaced above 13 → IsClean above forms.End
 put_end l h = record { none = no_end l h }

@@ -1,20 +1,21 @@
 -- Declarations that are put one after the other: each line is clean, and what they declare grows.
-use Rattle.std.proofs.Common.{ℕ, ◌≡◌, ◌<◌, ◌≤◌, ◌^◌, ◌+◌, ◌++◌, ◌==◌, Bool, true, false, List, [], ◌∷◌, length, get_or, map, Option, Some, None, zero, suc, ap, subst, ◌∙◌, sym, refl, arith}
+use Rattle.std.proofs.Common.{ℕ, ◌≡◌, ◌<◌, ◌≤◌, ◌^◌, ◌+◌, ◌++◌, ◌==◌, Bool, true, false, List, [], ◌∷◌, length, get_or, map, replicate, Option, Some, None, zero, suc, ap, subst, ◌∙◌, sym, refl, arith}
 use Rattle.std.specs.Prelude.{All, Contains}
 use Rattle.std.specs.List.{range_with_len}
-use Rattle.std.proofs.lemmas.List.{append-nil, append_assoc, length_push}
+use Rattle.std.proofs.lemmas.List.{append-nil, append_assoc, length_push, replicate_more}
 use Rattle.std.proofs.lemmas.List.Elements.{All-nil, All-cons, All-head, All-tail, All-push, All-weaker, All-contains}
 use Rattle.hwp_script_read.specs.hwp_geom.Limits.{cpu_limit, frame_limit, page_limit, translation_limit, cpu_limit_of, frame_limit_of, page_limit_of, translation_limit_of}
 use Rattle.hwp_script_read.specs.hwp_geom.declared.Version.{Version}
 use Rattle.hwp_script_read.specs.hwp_geom.declared.Version.TheVariants as versions
 use Rattle.hwp_script_read.specs.hwp_geom.declared.ThreadDecl.{ThreadDecl}
 use Rattle.hwp_script_read.specs.hwp_geom.declared.TransDecl.{TransDecl}
+use Rattle.hwp_script_read.specs.hwp_geom.declared.VSlot.{VSlot}
 use Rattle.hwp_script_read.specs.hwp_geom.declared.PageKind.{PageKind}
 use Rattle.hwp_script_read.specs.hwp_geom.declared.PageKind.TheVariants as kinds
 use Rattle.hwp_script_read.specs.hwp_script_lines.declared.ScriptLine.{ScriptLine}
 use Rattle.hwp_script_read.specs.hwp_script_lines.declared.Go.{Go}
 use Rattle.hwp_script_read.specs.hwp_script_lines.declared.ScriptLine.TheVariants as forms
-use Rattle.hwp_script_read.specs.Context.{version_after, version_in, locked_of, locked_in, cpus_of, frames_of, kernel_of, recovery_of, early_of, file_of, proc_of, thread_of, page_of, trans_of, cpu_of, command_of, words_of, kind_of, cpus_in, frames_in, kernel_in, recovery_in, early_in, files_in, procs_in, threads_in, pages_in, trans_in, lists_in, commands_in, go_in, place_in, place_after, group, highest}
+use Rattle.hwp_script_read.specs.Context.{version_after, version_in, locked_of, locked_in, cpus_of, frames_of, kernel_of, recovery_of, early_of, file_of, proc_of, thread_of, page_of, trans_of, cpu_of, command_of, words_of, kind_of, cpus_in, frames_in, kernel_in, recovery_in, early_in, files_in, procs_in, threads_in, pages_in, trans_in, twins_after, twins_in, lists_in, commands_in, go_in, place_in, place_after, group, highest}
 use Rattle.hwp_script_read.specs.Reasons.{IsClean, AreClean, IsBackingOver, IsBackingUndeclared}
 use Rattle.hwp_script_read.proofs.ContextLaws.{onto, plus, more, either, pushed}
 use Rattle.hwp_script_read.proofs.CleanLaws.{IsPlaced, cpu_most, frame_most, page_most, trans_most}
@@ -39,6 +40,7 @@ pub record Known : Type 0 where
   pub pages : List PageKind
   pub locked : List Bool
   pub trans : List TransDecl
+  pub twins : List (Option VSlot)
   pub lists : List ℕ
   pub place : Option ℕ
   pub commands : ℕ
@@ -58,6 +60,7 @@ known fs = record {
   pages = pages_in fs;
   locked = locked_in fs;
   trans = trans_in fs;
+  twins = twins_in fs;
   lists = lists_in fs;
   place = place_in fs;
   commands = commands_in fs;
@@ -87,6 +90,7 @@ next k f = record {
   pages = onto (page_of f) k.pages;
   locked = onto (locked_of f) k.locked;
   trans = onto (trans_of f) k.trans;
+  twins = twins_after k.twins f;
   lists = onto (cpu_of f) k.lists;
   place = place_after k.place f;
   commands = more (command_of f) k.commands;
@@ -96,7 +100,7 @@ next k f = record {
 known_push : (fs : List ScriptLine) (f : ScriptLine) → known (fs ++ f ∷ []) ≡ next (known fs) f
 known_push fs f =
     let p = pushed fs f in
-    rw (p.version, p.locked, p.cpus, p.frames, p.kernel, p.recovery, p.early, p.files, p.procs, p.threads, p.pages, p.trans, p.lists, p.place, p.commands, p.go, go_more-is) refl
+    rw (p.version, p.locked, p.cpus, p.frames, p.kernel, p.recovery, p.early, p.files, p.procs, p.threads, p.pages, p.trans, p.twins, p.lists, p.place, p.commands, p.go, go_more-is) refl
 
 -- the lines are clean, of groups up to g, and declare this
 pub record IsMade (fs : List ScriptLine) (g : ℕ) (k : Known) : Type 0 where
@@ -149,6 +153,7 @@ nothing = record {
   pages = [];
   locked = [];
   trans = [];
+  twins = [];
   lists = [];
   place = None;
   commands = 0;
@@ -303,10 +308,18 @@ made_pages {fs} k locked done (q ∷ qs) marks h c f few l files older =
     made_then fs (forms.Page (length done) (backing_of q) mark) (numbered (page_forms locked) (length done + 1) qs)
     (rw (length_push, append_assoc done (q ∷ []) qs, append_assoc marks (mark ∷ []) (marks_from locked (length done + 1) qs)) at rest)
 
-pub made_trans : {fs : List ScriptLine} (k : Known) (done vs : List TransDecl) → IsMade fs 10 (record k { trans = done }) → 0 < k.cpus → 0 < k.frames
+-- no twins of so many translations
+abbrev pub nones : ℕ → List (Option VSlot)
+nones n = replicate n None
+
+-- a translation more has no twin at first
+untwinned : (done : List TransDecl) (v : TransDecl) → nones (length done) ++ None ∷ [] ≡ nones (length (done ++ v ∷ []))
+untwinned done v = replicate_more (length done) None ∙ ap nones (sym (length_push done v))
+
+pub made_trans : {fs : List ScriptLine} (k : Known) (done vs : List TransDecl) → IsMade fs 10 (record k { trans = done; twins = nones (length done) }) → 0 < k.cpus → 0 < k.frames
     → k.procs ≤ 16 → length k.pages ≤ page_limit_of k.version → length done + length vs ≤ translation_limit_of k.version → All (IsNamedTrans k.procs (length k.pages)) vs
-    → IsMade (fs ++ numbered trans_forms (length done) vs) 10 (record k { trans = done ++ vs })
-made_trans k done [] h c f few_p few_q l names = rw (append-nil done) (made_nil h)
+    → IsMade (fs ++ numbered trans_forms (length done) vs) 10 (record k { trans = done ++ vs; twins = nones (length done + length vs) })
+made_trans k done [] h c f few_p few_q l names = let e : length done + 0 ≡ length done = omega arith in rw (append-nil done, e) (made_nil h)
 made_trans {fs} k done (v ∷ vs) h c f few_p few_q l names =
     let named = All-head (IsNamedTrans k.procs (length k.pages)) v vs names in
     let procs : procs_in fs ≡ k.procs = ap (λ (x : Known). x.procs) h.same in
@@ -324,6 +337,10 @@ made_trans {fs} k done (v ∷ vs) h c f few_p few_q l names =
       page = omega (arith, named.1, pages);
       low_page = rw version (omega (arith, named.1));
     }) in
-    let rest = made_trans k (done ++ v ∷ []) vs (made_push (forms.Trans (length done) v.process.0 v.page.0) h (omega arith) (plain (omega arith, omega (arith, named.0), omega (arith, named.1)) refl) clean) c f few_p few_q
+    let made : IsMade (fs ++ forms.Trans (length done) v.process.0 v.page.0 ∷ []) 10 (record k { trans = done ++ v ∷ []; twins = nones (length (done ++ v ∷ [])) }) =
+    subst (λ (ts : List (Option VSlot)). IsMade (fs ++ forms.Trans (length done) v.process.0 v.page.0 ∷ []) 10 (record k { trans = done ++ v ∷ []; twins = ts })) (untwinned done v)
+    (made_push (forms.Trans (length done) v.process.0 v.page.0) h (omega arith) (plain (omega arith, omega (arith, named.0), omega (arith, named.1)) refl) clean) in
+    let many : length done + 1 + length vs ≡ length done + length (v ∷ vs) = omega arith in
+    let rest = made_trans k (done ++ v ∷ []) vs made c f few_p few_q
     (rw length_push (omega arith)) (All-tail (IsNamedTrans k.procs (length k.pages)) v vs names) in
-    made_then fs (forms.Trans (length done) v.process.0 v.page.0) (numbered trans_forms (length done + 1) vs) (rw (length_push, append_assoc done (v ∷ []) vs) at rest)
+    made_then fs (forms.Trans (length done) v.process.0 v.page.0) (numbered trans_forms (length done + 1) vs) (rw (length_push, append_assoc done (v ∷ []) vs, many) at rest)

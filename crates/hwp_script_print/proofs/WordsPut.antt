@@ -7,7 +7,7 @@ use Rattle.std.proofs.lemmas.Bool.{and_parts}
 use Rattle.std.proofs.lemmas.Bool.Decides.{nat_tests}
 use Rattle.std.proofs.lemmas.Fmt.{decimal_is_IsNumeral}
 use Rattle.std.proofs.lemmas.List.Elements.{All-nil, All-cons, All-head, All-tail}
-use Rattle.hwp_script_read.specs.hwp_geom.Limits.{number, line_limit, file_limit, thread_limit, cpu_limit, frame_limit, page_limit, translation_limit}
+use Rattle.hwp_script_read.specs.hwp_geom.Limits.{number, line_limit, file_limit, process_limit, thread_limit, cpu_limit, frame_limit, page_limit, translation_limit}
 use Rattle.hwp_script_read.specs.hwp_geom.Words.{hex}
 use Rattle.hwp_script_read.specs.hwp_geom.declared.Version.{Version}
 use Rattle.hwp_script_read.specs.hwp_geom.declared.Version.TheVariants as versions
@@ -75,6 +75,7 @@ put_first (forms.Cpu n) = fixed _ _ refl
 put_first (forms.Thread t p c h) = fixed _ _ refl
 put_first (forms.Page q b l) = fixed _ _ refl
 put_first (forms.Trans v p q) = fixed _ _ refl
+put_first (forms.Cow v w) = fixed _ _ refl
 put_first (forms.Schedule ts) = fixed _ _ refl
 put_first (forms.Command (commands.Load t v l)) = fixed _ _ refl
 put_first (forms.Command (commands.Fetch t v l)) = fixed _ _ refl
@@ -98,6 +99,7 @@ put_first (forms.Command (commands.Inject f)) = fixed _ _ refl
 put_first (forms.Command (commands.Soft f)) = fixed _ _ refl
 put_first (forms.Command (commands.Unpoison f)) = fixed _ _ refl
 put_first (forms.Command (commands.Watch t w)) = fixed _ _ refl
+put_first (forms.Command (commands.Fork t p)) = fixed _ _ refl
 
 -- whether a name of a kind of step is a fixed word without `@`
 fixed_kind : (k : Kind) → (are_fixed (kind_text k) && has_no_at (kind_text k)) ≡ true
@@ -179,6 +181,7 @@ put_command (commands.Bad f l) h = then (put_decimal f.0 (low f.0 frame_limit h.
 put_command (commands.Weak f l) h = then (put_decimal f.0 (low f.0 frame_limit h.0 (omega arith))) (then (put_decimal l (low l line_limit h.1 (omega arith))) nothing)
 put_command (commands.Scrub a b) h = then (put_decimal a.0 (low a.0 frame_limit (omega (arith, h.0, h.1)) (omega arith))) (then (put_decimal b.0 (low b.0 frame_limit h.1 (omega arith))) nothing)
 put_command (commands.Watch t w) h = then (put_decimal t (low_to t threshold_limit h.1 (omega arith))) (then (put_decimal w (low_to w window_limit h.3 (omega arith))) nothing)
+put_command (commands.Fork t p) h = then (put_decimal t.0 (low t.0 thread_limit h.0 (omega arith))) (then (put_decimal p.0 (low p.0 process_limit h.1 (omega arith))) nothing)
 put_command (commands.Prctl t args) h =
     then (put_decimal t.0 (low t.0 thread_limit h.0 (omega arith))) (then (put_decimal args.operation h.1) (then (put_decimal args.arg2 h.2) (then (put_decimal args.arg3 h.3) (then (put_decimal args.arg4 h.4) (then (put_decimal args.arg5 h.5) nothing)))))
 put_command (commands.Log s a m) h = then (put_register s h.0) (then (put_register a h.1) (then (put_register m h.2) nothing))
@@ -215,6 +218,7 @@ put_rest (forms.Page q backings.Anon locked) h k = then (put_decimal q h) (then 
 put_rest (forms.Page q (backings.File n x) locked) h k =
     then (put_decimal q h.0) (then (fixed _ _ refl) (then (put_decimal n h.1) (then (fixed _ _ refl) (then (put_decimal x h.2) (put_locked locked)))))
 put_rest (forms.Trans v p q) h k = then (put_decimal v h.0) (then (put_decimal p h.1) (then (put_decimal q h.2) nothing))
+put_rest (forms.Cow v w) h k = then (put_decimal v h.0) (then (put_decimal w h.1) nothing)
 put_rest (forms.Command c) h k = put_command c h
 put_rest (forms.Schedule ts) h k = put_turns ts k
 put_rest forms.End h k = nothing

@@ -1,10 +1,11 @@
 -- The one text of a script.
-use Rattle.std.specs.Prelude.{ℕ, ◌+◌, ◌*◌, ◌/◌, ◌++◌, Bool, true, false, List, [], ◌∷◌, length, get_or, map, take, drop}
+use Rattle.std.specs.Prelude.{ℕ, ◌+◌, ◌*◌, ◌/◌, ◌++◌, Bool, true, false, List, [], ◌∷◌, length, get_or, map, take, drop, Option, None, Some}
 use Rattle.std.specs.List.{range_with_len}
 use Rattle.hwp_script_read.specs.hwp_geom.declared.Version.{Version}
 use Rattle.hwp_script_read.specs.hwp_geom.declared.PageKind.{PageKind}
 use Rattle.hwp_script_read.specs.hwp_geom.declared.ThreadDecl.{ThreadDecl}
 use Rattle.hwp_script_read.specs.hwp_geom.declared.TransDecl.{TransDecl}
+use Rattle.hwp_script_read.specs.hwp_geom.declared.VSlot.{VSlot}
 use Rattle.hwp_script_read.specs.hwp_geom.declared.PageKind.TheVariants as kinds
 use Rattle.hwp_script_read.specs.hwp_script_lines.Grammar.{bit}
 use Rattle.hwp_script_print.specs.Printed.{forms_text}
@@ -63,6 +64,11 @@ page_forms locked n kind = forms.Page n (backing_of kind) (get_or locked n false
 abbrev pub trans_forms : ℕ → TransDecl → List ScriptLine
 trans_forms n t = forms.Trans n t.process.0 t.page.0 ∷ []
 
+-- the twin of a translation, if it has one
+abbrev pub cow_forms : ℕ → Option VSlot → List ScriptLine
+cow_forms n None = []
+cow_forms n (Some twin) = forms.Cow n twin.0 ∷ []
+
 -- a processor and its commands
 abbrev pub list_forms : ℕ → List Command → List ScriptLine
 list_forms n cmds = forms.Cpu n ∷ map forms.Command cmds
@@ -86,6 +92,7 @@ script_forms s =
     ++ numbered thread_forms 0 s.layout.threads
     ++ numbered (page_forms s.layout.locked) 0 s.layout.pages
     ++ numbered trans_forms 0 s.layout.trans
+    ++ numbered cow_forms 0 s.layout.twins
     ++ numbered list_forms 0 s.lists
     ++ counted (go_row s.go) (rows_of (length s.go))
     ++ forms.End ∷ []

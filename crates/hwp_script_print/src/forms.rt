@@ -6,8 +6,8 @@ ghost use Rattle.hwp_script_read.specs.hwp_script_lines.Numbers.{register};
 ghost use Rattle.hwp_script_print.specs.Printed.{command_line, thread_words, page_line, schedule_words};
 
 use hwp_script_read::{
-    Backing, Command, Frame, Go, Line, OutOfMemory, PrctlArgs, ScriptLine, Thread, Until, VSlot,
-    kind_name,
+    Backing, Command, Frame, Go, Line, OutOfMemory, PrctlArgs, Proc, ScriptLine, Thread, Until,
+    VSlot, kind_name,
 };
 
 /// Adds the line of a form to a text, with its line feed.
@@ -40,6 +40,7 @@ pub fn put_form(out: &mut String, form: &ScriptLine) -> Result<(), OutOfMemory>
             process,
             page,
         } => put_trans(out, *slot, *process, *page),
+        ScriptLine::Cow { slot, twin } => put_cow(out, *slot, *twin),
         ScriptLine::Cpu(cpu) => put_number(out, "cpu", *cpu),
         ScriptLine::Command(command) => put_command(out, command),
         ScriptLine::Schedule(turns) => put_schedule(out, turns.as_slice()),
@@ -57,6 +58,12 @@ fn put_trans(out: &mut String, slot: u64, process: u64, page: u64) -> Result<(),
     ensures { OnOk result (string_bytes out.new ≡ string_bytes out.old ++ line (codes "trans" ∷ decimal slot ∷ decimal process ∷ decimal page ∷ [])) }
 {
     writeln!(out, "trans {slot} {process} {page}")
+}
+
+fn put_cow(out: &mut String, slot: u64, twin: u64) -> Result<(), OutOfMemory>
+    ensures { OnOk result (string_bytes out.new ≡ string_bytes out.old ++ line (codes "cow" ∷ decimal slot ∷ decimal twin ∷ [])) }
+{
+    writeln!(out, "cow {slot} {twin}")
 }
 
 fn put_thread(
@@ -122,6 +129,7 @@ fn put_command(out: &mut String, command: &Command) -> Result<(), OutOfMemory>
         Command::Soft { frame } => put_short(out, "soft", frame.0),
         Command::Unpoison { frame } => put_short(out, "unpoison", frame.0),
         Command::Watch { threshold, window } => put_watch(out, threshold, window),
+        Command::Fork { thread, process } => put_fork(out, thread, process),
     }
 }
 
@@ -185,6 +193,12 @@ fn put_watch(out: &mut String, threshold: u16, window: u8) -> Result<(), OutOfMe
     ensures { OnOk result (string_bytes out.new ≡ string_bytes out.old ++ line (codes "watch" ∷ decimal threshold ∷ decimal window ∷ [])) }
 {
     writeln!(out, "watch {threshold} {window}")
+}
+
+fn put_fork(out: &mut String, thread: Thread, process: Proc) -> Result<(), OutOfMemory>
+    ensures { OnOk result (string_bytes out.new ≡ string_bytes out.old ++ line (codes "fork" ∷ decimal thread.0 ∷ decimal process.0 ∷ [])) }
+{
+    writeln!(out, "fork {} {}", thread.0, process.0)
 }
 
 fn put_log(out: &mut String, status: u64, addr: u64, misc: u64) -> Result<(), OutOfMemory>

@@ -5,12 +5,12 @@ ghost use Rattle.hwp_script_print.specs.Printed.{forms_text};
 ghost use Rattle.hwp_script_read.specs.Limits.{script_limit};
 ghost use Rattle.hwp_script_read.specs.Valid.{IsValid};
 ghost use Rattle.hwp_script_print.specs.Round.{IsTextOf};
-ghost use Rattle.hwp_script_print.specs.Text.{backing_of, head_forms, kernel_forms, setting_forms, thread_forms, page_forms, trans_forms, list_forms, go_row, numbered, counted, file_form, proc_form, rows_of, script_text};
+ghost use Rattle.hwp_script_print.specs.Text.{backing_of, head_forms, kernel_forms, setting_forms, thread_forms, page_forms, trans_forms, cow_forms, list_forms, go_row, numbered, counted, file_form, proc_form, rows_of, script_text};
 
 use crate::put_form;
 use hwp_script_read::{
     Backing, Command, Go, List, OutOfMemory, PageKind, Script, ScriptLine, Text, ThreadDecl,
-    TransDecl, Version,
+    TransDecl, VSlot, Version,
 };
 use std::alloc::Global;
 
@@ -33,6 +33,7 @@ pub fn print(alloc: Global, script: &Script) -> Result<Text, OutOfMemory>
     put_threads(&mut out, layout.threads.as_slice())?;
     put_pages(&mut out, layout.pages.as_slice(), layout.locked.as_slice())?;
     put_trans(&mut out, layout.trans.as_slice())?;
+    put_cows(&mut out, layout.twins.as_slice())?;
     put_lists(&mut out, script.lists.as_slice())?;
     put_schedule(alloc, &mut out, script.go.as_slice())?;
     put_form(&mut out, &ScriptLine::End)?;
@@ -171,6 +172,28 @@ fn put_slot(out: &mut String, number: usize, slot: TransDecl) -> Result<(), OutO
         page: u64::from(slot.page.0),
     };
     put_form(out, &form)?;
+    Ok(())
+}
+
+fn put_cows(out: &mut String, twins: &[Option<VSlot>]) -> Result<(), OutOfMemory>
+    ensures { OnOk result (string_bytes out.new ≡ string_bytes out.old ++ forms_text (numbered cow_forms 0 twins.now)) }
+{
+    for (number, twin) in twins.iter().enumerate() {
+        put_twin(out, number, *twin)?;
+    }
+    Ok(())
+}
+
+fn put_twin(out: &mut String, number: usize, twin: Option<VSlot>) -> Result<(), OutOfMemory>
+    ensures { OnOk result (string_bytes out.new ≡ string_bytes out.old ++ forms_text (cow_forms number twin)) }
+{
+    if let Some(twin) = twin {
+        let form = ScriptLine::Cow {
+            slot: number as u64,
+            twin: u64::from(twin.0),
+        };
+        put_form(out, &form)?;
+    }
     Ok(())
 }
 

@@ -1,12 +1,18 @@
 -- What it says of a line that no reason applies to it, kind by kind.
-use Rattle.std.proofs.Common.{ℕ, Bool, true, false, ◌≡◌, ◌<◌, ◌≤◌, List, [], ◌∷◌, length, inl, inr, refl, arith, ap, rules, Option, None, Some, ◌+◌}
-use Rattle.std.specs.Prelude.{slice_get, option_and_then, IsSome}
+use Rattle.std.proofs.Common.{ℕ, Bool, true, false, ◌≡◌, ◌<◌, ◌≤◌, List, [], ◌∷◌, length, inl, inr, zero, suc, refl, arith, ap, rules, Option, None, Some, ◌+◌}
+use Rattle.std.specs.Prelude.{slice_get, option_and_then, IsSome, IsSomeAnd}
+use Rattle.std.proofs.lemmas.Bool.{false_from_ne_true}
+use Rattle.hwp_script_lines.specs.hwp_geom.Layout.{has_twin, is_twin}
+use Rattle.hwp_script_lines.specs.hwp_geom.declared.PageKind.{PageKind}
+use Rattle.hwp_script_lines.specs.hwp_geom.declared.TransDecl.{TransDecl}
 use Rattle.hwp_script_read.specs.Limits.{schedule_limit}
 use Rattle.hwp_script_lines.specs.hwp_geom.Limits.{command_limit, cpu_limit, frame_limit, page_limit, translation_limit, cpu_limit_of, frame_limit_of, page_limit_of, translation_limit_of}
 use Rattle.hwp_script_lines.specs.hwp_geom.declared.Version.{Version}
 use Rattle.hwp_script_lines.specs.hwp_geom.declared.Version.TheVariants as versions
-use Rattle.hwp_script_read.specs.Context.{version_in, cpus_in, frames_in, recovery_in, early_in, files_in, procs_in, threads_in, pages_in, trans_in, commands_in, go_in, place_in, highest}
-use Rattle.hwp_script_read.specs.Reasons.{IsMisplaced, IsElsewhere, IsBackingOver, IsBackingUndeclared, IsUndeclared, IsNewer, IsBeyond, actor, top_cpu, IsClean}
+use Rattle.hwp_script_read.specs.Context.{version_in, cpus_in, frames_in, recovery_in, early_in, files_in, procs_in, threads_in, pages_in, trans_in, names_in, slot_of, commands_in, go_in, place_in, group, highest}
+use Rattle.hwp_script_read.specs.Collects.{commands_of}
+use Rattle.hwp_script_read.specs.Forks.{actor, has_shared_page, is_again, is_wrong_fork, names_twin}
+use Rattle.hwp_script_read.specs.Reasons.{IsMisplaced, IsElsewhere, IsBackingOver, IsBackingUndeclared, IsUndeclared, IsNoPair, IsNewer, IsBeyond, top_cpu, IsClean}
 use Rattle.hwp_script_lines.specs.declared.Backing.{Backing}
 use Rattle.hwp_script_lines.specs.declared.Go.{Go}
 use Rattle.hwp_script_lines.specs.declared.Command.{Command}
@@ -215,8 +221,46 @@ clean_trans {above} {v} {p} {q} h =
       low_page = omega arith;
     }
 
-pub record IsCpuClean (above : List ScriptLine) (c : ℕ) : Type 0 where
+pub record IsCowClean (above : List ScriptLine) (v w : ℕ) : Type 0 where
   pub placed : IsPlaced above 11
+  pub newer : version_in above ≡ versions.One → ⊥
+  pub low : v < translation_limit_of (version_in above)
+  pub low_twin : w < translation_limit_of (version_in above)
+  pub paired : IsNoPair (pages_in above) (slice_get (trans_in above) v) (slice_get (trans_in above) w) → ⊥
+  pub free : has_twin (names_in above) (slot_of v) ≡ false
+  pub fresh : is_twin (names_in above) (slot_of w) ≡ false
+  pub no_twin : is_twin (names_in above) (slot_of v) ≡ false
+  pub last : has_twin (names_in above) (slot_of w) ≡ false
+  pub alone : has_shared_page (names_in above) (slot_of w) ≡ false
+
+pub clean_cow : {above : List ScriptLine} {v w : ℕ} → IsClean above (forms.Cow v w) → IsCowClean above v w
+clean_cow {above} {v} {w} h =
+    let over : translation_limit_of (version_in above) ≤ v → ⊥ = λ e. h.none whys.OverLimit (inl e) in
+    let over_twin : translation_limit_of (version_in above) ≤ w → ⊥ = λ e. h.none whys.OverLimit (inr e) in
+    record {
+      placed = placed above 11 (λ e. h.none whys.WrongPlace (inl e));
+      newer = h.none whys.UnknownWord;
+      low = omega arith;
+      low_twin = omega arith;
+      paired = h.none whys.Undeclared;
+      free = false_from_ne_true _ (λ e. h.none whys.Twice (inl e));
+      fresh = false_from_ne_true _ (λ e. h.none whys.Twice (inr e));
+      no_twin = false_from_ne_true _ (λ e. h.none whys.WrongPlace (inr (inl e)));
+      last = false_from_ne_true _ (λ e. h.none whys.WrongPlace (inr (inr (inl e))));
+      alone = false_from_ne_true _ (λ e. h.none whys.WrongPlace (inr (inr (inr e))));
+    }
+
+-- both translations are declared
+first_declared : (qs : List PageKind) (vs : List TransDecl) (v : ℕ) (p : Option TransDecl) → (IsNoPair qs (slice_get vs v) p → ⊥) → v < length vs
+first_declared qs [] v p h = absurd (h tt)
+first_declared qs (x ∷ xs) zero p h = omega arith
+first_declared qs (x ∷ xs) (suc v) p h = omega (arith, first_declared qs xs v p h)
+
+pub cow_declared : {above : List ScriptLine} {v w : ℕ} → IsClean above (forms.Cow v w) → v < length (trans_in above)
+cow_declared {above} {v} {w} h = first_declared (pages_in above) (trans_in above) v (slice_get (trans_in above) w) (clean_cow h).paired
+
+pub record IsCpuClean (above : List ScriptLine) (c : ℕ) : Type 0 where
+  pub placed : IsPlaced above 12
   pub cpu : c < cpus_in above
   pub low : c < cpu_limit_of (version_in above)
 
@@ -224,30 +268,36 @@ pub clean_cpu : {above : List ScriptLine} {c : ℕ} → IsClean above (forms.Cpu
 clean_cpu {above} {c} h =
     let over = h.none whys.OverLimit in
     let none = h.none whys.Undeclared in
-    record { placed = placed above 11 (h.none whys.WrongPlace); cpu = omega arith; low = omega arith }
+    record { placed = placed above 12 (h.none whys.WrongPlace); cpu = omega arith; low = omega arith }
 
 pub record IsCommandClean (above : List ScriptLine) (c : Command) : Type 0 where
-  pub placed : IsPlaced above 11
+  pub placed : IsPlaced above 12
   pub older : version_in above ≡ versions.One → IsNewer c → ⊥
   pub few : commands_in above < command_limit
   pub low : IsBeyond (version_in above) c → ⊥
   pub named : IsUndeclared above c → ⊥
   pub here : IsElsewhere (place_in above) (option_and_then (λ t. slice_get (threads_in above) t) (actor c)) → ⊥
+  pub no_twin : names_twin (names_in above) c ≡ false
+  pub fork : IsSomeAnd (place_in above) (λ (cpu : ℕ). is_wrong_fork (names_in above) cpu (commands_of above cpu) c ≡ true) → ⊥
+  pub once : is_again above c ≡ false
 
 pub clean_command : {above : List ScriptLine} {c : Command} → IsClean above (forms.Command c) → IsCommandClean above c
 clean_command {above} {c} h =
     let many : command_limit ≤ commands_in above → ⊥ = λ e. h.none whys.OverLimit (inl e) in
     record {
-      placed = placed above 11 (λ e. h.none whys.WrongPlace (inl e));
+      placed = placed above 12 (λ e. h.none whys.WrongPlace (inl e));
       older = λ one new. h.none whys.UnknownWord (one, new);
       few = omega arith;
       low = λ e. h.none whys.OverLimit (inr e);
       named = h.none whys.Undeclared;
-      here = λ e. h.none whys.WrongPlace (inr e);
+      here = λ e. h.none whys.WrongPlace (inr (inl e));
+      no_twin = false_from_ne_true _ (λ e. h.none whys.WrongPlace (inr (inr (inl e))));
+      fork = λ e. h.none whys.WrongPlace (inr (inr (inr (inl e))));
+      once = false_from_ne_true _ (λ e. h.none whys.WrongPlace (inr (inr (inr (inr e)))));
     }
 
 pub record IsScheduleClean (above : List ScriptLine) (ws : List Go) : Type 0 where
-  pub placed : IsPlaced above 12
+  pub placed : IsPlaced above 13
   pub few : length (go_in above) + length ws ≤ schedule_limit
   pub low : top_cpu ws < cpu_limit_of (version_in above)
   pub cpus : top_cpu ws < cpus_in above
@@ -257,10 +307,10 @@ clean_schedule {above} {ws} h =
     let many : schedule_limit < length (go_in above) + length ws → ⊥ = λ e. h.none whys.OverLimit (inl e) in
     let high : cpu_limit_of (version_in above) ≤ top_cpu ws → ⊥ = λ e. h.none whys.OverLimit (inr e) in
     let none = h.none whys.Undeclared in
-    record { placed = placed above 12 (h.none whys.WrongPlace); few = omega arith; low = omega arith; cpus = omega arith }
+    record { placed = placed above 13 (h.none whys.WrongPlace); few = omega arith; low = omega arith; cpus = omega arith }
 
-pub clean_end : {above : List ScriptLine} → IsClean above forms.End → IsPlaced above 12
-clean_end {above} h = placed above 12 (h.none whys.WrongPlace)
+pub clean_end : {above : List ScriptLine} → IsClean above forms.End → IsPlaced above 13
+clean_end {above} h = placed above 13 (h.none whys.WrongPlace)
 
 -- the numbers of clean lines are within the limits of all versions
 pub small_cpus : {above : List ScriptLine} {n : ℕ} → IsClean above (forms.Cpus n) → n ≤ cpu_limit
@@ -274,3 +324,25 @@ small_thread {above} h = omega (arith, (clean_thread h).low_cpu, cpu_most (versi
 
 pub small_trans : {above : List ScriptLine} {v p q : ℕ} → IsClean above (forms.Trans v p q) → q < page_limit
 small_trans {above} h = omega (arith, (clean_trans h).low_page, page_most (version_in above))
+
+pub small_twin : {above : List ScriptLine} {v w : ℕ} → IsClean above (forms.Cow v w) → w < translation_limit
+small_twin {above} h = omega (arith, (clean_cow h).low_twin, trans_most (version_in above))
+
+-- a clean line follows none of a higher group
+pub clean_late : (above : List ScriptLine) (f : ScriptLine) → IsClean above f → highest above ≤ group f
+clean_late above (forms.Header v) k = omega (arith, clean_header above v k)
+clean_late above (forms.Cpus n) k = (clean_cpus k).late
+clean_late above (forms.Frames n) k = (clean_frames k).late
+clean_late above (forms.Kernel f) k = (clean_kernel k).placed.late
+clean_late above (forms.Recovery b) k = (clean_recovery k).placed.late
+clean_late above (forms.Early b) k = (clean_early k).placed.late
+clean_late above (forms.File n) k = (clean_file k).placed.late
+clean_late above (forms.Proc p) k = (clean_proc k).placed.late
+clean_late above (forms.Thread t p c b) k = (clean_thread k).placed.late
+clean_late above (forms.Page q b l) k = (clean_page k).placed.late
+clean_late above (forms.Trans v p q) k = (clean_trans k).placed.late
+clean_late above (forms.Cow v w) k = (clean_cow k).placed.late
+clean_late above (forms.Cpu c) k = (clean_cpu k).placed.late
+clean_late above (forms.Command c) k = (clean_command k).placed.late
+clean_late above (forms.Schedule ws) k = (clean_schedule k).placed.late
+clean_late above forms.End k = omega (arith, (clean_end k).late)

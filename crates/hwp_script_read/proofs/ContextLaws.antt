@@ -1,13 +1,17 @@
 -- What one more line adds to what the lines declare.
 use Rattle.std.proofs.Common.{ℕ, ◌≡◌, ◌+◌, ◌++◌, max, List, [], ◌∷◌, length, Option, Some, None, ap, ◌∙◌, refl, arith}
-use Rattle.std.specs.Prelude.{sum, filter_map, flat_map, slice_get}
-use Rattle.std.proofs.lemmas.List.{append-nil, length_push}
+use Rattle.std.specs.Prelude.{sum, fold, filter_map, flat_map, slice_get}
+use Rattle.std.proofs.lemmas.List.{append-nil, length_push, length-set}
 use Rattle.std.proofs.lemmas.List.Elements.{filter_map-append}
 use Rattle.std.proofs.lemmas.List.Sums.{fold-append}
 use Rattle.std.proofs.lemmas.Grind.{flat_map-append}
-use Rattle.hwp_script_read.specs.Context.{version_after, locked_of, version_in, locked_in, cpus_of, frames_of, kernel_of, recovery_of, early_of, file_of, proc_of, thread_of, page_of, trans_of, cpu_of, command_of, words_of, cpus_in, frames_in, kernel_in, recovery_in, early_in, files_in, procs_in, threads_in, pages_in, trans_in, lists_in, commands_in, go_in, place_in, place_after, group, highest}
+use Rattle.hwp_script_read.specs.Context.{version_after, locked_of, version_in, locked_in, cpus_of, frames_of, kernel_of, recovery_of, early_of, file_of, proc_of, thread_of, page_of, trans_of, cpu_of, command_of, words_of, cpus_in, frames_in, kernel_in, recovery_in, early_in, files_in, procs_in, threads_in, pages_in, trans_in, twins_after, twins_in, names_in, slot_of, lists_in, commands_in, go_in, place_in, place_after, group, highest}
+use Rattle.hwp_script_read.specs.Sums.{Sums, names_of}
+use Rattle.hwp_script_read.specs.declared.context.Summary.{Summary}
+use Rattle.hwp_script_lines.specs.hwp_geom.declared.VSlot.{VSlot}
 use Rattle.hwp_script_lines.specs.hwp_geom.declared.Version.TheVariants as versions
 use Rattle.hwp_script_lines.specs.declared.ScriptLine.{ScriptLine}
+use Rattle.hwp_script_lines.specs.declared.ScriptLine.TheVariants as forms
 
 -- the list with the item behind it, if there is one
 abbrev pub onto : {A : Type 0} → Option A → List A → List A
@@ -70,6 +74,7 @@ pub record IsPushed (above : List ScriptLine) (f : ScriptLine) : Type 0 where
   pub pages : pages_in (above ++ f ∷ []) ≡ onto (page_of f) (pages_in above)
   pub trans : trans_in (above ++ f ∷ []) ≡ onto (trans_of f) (trans_in above)
   pub locked : locked_in (above ++ f ∷ []) ≡ onto (locked_of f) (locked_in above)
+  pub twins : twins_in (above ++ f ∷ []) ≡ twins_after (twins_in above) f
   pub lists : lists_in (above ++ f ∷ []) ≡ onto (cpu_of f) (lists_in above)
   pub place : place_in (above ++ f ∷ []) ≡ place_after (place_in above) f
   pub commands : commands_in (above ++ f ∷ []) ≡ more (command_of f) (commands_in above)
@@ -90,8 +95,23 @@ pushed above f = record {
   pages = filter_map-push page_of above f _ refl;
   trans = filter_map-push trans_of above f _ refl;
   locked = filter_map-push locked_of above f _ refl;
+  twins = fold-append twins_after [] above (f ∷ []);
   lists = filter_map-push cpu_of above f _ refl;
   place = fold-append place_after None above (f ∷ []);
   commands = ap length (filter_map-push command_of above f _ refl) ∙ length-onto (command_of f) (filter_map command_of above);
   go = go-push above f;
 }
+
+-- each translation has a place among the twins
+twins-many : (ts : List (Option VSlot)) (fs : List ScriptLine) → length (fold twins_after ts fs) ≡ length ts + length (filter_map trans_of fs)
+twins-many ts [] = omega arith
+twins-many ts (forms.Trans v p q ∷ fs) = omega (arith, twins-many (ts ++ None ∷ []) fs, length_push ts None)
+twins-many ts (forms.Cow v w ∷ fs) = omega (arith, twins-many (twins_after ts (forms.Cow v w)) fs, length-set ts v (Some (slot_of w)))
+twins-many ts (f ∷ fs) = twins-many ts fs
+
+pub twins-long : (fs : List ScriptLine) → length (twins_in fs) ≡ length (trans_in fs)
+twins-long fs = omega (arith, twins-many [] fs)
+
+-- a summary keeps the names that the lines declare
+pub names-kept : {above : List ScriptLine} {s : Summary} → Sums above s → names_of s ≡ names_in above
+names-kept {above} {s} h = rw (h.version, h.cpus, h.frames, h.files, h.procs, h.threads, h.pages, h.trans, h.locked, h.twins) refl

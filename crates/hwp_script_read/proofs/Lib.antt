@@ -6,6 +6,9 @@ pub mod SumLaws
 pub mod CollectLaws
 pub mod JudgeLaws
 pub mod NameLaws
+pub mod TwinLaws
+pub mod ForkLaws
+pub mod TallyLaws
 pub mod FitLaws
 pub mod ValidLaws
 pub mod ReadLaws

@@ -1,12 +1,11 @@
 -- Why the names of a clean command are declared, and stay so.
-use Rattle.std.proofs.Common.{ℕ, ◌≡◌, ◌≢◌, ◌≤◌, ◌++◌, true, false, List, [], ◌∷◌, length, Option, Some, None, zero, suc, ap, ◌∙◌, sym, refl, arith, ⊎_elim, inr}
+use Rattle.std.proofs.Common.{ℕ, ◌≡◌, ◌≢◌, ◌≤◌, ◌++◌, List, [], ◌∷◌, length, Option, Some, None, zero, suc, ap, ◌∙◌, sym, refl, arith, ⊎_elim, inl, inr}
 use Rattle.std.specs.Prelude.{slice_get, option_and_then, IsSomeAnd}
 use Rattle.std.proofs.lemmas.List.{length_push}
 use Rattle.std.proofs.lemmas.Bool.{cases_eq}
 use Rattle.hwp_script_lines.specs.hwp_geom.Layout.{IsBacked}
 use Rattle.hwp_script_lines.specs.hwp_geom.declared.Layout.{Layout}
 use Rattle.hwp_script_lines.specs.hwp_geom.declared.Proc.{Proc}
-use Rattle.hwp_script_lines.specs.hwp_geom.declared.Version.TheVariants as versions
 use Rattle.hwp_script_lines.specs.hwp_geom.declared.PageKind.{PageKind}
 use Rattle.hwp_script_lines.specs.hwp_geom.declared.PageKind.TheVariants as kinds
 use Rattle.hwp_script_lines.specs.hwp_geom.declared.ThreadDecl.{ThreadDecl}
@@ -14,35 +13,20 @@ use Rattle.hwp_script_lines.specs.hwp_geom.declared.TransDecl.{TransDecl}
 use Rattle.hwp_script_lines.specs.declared.ScriptLine.{ScriptLine}
 use Rattle.hwp_script_lines.specs.declared.Backing.{Backing}
 use Rattle.hwp_script_lines.specs.declared.Backing.TheVariants as backings
-use Rattle.hwp_script_read.specs.Context.{cpus_in, frames_in, files_in, procs_in, threads_in, pages_in, trans_in, kind_of}
+use Rattle.hwp_script_read.specs.Context.{cpus_in, frames_in, files_in, procs_in, threads_in, pages_in, trans_in, names_in, kind_of}
 use Rattle.hwp_script_lines.specs.Grammar.{CommandFits}
-use Rattle.hwp_script_read.specs.Reasons.{IsForeign, IsNoFilePage, IsNoAnonPage, IsUndeclared, IsElsewhere, IsBackingUndeclared, actor}
+use Rattle.hwp_script_read.specs.Reasons.{IsForeign, IsNoFilePage, IsNoAnonPage, IsUndeclared, IsElsewhere, IsBackingUndeclared}
+use Rattle.hwp_script_read.specs.Forks.{actor}
 use Rattle.hwp_script_read.specs.Valid.{IsThreadOf, IsAccess, IsFile, IsAnon, IsCommandOf}
 use Rattle.hwp_script_lines.specs.declared.Command.{Command}
 use Rattle.hwp_script_lines.specs.declared.Command.TheVariants as commands
 use Rattle.hwp_script_read.proofs.ContextLaws.{onto, plus, more, pushed}
 
--- the names that lines declare
-abbrev pub names_in : List ScriptLine → Layout
-names_in fs = record {
-  version = versions.One;
-  cpus = cpus_in fs;
-  frames = frames_in fs;
-  kernel = [];
-  recovery = true;
-  early = false;
-  files = files_in fs;
-  procs = procs_in fs;
-  threads = threads_in fs;
-  pages = pages_in fs;
-  trans = trans_in fs;
-  locked = [];
-}
-
 -- what is declared stays declared
 pub record Grows (l m : Layout) : Type 0 where
   pub frames : l.frames ≤ m.frames
   pub files : l.files ≤ m.files
+  pub procs : l.procs ≤ m.procs
   pub threads : (i : ℕ) (t : ThreadDecl) → slice_get l.threads i ≡ Some t → slice_get m.threads i ≡ Some t
   pub pages : (i : ℕ) (q : PageKind) → slice_get l.pages i ≡ Some q → slice_get m.pages i ≡ Some q
   pub trans : (i : ℕ) (v : TransDecl) → slice_get l.trans i ≡ Some v → slice_get m.trans i ≡ Some v
@@ -74,6 +58,7 @@ grows_line above f =
     let p = pushed above f in record {
       frames = rw p.frames (plus_le _ (frames_in above));
       files = rw p.files (more_le _ (files_in above));
+      procs = rw p.procs (more_le _ (procs_in above));
       threads = λ i t e. rw p.threads (slice_get-onto _ (threads_in above) i t e);
       pages = λ i q e. rw p.pages (slice_get-onto _ (pages_in above) i q e);
       trans = λ i v e. rw p.trans (slice_get-onto _ (trans_in above) i v e);
@@ -123,6 +108,7 @@ command_kept l m c g (commands.Inject f) h = omega (arith, g.frames)
 command_kept l m c g (commands.Soft f) h = omega (arith, g.frames)
 command_kept l m c g (commands.Unpoison f) h = omega (arith, g.frames)
 command_kept l m c g (commands.Watch t w) h = h
+command_kept l m c g (commands.Fork t p) h = (thread_kept l m c t.0 g h.0, omega (arith, g.procs, h.1))
 
 -- a page that is backed stays so
 pub backed_kept : (l m : Layout) → l.files ≤ m.files → (q : PageKind) → IsBacked l q → IsBacked m q
@@ -156,7 +142,7 @@ file_page None h = absurd (h tt)
 file_page (Some kinds.Anon) h = absurd (h tt)
 file_page (Some (kinds.File file fill)) h = tt
 
-anon_page : (q : Option PageKind) → (IsNoAnonPage q → ⊥) → IsSomeAnd q IsAnon
+pub anon_page : (q : Option PageKind) → (IsNoAnonPage q → ⊥) → IsSomeAnd q IsAnon
 anon_page None h = absurd (h tt)
 anon_page (Some kinds.Anon) h = tt
 anon_page (Some (kinds.File file fill)) h = absurd (h tt)
@@ -186,3 +172,5 @@ command_valid above (commands.Inject f) c place e fits named here = omega arith
 command_valid above (commands.Soft f) c place e fits named here = omega arith
 command_valid above (commands.Unpoison f) c place e fits named here = omega arith
 command_valid above (commands.Watch t w) c place e fits named here = fits
+command_valid above (commands.Fork t p) c place e fits named here =
+    let declared : procs_in above ≤ p.0 → ⊥ = λ k. named (inr k) in (thread_here (threads_in above) t.0 c place e (λ k. named (inl k)) here, omega arith)

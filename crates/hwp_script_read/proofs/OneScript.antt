@@ -1,11 +1,12 @@
 -- A text is read as one script at most.
-use Rattle.std.proofs.Common.{ℕ, ◌≡◌, Bool, true, false, List, [], ◌∷◌, length, map, Some, suc, ap, subst, ◌∙◌, sym, refl, arith}
+use Rattle.std.proofs.Common.{ℕ, ◌≡◌, Bool, true, false, List, [], ◌∷◌, length, map, Option, Some, suc, ap, subst, ◌∙◌, sym, refl, arith}
 use Rattle.std.specs.Prelude.{◌↔◌, slice_get}
 use Rattle.hwp_script_lines.specs.hwp_geom.declared.Layout.{Layout}
 use Rattle.hwp_script_lines.specs.hwp_geom.declared.Version.{Version}
 use Rattle.hwp_script_lines.specs.hwp_geom.declared.ThreadDecl.{ThreadDecl}
 use Rattle.hwp_script_lines.specs.hwp_geom.declared.TransDecl.{TransDecl}
 use Rattle.hwp_script_lines.specs.hwp_geom.declared.PageKind.{PageKind}
+use Rattle.hwp_script_lines.specs.hwp_geom.declared.VSlot.{VSlot}
 use Rattle.hwp_script_lines.specs.declared.ScriptLine.{ScriptLine}
 use Rattle.hwp_script_lines.specs.declared.Numbered.{Numbered}
 use Rattle.hwp_script_lines.proofs.LineLaws.{one_reading}
@@ -35,9 +36,9 @@ marks_same (x ∷ xs) (y ∷ ys) h =
     let here : x ≡ y = first_mark x y (h.each 0).0 (h.each 0).1 in
     let rest : xs ≡ ys = marks_same xs ys (record { long = omega (arith, h.long); each = λ i. h.each (suc i) }) in cc
 
-abbrev laid_out : Version → ℕ → ℕ → List Bool → Bool → Bool → ℕ → ℕ → List ThreadDecl → List PageKind → List TransDecl → List Bool → Layout
-laid_out v c f k r e n p ts qs vs ls =
-    record { version = v; cpus = c; frames = f; kernel = k; recovery = r; early = e; files = n; procs = p; threads = ts; pages = qs; trans = vs; locked = ls }
+abbrev laid_out : Version → ℕ → ℕ → List Bool → Bool → Bool → ℕ → ℕ → List ThreadDecl → List PageKind → List TransDecl → List Bool → List (Option VSlot) → Layout
+laid_out v c f k r e n p ts qs vs ls ws =
+    record { version = v; cpus = c; frames = f; kernel = k; recovery = r; early = e; files = n; procs = p; threads = ts; pages = qs; trans = vs; locked = ls; twins = ws }
 
 abbrev script_made : Layout → List (List Command) → List Go → Script
 script_made l lists go = record { layout = l; lists = lists; go = go }
@@ -59,11 +60,12 @@ collected_once fs s t h k =
     let pages : t.layout.pages ≡ s.layout.pages = k.pages ∙ sym h.pages in
     let trans : t.layout.trans ≡ s.layout.trans = k.trans ∙ sym h.trans in
     let locked : t.layout.locked ≡ s.layout.locked = k.locked ∙ sym h.locked in
+    let twins : t.layout.twins ≡ s.layout.twins = k.twins ∙ sym h.twins in
     let lists : t.lists ≡ s.lists = k.lists ∙ sym h.lists in
     let go : t.go ≡ s.go = k.go ∙ sym h.go in
-    let same : script_made (laid_out t.layout.version t.layout.cpus t.layout.frames t.layout.kernel t.layout.recovery t.layout.early t.layout.files t.layout.procs t.layout.threads t.layout.pages t.layout.trans t.layout.locked) t.lists t.go
-    ≡ script_made (laid_out s.layout.version s.layout.cpus s.layout.frames s.layout.kernel s.layout.recovery s.layout.early s.layout.files s.layout.procs s.layout.threads s.layout.pages s.layout.trans s.layout.locked) s.lists s.go =
-    rw (version, cpus, frames, kernel, recovery, early, files, procs, threads, pages, trans, locked, lists, go) refl in same
+    let same : script_made (laid_out t.layout.version t.layout.cpus t.layout.frames t.layout.kernel t.layout.recovery t.layout.early t.layout.files t.layout.procs t.layout.threads t.layout.pages t.layout.trans t.layout.locked t.layout.twins) t.lists t.go
+    ≡ script_made (laid_out s.layout.version s.layout.cpus s.layout.frames s.layout.kernel s.layout.recovery s.layout.early s.layout.files s.layout.procs s.layout.threads s.layout.pages s.layout.trans s.layout.locked s.layout.twins) s.lists s.go =
+    rw (version, cpus, frames, kernel, recovery, early, files, procs, threads, pages, trans, locked, twins, lists, go) refl in same
 
 pub one_script : (bytes : List ℕ) (s t : Script) → Reads bytes s → Reads bytes t → t ≡ s
 one_script bytes s t h k =

@@ -20,18 +20,22 @@ use Rattle.hwp_script_lines.specs.Grammar.{Fits}
 use Rattle.hwp_script_lines.specs.declared.ScriptLine.{ScriptLine}
 use Rattle.hwp_script_lines.specs.declared.ScriptLine.TheVariants as forms
 use Rattle.hwp_script_lines.specs.declared.Go.{Go}
-use Rattle.hwp_script_read.specs.Context.{version_in, version_after, locked_of, locked_in, cpus_of, frames_of, file_of, proc_of, thread_of, page_of, trans_of, command_of, words_of, cpus_in, frames_in, files_in, procs_in, threads_in, pages_in, trans_in, commands_in, go_in, place_in, place_after}
+use Rattle.hwp_script_read.specs.Context.{version_in, version_after, locked_of, locked_in, cpus_of, frames_of, file_of, proc_of, thread_of, page_of, trans_of, command_of, words_of, names_in, twins_in, cpus_in, frames_in, files_in, procs_in, threads_in, pages_in, trans_in, commands_in, go_in, place_in, place_after}
 use Rattle.hwp_script_read.specs.Reasons.{IsClean, AreClean, IsNewer, top_cpu}
 use Rattle.hwp_script_read.specs.Collects.{command_at, commands_from, commands_of, IsEnded, Collects}
-use Rattle.hwp_script_read.specs.Valid.{IsCommandOf, AreLists, IsValid}
+use Rattle.hwp_script_read.specs.Forks.{is_wrong_fork}
+use Rattle.hwp_script_read.specs.Valid.{IsCommandOf, AreLists, AreTwinsFit, AreForksFit, NamesNoTwin, IsValid}
 use Rattle.hwp_script_read.specs.Reads.{Reads}
 use Rattle.hwp_script_read.specs.declared.script.Script.{Script}
 use Rattle.hwp_script_lines.specs.declared.Command.{Command}
-use Rattle.hwp_script_read.proofs.ContextLaws.{onto, plus, more, pushed}
+use Rattle.hwp_script_read.proofs.ContextLaws.{onto, plus, more, pushed, twins-long}
 use Rattle.hwp_script_read.proofs.CleanLaws.{cpu_most, frame_most, page_most, trans_most, none_above, clean_cpus, clean_frames, clean_file, clean_proc, clean_thread, clean_page, clean_trans, clean_command, clean_schedule, clean_end}
 use Rattle.hwp_script_read.proofs.CollectLaws.{commands_of-push}
+use Rattle.hwp_script_read.proofs.TwinLaws.{IsNone, bare, bare_fit, none_fit, twins_declared, twins_step, untwinned_step}
+use Rattle.hwp_script_read.proofs.ForkLaws.{AreWellUsed, bare_fork, list_at, none_used, used_step}
+use Rattle.hwp_script_read.proofs.TallyLaws.{few_listed, forks_listed, lines_weight, one_fork, once_step}
 use Rattle.hwp_script_read.proofs.FitLaws.{lines_fit, all_fills, all_words}
-use Rattle.hwp_script_read.proofs.NameLaws.{names_in, Grows, grows_line, command_kept, backed_kept, backed, command_valid, plus_le, more_le, onto_le}
+use Rattle.hwp_script_read.proofs.NameLaws.{Grows, grows_line, command_kept, backed_kept, backed, command_valid, plus_le, more_le, onto_le}
 
 -- a page that isn't locked, and a command that version One has
 abbrev IsUnlocked : Bool → Type 0
@@ -178,6 +182,10 @@ pub record IsDeclared (fs : List ScriptLine) : Type 0 where
   pub unlocked : version_in fs ≡ versions.One → All IsUnlocked (locked_in fs)
   pub old : (c : ℕ) → version_in fs ≡ versions.One → All IsOld (commands_of fs c)
   pub lock_each : length (locked_in fs) ≡ length (pages_in fs)
+  pub untwinned : version_in fs ≡ versions.One → All IsNone (twins_in fs)
+  pub twins : AreTwinsFit (names_in fs)
+  pub used : (c : ℕ) → AreWellUsed (names_in fs) c (commands_of fs c)
+  pub once : (p : ℕ) → lines_weight (one_fork p) fs ≤ 1
   pub own : (c : ℕ) → All (IsCommandOf (names_in fs) c) (commands_of fs c)
   pub go : All (IsNamedGo (cpus_in fs)) (go_in fs)
   pub few_go : length (go_in fs) ≤ schedule_limit
@@ -198,6 +206,10 @@ declared_none = record {
   unlocked = λ one. All-nil IsUnlocked;
   old = λ c one. All-nil IsOld;
   lock_each = refl;
+  untwinned = λ one. All-nil IsNone;
+  twins = none_fit (names_in []) (λ v. refl);
+  used = λ c. none_used (names_in []) c;
+  once = λ p. omega arith;
   own = λ c. All-nil (IsCommandOf (names_in []) c);
   go = All-nil (IsNamedGo 0);
   few_go = omega arith;
@@ -230,6 +242,10 @@ declared_step above f h k fits =
       unlocked = λ one. rw p.locked (unlocked_step above f h.unlocked k (sym p.version ∙ one));
       old = λ c one. rw (commands_of-push above f c) (old_step above f c (h.old c) k (sym p.version ∙ one));
       lock_each = rw (p.locked, p.pages) (lock_each_step above f h.lock_each);
+      untwinned = λ one. rw p.twins (untwinned_step above f h.untwinned k (sym p.version ∙ one));
+      twins = twins_step above f h.twins k;
+      used = λ c. used_step above f c k (h.used c);
+      once = λ q. once_step above f q k (h.once q);
       own = λ c. rw (commands_of-push above f c)
           (All-weaker (IsCommandOf (names_in above) c) (IsCommandOf (names_in (above ++ f ∷ [])) c)
           (command_kept (names_in above) (names_in (above ++ f ∷ [])) c grows) (commands_of above c ++ option_to_list (command_at (place_in above) c f))
@@ -251,82 +267,29 @@ pub declared : (fs : List ScriptLine) → AreClean fs → All Fits fs → IsDecl
 declared fs h fit =
     let whole : take (length fs) fs ≡ fs = take_all (length fs) fs (omega arith) in rw whole at (declared_upto fs h fit (length fs) (omega arith))
 
--- the commands of all lists
-total : List (List Command) → ℕ
-total [] = 0
-total (list ∷ lists) = length list + total lists
-
-total-sum : (lists : List (List Command)) → sum_by length lists ≡ total lists
-unfolding total
-total-sum [] = refl
-total-sum (list ∷ lists) = sum_by-cons length list lists ∙ ap (λ n. length list + n) (total-sum lists)
-
-total-append : (g h : ℕ → List Command) (cs : List ℕ) → total (map (λ c. g c ++ h c) cs) ≡ total (map g cs) + total (map h cs)
-unfolding total
-total-append g h [] = refl
-total-append g h (c ∷ cs) = omega (arith, length-append (g c) (h c), total-append g h cs)
-
-length-kept : (test : Bool) (o : Option Command) → test ≡ true → length (option_to_list (if test then o else None)) ≡ length (option_to_list o)
-length-kept true o e = refl
-length-kept false o e = cc
-
-length-left : (test : Bool) (o : Option Command) → test ≡ false → length (option_to_list (if test then o else None)) ≡ 0
-length-left true o e = cc
-length-left false o e = refl
-
-test_same : (place c : ℕ) → place ≡ c → (place == c) ≡ true
-test_same place c e = grind (arith, nat_tests)
-
-test_other : (place c : ℕ) → place ≢ c → (place == c) ≡ false
-test_other place c n = grind (arith, nat_tests)
-
--- a command stands in one list at most
-kept_at : ℕ → Option Command → ℕ → List Command
-kept_at place o c = option_to_list (if place == c then o else None)
-
-kept_past : (place : ℕ) (o : Option Command) (a n : ℕ) → place < a → total (map (kept_at place o) (range_with_len a n)) ≡ 0
-unfolding total kept_at
-kept_past place o a zero l = refl
-kept_past place o a (suc n) l =
-    omega (arith, length-left (place == a) o (test_other place a (omega arith)), kept_past place o (a + 1) n (omega arith))
-
-kept_once : (place : ℕ) (o : Option Command) (a n : ℕ) → total (map (kept_at place o) (range_with_len a n)) ≤ length (option_to_list o)
-unfolding total kept_at
-kept_once place o a zero = omega arith
-kept_once place o a (suc n) = ⊎_elim
-    (λ (e : place ≡ a). omega (arith, length-kept (place == a) o (test_same place a e), kept_past place o (a + 1) n (omega arith)))
-    (λ (ne : place ≢ a). omega (arith, length-left (place == a) o (test_other place a ne), kept_once place o (a + 1) n))
-    (cases_eq place a)
-
-none_total : (a n : ℕ) → total (map (λ (c : ℕ). []) (range_with_len a n)) ≡ 0
-unfolding total
-none_total a zero = refl
-none_total a (suc n) = omega (arith, none_total (a + 1) n)
-
-line_total : (place : Option ℕ) (f : ScriptLine) (a n : ℕ) → total (map (λ c. option_to_list (command_at place c f)) (range_with_len a n)) ≤ length (option_to_list (command_of f))
-unfolding kept_at
-line_total None f a n = rw none_total (omega arith)
-line_total (Some place) f a n = kept_once place (command_of f) a n
-
-count-cons : (o : Option Command) (xs : List Command) → length (cons_option o xs) ≡ length (option_to_list o) + length xs
-count-cons None xs = omega arith
-count-cons (Some x) xs = omega arith
-
-lists_total : (fs : List ScriptLine) (place : Option ℕ) (a n : ℕ) → total (map (λ c. commands_from place c fs) (range_with_len a n)) ≤ commands_in fs
-lists_total [] place a n = rw none_total (omega arith)
-lists_total (f ∷ fs) place a n =
-    let split = total-append (λ c. option_to_list (command_at place c f)) (λ c. commands_from (place_after place f) c fs) (range_with_len a n) in
-    let here = line_total place f a n in
-    let rest = lists_total fs (place_after place f) a n in
-    let count = count-cons (command_of f) (filter_map command_of fs) in omega (arith, split, here, rest, count)
-
 lists_valid : (layout : Layout) (g : ℕ → List Command) (a n : ℕ) → ((c : ℕ) → All (IsCommandOf layout c) (g c)) → AreLists layout a (map g (range_with_len a n))
 lists_valid layout g a zero h = tt
 lists_valid layout g a (suc n) h = (h a, lists_valid layout g (a + 1) n h)
 
-all_lists : (fs : List ScriptLine) (a n : ℕ) → ((c : ℕ) → All IsOld (commands_of fs c)) → All (All IsOld) (map (commands_of fs) (range_with_len a n))
-all_lists fs a zero h = All-nil (All IsOld)
-all_lists fs a (suc n) h = All-cons (All IsOld) (commands_of fs a) (map (commands_of fs) (range_with_len (a + 1) n)) (h a) (all_lists fs (a + 1) n h)
+all_lists : (P : Command → Type 0) (fs : List ScriptLine) (a n : ℕ) → ((c : ℕ) → All P (commands_of fs c)) → All (All P) (map (commands_of fs) (range_with_len a n))
+all_lists P fs a zero h = All-nil (All P)
+all_lists P fs a (suc n) h = All-cons (All P) (commands_of fs a) (map (commands_of fs) (range_with_len (a + 1) n)) (h a) (all_lists P fs (a + 1) n h)
+
+-- a layout that lines declare, without its settings and its kernel's frames, is made of the names
+names_are : (fs : List ScriptLine) (s : Script) → Collects fs s → names_in fs ≡ bare s.layout
+names_are fs s h = rw (h.version, h.cpus, h.frames, h.files, h.procs, h.threads, h.pages, h.trans, h.locked, h.twins) refl
+
+-- what the commands of the lines say of the names, those of the script say of its layout
+used : (fs : List ScriptLine) (s : Script) → IsDeclared fs → Collects fs s → (c : ℕ) → AreWellUsed (bare s.layout) c (commands_of fs c)
+used fs s d h c = subst (λ (l : Layout). AreWellUsed l c (commands_of fs c)) (names_are fs s h) (d.used c)
+
+fork_fits : (fs : List ScriptLine) (s : Script) → IsDeclared fs → Collects fs s → (cpu : ℕ) (list : List Command) → slice_get s.lists cpu ≡ Some list → AreForksFit s.layout cpu list
+fork_fits fs s d h cpu list e n x there =
+    let is : list ≡ commands_of fs (0 + cpu) = list_at (commands_of fs) 0 (cpus_in fs) cpu list (rw h.lists at e) in
+    let at : 0 + cpu ≡ cpu = omega arith in
+    let same : list ≡ commands_of fs cpu = rw at at is in
+    sym (bare_fork s.layout cpu (take n list) x) ∙ subst (λ (xs : List Command). is_wrong_fork (bare s.layout) cpu (take n xs) x ≡ false) (sym same)
+    ((used fs s d h cpu).forks n x (subst (λ (xs : List Command). slice_get xs n ≡ Some x) same there))
 
 -- the last line stands behind the others
 last_behind : (fs : List ScriptLine) (f : ScriptLine) → slice_get fs (length fs - 1) ≡ Some f → fs ≡ take (length fs - 1) fs ++ f ∷ []
@@ -358,6 +321,7 @@ valid fs s clean ended h fit =
     let grows : Grows (names_in fs) s.layout = record {
       frames = omega (arith, h.frames);
       files = omega (arith, h.files);
+      procs = omega (arith, h.procs);
       threads = λ i t e. rw h.threads e;
       pages = λ i q e. rw h.pages e;
       trans = λ i v e. rw h.trans e;
@@ -368,10 +332,12 @@ valid fs s clean ended h fit =
     let most_frames = frame_most (version_in fs) in
     let most_pages = page_most (version_in fs) in
     let most_trans = trans_most (version_in fs) in
+    let twins : AreTwinsFit s.layout = bare_fit s.layout (subst AreTwinsFit (names_are fs s h) d.twins) in
     record {
       older = λ one. record {
         unlocked = rw h.locked (d.unlocked (sym h.version ∙ one));
-        commands = rw h.lists (all_lists fs 0 (cpus_in fs) (λ c. d.old c (sym h.version ∙ one)));
+        untwinned = rw h.twins (d.untwinned (sym h.version ∙ one));
+        commands = rw h.lists (all_lists IsOld fs 0 (cpus_in fs) (λ c. d.old c (sym h.version ∙ one)));
       };
       sound = record {
         some_cpu = omega (arith, h.cpus);
@@ -391,6 +357,8 @@ valid fs s clean ended h fit =
           trans = rw (h.version, h.trans) d.trans;
         };
         locked = rw (h.locked, h.pages) d.lock_each;
+        twins = rw (h.twins, h.trans) (twins-long fs);
+        twin_names = twins_declared s.layout twins;
         thread_names = rw (h.threads, h.procs, h.cpus) d.thread_names;
         page_names = rw h.pages (All-weaker (IsBacked (names_in fs)) (IsBacked s.layout) (backed_kept (names_in fs) s.layout grows.files) (pages_in fs) d.page_names);
         trans_names = rw (h.trans, h.procs, h.pages) d.trans_names;
@@ -398,11 +366,15 @@ valid fs s clean ended h fit =
       one_each = ap length h.lists ∙ length-map-range_with_len (commands_of fs) 0 (cpus_in fs) ∙ sym h.cpus;
       lists = rw h.lists (lists_valid s.layout (commands_of fs) 0 (cpus_in fs) (λ c.
           All-weaker (IsCommandOf (names_in fs) c) (IsCommandOf s.layout c) (command_kept (names_in fs) s.layout c grows) (commands_of fs c) (d.own c)));
-      few = rw (h.lists, total-sum) (omega (arith, lists_total fs None 0 (cpus_in fs), d.commands));
+      few = rw h.lists (omega (arith, few_listed fs (cpus_in fs), d.commands));
       go = rw (h.go, h.cpus) d.go;
       few_go = rw h.go d.few_go;
       fills = rw h.pages (all_fills fs fit);
       words = rw h.lists (all_words fs 0 (cpus_in fs) fit);
+      twins = twins;
+      own = rw h.lists (all_lists (NamesNoTwin s.layout) fs 0 (cpus_in fs) (λ c. (used fs s d h c).own));
+      forks = fork_fits fs s d h;
+      once = λ p. rw h.lists (omega (arith, forks_listed p fs (cpus_in fs), d.once p));
     }
 
 -- a script that some text gives is valid

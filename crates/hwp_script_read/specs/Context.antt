@@ -1,5 +1,8 @@
 -- What the lines above a line declare.
-use Rattle.std.specs.Prelude.{ℕ, ◌==◌, Bool, max, length, sum, fold, filter_map, flat_map, slice_get, Option, Some, None, List, [], ◌∷◌}
+use Rattle.std.specs.Prelude.{ℕ, ◌==◌, ◌++◌, Bool, true, false, max, length, sum, fold, filter_map, flat_map, slice_get, Option, Some, None, List, [], ◌∷◌}
+use Rattle.std.specs.List.{slice_set}
+use Rattle.hwp_script_lines.specs.hwp_geom.declared.Layout.{Layout}
+use Rattle.hwp_script_lines.specs.hwp_geom.declared.VSlot.{VSlot}
 use Rattle.hwp_script_lines.specs.hwp_geom.declared.ThreadDecl.{ThreadDecl}
 use Rattle.hwp_script_lines.specs.hwp_geom.declared.TransDecl.{TransDecl}
 use Rattle.hwp_script_lines.specs.hwp_geom.declared.PageKind.{PageKind}
@@ -141,6 +144,38 @@ locked_in above = filter_map locked_of above
 abbrev pub trans_in : List ScriptLine → List TransDecl
 trans_in above = filter_map trans_of above
 
+-- the translation of this number
+abbrev pub slot_of : ℕ → VSlot
+slot_of slot = record { 0 = slot }
+
+-- for each translation its twin, after a line, from those before it: at first it has none
+abbrev pub twins_after : List (Option VSlot) → ScriptLine → List (Option VSlot)
+twins_after twins (forms.Trans v p q) = twins ++ None ∷ []
+twins_after twins (forms.Cow v w) = slice_set twins v (Some (slot_of w))
+twins_after twins f = twins
+
+-- for each translation its twin, by their numbers
+abbrev pub twins_in : List ScriptLine → List (Option VSlot)
+twins_in above = fold twins_after [] above
+
+-- the names that lines declare, as a layout; of the settings and of the kernel's frames it says nothing
+abbrev pub names_in : List ScriptLine → Layout
+names_in above = record {
+  version = version_in above;
+  cpus = cpus_in above;
+  frames = frames_in above;
+  kernel = [];
+  recovery = true;
+  early = false;
+  files = files_in above;
+  procs = procs_in above;
+  threads = threads_in above;
+  pages = pages_in above;
+  trans = trans_in above;
+  locked = locked_in above;
+  twins = twins_in above;
+}
+
 -- the processors whose lists have begun
 abbrev pub lists_in : List ScriptLine → List ℕ
 lists_in above = filter_map cpu_of above
@@ -177,10 +212,11 @@ group (forms.Proc p) = 7
 group (forms.Thread t p c h) = 8
 group (forms.Page q b locked) = 9
 group (forms.Trans v p q) = 10
-group (forms.Cpu c) = 11
-group (forms.Command c) = 11
-group (forms.Schedule ws) = 12
-group forms.End = 13
+group (forms.Cow v w) = 11
+group (forms.Cpu c) = 12
+group (forms.Command c) = 12
+group (forms.Schedule ws) = 13
+group forms.End = 14
 
 -- the highest group
 abbrev pub highest : List ScriptLine → ℕ

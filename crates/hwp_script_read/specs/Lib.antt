@@ -1,7 +1,8 @@
 pub mod Limits
 pub mod Context
-pub mod Reasons
+pub mod Forks
 pub mod Collects
+pub mod Reasons
 pub mod Sums
 pub mod Refusals
 pub mod Valid

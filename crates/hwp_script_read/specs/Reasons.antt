@@ -1,5 +1,6 @@
 -- The reasons to refuse a line, after the lines above it.
-use Rattle.std.specs.Prelude.{◌≡◌, ◌≢◌, ℕ, true, ◌+◌, ◌<◌, ◌≤◌, ◌⊎◌, max, length, Contains, IsSome, slice_get, option_and_then, Option, Some, None, List, [], ◌∷◌, take}
+use Rattle.std.specs.Prelude.{◌≡◌, ◌≢◌, ℕ, true, ◌+◌, ◌<◌, ◌≤◌, ◌⊎◌, max, length, Contains, IsSome, IsSomeAnd, slice_get, option_and_then, Option, Some, None, List, [], ◌∷◌, take}
+use Rattle.hwp_script_lines.specs.hwp_geom.Layout.{has_twin, is_twin}
 use Rattle.hwp_script_lines.specs.hwp_geom.declared.ThreadDecl.{ThreadDecl}
 use Rattle.hwp_script_lines.specs.hwp_geom.declared.TransDecl.{TransDecl}
 use Rattle.hwp_script_lines.specs.hwp_geom.declared.PageKind.{PageKind}
@@ -15,7 +16,9 @@ use Rattle.hwp_script_lines.specs.declared.Go.{Go}
 use Rattle.hwp_script_lines.specs.declared.Command.{Command}
 use Rattle.hwp_script_lines.specs.declared.Command.TheVariants as commands
 use Rattle.hwp_script_read.specs.Limits.{schedule_limit}
-use Rattle.hwp_script_read.specs.Context.{version_in, cpus_in, frames_in, kernel_in, recovery_in, early_in, files_in, procs_in, threads_in, pages_in, trans_in, lists_in, commands_in, go_in, place_in, highest}
+use Rattle.hwp_script_read.specs.Context.{version_in, cpus_in, frames_in, kernel_in, recovery_in, early_in, files_in, procs_in, threads_in, pages_in, trans_in, names_in, lists_in, commands_in, go_in, place_in, slot_of, highest}
+use Rattle.hwp_script_read.specs.Collects.{commands_of}
+use Rattle.hwp_script_read.specs.Forks.{actor, has_shared_page, is_again, is_wrong_fork, names_twin}
 use Rattle.hwp_script_read.specs.declared.why.Why.{Why}
 use Rattle.hwp_script_read.specs.declared.why.Why.TheVariants as whys
 
@@ -62,22 +65,30 @@ IsUndeclared above (commands.Inject f) = frames_in above ≤ f.0
 IsUndeclared above (commands.Soft f) = frames_in above ≤ f.0
 IsUndeclared above (commands.Unpoison f) = frames_in above ≤ f.0
 IsUndeclared above (commands.Watch t w) = ⊥
+IsUndeclared above (commands.Fork t p) = (length (threads_in above) ≤ t.0) ⊎ (procs_in above ≤ p.0)
 
--- the thread that a command is of
-abbrev pub actor : Command → Option ℕ
-actor (commands.Load t v l) = Some t.0
-actor (commands.Fetch t v l) = Some t.0
-actor (commands.KLoad t v l) = Some t.0
-actor (commands.Store t v l x) = Some t.0
-actor (commands.Prctl t args) = Some t.0
-actor (commands.RaiseUser t r e) = Some t.0
-actor c = None
+-- two translations are not both declared, are of two processes, or don't lead to two pages that have nothing behind them
+abbrev pub IsNoPair : List PageKind → Option TransDecl → Option TransDecl → Type 0
+IsNoPair pages (Some v) (Some w) =
+    (v.process.0 ≢ w.process.0) ⊎ (v.page.0 ≡ w.page.0) ⊎ IsNoAnonPage (slice_get pages v.page.0) ⊎ IsNoAnonPage (slice_get pages w.page.0)
+IsNoPair pages v w = Unit {0}
+
+-- a translation that is to have a twin is one, or its twin has one, or another translation leads to the twin's page
+abbrev pub IsNoTwin : List ScriptLine → ℕ → ℕ → Type 0
+IsNoTwin above v w = (is_twin (names_in above) (slot_of v) ≡ true) ⊎ (has_twin (names_in above) (slot_of w) ≡ true) ⊎ (has_shared_page (names_in above) (slot_of w) ≡ true)
 
 -- a command stands in no list, or in that of another processor than its thread's
 abbrev pub IsElsewhere : Option ℕ → Option ThreadDecl → Type 0
 IsElsewhere None t = Unit {0}
 IsElsewhere (Some c) (Some t) = t.cpu.0 ≢ c
 IsElsewhere (Some c) None = ⊥
+
+-- a command names a twin as its translation, or is a fork that may not stand in its list here, or of a process that was forked before
+abbrev pub IsMisused : List ScriptLine → Command → Type 0
+IsMisused above c =
+    (names_twin (names_in above) c ≡ true)
+    ⊎ IsSomeAnd (place_in above) (λ (cpu : ℕ). is_wrong_fork (names_in above) cpu (commands_of above cpu) c ≡ true)
+    ⊎ (is_again above c ≡ true)
 
 -- the number of the file behind a page is too high
 abbrev pub IsBackingOver : Backing → Type 0
@@ -98,6 +109,7 @@ top_cpu (w ∷ ws) = max w.cpu.0 (top_cpu ws)
 abbrev pub IsNewer : Command → Type 0
 IsNewer (commands.Open n) = Unit {0}
 IsNewer (commands.Watch t w) = Unit {0}
+IsNewer (commands.Fork t p) = Unit {0}
 IsNewer c = ⊥
 
 -- a command names what there can't be in the version; its lines, threads and files are within limits that all versions have
@@ -158,18 +170,24 @@ Applies above (forms.Trans v p q) whys.OverLimit = (translation_limit_of (versio
 Applies above (forms.Trans v p q) whys.Undeclared = (procs_in above ≤ p) ⊎ (length (pages_in above) ≤ q)
 Applies above (forms.Trans v p q) whys.Twice = v < length (trans_in above)
 Applies above (forms.Trans v p q) whys.WrongPlace = IsMisplaced above 10 ⊎ (length (trans_in above) < v)
+Applies above (forms.Cow v w) whys.UnknownWord = version_in above ≡ versions.One
+Applies above (forms.Cow v w) whys.OverLimit = (translation_limit_of (version_in above) ≤ v) ⊎ (translation_limit_of (version_in above) ≤ w)
+Applies above (forms.Cow v w) whys.Undeclared = IsNoPair (pages_in above) (slice_get (trans_in above) v) (slice_get (trans_in above) w)
+Applies above (forms.Cow v w) whys.Twice = (has_twin (names_in above) (slot_of v) ≡ true) ⊎ (is_twin (names_in above) (slot_of w) ≡ true)
+Applies above (forms.Cow v w) whys.WrongPlace = IsMisplaced above 11 ⊎ IsNoTwin above v w
 Applies above (forms.Cpu c) whys.OverLimit = cpu_limit_of (version_in above) ≤ c
 Applies above (forms.Cpu c) whys.Undeclared = cpus_in above ≤ c
 Applies above (forms.Cpu c) whys.Twice = Contains (lists_in above) c
-Applies above (forms.Cpu c) whys.WrongPlace = IsMisplaced above 11
+Applies above (forms.Cpu c) whys.WrongPlace = IsMisplaced above 12
 Applies above (forms.Command c) whys.UnknownWord = (version_in above ≡ versions.One) × IsNewer c
 Applies above (forms.Command c) whys.OverLimit = (command_limit ≤ commands_in above) ⊎ IsBeyond (version_in above) c
 Applies above (forms.Command c) whys.Undeclared = IsUndeclared above c
-Applies above (forms.Command c) whys.WrongPlace = IsMisplaced above 11 ⊎ IsElsewhere (place_in above) (option_and_then (λ t. slice_get (threads_in above) t) (actor c))
+Applies above (forms.Command c) whys.WrongPlace =
+    IsMisplaced above 12 ⊎ IsElsewhere (place_in above) (option_and_then (λ t. slice_get (threads_in above) t) (actor c)) ⊎ IsMisused above c
 Applies above (forms.Schedule ws) whys.OverLimit = (schedule_limit < length (go_in above) + length ws) ⊎ (cpu_limit_of (version_in above) ≤ top_cpu ws)
 Applies above (forms.Schedule ws) whys.Undeclared = cpus_in above ≤ top_cpu ws
-Applies above (forms.Schedule ws) whys.WrongPlace = IsMisplaced above 12
-Applies above forms.End whys.WrongPlace = IsMisplaced above 12
+Applies above (forms.Schedule ws) whys.WrongPlace = IsMisplaced above 13
+Applies above forms.End whys.WrongPlace = IsMisplaced above 13
 Applies above f w = ⊥
 
 -- no reason applies to the line

@@ -1,6 +1,6 @@
 -- What every script has that some text gives.
-use Rattle.std.specs.Prelude.{◌≡◌, ℕ, Bool, false, ◌<◌, ◌≤◌, ◌+◌, ◌^◌, length, sum_by, All, IsSomeAnd, slice_get, List, [], ◌∷◌}
-use Rattle.hwp_script_lines.specs.hwp_geom.Layout.{IsSound}
+use Rattle.std.specs.Prelude.{◌≡◌, ◌≢◌, ℕ, Bool, false, ◌<◌, ◌≤◌, ◌+◌, ◌^◌, length, take, sum_by, count_by, All, IsSomeAnd, slice_get, Option, Some, None, List, [], ◌∷◌}
+use Rattle.hwp_script_lines.specs.hwp_geom.Layout.{IsSound, has_twin, is_twin, twin_of}
 use Rattle.hwp_script_lines.specs.hwp_geom.Limits.{line_limit, command_limit}
 use Rattle.hwp_script_lines.specs.hwp_geom.declared.Layout.{Layout}
 use Rattle.hwp_script_lines.specs.hwp_geom.declared.Thread.{Thread}
@@ -15,6 +15,7 @@ use Rattle.hwp_script_lines.specs.Grammar.{IsCollectorWithin}
 use Rattle.hwp_script_lines.specs.declared.Go.{Go}
 use Rattle.hwp_script_lines.specs.declared.Command.{Command}
 use Rattle.hwp_script_lines.specs.declared.Command.TheVariants as commands
+use Rattle.hwp_script_read.specs.Forks.{has_shared_page, is_fork_of, is_wrong_fork, names_twin}
 use Rattle.hwp_script_read.specs.Limits.{schedule_limit}
 use Rattle.hwp_script_read.specs.Reasons.{IsNewer}
 
@@ -62,6 +63,7 @@ IsCommandOf layout cpu (commands.Inject frame) = frame.0 < layout.frames
 IsCommandOf layout cpu (commands.Soft frame) = frame.0 < layout.frames
 IsCommandOf layout cpu (commands.Unpoison frame) = frame.0 < layout.frames
 IsCommandOf layout cpu (commands.Watch threshold window) = IsCollectorWithin threshold window
+IsCommandOf layout cpu (commands.Fork thread process) = IsThreadOf layout cpu thread × (process.0 < layout.procs)
 
 -- the lists from processor number `cpu` on have commands of their processors
 abbrev pub AreLists : Layout → ℕ → List (List Command) → Type 0
@@ -80,13 +82,44 @@ abbrev pub HasFill : PageKind → Type 0
 HasFill kinds.Anon = Unit {0}
 HasFill (kinds.File file fill) = fill < 2 ^ 64
 
--- no page is locked, and no command is one that version Two alone has
+-- two translations are of one process, and lead to two pages that have nothing behind them
+abbrev pub ArePaired : Layout → VSlot → VSlot → Type 0
+ArePaired layout slot twin =
+    IsSomeAnd (slice_get layout.trans slot.0) (λ (v : TransDecl). IsSomeAnd (slice_get layout.trans twin.0) (λ (w : TransDecl).
+    (v.process ≡ w.process) × (v.page.0 ≢ w.page.0) × IsSomeAnd (slice_get layout.pages v.page.0) IsAnon × IsSomeAnd (slice_get layout.pages w.page.0) IsAnon))
+
+-- a translation may have this twin: no other translation leads to the twin's page, and neither has the twin one, nor is the translation one
+pub record IsTwinFit (layout : Layout) (slot twin : VSlot) : Type 0 where
+  pub paired : ArePaired layout slot twin
+  pub alone : has_shared_page layout twin ≡ false
+  pub no_twin : is_twin layout slot ≡ false
+  pub last : has_twin layout twin ≡ false
+
+-- each translation may have the twin that it has, and no two have the same
+pub record AreTwinsFit (layout : Layout) : Type 0 where
+  pub each : (slot twin : VSlot) → twin_of layout slot ≡ Some twin → IsTwinFit layout slot twin
+  pub one : (slot other twin : VSlot) → twin_of layout slot ≡ Some twin → twin_of layout other ≡ Some twin → slot ≡ other
+
+-- the command names no twin as its translation
+abbrev pub NamesNoTwin : Layout → Command → Type 0
+NamesNoTwin layout command = names_twin layout command ≡ false
+
+-- each fork in the list of the processor may stand behind the commands before it
+abbrev pub AreForksFit : Layout → ℕ → List Command → Type 0
+AreForksFit layout cpu list = (n : ℕ) (command : Command) → slice_get list n ≡ Some command → is_wrong_fork layout cpu (take n list) command ≡ false
+
+-- of all commands of the lists one at most is a fork of the process
+abbrev pub IsEachForkedOnce : List (List Command) → Type 0
+IsEachForkedOnce lists = (process : ℕ) → sum_by (count_by (is_fork_of process)) lists ≤ 1
+
+-- no page is locked, no translation has a twin, and no command is one that version Two alone has
 pub record IsOlder (script : Script) : Type 0 where
   pub unlocked : All (λ (l : Bool). l ≡ false) script.layout.locked
+  pub untwinned : All (λ (t : Option VSlot). t ≡ None) script.layout.twins
   pub commands : All (All (λ (c : Command). IsNewer c → ⊥)) script.lists
 
--- a script that some text gives: in version One it has no `open`, no `watch` and no locked page; its layout is sound, it has a list of each processor's commands, and a schedule of
--- its processors
+-- a script that some text gives: in version One it has no `open`, no `watch`, no `fork`, no locked page and no twin; its layout is sound, it has a list of each processor's
+-- commands, and a schedule of its processors; its twins are private, and each fork may stand where it does
 pub record IsValid (script : Script) : Type 0 where
   pub older : script.layout.version ≡ versions.One → IsOlder script
   pub sound : IsSound script.layout
@@ -97,3 +130,7 @@ pub record IsValid (script : Script) : Type 0 where
   pub few_go : length script.go ≤ schedule_limit
   pub fills : All HasFill script.layout.pages
   pub words : All (All HasWords) script.lists
+  pub twins : AreTwinsFit script.layout
+  pub own : All (All (NamesNoTwin script.layout)) script.lists
+  pub forks : (cpu : ℕ) (list : List Command) → slice_get script.lists cpu ≡ Some list → AreForksFit script.layout cpu list
+  pub once : IsEachForkedOnce script.lists

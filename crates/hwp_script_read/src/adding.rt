@@ -1,14 +1,15 @@
-ghost use Rattle.std.specs.Prelude.{◌≡◌, ◌<◌, length, OnOk, IfOk, IfSome, true, false, replicate, [], ◌∷◌, ◌++◌};
+ghost use Rattle.std.specs.Prelude.{◌≡◌, ◌<◌, length, OnOk, IfOk, IfSome, Some, true, false, replicate, [], ◌∷◌, ◌++◌};
 ghost use Rattle.std.specs.List.{slice_set};
 ghost use Rattle.hwp_script_read.specs.Collects.{push_in};
-ghost use Rattle.hwp_script_read.specs.Context.{kind_of};
+ghost use Rattle.hwp_script_lines.specs.hwp_geom.Limits.{translation_limit};
+ghost use Rattle.hwp_script_read.specs.Context.{kind_of, slot_of};
 ghost use Rattle.hwp_script_read.specs.Reasons.{IsClean, IsBackingOver};
 ghost use Rattle.hwp_script_read.specs.Sums.{Sums};
 
 use crate::context::Summary;
 use hwp_script_lines::{
     Backing, Command, Cpu, FileNo, Go, List, OutOfMemory, Page, PageKind, Proc, ScriptLine,
-    ThreadDecl, TransDecl,
+    ThreadDecl, TransDecl, VSlot,
 };
 use std::alloc::Global;
 use std::mem;
@@ -26,6 +27,15 @@ fn mark(marks: &mut Vec<bool>, frame: u64)
     ensures { marks.new.items ≡ slice_set marks.old.items frame true }
 {
     marks[frame as usize] = true;
+}
+
+/// Gives a translation its twin.
+fn set_twin(twins: &mut Vec<Option<VSlot>>, slot: u64, twin: u64)
+    requires slot { slot < length twins.old.items }
+    requires twin { twin < translation_limit }
+    ensures { twins.new.items ≡ slice_set twins.old.items slot (Some (slot_of twin)) }
+{
+    twins[slot as usize] = Some(VSlot(twin as u16));
 }
 
 /// What stands behind a page.
@@ -211,7 +221,18 @@ impl Summary {
             process: Proc(process as u8),
             page: Page(page as u16),
         })?;
+        self.twins.push(None)?;
         Ok(())
+    }
+
+    #[tactic(auto, using(crate::proofs::CleanLaws::clean_cow))]
+    fn add_cow(&mut self, above: &[ScriptLine], slot: u64, twin: u64)
+        requires sums { Sums above.now self.old }
+        requires clean { IsClean above.now (ScriptLine.Cow slot twin) }
+        ensures { Sums (above.now ++ ScriptLine.Cow slot twin ∷ []) self.new }
+    {
+        self.group = 11;
+        set_twin(&mut self.twins, slot, twin);
     }
 
     #[tactic(auto, using(crate::proofs::CleanLaws::clean_cpu))]
@@ -220,7 +241,7 @@ impl Summary {
         requires clean { IsClean above.now (ScriptLine.Cpu cpu) }
         ensures { OnOk result (Sums (above.now ++ ScriptLine.Cpu cpu ∷ []) self.new) }
     {
-        self.group = 11;
+        self.group = 12;
         self.place = Some(cpu);
         self.begun.push(cpu)?;
         Ok(())
@@ -232,7 +253,7 @@ impl Summary {
         requires clean { IsClean above.now (ScriptLine.Command command.now) }
         ensures { OnOk result (Sums (above.now ++ ScriptLine.Command command.now ∷ []) self.new) }
     {
-        self.group = 11;
+        self.group = 12;
         self.commands += 1;
         push_command(&mut self.lists, self.place, *command)?;
         Ok(())
@@ -249,7 +270,7 @@ impl Summary {
         requires clean { IsClean above.now (ScriptLine.Schedule words.now) }
         ensures { OnOk result (Sums (above.now ++ ScriptLine.Schedule words.now ∷ []) self.new) }
     {
-        self.group = 12;
+        self.group = 13;
         self.place = None;
         push_words(alloc, &mut self.go, words)?;
         Ok(())
@@ -261,7 +282,7 @@ impl Summary {
         requires clean { IsClean above.now (ScriptLine.End) }
         ensures { Sums (above.now ++ ScriptLine.End ∷ []) self.new }
     {
-        self.group = 13;
+        self.group = 14;
         self.place = None;
     }
 
@@ -301,6 +322,7 @@ impl Summary {
                 process,
                 page,
             } => return self.add_trans(above, *slot, *process, *page),
+            ScriptLine::Cow { slot, twin } => self.add_cow(above, *slot, *twin),
             ScriptLine::Cpu(cpu) => return self.add_cpu(above, *cpu),
             ScriptLine::Command(command) => return self.add_command(above, command),
             ScriptLine::Schedule(words) => return self.add_schedule(above, alloc, words.as_slice()),

@@ -1,10 +1,13 @@
-ghost use Rattle.std.specs.Prelude.{◌≡◌, ℕ, ◌<◌, ◌≤◌, ◌↔◌, length, slice_get, option_and_then, IsTrue, MatchOption};
-ghost use Rattle.hwp_script_read.specs.Context.{version_in};
-ghost use Rattle.hwp_script_read.specs.Reasons.{IsClean, IsLowest, IsForeign, IsNoFilePage, IsNoAnonPage, IsUndeclared, IsNewer, IsBeyond, IsElsewhere, actor};
+ghost use Rattle.std.specs.Prelude.{◌≡◌, ℕ, ◌<◌, ◌≤◌, ◌↔◌, true, length, slice_get, option_and_then, IsTrue, IsSomeAnd, MatchOption};
+ghost use Rattle.hwp_script_read.specs.Collects.{commands_of};
+ghost use Rattle.hwp_script_read.specs.Context.{version_in, names_in, place_in};
+ghost use Rattle.hwp_script_read.specs.Forks.{is_wrong_fork};
+ghost use Rattle.hwp_script_read.specs.Reasons.{IsClean, IsLowest, IsForeign, IsNoFilePage, IsNoAnonPage, IsUndeclared, IsNewer, IsBeyond, IsElsewhere, IsMisused};
 ghost use Rattle.hwp_script_read.specs.Sums.{Sums};
 
 use crate::context::Summary;
 use crate::faults::is_misplaced;
+use crate::forks::{actor_of, is_again, is_wrong_fork, names_twin};
 use crate::why::Why;
 use hwp_script_lines::{Command, MAX_COMMANDS, Page, PageKind, ScriptLine, Thread, VSlot};
 
@@ -31,7 +34,7 @@ fn is_no_file_page(summary: &Summary, page: Page) -> bool
 }
 
 /// Whether a page is not declared with nothing behind it.
-fn is_no_anon_page(summary: &Summary, page: Page) -> bool
+pub(crate) fn is_no_anon_page(summary: &Summary, page: Page) -> bool
     ensures { IsTrue result ↔ IsNoAnonPage (slice_get summary.now.pages page.0) }
 {
     !matches!(
@@ -59,6 +62,9 @@ fn is_undeclared(summary: &Summary, above: &[ScriptLine], command: &Command) -> 
         Command::Prctl { thread, .. } | Command::RaiseUser { thread, .. } => {
             usize::from(thread.0) >= summary.threads.len()
         }
+        Command::Fork { thread, process } => {
+            usize::from(thread.0) >= summary.threads.len() || process.0 >= summary.procs
+        }
         Command::Bad { frame, .. } | Command::Weak { frame, .. } => frame.0 >= frames,
         Command::Scrub { first, last } => first.0 >= frames || last.0 >= frames,
         Command::Log { .. }
@@ -75,7 +81,10 @@ fn is_undeclared(summary: &Summary, above: &[ScriptLine], command: &Command) -> 
 fn is_newer(command: &Command) -> bool
     ensures { IsTrue result ↔ IsNewer command.now }
 {
-    matches!(command, Command::Open { .. } | Command::Watch { .. })
+    matches!(
+        command,
+        Command::Open { .. } | Command::Watch { .. } | Command::Fork { .. }
+    )
 }
 
 /// Whether a command names what there can't be in the version of the lines.
@@ -102,21 +111,6 @@ fn is_beyond(summary: &Summary, above: &[ScriptLine], command: &Command) -> bool
     }
 }
 
-/// The thread that a command is of.
-fn actor_of(command: &Command) -> Option<usize>
-    ensures { result ≡ actor command.now }
-{
-    match *command {
-        Command::Load { thread, .. }
-        | Command::Fetch { thread, .. }
-        | Command::KLoad { thread, .. }
-        | Command::Store { thread, .. }
-        | Command::Prctl { thread, .. }
-        | Command::RaiseUser { thread, .. } => Some(usize::from(thread.0)),
-        _ => None,
-    }
-}
-
 /// Whether a command of a thread, if it is one's, would stand in no list, or in another processor's.
 fn is_elsewhere(summary: &Summary, thread: Option<usize>) -> bool
     ensures { IsTrue result ↔ IsElsewhere summary.now.place (option_and_then (λ t. slice_get summary.now.threads t) thread) }
@@ -131,6 +125,30 @@ fn is_elsewhere(summary: &Summary, thread: Option<usize>) -> bool
         Some(thread) => u64::from(thread.cpu.0) != place,
         None => false,
     }
+}
+
+/// Whether a command is a fork that may not stand in its list here.
+fn forks_wrongly(summary: &Summary, above: &[ScriptLine], command: &Command) -> bool
+    requires { Sums above.now summary.now }
+    ensures { IsTrue result ↔ IsSomeAnd (place_in above.now) (λ cpu. is_wrong_fork (names_in above.now) cpu (commands_of above.now cpu) command.now ≡ true) }
+{
+    let Some(cpu) = summary.place else {
+        return false;
+    };
+    match summary.lists.as_slice().get(cpu as usize) {
+        Some(list) => is_wrong_fork(summary, cpu, list.as_slice(), command),
+        None => false,
+    }
+}
+
+/// Whether a command names a twin as its translation, or is a fork that may not stand here, or of a process that was forked before.
+fn is_misused(summary: &Summary, above: &[ScriptLine], command: &Command) -> bool
+    requires { Sums above.now summary.now }
+    ensures { IsTrue result ↔ IsMisused above.now command.now }
+{
+    names_twin(summary, command)
+        || forks_wrongly(summary, above, command)
+        || is_again(above, command)
 }
 
 /// The lowest reason that applies to a command below these lines, if any does.
@@ -149,7 +167,10 @@ pub(crate) fn command_fault(
         Some(Why::OverLimit)
     } else if is_undeclared(summary, above, command) {
         Some(Why::Undeclared)
-    } else if is_misplaced(summary, above, 11) || is_elsewhere(summary, actor_of(command)) {
+    } else if is_misplaced(summary, above, 12)
+        || is_elsewhere(summary, actor_of(command))
+        || is_misused(summary, above, command)
+    {
         Some(Why::WrongPlace)
     } else {
         None

@@ -6,7 +6,7 @@ ghost use Rattle.hwp_script_read.specs.Sums.{Sums};
 
 use crate::script::Script;
 use hwp_script_lines::{
-    Command, Go, Layout, List, PageKind, ScriptLine, ThreadDecl, TransDecl, Version,
+    Command, Go, Layout, List, PageKind, ScriptLine, ThreadDecl, TransDecl, VSlot, Version,
 };
 use std::alloc::Global;
 
@@ -34,6 +34,8 @@ pub(crate) struct Summary {
     /// For each page, whether it is locked.
     pub locked: List<bool>,
     pub trans: List<TransDecl>,
+    /// For each translation its twin, if it has one.
+    pub twins: Vec<Option<VSlot>>,
     /// The processors whose lists have begun.
     pub begun: List<u64>,
     /// The processor in whose list the next line stands.
@@ -65,6 +67,7 @@ impl Summary {
             pages: List::new(alloc),
             locked: List::new(alloc),
             trans: List::new(alloc),
+            twins: Vec::new(alloc),
             begun: List::new(alloc),
             place: None,
             commands: 0,
@@ -139,6 +142,7 @@ impl Summary {
                 pages: self.pages,
                 trans: self.trans,
                 locked: self.locked,
+                twins: List::from_vec(self.twins),
             },
             lists: List::from_vec(self.lists),
             go: self.go,

@@ -5,6 +5,7 @@ ghost use Rattle.hwp_script_read.specs.Sums.{Sums};
 
 use crate::commands::command_fault;
 use crate::context::Summary;
+use crate::cows::cow_fault;
 use crate::script::MAX_SCHEDULE;
 use crate::why::Why;
 use hwp_script_lines::{Backing, Go, MAX_FILES, MAX_PROCS, MAX_THREADS, ScriptLine};
@@ -272,7 +273,7 @@ fn cpu_fault(summary: &Summary, above: &[ScriptLine], cpu: u64) -> Option<Why>
         Some(Why::Undeclared)
     } else if summary.has_list(cpu) {
         Some(Why::Twice)
-    } else if is_misplaced(summary, above, 11) {
+    } else if is_misplaced(summary, above, 12) {
         Some(Why::WrongPlace)
     } else {
         None
@@ -296,7 +297,7 @@ fn schedule_fault(summary: &Summary, above: &[ScriptLine], words: &[Go]) -> Opti
         Some(Why::OverLimit)
     } else if highest >= summary.cpus {
         Some(Why::Undeclared)
-    } else if is_misplaced(summary, above, 12) {
+    } else if is_misplaced(summary, above, 13) {
         Some(Why::WrongPlace)
     } else {
         None
@@ -308,7 +309,7 @@ fn end_fault(summary: &Summary, above: &[ScriptLine]) -> Option<Why>
     requires some { 0 < length above.now }
     ensures { MatchOption result (IsClean above.now ScriptLine.End) (λ why. IsLowest above.now ScriptLine.End why) }
 {
-    if is_misplaced(summary, above, 12) {
+    if is_misplaced(summary, above, 13) {
         Some(Why::WrongPlace)
     } else {
         None
@@ -348,6 +349,7 @@ pub(crate) fn fault(summary: &Summary, above: &[ScriptLine], form: &ScriptLine) 
             process,
             page,
         } => trans_fault(summary, above, *slot, *process, *page),
+        ScriptLine::Cow { slot, twin } => cow_fault(summary, above, *slot, *twin),
         ScriptLine::Cpu(cpu) => cpu_fault(summary, above, *cpu),
         ScriptLine::Command(command) => command_fault(summary, above, command),
         ScriptLine::Schedule(words) => schedule_fault(summary, above, words.as_slice()),

@@ -4,7 +4,9 @@
 mod adding;
 mod commands;
 mod context;
+mod cows;
 mod faults;
+mod forks;
 mod judging;
 mod reading;
 mod script;

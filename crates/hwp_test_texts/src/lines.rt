@@ -58,6 +58,10 @@ const NEWER: &[(&[u8], &str)] = &[
         b"watch 1 1\nwatch 1000 64\n  watch  2  3  \n",
         "1 watch 1 1\n2 watch 1000 64\n3 watch 2 3\n",
     ),
+    (
+        b"cow 0 4095\n cow  18446744073709551615  1 \nfork 31 15\nfork  0  1\n",
+        "1 cow 0 4095\n2 cow 18446744073709551615 1\n3 fork 31 15\n4 fork 0 1\n",
+    ),
 ];
 
 /// What has a form of version 2 but for a word in a number's place.
@@ -65,6 +69,10 @@ const NEWER_WORDS: &[&[u8]] = &[
     b"open x",
     b"watch x 65",
     b"watch 0 01",
+    b"cow x 1",
+    b"cow 0 18446744073709551616",
+    b"fork x 16",
+    b"fork 32 01",
     b"page x anon locked",
     b"page 0 file x fill 1 locked",
 ];
@@ -77,6 +85,9 @@ const NEWER_OVER: &[&[u8]] = &[
     b"watch 1 0",
     b"watch 1 65",
     b"watch 65537 257",
+    b"fork 32 0",
+    b"fork 0 16",
+    b"fork 256 256",
 ];
 
 #[test]
@@ -161,6 +172,11 @@ const UNKNOWN: &[&[u8]] = &[
     b"open 0 0",
     b"watch 1",
     b"watch 1 1 1",
+    b"cow",
+    b"cow 0",
+    b"cow 0 1 2",
+    b"fork 0",
+    b"fork 0 1 2",
     b"raise user 0 1",
     b"raise nested 1",
     b"raise other 1 1",

@@ -69,6 +69,20 @@ fn a_script_of_version_2_is_printed_with_its_version_and_its_locked_pages(rt: Ho
     );
 }
 
+/// A script whose processes share a page behind a fork, each with a twin for its translation, as it is printed.
+const FORKING: &str =
+    "hwp 2\ncpus 1\nframes 4\nrecovery 1\nearly 0\nproc 0\nproc 1\nthread 0 0 0 handler\nthread 1 1 0 handler\npage 0 anon\npage 1 anon\npage 2 anon\ntrans 0 0 0\ntrans 1 1 0\ntrans 2 0 1\ntrans 3 1 2\ncow 0 2\ncow 1 3\ncpu 0\nstore 0 0 5 77\nfork 0 1\nstore 1 1 5 88\nend\n";
+
+/// The same script, in other spellings.
+const SPELLED_FORKING: &str =
+    "hwp 2\ncpus 1\nframes 4\nproc 0\nproc 1\nthread 0 0 0 handler\nthread 1 1 0 handler\npage 0 anon\npage 1 anon\npage 2 anon\ntrans 0 0 0\ntrans 1 1 0\ntrans 2 0 1\ntrans 3 1 2\n cow  1  3\n# the parent's\ncow 0 2 \ncpu 0\nstore 0 0 5 77\n fork  0 1 \nstore 1 1 5 88\nend\n";
+
+#[test]
+fn twins_are_printed_in_the_order_of_their_translations(rt: HostRuntime) {
+    is_spelled(&rt, rt.alloc(), SPELLED_FORKING, FORKING);
+    is_spelled(&rt, rt.alloc(), FORKING, FORKING);
+}
+
 /// The parts one after another, each so often.
 fn repeated(rt: &impl Abort, alloc: Global, parts: &[(&str, u32)]) -> String {
     let mut text = String::new(alloc);

@@ -16,6 +16,10 @@ const ALL: &str =
 const TWO: &str =
     "hwp 2\ncpus 16\nframes 4096\nfile 0\nproc 0\nthread 0 0 15 handler\npage 0 file 0 fill 1 locked\ntrans 0 0 0\ncpu 15\nopen 0\ninject 4095\nwatch 1000 64\nschedule 15\nend\n";
 
+/// Two processes that share a page behind a fork, each with a twin for its translation.
+const FORKED: &str =
+    "hwp 2\ncpus 1\nframes 4\nproc 0\nproc 1\nthread 0 0 0 handler\nthread 1 1 0 handler\npage 0 anon\npage 1 anon\npage 2 anon\ntrans 0 0 0\ntrans 1 1 0\ntrans 2 0 1\ntrans 3 1 2\ncow 0 2\ncow 1 3\ncpu 0\nstore 0 0 5 77\nfork 0 1\nstore 1 1 5 88\nload 0 0 5\nload 1 1 5\nend\n";
+
 /// What becomes of a text: the line and the reason of its refusal, if it is refused.
 type Answer = Option<(u32, Why)>;
 
@@ -143,6 +147,28 @@ fn a_script_of_version_2_is_read_and_refused_where_it_is_at_fault(rt: HostRuntim
             ("open 0", "open 1", 10, Why::Undeclared),
             ("inject 4095", "hwp 2", 11, Why::UnknownWord),
             ("schedule 15", "schedule 16", 13, Why::OverLimit),
+        ],
+    );
+}
+
+#[test]
+fn a_fork_is_of_two_processes_and_twins_are_private(rt: HostRuntime) {
+    becomes(&rt, rt.alloc(), FORKED.as_bytes(), None);
+    refused(
+        &rt,
+        rt.alloc(),
+        FORKED,
+        &[
+            ("hwp 2", "hwp 1", 15, Why::UnknownWord),
+            ("cow 1 3", "cow 1 4096", 16, Why::OverLimit),
+            ("cow 1 3", "cow 1 2", 16, Why::Undeclared),
+            ("cow 1 3", "cow 0 2", 16, Why::Twice),
+            ("cow 1 3", "cow 3 1", 16, Why::WrongPlace),
+            ("cow 1 3\n", "", 18, Why::WrongPlace),
+            ("fork 0 1", "fork 0 0", 19, Why::WrongPlace),
+            ("fork 0 1\n", "fork 0 1\nfork 0 1\n", 20, Why::WrongPlace),
+            ("store 0 0 5 77", "store 1 1 5 77", 19, Why::WrongPlace),
+            ("load 1 1 5", "load 1 3 5", 22, Why::WrongPlace),
         ],
     );
 }
@@ -363,6 +389,11 @@ const OLDER: &[Swap<'static>] = &[
     (10, b"watch 1 1", Some((10, Why::UnknownWord))),
     (10, b"watch x 1", Some((10, Why::UnknownWord))),
     (10, b"watch 0 65", Some((10, Why::UnknownWord))),
+    (8, b"cow 0 0", Some((8, Why::UnknownWord))),
+    (8, b"cow x 0", Some((8, Why::UnknownWord))),
+    (10, b"fork 0 0", Some((10, Why::UnknownWord))),
+    (10, b"fork x 0", Some((10, Why::UnknownWord))),
+    (10, b"fork 32 0", Some((10, Why::UnknownWord))),
     (10, b"inject 256", Some((10, Why::OverLimit))),
     (10, b"scrub 0 256", Some((10, Why::OverLimit))),
     (10, b"drop 256", Some((10, Why::OverLimit))),
