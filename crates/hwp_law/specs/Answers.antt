@@ -1,5 +1,5 @@
 -- When the answers of a report are those of the script's commands.
-use Rattle.std.specs.Prelude.{◌≡◌, ℕ, ◌+◌, ◌*◌, ◌==◌, Bool, true, false, ◌||◌, cond, nat_lt, List, [], ◌∷◌, flat_map, Option, Some, None, length, slice_get, filter_map, IsSome, IsSomeAnd, IsTrue, if◌then◌else◌}
+use Rattle.std.specs.Prelude.{◌≡◌, ℕ, ◌+◌, ◌*◌, ◌==◌, Bool, true, false, ◌||◌, cond, nat_lt, List, [], ◌∷◌, flat_map, Option, Some, None, length, slice_get, filter_map, IsSome, IsSomeAnd, if◌then◌else◌}
 use Rattle.std.specs.List.{list_any}
 use Rattle.hwp_law_commands.specs.hwp_geom.declared.Cpu.{Cpu}
 use Rattle.hwp_law_commands.specs.hwp_geom.declared.Who.{Who}
@@ -98,6 +98,7 @@ IsAnswer script pages stop who (commands.Fsync file) answers.Done = Unit {0}
 IsAnswer script pages stop who (commands.Open file) (answers.Opened lost) = Unit {0}
 IsAnswer script pages stop who (commands.Log status addr misc) answers.Done = Unit {0}
 IsAnswer script pages stop who (commands.Watch threshold window) answers.Done = Unit {0}
+IsAnswer script pages stop who (commands.Fork thread process) answers.Done = Unit {0}
 IsAnswer script pages stop who _ _ = ⊥
 
 -- an entry that a line of its command has to name
@@ -121,10 +122,6 @@ IsNamed cpus at e =
     (line : CpuLine) × (i : ℕ)
     × IsSomeAnd (slice_get cpus e.who.cpu.0) (λ (rows : List CpuLine). slice_get rows i ≡ Some line)
     × (seq_of line ≡ e.who.seq) × (named_in line ≡ Some at)
-
--- each entry that answers a command is one that a line of the command names
-abbrev pub AreNamed : List (List Entry) → List (List CpuLine) → Type 0
-AreNamed pages cpus = (at : At) (e : Entry) → entry_at pages at ≡ Some e → IsTrue (is_answering e.what) → IsNamed cpus at e
 
 -- each answer that says what state a page was in names a number of entries in its command's window
 abbrev pub AreInWindows : List (List Entry) → List (List CpuLine) → Type 0

@@ -146,6 +146,7 @@ IsCaused script report who (commands.Out page) answer = IsOutAnswer script repor
 IsCaused script report who (commands.Fsync file) (answers.Eio lost) = 0 < lost
 IsCaused script report who (commands.Prctl thread args) (answers.Gone page) = IsGone script report who page
 IsCaused script report who (commands.Prctl thread args) answer = answer ≡ reply_answer (reply (policy_before script report who thread) (arguments args))
+IsCaused script report who (commands.Fork thread process) (answers.Gone page) = IsGone script report who page
 IsCaused script report who (commands.Bad frame line) answers.Done = Unit {0}
 IsCaused script report who (commands.Weak frame line) answers.Done = Unit {0}
 IsCaused script report who (commands.Scrub first last) (answers.Scrubbed n) = IsEventCount report who n

@@ -4,6 +4,7 @@ use Rattle.hwp_law_commands.specs.hwp_geom.declared.Layout.{Layout}
 use Rattle.hwp_law_commands.specs.hwp_geom.declared.Page.{Page}
 use Rattle.hwp_law_commands.specs.hwp_geom.declared.Thread.{Thread}
 use Rattle.hwp_law_commands.specs.hwp_geom.declared.VSlot.{VSlot}
+use Rattle.hwp_law_commands.specs.hwp_geom.declared.Who.{Who}
 use Rattle.hwp_law_commands.specs.hwp_page.declared.At.{At}
 use Rattle.hwp_law_commands.specs.hwp_page.declared.Entry.{Entry}
 use Rattle.hwp_law_commands.specs.hwp_page.declared.What.{What}
@@ -12,6 +13,7 @@ use Rattle.hwp_law_commands.specs.hwp_script_read.declared.Command.{Command}
 use Rattle.hwp_law_commands.specs.hwp_script_read.declared.Command.TheVariants as commands
 use Rattle.hwp_law_commands.specs.hwp_script_read.declared.Script.{Script}
 use Rattle.hwp_law_commands.specs.Commands.{Access, access_of, can_fail, can_offline, command_at, current_thread, has_watch}
+use Rattle.hwp_law.specs.Copies.{MakesCopy}
 use Rattle.hwp_law.specs.History.{Fits, Names}
 use Rattle.hwp_law.specs.Places.{entry_at}
 
@@ -38,10 +40,12 @@ CanStandIn layout command page (entries.Fail situation required seen signals) = 
 CanStandIn layout command page entries.Soft = Unit {0}
 CanStandIn layout command page what = Names layout command page
 
--- the entry is one that its command makes, in a page where it can stand
-abbrev pub IsMadeBy : Script → Page → Entry → Type 0
-IsMadeBy script page e = IsSomeAnd (command_at script e.who) (λ (command : Command). Makes (has_watch script) command e.what × CanStandIn script.layout command page e.what)
+-- the entry is one that its command makes, in a page where it can stand; or one of a copy that the command makes first
+abbrev pub IsMadeBy : Script → (Who → Option VSlot) → Page → Entry → Type 0
+IsMadeBy script copies page e =
+    IsSomeAnd (command_at script e.who) (λ (command : Command). (Makes (has_watch script) command e.what × CanStandIn script.layout command page e.what)
+    ⊎ IsSomeAnd (copies e.who) (λ (from : VSlot). MakesCopy script.layout from command page e.what))
 
 -- each entry is one that its command makes
-abbrev pub AreMadeBy : Script → List (List Entry) → Type 0
-AreMadeBy script pages = (at : At) (e : Entry) → entry_at pages at ≡ Some e → IsMadeBy script at.page e
+abbrev pub AreMadeBy : Script → (Who → Option VSlot) → List (List Entry) → Type 0
+AreMadeBy script copies pages = (at : At) (e : Entry) → entry_at pages at ≡ Some e → IsMadeBy script copies at.page e

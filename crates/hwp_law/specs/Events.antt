@@ -1,7 +1,8 @@
 -- The events of a processor along its commands, what they leave in its banks, and the event lines that tell them.
-use Rattle.std.specs.Prelude.{◌≡◌, ℕ, zero, suc, ◌+◌, ◌-◌, ◌≤◌, Bool, true, false, List, [], ◌∷◌, ◌++◌, Option, Some, None, slice_get, slice_set, IsBitSet, IsSomeAnd, MatchBool}
+use Rattle.std.specs.Prelude.{◌≡◌, ℕ, zero, suc, ◌+◌, ◌-◌, ◌≤◌, Bool, true, false, List, [], ◌∷◌, ◌++◌, Option, Some, None, replicate, slice_get, slice_set, IsBitSet, IsSomeAnd, MatchBool}
 use Rattle.hwp_law_commands.specs.hwp_geom.declared.Cpu.{Cpu}
 use Rattle.hwp_law_commands.specs.hwp_geom.declared.Frame.{Frame}
+use Rattle.hwp_law_commands.specs.hwp_geom.declared.VSlot.{VSlot}
 use Rattle.hwp_law_commands.specs.hwp_geom.declared.Who.{Who}
 use Rattle.hwp_law_commands.specs.hwp_banks.declared.Event.{Event}
 use Rattle.hwp_law_commands.specs.hwp_banks.declared.Origin.{Origin}
@@ -17,6 +18,7 @@ use Rattle.hwp_law_commands.specs.hwp_report_text.declared.EventLine.{EventLine}
 use Rattle.hwp_law_commands.specs.hwp_report_text.declared.Report.{Report}
 use Rattle.hwp_law_commands.specs.hwp_banks.Banks.{Banks, empty_banks, log_in, raw_bank, raw_event}
 use Rattle.hwp_law.specs.Checks.{AreLinesOf, IsCheck}
+use Rattle.hwp_law.specs.Copies.{copy_checks}
 use Rattle.hwp_law_commands.specs.hwp_severity.declared.Arrival.{Arrival}
 use Rattle.hwp_law_commands.specs.Commands.{arrival_of, command_at, is_check}
 use Rattle.hwp_law.specs.Lines.{answer_of, bad_lines_of, events_of, weak_lines_of}
@@ -27,13 +29,13 @@ abbrev pub IsDamaged : Report → Origin → ℕ → ℕ → Type 0
 IsDamaged report origins.WeakLine frame line = IsBitSet (weak_lines_of report frame) line
 IsDamaged report _ frame line = IsBitSet (bad_lines_of report frame) line
 
--- the machine checks of so many accesses to a bad line, one after another. The line is bad in some frame, the page's at that
--- moment, and each check leaves the banks empty.
-abbrev pub AreAccessChecks : Script → Report → Who → Arrival → Origin → ℕ → ℕ → Banks → List EventLine → Banks → Type 0
-AreAccessChecks script report who how origin line zero banks lines after = (lines ≡ []) × (after ≡ banks)
-AreAccessChecks script report who how origin line (suc more) banks lines after =
+-- the machine checks of accesses to bad lines, to these one after another. Each line is bad in some frame, the page's at that moment, and
+-- each check leaves the banks empty.
+abbrev pub AreAccessChecks : Script → Report → Who → Arrival → Origin → List ℕ → Banks → List EventLine → Banks → Type 0
+AreAccessChecks script report who how origin [] banks lines after = (lines ≡ []) × (after ≡ banks)
+AreAccessChecks script report who how origin (line ∷ more) banks lines after =
     (frame : Frame) × (now : List EventLine) × (later : List EventLine) × (lines ≡ now ++ later) × IsDamaged report origin frame.0 line
-    × IsCheck script report who how (log_in (bank_of origin) (own_event origin frame line) banks) now × AreAccessChecks script report who how origin line more empty_banks later after
+    × IsCheck script report who how (log_in (bank_of origin) (own_event origin frame line) banks) now × AreAccessChecks script report who how origin more empty_banks later after
 
 -- a frame's bad line that the scrubber met, if it met one, is a machine check, which leaves the banks empty
 abbrev pub IsBadFound : Script → Report → Who → Arrival → Frame → Option ℕ → Banks → List EventLine → Banks → Type 0
@@ -97,26 +99,31 @@ logged_if_done _ event banks = banks
 
 -- the machine checks that an access made, by the entries that they left
 abbrev pub IsAccessChecked : Script → Report → Who → Arrival → Origin → ℕ → Banks → List EventLine → Banks → Type 0
-IsAccessChecked script report who how origin line banks lines after = AreAccessChecks script report who how origin line (entries_of report who is_check) banks lines after
+IsAccessChecked script report who how origin line banks lines after = AreAccessChecks script report who how origin (replicate (entries_of report who is_check) line) banks lines after
+
+-- those of a store, which copies from this translation, if from one
+abbrev pub IsStoreChecked : Script → Report → Who → Arrival → Option VSlot → VSlot → ℕ → Banks → List EventLine → Banks → Type 0
+IsStoreChecked script report who how None slot line banks lines after = IsAccessChecked script report who how origins.Access line banks lines after
+IsStoreChecked script report who how (Some from) slot line banks lines after = AreAccessChecks script report who how origins.Access (copy_checks script.layout report who from slot) banks lines after
 
 -- the event lines of a command whose machine checks arrive so, and what it leaves in the banks
-abbrev pub AreEventsOf : Script → Report → Who → Arrival → Command → Banks → List EventLine → Banks → Type 0
-AreEventsOf script report who how (commands.Load thread slot line) banks lines after = IsAccessChecked script report who how origins.Access line banks lines after
-AreEventsOf script report who how (commands.Fetch thread slot line) banks lines after = IsAccessChecked script report who how origins.Fetch line banks lines after
-AreEventsOf script report who how (commands.KLoad thread slot line) banks lines after = IsAccessChecked script report who how origins.Access line banks lines after
-AreEventsOf script report who how (commands.Store thread slot line word) banks lines after = IsAccessChecked script report who how origins.Access line banks lines after
-AreEventsOf script report who how (commands.Scrub first last) banks lines after = AreScrubbed script report who how first.0 (last.0 + 1 - first.0) banks lines after
-AreEventsOf script report who how (commands.RaiseUser thread ripv eipv) banks lines after = IsRaise script report who how banks lines after
-AreEventsOf script report who how (commands.RaiseKernel ripv eipv) banks lines after = IsRaise script report who how banks lines after
-AreEventsOf script report who how (commands.Log status addr misc) banks lines after = (lines ≡ []) × (after ≡ logged_if_done (answer_of report who) (raw_event status addr misc) banks)
-AreEventsOf script report who how command banks lines after = (lines ≡ []) × (after ≡ banks)
+abbrev pub AreEventsOf : Script → (Who → Option VSlot) → Report → Who → Arrival → Command → Banks → List EventLine → Banks → Type 0
+AreEventsOf script copies report who how (commands.Load thread slot line) banks lines after = IsAccessChecked script report who how origins.Access line banks lines after
+AreEventsOf script copies report who how (commands.Fetch thread slot line) banks lines after = IsAccessChecked script report who how origins.Fetch line banks lines after
+AreEventsOf script copies report who how (commands.KLoad thread slot line) banks lines after = IsAccessChecked script report who how origins.Access line banks lines after
+AreEventsOf script copies report who how (commands.Store thread slot line word) banks lines after = IsStoreChecked script report who how (copies who) slot line banks lines after
+AreEventsOf script copies report who how (commands.Scrub first last) banks lines after = AreScrubbed script report who how first.0 (last.0 + 1 - first.0) banks lines after
+AreEventsOf script copies report who how (commands.RaiseUser thread ripv eipv) banks lines after = IsRaise script report who how banks lines after
+AreEventsOf script copies report who how (commands.RaiseKernel ripv eipv) banks lines after = IsRaise script report who how banks lines after
+AreEventsOf script copies report who how (commands.Log status addr misc) banks lines after = (lines ≡ []) × (after ≡ logged_if_done (answer_of report who) (raw_event status addr misc) banks)
+AreEventsOf script copies report who how command banks lines after = (lines ≡ []) × (after ≡ banks)
 
 -- the events of a processor's commands from number n on, where its banks hold this
-abbrev pub AreEventsFrom : Script → Report → Cpu → ℕ → List Command → Banks → Type 0
-AreEventsFrom script report cpu n [] banks = Unit {0}
-AreEventsFrom script report cpu n (command ∷ rest) banks =
-    (after : Banks) × AreEventsOf script report (record { cpu = cpu; seq = n }) (arrival_of command) command banks (events_of report (record { cpu = cpu; seq = n })) after × AreEventsFrom script report cpu (n + 1) rest after
+abbrev pub AreEventsFrom : Script → (Who → Option VSlot) → Report → Cpu → ℕ → List Command → Banks → Type 0
+AreEventsFrom script copies report cpu n [] banks = Unit {0}
+AreEventsFrom script copies report cpu n (command ∷ rest) banks =
+    (after : Banks) × AreEventsOf script copies report (record { cpu = cpu; seq = n }) (arrival_of command) command banks (events_of report (record { cpu = cpu; seq = n })) after × AreEventsFrom script copies report cpu (n + 1) rest after
 
 -- the banks of each processor are empty at first, and its event lines are those of its commands
-abbrev pub AreEvents : Script → Report → Type 0
-AreEvents script report = (cpu : Cpu) (list : List Command) → slice_get script.lists cpu.0 ≡ Some list → AreEventsFrom script report cpu 0 list empty_banks
+abbrev pub AreEvents : Script → (Who → Option VSlot) → Report → Type 0
+AreEvents script copies report = (cpu : Cpu) (list : List Command) → slice_get script.lists cpu.0 ≡ Some list → AreEventsFrom script copies report cpu 0 list empty_banks

@@ -1,8 +1,9 @@
 -- The whole law of a report, of all commands: also where memory fails, machine checks come and the machine stops.
-use Rattle.std.specs.Prelude.{◌≡◌, Bool, List, Some, length, slice_get}
+use Rattle.std.specs.Prelude.{◌≡◌, Bool, List, Option, Some, length, slice_get}
 use Rattle.hwp_law_commands.specs.hwp_geom.declared.Cpu.{Cpu}
 use Rattle.hwp_law_commands.specs.hwp_geom.declared.Frame.{Frame}
 use Rattle.hwp_law_commands.specs.hwp_geom.declared.Page.{Page}
+use Rattle.hwp_law_commands.specs.hwp_geom.declared.VSlot.{VSlot}
 use Rattle.hwp_law_commands.specs.hwp_geom.declared.Who.{Who}
 use Rattle.hwp_law_commands.specs.hwp_page.declared.Entry.{Entry}
 use Rattle.hwp_law_commands.specs.hwp_script_read.declared.Command.{Command}
@@ -11,8 +12,10 @@ use Rattle.hwp_law_commands.specs.hwp_report_text.declared.CpuLine.{CpuLine}
 use Rattle.hwp_law_commands.specs.hwp_report_text.declared.FrameLine.{FrameLine}
 use Rattle.hwp_law_commands.specs.hwp_report_text.declared.Report.{Report}
 use Rattle.hwp_law_commands.specs.Commands.{command_at}
-use Rattle.hwp_law.specs.Answers.{AreInWindows, AreNamed}
+use Rattle.hwp_law.specs.Acting.{acting_script, copied_at}
+use Rattle.hwp_law.specs.Answers.{AreInWindows}
 use Rattle.hwp_law.specs.Causes.{AreCaused}
+use Rattle.hwp_law.specs.Copies.{AreLastStores, AreNamed}
 use Rattle.hwp_law.specs.Events.{AreEvents}
 use Rattle.hwp_law.specs.Endings.{EndingsStay}
 use Rattle.hwp_law.specs.Entries.{AreMadeBy}
@@ -23,6 +26,7 @@ use Rattle.hwp_law.specs.Losses.{LossesAgree}
 use Rattle.hwp_law.specs.Pairings.{AreRecorded}
 use Rattle.hwp_law.specs.Offlined.{AreOfflined}
 use Rattle.hwp_law.specs.PageHistory.{IsHistory}
+use Rattle.hwp_law.specs.Private.{ArePrivate}
 use Rattle.hwp_law.specs.SeenPolicies.{AreSeen, SeenNeverFalls}
 
 -- the report is of the script's version, with a line, a history or lines for each frame, page and processor of the script
@@ -33,20 +37,21 @@ pub record HasShape (script : Script) (report : Report) : Type 0 where
   pub cpus : length report.cpus ≡ script.layout.cpus
 
 -- the histories of pages: legal, and of entries that their commands make
-pub record HistoriesFit (script : Script) (report : Report) : Type 0 where
+pub record HistoriesFit (script : Script) (copies : Who → Option VSlot) (report : Report) : Type 0 where
   pub legal : (page : Page) (entries : List Entry) → slice_get report.pages page.0 ≡ Some entries → IsHistory script.layout report.frames page entries
-  pub made : AreMadeBy script report.pages
+  pub made : AreMadeBy script copies report.pages
   pub ordered : AreOrdered report.pages
   pub seen : AreSeen script report
   pub falls_never : SeenNeverFalls report
 
 -- the lines of processors: answers, each with its cause, events, and frames taken out of use beside an answer
-pub record AnswersFit (script : Script) (report : Report) : Type 0 where
+pub record AnswersFit (script : Script) (copies : Who → Option VSlot) (report : Report) : Type 0 where
   pub caused : (cpu : Cpu) (commands : List Command) (lines : List CpuLine) → slice_get script.lists cpu.0 ≡ Some commands → slice_get report.cpus cpu.0 ≡ Some lines → AreCaused script report cpu 0 commands lines
-  pub named : AreNamed report.pages report.cpus
+  pub named : AreNamed copies report.pages report.cpus
+  pub last : AreLastStores copies report
   pub windows : AreInWindows report.pages report.cpus
   pub endings : EndingsStay script report
-  pub events : AreEvents script report
+  pub events : AreEvents script copies report
   pub offlined : (who : Who) (command : Command) → command_at script who ≡ Some command → AreOfflined script report who
   pub stop : StopAgrees script report
 
@@ -56,10 +61,11 @@ pub record FramesFit (script : Script) (report : Report) : Type 0 where
   pub recorded : (who : Who) → AreRecorded script report who
   pub count : report.count ≡ poisoned_count report.frames
 
--- the report is one of a run of the script
+-- the report is one of a run of the script: it is judged by what the processors acted on, and by what forked processes read
 pub record IsLawful (script : Script) (report : Report) : Type 0 where
   pub shape : HasShape script report
-  pub histories : HistoriesFit script report
-  pub answers : AnswersFit script report
-  pub frames : FramesFit script report
+  pub histories : HistoriesFit (acting_script script report) (copied_at script report) report
+  pub answers : AnswersFit (acting_script script report) (copied_at script report) report
+  pub frames : FramesFit (acting_script script report) report
   pub losses : LossesAgree script report
+  pub private : ArePrivate script report

@@ -18,6 +18,9 @@ pub mod Checks
 pub mod Events
 pub mod Halts
 pub mod Causes
+pub mod Acting
+pub mod Copies
+pub mod Private
 pub mod Offlined
 pub mod Law
 pub use Rattle.hwp_law_commands.specs.hwp_banks as hwp_banks

@@ -71,9 +71,12 @@ answer_among rows seq = option_map (λ (l : AnswerLine). l.answer) (find (λ (l 
 abbrev pub answer_of : Report → Who → Option Answer
 answer_of report who = answer_among (rows_of report who) who.seq
 
--- the commands of a processor with the answers of its lines
+-- the answers of a processor's lines, and its commands with them
+abbrev pub answers_in : List CpuLine → List Answer
+answers_in rows = map (λ (l : AnswerLine). l.answer) (filter_map answer_in rows)
+
 abbrev pub answered : List Command → List CpuLine → List (Command × Answer)
-answered list rows = zip list (map (λ (l : AnswerLine). l.answer) (filter_map answer_in rows))
+answered list rows = zip list (answers_in rows)
 
 -- the record of a frame
 abbrev pub marks_of : Report → ℕ → List MarkLine

@@ -1,5 +1,5 @@
 -- What the report of a run shows beside the report law. The law judges a report by itself; these hold of every run.
-use Rattle.std.specs.Prelude.{◌≡◌, ℕ, ◌≤◌, List, Option, Some, None, slice_get, option_and_then}
+use Rattle.std.specs.Prelude.{◌≡◌, ℕ, ◌≤◌, List, Option, Some, None, slice_get, option_and_then, option_map, option_map_or}
 use Rattle.hwp_law_commands.specs.hwp_geom.declared.Cpu.{Cpu}
 use Rattle.hwp_law_commands.specs.hwp_geom.declared.VSlot.{VSlot}
 use Rattle.hwp_law_commands.specs.hwp_geom.declared.Who.{Who}
@@ -16,6 +16,8 @@ use Rattle.hwp_law_commands.specs.hwp_report_text.declared.CpuLine.TheVariants a
 use Rattle.hwp_law_commands.specs.hwp_report_text.declared.Report.{Report}
 use Rattle.hwp_law_commands.specs.hwp_report_text.declared.Stop.{Stop}
 use Rattle.hwp_law_commands.specs.Commands.{command_at}
+use Rattle.hwp_law.specs.Acting.{acting_script, copied_at}
+use Rattle.hwp_law.specs.Copies.{ended_through}
 use Rattle.hwp_law.specs.States.{HadState, IsInWindow}
 
 -- the stop's command is the first of its processor that answers `stopped`
@@ -38,13 +40,18 @@ pub record WasOut (script : Script) (pages : List (List Entry)) (rows : List Cpu
   pub out : HadState script.layout pages at IsAway
   pub window : IsInWindow pages rows who at
 
+-- the translation of an access, or where it copies a page first, of the load or the store that ended it
+abbrev pub slot_ended : Script → (Who → Option VSlot) → Report → Who → Option VSlot
+slot_ended script copies report who =
+    option_map (λ (slot : VSlot). option_map_or (λ (from : VSlot). ended_through script.layout report who from slot) (copies who) slot) (option_and_then slot_of (command_at script who))
+
 -- an access answers `noframe` only where its page was in no frame
-abbrev pub WereOut : Script → List (List Entry) → List (List CpuLine) → Type 0
-WereOut script pages cpus =
-    (cpu : Cpu) (rows : List CpuLine) (i seq : ℕ) (slot : VSlot) → slice_get cpus cpu.0 ≡ Some rows → slice_get rows i ≡ Some (lines.Answer seq answers.NoFrame)
-    → option_and_then slot_of (command_at script (record { cpu = cpu; seq = seq })) ≡ Some slot → WasOut script pages rows (record { cpu = cpu; seq = seq }) slot
+abbrev pub WereOut : Script → (Who → Option VSlot) → Report → Type 0
+WereOut script copies report =
+    (cpu : Cpu) (rows : List CpuLine) (i seq : ℕ) (slot : VSlot) → slice_get report.cpus cpu.0 ≡ Some rows → slice_get rows i ≡ Some (lines.Answer seq answers.NoFrame)
+    → slot_ended script copies report (record { cpu = cpu; seq = seq }) ≡ Some slot → WasOut script report.pages rows (record { cpu = cpu; seq = seq }) slot
 
 -- the report is of a run of the script, as far as it shows
 pub record IsOfRun (script : Script) (report : Report) : Type 0 where
   pub stops_first : StopsFirst report.cpus report.stop
-  pub were_out : WereOut script report.pages report.cpus
+  pub were_out : WereOut (acting_script script report) (copied_at script report) report

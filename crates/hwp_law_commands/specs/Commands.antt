@@ -50,6 +50,7 @@ current_thread command = option_map (λ (a : Access). a.thread) (access_of comma
 -- the thread that makes the command: it no longer does when its process has ended
 abbrev pub thread_of : Command → Option Thread
 thread_of (commands.Prctl thread args) = Some thread
+thread_of (commands.Fork thread process) = Some thread
 thread_of command = current_thread command
 
 -- the process of a thread

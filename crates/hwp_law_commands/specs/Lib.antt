@@ -1,5 +1,6 @@
 pub mod Commands
 pub mod Settings
+pub mod Cows
 pub mod Outcomes
 pub mod Notes
 pub mod Watched
