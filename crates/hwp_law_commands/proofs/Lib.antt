@@ -1,2 +1,4 @@
 pub mod NoteLaws
+pub mod CowLaws
+pub mod SettingLaws
 pub use Rattle.hwp_report_text.proofs.of_hwp_page as of_hwp_page

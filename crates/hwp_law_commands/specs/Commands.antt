@@ -87,6 +87,15 @@ is_watch _ = false
 abbrev pub has_watch : Script → Bool
 has_watch script = list_any (list_any is_watch) script.lists
 
+-- the command forks a process
+abbrev pub is_fork : Command → Bool
+is_fork (commands.Fork thread process) = true
+is_fork _ = false
+
+-- a processor of the script has such a command
+abbrev pub has_fork : Script → Bool
+has_fork script = list_any (list_any is_fork) script.lists
+
 -- RIPV and EIPV of IA32_MCG_STATUS, and the mode of the processor
 abbrev pub arrival : Bool → Bool → Mode → Arrival
 arrival ripv eipv mode = record { mcg = record { ripv = ripv; eipv = eipv }; mode = mode }

@@ -1,0 +1,62 @@
+-- Behind commands none of which forks, no translation is frozen, and a processor acts on the script's own command.
+use Rattle.std.proofs.Common.{◌≡◌, ℕ, zero, suc, Bool, true, false, ◌||◌, ◌&&◌, not, List, [], ◌∷◌, Option, Some, None, fold, take, if◌then◌else◌, refl, sym, ap, ◌∙◌, true≢false}
+use Rattle.std.specs.List.{list_any, zip}
+use Rattle.hwp_script_read.specs.hwp_geom.declared.Layout.{Layout}
+use Rattle.hwp_script_read.specs.hwp_geom.declared.VSlot.{VSlot}
+use Rattle.hwp_script_read.specs.declared.Command.{Command}
+use Rattle.hwp_script_read.specs.declared.Command.TheVariants as commands
+use Rattle.hwp_report_text.specs.declared.Answer.{Answer}
+use Rattle.hwp_report_text.specs.declared.Answer.TheVariants as answers
+use Rattle.hwp_law_commands.specs.Commands.{is_fork}
+use Rattle.hwp_law_commands.specs.Cows.{Cow, acting, copied_from, cow_after, cow_of, own_page, twin_or}
+
+-- one of the commands forks
+abbrev pub has_forked : List (Command × Answer) → Bool
+has_forked earlier = list_any (λ (p : Command × Answer). is_fork p.0) earlier
+
+pub both-false : (a b : Bool) → (a || b) ≡ false → (a ≡ false) × (b ≡ false)
+both-false true b is = absurd (true≢false is)
+both-false false b is = (refl, is)
+
+stays_own : (layout : Layout) (slot : VSlot) (command : Command) (answer : Answer) → is_fork command ≡ false → cow_after layout slot command answer own_page ≡ own_page
+stays_own layout slot (commands.Fork thread process) answer is = absurd (true≢false is)
+stays_own layout slot (commands.Store thread other line word) (answers.Stored at) is = refl
+stays_own layout slot command answer is = refl
+
+pub cow-unforked : (layout : Layout) (earlier : List (Command × Answer)) (slot : VSlot) → has_forked earlier ≡ false → cow_of layout earlier slot ≡ own_page
+cow-unforked layout [] slot none = refl
+cow-unforked layout (p ∷ rest) slot none =
+    let apart : (is_fork p.0 ≡ false) × (has_forked rest ≡ false) = both-false (is_fork p.0) (has_forked rest) none in
+    ap (λ (c : Cow). fold (λ (d : Cow) (q : Command × Answer). cow_after layout slot q.0 q.1 d) c rest) (stays_own layout slot p.0 p.1 apart.0) ∙ cow-unforked layout rest slot apart.1
+
+-- the command is acted on as it stands
+pub acting-unforked : (layout : Layout) (earlier : List (Command × Answer)) (command : Command) → has_forked earlier ≡ false → acting layout earlier command ≡ command
+acting-unforked layout earlier (commands.Load thread slot line) none = ap (λ (c : Cow). commands.Load thread (if c.switched then twin_or layout slot else slot) line) (cow-unforked layout earlier slot none)
+acting-unforked layout earlier (commands.Fetch thread slot line) none = ap (λ (c : Cow). commands.Fetch thread (if c.switched then twin_or layout slot else slot) line) (cow-unforked layout earlier slot none)
+acting-unforked layout earlier (commands.KLoad thread slot line) none = ap (λ (c : Cow). commands.KLoad thread (if c.switched then twin_or layout slot else slot) line) (cow-unforked layout earlier slot none)
+acting-unforked layout earlier (commands.Store thread slot line word) none = ap (λ (c : Cow). commands.Store thread (if c.frozen then twin_or layout slot else slot) line word) (cow-unforked layout earlier slot none)
+acting-unforked layout earlier (commands.Free slot) none = ap (λ (c : Cow). commands.Free (if c.switched then twin_or layout slot else slot)) (cow-unforked layout earlier slot none)
+acting-unforked layout earlier command none = refl
+
+-- and no store copies
+abbrev copied_by : VSlot → Cow → Option VSlot
+copied_by slot c = if c.frozen && not c.switched then Some slot else None
+
+pub copied-unforked : (layout : Layout) (earlier : List (Command × Answer)) (command : Command) → has_forked earlier ≡ false → copied_from layout earlier command ≡ None
+copied-unforked layout earlier (commands.Store thread slot line word) none = ap (copied_by slot) (cow-unforked layout earlier slot none)
+copied-unforked layout earlier command none = refl
+
+-- commands with their answers fork no more than the commands
+pub zip-unforked : (list : List Command) (given : List Answer) → list_any is_fork list ≡ false → has_forked (zip list given) ≡ false
+zip-unforked [] given none = refl
+zip-unforked (c ∷ cs) [] none = refl
+zip-unforked (c ∷ cs) (a ∷ rest) none =
+    let apart : (is_fork c ≡ false) × (list_any is_fork cs ≡ false) = both-false (is_fork c) (list_any is_fork cs) none in
+    ap (λ (b : Bool). b || has_forked (zip cs rest)) apart.0 ∙ zip-unforked cs rest apart.1
+
+pub take-unforked : (n : ℕ) (earlier : List (Command × Answer)) → has_forked earlier ≡ false → has_forked (take n earlier) ≡ false
+take-unforked zero earlier none = refl
+take-unforked (suc n) [] none = refl
+take-unforked (suc n) (p ∷ rest) none =
+    let apart : (is_fork p.0 ≡ false) × (has_forked rest ≡ false) = both-false (is_fork p.0) (has_forked rest) none in
+    ap (λ (b : Bool). b || has_forked (take n rest)) apart.0 ∙ take-unforked n rest apart.1
