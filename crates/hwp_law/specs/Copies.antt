@@ -1,6 +1,9 @@
 -- A store that copies a page before it writes: the entries that it makes beside those of a store through the twin, which of them its lines
 -- name, and in which order its machine checks come.
-use Rattle.std.specs.Prelude.{◌≡◌, ◌⊎◌, ⊥, Unit, ℕ, ◌+◌, ◌<◌, ◌==◌, ◌&&◌, ◌||◌, Bool, true, false, from_bool, nat_lt, List, [], ◌∷◌, ◌++◌, Option, Some, None, count_by, filter, flat_map, map, option_map_or, range_with_len, slice_get, unwrap_or, IsTrue, if◌then◌else◌}
+use Rattle.std.specs.Prelude.{◌≡◌, ◌⊎◌, ℕ, ◌+◌, ◌<◌, ◌==◌, ◌&&◌, ◌||◌, Bool, true, false, nat_lt, List, [], ◌∷◌, ◌++◌, Option, Some, None, count_by, filter, flat_map, length, map, slice_get, unwrap_or, IsTrue, if◌then◌else◌}
+use Rattle.std.specs.Int.{from_bool}
+use Rattle.std.specs.List.{range_with_len}
+use Rattle.std.specs.Option.{option_map_or}
 use Rattle.hwp_law_commands.specs.hwp_geom.Limits.{line_limit}
 use Rattle.hwp_law_commands.specs.hwp_geom.declared.Layout.{Layout}
 use Rattle.hwp_law_commands.specs.hwp_geom.declared.Page.{Page}
@@ -111,7 +114,9 @@ lines_at n checks = map (λ (c : ℕ × ℕ). c.1) (filter (λ (c : ℕ × ℕ).
 -- last line those of the store of the command's own word
 abbrev pub copy_checks : Layout → Report → Who → VSlot → VSlot → List ℕ
 copy_checks layout report who from to =
-    flat_map (λ n. lines_at n (checks_by is_load 0 (own_in layout report who from)) ++ lines_at n (checks_by is_store 0 (own_in layout report who to))) (range_with_len 0 (line_limit + 1))
+    let loads = own_in layout report who from in
+    let stores = own_in layout report who to in
+    flat_map (λ n. lines_at n (checks_by is_load 0 loads) ++ lines_at n (checks_by is_store 0 stores)) (range_with_len 0 (length loads + length stores + 1))
 
 -- ---- whose page was in no frame
 

@@ -20,4 +20,4 @@ answered_before script report who = take who.seq (answered_on script report who.
 
 -- the policy of a thread before a command of its processor
 abbrev pub policy_before : Script → Report → Who → Thread → Policy
-policy_before script report who thread = last_policy (settings thread (answered_before script report who))
+policy_before script report who thread = last_policy (settings script.layout thread (answered_before script report who))

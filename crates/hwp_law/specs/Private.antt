@@ -1,6 +1,7 @@
 -- What parent and child read behind a fork: each what it would read if all memory had been copied at the fork. The code copies a page at the
 -- first store through it.
-use Rattle.std.specs.Prelude.{◌≡◌, ℕ, ◌+◌, ◌==◌, ◌&&◌, nat_lt, List, [], ◌∷◌, Option, Some, None, drop, filter_map, fold, option_map_or, slice_get, unwrap_or, if◌then◌else◌}
+use Rattle.std.specs.Prelude.{◌≡◌, ℕ, ◌+◌, ◌==◌, ◌&&◌, nat_lt, List, [], ◌∷◌, Option, Some, None, drop, filter_map, fold, slice_get, unwrap_or, if◌then◌else◌}
+use Rattle.std.specs.Option.{option_map_or}
 use Rattle.hwp_law_commands.specs.hwp_geom.declared.Cpu.{Cpu}
 use Rattle.hwp_law_commands.specs.hwp_geom.declared.Layout.{Layout}
 use Rattle.hwp_law_commands.specs.hwp_geom.declared.TransDecl.{TransDecl}
@@ -9,6 +10,7 @@ use Rattle.hwp_law_commands.specs.hwp_geom.declared.Who.{Who}
 use Rattle.hwp_law_commands.specs.hwp_page.declared.At.{At}
 use Rattle.hwp_law_commands.specs.hwp_page.declared.Entry.{Entry}
 use Rattle.hwp_law_commands.specs.hwp_page.declared.Met.TheVariants.{Word}
+use Rattle.hwp_law_commands.specs.hwp_page.declared.What.{What}
 use Rattle.hwp_law_commands.specs.hwp_page.declared.What.TheVariants as entries
 use Rattle.hwp_law_commands.specs.hwp_script_read.declared.Command.{Command}
 use Rattle.hwp_law_commands.specs.hwp_script_read.declared.Command.TheVariants as commands
@@ -31,11 +33,13 @@ abbrev pub word_stored : VSlot → ℕ → Command × Answer → Option ℕ
 word_stored slot line (commands.Store thread other at_line word, answers.Stored at) = if (other.0 == slot.0) && (at_line == line) then Some word else None
 word_stored slot line p = None
 
--- the word that an entry stored on the line, if it is one of the processor's commands before this number
+-- the word that an entry stored on the line, if it stored one; also if it is to be of one of a processor's commands before a number
+abbrev pub word_in : ℕ → What → Option ℕ
+word_in line (entries.Store slot at_line (Word mask word)) = if at_line == line then Some word else None
+word_in line what = None
+
 abbrev pub word_before : Cpu → ℕ → ℕ → Entry → Option ℕ
-word_before cpu number line (record { who = who; what = entries.Store slot at_line (Word mask word) }) =
-    if (who.cpu.0 == cpu.0) && nat_lt who.seq number && (at_line == line) then Some word else None
-word_before cpu number line e = None
+word_before cpu number line e = if (e.who.cpu.0 == cpu.0) && nat_lt e.who.seq number then word_in line e.what else None
 
 -- the last of some words, or this one
 abbrev pub last_word : ℕ → List ℕ → ℕ

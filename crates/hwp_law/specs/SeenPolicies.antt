@@ -28,16 +28,16 @@ answered_around script report thread = unwrap_or (option_map (answered_on script
 
 -- the policy after the thread's n-th setting
 abbrev pub policy_after : Script → Report → Thread → ℕ → Policy
-policy_after script report thread n = last_policy (take n (settings thread (answered_around script report thread)))
+policy_after script report thread n = last_policy (take n (settings script.layout thread (answered_around script report thread)))
 
 -- the policy is the one after the thread's n-th setting, which there is
 pub record IsPolicySeen (script : Script) (report : Report) (seen : Seen) : Type 0 where
-  pub made : seen.n ≤ length (settings seen.thread (answered_around script report seen.thread))
+  pub made : seen.n ≤ length (settings script.layout seen.thread (answered_around script report seen.thread))
   pub policy : seen.policy ≡ policy_after script report seen.thread seen.n
 
 -- of a thread of the failing processor the settings seen are those before the command
 abbrev pub IsOwnCount : Script → Report → Who → Seen → Type 0
-IsOwnCount script report who seen = cpu_of_thread script seen.thread ≡ Some who.cpu → seen.n ≡ length (settings seen.thread (answered_before script report who))
+IsOwnCount script report who seen = cpu_of_thread script seen.thread ≡ Some who.cpu → seen.n ≡ length (settings script.layout seen.thread (answered_before script report who))
 
 -- what an entry lists as seen
 abbrev pub seen_in : What → List Seen
