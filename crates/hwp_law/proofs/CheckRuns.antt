@@ -6,6 +6,7 @@ use Rattle.std.proofs.lemmas.List.{append_assoc, length-set}
 use Rattle.std.proofs.lemmas.Option.{none-some, same_Some}
 use Rattle.hwp_law_commands.specs.hwp_geom.declared.Cpu.{Cpu}
 use Rattle.hwp_law_commands.specs.hwp_geom.declared.Frame.{Frame}
+use Rattle.hwp_law_commands.specs.hwp_geom.declared.VSlot.{VSlot}
 use Rattle.hwp_law_commands.specs.hwp_geom.declared.Who.{Who}
 use Rattle.hwp_law_commands.specs.hwp_banks.declared.Event.{Event}
 use Rattle.hwp_law_commands.specs.hwp_banks.declared.Origin.{Origin}
@@ -22,23 +23,22 @@ use Rattle.hwp_law_commands.specs.hwp_report_text.declared.Answer.{Answer}
 use Rattle.hwp_law_commands.specs.hwp_report_text.declared.Answer.TheVariants as answers
 use Rattle.hwp_law_commands.specs.hwp_report_text.declared.EventLine.{EventLine}
 use Rattle.hwp_law_commands.specs.hwp_report_text.declared.Report.{Report}
-use Rattle.hwp_law_commands.specs.Commands.{arrival_of, command_at, is_check}
+use Rattle.hwp_law_commands.specs.Commands.{arrival_of, command_at}
 use Rattle.hwp_law_commands.specs.Notes.{AreApart, IsRising, checks}
 use Rattle.hwp_law_commands.proofs.NoteLaws.{checks-append, checks-rising}
 use Rattle.hwp_law.specs.Checks.{AreLinesOf, IsCheck}
-use Rattle.hwp_law.specs.Events.{AreAccessChecks, AreEvents, AreEventsFrom, AreEventsOf, AreScrubbed, IsBadFound, IsDamaged, IsRaise, IsWeakFound, is_raised, logged_if_done}
+use Rattle.hwp_law.specs.Events.{AreAccessChecks, AreEvents, AreEventsFrom, AreEventsOf, AreScrubbed, IsBadFound, IsDamaged, IsRaise, IsWeakFound, access_lines, is_raised, logged_if_done, store_lines}
 use Rattle.hwp_law.specs.Lines.{answer_of, events_of}
-use Rattle.hwp_law.specs.Pairings.{entries_of}
 
 -- ---- runs
 
--- the machine checks of so many accesses to a bad line, a run each
-abbrev pub AreAccessRuns : Script → Report → Who → Arrival → Origin → ℕ → ℕ → Banks → List (List EventLine) → Banks → Type 0
-AreAccessRuns script report who how origin line zero banks runs after = (runs ≡ []) × (after ≡ banks)
-AreAccessRuns script report who how origin line (suc more) banks [] after = ⊥
-AreAccessRuns script report who how origin line (suc more) banks (now ∷ later) after =
+-- the machine checks of accesses to these bad lines, a run each
+abbrev pub AreAccessRuns : Script → Report → Who → Arrival → Origin → List ℕ → Banks → List (List EventLine) → Banks → Type 0
+AreAccessRuns script report who how origin [] banks runs after = (runs ≡ []) × (after ≡ banks)
+AreAccessRuns script report who how origin (line ∷ more) banks [] after = ⊥
+AreAccessRuns script report who how origin (line ∷ more) banks (now ∷ later) after =
     (frame : Frame) × IsDamaged report origin frame.0 line × IsCheck script report who how (log_in (bank_of origin) (own_event origin frame line) banks) now
-    × AreAccessRuns script report who how origin line more empty_banks later after
+    × AreAccessRuns script report who how origin more empty_banks later after
 
 -- the lines of what a scrub met at a frame, where it met something
 abbrev pub run_of : Option ℕ → List EventLine → List (List EventLine)
@@ -68,13 +68,14 @@ one_run [] = []
 one_run (line ∷ lines) = (line ∷ lines) ∷ []
 
 -- the runs of a command's lines: each machine check is one
-abbrev pub AreRunsOf : Script → Report → Who → Arrival → Command → Banks → List EventLine → List (List EventLine) → Banks → Type 0
-AreRunsOf script report who how (commands.Load thread slot line) banks lines runs after = AreAccessRuns script report who how origins.Access line (entries_of report who is_check) banks runs after
-AreRunsOf script report who how (commands.Fetch thread slot line) banks lines runs after = AreAccessRuns script report who how origins.Fetch line (entries_of report who is_check) banks runs after
-AreRunsOf script report who how (commands.KLoad thread slot line) banks lines runs after = AreAccessRuns script report who how origins.Access line (entries_of report who is_check) banks runs after
-AreRunsOf script report who how (commands.Store thread slot line word) banks lines runs after = AreAccessRuns script report who how origins.Access line (entries_of report who is_check) banks runs after
-AreRunsOf script report who how (commands.Scrub first last) banks lines runs after = AreScrubRuns script report who how first.0 (last.0 + 1 - first.0) banks runs after
-AreRunsOf script report who how command banks lines runs after = runs ≡ one_run lines
+abbrev pub AreRunsOf : Script → (Who → Option VSlot) → Report → Who → Arrival → Command → Banks → List EventLine → List (List EventLine) → Banks → Type 0
+AreRunsOf script copies report who how (commands.Load thread slot line) banks lines runs after = AreAccessRuns script report who how origins.Access (access_lines report who line) banks runs after
+AreRunsOf script copies report who how (commands.Fetch thread slot line) banks lines runs after = AreAccessRuns script report who how origins.Fetch (access_lines report who line) banks runs after
+AreRunsOf script copies report who how (commands.KLoad thread slot line) banks lines runs after = AreAccessRuns script report who how origins.Access (access_lines report who line) banks runs after
+AreRunsOf script copies report who how (commands.Store thread slot line word) banks lines runs after =
+    AreAccessRuns script report who how origins.Access (store_lines script.layout report who (copies who) slot line) banks runs after
+AreRunsOf script copies report who how (commands.Scrub first last) banks lines runs after = AreScrubRuns script report who how first.0 (last.0 + 1 - first.0) banks runs after
+AreRunsOf script copies report who how command banks lines runs after = runs ≡ one_run lines
 
 -- ---- banks
 
@@ -196,19 +197,19 @@ module _ (script : Script) (report : Report) (who : Who) (how : Arrival) where
   starts-own origins.WeakLine frame line held [] more are = absurd are
   starts-own origins.WeakLine frame line held (l ∷ ls) more (is, rest) = let bank : l.bank ≡ 2 = is.bank_is in omega (arith, bank)
 
-  starts-more : (origin : Origin) (line more : ℕ) (lines : List EventLine) (after : Banks) → AreAccessChecks script report who how origin line more empty_banks lines after → StartsBy (bank_of origin) lines
-  starts-more origin line zero lines after are = subst (StartsBy (bank_of origin)) (sym are.0) tt
-  starts-more origin line (suc more) lines after (frame, now, later, all, damaged, check, rest) = subst (StartsBy (bank_of origin)) (sym all) (starts-own origin frame line _ now later check)
+  starts-more : (origin : Origin) (more : List ℕ) (lines : List EventLine) (after : Banks) → AreAccessChecks script report who how origin more empty_banks lines after → StartsBy (bank_of origin) lines
+  starts-more origin [] lines after are = subst (StartsBy (bank_of origin)) (sym are.0) tt
+  starts-more origin (line ∷ more) lines after (frame, now, later, all, damaged, check, rest) = subst (StartsBy (bank_of origin)) (sym all) (starts-own origin frame line _ now later check)
 
-  pub access-runs : (origin : Origin) (line more : ℕ) (banks : Banks) (lines : List EventLine) (after : Banks) → length banks ≡ 3 → AreAccessChecks script report who how origin line more banks lines after → AreAccessRuns script report who how origin line more banks (checks lines) after
-  access-runs origin line zero banks lines after fit (none, left) = (ap checks none, left)
-  access-runs origin line (suc more) banks lines after fit (frame, now, later, all, damaged, check, rest) =
+  pub access-runs : (origin : Origin) (more : List ℕ) (banks : Banks) (lines : List EventLine) (after : Banks) → length banks ≡ 3 → AreAccessChecks script report who how origin more banks lines after → AreAccessRuns script report who how origin more banks (checks lines) after
+  access-runs origin [] banks lines after fit (none, left) = (ap checks none, left)
+  access-runs origin (line ∷ more) banks lines after fit (frame, now, later, all, damaged, check, rest) =
       let own = own-there origin frame line banks fit in
       let logged_ : Banks = log_in (bank_of origin) (own_event origin frame line) banks in
       let up : RisesFrom 0 now = rises 0 logged_ (has_stop how logged_) now check in
       let to : Reaches (bank_of origin) now = reaches 0 logged_ (has_stop how logged_) now (bank_of origin) (bank_of origin) own.0 own.1 (omega arith) check in
-      let runs : checks lines ≡ now ∷ checks later = ap checks all ∙ one-more (bank_of origin) now later up to (starts-more origin line more later after rest) in
-      subst (λ (l : List (List EventLine)). AreAccessRuns script report who how origin line (suc more) banks l after) (sym runs) (frame, damaged, check, access-runs origin line more empty_banks later after refl rest)
+      let runs : checks lines ≡ now ∷ checks later = ap checks all ∙ one-more (bank_of origin) now later up to (starts-more origin more later after rest) in
+      subst (λ (l : List (List EventLine)). AreAccessRuns script report who how origin (line ∷ more) banks l after) (sym runs) (frame, damaged, check, access-runs origin more empty_banks later after refl rest)
 
   -- ---- a scrub
 
@@ -282,9 +283,9 @@ module _ (script : Script) (report : Report) (who : Who) (how : Arrival) where
       let second = weak-left (record { 0 = frame }) s.weak s.between s.weak_lines between first s.weak_found in
       scrub-three (frame + 1) more between later after second rest
 
-  access-three : (origin : Origin) (line more : ℕ) (banks : Banks) (lines : List EventLine) (after : Banks) → length banks ≡ 3 → AreAccessChecks script report who how origin line more banks lines after → length after ≡ 3
-  access-three origin line zero banks lines after fit are = ap length are.1 ∙ fit
-  access-three origin line (suc more) banks lines after fit (frame, now, later, all, damaged, check, rest) = access-three origin line more empty_banks later after refl rest
+  access-three : (origin : Origin) (more : List ℕ) (banks : Banks) (lines : List EventLine) (after : Banks) → length banks ≡ 3 → AreAccessChecks script report who how origin more banks lines after → length after ≡ 3
+  access-three origin [] banks lines after fit are = ap length are.1 ∙ fit
+  access-three origin (line ∷ more) banks lines after fit (frame, now, later, all, damaged, check, rest) = access-three origin more empty_banks later after refl rest
 
   -- ---- a `raise`
 
@@ -310,53 +311,53 @@ module _ (script : Script) (report : Report) (who : Who) (how : Arrival) where
   -- ---- a command
 
   -- what a command leaves is three banks again; at first they are empty
-  pub three-after : (command : Command) (banks : Banks) (lines : List EventLine) (after : Banks) → length banks ≡ 3 → AreEventsOf script report who how command banks lines after → length after ≡ 3
-  three-after (commands.Load thread slot line) banks lines after fit are = access-three origins.Access line (entries_of report who is_check) banks lines after fit are
-  three-after (commands.Fetch thread slot line) banks lines after fit are = access-three origins.Fetch line (entries_of report who is_check) banks lines after fit are
-  three-after (commands.KLoad thread slot line) banks lines after fit are = access-three origins.Access line (entries_of report who is_check) banks lines after fit are
-  three-after (commands.Store thread slot line word) banks lines after fit are = access-three origins.Access line (entries_of report who is_check) banks lines after fit are
-  three-after (commands.Scrub first last) banks lines after fit are = scrub-three first.0 (last.0 + 1 - first.0) banks lines after fit are
-  three-after (commands.RaiseUser thread ripv eipv) banks lines after fit are = raise-three banks lines after fit are
-  three-after (commands.RaiseKernel ripv eipv) banks lines after fit are = raise-three banks lines after fit are
-  three-after (commands.Log status addr misc) banks lines after fit are = ap length are.1 ∙ logged-three (answer_of report who) (raw_event status addr misc) banks fit
-  three-after command banks lines after fit are = ap length are.1 ∙ fit
+  pub three-after : (copies : Who → Option VSlot) (command : Command) (banks : Banks) (lines : List EventLine) (after : Banks) → length banks ≡ 3 → AreEventsOf script copies report who how command banks lines after → length after ≡ 3
+  three-after copies (commands.Load thread slot line) banks lines after fit are = access-three origins.Access (access_lines report who line) banks lines after fit are
+  three-after copies (commands.Fetch thread slot line) banks lines after fit are = access-three origins.Fetch (access_lines report who line) banks lines after fit are
+  three-after copies (commands.KLoad thread slot line) banks lines after fit are = access-three origins.Access (access_lines report who line) banks lines after fit are
+  three-after copies (commands.Store thread slot line word) banks lines after fit are = access-three origins.Access (store_lines script.layout report who (copies who) slot line) banks lines after fit are
+  three-after copies (commands.Scrub first last) banks lines after fit are = scrub-three first.0 (last.0 + 1 - first.0) banks lines after fit are
+  three-after copies (commands.RaiseUser thread ripv eipv) banks lines after fit are = raise-three banks lines after fit are
+  three-after copies (commands.RaiseKernel ripv eipv) banks lines after fit are = raise-three banks lines after fit are
+  three-after copies (commands.Log status addr misc) banks lines after fit are = ap length are.1 ∙ logged-three (answer_of report who) (raw_event status addr misc) banks fit
+  three-after copies command banks lines after fit are = ap length are.1 ∙ fit
 
   -- the runs of its lines are its machine checks
-  pub checks-are : (command : Command) (banks : Banks) (lines : List EventLine) (after : Banks) → length banks ≡ 3 → AreEventsOf script report who how command banks lines after → AreRunsOf script report who how command banks lines (checks lines) after
-  checks-are (commands.Load thread slot line) banks lines after fit are = access-runs origins.Access line (entries_of report who is_check) banks lines after fit are
-  checks-are (commands.Fetch thread slot line) banks lines after fit are = access-runs origins.Fetch line (entries_of report who is_check) banks lines after fit are
-  checks-are (commands.KLoad thread slot line) banks lines after fit are = access-runs origins.Access line (entries_of report who is_check) banks lines after fit are
-  checks-are (commands.Store thread slot line word) banks lines after fit are = access-runs origins.Access line (entries_of report who is_check) banks lines after fit are
-  checks-are (commands.Scrub first last) banks lines after fit are = scrub-runs first.0 (last.0 + 1 - first.0) banks lines after fit are
-  checks-are (commands.RaiseUser thread ripv eipv) banks lines after fit are = raise-runs banks lines after are
-  checks-are (commands.RaiseKernel ripv eipv) banks lines after fit are = raise-runs banks lines after are
-  checks-are (commands.Log status addr misc) banks lines after fit are = ap checks are.0 ∙ sym (ap one_run are.0)
-  checks-are command banks lines after fit are = ap checks are.0 ∙ sym (ap one_run are.0)
+  pub checks-are : (copies : Who → Option VSlot) (command : Command) (banks : Banks) (lines : List EventLine) (after : Banks) → length banks ≡ 3 → AreEventsOf script copies report who how command banks lines after → AreRunsOf script copies report who how command banks lines (checks lines) after
+  checks-are copies (commands.Load thread slot line) banks lines after fit are = access-runs origins.Access (access_lines report who line) banks lines after fit are
+  checks-are copies (commands.Fetch thread slot line) banks lines after fit are = access-runs origins.Fetch (access_lines report who line) banks lines after fit are
+  checks-are copies (commands.KLoad thread slot line) banks lines after fit are = access-runs origins.Access (access_lines report who line) banks lines after fit are
+  checks-are copies (commands.Store thread slot line word) banks lines after fit are = access-runs origins.Access (store_lines script.layout report who (copies who) slot line) banks lines after fit are
+  checks-are copies (commands.Scrub first last) banks lines after fit are = scrub-runs first.0 (last.0 + 1 - first.0) banks lines after fit are
+  checks-are copies (commands.RaiseUser thread ripv eipv) banks lines after fit are = raise-runs banks lines after are
+  checks-are copies (commands.RaiseKernel ripv eipv) banks lines after fit are = raise-runs banks lines after are
+  checks-are copies (commands.Log status addr misc) banks lines after fit are = ap checks are.0 ∙ sym (ap one_run are.0)
+  checks-are copies command banks lines after fit are = ap checks are.0 ∙ sym (ap one_run are.0)
 
 -- ---- a report
 
 -- the runs of a command's event lines, with what its banks held before it and hold after it
-pub record HasRuns (script : Script) (report : Report) (who : Who) (command : Command) : Type 0 where
+pub record HasRuns (script : Script) (copies : Who → Option VSlot) (report : Report) (who : Who) (command : Command) : Type 0 where
   pub before : Banks
   pub after : Banks
-  pub runs : AreRunsOf script report who (arrival_of command) command before (events_of report who) (checks (events_of report who)) after
+  pub runs : AreRunsOf script copies report who (arrival_of command) command before (events_of report who) (checks (events_of report who)) after
 
-runs-from : (script : Script) (report : Report) (cpu : Cpu) (n : ℕ) (list : List Command) (banks : Banks) → length banks ≡ 3 → AreEventsFrom script report cpu n list banks → (k m : ℕ) (command : Command) → slice_get list k ≡ Some command → n + k ≡ m
-    → HasRuns script report (record { cpu = cpu; seq = m }) command
-runs-from script report cpu n [] banks fit are k m command there at = absurd (none-some command there)
-runs-from script report cpu n (c ∷ cs) banks fit (after, now, rest) zero m command there at =
+runs-from : (script : Script) (copies : Who → Option VSlot) (report : Report) (cpu : Cpu) (n : ℕ) (list : List Command) (banks : Banks) → length banks ≡ 3 → AreEventsFrom script copies report cpu n list banks → (k m : ℕ) (command : Command) → slice_get list k ≡ Some command → n + k ≡ m
+    → HasRuns script copies report (record { cpu = cpu; seq = m }) command
+runs-from script copies report cpu n [] banks fit are k m command there at = absurd (none-some command there)
+runs-from script copies report cpu n (c ∷ cs) banks fit (after, now, rest) zero m command there at =
     let who : Who = record { cpu = cpu; seq = n } in
-    let here : HasRuns script report who c = record { before = banks; after = after; runs = checks-are script report who (arrival_of c) c banks (events_of report who) after fit now } in
+    let here : HasRuns script copies report who c = record { before = banks; after = after; runs = checks-are script report who (arrival_of c) copies c banks (events_of report who) after fit now } in
     let same : n ≡ m = omega (arith, at) in
-    subst (HasRuns script report (record { cpu = cpu; seq = m })) (same_Some c command there) (subst (λ (i : ℕ). HasRuns script report (record { cpu = cpu; seq = i }) c) same here)
-runs-from script report cpu n (c ∷ cs) banks fit (after, now, rest) (suc k) m command there at =
+    subst (HasRuns script copies report (record { cpu = cpu; seq = m })) (same_Some c command there) (subst (λ (i : ℕ). HasRuns script copies report (record { cpu = cpu; seq = i }) c) same here)
+runs-from script copies report cpu n (c ∷ cs) banks fit (after, now, rest) (suc k) m command there at =
     let who : Who = record { cpu = cpu; seq = n } in
-    runs-from script report cpu (n + 1) cs after (three-after script report who (arrival_of c) c banks (events_of report who) after fit now) rest k m command there (omega (arith, at))
+    runs-from script copies report cpu (n + 1) cs after (three-after script report who (arrival_of c) copies c banks (events_of report who) after fit now) rest k m command there (omega (arith, at))
 
 -- in a report whose event lines are those of its machine checks, the runs of each command's lines are its machine checks
-pub runs-of : (script : Script) (report : Report) → AreEvents script report → (who : Who) (command : Command) → command_at script who ≡ Some command → HasRuns script report who command
-runs-of script report are who command = which (slice_get script.lists who.cpu.0) refl
+pub runs-of : (script : Script) (copies : Who → Option VSlot) (report : Report) → AreEvents script copies report → (who : Who) (command : Command) → command_at script who ≡ Some command → HasRuns script copies report who command
+runs-of script copies report are who command = which (slice_get script.lists who.cpu.0) refl
   where
-    which : (o : Option (List Command)) → slice_get script.lists who.cpu.0 ≡ o → option_and_then (λ (list : List Command). slice_get list who.seq) o ≡ Some command → HasRuns script report who command
+    which : (o : Option (List Command)) → slice_get script.lists who.cpu.0 ≡ o → option_and_then (λ (list : List Command). slice_get list who.seq) o ≡ Some command → HasRuns script copies report who command
     which None none is = absurd (none-some command is)
-    which (Some list) some is = runs-from script report who.cpu 0 list empty_banks refl (are who.cpu list some) who.seq who.seq command is (omega arith)
+    which (Some list) some is = runs-from script copies report who.cpu 0 list empty_banks refl (are who.cpu list some) who.seq who.seq command is (omega arith)

@@ -46,6 +46,7 @@ layout = record {
   pages = Anon ∷ [];
   trans = (record { process = record { 0 = 0 }; page = record { 0 = 0 } }) ∷ [];
   locked = false ∷ [];
+  twins = None ∷ [];
 }
 
 -- `store 0 0 5 77`, `bad 0 5`, `load 0 0 5`, `load 0 0 6`
@@ -147,7 +148,7 @@ pub failing_has_event : HaveEvents report (record { 0 = 0 }) (command 2)
 failing_has_event = refl
 
 -- the load's event is graded S9 and comes to the result of the mark, and the banks are empty after it
-pub load_checked : AreEventsOf script report (command 2) (arrival_of (commands.Load (record { 0 = 0 }) (record { 0 = 0 }) 5)) (commands.Load (record { 0 = 0 }) (record { 0 = 0 }) 5) empty_banks (events_of report (command 2)) empty_banks
+pub load_checked : AreEventsOf script (λ who. None) report (command 2) (arrival_of (commands.Load (record { 0 = 0 }) (record { 0 = 0 }) 5)) (commands.Load (record { 0 = 0 }) (record { 0 = 0 }) 5) empty_banks (events_of report (command 2)) empty_banks
 load_checked = (
   record { 0 = 0 },
   events_of report (command 2),

@@ -1,5 +1,5 @@
 -- What the whole law says of small reports, and that today's parts follow from it.
-use Rattle.std.proofs.Common.{◌≡◌, ℕ, suc, zero, ◌+◌, true, false, cond, List, [], ◌∷◌, Option, Some, None, slice_get, fold, refl, sym, ap, ◌∙◌, IsSomeAnd, add-zero, true≢false, option_map, unwrap_or, filter_map, find, ◌==◌, inl, inr, subst, Bool}
+use Rattle.std.proofs.Common.{◌≡◌, ℕ, suc, zero, ◌+◌, true, false, cond, List, [], ◌∷◌, Option, Some, None, slice_get, fold, refl, sym, ap, ◌∙◌, IsSomeAnd, add-zero, true≢false, option_map, unwrap_or, filter_map, find, ◌==◌, inl, inr, ◌⊎◌, subst, Bool}
 use Rattle.std.proofs.lemmas.Bool.{cases_eq, eq-eqb, ne_eqb}
 use Rattle.std.proofs.lemmas.Option.{none-some, same_Some}
 use Rattle.hwp_law_commands.specs.hwp_geom.declared.Frame.{Frame}
@@ -25,6 +25,7 @@ use Rattle.hwp_law_commands.specs.hwp_report_text.declared.StopCause.TheVariants
 use Rattle.hwp_law.specs.Answers.{IsAnswer}
 use Rattle.hwp_law.specs.Causes.{IsCaused}
 use Rattle.hwp_law_commands.specs.Commands.{command_at, has_watch, is_kernels}
+use Rattle.hwp_law.specs.Copies.{MakesCopy}
 use Rattle.hwp_law.specs.Entries.{IsMadeBy, Makes, CanStandIn}
 use Rattle.hwp_law.specs.Halts.{CanStop, StopAgrees}
 use Rattle.hwp_law.specs.History.{IsMade, Fits, Names}
@@ -87,11 +88,17 @@ some_so : {A : Type 0} (o : Option A) (P Q : A → Type 0) → ((x : A) → P x 
 some_so None P Q so is = is
 some_so (Some x) P Q so is = so x is
 
--- an entry that its command makes is today's where no memory fails
-pub IsMadeBy-plain : (script : Script) (page : Page) (e : Entry) → IsPlain e.what → IsMadeBy script page e → IsMade script page e
-IsMadeBy-plain script page e plain made =
-    some_so (command_at script e.who) (λ (c : Command). Makes (has_watch script) c e.what × CanStandIn script.layout c page e.what) (λ (c : Command). Fits c e.what × Names script.layout c page)
-    (λ c is. made_so script page c e.what plain is) made
+-- an entry that its command makes is today's where no memory fails and the command copies no page
+pub IsMadeBy-plain : (script : Script) (copies : Who → Option VSlot) (page : Page) (e : Entry) → IsPlain e.what → copies e.who ≡ None → IsMadeBy script copies page e → IsMade script page e
+IsMadeBy-plain script copies page e plain none made =
+    some_so (command_at script e.who)
+    (λ (c : Command). (Makes (has_watch script) c e.what × CanStandIn script.layout c page e.what) ⊎ IsSomeAnd (copies e.who) (λ (from : VSlot). MakesCopy script.layout from c page e.what))
+    (λ (c : Command). Fits c e.what × Names script.layout c page)
+    (λ c is. which c is) made
+  where
+    which : (c : Command) → (Makes (has_watch script) c e.what × CanStandIn script.layout c page e.what) ⊎ IsSomeAnd (copies e.who) (λ (from : VSlot). MakesCopy script.layout from c page e.what) → Fits c e.what × Names script.layout c page
+    which c (inl is) = made_so script page c e.what plain is
+    which c (inr copied) = absurd (subst (λ (o : Option VSlot). IsSomeAnd o (λ (from : VSlot). MakesCopy script.layout from c page e.what)) none copied)
 
 -- the answer of a command stands in a line of its processor
 pub answer_there : (rows : List CpuLine) (seq : ℕ) (answer : Answer) → answer_among rows seq ≡ Some answer → (i : ℕ) × (slice_get rows i ≡ Some (lines.Answer seq answer))

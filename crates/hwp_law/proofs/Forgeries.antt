@@ -1,5 +1,5 @@
 -- What the law refuses: small changes of the example's report, each against the clause that sees it.
-use Rattle.std.proofs.Common.{◌≡◌, ℕ, suc, zero, ◌<◌, ◌≤◌, Bool, true, false, List, [], ◌∷◌, Some, None, take, ◌&&◌, nat_lt, slice_get, refl, sym, ap, subst, ◌∙◌, inl, lit<, true≢false, arith}
+use Rattle.std.proofs.Common.{◌≡◌, ℕ, suc, zero, ◌<◌, ◌≤◌, Bool, true, false, List, [], ◌∷◌, Some, None, take, ◌&&◌, nat_lt, slice_get, refl, sym, ap, subst, ◌∙◌, inl, inr, lit<, true≢false, arith}
 use Rattle.std.proofs.lemmas.Option.{none-some, same_Some}
 use Rattle.std.specs.List.{list_any}
 use Rattle.hwp_law_commands.specs.hwp_geom.declared.Cpu.{Cpu}
@@ -130,7 +130,7 @@ poisoned_free placed = true≢false placed.1
 -- ---- event lines
 
 abbrev load : Banks → List EventLine → Banks → Type 0
-load before list after = AreEventsOf script report (command 2) (arrival_of (commands.Load (record { 0 = 0 }) (record { 0 = 0 }) 5)) (commands.Load (record { 0 = 0 }) (record { 0 = 0 }) 5) before list after
+load before list after = AreEventsOf script (λ who. None) report (command 2) (arrival_of (commands.Load (record { 0 = 0 }) (record { 0 = 0 }) 5)) (commands.Load (record { 0 = 0 }) (record { 0 = 0 }) 5) before list after
 
 -- a machine check of an access has its event line, and an access without one has none
 pub no_line : (after : Banks) → load empty_banks [] after → ⊥
@@ -141,7 +141,7 @@ no_line after (frame, l ∷ ls, later, all, damaged, check, rest) = absurd (true
     is_empty [] = true
     is_empty (x ∷ xs) = false
 
-pub line_too_many : (line : EventLine) (after : Banks) → AreEventsOf script report (command 3) (arrival_of (commands.Load (record { 0 = 0 }) (record { 0 = 0 }) 6)) (commands.Load (record { 0 = 0 }) (record { 0 = 0 }) 6) empty_banks (line ∷ []) after → ⊥
+pub line_too_many : (line : EventLine) (after : Banks) → AreEventsOf script (λ who. None) report (command 3) (arrival_of (commands.Load (record { 0 = 0 }) (record { 0 = 0 }) 6)) (commands.Load (record { 0 = 0 }) (record { 0 = 0 }) 6) empty_banks (line ∷ []) after → ⊥
 line_too_many line after (none, same) = true≢false (sym (ap is_empty none))
   where
     is_empty : List EventLine → Bool
@@ -227,11 +227,13 @@ named_by_other (line, suc i, there, own, names) = none-some line there
 -- ---- entries
 
 -- a store has the word of its command, and a command that marks a line makes no entry
-pub other_word : IsMadeBy script (record { 0 = 0 }) (record { who = command 0; what = entries.Store (record { 0 = 0 }) 5 (Word (record { 0 = 0 }) 78) }) → ⊥
-other_word made = let is : ◌≡◌ {A = ℕ} 78 77 = made.0.3 in absurd (omega arith)
+pub other_word : IsMadeBy script (λ who. None) (record { 0 = 0 }) (record { who = command 0; what = entries.Store (record { 0 = 0 }) 5 (Word (record { 0 = 0 }) 78) }) → ⊥
+other_word (inl made) = let is : ◌≡◌ {A = ℕ} 78 77 = made.0.3 in absurd (omega arith)
+other_word (inr copied) = copied
 
-pub made_by_mark : IsMadeBy script (record { 0 = 0 }) (record { who = command 1; what = entries.Load (record { 0 = 0 }) 5 (Word (record { 0 = 0 }) 77) }) → ⊥
-made_by_mark made = made.0
+pub made_by_mark : IsMadeBy script (λ who. None) (record { 0 = 0 }) (record { who = command 1; what = entries.Load (record { 0 = 0 }) 5 (Word (record { 0 = 0 }) 77) }) → ⊥
+made_by_mark (inl made) = made.0
+made_by_mark (inr copied) = copied
 
 -- no thread has a setting that its processor's commands don't make
 pub setting_unmade : (policy : Policy) → IsPolicySeen script report (record { thread = record { 0 = 0 }; policy = policy; n = 1 }) → ⊥

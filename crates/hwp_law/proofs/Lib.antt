@@ -1,4 +1,5 @@
 pub mod Rows
+pub mod ActingLaws
 pub mod Extents
 pub mod Examples
 pub mod Forgeries

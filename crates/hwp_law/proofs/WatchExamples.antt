@@ -1,7 +1,7 @@
 -- Two reports of a processor with a collector, by hand: a thread stores 5, a line of its frame 0 is weak, two scrubs meet it, and the
 -- thread loads its 5. Where two notes within two rounds take a frame out of use, the second scrub moves the page to frame 1; where
 -- they must be of one round, nothing comes of them.
-use Rattle.std.proofs.Common.{◌≡◌, ℕ, suc, zero, ◌+◌, ◌*◌, ◌==◌, ◌&&◌, cond, ap, All, true, false, Bool, List, [], ◌∷◌, ◌++◌, Some, None, refl, sym, lit<, lit≤, true≢false, arith}
+use Rattle.std.proofs.Common.{◌≡◌, ℕ, suc, zero, ◌+◌, ◌*◌, ◌==◌, ◌&&◌, cond, ap, All, true, false, Bool, List, [], ◌∷◌, ◌++◌, Some, None, refl, sym, inl, lit<, lit≤, true≢false, arith}
 use Rattle.std.proofs.lemmas.Bool.{ne_eqb}
 use Rattle.std.specs.List.{count_by}
 use Rattle.hwp_law_commands.specs.hwp_cec.Ages.{Note, Round}
@@ -210,8 +210,8 @@ all_caused = (
 )
 
 -- the scrub makes the entry that its line names, and the line names it
-pub scrub_moves : IsMadeBy (watching 2 2) (record { 0 = 0 }) moving
-scrub_moves = ((refl, refl), tt)
+pub scrub_moves : IsMadeBy (watching 2 2) (λ who. None) (record { 0 = 0 }) moving
+scrub_moves = inl ((refl, refl), tt)
 
 pub move_named : IsNamed one_goes.cpus (at 3) moving
 move_named = (moved_line, 6, refl, refl, refl)

@@ -1,5 +1,5 @@
 -- What the law refuses of lines of frames taken out of use: small changes of the two reports with a collector.
-use Rattle.std.proofs.Common.{◌≡◌, ℕ, suc, zero, ◌==◌, true, false, Bool, List, [], ◌∷◌, ◌++◌, take, drop, Option, Some, None, refl, sym, ap, ◌∙◌, true≢false, arith}
+use Rattle.std.proofs.Common.{◌≡◌, ℕ, suc, zero, ◌==◌, true, false, Bool, List, [], ◌∷◌, ◌++◌, take, drop, Option, Some, None, refl, inl, inr, sym, ap, ◌∙◌, true≢false, arith}
 use Rattle.hwp_law_commands.specs.hwp_geom.declared.Frame.{Frame}
 use Rattle.hwp_law_commands.specs.hwp_page.declared.Entry.{Entry}
 use Rattle.hwp_law_commands.specs.hwp_script_read.declared.Command.TheVariants as commands
@@ -94,8 +94,9 @@ abbrev unwatched : Script
 unwatched = record (watching 2 2) { lists = (take 2 (list 2 2) ++ commands.Weak (frame 0) 1 ∷ drop 3 (list 2 2)) ∷ [] }
 
 -- there a scrub moves no page, and a weak frame isn't named
-pub moved_unwatched : IsMadeBy unwatched (record { 0 = 0 }) moving → ⊥
-moved_unwatched made = true≢false (sym made.0.0)
+pub moved_unwatched : IsMadeBy unwatched (λ who. None) (record { 0 = 0 }) moving → ⊥
+moved_unwatched (inl made) = true≢false (sym made.0.0)
+moved_unwatched (inr copied) = copied
 
 pub weak_named : named_frames (watching 2 2) ≡ 0 ∷ []
 weak_named = refl
@@ -104,8 +105,9 @@ pub weak_unnamed : named_frames unwatched ≡ []
 weak_unnamed = refl
 
 -- with one, a command that can't fail still moves none
-pub moved_by_mark : IsMadeBy (watching 2 2) (record { 0 = 0 }) (record moving { who = command 1 }) → ⊥
-moved_by_mark made = true≢false (sym made.0.1)
+pub moved_by_mark : IsMadeBy (watching 2 2) (λ who. None) (record { 0 = 0 }) (record moving { who = command 1 }) → ⊥
+moved_by_mark (inl made) = true≢false (sym made.0.1)
+moved_by_mark (inr copied) = copied
 
 -- no frame goes where the processor has no collector
 pub said_unwatched : AreOfflined unwatched one_goes (command 4) → ⊥

@@ -2,6 +2,7 @@
 use Rattle.std.specs.Prelude.{◌≡◌, ℕ, zero, suc, ◌+◌, ◌-◌, ◌≤◌, Bool, true, false, List, [], ◌∷◌, ◌++◌, Option, Some, None, replicate, slice_get, slice_set, IsBitSet, IsSomeAnd, MatchBool}
 use Rattle.hwp_law_commands.specs.hwp_geom.declared.Cpu.{Cpu}
 use Rattle.hwp_law_commands.specs.hwp_geom.declared.Frame.{Frame}
+use Rattle.hwp_law_commands.specs.hwp_geom.declared.Layout.{Layout}
 use Rattle.hwp_law_commands.specs.hwp_geom.declared.VSlot.{VSlot}
 use Rattle.hwp_law_commands.specs.hwp_geom.declared.Who.{Who}
 use Rattle.hwp_law_commands.specs.hwp_banks.declared.Event.{Event}
@@ -97,21 +98,26 @@ abbrev pub logged_if_done : Option Answer → Event → Banks → Banks
 logged_if_done (Some answers.Done) event banks = log_in raw_bank event banks
 logged_if_done _ event banks = banks
 
--- the machine checks that an access made, by the entries that they left
-abbrev pub IsAccessChecked : Script → Report → Who → Arrival → Origin → ℕ → Banks → List EventLine → Banks → Type 0
-IsAccessChecked script report who how origin line banks lines after = AreAccessChecks script report who how origin (replicate (entries_of report who is_check) line) banks lines after
+-- the lines that the machine checks of an access met, one after another, by the entries that they left; and those of a store, which copies
+-- from this translation, if from one
+abbrev pub access_lines : Report → Who → ℕ → List ℕ
+access_lines report who line = replicate (entries_of report who is_check) line
 
--- those of a store, which copies from this translation, if from one
-abbrev pub IsStoreChecked : Script → Report → Who → Arrival → Option VSlot → VSlot → ℕ → Banks → List EventLine → Banks → Type 0
-IsStoreChecked script report who how None slot line banks lines after = IsAccessChecked script report who how origins.Access line banks lines after
-IsStoreChecked script report who how (Some from) slot line banks lines after = AreAccessChecks script report who how origins.Access (copy_checks script.layout report who from slot) banks lines after
+abbrev pub store_lines : Layout → Report → Who → Option VSlot → VSlot → ℕ → List ℕ
+store_lines layout report who None slot line = access_lines report who line
+store_lines layout report who (Some from) slot line = copy_checks layout report who from slot
+
+-- the machine checks of an access are its lines
+abbrev pub IsAccessChecked : Script → Report → Who → Arrival → Origin → ℕ → Banks → List EventLine → Banks → Type 0
+IsAccessChecked script report who how origin line banks lines after = AreAccessChecks script report who how origin (access_lines report who line) banks lines after
 
 -- the event lines of a command whose machine checks arrive so, and what it leaves in the banks
 abbrev pub AreEventsOf : Script → (Who → Option VSlot) → Report → Who → Arrival → Command → Banks → List EventLine → Banks → Type 0
 AreEventsOf script copies report who how (commands.Load thread slot line) banks lines after = IsAccessChecked script report who how origins.Access line banks lines after
 AreEventsOf script copies report who how (commands.Fetch thread slot line) banks lines after = IsAccessChecked script report who how origins.Fetch line banks lines after
 AreEventsOf script copies report who how (commands.KLoad thread slot line) banks lines after = IsAccessChecked script report who how origins.Access line banks lines after
-AreEventsOf script copies report who how (commands.Store thread slot line word) banks lines after = IsStoreChecked script report who how (copies who) slot line banks lines after
+AreEventsOf script copies report who how (commands.Store thread slot line word) banks lines after =
+    AreAccessChecks script report who how origins.Access (store_lines script.layout report who (copies who) slot line) banks lines after
 AreEventsOf script copies report who how (commands.Scrub first last) banks lines after = AreScrubbed script report who how first.0 (last.0 + 1 - first.0) banks lines after
 AreEventsOf script copies report who how (commands.RaiseUser thread ripv eipv) banks lines after = IsRaise script report who how banks lines after
 AreEventsOf script copies report who how (commands.RaiseKernel ripv eipv) banks lines after = IsRaise script report who how banks lines after

@@ -18,16 +18,16 @@ pub both-false : (a b : Bool) → (a || b) ≡ false → (a ≡ false) × (b ≡
 both-false true b is = absurd (true≢false is)
 both-false false b is = (refl, is)
 
-stays_own : (layout : Layout) (slot : VSlot) (command : Command) (answer : Answer) → is_fork command ≡ false → cow_after layout slot command answer own_page ≡ own_page
-stays_own layout slot (commands.Fork thread process) answer is = absurd (true≢false is)
-stays_own layout slot (commands.Store thread other line word) (answers.Stored at) is = refl
-stays_own layout slot command answer is = refl
+pub stays-own : (layout : Layout) (slot : VSlot) (command : Command) (answer : Answer) → is_fork command ≡ false → cow_after layout slot command answer own_page ≡ own_page
+stays-own layout slot (commands.Fork thread process) answer is = absurd (true≢false is)
+stays-own layout slot (commands.Store thread other line word) (answers.Stored at) is = refl
+stays-own layout slot command answer is = refl
 
 pub cow-unforked : (layout : Layout) (earlier : List (Command × Answer)) (slot : VSlot) → has_forked earlier ≡ false → cow_of layout earlier slot ≡ own_page
 cow-unforked layout [] slot none = refl
 cow-unforked layout (p ∷ rest) slot none =
     let apart : (is_fork p.0 ≡ false) × (has_forked rest ≡ false) = both-false (is_fork p.0) (has_forked rest) none in
-    ap (λ (c : Cow). fold (λ (d : Cow) (q : Command × Answer). cow_after layout slot q.0 q.1 d) c rest) (stays_own layout slot p.0 p.1 apart.0) ∙ cow-unforked layout rest slot apart.1
+    ap (λ (c : Cow). fold (λ (d : Cow) (q : Command × Answer). cow_after layout slot q.0 q.1 d) c rest) (stays-own layout slot p.0 p.1 apart.0) ∙ cow-unforked layout rest slot apart.1
 
 -- the command is acted on as it stands
 pub acting-unforked : (layout : Layout) (earlier : List (Command × Answer)) (command : Command) → has_forked earlier ≡ false → acting layout earlier command ≡ command
