@@ -1,6 +1,6 @@
 -- A report of a fork, by hand: a parent stores 77 in a page, makes a child, the child stores 88 on the same line, and each loads its own
 -- word. The child's store copies the page to that of its twin, so the parent's word stays. Beside it, copies that meet bad lines.
-use Rattle.std.proofs.Common.{◌≡◌, ℕ, suc, zero, ◌+◌, ◌-◌, ◌==◌, ◌<◌, true, false, Bool, List, [], ◌∷◌, ◌++◌, drop, Option, Some, None, option_and_then, slice_get, if◌then◌else◌, refl, sym, ap, subst, ◌∙◌, inl, inr, lit<, true≢false, arith}
+use Rattle.std.proofs.Common.{◌≡◌, ℕ, suc, zero, ◌+◌, ◌-◌, ◌==◌, ◌<◌, true, false, Bool, List, [], ◌∷◌, ◌++◌, drop, Option, Some, None, option_and_then, slice_get, if◌then◌else◌, IsBitSet, refl, sym, ap, subst, ◌∙◌, inl, inr, lit<, true≢false, arith}
 use Rattle.std.proofs.lemmas.Option.{none-some, same_Some}
 use Rattle.hwp_law_commands.specs.hwp_geom.declared.Cpu.{Cpu}
 use Rattle.hwp_law_commands.specs.hwp_geom.declared.Layout.{Layout}
@@ -14,30 +14,41 @@ use Rattle.hwp_law_commands.specs.hwp_geom.declared.TransDecl.{TransDecl}
 use Rattle.hwp_law_commands.specs.hwp_geom.declared.Version.TheVariants.{Two}
 use Rattle.hwp_law_commands.specs.hwp_geom.declared.VSlot.{VSlot}
 use Rattle.hwp_law_commands.specs.hwp_geom.declared.Who.{Who}
+use Rattle.hwp_law_commands.specs.hwp_kill.declared.Code.TheVariants.{Ar}
 use Rattle.hwp_law_commands.specs.hwp_kill.declared.Policy.TheVariants as policies
 use Rattle.hwp_law_commands.specs.hwp_page.declared.At.{At}
 use Rattle.hwp_law_commands.specs.hwp_page.declared.Entry.{Entry}
-use Rattle.hwp_law_commands.specs.hwp_page.declared.Met.TheVariants.{Word}
+use Rattle.hwp_law_commands.specs.hwp_page.declared.Met.TheVariants.{Word, Sigbus}
+use Rattle.hwp_law_commands.specs.hwp_page.declared.Outcome.TheVariants as outcomes
+use Rattle.hwp_law_commands.specs.hwp_page.declared.Situation.TheVariants as situations
 use Rattle.hwp_law_commands.specs.hwp_page.declared.What.{What}
 use Rattle.hwp_law_commands.specs.hwp_page.declared.What.TheVariants as entries
 use Rattle.hwp_law_commands.specs.hwp_script_read.declared.Command.{Command}
 use Rattle.hwp_law_commands.specs.hwp_script_read.declared.Command.TheVariants as commands
 use Rattle.hwp_law_commands.specs.hwp_script_read.declared.Script.{Script}
+use Rattle.hwp_law_commands.specs.hwp_banks.Banks.{empty_banks}
+use Rattle.hwp_law_commands.specs.hwp_report_text.declared.Acted.TheVariants as acts
 use Rattle.hwp_law_commands.specs.hwp_report_text.declared.Answer.{Answer}
 use Rattle.hwp_law_commands.specs.hwp_report_text.declared.Answer.TheVariants as answers
 use Rattle.hwp_law_commands.specs.hwp_report_text.declared.CpuLine.{CpuLine}
 use Rattle.hwp_law_commands.specs.hwp_report_text.declared.CpuLine.TheVariants as lines
+use Rattle.hwp_law_commands.specs.hwp_report_text.declared.EventLine.{EventLine}
 use Rattle.hwp_law_commands.specs.hwp_report_text.declared.FrameLine.{FrameLine}
+use Rattle.hwp_law_commands.specs.hwp_report_text.declared.How.TheVariants as hows
+use Rattle.hwp_law_commands.specs.hwp_report_text.declared.MarkLine.TheVariants as marks
 use Rattle.hwp_law_commands.specs.hwp_report_text.declared.Report.{Report}
 use Rattle.hwp_law_commands.specs.hwp_report_text.declared.Whereabouts.{Whereabouts}
 use Rattle.hwp_law_commands.specs.hwp_report_text.declared.Whereabouts.TheVariants as places
-use Rattle.hwp_law_commands.specs.Commands.{command_at}
+use Rattle.hwp_law_commands.specs.Commands.{arrival_of, command_at}
+use Rattle.hwp_law_commands.specs.Cows.{cow_of}
 use Rattle.hwp_law_commands.specs.Settings.{settings}
 use Rattle.hwp_law.specs.Acting.{acting_script, copied_at}
 use Rattle.hwp_law.specs.Causes.{AreCaused}
-use Rattle.hwp_law.specs.Copies.{AreLastStores, IsLastStore, copy_checks, ended_through, is_store}
+use Rattle.hwp_law.specs.Answers.{IsNamed}
+use Rattle.hwp_law.specs.Copies.{AreLastStores, AreNamed, IsLastStore, copy_checks, ended_through, is_store, must_be_named}
 use Rattle.hwp_law.specs.Entries.{AreMadeBy, IsMadeBy}
-use Rattle.hwp_law.specs.Lines.{answer_of}
+use Rattle.hwp_law.specs.Events.{AreEventsOf}
+use Rattle.hwp_law.specs.Lines.{answer_of, events_of}
 use Rattle.hwp_law.specs.Places.{entry_at}
 use Rattle.hwp_law.specs.Policies.{answered_before}
 use Rattle.hwp_law.specs.Private.{ArePrivate, freeze_from, loaded, private_word}
@@ -104,26 +115,39 @@ forking = record { layout = shared; lists = list (slot 1) (slot 1) ∷ []; go = 
 abbrev by : ℕ → What → Entry
 by n what = record { who = command n; what = what }
 
--- what the copy finds on a line, and its loads and stores of so many lines from this one on
+-- what a copy finds on a line, and the loads and stores that a command makes of so many lines from this one on
 abbrev found : ℕ → ℕ
 found line = if line == 5 then 77 else 0
 
+abbrev pub loads_by : ℕ → ℕ → ℕ → List Entry
+loads_by n line zero = []
+loads_by n line (suc more) = by n (entries.Load (slot 1) line (Word no_lines (found line))) ∷ loads_by n (line + 1) more
+
+abbrev pub stores_by : ℕ → ℕ → ℕ → List Entry
+stores_by n line zero = []
+stores_by n line (suc more) = by n (entries.Store (slot 3) line (Word no_lines (found line))) ∷ stores_by n (line + 1) more
+
 abbrev pub loads_from : ℕ → ℕ → List Entry
-loads_from line zero = []
-loads_from line (suc more) = by 2 (entries.Load (slot 1) line (Word no_lines (found line))) ∷ loads_from (line + 1) more
+loads_from line more = loads_by 2 line more
 
 abbrev pub stores_from : ℕ → ℕ → List Entry
-stores_from line zero = []
-stores_from line (suc more) = by 2 (entries.Store (slot 3) line (Word no_lines (found line))) ∷ stores_from (line + 1) more
+stores_from line more = stores_by 2 line more
 
 abbrev begun : List Entry
 begun = by 0 entries.FaultIn ∷ by 0 (entries.Map (slot 0)) ∷ by 0 (entries.Store (slot 0) 5 (Word no_lines 77)) ∷ []
 
-abbrev parents : List Entry
-parents = begun ++ by 2 (entries.Map (slot 1)) ∷ (loads_from 0 64 ++ by 2 (entries.Free (slot 1)) ∷ by 3 (entries.Load (slot 0) 5 (Word no_lines 77)) ∷ [])
+-- the two histories, with what stands in them behind the copy
+abbrev parents_end : List Entry
+parents_end = by 2 (entries.Free (slot 1)) ∷ by 3 (entries.Load (slot 0) 5 (Word no_lines 77)) ∷ []
 
-abbrev childs : List Entry
-childs = by 2 entries.FaultIn ∷ by 2 (entries.Map (slot 3)) ∷ (stores_from 0 64 ++ by 2 (entries.Store (slot 3) 5 (Word no_lines 88)) ∷ by 4 (entries.Load (slot 3) 5 (Word no_lines 88)) ∷ [])
+abbrev childs_end : List Entry
+childs_end = by 2 (entries.Store (slot 3) 5 (Word no_lines 88)) ∷ by 4 (entries.Load (slot 3) 5 (Word no_lines 88)) ∷ []
+
+abbrev pub parents : List Entry
+parents = begun ++ by 2 (entries.Map (slot 1)) ∷ (loads_from 0 64 ++ parents_end)
+
+abbrev pub childs : List Entry
+childs = by 2 entries.FaultIn ∷ by 2 (entries.Map (slot 3)) ∷ (stores_from 0 64 ++ childs_end)
 
 abbrev frame_line : Whereabouts → FrameLine
 frame_line at = record { place = at; bad = no_lines; weak = no_lines; marks = [] }
@@ -203,6 +227,105 @@ last_store later e there own same behind =
     let past : 66 < later.entry = behind in
     let on : later.entry ≡ 67 + (later.entry - 67) = omega (arith, past) in
     behind_store (later.entry - 67) e (sym (get-drop 67 childs (later.entry - 67)) ∙ ap (λ (i : ℕ). slice_get childs i) (sym on) ∙ here)
+
+same_place : {a b : At} → answers.Stored a ≡ answers.Stored b → a ≡ b
+same_place {a} {b} is = same_Some a b (ap stored_at is)
+  where
+    stored_at : Answer → Option At
+    stored_at (answers.Stored at) = Some at
+    stored_at answer = None
+
+abbrev IsLast : ℕ → ℕ → Type 0
+IsLast cpu n =
+    (from : VSlot) (at : At) → copied_at forking forked (record { cpu = record { 0 = cpu }; seq = n }) ≡ Some from → answer_of forked (record { cpu = record { 0 = cpu }; seq = n }) ≡ Some (answers.Stored at)
+    → IsLastStore forked.pages (record { cpu = record { 0 = cpu }; seq = n }) at
+
+each_last : (cpu n : ℕ) → IsLast cpu n
+each_last zero zero = λ from at copied answered. absurd (none-some from copied)
+each_last zero (suc zero) = λ from at copied answered. absurd (none-some from copied)
+each_last zero (suc (suc zero)) = λ from at copied answered. subst (IsLastStore forked.pages (command 2)) (same_place (same_Some (answers.Stored (place 2 66)) (answers.Stored at) answered)) last_store
+each_last zero (suc (suc (suc zero))) = λ from at copied answered. absurd (none-some from copied)
+each_last zero (suc (suc (suc (suc zero)))) = λ from at copied answered. absurd (none-some from copied)
+each_last zero (suc (suc (suc (suc (suc n))))) = λ from at copied answered. absurd (none-some from copied)
+each_last (suc cpu) n = λ from at copied answered. absurd (none-some from copied)
+
+pub all_last : AreLastStores (copied_at forking forked) forked
+all_last who = each_last who.cpu.0 who.seq
+
+-- each entry is one that its command makes, and each that a line has to name is named: those of the copy needn't be
+abbrev Each : (ℕ → Entry → Type 0) → ℕ → List Entry → Type 0
+Each P i [] = Unit {0}
+Each P i (e ∷ es) = P i e × Each P (i + 1) es
+
+each-at : (P : ℕ → Entry → Type 0) (i : ℕ) (l : List Entry) → Each P i l → (k : ℕ) (e : Entry) → slice_get l k ≡ Some e → P (i + k) e
+each-at P i [] each k e there = absurd (none-some e there)
+each-at P i (x ∷ xs) each zero e there =
+    let same : i ≡ i + 0 = omega arith in
+    subst (λ (n : ℕ). P n e) same (subst (P i) (same_Some x e there) each.0)
+each-at P i (x ∷ xs) each (suc k) e there =
+    let same : (i + 1) + k ≡ i + suc k = omega arith in
+    subst (λ (n : ℕ). P n e) same (each-at P (i + 1) xs each.1 k e there)
+
+abbrev IsGood : ℕ → ℕ → Entry → Type 0
+IsGood n i e =
+    IsMadeBy (acting_script forking forked) (copied_at forking forked) (page n) e × (must_be_named (copied_at forking forked e.who) e.what ≡ true → IsNamed forked.cpus (place n i) e)
+
+unnamed : {P : Type 0} → ◌≡◌ {A = Bool} false true → P
+unnamed is = absurd (true≢false (sym is))
+
+loads_good : (i line more : ℕ) (rest : List Entry) → Each (IsGood 0) (i + more) rest → Each (IsGood 0) i (loads_from line more ++ rest)
+loads_good i line zero rest good = let same : i + 0 ≡ i = omega arith in subst (λ (n : ℕ). Each (IsGood 0) n rest) same good
+loads_good i line (suc more) rest good =
+    let same : i + suc more ≡ (i + 1) + more = omega arith in
+    ((inr ((refl, tt), refl), unnamed), loads_good (i + 1) (line + 1) more rest (subst (λ (n : ℕ). Each (IsGood 0) n rest) same good))
+
+stores_good : (i line more : ℕ) (rest : List Entry) → Each (IsGood 2) (i + more) rest → Each (IsGood 2) i (stores_from line more ++ rest)
+stores_good i line zero rest good = let same : i + 0 ≡ i = omega arith in subst (λ (n : ℕ). Each (IsGood 2) n rest) same good
+stores_good i line (suc more) rest good =
+    let same : i + suc more ≡ (i + 1) + more = omega arith in
+    ((inr ((refl, tt), refl), unnamed), stores_good (i + 1) (line + 1) more rest (subst (λ (n : ℕ). Each (IsGood 2) n rest) same good))
+
+parents_good : Each (IsGood 0) 0 parents
+parents_good = (
+  (inl (tt, refl), unnamed),
+  (
+    (inl (refl, refl), unnamed),
+    (
+      (inl ((refl, refl, tt, refl), refl), λ is. (lines.Answer 0 (answers.Stored (place 0 2)), 0, refl, refl, refl)),
+      (
+        (inr (inl refl, refl), unnamed),
+        loads_good 4 0 64 parents_end ((inr (refl, refl), unnamed), ((inl ((refl, refl, tt), refl), λ is. (lines.Answer 3 (answers.Value 77 (place 0 69)), 3, refl, refl, refl)), tt)),
+      ),
+    ),
+  ),
+)
+
+childs_good : Each (IsGood 2) 0 childs
+childs_good = (
+  (inl (tt, refl), unnamed),
+  (
+    (inl (refl, refl), unnamed),
+    stores_good 2 0 64 childs_end (
+      (inl ((refl, refl, tt, refl), refl), λ is. (lines.Answer 2 (answers.Stored (place 2 66)), 2, refl, refl, refl)),
+      ((inl ((refl, refl, tt), refl), λ is. (lines.Answer 4 (answers.Value 88 (place 2 67)), 4, refl, refl, refl)), tt),
+    ),
+  ),
+)
+
+from_first : (n i : ℕ) (e : Entry) → IsGood n (0 + i) e → IsGood n i e
+from_first n i e good = let same : 0 + i ≡ i = omega arith in subst (λ (k : ℕ). IsGood n k e) same good
+
+each_good : (n i : ℕ) (e : Entry) → entry_at forked.pages (place n i) ≡ Some e → IsGood n i e
+each_good zero i e there = from_first 0 i e (each-at (IsGood 0) 0 parents parents_good i e there)
+each_good (suc zero) i e there = absurd (none-some e there)
+each_good (suc (suc zero)) i e there = from_first 2 i e (each-at (IsGood 2) 0 childs childs_good i e there)
+each_good (suc (suc (suc n))) i e there = absurd (none-some e there)
+
+pub all_made : AreMadeBy (acting_script forking forked) (copied_at forking forked) forked.pages
+all_made at e there = (each_good at.page.0 at.entry e there).0
+
+pub all_named : AreNamed (copied_at forking forked) forked.pages forked.cpus
+all_named at e there must = (each_good at.page.0 at.entry e there).1 must
 
 -- what parent and child load is what each would load if all memory had been copied at the fork
 abbrev word_given : Answer → Option ℕ
@@ -290,6 +413,107 @@ ended_at_store = refl
 
 pub ended_at_last : ended 64 64 ≡ slot 3
 ended_at_last = refl
+
+-- ---- a copy that ends at a bad line
+
+-- `store 0 0 5 77`, `fork 0 1`, `bad 0 9`, `store 1 1 5 88`, `load 0 0 5`: the child's store meets line 9, and the parent's load finds its
+-- page failed
+abbrev pub failing : Script
+failing = record {
+  layout = shared;
+  lists =
+      (commands.Store (thread 0) (slot 0) 5 77
+      ∷ commands.Fork (thread 0) (process 1)
+      ∷ commands.Bad (record { 0 = 0 }) 9
+      ∷ commands.Store (thread 1) (slot 1) 5 88
+      ∷ commands.Load (thread 0) (slot 0) 5
+      ∷ []) ∷ [];
+  go = [];
+}
+
+abbrev failure : Entry
+failure =
+    by 3 (entries.Fail situations.AnonOnly (Some (thread 1)) ((record { thread = thread 0; policy = policies.Default; n = 0 }) ∷ [])
+    ((record { process = process 1; thread = thread 1; code = Ar; slot = slot 1 }) ∷ []))
+
+abbrev pub lost : List Entry
+lost = begun ++ by 3 (entries.Map (slot 1)) ∷ (loads_by 3 0 9 ++ by 3 (entries.Mce (slot 1) 9 (record { 0 = 0x200 })) ∷ failure ∷ by 4 (entries.Load (slot 0) 5 (Sigbus (thread 0))) ∷ [])
+
+abbrev begun_copy : List Entry
+begun_copy = by 3 entries.FaultIn ∷ by 3 (entries.Map (slot 3)) ∷ stores_by 3 0 9
+
+-- `event 0 bd80000000000134 240 86 S9 recovered`
+abbrev bad_event : EventLine
+bad_event = record { seq = 3; bank = 0; status = 0xbd80000000000134; addr = 0x240; misc = 0x86; row = 9; acted = acts.Recovered }
+
+abbrev lost_rows : List CpuLine
+lost_rows =
+    lines.Answer 0 (answers.Stored (place 0 2))
+    ∷ lines.Answer 1 answers.Done
+    ∷ lines.Answer 2 answers.Done
+    ∷ lines.Event bad_event
+    ∷ lines.Answer 3 (answers.Sigbus (place 0 14))
+    ∷ lines.Answer 4 (answers.Sigbus (place 0 15))
+    ∷ []
+
+abbrev pub failed : Report
+failed = record (reported lost begun_copy lost_rows) {
+  count = 1;
+  frames =
+      (record { place = places.Handled; bad = record { 0 = 0x200 }; weak = no_lines; marks = marks.Poisoned 0 (command 3) (hows.Failure true situations.AnonOnly outcomes.Recovered) ∷ [] })
+      ∷ frame_line (places.Of (page 2)) ∷ frame_line places.Free ∷ frame_line places.Free ∷ [];
+}
+
+-- the machine check is of line 9, its event is graded S9, and the banks are empty behind it
+pub copy_checked : AreEventsOf (acting_script failing failed) (copied_at failing failed) failed (command 3) (arrival_of (commands.Store (thread 1) (slot 3) 5 88)) (commands.Store (thread 1) (slot 3) 5 88) empty_banks (events_of failed (command 3)) empty_banks
+copy_checked = (
+  record { 0 = 0 },
+  events_of failed (command 3),
+  [],
+  refl,
+  bad_line,
+  (record { bank_is = refl; status = refl; addr = refl; misc = refl; row = refl; act = inr (0, lit< tt, refl) }, tt),
+  (refl, refl),
+)
+  where
+    bad_line : IsBitSet 0x200 9
+    bad_line = λ is. let same : ◌≡◌ {A = ℕ} 0x200 0 = is in absurd (omega arith)
+
+-- every answer has its cause: the store's is the failure, the load's its own entry
+pub lost_caused : AreCaused (acting_script failing failed) failed (record { 0 = 0 }) 0
+    (commands.Store (thread 0) (slot 0) 5 77 ∷ commands.Fork (thread 0) (process 1) ∷ commands.Bad (record { 0 = 0 }) 9 ∷ commands.Store (thread 1) (slot 3) 5 88 ∷ commands.Load (thread 0) (slot 0) 5 ∷ [])
+    lost_rows
+lost_caused = (
+  refl,
+  (no_lines, refl),
+  unheeded,
+  (
+    refl,
+    tt,
+    unheeded,
+    (
+      refl,
+      tt,
+      unheeded,
+      (
+        refl,
+        (
+          refl,
+          record { entry = failure; there = refl; own = refl; sends = (0, record { process = process 1; thread = thread 1; code = Ar; slot = slot 1 }, lit< tt, refl, (refl, refl)) },
+          unheeded,
+          (refl, record { entry = by 4 (entries.Load (slot 0) 5 (Sigbus (thread 0))); there = refl; own = refl; sends = refl }, unheeded, tt),
+        ),
+      ),
+    ),
+  ),
+)
+
+-- the child has no page of its own yet, so its next store would copy again
+pub not_switched : acting_script failing failed ≡ record failing { lists = (commands.Store (thread 0) (slot 0) 5 77 ∷ commands.Fork (thread 0) (process 1) ∷ commands.Bad (record { 0 = 0 }) 9 ∷ commands.Store (thread 1) (slot 3) 5 88 ∷ commands.Load (thread 0) (slot 0) 5 ∷ []) ∷ [] }
+not_switched = refl
+
+pub copies_again : (cow_of shared (answered_before failing failed (command 4)) (slot 1)).switched ≡ false
+copies_again = refl
 
 -- ---- policies
 
