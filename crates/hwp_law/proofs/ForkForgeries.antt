@@ -1,15 +1,28 @@
 -- What the law refuses of forks: small changes of the report with a fork.
-use Rattle.std.proofs.Common.{◌≡◌, ℕ, true, false, List, [], ◌∷◌, Some, refl, sym, true≢false, lit<, arith}
+use Rattle.std.proofs.Common.{◌≡◌, ℕ, zero, suc, true, false, List, [], ◌∷◌, Option, Some, IsBitSet, refl, sym, ap, inl, inr, true≢false, lit<, arith}
+use Rattle.hwp_law_commands.specs.hwp_geom.declared.Frame.{Frame}
+use Rattle.hwp_law_commands.specs.hwp_geom.declared.VSlot.{VSlot}
+use Rattle.hwp_law_commands.specs.hwp_geom.declared.Who.{Who}
+use Rattle.hwp_law_commands.specs.hwp_banks.Banks.{Banks, empty_banks}
+use Rattle.hwp_law_commands.specs.hwp_banks.declared.Origin.TheVariants as origins
+use Rattle.hwp_law_commands.specs.hwp_kill.declared.Policy.TheVariants as policies
+use Rattle.hwp_law_commands.specs.hwp_page.declared.Met.{Met}
 use Rattle.hwp_law_commands.specs.hwp_page.declared.Met.TheVariants.{Word}
 use Rattle.hwp_law_commands.specs.hwp_page.declared.What.TheVariants as entries
 use Rattle.hwp_law_commands.specs.hwp_report_text.declared.Answer.TheVariants as answers
 use Rattle.hwp_law_commands.specs.hwp_report_text.declared.Report.{Report}
 use Rattle.hwp_law_commands.specs.hwp_script_read.declared.Command.TheVariants as commands
-use Rattle.hwp_law.specs.Acting.{copied_at}
+use Rattle.hwp_law_commands.specs.hwp_script_read.declared.Script.{Script}
+use Rattle.hwp_law_commands.specs.Commands.{arrival_of}
+use Rattle.hwp_law.specs.Acting.{acting_script, copied_at}
 use Rattle.hwp_law.specs.Copies.{AreLastStores}
+use Rattle.hwp_law.specs.Entries.{IsMadeBy}
+use Rattle.hwp_law.specs.Events.{AreAccessChecks, IsDamaged}
+use Rattle.hwp_law.specs.Lines.{bad_lines_of, events_of}
 use Rattle.hwp_law.specs.Private.{ArePrivate}
+use Rattle.hwp_law.specs.SeenPolicies.{IsOwnCount}
 use Rattle.hwp_law.proofs.Examples.{command}
-use Rattle.hwp_law.proofs.ForkExamples.{answering, forking, place, slot, thread}
+use Rattle.hwp_law.proofs.ForkExamples.{answering, failed, failing, forked, forking, page, place, slot, thread}
 
 -- the child's word is one off, or that of the parent; the parent's word is the child's
 abbrev child_reads : ℕ → Report
@@ -33,3 +46,66 @@ names_copy = answering (answers.Stored (place 2 7)) (answers.Value 77 (place 0 6
 
 pub earlier_store : AreLastStores (copied_at forking names_copy) names_copy → ⊥
 earlier_store last = true≢false (last (command 2) (slot 1) (place 2 7) refl refl (place 2 66) (record { who = command 2; what = entries.Store (slot 3) 5 (Word (record { 0 = 0 }) 88) }) refl refl refl (lit< tt))
+
+-- ---- through which translation
+
+abbrev acted : Script
+acted = acting_script forking forked
+
+abbrev copies : Who → Option VSlot
+copies = copied_at forking forked
+
+abbrev word : ℕ → Met
+word n = Word (record { 0 = 0 }) n
+
+-- the parent, which hasn't stored since the fork, doesn't load through its twin, nor the child, which has, through its own translation
+pub twin_too_soon : IsMadeBy acted copies (page 1) (record { who = command 3; what = entries.Load (slot 2) 5 (word 77) }) → ⊥
+twin_too_soon (inl made) = let is : ◌≡◌ {A = ℕ} 2 0 = ap (λ (v : VSlot). v.0) made.0.0 in absurd (omega arith)
+twin_too_soon (inr copied) = copied
+
+pub own_too_late : IsMadeBy acted copies (page 0) (record { who = command 4; what = entries.Load (slot 1) 5 (word 77) }) → ⊥
+own_too_late (inl made) = let is : ◌≡◌ {A = ℕ} 1 3 = ap (λ (v : VSlot). v.0) made.0.0 in absurd (omega arith)
+own_too_late (inr copied) = copied
+
+-- a copy stores nothing in the page that it loads, nor does it load from the page where it stores, or free the twin
+pub stored_in_shared : IsMadeBy acted copies (page 0) (record { who = command 2; what = entries.Store (slot 1) 5 (word 88) }) → ⊥
+stored_in_shared (inl made) = let is : ◌≡◌ {A = ℕ} 1 3 = ap (λ (v : VSlot). v.0) made.0.0 in absurd (omega arith)
+stored_in_shared (inr copied) = let is : ◌≡◌ {A = ℕ} 1 3 = ap (λ (v : VSlot). v.0) copied.0.0 in absurd (omega arith)
+
+pub loaded_from_twin : IsMadeBy acted copies (page 2) (record { who = command 2; what = entries.Load (slot 3) 5 (word 77) }) → ⊥
+loaded_from_twin (inl made) = made.0
+loaded_from_twin (inr copied) = let is : ◌≡◌ {A = ℕ} 3 1 = ap (λ (v : VSlot). v.0) copied.0.0 in absurd (omega arith)
+
+pub freed_twin : IsMadeBy acted copies (page 2) (record { who = command 2; what = entries.Free (slot 3) }) → ⊥
+freed_twin (inl made) = made.0
+freed_twin (inr copied) = let is : ◌≡◌ {A = ℕ} 3 1 = ap (λ (v : VSlot). v.0) copied.0 in absurd (omega arith)
+
+-- no other command copies
+pub stored_by_load : IsMadeBy acted copies (page 2) (record { who = command 4; what = entries.Store (slot 3) 5 (word 88) }) → ⊥
+stored_by_load (inl made) = made.0
+stored_by_load (inr copied) = copied
+
+-- ---- policies
+
+-- the fork is a setting of the child's thread, and none of the parent's
+pub child_unset : IsOwnCount forking forked (command 2) (record { thread = thread 1; policy = policies.Default; n = 0 }) → ⊥
+child_unset own = let is : ◌≡◌ {A = ℕ} 0 1 = own refl in absurd (omega arith)
+
+pub parent_set : IsOwnCount forking forked (command 2) (record { thread = thread 0; policy = policies.Default; n = 1 }) → ⊥
+parent_set own = let is : ◌≡◌ {A = ℕ} 1 0 = own refl in absurd (omega arith)
+
+-- ---- machine checks
+
+-- the machine checks of a copy are in the order of its loads and stores: those of lines 3 and 9 don't come the other way round
+pub other_order : (after : Banks) → AreAccessChecks failing failed (command 3) (arrival_of (commands.Store (thread 1) (slot 3) 5 88)) origins.Access (8 ∷ []) empty_banks (events_of failed (command 3)) after → ⊥
+other_order after (frame, now, later, all, damaged, check, rest) = damaged_not frame damaged
+  where
+    damaged_not : (f : Frame) → IsDamaged failed origins.Access f.0 8 → ⊥
+    damaged_not f bad = none f.0 bad
+      where
+        none : (n : ℕ) → IsBitSet (bad_lines_of failed n) 8 → ⊥
+        none zero set = set refl
+        none (suc zero) set = set refl
+        none (suc (suc zero)) set = set refl
+        none (suc (suc (suc zero))) set = set refl
+        none (suc (suc (suc (suc n)))) set = set refl
