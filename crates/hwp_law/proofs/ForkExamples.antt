@@ -39,7 +39,7 @@ use Rattle.hwp_law_commands.specs.hwp_report_text.declared.MarkLine.TheVariants 
 use Rattle.hwp_law_commands.specs.hwp_report_text.declared.Report.{Report}
 use Rattle.hwp_law_commands.specs.hwp_report_text.declared.Whereabouts.{Whereabouts}
 use Rattle.hwp_law_commands.specs.hwp_report_text.declared.Whereabouts.TheVariants as places
-use Rattle.hwp_law_commands.specs.Commands.{arrival_of, command_at}
+use Rattle.hwp_law_commands.specs.Commands.{arrival_of, can_fail, can_offline, command_at, current_thread, thread_of}
 use Rattle.hwp_law_commands.specs.Cows.{cow_of}
 use Rattle.hwp_law_commands.specs.Settings.{settings}
 use Rattle.hwp_law.specs.Acting.{acting_script, copied_at}
@@ -515,13 +515,28 @@ not_switched = refl
 pub copies_again : (cow_of shared (answered_before failing failed (command 4)) (slot 1)).switched ≡ false
 copies_again = refl
 
+-- ---- the command
+
+abbrev fork : Command
+fork = commands.Fork (thread 0) (process 1)
+
+-- a fork is of its thread, makes no access, and can't fail
+pub fork_has_thread : thread_of fork ≡ Some (thread 0)
+fork_has_thread = refl
+
+pub fork_makes_none : current_thread fork ≡ None
+fork_makes_none = refl
+
+pub fork_cannot_fail : can_fail fork ≡ false
+fork_cannot_fail = refl
+
+pub fork_cannot_offline : can_offline fork ≡ false
+fork_cannot_offline = refl
+
 -- ---- policies
 
 abbrev early : Command
 early = commands.Prctl (thread 0) (record { operation = 33; arg2 = 1; arg3 = 1; arg4 = 0; arg5 = 0 })
-
-abbrev fork : Command
-fork = commands.Fork (thread 0) (process 1)
 
 -- the child's thread begins with the policy that its parent's has at the fork, also the system default; a fork that wasn't done sets none
 pub child_is_early : settings shared (thread 1) ((early, answers.Done) ∷ (fork, answers.Done) ∷ []) ≡ policies.Early ∷ []

@@ -1,6 +1,5 @@
 -- What the law refuses of forks: small changes of the report with a fork.
-use Rattle.std.proofs.Common.{◌≡◌, ℕ, zero, suc, true, false, List, [], ◌∷◌, Option, Some, IsBitSet, refl, sym, ap, inl, inr, true≢false, lit<, arith}
-use Rattle.hwp_law_commands.specs.hwp_geom.declared.Frame.{Frame}
+use Rattle.std.proofs.Common.{◌≡◌, ℕ, zero, suc, true, false, List, [], ◌∷◌, Option, Some, ◌+◌, ◌*◌, refl, sym, ap, inl, inr, true≢false, lit<, arith}
 use Rattle.hwp_law_commands.specs.hwp_geom.declared.VSlot.{VSlot}
 use Rattle.hwp_law_commands.specs.hwp_geom.declared.Who.{Who}
 use Rattle.hwp_law_commands.specs.hwp_banks.Banks.{Banks, empty_banks}
@@ -9,7 +8,9 @@ use Rattle.hwp_law_commands.specs.hwp_kill.declared.Policy.TheVariants as polici
 use Rattle.hwp_law_commands.specs.hwp_page.declared.Met.{Met}
 use Rattle.hwp_law_commands.specs.hwp_page.declared.Met.TheVariants.{Word}
 use Rattle.hwp_law_commands.specs.hwp_page.declared.What.TheVariants as entries
+use Rattle.hwp_law_commands.specs.hwp_report_text.declared.Acted.TheVariants as acts
 use Rattle.hwp_law_commands.specs.hwp_report_text.declared.Answer.TheVariants as answers
+use Rattle.hwp_law_commands.specs.hwp_report_text.declared.EventLine.{EventLine}
 use Rattle.hwp_law_commands.specs.hwp_report_text.declared.Report.{Report}
 use Rattle.hwp_law_commands.specs.hwp_script_read.declared.Command.TheVariants as commands
 use Rattle.hwp_law_commands.specs.hwp_script_read.declared.Script.{Script}
@@ -17,12 +18,11 @@ use Rattle.hwp_law_commands.specs.Commands.{arrival_of}
 use Rattle.hwp_law.specs.Acting.{acting_script, copied_at}
 use Rattle.hwp_law.specs.Copies.{AreLastStores}
 use Rattle.hwp_law.specs.Entries.{IsMadeBy}
-use Rattle.hwp_law.specs.Events.{AreAccessChecks, IsDamaged}
-use Rattle.hwp_law.specs.Lines.{bad_lines_of, events_of}
+use Rattle.hwp_law.specs.Events.{AreAccessChecks}
 use Rattle.hwp_law.specs.Private.{ArePrivate}
 use Rattle.hwp_law.specs.SeenPolicies.{IsOwnCount}
 use Rattle.hwp_law.proofs.Examples.{command}
-use Rattle.hwp_law.proofs.ForkExamples.{answering, failed, failing, forked, forking, page, place, slot, thread}
+use Rattle.hwp_law.proofs.ForkExamples.{answering, forked, forking, page, place, slot, thread}
 
 -- the child's word is one off, or that of the parent; the parent's word is the child's
 abbrev child_reads : ℕ → Report
@@ -96,16 +96,19 @@ parent_set own = let is : ◌≡◌ {A = ℕ} 1 0 = own refl in absurd (omega ar
 
 -- ---- machine checks
 
--- the machine checks of a copy are in the order of its loads and stores: those of lines 3 and 9 don't come the other way round
-pub other_order : (after : Banks) → AreAccessChecks failing failed (command 3) (arrival_of (commands.Store (thread 1) (slot 3) 5 88)) origins.Access (8 ∷ []) empty_banks (events_of failed (command 3)) after → ⊥
-other_order after (frame, now, later, all, damaged, check, rest) = damaged_not frame damaged
-  where
-    damaged_not : (f : Frame) → IsDamaged failed origins.Access f.0 8 → ⊥
-    damaged_not f bad = none f.0 bad
-      where
-        none : (n : ℕ) → IsBitSet (bad_lines_of failed n) 8 → ⊥
-        none zero set = set refl
-        none (suc zero) set = set refl
-        none (suc (suc zero)) set = set refl
-        none (suc (suc (suc zero))) set = set refl
-        none (suc (suc (suc (suc n)))) set = set refl
+-- a line of the store's machine check at a line of frame 0
+abbrev event_at : ℕ → EventLine
+event_at line = record { seq = 2; bank = 0; status = 0xbd80000000000134; addr = line * 64; misc = 0x86; row = 9; acted = acts.Recovered }
+
+abbrev first_address : List EventLine → ℕ
+first_address [] = 0
+first_address (l ∷ ls) = l.addr
+
+-- the machine checks of a copy come in the order of its loads and stores: those of lines 3 and 9 not the other way round
+pub other_order : (report : Report) (after : Banks) → AreAccessChecks forking report (command 2) (arrival_of (commands.Store (thread 1) (slot 3) 5 88)) origins.Access (3 ∷ 9 ∷ []) empty_banks (event_at 9 ∷ event_at 3 ∷ []) after → ⊥
+other_order report after (frame, [], later, all, damaged, check, rest) = check
+other_order report after (frame, l ∷ [], later, all, damaged, check, rest) =
+    let its : l.addr ≡ frame.0 * 4096 + 192 = check.0.addr in
+    let first : ◌≡◌ {A = ℕ} 576 l.addr = ap first_address all in
+    absurd (omega (arith, its, first))
+other_order report after (frame, l ∷ m ∷ ls, later, all, damaged, check, rest) = check.1

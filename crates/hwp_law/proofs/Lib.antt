@@ -1,5 +1,6 @@
 pub mod Rows
 pub mod ActingLaws
+pub mod ActedLaws
 pub mod Extents
 pub mod Examples
 pub mod Forgeries

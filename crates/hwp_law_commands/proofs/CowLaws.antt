@@ -7,8 +7,10 @@ use Rattle.hwp_script_read.specs.declared.Command.{Command}
 use Rattle.hwp_script_read.specs.declared.Command.TheVariants as commands
 use Rattle.hwp_report_text.specs.declared.Answer.{Answer}
 use Rattle.hwp_report_text.specs.declared.Answer.TheVariants as answers
-use Rattle.hwp_law_commands.specs.Commands.{is_fork}
+use Rattle.hwp_report_text.specs.hwp_kill.declared.Policy.{Policy}
+use Rattle.hwp_law_commands.specs.Commands.{arrival_of, can_fail, can_offline, current_thread, is_fork, is_watch, thread_of}
 use Rattle.hwp_law_commands.specs.Cows.{Cow, acting, copied_from, cow_after, cow_of, own_page, twin_or}
+use Rattle.hwp_law_commands.specs.Settings.{setting_of}
 
 -- one of the commands forks
 abbrev pub has_forked : List (Command × Answer) → Bool
@@ -60,3 +62,38 @@ take-unforked (suc n) [] none = refl
 take-unforked (suc n) (p ∷ rest) none =
     let apart : (is_fork p.0 ≡ false) × (has_forked rest ≡ false) = both-false (is_fork p.0) (has_forked rest) none in
     ap (λ (b : Bool). b || has_forked (take n rest)) apart.0 ∙ take-unforked n rest apart.1
+
+-- a command that is acted on has the thread of the script's, can fail where that can, and so on
+pub acting-thread : (layout : Layout) (earlier : List (Command × Answer)) (command : Command) → thread_of (acting layout earlier command) ≡ thread_of command
+acting-thread layout earlier (commands.Load thread slot line) = refl
+acting-thread layout earlier command = refl
+
+pub acting-current : (layout : Layout) (earlier : List (Command × Answer)) (command : Command) → current_thread (acting layout earlier command) ≡ current_thread command
+acting-current layout earlier (commands.Load thread slot line) = refl
+acting-current layout earlier command = refl
+
+pub acting-fails : (layout : Layout) (earlier : List (Command × Answer)) (command : Command) → can_fail (acting layout earlier command) ≡ can_fail command
+acting-fails layout earlier (commands.Load thread slot line) = refl
+acting-fails layout earlier command = refl
+
+pub acting-offlines : (layout : Layout) (earlier : List (Command × Answer)) (command : Command) → can_offline (acting layout earlier command) ≡ can_offline command
+acting-offlines layout earlier (commands.Load thread slot line) = refl
+acting-offlines layout earlier command = refl
+
+pub acting-arrives : (layout : Layout) (earlier : List (Command × Answer)) (command : Command) → arrival_of (acting layout earlier command) ≡ arrival_of command
+acting-arrives layout earlier (commands.Load thread slot line) = refl
+acting-arrives layout earlier command = refl
+
+pub acting-watches : (layout : Layout) (earlier : List (Command × Answer)) (command : Command) → is_watch (acting layout earlier command) ≡ is_watch command
+acting-watches layout earlier (commands.Load thread slot line) = refl
+acting-watches layout earlier command = refl
+
+pub acting-forks : (layout : Layout) (earlier : List (Command × Answer)) (command : Command) → is_fork (acting layout earlier command) ≡ is_fork command
+acting-forks layout earlier (commands.Load thread slot line) = refl
+acting-forks layout earlier command = refl
+
+-- and sets the same policies
+pub acting-sets : (layout : Layout) (earlier : List (Command × Answer)) (set : ℕ → List Policy) (thread : ℕ) (command : Command) (answer : Answer)
+    → setting_of layout set thread (acting layout earlier command) answer ≡ setting_of layout set thread command answer
+acting-sets layout earlier set thread (commands.Load other slot line) answer = refl
+acting-sets layout earlier set thread command answer = refl
