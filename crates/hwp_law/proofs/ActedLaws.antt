@@ -1,6 +1,6 @@
 -- What a processor acts on, command by command: each of the script's, behind those before it with their answers. So the policies that its
 -- commands set are those of the script's.
-use Rattle.std.proofs.Common.{◌≡◌, ℕ, zero, suc, ◌+◌, List, [], ◌∷◌, ◌++◌, Option, Some, None, fold, option_and_then, option_map, slice_get, take, unwrap_or, refl, sym, ap, ◌∙◌, arith}
+use Rattle.std.proofs.Common.{◌≡◌, ℕ, zero, suc, ◌+◌, List, [], ◌∷◌, ◌++◌, Option, Some, None, option_and_then, option_map, slice_get, take, unwrap_or, refl, sym, ap, ◌∙◌, arith}
 use Rattle.std.specs.List.{cons_option, zip}
 use Rattle.std.proofs.Math.Path.{fun_ext}
 use Rattle.std.proofs.lemmas.List.{append-nil, append_assoc}
@@ -15,7 +15,7 @@ use Rattle.hwp_law_commands.specs.hwp_script_read.declared.Command.{Command}
 use Rattle.hwp_law_commands.specs.hwp_script_read.declared.Script.{Script}
 use Rattle.hwp_law_commands.specs.Commands.{command_at}
 use Rattle.hwp_law_commands.specs.Cows.{acting}
-use Rattle.hwp_law_commands.specs.Settings.{last_policy, set_after, set_behind, setting_of, settings, unset}
+use Rattle.hwp_law_commands.specs.Settings.{last_policy, set_after, set_behind, settings, unset}
 use Rattle.hwp_law_commands.proofs.CowLaws.{acting-sets}
 use Rattle.hwp_law.specs.Acting.{acting_from, acting_lists, acting_script}
 use Rattle.hwp_law.specs.Lines.{answered, answers_in}

@@ -13,7 +13,7 @@ use Rattle.hwp_law_commands.specs.hwp_report_text.declared.Report.{Report}
 use Rattle.hwp_law_commands.specs.hwp_script_read.declared.Command.{Command}
 use Rattle.hwp_law_commands.specs.hwp_script_read.declared.Script.{Script}
 use Rattle.hwp_law_commands.specs.Commands.{command_at, has_fork, is_fork}
-use Rattle.hwp_law_commands.specs.Cows.{Cow, acting, copied_from, cow_after, own_page}
+use Rattle.hwp_law_commands.specs.Cows.{Cow, copied_from}
 use Rattle.hwp_law_commands.proofs.CowLaws.{acting-unforked, both-false, copied-unforked, has_forked, stays-own, take-unforked, zip-unforked}
 use Rattle.hwp_law.specs.Acting.{acting_from, acting_lists, acting_script, copied_at}
 use Rattle.hwp_law.specs.Copies.{AreLastStores}

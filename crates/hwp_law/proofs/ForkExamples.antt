@@ -2,7 +2,6 @@
 -- word. The child's store copies the page to that of its twin, so the parent's word stays. Beside it, copies that meet bad lines.
 use Rattle.std.proofs.Common.{◌≡◌, ℕ, suc, zero, ◌+◌, ◌-◌, ◌==◌, ◌<◌, true, false, Bool, List, [], ◌∷◌, ◌++◌, drop, Option, Some, None, option_and_then, slice_get, if◌then◌else◌, IsBitSet, refl, sym, ap, subst, ◌∙◌, inl, inr, lit<, true≢false, arith}
 use Rattle.std.proofs.lemmas.Option.{none-some, same_Some}
-use Rattle.hwp_law_commands.specs.hwp_geom.declared.Cpu.{Cpu}
 use Rattle.hwp_law_commands.specs.hwp_geom.declared.Layout.{Layout}
 use Rattle.hwp_law_commands.specs.hwp_geom.declared.Mask.{Mask}
 use Rattle.hwp_law_commands.specs.hwp_geom.declared.Page.{Page}
@@ -13,7 +12,6 @@ use Rattle.hwp_law_commands.specs.hwp_geom.declared.ThreadDecl.{ThreadDecl}
 use Rattle.hwp_law_commands.specs.hwp_geom.declared.TransDecl.{TransDecl}
 use Rattle.hwp_law_commands.specs.hwp_geom.declared.Version.TheVariants.{Two}
 use Rattle.hwp_law_commands.specs.hwp_geom.declared.VSlot.{VSlot}
-use Rattle.hwp_law_commands.specs.hwp_geom.declared.Who.{Who}
 use Rattle.hwp_law_commands.specs.hwp_kill.declared.Code.TheVariants.{Ar}
 use Rattle.hwp_law_commands.specs.hwp_kill.declared.Policy.TheVariants as policies
 use Rattle.hwp_law_commands.specs.hwp_page.declared.At.{At}

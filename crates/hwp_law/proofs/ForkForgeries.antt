@@ -1,5 +1,5 @@
 -- What the law refuses of forks: small changes of the report with a fork.
-use Rattle.std.proofs.Common.{◌≡◌, ℕ, zero, suc, true, false, List, [], ◌∷◌, Option, Some, ◌+◌, ◌*◌, refl, sym, ap, inl, inr, true≢false, lit<, arith}
+use Rattle.std.proofs.Common.{◌≡◌, ℕ, List, [], ◌∷◌, Option, ◌+◌, ◌*◌, refl, ap, inl, inr, true≢false, lit<, arith}
 use Rattle.hwp_law_commands.specs.hwp_geom.declared.VSlot.{VSlot}
 use Rattle.hwp_law_commands.specs.hwp_geom.declared.Who.{Who}
 use Rattle.hwp_law_commands.specs.hwp_banks.Banks.{Banks, empty_banks}

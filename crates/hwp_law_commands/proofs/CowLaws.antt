@@ -1,5 +1,5 @@
 -- Behind commands none of which forks, no translation is frozen, and a processor acts on the script's own command.
-use Rattle.std.proofs.Common.{◌≡◌, ℕ, zero, suc, Bool, true, false, ◌||◌, ◌&&◌, not, List, [], ◌∷◌, Option, Some, None, fold, take, if◌then◌else◌, refl, sym, ap, ◌∙◌, true≢false}
+use Rattle.std.proofs.Common.{◌≡◌, ℕ, zero, suc, Bool, true, false, ◌||◌, ◌&&◌, not, List, [], ◌∷◌, Option, Some, None, fold, take, if◌then◌else◌, refl, ap, ◌∙◌, true≢false}
 use Rattle.std.specs.List.{list_any, zip}
 use Rattle.hwp_script_read.specs.hwp_geom.declared.Layout.{Layout}
 use Rattle.hwp_script_read.specs.hwp_geom.declared.VSlot.{VSlot}

@@ -1,6 +1,6 @@
 -- Which translations forks froze on a processor, and which of these have gone over to their private twins since; and the command that the
 -- processor acts on: the script's, with the twin in the place of a translation that has gone over. This project's rule.
-use Rattle.std.specs.Prelude.{ℕ, ◌==◌, ◌&&◌, ◌||◌, Bool, false, List, Option, Some, None, fold, not, slice_get, unwrap_or, if◌then◌else◌}
+use Rattle.std.specs.Prelude.{◌==◌, ◌&&◌, ◌||◌, Bool, false, List, Option, Some, None, fold, not, slice_get, unwrap_or, if◌then◌else◌}
 use Rattle.std.specs.Option.{option_map_or}
 use Rattle.hwp_script_read.specs.hwp_geom.declared.Layout.{Layout}
 use Rattle.hwp_script_read.specs.hwp_geom.declared.TransDecl.{TransDecl}
