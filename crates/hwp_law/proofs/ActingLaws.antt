@@ -1,6 +1,7 @@
 -- In a script that forks no process, each command is acted on as it stands, and no store copies a page.
-use Rattle.std.proofs.Common.{◌≡◌, ℕ, zero, suc, ◌+◌, ◌||◌, Bool, false, List, [], ◌∷◌, ◌++◌, Option, Some, None, option_and_then, slice_get, unwrap_or, refl, sym, ap, subst, ◌∙◌, if◌then◌else◌}
+use Rattle.std.proofs.Common.{◌≡◌, ℕ, zero, suc, ◌+◌, ◌||◌, Bool, false, List, [], ◌∷◌, ◌++◌, Option, Some, None, option_and_then, option_map, slice_get, unwrap_or, refl, sym, ap, subst, ◌∙◌, if◌then◌else◌}
 use Rattle.std.specs.List.{list_any}
+use Rattle.std.specs.Option.{option_map_or}
 use Rattle.std.proofs.Math.Path.{fun_ext}
 use Rattle.std.proofs.lemmas.List.Folds.{list_any-append}
 use Rattle.std.proofs.lemmas.Option.{none-some}
@@ -16,10 +17,11 @@ use Rattle.hwp_law_commands.specs.Commands.{command_at, has_fork, is_fork}
 use Rattle.hwp_law_commands.specs.Cows.{Cow, copied_from}
 use Rattle.hwp_law_commands.proofs.CowLaws.{acting-unforked, both-false, copied-unforked, has_forked, stays-own, take-unforked, zip-unforked}
 use Rattle.hwp_law.specs.Acting.{acting_from, acting_lists, acting_script, copied_at}
-use Rattle.hwp_law.specs.Copies.{AreLastStores}
+use Rattle.hwp_law.specs.Copies.{AreLastStores, ended_through}
 use Rattle.hwp_law.specs.Lines.{answers_in}
 use Rattle.hwp_law.specs.Policies.{answered_before, answered_on}
 use Rattle.hwp_law.specs.Private.{ArePrivate, freeze_from}
+use Rattle.hwp_law.specs.Runs.{slot_ended, slot_of}
 
 -- of one list, behind commands none of which forks
 pub acting-from-unforked : (layout : Layout) (earlier : List (Command × Answer)) (list : List Command) (given : List Answer) → has_forked earlier ≡ false → list_any is_fork list ≡ false
@@ -91,3 +93,13 @@ freeze-unforked layout slot n (p ∷ rest) none =
 pub private-unforked : (script : Script) (report : Report) → has_fork script ≡ false → ArePrivate script report
 private-unforked script report none = λ who command slot line fork word at there loads frozen answered.
     absurd (none-some fork (sym (freeze-unforked script.layout slot 0 (answered_before script report who) (before-unforked script report who none)) ∙ frozen))
+
+-- an access that copies nothing ends through its own translation
+pub slot-uncopied : (script : Script) (copies : Who → Option VSlot) (report : Report) (who : Who) → copies who ≡ None → slot_ended script copies report who ≡ option_and_then slot_of (command_at script who)
+slot-uncopied script copies report who none =
+    ap (λ (o : Option VSlot). option_map (λ (slot : VSlot). option_map_or (λ (from : VSlot). ended_through script.layout report who from slot) o slot) (option_and_then slot_of (command_at script who))) none
+    ∙ same (option_and_then slot_of (command_at script who))
+  where
+    same : (o : Option VSlot) → option_map (λ (slot : VSlot). slot) o ≡ o
+    same None = refl
+    same (Some slot) = refl

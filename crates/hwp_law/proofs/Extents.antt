@@ -88,17 +88,30 @@ some_so : {A : Type 0} (o : Option A) (P Q : A → Type 0) → ((x : A) → P x 
 some_so None P Q so is = is
 some_so (Some x) P Q so is = so x is
 
--- an entry that its command makes is today's where no memory fails and the command copies no page
+-- an entry that a command makes apart from a copy is one that it makes; and where the command copies nothing, it makes no other
+abbrev pub IsOwn : Script → Page → Entry → Type 0
+IsOwn script page e = IsSomeAnd (command_at script e.who) (λ (c : Command). Makes (has_watch script) c e.what × CanStandIn script.layout c page e.what)
+
+abbrev IsOwnOrCopy : Script → (Who → Option VSlot) → Page → Entry → Command → Type 0
+IsOwnOrCopy script copies page e c = (Makes (has_watch script) c e.what × CanStandIn script.layout c page e.what) ⊎ IsSomeAnd (copies e.who) (λ (from : VSlot). MakesCopy script.layout from c page e.what)
+
+pub made-own : (script : Script) (copies : Who → Option VSlot) (page : Page) (e : Entry) → IsOwn script page e → IsMadeBy script copies page e
+made-own script copies page e own =
+    some_so (command_at script e.who) (λ (c : Command). Makes (has_watch script) c e.what × CanStandIn script.layout c page e.what) (IsOwnOrCopy script copies page e) (λ c is. inl is) own
+
+pub own-made : (script : Script) (copies : Who → Option VSlot) (page : Page) (e : Entry) → copies e.who ≡ None → IsMadeBy script copies page e → IsOwn script page e
+own-made script copies page e none made =
+    some_so (command_at script e.who) (IsOwnOrCopy script copies page e) (λ (c : Command). Makes (has_watch script) c e.what × CanStandIn script.layout c page e.what) which made
+  where
+    which : (c : Command) → IsOwnOrCopy script copies page e c → Makes (has_watch script) c e.what × CanStandIn script.layout c page e.what
+    which c (inl is) = is
+    which c (inr copied) = absurd (subst (λ (o : Option VSlot). IsSomeAnd o (λ (from : VSlot). MakesCopy script.layout from c page e.what)) none copied)
+
+-- an entry that its command makes is today's where no memory fails and the command copies nothing
 pub IsMadeBy-plain : (script : Script) (copies : Who → Option VSlot) (page : Page) (e : Entry) → IsPlain e.what → copies e.who ≡ None → IsMadeBy script copies page e → IsMade script page e
 IsMadeBy-plain script copies page e plain none made =
-    some_so (command_at script e.who)
-    (λ (c : Command). (Makes (has_watch script) c e.what × CanStandIn script.layout c page e.what) ⊎ IsSomeAnd (copies e.who) (λ (from : VSlot). MakesCopy script.layout from c page e.what))
-    (λ (c : Command). Fits c e.what × Names script.layout c page)
-    (λ c is. which c is) made
-  where
-    which : (c : Command) → (Makes (has_watch script) c e.what × CanStandIn script.layout c page e.what) ⊎ IsSomeAnd (copies e.who) (λ (from : VSlot). MakesCopy script.layout from c page e.what) → Fits c e.what × Names script.layout c page
-    which c (inl is) = made_so script page c e.what plain is
-    which c (inr copied) = absurd (subst (λ (o : Option VSlot). IsSomeAnd o (λ (from : VSlot). MakesCopy script.layout from c page e.what)) none copied)
+    some_so (command_at script e.who) (λ (c : Command). Makes (has_watch script) c e.what × CanStandIn script.layout c page e.what) (λ (c : Command). Fits c e.what × Names script.layout c page)
+    (λ c is. made_so script page c e.what plain is) (own-made script copies page e none made)
 
 -- the answer of a command stands in a line of its processor
 pub answer_there : (rows : List CpuLine) (seq : ℕ) (answer : Answer) → answer_among rows seq ≡ Some answer → (i : ℕ) × (slice_get rows i ≡ Some (lines.Answer seq answer))
