@@ -45,11 +45,12 @@ use Rattle.hwp_law.specs.Causes.{AreCaused}
 use Rattle.hwp_law.specs.Answers.{IsNamed}
 use Rattle.hwp_law.specs.Copies.{AreLastStores, AreNamed, IsLastStore, copy_checks, ended_through, is_store, must_be_named}
 use Rattle.hwp_law.specs.Entries.{AreMadeBy, IsMadeBy}
-use Rattle.hwp_law.specs.Events.{AreEventsOf}
+use Rattle.hwp_law.specs.Events.{AreEventsFrom, AreEventsOf}
 use Rattle.hwp_law.specs.Lines.{answer_of, events_of}
 use Rattle.hwp_law.specs.Places.{entry_at}
 use Rattle.hwp_law.specs.Policies.{answered_before}
 use Rattle.hwp_law.specs.Private.{ArePrivate, freeze_from, loaded, private_word}
+use Rattle.hwp_law.specs.Runs.{slot_ended}
 use Rattle.hwp_law.proofs.Examples.{command}
 
 -- ---- the script and the report
@@ -205,6 +206,10 @@ unheeded is = absurd (true≢false (sym is))
 
 pub all_caused : AreCaused (acting_script forking forked) forked (record { 0 = 0 }) 0 (list (slot 3) (slot 3)) (rows (answers.Stored (place 2 66)) (answers.Value 77 (place 0 69)) (answers.Value 88 (place 2 67)))
 all_caused = (refl, (no_lines, refl), unheeded, (refl, tt, unheeded, (refl, (no_lines, refl), unheeded, (refl, (no_lines, refl), unheeded, (refl, (no_lines, refl), unheeded, tt)))))
+
+-- no command has an event, the copy neither
+pub none_told : AreEventsFrom (acting_script forking forked) (copied_at forking forked) forked (record { 0 = 0 }) 0 (list (slot 3) (slot 3)) empty_banks
+none_told = (empty_banks, (refl, refl), (empty_banks, (refl, refl), (empty_banks, (refl, refl), (empty_banks, (refl, refl), (empty_banks, (refl, refl), tt)))))
 
 -- the place that the child's store names is that of its last store in the twin's page
 get-drop : {A : Type 0} (n : ℕ) (l : List A) (k : ℕ) → slice_get l (n + k) ≡ slice_get (drop n l) k
@@ -412,6 +417,16 @@ ended_at_store = refl
 pub ended_at_last : ended 64 64 ≡ slot 3
 ended_at_last = refl
 
+-- so a store that was answered `noframe` in its copy names one of the two pages; a load names its own
+abbrev outside : Report
+outside = reported (loads_from 0 9) (stores_from 0 9) (rows answers.NoFrame answers.NoFrame answers.NoFrame)
+
+pub copy_outside : slot_ended (acting_script forking outside) (copied_at forking outside) outside (command 2) ≡ Some (slot 1)
+copy_outside = refl
+
+pub load_outside : slot_ended (acting_script forking outside) (copied_at forking outside) outside (command 4) ≡ Some (slot 1)
+load_outside = refl
+
 -- ---- a copy that ends at a bad line
 
 -- `store 0 0 5 77`, `fork 0 1`, `bad 0 9`, `store 1 1 5 88`, `load 0 0 5`: the child's store meets line 9, and the parent's load finds its
@@ -476,6 +491,13 @@ copy_checked = (
   where
     bad_line : IsBitSet 0x200 9
     bad_line = λ is. let same : ◌≡◌ {A = ℕ} 0x200 0 = is in absurd (omega arith)
+
+-- the store makes both: the machine check as one of its copy, and the failure as each access
+pub check_made : IsMadeBy (acting_script failing failed) (copied_at failing failed) (page 0) (by 3 (entries.Mce (slot 1) 9 (record { 0 = 0x200 })))
+check_made = inr (inl refl, refl)
+
+pub failure_made : IsMadeBy (acting_script failing failed) (copied_at failing failed) (page 0) failure
+failure_made = inl ((refl, inr refl), tt)
 
 -- every answer has its cause: the store's is the failure, the load's its own entry
 pub lost_caused : AreCaused (acting_script failing failed) failed (record { 0 = 0 }) 0
