@@ -1,5 +1,5 @@
 -- What the law refuses of forks: small changes of the report with a fork.
-use Rattle.std.proofs.Common.{◌≡◌, ℕ, List, [], ◌∷◌, Option, ◌+◌, ◌*◌, refl, ap, inl, inr, true≢false, lit<, arith}
+use Rattle.std.proofs.Common.{◌≡◌, ℕ, List, [], ◌∷◌, Option, ◌+◌, ◌*◌, refl, ap, inl, inr, true≢false, lit<, arith, ◌++◌}
 use Rattle.hwp_law_commands.specs.hwp_geom.declared.VSlot.{VSlot}
 use Rattle.hwp_law_commands.specs.hwp_geom.declared.Who.{Who}
 use Rattle.hwp_law_commands.specs.hwp_banks.Banks.{Banks, empty_banks}
@@ -10,6 +10,7 @@ use Rattle.hwp_law_commands.specs.hwp_page.declared.Met.TheVariants.{Word}
 use Rattle.hwp_law_commands.specs.hwp_page.declared.What.TheVariants as entries
 use Rattle.hwp_law_commands.specs.hwp_report_text.declared.Acted.TheVariants as acts
 use Rattle.hwp_law_commands.specs.hwp_report_text.declared.Answer.TheVariants as answers
+use Rattle.hwp_law_commands.specs.hwp_report_text.declared.CpuLine.TheVariants as lines
 use Rattle.hwp_law_commands.specs.hwp_report_text.declared.EventLine.{EventLine}
 use Rattle.hwp_law_commands.specs.hwp_report_text.declared.Report.{Report}
 use Rattle.hwp_law_commands.specs.hwp_script_read.declared.Command.TheVariants as commands
@@ -22,7 +23,7 @@ use Rattle.hwp_law.specs.Events.{AreAccessChecks}
 use Rattle.hwp_law.specs.Private.{ArePrivate}
 use Rattle.hwp_law.specs.SeenPolicies.{IsOwnCount}
 use Rattle.hwp_law.proofs.Examples.{command}
-use Rattle.hwp_law.proofs.ForkExamples.{answering, forked, forking, page, place, slot, thread}
+use Rattle.hwp_law.proofs.ForkExamples.{answering, forked, forking, loads_from, page, place, reported, slot, stores_from, thread}
 
 -- the child's word is one off, or that of the parent; the parent's word is the child's
 abbrev child_reads : ℕ → Report
@@ -39,6 +40,34 @@ parent_reads word = answering (answers.Stored (place 2 66)) (answers.Value word 
 
 pub parent_sees_child : ArePrivate forking (parent_reads 88) → ⊥
 parent_sees_child private = let is : ◌≡◌ {A = ℕ} 88 77 = private (command 3) (commands.Load (thread 0) (slot 0) 5) (slot 0) 5 1 88 (place 0 69) refl refl refl refl in absurd (omega arith)
+
+-- a copy that leaves out line 63, on which the parent stored 9 before the fork: the child's load of it gives 0
+abbrev last_line : Script
+last_line = record forking {
+  lists =
+      (commands.Store (thread 0) (slot 0) 63 9
+      ∷ commands.Fork (thread 0) (record { 0 = 1 })
+      ∷ commands.Store (thread 1) (slot 1) 5 88
+      ∷ commands.Load (thread 1) (slot 1) 63
+      ∷ []) ∷ [];
+}
+
+abbrev left_out : Report
+left_out = reported
+    ((record { who = command 0; what = entries.FaultIn })
+    ∷ (record { who = command 0; what = entries.Map (slot 0) })
+    ∷ (record { who = command 0; what = entries.Store (slot 0) 63 (Word (record { 0 = 0 }) 9) })
+    ∷ (record { who = command 2; what = entries.Map (slot 1) })
+    ∷ loads_from 0 63)
+    ((record { who = command 2; what = entries.FaultIn })
+    ∷ (record { who = command 2; what = entries.Map (slot 3) })
+    ∷ (stores_from 0 63 ++ (record { who = command 2; what = entries.Store (slot 3) 5 (Word (record { 0 = 0 }) 88) })
+    ∷ (record { who = command 3; what = entries.Load (slot 3) 63 (Word (record { 0 = 0 }) 0) })
+    ∷ []))
+    (lines.Answer 0 (answers.Stored (place 0 2)) ∷ lines.Answer 1 answers.Done ∷ lines.Answer 2 (answers.Stored (place 2 65)) ∷ lines.Answer 3 (answers.Value 0 (place 2 66)) ∷ [])
+
+pub line_left_out : ArePrivate last_line left_out → ⊥
+line_left_out private = let is : ◌≡◌ {A = ℕ} 0 9 = private (command 3) (commands.Load (thread 1) (slot 1) 63) (slot 1) 63 1 0 (place 2 66) refl refl refl refl in absurd (omega arith)
 
 -- the answer of a store that copied names its copy of the line, and not its own store behind that
 abbrev names_copy : Report

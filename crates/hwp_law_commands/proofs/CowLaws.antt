@@ -1,6 +1,8 @@
--- Behind commands none of which forks, no translation is frozen, and a processor acts on the script's own command.
-use Rattle.std.proofs.Common.{◌≡◌, ℕ, zero, suc, Bool, true, false, ◌||◌, ◌&&◌, not, List, [], ◌∷◌, Option, Some, None, fold, take, if◌then◌else◌, refl, ap, ◌∙◌, true≢false}
+-- Which translations are frozen and have gone over to their twins, one command after another. Behind commands none of which forks none is, and
+-- a processor acts on the script's own command.
+use Rattle.std.proofs.Common.{◌≡◌, ℕ, zero, suc, Bool, true, false, ◌||◌, ◌&&◌, not, List, [], ◌∷◌, Option, Some, None, fold, take, if◌then◌else◌, refl, ap, ◌∙◌, true≢false, ◌++◌, ◌==◌}
 use Rattle.std.specs.List.{list_any, zip}
+use Rattle.std.proofs.lemmas.List.Sums.{fold-append}
 use Rattle.hwp_script_read.specs.hwp_geom.declared.Layout.{Layout}
 use Rattle.hwp_script_read.specs.hwp_geom.declared.VSlot.{VSlot}
 use Rattle.hwp_script_read.specs.declared.Command.{Command}
@@ -9,7 +11,7 @@ use Rattle.hwp_report_text.specs.declared.Answer.{Answer}
 use Rattle.hwp_report_text.specs.declared.Answer.TheVariants as answers
 use Rattle.hwp_report_text.specs.hwp_kill.declared.Policy.{Policy}
 use Rattle.hwp_law_commands.specs.Commands.{arrival_of, can_fail, can_offline, current_thread, is_fork, is_watch, thread_of}
-use Rattle.hwp_law_commands.specs.Cows.{Cow, acting, copied_from, cow_after, cow_of, own_page, twin_or}
+use Rattle.hwp_law_commands.specs.Cows.{Cow, acting, copied_from, cow_after, cow_of, froze_slot, own_page, twin_or}
 use Rattle.hwp_law_commands.specs.Settings.{setting_of}
 
 -- one of the commands forks
@@ -97,3 +99,60 @@ pub acting-sets : (layout : Layout) (earlier : List (Command × Answer)) (set : 
     → setting_of layout set thread (acting layout earlier command) answer ≡ setting_of layout set thread command answer
 acting-sets layout earlier set thread (commands.Load other slot line) answer = refl
 acting-sets layout earlier set thread command answer = refl
+
+-- ---- one command after another
+
+pub cow-more : (layout : Layout) (earlier : List (Command × Answer)) (command : Command) (answer : Answer) (slot : VSlot)
+    → cow_of layout (earlier ++ (command, answer) ∷ []) slot ≡ cow_after layout slot command answer (cow_of layout earlier slot)
+cow-more layout earlier command answer slot = fold-append (λ (c : Cow) (p : Command × Answer). cow_after layout slot p.0 p.1 c) own_page earlier ((command, answer) ∷ [])
+
+-- what is frozen stays frozen, and what has gone over to its twin stays so
+frozen-after : (layout : Layout) (slot : VSlot) (command : Command) (answer : Answer) (c : Cow) → c.frozen ≡ true → (cow_after layout slot command answer c).frozen ≡ true
+frozen-after layout slot (commands.Fork thread process) answers.Done c is = ap (λ (b : Bool). b || froze_slot layout slot (commands.Fork thread process)) is
+frozen-after layout slot (commands.Store thread other line word) (answers.Stored at) c is = is
+frozen-after layout slot command answer c is = is
+
+switched-after : (layout : Layout) (slot : VSlot) (command : Command) (answer : Answer) (c : Cow) → c.switched ≡ true → (cow_after layout slot command answer c).switched ≡ true
+switched-after layout slot (commands.Fork thread process) answers.Done c is = is
+switched-after layout slot (commands.Store thread other line word) (answers.Stored at) c is = ap (λ (b : Bool). b || (c.frozen && (other.0 == slot.0))) is
+switched-after layout slot command answer c is = is
+
+abbrev behind : Layout → VSlot → Cow → List (Command × Answer) → Cow
+behind layout slot c list = fold (λ (d : Cow) (p : Command × Answer). cow_after layout slot p.0 p.1 d) c list
+
+frozen-behind : (layout : Layout) (slot : VSlot) (c : Cow) (list : List (Command × Answer)) → c.frozen ≡ true → (behind layout slot c list).frozen ≡ true
+frozen-behind layout slot c [] is = is
+frozen-behind layout slot c (p ∷ rest) is = frozen-behind layout slot (cow_after layout slot p.0 p.1 c) rest (frozen-after layout slot p.0 p.1 c is)
+
+switched-behind : (layout : Layout) (slot : VSlot) (c : Cow) (list : List (Command × Answer)) → c.switched ≡ true → (behind layout slot c list).switched ≡ true
+switched-behind layout slot c [] is = is
+switched-behind layout slot c (p ∷ rest) is = switched-behind layout slot (cow_after layout slot p.0 p.1 c) rest (switched-after layout slot p.0 p.1 c is)
+
+pub stays-frozen : (layout : Layout) (earlier more : List (Command × Answer)) (slot : VSlot) → (cow_of layout earlier slot).frozen ≡ true → (cow_of layout (earlier ++ more) slot).frozen ≡ true
+stays-frozen layout earlier more slot is =
+    ap (λ (c : Cow). c.frozen) (fold-append (λ (d : Cow) (p : Command × Answer). cow_after layout slot p.0 p.1 d) own_page earlier more) ∙ frozen-behind layout slot (cow_of layout earlier slot) more is
+
+pub stays-switched : (layout : Layout) (earlier more : List (Command × Answer)) (slot : VSlot) → (cow_of layout earlier slot).switched ≡ true → (cow_of layout (earlier ++ more) slot).switched ≡ true
+stays-switched layout earlier more slot is =
+    ap (λ (c : Cow). c.switched) (fold-append (λ (d : Cow) (p : Command × Answer). cow_after layout slot p.0 p.1 d) own_page earlier more) ∙ switched-behind layout slot (cow_of layout earlier slot) more is
+
+-- only what is frozen goes over
+abbrev IsFit : Cow → Type 0
+IsFit c = c.switched ≡ true → c.frozen ≡ true
+
+or-fit : (s f b : Bool) → (s ≡ true → f ≡ true) → (s || (f && b)) ≡ true → f ≡ true
+or-fit true f b fit is = fit refl
+or-fit false true b fit is = refl
+or-fit false false b fit is = is
+
+fit-after : (layout : Layout) (slot : VSlot) (command : Command) (answer : Answer) (c : Cow) → IsFit c → IsFit (cow_after layout slot command answer c)
+fit-after layout slot (commands.Fork thread process) answers.Done c fit = λ is. ap (λ (b : Bool). b || froze_slot layout slot (commands.Fork thread process)) (fit is)
+fit-after layout slot (commands.Store thread other line word) (answers.Stored at) c fit = λ is. or-fit c.switched c.frozen (other.0 == slot.0) fit is
+fit-after layout slot command answer c fit = fit
+
+fit-behind : (layout : Layout) (slot : VSlot) (c : Cow) (list : List (Command × Answer)) → IsFit c → IsFit (behind layout slot c list)
+fit-behind layout slot c [] fit = fit
+fit-behind layout slot c (p ∷ rest) fit = fit-behind layout slot (cow_after layout slot p.0 p.1 c) rest (fit-after layout slot p.0 p.1 c fit)
+
+pub switched-is-frozen : (layout : Layout) (earlier : List (Command × Answer)) (slot : VSlot) → (cow_of layout earlier slot).switched ≡ true → (cow_of layout earlier slot).frozen ≡ true
+switched-is-frozen layout earlier slot = fit-behind layout slot own_page earlier (λ is. is)
