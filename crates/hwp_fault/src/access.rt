@@ -89,7 +89,7 @@ enum AccessAt {
 impl Access {
     ghost use Rattle.std.specs.Prelude.{unwrap_or};
     ghost use Rattle.hwp_core.specs.hwp_core_task.declared.Turn.TheVariants.{Moved};
-    ghost use Rattle.hwp_fault.specs.Accesses.{begin, again, answer, at_start, at_process, at_translation, LooksAgain, leads_to, pinned, unlocked, after_fault};
+    ghost use Rattle.hwp_fault.specs.Accesses.{begin, again, answer, at_start, at_process, at_translation, LoadsBad, LocksFrame, LooksAgain, followed, leads_to, let_go_at, pinned, unlocked, after_fault};
     ghost use Rattle.std.specs.Prelude.{is_some, true};
 
     /// The access at its beginning.
@@ -260,6 +260,52 @@ impl Access {
     {
         let at = self.request.at_again(frame, held, found);
         self.go(at, got)
+    }
+
+    /// The frame's lock was tried.
+    fn on_lock(&mut self, frame: Frame, found: u64, got: Option<Body>) -> Turn
+        requires at { self.old.at ≡ states.LockFrame frame }
+        ensures at { LocksFrame frame found got self.new.at result }
+        ensures rest { self.new ≡ record self.old { at = self.new.at } }
+    {
+        let (next, turn) = locked(frame, found, got);
+        self.follow(next, turn)
+    }
+
+    /// The frame's bad lines were read.
+    fn on_bad_lines(&mut self, found: u64, got: Option<Body>) -> Turn
+        requires bad { LoadsBad self.old.request self.old.at }
+        ensures at { self.new ≡ record self.old { at = let_go_at self.old.request self.old.at found } }
+        ensures turn { result ≡ Moved }
+    {
+        let before = mem::replace(&mut self.at, AccessAt::LoadStop);
+        let AccessAt::LoadBad { frame, body: held } = before else {
+            unreachable!()
+        };
+        let at = self.request.let_go(frame, held, found);
+        self.go(at, got)
+    }
+
+    /// Goes on where the part whose step this turn was is over.
+    fn on_part(&mut self, turn: Turn) -> Turn
+        ensures at { self.new ≡ record self.old { at = followed self.old.at } }
+        ensures turn { result ≡ turn }
+    {
+        match &self.at {
+            AccessAt::Pin { pin } => {
+                let next = Access::pinned(pin);
+                self.follow(next, turn)
+            }
+            AccessAt::Unlock { unlock, then } => {
+                let next = Access::unlocked(unlock, *then);
+                self.follow(next, turn)
+            }
+            AccessAt::Fault { fault } => {
+                let next = Access::after_fault(fault);
+                self.follow(next, turn)
+            }
+            _ => turn,
+        }
     }
 }
 
@@ -512,35 +558,28 @@ impl Task for Access {
             AccessAt::LoadTranslation => self.on_translation_word(found, body),
             AccessAt::Pin { pin } => {
                 let turn = pin.settle(layout, found, body);
-                let next = Access::pinned(pin);
-                self.follow(next, turn)
+                self.on_part(turn)
             }
             AccessAt::LockFrame { frame } => {
-                let (next, turn) = locked(*frame, found, body);
-                self.follow(next, turn)
+                let frame = *frame;
+                self.on_lock(frame, found, body)
             }
             AccessAt::LoadAgain { frame, body: held } => {
                 let frame = *frame;
                 let held = held.take();
                 self.on_word_again(frame, held, found, body)
             }
-            AccessAt::LoadBad { .. } => {
-                let before = mem::replace(&mut self.at, AccessAt::LoadStop);
-                let AccessAt::LoadBad { frame, body: held } = before else {
-                    unreachable!()
-                };
-                let at = self.request.let_go(frame, held, found);
-                self.go(at, body)
-            }
-            AccessAt::Unlock { unlock, then } => {
+            AccessAt::LoadBad { .. } => self.on_bad_lines(found, body),
+            AccessAt::Unlock { unlock, .. } => {
                 let _turn = unlock.settle(layout, found, body);
-                let next = Access::unlocked(unlock, *then);
-                self.follow(next, Turn::Moved)
+                self.on_part(Turn::Moved)
             }
             AccessAt::Fault { fault } => {
                 let turn = fault.settle(layout, found, body);
-                let next = Access::after_fault(fault);
-                self.follow(next, turn)
+                if fault.answer().is_none() {
+                    return turn;
+                }
+                self.on_part(turn)
             }
             AccessAt::GiveUp { give_up } => give_up.settle(layout, found, body),
             AccessAt::Over { .. } => moved(body),
