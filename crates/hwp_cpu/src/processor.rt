@@ -192,6 +192,7 @@ impl Task for Processor {
         }
     }
 
+    #[inline(always)]
     fn plan(&self) -> Option<Step> {
         match &self.course {
             Some(course) => course.plan(),
@@ -199,6 +200,7 @@ impl Task for Processor {
         }
     }
 
+    #[inline(always)]
     fn give(&mut self) -> Option<Body> {
         match &mut self.course {
             Some(course) => course.give(),
@@ -220,6 +222,7 @@ impl Task for Processor {
 }
 
 impl Ranked for Processor {
+    #[inline(always)]
     fn class(&self) -> u8 {
         match &self.course {
             Some(course) => course.class(),
@@ -231,6 +234,7 @@ impl Ranked for Processor {
 }
 
 impl Scheduled for Processor {
+    #[inline(always)]
     fn is_over(&self) -> bool {
         match &self.course {
             Some(course) => course.is_over(),

@@ -193,6 +193,7 @@ impl Instruction {
 
     /// The line was bad in this frame: the event is logged, and the machine check begins, which leaves the banks empty. Where
     /// there is no room for its lines the command is given up.
+    #[inline(never)]
     fn check(&mut self, layout: &Layout, frame: Frame)
         ensures { BeginsCheck layout.now self.old frame self.new }
     {

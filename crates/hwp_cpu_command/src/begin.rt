@@ -190,6 +190,7 @@ fn begin(
 }
 
 /// The value lies in the place, and the one before it is let go there.
+#[inline(always)]
 fn set<T: Drop>(place: &mut T, value: T)
     ensures { place.new ≡ value }
 {

@@ -50,6 +50,7 @@ impl Job {
     ghost use Rattle.hwp_cpu_command.specs.Jobs.{answer, give_up, pauses, resume, row_of, told_of};
 
     /// What the command answers; `None` until it is over, and where it gave up because memory ran out.
+    #[inline(always)]
     pub fn answer(&self) -> Option<Answer>
         ensures { result ≡ answer self.now }
     {
@@ -513,10 +514,12 @@ impl Task for Job {
         of_kind!(self, task => task.who())
     }
 
+    #[inline(always)]
     fn plan(&self) -> Option<Step> {
         of_kind!(self, task => task.plan())
     }
 
+    #[inline(always)]
     fn give(&mut self) -> Option<Body> {
         of_kind!(self, task => task.give())
     }
@@ -528,6 +531,7 @@ impl Task for Job {
 }
 
 impl Ranked for Job {
+    #[inline(always)]
     fn class(&self) -> u8 {
         of_kind!(self, task => task.class())
     }
@@ -536,6 +540,7 @@ impl Ranked for Job {
 }
 
 impl Scheduled for Job {
+    #[inline(always)]
     fn is_over(&self) -> bool {
         of_kind!(self, task => task.is_over())
     }

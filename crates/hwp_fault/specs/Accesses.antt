@@ -260,6 +260,23 @@ LocksFrame frame found got next turn = (next ≡ cond (is_locked found) (at.Lock
 abbrev pub let_go : Request → Frame → BodyValue → ℕ → AccessAt
 let_go a frame body found = at.Unlock (unlocks.begin a.who frame (Some (reached a found body))) (Some (reply a frame found body))
 
+-- what follows a step of a part, which is over or goes on
+abbrev pub followed : AccessAt → AccessAt
+followed (at.Pin p) = pinned p
+followed (at.Unlock u then) = unlocked u then
+followed (at.Fault f) = after_fault f
+followed x = x
+
+-- the frame's bad lines come next, and the entry can be made
+abbrev pub LoadsBad : Request → AccessAt → Type 0
+LoadsBad a (at.LoadBad frame body) = Reaches a body
+LoadsBad a _ = ⊥
+
+-- what follows them
+abbrev pub let_go_at : Request → AccessAt → ℕ → AccessAt
+let_go_at a (at.LoadBad frame body) found = let_go a frame body found
+let_go_at a x found = x
+
 abbrev pub NextAt : Layout → Request → AccessAt → ℕ → Option BodyValue → AccessAt → Turn → Type 0
 NextAt layout a at.LoadStop found got next turn = (next ≡ at_start found) × (turn ≡ Moved)
 NextAt layout a at.LoadProcess found got next turn = (next ≡ at_process found) × (turn ≡ Moved)

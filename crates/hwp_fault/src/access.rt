@@ -89,7 +89,8 @@ enum AccessAt {
 impl Access {
     ghost use Rattle.std.specs.Prelude.{unwrap_or};
     ghost use Rattle.hwp_core.specs.hwp_core_task.declared.Turn.TheVariants.{Moved};
-    ghost use Rattle.hwp_fault.specs.Accesses.{begin, again, answer, at_start, at_process, pinned, unlocked, after_fault};
+    ghost use Rattle.hwp_fault.specs.Accesses.{begin, again, answer, at_start, at_process, at_translation, LoadsBad, LocksFrame, LooksAgain, followed, leads_to, let_go_at, pinned, unlocked, after_fault};
+    ghost use Rattle.std.specs.Prelude.{is_some, true};
 
     /// The access at its beginning.
     pub fn new(request: Request) -> Access
@@ -217,6 +218,94 @@ impl Access {
     {
         self.set(at);
         moved(got)
+    }
+
+    /// The stop word was read. What a step needs room for stands in a function of its own, so that the other steps don't clear it.
+    fn on_stop_word(&mut self, found: u64, got: Option<Body>) -> Turn
+        ensures at { self.new ≡ record self.old { at = at_start found } }
+        ensures turn { result ≡ Moved }
+    {
+        self.go(Access::at_start(found), got)
+    }
+
+    /// The word of the process was read.
+    fn on_process_word(&mut self, found: u64, got: Option<Body>) -> Turn
+        ensures at { self.new ≡ record self.old { at = at_process found } }
+        ensures turn { result ≡ Moved }
+    {
+        self.go(Access::at_process(found), got)
+    }
+
+    /// The translation's word was read.
+    fn on_translation_word(&mut self, found: u64, got: Option<Body>) -> Turn
+        ensures at { self.new ≡ record self.old { at = at_translation self.old.request found } }
+        ensures turn { result ≡ Moved }
+    {
+        let at = self.request.at_translation(found);
+        self.go(at, got)
+    }
+
+    /// The translation's word was read again, under the frame's lock.
+    fn on_word_again(
+        &mut self,
+        frame: Frame,
+        held: Option<Body>,
+        found: u64,
+        got: Option<Body>,
+    ) -> Turn
+        requires taken { leads_to frame found ≡ true → is_some held ≡ true }
+        ensures at { LooksAgain self.old.request frame held found self.new.at }
+        ensures rest { self.new ≡ record self.old { at = self.new.at } }
+        ensures turn { result ≡ Moved }
+    {
+        let at = self.request.at_again(frame, held, found);
+        self.go(at, got)
+    }
+
+    /// The frame's lock was tried.
+    fn on_lock(&mut self, frame: Frame, found: u64, got: Option<Body>) -> Turn
+        requires at { self.old.at ≡ states.LockFrame frame }
+        ensures at { LocksFrame frame found got self.new.at result }
+        ensures rest { self.new ≡ record self.old { at = self.new.at } }
+    {
+        let (next, turn) = locked(frame, found, got);
+        self.follow(next, turn)
+    }
+
+    /// The frame's bad lines were read.
+    fn on_bad_lines(&mut self, found: u64, got: Option<Body>) -> Turn
+        requires bad { LoadsBad self.old.request self.old.at }
+        ensures at { self.new ≡ record self.old { at = let_go_at self.old.request self.old.at found } }
+        ensures turn { result ≡ Moved }
+    {
+        let before = mem::replace(&mut self.at, AccessAt::LoadStop);
+        let AccessAt::LoadBad { frame, body: held } = before else {
+            unreachable!()
+        };
+        let at = self.request.let_go(frame, held, found);
+        self.go(at, got)
+    }
+
+    /// Goes on where the part whose step this turn was is over.
+    fn on_part(&mut self, turn: Turn) -> Turn
+        ensures at { self.new ≡ record self.old { at = followed self.old.at } }
+        ensures turn { result ≡ turn }
+    {
+        match &self.at {
+            AccessAt::Pin { pin } => {
+                let next = Access::pinned(pin);
+                self.follow(next, turn)
+            }
+            AccessAt::Unlock { unlock, then } => {
+                let next = Access::unlocked(unlock, *then);
+                self.follow(next, turn)
+            }
+            AccessAt::Fault { fault } => {
+                let next = Access::after_fault(fault);
+                self.follow(next, turn)
+            }
+            _ => turn,
+        }
     }
 }
 
@@ -464,42 +553,33 @@ impl Task for Access {
 
     fn settle(&mut self, layout: &Layout, found: u64, body: Option<Body>) -> Turn {
         match &mut self.at {
-            AccessAt::LoadStop => self.go(Access::at_start(found), body),
-            AccessAt::LoadProcess => self.go(Access::at_process(found), body),
-            AccessAt::LoadTranslation => {
-                let at = self.request.at_translation(found);
-                self.go(at, body)
-            }
+            AccessAt::LoadStop => self.on_stop_word(found, body),
+            AccessAt::LoadProcess => self.on_process_word(found, body),
+            AccessAt::LoadTranslation => self.on_translation_word(found, body),
             AccessAt::Pin { pin } => {
                 let turn = pin.settle(layout, found, body);
-                let next = Access::pinned(pin);
-                self.follow(next, turn)
+                self.on_part(turn)
             }
             AccessAt::LockFrame { frame } => {
-                let (next, turn) = locked(*frame, found, body);
-                self.follow(next, turn)
+                let frame = *frame;
+                self.on_lock(frame, found, body)
             }
             AccessAt::LoadAgain { frame, body: held } => {
-                let at = self.request.at_again(*frame, held.take(), found);
-                self.go(at, body)
+                let frame = *frame;
+                let held = held.take();
+                self.on_word_again(frame, held, found, body)
             }
-            AccessAt::LoadBad { .. } => {
-                let before = mem::replace(&mut self.at, AccessAt::LoadStop);
-                let AccessAt::LoadBad { frame, body: held } = before else {
-                    unreachable!()
-                };
-                let at = self.request.let_go(frame, held, found);
-                self.go(at, body)
-            }
-            AccessAt::Unlock { unlock, then } => {
+            AccessAt::LoadBad { .. } => self.on_bad_lines(found, body),
+            AccessAt::Unlock { unlock, .. } => {
                 let _turn = unlock.settle(layout, found, body);
-                let next = Access::unlocked(unlock, *then);
-                self.follow(next, Turn::Moved)
+                self.on_part(Turn::Moved)
             }
             AccessAt::Fault { fault } => {
                 let turn = fault.settle(layout, found, body);
-                let next = Access::after_fault(fault);
-                self.follow(next, turn)
+                if fault.answer().is_none() {
+                    return turn;
+                }
+                self.on_part(turn)
             }
             AccessAt::GiveUp { give_up } => give_up.settle(layout, found, body),
             AccessAt::Over { .. } => moved(body),

@@ -118,6 +118,7 @@ impl Fault {
         }
     }
 
+    #[inline(never)]
     fn let_go(
         who: Who,
         page: Page,
@@ -134,6 +135,7 @@ impl Fault {
     }
 
     /// Makes room for an entry, and goes on to the part that appends it; or gives up.
+    #[inline(never)]
     fn with_room(who: Who, page: Page, slot: VSlot, frame: Option<Frame>, mut body: Body) -> FaultAt
         ensures { IsRoomed who page slot frame body result }
     {
@@ -182,6 +184,7 @@ impl Fault {
     }
 
     /// Makes room for the entry that the access is answered by SIGBUS, and appends it; or gives up.
+    #[inline(never)]
     fn refuse(&self, layout: &Layout, frame: Option<Frame>, mut body: Body) -> FaultAt
         requires allowed { IsRefused body.layout body.page body.state self.now.touch.thread self.now.slot }
         ensures { IsRefusal layout.now self.now.who self.now.page self.now.slot self.now.touch frame body result }

@@ -17,6 +17,7 @@ impl<'a, W: Ways> Ops for SeatOps<'a, W> {
         self.machine()
     }
 
+    #[inline(always)]
     fn step(&mut self, who: Who, step: &Step, body: Option<Body>) -> Met {
         self.make(who, step, body)
     }

@@ -7,6 +7,7 @@ use hwp_core_task::{Layout, SharedWord, index};
 
 /// Where the table has the word of a place: the stop word first, and then the others in their order.
 #[tactic(auto, using(crate::proofs::WordOrder::before_stop))]
+#[inline(always)]
 pub fn word_of(layout: &Layout, place: SharedWord) -> usize
     requires sound { IsSound layout.now }
     requires inside { IsPlace layout.now place }
