@@ -33,7 +33,7 @@ use hwp_cpu_row::{
     Watching, no_events,
 };
 use hwp_evict::{
-    Damage, Evict, FileNo, Frame, Fsync, Layout, Line, Mode, Page, Thread, VSlot, Who,
+    Damage, Evict, FileNo, Frame, Fsync, Layout, Line, Mode, Page, Proc, Thread, VSlot, Who,
 };
 use hwp_fault::{AccessKind, Request};
 use hwp_scrub::Scrub;
