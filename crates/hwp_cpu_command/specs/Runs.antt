@@ -1,11 +1,15 @@
 -- Which command a task is of, whatever state it is in, and what a processor has where a command begins.
-use Rattle.std.specs.Prelude.{◌≡◌, Bool, false, [], Option}
+use Rattle.std.specs.Prelude.{◌≡◌, ◌≢◌, ◌==◌, Bool, true, false, [], Option, Some, slice_get}
 use Rattle.hwp_cpu_control.specs.hwp_geom.declared.Layout.{Layout}
+use Rattle.hwp_cpu_control.specs.hwp_geom.declared.Proc.{Proc}
 use Rattle.hwp_cpu_control.specs.hwp_geom.declared.Thread.{Thread}
+use Rattle.hwp_cpu_control.specs.hwp_geom.declared.ThreadDecl.{ThreadDecl}
 use Rattle.hwp_cpu_control.specs.hwp_geom.declared.VSlot.{VSlot}
 use Rattle.hwp_cpu_control.specs.hwp_geom.declared.Who.{Who}
 use Rattle.hwp_cpu_row.specs.hwp_script_lines.declared.Command.{Command}
+use Rattle.hwp_cpu_row.specs.hwp_script_lines.declared.Command.TheVariants as commands
 use Rattle.hwp_cpu_control.specs.hwp_core_rule.declared.View.{View}
+use Rattle.hwp_cpu_control.specs.hwp_core_rule.parts.Policies.{settings_of}
 use Rattle.hwp_cpu_control.specs.hwp_core_task.Calls.{IsOnTurn}
 use Rattle.hwp_cpu_control.specs.hwp_core_task.Hands.{hand_of, empty}
 use Rattle.hwp_cpu_control.specs.hwp_core_task.Known.{HasMadeNone}
@@ -68,3 +72,13 @@ pub record AtRest (view : View) (who : Who) : Type 0 where
   pub unmarked : HasMarkedNone view who
   pub left : (thread : Thread) → HasSettingLeft thread view
   pub revivals : HasRevivalLeft who.cpu view
+
+-- no thread of the child has been set, and each is one of the processor and isn't the one that forks
+abbrev pub IsFresh : Layout → View → Who → Thread → Proc → Type 0
+IsFresh layout view who thread child =
+    (t : Thread) (d : ThreadDecl) → slice_get layout.threads t.0 ≡ Some d → (d.process.0 == child.0) ≡ true → ((d.cpu ≡ who.cpu) × (t.0 ≢ thread.0)) × (settings_of t view.settings ≡ [])
+
+-- what a fork asks where it begins
+abbrev pub CanFork : Layout → View → Who → Command → Type 0
+CanFork layout view who (commands.Fork thread child) = IsFresh layout view who thread child
+CanFork layout view who _ = Unit {0}

@@ -99,6 +99,14 @@ listed-at targets n t is = which (nat_lt n targets.count) refl
         slice_get-get_or (take targets.count targets.threads) n t (omega (arith, few, within, before))
         ∙ ap Some (get_or-take targets.count targets.threads n t before ∙ get_or_from_slice_get targets.threads n t t there)
 
+-- and is a declared thread of the process
+pub of-child : (layout : Layout) (process : Proc) (targets : Targets) → take targets.count targets.threads ≡ threads_of process 0 layout.threads → (n : ℕ) (t : Thread) → target_at targets n ≡ Some t
+    → (d : ThreadDecl) × (slice_get layout.threads t.0 ≡ Some d) × ((d.process.0 == process.0) ≡ true)
+of-child layout process targets listed n t is =
+    let named = named-at process 0 layout.threads n t (ap (λ (l : List Thread). slice_get l n) (sym listed) ∙ listed-at targets n t is) in
+    let number : named.place ≡ t.0 = let e = named.number in omega (arith, e) in
+    (named.decl, ap (λ (m : ℕ). slice_get layout.threads m) (sym number) ∙ named.declared, named.of)
+
 -- the threads of a process that are all of the processor, and of which the thread that forks is none, are such as a fork needs
 pub are-targets : (layout : Layout) (who : Who) (thread : Thread) (process : Proc) (targets : Targets) → targets.count ≤ thread_limit → length targets.threads ≡ thread_limit → take targets.count targets.threads ≡ threads_of process 0 layout.threads
     → ((t : Thread) (d : ThreadDecl) → slice_get layout.threads t.0 ≡ Some d → (d.process.0 == process.0) ≡ true → (d.cpu ≡ who.cpu) × (t.0 ≢ thread.0)) → AreTargets layout who thread targets
@@ -109,11 +117,9 @@ are-targets layout who thread process targets few room listed home = record { fe
 
     each : (n : ℕ) (t : Thread) → target_at targets n ≡ Some t → IsTarget layout who thread t
     each n t is =
-        let named = named-at process 0 layout.threads n t (at n t is) in
-        let number : named.place ≡ t.0 = let e = named.number in omega (arith, e) in
-        let declared : slice_get layout.threads t.0 ≡ Some named.decl = ap (λ (m : ℕ). slice_get layout.threads m) (sym number) ∙ named.declared in
-        let own = home t named.decl declared named.of in
-        record { decl = named.decl; declared = declared; own = own.0; apart = own.1 }
+        let child = of-child layout process targets listed n t is in
+        let own = home t child.0 child.1 child.2 in
+        record { decl = child.0; declared = child.1; own = own.0; apart = own.1 }
 
     rising : (m n : ℕ) (t u : Thread) → target_at targets m ≡ Some t → target_at targets n ≡ Some u → m < n → t.0 < u.0
     rising m n t u first second less = rising-at process 0 layout.threads m n t u (at m t first) (at n u second) less
