@@ -47,11 +47,19 @@ use Rattle.hwp_cpu_control.proofs.PrctlLaws.{ended-by, set-by, policy-back, page
 -- ---- the threads of the child
 
 -- there are more of them than before one of them
-more-than : (targets : Targets) (n : ℕ) (t : Thread) → target_at targets n ≡ Some t → n < targets.count
+pub more-than : (targets : Targets) (n : ℕ) (t : Thread) → target_at targets n ≡ Some t → n < targets.count
 more-than targets n t is = which (nat_lt n targets.count) refl
   where
     which : (b : Bool) → nat_lt n targets.count ≡ b → n < targets.count
     which true less = ltb-true n targets.count less
+    which false more = absurd (none-some t (sym (ap (λ (b : Bool). cond b (slice_get targets.threads n) None) more) ∙ is))
+
+-- and it stands there
+pub target-there : (targets : Targets) (n : ℕ) (t : Thread) → target_at targets n ≡ Some t → slice_get targets.threads n ≡ Some t
+target-there targets n t is = which (nat_lt n targets.count) refl
+  where
+    which : (b : Bool) → nat_lt n targets.count ≡ b → slice_get targets.threads n ≡ Some t
+    which true less = sym (ap (λ (b : Bool). cond b (slice_get targets.threads n) None) less) ∙ is
     which false more = absurd (none-some t (sym (ap (λ (b : Bool). cond b (slice_get targets.threads n) None) more) ∙ is))
 
 -- ---- what comes
