@@ -143,15 +143,7 @@ fn copy(
     let page = page_of(layout, from);
     set(
         job,
-        Job::Copying(Copying::new(
-            alloc,
-            store,
-            word,
-            from,
-            page,
-            taken(banks),
-            collects,
-        )),
+        Job::Copying(Copying::new(alloc, store, word, from, page, taken(banks), collects)),
     );
 }
 

@@ -78,7 +78,7 @@ can layout view f step fits is = which f.at fits.at is
         let is : IsTarget layout f.who f.thread target = fits.targets.each before target to.0.target_is in
         let none : settings_of target view.settings ≡ [] = to.0.unset before target (omega arith) to.0.target_is in
         can-make fits.on_turn e (slice_get_within layout.threads target.0 is.decl is.declared)
-            (record { decl = is.decl; declared = is.declared; own = is.own; number = sym (ap (λ (l : List Setting). length l) none); few = omega arith })
+        (record { decl = is.decl; declared = is.declared; own = is.own; number = sym (ap (λ (l : List Setting). length l) none); few = omega arith })
     which (at.Over answer) done e = absurd (none-some step e)
 
 -- ---- what follows

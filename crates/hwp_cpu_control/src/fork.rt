@@ -28,7 +28,9 @@ enum ForkAt {
         target: Thread,
         before: u8,
     },
-    Over { answer: ForkAnswer },
+    Over {
+        answer: ForkAnswer,
+    },
 }
 
 /// What a `Fork` came to (this project's rule).
