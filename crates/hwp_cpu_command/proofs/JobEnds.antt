@@ -11,6 +11,11 @@ use Rattle.hwp_cpu_control.specs.declared.nested.NestedAt.{NestedAt}
 use Rattle.hwp_cpu_control.specs.declared.nested.NestedAt.TheVariants as nested_at
 use Rattle.hwp_cpu_control.specs.declared.prctl.PrctlAt.{PrctlAt}
 use Rattle.hwp_cpu_control.specs.declared.prctl.PrctlAt.TheVariants as prctl_at
+use Rattle.hwp_cpu_control.specs.declared.fork.ForkAt.{ForkAt}
+use Rattle.hwp_cpu_control.specs.declared.fork.ForkAt.TheVariants as fork_at
+use Rattle.hwp_cpu_control.specs.declared.Fork.{Fork}
+use Rattle.hwp_cpu_control.specs.declared.ForkAnswer.{ForkAnswer}
+use Rattle.hwp_cpu_control.specs.Forks as forks
 use Rattle.hwp_cpu_control.specs.declared.read_stop.ReadStopAt.{ReadStopAt}
 use Rattle.hwp_cpu_control.specs.declared.read_stop.ReadStopAt.TheVariants as read_at
 use Rattle.hwp_cpu_control.specs.declared.spoil.SpoilAt.{SpoilAt}
@@ -56,6 +61,11 @@ use Rattle.hwp_cpu_access.specs.declared.instruction.InstructionAt.{InstructionA
 use Rattle.hwp_cpu_access.specs.declared.instruction.InstructionAt.TheVariants as instruction_at
 use Rattle.hwp_cpu_access.specs.Fits as instruction_fits
 use Rattle.hwp_cpu_access.specs.Instructions as instructions
+use Rattle.hwp_cpu_copy.specs.Copyings as copyings
+use Rattle.hwp_cpu_copy.specs.declared.Copying.{Copying}
+use Rattle.hwp_cpu_copy.specs.declared.copying.CopyingAt.{CopyingAt}
+use Rattle.hwp_cpu_copy.specs.declared.copying.CopyingAt.TheVariants as copying_at
+use Rattle.hwp_cpu_copy.proofs.CopyEnds as copy_ends
 use Rattle.hwp_cpu_raise.specs.declared.Raise.{Raise}
 use Rattle.hwp_cpu_raise.specs.declared.RaiseAnswer.{RaiseAnswer}
 use Rattle.hwp_cpu_raise.specs.declared.raise.RaiseAt.{RaiseAt}
@@ -122,6 +132,13 @@ prctl-over p {x} is = which p.at is
   where
     which : (y : PrctlAt) → prctls.answer_at y ≡ Some x → y ≡ prctl_at.Over x
     which (prctl_at.Over other) some = ap prctl_at.Over (same_Some other x some)
+    which _ none = absurd (none-some x none)
+
+pub fork-over : (f : Fork) {x : ForkAnswer} → forks.answer f ≡ Some x → f.at ≡ fork_at.Over x
+fork-over f {x} is = which f.at is
+  where
+    which : (y : ForkAt) → forks.answer_at y ≡ Some x → y ≡ fork_at.Over x
+    which (fork_at.Over other) some = ap fork_at.Over (same_Some other x some)
     which _ none = absurd (none-some x none)
 
 pub read-over : (r : ReadStop) {x : ReadStopAnswer} → read_stops.answer r ≡ Some x → r.at ≡ read_at.Over x
@@ -235,12 +252,23 @@ soft-ended {base} {layout} {view} s fits is = subst (offline.FitsAt base layout 
 pub unpoison-ended : {layout : Layout} {view : View} (u : Unpoison) {x : UnpoisonAnswer} → unpoisons.Fits layout view u → unpoisons.answer u ≡ Some x → (hand_of view ≡ empty) × unpoisons.IsCaused view u.who u.frame x
 unpoison-ended {layout} {view} u {x} fits is = reviving.ended {layout = layout} {view = view} u {x = x} fits is
 
+-- nor does a copy
+copying-over : (c : Copying) {x : InstructionAnswer} → copyings.answer c ≡ Some x → copyings.plan c ≡ None
+copying-over c {x} is = which c.at is
+  where
+    which : (y : CopyingAt) → copyings.answer_at c.instruction y ≡ Some x → copyings.plan_at c.instruction y ≡ None
+    which copying_at.Access said = ap instructions.plan_at (instruction-over c.instruction said)
+    which (copying_at.Free e stored) none = absurd (none-some x none)
+    which (copying_at.Over other) said = refl
+
 -- it plans no step
 pub answered-over : {a : Answer} (j : Job) → answer j ≡ Some a → plan j ≡ None
+answered-over (jobs.Copying c) is = copying-over c (mapped _ (copyings.answer c) is).1
 answered-over (jobs.Instruction i) is = ap instructions.plan_at (instruction-over i (mapped _ (instructions.answer i) is).1)
 answered-over (jobs.Evict e) is = ap evicts.plan_at (evict-over e (mapped _ (evicts.answer e) is).1)
 answered-over (jobs.Fsync f) is = ap (fsyncs.plan_at f.file) (fsync-over f (mapped _ (fsyncs.answer f) is).1)
 answered-over (jobs.Prctl p) is = ap (prctls.plan_at p.thread p.process) (prctl-over p (mapped _ (prctls.answer p) is).1)
+answered-over (jobs.Fork f) is = ap (forks.plan_at f.thread f.process) (fork-over f (mapped _ (forks.answer f) is).1)
 answered-over (jobs.Log l) is = ap read_stops.plan_at (read-over l.read (mapped _ (logs.answer l) is).1)
 answered-over (jobs.Raise r) is = ap raises.plan_at (raise-over r (mapped _ (raises.answer r) is).1)
 answered-over (jobs.Scrub s) is = ap scrubs.plan_at (scrub-over s (mapped _ (scrubs.answer s) is).1)
@@ -262,9 +290,11 @@ answered-over {a} (jobs.Inject i) is = which i.at is
 -- and its processor holds nothing
 empty-handed : (base : List Made) (layout : Layout) (view : View) (j : Job) {a : Answer} → FitsFrom base layout view j → answer j ≡ Some a → hand_of view ≡ empty
 empty-handed base layout view (jobs.Instruction i) fits is = (instruction-ended i fits (mapped _ (instructions.answer i) is).1).hand_is
+empty-handed base layout view (jobs.Copying c) fits is = (copy_ends.ends c fits (mapped _ (copyings.answer c) is).1).hand_is
 empty-handed base layout view (jobs.Evict e) fits is = (evict-caused e fits (mapped _ (evicts.answer e) is).1).0
 empty-handed base layout view (jobs.Fsync f) fits is = fits.1.hand_is
 empty-handed base layout view (jobs.Prctl p) fits is = fits.1.hand_is
+empty-handed base layout view (jobs.Fork f) fits is = fits.1.hand_is
 empty-handed base layout view (jobs.Log l) fits is = fits.1.read.hand_is
 empty-handed base layout view (jobs.Raise r) fits is = (raise-ended r fits.1 (mapped _ (raises.answer r) is).1).0.hand_is
 empty-handed base layout view (jobs.Scrub s) fits is = let own = mapped _ (scrubs.answer s) is in (scrub-rests layout view s own.0 (scrub-ended s fits.1 own.1)).hand_is
@@ -280,6 +310,7 @@ ends base layout view j fits is = (empty-handed base layout view j fits is, answ
 -- a command of which memory can fail owes no loss, once it is answered
 pub paid-at-end : (base : List Made) (layout : Layout) (view : View) (j : Job) {a : Answer} → FitsFrom base layout view j → answer j ≡ Some a → (view.owed.losses ≡ []) ⊎ (failed_now j ≡ [])
 paid-at-end base layout view (jobs.Instruction i) fits is = inl (instruction-ended i fits (mapped _ (instructions.answer i) is).1).paid
+paid-at-end base layout view (jobs.Copying c) fits is = inl (copy_ends.ends c fits (mapped _ (copyings.answer c) is).1).paid
 paid-at-end base layout view (jobs.Raise r) fits is = inl (raise-ended r fits.1 (mapped _ (raises.answer r) is).1).0.paid
 paid-at-end base layout view (jobs.Scrub s) fits is = inl (let own = mapped _ (scrubs.answer s) is in (scrub-rests layout view s own.0 (scrub-ended s fits.1 own.1)).paid)
 paid-at-end base layout view (jobs.Inject i) fits is = inl (inject-ended i fits.1 (mapped _ (injects.answer i) is).1).paid

@@ -26,6 +26,9 @@ use Rattle.hwp_cpu_control.proofs.of_hwp_core_task.StepRanks.{failures-kept, pen
 use Rattle.hwp_cpu_control.specs.declared.Nested.{Nested}
 use Rattle.hwp_cpu_control.specs.declared.Prctl.{Prctl}
 use Rattle.hwp_cpu_control.specs.declared.Spoil.{Spoil}
+use Rattle.hwp_cpu_control.specs.declared.Fork.{Fork}
+use Rattle.hwp_cpu_control.specs.Forks as forks
+use Rattle.hwp_cpu_control.proofs.ForkLaws as forking
 use Rattle.hwp_cpu_control.specs.Nesteds as nesteds
 use Rattle.hwp_cpu_control.specs.Prctls as prctls
 use Rattle.hwp_cpu_control.specs.Spoils as spoils
@@ -54,6 +57,7 @@ use Rattle.hwp_soft.proofs.of_hwp_claim.InjectRank.{inject-lasting, inject-ranke
 use Rattle.hwp_cpu_row.specs.hwp_cpu_check.declared.Handler.{Handler}
 use Rattle.hwp_cpu_row.specs.hwp_cpu_check.Handlers as handlers
 use Rattle.hwp_cpu_access.specs.declared.Instruction.{Instruction}
+use Rattle.hwp_cpu_access.specs.declared.InstructionAnswer.{InstructionAnswer}
 use Rattle.hwp_cpu_access.specs.declared.instruction.InstructionAt.{InstructionAt}
 use Rattle.hwp_cpu_access.specs.declared.instruction.InstructionAt.TheVariants as instruction_at
 use Rattle.hwp_cpu_access.specs.Costs as instruction_costs
@@ -61,6 +65,14 @@ use Rattle.hwp_cpu_access.specs.Instructions as instructions
 use Rattle.hwp_cpu_access.specs.Fits.{task as instruction-task}
 use Rattle.hwp_cpu_access.proofs.InstructionLaws as instructing
 use Rattle.hwp_cpu_access.proofs.InstructionRank.{instruction-lasting, instruction-ranked, instruction-tells}
+use Rattle.hwp_cpu_copy.specs.declared.Copying.{Copying}
+use Rattle.hwp_cpu_copy.specs.declared.copying.CopyingAt.{CopyingAt}
+use Rattle.hwp_cpu_copy.specs.declared.copying.CopyingAt.TheVariants as copying_at
+use Rattle.hwp_cpu_copy.specs.Copyings as copyings
+use Rattle.hwp_cpu_copy.specs.Costs as copying_costs
+use Rattle.hwp_cpu_copy.specs.Fits.{task as copying-task}
+use Rattle.hwp_cpu_copy.proofs.CopyLaws as copying
+use Rattle.hwp_cpu_copy.proofs.CopyRank.{copy-lasting, copy-ranked, copy-tells}
 use Rattle.hwp_cpu_raise.specs.declared.Log.{Log}
 use Rattle.hwp_cpu_raise.specs.declared.Raise.{Raise}
 use Rattle.hwp_cpu_raise.specs.declared.raise.RaiseAt.{RaiseAt}
@@ -104,9 +116,11 @@ use Rattle.hwp_cpu_command.proofs.JobRefusals.{handler-unanswered, refused-unans
 
 pub can : (base : List Deed) (layout : Layout) (view : View) (j : Job) (step : Step) → FitsFrom base layout view j → plan j ≡ Some step → CanMake layout (who j) step (put j) view
 can base layout view (jobs.Instruction x) step fits is = instructing.can layout view x step fits is
+can base layout view (jobs.Copying x) step fits is = copying.can layout view x step fits is
 can base layout view (jobs.Evict x) step fits is = evicting.can layout view x step fits is
 can base layout view (jobs.Fsync x) step fits is = fsyncing.can layout view x step fits.1 is
 can base layout view (jobs.Prctl x) step fits is = calling.can layout view x step fits.1 is
+can base layout view (jobs.Fork x) step fits is = forking.can layout view x step fits.1 is
 can base layout view (jobs.Log x) step fits is = logging.can layout view x step fits.1 is
 can base layout view (jobs.Raise x) step fits is = raising.can layout view x step fits.1 is
 can base layout view (jobs.Scrub x) step fits is = scrubbing.can layout view x step fits.1 is
@@ -130,6 +144,9 @@ pub stays : (base : List Deed) (layout : Layout) (old new : View) (j : Job) (ste
 stays base layout old new (jobs.Instruction x) step found got fits is made =
     let s = instructing.stays layout old new x step found got fits is made in
     (s.0, λ after turn next. follows-so jobs.Instruction base layout new (jobs.Instruction x) after next.0 next.1 (s.1 next.0 turn next.2))
+stays base layout old new (jobs.Copying x) step found got fits is made =
+    let s = copying.stays layout old new x step found got fits is made in
+    (s.0, λ after turn next. follows-so jobs.Copying base layout new (jobs.Copying x) after next.0 next.1 (s.1 next.0 turn next.2))
 stays base layout old new (jobs.Evict x) step found got fits is made =
     let s = evicting.stays layout old new x step found got fits is made in
     (s.0, λ after turn next. follows-so jobs.Evict base layout new (jobs.Evict x) after next.0 next.1 (s.1 next.0 turn next.2))
@@ -139,6 +156,9 @@ stays base layout old new (jobs.Fsync x) step found got fits is made =
 stays base layout old new (jobs.Prctl x) step found got fits is made =
     let s = calling.stays layout old new x step found got fits.1 is made in
     (s.0, λ after turn next. follows-so jobs.Prctl base layout new (jobs.Prctl x) after (prctls.next x found) next.0 (alone fits.0 (s.1 (prctls.next x found) turn (refl, next.1))))
+stays base layout old new (jobs.Fork x) step found got fits is made =
+    let s = forking.stays layout old new x step found got fits.1 is made in
+    (s.0, λ after turn next. follows-so jobs.Fork base layout new (jobs.Fork x) after (forks.next x found) next.0 (alone fits.0 (s.1 (forks.next x found) turn (refl, next.1))))
 stays base layout old new (jobs.Log x) step found got fits is made =
     let s = logging.stays layout old new x step found got fits.1 is made in
     (s.0, λ after turn next. follows-so jobs.Log base layout new (jobs.Log x) after (logs.next x found) next.0 (alone fits.0 (s.1 (logs.next x found) turn (refl, next.1))))
@@ -188,6 +208,13 @@ module _ {layout : Layout} {seat : ℕ} {a b : State} {t : Job} {turn : Turn} wh
     made = record { step = made.step; found = made.found; got = made.got; rule = made.rule; kept = made.kept; fits = (made.fits.0, [], made.fits.1); planned = made.planned; move = made.move; brings = made.brings; follows = made.follows.2 };
   }
 
+  of-copying : {x : Copying} → Made job-task layout seat a b (jobs.Copying x) t turn → IsTurnOf copying-task jobs.Copying layout seat a b x t turn
+  of-copying made = record {
+    after = made.follows.0;
+    after_is = made.follows.1;
+    made = record { step = made.step; found = made.found; got = made.got; rule = made.rule; kept = made.kept; fits = made.fits; planned = made.planned; move = made.move; brings = made.brings; follows = made.follows.2 };
+  }
+
   of-evict : {x : Evict} → Made job-task layout seat a b (jobs.Evict x) t turn → IsTurnOf evict-task jobs.Evict layout seat a b x t turn
   of-evict made = record {
     after = made.follows.0;
@@ -205,6 +232,13 @@ module _ {layout : Layout} {seat : ℕ} {a b : State} {t : Job} {turn : Turn} wh
   of-prctl : {x : Prctl} → Made job-task layout seat a b (jobs.Prctl x) t turn → IsTurnOf prctls.task jobs.Prctl layout seat a b x t turn
   of-prctl {x} made = record {
     after = prctls.next x made.found;
+    after_is = made.follows.0;
+    made = record { step = made.step; found = made.found; got = made.got; rule = made.rule; kept = made.kept; fits = made.fits.1.1; planned = made.planned; move = made.move; brings = made.brings; follows = (refl, made.follows.1) };
+  }
+
+  of-fork : {x : Fork} → Made job-task layout seat a b (jobs.Fork x) t turn → IsTurnOf forks.task jobs.Fork layout seat a b x t turn
+  of-fork {x} made = record {
+    after = forks.next x made.found;
     after_is = made.follows.0;
     made = record { step = made.step; found = made.found; got = made.got; rule = made.rule; kept = made.kept; fits = made.fits.1.1; planned = made.planned; move = made.move; brings = made.brings; follows = (refl, made.follows.1) };
   }
@@ -288,9 +322,11 @@ module _ {S : Type 0} (m : Member S) (of : S → Job) (same : (s : S) (w : Words
 
 falls : (layout : Layout) (seat : ℕ) (a b : State) (s t : Job) (turn : Turn) → Made job-task layout seat a b s t turn → is_waits turn ≡ false → CostFalls job-task layout a b s t ⊎ HasFailed job-task layout a b s t
 falls layout seat a b (jobs.Instruction x) t turn made goes = let m = of-instruction made in lowers-so instruction-task jobs.Instruction (λ s w. refl) (λ s. refl) m (instruction-ranked.falls layout seat a b x m.after turn m.made goes)
+falls layout seat a b (jobs.Copying x) t turn made goes = let m = of-copying made in lowers-so copying-task jobs.Copying (λ s w. refl) (λ s. refl) m (copy-ranked.falls layout seat a b x m.after turn m.made goes)
 falls layout seat a b (jobs.Evict x) t turn made goes = let m = of-evict made in lowers-so evict-task jobs.Evict (λ s w. refl) (λ s. refl) m (evict-ranked.falls layout seat a b x m.after turn m.made goes)
 falls layout seat a b (jobs.Fsync x) t turn made goes = let m = of-fsync made in lowers-so fsyncs.task jobs.Fsync (λ s w. refl) (λ s. refl) m (fsync-ranked.falls layout seat a b x m.after turn m.made goes)
 falls layout seat a b (jobs.Prctl x) t turn made goes = let m = of-prctl made in lowers-so prctls.task jobs.Prctl (λ s w. refl) (λ s. refl) m (calling.ranked.falls layout seat a b x m.after turn m.made goes)
+falls layout seat a b (jobs.Fork x) t turn made goes = let m = of-fork made in lowers-so forks.task jobs.Fork (λ s w. refl) (λ s. refl) m (forking.ranked.falls layout seat a b x m.after turn m.made goes)
 falls layout seat a b (jobs.Log x) t turn made goes = let m = of-log made in lowers-so logs.task jobs.Log (λ s w. refl) (λ s. refl) m (logging.ranked.falls layout seat a b x m.after turn m.made goes)
 falls layout seat a b (jobs.Raise x) t turn made goes = let m = of-raise made in lowers-so raise-task jobs.Raise (λ s w. refl) (λ s. refl) m (raise-ranked.falls layout seat a b x m.after turn m.made goes)
 falls layout seat a b (jobs.Scrub x) t turn made goes = let m = of-scrub made in lowers-so scrub-task jobs.Scrub (λ s w. refl) (λ s. refl) m (scrub-ranked.falls layout seat a b x m.after turn m.made goes)
@@ -302,9 +338,11 @@ falls layout seat a b (jobs.Unpoison x) t turn made goes = let m = of-unpoison m
 
 waits : (layout : Layout) (seat : ℕ) (a b : State) (s t : Job) (turn : Turn) → Made job-task layout seat a b s t turn → is_waits turn ≡ true → Quiet (class s) layout a seat → CostFalls job-task layout a b s t ⊎ ((aborts t ≡ true) × OtherHand a seat)
 waits layout seat a b (jobs.Instruction x) t turn made is quiet = let m = of-instruction made in waits-so instruction-task jobs.Instruction (λ s w. refl) (λ s. refl) m (instruction-ranked.waits layout seat a b x m.after turn m.made is quiet)
+waits layout seat a b (jobs.Copying x) t turn made is quiet = let m = of-copying made in waits-so copying-task jobs.Copying (λ s w. refl) (λ s. refl) m (copy-ranked.waits layout seat a b x m.after turn m.made is quiet)
 waits layout seat a b (jobs.Evict x) t turn made is quiet = let m = of-evict made in waits-so evict-task jobs.Evict (λ s w. refl) (λ s. refl) m (evict-ranked.waits layout seat a b x m.after turn m.made is quiet)
 waits layout seat a b (jobs.Fsync x) t turn made is quiet = let m = of-fsync made in waits-so fsyncs.task jobs.Fsync (λ s w. refl) (λ s. refl) m (fsync-ranked.waits layout seat a b x m.after turn m.made is quiet)
 waits layout seat a b (jobs.Prctl x) t turn made is quiet = let m = of-prctl made in waits-so prctls.task jobs.Prctl (λ s w. refl) (λ s. refl) m (calling.ranked.waits layout seat a b x m.after turn m.made is quiet)
+waits layout seat a b (jobs.Fork x) t turn made is quiet = let m = of-fork made in waits-so forks.task jobs.Fork (λ s w. refl) (λ s. refl) m (forking.ranked.waits layout seat a b x m.after turn m.made is quiet)
 waits layout seat a b (jobs.Log x) t turn made is quiet = let m = of-log made in waits-so logs.task jobs.Log (λ s w. refl) (λ s. refl) m (logging.ranked.waits layout seat a b x m.after turn m.made is quiet)
 waits layout seat a b (jobs.Raise x) t turn made is quiet = let m = of-raise made in waits-so raise-task jobs.Raise (λ s w. refl) (λ s. refl) m (raise-ranked.waits layout seat a b x m.after turn m.made is quiet)
 waits layout seat a b (jobs.Scrub x) t turn made is quiet = let m = of-scrub made in waits-so scrub-task jobs.Scrub (λ s w. refl) (λ s. refl) m (scrub-ranked.waits layout seat a b x m.after turn m.made is quiet)
@@ -316,9 +354,11 @@ waits layout seat a b (jobs.Unpoison x) t turn made is quiet = let m = of-unpois
 
 classes : (j : Job) → (1 ≤ class j) × (class j ≤ 4)
 classes (jobs.Instruction x) = instruction-ranked.classes x
+classes (jobs.Copying x) = copy-ranked.classes x
 classes (jobs.Evict x) = evict-ranked.classes x
 classes (jobs.Fsync x) = fsync-ranked.classes x
 classes (jobs.Prctl x) = calling.ranked.classes x
+classes (jobs.Fork x) = forking.ranked.classes x
 classes (jobs.Log x) = logging.ranked.classes x
 classes (jobs.Raise x) = raise-ranked.classes x
 classes (jobs.Scrub x) = scrub-ranked.classes x
@@ -330,9 +370,11 @@ classes (jobs.Unpoison x) = unpoisoning.ranked.classes x
 
 small : (layout : Layout) (a : State) (seat : ℕ) (j : Job) → Holds layout a → Fits layout (view_of a seat) j → cost j (words_at layout a) < top
 small layout a seat (jobs.Instruction x) rule fits = instruction-ranked.small layout a seat x rule (fits.0, [], fits.1)
+small layout a seat (jobs.Copying x) rule fits = copy-ranked.small layout a seat x rule fits
 small layout a seat (jobs.Evict x) rule fits = evict-ranked.small layout a seat x rule fits
 small layout a seat (jobs.Fsync x) rule fits = fsync-ranked.small layout a seat x rule fits.1.1
 small layout a seat (jobs.Prctl x) rule fits = calling.ranked.small layout a seat x rule fits.1.1
+small layout a seat (jobs.Fork x) rule fits = forking.ranked.small layout a seat x rule fits.1.1
 small layout a seat (jobs.Log x) rule fits = logging.ranked.small layout a seat x rule fits.1.1
 small layout a seat (jobs.Raise x) rule fits = raise-ranked.small layout a seat x rule fits.1.1
 small layout a seat (jobs.Scrub x) rule fits = scrub-ranked.small layout a seat x rule fits.1.1
@@ -345,6 +387,7 @@ small layout a seat (jobs.Unpoison x) rule fits = unpoisoning.ranked.small layou
 -- a command that claims a frame alone can give up what it has begun, and then it looks at its frame again
 leaves : (layout : Layout) (seat : ℕ) (a b : State) (s t : Job) (turn : Turn) → Made job-task layout seat a b s t turn → aborts s ≡ true → (plan t ≡ None) ⊎ (1 < class t)
 leaves layout seat a b (jobs.Instruction x) t turn made is = let m = of-instruction made in subst (λ (j : Job). (plan j ≡ None) ⊎ (1 < class j)) (sym m.after_is) (instruction-ranked.leaves layout seat a b x m.after turn m.made is)
+leaves layout seat a b (jobs.Copying x) t turn made is = let m = of-copying made in subst (λ (j : Job). (plan j ≡ None) ⊎ (1 < class j)) (sym m.after_is) (copy-ranked.leaves layout seat a b x m.after turn m.made is)
 leaves layout seat a b (jobs.Raise x) t turn made is = let m = of-raise made in subst (λ (j : Job). (plan j ≡ None) ⊎ (1 < class j)) (sym m.after_is) (raise-ranked.leaves layout seat a b x m.after turn m.made is)
 leaves layout seat a b (jobs.Scrub x) t turn made is = let m = of-scrub made in subst (λ (j : Job). (plan j ≡ None) ⊎ (1 < class j)) (sym m.after_is) (scrub-ranked.leaves layout seat a b x m.after turn m.made is)
 leaves layout seat a b (jobs.Inject x) t turn made is = let m = of-inject made in subst (λ (j : Job). (plan j ≡ None) ⊎ (1 < class j)) (sym m.after_is) (inject-ranked.leaves layout seat a b x m.after turn m.made is)
@@ -362,6 +405,8 @@ owns-none frame cycle made mild none pending = (pending-kept made mild frame cyc
 owns : (layout : Layout) (seat : ℕ) (a b : State) (s t : Job) (turn : Turn) (frame : Frame) (cycle : ℕ) → Made job-task layout seat a b s t turn → is_refused turn ≡ false → Pending (words_at layout b) frame cycle → Owns layout a b s t frame cycle
 owns layout seat a b (jobs.Instruction x) t turn frame cycle made going pending =
     let m = of-instruction made in subst (λ (j : Job). Owns layout a b (jobs.Instruction x) j frame cycle) (sym m.after_is) (instruction-ranked.owns layout seat a b x m.after turn frame cycle m.made going pending)
+owns layout seat a b (jobs.Copying x) t turn frame cycle made going pending =
+    let m = of-copying made in subst (λ (j : Job). Owns layout a b (jobs.Copying x) j frame cycle) (sym m.after_is) (copy-ranked.owns layout seat a b x m.after turn frame cycle m.made going pending)
 owns layout seat a b (jobs.Raise x) t turn frame cycle made going pending =
     let m = of-raise made in subst (λ (j : Job). Owns layout a b (jobs.Raise x) j frame cycle) (sym m.after_is) (raise-ranked.owns layout seat a b x m.after turn frame cycle m.made going pending)
 owns layout seat a b (jobs.Scrub x) t turn frame cycle made going pending =
@@ -375,6 +420,7 @@ owns layout seat a b (jobs.Unpoison x) t turn frame cycle made going pending =
 owns layout seat a b (jobs.Evict x) t turn frame cycle made going pending = inr (owns-none frame cycle made (evict-mild x made.step made.planned) refl pending)
 owns layout seat a b (jobs.Fsync x) t turn frame cycle made going pending = inr (owns-none frame cycle made (fsync-mild x made.step made.planned) refl pending)
 owns layout seat a b (jobs.Prctl x) t turn frame cycle made going pending = inr (owns-none frame cycle made (calling.mild x made.step made.planned) refl pending)
+owns layout seat a b (jobs.Fork x) t turn frame cycle made going pending = inr (owns-none frame cycle made (forking.mild x made.step made.planned) refl pending)
 owns layout seat a b (jobs.Log x) t turn frame cycle made going pending = inr (owns-none frame cycle made (logging.mild x made.step made.planned) refl pending)
 owns layout seat a b (jobs.Spoil x) t turn frame cycle made going pending = inr (owns-none frame cycle made (spoiling.mild x made.step made.planned) refl pending)
 owns layout seat a b (jobs.Nested x) t turn frame cycle made going pending = inr (owns-none frame cycle made (nesting.mild x made.step made.planned) refl pending)
@@ -395,6 +441,14 @@ unclaimed-instruction i {r} is = which i.at is
     which : (x : InstructionAt) → option_map instruction_answer (instructions.answer_at x) ≡ Some r → instruction_costs.claims_at x ≡ None
     which (instruction_at.Over o) said = refl
     which _ said = absurd (none-some r said)
+
+unclaimed-copying : (c : Copying) {r : Answer} → answer (jobs.Copying c) ≡ Some r → copying_costs.claims c ≡ None
+unclaimed-copying c {r} is = which c.at is
+  where
+    which : (x : CopyingAt) → option_map instruction_answer (copyings.answer_at c.instruction x) ≡ Some r → copying_costs.claims_at c.instruction x ≡ None
+    which copying_at.Access said = unclaimed-instruction c.instruction said
+    which (copying_at.Free e stored) said = refl
+    which (copying_at.Over answer) said = refl
 
 unclaimed-raise : (x : Raise) {r : Answer} → answer (jobs.Raise x) ≡ Some r → raise_costs.claims x ≡ None
 unclaimed-raise x {r} is = which x.at is
@@ -450,6 +504,39 @@ module _ {layout : Layout} {seat : ℕ} {a b : State} {t : Job} {turn : Turn} (f
       which instruction_at.GiveUp at e next = owns-none frame cycle made (subst IsMild (same_Some steps.GiveUp made.step e) tt) (ap instruction_costs.claims_at at) pending
       which (instruction_at.Paused pause) at e next = absurd (none-some made.step e)
       which (instruction_at.Over o) at e next = absurd (none-some made.step e)
+
+  -- a copy by its access
+  copying-settled : (x : Copying) → Made job-task layout seat a b (jobs.Copying x) t turn → OwnsNone layout a (jobs.Copying x) frame cycle
+  copying-settled x made = by x.at refl made.planned m.made.follows
+    where
+      m : IsTurnOf copying-task jobs.Copying layout seat a b x t turn
+      m = of-copying made
+
+      by : (z : CopyingAt) → x.at ≡ z → copyings.plan_at x.instruction z ≡ Some made.step → copyings.FollowsAt layout (copyings.bare_at x z) (copyings.bare_at x z).at m.made.found m.made.got m.after turn → OwnsNone layout a (jobs.Copying x) frame cycle
+      by copying_at.Access own e next = which x.instruction.at refl e next.follows
+        where
+          unclaimed_at : (y : InstructionAt) → x.instruction.at ≡ y → instruction_costs.claims_at y ≡ None → claims (jobs.Copying x) ≡ None
+          unclaimed_at y at none = ap (copying_costs.claims_at x.instruction) own ∙ ap instruction_costs.claims_at at ∙ none
+
+          -- an access that was refused memory has no answer, and so the copy has none
+          refused : (f : Frame) (h : Handler) → instructions.FollowsAt layout (instructions.bare x.instruction) (instruction_at.Handle f (handlers.bare h)) m.made.found m.made.got next.instruction turn → is_refused turn ≡ true → answer t ≡ None
+          refused f h then no_ =
+              let none : instructions.answer next.instruction ≡ None =
+              ap instructions.answer then.next_is ∙ ap (λ (o : Option Bool). instructions.answer (instructions.after_handler_by (instructions.bare x.instruction) f then.handler o)) (handler-unanswered layout h then.handler m.made.found m.made.got turn then.follows no_) in
+              ap answer m.after_is ∙ ap (λ (c : Copying). answer (jobs.Copying c)) next.next_is
+              ∙ ap (λ (o : Option InstructionAnswer). answer (jobs.Copying (copyings.after_access (record (copyings.bare_at x copying_at.Access) { instruction = next.instruction }) o))) none ∙ ap (λ (o : Option InstructionAnswer). option_map instruction_answer o) none
+
+          which : (y : InstructionAt) → x.instruction.at ≡ y → instructions.plan_at y ≡ Some made.step → instructions.FollowsAt layout (instructions.bare x.instruction) (instructions.bare_at y) m.made.found m.made.got next.instruction turn → OwnsNone layout a (jobs.Copying x) frame cycle
+          which (instruction_at.Handle f h) at e_ then =
+              settled frame cycle made is pending (refused f h then) (ap claims m.after_is ∙ unclaimed-copying m.after (sym (ap answer m.after_is) ∙ is))
+          which (instruction_at.Access c) at e_ then = owns-none frame cycle made (access-mild c made.step e_) (unclaimed_at (instruction_at.Access c) at refl) pending
+          which (instruction_at.LoadFrame f) at e_ then = owns-none frame cycle made (subst IsMild (same_Some (steps.Load (places.Frame f)) made.step e_) tt) (unclaimed_at (instruction_at.LoadFrame f) at refl) pending
+          which (instruction_at.LoadStop f) at e_ then = owns-none frame cycle made (subst IsMild (same_Some (steps.Load places.Stop) made.step e_) tt) (unclaimed_at (instruction_at.LoadStop f) at refl) pending
+          which instruction_at.GiveUp at e_ then = owns-none frame cycle made (subst IsMild (same_Some steps.GiveUp made.step e_) tt) (unclaimed_at instruction_at.GiveUp at refl) pending
+          which (instruction_at.Paused pause) at e_ then = absurd (none-some made.step e_)
+          which (instruction_at.Over o) at e_ then = absurd (none-some made.step e_)
+      by (copying_at.Free e stored) own plans next = owns-none frame cycle made (evict-mild e made.step plans) (ap (copying_costs.claims_at x.instruction) own) pending
+      by (copying_at.Over o) own plans next = absurd (none-some made.step plans)
 
   raise-settled : (x : Raise) → Made job-task layout seat a b (jobs.Raise x) t turn → OwnsNone layout a (jobs.Raise x) frame cycle
   raise-settled x made = which x.at refl made.planned m.made.follows
@@ -512,6 +599,7 @@ module _ {layout : Layout} {seat : ℕ} {a b : State} {t : Job} {turn : Turn} (f
 pub owns-answered : (layout : Layout) (seat : ℕ) (a b : State) (s t : Job) (turn : Turn) (frame : Frame) (cycle : ℕ) {r : Answer} → Made job-task layout seat a b s t turn → answer t ≡ Some r → Pending (words_at layout b) frame cycle
     → Pending (words_at layout a) frame cycle × (claims s ≢ Some (frame, cycle))
 owns-answered layout seat a b (jobs.Instruction x) t turn frame cycle made is pending = instruction-settled frame cycle is pending x made
+owns-answered layout seat a b (jobs.Copying x) t turn frame cycle made is pending = copying-settled frame cycle is pending x made
 owns-answered layout seat a b (jobs.Raise x) t turn frame cycle made is pending = raise-settled frame cycle is pending x made
 owns-answered layout seat a b (jobs.Scrub x) t turn frame cycle made is pending = scrub-settled frame cycle is pending x made
 owns-answered layout seat a b (jobs.Inject x) t turn frame cycle made is pending = inject-settled frame cycle is pending x made
@@ -520,6 +608,7 @@ owns-answered layout seat a b (jobs.Unpoison x) t turn frame cycle made is pendi
 owns-answered layout seat a b (jobs.Evict x) t turn frame cycle made is pending = owns-none frame cycle made (evict-mild x made.step made.planned) refl pending
 owns-answered layout seat a b (jobs.Fsync x) t turn frame cycle made is pending = owns-none frame cycle made (fsync-mild x made.step made.planned) refl pending
 owns-answered layout seat a b (jobs.Prctl x) t turn frame cycle made is pending = owns-none frame cycle made (calling.mild x made.step made.planned) refl pending
+owns-answered layout seat a b (jobs.Fork x) t turn frame cycle made is pending = owns-none frame cycle made (forking.mild x made.step made.planned) refl pending
 owns-answered layout seat a b (jobs.Log x) t turn frame cycle made is pending = owns-none frame cycle made (logging.mild x made.step made.planned) refl pending
 owns-answered layout seat a b (jobs.Spoil x) t turn frame cycle made is pending = owns-none frame cycle made (spoiling.mild x made.step made.planned) refl pending
 owns-answered layout seat a b (jobs.Nested x) t turn frame cycle made is pending = owns-none frame cycle made (nesting.mild x made.step made.planned) refl pending
@@ -530,9 +619,11 @@ ranked = record { classes = classes; small = small; falls = falls; waits = waits
 -- a turn pays for what it takes back
 pub pays : PaysRevival job-task
 pays layout seat a b (jobs.Instruction x) t turn made = inl (failures-kept made (instruction-lasting x made.step made.planned))
+pays layout seat a b (jobs.Copying x) t turn made = inl (failures-kept made (copy-lasting x made.step made.planned))
 pays layout seat a b (jobs.Evict x) t turn made = inl (failures-kept made (mild-leaves made.step (evict-mild x made.step made.planned)))
 pays layout seat a b (jobs.Fsync x) t turn made = inl (failures-kept made (mild-leaves made.step (fsync-mild x made.step made.planned)))
 pays layout seat a b (jobs.Prctl x) t turn made = inl (failures-kept made (mild-leaves made.step (calling.mild x made.step made.planned)))
+pays layout seat a b (jobs.Fork x) t turn made = inl (failures-kept made (mild-leaves made.step (forking.mild x made.step made.planned)))
 pays layout seat a b (jobs.Log x) t turn made = inl (failures-kept made (mild-leaves made.step (logging.mild x made.step made.planned)))
 pays layout seat a b (jobs.Raise x) t turn made = inl (failures-kept made (raise-lasting x made.step made.planned))
 pays layout seat a b (jobs.Scrub x) t turn made = inl (failures-kept made (scrub-lasting x made.step made.planned))
@@ -552,9 +643,11 @@ tells = record { frame = frame; page = page; claim = claim }
   where
     frame : (layout : Layout) (view : View) (j : Job) → Fits layout view j → HasFrame view → (class j ≡ 1) × (plan j ≢ None)
     frame layout view (jobs.Instruction x) fits has = instruction-tells.frame layout view x (fits.0, [], fits.1) has
+    frame layout view (jobs.Copying x) fits has = copy-tells.frame layout view x fits has
     frame layout view (jobs.Evict x) fits has = evict-tells.frame layout view x fits has
     frame layout view (jobs.Fsync x) fits has = fsync-tells.frame layout view x fits.1.1 has
     frame layout view (jobs.Prctl x) fits has = calling.tells.frame layout view x fits.1.1 has
+    frame layout view (jobs.Fork x) fits has = forking.tells.frame layout view x fits.1.1 has
     frame layout view (jobs.Log x) fits has = logging.tells.frame layout view x fits.1.1 has
     frame layout view (jobs.Raise x) fits has = raise-tells.frame layout view x fits.1.1 has
     frame layout view (jobs.Scrub x) fits has = scrub-tells.frame layout view x fits.1.1 has
@@ -566,9 +659,11 @@ tells = record { frame = frame; page = page; claim = claim }
 
     page : (layout : Layout) (view : View) (j : Job) → Fits layout view j → HasPage view → (class j ≤ 2) × (plan j ≢ None)
     page layout view (jobs.Instruction x) fits has = instruction-tells.page layout view x (fits.0, [], fits.1) has
+    page layout view (jobs.Copying x) fits has = copy-tells.page layout view x fits has
     page layout view (jobs.Evict x) fits has = evict-tells.page layout view x fits has
     page layout view (jobs.Fsync x) fits has = fsync-tells.page layout view x fits.1.1 has
     page layout view (jobs.Prctl x) fits has = calling.tells.page layout view x fits.1.1 has
+    page layout view (jobs.Fork x) fits has = forking.tells.page layout view x fits.1.1 has
     page layout view (jobs.Log x) fits has = logging.tells.page layout view x fits.1.1 has
     page layout view (jobs.Raise x) fits has = raise-tells.page layout view x fits.1.1 has
     page layout view (jobs.Scrub x) fits has = scrub-tells.page layout view x fits.1.1 has
@@ -580,6 +675,7 @@ tells = record { frame = frame; page = page; claim = claim }
 
     claim : (layout : Layout) (view : View) (j : Job) (f : Frame) (cycle : ℕ) → Fits layout view j → claims j ≡ Some (f, cycle) → (class j ≤ 3) × (plan j ≢ None)
     claim layout view (jobs.Instruction x) f cycle fits has = instruction-tells.claim layout view x f cycle (fits.0, [], fits.1) has
+    claim layout view (jobs.Copying x) f cycle fits has = copy-tells.claim layout view x f cycle fits has
     claim layout view (jobs.Raise x) f cycle fits has = raise-tells.claim layout view x f cycle fits.1.1 has
     claim layout view (jobs.Scrub x) f cycle fits has = scrub-tells.claim layout view x f cycle fits.1.1 has
     claim layout view (jobs.Inject x) f cycle fits has = inject-tells.claim layout view x f cycle fits.1.1 has

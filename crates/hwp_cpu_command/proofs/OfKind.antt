@@ -2,18 +2,22 @@
 use Rattle.std.proofs.Common.{◌≡◌, ℕ, eq-eqb, ◌==◌, false, refl, ap}
 use Rattle.std.proofs.lemmas.Bool.{both_ways}
 use Rattle.hwp_cpu_control.specs.declared.Nested.{Nested}
+use Rattle.hwp_cpu_control.specs.declared.Fork.{Fork}
 use Rattle.hwp_cpu_control.specs.declared.Prctl.{Prctl}
 use Rattle.hwp_cpu_control.specs.declared.Spoil.{Spoil}
 use Rattle.hwp_evict.specs.declared.Evict.{Evict}
 use Rattle.hwp_evict.specs.declared.Fsync.{Fsync}
 use Rattle.hwp_soft.specs.hwp_claim.declared.Inject.{Inject}
 use Rattle.hwp_cpu_access.specs.declared.Instruction.{Instruction}
+use Rattle.hwp_cpu_copy.specs.declared.Copying.{Copying}
+use Rattle.hwp_cpu_copy.specs.Copyings as copyings
 use Rattle.hwp_cpu_raise.specs.declared.Log.{Log}
 use Rattle.hwp_cpu_raise.specs.declared.Raise.{Raise}
 use Rattle.hwp_scrub.specs.declared.Scrub.{Scrub}
 use Rattle.hwp_soft.specs.declared.Soft.{Soft}
 use Rattle.hwp_soft.specs.hwp_soft_unpoison.declared.Unpoison.{Unpoison}
 use Rattle.hwp_cpu_control.specs.Nesteds as nesteds
+use Rattle.hwp_cpu_control.specs.Forks as forks
 use Rattle.hwp_cpu_control.specs.Prctls as prctls
 use Rattle.hwp_cpu_control.specs.Spoils as spoils
 use Rattle.hwp_evict.specs.Evicts as evicts
@@ -43,6 +47,8 @@ kind (jobs.Nested n) = 8
 kind (jobs.Inject i) = 9
 kind (jobs.Soft s) = 10
 kind (jobs.Unpoison u) = 11
+kind (jobs.Copying c) = 12
+kind (jobs.Fork f) = 13
 
 differ : {j k : Job} → j ≡ k → (kind j == kind k) ≡ false → ⊥
 differ {j} {k} is apart = both_ways (kind j == kind k) apart (eq-eqb (kind j) (kind k) (ap kind is))
@@ -96,6 +102,14 @@ abbrev unpoison_in : Unpoison → Job → Unpoison
 unpoison_in d (jobs.Unpoison u) = u
 unpoison_in d _ = d
 
+abbrev copying_in : Copying → Job → Copying
+copying_in d (jobs.Copying c) = c
+copying_in d _ = d
+
+abbrev fork_in : Fork → Job → Fork
+fork_in d (jobs.Fork f) = f
+fork_in d _ = d
+
 pub of-instruction : (j : Job) {x : Instruction} → anew j ≡ jobs.Instruction x → (i : Instruction) × (j ≡ jobs.Instruction i) × (instructions.begin i.alloc i.request i.origin i.mode i.before.value i.collects ≡ x)
 of-instruction (jobs.Instruction i) {x} is = (i, refl, ap (instruction_in x) is)
 of-instruction _ is = absurd (differ is refl)
@@ -143,3 +157,11 @@ of-soft _ is = absurd (differ is refl)
 pub of-unpoison : (j : Job) {x : Unpoison} → anew j ≡ jobs.Unpoison x → (u : Unpoison) × (j ≡ jobs.Unpoison u) × (unpoisons.begin u.who u.frame ≡ x)
 of-unpoison (jobs.Unpoison u) {x} is = (u, refl, ap (unpoison_in x) is)
 of-unpoison _ is = absurd (differ is refl)
+
+pub of-copying : (j : Job) {x : Copying} → anew j ≡ jobs.Copying x → (c : Copying) × (j ≡ jobs.Copying c) × (copyings.begin c.instruction.alloc c.store c.cow.x c.cow.v c.page c.instruction.before.value c.instruction.collects ≡ x)
+of-copying (jobs.Copying c) {x} is = (c, refl, ap (copying_in x) is)
+of-copying _ is = absurd (differ is refl)
+
+pub of-fork : (j : Job) {x : Fork} → anew j ≡ jobs.Fork x → (f : Fork) × (j ≡ jobs.Fork f) × (forks.begin f.who f.thread f.process f.targets ≡ x)
+of-fork (jobs.Fork f) {x} is = (f, refl, ap (fork_in x) is)
+of-fork _ is = absurd (differ is refl)

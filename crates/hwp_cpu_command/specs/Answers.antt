@@ -5,6 +5,8 @@ use Rattle.hwp_cpu_row.specs.hwp_report_text.declared.Answer.{Answer}
 use Rattle.hwp_cpu_row.specs.hwp_report_text.declared.Answer.TheVariants as answers
 use Rattle.hwp_cpu_control.specs.hwp_page.Situations.{outcome_of}
 use Rattle.hwp_cpu_row.specs.hwp_law_commands.Outcomes.{outcome_answer, reply_answer}
+use Rattle.hwp_cpu_control.specs.declared.ForkAnswer.{ForkAnswer}
+use Rattle.hwp_cpu_control.specs.declared.ForkAnswer.TheVariants as forks
 use Rattle.hwp_cpu_control.specs.declared.NestedAnswer.{NestedAnswer}
 use Rattle.hwp_cpu_control.specs.declared.NestedAnswer.TheVariants as nested
 use Rattle.hwp_cpu_control.specs.declared.PrctlAnswer.{PrctlAnswer}
@@ -63,6 +65,11 @@ abbrev pub prctl_answer : PrctlAnswer → Answer
 prctl_answer (prctl.Replied reply) = reply_answer reply
 prctl_answer (prctl.Gone page) = answers.Gone page
 prctl_answer prctl.Stopped = answers.Stopped
+
+abbrev pub fork_answer : ForkAnswer → Answer
+fork_answer (forks.Done policy) = answers.Done
+fork_answer (forks.Gone page) = answers.Gone page
+fork_answer forks.Stopped = answers.Stopped
 
 abbrev pub read_stop_answer : ReadStopAnswer → Answer
 read_stop_answer read_stop.Done = answers.Done

@@ -1,6 +1,6 @@
 -- The task that a command begins as.
 use Rattle.std.specs.declared.alloc.Global.{Global}
-use Rattle.std.specs.Prelude.{◌≡◌, ℕ, ◌<◌, Bool, false, true, Some, None, length, slice_get}
+use Rattle.std.specs.Prelude.{◌≡◌, ℕ, ◌<◌, Bool, false, true, Option, Some, None, length, slice_get, take, ◌≤◌}
 use Rattle.hwp_cpu_control.specs.hwp_geom.declared.Damage.{Damage}
 use Rattle.hwp_cpu_control.specs.hwp_geom.declared.Damage.TheVariants as damages
 use Rattle.hwp_cpu_control.specs.hwp_geom.declared.FileNo.{FileNo}
@@ -15,7 +15,7 @@ use Rattle.hwp_cpu_control.specs.hwp_geom.declared.ThreadDecl.{ThreadDecl}
 use Rattle.hwp_cpu_control.specs.hwp_geom.declared.VSlot.{VSlot}
 use Rattle.hwp_cpu_control.specs.hwp_geom.declared.Who.{Who}
 use Rattle.hwp_cpu_control.specs.hwp_geom.Layout.{IsSound}
-use Rattle.hwp_cpu_control.specs.hwp_geom.Limits.{line_limit}
+use Rattle.hwp_cpu_control.specs.hwp_geom.Limits.{line_limit, thread_limit}
 use Rattle.hwp_cpu_row.specs.hwp_banks.declared.Origin.{Origin}
 use Rattle.hwp_cpu_row.specs.hwp_banks.declared.Origin.TheVariants as origins
 use Rattle.hwp_cpu_row.specs.hwp_banks.Events.{bank_count}
@@ -23,11 +23,14 @@ use Rattle.hwp_cpu_row.specs.hwp_severity.declared.McgBits.{McgBits}
 use Rattle.hwp_cpu_row.specs.hwp_script_lines.declared.Command.{Command}
 use Rattle.hwp_cpu_row.specs.hwp_script_lines.declared.Command.TheVariants as commands
 use Rattle.hwp_cpu_row.specs.hwp_script_lines.declared.PrctlArgs.{PrctlArgs}
+use Rattle.hwp_cpu_row.specs.hwp_script_read.Valid.{IsAccess}
 use Rattle.hwp_cpu_row.specs.hwp_banks.Banks.{Banks}
 use Rattle.hwp_cpu_row.specs.hwp_law_commands.Commands.{arrival_of}
 use Rattle.hwp_cpu_row.specs.hwp_banks.Banks.{raw_event}
 use Rattle.hwp_cpu_row.specs.hwp_law_commands.Settings.{arguments}
 use Rattle.hwp_cpu_control.specs.Nesteds as nesteds
+use Rattle.hwp_cpu_control.specs.Forks as forks
+use Rattle.hwp_cpu_control.specs.declared.Targets.{Targets}
 use Rattle.hwp_cpu_control.specs.Prctls as prctls
 use Rattle.hwp_cpu_control.specs.Spoils as spoils
 use Rattle.hwp_evict.specs.declared.Eviction.{Eviction}
@@ -41,6 +44,7 @@ use Rattle.hwp_fault.specs.declared.Request.{Request}
 use Rattle.hwp_fault.specs.Accesses as accesses
 use Rattle.hwp_soft.specs.hwp_claim.Injects as injects
 use Rattle.hwp_cpu_access.specs.Instructions as instructions
+use Rattle.hwp_cpu_copy.specs.Copyings as copyings
 use Rattle.hwp_cpu_raise.specs.declared.LocalChange.{LocalChange}
 use Rattle.hwp_cpu_raise.specs.declared.LocalChange.TheVariants as changes
 use Rattle.hwp_cpu_raise.specs.Logs as logs
@@ -49,6 +53,8 @@ use Rattle.hwp_scrub.specs.Fits.{AreFrames}
 use Rattle.hwp_scrub.specs.Scrubs as scrubs
 use Rattle.hwp_soft.specs.Softs as softs
 use Rattle.hwp_soft.specs.hwp_soft_unpoison.Unpoisons as unpoisons
+use Rattle.hwp_cpu_command.specs.declared.begin.LineAccess.{LineAccess}
+use Rattle.hwp_cpu_command.specs.declared.begin.Manner.{Manner}
 use Rattle.hwp_cpu_command.specs.declared.job.Job.{Job}
 use Rattle.hwp_cpu_command.specs.declared.job.Job.TheVariants as jobs
 use Rattle.hwp_cpu_command.specs.FileHandles.{IsChangeWithin}
@@ -69,6 +75,30 @@ pub record BeginsAccess (layout : Layout) (who : Who) (thread : Thread) (slot : 
   pub names : accesses.IsDeclared layout (request_of who thread slot line kind page process)
   pub alloc : Global
   pub job_is : j ≡ begun_access alloc (request_of who thread slot line kind page process) origin mode banks collects
+
+-- what an access asks for, and what a command does, if it is one
+abbrev pub manner : AccessKind → Origin → Mode → Manner
+manner kind origin mode = record { kind = kind; origin = origin; mode = mode }
+
+abbrev pub line_access : Thread → VSlot → ℕ → Manner → LineAccess
+line_access thread slot line how = record { thread = thread; slot = slot; line = line; manner = how }
+
+abbrev pub access_in : Command → Option LineAccess
+access_in (commands.Load thread slot line) = Some (line_access thread slot line (manner kinds.Load origins.Access modes.User))
+access_in (commands.Fetch thread slot line) = Some (line_access thread slot line (manner kinds.Load origins.Fetch modes.User))
+access_in (commands.KLoad thread slot line) = Some (line_access thread slot line (manner kinds.Load origins.Access modes.Kernel))
+access_in (commands.Store thread slot line word) = Some (line_access thread slot line (manner (kinds.Store word) origins.Access modes.User))
+access_in _ = None
+
+abbrev pub BeginsLine : Layout → Who → LineAccess → Banks → Bool → Job → Type 0
+BeginsLine layout who at banks collects j = BeginsAccess layout who at.thread at.slot at.line at.manner.kind at.manner.origin at.manner.mode banks collects j
+
+-- the command raises a machine check
+abbrev pub is_raise : Command → Bool
+is_raise (commands.RaiseUser thread ripv eipv) = true
+is_raise (commands.RaiseKernel ripv eipv) = true
+is_raise commands.RaiseNested = true
+is_raise _ = false
 
 -- a load of data by the program, of an instruction, or of data by the kernel; a store
 abbrev pub BeginsLoad : Layout → Who → Thread → VSlot → ℕ → Banks → Bool → Job → Type 0
@@ -96,6 +126,18 @@ pub record BeginsPrctl (layout : Layout) (who : Who) (thread : Thread) (args : P
   pub own : decl.cpu ≡ who.cpu
   pub within : decl.process.0 < layout.procs
   pub job_is : j ≡ jobs.Prctl (prctls.begin who thread decl.process (arguments args))
+
+-- a fork by a thread of the processor: each thread of the child gets the policy of that one
+pub record BeginsFork (layout : Layout) (who : Who) (thread : Thread) (child : Proc) (j : Job) : Type 0 where
+  pub decl : ThreadDecl
+  pub declared : slice_get layout.threads thread.0 ≡ Some decl
+  pub own : decl.cpu ≡ who.cpu
+  pub within : decl.process.0 < layout.procs
+  pub targets : Targets
+  pub few : targets.count ≤ thread_limit
+  pub room : length targets.threads ≡ thread_limit
+  pub listed : take targets.count targets.threads ≡ forks.threads_of child 0 layout.threads
+  pub job_is : j ≡ jobs.Fork (forks.begin who thread decl.process targets)
 
 -- a failure of a frame of the layout
 pub record BeginsInject (layout : Layout) (who : Who) (frame : Frame) (j : Job) : Type 0 where
@@ -155,7 +197,8 @@ pub record BeginsUnpoison (layout : Layout) (who : Who) (frame : Frame) (j : Job
 abbrev pub BeginsFsync : Layout → Who → FileNo → Bool → Job → Type 0
 BeginsFsync layout who file opens j = (file.0 < layout.files) × (handle : ℕ) × (j ≡ jobs.Fsync (fsyncs.begin who file handle opens))
 
--- the task is at the beginning of the command, of a processor whose banks hold this, and which collects corrected errors or doesn't
+-- the task is at the beginning of the command, of a processor whose banks hold this, and which collects corrected errors or doesn't; a store
+-- copies nothing
 abbrev pub Begins : Layout → Who → Command → Banks → Bool → Job → Type 0
 Begins layout who (commands.Load thread slot line) banks collects j = BeginsLoad layout who thread slot line banks collects j
 Begins layout who (commands.Fetch thread slot line) banks collects j = BeginsFetch layout who thread slot line banks collects j
@@ -168,6 +211,7 @@ Begins layout who (commands.Out page) banks collects j = BeginsEviction layout w
 Begins layout who (commands.Fsync file) banks collects j = BeginsFsync layout who file false j
 Begins layout who (commands.Open file) banks collects j = BeginsFsync layout who file true j
 Begins layout who (commands.Prctl thread args) banks collects j = BeginsPrctl layout who thread args j
+Begins layout who (commands.Fork thread child) banks collects j = BeginsFork layout who thread child j
 Begins layout who (commands.Bad frame line) banks collects j = BeginsSpoil layout who frame line damages.Bad j
 Begins layout who (commands.Weak frame line) banks collects j = BeginsSpoil layout who frame line damages.Weak j
 Begins layout who (commands.Scrub first last) banks collects j = BeginsScrub layout who first last banks j
@@ -179,3 +223,34 @@ Begins layout who commands.RaiseNested banks collects j = j ≡ jobs.Nested (nes
 Begins layout who (commands.Inject frame) banks collects j = BeginsInject layout who frame j
 Begins layout who (commands.Soft frame) banks collects j = BeginsSoft layout who frame j
 Begins layout who (commands.Unpoison frame) banks collects j = BeginsUnpoison layout who frame j
+
+-- a store of a word through a translation, by a thread, which first copies the page of another translation of the thread's process
+pub record BeginsCopying (layout : Layout) (who : Who) (thread : Thread) (slot : VSlot) (line word : ℕ) (from : VSlot) (banks : Banks) (collects : Bool) (j : Job) : Type 0 where
+  pub sound : IsSound layout
+  pub three : length banks ≡ bank_count
+  pub page : Page
+  pub process : Proc
+  pub names : accesses.IsDeclared layout (request_of who thread slot line (kinds.Store word) page process)
+  pub copied : Page
+  pub own : accesses.IsDeclared layout (copyings.load_of (request_of who thread slot line (kinds.Store word) page process) copied from 0)
+  pub alloc : Global
+  pub job_is : j ≡ jobs.Copying (copyings.begin alloc (request_of who thread slot line (kinds.Store word) page process) word from copied banks collects)
+
+-- no other command copies
+abbrev pub BeginsCopy : Layout → Who → Command → VSlot → Banks → Bool → Job → Type 0
+BeginsCopy layout who (commands.Store thread slot line word) from banks collects j = BeginsCopying layout who thread slot line word from banks collects j
+BeginsCopy layout who _ from banks collects j = ⊥
+
+-- the same of a command that copies from the translation, where there is one
+abbrev pub BeginsWith : Layout → Who → Command → Option VSlot → Banks → Bool → Job → Type 0
+BeginsWith layout who command None banks collects j = Begins layout who command banks collects j
+BeginsWith layout who command (Some from) banks collects j = BeginsCopy layout who command from banks collects j
+
+-- a store may copy from a translation of its thread's process
+abbrev pub CanCopyFrom : Layout → ℕ → Command → VSlot → Type 0
+CanCopyFrom layout cpu (commands.Store thread slot line word) from = IsAccess layout cpu thread from
+CanCopyFrom layout cpu _ from = ⊥
+
+abbrev pub CanCopy : Layout → ℕ → Command → Option VSlot → Type 0
+CanCopy layout cpu command None = Unit {0}
+CanCopy layout cpu command (Some from) = CanCopyFrom layout cpu command from

@@ -13,6 +13,7 @@ use Rattle.hwp_soft.specs.hwp_claim.declared.inject.InjectAt.TheVariants as inje
 use Rattle.hwp_soft.specs.hwp_claim.Done as fail_done
 use Rattle.hwp_cpu_access.specs.Done as instruction_done
 use Rattle.hwp_cpu_access.specs.Done.{FailuresGrow, failures_by}
+use Rattle.hwp_cpu_copy.specs.Done as copying_done
 use Rattle.hwp_cpu_raise.specs.Done as raise_done
 use Rattle.hwp_scrub.specs.Done as scrub_done
 use Rattle.hwp_soft.specs.Done as soft_done
@@ -28,6 +29,7 @@ marked_at frame _ = []
 
 abbrev pub marked_now : Job → List Marking
 marked_now (jobs.Instruction i) = instruction_done.marked_now i
+marked_now (jobs.Copying c) = copying_done.marked_now c
 marked_now (jobs.Raise r) = raise_done.marked_now r
 marked_now (jobs.Scrub s) = scrub_done.marked_now s
 marked_now (jobs.Inject i) = marked_at i.frame i.at
@@ -38,6 +40,7 @@ marked_now _ = []
 -- those beyond the ones that the events tell which it told of
 abbrev pub marked_beyond : Job → List Marking
 marked_beyond (jobs.Instruction i) = instruction_done.marked_at i.at
+marked_beyond (jobs.Copying c) = instruction_done.marked_at c.instruction.at
 marked_beyond (jobs.Raise r) = raise_done.marked_at r.at
 marked_beyond (jobs.Scrub s) = scrub_done.marked_at s.at
 marked_beyond j = marked_now j
@@ -49,6 +52,7 @@ failed_at _ = []
 
 abbrev pub failed_now : Job → List Failed
 failed_now (jobs.Instruction i) = instruction_done.failed_now i
+failed_now (jobs.Copying c) = copying_done.failed_now c
 failed_now (jobs.Raise r) = raise_done.failed_now r
 failed_now (jobs.Scrub s) = scrub_done.failed_now s
 failed_now (jobs.Inject i) = failed_at i.at
@@ -57,6 +61,7 @@ failed_now _ = []
 -- the command can have a memory failure
 abbrev pub can_fail : Job → Bool
 can_fail (jobs.Instruction i) = true
+can_fail (jobs.Copying c) = true
 can_fail (jobs.Raise r) = true
 can_fail (jobs.Scrub s) = true
 can_fail (jobs.Inject i) = true
@@ -69,6 +74,7 @@ owed_at _ = 0
 
 abbrev pub owed_now : Job → ℕ
 owed_now (jobs.Instruction i) = instruction_done.owed_now i
+owed_now (jobs.Copying c) = copying_done.owed_now c
 owed_now (jobs.Raise r) = raise_done.owed_now r
 owed_now (jobs.Scrub s) = scrub_done.owed_now s
 owed_now (jobs.Inject i) = owed_at i.at

@@ -13,6 +13,7 @@ use Rattle.hwp_cpu_control.specs.hwp_core_task.declared.Turn.{Turn}
 use Rattle.hwp_cpu_control.specs.hwp_core_task.declared.Turn.TheVariants.{Moved}
 use Rattle.hwp_cpu_control.specs.hwp_core_task.Turns.{Member}
 use Rattle.hwp_cpu_control.specs.Nesteds as nesteds
+use Rattle.hwp_cpu_control.specs.Forks as forks
 use Rattle.hwp_cpu_control.specs.Prctls as prctls
 use Rattle.hwp_cpu_control.specs.Spoils as spoils
 use Rattle.hwp_evict.specs.declared.Evict.{Evict}
@@ -28,6 +29,10 @@ use Rattle.hwp_cpu_access.specs.declared.Instruction.{Instruction}
 use Rattle.hwp_cpu_access.specs.Costs as instruction_costs
 use Rattle.hwp_cpu_access.specs.Fits as instruction_fits
 use Rattle.hwp_cpu_access.specs.Instructions as instructions
+use Rattle.hwp_cpu_copy.specs.declared.Copying.{Copying}
+use Rattle.hwp_cpu_copy.specs.Copyings as copyings
+use Rattle.hwp_cpu_copy.specs.Costs as copying_costs
+use Rattle.hwp_cpu_copy.specs.Fits as copying_fits
 use Rattle.hwp_cpu_raise.specs.declared.Raise.{Raise}
 use Rattle.hwp_cpu_raise.specs.Costs as raise_costs
 use Rattle.hwp_cpu_raise.specs.Fits as raise_fits
@@ -51,13 +56,15 @@ use Rattle.hwp_soft.specs.hwp_soft_unpoison.declared.UnpoisonAnswer.TheVariants 
 use Rattle.hwp_soft.specs.hwp_soft_unpoison.Unpoisons as unpoisons
 use Rattle.hwp_cpu_command.specs.declared.job.Job.{Job}
 use Rattle.hwp_cpu_command.specs.declared.job.Job.TheVariants as jobs
-use Rattle.hwp_cpu_command.specs.Answers.{evict_answer, fail_answer, fsync_answer, instruction_answer, nested_answer, prctl_answer, raise_answer, read_stop_answer, scrub_answer, soft_answer, spoil_answer, unpoison_answer}
+use Rattle.hwp_cpu_command.specs.Answers.{evict_answer, fail_answer, fork_answer, fsync_answer, instruction_answer, nested_answer, prctl_answer, raise_answer, read_stop_answer, scrub_answer, soft_answer, spoil_answer, unpoison_answer}
 
 abbrev pub who : Job → Who
 who (jobs.Instruction i) = i.request.who
+who (jobs.Copying c) = c.store.who
 who (jobs.Evict e) = e.who
 who (jobs.Fsync f) = f.who
 who (jobs.Prctl p) = p.who
+who (jobs.Fork f) = f.who
 who (jobs.Log l) = l.read.who
 who (jobs.Raise r) = r.who
 who (jobs.Scrub s) = s.who
@@ -69,9 +76,11 @@ who (jobs.Unpoison u) = u.who
 
 abbrev pub plan : Job → Option Step
 plan (jobs.Instruction i) = instructions.plan i
+plan (jobs.Copying c) = copyings.plan c
 plan (jobs.Evict e) = evicts.plan e
 plan (jobs.Fsync f) = fsyncs.plan f
 plan (jobs.Prctl p) = prctls.plan p
+plan (jobs.Fork f) = forks.plan f
 plan (jobs.Log l) = logs.plan l
 plan (jobs.Raise r) = raises.plan r
 plan (jobs.Scrub s) = scrubs.plan s
@@ -83,6 +92,7 @@ plan (jobs.Unpoison u) = unpoisons.plan u
 
 abbrev pub put : Job → Option BodyValue
 put (jobs.Instruction i) = instructions.put i
+put (jobs.Copying c) = copyings.put c
 put (jobs.Evict e) = evicts.put e
 put (jobs.Raise r) = raises.put r
 put (jobs.Scrub s) = scrubs.put s
@@ -92,6 +102,7 @@ put _ = None
 
 abbrev pub bare : Job → Job
 bare (jobs.Instruction i) = jobs.Instruction (instructions.bare i)
+bare (jobs.Copying c) = jobs.Copying (copyings.bare c)
 bare (jobs.Evict e) = jobs.Evict (evicts.bare e)
 bare (jobs.Raise r) = jobs.Raise (raises.bare r)
 bare (jobs.Scrub s) = jobs.Scrub (scrubs.bare s)
@@ -101,8 +112,10 @@ bare j = j
 
 abbrev pub Shows : Job → ℕ → Option BodyValue → Type 0
 Shows (jobs.Instruction i) found got = instructions.Shows i found got
+Shows (jobs.Copying c) found got = copyings.Shows c found got
 Shows (jobs.Evict e) found got = evicts.Shows e found got
 Shows (jobs.Prctl p) found got = prctls.Shows p found
+Shows (jobs.Fork f) found got = forks.Shows f
 Shows (jobs.Raise r) found got = raises.Shows r found got
 Shows (jobs.Scrub s) found got = scrubs.Shows s found got
 Shows (jobs.Inject i) found got = injects.Shows i found got
@@ -111,9 +124,11 @@ Shows _ found got = Unit {0}
 
 abbrev pub Next : Layout → Job → ℕ → Option BodyValue → Job → Turn → Type 0
 Next layout (jobs.Instruction i) found got after turn = (k : Instruction) × (after ≡ jobs.Instruction k) × instructions.Follows layout i found got k turn
+Next layout (jobs.Copying c) found got after turn = (k : Copying) × (after ≡ jobs.Copying k) × copyings.Follows layout c found got k turn
 Next layout (jobs.Evict e) found got after turn = (f : Evict) × (after ≡ jobs.Evict f) × evicts.Follows e found got f turn
 Next layout (jobs.Fsync f) found got after turn = (after ≡ jobs.Fsync (fsyncs.next f found)) × (turn ≡ fsyncs.turn f found)
 Next layout (jobs.Prctl p) found got after turn = (after ≡ jobs.Prctl (prctls.next p found)) × (turn ≡ Moved)
+Next layout (jobs.Fork f) found got after turn = (after ≡ jobs.Fork (forks.next f found)) × (turn ≡ Moved)
 Next layout (jobs.Log l) found got after turn = (after ≡ jobs.Log (logs.next l found)) × (turn ≡ Moved)
 Next layout (jobs.Raise r) found got after turn = (k : Raise) × (after ≡ jobs.Raise k) × raises.Follows layout r found got k turn
 Next layout (jobs.Scrub s) found got after turn = (k : Scrub) × (after ≡ jobs.Scrub k) × scrubs.Follows layout s found got k turn
@@ -124,12 +139,14 @@ Next layout (jobs.Soft s) found got after turn = (k : Soft) × (after ≡ jobs.S
 Next layout (jobs.Unpoison u) found got after turn = (after ≡ jobs.Unpoison (unpoisons.next u found)) × (turn ≡ unpoisons.turn u found)
 
 -- The task fits where its command had made these entries before. An instruction, an eviction and a soft offline may be a later part of
--- their command; each other command is one part, and had made none.
+-- their command, and so may a copying store; each other command is one part, and had made none.
 abbrev pub FitsFrom : List Made → Layout → View → Job → Type 0
 FitsFrom base layout view (jobs.Instruction i) = instruction_fits.FitsFrom base layout view i
+FitsFrom base layout view (jobs.Copying c) = copying_fits.FitsFrom base layout view c
 FitsFrom base layout view (jobs.Evict e) = evicts.FitsFrom base layout view e
 FitsFrom base layout view (jobs.Fsync f) = (base ≡ []) × fsyncs.Fits layout view f
 FitsFrom base layout view (jobs.Prctl p) = (base ≡ []) × prctls.Fits layout view p
+FitsFrom base layout view (jobs.Fork f) = (base ≡ []) × forks.Fits layout view f
 FitsFrom base layout view (jobs.Log l) = (base ≡ []) × logs.Fits layout view l
 FitsFrom base layout view (jobs.Raise r) = (base ≡ []) × raise_fits.Fits layout view r
 FitsFrom base layout view (jobs.Scrub s) = (base ≡ []) × scrub_fits.Fits layout view s
@@ -145,6 +162,7 @@ Fits layout view j = (base : List Made) × FitsFrom base layout view j
 
 abbrev pub class : Job → ℕ
 class (jobs.Instruction i) = instruction_costs.class i
+class (jobs.Copying c) = copying_costs.class c
 class (jobs.Evict e) = evicts.class e
 class (jobs.Raise r) = raise_costs.class r
 class (jobs.Scrub s) = scrub_costs.class s
@@ -155,9 +173,11 @@ class _ = 4
 
 abbrev pub cost : Job → Words → ℕ
 cost (jobs.Instruction i) words = instruction_costs.cost i words
+cost (jobs.Copying c) words = copying_costs.cost c words
 cost (jobs.Evict e) words = evicts.cost e words
 cost (jobs.Fsync f) words = fsyncs.cost f words
 cost (jobs.Prctl p) words = prctls.cost p
+cost (jobs.Fork f) words = forks.cost f
 cost (jobs.Log l) words = logs.cost l
 cost (jobs.Raise r) words = raise_costs.cost r words
 cost (jobs.Scrub s) words = scrub_costs.cost s words
@@ -169,6 +189,7 @@ cost (jobs.Unpoison u) words = unpoisons.cost u words
 
 abbrev pub claims : Job → Option (Frame × ℕ)
 claims (jobs.Instruction i) = instruction_costs.claims i
+claims (jobs.Copying c) = copying_costs.claims c
 claims (jobs.Raise r) = raise_costs.claims r
 claims (jobs.Scrub s) = scrub_costs.claims s
 claims (jobs.Inject i) = injects.claims i
@@ -177,6 +198,7 @@ claims _ = None
 
 abbrev pub aborts : Job → Bool
 aborts (jobs.Instruction i) = instruction_costs.aborts i
+aborts (jobs.Copying c) = copying_costs.aborts c
 aborts (jobs.Raise r) = raise_costs.aborts r
 aborts (jobs.Scrub s) = scrub_costs.aborts s
 aborts (jobs.Inject i) = injects.aborts i
@@ -188,15 +210,18 @@ aborts _ = false
 -- what was done about the events of its machine checks
 abbrev pub told_of : Job → List EventOutcome
 told_of (jobs.Instruction i) = i.lines.told
+told_of (jobs.Copying c) = c.instruction.lines.told
 told_of (jobs.Raise r) = r.lines.told
 told_of (jobs.Scrub s) = s.lines.told
 told_of _ = []
 
 abbrev pub answer : Job → Option Answer
 answer (jobs.Instruction i) = option_map instruction_answer (instructions.answer i)
+answer (jobs.Copying c) = option_map instruction_answer (copyings.answer c)
 answer (jobs.Evict e) = option_map evict_answer (evicts.answer e)
 answer (jobs.Fsync f) = option_map fsync_answer (fsyncs.answer f)
 answer (jobs.Prctl p) = option_map prctl_answer (prctls.answer p)
+answer (jobs.Fork f) = option_map fork_answer (forks.answer f)
 answer (jobs.Log l) = option_map read_stop_answer (logs.answer l)
 answer (jobs.Raise r) = option_map (raise_answer (length r.lines.told)) (raises.answer r)
 answer (jobs.Scrub s) = option_map (scrub_answer (length s.lines.told)) (scrubs.answer s)
@@ -241,16 +266,19 @@ row_of j answer offlined = row (told_of j) offlined (own_of j) answer
 -- it pauses behind a machine check that kept an event
 abbrev pub pauses : Job → Bool
 pauses (jobs.Instruction i) = is_some (instructions.pause i)
+pauses (jobs.Copying c) = is_some (copyings.pause c)
 pauses _ = false
 
 -- behind its pause
 abbrev pub resume : Job → Job
 resume (jobs.Instruction i) = jobs.Instruction (instructions.resume i)
+resume (jobs.Copying c) = jobs.Copying (copyings.resume c)
 resume j = j
 
 -- its next step gives it up, where it can have event lines
 abbrev pub give_up : Job → Job
 give_up (jobs.Instruction i) = jobs.Instruction (instructions.give_up i)
+give_up (jobs.Copying c) = jobs.Copying (copyings.give_up c)
 give_up (jobs.Raise r) = jobs.Raise (raises.give_up r)
 give_up (jobs.Scrub s) = jobs.Scrub (scrubs.give_up s)
 give_up j = j
@@ -260,6 +288,7 @@ give_up j = j
 -- those of a command that can log or raise an event, which takes what the banks of its processor hold
 abbrev pub own_banks : Job → Option Banks
 own_banks (jobs.Instruction i) = Some i.banks
+own_banks (jobs.Copying c) = Some c.instruction.banks
 own_banks (jobs.Log l) = Some l.banks
 own_banks (jobs.Raise r) = Some r.banks
 own_banks (jobs.Scrub s) = Some s.banks
@@ -275,6 +304,7 @@ banks_after j kept = unwrap_or (own_banks j) kept
 -- what they held at its beginning
 abbrev pub banks_before : Job → Banks → Banks
 banks_before (jobs.Instruction i) kept = i.before.value
+banks_before (jobs.Copying c) kept = c.instruction.before.value
 banks_before (jobs.Log l) kept = l.before.value
 banks_before (jobs.Raise r) kept = r.before.value
 banks_before (jobs.Scrub s) kept = s.before.value

@@ -16,9 +16,11 @@ pub use Rattle.hwp_cpu_control.specs.hwp_core_task as hwp_core_task
 pub use Rattle.hwp_cpu_access.specs as hwp_cpu_access
 pub use Rattle.hwp_cpu_row.specs.hwp_cpu_check as hwp_cpu_check
 pub use Rattle.hwp_cpu_control.specs as hwp_cpu_control
+pub use Rattle.hwp_cpu_copy.specs as hwp_cpu_copy
 pub use Rattle.hwp_cpu_raise.specs as hwp_cpu_raise
 pub use Rattle.hwp_evict.specs as hwp_evict
 pub use Rattle.hwp_fault.specs as hwp_fault
+pub use Rattle.hwp_cpu_copy.specs.hwp_fork as hwp_fork
 pub use Rattle.hwp_cpu_control.specs.hwp_geom as hwp_geom
 pub use Rattle.hwp_cpu_control.specs.hwp_kill as hwp_kill
 pub use Rattle.hwp_cpu_row.specs.hwp_law_commands as hwp_law_commands

@@ -1,15 +1,21 @@
 -- Which command a task is of, whatever state it is in, and what a processor has where a command begins.
-use Rattle.std.specs.Prelude.{◌≡◌, Bool, false, []}
+use Rattle.std.specs.Prelude.{◌≡◌, ◌≢◌, ◌==◌, Bool, true, false, [], Option, Some, slice_get}
 use Rattle.hwp_cpu_control.specs.hwp_geom.declared.Layout.{Layout}
+use Rattle.hwp_cpu_control.specs.hwp_geom.declared.Proc.{Proc}
 use Rattle.hwp_cpu_control.specs.hwp_geom.declared.Thread.{Thread}
+use Rattle.hwp_cpu_control.specs.hwp_geom.declared.ThreadDecl.{ThreadDecl}
+use Rattle.hwp_cpu_control.specs.hwp_geom.declared.VSlot.{VSlot}
 use Rattle.hwp_cpu_control.specs.hwp_geom.declared.Who.{Who}
 use Rattle.hwp_cpu_row.specs.hwp_script_lines.declared.Command.{Command}
+use Rattle.hwp_cpu_row.specs.hwp_script_lines.declared.Command.TheVariants as commands
 use Rattle.hwp_cpu_control.specs.hwp_core_rule.declared.View.{View}
+use Rattle.hwp_cpu_control.specs.hwp_core_rule.parts.Policies.{settings_of}
 use Rattle.hwp_cpu_control.specs.hwp_core_task.Calls.{IsOnTurn}
 use Rattle.hwp_cpu_control.specs.hwp_core_task.Hands.{hand_of, empty}
 use Rattle.hwp_cpu_control.specs.hwp_core_task.Known.{HasMadeNone}
 use Rattle.hwp_soft.specs.hwp_claim_frame.Claims.{HasMarkedNone}
 use Rattle.hwp_cpu_control.specs.Nesteds as nesteds
+use Rattle.hwp_cpu_control.specs.Forks as forks
 use Rattle.hwp_cpu_control.specs.Prctls as prctls
 use Rattle.hwp_cpu_control.specs.Prctls.{HasSettingLeft}
 use Rattle.hwp_cpu_control.specs.Spoils as spoils
@@ -17,6 +23,7 @@ use Rattle.hwp_evict.specs.Evicts as evicts
 use Rattle.hwp_evict.specs.Fsyncs as fsyncs
 use Rattle.hwp_soft.specs.hwp_claim.Injects as injects
 use Rattle.hwp_cpu_access.specs.Instructions as instructions
+use Rattle.hwp_cpu_copy.specs.Copyings as copyings
 use Rattle.hwp_cpu_raise.specs.Logs as logs
 use Rattle.hwp_cpu_raise.specs.Raises as raises
 use Rattle.hwp_scrub.specs.Scrubs as scrubs
@@ -25,15 +32,17 @@ use Rattle.hwp_soft.specs.hwp_soft_unpoison.Unpoisons as unpoisons
 use Rattle.hwp_soft.specs.hwp_soft_unpoison.Unpoisons.{HasRevivalLeft}
 use Rattle.hwp_cpu_command.specs.declared.job.Job.{Job}
 use Rattle.hwp_cpu_command.specs.declared.job.Job.TheVariants as jobs
-use Rattle.hwp_cpu_command.specs.Begins.{Begins}
+use Rattle.hwp_cpu_command.specs.Begins.{BeginsWith}
 use Rattle.hwp_cpu_command.specs.Jobs.{banks_before}
 
 -- the task of the same command at its beginning
 abbrev pub anew : Job → Job
 anew (jobs.Instruction i) = jobs.Instruction (instructions.begin i.alloc i.request i.origin i.mode i.before.value i.collects)
+anew (jobs.Copying c) = jobs.Copying (copyings.begin c.instruction.alloc c.store c.cow.x c.cow.v c.page c.instruction.before.value c.instruction.collects)
 anew (jobs.Evict e) = jobs.Evict (evicts.begin e.who e.page e.what)
 anew (jobs.Fsync f) = jobs.Fsync (fsyncs.begin f.who f.file f.handle f.opens)
 anew (jobs.Prctl p) = jobs.Prctl (prctls.begin p.who p.thread p.process p.arguments)
+anew (jobs.Fork f) = jobs.Fork (forks.begin f.who f.thread f.process f.targets)
 anew (jobs.Log l) = jobs.Log (logs.begin l.read.who l.change l.before.value)
 anew (jobs.Raise r) = jobs.Raise (raises.begin r.alloc r.who r.raiser r.mcg r.before.value)
 anew (jobs.Scrub s) = jobs.Scrub (scrubs.begin s.alloc s.who s.first s.last s.before.value)
@@ -46,11 +55,12 @@ anew (jobs.Unpoison u) = jobs.Unpoison (unpoisons.begin u.who u.frame)
 -- whether it was told that its processor collects corrected errors
 abbrev pub collects_now : Job → Bool
 collects_now (jobs.Instruction i) = i.collects
+collects_now (jobs.Copying c) = c.instruction.collects
 collects_now _ = false
 
--- the task is of the command: begun anew, it is what the command begins as, where the banks hold what they held then
-abbrev pub Runs : Layout → Who → Command → Job → Type 0
-Runs layout who command j = Begins layout who command (banks_before j []) (collects_now j) (anew j)
+-- the task is of the command, which copies from the translation where there is one: begun anew, it is what the command begins as, where the banks hold what they held then
+abbrev pub Runs : Layout → Who → Command → Option VSlot → Job → Type 0
+Runs layout who command copies j = BeginsWith layout who command copies (banks_before j []) (collects_now j) (anew j)
 
 -- the processor holds nothing and owes no loss, and may begin the command, which has made no entry and marked no frame yet; each
 -- thread can be set once more, and a poison taken back once more
@@ -62,3 +72,13 @@ pub record AtRest (view : View) (who : Who) : Type 0 where
   pub unmarked : HasMarkedNone view who
   pub left : (thread : Thread) → HasSettingLeft thread view
   pub revivals : HasRevivalLeft who.cpu view
+
+-- no thread of the child has been set, and each is one of the processor and isn't the one that forks
+abbrev pub IsFresh : Layout → View → Who → Thread → Proc → Type 0
+IsFresh layout view who thread child =
+    (t : Thread) (d : ThreadDecl) → slice_get layout.threads t.0 ≡ Some d → (d.process.0 == child.0) ≡ true → ((d.cpu ≡ who.cpu) × (t.0 ≢ thread.0)) × (settings_of t view.settings ≡ [])
+
+-- what a fork asks where it begins
+abbrev pub CanFork : Layout → View → Who → Command → Type 0
+CanFork layout view who (commands.Fork thread child) = IsFresh layout view who thread child
+CanFork layout view who _ = Unit {0}

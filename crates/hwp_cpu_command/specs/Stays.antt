@@ -19,6 +19,7 @@ use Rattle.hwp_cpu_control.specs.declared.NestedAnswer.TheVariants as nested_ans
 use Rattle.hwp_cpu_control.specs.declared.SpoilAnswer.TheVariants as spoil_answers
 use Rattle.hwp_cpu_control.specs.declared.nested.NestedAt.TheVariants as nested_at
 use Rattle.hwp_cpu_control.specs.declared.prctl.PrctlAt.TheVariants as prctl_at
+use Rattle.hwp_cpu_control.specs.declared.fork.ForkAt.TheVariants as fork_at
 use Rattle.hwp_cpu_control.specs.declared.read_stop.ReadStopAt.TheVariants as read_stop_at
 use Rattle.hwp_cpu_control.specs.declared.spoil.SpoilAt.TheVariants as spoil_at
 use Rattle.hwp_evict.specs.declared.evict.EvictAt.TheVariants as evict_at
@@ -37,6 +38,9 @@ use Rattle.hwp_cpu_row.specs.hwp_cpu_check.Told.{halts}
 use Rattle.hwp_cpu_access.specs.declared.InstructionAnswer.TheVariants as instruction_answers
 use Rattle.hwp_cpu_access.specs.declared.instruction.InstructionAt.TheVariants as instruction_at
 use Rattle.hwp_cpu_access.specs.Instructions as instructions
+use Rattle.hwp_cpu_access.specs.declared.Instruction.{Instruction}
+use Rattle.hwp_cpu_copy.specs.declared.copying.CopyingAt.TheVariants as copying_at
+use Rattle.hwp_cpu_copy.specs.Fits.{begun}
 use Rattle.hwp_cpu_raise.specs.declared.RaiseAnswer.TheVariants as raise_answers
 use Rattle.hwp_cpu_raise.specs.declared.raise.RaiseAt.TheVariants as raise_at
 use Rattle.hwp_cpu_raise.specs.Raises as raises
@@ -67,12 +71,30 @@ pub record Stepped (layout : Layout) (old new : View) (j after : Job) : Type 0 w
 abbrev pub IsHalted : View → Type 0
 IsHalted view = SomeMember (λ (s : Sight). (s.place ≡ places.Stop) × (is_stopped s.word ≡ true)) view.sights ⊎ SomeMember (λ (w : Who). Unit {0}) view.stops
 
+-- of an access, whether it goes on alone or copies for a store: it has yet to look whether the machine has stopped, and has told nothing
+abbrev pub IsInstructionAtStop : Instruction → Type 0
+IsInstructionAtStop i = (a : Access) × (i.at ≡ instruction_at.Access a) × (a.at ≡ access_at.LoadStop) × (i.lines.told ≡ [])
+
+-- its step is to stop the machine, for an event of its machine check
+abbrev pub IsInstructionStopping : Instruction → Type 0
+IsInstructionStopping i = (frame : Frame) × (h : Handler) × (i.at ≡ instruction_at.Handle frame h) × (h.at ≡ handler_at.Stop)
+
+-- it found the machine stopped by that step, or stopped it
+abbrev pub HasInstructionStopped : Instruction → Type 0
+HasInstructionStopped i = (instructions.answer i ≡ Some instruction_answers.Stopped) × (halts i.lines.told ≡ true)
+
+-- its next step gives it up, or it has given up
+abbrev pub HasInstructionGivenUp : Instruction → Type 0
+HasInstructionGivenUp i = (i.at ≡ instruction_at.GiveUp) ⊎ (i.at ≡ instruction_at.Over None)
+
 -- the command has yet to look whether the machine has stopped, and has told nothing
 abbrev pub IsAtStop : Job → Type 0
-IsAtStop (jobs.Instruction i) = (a : Access) × (i.at ≡ instruction_at.Access a) × (a.at ≡ access_at.LoadStop) × (i.lines.told ≡ [])
+IsAtStop (jobs.Instruction i) = IsInstructionAtStop i
+IsAtStop (jobs.Copying c) = (c.at ≡ copying_at.Access) × (c.cow ≡ begun c.cow) × IsInstructionAtStop c.instruction
 IsAtStop (jobs.Evict e) = e.at ≡ evict_at.LoadStop
 IsAtStop (jobs.Fsync f) = f.at ≡ fsync_at.LoadStop
 IsAtStop (jobs.Prctl p) = p.at ≡ prctl_at.LoadStop
+IsAtStop (jobs.Fork f) = f.at ≡ fork_at.LoadStop
 IsAtStop (jobs.Log l) = l.read.at ≡ read_stop_at.LoadStop
 IsAtStop (jobs.Raise r) = (r.at ≡ raise_at.LoadStop) × (r.lines.told ≡ [])
 IsAtStop (jobs.Scrub s) = (s.at ≡ scrub_at.LoadStop) × (s.lines.told ≡ [])
@@ -93,7 +115,8 @@ EndsAtOnce j = EndsStopped j × (told_of j ≡ [])
 -- the step of the command is to stop the machine: for an event of its machine check, as a machine check inside a machine check, or
 -- for a failure on a machine that doesn't recover
 abbrev pub IsStopping : Job → Type 0
-IsStopping (jobs.Instruction i) = (frame : Frame) × (h : Handler) × (i.at ≡ instruction_at.Handle frame h) × (h.at ≡ handler_at.Stop)
+IsStopping (jobs.Instruction i) = IsInstructionStopping i
+IsStopping (jobs.Copying c) = (c.at ≡ copying_at.Access) × IsInstructionStopping c.instruction
 IsStopping (jobs.Raise r) = (h : Handler) × (r.at ≡ raise_at.Handle h) × (h.at ≡ handler_at.Stop)
 IsStopping (jobs.Scrub s) = (frame : Frame) × (h : Handler) × (s.at ≡ scrub_at.Handle frame h) × (h.at ≡ handler_at.Stop)
 IsStopping (jobs.Nested n) = n.at ≡ nested_at.Stop
@@ -102,7 +125,8 @@ IsStopping _ = ⊥
 
 -- the command that could stop the machine found it stopped by that step, or stopped it
 abbrev pub HasStopped : Job → Type 0
-HasStopped (jobs.Instruction i) = (instructions.answer i ≡ Some instruction_answers.Stopped) × (halts i.lines.told ≡ true)
+HasStopped (jobs.Instruction i) = HasInstructionStopped i
+HasStopped (jobs.Copying c) = (c.at ≡ copying_at.Access) × HasInstructionStopped c.instruction
 HasStopped (jobs.Raise r) = (raises.answer r ≡ Some raise_answers.Stopped) × (halts r.lines.told ≡ true)
 HasStopped (jobs.Scrub s) = (scrubs.answer s ≡ Some scrub_answers.Stopped) × (halts s.lines.told ≡ true)
 HasStopped (jobs.Nested n) = n.at ≡ nested_at.Over (Some nested_answers.Shutdown)
@@ -119,7 +143,8 @@ pub record StopsItself (j after : Job) (old new : View) : Type 0 where
 
 -- its next step gives it up, or it has given up
 abbrev pub HasGivenUp : Job → Type 0
-HasGivenUp (jobs.Instruction i) = (i.at ≡ instruction_at.GiveUp) ⊎ (i.at ≡ instruction_at.Over None)
+HasGivenUp (jobs.Instruction i) = HasInstructionGivenUp i
+HasGivenUp (jobs.Copying c) = (c.at ≡ copying_at.Access) × HasInstructionGivenUp c.instruction
 HasGivenUp (jobs.Raise r) = (r.at ≡ raise_at.GiveUp) ⊎ (r.at ≡ raise_at.Over None)
 HasGivenUp (jobs.Scrub s) = (s.at ≡ scrub_at.GiveUp) ⊎ (s.at ≡ scrub_at.Over None)
 HasGivenUp _ = ⊥

@@ -1,4 +1,4 @@
-ghost use Rattle.std.specs.Prelude.{◌≡◌, ◌<◌, None, false, length};
+ghost use Rattle.std.specs.Prelude.{◌≡◌, ◌<◌, ℕ, Bool, true, false, List, None, length};
 ghost use Rattle.hwp_cpu_control.specs.hwp_geom.Layout.{IsSound};
 ghost use Rattle.hwp_cpu_control.specs.hwp_geom.Limits.{line_limit};
 ghost use Rattle.hwp_cpu_control.specs.hwp_page.Step.{IsOf};
@@ -18,21 +18,22 @@ ghost use Rattle.hwp_evict.specs.Fsyncs as fsyncs;
 ghost use Rattle.hwp_cpu_raise.specs.declared.LocalChange.TheVariants as changes;
 ghost use Rattle.hwp_cpu_raise.specs.Logs as logs;
 ghost use Rattle.hwp_cpu_raise.specs.Raises as raises;
-ghost use Rattle.hwp_cpu_command.specs.Begins.{Begins, BeginsAccess, BeginsPrctl, BeginsRaiseUser, begun_access, request_of};
+ghost use Rattle.hwp_cpu_command.specs.Begins.{Begins, BeginsCopy, BeginsFork, BeginsLine, BeginsPrctl, BeginsRaiseUser, BeginsWith, CanCopy, CanCopyFrom, access_in, begun_access, is_raise, line_access, request_of};
 ghost use Rattle.hwp_cpu_command.specs.FileHandles.{HasHandle, local_left};
 ghost use Rattle.hwp_cpu_command.specs.Jobs.{left_in};
 ghost use Rattle.hwp_cpu_command.specs.declared.job.Job.TheVariants as jobs;
 
 use crate::job::Job;
 use hwp_cpu_access::Instruction;
-use hwp_cpu_control::{Nested, Prctl, Spoil};
+use hwp_cpu_control::{Fork, Nested, Prctl, Spoil, Targets};
+use hwp_cpu_copy::Copying;
 use hwp_cpu_raise::{LocalChange, Log, Raise, Raiser};
 use hwp_cpu_row::{
     BANKS, Bank, Command, Event, Handles, Inject, Local, McgBits, Origin, PrctlArgs, Status,
     Watching, no_events,
 };
 use hwp_evict::{
-    Damage, Evict, FileNo, Frame, Fsync, Layout, Line, Mode, Page, Thread, VSlot, Who,
+    Damage, Evict, FileNo, Frame, Fsync, Layout, Line, Mode, Page, Proc, Thread, VSlot, Who,
 };
 use hwp_fault::{AccessKind, Request};
 use hwp_scrub::Scrub;
@@ -42,16 +43,25 @@ use std::mem;
 
 impl Job {
     /// The command at its beginning. One that can log or raise an event takes what the banks of its processor hold, and an `fsync`
-    /// or an `open` gets the number of the processor's handle of the file.
-    pub fn new(alloc: Global, layout: &Layout, who: Who, command: Command, local: &mut Local) -> Job
+    /// or an `open` gets the number of the processor's handle of the file. A store copies the page of the translation `copies` first, where
+    /// there is one.
+    pub fn new(
+        alloc: Global,
+        layout: &Layout,
+        who: Who,
+        command: Command,
+        copies: Option<VSlot>,
+        local: &mut Local,
+    ) -> Job
         requires sound { IsSound layout.now }
         requires of { IsCommandOf layout.now who.cpu.0 command }
-        ensures begins { Begins layout.now who command local.old.banks (collects local.old.watching) result }
+        requires copies { CanCopy layout.now who.cpu.0 command copies }
+        ensures begins { BeginsWith layout.now who command copies local.old.banks (collects local.old.watching) result }
         ensures handle { HasHandle local.old.handles result }
         ensures local { local.new ≡ local_left result local.old }
     {
         let mut job = Job::Nested(Nested::new(who));
-        job.begin_next(alloc, layout, who, command, local);
+        job.begin_next(alloc, layout, who, command, copies, local);
         job
     }
 
@@ -62,25 +72,33 @@ impl Job {
         layout: &Layout,
         who: Who,
         command: Command,
+        copies: Option<VSlot>,
         local: &mut Local,
     )
         requires sound { IsSound layout.now }
         requires of { IsCommandOf layout.now who.cpu.0 command }
-        ensures begins { Begins layout.now who command local.old.banks (collects local.old.watching) self.new }
+        requires copies { CanCopy layout.now who.cpu.0 command copies }
+        ensures begins { BeginsWith layout.now who command copies local.old.banks (collects local.old.watching) self.new }
         ensures handle { HasHandle local.old.handles self.new }
         ensures local { local.new ≡ local_left self.new local.old }
     {
         let collects = collects(&local.watching);
-        begin(
-            alloc,
-            layout,
-            who,
-            command,
-            collects,
-            &mut local.banks,
-            &local.handles,
-            self,
-        );
+        let banks = &mut local.banks;
+        match copies {
+            Some(from) => copy(alloc, layout, who, &command, from, collects, banks, self),
+            None => {
+                begin(
+                    alloc,
+                    layout,
+                    who,
+                    command,
+                    collects,
+                    banks,
+                    &local.handles,
+                    self,
+                )
+            }
+        }
     }
 }
 
@@ -92,6 +110,41 @@ fn collects(watching: &Option<Watching>) -> bool
         Some(watching) => watching.on,
         None => false,
     }
+}
+
+/// A store that copies the page of a translation first, at its beginning, which takes what the banks hold.
+fn copy(
+    alloc: Global,
+    layout: &Layout,
+    who: Who,
+    command: &Command,
+    from: VSlot,
+    collects: bool,
+    banks: &mut [Bank; BANKS],
+    job: &mut Job,
+)
+    requires sound { IsSound layout.now }
+    requires of { IsCommandOf layout.now who.cpu.0 command.now }
+    requires copies { CanCopyFrom layout.now who.cpu.0 command.now from }
+    ensures begins { BeginsCopy layout.now who command.now from banks.old collects job.new }
+    ensures handle { (handles : List ℕ) → HasHandle handles job.new }
+    ensures banks { banks.new ≡ left_in job.new banks.old }
+{
+    let Command::Store {
+        thread,
+        slot,
+        line,
+        word,
+    } = *command
+    else {
+        unreachable!();
+    };
+    let store = request(layout, who, thread, slot, line, AccessKind::Store { word });
+    let page = page_of(layout, from);
+    set(
+        job,
+        Job::Copying(Copying::new(alloc, store, word, from, page, taken(banks), collects)),
+    );
 }
 
 /// The command at its beginning, of a processor with these banks and handles, in place of the one that is there. What a kind of command
@@ -112,43 +165,32 @@ fn begin(
     ensures handle { HasHandle handles.now job.new }
     ensures banks { banks.new ≡ left_in job.new banks.old }
 {
-    match command {
-        Command::Load { thread, slot, line } => {
-            access(
-                alloc, layout, who, thread, slot, line, LOAD, collects, banks, job,
-            )
-        }
-        Command::Fetch { thread, slot, line } => {
-            access(
-                alloc, layout, who, thread, slot, line, FETCH, collects, banks, job,
-            )
-        }
-        Command::KLoad { thread, slot, line } => {
-            access(
-                alloc,
-                layout,
-                who,
-                thread,
-                slot,
-                line,
-                KERNEL_LOAD,
-                collects,
-                banks,
-                job,
-            )
-        }
-        Command::Store {
-            thread,
-            slot,
-            line,
-            word,
-        } => {
-            let kind = AccessKind::Store { word };
-            let store = Manner { kind, ..LOAD };
-            access(
-                alloc, layout, who, thread, slot, line, store, collects, banks, job,
-            );
-        }
+    match access_in(&command) {
+        Some(at) => access(alloc, layout, who, at, collects, banks, job),
+        None => begin_other(alloc, layout, who, &command, banks, handles, job),
+    }
+}
+
+/// The same of a command that is no access, which doesn't ask whether its processor collects corrected errors.
+fn begin_other(
+    alloc: Global,
+    layout: &Layout,
+    who: Who,
+    command: &Command,
+    banks: &mut [Bank; BANKS],
+    handles: &Handles,
+    job: &mut Job,
+)
+    requires sound { IsSound layout.now }
+    requires of { IsCommandOf layout.now who.cpu.0 command.now }
+    requires other { access_in command.now ≡ None }
+    ensures begins { (collects : Bool) → Begins layout.now who command.now banks.old collects job.new }
+    ensures handle { HasHandle handles.now job.new }
+    ensures banks { banks.new ≡ left_in job.new banks.old }
+{
+    match *command {
+        Command::Load { .. } | Command::Fetch { .. } => unreachable!(),
+        Command::KLoad { .. } | Command::Store { .. } => unreachable!(),
         Command::Free { slot } => evict(Evict::free_slot(who, slot, page_of(layout, slot)), job),
         Command::Drop { page } => evict(Evict::drop_page(who, page), job),
         Command::Sync { page } => evict(Evict::sync_page(who, page), job),
@@ -156,36 +198,44 @@ fn begin(
         Command::Fsync { file } => ask(who, file, handles, false, job),
         Command::Open { file } => ask(who, file, handles, true, job),
         Command::Prctl { thread, args } => call(layout, who, thread, args, job),
+        Command::Fork { thread, process } => fork(layout, who, thread, process, job),
         Command::Bad { frame, line } => spoil_line(who, frame, line, Damage::Bad, job),
         Command::Weak { frame, line } => spoil_line(who, frame, line, Damage::Weak, job),
-        Command::Scrub { first, last } => { scrub(alloc, who, first, last, banks, job) }
-        Command::Log { status, addr, misc } => {
-            change(
-                who,
-                LocalChange::Event(raw_event(status, addr, misc)),
-                banks,
-                job,
-            )
+        Command::Scrub { first, last } => scrub(alloc, who, first, last, banks, job),
+        Command::Log { status, addr, misc } => log(who, status, addr, misc, banks, job),
+        Command::Watch { threshold, window } => watch(who, threshold, window, banks, job),
+        Command::RaiseUser { .. } | Command::RaiseKernel { .. } | Command::RaiseNested => {
+            begin_raise(alloc, layout, who, command, banks, job)
         }
-        Command::Watch { threshold, window } => {
-            change(who, LocalChange::Watch { threshold, window }, banks, job)
-        }
-        Command::RaiseUser { thread, ripv, eipv } => {
-            raise_user(
-                alloc,
-                layout,
-                who,
-                thread,
-                McgBits { ripv, eipv },
-                banks,
-                job,
-            )
-        }
-        Command::RaiseKernel { ripv, eipv } => raise_kernel(alloc, who, ripv, eipv, banks, job),
-        Command::RaiseNested => nested(who, job),
         Command::Inject { frame } => inject(alloc, who, frame, job),
         Command::Soft { frame } => soft(who, frame, job),
         Command::Unpoison { frame } => unpoison(who, frame, job),
+    }
+}
+
+/// The same of a command that raises a machine check.
+fn begin_raise(
+    alloc: Global,
+    layout: &Layout,
+    who: Who,
+    command: &Command,
+    banks: &mut [Bank; BANKS],
+    job: &mut Job,
+)
+    requires sound { IsSound layout.now }
+    requires of { IsCommandOf layout.now who.cpu.0 command.now }
+    requires raises { is_raise command.now ≡ true }
+    ensures begins { (collects : Bool) → Begins layout.now who command.now banks.old collects job.new }
+    ensures handle { (handles : List ℕ) → HasHandle handles job.new }
+    ensures banks { banks.new ≡ left_in job.new banks.old }
+{
+    match *command {
+        Command::RaiseUser { thread, ripv, eipv } => {
+            raise_user(alloc, layout, who, thread, ripv, eipv, banks, job)
+        }
+        Command::RaiseKernel { ripv, eipv } => raise_kernel(alloc, who, ripv, eipv, banks, job),
+        Command::RaiseNested => nested(who, job),
+        _ => unreachable!(),
     }
 }
 
@@ -330,26 +380,65 @@ const KERNEL_LOAD: Manner = Manner {
     mode: Mode::Kernel,
 };
 
+/// What an access asks for: by which thread, through which translation, at which line, and how.
+#[derive(Clone, Copy)]
+struct LineAccess {
+    thread: Thread,
+    slot: VSlot,
+    line: Line,
+    manner: Manner,
+}
+
+fn line_access(thread: Thread, slot: VSlot, line: Line, manner: Manner) -> LineAccess
+    ensures { result ≡ line_access thread slot line manner }
+{
+    LineAccess {
+        thread,
+        slot,
+        line,
+        manner,
+    }
+}
+
+/// What a command asks for, if it is an access.
+fn access_in(command: &Command) -> Option<LineAccess>
+    ensures { result ≡ access_in command.now }
+{
+    match *command {
+        Command::Load { thread, slot, line } => Some(line_access(thread, slot, line, LOAD)),
+        Command::Fetch { thread, slot, line } => Some(line_access(thread, slot, line, FETCH)),
+        Command::KLoad { thread, slot, line } => Some(line_access(thread, slot, line, KERNEL_LOAD)),
+        Command::Store {
+            thread,
+            slot,
+            line,
+            word,
+        } => {
+            let kind = AccessKind::Store { word };
+            Some(line_access(thread, slot, line, Manner { kind, ..LOAD }))
+        }
+        _ => None,
+    }
+}
+
 /// An access by a thread of the processor, at its beginning, which takes what the banks hold.
 fn access(
     alloc: Global,
     layout: &Layout,
     who: Who,
-    thread: Thread,
-    slot: VSlot,
-    line: Line,
-    manner: Manner,
+    at: LineAccess,
     collects: bool,
     banks: &mut [Bank; BANKS],
     job: &mut Job,
 )
     requires sound { IsSound layout.now }
-    requires of { IsAccess layout.now who.cpu.0 thread slot }
-    requires line { line < line_limit }
-    ensures begins { BeginsAccess layout.now who thread slot line manner.kind manner.origin manner.mode banks.old collects job.new }
+    requires of { IsAccess layout.now who.cpu.0 at.thread at.slot }
+    requires line { at.line < line_limit }
+    ensures begins { BeginsLine layout.now who at banks.old collects job.new }
     ensures banks { banks.new ≡ empty_banks }
 {
-    let request = request(layout, who, thread, slot, line, manner.kind);
+    let manner = at.manner;
+    let request = request(layout, who, at.thread, at.slot, at.line, manner.kind);
     instruction(
         alloc,
         request,
@@ -396,6 +485,27 @@ fn change(who: Who, change: LocalChange, banks: &mut [Bank; BANKS], job: &mut Jo
     set(job, Job::Log(Log::new(who, change, taken(banks))));
 }
 
+/// An event of these registers is logged.
+fn log(who: Who, status: u64, addr: u64, misc: u64, banks: &mut [Bank; BANKS], job: &mut Job)
+    ensures begins { job.new ≡ jobs.Log (logs.begin who (changes.Event (raw_event status addr misc)) banks.old) }
+    ensures banks { banks.new ≡ empty_banks }
+{
+    change(
+        who,
+        LocalChange::Event(raw_event(status, addr, misc)),
+        banks,
+        job,
+    );
+}
+
+/// The processor gets a new collector.
+fn watch(who: Who, threshold: u16, window: u8, banks: &mut [Bank; BANKS], job: &mut Job)
+    ensures begins { job.new ≡ jobs.Log (logs.begin who (changes.Watch threshold window) banks.old) }
+    ensures banks { banks.new ≡ empty_banks }
+{
+    change(who, LocalChange::Watch { threshold, window }, banks, job);
+}
+
 /// A raw event of these registers.
 fn raw_event(status: u64, addr: u64, misc: u64) -> Event
     ensures { result ≡ raw_event status addr misc }
@@ -413,13 +523,14 @@ fn raise_user(
     layout: &Layout,
     who: Who,
     thread: Thread,
-    mcg: McgBits,
+    ripv: bool,
+    eipv: bool,
     banks: &mut [Bank; BANKS],
     job: &mut Job,
 )
     requires sound { IsSound layout.now }
     requires of { IsThreadOf layout.now who.cpu.0 thread }
-    ensures begins { BeginsRaiseUser layout.now who thread mcg banks.old job.new }
+    ensures begins { BeginsRaiseUser layout.now who thread (record { ripv = ripv; eipv = eipv }) banks.old job.new }
     ensures banks { banks.new ≡ empty_banks }
 {
     let decl = layout.threads.as_slice()[usize::from(thread.0)];
@@ -427,6 +538,7 @@ fn raise_user(
         thread,
         process: decl.process,
     };
+    let mcg = McgBits { ripv, eipv };
     set(
         job,
         Job::Raise(Raise::new(alloc, who, Some(raiser), mcg, taken(banks))),
@@ -462,6 +574,20 @@ fn call(layout: &Layout, who: Who, thread: Thread, args: PrctlArgs, job: &mut Jo
     set(
         job,
         Job::Prctl(Prctl::new(who, thread, decl.process, arguments_of(args))),
+    );
+}
+
+/// A fork by a thread of the processor, at its beginning.
+fn fork(layout: &Layout, who: Who, thread: Thread, child: Proc, job: &mut Job)
+    requires sound { IsSound layout.now }
+    requires of { IsThreadOf layout.now who.cpu.0 thread }
+    ensures { BeginsFork layout.now who thread child job.new }
+{
+    let decl = layout.threads.as_slice()[usize::from(thread.0)];
+    let targets = Targets::of(layout, child);
+    set(
+        job,
+        Job::Fork(Fork::new(who, thread, decl.process, targets)),
     );
 }
 

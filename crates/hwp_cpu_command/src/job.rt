@@ -1,12 +1,14 @@
-ghost use Rattle.std.specs.Prelude.{◌≡◌, [], None, option_and_then, option_map};
+ghost use Rattle.std.specs.Prelude.{◌≡◌, option_and_then, option_map};
 
 use hwp_cpu_access::{Instruction, InstructionAnswer};
 use hwp_cpu_control::{
-    Nested, NestedAnswer, Prctl, PrctlAnswer, ReadStopAnswer, Spoil, SpoilAnswer,
+    Fork, ForkAnswer, Nested, NestedAnswer, Prctl, PrctlAnswer, ReadStopAnswer, Spoil, SpoilAnswer,
 };
+use hwp_cpu_copy::Copying;
 use hwp_cpu_raise::{LocalChange, Log, Raise, RaiseAnswer};
 use hwp_cpu_row::{
-    Answer, EventOutcome, FailAnswer, FrameChange, Inject, Local, Offlining, Row, Watching,
+    Answer, BANKS, Bank, EventOutcome, FailAnswer, FrameChange, Handles, Inject, Local, Offlining,
+    Row, Watching,
 };
 use hwp_evict::{
     At, Body, Evict, EvictAnswer, Frame, Fsync, FsyncAnswer, Layout, List, Outcome, Ranked,
@@ -21,12 +23,16 @@ use std::alloc::Global;
 pub enum Job {
     /// A load, a fetch, a load in kernel mode or a store.
     Instruction(Instruction),
+    /// A store that copies a page first.
+    Copying(Copying),
     /// A command by which a page, or a part of it, leaves its frame.
     Evict(Evict),
     /// An `fsync`: what the processor's handle of a file hasn't seen of its losses; or an `open`: all of them.
     Fsync(Fsync),
     /// A call of prctl(2).
     Prctl(Prctl),
+    /// A fork.
+    Fork(Fork),
     /// A raw event is logged, or the processor gets a new collector.
     Log(Log),
     /// A machine check is raised.
@@ -46,8 +52,8 @@ pub enum Job {
 }
 
 impl Job {
-    ghost use Rattle.hwp_cpu_command.specs.FileHandles.{HasChangeWithin, StandsOn, local_after};
-    ghost use Rattle.hwp_cpu_command.specs.Jobs.{answer, give_up, pauses, resume, row_of, told_of};
+    ghost use Rattle.hwp_cpu_command.specs.FileHandles.{HasChangeWithin, StandsOn, handles_after, local_after, watching_after};
+    ghost use Rattle.hwp_cpu_command.specs.Jobs.{answer, banks_after, give_up, own_of, pauses, resume, row_of, told_of};
 
     /// What the command answers; `None` until it is over, and where it gave up because memory ran out.
     #[inline(always)]
@@ -60,9 +66,11 @@ impl Job {
                     .answer()
                     .map(|answer| instruction_answer(answer))
             }
+            Job::Copying(copying) => copying.answer().map(|answer| instruction_answer(answer)),
             Job::Evict(evict) => evict.answer().map(|answer| evict_answer(answer)),
             Job::Fsync(fsync) => fsync.answer().map(|answer| fsync_answer(answer)),
             Job::Prctl(prctl) => prctl.answer().map(|answer| prctl_answer(answer)),
+            Job::Fork(fork) => fork.answer().map(|answer| fork_answer(answer)),
             Job::Log(log) => log.answer().map(|answer| read_stop_answer(answer)),
             Job::Raise(raise) => match raise.answer() {
                 Some(answer) => Some(raise_answer(raise.told().len(), answer)),
@@ -86,11 +94,13 @@ impl Job {
     {
         match self {
             Job::Instruction(instruction) => instruction.told(),
+            Job::Copying(copying) => copying.told(),
             Job::Raise(raise) => raise.told(),
             Job::Scrub(scrub) => scrub.told(),
             Job::Evict(_)
             | Job::Fsync(_)
             | Job::Prctl(_)
+            | Job::Fork(_)
             | Job::Log(_)
             | Job::Spoil(_)
             | Job::Nested(_)
@@ -106,7 +116,19 @@ impl Job {
     {
         match self {
             Job::Instruction(instruction) => instruction.pause().is_some(),
-            _ => false,
+            Job::Copying(copying) => copying.pause().is_some(),
+            Job::Evict(_)
+            | Job::Fsync(_)
+            | Job::Prctl(_)
+            | Job::Fork(_)
+            | Job::Log(_)
+            | Job::Raise(_)
+            | Job::Scrub(_)
+            | Job::Spoil(_)
+            | Job::Nested(_)
+            | Job::Inject(_)
+            | Job::Soft(_)
+            | Job::Unpoison(_) => false,
         }
     }
 
@@ -114,8 +136,21 @@ impl Job {
     pub fn resume(&mut self)
         ensures { self.new ≡ resume self.old }
     {
-        if let Job::Instruction(instruction) = self {
-            instruction.resume();
+        match self {
+            Job::Instruction(instruction) => instruction.resume(),
+            Job::Copying(copying) => copying.resume(),
+            Job::Evict(_)
+            | Job::Fsync(_)
+            | Job::Prctl(_)
+            | Job::Fork(_)
+            | Job::Log(_)
+            | Job::Raise(_)
+            | Job::Scrub(_)
+            | Job::Spoil(_)
+            | Job::Nested(_)
+            | Job::Inject(_)
+            | Job::Soft(_)
+            | Job::Unpoison(_) => {}
         }
     }
 
@@ -125,9 +160,19 @@ impl Job {
     {
         match self {
             Job::Instruction(instruction) => instruction.give_up(),
+            Job::Copying(copying) => copying.give_up(),
             Job::Raise(raise) => raise.give_up(),
             Job::Scrub(scrub) => scrub.give_up(),
-            _ => {}
+            Job::Evict(_)
+            | Job::Fsync(_)
+            | Job::Prctl(_)
+            | Job::Fork(_)
+            | Job::Log(_)
+            | Job::Spoil(_)
+            | Job::Nested(_)
+            | Job::Inject(_)
+            | Job::Soft(_)
+            | Job::Unpoison(_) => {}
         }
     }
 
@@ -146,50 +191,87 @@ impl Job {
         ensures local { local.new ≡ local_after self.old answer local.old }
         ensures stands { StandsOn self.old answer local.old.watching }
     {
+        let own = self.own_change();
+        self.leave(answer, &mut local.handles, &mut local.watching);
+        let told = self.take_told(alloc, &mut local.banks);
+        row(told, offlined, own, answer)
+    }
+
+    /// What a command that is over did to a frame itself.
+    fn own_change(&self) -> Option<FrameChange>
+        ensures { result ≡ own_of self.now }
+    {
         match self {
-            Job::Instruction(instruction) => {
-                let told = instruction.finish(&mut local.banks);
-                row(told, offlined, None, answer)
-            }
-            Job::Raise(raise) => {
-                let told = raise.finish(&mut local.banks);
-                row(told, offlined, None, answer)
-            }
-            Job::Scrub(scrub) => {
-                end_round(answer, &mut local.watching);
-                let told = scrub.finish(&mut local.banks);
-                row(told, offlined, None, answer)
-            }
+            Job::Inject(inject) => own_of(inject.frame(), inject.answer()),
+            Job::Soft(soft) => offlined_of(soft.frame(), soft.answer()),
+            Job::Unpoison(unpoison) => revived_of(unpoison.frame(), unpoison.answer()),
+            Job::Instruction(_)
+            | Job::Copying(_)
+            | Job::Evict(_)
+            | Job::Fsync(_)
+            | Job::Prctl(_)
+            | Job::Fork(_)
+            | Job::Log(_)
+            | Job::Raise(_)
+            | Job::Scrub(_)
+            | Job::Spoil(_)
+            | Job::Nested(_) => None,
+        }
+    }
+
+    /// What a command with this answer leaves of the handles and the collector of its processor.
+    fn leave(&self, answer: Answer, handles: &mut Handles, watching: &mut Option<Watching>)
+        requires within { HasChangeWithin self.now }
+        ensures handles { handles.new ≡ handles_after self.now handles.old }
+        ensures watching { watching.new ≡ watching_after self.now answer watching.old }
+        ensures stands { StandsOn self.now answer watching.old }
+    {
+        match self {
+            Job::Fsync(fsync) => handles.set(fsync.file(), fsync.number()),
+            Job::Log(log) => watch(log.change(), answer, watching),
+            Job::Scrub(_) => end_round(answer, watching),
+            Job::Instruction(_)
+            | Job::Copying(_)
+            | Job::Evict(_)
+            | Job::Prctl(_)
+            | Job::Fork(_)
+            | Job::Raise(_)
+            | Job::Spoil(_)
+            | Job::Nested(_)
+            | Job::Inject(_)
+            | Job::Soft(_)
+            | Job::Unpoison(_) => {}
+        }
+    }
+
+    /// What was done about the events of its machine checks. The banks get back what the command took from them, and has left.
+    fn take_told(&mut self, alloc: Global, banks: &mut [Bank; BANKS]) -> List<EventOutcome>
+        ensures told { result ≡ told_of self.old }
+        ensures banks { banks.new ≡ banks_after self.old banks.old }
+    {
+        match self {
+            Job::Instruction(instruction) => instruction.finish(banks),
+            Job::Copying(copying) => copying.finish(banks),
+            Job::Raise(raise) => raise.finish(banks),
+            Job::Scrub(scrub) => scrub.finish(banks),
             Job::Log(log) => {
-                watch(log.change(), answer, &mut local.watching);
-                log.finish(&mut local.banks);
-                answered(alloc, offlined, answer)
+                log.finish(banks);
+                List::new(alloc)
             }
-            Job::Inject(inject) => {
-                let own = own_of(inject.frame(), inject.answer());
-                row(List::new(alloc), offlined, own, answer)
-            }
-            Job::Soft(soft) => {
-                let own = offlined_of(soft.frame(), soft.answer());
-                row(List::new(alloc), offlined, own, answer)
-            }
-            Job::Unpoison(unpoison) => {
-                let own = revived_of(unpoison.frame(), unpoison.answer());
-                row(List::new(alloc), offlined, own, answer)
-            }
-            Job::Fsync(fsync) => {
-                local.handles.set(fsync.file(), fsync.number());
-                answered(alloc, offlined, answer)
-            }
-            Job::Evict(_) => answered(alloc, offlined, answer),
-            Job::Prctl(_) => answered(alloc, offlined, answer),
-            Job::Spoil(_) => answered(alloc, offlined, answer),
-            Job::Nested(_) => answered(alloc, offlined, answer),
+            Job::Evict(_)
+            | Job::Fsync(_)
+            | Job::Prctl(_)
+            | Job::Fork(_)
+            | Job::Spoil(_)
+            | Job::Nested(_)
+            | Job::Inject(_)
+            | Job::Soft(_)
+            | Job::Unpoison(_) => List::new(alloc),
         }
     }
 }
 
-ghost use Rattle.hwp_cpu_command.specs.Answers.{evict_answer, fail_answer, fsync_answer, instruction_answer, nested_answer, prctl_answer, raise_answer, read_stop_answer, refusal_answer, scrub_answer, soft_answer, spoil_answer, unpoison_answer};
+ghost use Rattle.hwp_cpu_command.specs.Answers.{evict_answer, fail_answer, fork_answer, fsync_answer, instruction_answer, nested_answer, prctl_answer, raise_answer, read_stop_answer, refusal_answer, scrub_answer, soft_answer, spoil_answer, unpoison_answer};
 ghost use Rattle.hwp_cpu_command.specs.Jobs.{offlined_by, own_by, revived_by, row};
 ghost use Rattle.hwp_cpu_row.specs.hwp_law_commands.Outcomes.{outcome_answer, reply_answer};
 ghost use Rattle.hwp_cpu_command.specs.FileHandles.{CanRound, IsChangeWithin, RoundStands, round_ended, rounded_by, watched_by};
@@ -208,13 +290,6 @@ fn row(
         own,
         answer,
     }
-}
-
-/// The row of a command that comes to no more than its answer, and told of no event.
-fn answered(alloc: Global, offlined: List<Offlining>, answer: Answer) -> Row
-    ensures { result ≡ row [] offlined None answer }
-{
-    row(List::new(alloc), offlined, None, answer)
 }
 
 /// A `watch` that was done begins the collector anew, and it collects from then on.
@@ -321,6 +396,17 @@ fn prctl_answer(answer: PrctlAnswer) -> Answer
         PrctlAnswer::Replied(reply) => reply_answer(reply),
         PrctlAnswer::Gone(page) => Answer::Gone(page),
         PrctlAnswer::Stopped => Answer::Stopped,
+    }
+}
+
+/// What it says of a fork.
+fn fork_answer(answer: ForkAnswer) -> Answer
+    ensures { result ≡ fork_answer answer }
+{
+    match answer {
+        ForkAnswer::Done(_) => Answer::Done,
+        ForkAnswer::Gone(page) => Answer::Gone(page),
+        ForkAnswer::Stopped => Answer::Stopped,
     }
 }
 
@@ -489,9 +575,11 @@ macro_rules! of_kind {
     ($job:expr, $task:ident => $does:expr) => {
         match $job {
             Job::Instruction($task) => $does,
+            Job::Copying($task) => $does,
             Job::Evict($task) => $does,
             Job::Fsync($task) => $does,
             Job::Prctl($task) => $does,
+            Job::Fork($task) => $does,
             Job::Log($task) => $does,
             Job::Raise($task) => $does,
             Job::Scrub($task) => $does,

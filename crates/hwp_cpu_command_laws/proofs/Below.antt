@@ -1,5 +1,5 @@
 -- The turns of a command are few.
-use Rattle.std.proofs.Common.{◌≡◌, ℕ, ◌+◌, ◌*◌, ◌<◌, ◌≤◌, Bool, false, true, length, sym, subst, arith}
+use Rattle.std.proofs.Common.{◌≡◌, ℕ, ◌+◌, ◌*◌, ◌<◌, ◌≤◌, Bool, false, true, Option, Some, None, length, sym, subst, arith}
 use Rattle.hwp_cpu_command.specs.hwp_geom.declared.Layout.{Layout}
 use Rattle.hwp_cpu_command.specs.hwp_geom.declared.Mode.{Mode}
 use Rattle.hwp_cpu_command.specs.hwp_geom.declared.Thread.{Thread}
@@ -15,6 +15,7 @@ use Rattle.hwp_cpu_command.specs.hwp_core_rule.Rule.{Holds}
 use Rattle.hwp_cpu_command.specs.hwp_core_rule.Words.{Words}
 use Rattle.hwp_cpu_command.specs.hwp_core_task.Ranks.{words_at, again_most, failure_weight, free_room}
 use Rattle.hwp_cpu_command.proofs.of_hwp_cpu_control.PrctlLaws as calling
+use Rattle.hwp_cpu_command.proofs.of_hwp_cpu_control.ForkLaws as forking
 use Rattle.hwp_cpu_command.proofs.of_hwp_cpu_control.NestedLaws as nesting
 use Rattle.hwp_cpu_command.proofs.of_hwp_cpu_control.ReadStopLaws as reading
 use Rattle.hwp_cpu_command.proofs.of_hwp_cpu_control.SpoilLaws as spoiling
@@ -29,6 +30,7 @@ use Rattle.hwp_cpu_command.specs.hwp_claim.Fails as fails
 use Rattle.hwp_cpu_command.specs.hwp_claim.Injects as injects
 use Rattle.hwp_cpu_command.proofs.of_hwp_claim.InjectRank.{inject-below}
 use Rattle.hwp_cpu_command.specs.hwp_fault.declared.AccessKind.{AccessKind}
+use Rattle.hwp_cpu_command.specs.hwp_fault.declared.AccessKind.TheVariants as access_kinds
 use Rattle.hwp_cpu_command.specs.hwp_fault.Accesses as accesses
 use Rattle.hwp_cpu_command.specs.hwp_cpu_check.declared.Handler.{Handler}
 use Rattle.hwp_cpu_command.specs.hwp_cpu_check.declared.handler.HandlerAt.{HandlerAt}
@@ -38,6 +40,9 @@ use Rattle.hwp_cpu_command.specs.hwp_cpu_access.declared.Instruction.{Instructio
 use Rattle.hwp_cpu_command.specs.hwp_cpu_access.Costs as instruction_costs
 use Rattle.hwp_cpu_command.specs.hwp_cpu_access.Instructions as instructions
 use Rattle.hwp_cpu_command.proofs.of_hwp_cpu_access.InstructionCosts.{again-cost, few-frees, held-most, instruction-below, left-few}
+use Rattle.hwp_cpu_command.specs.hwp_cpu_copy.declared.Copying.{Copying}
+use Rattle.hwp_cpu_command.specs.hwp_cpu_copy.Copyings as copyings
+use Rattle.hwp_cpu_command.proofs.of_hwp_cpu_copy.CopyRank.{copy-below}
 use Rattle.hwp_cpu_command.specs.hwp_banks.Banks.{Banks}
 use Rattle.hwp_cpu_command.specs.hwp_cpu_raise.declared.Raise.{Raise}
 use Rattle.hwp_cpu_command.specs.hwp_cpu_raise.declared.raise.RaiseAt.{RaiseAt}
@@ -51,7 +56,7 @@ use Rattle.hwp_cpu_command.specs.hwp_soft_unpoison.Unpoisons as unpoisons
 use Rattle.hwp_cpu_command.proofs.of_hwp_soft_unpoison.UnpoisonCosts.{small as unpoison-small}
 use Rattle.hwp_cpu_command.specs.declared.job.Job.{Job}
 use Rattle.hwp_cpu_command.specs.declared.job.Job.TheVariants as jobs
-use Rattle.hwp_cpu_command.specs.Begins.{Begins, BeginsAccess, request_of}
+use Rattle.hwp_cpu_command.specs.Begins.{Begins, BeginsAccess, BeginsCopy, BeginsWith, request_of}
 use Rattle.hwp_cpu_command.specs.Jobs.{Fits, cost}
 use Rattle.hwp_cpu_command.specs.hwp_geom.Limits.{frame_limit}
 
@@ -81,15 +86,17 @@ raise-below layout view r w fits = which r.at fits.at
 
 -- ---- a command that runs
 
-wider : {n : ℕ} → n < failure_weight → n < 4 * failure_weight
+wider : {n : ℕ} → n < failure_weight → n < 131 * failure_weight
 wider {n} less = let few : n < failure_weight = less in omega (arith, few)
 
 -- far fewer than a command weighs: so a command of many parts weighs no more
-pub job-few : (layout : Layout) (a : State) (view : View) (j : Job) → Holds layout a → Fits layout view j → cost j (words_at layout a) < 4 * failure_weight
+pub job-few : (layout : Layout) (a : State) (view : View) (j : Job) → Holds layout a → Fits layout view j → cost j (words_at layout a) < 131 * failure_weight
 job-few layout a view (jobs.Instruction i) rule fits = wider (instruction-below layout a view i rule fits.1)
+job-few layout a view (jobs.Copying c) rule fits = copy-below layout a view c rule fits.1
 job-few layout a view (jobs.Evict e) rule fits = wider (evict-below (words_at layout a) e)
 job-few layout a view (jobs.Fsync f) rule fits = let most = fsync-below f (words_at layout a) in omega (arith, most)
 job-few layout a view (jobs.Prctl p) rule fits = let most = calling.small p in omega (arith, most)
+job-few layout a view (jobs.Fork f) rule fits = let most = forking.small f in let few = fits.1.1.targets.few in omega (arith, most, few)
 job-few layout a view (jobs.Log l) rule fits = let most = reading.small l.read in omega (arith, most)
 job-few layout a view (jobs.Raise r) rule fits = wider (raise-below layout view r (words_at layout a) fits.1.1)
 job-few layout a view (jobs.Scrub c) rule fits = wider (scrub-below layout view c (words_at layout a) fits.1.1)
@@ -101,8 +108,8 @@ job-few layout a view (jobs.Unpoison u) rule fits = let most : unpoisons.cost u 
 
 -- ---- and one that begins
 
-access-begins : {layout : Layout} {by : Who} {thread : Thread} {slot : VSlot} {line : ℕ} {kind : AccessKind} {origin : Origin} {mode : Mode} {banks : Banks} {collects : Bool} {j : Job} (w : Words) → length w.frees ≤ free_room → BeginsAccess layout by thread slot line kind origin mode banks collects j → cost j w < 4 * failure_weight
-access-begins {layout} {by} {thread} {slot} {line} {kind} {origin} {mode} {banks} {collects} {j} w few begun = subst (λ (x : Job). cost x w < 4 * failure_weight) (sym begun.job_is)
+access-begins : {layout : Layout} {by : Who} {thread : Thread} {slot : VSlot} {line : ℕ} {kind : AccessKind} {origin : Origin} {mode : Mode} {banks : Banks} {collects : Bool} {j : Job} (w : Words) → length w.frees ≤ free_room → BeginsAccess layout by thread slot line kind origin mode banks collects j → cost j w < 131 * failure_weight
+access-begins {layout} {by} {thread} {slot} {line} {kind} {origin} {mode} {banks} {collects} {j} w few begun = subst (λ (x : Job). cost x w < 131 * failure_weight) (sym begun.job_is)
     (let most : accesses.cost (accesses.again i.request) w ≤ again_most + 1 = again-cost i w few in
     let held : instruction_costs.held_cost banks ≤ instruction_costs.paused_cost = held-most banks in
     omega (arith, most, held))
@@ -110,16 +117,16 @@ access-begins {layout} {by} {thread} {slot} {line} {kind} {origin} {mode} {banks
     i : Instruction
     i = instructions.begin begun.alloc (request_of by thread slot line kind begun.page begun.process) origin mode banks collects
 
-pub begins-few : (layout : Layout) (a : State) (by : Who) (command : Command) (banks : Banks) (collects : Bool) (j : Job) → Holds layout a → Begins layout by command banks collects j → cost j (words_at layout a) < 4 * failure_weight
-begins-few layout a by command banks collects j rule begun = which command begun
+plain-few : (layout : Layout) (a : State) (by : Who) (command : Command) (banks : Banks) (collects : Bool) (j : Job) → Holds layout a → Begins layout by command banks collects j → cost j (words_at layout a) < 131 * failure_weight
+plain-few layout a by command banks collects j rule begun = which command begun
   where
     w : Words
     w = words_at layout a
 
-    below : {x : Job} → j ≡ x → cost x w < 4 * failure_weight → cost j w < 4 * failure_weight
-    below is less = subst (λ (x : Job). cost x w < 4 * failure_weight) (sym is) less
+    below : {x : Job} → j ≡ x → cost x w < 131 * failure_weight → cost j w < 131 * failure_weight
+    below is less = subst (λ (x : Job). cost x w < 131 * failure_weight) (sym is) less
 
-    which : (c : Command) → Begins layout by c banks collects j → cost j w < 4 * failure_weight
+    which : (c : Command) → Begins layout by c banks collects j → cost j w < 131 * failure_weight
     which (commands.Load thread slot line) b = access-begins w (few-frees layout a rule) b
     which (commands.Fetch thread slot line) b = access-begins w (few-frees layout a rule) b
     which (commands.KLoad thread slot line) b = access-begins w (few-frees layout a rule) b
@@ -131,6 +138,7 @@ begins-few layout a by command banks collects j rule begun = which command begun
     which (commands.Fsync file) b = below b.2 (let most = fsync-below (fsyncs.begin by file b.1 false) w in omega (arith, most))
     which (commands.Open file) b = below b.2 (let most = fsync-below (fsyncs.begin by file b.1 true) w in omega (arith, most))
     which (commands.Prctl thread args) b = below b.job_is (omega arith)
+    which (commands.Fork thread child) b = below b.job_is (let few = b.few in omega (arith, few))
     which (commands.Bad frame line) b = below b.job_is (omega arith)
     which (commands.Weak frame line) b = below b.job_is (omega arith)
     which (commands.Scrub first last) b = below b.job_is (let frames : layout.frames ≤ frame_limit = b.sound.frames in let within : last.0 < layout.frames = b.frames.within in omega (arith, frames, within))
@@ -142,3 +150,18 @@ begins-few layout a by command banks collects j rule begun = which command begun
     which (commands.Inject frame) b = below b.job_is (let most = inject-below (injects.begin b.alloc by frame) w in omega (arith, most))
     which (commands.Soft frame) b = below b.job_is (omega arith)
     which (commands.Unpoison frame) b = below b.job_is (omega arith)
+
+-- a copy begins with its first access, and has 129 before it
+copy-few : (layout : Layout) (a : State) (by : Who) (command : Command) (from : VSlot) (banks : Banks) (collects : Bool) (j : Job) → Holds layout a → BeginsCopy layout by command from banks collects j → cost j (words_at layout a) < 131 * failure_weight
+copy-few layout a by (commands.Store thread slot line word) from banks collects j rule b = subst (λ (x : Job). cost x (words_at layout a) < 131 * failure_weight) (sym b.job_is)
+    (let most : accesses.cost (accesses.again c.instruction.request) (words_at layout a) ≤ again_most + 1 = again-cost c.instruction (words_at layout a) (few-frees layout a rule) in
+    let held : instruction_costs.held_cost banks ≤ instruction_costs.paused_cost = held-most banks in
+    omega (arith, most, held))
+  where
+    c : Copying
+    c = copyings.begin b.alloc (request_of by thread slot line (access_kinds.Store word) b.page b.process) word from b.copied banks collects
+copy-few layout a by command from banks collects j rule b = absurd b
+
+pub begins-few : (layout : Layout) (a : State) (by : Who) (command : Command) (copies : Option VSlot) (banks : Banks) (collects : Bool) (j : Job) → Holds layout a → BeginsWith layout by command copies banks collects j → cost j (words_at layout a) < 131 * failure_weight
+begins-few layout a by command None banks collects j rule begun = plain-few layout a by command banks collects j rule begun
+begins-few layout a by command (Some from) banks collects j rule begun = copy-few layout a by command from banks collects j rule begun

@@ -20,6 +20,9 @@ use Rattle.hwp_cpu_command.specs.hwp_cpu_access.declared.instruction.Pause.{Paus
 use Rattle.hwp_cpu_command.specs.hwp_cpu_access.declared.instruction.Pause.TheVariants as pauses
 use Rattle.hwp_cpu_command.specs.hwp_cpu_access.Done as instruction_done
 use Rattle.hwp_cpu_command.specs.hwp_cpu_access.Instructions as instructions
+use Rattle.hwp_cpu_command.specs.hwp_cpu_copy.declared.copying.CopyingAt.{CopyingAt}
+use Rattle.hwp_cpu_command.specs.hwp_cpu_copy.declared.copying.CopyingAt.TheVariants as copying_at
+use Rattle.hwp_cpu_command.specs.hwp_cpu_copy.Copyings as copyings
 use Rattle.hwp_cpu_command.specs.hwp_cpu_raise.declared.LocalChange.{LocalChange}
 use Rattle.hwp_cpu_command.specs.hwp_cpu_raise.declared.Raise.{Raise}
 use Rattle.hwp_cpu_command.specs.hwp_cpu_raise.declared.raise.RaiseAt.{RaiseAt}
@@ -47,10 +50,21 @@ resume-goes (jobs.Instruction i) = which (instructions.pause i)
     which : (o : Option Pause) → GoesOn (jobs.Instruction i) (jobs.Instruction (instructions.resume_by i o))
     which None = record { anew_is = refl; before = λ kept. refl; fails = refl; collects = refl }
     which (Some p) = record { anew_is = refl; before = λ kept. refl; fails = refl; collects = refl }
+resume-goes (jobs.Copying c) = by c.at
+  where
+    which : (o : Option Pause) → GoesOn (jobs.Copying c) (jobs.Copying (record c { instruction = instructions.resume_by c.instruction o }))
+    which None = record { anew_is = refl; before = λ kept. refl; fails = refl; collects = refl }
+    which (Some p) = record { anew_is = refl; before = λ kept. refl; fails = refl; collects = refl }
+
+    by : (x : CopyingAt) → GoesOn (jobs.Copying c) (jobs.Copying (copyings.resume_at c x))
+    by copying_at.Access = which (instructions.pause c.instruction)
+    by (copying_at.Free e stored) = record { anew_is = refl; before = λ kept. refl; fails = refl; collects = refl }
+    by (copying_at.Over answer) = record { anew_is = refl; before = λ kept. refl; fails = refl; collects = refl }
 resume-goes _ = record { anew_is = refl; before = λ kept. refl; fails = refl; collects = refl }
 
 pub give-up-goes : (j : Job) → GoesOn j (give_up j)
 give-up-goes (jobs.Instruction i) = record { anew_is = refl; before = λ kept. refl; fails = refl; collects = refl }
+give-up-goes (jobs.Copying c) = record { anew_is = refl; before = λ kept. refl; fails = refl; collects = refl }
 give-up-goes (jobs.Raise r) = record { anew_is = refl; before = λ kept. refl; fails = refl; collects = refl }
 give-up-goes (jobs.Scrub s) = record { anew_is = refl; before = λ kept. refl; fails = refl; collects = refl }
 give-up-goes _ = record { anew_is = refl; before = λ kept. refl; fails = refl; collects = refl }
@@ -68,6 +82,12 @@ answers-some (Some a) is = refl
 -- a task that has its answer stays as it is
 pub answered-resumes : (j : Job) → is_some (answer j) ≡ true → resume j ≡ j
 answered-resumes (jobs.Instruction i) is = ap (λ (o : Option Pause). jobs.Instruction (instructions.resume_by i o)) (unpaused i.at (answers-some (instructions.answer i) is))
+answered-resumes (jobs.Copying c) is = ap jobs.Copying (by c.at refl (answers-some (copyings.answer c) is))
+  where
+    by : (x : CopyingAt) → c.at ≡ x → is_some (copyings.answer_at c.instruction x) ≡ true → copyings.resume_at c x ≡ c
+    by copying_at.Access own some = ap (λ (o : Option Pause). record c { instruction = instructions.resume_by c.instruction o }) (unpaused c.instruction.at some)
+    by (copying_at.Free e stored) own some = refl
+    by (copying_at.Over answer) own some = refl
 answered-resumes _ is = refl
 
 -- where an instruction pauses
@@ -124,6 +144,7 @@ behind-same i {p} is = subst (λ (o : Option Pause). IsSameBehind (jobs.Instruct
 -- what it marked is what the events tell that it told of
 pub marked-parts : (j : Job) → marked_now j ≡ filter_map marked_in (told_of j) ++ marked_beyond j
 marked-parts (jobs.Instruction i) = refl
+marked-parts (jobs.Copying c) = refl
 marked-parts (jobs.Raise r) = refl
 marked-parts (jobs.Scrub s) = refl
 marked-parts _ = refl
@@ -146,13 +167,20 @@ answered-unmarked _ is told = absurd (told refl)
 
 pub gives-up : (j : Job) → (told_of j ≡ [] → ⊥) → HasGivenUp (give_up j)
 gives-up (jobs.Instruction i) told = inl refl
+gives-up (jobs.Copying c) told = (refl, inl refl)
 gives-up (jobs.Raise r) told = inl refl
 gives-up (jobs.Scrub s) told = inl refl
 gives-up _ told = absurd (told refl)
 
+-- a copy rests where its access does
+abbrev copy-rests : Instruction → CopyingAt → Bool
+copy-rests i x = is_some (copyings.pause_at i x) || is_some (option_map instruction_answer (copyings.answer_at i x))
+
 pub given-up-rests : (j : Job) → HasGivenUp j → (is_paused j || is_some (answer j)) ≡ false
 given-up-rests (jobs.Instruction i) (inl is) = ap (λ (x : InstructionAt). is_some (instructions.pause_at x) || is_some (option_map instruction_answer (instructions.answer_at x))) is
 given-up-rests (jobs.Instruction i) (inr is) = ap (λ (x : InstructionAt). is_some (instructions.pause_at x) || is_some (option_map instruction_answer (instructions.answer_at x))) is
+given-up-rests (jobs.Copying c) (own, inl is) = ap (copy-rests c.instruction) own ∙ ap (λ (x : InstructionAt). is_some (instructions.pause_at x) || is_some (option_map instruction_answer (instructions.answer_at x))) is
+given-up-rests (jobs.Copying c) (own, inr is) = ap (copy-rests c.instruction) own ∙ ap (λ (x : InstructionAt). is_some (instructions.pause_at x) || is_some (option_map instruction_answer (instructions.answer_at x))) is
 given-up-rests (jobs.Raise r) (inl is) = ap (λ (x : RaiseAt). is_some (option_map (raise_answer (length r.lines.told)) (raises.answer_at x))) is
 given-up-rests (jobs.Raise r) (inr is) = ap (λ (x : RaiseAt). is_some (option_map (raise_answer (length r.lines.told)) (raises.answer_at x))) is
 given-up-rests (jobs.Scrub s) (inl is) = ap (λ (x : ScrubAt). is_some (option_map (scrub_answer (length s.lines.told)) (scrubs.answer_at x))) is
@@ -160,6 +188,7 @@ given-up-rests (jobs.Scrub s) (inr is) = ap (λ (x : ScrubAt). is_some (option_m
 given-up-rests (jobs.Evict e) up = absurd up
 given-up-rests (jobs.Fsync f) up = absurd up
 given-up-rests (jobs.Prctl p) up = absurd up
+given-up-rests (jobs.Fork f) up = absurd up
 given-up-rests (jobs.Log l) up = absurd up
 given-up-rests (jobs.Spoil s) up = absurd up
 given-up-rests (jobs.Nested n) up = absurd up
@@ -185,6 +214,14 @@ given-up-stays layout (jobs.Instruction i) after step found got turn e next (inl
     let to = subst (λ (x : InstructionAt). instructions.FollowsAt layout (instructions.bare i) (instructions.bare_at x) found got next.0 turn) is next.2 in
     subst HasGivenUp (sym next.1) (inr (ap (λ (k : Instruction). k.at) to.0))
 given-up-stays layout (jobs.Instruction i) after step found got turn e next (inr is) = absurd (none-some step (sym (ap instructions.plan_at is) ∙ e))
+given-up-stays layout (jobs.Copying c) after step found got turn e next (own, inl is) =
+    let to : copyings.AccessStepped layout (copyings.bare_at c copying_at.Access) found got next.0 turn = subst (λ (x : CopyingAt). copyings.FollowsAt layout (copyings.bare_at c x) (copyings.bare_at c x).at found got next.0 turn) own next.2 in
+    let given = subst (λ (x : InstructionAt). instructions.FollowsAt layout (instructions.bare c.instruction) (instructions.bare_at x) found got to.instruction turn) is to.follows in
+    let over : to.instruction.at ≡ instruction_at.Over None = ap (λ (k : Instruction). k.at) given.0 in
+    let same : next.0 ≡ record (copyings.bare_at c copying_at.Access) { instruction = to.instruction } =
+    to.next_is ∙ ap (λ (x : InstructionAt). copyings.after_access (record (copyings.bare_at c copying_at.Access) { instruction = to.instruction }) (instructions.answer_at x)) over in
+    subst HasGivenUp (sym (next.1 ∙ ap jobs.Copying same)) (refl, inr over)
+given-up-stays layout (jobs.Copying c) after step found got turn e next (own, inr is) = absurd (none-some step (sym (ap (copyings.plan_at c.instruction) own ∙ ap instructions.plan_at is) ∙ e))
 given-up-stays layout (jobs.Raise r) after step found got turn e next (inl is) =
     let to = subst (λ (x : RaiseAt). raises.FollowsAt layout (raises.bare r) (raises.bare_at x) found got next.0 turn) is next.2 in
     subst HasGivenUp (sym next.1) (inr (ap (λ (k : Raise). k.at) to.0))
@@ -196,6 +233,7 @@ given-up-stays layout (jobs.Scrub s) after step found got turn e next (inr is) =
 given-up-stays layout (jobs.Evict x) after step found got turn e next up = absurd up
 given-up-stays layout (jobs.Fsync f) after step found got turn e next up = absurd up
 given-up-stays layout (jobs.Prctl p) after step found got turn e next up = absurd up
+given-up-stays layout (jobs.Fork f) after step found got turn e next up = absurd up
 given-up-stays layout (jobs.Log l) after step found got turn e next up = absurd up
 given-up-stays layout (jobs.Spoil s) after step found got turn e next up = absurd up
 given-up-stays layout (jobs.Nested n) after step found got turn e next up = absurd up
@@ -209,6 +247,7 @@ given-up-stays layout (jobs.Unpoison u) after step found got turn e next up = ab
 pub within-stays : (layout : Layout) (j after : Job) (found : ℕ) (got : Option BodyValue) (turn : Turn) → Next layout j found got after turn → HasChangeWithin j → HasChangeWithin after
 within-stays layout (jobs.Log l) after found got turn next has = subst HasChangeWithin (sym next.0) (subst IsChangeWithin (sym (ap (λ (a : Who × LocalChange × Banks). a.1) (log-kept l found))) has)
 within-stays layout (jobs.Instruction i) after found got turn next has = subst HasChangeWithin (sym next.1) tt
+within-stays layout (jobs.Copying c) after found got turn next has = subst HasChangeWithin (sym next.1) tt
 within-stays layout (jobs.Evict e) after found got turn next has = subst HasChangeWithin (sym next.1) tt
 within-stays layout (jobs.Raise r) after found got turn next has = subst HasChangeWithin (sym next.1) tt
 within-stays layout (jobs.Scrub s) after found got turn next has = subst HasChangeWithin (sym next.1) tt
@@ -216,6 +255,7 @@ within-stays layout (jobs.Inject i) after found got turn next has = subst HasCha
 within-stays layout (jobs.Soft s) after found got turn next has = subst HasChangeWithin (sym next.1) tt
 within-stays layout (jobs.Fsync f) after found got turn next has = subst HasChangeWithin (sym next.0) tt
 within-stays layout (jobs.Prctl p) after found got turn next has = subst HasChangeWithin (sym next.0) tt
+within-stays layout (jobs.Fork f) after found got turn next has = subst HasChangeWithin (sym next.0) tt
 within-stays layout (jobs.Spoil s) after found got turn next has = subst HasChangeWithin (sym next.0) tt
 within-stays layout (jobs.Nested n) after found got turn next has = subst HasChangeWithin (sym next.0) tt
 within-stays layout (jobs.Unpoison u) after found got turn next has = subst HasChangeWithin (sym next.0) tt
@@ -224,9 +264,11 @@ within-stays layout (jobs.Unpoison u) after found got turn next has = subst HasC
 pub behind-within : (j : Job) → HasChangeWithin j → HasChangeWithin (resume j)
 behind-within (jobs.Log l) has = has
 behind-within (jobs.Instruction i) has = tt
+behind-within (jobs.Copying c) has = tt
 behind-within (jobs.Evict e) has = tt
 behind-within (jobs.Fsync f) has = tt
 behind-within (jobs.Prctl p) has = tt
+behind-within (jobs.Fork f) has = tt
 behind-within (jobs.Raise r) has = tt
 behind-within (jobs.Scrub s) has = tt
 behind-within (jobs.Spoil s) has = tt
@@ -238,9 +280,11 @@ behind-within (jobs.Unpoison u) has = tt
 pub give-up-within : (j : Job) → HasChangeWithin j → HasChangeWithin (give_up j)
 give-up-within (jobs.Log l) has = has
 give-up-within (jobs.Instruction i) has = tt
+give-up-within (jobs.Copying c) has = tt
 give-up-within (jobs.Evict e) has = tt
 give-up-within (jobs.Fsync f) has = tt
 give-up-within (jobs.Prctl p) has = tt
+give-up-within (jobs.Fork f) has = tt
 give-up-within (jobs.Raise r) has = tt
 give-up-within (jobs.Scrub s) has = tt
 give-up-within (jobs.Spoil s) has = tt

@@ -1,9 +1,10 @@
 -- What a step of a command does beside entries: it poisons a frame or counts that, sets a policy, or leaves what the view lists of these.
-use Rattle.std.proofs.Common.{◌≡◌, inl, inr, ℕ, suc, ◌+◌, Bool, true, false, cond, List, [], ◌∷◌, ◌++◌, Option, Some, None, option_map, filter, filter_map, map, refl, sym, ap, ◌∙◌, subst, arith, true≢false}
+use Rattle.std.proofs.Common.{◌≡◌, inl, inr, ℕ, suc, ◌+◌, ◌<◌, ◌≤◌, nat_lt, Bool, true, false, cond, List, [], ◌∷◌, ◌++◌, Option, Some, None, option_map, filter, filter_map, length, get_or, slice_get, take, map, refl, sym, ap, ◌∙◌, subst, arith, true≢false}
 use Rattle.std.specs.List.{cons_option}
-use Rattle.std.proofs.lemmas.List.{map-append}
+use Rattle.std.proofs.lemmas.List.{map-append, take_more}
 use Rattle.std.proofs.lemmas.List.Elements.{filter-append}
-use Rattle.std.proofs.lemmas.Option.{none-some}
+use Rattle.std.proofs.lemmas.Bool.{ltb-false, ltb-true}
+use Rattle.std.proofs.lemmas.Option.{get_or_from_slice_get, none-some, slice_get-get_or}
 use Rattle.hwp_cpu_command.specs.hwp_geom.declared.Frame.{Frame}
 use Rattle.hwp_cpu_command.specs.hwp_geom.declared.Layout.{Layout}
 use Rattle.hwp_cpu_command.specs.hwp_geom.declared.Page.{Page}
@@ -28,6 +29,14 @@ use Rattle.hwp_cpu_command.specs.hwp_core_task.Calls.{Steps, logs}
 use Rattle.hwp_cpu_command.proofs.of_hwp_core_task.StepLeaves.{steps-planned}
 use Rattle.hwp_cpu_command.proofs.of_hwp_core_task.MadeEntries.{deeds-same}
 use Rattle.hwp_cpu_command.specs.hwp_cpu_control.declared.Nested.{Nested}
+use Rattle.hwp_cpu_command.specs.hwp_cpu_control.declared.Fork.{Fork}
+use Rattle.hwp_cpu_command.specs.hwp_cpu_control.declared.ForkAnswer.TheVariants as fork_answers
+use Rattle.hwp_cpu_command.specs.hwp_cpu_control.declared.Targets.{Targets}
+use Rattle.hwp_cpu_command.specs.hwp_cpu_control.declared.fork.ForkAt.{ForkAt}
+use Rattle.hwp_cpu_command.specs.hwp_cpu_control.declared.fork.ForkAt.TheVariants as fork_at
+use Rattle.hwp_cpu_command.specs.hwp_cpu_control.Forks as forks
+use Rattle.hwp_cpu_command.specs.hwp_geom.Limits.{thread_limit}
+use Rattle.hwp_cpu_command.proofs.of_hwp_cpu_control.ForkLaws.{more-than, target-there}
 use Rattle.hwp_cpu_command.specs.hwp_cpu_control.declared.Prctl.{Prctl}
 use Rattle.hwp_cpu_command.specs.hwp_cpu_control.declared.Spoil.{Spoil}
 use Rattle.hwp_cpu_command.specs.hwp_cpu_control.declared.nested.NestedAt.{NestedAt}
@@ -98,7 +107,7 @@ use Rattle.hwp_cpu_command.specs.declared.job.Job.TheVariants as jobs
 use Rattle.hwp_cpu_command.specs.Answers.{fail_answer}
 use Rattle.hwp_cpu_command.specs.Done.{HasDone, can_fail, failed_at, failed_now, marked_at, marked_now, owed_at, owed_now}
 use Rattle.hwp_cpu_command.specs.Jobs.{FitsFrom, answer, who}
-use Rattle.hwp_cpu_command.specs.Settings.{policies_now, set_at}
+use Rattle.hwp_cpu_command.specs.Settings.{given_at, policies_now, set_at}
 use Rattle.hwp_cpu_command.specs.Stays.{IsAtStop, Stepped}
 use Rattle.hwp_cpu_command.proofs.JobEnds.{evict-caused, instruction-over, mapped, raise-over, scrub-over, soft-ended, soft-over, unpoison-over}
 use Rattle.hwp_cpu_command_laws.proofs.TaskLeaves.{Left, Rest, soft-leaves, unpoison-leaves}
@@ -160,6 +169,26 @@ replied : (n : ℕ) (r : Reply) → set_at (prctls.after_reply n r) ≡ []
 replied n (replies.Set policy) = refl
 replied n (replies.Is policy) = refl
 replied n replies.Einval = refl
+
+-- a fork that has given so many threads their policy
+given-next : (targets : Targets) (policy : Policy) (k : ℕ) → targets.count ≤ length targets.threads → k ≤ targets.count → given_at targets (forks.at_target targets policy k) ≡ map (λ (t : Thread). (t, policy)) (take k targets.threads)
+given-next targets policy k within few = which (nat_lt k targets.count) refl
+  where
+    there : (o : Option Thread) → slice_get targets.threads k ≡ o → k < targets.count → given_at targets (forks.after_targets policy k o) ≡ map (λ (t : Thread). (t, policy)) (take k targets.threads)
+    there (Some target) is less = refl
+    there None is less = absurd (none-some (get_or targets.threads k (record { 0 = 0 })) (sym is ∙ slice_get-get_or targets.threads k (record { 0 = 0 }) (omega (arith, within, less))))
+
+    which : (b : Bool) → nat_lt k targets.count ≡ b → given_at targets (forks.after_targets policy k (cond b (slice_get targets.threads k) None)) ≡ map (λ (t : Thread). (t, policy)) (take k targets.threads)
+    which true less = there (slice_get targets.threads k) refl (ltb-true k targets.count less)
+    which false more = let most : targets.count ≤ k = ltb-false k targets.count more in ap (λ (n : ℕ). map (λ (t : Thread). (t, policy)) (take n targets.threads)) (omega (arith, most, few))
+
+given-none : (targets : Targets) (b : Bool) → given_at targets (cond b (fork_at.Over fork_answers.Stopped) fork_at.LoadProcess) ≡ []
+given-none targets true = refl
+given-none targets false = refl
+
+given-ended : (targets : Targets) (o : Option Page) → given_at targets (forks.after_process o) ≡ []
+given-ended targets None = refl
+given-ended targets (Some page) = refl
 
 -- the policy of a thread
 module _ {layout : Layout} {old new : View} {p : Prctl} {after : Job} (s : Stepped layout old new (jobs.Prctl p) after) where
@@ -252,6 +281,50 @@ adds-done {old} {new} {j} {after} adds rest set = record {
   set = inl (rest.settings, set);
   counted = λ has. let sum = adds.counted in omega (arith, sum, has);
 }
+
+module _ {layout : Layout} {old new : View} {f : Fork} {after : Job} (s : Stepped layout old new (jobs.Fork f) after) where
+  fork-done : HasDone old new f.who (jobs.Fork f) after
+  fork-done = which f.at refl s.planned s.fits.1.at
+    where
+      blank : IsBlank after
+      blank = subst IsBlank (sym s.follows.0) (refl, refl, refl)
+
+      targets : forks.AreTargets layout f.who f.thread f.targets
+      targets = s.fits.1.targets
+
+      within : f.targets.count ≤ length f.targets.threads
+      within = let few : f.targets.count ≤ thread_limit = targets.few in let room : length f.targets.threads ≡ thread_limit = targets.room in omega (arith, few, room)
+
+      now : (x : ForkAt) → f.at ≡ x → policies_now after ≡ given_at f.targets (forks.next_at f.targets x s.found)
+      now x at = ap policies_now s.follows.0 ∙ ap (λ (y : ForkAt). given_at f.targets (forks.next_at f.targets y s.found)) at
+
+      unset : (x : ForkAt) → f.at ≡ x → given_at f.targets x ≡ [] → given_at f.targets (forks.next_at f.targets x s.found) ≡ [] → policies_now after ≡ policies_now (jobs.Fork f)
+      unset x at before next = now x at ∙ next ∙ sym (ap (given_at f.targets) at ∙ before)
+
+      which : (x : ForkAt) → f.at ≡ x → forks.plan_at f.thread f.process x ≡ Some s.step → forks.FitsAt old f.who f.thread f.process f.targets x → HasDone old new f.who (jobs.Fork f) after
+      which fork_at.LoadStop at e has = nothing s (leaves s.made (quiet-step {o = Some (steps.Load places.Stop)} tt e)) (refl, refl, refl) blank (unset fork_at.LoadStop at refl (given-none f.targets (is_stopped s.found)))
+      which fork_at.LoadProcess at e has = nothing s (leaves s.made (quiet-step {o = Some (steps.Load (places.Process f.process))} tt e)) (refl, refl, refl) blank (unset fork_at.LoadProcess at refl (given-ended f.targets (page_named s.found)))
+      which fork_at.LoadPolicy at e has = nothing s (leaves s.made (quiet-step {o = Some (steps.Load (places.Policy f.thread))} tt e)) (refl, refl, refl) blank
+          (unset fork_at.LoadPolicy at refl (given-next f.targets (words.policy_of s.found) 0 within (omega arith)))
+      which (fork_at.SetPolicy policy target before) at e has =
+          let own = steps-planned {other = steps.SetPolicy target policy 0} e s.made in
+          let there : slice_get f.targets.threads before ≡ Some target = target-there f.targets before target has.0.target_is in
+          let less : before < f.targets.count = more-than f.targets before target has.0.target_is in
+          record {
+            marked = inl (ap (λ (v : View). v.marks) own.told.next, blank.1);
+            failed = unfailed blank.0;
+            set = inr (
+              record { stamp = stamp_of f.who (noted f.who old); thread = target; policy = policy },
+              ap (λ (v : View). v.settings) own.told.next,
+              refl,
+              now (fork_at.SetPolicy policy target before) at ∙ given-next f.targets policy (before + 1) within (omega (arith, less))
+              ∙ ap (map (λ (t : Thread). (t, policy))) (take_more f.targets.threads before target (omega (arith, less, within)) ∙ ap (λ (t : Thread). take before f.targets.threads ++ t ∷ []) (get_or_from_slice_get f.targets.threads before target target there))
+              ∙ map-append (λ (t : Thread). (t, policy)) (take before f.targets.threads) (target ∷ [])
+              ∙ ap (λ (l : List (Thread × Policy)). l ++ (target, policy) ∷ []) (sym (ap (given_at f.targets) at)),
+            );
+            counted = λ counted. ap counts_owed own.told.next ∙ counted ∙ sym blank.2;
+          }
+      which (fork_at.Over answer) at e has = absurd (none-some s.step e)
 
 module _ {layout : Layout} {old new : View} {i : Instruction} {after : Job} (s : Stepped layout old new (jobs.Instruction i) after) where
   instruction-done : HasDone old new i.request.who (jobs.Instruction i) after
@@ -370,6 +443,7 @@ done {j = jobs.Instruction i} s = instruction-done s
 done {j = jobs.Evict e} s = nothing s (leaves s.made (quiet-step (evict e.at) s.planned)) (refl, refl, refl) (subst IsBlank (sym s.follows.1) (refl, refl, refl)) (ap policies_now s.follows.1)
 done {j = jobs.Fsync f} s = fsync-done s
 done {j = jobs.Prctl p} s = prctl-done s
+done {j = jobs.Fork f} s = fork-done s
 done {j = jobs.Log l} s = nothing s (leaves s.made (quiet-step (read l.read.at) s.planned)) (refl, refl, refl) (subst IsBlank (sym s.follows.0) (refl, refl, refl)) (ap policies_now s.follows.0)
 done {j = jobs.Raise r} s = raise-done-so s
 done {j = jobs.Scrub c} s = scrub-done-so s
@@ -383,10 +457,12 @@ done {j = jobs.Unpoison u} s = unpoison-done-so s
 
 pub unset-policies-at-start : (j : Job) → IsAtStop j → policies_now j ≡ []
 unset-policies-at-start (jobs.Prctl p) start = ap (λ (x : PrctlAt). map (λ (policy : Policy). (p.thread, policy)) (set_at x)) start
+unset-policies-at-start (jobs.Fork f) start = ap (given_at f.targets) start
 unset-policies-at-start _ start = refl
 
 pub unmarked-at-start : (j : Job) → IsAtStop j → marked_now j ≡ []
 unmarked-at-start (jobs.Instruction i) start = ap (λ (l : List EventOutcome). instruction_done.marked_by l ++ instruction_done.marked_at i.at) start.3 ∙ ap instruction_done.marked_at start.1
+unmarked-at-start (jobs.Copying c) start = ap (λ (l : List EventOutcome). instruction_done.marked_by l ++ instruction_done.marked_at c.instruction.at) start.2.3 ∙ ap instruction_done.marked_at start.2.1
 unmarked-at-start (jobs.Raise r) start = ap (λ (l : List EventOutcome). filter_map marked_in l ++ raise_done.marked_at r.at) start.1 ∙ ap raise_done.marked_at start.0
 unmarked-at-start (jobs.Scrub c) start = ap (λ (l : List EventOutcome). filter_map marked_in l ++ scrub_done.marked_at c.at) start.1 ∙ ap scrub_done.marked_at start.0
 unmarked-at-start (jobs.Inject i) start = ap (marked_at i.frame) start
@@ -396,6 +472,7 @@ unmarked-at-start _ start = refl
 
 pub unfailed-at-start : (j : Job) → IsAtStop j → failed_now j ≡ []
 unfailed-at-start (jobs.Instruction i) start = ap (λ (l : List EventOutcome). instruction_done.failed_by (Some i.request.thread) l ++ instruction_done.failed_at i.at) start.3 ∙ ap instruction_done.failed_at start.1
+unfailed-at-start (jobs.Copying c) start = ap (λ (l : List EventOutcome). instruction_done.failed_by (Some c.instruction.request.thread) l ++ instruction_done.failed_at c.instruction.at) start.2.3 ∙ ap instruction_done.failed_at start.2.1
 unfailed-at-start (jobs.Raise r) start = ap (λ (l : List EventOutcome). filter_map (failed_told (thread_of r.raiser)) l ++ raise_done.failed_at r.at) start.1 ∙ ap raise_done.failed_at start.0
 unfailed-at-start (jobs.Scrub c) start = ap (λ (l : List EventOutcome). filter_map (failed_told None) l ++ scrub_done.failed_at c.at) start.1 ∙ ap scrub_done.failed_at start.0
 unfailed-at-start (jobs.Inject i) start = ap failed_at start
@@ -403,6 +480,7 @@ unfailed-at-start _ start = refl
 
 pub unowed-at-start : (j : Job) → IsAtStop j → owed_now j ≡ 0
 unowed-at-start (jobs.Instruction i) start = ap instruction_done.owed_at start.1
+unowed-at-start (jobs.Copying c) start = ap instruction_done.owed_at start.2.1
 unowed-at-start (jobs.Raise r) start = ap raise_done.owed_at start.0
 unowed-at-start (jobs.Scrub c) start = ap scrub_done.owed_at start.0
 unowed-at-start (jobs.Inject i) start = ap owed_at start
@@ -466,6 +544,7 @@ soft-failures layout view who frame (soft_answers.Moved to place cycle) caused =
 -- its failures are those that its entries tell; a command whose memory can't fail had made no entry before
 pub failures-at-end : {base : List Made} (layout : Layout) (view : View) (j : Job) {a : Answer} → FitsFrom base layout view j → (can_fail j ≡ false → base ≡ []) → answer j ≡ Some a → (can_fail j ≡ true → failures_by (who j) view ≡ failed_now j) → failures_by (who j) view ≡ failed_now j
 failures-at-end layout view (jobs.Instruction i) fits none is has = has refl
+failures-at-end layout view (jobs.Copying c) fits none is has = has refl
 failures-at-end layout view (jobs.Raise r) fits none is has = has refl
 failures-at-end layout view (jobs.Scrub c) fits none is has = has refl
 failures-at-end layout view (jobs.Inject i) fits none is has = has refl
@@ -473,6 +552,7 @@ failures-at-end layout view (jobs.Evict e) fits none is has = let own = mapped _
     evict-failures layout view e.who e.page e.what own.0 (evict-caused e (subst (λ (b : List Made). FitsFrom b layout view (jobs.Evict e)) (none refl) fits) own.1).1
 failures-at-end layout view (jobs.Fsync f) fits none is has = ap (filter_map failed_in) fits.1.made_none
 failures-at-end layout view (jobs.Prctl p) fits none is has = ap (filter_map failed_in) fits.1.made
+failures-at-end layout view (jobs.Fork f) fits none is has = ap (filter_map failed_in) fits.1.made
 failures-at-end layout view (jobs.Log l) fits none is has = ap (filter_map failed_in) fits.1.read.made
 failures-at-end layout view (jobs.Spoil s) fits none is has = ap (filter_map failed_in) fits.1.made
 failures-at-end layout view (jobs.Nested n) fits none is has = ap (filter_map failed_in) fits.1.made

@@ -13,6 +13,10 @@ use Rattle.hwp_cpu_command.specs.hwp_core_task.Calls.{Steps, logs}
 use Rattle.hwp_cpu_command.proofs.of_hwp_core_task.StepLeaves.{steps-planned}
 use Rattle.hwp_cpu_command.specs.hwp_cpu_control.declared.Nested.{Nested}
 use Rattle.hwp_cpu_command.specs.hwp_cpu_control.declared.NestedAnswer.TheVariants as nested_answers
+use Rattle.hwp_cpu_command.specs.hwp_cpu_control.declared.Fork.{Fork}
+use Rattle.hwp_cpu_command.specs.hwp_cpu_control.declared.fork.ForkAt.{ForkAt}
+use Rattle.hwp_cpu_command.specs.hwp_cpu_control.declared.fork.ForkAt.TheVariants as fork_at
+use Rattle.hwp_cpu_command.specs.hwp_cpu_control.Forks as forks
 use Rattle.hwp_cpu_command.specs.hwp_cpu_control.declared.Prctl.{Prctl}
 use Rattle.hwp_cpu_command.specs.hwp_cpu_control.declared.Spoil.{Spoil}
 use Rattle.hwp_cpu_command.specs.hwp_cpu_control.declared.nested.NestedAt.{NestedAt}
@@ -291,6 +295,17 @@ module _ {layout : Layout} {old new : View} {p : Prctl} {after : Job} (s : Stepp
       which prctl_at.LoadPolicy e = let same = leaves (steps-planned e s.made) tt in (same.spoiled, same.stops)
       which (prctl_at.SetPolicy policy settings) e = let own = steps-planned e s.made in (ap (λ (v : View). v.spoiled) own.told.next, ap (λ (v : View). v.stops) own.told.next)
       which (prctl_at.Over answer) e = absurd (none-some s.step e)
+
+module _ {layout : Layout} {old new : View} {f : Fork} {after : Job} (s : Stepped layout old new (jobs.Fork f) after) where
+  pub fork-left : (new.spoiled ≡ old.spoiled) × (new.stops ≡ old.stops)
+  fork-left = which f.at s.planned
+    where
+      which : (x : ForkAt) → forks.plan_at f.thread f.process x ≡ Some s.step → (new.spoiled ≡ old.spoiled) × (new.stops ≡ old.stops)
+      which fork_at.LoadStop e = let same = leaves (steps-planned e s.made) tt in (same.spoiled, same.stops)
+      which fork_at.LoadProcess e = let same = leaves (steps-planned e s.made) tt in (same.spoiled, same.stops)
+      which fork_at.LoadPolicy e = let same = leaves (steps-planned e s.made) tt in (same.spoiled, same.stops)
+      which (fork_at.SetPolicy policy target before) e = let own = steps-planned e s.made in (ap (λ (v : View). v.spoiled) own.told.next, ap (λ (v : View). v.stops) own.told.next)
+      which (fork_at.Over answer) e = absurd (none-some s.step e)
 
 module _ {layout : Layout} {old new : View} {p : Spoil} {after : Job} (s : Stepped layout old new (jobs.Spoil p) after) where
   pub spoil-left : new.stops ≡ old.stops

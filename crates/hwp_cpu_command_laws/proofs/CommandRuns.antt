@@ -7,11 +7,13 @@ use Rattle.hwp_cpu_command.specs.hwp_geom.declared.Frame.{Frame}
 use Rattle.hwp_cpu_command.specs.hwp_geom.declared.Layout.{Layout}
 use Rattle.hwp_cpu_command.specs.hwp_geom.declared.Mode.{Mode}
 use Rattle.hwp_cpu_command.specs.hwp_geom.declared.Page.{Page}
+use Rattle.hwp_cpu_command.specs.hwp_geom.declared.Proc.{Proc}
 use Rattle.hwp_cpu_command.specs.hwp_geom.declared.Thread.{Thread}
 use Rattle.hwp_cpu_command.specs.hwp_geom.declared.VSlot.{VSlot}
 use Rattle.hwp_cpu_command.specs.hwp_geom.declared.Who.{Who}
 use Rattle.hwp_cpu_command.specs.hwp_banks.declared.Origin.{Origin}
 use Rattle.hwp_cpu_command.specs.hwp_severity.declared.McgBits.{McgBits}
+use Rattle.hwp_cpu_command.specs.hwp_page.declared.At.{At}
 use Rattle.hwp_cpu_command.specs.hwp_page.History.{BodyValue}
 use Rattle.hwp_cpu_command.specs.hwp_words.Names.{page_named}
 use Rattle.hwp_cpu_command.specs.hwp_words.Stops.{is_stopped}
@@ -23,11 +25,15 @@ use Rattle.hwp_cpu_command.specs.hwp_core_task.declared.Turn.{Turn}
 use Rattle.hwp_cpu_command.specs.hwp_banks.Banks.{Banks}
 use Rattle.hwp_cpu_command.specs.hwp_cpu_control.declared.ReadStopAnswer.{ReadStopAnswer}
 use Rattle.hwp_cpu_command.specs.hwp_evict.declared.Evict.{Evict}
+use Rattle.hwp_cpu_command.specs.hwp_evict.declared.EvictAnswer.{EvictAnswer}
+use Rattle.hwp_cpu_command.specs.hwp_evict.declared.EvictAnswer.TheVariants as evict_answers
 use Rattle.hwp_cpu_command.specs.hwp_evict.declared.Eviction.{Eviction}
+use Rattle.hwp_cpu_command.specs.hwp_evict.Evicts as evicts
 use Rattle.hwp_cpu_command.specs.hwp_claim.declared.Inject.{Inject}
 use Rattle.hwp_cpu_command.specs.hwp_fault.declared.AccessAnswer.{AccessAnswer}
 use Rattle.hwp_cpu_command.specs.hwp_fault.declared.AccessAnswer.TheVariants as access_answers
 use Rattle.hwp_cpu_command.specs.hwp_fault.declared.AccessKind.{AccessKind}
+use Rattle.hwp_cpu_command.specs.hwp_fault.declared.AccessKind.TheVariants as kinds
 use Rattle.hwp_cpu_command.specs.hwp_fault.declared.Request.{Request}
 use Rattle.hwp_cpu_command.specs.hwp_fault.Accesses as accesses
 use Rattle.hwp_cpu_command.specs.hwp_cpu_check.declared.Handler.{Handler}
@@ -38,6 +44,17 @@ use Rattle.hwp_cpu_command.specs.hwp_cpu_access.declared.instruction.Instruction
 use Rattle.hwp_cpu_command.specs.hwp_cpu_access.Fits.{IsOfAccess}
 use Rattle.hwp_cpu_command.specs.hwp_cpu_access.Instructions as instructions
 use Rattle.hwp_cpu_command.proofs.of_hwp_cpu_access.InstructionLaws as instructing
+use Rattle.hwp_cpu_command.specs.hwp_cpu_access.declared.InstructionAnswer.{InstructionAnswer}
+use Rattle.hwp_cpu_command.specs.hwp_cpu_access.declared.InstructionAnswer.TheVariants as instruction_answers
+use Rattle.hwp_cpu_command.specs.hwp_fork.declared.Sub.{Sub}
+use Rattle.hwp_cpu_command.specs.hwp_fork.declared.Sub.TheVariants as subs
+use Rattle.hwp_cpu_command.specs.hwp_fork.Cows as cows
+use Rattle.hwp_cpu_command.specs.hwp_cpu_copy.declared.Copying.{Copying}
+use Rattle.hwp_cpu_command.specs.hwp_cpu_copy.declared.copying.CopyingAt.{CopyingAt}
+use Rattle.hwp_cpu_command.specs.hwp_cpu_copy.declared.copying.CopyingAt.TheVariants as copying_at
+use Rattle.hwp_cpu_command.specs.hwp_cpu_copy.Copyings as copyings
+use Rattle.hwp_cpu_command.proofs.of_hwp_cpu_copy.CopyEnds as copy_ends
+use Rattle.hwp_cpu_command.proofs.of_hwp_cpu_control.ForkTargets.{are-targets, of-child}
 use Rattle.hwp_cpu_command.specs.hwp_cpu_raise.declared.LocalChange.{LocalChange}
 use Rattle.hwp_cpu_command.specs.hwp_cpu_raise.declared.Log.{Log}
 use Rattle.hwp_cpu_command.specs.hwp_cpu_raise.declared.Raise.{Raise}
@@ -55,11 +72,11 @@ use Rattle.hwp_cpu_command.proofs.of_hwp_scrub.ScrubLaws as scrubbing
 use Rattle.hwp_cpu_command.specs.hwp_soft.declared.Soft.{Soft}
 use Rattle.hwp_cpu_command.specs.declared.job.Job.{Job}
 use Rattle.hwp_cpu_command.specs.declared.job.Job.TheVariants as jobs
-use Rattle.hwp_cpu_command.specs.Begins.{Begins, BeginsAccess, BeginsEviction, BeginsFsync, BeginsInject, BeginsLog, BeginsPrctl, BeginsRaiseKernel, BeginsRaiseUser, BeginsScrub, BeginsSoft, BeginsSpoil, BeginsUnpoison, request_of}
+use Rattle.hwp_cpu_command.specs.Begins.{Begins, BeginsAccess, BeginsCopy, BeginsCopying, BeginsFork, BeginsWith, BeginsEviction, BeginsFsync, BeginsInject, BeginsLog, BeginsPrctl, BeginsRaiseKernel, BeginsRaiseUser, BeginsScrub, BeginsSoft, BeginsSpoil, BeginsUnpoison, request_of}
 use Rattle.hwp_cpu_command.specs.Done.{can_fail}
 use Rattle.hwp_cpu_command.specs.Jobs.{FitsFrom, Next, banks_before, bare, claims, class, left_in, who}
 use Rattle.hwp_cpu_command.specs.FileHandles.{HasChangeWithin, KnowsHandle}
-use Rattle.hwp_cpu_command.specs.Runs.{AtRest, Runs, anew, collects_now}
+use Rattle.hwp_cpu_command.specs.Runs.{AtRest, CanFork, IsFresh, Runs, anew, collects_now}
 use Rattle.hwp_cpu_command.specs.Stays.{IsAtStop}
 
 -- ---- what a task asks for never changes
@@ -100,6 +117,43 @@ instruction-kept layout i k found got turn follows = which i.at follows
     which instruction_at.GiveUp next = ap asked-access next.0
     which (instruction_at.Paused pause) next = ap asked-access next.0
     which (instruction_at.Over answer) next = ap asked-access next.0
+
+-- a copy, whichever access of it goes on
+abbrev AskedCopy : Type 0
+AskedCopy = Global × Request × ℕ × VSlot × Page × Banks × Bool
+
+abbrev asked-copy : Copying → AskedCopy
+asked-copy c = (c.instruction.alloc, c.store, c.cow.x, c.cow.v, c.page, c.instruction.before.value, c.instruction.collects)
+
+copy-going : (c : Copying) (place : At) (sub : Sub) → asked-copy (copyings.going_on c place sub) ≡ asked-copy c
+copy-going c place (subs.Load slot line) = refl
+copy-going c place (subs.Store slot line word) = refl
+copy-going c place (subs.Free slot) = refl
+copy-going c place subs.Switched = refl
+
+copy-accessed : (c : Copying) (o : Option InstructionAnswer) → asked-copy (copyings.after_access c o) ≡ asked-copy c
+copy-accessed c None = refl
+copy-accessed c (Some (instruction_answers.Value word place)) = copy-going (record c { cow = cows.told_by c.cow word }) place (cows.sub_of (cows.told_by c.cow word))
+copy-accessed c (Some (instruction_answers.Stored place)) = copy-going (record c { cow = cows.told_by c.cow 0 }) place (cows.sub_of (cows.told_by c.cow 0))
+copy-accessed c (Some (instruction_answers.Sigbus place)) = refl
+copy-accessed c (Some instruction_answers.NoFrame) = refl
+copy-accessed c (Some (instruction_answers.Gone page)) = refl
+copy-accessed c (Some instruction_answers.Stopped) = refl
+
+copy-freed : (c : Copying) (e : Evict) (stored : At) (o : Option EvictAnswer) → asked-copy (copyings.after_free_by c e stored o) ≡ asked-copy c
+copy-freed c e stored None = refl
+copy-freed c e stored (Some evict_answers.Stopped) = refl
+copy-freed c e stored (Some (evict_answers.Done place)) = refl
+copy-freed c e stored (Some (evict_answers.Refused refusal place)) = refl
+
+copy-kept : (layout : Layout) (c k : Copying) (found : ℕ) (got : Option BodyValue) (turn : Turn) → copyings.Follows layout (copyings.bare c) found got k turn → asked-copy k ≡ asked-copy c
+copy-kept layout c k found got turn follows = which c.at follows
+  where
+    which : (x : CopyingAt) → copyings.FollowsAt layout (copyings.bare_at c x) (copyings.bare_at c x).at found got k turn → asked-copy k ≡ asked-copy c
+    which copying_at.Access next = ap asked-copy next.next_is ∙ copy-accessed (record (copyings.bare_at c copying_at.Access) { instruction = next.instruction }) (instructions.answer next.instruction)
+        ∙ ap (λ (a : AskedAccess). (a.0, c.store, c.cow.x, c.cow.v, c.page, a.4, a.5)) (instruction-kept layout c.instruction next.instruction found got turn next.follows)
+    which (copying_at.Free e stored) next = ap asked-copy next.next_is ∙ copy-freed (copyings.bare_at c (copying_at.Free e stored)) next.evict stored (evicts.answer next.evict)
+    which (copying_at.Over answer) next = ap asked-copy next.0
 
 abbrev AskedRaise : Type 0
 AskedRaise = Global × Who × Option Raiser × McgBits × Banks
@@ -197,6 +251,12 @@ goes-on layout found got turn (jobs.Instruction i) after next = subst (GoesOn (j
   fails = refl;
   collects = ap (λ (a : AskedAccess). a.5) (instruction-kept layout i next.0 found got turn next.2);
 })
+goes-on layout found got turn (jobs.Copying c) after next = subst (GoesOn (jobs.Copying c)) (sym next.1) (record {
+  anew_is = ap (λ (a : AskedCopy). jobs.Copying (copyings.begin a.0 a.1 a.2 a.3 a.4 a.5 a.6)) (copy-kept layout c next.0 found got turn next.2);
+  before = λ kept. ap (λ (a : AskedCopy). a.5) (copy-kept layout c next.0 found got turn next.2);
+  fails = refl;
+  collects = ap (λ (a : AskedCopy). a.6) (copy-kept layout c next.0 found got turn next.2);
+})
 goes-on layout found got turn (jobs.Raise r) after next = subst (GoesOn (jobs.Raise r)) (sym next.1) (record {
   anew_is = ap (λ (a : AskedRaise). jobs.Raise (raises.begin a.0 a.1 a.2 a.3 a.4)) (raise-kept layout r next.0 found got turn next.2);
   before = λ kept. ap (λ (a : AskedRaise). a.4) (raise-kept layout r next.0 found got turn next.2);
@@ -221,6 +281,7 @@ goes-on layout found got turn (jobs.Soft s) after next = subst (GoesOn (jobs.Sof
 goes-on layout found got turn (jobs.Unpoison u) after next = subst (GoesOn (jobs.Unpoison u)) (sym next.0) (record { anew_is = refl; before = λ kept. refl; fails = refl; collects = refl })
 goes-on layout found got turn (jobs.Fsync f) after next = subst (GoesOn (jobs.Fsync f)) (sym next.0) (record { anew_is = refl; before = λ kept. refl; fails = refl; collects = refl })
 goes-on layout found got turn (jobs.Prctl p) after next = subst (GoesOn (jobs.Prctl p)) (sym next.0) (record { anew_is = refl; before = λ kept. refl; fails = refl; collects = refl })
+goes-on layout found got turn (jobs.Fork f) after next = subst (GoesOn (jobs.Fork f)) (sym next.0) (record { anew_is = refl; before = λ kept. refl; fails = refl; collects = refl })
 goes-on layout found got turn (jobs.Spoil s) after next = subst (GoesOn (jobs.Spoil s)) (sym next.0) (record { anew_is = refl; before = λ kept. refl; fails = refl; collects = refl })
 goes-on layout found got turn (jobs.Nested n) after next = subst (GoesOn (jobs.Nested n)) (sym next.0) (record { anew_is = refl; before = λ kept. refl; fails = refl; collects = refl })
 
@@ -231,24 +292,25 @@ pub can-fail-stays : (layout : Layout) (j after : Job) (found : ℕ) (got : Opti
 can-fail-stays layout j after found got turn next = (goes-on layout found got turn j after next).fails
 
 -- so the command is the same
-pub runs-alike : (layout : Layout) (by : Who) (command : Command) (j after : Job) → GoesOn j after → Runs layout by command j → Runs layout by command after
-runs-alike layout by command j after on runs = subst (λ (c : Bool). Begins layout by command (banks_before after []) c (anew after)) (sym on.collects)
-    (subst (λ (b : Banks). Begins layout by command b (collects_now j) (anew after)) (sym (on.before [])) (subst (Begins layout by command (banks_before j []) (collects_now j)) (sym on.anew_is) runs))
+pub runs-alike : (layout : Layout) (by : Who) (command : Command) (copies : Option VSlot) (j after : Job) → GoesOn j after → Runs layout by command copies j → Runs layout by command copies after
+runs-alike layout by command copies j after on runs = subst (λ (c : Bool). BeginsWith layout by command copies (banks_before after []) c (anew after)) (sym on.collects)
+    (subst (λ (b : Banks). BeginsWith layout by command copies b (collects_now j) (anew after)) (sym (on.before [])) (subst (BeginsWith layout by command copies (banks_before j []) (collects_now j)) (sym on.anew_is) runs))
 
-pub runs-on : (layout : Layout) (who : Who) (command : Command) (j after : Job) (found : ℕ) (got : Option BodyValue) (turn : Turn) → Runs layout who command j → Next layout (bare j) found got after turn → Runs layout who command after
-runs-on layout by command j after found got turn runs next = let on = goes-on layout found got turn j after next in
-    runs-alike layout by command j after on runs
+pub runs-on : (layout : Layout) (who : Who) (command : Command) (copies : Option VSlot) (j after : Job) (found : ℕ) (got : Option BodyValue) (turn : Turn) → Runs layout who command copies j → Next layout (bare j) found got after turn → Runs layout who command copies after
+runs-on layout by command copies j after found got turn runs next = let on = goes-on layout found got turn j after next in
+    runs-alike layout by command copies j after on runs
 
 -- ---- where it begins
 
 -- an access was told whether its processor collects
 abbrev pub IsTold : Bool → Job → Type 0
 IsTold collects (jobs.Instruction i) = i.collects ≡ collects
+IsTold collects (jobs.Copying c) = c.instruction.collects ≡ collects
 IsTold collects _ = Unit {0}
 
 -- a task at the beginning of its command
-pub record HasBegun (layout : Layout) (by : Who) (command : Command) (banks : Banks) (collects : Bool) (j : Job) : Type 0 where
-  pub runs : Runs layout by command j
+pub record HasBegun (layout : Layout) (by : Who) (command : Command) (copies : Option VSlot) (banks : Banks) (collects : Bool) (j : Job) : Type 0 where
+  pub runs : Runs layout by command copies j
   pub who_is : who j ≡ by
   pub start : IsAtStop j
   pub before : banks_before j (left_in j banks) ≡ banks
@@ -256,13 +318,13 @@ pub record HasBegun (layout : Layout) (by : Who) (command : Command) (banks : Ba
   pub told : IsTold collects j
   pub within : HasChangeWithin j
 
-pub has-begun : (layout : Layout) (by : Who) (command : Command) (banks : Banks) (collects : Bool) (j : Job) → Begins layout by command banks collects j → HasBegun layout by command banks collects j
-has-begun layout by command banks collects j begun = which command begun
+has-begun-plain : (layout : Layout) (by : Who) (command : Command) (banks : Banks) (collects : Bool) (j : Job) → Begins layout by command banks collects j → HasBegun layout by command None banks collects j
+has-begun-plain layout by command banks collects j begun = which command begun
   where
-    from : (c : Command) (x : Job) → j ≡ x → (Begins layout by c banks collects x → HasBegun layout by c banks collects x) → Begins layout by c banks collects j → HasBegun layout by c banks collects j
-    from c x is has b = subst (HasBegun layout by c banks collects) (sym is) (has (subst (Begins layout by c banks collects) is b))
+    from : (c : Command) (x : Job) → j ≡ x → (Begins layout by c banks collects x → HasBegun layout by c None banks collects x) → Begins layout by c banks collects j → HasBegun layout by c None banks collects j
+    from c x is has b = subst (HasBegun layout by c None banks collects) (sym is) (has (subst (Begins layout by c banks collects) is b))
 
-    which : (c : Command) → Begins layout by c banks collects j → HasBegun layout by c banks collects j
+    which : (c : Command) → Begins layout by c banks collects j → HasBegun layout by c None banks collects j
     which (commands.Load thread slot line) b = from (commands.Load thread slot line) _ b.job_is (λ r. record { runs = r; who_is = refl; start = (_, refl, refl, refl); before = refl; idle = (refl, refl); told = refl; within = tt }) b
     which (commands.Fetch thread slot line) b = from (commands.Fetch thread slot line) _ b.job_is (λ r. record { runs = r; who_is = refl; start = (_, refl, refl, refl); before = refl; idle = (refl, refl); told = refl; within = tt }) b
     which (commands.KLoad thread slot line) b = from (commands.KLoad thread slot line) _ b.job_is (λ r. record { runs = r; who_is = refl; start = (_, refl, refl, refl); before = refl; idle = (refl, refl); told = refl; within = tt }) b
@@ -274,6 +336,7 @@ has-begun layout by command banks collects j begun = which command begun
     which (commands.Fsync file) b = from (commands.Fsync file) _ b.2 (λ r. record { runs = r; who_is = refl; start = refl; before = refl; idle = (refl, refl); told = tt; within = tt }) b
     which (commands.Open file) b = from (commands.Open file) _ b.2 (λ r. record { runs = r; who_is = refl; start = refl; before = refl; idle = (refl, refl); told = tt; within = tt }) b
     which (commands.Prctl thread args) b = from (commands.Prctl thread args) _ b.job_is (λ r. record { runs = r; who_is = refl; start = refl; before = refl; idle = (refl, refl); told = tt; within = tt }) b
+    which (commands.Fork thread child) b = from (commands.Fork thread child) _ b.job_is (λ r. record { runs = r; who_is = refl; start = refl; before = refl; idle = (refl, refl); told = tt; within = tt }) b
     which (commands.Bad frame line) b = from (commands.Bad frame line) _ b.job_is (λ r. record { runs = r; who_is = refl; start = refl; before = refl; idle = (refl, refl); told = tt; within = tt }) b
     which (commands.Weak frame line) b = from (commands.Weak frame line) _ b.job_is (λ r. record { runs = r; who_is = refl; start = refl; before = refl; idle = (refl, refl); told = tt; within = tt }) b
     which (commands.Scrub first last) b = from (commands.Scrub first last) _ b.job_is (λ r. record { runs = r; who_is = refl; start = (refl, refl); before = refl; idle = (refl, refl); told = tt; within = tt }) b
@@ -286,27 +349,43 @@ has-begun layout by command banks collects j begun = which command begun
     which (commands.Soft frame) b = from (commands.Soft frame) _ b.job_is (λ r. record { runs = r; who_is = refl; start = refl; before = refl; idle = (refl, refl); told = tt; within = tt }) b
     which (commands.Unpoison frame) b = from (commands.Unpoison frame) _ b.job_is (λ r. record { runs = r; who_is = refl; start = refl; before = refl; idle = (refl, refl); told = tt; within = tt }) b
 
-pub begins-runs : (layout : Layout) (who : Who) (command : Command) (banks : Banks) (collects : Bool) (j : Job) → Begins layout who command banks collects j → Runs layout who command j
-begins-runs layout by command banks collects j begun = (has-begun layout by command banks collects j begun).runs
+copy-begun : (layout : Layout) (by : Who) (command : Command) (from : VSlot) (banks : Banks) (collects : Bool) (j : Job) → BeginsCopy layout by command from banks collects j → HasBegun layout by command (Some from) banks collects j
+copy-begun layout by (commands.Store thread slot line word) from banks collects j begun = subst (HasBegun layout by (commands.Store thread slot line word) (Some from) banks collects) (sym begun.job_is) (record {
+  runs = subst (BeginsCopying layout by thread slot line word from banks collects) begun.job_is begun;
+  who_is = refl;
+  start = (refl, refl, (_, refl, refl, refl));
+  before = refl;
+  idle = (refl, refl);
+  told = refl;
+  within = tt;
+})
+copy-begun layout by command from banks collects j begun = absurd begun
+
+pub has-begun : (layout : Layout) (by : Who) (command : Command) (copies : Option VSlot) (banks : Banks) (collects : Bool) (j : Job) → BeginsWith layout by command copies banks collects j → HasBegun layout by command copies banks collects j
+has-begun layout by command None banks collects j begun = has-begun-plain layout by command banks collects j begun
+has-begun layout by command (Some from) banks collects j begun = copy-begun layout by command from banks collects j begun
+
+pub begins-runs : (layout : Layout) (who : Who) (command : Command) (copies : Option VSlot) (banks : Banks) (collects : Bool) (j : Job) → BeginsWith layout who command copies banks collects j → Runs layout who command copies j
+begins-runs layout by command copies banks collects j begun = (has-begun layout by command copies banks collects j begun).runs
 
 anew-within : (j : Job) → HasChangeWithin (anew j) → HasChangeWithin j
 anew-within (jobs.Log l) within = within
 anew-within _ within = tt
 
 -- the numbers of a collector that it begins are within their limits
-pub runs-within : (layout : Layout) (by : Who) (command : Command) (j : Job) → Runs layout by command j → HasChangeWithin j
-runs-within layout by command j runs = anew-within j (has-begun layout by command (banks_before j []) (collects_now j) (anew j) runs).within
+pub runs-within : (layout : Layout) (by : Who) (command : Command) (copies : Option VSlot) (j : Job) → Runs layout by command copies j → HasChangeWithin j
+runs-within layout by command copies j runs = anew-within j (has-begun layout by command copies (banks_before j []) (collects_now j) (anew j) runs).within
 
-pub before-begins : (layout : Layout) (who : Who) (command : Command) (banks : Banks) (collects : Bool) (j : Job) → Begins layout who command banks collects j → banks_before j (left_in j banks) ≡ banks
-before-begins layout by command banks collects j begun = (has-begun layout by command banks collects j begun).before
+pub before-begins : (layout : Layout) (who : Who) (command : Command) (copies : Option VSlot) (banks : Banks) (collects : Bool) (j : Job) → BeginsWith layout who command copies banks collects j → banks_before j (left_in j banks) ≡ banks
+before-begins layout by command copies banks collects j begun = (has-begun layout by command copies banks collects j begun).before
 
 -- the command is the one that is its turn
 anew-who : (j : Job) → who (anew j) ≡ who j
 anew-who (jobs.Instruction i) = refl
 anew-who _ = refl
 
-pub runs-who : (layout : Layout) (by : Who) (command : Command) (j : Job) → Runs layout by command j → who j ≡ by
-runs-who layout by command j runs = sym (anew-who j) ∙ (has-begun layout by command (banks_before j []) (collects_now j) (anew j) runs).who_is
+pub runs-who : (layout : Layout) (by : Who) (command : Command) (copies : Option VSlot) (j : Job) → Runs layout by command copies j → who j ≡ by
+runs-who layout by command copies j runs = sym (anew-who j) ∙ (has-begun layout by command copies (banks_before j []) (collects_now j) (anew j) runs).who_is
 
 -- ---- a command that may begin
 
@@ -333,6 +412,27 @@ module _ {layout : Layout} {view : View} {who : Who} (rest : AtRest view who) {j
       at = rest.left thread;
     },
   )
+
+  fork-fits : {thread : Thread} {child : Proc} → BeginsFork layout who thread child j → IsFresh layout view who thread child → FitsFrom [] layout view j
+  fork-fits {thread} {child} begun fresh = subst (FitsFrom [] layout view) (sym begun.job_is) (
+    refl,
+    record {
+      on_turn = rest.on_turn;
+      hand_is = rest.hand_is;
+      made = rest.made;
+      decl = begun.decl;
+      declared = begun.declared;
+      own = begun.own;
+      process_is = refl;
+      process = begun.within;
+      targets = are-targets layout who thread child begun.targets begun.few begun.room begun.listed (λ t d declared of. (fresh t d declared of).0);
+      at = λ n t from is. let d = of-child layout child begun.targets begun.listed n t is in (fresh t d.0 d.1 d.2).1;
+    },
+  )
+
+  copy-fits : {thread : Thread} {slot from : VSlot} {line word : ℕ} {banks : Banks} {collects : Bool} → BeginsCopying layout who thread slot line word from banks collects j → FitsFrom [] layout view j
+  copy-fits {thread} {slot} {from} {line} {word} {banks} {collects} begun = subst (FitsFrom [] layout view) (sym begun.job_is)
+      (copy_ends.begins [] layout view begun.alloc (request_of who thread slot line (kinds.Store word) begun.page begun.process) word from begun.copied banks collects rest.on_turn begun.sound begun.names begun.own refl begun.three rest.hand_is rest.paid rest.made refl)
 
   spoil-fits : {frame : Frame} {line : ℕ} {damage : Damage} → BeginsSpoil layout who frame line damage j → FitsFrom [] layout view j
   spoil-fits begun = subst (FitsFrom [] layout view) (sym begun.job_is) (refl, record { on_turn = rest.on_turn; hand_is = rest.hand_is; made = rest.made; frame = begun.within; at = tt })
@@ -399,26 +499,35 @@ fsync-fits layout view who file opens j begun rest known = subst (FitsFrom [] la
   },
 )
 
-pub begins-fits : (layout : Layout) (view : View) (who : Who) (command : Command) (banks : Banks) (collects : Bool) (j : Job) → Begins layout who command banks collects j → AreBanks banks → AtRest view who → KnowsHandle view j → FitsFrom [] layout view j
-begins-fits layout view by (commands.Load thread slot line) banks collects j begun free rest known = access-fits rest tt begun
-begins-fits layout view by (commands.Fetch thread slot line) banks collects j begun free rest known = access-fits rest tt begun
-begins-fits layout view by (commands.KLoad thread slot line) banks collects j begun free rest known = access-fits rest tt begun
-begins-fits layout view by (commands.Store thread slot line word) banks collects j begun free rest known = access-fits rest tt begun
-begins-fits layout view by (commands.Free slot) banks collects j begun free rest known = eviction-fits rest begun.1
-begins-fits layout view by (commands.Drop page) banks collects j begun free rest known = eviction-fits rest begun
-begins-fits layout view by (commands.Sync page) banks collects j begun free rest known = eviction-fits rest begun
-begins-fits layout view by (commands.Out page) banks collects j begun free rest known = eviction-fits rest begun
-begins-fits layout view by (commands.Fsync file) banks collects j begun free rest known = fsync-fits layout view by file false j begun rest known
-begins-fits layout view by (commands.Open file) banks collects j begun free rest known = fsync-fits layout view by file true j begun rest known
-begins-fits layout view by (commands.Prctl thread args) banks collects j begun free rest known = prctl-fits rest begun
-begins-fits layout view by (commands.Bad frame line) banks collects j begun free rest known = spoil-fits rest begun
-begins-fits layout view by (commands.Weak frame line) banks collects j begun free rest known = spoil-fits rest begun
-begins-fits layout view by (commands.Scrub first last) banks collects j begun free rest known = scrub-fits rest begun free
-begins-fits layout view by (commands.Log status addr misc) banks collects j begun free rest known = log-fits rest begun
-begins-fits layout view by (commands.Watch threshold window) banks collects j begun free rest known = log-fits rest begun
-begins-fits layout view by (commands.RaiseUser thread ripv eipv) banks collects j begun free rest known = raise-user-fits rest begun
-begins-fits layout view by (commands.RaiseKernel ripv eipv) banks collects j begun free rest known = raise-kernel-fits rest begun
-begins-fits layout view by (commands.Inject frame) banks collects j begun free rest known = inject-fits rest begun
-begins-fits layout view by (commands.Soft frame) banks collects j begun free rest known = soft-fits rest begun
-begins-fits layout view by commands.RaiseNested banks collects j begun free rest known = subst (FitsFrom [] layout view) (sym begun) (refl, record { on_turn = rest.on_turn; hand_is = rest.hand_is; made = rest.made; at = tt })
-begins-fits layout view by (commands.Unpoison frame) banks collects j begun free rest known = unpoison-fits rest begun
+plain-fits : (layout : Layout) (view : View) (who : Who) (command : Command) (banks : Banks) (collects : Bool) (j : Job) → Begins layout who command banks collects j → AreBanks banks → AtRest view who → KnowsHandle view j → CanFork layout view who command → FitsFrom [] layout view j
+plain-fits layout view by (commands.Load thread slot line) banks collects j begun free rest known fresh = access-fits rest tt begun
+plain-fits layout view by (commands.Fetch thread slot line) banks collects j begun free rest known fresh = access-fits rest tt begun
+plain-fits layout view by (commands.KLoad thread slot line) banks collects j begun free rest known fresh = access-fits rest tt begun
+plain-fits layout view by (commands.Store thread slot line word) banks collects j begun free rest known fresh = access-fits rest tt begun
+plain-fits layout view by (commands.Free slot) banks collects j begun free rest known fresh = eviction-fits rest begun.1
+plain-fits layout view by (commands.Drop page) banks collects j begun free rest known fresh = eviction-fits rest begun
+plain-fits layout view by (commands.Sync page) banks collects j begun free rest known fresh = eviction-fits rest begun
+plain-fits layout view by (commands.Out page) banks collects j begun free rest known fresh = eviction-fits rest begun
+plain-fits layout view by (commands.Fsync file) banks collects j begun free rest known fresh = fsync-fits layout view by file false j begun rest known
+plain-fits layout view by (commands.Open file) banks collects j begun free rest known fresh = fsync-fits layout view by file true j begun rest known
+plain-fits layout view by (commands.Prctl thread args) banks collects j begun free rest known fresh = prctl-fits rest begun
+plain-fits layout view by (commands.Fork thread child) banks collects j begun free rest known fresh = fork-fits rest begun fresh
+plain-fits layout view by (commands.Bad frame line) banks collects j begun free rest known fresh = spoil-fits rest begun
+plain-fits layout view by (commands.Weak frame line) banks collects j begun free rest known fresh = spoil-fits rest begun
+plain-fits layout view by (commands.Scrub first last) banks collects j begun free rest known fresh = scrub-fits rest begun free
+plain-fits layout view by (commands.Log status addr misc) banks collects j begun free rest known fresh = log-fits rest begun
+plain-fits layout view by (commands.Watch threshold window) banks collects j begun free rest known fresh = log-fits rest begun
+plain-fits layout view by (commands.RaiseUser thread ripv eipv) banks collects j begun free rest known fresh = raise-user-fits rest begun
+plain-fits layout view by (commands.RaiseKernel ripv eipv) banks collects j begun free rest known fresh = raise-kernel-fits rest begun
+plain-fits layout view by (commands.Inject frame) banks collects j begun free rest known fresh = inject-fits rest begun
+plain-fits layout view by (commands.Soft frame) banks collects j begun free rest known fresh = soft-fits rest begun
+plain-fits layout view by commands.RaiseNested banks collects j begun free rest known fresh = subst (FitsFrom [] layout view) (sym begun) (refl, record { on_turn = rest.on_turn; hand_is = rest.hand_is; made = rest.made; at = tt })
+plain-fits layout view by (commands.Unpoison frame) banks collects j begun free rest known fresh = unpoison-fits rest begun
+
+copying-fits : (layout : Layout) (view : View) (who : Who) (command : Command) (from : VSlot) (banks : Banks) (collects : Bool) (j : Job) → BeginsCopy layout who command from banks collects j → AtRest view who → FitsFrom [] layout view j
+copying-fits layout view by (commands.Store thread slot line word) from banks collects j begun rest = copy-fits rest begun
+copying-fits layout view by command from banks collects j begun rest = absurd begun
+
+pub begins-fits : (layout : Layout) (view : View) (who : Who) (command : Command) (copies : Option VSlot) (banks : Banks) (collects : Bool) (j : Job) → BeginsWith layout who command copies banks collects j → AreBanks banks → AtRest view who → KnowsHandle view j → CanFork layout view who command → FitsFrom [] layout view j
+begins-fits layout view by command None banks collects j begun free rest known fresh = plain-fits layout view by command banks collects j begun free rest known fresh
+begins-fits layout view by command (Some from) banks collects j begun free rest known fresh = copying-fits layout view by command from banks collects j begun rest

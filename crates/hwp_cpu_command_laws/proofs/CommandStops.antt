@@ -34,6 +34,14 @@ use Rattle.hwp_cpu_command.specs.hwp_law_commands.Outcomes.{outcome_answer, repl
 use Rattle.hwp_cpu_command.specs.hwp_banks.Banks.{Banks}
 use Rattle.hwp_cpu_command.specs.hwp_cpu_control.declared.Nested.{Nested}
 use Rattle.hwp_cpu_command.specs.hwp_cpu_control.declared.NestedAnswer.TheVariants as nested_answers
+use Rattle.hwp_cpu_command.specs.hwp_cpu_control.declared.Fork.{Fork}
+use Rattle.hwp_cpu_command.specs.hwp_cpu_control.declared.ForkAnswer.TheVariants as fork_answers
+use Rattle.hwp_cpu_command.specs.hwp_cpu_control.declared.fork.ForkAt.{ForkAt}
+use Rattle.hwp_cpu_command.specs.hwp_cpu_control.declared.fork.ForkAt.TheVariants as fork_at
+use Rattle.hwp_cpu_command.specs.hwp_cpu_control.Forks as forks
+use Rattle.hwp_cpu_command.specs.hwp_geom.declared.VSlot.{VSlot}
+use Rattle.hwp_cpu_command.specs.hwp_cpu_copy.declared.copying.CopyingAt.{CopyingAt}
+use Rattle.hwp_cpu_command.specs.hwp_cpu_copy.Copyings as copyings
 use Rattle.hwp_cpu_command.specs.hwp_cpu_control.declared.Prctl.{Prctl}
 use Rattle.hwp_cpu_command.specs.hwp_cpu_control.declared.PrctlAnswer.TheVariants as prctl_answers
 use Rattle.hwp_cpu_command.specs.hwp_cpu_control.declared.ReadStop.{ReadStop}
@@ -120,12 +128,12 @@ use Rattle.hwp_cpu_command.specs.hwp_soft_unpoison.Unpoisons as unpoisons
 use Rattle.hwp_cpu_command.specs.hwp_soft_move.Seizes as seizes
 use Rattle.hwp_cpu_command.specs.declared.job.Job.{Job}
 use Rattle.hwp_cpu_command.specs.declared.job.Job.TheVariants as jobs
-use Rattle.hwp_cpu_command.specs.Answers.{evict_answer, fail_answer, fsync_answer, instruction_answer, nested_answer, prctl_answer, raise_answer, read_stop_answer, refusal_answer, scrub_answer, soft_answer, spoil_answer, unpoison_answer}
-use Rattle.hwp_cpu_command.specs.Begins.{Begins}
+use Rattle.hwp_cpu_command.specs.Answers.{evict_answer, fail_answer, fork_answer, fsync_answer, instruction_answer, nested_answer, prctl_answer, raise_answer, read_stop_answer, refusal_answer, scrub_answer, soft_answer, spoil_answer, unpoison_answer}
+use Rattle.hwp_cpu_command.specs.Begins.{BeginsWith}
 use Rattle.hwp_cpu_command.specs.Jobs.{FitsFrom, answer, plan, put, told_of, who}
 use Rattle.hwp_cpu_command.specs.Stays.{EndsAtOnce, EndsStopped, HasSpoiled, HasStopped, IsAtStop, IsHalted, IsStopping, Stepped, StopsItself}
 use Rattle.hwp_cpu_command.proofs.JobEnds.{InjectEnded, answered-over, inject-ended, instruction-ended, mapped, raise-ended, scrub-ended, soft-ended, unpoison-ended}
-use Rattle.hwp_cpu_command_laws.proofs.CommandLeaves.{StopsLeft, evict-left, fsync-left, inject-left, instruction-left, log-left, nested-left, prctl-left, raise-left, scrub-left, soft-left, spoil-left, unpoison-left}
+use Rattle.hwp_cpu_command_laws.proofs.CommandLeaves.{StopsLeft, evict-left, fork-left, fsync-left, inject-left, instruction-left, log-left, nested-left, prctl-left, raise-left, scrub-left, soft-left, spoil-left, unpoison-left}
 use Rattle.hwp_cpu_command_laws.proofs.CommandRuns.{has-begun}
 
 -- ---- answers
@@ -140,9 +148,11 @@ other a is e = true≢false (sym (ap says_stopped e) ∙ is)
 -- a command that has yet to look has no answer
 unanswered : (j : Job) → IsAtStop j → answer j ≡ None
 unanswered (jobs.Instruction i) is = ap (λ (x : InstructionAt). option_map instruction_answer (instructions.answer_at x)) is.1
+unanswered (jobs.Copying c) is = ap (λ (x : CopyingAt). option_map instruction_answer (copyings.answer_at c.instruction x)) is.0 ∙ ap (λ (x : InstructionAt). option_map instruction_answer (instructions.answer_at x)) is.2.1
 unanswered (jobs.Evict e) is = ap (λ (x : EvictAt). option_map evict_answer (evicts.answer_at x)) is
 unanswered (jobs.Fsync f) is = ap (λ (x : FsyncAt). option_map fsync_answer (fsyncs.answer_at x)) is
 unanswered (jobs.Prctl p) is = ap (λ (x : PrctlAt). option_map prctl_answer (prctls.answer_at x)) is
+unanswered (jobs.Fork f) is = ap (λ (x : ForkAt). option_map fork_answer (forks.answer_at x)) is
 unanswered (jobs.Log l) is = ap (λ (x : ReadStopAt). option_map read_stop_answer (read_stops.answer_at x)) is
 unanswered (jobs.Raise r) is = ap (λ (x : RaiseAt). option_map (raise_answer (length r.lines.told)) (raises.answer_at x)) is.0
 unanswered (jobs.Scrub c) is = ap (λ (x : ScrubAt). option_map (scrub_answer (length c.lines.told)) (scrubs.answer_at x)) is.0
@@ -155,6 +165,7 @@ unanswered (jobs.Unpoison u) is = ap (λ (x : UnpoisonAt). option_map unpoison_a
 -- a command that has stopped the machine is answered `stopped`
 pub has-stopped : (j : Job) → HasStopped j → answer j ≡ Some answers.Stopped
 has-stopped (jobs.Instruction i) has = ap (option_map instruction_answer) has.0
+has-stopped (jobs.Copying c) has = ap (λ (x : CopyingAt). option_map instruction_answer (copyings.answer_at c.instruction x)) has.0 ∙ ap (option_map instruction_answer) has.1.0
 has-stopped (jobs.Raise r) has = ap (option_map (raise_answer (length r.lines.told))) has.0
 has-stopped (jobs.Scrub c) has = ap (option_map (scrub_answer (length c.lines.told))) has.0
 has-stopped (jobs.Nested n) has = ap (λ (x : NestedAt). option_map nested_answer (nesteds.answer_at x)) has
@@ -194,6 +205,9 @@ starts_scrub _ = false
 not-stopping : (j : Job) → EndsStopped j → IsStopping j → ⊥
 not-stopping (jobs.Instruction i) (inl (a, start, look, none)) (frame, h, handles, stop) = true≢false (sym (ap starts_access start) ∙ ap starts_access handles)
 not-stopping (jobs.Instruction i) (inr stopped) (frame, h, handles, stop) = none-some answers.Stopped (sym (ap (λ (x : InstructionAt). option_map instruction_answer (instructions.answer_at x)) handles) ∙ stopped)
+not-stopping (jobs.Copying c) (inl (at, fresh, a, start, look, none)) (own, frame, h, handles, stop) = true≢false (sym (ap starts_access start) ∙ ap starts_access handles)
+not-stopping (jobs.Copying c) (inr stopped) (own, frame, h, handles, stop) =
+    none-some answers.Stopped (sym (ap (λ (x : CopyingAt). option_map instruction_answer (copyings.answer_at c.instruction x)) own ∙ ap (λ (x : InstructionAt). option_map instruction_answer (instructions.answer_at x)) handles) ∙ stopped)
 not-stopping (jobs.Raise r) (inl (start, none)) (h, handles, stop) = true≢false (sym (ap starts_raise start) ∙ ap starts_raise handles)
 not-stopping (jobs.Raise r) (inr stopped) (h, handles, stop) = none-some answers.Stopped (sym (ap (λ (x : RaiseAt). option_map (raise_answer (length r.lines.told)) (raises.answer_at x)) handles) ∙ stopped)
 not-stopping (jobs.Scrub c) (inl (start, none)) (frame, h, handles, stop) = true≢false (sym (ap starts_scrub start) ∙ ap starts_scrub handles)
@@ -240,6 +254,7 @@ stops-after {j = jobs.Instruction i} s = (instruction-left s).stops
 stops-after {j = jobs.Evict e} s = (evict-left s).stops
 stops-after {j = jobs.Fsync f} s = inl (fsync-left s).1
 stops-after {j = jobs.Prctl p} s = inl (prctl-left s).1
+stops-after {j = jobs.Fork f} s = inl (fork-left s).1
 stops-after {j = jobs.Log l} s = (log-left s).stops
 stops-after {j = jobs.Raise r} s = (raise-left s).stops
 stops-after {j = jobs.Scrub c} s = (scrub-left s).stops
@@ -255,6 +270,7 @@ spoils-after {j = jobs.Instruction i} s = inl (instruction-left s).rest.spoiled
 spoils-after {j = jobs.Evict e} s = inl (evict-left s).rest.spoiled
 spoils-after {j = jobs.Fsync f} s = inl (fsync-left s).0
 spoils-after {j = jobs.Prctl p} s = inl (prctl-left s).0
+spoils-after {j = jobs.Fork f} s = inl (fork-left s).0
 spoils-after {j = jobs.Log l} s = inl (log-left s).rest.spoiled
 spoils-after {j = jobs.Raise r} s = inl (raise-left s).rest.spoiled
 spoils-after {j = jobs.Scrub c} s = inl (scrub-left s).rest.spoiled
@@ -298,9 +314,11 @@ module _ {layout : Layout} {old new : View} {j after : Job} (s : Stepped layout 
 -- the step of a command that has yet to look is the load of the stop word
 pub look-first : (j : Job) → IsAtStop j → plan j ≡ Some (steps.Load places.Stop)
 look-first (jobs.Instruction i) (a, start, look, none) = ap instructions.plan_at start ∙ ap (accesses.plan_at a.request) look
+look-first (jobs.Copying c) (own, fresh, a, start, look, none) = ap (copyings.plan_at c.instruction) own ∙ ap instructions.plan_at start ∙ ap (accesses.plan_at a.request) look
 look-first (jobs.Evict e) start = ap evicts.plan_at start
 look-first (jobs.Fsync f) start = ap (fsyncs.plan_at f.file) start
 look-first (jobs.Prctl p) start = ap (prctls.plan_at p.thread p.process) start
+look-first (jobs.Fork f) start = ap (forks.plan_at f.thread f.process) start
 look-first (jobs.Log l) start = ap read_stops.plan_at start
 look-first (jobs.Raise r) (start, none) = ap raises.plan_at start
 look-first (jobs.Scrub c) (start, none) = ap scrubs.plan_at start
@@ -331,6 +349,9 @@ looks (jobs.Fsync f) after s word start =
 looks (jobs.Prctl p) after s word start =
     ap answer s.follows.0 ∙ ap (λ (x : PrctlAt). option_map prctl_answer (prctls.answer_at (prctls.next_at p.arguments x s.found))) start
     ∙ ap (λ (b : Bool). option_map prctl_answer (prctls.answer_at (cond b (prctl_at.Over prctl_answers.Stopped) prctl_at.LoadProcess))) word
+looks (jobs.Fork f) after s word start =
+    ap answer s.follows.0 ∙ ap (λ (x : ForkAt). option_map fork_answer (forks.answer_at (forks.next_at f.targets x s.found))) start
+    ∙ ap (λ (b : Bool). option_map fork_answer (forks.answer_at (cond b (fork_at.Over fork_answers.Stopped) fork_at.LoadProcess))) word
 looks (jobs.Log l) after s word start =
     ap answer s.follows.0 ∙ ap (λ (o : Option ReadStopAnswer). option_map read_stop_answer (logs.answer (logs.next_by l s.found o))) (ap read_stops.answer_at start)
     ∙ ap (λ (x : ReadStopAt). option_map read_stop_answer (read_stops.answer_at (read_stops.next_at x s.found))) start
@@ -364,6 +385,7 @@ looks (jobs.Unpoison u) after s word start =
 -- at its beginning a command has told of no event
 pub untold-at-start : (j : Job) → IsAtStop j → told_of j ≡ []
 untold-at-start (jobs.Instruction i) start = start.3
+untold-at-start (jobs.Copying c) start = start.2.3
 untold-at-start (jobs.Raise r) start = start.1
 untold-at-start (jobs.Scrub c) start = start.1
 untold-at-start _ start = refl
@@ -388,6 +410,7 @@ looks-untold (jobs.Inject i) after s word start = ap told_of s.follows.1
 looks-untold (jobs.Soft o) after s word start = ap told_of s.follows.1
 looks-untold (jobs.Fsync f) after s word start = ap told_of s.follows.0
 looks-untold (jobs.Prctl p) after s word start = ap told_of s.follows.0
+looks-untold (jobs.Fork f) after s word start = ap told_of s.follows.0
 looks-untold (jobs.Log l) after s word start = ap told_of s.follows.0
 looks-untold (jobs.Spoil p) after s word start = ap told_of s.follows.0
 looks-untold (jobs.Nested n) after s word start = ap told_of s.follows.0
@@ -411,8 +434,8 @@ looks-first {new = new} {j = j} {after = after} s start = which (is_stopped s.fo
 
 -- ---- the beginning and the end of a command
 
-pub begins-stop : (layout : Layout) (by : Who) (command : Command) (banks : Banks) (collects : Bool) (j : Job) → Begins layout by command banks collects j → IsAtStop j
-begins-stop layout by command banks collects j begins = (has-begun layout by command banks collects j begins).start
+pub begins-stop : (layout : Layout) (by : Who) (command : Command) (copies : Option VSlot) (banks : Banks) (collects : Bool) (j : Job) → BeginsWith layout by command copies banks collects j → IsAtStop j
+begins-stop layout by command copies banks collects j begins = (has-begun layout by command copies banks collects j begins).start
 
 -- what a command saw of the stop word
 halts : {view : View} {by : Who} → SawStop view by → IsHalted view
@@ -480,6 +503,12 @@ module _ (layout : Layout) (view : View) where
   prctl-halts p (prctl_at.Over (prctl_answers.Replied reply)) fits is = absurd (other _ (replied reply) is)
   prctl-halts p _ fits is = absurd (none-some _ is)
 
+  fork-halts : (f : Fork) (x : ForkAt) → forks.FitsAt view f.who f.thread f.process f.targets x → option_map fork_answer (forks.answer_at x) ≡ Some answers.Stopped → IsHalted view
+  fork-halts f (fork_at.Over fork_answers.Stopped) fits is = halts fits
+  fork-halts f (fork_at.Over (fork_answers.Gone page)) fits is = absurd (other _ refl is)
+  fork-halts f (fork_at.Over (fork_answers.Done policy)) fits is = absurd (other _ refl is)
+  fork-halts f _ fits is = absurd (none-some _ is)
+
   read-halts : (r : ReadStop) (x : ReadStopAt) → read_stops.FitsAt view r.who x → option_map read_stop_answer (read_stops.answer_at x) ≡ Some answers.Stopped → IsHalted view
   read-halts r (read_stop_at.Over read_stop_answers.Stopped) fits is = halts fits
   read-halts r (read_stop_at.Over read_stop_answers.Done) fits is = absurd (other _ refl is)
@@ -523,6 +552,7 @@ stopped-halts base layout view (jobs.Instruction i) fits is = let own = mapped _
 stopped-halts base layout view (jobs.Evict e) fits is = evict-halts layout view base e e.at fits.at is
 stopped-halts base layout view (jobs.Fsync f) fits is = fsync-halts layout view f f.at fits.1.at is
 stopped-halts base layout view (jobs.Prctl p) fits is = prctl-halts layout view p p.at fits.1.at is
+stopped-halts base layout view (jobs.Fork f) fits is = fork-halts layout view f f.at fits.1.at is
 stopped-halts base layout view (jobs.Log l) fits is = read-halts layout view l.read l.read.at fits.1.read.at is
 stopped-halts base layout view (jobs.Raise r) fits is = let own = mapped _ (raises.answer r) is in raise-halts layout view r own.0 (raise-ended r fits.1 own.1).1 own.2
 stopped-halts base layout view (jobs.Scrub c) fits is = let own = mapped _ (scrubs.answer c) is in scrub-halts layout view c own.0 (scrub-ended c fits.1 own.1) own.2

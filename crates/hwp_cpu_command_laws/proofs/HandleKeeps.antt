@@ -34,12 +34,14 @@ pub handle-stays : (layout : Layout) (handles : List ℕ) (j after : Job) (found
 handle-stays layout handles (jobs.Fsync f) after found got turn next has =
     subst (HasHandle handles) (sym next.0) (has.0, stays-told f.handle found f.opens f.at has.1)
 handle-stays layout handles (jobs.Instruction i) after found got turn next has = subst (HasHandle handles) (sym next.1) tt
+handle-stays layout handles (jobs.Copying c) after found got turn next has = subst (HasHandle handles) (sym next.1) tt
 handle-stays layout handles (jobs.Evict e) after found got turn next has = subst (HasHandle handles) (sym next.1) tt
 handle-stays layout handles (jobs.Raise r) after found got turn next has = subst (HasHandle handles) (sym next.1) tt
 handle-stays layout handles (jobs.Scrub s) after found got turn next has = subst (HasHandle handles) (sym next.1) tt
 handle-stays layout handles (jobs.Inject i) after found got turn next has = subst (HasHandle handles) (sym next.1) tt
 handle-stays layout handles (jobs.Soft s) after found got turn next has = subst (HasHandle handles) (sym next.1) tt
 handle-stays layout handles (jobs.Prctl p) after found got turn next has = subst (HasHandle handles) (sym next.0) tt
+handle-stays layout handles (jobs.Fork f) after found got turn next has = subst (HasHandle handles) (sym next.0) tt
 handle-stays layout handles (jobs.Log l) after found got turn next has = subst (HasHandle handles) (sym next.0) tt
 handle-stays layout handles (jobs.Spoil s) after found got turn next has = subst (HasHandle handles) (sym next.0) tt
 handle-stays layout handles (jobs.Nested n) after found got turn next has = subst (HasHandle handles) (sym next.0) tt

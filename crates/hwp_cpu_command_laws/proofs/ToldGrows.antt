@@ -16,6 +16,20 @@ use Rattle.hwp_cpu_command.specs.hwp_cpu_access.declared.Instruction.{Instructio
 use Rattle.hwp_cpu_command.specs.hwp_cpu_access.declared.instruction.InstructionAt.{InstructionAt}
 use Rattle.hwp_cpu_command.specs.hwp_cpu_access.declared.instruction.InstructionAt.TheVariants as instruction_at
 use Rattle.hwp_cpu_command.specs.hwp_cpu_access.Instructions as instructions
+use Rattle.hwp_cpu_command.specs.hwp_page.declared.At.{At}
+use Rattle.hwp_cpu_command.specs.hwp_evict.declared.Evict.{Evict}
+use Rattle.hwp_cpu_command.specs.hwp_evict.declared.EvictAnswer.{EvictAnswer}
+use Rattle.hwp_cpu_command.specs.hwp_evict.declared.EvictAnswer.TheVariants as evict_answers
+use Rattle.hwp_cpu_command.specs.hwp_evict.Evicts as evicts
+use Rattle.hwp_cpu_command.specs.hwp_cpu_access.declared.InstructionAnswer.{InstructionAnswer}
+use Rattle.hwp_cpu_command.specs.hwp_cpu_access.declared.InstructionAnswer.TheVariants as instruction_answers
+use Rattle.hwp_cpu_command.specs.hwp_fork.declared.Sub.{Sub}
+use Rattle.hwp_cpu_command.specs.hwp_fork.declared.Sub.TheVariants as subs
+use Rattle.hwp_cpu_command.specs.hwp_fork.Cows as cows
+use Rattle.hwp_cpu_command.specs.hwp_cpu_copy.declared.Copying.{Copying}
+use Rattle.hwp_cpu_command.specs.hwp_cpu_copy.declared.copying.CopyingAt.{CopyingAt}
+use Rattle.hwp_cpu_command.specs.hwp_cpu_copy.declared.copying.CopyingAt.TheVariants as copying_at
+use Rattle.hwp_cpu_command.specs.hwp_cpu_copy.Copyings as copyings
 use Rattle.hwp_cpu_command.specs.hwp_cpu_raise.declared.Raise.{Raise}
 use Rattle.hwp_cpu_command.specs.hwp_cpu_raise.declared.Raiser.{Raiser}
 use Rattle.hwp_cpu_command.specs.hwp_cpu_raise.declared.raise.RaiseAt.{RaiseAt}
@@ -68,6 +82,39 @@ instruction-longer layout i k found got turn follows = which i.at follows
     which instruction_at.GiveUp next = from next.0 (same-lines refl)
     which (instruction_at.Paused pause) next = from next.0 (same-lines refl)
     which (instruction_at.Over answer) next = from next.0 (same-lines refl)
+
+-- ---- a copy
+
+copy-going : (c : Copying) (place : At) (sub : Sub) → (copyings.going_on c place sub).instruction.lines.told ≡ c.instruction.lines.told
+copy-going c place (subs.Load slot line) = refl
+copy-going c place (subs.Store slot line word) = refl
+copy-going c place (subs.Free slot) = refl
+copy-going c place subs.Switched = refl
+
+copy-accessed : (c : Copying) (o : Option InstructionAnswer) → (copyings.after_access c o).instruction.lines.told ≡ c.instruction.lines.told
+copy-accessed c None = refl
+copy-accessed c (Some (instruction_answers.Value word place)) = copy-going (record c { cow = cows.told_by c.cow word }) place (cows.sub_of (cows.told_by c.cow word))
+copy-accessed c (Some (instruction_answers.Stored place)) = copy-going (record c { cow = cows.told_by c.cow 0 }) place (cows.sub_of (cows.told_by c.cow 0))
+copy-accessed c (Some (instruction_answers.Sigbus place)) = refl
+copy-accessed c (Some instruction_answers.NoFrame) = refl
+copy-accessed c (Some (instruction_answers.Gone page)) = refl
+copy-accessed c (Some instruction_answers.Stopped) = refl
+
+copy-freed : (c : Copying) (e : Evict) (stored : At) (o : Option EvictAnswer) → (copyings.after_free_by c e stored o).instruction.lines.told ≡ c.instruction.lines.told
+copy-freed c e stored None = refl
+copy-freed c e stored (Some evict_answers.Stopped) = refl
+copy-freed c e stored (Some (evict_answers.Done place)) = refl
+copy-freed c e stored (Some (evict_answers.Refused refusal place)) = refl
+
+copy-longer : (layout : Layout) (c k : Copying) (found : ℕ) (got : Option BodyValue) (turn : Turn) → copyings.Follows layout (copyings.bare c) found got k turn → IsLonger c.instruction.lines.told k.instruction.lines.told
+copy-longer layout c k found got turn follows = which c.at follows
+  where
+    which : (x : CopyingAt) → copyings.FollowsAt layout (copyings.bare_at c x) (copyings.bare_at c x).at found got k turn → IsLonger c.instruction.lines.told k.instruction.lines.told
+    which copying_at.Access next = subst (IsLonger c.instruction.lines.told)
+        (sym (ap (λ (k : Copying). k.instruction.lines.told) next.next_is ∙ copy-accessed (record (copyings.bare_at c copying_at.Access) { instruction = next.instruction }) (instructions.answer next.instruction)))
+        (instruction-longer layout c.instruction next.instruction found got turn next.follows)
+    which (copying_at.Free e stored) next = same-lines (ap (λ (k : Copying). k.instruction.lines.told) next.next_is ∙ copy-freed (copyings.bare_at c (copying_at.Free e stored)) next.evict stored (evicts.answer next.evict))
+    which (copying_at.Over answer) next = same-lines (ap (λ (k : Copying). k.instruction.lines.told) next.0)
 
 -- ---- a machine check that is raised
 
@@ -135,6 +182,7 @@ scrub-longer layout s k found got turn follows = which s.at follows
 
 pub told-longer : (layout : Layout) (j after : Job) (found : ℕ) (got : Option BodyValue) (turn : Turn) → Next layout (bare j) found got after turn → IsLonger (told_of j) (told_of after)
 told-longer layout (jobs.Instruction i) after found got turn next = subst (λ (x : Job). IsLonger i.lines.told (told_of x)) (sym next.1) (instruction-longer layout i next.0 found got turn next.2)
+told-longer layout (jobs.Copying c) after found got turn next = subst (λ (x : Job). IsLonger c.instruction.lines.told (told_of x)) (sym next.1) (copy-longer layout c next.0 found got turn next.2)
 told-longer layout (jobs.Raise r) after found got turn next = subst (λ (x : Job). IsLonger r.lines.told (told_of x)) (sym next.1) (raise-longer layout r next.0 found got turn next.2)
 told-longer layout (jobs.Scrub s) after found got turn next = subst (λ (x : Job). IsLonger s.lines.told (told_of x)) (sym next.1) (scrub-longer layout s next.0 found got turn next.2)
 told-longer layout (jobs.Evict e) after found got turn next = same-lines (ap told_of next.1)
@@ -142,6 +190,7 @@ told-longer layout (jobs.Inject i) after found got turn next = same-lines (ap to
 told-longer layout (jobs.Soft s) after found got turn next = same-lines (ap told_of next.1)
 told-longer layout (jobs.Fsync f) after found got turn next = same-lines (ap told_of next.0)
 told-longer layout (jobs.Prctl p) after found got turn next = same-lines (ap told_of next.0)
+told-longer layout (jobs.Fork f) after found got turn next = same-lines (ap told_of next.0)
 told-longer layout (jobs.Log l) after found got turn next = same-lines (ap told_of next.0)
 told-longer layout (jobs.Spoil p) after found got turn next = same-lines (ap told_of next.0)
 told-longer layout (jobs.Nested n) after found got turn next = same-lines (ap told_of next.0)

@@ -65,7 +65,7 @@ module _ (layout : Layout) (s : State) (h : Holds layout s) where
       omega arith
 
   -- the word of a thread's policy says what its processor's view lists
-  set-by : (thread : Thread) (decl : ThreadDecl) (seat : ℕ) (view : View) (who : Who) (found : ℕ) → slice_get layout.threads thread.0 ≡ Some decl → decl.cpu ≡ who.cpu → slice_get s.views seat ≡ Some view → IsOnTurn view who
+  pub set-by : (thread : Thread) (decl : ThreadDecl) (seat : ℕ) (view : View) (who : Who) (found : ℕ) → slice_get layout.threads thread.0 ≡ Some decl → decl.cpu ≡ who.cpu → slice_get s.views seat ≡ Some view → IsOnTurn view who
       → found ≡ slice_index s.words (index layout (places.Policy thread)) → PolicyAgrees thread found (map (λ (v : View). v.sights) s.views) (settings_of thread view.settings)
   set-by thread decl seat view who found declared own me on met =
       let inside : thread.0 < length layout.threads = slice_get_within layout.threads thread.0 decl declared in
@@ -80,7 +80,7 @@ settings-back n policy_names.Late few = omega arith
 settings-back n policy_names.Early few = omega arith
 settings-back n policy_names.Default few = omega arith
 
-policy-back : (n : ℕ) (p : Policy) → words.policy_of (policy_at n p) ≡ p
+pub policy-back : (n : ℕ) (p : Policy) → words.policy_of (policy_at n p) ≡ p
 policy-back n policy_names.Late = let low : policy_at n policy_names.Late / 2 ^ 0 % 2 ^ 2 ≡ 0 = omega arith in ap words.policy_coded low
 policy-back n policy_names.Early = let low : policy_at n policy_names.Early / 2 ^ 0 % 2 ^ 2 ≡ 1 = omega arith in ap words.policy_coded low
 policy-back n policy_names.Default = let low : policy_at n policy_names.Default / 2 ^ 0 % 2 ^ 2 ≡ 2 = omega arith in ap words.policy_coded low

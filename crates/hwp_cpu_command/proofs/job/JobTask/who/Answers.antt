@@ -36,3 +36,9 @@ returns-in-Soft-clause-law c = lawful
 
 pub returns-in-Unpoison-clause-law : goal.returns-in-Unpoison-clause-law
 returns-in-Unpoison-clause-law c = lawful
+
+pub returns-in-Copying-clause-law : goal.returns-in-Copying-clause-law
+returns-in-Copying-clause-law c = lawful
+
+pub returns-in-Fork-clause-law : goal.returns-in-Fork-clause-law
+returns-in-Fork-clause-law c = lawful

@@ -1,0 +1,30 @@
+-- A command that is an access: what it names is declared, and the task of what it asks for begins it.
+use Rattle.std.proofs.Common.{◌≡◌, ℕ, ◌<◌, Bool, Some, sym, subst}
+use Rattle.std.proofs.lemmas.Option.{none-some, same_Some}
+use Rattle.hwp_cpu_control.specs.hwp_geom.declared.Layout.{Layout}
+use Rattle.hwp_cpu_control.specs.hwp_geom.declared.Who.{Who}
+use Rattle.hwp_cpu_control.specs.hwp_geom.Limits.{line_limit}
+use Rattle.hwp_cpu_row.specs.hwp_banks.Banks.{Banks}
+use Rattle.hwp_cpu_row.specs.hwp_script_lines.declared.Command.{Command}
+use Rattle.hwp_cpu_row.specs.hwp_script_lines.declared.Command.TheVariants as commands
+use Rattle.hwp_cpu_row.specs.hwp_script_read.Valid.{IsAccess, IsCommandOf}
+use Rattle.hwp_cpu_command.specs.declared.begin.LineAccess.{LineAccess}
+use Rattle.hwp_cpu_command.specs.declared.job.Job.{Job}
+use Rattle.hwp_cpu_command.specs.Begins.{Begins, BeginsLine, access_in}
+
+abbrev IsDeclared : Layout → ℕ → LineAccess → Type 0
+IsDeclared layout cpu at = IsAccess layout cpu at.thread at.slot × (at.line < line_limit)
+
+pub access-declared : (layout : Layout) (cpu : ℕ) (command : Command) (at : LineAccess) → access_in command ≡ Some at → IsCommandOf layout cpu command → IsAccess layout cpu at.thread at.slot × (at.line < line_limit)
+access-declared layout cpu (commands.Load thread slot line) at is of = subst (IsDeclared layout cpu) (same_Some _ at is) of
+access-declared layout cpu (commands.Fetch thread slot line) at is of = subst (IsDeclared layout cpu) (same_Some _ at is) of
+access-declared layout cpu (commands.KLoad thread slot line) at is of = subst (IsDeclared layout cpu) (same_Some _ at is) of
+access-declared layout cpu (commands.Store thread slot line word) at is of = subst (IsDeclared layout cpu) (same_Some _ at is) of
+access-declared layout cpu command at is of = absurd (none-some at is)
+
+pub access-begins : (layout : Layout) (who : Who) (command : Command) (at : LineAccess) (banks : Banks) (collects : Bool) (j : Job) → access_in command ≡ Some at → BeginsLine layout who at banks collects j → Begins layout who command banks collects j
+access-begins layout who (commands.Load thread slot line) at banks collects j is begins = subst (λ (a : LineAccess). BeginsLine layout who a banks collects j) (sym (same_Some _ at is)) begins
+access-begins layout who (commands.Fetch thread slot line) at banks collects j is begins = subst (λ (a : LineAccess). BeginsLine layout who a banks collects j) (sym (same_Some _ at is)) begins
+access-begins layout who (commands.KLoad thread slot line) at banks collects j is begins = subst (λ (a : LineAccess). BeginsLine layout who a banks collects j) (sym (same_Some _ at is)) begins
+access-begins layout who (commands.Store thread slot line word) at banks collects j is begins = subst (λ (a : LineAccess). BeginsLine layout who a banks collects j) (sym (same_Some _ at is)) begins
+access-begins layout who command at banks collects j is begins = absurd (none-some at is)

@@ -1,0 +1,10 @@
+use Rattle.hwp_cpu_control.proofs.fork.ForkScheduled.tells.Goals as goal
+use Rattle.hwp_core_task.proofs.Revivals.{mild-pays}
+use Rattle.hwp_cpu_control.proofs.ForkLaws.{mild, tells}
+use Rattle.hwp_cpu_control.specs.Forks.{task}
+
+pub returns-clause-class : goal.returns-clause-class
+returns-clause-class c = tells
+
+pub returns-clause-pays : goal.returns-clause-pays
+returns-clause-pays c = mild-pays task mild
