@@ -1,11 +1,9 @@
 -- What a report says of a command that has an answer: the command that was acted on, why it was answered so, and that no other answer names
 -- an entry that stored a word.
-use Rattle.std.proofs.Common.{◌≡◌, ℕ, zero, suc, ◌+◌, ◌<◌, ◌==◌, Bool, true, false, cond, List, [], ◌∷◌, Option, None, Some, filter, filter_map, length, option_and_then, option_map, slice_get, unwrap_or, refl, sym, ap, ◌∙◌, subst, true≢false, arith}
-use Rattle.std.specs.Prelude.{All, IsSomeAnd}
-use Rattle.std.specs.List.{zip}
+use Rattle.std.proofs.Common.{◌≡◌, ℕ, zero, suc, ◌+◌, ◌==◌, Bool, true, false, cond, List, [], ◌∷◌, Option, None, Some, option_and_then, option_map, slice_get, unwrap_or, refl, sym, ap, ◌∙◌, subst, true≢false, arith}
+use Rattle.std.specs.Prelude.{All}
 use Rattle.std.proofs.lemmas.Bool.{eq-eqb}
 use Rattle.std.proofs.lemmas.Option.{get_or_from_slice_get, none-some, same_Some, slice_get_within}
-use Rattle.hwp_law.specs.hwp_geom.declared.Cpu.{Cpu}
 use Rattle.hwp_law.specs.hwp_geom.declared.Mask.{Mask}
 use Rattle.hwp_law.specs.hwp_geom.declared.Thread.{Thread}
 use Rattle.hwp_law.specs.hwp_geom.declared.VSlot.{VSlot}
@@ -30,11 +28,11 @@ use Rattle.hwp_law.specs.hwp_script_read.declared.Script.{Script}
 use Rattle.hwp_law.specs.hwp_law_commands.Commands.{command_at}
 use Rattle.hwp_law.specs.hwp_law_commands.Cows.{acting}
 use Rattle.hwp_law.specs.Acting.{acting_script, copied_at}
-use Rattle.hwp_law.specs.Answers.{IsNamed, StandsAt, named_in}
+use Rattle.hwp_law.specs.Answers.{IsNamed, named_in}
 use Rattle.hwp_law.specs.Causes.{AreCaused, IsCaused, SendsSigbus}
 use Rattle.hwp_law.specs.Copies.{must_be_named}
 use Rattle.hwp_law.specs.Law.{AnswersFit}
-use Rattle.hwp_law.specs.Lines.{answer_among, answer_of, answers_in, offlined_among, offlined_in, offlined_of, seq_of}
+use Rattle.hwp_law.specs.Lines.{answer_among, answer_of, answers_in, offlined_among, offlined_of, seq_of}
 use Rattle.hwp_law.specs.Offlined.{AreOfflined, IsOffline}
 use Rattle.hwp_law.specs.Places.{entry_at}
 use Rattle.hwp_law.specs.Policies.{answered_before, answered_on}

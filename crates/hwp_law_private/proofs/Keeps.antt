@@ -1,14 +1,11 @@
 -- Command after command behind the fork: once the translation is switched, the page of its twin holds on each line what a full copy would.
-use Rattle.std.proofs.Common.{◌≡◌, ◌≢◌, ℕ, zero, suc, ◌+◌, ◌<◌, ◌==◌, ◌&&◌, Bool, true, false, cond, List, [], ◌∷◌, ◌++◌, Option, None, Some, filter, filter_map, fold, length, map, option_and_then, option_map, slice_get, take, unwrap_or, if◌then◌else◌, refl, sym, ap, ◌∙◌, subst, true≢false, arith}
+use Rattle.std.proofs.Common.{◌≡◌, ◌≢◌, ℕ, zero, suc, ◌+◌, ◌<◌, ◌==◌, ◌&&◌, Bool, true, false, cond, List, [], ◌∷◌, Option, None, Some, filter, filter_map, fold, length, map, option_map, slice_get, take, unwrap_or, if◌then◌else◌, refl, sym, ap, ◌∙◌, subst, true≢false, arith}
 use Rattle.std.specs.Prelude.{Any}
-use Rattle.std.specs.List.{cons_option}
 use Rattle.std.specs.Option.{option_map_or}
 use Rattle.std.proofs.lemmas.Bool.{and_from, eq-eqb, eqb-true}
-use Rattle.std.proofs.lemmas.Option.{get_or_from_slice_get, none-some, same_Some, slice_get-get_or}
-use Rattle.hwp_law.specs.hwp_geom.Layout.{twin_of}
+use Rattle.std.proofs.lemmas.Option.{none-some, same_Some, slice_get-get_or}
 use Rattle.hwp_law.specs.hwp_geom.Limits.{line_limit}
 use Rattle.hwp_law.specs.hwp_geom.declared.Cpu.{Cpu}
-use Rattle.hwp_law.specs.hwp_geom.declared.Layout.{Layout}
 use Rattle.hwp_law.specs.hwp_geom.declared.Mask.{Mask}
 use Rattle.hwp_law.specs.hwp_geom.declared.Page.{Page}
 use Rattle.hwp_law.specs.hwp_geom.declared.Thread.{Thread}
@@ -27,21 +24,18 @@ use Rattle.hwp_law.specs.hwp_script_read.Valid.{IsValid}
 use Rattle.hwp_law.specs.hwp_script_read.declared.Command.{Command}
 use Rattle.hwp_law.specs.hwp_script_read.declared.Command.TheVariants as commands
 use Rattle.hwp_law.specs.hwp_script_read.declared.Script.{Script}
-use Rattle.hwp_law.specs.hwp_law_commands.Commands.{command_at}
 use Rattle.hwp_law.specs.hwp_law_commands.Cows.{Cow, acting, cow_of, own_page, twin_or, written_through}
 use Rattle.hwp_law.specs.Acting.{acting_script, copied_at}
 use Rattle.hwp_law.specs.Answers.{StandsAt}
-use Rattle.hwp_law.specs.Causes.{IsCaused}
 use Rattle.hwp_law.specs.Copies.{own_in}
 use Rattle.hwp_law.specs.Law.{AnswersFit, HistoriesFit}
 use Rattle.hwp_law.specs.Lines.{is_same_command}
-use Rattle.hwp_law.specs.Places.{entry_at}
-use Rattle.hwp_law.specs.Policies.{answered_before, answered_on}
+use Rattle.hwp_law.specs.Policies.{answered_on}
 use Rattle.hwp_law.specs.Private.{last_word, word_at_fork, word_before, word_in, word_stored}
 use Rattle.hwp_law_private.specs.CopiedWords.{CopiesKeepWords, KeepsWord, word_loaded}
 use Rattle.hwp_law.proofs.ActedLaws.{command-acted}
 use Rattle.hwp_law_private.proofs.Forked.{IsForked}
-use Rattle.hwp_law_private.proofs.Freezes.{IsStored, fold-next, frozen-stays, is_stored, next, not-stored, stored-is, stored-switches}
+use Rattle.hwp_law_private.proofs.Freezes.{fold-next, frozen-stays, is_stored, next, not-stored, stored-is, stored-switches}
 use Rattle.hwp_law_private.proofs.GivenAnswers.{IsAnswered, answered-at, then-there}
 use Rattle.hwp_law_private.proofs.MadeStores.{made-store}
 use Rattle.hwp_law_private.proofs.OwnPage.{frozen-word}

@@ -1,1 +1,13 @@
+mod Words
+mod Contents
+mod AnswerLines
+mod Freezes
+mod Shares
+mod MadeStores
+mod GivenAnswers
+mod PageWords
+mod Forked
+mod OwnPage
+mod TwinPage
+mod Keeps
 pub mod Private

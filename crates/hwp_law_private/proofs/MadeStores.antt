@@ -1,6 +1,6 @@
 -- Which command made an entry that stored a word: a store of the script, through the translation itself, or through its twin where that is
 -- frozen; and it named this line and this word, but for the lines of a copy.
-use Rattle.std.proofs.Common.{◌≡◌, ◌⊎◌, inl, inr, ℕ, ◌==◌, Bool, true, false, List, Option, None, Some, option_and_then, option_map, slice_get, if◌then◌else◌, refl, sym, ap, ◌∙◌, subst, true≢false}
+use Rattle.std.proofs.Common.{◌≡◌, ◌⊎◌, inl, inr, ℕ, ◌==◌, Bool, true, false, List, Option, None, Some, option_map, if◌then◌else◌, refl, sym, ap, ◌∙◌, subst}
 use Rattle.std.specs.Prelude.{IsSomeAnd}
 use Rattle.std.proofs.lemmas.Bool.{eq-eqb, eqb-true}
 use Rattle.std.proofs.lemmas.Option.{none-some, same_Some}
@@ -9,7 +9,6 @@ use Rattle.hwp_law.specs.hwp_geom.declared.Mask.{Mask}
 use Rattle.hwp_law.specs.hwp_geom.declared.Page.{Page}
 use Rattle.hwp_law.specs.hwp_geom.declared.Thread.{Thread}
 use Rattle.hwp_law.specs.hwp_geom.declared.VSlot.{VSlot}
-use Rattle.hwp_law.specs.hwp_geom.declared.Who.{Who}
 use Rattle.hwp_law.specs.hwp_page.Step.{IsOf}
 use Rattle.hwp_law.specs.hwp_page.declared.At.{At}
 use Rattle.hwp_law.specs.hwp_page.declared.Entry.{Entry}
@@ -25,7 +24,7 @@ use Rattle.hwp_law.specs.hwp_law_commands.Commands.{command_at, has_watch}
 use Rattle.hwp_law.specs.hwp_law_commands.Cows.{acting, written_through}
 use Rattle.hwp_law.specs.Acting.{acting_script, copied_at}
 use Rattle.hwp_law.specs.Copies.{MakesCopy}
-use Rattle.hwp_law.specs.Entries.{AreMadeBy, CanStandIn, IsMadeBy, Makes}
+use Rattle.hwp_law.specs.Entries.{AreMadeBy, CanStandIn, Makes}
 use Rattle.hwp_law.specs.Places.{entry_at}
 use Rattle.hwp_law.specs.Policies.{answered_before}
 use Rattle.hwp_law.specs.Private.{word_in}

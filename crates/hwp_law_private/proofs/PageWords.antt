@@ -1,14 +1,12 @@
 -- The words that a processor's commands stored in a page, in the order of its history, which is that of their numbers: those before a command,
 -- and behind them its own.
-use Rattle.std.proofs.Common.{◌≡◌, ◌⊎◌, inl, inr, ℕ, zero, suc, ◌<◌, ◌≤◌, ◌==◌, ◌&&◌, Bool, true, false, cond, List, [], ◌∷◌, ◌++◌, Option, None, Some, filter, filter_map, map, nat_lt, option_and_then, slice_get, take, if◌then◌else◌, refl, sym, ap, ◌∙◌, subst, true≢false, arith}
+use Rattle.std.proofs.Common.{◌≡◌, ◌⊎◌, inl, inr, ℕ, suc, ◌<◌, ◌≤◌, ◌==◌, ◌&&◌, Bool, true, false, cond, List, [], ◌∷◌, ◌++◌, Option, None, Some, filter, filter_map, map, nat_lt, option_and_then, slice_get, take, if◌then◌else◌, refl, sym, ap, ◌∙◌, subst, arith}
 use Rattle.std.specs.List.{cons_option}
 use Rattle.std.proofs.lemmas.Bool.{and_from, and_left, and_parts, and_right, cases_Bool, cases_eq, cases_order, eq-eqb, eqb-true, le-ltb, lt-ltb}
-use Rattle.std.proofs.lemmas.Option.{none-some, same_Some}
+use Rattle.std.proofs.lemmas.Option.{same_Some}
 use Rattle.hwp_law.specs.hwp_geom.declared.Cpu.{Cpu}
-use Rattle.hwp_law.specs.hwp_geom.declared.Page.{Page}
 use Rattle.hwp_law.specs.hwp_page.declared.At.{At}
 use Rattle.hwp_law.specs.hwp_page.declared.Entry.{Entry}
-use Rattle.hwp_law.specs.hwp_page.declared.What.{What}
 use Rattle.hwp_law.specs.History.{AreOrdered}
 use Rattle.hwp_law.specs.Lines.{is_same_command}
 use Rattle.hwp_law.specs.Places.{entry_at}

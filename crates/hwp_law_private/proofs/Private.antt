@@ -1,15 +1,13 @@
 -- What a load behind a fork reads is what it would read of a full copy: through a translation that isn't switched, what its page held at the
 -- fork, and else what the page of its twin holds.
-use Rattle.std.proofs.Common.{◌≡◌, ◌⊎◌, inl, inr, ℕ, suc, ◌+◌, ◌-◌, ◌<◌, ◌≤◌, Bool, true, false, List, [], ◌∷◌, ◌++◌, Option, None, Some, drop, filter_map, fold, length, option_map, slice_get, take, unwrap_or, if◌then◌else◌, length-drop, length-take-le, refl, sym, ap, ◌∙◌, subst, true≢false, arith}
+use Rattle.std.proofs.Common.{◌≡◌, ◌⊎◌, inl, inr, ℕ, suc, ◌+◌, ◌-◌, ◌<◌, ◌≤◌, Bool, true, false, List, Option, Some, drop, filter_map, fold, length, option_map, slice_get, take, unwrap_or, if◌then◌else◌, length-drop, length-take-le, refl, sym, ap, ◌∙◌, subst, true≢false, arith}
 use Rattle.std.specs.Prelude.{IsSomeAnd}
 use Rattle.std.proofs.lemmas.Bool.{cases_order}
 use Rattle.std.proofs.lemmas.List.{take-append-drop}
 use Rattle.std.proofs.lemmas.List.Sums.{fold-append}
 use Rattle.std.proofs.lemmas.Option.{none-some, same_Some, slice_get_within, some_pair_parts}
-use Rattle.hwp_law.specs.hwp_geom.Layout.{twin_of}
 use Rattle.hwp_law.specs.hwp_geom.Limits.{line_limit}
 use Rattle.hwp_law.specs.hwp_geom.declared.Cpu.{Cpu}
-use Rattle.hwp_law.specs.hwp_geom.declared.Layout.{Layout}
 use Rattle.hwp_law.specs.hwp_geom.declared.Mask.{Mask}
 use Rattle.hwp_law.specs.hwp_geom.declared.Page.{Page}
 use Rattle.hwp_law.specs.hwp_geom.declared.Thread.{Thread}
@@ -36,19 +34,18 @@ use Rattle.hwp_law.specs.Acting.{acting_script, copied_at}
 use Rattle.hwp_law.specs.Answers.{StandsAt}
 use Rattle.hwp_law.specs.Causes.{IsCaused}
 use Rattle.hwp_law.specs.Copies.{MakesCopy}
-use Rattle.hwp_law.specs.Entries.{CanStandIn, IsMadeBy, Makes}
+use Rattle.hwp_law.specs.Entries.{CanStandIn, Makes}
 use Rattle.hwp_law.specs.Law.{AnswersFit, HistoriesFit}
-use Rattle.hwp_law.specs.Places.{entry_at}
 use Rattle.hwp_law.specs.Policies.{answered_before, answered_on}
-use Rattle.hwp_law.specs.Private.{ArePrivate, freeze_from, last_word, loaded, private_word, word_at_fork, word_before, word_in, word_stored}
+use Rattle.hwp_law.specs.Private.{ArePrivate, last_word, loaded, private_word, word_at_fork, word_before, word_in, word_stored}
 use Rattle.hwp_law_private.specs.CopiedWords.{CopiesKeepWords}
 use Rattle.hwp_law.proofs.ActedLaws.{command-acted}
 use Rattle.hwp_law_private.proofs.AnswerLines.{get-drop, get-take}
 use Rattle.hwp_law_private.proofs.Contents.{word-read}
 use Rattle.hwp_law_private.proofs.Forked.{IsForked, forked, frozen-next, take-first, valid-command}
 use Rattle.hwp_law_private.proofs.Freezes.{next, unswitched-none}
-use Rattle.hwp_law_private.proofs.GivenAnswers.{IsAnswered, answered-at, found-pairs, then-there}
-use Rattle.hwp_law_private.proofs.Keeps.{IsKept, keep-all, stored_to}
+use Rattle.hwp_law_private.proofs.GivenAnswers.{answered-at, found-pairs, then-there}
+use Rattle.hwp_law_private.proofs.Keeps.{keep-all}
 use Rattle.hwp_law_private.proofs.OwnPage.{frozen-word, same-cpu}
 use Rattle.hwp_law_private.proofs.PageWords.{page-ordered, page-words, place, stands}
 use Rattle.hwp_law_private.proofs.Shares.{some-and}
@@ -84,15 +81,15 @@ module _ (script : Script) (report : Report) (who : Who) (slot : VSlot) (line wo
   abbrev Made : Command → What → Type 0
   Made c what = (Makes (has_watch (acting_script script report)) c what × CanStandIn script.layout c at.page what) ⊎ IsSomeAnd (copied_at script report who) (λ (from : VSlot). MakesCopy script.layout from c at.page what)
 
-  put : (c : Command) (v : VSlot) (l : ℕ) → Some (v, l) ≡ Some (slot, line) → Stands v l → ((mask : Mask) → StandsAt report.pages who at (entries.Load (through_to v) l (Word mask word)) → IsOf script.layout at.page (through_to v)) → l < line_limit → is_load c ≡ true
+  put : (c : Command) (v : VSlot) (l : ℕ) → ◌≡◌ {A = Option (VSlot × ℕ)} (Some (v, l)) (Some (slot, line)) → Stands v l → ((mask : Mask) → StandsAt report.pages who at (entries.Load (through_to v) l (Word mask word)) → IsOf script.layout at.page (through_to v)) → l < line_limit → is_load c ≡ true
       → IsLoadOf script report who c slot line word at
-  put c v l is stands made within loads =
+  put c v l is stood made within loads =
       let parts = some_pair_parts v slot l line is in
-      let put_in : Stands slot line = subst (Stands slot) parts.1 (subst (λ (u : VSlot). Stands u l) parts.0 stands) in
+      let put_in : Stands slot line = subst (Stands slot) parts.1 (subst (λ (u : VSlot). Stands u l) parts.0 stood) in
       record {
         mask = put_in.0;
         there = put_in.1;
-        page_is = subst (λ (u : VSlot). IsOf script.layout at.page (through_to u)) parts.0 (made stands.0 stands.1);
+        page_is = subst (λ (u : VSlot). IsOf script.layout at.page (through_to u)) parts.0 (made stood.0 stood.1);
         within = subst (λ (n : ℕ). n < line_limit) parts.1 within;
         loads = loads;
       }
@@ -113,11 +110,11 @@ module _ (script : Script) (report : Report) (who : Who) (slot : VSlot) (line wo
   load-of : (c : Command) → command_at script who ≡ Some c → loaded c ≡ Some (slot, line) → IsCommandOf script.layout who.cpu.0 c → IsCaused (acting_script script report) report who (acting script.layout earlier c) (answers.Value word at)
       → ((v : VSlot) (l : ℕ) (mask : Mask) → StandsAt report.pages who at (entries.Load (through_to v) l (Word mask word)) → Made (acting script.layout earlier c) (entries.Load (through_to v) l (Word mask word))) → IsLoadOf script report who c slot line word at
   load-of (commands.Load thread v l) there is of caused made =
-      put (commands.Load thread v l) v l is caused (λ (mask : Mask) stands. names (commands.Load thread v l) refl v l (Word mask word) refl (made v l mask stands)) of.1 refl
+      put (commands.Load thread v l) v l is caused (λ (mask : Mask) stood. names (commands.Load thread v l) refl v l (Word mask word) refl (made v l mask stood)) of.1 refl
   load-of (commands.Fetch thread v l) there is of caused made =
-      put (commands.Fetch thread v l) v l is caused (λ (mask : Mask) stands. names (commands.Fetch thread v l) refl v l (Word mask word) refl (made v l mask stands)) of.1 refl
+      put (commands.Fetch thread v l) v l is caused (λ (mask : Mask) stood. names (commands.Fetch thread v l) refl v l (Word mask word) refl (made v l mask stood)) of.1 refl
   load-of (commands.KLoad thread v l) there is of caused made =
-      put (commands.KLoad thread v l) v l is caused (λ (mask : Mask) stands. names (commands.KLoad thread v l) refl v l (Word mask word) refl (made v l mask stands)) of.1 refl
+      put (commands.KLoad thread v l) v l is caused (λ (mask : Mask) stood. names (commands.KLoad thread v l) refl v l (Word mask word) refl (made v l mask stood)) of.1 refl
   load-of c there is of caused made = absurd (none-some (slot, line) is)
 
 -- ---- what it read
@@ -134,7 +131,7 @@ module _ (script : Script) (report : Report) (valid : IsValid script) (histories
       → IsLoadOf script report who command slot line word at
   load-there who command slot line word at is loads pair =
       load-of script report who slot line word at command is loads (valid-command script valid who command is).0 (answered-at script report fit who (command, answers.Value word at) pair).caused
-          (λ (v : VSlot) (l : ℕ) (mask : Mask) stands. made-there who command at (entries.Load (through script.layout (answered_before script report who) v) l (Word mask word)) is stands)
+          (λ (v : VSlot) (l : ℕ) (mask : Mask) stood. made-there who command at (entries.Load (through script.layout (answered_before script report who) v) l (Word mask word)) is stood)
 
 page-of : (script : Script) (at : At) (u : VSlot) (d : TransDecl) → slice_get script.layout.trans u.0 ≡ Some d → IsOf script.layout at.page u → at.page.0 ≡ d.page.0
 page-of script at u d there of =
