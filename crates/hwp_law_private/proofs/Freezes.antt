@@ -93,7 +93,7 @@ frozen-behind layout slot c [] fork m thread process there froze less = absurd (
 frozen-behind layout slot c (p ∷ rest) fork zero thread process there froze less = absurd (omega (arith, less))
 frozen-behind layout slot c (p ∷ rest) zero (suc m) thread process there froze less =
     frozen-on layout slot (next layout slot c p) (take m rest)
-        (ap (λ (q : Command × Answer). (next layout slot c q).frozen) (same_Some p (commands.Fork thread process, answers.Done) there) ∙ or_right c.frozen (froze_slot layout slot (commands.Fork thread process)) froze)
+    (ap (λ (q : Command × Answer). (next layout slot c q).frozen) (same_Some p (commands.Fork thread process, answers.Done) there) ∙ or_right c.frozen (froze_slot layout slot (commands.Fork thread process)) froze)
 frozen-behind layout slot c (p ∷ rest) (suc fork) (suc m) thread process there froze less =
     frozen-behind layout slot (next layout slot c p) rest fork m thread process there froze (omega (arith, less))
 

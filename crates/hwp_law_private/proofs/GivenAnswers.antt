@@ -141,8 +141,8 @@ module _ (script : Script) (report : Report) (fit : AnswersFit (acting_script sc
       let same : g.0 ≡ who.seq = omega (arith, g.1) in
       let mine = then-there (λ (list : List Command). slice_get list who.seq) (slice_get script.lists who.cpu.0) command is in
       zip-get (unwrap_or (slice_get script.lists who.cpu.0) []) (answers_in (unwrap_or (slice_get report.cpus who.cpu.0) [])) who.seq command answer
-          (ap (λ (o : Option (List Command)). slice_get (unwrap_or o []) who.seq) mine.1 ∙ mine.2)
-          (ap (λ (o : Option (List CpuLine)). slice_get (answers_in (unwrap_or o [])) who.seq) there ∙ subst (λ (k : ℕ). slice_get (answers_in rows) k ≡ Some answer) same g.2)
+      (ap (λ (o : Option (List Command)). slice_get (unwrap_or o []) who.seq) mine.1 ∙ mine.2)
+      (ap (λ (o : Option (List CpuLine)). slice_get (answers_in (unwrap_or o [])) who.seq) there ∙ subst (λ (k : ℕ). slice_get (answers_in rows) k ≡ Some answer) same g.2)
 
   -- the answer of a command that is there is the one that the report pairs it with
   pub found-pairs : (who : Who) (command : Command) (answer : Answer) → command_at script who ≡ Some command → answer_of report who ≡ Some answer → slice_get (answered_on script report who.cpu) who.seq ≡ Some (command, answer)
@@ -175,7 +175,7 @@ module _ (script : Script) (report : Report) (fit : AnswersFit (acting_script sc
       let offlined : AreOfflined (acting_script script report) report e.who = fit.offlined e.who (acted e.who (commands.Store thread slot own x)) (acted-there e.who (commands.Store thread slot own x) command) in
       let here : slice_get (offlined_of report e.who) member.0 ≡ Some l = ap (λ (o : Option (List CpuLine)). slice_get (offlined_among (unwrap_or o []) e.who.seq) member.0) some ∙ member.1 in
       let offline : IsOffline (acting_script script report) report e.who l.frame l.result =
-          all-at (λ (o : OfflinedLine). IsOffline (acting_script script report) report e.who o.frame o.result) (offlined_of report e.who) member.0 l offlined.caused here in
+      all-at (λ (o : OfflinedLine). IsOffline (acting_script script report) report e.who o.frame o.result) (offlined_of report e.who) member.0 l offlined.caused here in
       let soft = result-soft (acting_script script report) report e.who l l.result at offline named in
       let same : entries.Soft ≡ entries.Store through line (Word mask word) = sym soft.2 ∙ ap (λ (y : Entry). y.what) (same_Some soft.0 e (sym soft.1 ∙ there)) ∙ is in
       absurd (true≢false (sym (ap is_storing same)))

@@ -125,13 +125,13 @@ module _ (script : Script) (report : Report) (valid : IsValid script) (histories
       → Made script report who (record { 0 = 0 }) 0 0 at (acting script.layout (answered_before script report who) c) what
   made-there who c at what is there =
       subst (λ (o : Option Command). IsSomeAnd o (λ (d : Command). Made script report who (record { 0 = 0 }) 0 0 at d what)) (command-acted script report who ∙ ap (option_map (acting script.layout (answered_before script report who))) is)
-          (histories.made at (record { who = who; what = what }) there)
+      (histories.made at (record { who = who; what = what }) there)
 
   load-there : (who : Who) (command : Command) (slot : VSlot) (line word : ℕ) (at : At) → command_at script who ≡ Some command → loaded command ≡ Some (slot, line) → slice_get (answered_on script report who.cpu) who.seq ≡ Some (command, answers.Value word at)
       → IsLoadOf script report who command slot line word at
   load-there who command slot line word at is loads pair =
       load-of script report who slot line word at command is loads (valid-command script valid who command is).0 (answered-at script report fit who (command, answers.Value word at) pair).caused
-          (λ (v : VSlot) (l : ℕ) (mask : Mask) stood. made-there who command at (entries.Load (through script.layout (answered_before script report who) v) l (Word mask word)) is stood)
+      (λ (v : VSlot) (l : ℕ) (mask : Mask) stood. made-there who command at (entries.Load (through script.layout (answered_before script report who) v) l (Word mask word)) is stood)
 
 page-of : (script : Script) (at : At) (u : VSlot) (d : TransDecl) → slice_get script.layout.trans u.0 ≡ Some d → IsOf script.layout at.page u → at.page.0 ≡ d.page.0
 page-of script at u d there of =
@@ -160,8 +160,8 @@ module _ (script : Script) (report : Report) (valid : IsValid script) (histories
   cow-rest : fold (next script.layout slot) start rest ≡ cow_of script.layout (take who.seq all) slot
   cow-rest =
       sym (ap (λ (l : List (Command × Answer)). fold (next script.layout slot) own_page l) (sym (take-append-drop (suc fork) (take who.seq all)))
-          ∙ fold-append (next script.layout slot) own_page (take (suc fork) (take who.seq all)) rest
-          ∙ ap (λ (c : Cow). fold (next script.layout slot) c rest) (ap (λ (l : List (Command × Answer)). fold (next script.layout slot) own_page l) (take-first (suc fork) who.seq all (omega (arith, behind))) ∙ frozen-next script report who.cpu slot fork f))
+      ∙ fold-append (next script.layout slot) own_page (take (suc fork) (take who.seq all)) rest
+      ∙ ap (λ (c : Cow). fold (next script.layout slot) c rest) (ap (λ (l : List (Command × Answer)). fold (next script.layout slot) own_page l) (take-first (suc fork) who.seq all (omega (arith, behind))) ∙ frozen-next script report who.cpu slot fork f))
 
   rest-there : (j : ℕ) (p : Command × Answer) → slice_get rest j ≡ Some p → slice_get all (suc fork + j) ≡ Some p
   rest-there j p there = get-take who.seq all (suc fork + j) p (sym (get-drop (suc fork) (take who.seq all) j) ∙ there)
@@ -197,7 +197,7 @@ module _ (script : Script) (report : Report) (valid : IsValid script) (histories
       which : (x.who.seq ≡ who.seq) ⊎ ((x.who.seq < who.seq) ⊎ (who.seq < x.who.seq)) → x.who.seq ≤ who.seq → x.who.cpu.0 ≡ who.cpu.0 → (thread : Thread) (l z : ℕ) → command_at script x.who ≡ Some (commands.Store thread slot l z) → x.who.seq < who.seq
       which (inl same) le mine thread l z is =
           let one : command_at script x.who ≡ command_at script who =
-              ap (λ (k : Cpu). command_at script (record { cpu = k; seq = x.who.seq })) (same-cpu x.who.cpu who.cpu mine) ∙ ap (λ (n : ℕ). command_at script (record { cpu = who.cpu; seq = n })) same in
+          ap (λ (k : Cpu). command_at script (record { cpu = k; seq = x.who.seq })) (same-cpu x.who.cpu who.cpu mine) ∙ ap (λ (n : ℕ). command_at script (record { cpu = who.cpu; seq = n })) same in
           let clash : command ≡ commands.Store thread slot l z = same_Some command (commands.Store thread slot l z) (sym command_is ∙ sym one ∙ is) in
           absurd (true≢false (sym load.loads ∙ ap is_load clash))
       which (inr (inl less)) le mine thread l z is = less
@@ -221,7 +221,7 @@ module _ (script : Script) (report : Report) (valid : IsValid script) (histories
       let found = then-there (λ (es : List Entry). slice_get es at.entry) (slice_get report.pages at.page.0) e load.there in
       let listed : slice_get report.pages f.w.page.0 ≡ Some found.0 = ap (slice_get report.pages) (sym page) ∙ found.1 in
       let kept = keep-all script report valid histories fit copies who.cpu slot fork f found.0 listed line load.within rest (suc fork) start base
-          (record { cow_is = frozen-next script report who.cpu slot fork f; frozen = refl; switched = λ is. absurd (true≢false (sym is)); own = λ is. refl; behind = omega arith }) rest-there in
+      (record { cow_is = frozen-next script report who.cpu slot fork f; frozen = refl; switched = λ is. absurd (true≢false (sym is)); own = λ is. refl; behind = omega arith }) rest-there in
       read-twin found.0 listed page
       ∙ ap (λ (n : ℕ). last_word 0 (filter_map (word_before who.cpu n line) found.0)) (sym rest-long)
       ∙ kept.switched (ap (λ (c : Cow). c.switched) cow-rest ∙ on)

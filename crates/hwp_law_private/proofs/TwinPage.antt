@@ -37,7 +37,6 @@ use Rattle.hwp_law_private.proofs.Shares.{alone, some-and}
 
 -- ---- names
 
-
 twin-listed : (ts : List (Option VSlot)) (i : ℕ) (x : VSlot) → get_or ts i None ≡ Some x → list_any (is_slot x) ts ≡ true
 twin-listed [] i x is = absurd (none-some x is)
 twin-listed (t ∷ ts) zero x is = or_left (is_slot x t) (list_any (is_slot x) ts) (ap (is_slot x) is ∙ eq-eqb x.0 x.0 refl)
@@ -93,14 +92,16 @@ module _ (script : Script) (report : Report) (valid : IsValid script) (histories
       done : (c : Command) (thread : Thread) (own x : ℕ) → command_at script e.who ≡ Some c → c ≡ commands.Store thread slot own x → IsCommandOf script.layout e.who.cpu.0 c → (copied_at script report e.who ≡ None → (line ≡ own) × (y ≡ x)) → IsTwinStore script report cpu slot line y e.who
       done c thread own x is command of kept = record {
         mine = f.shared.here slot f.v e.who.cpu.0 thread f.v_is refl (subst (IsCommandOf script.layout e.who.cpu.0) command of).0;
-        thread = thread; own = own; own_word = x;
+        thread = thread;
+        own = own;
+        own_word = x;
         command_is = is ∙ ap Some command;
         kept = kept;
       }
 
       which : (through other : VSlot) → through ≡ f.twin → is_twin script.layout through ≡ true → is_twin script.layout other ≡ false
           → (((cow_of script.layout (answered_before script report e.who) other).frozen ≡ false) × (through ≡ other))
-              ⊎ (((cow_of script.layout (answered_before script report e.who) other).frozen ≡ true) × ((twin_of script.layout other ≡ Some through) ⊎ ((twin_of script.layout other ≡ None) × (through ≡ other))))
+          ⊎ (((cow_of script.layout (answered_before script report e.who) other).frozen ≡ true) × ((twin_of script.layout other ≡ Some through) ⊎ ((twin_of script.layout other ≡ None) × (through ≡ other))))
           → (c : Command) (thread : Thread) (own x : ℕ) → command_at script e.who ≡ Some c → c ≡ commands.Store thread other own x → IsCommandOf script.layout e.who.cpu.0 c → (copied_at script report e.who ≡ None → (line ≡ own) × (y ≡ x)) → IsTwinStore script report cpu slot line y e.who
       which through other is twin named (inl (unfrozen, same)) c thread own x at_c command of kept = absurd (true≢false (sym twin ∙ ap (is_twin script.layout) same ∙ named))
       which through other is twin named (inr (frozen, inr (none, same))) c thread own x at_c command of kept = absurd (true≢false (sym twin ∙ ap (is_twin script.layout) same ∙ named))
@@ -119,7 +120,7 @@ word_of cpu m line e = if is_same_command (who_at cpu m) e.who then word_in line
 
 fused-next : (cpu : Cpu) (m line : ℕ) (e : Entry) (rest : List Entry) (b : Bool) → own_words cpu m line rest ≡ filter_map (word_of cpu m line) rest
     → filter_map (word_in line) (map (λ (x : Entry). x.what) (cond b (e ∷ filter (λ (x : Entry). is_same_command (who_at cpu m) x.who) rest) (filter (λ (x : Entry). is_same_command (who_at cpu m) x.who) rest)))
-        ≡ cons_option (if b then word_in line e.what else None) (filter_map (word_of cpu m line) rest)
+    ≡ cons_option (if b then word_in line e.what else None) (filter_map (word_of cpu m line) rest)
 fused-next cpu m line e rest true same = ap (cons_option (word_in line e.what)) same
 fused-next cpu m line e rest false same = same
 
@@ -163,6 +164,8 @@ module _ (script : Script) (report : Report) (valid : IsValid script) (histories
       let t = twin-store script report valid histories cpu slot fork f (place f.w.page.0 i) e line y at refl o.stores in
       let s = stored-word line y e.what o.stores in
       let switched : (cow_of script.layout (answered_before script report e.who) slot).switched ≡ true = ap (λ (w : Who). (cow_of script.layout (answered_before script report w) slot).switched) o.who_is ∙ on in
-      let none : copied_at script report e.who ≡ None = copies-none script report e.who t.thread slot t.own t.own_word t.command_is switched in
-      (t.thread, moved script report cpu slot m line y (place f.w.page.0 i) e.who t.thread t.own t.own_word o.who_is (t.kept none)
-          (named-stored script report fit (place f.w.page.0 i) e s.slot line y s.mask t.thread slot t.own t.own_word at s.is t.command_is none))
+      let none : copied_at script report e.who ≡ None = copies-none script report e.who t.thread slot t.own t.own_word t.command_is switched in (
+        t.thread,
+        moved script report cpu slot m line y (place f.w.page.0 i) e.who t.thread t.own t.own_word o.who_is (t.kept none)
+            (named-stored script report fit (place f.w.page.0 i) e s.slot line y s.mask t.thread slot t.own t.own_word at s.is t.command_is none),
+      )
