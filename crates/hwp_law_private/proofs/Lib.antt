@@ -10,4 +10,5 @@ mod Forked
 mod OwnPage
 mod TwinPage
 mod Keeps
+mod WordExamples
 pub mod Private
