@@ -144,8 +144,11 @@ module _ {base : List Made} (layout : Layout) (old new : View) (c : Copying) (st
       alike : Alike old new
       alike = evict-alike e is here
 
+      still : IsStill (bare_at c (at.Free e stored)) after
+      still = subst (IsStill (bare_at c (at.Free e stored))) (sym next.next_is) (free-still (bare_at c (at.Free e stored)) next.evict stored (evicts.answer next.evict))
+
       same : IsStill c after
-      same = subst (IsStill c) (sym next.next_is) (free-still (bare_at c (at.Free e stored)) next.evict stored (evicts.answer next.evict))
+      same = record { marked_is = still.marked_is; failed_is = still.failed_is; owed_is = still.owed_is }
 
 pub copy-adds : {base : List Made} (layout : Layout) (old new : View) (c : Copying) (step : Step) (found : ℕ) (got : Option BodyValue) → FitsFrom base layout old c → plan c ≡ Some step → Steps layout c.store.who step (logs (put c)) old new found got
     → (after : Copying) (turn : Turn) → Follows layout (bare c) found got after turn → Adds old new c after
