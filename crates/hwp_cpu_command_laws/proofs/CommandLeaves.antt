@@ -153,16 +153,16 @@ module _ {layout : Layout} {old new : View} {i after : Instruction} (s : Instruc
   pub instruction-leaves : InstructionLeft i after old new
   instruction-leaves = which i.at refl s.fits.at s.planned s.made s.follows
     where
-      quietly : {put : Option BodyValue} → Steps layout i.request.who s.step (logs put) old new s.found s.got → IsQuiet s.step → InstructionLeft i after old new
-      quietly made quiet = let same = leaves made quiet in record { rest = quiet-rest same; stops = inl same.stops }
+      quietly : (put : Option BodyValue) → Steps layout i.request.who s.step (logs put) old new s.found s.got → IsQuiet s.step → InstructionLeft i after old new
+      quietly put made quiet = let same = leaves made quiet in record { rest = quiet-rest same; stops = inl same.stops }
 
       which : (x : InstructionAt) → i.at ≡ x → instruction_fits.FitsAt s.base layout old i checks x → instructions.plan_at x ≡ Some s.step → Steps layout i.request.who s.step (logs (instructions.put_at x)) old new s.found s.got
           → instructions.FollowsAt layout (instructions.bare i) (instructions.bare_at x) s.found s.got after s.turn → InstructionLeft i after old new
-      which (instruction_at.Access a) at has e made follows = quietly {put = accesses.put a} made (quiet-step (access a.request a.at) e)
+      which (instruction_at.Access a) at has e made follows = quietly (accesses.put a) made (quiet-step (access a.request a.at) e)
       which (instruction_at.Handle frame h) at has e made follows = instruction-handled frame h at has e made follows
-      which (instruction_at.LoadFrame frame) at has e made follows = quietly {put = None} made (quiet-step {o = Some (steps.Load (places.Frame frame))} tt e)
-      which (instruction_at.LoadStop frame) at has e made follows = quietly {put = None} made (quiet-step {o = Some (steps.Load places.Stop)} tt e)
-      which instruction_at.GiveUp at has e made follows = quietly {put = None} made (quiet-step {o = Some steps.GiveUp} tt e)
+      which (instruction_at.LoadFrame frame) at has e made follows = quietly None made (quiet-step {o = Some (steps.Load (places.Frame frame))} tt e)
+      which (instruction_at.LoadStop frame) at has e made follows = quietly None made (quiet-step {o = Some (steps.Load places.Stop)} tt e)
+      which instruction_at.GiveUp at has e made follows = quietly None made (quiet-step {o = Some steps.GiveUp} tt e)
       which (instruction_at.Paused pause) at has e made follows = absurd (none-some s.step e)
       which (instruction_at.Over answer) at has e made follows = absurd (none-some s.step e)
 

@@ -502,14 +502,14 @@ module _ (layout : Layout) (view : View) where
   copy-ends base c runs instruction_answers.NoFrame ended is = absurd ended
   copy-ends base c runs (instruction_answers.Gone page) ended is = absurd ended
 
-  copy-halts : (base : List Made) (c : Copying) (runs : List Run) {x : InstructionAnswer} (y : CopyingAt) → copying_fits.FitsAt base layout view c runs y → copyings.answer_at c.instruction y ≡ Some x → instruction_answer x ≡ answers.Stopped → IsHalted view
-  copy-halts base c runs {x} copying_at.Access has e is =
+  copy-halts : (base : List Made) (c : Copying) (runs : List Run) (x : InstructionAnswer) (y : CopyingAt) → copying_fits.FitsAt base layout view c runs y → copyings.answer_at c.instruction y ≡ Some x → instruction_answer x ≡ answers.Stopped → IsHalted view
+  copy-halts base c runs x copying_at.Access has e is =
       let behind : List Made = base ++ (made_by runs ++ has.since) in
       let end : instruction_fits.IsAnswered behind layout view c.instruction (checks_by runs ++ has.instruction.checks) x =
       subst (instruction_fits.FitsAt behind layout view c.instruction (checks_by runs ++ has.instruction.checks)) (instruction-over c.instruction e) has.instruction.at in
       instruction-halts behind c.instruction.request c.instruction.lines.told x end.ended is
-  copy-halts base c runs {x} (copying_at.Free f stored) has e is = absurd (none-some x e)
-  copy-halts base c runs {x} (copying_at.Over a) has e is = copy-ends base c runs a has.ended (ap instruction_answer (same_Some a x e) ∙ is)
+  copy-halts base c runs x (copying_at.Free f stored) has e is = absurd (none-some x e)
+  copy-halts base c runs x (copying_at.Over a) has e is = copy-ends base c runs a has.ended (ap instruction_answer (same_Some a x e) ∙ is)
 
   raise-halts : (r : Raise) (x : RaiseAnswer) → raise_fits.IsEnd layout view r x → raise_answer (length r.lines.told) x ≡ answers.Stopped → IsHalted view
   raise-halts r raise_answers.Stopped (inl unchecked) is = halts unchecked.1
@@ -592,7 +592,7 @@ module _ (layout : Layout) (view : View) where
 -- a command that is answered `stopped` shows that the machine has stopped
 pub stopped-halts : (base : List Made) (layout : Layout) (view : View) (j : Job) → FitsFrom base layout view j → answer j ≡ Some answers.Stopped → IsHalted view
 stopped-halts base layout view (jobs.Instruction i) fits is = let own = mapped _ (instructions.answer i) is in instruction-halts layout view base i.request i.lines.told own.0 (instruction-ended i fits own.1).ended own.2
-stopped-halts base layout view (jobs.Copying c) fits is = let own = mapped _ (copyings.answer c) is in copy-halts layout view base c fits.runs {own.0} c.at fits.at own.1 own.2
+stopped-halts base layout view (jobs.Copying c) fits is = let own = mapped _ (copyings.answer c) is in copy-halts layout view base c fits.runs own.0 c.at fits.at own.1 own.2
 stopped-halts base layout view (jobs.Evict e) fits is = evict-halts layout view base e e.at fits.at is
 stopped-halts base layout view (jobs.Fsync f) fits is = fsync-halts layout view f f.at fits.1.at is
 stopped-halts base layout view (jobs.Prctl p) fits is = prctl-halts layout view p p.at fits.1.at is
