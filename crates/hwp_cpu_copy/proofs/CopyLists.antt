@@ -1,12 +1,10 @@
 -- A step of a copy lists no entry of a sort that none of its accesses, of their machine checks and of its freeing makes.
-use Rattle.std.proofs.Common.{◌≡◌, inl, inr, ℕ, Bool, true, false, cond, List, [], ◌∷◌, ◌++◌, Option, Some, None, filter, append-nil, refl, sym, ap, ◌∙◌, subst}
+use Rattle.std.proofs.Common.{◌≡◌, inl, inr, ℕ, Bool, false, cond, List, [], ◌∷◌, ◌++◌, Option, Some, None, filter, append-nil, refl, sym, ap, ◌∙◌, subst}
 use Rattle.std.proofs.lemmas.List.{filter-append}
 use Rattle.std.proofs.lemmas.Option.{none-some, same_Some}
 use Rattle.hwp_fault.specs.hwp_geom.declared.Layout.{Layout}
-use Rattle.hwp_fault.specs.hwp_geom.declared.Page.{Page}
 use Rattle.hwp_fault.specs.hwp_geom.declared.VSlot.{VSlot}
 use Rattle.hwp_fault.specs.hwp_geom.declared.Who.{Who}
-use Rattle.hwp_fault.specs.hwp_page.declared.At.{At}
 use Rattle.hwp_fault.specs.hwp_page.declared.What.{What}
 use Rattle.hwp_fault.specs.hwp_page.declared.What.TheVariants as entries
 use Rattle.hwp_fault.specs.hwp_page.History.{BodyValue}
@@ -19,7 +17,7 @@ use Rattle.hwp_fault.specs.hwp_core_task.declared.Turn.{Turn}
 use Rattle.hwp_fault.specs.hwp_core_task.Calls.{Steps, logs}
 use Rattle.hwp_fault.specs.hwp_core_task.Known.{deeds, is_failure, such_deeds}
 use Rattle.hwp_fault.proofs.of_hwp_core_task.MadeEntries.{ListsNone, deeds-same}
-use Rattle.hwp_fault.specs.declared.Access.{Access}
+
 use Rattle.hwp_fault.specs.declared.Request.{Request}
 use Rattle.hwp_fault.specs.Accesses as accesses
 use Rattle.hwp_fault.specs.Accesses.{check_of}
@@ -28,12 +26,11 @@ use Rattle.hwp_fault.specs.Adds.{Skips, has_checked}
 use Rattle.hwp_fault.proofs.FaultAdds.{access-adds}
 use Rattle.hwp_cpu_check.specs.hwp_claim_act.declared.Failed.{Failed}
 use Rattle.hwp_cpu_check.specs.hwp_claim_act.Abandoned.{AddsFailure, failed_in, failed_of}
+use Rattle.hwp_cpu_check.specs.Checks.{Check}
 use Rattle.hwp_cpu_check.specs.declared.Handler.{Handler}
 use Rattle.hwp_cpu_check.specs.Handlers as handlers
-use Rattle.hwp_cpu_check.specs.Done as handler_done
 use Rattle.hwp_cpu_check.proofs.HandlerAdds.{handler-adds}
 use Rattle.hwp_evict.specs.declared.evict.Evict.{Evict}
-use Rattle.hwp_evict.specs.declared.evict.Eviction.{Eviction}
 use Rattle.hwp_evict.specs.Evictions.{entry_of}
 use Rattle.hwp_evict.specs.Evicts as evicts
 use Rattle.hwp_fork.specs.Cows.{sub_of}
@@ -78,7 +75,7 @@ module _ (sort : What → Bool) (apart : IsApart sort) where
   handler-keeps who old new (inl none) = ap (filter (λ (x : Made). sort x.entry.what)) none.0
   handler-keeps who old new (inr some) = one-other who old new some.0 some.2 (failed-other some.0 some.1 some.3)
 
-  pub instruction-keeps : {past : List Made} {earlier : _} (layout : Layout) (old new : View) (i : Instruction) (step : Step) (found : ℕ) (got : Option BodyValue) → instruction_fits.FitsBehind past earlier layout old i → instructions.plan i ≡ Some step
+  pub instruction-keeps : {past : List Made} {earlier : List Check} (layout : Layout) (old new : View) (i : Instruction) (step : Step) (found : ℕ) (got : Option BodyValue) → instruction_fits.FitsBehind past earlier layout old i → instructions.plan i ≡ Some step
       → Steps layout i.request.who step (logs (instructions.put i)) old new found got → (after : Instruction) (turn : Turn) → instructions.Follows layout (instructions.bare i) found got after turn → such_deeds sort i.request.who new ≡ such_deeds sort i.request.who old
   instruction-keeps {past} {earlier} layout old new i step found got fits is made after turn follows = which i.at fits.at is made follows
     where
