@@ -17,7 +17,6 @@ use Rattle.hwp_fault.specs.hwp_core_task.declared.Turn.{Turn}
 use Rattle.hwp_fault.specs.hwp_core_task.Calls.{Steps, logs}
 use Rattle.hwp_fault.specs.hwp_core_task.Known.{deeds, is_failure, such_deeds}
 use Rattle.hwp_fault.proofs.of_hwp_core_task.MadeEntries.{ListsNone, deeds-same}
-
 use Rattle.hwp_fault.specs.declared.Request.{Request}
 use Rattle.hwp_fault.specs.Accesses as accesses
 use Rattle.hwp_fault.specs.Accesses.{check_of}
