@@ -170,7 +170,9 @@ switched-is cows n m = elim (cases_eq m n) [
 
 pub told-length : (layout : Layout) (command : Command) (answer : Answer) (cows : List Cow) → length (told_in layout command answer cows) ≡ length cows
 told-length layout (commands.Fork thread process) answers.Done cows = length-frozen layout thread 0 cows
+told-length layout command answers.Done cows = refl
 told-length layout (commands.Store thread slot line word) (answers.Stored place) cows = length-set cows slot.0 (switched_by (cow_in cows slot))
+told-length layout command (answers.Stored place) cows = refl
 told-length layout command answer cows = refl
 
 pub told-are : (layout : Layout) (command : Command) (answer : Answer) (cows : List Cow) → AreCowsOf layout cows → AreCowsOf layout (told_in layout command answer cows)
@@ -178,7 +180,9 @@ told-are layout command answer cows are = record { all = λ some. told-length la
 
 told-is : (layout : Layout) (command : Command) (answer : Answer) (cows : List Cow) (slot : VSlot) → AreCowsOf layout cows → cow_in (told_in layout command answer cows) slot ≡ cow_after layout slot command answer (cow_in cows slot)
 told-is layout (commands.Fork thread process) answers.Done cows slot are = frozen-is layout thread cows slot.0 are
+told-is layout command answers.Done cows slot are = refl
 told-is layout (commands.Store thread other line word) (answers.Stored place) cows slot are = switched-is cows other.0 slot.0
+told-is layout command (answers.Stored place) cows slot are = refl
 told-is layout command answer cows slot are = refl
 
 pub told-known : (layout : Layout) (earlier : List (Command × Answer)) (command : Command) (answer : Answer) (cows : List Cow) → AreCowsOf layout cows → KnowsCows layout earlier cows
