@@ -39,7 +39,8 @@ use Rattle.hwp_cpu_command_laws.specs.hwp_cpu_command.hwp_scrub.Fits as scrub_fi
 use Rattle.hwp_cpu_command_laws.specs.hwp_cpu_command.hwp_scrub.Scrubs as scrubs
 use Rattle.hwp_cpu_course.specs.declared.course.Course.{Course}
 use Rattle.hwp_cpu_course.specs.Courses.{FitsOwn, HasPassed, RestsNow, gives_up, rests}
-use Rattle.hwp_cpu_course.proofs.CopyRests.{copy-at-pause, copy-behind}
+use Rattle.hwp_cpu_command_laws.proofs.of_hwp_cpu_command.of_hwp_cpu_copy.CopyResting.{at-pause as copy-at-pause}
+use Rattle.hwp_cpu_course.proofs.CopyRests.{copy-behind}
 use Rattle.hwp_cpu_course.proofs.PartBegins.{on-turn}
 
 -- ---- where it rests
