@@ -1,6 +1,8 @@
 -- The report of a run keeps the whole law.
 use Rattle.hwp_law_records.specs.hwp_geom.declared.Cpu.{Cpu}
-use Rattle.std.proofs.Common.{ℕ, List}
+use Rattle.std.proofs.Common.{ℕ, List, Option}
+use Rattle.hwp_law_records.specs.hwp_geom.declared.Who.{Who}
+use Rattle.hwp_law_records.specs.hwp_geom.declared.VSlot.{VSlot}
 use Rattle.hwp_law_records.specs.hwp_core_rule.declared.State.{State}
 use Rattle.hwp_law_records.specs.hwp_core_task.Boards.{Played}
 use Rattle.hwp_law_records.specs.hwp_script_read.declared.Script.{Script}
@@ -20,9 +22,9 @@ use Rattle.hwp_law_records.proofs.lines.Events.{events-are}
 use Rattle.hwp_law_sights.proofs.policies.Policies.{are-seen, never-falls}
 use Rattle.hwp_law_records.proofs.of_hwp_law_served.Windows.{states-in-windows}
 
-module _ (script : Script) (seat : Cpu → ℕ) (turns : List Played) (last : State) (report : Report) (run : IsRunOf script seat turns last report) where
-  abbrev end : IsEnd script seat last report
-  end = ended script seat turns last report run
+module _ (script : Script) (copies : Who → Option VSlot) (seat : Cpu → ℕ) (turns : List Played) (last : State) (report : Report) (run : IsRunOf script copies seat turns last report) where
+  abbrev end : IsEnd script copies seat last report
+  end = ended script copies seat turns last report run
 
   pub shape-fits : HasShape script report
   shape-fits = record { version = run.lengths.version; frames = run.lengths.frames; pages = run.lengths.pages; cpus = run.lengths.cpus }
@@ -30,21 +32,21 @@ module _ (script : Script) (seat : Cpu → ℕ) (turns : List Played) (last : St
   pub histories-fit : HistoriesFit script report
   histories-fit = record {
     legal = histories-lead script.layout last report end.board;
-    made = entries-made-by script seat last report end;
+    made = entries-made-by script copies seat last report end;
     ordered = histories-ordered script.layout last report end.board;
-    seen = are-seen script seat turns last report run;
-    falls_never = never-falls script seat turns last report run;
+    seen = are-seen script copies seat turns last report run;
+    falls_never = never-falls script copies seat turns last report run;
   }
 
   pub answers-fit : AnswersFit script report
   answers-fit = record {
-    caused = all-caused script seat turns last report run;
-    named = entries-named script seat last report end;
-    windows = states-in-windows script seat last report end;
-    endings = endings-stay script seat turns last report run;
-    events = events-are script seat turns last report run;
-    stop = stop-agrees script seat turns last report run;
-    offlined = are-offlined script seat last report end;
+    caused = all-caused script copies seat turns last report run;
+    named = entries-named script copies seat last report end;
+    windows = states-in-windows script copies seat last report end;
+    endings = endings-stay script copies seat turns last report run;
+    events = events-are script copies seat turns last report run;
+    stop = stop-agrees script copies seat turns last report run;
+    offlined = are-offlined script copies seat last report end;
   }
 
   -- the whole
@@ -53,6 +55,6 @@ module _ (script : Script) (seat : Cpu → ℕ) (turns : List Played) (last : St
     shape = shape-fits;
     histories = histories-fit;
     answers = answers-fit;
-    frames = frames-lawful script seat turns last report run;
-    losses = losses-lawful script seat turns last report run;
+    frames = frames-lawful script copies seat turns last report run;
+    losses = losses-lawful script copies seat turns last report run;
   }

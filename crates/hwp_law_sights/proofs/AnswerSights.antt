@@ -1,6 +1,7 @@
 -- Each answer of a run rests on what its own command was shown.
 use Rattle.std.proofs.Common.{◌≡◌, ◌⊎◌, ℕ, ◌+◌, ◌<◌, Bool, true, false, cond, nat_le, List, Option, Some, None, map, slice_get, take, option_and_then, sym, ap, ◌∙◌, subst, refl, true≢false}
 use Rattle.std.proofs.lemmas.Option.{none-some, same_Some}
+use Rattle.hwp_law_served.specs.hwp_geom.declared.VSlot.{VSlot}
 use Rattle.hwp_law_served.specs.hwp_geom.declared.Cpu.{Cpu}
 use Rattle.hwp_law_served.specs.hwp_geom.declared.Layout.{Layout}
 use Rattle.hwp_law_served.specs.hwp_geom.declared.Proc.{Proc}
@@ -118,7 +119,7 @@ saw-already layout view who thread t (b, right) already = which (at_once layout 
     which None none done = failed t.found done
     which (Some acted) some done = absurd (true≢false (sym (ap is_already (sym done.0 ∙ already)) ∙ sym (ap is_told_already some) ∙ once-not-already layout b (frame_at t.held.event.addr) t.held.grade.severity))
 
-module _ (script : Script) (seat : Cpu → ℕ) (turns : List Played) (last : State) (report : Report) (run : IsRunOf script seat turns last report) where
+module _ (script : Script) (copies : Who → Option VSlot) (seat : Cpu → ℕ) (turns : List Played) (last : State) (report : Report) (run : IsRunOf script copies seat turns last report) where
   -- a command of the script, with its row and what its seat knows of it
   pub record Serves (who : Who) (command : Command) : Type 0 where
     pub earlier : List (Command × Answer)
@@ -133,9 +134,9 @@ module _ (script : Script) (seat : Cpu → ℕ) (turns : List Played) (last : St
 
   pub serves : (who : Who) (command : Command) → command_at script who ≡ Some command → Serves who command
   serves who command at =
-      let end = ended script seat turns last report run in
+      let end = ended script copies seat turns last report run in
       let has = has-command script who command at in
-      let of = command-of script seat last report end who has.list command has.list_is has.command_is in
+      let of = command-of script copies seat last report end who has.list command has.list_is has.command_is in
       let same_command : of.command ≡ command = same_Some of.command command (sym of.command_is ∙ ap (λ (l : List Command). slice_get l who.seq) (same_Some of.list has.list (sym of.list_is ∙ has.list_is)) ∙ has.command_is) in
       record {
         earlier = of.earlier;
@@ -145,8 +146,8 @@ module _ (script : Script) (seat : Cpu → ℕ) (turns : List Played) (last : St
         free = of.free;
         after = of.after;
         served = subst (λ (c : Command). IsRowServed script.layout of.earlier (view_of last (seat who.cpu)) who c of.before of.row of.after) same_command of.served;
-        answered = answer-told script seat last report end (view_of last (seat who.cpu)) who of;
-        events = events-told script seat last report end (view_of last (seat who.cpu)) who of;
+        answered = answer-told script copies seat last report end (view_of last (seat who.cpu)) who of;
+        events = events-told script copies seat last report end (view_of last (seat who.cpu)) who of;
       }
 
   -- and with this answer
@@ -171,10 +172,10 @@ module _ (script : Script) (seat : Cpu → ℕ) (turns : List Played) (last : St
   said : (cpu : Cpu) → cpu.0 < script.layout.cpus → Said (told script.layout turns) (view_of last (seat cpu))
   said cpu inside = all-told script.layout turns last run.rule run.moves (seat cpu) (view_of last (seat cpu)) (run.seated.there cpu inside)
 
-  events-shown : (who : Who) (o : Option Row) → row_at (ended script seat turns last report run).rows who ≡ o → EachMember (AlreadyShown script.layout turns who) (map (event_at who.seq) (told_at o))
+  events-shown : (who : Who) (o : Option Row) → row_at (ended script copies seat turns last report run).rows who ≡ o → EachMember (AlreadyShown script.layout turns who) (map (event_at who.seq) (told_at o))
   events-shown who None none = λ i e there. absurd (none-some e there)
   events-shown who (Some row) some =
-      let r = row-of script seat last report (ended script seat turns last report run) who row some in
+      let r = row-of script copies seat last report (ended script copies seat turns last report run) who row some in
       let view : View = view_of last (seat who.cpu) in
       let right : EachMember (IsToldRight script.layout view who (current_thread r.of.command)) row.told = subst (λ (x : Row). EachMember (IsToldRight script.layout view who (current_thread r.of.command)) x.told) r.same
       (told-so script.layout view who r.of.command r.of.row.answer r.of.before r.of.row.told r.of.after r.of.served.told) in
@@ -182,10 +183,10 @@ module _ (script : Script) (seat : Cpu → ℕ) (turns : List Played) (last : St
       (each-weaken (IsToldRight script.layout view who (current_thread r.of.command)) (λ (t : EventOutcome). AlreadyShown script.layout turns who (event_at who.seq t)) row.told
       (λ t is. already-shown script turns view (said who.cpu r.of.inside) who r.of.earlier t who.seq (saw-already script.layout view who (current_thread r.of.command) t is)) right)
 
-  offlined-shown : (who : Who) (o : Option Row) → row_at (ended script seat turns last report run).rows who ≡ o → EachMember (OfflineShown script turns who) (map (offlined_at who.seq) (offlines_at o))
+  offlined-shown : (who : Who) (o : Option Row) → row_at (ended script copies seat turns last report run).rows who ≡ o → EachMember (OfflineShown script turns who) (map (offlined_at who.seq) (offlines_at o))
   offlined-shown who None none = λ i l there. absurd (none-some l there)
   offlined-shown who (Some row) some =
-      let r = row-of script seat last report (ended script seat turns last report run) who row some in
+      let r = row-of script copies seat last report (ended script copies seat turns last report run) who row some in
       let view : View = view_of last (seat who.cpu) in
       let served : EachMember (IsOffliningServed script.layout view who) row.offlined = subst (λ (x : Row). EachMember (IsOffliningServed script.layout view who) x.offlined) r.same r.of.served.offlined in
       each-map (offlined_at who.seq) (OfflineShown script turns who) row.offlined
@@ -205,10 +206,10 @@ module _ (script : Script) (seat : Cpu → ℕ) (turns : List Played) (last : St
     running = λ who command answer at is.
         let a = answers-of who command answer at is in
         runs-shown script.layout turns (view_of last (seat who.cpu)) (said who.cpu a.inside) who answer (subst (λ (x : Answer). (x ≡ answers.Stopped) ⊎ SawRunning (view_of last (seat who.cpu)) who) a.answer_is a.served.running);
-    events = λ who. subst (EachMember (AlreadyShown script.layout turns who)) (sym (events-by-row script seat last report (ended script seat turns last report run) who)) (events-shown who (row_at (ended script seat turns last report run).rows who) refl);
-    offlined = λ who. subst (EachMember (OfflineShown script turns who)) (sym (offlined-by-row script seat last report (ended script seat turns last report run) who)) (offlined-shown who (row_at (ended script seat turns last report run).rows who) refl);
+    events = λ who. subst (EachMember (AlreadyShown script.layout turns who)) (sym (events-by-row script copies seat last report (ended script copies seat turns last report run) who)) (events-shown who (row_at (ended script copies seat turns last report run).rows who) refl);
+    offlined = λ who. subst (EachMember (OfflineShown script turns who)) (sym (offlined-by-row script copies seat last report (ended script copies seat turns last report run) who)) (offlined-shown who (row_at (ended script copies seat turns last report run).rows who) refl);
     handles = λ cpu list rows list_is rows_is file i p there tells.
-        let known = number-known script seat last report (ended script seat turns last report run) cpu list rows list_is rows_is file i p there tells in
+        let known = number-known script copies seat last report (ended script copies seat turns last report run) cpu list rows list_is rows_is file i p there tells in
         word-shown script.layout turns (view_of last (seat cpu)) (said cpu known.0) (record { cpu = cpu; seq = i }) (λ (word : ℕ). word ≡ numbers_after file 0 (take (i + 1) (answered list rows))) (places.Loss file)
         (numbers_after file 0 (take (i + 1) (answered list rows))) refl known.1.0;
   }

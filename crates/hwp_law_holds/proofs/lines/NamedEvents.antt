@@ -67,6 +67,7 @@ use Rattle.hwp_law_records.proofs.of_hwp_law_served.lines.ScrubBank.{empty-free,
 use Rattle.hwp_law_records.proofs.lines.SpoiledLines.{set-at, spoiled-at-end, spoiled-so}
 use Rattle.hwp_law_records.proofs.marks.RowNotes.{each-cons}
 use Rattle.std.proofs.lemmas.Option.{option_and_then_some}
+use Rattle.hwp_law_records.specs.hwp_geom.declared.VSlot.{VSlot}
 
 -- ---- named frames
 
@@ -262,7 +263,7 @@ module _ (P : ℕ → Type 0) (weak : Bool) where
 
 -- ---- at the end
 
-module _ (script : Script) (seat : Cpu → ℕ) (last : State) (report : Report) (end : IsEnd script seat last report) where
+module _ (script : Script) (copies : Who → Option VSlot) (seat : Cpu → ℕ) (last : State) (report : Report) (end : IsEnd script copies seat last report) where
   -- the script names the frame of the address
   abbrev pub IsNamed : ℕ → Type 0
   IsNamed addr = list_any (λ n. n == frame_at addr) (named_frames script) ≡ true
@@ -271,8 +272,8 @@ module _ (script : Script) (seat : Cpu → ℕ) (last : State) (report : Report)
   spoil-named : (damage : Damage) → ((frame : Frame) (line : ℕ) → frame_named (has_watch script) (spoiling damage frame line) ≡ Some frame.0) → (cpu : Cpu) → cpu.0 < script.layout.cpus → (who : Who) (line mask : ℕ) (frame : Frame) → bit_at mask line ≡ 1
       → Saw (view_of last (seat cpu)) who (damage_place frame damage) mask → IsNamed (line_address frame line)
   spoil-named damage names cpu inside who line mask frame one saw =
-      let is = spoiled-at-end script seat last report end cpu inside who frame damage line mask one saw in
-      let was = (spoiled-so script seat last report end frame damage line is.word is.there).0 is.set in
+      let is = spoiled-at-end script copies seat last report end cpu inside who frame damage line mask one saw in
+      let was = (spoiled-so script copies seat last report end frame damage line is.word is.there).0 is.set in
       let few : line < 64 = is.few in
       let at : (frame.0 * 4096 + line * 64) / 4096 ≡ frame.0 = omega (arith, few) in
       subst (λ (f : ℕ). list_any (λ n. n == f) (named_frames script) ≡ true) (sym at) (named-at script was.who (spoiling damage frame line) frame.0 was.made (names frame line))
@@ -283,7 +284,7 @@ module _ (script : Script) (seat : Cpu → ℕ) (last : State) (report : Report)
   -- each failure that a row tells is of a named frame; in a script with a `watch` each event is
   pub events-named : (cpu : Cpu) (list : List Command) (own : List Row) → cpu.0 < script.layout.cpus → slice_get script.lists cpu.0 ≡ Some list → slice_get end.rows cpu.0 ≡ Some own → EachMember (λ (row : Row). AreSuch IsNamed (has_watch script) row.told) own
   events-named cpu list own inside list_is own_is =
-      let served = (served-of script seat last report end cpu list own list_is own_is).0 in
+      let served = (served-of script copies seat last report end cpu list own list_is own_is).0 in
       rows-such IsNamed (has_watch script) script.layout [] (view_of last (seat cpu)) cpu 0 empty_banks list own served.banks (spoil-named damages.Bad (λ frame line. refl) cpu inside) (λ watches. spoil-named damages.Weak (weak-names watches) cpu inside)
       (λ k status addr misc there. named-of (has_watch script) (frame_at addr) script.lists cpu.0 k list (commands.Log status addr misc) list_is there refl) empty-free served.rows_are (empty-such IsNamed (has_watch script) bank_count)
 

@@ -1,7 +1,9 @@
 -- No load of a report got bad bytes.
-use Rattle.std.proofs.Common.{◌≡◌, ℕ, List, [], Some, ap, ◌∙◌, subst}
+use Rattle.std.proofs.Common.{◌≡◌, ℕ, List, [], Some, ap, ◌∙◌, subst, Option}
 use Rattle.std.specs.Prelude.{IsTrue, slice_index}
 use Rattle.std.specs.FinSet as set
+use Rattle.hwp_law_records.specs.hwp_geom.declared.Who.{Who}
+use Rattle.hwp_law_records.specs.hwp_geom.declared.VSlot.{VSlot}
 use Rattle.hwp_law_records.specs.hwp_geom.declared.Cpu.{Cpu}
 use Rattle.hwp_law_records.specs.hwp_geom.declared.Frame.{Frame}
 use Rattle.hwp_law_records.specs.hwp_geom.declared.Page.{Page}
@@ -80,9 +82,9 @@ module _ (script : Script) (turns : List Played) (last : State) (report : Report
       }
 
 -- the same of a run on whose last board each processor has served its commands
-pub run-no-bad-bytes : (script : Script) (seat : Cpu → ℕ) (turns : List Played) (last : State) (report : Report) → IsRunOf script seat turns last report → AreGoodLoads script.layout report turns
-run-no-bad-bytes script seat turns last report run =
-    no-bad-bytes script turns last report run.rule run.moves run.ends (nothing script seat turns last report run) (law-holds script seat turns last report run)
+pub run-no-bad-bytes : (script : Script) (copies : Who → Option VSlot) (seat : Cpu → ℕ) (turns : List Played) (last : State) (report : Report) → IsRunOf script copies seat turns last report → AreGoodLoads script.layout report turns
+run-no-bad-bytes script copies seat turns last report run =
+    no-bad-bytes script turns last report run.rule run.moves run.ends (nothing script copies seat turns last report run) (law-holds script copies seat turns last report run)
 
 -- the same of the run that a report is of, where nothing is held at its end
 pub core-no-bad-bytes : {S : Type 0} {m : Member S} {tasks : List S} {seat : Cpu → ℕ} {script : Script} {report : Report} (run : CoreRun m tasks seat script report) → EachMember HoldsNothing run.last.state.views → IsLawful script report → AreGoodLoads script.layout report run.turns

@@ -2,6 +2,7 @@
 use Rattle.std.proofs.Common.{◌≡◌, ◌⊎◌, ℕ, suc, ◌||◌, ◌<◌, Bool, true, false, cond, not, nat_le, List, [], ◌∷◌, ◌++◌, Option, None, Some, MatchBool, drop, length, map, slice_get, refl, sym, ap, subst, inl, inr}
 use Rattle.std.proofs.lemmas.List.{map-append}
 use Rattle.std.proofs.lemmas.Option.{none-some, same_Some}
+use Rattle.hwp_law_served.specs.hwp_geom.declared.VSlot.{VSlot}
 use Rattle.hwp_law_served.specs.hwp_geom.declared.Cpu.{Cpu}
 use Rattle.hwp_law_served.specs.hwp_geom.declared.Frame.{Frame}
 use Rattle.hwp_law_served.specs.hwp_geom.declared.Mode.{Mode}
@@ -53,7 +54,7 @@ left-empty : (checks : List Check) → left_by empty_banks checks ≡ empty_bank
 left-empty [] = refl
 left-empty (c ∷ cs) = refl
 
-module _ (script : Script) (seat : Cpu → ℕ) (last : State) (report : Report) (end : IsEnd script seat last report) (who : Who) (inside : who.cpu.0 < script.layout.cpus) where
+module _ (script : Script) (copies : Who → Option VSlot) (seat : Cpu → ℕ) (last : State) (report : Report) (end : IsEnd script copies seat last report) (who : Who) (inside : who.cpu.0 < script.layout.cpus) where
   abbrev view : View
   view = view_of last (seat who.cpu)
 
@@ -71,7 +72,7 @@ module _ (script : Script) (seat : Cpu → ℕ) (last : State) (report : Report)
     frame = frame_at t.held.event.addr
 
     failed-so : (o : Option Found) → t.found ≡ o → IsFailed script.layout view who (frame_of t.held) required t.acted o → ((t.acted ≡ acts.Already) × WasPoisoned (marks_of report frame) who true) ⊎ IsResult (marks_of report frame) who t.acted
-    failed-so None none failed = inl (failed.0, was-poisoned script seat last report end who.cpu inside who (frame_of t.held) failed.1.word true failed.1.poisoned failed.1.saw)
+    failed-so None none failed = inl (failed.0, was-poisoned script copies seat last report end who.cpu inside who (frame_of t.held) failed.1.word true failed.1.poisoned failed.1.saw)
     failed-so (Some found) some failed = inr (result found some)
 
     failure-so : (x y z : Bool) → IsDone script.layout view who required t (cond x (Some acts.Held) (cond y (Some acts.Outside) (cond z None (Some acts.Panic))))

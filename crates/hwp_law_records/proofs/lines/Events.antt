@@ -2,6 +2,7 @@
 use Rattle.std.proofs.Common.{◌≡◌, ℕ, suc, ◌+◌, ◌-◌, ◌<◌, Bool, true, false, List, [], ◌∷◌, ◌++◌, Option, Some, None, MatchBool, length, map, option_and_then, slice_get, refl, sym, ap, ◌∙◌, subst, arith}
 use Rattle.std.proofs.lemmas.List.Sums.{length-filter}
 use Rattle.std.proofs.lemmas.Option.{slice_get_within}
+use Rattle.hwp_law_served.specs.hwp_geom.declared.VSlot.{VSlot}
 use Rattle.hwp_law_served.specs.hwp_geom.declared.Cpu.{Cpu}
 use Rattle.hwp_law_served.specs.hwp_geom.declared.Frame.{Frame}
 use Rattle.hwp_law_served.specs.hwp_geom.declared.Mode.{Mode}
@@ -57,9 +58,9 @@ same-raised answers.Stopped seq [] = refl
 same-raised answers.Stopped seq (t ∷ ts) = refl
 same-raised answer seq told = refl
 
-module _ (script : Script) (seat : Cpu → ℕ) (turns : List Played) (last : State) (report : Report) (run : IsRunOf script seat turns last report) where
-  abbrev end : IsEnd script seat last report
-  end = ended script seat turns last report run
+module _ (script : Script) (copies : Who → Option VSlot) (seat : Cpu → ℕ) (turns : List Played) (last : State) (report : Report) (run : IsRunOf script copies seat turns last report) where
+  abbrev end : IsEnd script copies seat last report
+  end = ended script copies seat turns last report run
 
   module _ (who : Who) (inside : who.cpu.0 < script.layout.cpus) (row : Row) (row_is : row_at end.rows who ≡ Some row) where
     abbrev view : View
@@ -69,20 +70,20 @@ module _ (script : Script) (seat : Cpu → ℕ) (turns : List Played) (last : St
     lines_of_row = map (event_at who.seq) row.told
 
     answered : answer_of report who ≡ Some row.answer
-    answered = let r = row-of script seat last report end who row row_is in answer-told script seat last report end view who r.of ∙ ap (λ (x : Row). Some x.answer) r.same
+    answered = let r = row-of script copies seat last report end who row row_is in answer-told script copies seat last report end view who r.of ∙ ap (λ (x : Row). Some x.answer) r.same
 
-    results : EachMember (HasResult script seat last report end who inside) row.told
-    results i t there found some = result-told script seat last report end who row row_is i t found there some
+    results : EachMember (HasResult script copies seat last report end who inside) row.told
+    results i t there found some = result-told script copies seat last report end who row row_is i t found there some
 
     -- an access has as many machine checks as entries of them
     checks-count : entries_of report who is_check ≡ length (such_deeds is_check who view)
-    checks-count = entries-inside script seat last report end who is_check inside ∙ sym (length-filter (λ (m : Made). is_check m.entry.what) (deeds who view))
+    checks-count = entries-inside script copies seat last report end who is_check inside ∙ sym (length-filter (λ (m : Made). is_check m.entry.what) (deeds who view))
 
     of-access : (thread : Thread) (line : ℕ) (origin : Origin) (mode : Mode) → ((frame : Frame) → SawBad script.layout view who line frame → IsDamaged report origin frame.0 line) → (before after : Banks) → IsAccessTold script.layout view who thread line origin mode before row.told after
         → IsAccessChecked script report who (restarting mode) origin line before lines_of_row after
     of-access thread line origin mode damaged before after told =
-        let are = checks-so script seat last report end who inside thread line origin mode damaged before told.checks told.are
-        (subst (EachMember (HasResult script seat last report end who inside)) told.told_is results) in
+        let are = checks-so script copies seat last report end who inside thread line origin mode damaged before told.checks told.are
+        (subst (EachMember (HasResult script copies seat last report end who inside)) told.told_is results) in
         subst (λ (n : ℕ). AreAccessChecks script report who (restarting mode) origin line n before lines_of_row after) (told.count ∙ sym checks-count)
         (subst (λ (l : List EventOutcome). AreAccessChecks script report who (restarting mode) origin line (length told.checks) before (map (event_at who.seq) l) after) (sym told.told_is)
         (subst (AreAccessChecks script report who (restarting mode) origin line (length told.checks) before (map (event_at who.seq) (lines_of told.checks))) (sym told.after_is) are))
@@ -93,7 +94,7 @@ module _ (script : Script) (seat : Cpu → ℕ) (turns : List Played) (last : St
         (subst (λ (b : Bool). MatchBool b (IsCheck script report who how before lines_of_row × (after ≡ empty_banks)) ((lines_of_row ≡ []) × (after ≡ before))) (sym (same-raised row.answer who.seq row.told)) (which (is_raised row.answer row.told) told))
       where
         which : (b : Bool) → MatchBool b (IsActedOn script.layout view who thread how before row.told × (after ≡ empty_banks)) (IsUntold row.told before after) → MatchBool b (IsCheck script report who how before lines_of_row × (after ≡ empty_banks)) ((lines_of_row ≡ []) × (after ≡ before))
-        which true is = (check-so script seat last report end who inside thread how before row.told is.0 results, is.1)
+        which true is = (check-so script copies seat last report end who inside thread how before row.told is.0 results, is.1)
         which false is = (ap (map (event_at who.seq)) is.0, is.1)
 
     untold : (before after : Banks) → IsUntold row.told before after → (lines_of_row ≡ []) × (after ≡ before)
@@ -101,14 +102,14 @@ module _ (script : Script) (seat : Cpu → ℕ) (turns : List Played) (last : St
 
     of-scrub : (first last_frame : Frame) (before after : Banks) → IsScrubTold script.layout view who first last_frame row.answer before row.told after → AreScrubbed script report who scrubbing first.0 (last_frame.0 + 1 - first.0) before lines_of_row after
     of-scrub first last_frame before after told =
-        let r = row-of script seat last report end who row row_is in
-        scrubbed-so script seat last report end who r.of first last_frame row.answer before row.told after told answered results
+        let r = row-of script copies seat last report end who row row_is in
+        scrubbed-so script copies seat last report end who r.of first last_frame row.answer before row.told after told answered results
 
     of-command : (command : Command) (before after : Banks) → AreToldBy script.layout view who command row.answer before row.told after → AreEventsOf script report who (arrival_of command) command before lines_of_row after
-    of-command (commands.Load thread slot line) before after told = of-access thread line origins.Access modes.User (λ frame saw. bad-shown script seat last report end who.cpu inside who line frame saw) before after told
-    of-command (commands.Fetch thread slot line) before after told = of-access thread line origins.Fetch modes.User (λ frame saw. bad-shown script seat last report end who.cpu inside who line frame saw) before after told
-    of-command (commands.KLoad thread slot line) before after told = of-access thread line origins.Access modes.Kernel (λ frame saw. bad-shown script seat last report end who.cpu inside who line frame saw) before after told
-    of-command (commands.Store thread slot line word) before after told = of-access thread line origins.Access modes.User (λ frame saw. bad-shown script seat last report end who.cpu inside who line frame saw) before after told
+    of-command (commands.Load thread slot line) before after told = of-access thread line origins.Access modes.User (λ frame saw. bad-shown script copies seat last report end who.cpu inside who line frame saw) before after told
+    of-command (commands.Fetch thread slot line) before after told = of-access thread line origins.Fetch modes.User (λ frame saw. bad-shown script copies seat last report end who.cpu inside who line frame saw) before after told
+    of-command (commands.KLoad thread slot line) before after told = of-access thread line origins.Access modes.Kernel (λ frame saw. bad-shown script copies seat last report end who.cpu inside who line frame saw) before after told
+    of-command (commands.Store thread slot line word) before after told = of-access thread line origins.Access modes.User (λ frame saw. bad-shown script copies seat last report end who.cpu inside who line frame saw) before after told
     of-command (commands.Scrub first last_frame) before after told = of-scrub first last_frame before after told
     of-command (commands.RaiseUser thread ripv eipv) before after told = of-raise (Some thread) (arrival_of (commands.RaiseUser thread ripv eipv)) before after told
     of-command (commands.RaiseKernel ripv eipv) before after told = of-raise None (arrival_of (commands.RaiseKernel ripv eipv)) before after told
@@ -130,7 +131,7 @@ module _ (script : Script) (seat : Cpu → ℕ) (turns : List Played) (last : St
         let who : Who = record { cpu = cpu; seq = n } in
         let same : n + 0 ≡ n = omega arith in
         let row_is : row_at end.rows who ≡ Some row = ap (λ (o : Option (List Row)). option_and_then (λ (l : List Row). slice_get l n) o) own_is ∙ subst (λ (k : ℕ). slice_get own k ≡ Some row) same (of_rows 0 row refl) in
-        let told : events_of report who ≡ map (event_at n) row.told = events-by-row script seat last report end who ∙ ap (λ (o : Option Row). map (event_at n) (told_at o)) row_is in (
+        let told : events_of report who ≡ map (event_at n) row.told = events-by-row script copies seat last report end who ∙ ap (λ (o : Option Row). map (event_at n) (told_at o)) row_is in (
           between,
           subst (λ (es : List EventLine). AreEventsOf script report who (arrival_of c) c before es between) (sym told) (of-command who inside row row_is c before between served.told),
           events-from (earlier ++ (c, row.answer) ∷ []) (n + 1) between cs rows after rest (let one : suc (length rows) ≡ suc (length cs) = fit in let less : length rows ≡ length cs = omega arith in less)
@@ -140,7 +141,7 @@ module _ (script : Script) (seat : Cpu → ℕ) (turns : List Played) (last : St
   pub events-are : AreEvents script report
   events-are cpu list list_is =
       let inside : cpu.0 < script.layout.cpus = subst (λ (n : ℕ). cpu.0 < n) end.lists_fit (slice_get_within script.lists cpu.0 list list_is) in
-      let own = rows-of script seat last report end cpu inside in
-      let served = (served-of script seat last report end cpu list own.0 list_is own.1).0 in
+      let own = rows-of script copies seat last report end cpu inside in
+      let served = (served-of script copies seat last report end cpu list own.0 list_is own.1).0 in
       events-from cpu inside own.0 own.1 [] 0 empty_banks list own.0 served.banks served.rows_are served.count
       (λ i r there. let same : i ≡ 0 + i = omega arith in subst (λ (k : ℕ). slice_get own.0 k ≡ Some r) same there)

@@ -6,6 +6,7 @@ use Rattle.std.proofs.lemmas.Bool.{and_parts, cases_lt, eqb-true}
 use Rattle.std.proofs.lemmas.Nat.{bit_set_by_shift}
 use Rattle.std.proofs.lemmas.Nat.Bits.{bit_at-lt, bit_at_above, shr_and_one}
 use Rattle.std.proofs.lemmas.Option.{option_and_then_some, same_Some}
+use Rattle.hwp_law_served.specs.hwp_geom.declared.VSlot.{VSlot}
 use Rattle.hwp_law_served.specs.hwp_geom.declared.Cpu.{Cpu}
 use Rattle.hwp_law_served.specs.hwp_geom.declared.Damage.{Damage}
 use Rattle.hwp_law_served.specs.hwp_geom.declared.Damage.TheVariants as damages
@@ -101,7 +102,7 @@ spoil-cause layout earlier view who frame n damages.Weak told own caused = cause
 
 -- ---- the lines
 
-module _ (script : Script) (seat : Cpu → ℕ) (last : State) (report : Report) (end : IsEnd script seat last report) where
+module _ (script : Script) (copies : Who → Option VSlot) (seat : Cpu → ℕ) (last : State) (report : Report) (end : IsEnd script copies seat last report) where
   abbrev all_spoiled : List (List Spoiled)
   all_spoiled = map (λ (v : View). v.spoiled) last.views
 
@@ -110,27 +111,27 @@ module _ (script : Script) (seat : Cpu → ℕ) (last : State) (report : Report)
   done-of i j v s view there =
       let part = end.spoilers i v view j s there in
       let own = subst (λ (c : Cpu). (c.0 < script.layout.cpus) × (v ≡ view_of last (seat c))) part.3 (seat-view script.layout seat last end.board.holds end.seated i part.0 v part.1 view part.2) in
-      let list = list-of script seat last report end s.stamp.who.cpu own.0 in
-      let rows = rows-of script seat last report end s.stamp.who.cpu own.0 in
-      let served = (served-of script seat last report end s.stamp.who.cpu list.0 rows.0 list.1 rows.1).0 in
+      let list = list-of script copies seat last report end s.stamp.who.cpu own.0 in
+      let rows = rows-of script copies seat last report end s.stamp.who.cpu own.0 in
+      let served = (served-of script copies seat last report end s.stamp.who.cpu list.0 rows.0 list.1 rows.1).0 in
       let by = served.spoiled j s (sym (ap (λ (x : View). slice_get x.spoiled j) own.1) ∙ there) in
-      let of = command-of script seat last report end s.stamp.who list.0 (spoiling s.damage s.frame s.line) list.1 by.there in
+      let of = command-of script copies seat last report end s.stamp.who list.0 (spoiling s.damage s.frame s.line) list.1 by.there in
       let rows_same : of.own ≡ rows.0 = same_Some of.own rows.0 (sym of.own_is ∙ rows.1) in
       let row : of.row ≡ by.row = same_Some of.row by.row (sym of.row_is ∙ ap (λ (l : List Row). slice_get l s.stamp.who.seq) rows_same ∙ by.row_is) in
       record {
         who = s.stamp.who;
         made = command-is script s.stamp.who list.0 (spoiling s.damage s.frame s.line) list.1 by.there;
-        answered = answer-told script seat last report end (view_of last (seat s.stamp.who.cpu)) s.stamp.who of ∙ ap (λ (a : Answer). Some a) (ap (λ (r : Row). r.answer) row ∙ by.answered);
+        answered = answer-told script copies seat last report end (view_of last (seat s.stamp.who.cpu)) s.stamp.who of ∙ ap (λ (a : Answer). Some a) (ap (λ (r : Row). r.answer) row ∙ by.answered);
       }
 
   -- a command that was answered so spoiled the line
   spoiled-by : (who : Who) (frame : Frame) (n : ℕ) (damage : Damage) → command_at script who ≡ Some (spoiling damage frame n) → answer_of report who ≡ Some answers.Done → (who.cpu.0 < script.layout.cpus) × HasSpoiledLine (view_of last (seat who.cpu)) who frame n damage
   spoiled-by who frame n damage made answered =
       option_and_then_some (λ (l : List Command). slice_get l who.seq) (slice_get script.lists who.cpu.0) (spoiling damage frame n) made (λ list list_is there. (
-      let of = command-of script seat last report end who list (spoiling damage frame n) list_is there in
+      let of = command-of script copies seat last report end who list (spoiling damage frame n) list_is there in
       let lists_same : of.list ≡ list = same_Some of.list list (sym of.list_is ∙ list_is) in
       let command : of.command ≡ spoiling damage frame n = same_Some of.command (spoiling damage frame n) (sym of.command_is ∙ ap (λ (l : List Command). slice_get l who.seq) lists_same ∙ there) in
-      let answer : of.row.answer ≡ answers.Done = same_Some of.row.answer answers.Done (sym (answer-told script seat last report end (view_of last (seat who.cpu)) who of) ∙ answered) in (
+      let answer : of.row.answer ≡ answers.Done = same_Some of.row.answer answers.Done (sym (answer-told script copies seat last report end (view_of last (seat who.cpu)) who of) ∙ answered) in (
         of.inside,
         spoil-cause script.layout of.earlier (view_of last (seat who.cpu)) who frame n damage of.row.told of.row.own
             (subst (λ (c : Command). IsAnswerCaused script.layout of.earlier (view_of last (seat who.cpu)) who c of.row.told of.row.own answers.Done) command

@@ -2,6 +2,7 @@
 -- answered so too.
 use Rattle.std.proofs.Common.{◌≡◌, ◌≢◌, ◌⊎◌, ℕ, inl, inr, ◌+◌, ◌<◌, true, List, Option, Some, None, IsSomeAnd, slice_get, option_and_then, option_map, refl, sym, ap, ◌∙◌, subst, arith}
 use Rattle.std.proofs.lemmas.Option.{none-some, same_Some}
+use Rattle.hwp_law_served.specs.hwp_geom.declared.VSlot.{VSlot}
 use Rattle.hwp_law_served.specs.hwp_geom.declared.Cpu.{Cpu}
 use Rattle.hwp_law_served.specs.hwp_geom.declared.Layout.{Layout}
 use Rattle.hwp_law_served.specs.hwp_geom.declared.Page.{Page}
@@ -120,9 +121,9 @@ module _ (layout : Layout) (earlier : List (Command × Answer)) (view : View) (w
   gone (commands.Unpoison frame) told own page is caused = absurd (none-some process is)
   gone command told own page is caused = table-gone command page is caused
 
-module _ (script : Script) (seat : Cpu → ℕ) (turns : List Played) (last : State) (report : Report) (run : IsRunOf script seat turns last report) where
-  abbrev end : IsEnd script seat last report
-  end = ended script seat turns last report run
+module _ (script : Script) (copies : Who → Option VSlot) (seat : Cpu → ℕ) (turns : List Played) (last : State) (report : Report) (run : IsRunOf script copies seat turns last report) where
+  abbrev end : IsEnd script copies seat last report
+  end = ended script copies seat turns last report run
 
   know : EachMember (KnowEnds script.layout) last.views
   know = run-keeps script.layout (λ (s : State) (v : View). KnowEnds script.layout v) (ends-kept script.layout) turns last run.rule run.moves
@@ -140,7 +141,7 @@ module _ (script : Script) (seat : Cpu → ℕ) (turns : List Played) (last : St
         let made = listed.3 in
         let that = made.3 in
         let own_who : made.1.entry.who ≡ who = ap (λ (x : Entry). x.who) that.entry_is ∙ has.own in
-        let own = own-view script seat last report end listed.0 listed.1 made.1.entry.who listed.2 ((end.board.holds.rule.processors.commands.own listed.0 listed.1 listed.2).made made.0 made.1 made.2) in
+        let own = own-view script copies seat last report end listed.0 listed.1 made.1.entry.who listed.2 ((end.board.holds.rule.processors.commands.own listed.0 listed.1 listed.2).made made.0 made.1 made.2) in
         let cpu_is : made.1.entry.who.cpu ≡ later.cpu = ap (λ (w : Who). w.cpu) own_who ∙ earlier.0 in
         let there : slice_get (view_of last (seat later.cpu)).made made.0 ≡ Some made.1 = sym (ap (λ (x : View). slice_get x.made made.0) (own.1 ∙ ap (λ (c : Cpu). view_of last (seat c)) cpu_is)) ∙ made.2 in
         let ending : is_ending script.layout process made.1.entry.what ≡ true = ap (λ (x : Entry). is_ending script.layout process x.what) that.entry_is ∙ has.ending in
@@ -150,7 +151,7 @@ module _ (script : Script) (seat : Cpu → ℕ) (turns : List Played) (last : St
     not-gone : WasGone script report who process → ⊥
     not-gone was =
         let has = process-command script who process was.process_is in
-        let a = answers-of script seat turns last report run who has.0 (answers.Gone was.page) has.1 was.answered in
+        let a = answers-of script copies seat turns last report run who has.0 (answers.Gone was.page) has.1 was.answered in
         let first : Saw (view_of last (seat who.cpu)) who (places.Process process) (was.page.0 + 1) = gone script.layout a.earlier (view_of last (seat who.cpu)) who process has.0 a.row.told a.row.own was.page (sym (process-is script who has.0 has.1) ∙ was.process_is)
         (subst (IsAnswerCaused script.layout a.earlier (view_of last (seat who.cpu)) who has.0 a.row.told a.row.own) a.answer_is a.served.caused) in
         let mine : Saw (view_of last (seat later.cpu)) who (places.Process process) (was.page.0 + 1) = subst (λ (c : Cpu). Saw (view_of last (seat c)) who (places.Process process) (was.page.0 + 1)) earlier.0 first in
@@ -161,7 +162,7 @@ module _ (script : Script) (seat : Cpu → ℕ) (turns : List Played) (last : St
   pub endings-stay : EndingsStay script report
   endings-stay who later process answer how earlier of is =
       let has = process-command script later process of in
-      let a = answers-of script seat turns last report run later has.0 answer has.1 is in
+      let a = answers-of script copies seat turns last report run later has.0 answer has.1 is in
       which how a.inside (going script.layout a.earlier (view_of last (seat later.cpu)) later process has.0 a.row.told a.row.own answer (sym (process-is script later has.0 has.1) ∙ of)
       (subst (IsAnswerCaused script.layout a.earlier (view_of last (seat later.cpu)) later has.0 a.row.told a.row.own) a.answer_is a.served.caused))
     where
