@@ -21,7 +21,10 @@ use Rattle.hwp_law_run.specs.hwp_script_read.declared.Command.TheVariants as com
 use Rattle.hwp_law_run.specs.hwp_script_read.declared.Script.{Script}
 use Rattle.hwp_law_run.specs.hwp_report_text.declared.Answer.{Answer}
 use Rattle.hwp_law_run.specs.hwp_report_text.declared.Answer.TheVariants as answers
+use Rattle.hwp_law_run.specs.hwp_report_text.declared.CpuLine.{CpuLine}
+use Rattle.hwp_law_run.specs.hwp_report_text.declared.CpuLine.TheVariants as lines
 use Rattle.hwp_law_run.specs.hwp_report_text.declared.Report.{Report}
+use Rattle.hwp_law_run.proofs.of_hwp_law.ActingLaws.{slot-uncopied}
 use Rattle.hwp_law_run.specs.hwp_law.Copies.{ended_through}
 use Rattle.hwp_law_run.specs.hwp_law.Runs.{StopsFirst, WasOut, WereOut, slot_ended, slot_of}
 use Rattle.hwp_law_run.specs.hwp_law_commands.Commands.{command_at}
@@ -83,6 +86,7 @@ module _ (script : Script) (copies : Who → Option VSlot) (seat : Cpu → ℕ) 
     rows = run.rows;
     rows_fit = run.lengths.rows_fit;
     served = run.served;
+    apart = run.apart;
     records = run.records;
     low = run-low script.layout turns last run.rule run.moves;
     marks_rise = run-keeps script.layout (λ (s : State) (v : View). AreRisingMarks v) (rising-kept script.layout) turns last run.rule run.moves;
@@ -144,7 +148,7 @@ module _ (script : Script) (copies : Who → Option VSlot) (seat : Cpu → ℕ) 
           ∙ ap (λ (o : Option VSlot). Some (option_map_or (λ (f : VSlot). ended_through script.layout report (record { cpu = cpu; seq = seq }) f to) o to)) some) ∙ of) in
           record {
             at = record { page = found.behind.access.page; entry = found.place };
-            of_slot = subst (λ (v : VSlot). pages.IsOf script.layout found.behind.access.page v) its (ended-so script copies seat last report ended (record { cpu = cpu; seq = seq }) x.inside thread from to n word x.before x.row.told caused);
+            of_slot = subst (λ (v : VSlot). pages.IsOf script.layout found.behind.access.page v) its (ended-so script copies seat last report ended (record { cpu = cpu; seq = seq }) x.inside thread from to n word x.before x.row.told some (command_is ∙ ap (λ (y : Command). Some y) is) caused);
             out = had script copies seat last report ended cpu x.inside found.away;
             window = in-window script copies seat last report ended cpu rows rows_is seq (record { page = found.behind.access.page; entry = found.place }) (ended.seated.there cpu x.inside) (saw-at found.away);
           }

@@ -30,7 +30,7 @@ use Rattle.hwp_cpu_row.specs.declared.Row.{Row}
 use Rattle.hwp_scrub.specs.Visits.{AreBanks}
 use Rattle.hwp_law_served.specs.Handles.{answers_by}
 use Rattle.hwp_law_served.specs.Rows.{lines_from}
-use Rattle.hwp_law_served.specs.Runs.{AreRecords, AreServed, notes_of}
+use Rattle.hwp_law_served.specs.Runs.{AreApart, AreRecords, AreServed, notes_of}
 use Rattle.hwp_law_served.specs.Served.{AreRowsServed, IsRowServed, IsServed}
 use Rattle.hwp_law_served.proofs.lines.LowWords.{AreOfLines}
 use Rattle.hwp_law_served.proofs.lines.ScrubBank.{empty-free, with-free}
@@ -47,6 +47,7 @@ pub record IsEnd (script : Script) (copies : Who → Option VSlot) (seat : Cpu �
   pub rows : List (List Row)
   pub rows_fit : length rows ≡ script.layout.cpus
   pub served : AreServed script copies seat last rows report.cpus
+  pub apart : AreApart script copies
   pub records : AreRecords (notes_of 0 rows) report
   pub low : AreOfLines (words_of script.layout last.words)
   pub marks_rise : EachMember AreRisingMarks last.views

@@ -6,3 +6,4 @@ pub mod CopyEntries
 pub mod StoredLast
 pub mod CopyPlaces
 pub mod EndedThrough
+pub mod CopyLines

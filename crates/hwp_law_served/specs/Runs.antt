@@ -5,8 +5,11 @@ use Rattle.std.specs.List.Sorted.{IsNonDecreasingBy, IsPermutation}
 use Rattle.std.specs.Option.{option_or}
 use Rattle.hwp_law_run.specs.hwp_geom.declared.Cpu.{Cpu}
 use Rattle.hwp_law_run.specs.hwp_geom.declared.Frame.{Frame}
+use Rattle.hwp_law_run.specs.hwp_geom.declared.Page.{Page}
+use Rattle.hwp_law_run.specs.hwp_geom.declared.Thread.{Thread}
 use Rattle.hwp_law_run.specs.hwp_geom.declared.VSlot.{VSlot}
 use Rattle.hwp_law_run.specs.hwp_geom.declared.Who.{Who}
+use Rattle.hwp_law_run.specs.hwp_page.Step.{IsOf}
 use Rattle.hwp_law_run.specs.hwp_core_rule.declared.State.{State}
 use Rattle.hwp_law_run.specs.hwp_core_rule.Opening.{opening}
 use Rattle.hwp_law_run.specs.hwp_core_rule.Rule.{Holds}
@@ -105,6 +108,12 @@ pub record HasStopCause (script : Script) (rows : List (List Row)) (stop : Stop)
   pub row_is : row_at rows stop.who ≡ Some row
   pub cause : IsCauseOf command row.told stop.cause
 
+-- no store copies a page to itself
+abbrev pub AreApart : Script → (Who → Option VSlot) → Type 0
+AreApart script copies =
+    (who : Who) (from to : VSlot) (thread : Thread) (line word : ℕ) (page : Page) → copies who ≡ Some from → command_at script who ≡ Some (commands.Store thread to line word)
+    → IsOf script.layout page from → IsOf script.layout page to → ⊥
+
 -- The turns start from the board at opening, each is a move that keeps the frame rule. On the last board each processor's seat
 -- has served its commands and each failure of a frame is ended, and the report is of that board, of the processors' rows and of what
 -- they noted. Its commands are those that the processors acted on, some of which copy first.
@@ -115,6 +124,7 @@ pub record IsRunOf (script : Script) (copies : Who → Option VSlot) (seat : Cpu
   pub settled : (frame : Frame) (cycle : ℕ) → Pending (words_at script.layout last) frame cycle → ⊥
   pub rows : List (List Row)
   pub served : AreServed script copies seat last rows report.cpus
+  pub apart : AreApart script copies
   pub records : AreRecords (notes_of 0 rows) report
   pub ends : EndsWith script.layout last report
   pub lengths : HasLengths script report rows

@@ -44,7 +44,7 @@ use Rattle.hwp_law_served.specs.hwp_law_run.Shown.{AlreadyShown, IsShown, Offlin
 use Rattle.hwp_law_served.proofs.of_hwp_law_run.SeatKnows.{Said}
 use Rattle.hwp_law_served.proofs.of_hwp_law_run.SeatTells.{all-told, told}
 use Rattle.hwp_law_served.specs.hwp_scrub.Visits.{AreBanks}
-use Rattle.hwp_law_served.specs.Causes.{IsAnswerCaused}
+use Rattle.hwp_law_served.specs.Causes.{IsCausedWith}
 use Rattle.hwp_law_served.specs.hwp_cpu_row.Acts.{event_at}
 use Rattle.hwp_law_served.specs.Rows.{offlined_at}
 use Rattle.hwp_law_served.specs.Runs.{IsRunOf, row_at}
@@ -55,8 +55,11 @@ use Rattle.hwp_law_served.proofs.LastBoard.{ended}
 use Rattle.hwp_law_served.proofs.RowLines.{answer-told, events-by-row, events-told, offlined-by-row, offlines_at, told_at}
 use Rattle.hwp_law_served.proofs.lines.OfRows.{row-of}
 use Rattle.hwp_law_sights.proofs.lines.ScrubShown.{bad-shown, looked-at, weak-shown}
-use Rattle.hwp_law_served.proofs.RowTold.{IsToldRight, told-so}
-use Rattle.hwp_law_sights.proofs.Shown.{already-shown, answer-shown, beside-shown, goes-shown, runs-shown, word-shown}
+use Rattle.hwp_law_served.proofs.RowTold.{IsToldRight}
+use Rattle.hwp_law_served.proofs.copied.CopyTells.{told-so}
+use Rattle.hwp_law_served.proofs.copied.Uncopied.{told-uncopied}
+use Rattle.hwp_law_sights.proofs.copied.CopyShown.{answer-with, goes-with}
+use Rattle.hwp_law_sights.proofs.Shown.{already-shown, beside-shown, runs-shown, word-shown}
 use Rattle.hwp_law_sights.proofs.losses.NumbersTold.{number-known}
 
 -- the list of a processor that has such a command
@@ -128,7 +131,7 @@ module _ (script : Script) (copies : Who → Option VSlot) (seat : Cpu → ℕ) 
     pub before : Banks
     pub free : AreBanks before
     pub after : Banks
-    pub served : IsRowServed script.layout earlier (view_of last (seat who.cpu)) who command before row after
+    pub served : IsRowServed script.layout earlier (copies who) (view_of last (seat who.cpu)) who command before row after
     pub answered : answer_of report who ≡ Some row.answer
     pub events : events_of report who ≡ map (event_at who.seq) row.told
 
@@ -145,7 +148,7 @@ module _ (script : Script) (copies : Who → Option VSlot) (seat : Cpu → ℕ) 
         before = of.before;
         free = of.free;
         after = of.after;
-        served = subst (λ (c : Command). IsRowServed script.layout of.earlier (view_of last (seat who.cpu)) who c of.before of.row of.after) same_command of.served;
+        served = subst (λ (c : Command). IsRowServed script.layout of.earlier (copies who) (view_of last (seat who.cpu)) who c of.before of.row of.after) same_command of.served;
         answered = answer-told script copies seat last report end (view_of last (seat who.cpu)) who of;
         events = events-told script copies seat last report end (view_of last (seat who.cpu)) who of;
       }
@@ -158,7 +161,7 @@ module _ (script : Script) (copies : Who → Option VSlot) (seat : Cpu → ℕ) 
     pub answer_is : row.answer ≡ answer
     pub before : Banks
     pub after : Banks
-    pub served : IsRowServed script.layout earlier (view_of last (seat who.cpu)) who command before row after
+    pub served : IsRowServed script.layout earlier (copies who) (view_of last (seat who.cpu)) who command before row after
 
   pub answers-of : (who : Who) (command : Command) (answer : Answer) → command_at script who ≡ Some command → answer_of report who ≡ Some answer → Answers who command answer
   answers-of who command answer at is =
@@ -166,8 +169,8 @@ module _ (script : Script) (copies : Who → Option VSlot) (seat : Cpu → ℕ) 
       record { earlier = a.earlier; inside = a.inside; row = a.row; answer_is = same_Some a.row.answer answer (sym a.answered ∙ is); before = a.before; after = a.after; served = a.served }
 
   -- its answer has its cause
-  pub caused-so : {who : Who} {command : Command} {answer : Answer} (a : Answers who command answer) → IsAnswerCaused script.layout a.earlier (view_of last (seat who.cpu)) who command a.row.told a.row.own answer
-  caused-so {who} {command} a = subst (IsAnswerCaused script.layout a.earlier (view_of last (seat who.cpu)) who command a.row.told a.row.own) a.answer_is a.served.caused
+  pub caused-so : {who : Who} {command : Command} {answer : Answer} (a : Answers who command answer) → IsCausedWith script.layout a.earlier (copies who) (view_of last (seat who.cpu)) who command a.before a.row.told a.row.own answer
+  caused-so {who} {command} a = subst (IsCausedWith script.layout a.earlier (copies who) (view_of last (seat who.cpu)) who command a.before a.row.told a.row.own) a.answer_is a.served.caused
 
   said : (cpu : Cpu) → cpu.0 < script.layout.cpus → Said (told script.layout turns) (view_of last (seat cpu))
   said cpu inside = all-told script.layout turns last run.rule run.moves (seat cpu) (view_of last (seat cpu)) (run.seated.there cpu inside)
@@ -178,7 +181,7 @@ module _ (script : Script) (copies : Who → Option VSlot) (seat : Cpu → ℕ) 
       let r = row-of script copies seat last report (ended script copies seat turns last report run) who row some in
       let view : View = view_of last (seat who.cpu) in
       let right : EachMember (IsToldRight script.layout view who (current_thread r.of.command)) row.told = subst (λ (x : Row). EachMember (IsToldRight script.layout view who (current_thread r.of.command)) x.told) r.same
-      (told-so script.layout view who r.of.command r.of.row.answer r.of.before r.of.row.told r.of.after r.of.served.told) in
+      (told-so script.layout view who (copies who) r.of.command r.of.row.answer r.of.before r.of.row.told r.of.after r.of.served.told) in
       each-map (event_at who.seq) (AlreadyShown script.layout turns who) row.told
       (each-weaken (IsToldRight script.layout view who (current_thread r.of.command)) (λ (t : EventOutcome). AlreadyShown script.layout turns who (event_at who.seq t)) row.told
       (λ t is. already-shown script turns view (said who.cpu r.of.inside) who r.of.earlier t who.seq (saw-already script.layout view who (current_thread r.of.command) t is)) right)
@@ -194,15 +197,15 @@ module _ (script : Script) (copies : Who → Option VSlot) (seat : Cpu → ℕ) 
       (λ x is. beside-shown script turns view (said who.cpu r.of.inside) who r.of.earlier x who.seq is) served)
 
   -- each answer, each line of an event and of a frame taken out of use, and each number of a handle rests on what its command was shown
-  pub report-shown : IsShown script report turns
+  pub report-shown : IsShown script copies report turns
   report-shown = record {
     answers = λ who command answer at is.
         let a = answers-of who command answer at is in
-        answer-shown script turns (view_of last (seat who.cpu)) (said who.cpu a.inside) who a.earlier command a.row.told a.row.own answer at (caused-so a);
+        answer-with script copies seat last report (ended script copies seat turns last report run) turns who a.inside (said who.cpu a.inside) a.earlier (copies who) command a.before a.row.told a.row.own answer refl at (caused-so a);
     going = λ who process answer at is.
         let has = process-command script who process at in
         let a = answers-of who has.0 answer has.1 is in
-        goes-shown script turns (view_of last (seat who.cpu)) (said who.cpu a.inside) who a.earlier process has.0 a.row.told a.row.own answer has.1 at (caused-so a);
+        goes-with script copies seat last report (ended script copies seat turns last report run) turns who a.inside (said who.cpu a.inside) a.earlier process (copies who) has.0 a.before a.row.told a.row.own answer has.1 at (caused-so a);
     running = λ who command answer at is.
         let a = answers-of who command answer at is in
         runs-shown script.layout turns (view_of last (seat who.cpu)) (said who.cpu a.inside) who answer (subst (λ (x : Answer). (x ≡ answers.Stopped) ⊎ SawRunning (view_of last (seat who.cpu)) who) a.answer_is a.served.running);
@@ -214,18 +217,22 @@ module _ (script : Script) (copies : Who → Option VSlot) (seat : Cpu → ℕ) 
         (numbers_after file 0 (take (i + 1) (answered list rows))) refl known.1.0;
   }
 
+  -- what a scrub told
+  scrub-told : {who : Who} {first last_frame : Frame} (a : Serves who (commands.Scrub first last_frame)) → IsScrubTold script.layout (view_of last (seat who.cpu)) who first last_frame a.row.answer a.before a.row.told a.after
+  scrub-told {who} {first} {last_frame} a = told-uncopied script.layout (copies who) (view_of last (seat who.cpu)) who (commands.Scrub first last_frame) a.row.answer a.before a.row.told a.after refl a.served.told
+
   -- and so does each line of a scrub
   pub scrubs-shown : ScrubsShown script report turns
   scrubs-shown = record {
     bad = λ who first last_frame at.
         let a = serves who (commands.Scrub first last_frame) at in
-        bad-shown script report turns (view_of last (seat who.cpu)) (said who.cpu a.inside) who first last_frame a.before a.free a.row.told a.after a.events a.row.answer a.served.told;
+        bad-shown script report turns (view_of last (seat who.cpu)) (said who.cpu a.inside) who first last_frame a.before a.free a.row.told a.after a.events a.row.answer (scrub-told a);
     weak = λ who first last_frame at.
         let a = serves who (commands.Scrub first last_frame) at in
-        weak-shown script report turns (view_of last (seat who.cpu)) (said who.cpu a.inside) who first last_frame a.before a.free a.row.told a.after a.events a.row.answer a.served.told;
+        weak-shown script report turns (view_of last (seat who.cpu)) (said who.cpu a.inside) who first last_frame a.before a.free a.row.told a.after a.events a.row.answer (scrub-told a);
     whole = λ who first last_frame n at is.
         let a = serves who (commands.Scrub first last_frame) at in
         let answer : a.row.answer ≡ answers.Scrubbed n = same_Some a.row.answer (answers.Scrubbed n) (sym a.answered ∙ is) in
         looked-at script report turns (view_of last (seat who.cpu)) (said who.cpu a.inside) who first last_frame a.before a.free a.row.told a.after a.events
-        (subst (λ (x : Answer). IsScrubTold script.layout (view_of last (seat who.cpu)) who first last_frame x a.before a.row.told a.after) answer a.served.told);
+        (subst (λ (x : Answer). IsScrubTold script.layout (view_of last (seat who.cpu)) who first last_frame x a.before a.row.told a.after) answer (scrub-told a));
   }

@@ -1,5 +1,5 @@
 -- The event lines of a machine check are those of what was told of it.
-use Rattle.std.proofs.Common.{◌≡◌, ◌⊎◌, ℕ, suc, ◌||◌, ◌<◌, Bool, true, false, cond, not, nat_le, List, [], ◌∷◌, ◌++◌, Option, None, Some, MatchBool, drop, length, map, slice_get, refl, sym, ap, subst, inl, inr}
+use Rattle.std.proofs.Common.{◌≡◌, ◌⊎◌, ℕ, suc, ◌||◌, ◌<◌, Bool, true, false, cond, not, nat_le, List, [], ◌∷◌, ◌++◌, Option, None, Some, MatchBool, drop, length, map, replicate, slice_get, refl, sym, ap, subst, inl, inr}
 use Rattle.std.proofs.lemmas.List.{map-append}
 use Rattle.std.proofs.lemmas.Option.{none-some, same_Some}
 use Rattle.hwp_law_served.specs.hwp_geom.declared.VSlot.{VSlot}
@@ -118,7 +118,7 @@ module _ (script : Script) (copies : Who → Option VSlot) (seat : Cpu → ℕ) 
 
   -- the machine checks of an access, one after another
   pub checks-so : (thread : Thread) (line : ℕ) (origin : Origin) (mode : Mode) → ((frame : Frame) → SawBad script.layout view who line frame → IsDamaged report origin frame.0 line) → (banks : Banks) (checks : List Check)
-      → AreChecks script.layout view who thread line origin mode banks checks → EachMember HasResult (lines_of checks) → AreAccessChecks script report who (restarting mode) origin line (length checks) banks (map (event_at who.seq) (lines_of checks)) (left_by banks checks)
+      → AreChecks script.layout view who thread line origin mode banks checks → EachMember HasResult (lines_of checks) → AreAccessChecks script report who (restarting mode) origin (replicate (length checks) line) banks (map (event_at who.seq) (lines_of checks)) (left_by banks checks)
   checks-so thread line origin mode damaged banks [] are results = (refl, refl)
   checks-so thread line origin mode damaged banks (c ∷ cs) are results = (
     c.frame,
@@ -127,6 +127,6 @@ module _ (script : Script) (copies : Who → Option VSlot) (seat : Cpu → ℕ) 
     map-append (event_at who.seq) c.lines (lines_of cs),
     damaged c.frame are.0.bad,
     check-so (Some thread) (restarting mode) _ c.lines are.0.acted_on (each-first HasResult c.lines (lines_of cs) results),
-    subst (AreAccessChecks script report who (restarting mode) origin line (length cs) empty_banks (map (event_at who.seq) (lines_of cs))) (left-empty cs)
+    subst (AreAccessChecks script report who (restarting mode) origin (replicate (length cs) line) empty_banks (map (event_at who.seq) (lines_of cs))) (left-empty cs)
         (checks-so thread line origin mode damaged empty_banks cs are.1 (each-second HasResult c.lines (lines_of cs) results)),
   )

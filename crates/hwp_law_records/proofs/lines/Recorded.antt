@@ -398,7 +398,7 @@ module _ (script : Script) (copies : Who → Option VSlot) (seat : Cpu → ℕ) 
     moves-with : entries_of report who is_soft ≡ marks_in report (is_move_mark who)
     moves-with =
         let entries : entries_of report who is_soft ≡ moves_by of.of.row.own + moves_beside of.of.row.offlined
-        = entries-inside script copies seat last report end who is_soft of.of.inside ∙ softs-counted script.layout of.of.earlier view who of.of.command of.of.before of.of.row of.of.after of.of.served in
+        = entries-inside script copies seat last report end who is_soft of.of.inside ∙ softs-counted script.layout of.of.earlier view who (copies who) of.of.command of.of.before of.of.row of.of.after of.of.served in
         let same : moves_by of.of.row.own + moves_beside of.of.row.offlined ≡ moves_by row.own + moves_beside row.offlined = ap (λ (r : Row). moves_by r.own + moves_beside r.offlined) of.same in
         let all : marks_in report (is_move_mark who)
         ≡ sum_by (λ (t : EventOutcome). counts (λ (n : Note). is_move (how_in n.1)) (told_note who t)) row.told + sum_by (λ (o : Offlining). counts (λ (n : Note). is_move (how_in n.1)) (own_note who o.change)) row.offlined + counts (λ (n : Note). is_move (how_in n.1)) (own_note who row.own)
@@ -455,7 +455,7 @@ module _ (script : Script) (copies : Who → Option VSlot) (seat : Cpu → ℕ) 
         let told : sum_by (λ (t : EventOutcome). counts (on_frame frame moved) (told_note who t)) row.told ≡ 0 = sum-zero (λ (t : EventOutcome). counts (on_frame frame moved) (told_note who t)) row.told (λ i t there. still t.found t) in
         let own : counts (on_frame frame moved) (own_note who row.own) ≡ soft_by frame moved row.own = softs row.own in
         let said : soft_by frame moved row.own ≡ cond (is_soft_of frame (Some of.of.command) && says_soft moved (Some of.of.row.answer)) 1 0
-        = ap (λ (r : Row). soft_by frame moved r.own) (sym of.same) ∙ soft-said frame moved script.layout of.of.earlier view who of.of.command of.of.row.told of.of.row.own of.of.row.answer of.of.served.caused of.of.served.accounted.own in
+        = ap (λ (r : Row). soft_by frame moved r.own) (sym of.same) ∙ soft-said frame moved script.layout of.of.earlier view who (copies who) of.of.command of.of.before of.of.row.told of.of.row.own of.of.row.answer of.of.served.caused of.of.served.accounted.own in
         let beside : sum_by (λ (o : Offlining). counts (on_frame frame moved) (own_note who o.change)) row.offlined ≡ sum_by (λ (o : Offlining). flag (says o)) row.offlined
         = sum-same (λ (o : Offlining). counts (on_frame frame moved) (own_note who o.change)) (λ (o : Offlining). flag (says o)) row.offlined (λ i o there. beside-says frame moved who o.frame o.result o.change (taken i o there)) in
         let listed : count_by (λ (l : OfflinedLine). (l.frame.0 == frame.0) && says_soft moved (Some (offline_answer l.result))) (map (offlined_at who.seq) row.offlined) ≡ sum_by (λ (o : Offlining). flag (says o)) row.offlined

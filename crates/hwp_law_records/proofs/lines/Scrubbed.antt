@@ -34,14 +34,15 @@ use Rattle.hwp_law_served.specs.hwp_cpu_row.declared.Row.{Row}
 use Rattle.hwp_law_served.specs.hwp_cpu_check.declared.EventOutcome.{EventOutcome}
 use Rattle.hwp_law_served.specs.hwp_scrub.Visits as scrubs
 use Rattle.hwp_law_served.specs.hwp_scrub.Visits.{AreVisits, IsBadMet, IsLowest, IsVisit, IsWeakMet, SawLowest, Visit, left_by_bad, left_by_visit, left_by_weak, lines_of_visit, scrub_bank, scrubbing, with_bad}
-use Rattle.hwp_law_served.specs.Causes.{HasSpoiledLine, IsAnswerCaused}
+use Rattle.hwp_law_served.specs.Causes.{HasSpoiledLine, IsAnswerCaused, IsCausedWith}
 use Rattle.hwp_law_served.specs.hwp_cpu_row.Acts.{event_at}
 use Rattle.hwp_law_served.specs.Served.{spoiling}
 use Rattle.hwp_law_served.specs.Told.{IsCutShort, IsScrubTold, IsUntold}
 use Rattle.hwp_law_records.proofs.lines.Checks.{HasResult, check-so, each-first, each-second, lines-so}
 use Rattle.hwp_law_served.proofs.RunEnds.{IsEnd, IsOf, command-of, served-of}
 use Rattle.hwp_law_served.proofs.RowLines.{answer-told}
-use Rattle.hwp_law_records.proofs.lines.SpoiledLines.{seen-after, spoil-shown}
+use Rattle.hwp_law_records.proofs.lines.SpoiledLines.{seen-after, spoil-shown, spoiling-plain}
+use Rattle.hwp_law_served.proofs.copied.Uncopied.{uncopied}
 
 -- a scrub went to its end
 abbrev is_whole : Answer → Bool
@@ -92,7 +93,8 @@ module _ (script : Script) (copies : Who → Option VSlot) (seat : Cpu → ℕ) 
       let by = command-of script copies seat last report end earlier list (spoiling damage frame line) list_is there in
       let lists_same : by.list ≡ list = same_Some by.list list (sym by.list_is ∙ list_is) in
       let command : by.command ≡ spoiling damage frame line = same_Some by.command (spoiling damage frame line) (sym by.command_is ∙ ap (λ (l : List Command). slice_get l earlier.seq) lists_same ∙ there) in
-      let caused = subst (λ (c : Command). IsAnswerCaused script.layout by.earlier (view_of last (seat earlier.cpu)) earlier c by.row.told by.row.own by.row.answer) command by.served.caused in
+      let caused = uncopied script.layout by.earlier (copies earlier) (view_of last (seat earlier.cpu)) earlier (spoiling damage frame line) by.before by.row.told by.row.own by.row.answer (spoiling-plain frame line damage)
+      (subst (λ (c : Command). IsCausedWith script.layout by.earlier (copies earlier) (view_of last (seat earlier.cpu)) earlier c by.before by.row.told by.row.own by.row.answer) command by.served.caused) in
       which by (spoiled-or script.layout by.earlier (view_of last (seat earlier.cpu)) earlier frame line damage by.row.told by.row.own by.row.answer caused)))
     where
       which : (by : IsOf script copies end.rows (view_of last (seat earlier.cpu)) earlier) → HasSpoiledLine (view_of last (seat earlier.cpu)) earlier frame line damage ⊎ (by.row.answer ≡ answers.Stopped) → HasSpoiledLine view earlier frame line damage

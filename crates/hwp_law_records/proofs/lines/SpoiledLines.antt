@@ -40,7 +40,8 @@ use Rattle.hwp_law_served.specs.hwp_cpu_check.Checks.{SawBad}
 use Rattle.hwp_law_served.proofs.of_hwp_law_run.Homes.{there-is}
 use Rattle.hwp_law_served.proofs.of_hwp_core_rule.MoveKeeps.{shaped}
 use Rattle.hwp_law_served.specs.hwp_law.Frames.{WasDone}
-use Rattle.hwp_law_served.specs.Causes.{HasSpoiledLine, IsAnswerCaused}
+use Rattle.hwp_law_served.specs.Causes.{HasSpoiledLine, IsAnswerCaused, IsCausedWith}
+use Rattle.hwp_law_served.proofs.copied.Uncopied.{is_store, uncopied}
 use Rattle.hwp_law_served.specs.Served.{spoiling}
 use Rattle.hwp_law_served.proofs.RunEnds.{IsEnd, command-of, list-of, rows-of, seat-view, served-of}
 use Rattle.hwp_law_served.proofs.RowLines.{answer-told}
@@ -100,6 +101,11 @@ spoil-cause : (layout : Layout) (earlier : List (Command × Answer)) (view : Vie
 spoil-cause layout earlier view who frame n damages.Bad told own caused = caused
 spoil-cause layout earlier view who frame n damages.Weak told own caused = caused
 
+-- a command that spoils a line copies nothing
+pub spoiling-plain : (frame : Frame) (n : ℕ) (damage : Damage) → is_store (spoiling damage frame n) ≡ false
+spoiling-plain frame n damages.Bad = refl
+spoiling-plain frame n damages.Weak = refl
+
 -- ---- the lines
 
 module _ (script : Script) (copies : Who → Option VSlot) (seat : Cpu → ℕ) (last : State) (report : Report) (end : IsEnd script copies seat last report) where
@@ -134,8 +140,9 @@ module _ (script : Script) (copies : Who → Option VSlot) (seat : Cpu → ℕ) 
       let answer : of.row.answer ≡ answers.Done = same_Some of.row.answer answers.Done (sym (answer-told script copies seat last report end (view_of last (seat who.cpu)) who of) ∙ answered) in (
         of.inside,
         spoil-cause script.layout of.earlier (view_of last (seat who.cpu)) who frame n damage of.row.told of.row.own
-            (subst (λ (c : Command). IsAnswerCaused script.layout of.earlier (view_of last (seat who.cpu)) who c of.row.told of.row.own answers.Done) command
-            (subst (IsAnswerCaused script.layout of.earlier (view_of last (seat who.cpu)) who of.command of.row.told of.row.own) answer of.served.caused)),
+            (uncopied script.layout of.earlier (copies who) (view_of last (seat who.cpu)) who (spoiling damage frame n) of.before of.row.told of.row.own answers.Done (spoiling-plain frame n damage)
+            (subst (λ (c : Command). IsCausedWith script.layout of.earlier (copies who) (view_of last (seat who.cpu)) who c of.before of.row.told of.row.own answers.Done) command
+            (subst (IsCausedWith script.layout of.earlier (copies who) (view_of last (seat who.cpu)) who of.command of.before of.row.told of.row.own) answer of.served.caused))),
       )))
 
   abbrev words : Words
