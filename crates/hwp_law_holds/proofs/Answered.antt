@@ -94,7 +94,7 @@ module _ (script : Script) (copies : Who → Option VSlot) (seat : Cpu → ℕ) 
   stands has = made-stands (made-what has)
 
   -- the entry that sent SIGBUS stands in the report
-  sigbus : (who : Who) (command : Command) (thread : Thread) (at : At) (what : What) → current_thread command ≡ Some thread → SendsSigbus thread what → StandsAt report.pages who at what → IsSigbus report who command at
+  pub sigbus : (who : Who) (command : Command) (thread : Thread) (at : At) (what : What) → current_thread command ≡ Some thread → SendsSigbus thread what → StandsAt report.pages who at what → IsSigbus report who command at
   sigbus who command thread at what current sends stands_ = record {
     entry = record { who = who; what = what };
     there = stands_;
@@ -188,12 +188,12 @@ module _ (script : Script) (copies : Who → Option VSlot) (seat : Cpu → ℕ) 
   unpoison who frame own _ marked caused = absurd caused
 
   -- the entry of a failure that signalled the thread
-  by-failure : (who : Who) (command : Command) (at : At) → HasSignalled view who command at → IsSigbus report who command at
+  pub by-failure : (who : Who) (command : Command) (at : At) → HasSignalled view who command at → IsSigbus report who command at
   by-failure who command at has = signalled-sends script copies seat last report end cpu inside who command at has
 
   -- the policy that prctl(2) met is the one of the report
-  replied : (who : Who) (earlier : List (Command × Answer)) → earlier ≡ answered_before script report who → (thread : Thread) (args : PrctlArgs) → reply_answer (reply (last_policy (settings thread earlier)) (arguments args)) ≡ reply_answer (reply (policy_before script report who thread) (arguments args))
-  replied who earlier before thread args = ap (λ (l : List (Command × Answer)). reply_answer (reply (last_policy (settings thread l)) (arguments args))) before
+  replied : (who : Who) (earlier : List (Command × Answer)) → earlier ≡ answered_before script report who → (thread : Thread) (args : PrctlArgs) → reply_answer (reply (last_policy (settings script.layout thread earlier)) (arguments args)) ≡ reply_answer (reply (policy_before script report who thread) (arguments args))
+  replied who earlier before thread args = ap (λ (l : List (Command × Answer)). reply_answer (reply (last_policy (settings script.layout thread l)) (arguments args))) before
 
   neither : ⊥ ⊎ ⊥ → ⊥
   neither (inl never) = never
@@ -251,6 +251,8 @@ module _ (script : Script) (copies : Who → Option VSlot) (seat : Cpu → ℕ) 
   law-caused who earlier before (commands.Prctl thread args) told own (answers.Sigbus bt) at facts (inl caused) = caused.replied ∙ replied who earlier before thread args
   law-caused who earlier before (commands.Prctl thread args) told own (answers.Sigbus bt) at facts (inr was) = absurd was
   law-caused who earlier before (commands.Prctl thread args) told own answer at facts caused = caused.replied ∙ replied who earlier before thread args
+  law-caused who earlier before (commands.Fork thread process) told own answers.Done at facts caused = tt
+  law-caused who earlier before (commands.Fork thread process) told own (answers.Gone page) at facts caused = is-gone script copies seat last report end cpu inside who (commands.Fork thread process) thread page at refl caused.0
   law-caused who earlier before (commands.Log status addr misc) told own answers.Done at facts caused = tt
   law-caused who earlier before (commands.Watch threshold window) told own answers.Done at facts caused = tt
   law-caused who earlier before (commands.Bad frame line) told own answers.Done at facts caused = tt
@@ -264,17 +266,3 @@ module _ (script : Script) (copies : Who → Option VSlot) (seat : Cpu → ℕ) 
   law-caused who earlier before (commands.Unpoison frame) told own answer at facts caused = unpoison who frame own answer facts.revived caused.1
   law-caused who earlier before command told own (answers.Sigbus bt) at facts caused = absurd (neither caused)
   law-caused who earlier before command told own answer at facts caused = absurd caused
-
--- the report shows the cause of an answer
-pub is-caused : (script : Script) (copies : Who → Option VSlot) (seat : Cpu → ℕ) (last : State) (report : Report) (end : IsEnd script copies seat last report) → (who : Who) (of : IsOf script copies end.rows (view_of last (seat who.cpu)) who) → IsLawCaused script report who of.command of.row.answer
-is-caused script copies seat last report end who of =
-    let row_is : row_at end.rows who ≡ Some of.row = ap (λ (o : Option (List Row)). option_and_then (λ (own : List Row). slice_get own who.seq) o) of.own_is ∙ of.row_is in
-    let before : of.earlier ≡ answered_before script report who = of.earlier_is ∙ ap (take who.seq) (sym (answered-so script copies seat last report end who.cpu of.list of.own of.list_is of.own_is)) in
-    law-caused script copies seat last report end who.cpu of.inside who of.earlier before of.command of.row.told of.row.own of.row.answer (command-is script who of.list of.command of.list_is of.command_is)
-    (record {
-      signalled = λ at is. has-signalled (view_of last (seat who.cpu)) who of.command of.row at of.served.accounted is;
-      count = ap (λ (l : List EventLine). length l) (events-told script copies seat last report end (view_of last (seat who.cpu)) who of) ∙ length-map of.row.told (event_at who.seq);
-      marked = λ frame outcome come. own-mark script copies seat last report end who of.row row_is (owns.Failed frame come.found) come.own_is (ComesTo outcome) come.outcome_is;
-      offlined = λ frame cycle moved own_is. own-mark script copies seat last report end who of.row row_is (owns.Offlined frame cycle moved) own_is (λ (m : MarkLine). how_in m ≡ Some (offlined moved)) refl;
-      revived = λ frame cycle own_is. own-mark script copies seat last report end who of.row row_is (owns.Revived frame cycle) own_is TakesBack tt;
-    }) of.served.caused

@@ -28,12 +28,12 @@ use Rattle.hwp_law_records.specs.hwp_law_served.Rows.{event_line, lines_from, of
 use Rattle.hwp_law_records.specs.hwp_law_served.Runs.{IsCauseOf, IsRunOf, row_at}
 use Rattle.hwp_law_records.specs.hwp_law_served.Served.{CanStop}
 use Rattle.hwp_law_records.specs.hwp_law_served.Served as served
-use Rattle.hwp_law_holds.proofs.Answered.{is-caused}
+use Rattle.hwp_law_holds.proofs.copied.CopyCaused.{is-caused}
 use Rattle.hwp_law_records.proofs.of_hwp_law_served.RunEnds.{IsEnd, IsOf, command-of, rows-of-lines}
 use Rattle.hwp_law_records.proofs.of_hwp_law_served.LastBoard.{ended, ended-rows}
 use Rattle.hwp_law_records.proofs.of_hwp_law_served.deeds.Made.{command-is, some-so}
 use Rattle.hwp_law_records.proofs.of_hwp_law_served.RowLines.{answer-told, answers-rise, events-told, row-of-line}
-use Rattle.hwp_law_records.proofs.of_hwp_law_served.RowTold.{told-so}
+use Rattle.hwp_law_records.proofs.of_hwp_law_served.copied.CopyTells.{told-so}
 use Rattle.hwp_law_holds.proofs.StopCauses.{can-stop, ends-by}
 use Rattle.hwp_law_records.proofs.of_hwp_law_served.Stops.{StopBy, stopper}
 
@@ -127,7 +127,7 @@ module _ (script : Script) (copies : Who → Option VSlot) (seat : Cpu → ℕ) 
       record {
         cause = some-so (λ (command : Command). CanStopFor script report who command stop.cause) (command_at script who) of.command at
             (can-stop script report (view_of last (seat who.cpu)) who of.command of.row.told (current_thread of.command) stop.cause (events-told script copies seat last report end (view_of last (seat who.cpu)) who of)
-            (told-so script.layout (view_of last (seat who.cpu)) who of.command of.row.answer of.before of.row.told of.after of.served.told) can is_cause);
+            (told-so script.layout (view_of last (seat who.cpu)) who (copies who) of.command of.row.answer of.before of.row.told of.after of.served.told) can is_cause);
         answered = answer-told script copies seat last report end (view_of last (seat who.cpu)) who of ∙ ap (λ (r : Row). Some r.answer) same_row ∙ ap (λ (a : Answer). Some a) by.own.answered.stopped;
       }
 

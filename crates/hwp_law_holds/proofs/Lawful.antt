@@ -22,6 +22,13 @@ use Rattle.hwp_law_records.proofs.lines.Events.{events-are}
 use Rattle.hwp_law_sights.proofs.policies.Policies.{are-seen, never-falls}
 use Rattle.hwp_law_records.proofs.of_hwp_law_served.Windows.{states-in-windows}
 
+use Rattle.hwp_law_records.specs.hwp_script_read.Valid.{IsValid}
+use Rattle.hwp_law_records.specs.hwp_law.Acting.{acting_script, copied_at}
+use Rattle.hwp_law_private.proofs.Private.{private-holds}
+use Rattle.hwp_law_records.proofs.of_hwp_law_served.copied.CopyLast.{last-stores}
+use Rattle.hwp_law_holds.proofs.copied.CopyWords.{copies-keep-words}
+use Rattle.hwp_law_holds.proofs.copied.LossesActed.{losses-acted}
+
 module _ (script : Script) (copies : Who → Option VSlot) (seat : Cpu → ℕ) (turns : List Played) (last : State) (report : Report) (run : IsRunOf script copies seat turns last report) where
   abbrev end : IsEnd script copies seat last report
   end = ended script copies seat turns last report run
@@ -29,7 +36,7 @@ module _ (script : Script) (copies : Who → Option VSlot) (seat : Cpu → ℕ) 
   pub shape-fits : HasShape script report
   shape-fits = record { version = run.lengths.version; frames = run.lengths.frames; pages = run.lengths.pages; cpus = run.lengths.cpus }
 
-  pub histories-fit : HistoriesFit script report
+  pub histories-fit : HistoriesFit script copies report
   histories-fit = record {
     legal = histories-lead script.layout last report end.board;
     made = entries-made-by script copies seat last report end;
@@ -38,10 +45,11 @@ module _ (script : Script) (copies : Who → Option VSlot) (seat : Cpu → ℕ) 
     falls_never = never-falls script copies seat turns last report run;
   }
 
-  pub answers-fit : AnswersFit script report
+  pub answers-fit : AnswersFit script copies report
   answers-fit = record {
     caused = all-caused script copies seat turns last report run;
     named = entries-named script copies seat last report end;
+    last = last-stores script copies seat last report end;
     windows = states-in-windows script copies seat last report end;
     endings = endings-stay script copies seat turns last report run;
     events = events-are script copies seat turns last report run;
@@ -49,12 +57,17 @@ module _ (script : Script) (copies : Who → Option VSlot) (seat : Cpu → ℕ) 
     offlined = are-offlined script copies seat last report end;
   }
 
-  -- the whole
-  pub law-holds : IsLawful script report
-  law-holds = record {
-    shape = shape-fits;
-    histories = histories-fit;
-    answers = answers-fit;
-    frames = frames-lawful script copies seat turns last report run;
-    losses = losses-lawful script copies seat turns last report run;
-  }
+-- the whole, of what the processors of a script acted on
+pub law-holds : (script : Script) → IsValid script → (seat : Cpu → ℕ) (turns : List Played) (last : State) (report : Report) → IsRunOf (acting_script script report) (copied_at script report) seat turns last report → IsLawful script report
+law-holds script valid seat turns last report run =
+    let acted : Script = acting_script script report in
+    let histories : HistoriesFit (acting_script script report) (copied_at script report) report = histories-fit acted (copied_at script report) seat turns last report run in
+    let answers : AnswersFit (acting_script script report) (copied_at script report) report = answers-fit acted (copied_at script report) seat turns last report run in
+    record {
+      shape = record { version = run.lengths.version; frames = run.lengths.frames; pages = run.lengths.pages; cpus = run.lengths.cpus };
+      histories = histories;
+      answers = answers;
+      frames = frames-lawful acted (copied_at script report) seat turns last report run;
+      losses = losses-acted script report (losses-lawful acted (copied_at script report) seat turns last report run);
+      private = private-holds script report valid histories answers (copies-keep-words acted (copied_at script report) seat last report (ended acted (copied_at script report) seat turns last report run));
+    }

@@ -40,12 +40,12 @@ use Rattle.hwp_law_served.proofs.copied.CopyLines.{copy-lines, line_of, told_lin
 use Rattle.hwp_law_records.proofs.lines.Checks.{HasResult, checks-so, each-first, each-second}
 use Rattle.hwp_law_records.proofs.lines.SpoiledLines.{bad-shown}
 
-left-behind : (banks : Banks) (first more : List Check) → left_by banks (first ++ more) ≡ left_by (left_by banks first) more
+pub left-behind : (banks : Banks) (first more : List Check) → left_by banks (first ++ more) ≡ left_by (left_by banks first) more
 left-behind banks [] more = refl
 left-behind banks (c ∷ cs) [] = refl
 left-behind banks (c ∷ cs) (d ∷ ds) = refl
 
-lines-behind : (first more : List Check) → lines_of (first ++ more) ≡ lines_of first ++ lines_of more
+pub lines-behind : (first more : List Check) → lines_of (first ++ more) ≡ lines_of first ++ lines_of more
 lines-behind first more = flat_map-append (λ (c : Check). c.lines) first more
 
 -- machine checks behind others
