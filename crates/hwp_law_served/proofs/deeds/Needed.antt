@@ -67,7 +67,7 @@ module _ (command : Command) where
       (by-own (own_failure row.own) (λ failed is. inl (required-is None (option_and_then found_in row.own) failed is)))
 
 -- and so of the entries
-pub needed : (view : View) (who : Who) (command : Command) (row : Row) → IsAccounted view who command row → EachMember (λ (m : Made). IsNeeded command m.entry.what) (deeds who view)
+pub needed : {layout : Layout} {earlier : List (Command × Answer)} (view : View) (who : Who) (command : Command) (row : Row) → IsAccounted layout earlier view who command row → EachMember (λ (m : Made). IsNeeded command m.entry.what) (deeds who view)
 needed view who command row account i m there = which m.entry.what refl
   where
     which : (what : What) → m.entry.what ≡ what → IsNeeded command what

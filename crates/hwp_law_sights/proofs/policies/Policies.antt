@@ -5,6 +5,7 @@ use Rattle.std.specs.Prelude.{Contains}
 use Rattle.std.specs.List.{cons_option}
 use Rattle.std.proofs.lemmas.List.{length-map, length-take}
 use Rattle.std.proofs.lemmas.Option.{same_Some, slice_get-get_or, slice_get_within}
+use Rattle.hwp_law_served.specs.hwp_geom.declared.VSlot.{VSlot}
 use Rattle.hwp_law_served.specs.hwp_geom.declared.Cpu.{Cpu}
 use Rattle.hwp_law_served.specs.hwp_geom.declared.Frame.{Frame}
 use Rattle.hwp_law_served.specs.hwp_geom.declared.Thread.{Thread}
@@ -107,9 +108,9 @@ can-fail : (watches : Bool) (command : Command) (what : What) (seen : Seen) → 
 can-fail watches command (entries.Fail situation required list signals) seen makes has = makes.0
 can-fail watches command what seen makes (k, within, is) = absurd (omega (arith, within))
 
-module _ (script : Script) (seat : Cpu → ℕ) (turns : List Played) (last : State) (report : Report) (run : IsRunOf script seat turns last report) where
-  abbrev end : IsEnd script seat last report
-  end = ended script seat turns last report run
+module _ (script : Script) (copies : Who → Option VSlot) (seat : Cpu → ℕ) (turns : List Played) (last : State) (report : Report) (run : IsRunOf script copies seat turns last report) where
+  abbrev end : IsEnd script copies seat last report
+  end = ended script copies seat turns last report run
 
   know : EachMember (λ (v : View). KnowPolicies script.layout v) last.views
   know = run-keeps script.layout (λ (s : State) (v : View). KnowPolicies script.layout v) (policies-kept script.layout) turns last run.rule run.moves
@@ -132,7 +133,7 @@ module _ (script : Script) (seat : Cpu → ℕ) (turns : List Played) (last : St
       let shown = end.board.holds.rule.histories.entries.shown listed.0 (listed.1.made, listed.1.sights) (at_map (λ (v : View). (v.made, v.sights)) last.views listed.0 listed.1 listed.2) made.0 made.1 made.2 in
       let its : HasSeen listed.1.sights e.who made.1.frame e.what = subst (λ (x : Entry). HasSeen listed.1.sights x.who made.1.frame x.what) that.entry_is shown in
       let past = subst (λ (x : Entry). IsPast listed.1.parts x.who) that.entry_is ((end.board.holds.rule.processors.commands.own listed.0 listed.1 listed.2).made made.0 made.1 made.2) in
-      let own = own-view script seat last report end listed.0 listed.1 e.who listed.2 past in
+      let own = own-view script copies seat last report end listed.0 listed.1 e.who listed.2 past in
       which listed.1 own made.1.frame (has-policy listed.1.sights e.who made.1.frame e.what seen its has)
     where
       which : (v : View) → (e.who.cpu.0 < script.layout.cpus) × (v ≡ view_of last (seat e.who.cpu)) → (frame : Option Frame) → HasPolicy v.sights e.who frame seen → SawPolicy e.who seen
@@ -163,11 +164,11 @@ module _ (script : Script) (seat : Cpu → ℕ) (turns : List Played) (last : St
     -- those that the processor's view lists are those that its commands set
     all : settings seen.thread (answered_around script report seen.thread) ≡ map (λ (g : Setting). g.policy) set_there
     all =
-        let list = list-of script seat last report end cpu cpu-inside in
-        let rows = rows-of script seat last report end cpu cpu-inside in
+        let list = list-of script copies seat last report end cpu cpu-inside in
+        let rows = rows-of script copies seat last report end cpu cpu-inside in
         ap (λ (o : Option Cpu). settings seen.thread (unwrap_or (option_map (answered_on script report) o) [])) cpu-is
-        ∙ ap (settings seen.thread) (answered-so script seat last report end cpu list.0 rows.0 list.1 rows.1)
-        ∙ sym ((served-of script seat last report end cpu list.0 rows.0 list.1 rows.1).0.policies seen.thread)
+        ∙ ap (settings seen.thread) (answered-so script copies seat last report end cpu list.0 rows.0 list.1 rows.1)
+        ∙ sym ((served-of script copies seat last report end cpu list.0 rows.0 list.1 rows.1).0.policies seen.thread)
 
     -- the word is the one after some of them
     then : (n : ℕ) × (n ≤ length set_there) × (saw.sight.word ≡ policy_at (length (take n set_there)) (last_set policies.Default (take n set_there)))
@@ -196,9 +197,9 @@ module _ (script : Script) (seat : Cpu → ℕ) (turns : List Played) (last : St
 
     -- ---- of the command's own processor
 
-    module _ (of : IsOf script end.rows view who) (fails : can_fail of.command ≡ true) where
+    module _ (of : IsOf script copies end.rows view who) (fails : can_fail of.command ≡ true) where
       served : IsServed script.layout view who.cpu of.list of.own × (slice_get report.cpus who.cpu.0 ≡ Some (lines_from 0 of.own))
-      served = served-of script seat last report end who.cpu of.list of.own of.list_is of.own_is
+      served = served-of script copies seat last report end who.cpu of.list of.own of.list_is of.own_is
 
       abbrev pairs : List (Command × Answer)
       pairs = answers_by of.list of.own
@@ -209,7 +210,7 @@ module _ (script : Script) (seat : Cpu → ℕ) (turns : List Played) (last : St
       each-set : (i : ℕ) (p : Command × Answer) → slice_get {X = Command × Answer} pairs i ≡ Some p → are_of seen.thread (map set_of (filter (λ (g : Setting). is_same (record { cpu = who.cpu; seq = i }) g.stamp.who) view.settings)) ≡ length (cons_option (setting_of seen.thread p.0 p.1) [])
       each-set i p at =
           let there = zip-at of.list (map (λ (r : Row). r.answer) of.own) i p at in
-          let other : IsOf script end.rows view (record { cpu = who.cpu; seq = i }) = command-of script seat last report end (record { cpu = who.cpu; seq = i }) of.list p.0 of.list_is there.0 in
+          let other : IsOf script copies end.rows view (record { cpu = who.cpu; seq = i }) = command-of script copies seat last report end (record { cpu = who.cpu; seq = i }) of.list p.0 of.list_is there.0 in
           let row = map-was (λ (r : Row). r.answer) of.own i p.1 there.1 in
           let answer : other.row.answer ≡ p.1 = ap (λ (r : Row). r.answer) (same-row other of.own row.0 of.own_is row.1) ∙ row.2 in
           let same : other.command ≡ p.0 = same_Some other.command p.0 (sym other.command_is ∙ ap (λ (l : List Command). slice_get l i) (same_Some other.list of.list (sym other.list_is ∙ of.list_is)) ∙ there.0) in
@@ -228,18 +229,18 @@ module _ (script : Script) (seat : Cpu → ℕ) (turns : List Played) (last : St
           let within : who.seq < length pairs = slice_get_within pairs who.seq (of.command, of.row.answer) (pair-there of.list of.own who.seq of.command of.row of.command_is of.row_is) in
           let done : made_before seen.thread who.seq view.settings ≡ length (settings seen.thread (take who.seq pairs)) = before-done seen.thread who.cpu view.settings pairs set-own each-set who.seq (omega (arith, within)) in
           let all_ : length (settings seen.thread (answered_before script report who)) ≡ length (settings seen.thread (take who.seq pairs))
-          = ap (λ (l : List (Command × Answer)). length (settings seen.thread (take who.seq l))) (answered-so script seat last report end who.cpu of.list of.own of.list_is of.own_is) in
+          = ap (λ (l : List (Command × Answer)). length (settings seen.thread (take who.seq l))) (answered-so script copies seat last report end who.cpu of.list of.own of.list_is of.own_is) in
           omega (arith, word, low, high, step, none, done, all_)
 
   pub are-seen : AreSeen script report
   are-seen at e seen is has =
       let saw = saw-policy at e seen is has in
-      let d = does script seat last report end at e is in
+      let d = does script copies seat last report end at e is in
       (policy-seen e.who seen saw, own d.view d.of d.makes saw)
     where
-      own : (v : View) (of : IsOf script end.rows v e.who) → Makes (has_watch script) of.command e.what → SawPolicy e.who seen → IsOwnCount script report e.who seen
+      own : (v : View) (of : IsOf script copies end.rows v e.who) → Makes (has_watch script) of.command e.what → SawPolicy e.who seen → IsOwnCount script report e.who seen
       own v of makes saw =
-          let mine = command-of script seat last report end e.who of.list of.command of.list_is of.command_is in
+          let mine = command-of script copies seat last report end e.who of.list of.command of.list_is of.command_is in
           let same : mine.command ≡ of.command = same_Some mine.command of.command (sym mine.command_is ∙ ap (λ (l : List Command). slice_get l e.who.seq) (same_Some mine.list of.list (sym mine.list_is ∙ of.list_is)) ∙ of.command_is) in
           own-count e.who seen saw mine (ap can_fail same ∙ can-fail (has_watch script) of.command e.what seen makes has)
 
