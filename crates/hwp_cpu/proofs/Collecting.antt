@@ -1,6 +1,6 @@
 -- The commands behind whose answer frames may be due: a machine check that was raised, and a scrub.
 use Rattle.hwp_cpu_course.proofs.of_hwp_cpu_command.OfKind.{of-copying, of-fork, of-instruction, of-evict, of-soft, of-inject, of-scrub, of-prctl, of-nested, of-fsync, of-unpoison, of-raise, of-spoil, of-log}
-use Rattle.std.proofs.Common.{Some, refl, None, List, ℕ, inr, false, Option, slice_get, ◌⊎◌, ap, ◌≡◌, true, inl, ◌∙◌, []}
+use Rattle.std.proofs.Common.{Bool, sym, true≢false, Some, refl, None, List, ℕ, inr, false, Option, slice_get, ◌⊎◌, ap, ◌≡◌, true, inl, ◌∙◌, []}
 use Rattle.hwp_cpu_course.specs.hwp_cpu_command.declared.job.Job.{Job}
 use Rattle.hwp_cpu_causes.specs.hwp_law_served.Causes.{IsAnswerCaused, FoundStopped}
 use Rattle.hwp_cpu_course.specs.hwp_cpu_row.hwp_report_text.declared.Answer.{Answer}
@@ -64,6 +64,15 @@ copy-kind layout who command from j runs = absurd runs
 pub tells-kind : (layout : Layout) (who : Who) (command : Command) (copies : Option VSlot) (j : Job) → Runs layout who command copies j → CanCollect command ⊎ (IsAccess j ⊎ (told_of j ≡ []))
 tells-kind layout who command None j runs = plain-kind layout who command j runs
 tells-kind layout who command (Some from) j runs = inr (inl (inr (copy-kind layout who command from j runs)))
+
+-- an access copies nothing, where a copy is a task of its own
+pub access-plain : (layout : Layout) (who : Who) (command : Command) (copies : Option VSlot) (j : Job) → Runs layout who command copies j → (i : Instruction) → j ≡ kinds.Instruction i → copies ≡ None
+access-plain layout who command None j runs i is = refl
+access-plain layout who command (Some from) j runs i is = absurd (true≢false (sym (ap is_copying (copy-kind layout who command from j runs).1) ∙ ap is_copying is))
+  where
+    is_copying : Job → Bool
+    is_copying (kinds.Copying y) = true
+    is_copying _ = false
 
 -- such a one copies nothing
 pub collects-plain : (layout : Layout) (who : Who) (command : Command) (copies : Option VSlot) (j : Job) → Runs layout who command copies j → CanCollect command → copies ≡ None

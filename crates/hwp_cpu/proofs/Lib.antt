@@ -1,6 +1,8 @@
 pub mod Rows
 pub mod KnownHandles
 pub mod KnownPolicies
+pub mod ActingFits
+pub mod FreshChildren
 pub mod EachKind
 pub mod ProcessorNotes
 pub mod Revivals

@@ -1,4 +1,5 @@
 -- The command's own task goes on, pauses behind a machine check, or has its answer.
+use Rattle.hwp_cpu_course.specs.hwp_cpu_row.hwp_geom.declared.VSlot.{VSlot}
 use Rattle.hwp_cpu_course.proofs.of_hwp_cpu_command.JobEnds.{ends}
 use Rattle.hwp_cpu_causes.proofs.RowServed.{own-does, own-served}
 use Rattle.hwp_cpu_causes.proofs.LeftBeside.{left-paused}
@@ -8,7 +9,7 @@ use Rattle.hwp_cpu_course.proofs.of_hwp_cpu_command.of_hwp_cpu_access.Resting.{r
 use Rattle.hwp_cpu_course.proofs.of_hwp_cpu_command.JobLaws as jobbing
 use Rattle.hwp_cpu.specs.Serving.{IsUnderWay, HasToldAll, IsPaused, OwnGoesOn}
 use Rattle.hwp_cpu_course.specs.hwp_cpu_row.declared.Local.{Local}
-use Rattle.std.proofs.Common.{◌<◌, length, is_some, Some, subst, sym, true, ap, ◌≡◌, List, ◌∙◌, [], ℕ}
+use Rattle.std.proofs.Common.{Option, ◌<◌, length, is_some, Some, subst, sym, true, ap, ◌≡◌, List, ◌∙◌, [], ℕ}
 use Rattle.hwp_cpu_course.specs.hwp_cpu_command.hwp_cpu_access.declared.Instruction.{Instruction}
 use Rattle.hwp_cpu_course.specs.hwp_cpu_command.FileHandles.{handles_after}
 use Rattle.hwp_cpu_causes.specs.Beside.{IsOwnServed, ArePrior, DoesSo}
@@ -50,14 +51,14 @@ use Rattle.hwp_cpu_course.specs.hwp_cpu_command.hwp_cpu_access.Fits as instructi
 
 -- ---- it goes on
 
-module _ (layout : Layout) (old new : View) (command : Command) (c : Course) (k : Job) (on : OwnGoesOn layout old command c) (made : Stepped layout old new c.own k) (base_is : made.base ≡ on.base) where
+module _ (layout : Layout) (old new : View) (command : Command) (copies : Option VSlot) (c : Course) (k : Job) (on : OwnGoesOn layout old command copies c) (made : Stepped layout old new c.own k) (base_is : made.base ≡ on.base) where
   abbrev next : Course
   next = record c { own = k }
 
   pub fits-still : jobs.FitsFrom on.base layout new k
   fits-still = subst (λ (b : List Made). jobs.FitsFrom b layout new k) base_is ((jobbing.stays made.base layout old new c.own made.step made.found made.got made.fits made.planned made.made).1 k made.turn made.follows).0
 
-  pub own-on : (noted : ℕ) → HasToldAll c.watching k noted → OwnGoesOn layout new command (record next { noted = noted })
+  pub own-on : (noted : ℕ) → HasToldAll c.watching k noted → OwnGoesOn layout new command copies (record next { noted = noted })
   own-on noted told = record { base = on.base; fits = fits-still; prior = on.prior; left = on.left; all = on.all; told = told }
 
 -- ---- it rests
@@ -72,10 +73,10 @@ pub record HoldsNone (view : View) (who : Who) (c : Course) : Type 0 where
   pub left : left_by who view ≡ left_beside c.due.offlined
 
 -- an access pauses
-module _ (layout : Layout) (view : View) (who : Who) (command : Command) (c : Course) (runs : Runs layout who command c.own) (base : List Made) (fits : jobs.FitsFrom base layout view c.own) (prior : ArePrior layout command base) (left : left_among base ≡ left_beside c.due.offlined)
+module _ (layout : Layout) (view : View) (who : Who) (command : Command) (copies : Option VSlot) (c : Course) (runs : Runs layout who command copies c.own) (base : List Made) (fits : jobs.FitsFrom base layout view c.own) (prior : ArePrior layout command base) (left : left_among base ≡ left_beside c.due.offlined)
     (i : Instruction) (is : c.own ≡ kinds.Instruction i) (p : Pause) (paused_is : instructions.pause i ≡ Some p) where
   named : i.request.who ≡ who
-  named = sym (ap jobs.who is) ∙ runs-who layout who command c.own runs
+  named = sym (ap jobs.who is) ∙ runs-who layout who command copies c.own runs
 
   own-fits : instruction_fits.FitsFrom base layout view i
   own-fits = subst (jobs.FitsFrom base layout view) is fits
@@ -90,7 +91,7 @@ module _ (layout : Layout) (view : View) (who : Who) (command : Command) (c : Co
     pause = p;
     paused = paused_is;
     rests = rests i p own-fits paused_is;
-    met = on-the-way base layout view c.own (runs-access layout who command c.own runs pauses-now) fits prior pauses-now;
+    met = on-the-way base layout view c.own (runs-access layout who command copies c.own runs pauses-now) fits prior pauses-now;
   }
 
   pub pause-holds : HoldsNone view who c
@@ -104,7 +105,7 @@ module _ (layout : Layout) (view : View) (who : Who) (command : Command) (c : Co
   }
 
 -- it has its answer
-pub record AnswerKnown (layout : Layout) (view : View) (cpu : Cpu) (list : List Command) (rows : List Row) (local : Local) (command : Command) (c : Course) (a : Answer) : Type 0 where
+pub record AnswerKnown (layout : Layout) (view : View) (cpu : Cpu) (list : List Command) (rows : List Row) (local : Local) (command : Command) (copies : Option VSlot) (c : Course) (a : Answer) : Type 0 where
   pub answered : jobs.answer c.own ≡ Some a
   pub served : IsOwnServed layout (answers_by list rows) view (at_number cpu (length rows)) command c.own a local.banks
   pub does : DoesSo command c.own a
@@ -117,23 +118,23 @@ pub record AnswerKnown (layout : Layout) (view : View) (cpu : Cpu) (list : List 
   pub numbers : (file : FileNo) → file.0 < layout.files → IsNumbered layout view (at_number cpu (length rows)) command a file (number_at file list rows (length rows)) (handles_after c.own local.handles)
   pub halted : a ≡ answers.Stopped → IsHalted view
 
-module _ (layout : Layout) (view : View) (cpu : Cpu) (list : List Command) (rows : List Row) (local : Local) (command : Command) (c : Course) (way : IsUnderWay layout view cpu list rows local command c) (base : List Made) (fits : jobs.FitsFrom base layout view c.own)
+module _ (layout : Layout) (view : View) (cpu : Cpu) (list : List Command) (rows : List Row) (local : Local) (command : Command) (copies : Option VSlot) (c : Course) (way : IsUnderWay layout view cpu list rows local command copies c) (base : List Made) (fits : jobs.FitsFrom base layout view c.own)
     (prior : ArePrior layout command base) (left : left_among base ≡ left_beside c.due.offlined) (a : Answer) (has : jobs.answer c.own ≡ Some a) where
   abbrev at : Who
   at = at_number cpu (length rows)
 
   owner : jobs.who c.own ≡ at
-  owner = runs-who layout at command c.own way.runs
+  owner = runs-who layout at command copies c.own way.runs
 
-  pub answer-known : AnswerKnown layout view cpu list rows local command c a
+  pub answer-known : AnswerKnown layout view cpu list rows local command copies c a
   answer-known = record {
     answered = has;
-    served = own-served layout (answers_by list rows) view at command c.own base local.banks way.runs fits prior has way.policies local.handles way.handle;
-    does = own-does layout view at command c.own base way.runs fits prior has;
-    failed = failed-end base layout view at command c.own a way.runs fits prior has way.account.failed way.account.losses;
+    served = own-served layout (answers_by list rows) view at command copies c.own base local.banks way.runs fits prior has way.policies local.handles way.handle;
+    does = own-does layout view at command copies c.own base way.runs fits prior has;
+    failed = failed-end base layout view at command copies c.own a way.runs fits prior has way.account.failed way.account.losses;
     on_turn = subst (IsOnTurn view) owner (on-turn base layout view c.own fits);
     hand_is = (ends base layout view c.own fits has).0;
-    paid = no-loss base layout view at command c.own a way.runs fits prior has way.account.failed way.account.losses;
+    paid = no-loss base layout view at command copies c.own a way.runs fits prior has way.account.failed way.account.losses;
     unowed = unowed-at-end c.own has;
     left = left-command layout view at c.own a base fits has command way.runs prior ∙ ap (cons_option (left_itself command a)) left;
     numbers = λ file inside. numbered base layout view at c.own fits has local.handles file (number_at file list rows (length rows)) (way.serves.handles_are.each file inside) command way.runs way.handle;

@@ -1,4 +1,5 @@
 -- A turn of a command's own task.
+use Rattle.hwp_cpu_course.specs.hwp_cpu_row.hwp_geom.declared.VSlot.{VSlot}
 use Rattle.std.proofs.Common.{zero, ◌++◌, ◌<◌, Some, ◌≡◌, refl, length, ◌≤◌, sym, arith, true≢false, subst, ◌≢◌, ◌==◌, None, inl, ◌&&◌, Option, List, suc, append-nil, ◌⊎◌, inr, true, ℕ, drop, Bool, false, ap, filter_map, ◌∙◌, [], nat_lt}
 use Rattle.hwp_cpu_course.specs.hwp_cpu_row.hwp_core_rule.Lists.{EachMember}
 use Rattle.hwp_cpu.specs.Serving.{noted_by, GoesOn, task, marked_so_far, IsUnderWay, marked_beside, KeepsWatch, OwnGoesOn, HasToldAll}
@@ -78,7 +79,7 @@ more-pages layout new after turn d e same follows rule = subst (EachMember (λ (
     after-frames : after.due.frames ≡ e.due.frames
     after-frames = ap (λ (x : Course). x.due.frames) follows.0 ∙ which (next_due d.due) ∙ ap (λ (x : Course). x.due.frames) same
 
-module _ (layout : Layout) (old new : View) (cpu : Cpu) (list : List Command) (rows : List Row) (local : Local) (command : Command) (c : Course) (k : Job) (way : IsUnderWay layout old cpu list rows local command c) (on : OwnGoesOn layout old command c)
+module _ (layout : Layout) (old new : View) (cpu : Cpu) (list : List Command) (rows : List Row) (local : Local) (command : Command) (copies : Option VSlot) (c : Course) (k : Job) (way : IsUnderWay layout old cpu list rows local command copies c) (on : OwnGoesOn layout old command copies c)
     (rule : courses.Fits layout old c) (beside_is : c.beside ≡ None) (made : Stepped layout old new c.own k) (base_is : made.base ≡ on.base) where
   abbrev at : Who
   at = at_number cpu (length rows)
@@ -89,8 +90,8 @@ module _ (layout : Layout) (old new : View) (cpu : Cpu) (list : List Command) (r
   abbrev next : Course
   next = record c { own = k }
 
-  way-next : IsUnderWay layout new cpu list rows local command next
-  way-next = way-own layout old new cpu list rows local command c k way made beside_is
+  way-next : IsUnderWay layout new cpu list rows local command copies next
+  way-next = way-own layout old new cpu list rows local command copies c k way made beside_is
 
   fits-next : jobs.FitsFrom on.base layout new k
   fits-next = fits-still layout old new command c k on made base_is
@@ -114,10 +115,10 @@ module _ (layout : Layout) (old new : View) (cpu : Cpu) (list : List Command) (r
     abbrev past : Course
     past = record next { noted = noted }
 
-    way-past : IsUnderWay layout new cpu list rows local command past
+    way-past : IsUnderWay layout new cpu list rows local command copies past
     way-past = record {
       serves = way-next.serves;
-      there = way-next.there;
+      next = way-next.next;
       runs = way-next.runs;
       handle = way-next.handle;
       policies = way-next.policies;
@@ -135,11 +136,11 @@ module _ (layout : Layout) (old new : View) (cpu : Cpu) (list : List Command) (r
     turned-past = subst (λ (o : Option Soft). Turned layout new cpu list rows local past (answer_of o k)) (sym beside_is) (by (jobs.answer k) refl)
       where
         by : (o : Option Answer) → jobs.answer k ≡ o → Turned layout new cpu list rows local past o
-        by None is = inl (record { command = command; way = way-past; on = subst (GoesOn layout new cpu list rows local command past) (sym beside_is) (own-on layout old new command c k on made base_is noted told) })
+        by None is = inl (record { command = command; copies = copies; way = way-past; on = subst (GoesOn layout new cpu list rows local command copies past) (sym beside_is) (own-on layout old new command c k on made base_is noted told) })
         by (Some a) is = record {
-          command = command;
+          command = command; copies = copies;
           way = way-past;
-          known = answer-known layout new cpu list rows local command past way-past on.base fits-next on.prior on.left a is;
+          known = answer-known layout new cpu list rows local command copies past way-past on.base fits-next on.prior on.left a is;
           none = beside_is;
           all = on.all;
           complete = complete a is;
@@ -195,10 +196,10 @@ module _ (layout : Layout) (old new : View) (cpu : Cpu) (list : List Command) (r
       marks : marked_so_far (at_rest d) ≡ marked_so_far next
       marks = ap (λ (o : Option Soft). filter_map act_marking (acts (told_of k) c.due.offlined) ++ (marked_beyond k ++ marked_beside o)) (sym beside_is)
 
-      rest-way : IsUnderWay layout new cpu list rows local command (at_rest d)
+      rest-way : IsUnderWay layout new cpu list rows local command copies (at_rest d)
       rest-way = record {
         serves = way-next.serves;
-        there = way-next.there;
+        next = way-next.next;
         runs = way-next.runs;
         handle = way-next.handle;
         policies = way-next.policies;
@@ -230,10 +231,10 @@ module _ (layout : Layout) (old new : View) (cpu : Cpu) (list : List Command) (r
       holds-rest : HoldsNone new at next → HoldsNone new at (at_rest d)
       holds-rest has = record { on_turn = has.on_turn; hand_is = has.hand_is; paid = has.paid; unowed = has.unowed; beyond = has.beyond; left = has.left }
 
-      known-next : (a : Answer) → jobs.answer k ≡ Some a → AnswerKnown layout new cpu list rows local command next a
-      known-next a is = answer-known layout new cpu list rows local command next way-next on.base fits-next on.prior on.left a is
+      known-next : (a : Answer) → jobs.answer k ≡ Some a → AnswerKnown layout new cpu list rows local command copies next a
+      known-next a is = answer-known layout new cpu list rows local command copies next way-next on.base fits-next on.prior on.left a is
 
-      known-rest : (a : Answer) → jobs.answer k ≡ Some a → AnswerKnown layout new cpu list rows local command (at_rest d) a
+      known-rest : (a : Answer) → jobs.answer k ≡ Some a → AnswerKnown layout new cpu list rows local command copies (at_rest d) a
       known-rest a is = let has = known-next a is in record {
         answered = has.answered;
         served = has.served;
@@ -249,7 +250,7 @@ module _ (layout : Layout) (old new : View) (cpu : Cpu) (list : List Command) (r
       }
 
       rest-due : (a : Answer) → jobs.answer k ≡ Some a → is_access k ≡ false → (frame : Frame) → next_due d.due ≡ Some frame → CanCollect command × (told_of k ≢ [])
-      rest-due a is other frame comes = which (tells-kind layout at command k way-next.runs)
+      rest-due a is other frame comes = which (tells-kind layout at command copies k way-next.runs)
         where
           nothing-due : told_notes layout (told_since next) ≡ [] → ⊥
           nothing-due none = let within : length c.due.offlined < length f = slice_get_within f (length c.due.offlined) frame comes in
@@ -271,7 +272,7 @@ module _ (layout : Layout) (old new : View) (cpu : Cpu) (list : List Command) (r
           by-frame a is other (Some frame) comes =
               let so = rest-due a is other frame comes in
               let known = known-next a is in
-              go-on layout new cpu list rows local command d rest-way
+              go-on layout new cpu list rows local command copies d rest-way
               (holds-rest (record {
                 on_turn = known.on_turn;
                 hand_is = known.hand_is;
@@ -282,11 +283,11 @@ module _ (layout : Layout) (old new : View) (cpu : Cpu) (list : List Command) (r
               }))
               (inr (record { answer = a; answered = is; collects = so.0; some = so.1; served = known.served; does = known.does })) is_all pages after turn follows
           by-frame a is other None comes = subst (λ (x : Course). Turned layout new cpu list rows local x (answer x)) (sym (follows.0 ∙ ap (going_on d) comes))
-              (ends-now layout new cpu list rows local command d rest-way a (known-rest a is)
+              (ends-now layout new cpu list rows local command copies d rest-way a (known-rest a is)
               (complete-by layout new at list watched (at_rest d) rest-way.collected (ap (told_notes layout) (sym (take_all n (told_of k) (omega (arith, is_all)))))) comes)
 
           which : ((i : Instruction) × (p : Pause) × (k ≡ kinds.Instruction i) × (instructions.pause i ≡ Some p)) ⊎ ((is_access k ≡ false) × ((a : Answer) × (jobs.answer k ≡ Some a))) → Turned layout new cpu list rows local after (answer after)
-          which (inl (i, p, task, paused)) = go-on layout new cpu list rows local command d rest-way (holds-rest (pause-holds layout new at command next way-next.runs on.base fits-next on.prior on.left i task p paused))
+          which (inl (i, p, task, paused)) = go-on layout new cpu list rows local command copies d rest-way (holds-rest (pause-holds layout new at command next way-next.runs on.base fits-next on.prior on.left i task p paused))
               (inl (pause-known layout new at command next way-next.runs on.base fits-next on.prior on.left i task p paused)) is_all pages after turn follows
           which (inr (other, (a, is))) = by-frame a is other (next_due d.due) refl
 
@@ -316,9 +317,9 @@ module _ (layout : Layout) (old new : View) (cpu : Cpu) (list : List Command) (r
         refused more (after_is, turn_is) = subst (λ (x : Course). Turned layout new cpu list rows local x (answer x)) (sym after_is)
             (subst (λ (o : Option Soft). Turned layout new cpu list rows local (record next { own = jobs.give_up k }) (answer_of o (jobs.give_up k))) (sym beside_is)
             (subst (λ (o : Option Answer). Turned layout new cpu list rows local (record next { own = jobs.give_up k }) o) (sym (given-up-unanswered (jobs.give_up k) up)) (inr (record {
-              command = command;
-              there = way-next.there;
-              runs = runs-alike layout at command k (jobs.give_up k) (give-up-goes k) way-next.runs;
+              command = command; copies = copies;
+              next = way-next.next;
+              runs = runs-alike layout at command copies k (jobs.give_up k) (give-up-goes k) way-next.runs;
               up = up;
               none = beside_is;
             }))))
