@@ -10,6 +10,7 @@ pub mod ProcessorKeeps
 pub mod CommandBegins
 pub mod Marks
 pub mod Collected
+pub mod CopyLeaves
 pub mod OwnLines
 pub mod LeftCommand
 pub mod OwnRests

@@ -1,11 +1,14 @@
 -- A turn of a command's own task.
+use Rattle.hwp_cpu_course.specs.hwp_cpu_command.hwp_cpu_copy.declared.Copying.{Copying}
+use Rattle.hwp_cpu_course.specs.hwp_cpu_command.Runs.{Runs}
+use Rattle.hwp_cpu_course.specs.hwp_cpu_row.hwp_core_rule.declared.Made.{Made}
 use Rattle.hwp_cpu_course.specs.hwp_cpu_row.hwp_geom.declared.VSlot.{VSlot}
 use Rattle.std.proofs.Common.{zero, ◌++◌, ◌<◌, Some, ◌≡◌, refl, length, ◌≤◌, sym, arith, true≢false, subst, ◌≢◌, ◌==◌, None, inl, ◌&&◌, Option, List, suc, append-nil, ◌⊎◌, inr, true, ℕ, drop, Bool, false, ap, filter_map, ◌∙◌, [], nat_lt}
 use Rattle.hwp_cpu_course.specs.hwp_cpu_row.hwp_core_rule.Lists.{EachMember}
-use Rattle.hwp_cpu.specs.Serving.{noted_by, GoesOn, task, marked_so_far, IsUnderWay, marked_beside, KeepsWatch, OwnGoesOn, HasToldAll}
-use Rattle.hwp_cpu.proofs.OwnRests.{pause-holds, answer-known, own-on, HoldsNone, AnswerKnown, pause-known, fits-still}
+use Rattle.hwp_cpu.specs.Serving.{left_so_far, noted_by, GoesOn, task, marked_so_far, IsUnderWay, marked_beside, KeepsWatch, OwnGoesOn, HasToldAll}
+use Rattle.hwp_cpu.proofs.OwnRests.{copy-holds, copy-known, left-still, pause-holds, answer-known, own-on, HoldsNone, AnswerKnown, pause-known, fits-still}
 use Rattle.hwp_cpu_course.specs.Courses.{going_on, answer, part_of, IsGoingOn, told_since, AfterCollecting, AfterCollectingBy, AfterRest, AfterRestBy, FitsOf, FitsOwn, HasRefused, IsGoing, answer_of, has_more, rests, AfterOwnIf, AfterOwnBy, AfterOwn, passed}
-use Rattle.hwp_cpu_causes.specs.Beside.{CanCollect}
+use Rattle.hwp_cpu_causes.specs.Beside.{ArePriorWith, CanCollect}
 use Rattle.hwp_cpu_course.specs.hwp_cpu_row.Locals.{collects}
 use Rattle.std.specs.List.{cons_option}
 use Rattle.hwp_cpu_course.specs.hwp_cpu_row.hwp_core_rule.declared.View.{View}
@@ -22,11 +25,11 @@ use Rattle.hwp_cpu_course.specs.declared.Course.{Course}
 use Rattle.hwp_cpu_course.specs.hwp_cpu_row.Acts.{acts, told_notes}
 use Rattle.hwp_cpu_course.specs.hwp_cpu_command.Done.{HasCounted, marked_beyond}
 use Rattle.hwp_cpu_course.specs.hwp_cpu_command.declared.job.Job.{Job}
-use Rattle.hwp_cpu.proofs.OwnLines.{none-told, is_access, own-notes, rests-so, goes-so, own-unnoted}
+use Rattle.hwp_cpu.proofs.OwnLines.{HasPause, none-told, is_access, own-notes, rests-so, goes-so, own-unnoted}
 use Rattle.hwp_cpu_causes.specs.hwp_law_served.hwp_page.declared.At.{At}
 use Rattle.hwp_cpu_course.specs.hwp_cpu_row.hwp_geom.declared.Layout.{Layout}
 use Rattle.std.proofs.lemmas.List.{nil_from_length, take_all}
-use Rattle.hwp_cpu.proofs.Collecting.{collect-left, tells-kind}
+use Rattle.hwp_cpu.proofs.Collecting.{IsAccess, plain-copies, collect-left, tells-kind}
 use Rattle.hwp_cpu.proofs.Collected.{keeps-same, by-collector, keeps-noted}
 use Rattle.hwp_cpu_course.specs.hwp_cpu_row.hwp_geom.declared.Who.{Who}
 use Rattle.hwp_cpu_course.proofs.of_hwp_cpu_command.JobEnds.{answered-over}
@@ -96,6 +99,9 @@ module _ (layout : Layout) (old new : View) (cpu : Cpu) (list : List Command) (r
   fits-next : jobs.FitsFrom on.base layout new k
   fits-next = fits-still layout old new command c k on made base_is
 
+  left-next : left_so_far on.base new k ≡ left_beside c.due.offlined
+  left-next = left-still layout old new command copies c k on made base_is
+
   -- its own task goes on
   going : IsGoing layout old c
   going = subst (FitsOwn layout old c) unanswered (subst (FitsOf layout old c) beside_is rule.at)
@@ -140,7 +146,7 @@ module _ (layout : Layout) (old new : View) (cpu : Cpu) (list : List Command) (r
         by (Some a) is = record {
           command = command; copies = copies;
           way = way-past;
-          known = answer-known layout new cpu list rows local command copies past way-past on.base fits-next on.prior on.left a is;
+          known = answer-known layout new cpu list rows local command copies past way-past on.base fits-next on.prior left-next a is;
           none = beside_is;
           all = on.all;
           complete = complete a is;
@@ -169,9 +175,11 @@ module _ (layout : Layout) (old new : View) (cpu : Cpu) (list : List Command) (r
 
           all-told : (j : Job) → is_access j ≡ true → HasToldAll c.watching j (length (told_of j))
           all-told (kinds.Instruction i) is = λ on_now. refl
+          all-told (kinds.Copying y) is = λ on_now. refl
           all-told (kinds.Evict e) is = absurd (true≢false (sym is))
           all-told (kinds.Fsync f) is = absurd (true≢false (sym is))
           all-told (kinds.Prctl p) is = absurd (true≢false (sym is))
+          all-told (kinds.Fork g) is = absurd (true≢false (sym is))
           all-told (kinds.Log l) is = absurd (true≢false (sym is))
           all-told (kinds.Raise r) is = absurd (true≢false (sym is))
           all-told (kinds.Scrub s) is = absurd (true≢false (sym is))
@@ -232,7 +240,7 @@ module _ (layout : Layout) (old new : View) (cpu : Cpu) (list : List Command) (r
       holds-rest has = record { on_turn = has.on_turn; hand_is = has.hand_is; paid = has.paid; unowed = has.unowed; beyond = has.beyond; left = has.left }
 
       known-next : (a : Answer) → jobs.answer k ≡ Some a → AnswerKnown layout new cpu list rows local command copies next a
-      known-next a is = answer-known layout new cpu list rows local command copies next way-next on.base fits-next on.prior on.left a is
+      known-next a is = answer-known layout new cpu list rows local command copies next way-next on.base fits-next on.prior left-next a is
 
       known-rest : (a : Answer) → jobs.answer k ≡ Some a → AnswerKnown layout new cpu list rows local command copies (at_rest d) a
       known-rest a is = let has = known-next a is in record {
@@ -256,12 +264,13 @@ module _ (layout : Layout) (old new : View) (cpu : Cpu) (list : List Command) (r
           nothing-due none = let within : length c.due.offlined < length f = slice_get_within f (length c.due.offlined) frame comes in
               let few : length f ≡ length c.due.frames = ap length (alone none) in let all : length c.due.offlined ≡ length c.due.frames = on.all in omega (arith, within, few, all)
 
-          unnoted : (i : Instruction) → k ≡ kinds.Instruction i → told_notes layout (told_since next) ≡ []
-          unnoted i task = absurd (true≢false (ap is_access (sym task) ∙ other))
+          unnoted : IsAccess k → told_notes layout (told_since next) ≡ []
+          unnoted (inl task) = absurd (true≢false (ap is_access (sym task.1) ∙ other))
+          unnoted (inr task) = absurd (true≢false (ap is_access (sym task.1) ∙ other))
 
-          which : CanCollect command ⊎ (((i : Instruction) × (k ≡ kinds.Instruction i)) ⊎ (told_of k ≡ [])) → CanCollect command × (told_of k ≢ [])
+          which : CanCollect command ⊎ (IsAccess k ⊎ (told_of k ≡ [])) → CanCollect command × (told_of k ≢ [])
           which (inl can) = (can, λ none. nothing-due (dropped-none layout c.noted (told_of k) none))
-          which (inr (inl task)) = absurd (nothing-due (unnoted task.0 task.1))
+          which (inr (inl task)) = absurd (nothing-due (unnoted task))
           which (inr (inr none)) = absurd (nothing-due (dropped-none layout c.noted (told_of k) none))
 
       -- so the command goes on
@@ -286,9 +295,18 @@ module _ (layout : Layout) (old new : View) (cpu : Cpu) (list : List Command) (r
               (ends-now layout new cpu list rows local command copies d rest-way a (known-rest a is)
               (complete-by layout new at list watched (at_rest d) rest-way.collected (ap (told_notes layout) (sym (take_all n (told_of k) (omega (arith, is_all)))))) comes)
 
-          which : ((i : Instruction) × (p : Pause) × (k ≡ kinds.Instruction i) × (instructions.pause i ≡ Some p)) ⊎ ((is_access k ≡ false) × ((a : Answer) × (jobs.answer k ≡ Some a))) → Turned layout new cpu list rows local after (answer after)
-          which (inl (i, p, task, paused)) = go-on layout new cpu list rows local command copies d rest-way (holds-rest (pause-holds layout new at command next way-next.runs on.base fits-next on.prior on.left i task p paused))
-              (inl (pause-known layout new at command next way-next.runs on.base fits-next on.prior on.left i task p paused)) is_all pages after turn follows
+          base-none : (o : Option VSlot) → ArePriorWith layout command o on.base → Runs layout at command o k → (y : Copying) → k ≡ kinds.Copying y → on.base ≡ []
+          base-none (Some from) prior runs y task = prior
+          base-none None prior runs y task = absurd (plain-copies layout at command k runs y task)
+
+          which : HasPause k ⊎ ((is_access k ≡ false) × ((a : Answer) × (jobs.answer k ≡ Some a))) → Turned layout new cpu list rows local after (answer after)
+          which (inl (inl (i, p, task, paused))) = go-on layout new cpu list rows local command copies d rest-way (holds-rest (pause-holds layout new at command copies next way-next.runs on.base fits-next on.prior left-next i task p paused))
+              (inl (inl (pause-known layout new at command copies next way-next.runs on.base fits-next on.prior left-next i task p paused))) is_all pages after turn follows
+          which (inl (inr (y, p, task, paused))) =
+              let none : on.base ≡ [] = base-none copies on.prior way-next.runs y task in
+              let fits : jobs.FitsFrom [] layout new k = subst (λ (b : List Made). jobs.FitsFrom b layout new k) none fits-next in
+              let left : left_so_far [] new k ≡ left_beside c.due.offlined = subst (λ (b : List Made). left_so_far b new k ≡ left_beside c.due.offlined) none left-next in
+              go-on layout new cpu list rows local command copies d rest-way (holds-rest (copy-holds layout new at command copies next way-next.runs fits left y task p paused)) (inl (inr (copy-known layout new at command copies next way-next.runs fits left y task p paused))) is_all pages after turn follows
           which (inr (other, (a, is))) = by-frame a is other (next_due d.due) refl
 
     -- the frames so far are for pages
