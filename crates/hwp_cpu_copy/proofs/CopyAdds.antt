@@ -1,5 +1,5 @@
 -- What a step of a copy adds to what the view lists of the command, and to what the command has done: what a step of its access adds.
-use Rattle.std.proofs.Common.{◌≡◌, inl, ℕ, ◌+◌, false, List, [], ◌++◌, Option, Some, None, refl, sym, ap, ◌∙◌, subst}
+use Rattle.std.proofs.Common.{◌≡◌, inl, ℕ, ◌+◌, List, [], ◌++◌, Option, Some, None, refl, sym, ap, ◌∙◌, subst}
 use Rattle.std.proofs.lemmas.Option.{none-some, same_Some}
 use Rattle.hwp_fault.specs.hwp_geom.declared.Layout.{Layout}
 use Rattle.hwp_fault.specs.hwp_geom.declared.Page.{Page}

@@ -1,0 +1,2 @@
+mod CopyCauses
+mod ForkCauses
