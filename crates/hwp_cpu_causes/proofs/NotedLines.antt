@@ -140,19 +140,20 @@ module _ {layout : Layout} {view : View} {who : Who} {thread : Thread} {line : �
         ends = ends-behind (bank_of origin) (one.first ∷ one.rest) more.first more.rest more.ends;
       }
 
+-- the machine checks of the instruction
+abbrev ChecksOf : Layout → View → Instruction → Banks → List Check → Type 0
+ChecksOf layout view i banks checks = AreChecks layout view i.request.who i.request.thread i.request.line i.origin i.mode banks checks
+
 -- the lines of one machine check more note for themselves, of an access of data or the only one of its command
 pub notes-more : {past : List Made} {earlier : List Check} {layout : Layout} {old new : View} (i : Instruction) (fits : FitsBehind past earlier layout old i) (more : List EventOutcome) → (earlier ≡ []) ⊎ (i.origin ≡ origins.Access) → TellsOf layout new i (earlier ++ fits.checks) more
     → told_notes layout (i.lines.told ++ more) ≡ told_notes layout i.lines.told ++ told_notes layout more
 notes-more {past} {earlier} {layout} {old} {new} i fits more way tells = ap (notes layout) (map-append (event_at 0) i.lines.told more) ∙ notes-append layout (lines i.lines.told) (lines more)
     (subst (λ (l : List EventOutcome). AreApart (lines l) (lines more)) (sym fits.told_is) (which (earlier ++ fits.checks) checked tells))
   where
-    abbrev Checked : Banks → List Check → Type 0
-    Checked banks cs = AreChecks layout old i.request.who i.request.thread i.request.line i.origin i.mode banks cs
+    checked : earlier ≡ [] → ChecksOf layout old i i.before.value (earlier ++ fits.checks)
+    checked none = subst (λ (e : List Check). ChecksOf layout old i i.before.value (e ++ fits.checks)) (sym none) (subst (λ (e : List Check). ChecksOf layout old i (left_by i.before.value e) fits.checks) none fits.checked)
 
-    checked : earlier ≡ [] → Checked i.before.value (earlier ++ fits.checks)
-    checked none = subst (λ (e : List Check). Checked i.before.value (e ++ fits.checks)) (sym none) (subst (λ (e : List Check). Checked (left_by i.before.value e) fits.checks) none fits.checked)
-
-    which : (cs : List Check) → (earlier ≡ [] → Checked i.before.value cs) → TellsOf layout new i cs more → AreApart (lines (lines_of cs)) (lines more)
+    which : (cs : List Check) → (earlier ≡ [] → ChecksOf layout old i i.before.value cs) → TellsOf layout new i cs more → AreApart (lines (lines_of cs)) (lines more)
     which [] are of = tt
     which (c ∷ cs) are of =
         apart (bank_of i.origin) (lines (lines_of (c ∷ cs))) (lines more) (ends way)
