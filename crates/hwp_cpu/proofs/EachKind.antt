@@ -27,9 +27,8 @@ use Rattle.hwp_cpu_course.proofs.of_hwp_cpu_command.OfKind.{of-copying, of-evict
 use Rattle.hwp_cpu_course.proofs.of_hwp_cpu_command_laws.CommandStops.{unrecovered}
 use Rattle.hwp_cpu_causes.specs.hwp_law_served.Served.{CanStop, spoiling}
 use Rattle.hwp_cpu_course.specs.hwp_cpu_command.Done.{can_fail}
-use Rattle.hwp_cpu_causes.specs.Beside.{ArePrior}
+use Rattle.hwp_cpu_causes.specs.Beside.{ArePrior, ArePriorWith}
 use Rattle.hwp_cpu_course.specs.hwp_cpu_row.hwp_core_rule.declared.Made.{Made}
-use Rattle.hwp_cpu.specs.Serving.{ArePriorWith}
 use Rattle.std.proofs.lemmas.Bool.{both_ways}
 
 -- a command that fits is that of the turn

@@ -74,7 +74,7 @@ use Rattle.hwp_cpu_course.proofs.of_hwp_cpu_command_laws.CommandStops.{has-spoil
 use Rattle.hwp_cpu_course.proofs.of_hwp_cpu_command_laws.TaskLeaves.{soft-leaves}
 use Rattle.hwp_cpu_course.specs.declared.Course.{Course}
 use Rattle.hwp_cpu_course.specs.Courses.{begin, part_of}
-use Rattle.hwp_cpu_causes.specs.Beside.{AddsBeside}
+use Rattle.hwp_cpu_causes.specs.Beside.{AddsBeside, ArePriorWith}
 use Rattle.hwp_cpu_causes.specs.hwp_law.Pairings.{is_soft}
 use Rattle.hwp_cpu_causes.specs.hwp_law_served.Accounts.{IsHow, IsNote, act_marking, failures, is_same, marking_by, markings, markings_in, own_marking}
 use Rattle.hwp_cpu_causes.specs.hwp_law_served.Owed.{OwesOwn, loss_of, losses_by}
@@ -86,7 +86,7 @@ use Rattle.hwp_cpu_causes.proofs.of_hwp_law_served.Picked.{picked-has}
 use Rattle.hwp_cpu_causes.proofs.of_hwp_law_served.losses.LossesOwed.{owes-own}
 use Rattle.hwp_cpu_causes.proofs.of_hwp_law_served.marks.Marked.{same-self}
 use Rattle.hwp_cpu.specs.Processors.{at_number}
-use Rattle.hwp_cpu.specs.Serving.{ArePriorWith, AreNoted, HasAccount, IsListed, marked_so_far}
+use Rattle.hwp_cpu.specs.Serving.{AreNoted, HasAccount, IsListed, marked_so_far}
 use Rattle.hwp_cpu.proofs.Marks.{GrowAlike, beside-alike, regrown}
 use Rattle.hwp_cpu.proofs.Rows.{notes-more, spoil-more}
 use Rattle.hwp_cpu.proofs.EachKind.{spoils-line, prior-none}

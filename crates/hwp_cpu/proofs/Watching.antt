@@ -17,7 +17,8 @@ use Rattle.hwp_cpu_course.specs.hwp_cpu_command.Stays.{IsAtStop}
 use Rattle.hwp_cpu_course.specs.hwp_cpu_command.hwp_cpu_raise.declared.Log.{Log}
 use Rattle.hwp_cpu_course.specs.Courses.{begin, IsOfMachine}
 use Rattle.hwp_cpu_causes.specs.hwp_law_served.Offlinings.{KnowsDue, left_among, watched_at, AreDue, watched_along}
-use Rattle.hwp_cpu.specs.Serving.{ArePriorWith, noting, HasToldAll, OwnGoesOn, KeepsWatch, left_so_far}
+use Rattle.hwp_cpu.specs.Serving.{noting, HasToldAll, OwnGoesOn, KeepsWatch, left_so_far}
+use Rattle.hwp_cpu_causes.specs.Beside.{ArePriorWith}
 use Rattle.hwp_cpu_course.specs.hwp_cpu_command.Runs.{Runs}
 use Rattle.hwp_cpu_course.specs.hwp_cpu_row.hwp_law_commands.Commands.{is_watch}
 use Rattle.std.proofs.lemmas.List.{take-append-le, take_all, length-append, length-map, length-replicate, get_or-replicate}
@@ -229,22 +230,23 @@ watch-starts layout view who list watched c watching is start watches room = sub
     none-noted None at = at
     none-noted (Some v) at = subst (λ (y : Watched). IsWatching layout.frames (Some y) watching) (sym (told-none v)) at
 
+-- no entry stands before its own task's
+pub prior-none : (layout : Layout) (command : Command) (copies : Option VSlot) → ArePriorWith layout command copies []
+prior-none layout command None = prior-begins layout command
+prior-none layout command (Some from) = refl
+
 -- its own task fits, and no frame is due
 pub own-starts : (layout : Layout) (view : View) (command : Command) (copies : Option VSlot) (c : Course) (watching : Option Watching) → c ≡ begin c.own watching layout.frames → IsAtStop c.own → jobs.FitsFrom [] layout view c.own → HasMadeNone view (jobs.who c.own)
     → OwnGoesOn layout view command copies c
 own-starts layout view command copies c watching is start fits made = subst (OwnGoesOn layout view command copies) (sym is) (record {
   base = [];
   fits = fits;
-  prior = prior copies;
+  prior = prior-none layout command copies;
   left = none-left c.own made;
   all = refl;
   told = none-told c.own start;
 })
   where
-    prior : (o : Option VSlot) → ArePriorWith layout command o []
-    prior None = prior-begins layout command
-    prior (Some from) = refl
-
     none-left : (j : Job) → HasMadeNone view (jobs.who j) → left_so_far [] view j ≡ []
     none-left (kinds.Copying y) none = ap left_among none
     none-left _ none = refl

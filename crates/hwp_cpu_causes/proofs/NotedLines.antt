@@ -37,7 +37,7 @@ use Rattle.hwp_law_served.specs.hwp_cpu_check.Fits.{AreTold, IsDone, IsTold}
 use Rattle.hwp_law_served.specs.hwp_cpu_check.Told.{halts, has_kept, is_kept, required_by, severity_at_once}
 use Rattle.hwp_law_served.specs.hwp_cpu_row.Acts.{event_at, told_notes}
 use Rattle.hwp_cpu_command.specs.hwp_cpu_access.declared.Instruction.{Instruction}
-use Rattle.hwp_cpu_command.specs.hwp_cpu_access.Fits.{FitsBehind, IsOfAccess}
+use Rattle.hwp_cpu_command.specs.hwp_cpu_access.Fits.{FitsBehind, FitsFrom, IsOfAccess}
 use Rattle.hwp_cpu_command.proofs.of_hwp_cpu_access.ToldMore.{TellsOf}
 use Rattle.hwp_cpu_command.proofs.of_hwp_cpu_access.InstructionLaws.{left-three, own-three}
 
@@ -162,6 +162,17 @@ notes-more {past} {earlier} {layout} {old} {new} i fits more way tells = ap (not
         ends : (earlier ≡ []) ⊎ (i.origin ≡ origins.Access) → Ends (bank_of i.origin) (banks_in (lines_of (c ∷ cs)))
         ends (inl none) = let all = checks-end fits.origin i.before.value c cs fits.three (are none) in subst (Ends (bank_of i.origin)) (sym all.all) all.ends
         ends (inr access) = subst (λ (n : ℕ). Ends n (banks_in (lines_of (c ∷ cs)))) (sym (ap bank_of access)) (ends-zero (banks_in (lines_of (c ∷ cs))))
+
+-- and so do those of an access of data that its command had machine checks before
+pub notes-behind : {past : List Made} {earlier : List Check} {layout : Layout} {old new : View} (i : Instruction) (fits : FitsBehind past earlier layout old i) → i.origin ≡ origins.Access → (more : List EventOutcome) → TellsOf layout new i (earlier ++ fits.checks) more
+    → told_notes layout (i.lines.told ++ more) ≡ told_notes layout i.lines.told ++ told_notes layout more
+notes-behind {past} {earlier} {layout} {old} {new} i fits access more tells = ap (notes layout) (map-append (event_at 0) i.lines.told more) ∙ notes-append layout (lines i.lines.told) (lines more)
+    (subst (λ (l : List EventOutcome). AreApart (lines l) (lines more)) (sym fits.told_is) (which (earlier ++ fits.checks) tells))
+  where
+    which : (cs : List Check) → TellsOf layout new i cs more → AreApart (lines (lines_of cs)) (lines more)
+    which [] of = tt
+    which (c ∷ cs) of = apart 0 (lines (lines_of (c ∷ cs))) (lines more) (ends-zero (banks_in (lines_of (c ∷ cs))))
+        (subst (Starts 0) (sym (banks-are more (restarting i.mode) (with_own i.origin of.frame i.request.line empty_banks) of.events ∙ ap (λ (o : Origin). numbers (with_own o of.frame i.request.line empty_banks)) access)) refl)
 
 -- ---- what a machine check notes
 
