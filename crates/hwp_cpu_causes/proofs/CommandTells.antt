@@ -108,7 +108,7 @@ copying-tells : (layout : Layout) (view : View) (who : Who) (command : Command) 
 copying-tells layout view who (commands.Store thread slot line word) from j kept runs fits is = let k = knows-copy j runs fits is in record { told = copy-told k kept; heeded = copy-heeded k }
 copying-tells layout view who command from j kept runs fits is = absurd runs
 
-pub tells : (layout : Layout) (view : View) (who : Who) (command : Command) (copied : Option VSlot) (j : Job) {a : Answer} (base : List Made) (kept : Banks) → Runs layout who command copied j → FitsFrom base layout view j → ArePriorWith layout command copied base → answer j ≡ Some a
+pub tells : (layout : Layout) (copied : Option VSlot) (view : View) (who : Who) (command : Command) (j : Job) {a : Answer} (base : List Made) (kept : Banks) → Runs layout who command copied j → FitsFrom base layout view j → ArePriorWith layout command copied base → answer j ≡ Some a
     → TellsRight layout copied view who command j a kept
-tells layout view who command None j base kept runs fits prior is = plain-tells layout view who command j base kept runs fits prior is
-tells layout view who command (Some from) j base kept runs fits prior is = copying-tells layout view who command from j kept runs (from-none layout view j prior fits) is
+tells layout None view who command j base kept runs fits prior is = plain-tells layout view who command j base kept runs fits prior is
+tells layout (Some from) view who command j base kept runs fits prior is = copying-tells layout view who command from j kept runs (from-none layout view j prior fits) is

@@ -140,28 +140,17 @@ module _ {layout : Layout} {view : View} {who : Who} {thread : Thread} {line : �
         ends = ends-behind (bank_of origin) (one.first ∷ one.rest) more.first more.rest more.ends;
       }
 
--- the machine checks of the instruction
-abbrev ChecksOf : Layout → View → Instruction → Banks → List Check → Type 0
-ChecksOf layout view i banks checks = AreChecks layout view i.request.who i.request.thread i.request.line i.origin i.mode banks checks
-
--- the lines of one machine check more note for themselves, of an access of data or the only one of its command
-pub notes-more : {past : List Made} {earlier : List Check} {layout : Layout} {old new : View} (i : Instruction) (fits : FitsBehind past earlier layout old i) (more : List EventOutcome) → (earlier ≡ []) ⊎ (i.origin ≡ origins.Access) → TellsOf layout new i (earlier ++ fits.checks) more
-    → told_notes layout (i.lines.told ++ more) ≡ told_notes layout i.lines.told ++ told_notes layout more
-notes-more {past} {earlier} {layout} {old} {new} i fits more way tells = ap (notes layout) (map-append (event_at 0) i.lines.told more) ∙ notes-append layout (lines i.lines.told) (lines more)
-    (subst (λ (l : List EventOutcome). AreApart (lines l) (lines more)) (sym fits.told_is) (which (earlier ++ fits.checks) checked tells))
+-- the lines of one machine check more note for themselves
+pub notes-more : {past : List Made} {layout : Layout} {old new : View} (i : Instruction) (fits : FitsFrom past layout old i) (more : List EventOutcome) → TellsOf layout new i fits.checks more → told_notes layout (i.lines.told ++ more) ≡ told_notes layout i.lines.told ++ told_notes layout more
+notes-more {past} {layout} {old} {new} i fits more tells = ap (notes layout) (map-append (event_at 0) i.lines.told more) ∙ notes-append layout (lines i.lines.told) (lines more)
+    (subst (λ (l : List EventOutcome). AreApart (lines l) (lines more)) (sym fits.told_is) (which fits.checks fits.checked tells))
   where
-    checked : earlier ≡ [] → ChecksOf layout old i i.before.value (earlier ++ fits.checks)
-    checked none = subst (λ (e : List Check). ChecksOf layout old i i.before.value (e ++ fits.checks)) (sym none) (subst (λ (e : List Check). ChecksOf layout old i (left_by i.before.value e) fits.checks) none fits.checked)
-
-    which : (cs : List Check) → (earlier ≡ [] → ChecksOf layout old i i.before.value cs) → TellsOf layout new i cs more → AreApart (lines (lines_of cs)) (lines more)
+    which : (cs : List Check) → AreChecks layout old i.request.who i.request.thread i.request.line i.origin i.mode i.before.value cs → TellsOf layout new i cs more → AreApart (lines (lines_of cs)) (lines more)
     which [] are of = tt
     which (c ∷ cs) are of =
-        apart (bank_of i.origin) (lines (lines_of (c ∷ cs))) (lines more) (ends way)
+        let all = checks-end fits.origin i.before.value c cs fits.three are in
+        apart (bank_of i.origin) (lines (lines_of (c ∷ cs))) (lines more) (subst (Ends (bank_of i.origin)) (sym all.all) all.ends)
         (subst (Starts (bank_of i.origin)) (sym (banks-are more (restarting i.mode) (with_own i.origin of.frame i.request.line empty_banks) of.events ∙ own-alone i.origin of.frame i.request.line fits.origin)) refl)
-      where
-        ends : (earlier ≡ []) ⊎ (i.origin ≡ origins.Access) → Ends (bank_of i.origin) (banks_in (lines_of (c ∷ cs)))
-        ends (inl none) = let all = checks-end fits.origin i.before.value c cs fits.three (are none) in subst (Ends (bank_of i.origin)) (sym all.all) all.ends
-        ends (inr access) = subst (λ (n : ℕ). Ends n (banks_in (lines_of (c ∷ cs)))) (sym (ap bank_of access)) (ends-zero (banks_in (lines_of (c ∷ cs))))
 
 -- and so do those of an access of data that its command had machine checks before
 pub notes-behind : {past : List Made} {earlier : List Check} {layout : Layout} {old new : View} (i : Instruction) (fits : FitsBehind past earlier layout old i) → i.origin ≡ origins.Access → (more : List EventOutcome) → TellsOf layout new i (earlier ++ fits.checks) more

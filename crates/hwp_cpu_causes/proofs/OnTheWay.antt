@@ -1,9 +1,8 @@
 -- What an access that pauses has made may stand before the entry that answers it.
-use Rattle.std.proofs.Common.{◌≡◌, inl, inr, Bool, true, false, List, [], Option, Some, None, is_some, refl, sym, ap, ◌∙◌, subst}
+use Rattle.std.proofs.Common.{◌≡◌, inl, inr, true, false, List, [], Option, Some, None, is_some, refl, sym, ap, ◌∙◌, subst}
 use Rattle.std.proofs.lemmas.Bool.{both_ways}
 use Rattle.std.proofs.lemmas.Option.{none-some}
 use Rattle.hwp_law_served.specs.hwp_geom.declared.Layout.{Layout}
-use Rattle.hwp_law_served.specs.hwp_geom.declared.VSlot.{VSlot}
 use Rattle.hwp_law_served.specs.hwp_geom.declared.Who.{Who}
 use Rattle.hwp_law_served.specs.hwp_core_rule.declared.Made.{Made}
 use Rattle.hwp_law_served.specs.hwp_core_rule.declared.View.{View}
@@ -26,74 +25,58 @@ use Rattle.hwp_cpu_command.specs.declared.Job.TheVariants as jobs
 use Rattle.hwp_cpu_command.specs.Jobs as all
 use Rattle.hwp_cpu_command.specs.Jobs.{FitsFrom}
 use Rattle.hwp_cpu_command.specs.Runs.{Runs, anew}
-use Rattle.hwp_cpu_command.proofs.OfKind.{of-copying, of-evict, of-fork, of-fsync, of-inject, of-instruction, of-log, of-nested, of-prctl, of-raise, of-scrub, of-soft, of-spoil, of-unpoison}
+use Rattle.hwp_cpu_command.proofs.OfKind.{of-evict, of-fork, of-fsync, of-inject, of-instruction, of-log, of-nested, of-prctl, of-raise, of-scrub, of-soft, of-spoil, of-unpoison}
 use Rattle.hwp_law_served.specs.Causes.{HasOnlyMet, IsMet}
-use Rattle.hwp_cpu_causes.specs.Beside.{AddsBeside, ArePrior, ArePriorTo, ArePriorWith}
+use Rattle.hwp_cpu_causes.specs.Beside.{AddsBeside, ArePrior, ArePriorTo}
 use Rattle.hwp_cpu_causes.proofs.AccessCauses.{only-before, only-met, prior-before}
 
--- a task that is an instruction is that of an access, and so is its command, which copies nothing
-pub record IsAccessOf (command : Command) (copied : Option VSlot) (by : Who) (j : Job) : Type 0 where
+-- of a command that copies nothing a task that pauses is an access, and so is its command
+pub record IsAccessOf (command : Command) (by : Who) (j : Job) : Type 0 where
   pub task : Instruction
   pub job_is : j ≡ jobs.Instruction task
   pub of : access_of command ≡ Some (access task.request.thread task.request.slot task.request.line)
   pub fails : can_fail command ≡ true
   pub by_is : task.request.who ≡ by
-  pub plain : copied ≡ None
 
-of-access : {command : Command} {by : Who} (j : Job) {x : Instruction} → anew j ≡ jobs.Instruction x → access_of command ≡ Some (access x.request.thread x.request.slot x.request.line) → can_fail command ≡ true → x.request.who ≡ by → IsAccessOf command None by j
+of-access : {command : Command} {by : Who} (j : Job) {x : Instruction} → anew j ≡ jobs.Instruction x → access_of command ≡ Some (access x.request.thread x.request.slot x.request.line) → can_fail command ≡ true → x.request.who ≡ by → IsAccessOf command by j
 of-access {command} {by} j {x} is of fails own = record {
   task = task.0;
   job_is = task.1;
   of = of ∙ ap (λ (i : Instruction). Some (access i.request.thread i.request.slot i.request.line)) (sym task.2);
   fails = fails;
   by_is = ap (λ (i : Instruction). i.request.who) task.2 ∙ own;
-  plain = refl;
 }
   where
     task : (i : Instruction) × (j ≡ jobs.Instruction i) × (instructions.begin i.alloc i.request i.origin i.mode i.before.value i.collects ≡ x)
     task = of-instruction j is
 
-abbrev is_instruction : Job → Bool
-is_instruction (jobs.Instruction i) = true
-is_instruction _ = false
+unpaused : {A : Type 0} {j k : Job} → j ≡ k → all.pauses k ≡ false → all.pauses j ≡ true → A
+unpaused {A} {j} {k} is none paused = absurd (both_ways (all.pauses j) (ap all.pauses is ∙ none) paused)
 
-other : {A : Type 0} {j k : Job} {i : Instruction} → j ≡ k → is_instruction k ≡ false → j ≡ jobs.Instruction i → A
-other {A} {j} {k} {i} is none own = absurd (both_ways (is_instruction j) (ap is_instruction is ∙ none) (ap is_instruction own))
-
--- of a command that copies nothing
-plain-access : (layout : Layout) (by : Who) (command : Command) (j : Job) {i : Instruction} → Runs layout by command None j → j ≡ jobs.Instruction i → IsAccessOf command None by j
-plain-access layout by (commands.Load thread slot line) j runs own = of-access j runs.job_is refl refl refl
-plain-access layout by (commands.Fetch thread slot line) j runs own = of-access j runs.job_is refl refl refl
-plain-access layout by (commands.KLoad thread slot line) j runs own = of-access j runs.job_is refl refl refl
-plain-access layout by (commands.Store thread slot line word) j runs own = of-access j runs.job_is refl refl refl
-plain-access layout by (commands.Free slot) j runs own = other (of-evict j runs.1.job_is).1 refl own
-plain-access layout by (commands.Drop page) j runs own = other (of-evict j runs.job_is).1 refl own
-plain-access layout by (commands.Sync page) j runs own = other (of-evict j runs.job_is).1 refl own
-plain-access layout by (commands.Out page) j runs own = other (of-evict j runs.job_is).1 refl own
-plain-access layout by (commands.Fsync file) j runs own = other (of-fsync j runs.2).1 refl own
-plain-access layout by (commands.Open file) j runs own = other (of-fsync j runs.2).1 refl own
-plain-access layout by (commands.Prctl thread args) j runs own = other (of-prctl j runs.job_is).1 refl own
-plain-access layout by (commands.Fork thread child) j runs own = other (of-fork j runs.job_is).1 refl own
-plain-access layout by (commands.Bad frame line) j runs own = other (of-spoil j runs.job_is).1 refl own
-plain-access layout by (commands.Weak frame line) j runs own = other (of-spoil j runs.job_is).1 refl own
-plain-access layout by (commands.Scrub first last) j runs own = other (of-scrub j runs.job_is).1 refl own
-plain-access layout by (commands.Log status addr misc) j runs own = other (of-log j runs.job_is).1 refl own
-plain-access layout by (commands.Watch threshold window) j runs own = other (of-log j runs.job_is).1 refl own
-plain-access layout by (commands.RaiseUser thread ripv eipv) j runs own = other (of-raise j runs.job_is).1 refl own
-plain-access layout by (commands.RaiseKernel ripv eipv) j runs own = other (of-raise j runs.job_is).1 refl own
-plain-access layout by commands.RaiseNested j runs own = other (of-nested j runs).1 refl own
-plain-access layout by (commands.Inject frame) j runs own = other (of-inject j runs.job_is).1 refl own
-plain-access layout by (commands.Soft frame) j runs own = other (of-soft j runs.job_is).1 refl own
-plain-access layout by (commands.Unpoison frame) j runs own = other (of-unpoison j runs.job_is).1 refl own
-
--- and of one that copies there is none
-copying-access : {A : Type 0} (layout : Layout) (by : Who) (command : Command) (from : VSlot) (j : Job) {i : Instruction} → Runs layout by command (Some from) j → j ≡ jobs.Instruction i → A
-copying-access layout by (commands.Store thread slot line word) from j runs own = other (of-copying j runs.job_is).1 refl own
-copying-access layout by command from j runs own = absurd runs
-
-pub runs-access : (layout : Layout) (by : Who) (command : Command) (copied : Option VSlot) (j : Job) {i : Instruction} → Runs layout by command copied j → j ≡ jobs.Instruction i → IsAccessOf command copied by j
-runs-access layout by command None j runs own = plain-access layout by command j runs own
-runs-access layout by command (Some from) j runs own = copying-access layout by command from j runs own
+pub runs-access : (layout : Layout) (by : Who) (command : Command) (j : Job) → Runs layout by command None j → all.pauses j ≡ true → IsAccessOf command by j
+runs-access layout by (commands.Load thread slot line) j runs p = of-access j runs.job_is refl refl refl
+runs-access layout by (commands.Fetch thread slot line) j runs p = of-access j runs.job_is refl refl refl
+runs-access layout by (commands.KLoad thread slot line) j runs p = of-access j runs.job_is refl refl refl
+runs-access layout by (commands.Store thread slot line word) j runs p = of-access j runs.job_is refl refl refl
+runs-access layout by (commands.Free slot) j runs p = unpaused (of-evict j runs.1.job_is).1 refl p
+runs-access layout by (commands.Drop page) j runs p = unpaused (of-evict j runs.job_is).1 refl p
+runs-access layout by (commands.Sync page) j runs p = unpaused (of-evict j runs.job_is).1 refl p
+runs-access layout by (commands.Out page) j runs p = unpaused (of-evict j runs.job_is).1 refl p
+runs-access layout by (commands.Fsync file) j runs p = unpaused (of-fsync j runs.2).1 refl p
+runs-access layout by (commands.Open file) j runs p = unpaused (of-fsync j runs.2).1 refl p
+runs-access layout by (commands.Prctl thread args) j runs p = unpaused (of-prctl j runs.job_is).1 refl p
+runs-access layout by (commands.Fork thread child) j runs p = unpaused (of-fork j runs.job_is).1 refl p
+runs-access layout by (commands.Bad frame line) j runs p = unpaused (of-spoil j runs.job_is).1 refl p
+runs-access layout by (commands.Weak frame line) j runs p = unpaused (of-spoil j runs.job_is).1 refl p
+runs-access layout by (commands.Scrub first last) j runs p = unpaused (of-scrub j runs.job_is).1 refl p
+runs-access layout by (commands.Log status addr misc) j runs p = unpaused (of-log j runs.job_is).1 refl p
+runs-access layout by (commands.Watch threshold window) j runs p = unpaused (of-log j runs.job_is).1 refl p
+runs-access layout by (commands.RaiseUser thread ripv eipv) j runs p = unpaused (of-raise j runs.job_is).1 refl p
+runs-access layout by (commands.RaiseKernel ripv eipv) j runs p = unpaused (of-raise j runs.job_is).1 refl p
+runs-access layout by commands.RaiseNested j runs p = unpaused (of-nested j runs).1 refl p
+runs-access layout by (commands.Inject frame) j runs p = unpaused (of-inject j runs.job_is).1 refl p
+runs-access layout by (commands.Soft frame) j runs p = unpaused (of-soft j runs.job_is).1 refl p
+runs-access layout by (commands.Unpoison frame) j runs p = unpaused (of-unpoison j runs.job_is).1 refl p
 
 -- the pause
 paused-at : (i : Instruction) → is_some (instructions.pause i) ≡ true → (p : Pause) × (instructions.pause i ≡ Some p)
@@ -107,11 +90,10 @@ paused-at i is = which (instructions.pause i) is
 prior-entries : (command : Command) {a : Access} (layout : Layout) (base : List Made) → access_of command ≡ Some a → ArePrior layout command base → EachMember (IsMet layout command) base
 prior-entries command layout base of prior = subst (λ (o : Option Access). ArePriorTo o layout command base) of prior
 
-pub on-the-way : (base : List Made) (layout : Layout) (view : View) {by : Who} {command : Command} {copied : Option VSlot} (j : Job) → IsAccessOf command copied by j → FitsFrom base layout view j → ArePriorWith layout command copied base → all.pauses j ≡ true
-    → HasOnlyMet layout view by command
-on-the-way base layout view {by} {command} {copied} j k fits prior pauses_now =
+pub on-the-way : (base : List Made) (layout : Layout) (view : View) {by : Who} {command : Command} (j : Job) → IsAccessOf command by j → FitsFrom base layout view j → ArePrior layout command base → all.pauses j ≡ true → HasOnlyMet layout view by command
+on-the-way base layout view {by} {command} j k fits prior pauses_now =
     subst (λ (w : Who). HasOnlyMet layout view w command) k.by_is
-    (only-met layout view r task_fits.names command k.of k.fails (deeds r.who view) (only-before layout view r task_fits.names base (prior-before layout view r task_fits.names command k.of base (prior-entries command layout base k.of (subst (λ (o : Option VSlot). ArePriorWith layout command o base) k.plain prior))) (which now.0 (paused k.task now.0 task_fits now.1).left)))
+    (only-met layout view r task_fits.names command k.of k.fails (deeds r.who view) (only-before layout view r task_fits.names base (prior-before layout view r task_fits.names command k.of base (prior-entries command layout base k.of prior)) (which now.0 (paused k.task now.0 task_fits now.1).left)))
   where
     r : Request
     r = k.task.request
@@ -135,9 +117,8 @@ met-beside layout {old} {new} {by} command more only = elim more.adds [
 ]
 
 -- so all that its command has made may stand before its entry when it goes on
-pub prior-behind : (layout : Layout) (view : View) {by : Who} {command : Command} {copied : Option VSlot} {j : Job} → IsAccessOf command copied by j → HasOnlyMet layout view by command → ArePriorWith layout command copied (deeds by view)
-prior-behind layout view {by} {command} k only =
-    subst (λ (c : Option VSlot). ArePriorWith layout command c (deeds by view)) (sym k.plain) (subst (λ (o : Option Access). ArePriorTo o layout command (deeds by view)) (sym k.of) only)
+pub prior-behind : (layout : Layout) (view : View) {by : Who} {command : Command} {j : Job} → IsAccessOf command by j → HasOnlyMet layout view by command → ArePrior layout command (deeds by view)
+prior-behind layout view {by} {command} k only = subst (λ (o : Option Access). ArePriorTo o layout command (deeds by view)) (sym k.of) only
 
 -- a command has nothing before it begins
 pub prior-begins : (layout : Layout) (command : Command) → ArePrior layout command []

@@ -300,7 +300,7 @@ copying-does : (layout : Layout) (earlier : List (Command × Answer)) (view : Vi
 copying-does layout earlier view who (commands.Store thread slot line word) from j runs fits is = copy-does (knows-copy j runs fits is) earlier
 copying-does layout earlier view who command from j runs fits is = absurd runs
 
-pub does : (layout : Layout) (earlier : List (Command × Answer)) (view : View) (who : Who) (command : Command) (copied : Option VSlot) (j : Job) {a : Answer} (base : List Made) → Runs layout who command copied j → FitsFrom base layout view j → ArePriorWith layout command copied base → answer j ≡ Some a
+pub does : (layout : Layout) (earlier : List (Command × Answer)) (copied : Option VSlot) (view : View) (who : Who) (command : Command) (j : Job) {a : Answer} (base : List Made) → Runs layout who command copied j → FitsFrom base layout view j → ArePriorWith layout command copied base → answer j ≡ Some a
     → AreCounted (λ (t : Thread). settings layout t earlier) view j → DoesSo layout earlier command j a
-does layout earlier view who command None j base runs fits prior is counted = plain-does layout earlier view who command j base runs fits prior is counted
-does layout earlier view who command (Some from) j base runs fits prior is counted = copying-does layout earlier view who command from j runs (from-none layout view j prior fits) is
+does layout earlier None view who command j base runs fits prior is counted = plain-does layout earlier view who command j base runs fits prior is counted
+does layout earlier (Some from) view who command j base runs fits prior is counted = copying-does layout earlier view who command from j runs (from-none layout view j prior fits) is

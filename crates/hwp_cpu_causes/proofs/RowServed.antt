@@ -31,15 +31,15 @@ use Rattle.hwp_cpu_causes.proofs.CauseLaws.{caused}
 use Rattle.hwp_cpu_causes.proofs.CommandTells.{tells}
 
 -- what its own task knows, once it has its answer; and what it has done
-pub own-served : (layout : Layout) (earlier : List (Command × Answer)) (view : View) (who : Who) (command : Command) (copied : Option VSlot) (j : Job) {a : Answer} (base : List Made) (kept : Banks) → Runs layout who command copied j → FitsFrom base layout view j → ArePriorWith layout command copied base
+pub own-served : (layout : Layout) (earlier : List (Command × Answer)) (copied : Option VSlot) (view : View) (who : Who) (command : Command) (j : Job) {a : Answer} (base : List Made) (kept : Banks) → Runs layout who command copied j → FitsFrom base layout view j → ArePriorWith layout command copied base
     → answer j ≡ Some a → AreCounted (λ (t : Thread). settings layout t earlier) view j → (handles : List ℕ) → HasHandle handles j → IsOwnServed layout earlier copied view who command j a kept
-own-served layout earlier view who command copied j base kept runs fits prior is counted handles has =
-    let right = tells layout view who command copied j base kept runs fits prior is in
-    record { caused = caused layout earlier view who command copied j base kept runs fits prior is counted handles has; told = right.told; heeded = right.heeded }
+own-served layout earlier copied view who command j base kept runs fits prior is counted handles has =
+    let right = tells layout copied view who command j base kept runs fits prior is in
+    record { caused = caused layout earlier copied view who command j base kept runs fits prior is counted handles has; told = right.told; heeded = right.heeded }
 
-pub own-does : (layout : Layout) (earlier : List (Command × Answer)) (view : View) (who : Who) (command : Command) (copied : Option VSlot) (j : Job) {a : Answer} (base : List Made) → Runs layout who command copied j → FitsFrom base layout view j → ArePriorWith layout command copied base
+pub own-does : (layout : Layout) (earlier : List (Command × Answer)) (copied : Option VSlot) (view : View) (who : Who) (command : Command) (j : Job) {a : Answer} (base : List Made) → Runs layout who command copied j → FitsFrom base layout view j → ArePriorWith layout command copied base
     → answer j ≡ Some a → AreCounted (λ (t : Thread). settings layout t earlier) view j → DoesSo layout earlier command j a
-own-does layout earlier view who command copied j base runs fits prior is counted = does layout earlier view who command copied j base runs fits prior is counted
+own-does layout earlier copied view who command j base runs fits prior is counted = does layout earlier copied view who command j base runs fits prior is counted
 
 -- where the view lists of the command what it has done, its own task and beside it, and the command saw the machine running or is
 -- answered `stopped`, the row that it gives is served
