@@ -134,12 +134,12 @@ tells-opened file other _ is = absurd (both_ways false refl is)
 -- a command that copies tells none
 untold-copying : {A : Type 0} (layout : Layout) (who : Who) (command : Command) (from : VSlot) (j : Job) (a : Answer) (file : FileNo) → Runs layout who command (Some from) j → tells_number file command a ≡ true → A
 untold-copying layout who (commands.Store thread slot line word) from j a file runs is = absurd (both_ways false refl is)
-untold-copying layout who command from j a file runs is = absurd runs
+untold-copying layout who _ from j a file runs is = absurd runs
 
 inside : (layout : Layout) (who : Who) (command : Command) (j : Job) (a : Answer) (file : FileNo) → Runs layout who command None j → tells_number file command a ≡ true → file.0 < layout.files
 inside layout who (commands.Fsync other) j a file runs is = subst (λ (n : ℕ). n < layout.files) (tells-asked file other a is) runs.0
 inside layout who (commands.Open other) j a file runs is = subst (λ (n : ℕ). n < layout.files) (tells-opened file other a is) runs.0
-inside layout who command j a file runs is = absurd (both_ways false refl is)
+inside layout who _ j a file runs is = absurd (both_ways false refl is)
 
 pub tells-inside : (layout : Layout) (who : Who) (command : Command) (copied : Option VSlot) (j : Job) (a : Answer) (file : FileNo) → Runs layout who command copied j → tells_number file command a ≡ true → file.0 < layout.files
 tells-inside layout who command None j a file runs is = inside layout who command j a file runs is
@@ -205,7 +205,7 @@ module _ (base : List Made) (layout : Layout) (view : View) (who : Who) (j : Job
 
   copying : (command : Command) (from : VSlot) → Runs layout who command (Some from) j → IsNumbered layout view who command a file m (handles_after j handles)
   copying (commands.Store thread slot line word) from runs = leaves (commands.Store thread slot line word) (of-copying j runs.job_is).1 refl refl refl
-  copying command from runs = absurd runs
+  copying _ from runs = absurd runs
 
   pub numbered : (command : Command) (copied : Option VSlot) → Runs layout who command copied j → HasHandle handles j → IsNumbered layout view who command a file m (handles_after j handles)
   numbered command None runs has = plain command runs has

@@ -1,2 +1,2 @@
-mod CopyCauses
-mod ForkCauses
+pub mod CopyCauses
+pub mod ForkCauses
