@@ -41,6 +41,7 @@ use Rattle.hwp_law_served.proofs.RunKeeps.{run-keeps}
 use Rattle.hwp_law_served.proofs.HadStates.{had}
 use Rattle.hwp_law_served.proofs.RunEnds.{IsEnd, IsOf, nothing-held}
 use Rattle.hwp_law_served.proofs.copied.EndedThrough.{ended-so}
+use Rattle.hwp_law_served.proofs.copied.MadeOrder.{IsOrdered, ordered-kept}
 use Rattle.hwp_law_served.proofs.marks.MarkSights.{AreRisingMarks, AreSplit, rising-kept, split-kept}
 use Rattle.hwp_law_served.proofs.lines.LowWords.{run-low}
 use Rattle.hwp_law_served.proofs.lines.SightedLines.{AreSights, sights-kept}
@@ -93,6 +94,7 @@ module _ (script : Script) (copies : Who → Option VSlot) (seat : Cpu → ℕ) 
     split = run-keeps script.layout (AreSplit script.layout) (split-kept script.layout) turns last run.rule run.moves;
     spoilers = run-keeps script.layout AreOfParts (parts-kept script.layout) turns last run.rule run.moves;
     sights = run-keeps script.layout (λ (s : State) (v : View). AreSights script.layout v) (sights-kept script.layout) turns last run.rule run.moves;
+    ordered = run-keeps script.layout (λ (s : State) (v : View). IsOrdered script.layout v) (ordered-kept script.layout) turns last run.rule run.moves;
   }
 
   -- its rows are those of the run

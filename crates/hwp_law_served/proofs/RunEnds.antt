@@ -33,6 +33,7 @@ use Rattle.hwp_law_served.specs.Rows.{lines_from}
 use Rattle.hwp_law_served.specs.Runs.{AreApart, AreRecords, AreServed, notes_of}
 use Rattle.hwp_law_served.specs.Served.{AreRowsServed, IsRowServed, IsServed}
 use Rattle.hwp_law_served.proofs.lines.LowWords.{AreOfLines}
+use Rattle.hwp_law_served.proofs.copied.MadeOrder.{IsOrdered}
 use Rattle.hwp_law_served.proofs.lines.ScrubBank.{empty-free, with-free}
 use Rattle.hwp_law_served.proofs.lines.SightedLines.{AreSights}
 use Rattle.hwp_law_served.proofs.marks.MarkSights.{AreRisingMarks, AreSplit}
@@ -54,6 +55,7 @@ pub record IsEnd (script : Script) (copies : Who â†’ Option VSlot) (seat : Cpu â
   pub split : EachMember (AreSplit script.layout last) last.views
   pub spoilers : EachMember (AreOfParts last) last.views
   pub sights : EachMember (AreSights script.layout) last.views
+  pub ordered : EachMember (IsOrdered script.layout) last.views
 
 -- the row of a command behind the earlier ones with their answers, and what its processor's banks held before it, the scrubber's
 -- nothing, and after it

@@ -7,3 +7,7 @@ pub mod StoredLast
 pub mod CopyPlaces
 pub mod EndedThrough
 pub mod CopyLines
+pub mod EarlierSame
+pub mod NumbersActed
+pub mod Acted
+pub mod MadeOrder

@@ -24,7 +24,7 @@ use Rattle.hwp_law_records.specs.hwp_core_task.Boards.{Played}
 use Rattle.hwp_law_records.specs.hwp_core_task.Turns.{Member}
 use Rattle.hwp_law_records.specs.hwp_script_read.declared.Script.{Script}
 use Rattle.hwp_law_records.specs.hwp_report_text.declared.Report.{Report}
-use Rattle.hwp_law_records.specs.hwp_law.History.{IsHistory}
+use Rattle.hwp_law_records.specs.hwp_law.PageHistory.{IsHistory}
 use Rattle.hwp_law_records.specs.hwp_law.Law.{HasShape, IsLawful}
 use Rattle.hwp_law_records.specs.hwp_law.Places.{entry_at}
 use Rattle.hwp_law_records.specs.hwp_law.States.{HadState}

@@ -45,7 +45,7 @@ module _ {layout : Layout} {by : Who} {step : Step} {body : Option BodyValue} {o
   runs-stay page cow banks [] are = tt
   runs-stay page cow banks (r ∷ rs) are = (run-stays page banks r (cows.sub_of cow) are.0, runs-stay page (cows.told_by cow r.word) (left_by banks r.checks) rs are.1)
 
-  has-stays : (from : VSlot) (word : ℕ) (before : Banks) (has : HasCopied layout old store from word before) → HasCopied layout new store from word before
+  abbrev has-stays : (from : VSlot) (word : ℕ) (before : Banks) (has : HasCopied layout old store from word before) → HasCopied layout new store from word before
   has-stays from word before has = record {
     names = has.names;
     page = has.page;

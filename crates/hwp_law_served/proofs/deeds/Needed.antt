@@ -2,6 +2,7 @@
 use Rattle.std.proofs.Common.{◌≡◌, inl, inr, zero, suc, List, [], Option, Some, None, filter_map, option_and_then, slice_get, refl, sym, ap, ◌∙◌, subst}
 use Rattle.std.specs.List.{cons_option}
 use Rattle.std.proofs.lemmas.Option.{none-some, same_Some}
+use Rattle.hwp_law_run.specs.hwp_geom.declared.Layout.{Layout}
 use Rattle.hwp_law_run.specs.hwp_geom.declared.Thread.{Thread}
 use Rattle.hwp_law_run.specs.hwp_geom.declared.Who.{Who}
 use Rattle.hwp_law_run.specs.hwp_page.declared.At.{At}
