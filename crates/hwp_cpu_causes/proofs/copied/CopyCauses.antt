@@ -120,7 +120,7 @@ module _ (layout : Layout) (view : View) (c : Copying) (runs : List Run) (has : 
     between : (made : List Made) → EachMember (Precedes a.page a.slot a.line) made → EachMember (IsBetween a) (end.since ++ made)
     between made such = each-append (IsBetween a) end.since made end.such (each-weaken (Precedes a.page a.slot a.line) (IsBetween a) made (λ m is. inl is) such)
 
-    behind : (made : List Made) → EachMember (Precedes a.page a.slot a.line) made → IsBehind c.store c.page sub (end.since ++ made)
+    abbrev behind : (made : List Made) → EachMember (Precedes a.page a.slot a.line) made → IsBehind c.store c.page sub (end.since ++ made)
     behind made such = record { access = a; access_is = end.request_is; such = between made such }
 
     all-of : (made : List Made) → deeds a.who view ≡ base ++ made → deeds c.store.who view ≡ made_by runs ++ (end.since ++ made)
@@ -245,7 +245,7 @@ module _ (layout : Layout) (view : View) (c : Copying) (runs : List Run) (has : 
   next-as : sub ≡ sub_next c.store c.cow.v c.cow.x runs
   next-as = ap cows.sub_of (has.cow_is ∙ ap (λ (w : Cow). cows.told_all w (words_of runs)) begun-as)
 
-  copied-so : (rest : List Made) → deeds c.store.who view ≡ made_by runs ++ rest → HasCopied layout view c.store c.cow.v c.cow.x c.instruction.before.value
+  abbrev copied-so : (rest : List Made) → deeds c.store.who view ≡ made_by runs ++ rest → HasCopied layout view c.store c.cow.v c.cow.x c.instruction.before.value
   copied-so rest all = record {
     names = has.names;
     page = c.page;
