@@ -11,3 +11,4 @@ pub mod EarlierSame
 pub mod NumbersActed
 pub mod Acted
 pub mod MadeOrder
+pub mod OwnIn
