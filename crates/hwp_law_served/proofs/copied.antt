@@ -6,6 +6,7 @@ pub mod CopyEntries
 pub mod StoredLast
 pub mod CopyPlaces
 pub mod EndedThrough
+pub mod CopyLeft
 pub mod CopyLines
 pub mod EarlierSame
 pub mod NumbersActed
