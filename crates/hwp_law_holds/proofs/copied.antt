@@ -1,2 +1,3 @@
 pub mod CopyCaused
 pub mod LossesActed
+pub mod Apart

@@ -42,14 +42,17 @@ none-any test (y ∷ ys) none zero x there = sym (ap test (same_Some y x there))
 none-any test (y ∷ ys) none (suc i) x there = none-any test ys (or_parts (test y) (list_any test ys) none).1 i x there
 
 
+abbrev flag : Bool → ℕ
+flag b = cond b 1 0
+
 count-one : {X : Type 0} (test : X → Bool) (xs : List X) (i : ℕ) (x : X) → slice_get xs i ≡ Some x → test x ≡ true → 1 ≤ count_by test xs
 count-one test [] i x there is = absurd (none-some x there)
 count-one {X} test (y ∷ ys) zero x there is =
-    let e : cond (test y) 1 0 ≡ 1 = ap (λ (z : X). cond (test z) 1 0) (same_Some y x there) ∙ ap (λ (b : Bool). cond b 1 0) is in
-    let sum : count_by test (y ∷ ys) ≡ cond (test y) 1 0 + count_by test ys = sum_by-cons (λ (z : X). cond (test z) 1 0) y ys in
+    let e : ◌≡◌ {A = ℕ} (flag (test y)) 1 = ap (λ (z : X). flag (test z)) (same_Some y x there) ∙ ap flag is in
+    let sum : count_by test (y ∷ ys) ≡ flag (test y) + count_by test ys = sum_by-cons (λ (z : X). flag (test z)) y ys in
     omega (arith, e, sum)
 count-one {X} test (y ∷ ys) (suc i) x there is =
-    let sum : count_by test (y ∷ ys) ≡ cond (test y) 1 0 + count_by test ys = sum_by-cons (λ (z : X). cond (test z) 1 0) y ys in
+    let sum : count_by test (y ∷ ys) ≡ flag (test y) + count_by test ys = sum_by-cons (λ (z : X). flag (test z)) y ys in
     let less : 1 ≤ count_by test ys = count-one test ys i x there is in
     omega (arith, sum, less)
 
@@ -57,12 +60,12 @@ count-two : {X : Type 0} (test : X → Bool) (xs : List X) (i j : ℕ) (x y : X)
 count-two test [] i j x y apart here there is also = absurd (none-some x here)
 count-two test (z ∷ zs) i zero x y apart here there is also = absurd (omega (arith, apart))
 count-two {X} test (z ∷ zs) zero (suc j) x y apart here there is also =
-    let e : cond (test z) 1 0 ≡ 1 = ap (λ (w : X). cond (test w) 1 0) (same_Some z x here) ∙ ap (λ (b : Bool). cond b 1 0) is in
-    let sum : count_by test (z ∷ zs) ≡ cond (test z) 1 0 + count_by test zs = sum_by-cons (λ (w : X). cond (test w) 1 0) z zs in
+    let e : ◌≡◌ {A = ℕ} (flag (test z)) 1 = ap (λ (w : X). flag (test w)) (same_Some z x here) ∙ ap flag is in
+    let sum : count_by test (z ∷ zs) ≡ flag (test z) + count_by test zs = sum_by-cons (λ (w : X). flag (test w)) z zs in
     let less : 1 ≤ count_by test zs = count-one test zs j y there also in
     omega (arith, e, sum, less)
 count-two {X} test (z ∷ zs) (suc i) (suc j) x y apart here there is also =
-    let sum : count_by test (z ∷ zs) ≡ cond (test z) 1 0 + count_by test zs = sum_by-cons (λ (w : X). cond (test w) 1 0) z zs in
+    let sum : count_by test (z ∷ zs) ≡ flag (test z) + count_by test zs = sum_by-cons (λ (w : X). flag (test w)) z zs in
     let less : 2 ≤ count_by test zs = count-two test zs i j x y (omega (arith, apart)) here there is also in
     omega (arith, sum, less)
 

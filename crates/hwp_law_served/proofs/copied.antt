@@ -11,5 +11,6 @@ pub mod CopyLines
 pub mod EarlierSame
 pub mod NumbersActed
 pub mod Acted
+pub mod RunActed
 pub mod MadeOrder
 pub mod OwnIn
