@@ -1,5 +1,5 @@
 -- A translation that a fork froze: its twin, the pages of both, which have nothing behind them, and the fork in the list of its processor.
-use Rattle.std.proofs.Common.{◌≡◌, ◌≢◌, ℕ, zero, suc, ◌+◌, ◌<◌, Bool, true, false, List, [], ◌∷◌, Option, None, Some, fold, is_some, option_and_then, slice_get, take, unwrap_or, refl, sym, ap, ◌∙◌, subst, true≢false, arith}
+use Rattle.std.proofs.Common.{◌≡◌, ◌≢◌, ℕ, zero, suc, ◌+◌, ◌<◌, ◌≤◌, Bool, true, false, List, [], ◌∷◌, Option, None, Some, fold, is_some, option_and_then, slice_get, take, unwrap_or, refl, sym, ap, ◌∙◌, subst, true≢false, arith}
 use Rattle.std.specs.Prelude.{All, IsSomeAnd}
 use Rattle.std.specs.Option.{option_map_or}
 use Rattle.std.proofs.lemmas.Option.{none-some, same_Some}
@@ -79,7 +79,7 @@ take-within (suc n) [] i x there = absurd (none-some x there)
 take-within (suc n) (y ∷ ys) zero x there = omega arith
 take-within (suc n) (y ∷ ys) (suc i) x there = let less : i < n = take-within n ys i x there in omega (arith, less)
 
-take-first : {X : Type 0} (i n : ℕ) (xs : List X) → i < n → take i (take n xs) ≡ take i xs
+pub take-first : {X : Type 0} (i n : ℕ) (xs : List X) → i ≤ n → take i (take n xs) ≡ take i xs
 take-first zero n xs less = refl
 take-first (suc i) zero xs less = absurd (omega (arith, less))
 take-first (suc i) (suc n) [] less = refl
@@ -138,7 +138,7 @@ module _ (script : Script) (report : Report) (valid : IsValid script) (cpu : Cpu
       let there : slice_get (answered_on script report cpu) f.place ≡ Some (commands.Fork f.is.thread f.is.process, answers.Done) =
           get-take n (answered_on script report cpu) f.place f.p f.there ∙ ap (λ (c : Command). Some (c, f.p.1)) f.is.command_is ∙ ap (λ (a : Answer). Some (commands.Fork f.is.thread f.is.process, a)) f.is.done in
       let own : cow_of script.layout (take f.place (answered_on script report cpu)) slot ≡ own_page =
-          ap (λ (l : List (Command × Answer)). fold (next script.layout slot) own_page l) (sym (take-first f.place n (answered_on script report cpu) less)) ∙ f.before in
+          ap (λ (l : List (Command × Answer)). fold (next script.layout slot) own_page l) (sym (take-first f.place n (answered_on script report cpu) (omega (arith, less)))) ∙ f.before in
       subst (λ (k : ℕ). IsForked script report cpu slot k × (k < n)) same (at-place f.place f.is.thread f.is.process there f.is.froze own, less)
 
 -- behind the fork it is frozen, and not switched yet

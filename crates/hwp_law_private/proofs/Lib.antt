@@ -1,11 +1,1 @@
-pub mod AnswerLines
-pub mod Contents
-pub mod Words
-pub mod Freezes
-pub mod Shares
-pub mod Forked
-pub mod GivenAnswers
-pub mod MadeStores
-pub mod PageWords
-pub mod OwnPage
 pub mod Private
