@@ -5,12 +5,14 @@ pub mod CopyTells
 pub mod CopyEntries
 pub mod StoredLast
 pub mod CopyPlaces
+pub mod MadeOrder
+pub mod OwnIn
+pub mod CopyCounts
 pub mod EndedThrough
+pub mod CopyLast
 pub mod CopyLeft
 pub mod CopyLines
 pub mod EarlierSame
 pub mod NumbersActed
 pub mod Acted
 pub mod RunActed
-pub mod MadeOrder
-pub mod OwnIn
