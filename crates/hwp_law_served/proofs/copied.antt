@@ -10,7 +10,10 @@ pub mod OwnIn
 pub mod CopyCounts
 pub mod EndedThrough
 pub mod CopyLast
+pub mod WordsKept
+pub mod KeptWords
 pub mod CopyLeft
+pub mod CheckLines
 pub mod CopyLines
 pub mod EarlierSame
 pub mod NumbersActed
