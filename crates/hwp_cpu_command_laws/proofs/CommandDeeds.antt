@@ -323,9 +323,9 @@ module _ {layout : Layout} {old new : View} {f : Fork} {after : Job} (s : Steppe
               ap (λ (v : View). v.settings) own.told.next,
               refl,
               now (fork_at.SetPolicy policy target before) at ∙ given-next f.targets policy (before + 1) within (omega (arith, less))
-              ∙ ap (map (λ (t : Thread). (t, policy))) (take_more f.targets.threads before target (omega (arith, less, within)) ∙ ap (λ (t : Thread). take before f.targets.threads ++ t ∷ []) (get_or_from_slice_get f.targets.threads before target target there))
-              ∙ map-append (λ (t : Thread). (t, policy)) (take before f.targets.threads) (target ∷ [])
-              ∙ ap (λ (l : List (Thread × Policy)). l ++ (target, policy) ∷ []) (sym (ap (given_at f.targets) at)),
+                  ∙ ap (map (λ (t : Thread). (t, policy))) (take_more f.targets.threads before target (omega (arith, less, within)) ∙ ap (λ (t : Thread). take before f.targets.threads ++ t ∷ []) (get_or_from_slice_get f.targets.threads before target target there))
+                  ∙ map-append (λ (t : Thread). (t, policy)) (take before f.targets.threads) (target ∷ [])
+                  ∙ ap (λ (l : List (Thread × Policy)). l ++ (target, policy) ∷ []) (sym (ap (given_at f.targets) at)),
             );
             counted = λ counted. ap counts_owed own.told.next ∙ counted ∙ sym blank.2;
           }
