@@ -1,11 +1,10 @@
-use Rattle.std.proofs.Common.{rules, ◌≡◌, ◌&&◌, ◌==◌, false, get_or, is_some, IfOk, slice_get, slice_set, ℕ, ◌+◌, ◌-◌, ◌*◌, ◌<◌, ◌≤◌, length, ◌/◌, ◌%◌, Bool, true, nat_eq, nat_lt, List, [], ◌∷◌, ◌++◌, bit_and, bit_or, Fits, w8, w32, w64, Bor, MutBor}
-use Rattle.std.specs.List.{list_any}
-use Rattle.std.specs.Option.{option_map_or}
-use Rattle.hwp_cpu_check.specs.hwp_law_commands.Cows.{own_page, twin_or}
-use Rattle.hwp_cpu_check.specs.hwp_script_read.Forks.{freezes}
-use Rattle.hwp_cpu_row.specs.CowLists.{acting_in, copied_by, copied_in, cow_in, first_cows, freezes_at, frozen_by, frozen_from, frozen_in, switched_by, switched_in, through_in, told_in, written_in}
+use Rattle.std.proofs.Common.{◌∙◌, arith}
+use Rattle.hwp_cpu_row.proofs.CowListLaws.{acting-known, copied-known, first-are, first-known, frozen-step, frozen-whole, told-are, told-known}
 use Rattle.hwp_cpu_row.proofs.cows.freeze.Goals as goal
 
--- src/cows.rt:196:5
 pub loop-number-preserved : goal.loop-number-preserved
-loop-number-preserved c = ?
+loop-number-preserved c =
+    let (are, long) = c.loop-number.invariant in (
+      frozen-step c.args.layout.now c.args.thread c.loop-number.number c.loop-number.cows.items c.args.cows.now.items c.freeze_one.new.cows.items c.freezes_slot-freezes.result are (omega (arith, c.loop-number-test.true)) c.freezes_slot-freezes.ensures c.freeze_one.ensures.items,
+      c.freeze_one.ensures.len ∙ long,
+    )
