@@ -65,6 +65,7 @@ use Rattle.hwp_cpu_command.specs.Runs.{anew, collects_now}
 use Rattle.hwp_cpu_command.proofs.JobEnds.{mapped}
 use Rattle.hwp_cpu_command.proofs.OfKind.{of-copying}
 use Rattle.hwp_law_served.specs.Copied.{AreChecksOf, HasCopied, IsBehind, IsCopyCaused, IsCopyEnded, IsCopyTold, IsGoing, sub_next}
+use Rattle.hwp_law_served.proofs.copied.CopyLeft.{left-of}
 use Rattle.hwp_cpu_causes.specs.Beside.{DoesSo}
 
 -- ---- the access that ended it, or the freeing
@@ -356,6 +357,7 @@ module _ {layout : Layout} {view : View} {who : Who} {thread : Thread} {slot : V
     has = all.has;
     last = all.last;
     are = all.are;
+    left = left-of asked all.has.page (sub_next asked from word all.has.runs) layout view all.has.runs all.has.rest (told_of j) a all.ended;
     counted = all.counted;
     told_is = all.told_is;
     after_is = all.after_is;
