@@ -1,5 +1,5 @@
 -- The freeing of a translation lists its own entry alone, so no failure; it marks no frame and owes no count.
-use Rattle.std.proofs.Common.{◌≡◌, ℕ, zero, suc, Bool, true, false, cond, List, [], ◌∷◌, Option, Some, None, filter, filter_map, refl, sym, ap, ◌∙◌, subst}
+use Rattle.std.proofs.Common.{◌≡◌, ℕ, Bool, true, false, cond, List, [], ◌∷◌, Option, Some, None, filter, filter_map, refl, sym, ap, ◌∙◌, subst}
 use Rattle.std.specs.List.{cons_option}
 use Rattle.std.proofs.lemmas.Bool.{both_ways}
 use Rattle.std.proofs.lemmas.Option.{none-some, same_Some}
@@ -8,7 +8,6 @@ use Rattle.hwp_fault.specs.hwp_geom.declared.Layout.{Layout}
 use Rattle.hwp_fault.specs.hwp_geom.declared.Page.{Page}
 use Rattle.hwp_fault.specs.hwp_geom.declared.Who.{Who}
 use Rattle.hwp_fault.specs.hwp_page.declared.At.{At}
-use Rattle.hwp_fault.specs.hwp_page.declared.Entry.{Entry}
 use Rattle.hwp_fault.specs.hwp_page.declared.What.{What}
 use Rattle.hwp_fault.specs.hwp_page.declared.What.TheVariants as entries
 use Rattle.hwp_fault.specs.hwp_page.History.{BodyValue}
@@ -17,9 +16,6 @@ use Rattle.hwp_fault.specs.hwp_core_rule.declared.SharedWord.TheVariants as plac
 use Rattle.hwp_fault.specs.hwp_core_rule.declared.Step.{Step}
 use Rattle.hwp_fault.specs.hwp_core_rule.declared.Step.TheVariants as steps
 use Rattle.hwp_fault.specs.hwp_core_rule.declared.View.{View}
-use Rattle.hwp_fault.specs.hwp_core_rule.Lists.{EachMember}
-use Rattle.hwp_fault.specs.hwp_core_rule.Logs.{log_of}
-use Rattle.hwp_fault.specs.hwp_core_rule.Views.{more_of}
 use Rattle.hwp_fault.specs.hwp_core_task.Calls.{Steps, logs}
 use Rattle.hwp_fault.specs.hwp_core_task.Known.{deeds, is_failure, such_deeds}
 use Rattle.hwp_fault.specs.hwp_words.declared.Pte.TheVariants as ptes
@@ -39,7 +35,6 @@ use Rattle.hwp_fault.specs.hwp_core.Unholds as unholds
 use Rattle.hwp_fault.specs.hwp_core.Unlocks as unlocks
 use Rattle.hwp_fault.proofs.of_hwp_core.TaskCosts.{hold-lists, release-lists}
 use Rattle.hwp_evict.specs.declared.evict.Evict.{Evict}
-use Rattle.hwp_evict.specs.declared.evict.EvictAnswer.{EvictAnswer}
 use Rattle.hwp_evict.specs.declared.evict.EvictAnswer.TheVariants as answers
 use Rattle.hwp_evict.specs.declared.evict.EvictAt.{EvictAt}
 use Rattle.hwp_evict.specs.declared.evict.EvictAt.TheVariants as at
@@ -49,7 +44,7 @@ use Rattle.hwp_evict.specs.declared.vacate.Vacate.{Vacate}
 use Rattle.hwp_evict.specs.declared.vacate.VacateAt.{VacateAt}
 use Rattle.hwp_evict.specs.declared.vacate.VacateAt.TheVariants as vacate_at
 use Rattle.hwp_evict.specs.Evictions.{entry_of}
-use Rattle.hwp_evict.specs.Evicts.{Comes, FitsAt, FitsFrom, IsAhead, IsVacating, KnowsPut, plan, plan_at, put, put_at}
+use Rattle.hwp_evict.specs.Evicts.{FitsAt, FitsFrom, IsVacating, plan, plan_at, put, put_at}
 use Rattle.hwp_evict.specs.Vacates as vacates
 use Rattle.hwp_evict.proofs.ClearLaws.{clear-lists}
 use Rattle.hwp_cpu_check.specs.hwp_claim_act.declared.Failed.{Failed}
