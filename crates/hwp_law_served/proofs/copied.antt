@@ -18,3 +18,4 @@ pub mod CopyLines
 pub mod EarlierSame
 pub mod NumbersActed
 pub mod Acted
+pub mod RunActed

@@ -1,0 +1,13 @@
+pub mod AnswerLines
+pub mod Contents
+pub mod Words
+pub mod Freezes
+pub mod Shares
+pub mod Forked
+pub mod GivenAnswers
+pub mod MadeStores
+pub mod PageWords
+pub mod OwnPage
+pub mod TwinPage
+pub mod Keeps
+pub mod Private
