@@ -1,6 +1,7 @@
 -- The entries of a command in a page of the report are those that its view lists of the page, in their order.
-use Rattle.std.proofs.Common.{◌≡◌, ℕ, zero, suc, ◌+◌, ◌<◌, ◌==◌, Bool, true, false, cond, List, [], ◌∷◌, Option, Some, None, IsSomeAnd, filter, length, map, option_and_then, option_map_or, slice_get, slice_index_or, unwrap_or, refl, sym, ap, ◌∙◌, subst, arith, true≢false}
+use Rattle.std.proofs.Common.{◌≡◌, ℕ, zero, suc, ◌+◌, ◌<◌, ◌==◌, Bool, true, false, cond, List, [], ◌∷◌, Option, Some, None, IsSomeAnd, filter, length, map, option_and_then, slice_get, slice_index_or, unwrap_or, refl, sym, ap, ◌∙◌, subst, arith, true≢false}
 use Rattle.std.specs.List.{AllPairs}
+use Rattle.std.specs.Option.{option_map_or}
 use Rattle.std.proofs.lemmas.Bool.{eq-eqb, eqb-true}
 use Rattle.std.proofs.lemmas.List.Kept.{AllPairs-filter}
 use Rattle.std.proofs.lemmas.Option.{get_or_from_slice_get, none-some, same_Some, slice_get-get_or, slice_get_within}
@@ -43,7 +44,7 @@ of-pairs : (l : List Made) → AllPairs Rises l → IsInOrder l
 of-pairs l pairs i j a b less at_a at_b =
     let within : j < length l = slice_get_within l j b at_b in
     let first : slice_index_or l i a ≡ a = get_or_from_slice_get l i a a at_a in
-    let second : slice_index_or l j a ≡ b = get_or_from_slice_get l j a b at_b in
+    let second : slice_index_or l j a ≡ b = get_or_from_slice_get l j b a at_b in
     subst (Rises a) second (subst (λ (x : Made). Rises x (slice_index_or l j a)) first (pairs i j a less within))
 
 -- what is left of them by a test still rises
@@ -175,7 +176,8 @@ module _ (script : Script) (copies : Who → Option VSlot) (seat : Cpu → ℕ) 
         let same : one.1 ≡ view = own.1 ∙ ap (λ (w : Who). view_of last (seat w.cpu)) its in
         let first = filter-has (is_by who) view.made made.0 made.1 (sym (ap (λ (v : View). slice_get v.made made.0) same) ∙ made.2) (same-self who made.1.entry.who its) in
         let second = filter-has (λ (x : Made). x.page.0 == page.0) (deeds who view) first.0 made.1 first.1 (eq-eqb made.1.page.0 page.0 (ap (λ (p : Page). p.0) that.page_is)) in
-        record { i = second.0; made = made.1; there = second.1; at = that.place_is }
+        let place : made.1.place ≡ k = that.place_is in
+        record { i = second.0; made = made.1; there = second.1; at = omega (arith, place) }
 
     pub entries-are : filter (λ (e : Entry). is_same_command who e.who) es ≡ map (λ (m : Made). m.entry) (in_page page (deeds who view))
     entries-are = picked (λ (e : Entry). is_same_command who e.who) es 0 (in_page page (deeds who view)) rises stands listed
