@@ -29,8 +29,7 @@ use Rattle.hwp_law_run.specs.hwp_script_read.declared.Command.TheVariants as com
 use Rattle.hwp_law_run.specs.hwp_script_read.declared.Script.{Script}
 use Rattle.hwp_law_run.specs.hwp_report_text.declared.Report.{Report}
 use Rattle.hwp_law_run.specs.hwp_law_commands.Commands.{command_at, is_check}
-use Rattle.hwp_law_run.specs.hwp_law.Copies.{copy_checks, is_load, is_store, lines_at, own_in}
-use Rattle.hwp_law_run.specs.hwp_law.Copies as copying
+use Rattle.hwp_law_run.specs.hwp_law.Copies.{checks_by, copy_checks, is_load, is_store, own_in}
 use Rattle.hwp_cpu_row.specs.hwp_cpu_check.Checks.{Check, left_by}
 use Rattle.hwp_cpu_row.specs.hwp_cpu_check.declared.EventOutcome.{EventOutcome}
 use Rattle.hwp_fault.specs.declared.Request.{Request}
@@ -44,7 +43,7 @@ use Rattle.hwp_fork.specs.Cows as cows
 use Rattle.hwp_cpu_access.specs.Fits.{checks_in}
 use Rattle.hwp_cpu_copy.specs.Copyings.{load_of, request_by, store_of}
 use Rattle.hwp_cpu_copy.specs.Runs.{AreRuns, IsAccessRun, IsBetween, IsFreeRun, IsRun, Run, made_by, words_of}
-use Rattle.hwp_law_served.specs.Copied.{AreChecksOf, IsCopyTold, IsLeft, store_by, sub_next}
+use Rattle.hwp_law_served.specs.Copied.{AreChecksOf, HasCopied, IsCopyTold, IsLeft, store_by, sub_next}
 use Rattle.hwp_law_served.proofs.RunEnds.{IsEnd}
 use Rattle.hwp_law_served.proofs.copied.CheckLines.{IsQuiet, IsWay, by-load, by-next, by-none, by-store, line_by_line, low-seen, none-seen, quiet-all, seen, seen-access, way-all}
 use Rattle.hwp_law_served.proofs.copied.CopyCounts.{HasCounts, no-load, no-store, num, num-append, num-one}
@@ -361,47 +360,43 @@ none-checks : {layout : Layout} {view : View} {banks : Banks} (o : Option Reques
 none-checks None checks are is = ap (λ (l : List Check). length l) are
 none-checks (Some a) checks are is = absurd (none-some a (sym is))
 
+module _ (script : Script) (copies : Who → Option VSlot) (seat : Cpu → ℕ) (last : State) (report : Report) (end : IsEnd script copies seat last report) (who : Who) (inside : who.cpu.0 < script.layout.cpus) where
+  abbrev Has : Request → VSlot → ℕ → Banks → Type 0
+  Has store from word before = HasCopied script.layout (view_of last (seat who.cpu)) store from word before
+
+  lines-of : (store : Request) → store.who ≡ who → (from : VSlot) (word : ℕ) (before : Banks) (has : Has store from word before) → (has.page ≡ store.page → ⊥)
+      → (checks : List Check) (banks : Banks) → AreChecksOf script.layout (view_of last (seat who.cpu)) (request_by store has.page (sub_next store from word has.runs)) banks checks → IsLeft (request_by store has.page (sub_next store from word has.runs)) has.rest → checks_in has.rest ≡ length checks
+      → told_lines (cows.begin from store.slot store.line word) has.runs ++ replicate (length checks) (line_of (sub_next store from word has.runs)) ≡ copy_checks script.layout report who from store.slot
+  lines-of store who_is from word before has differs checks banks are left counted =
+      all-lines script.layout (view_of last (seat who.cpu)) store has.page differs has.rest (length checks) (cows.begin from store.slot store.line word) before has.runs has.are
+      (record { left = left; counted = counted; free = none-checks (request_by store has.page (sub_next store from word has.runs)) checks are })
+      0 0 (length (own_in script.layout report who from) + length (own_in script.layout report who store.slot) + 1) (omega arith, refl, refl) tt room
+      ∙ ap (λ (l : List Made). line_by_line 0 (length (own_in script.layout report who from) + length (own_in script.layout report who store.slot) + 1) (seen has.page is_load 0 l) (seen store.page is_store 0 l)) (sym all)
+      ∙ ap (λ (l : List What). line_by_line 0 (length (own_in script.layout report who from) + length (own_in script.layout report who store.slot) + 1) (checks_by is_load 0 l) (seen store.page is_store 0 (deeds who (view_of last (seat who.cpu))))) (sym from_is)
+      ∙ ap (λ (l : List What). line_by_line 0 (length (own_in script.layout report who from) + length (own_in script.layout report who store.slot) + 1) (checks_by is_load 0 (own_in script.layout report who from)) (checks_by is_store 0 l)) (sym to_is)
+    where
+      all : deeds who (view_of last (seat who.cpu)) ≡ made_by has.runs ++ has.rest
+      all = ap (λ (w : Who). deeds w (view_of last (seat who.cpu))) (sym who_is) ∙ has.all
+
+      from_is : own_in script.layout report who from ≡ map (λ (m : Made). m.entry.what) (in_page has.page (deeds who (view_of last (seat who.cpu))))
+      from_is = own-deeds script copies seat last report end who inside from has.page has.own.page (declared-of script.layout (load_of store has.page from 0) has.own)
+
+      to_is : own_in script.layout report who store.slot ≡ map (λ (m : Made). m.entry.what) (in_page store.page (deeds who (view_of last (seat who.cpu))))
+      to_is = own-deeds script copies seat last report end who inside store.slot store.page has.names.page (declared-of script.layout store has.names)
+
+      room : long store.page (made_by has.runs ++ has.rest) < length (own_in script.layout report who from) + length (own_in script.layout report who store.slot) + 1
+      room =
+          let same : long store.page (deeds who (view_of last (seat who.cpu))) ≡ long store.page (made_by has.runs ++ has.rest) = ap (long store.page) all in
+          let to_long : length (own_in script.layout report who store.slot) ≡ length (map (λ (m : Made). m.entry.what) (in_page store.page (deeds who (view_of last (seat who.cpu))))) = ap (λ (l : List What). length l) to_is in
+          let mapped : length (map (λ (m : Made). m.entry.what) (in_page store.page (deeds who (view_of last (seat who.cpu))))) ≡ long store.page (deeds who (view_of last (seat who.cpu))) = length-map (in_page store.page (deeds who (view_of last (seat who.cpu)))) (λ (m : Made). m.entry.what) in
+          omega (arith, same, to_long, mapped)
+
 module _ (script : Script) (copies : Who → Option VSlot) (seat : Cpu → ℕ) (last : State) (report : Report) (end : IsEnd script copies seat last report) where
   pub copy-lines : (who : Who) → who.cpu.0 < script.layout.cpus → (thread : Thread) (from to : VSlot) (line word : ℕ) → copies who ≡ Some from → command_at script who ≡ Some (commands.Store thread to line word) → (before : Banks) (told : List EventOutcome) (after : Banks)
       (is : IsCopyTold script.layout (view_of last (seat who.cpu)) who thread from to line word before told after)
       → told_lines (cows.begin from to line word) is.has.runs ++ replicate (length is.last) (line_of (sub_next (store_by who thread to line word is.page is.process) from word is.has.runs)) ≡ copy_checks script.layout report who from to
   copy-lines who inside thread from to line word copied command before told after is =
-      all-lines layout view store page differs is.has.rest (length is.last) (cows.begin from to line word) before is.has.runs is.has.are
-      (record { left = is.left; counted = is.counted; free = none-checks (request_by store page (sub_next store from word is.has.runs)) is.last is.are }) 0 0 (length (own_in layout report who from) + length (own_in layout report who to) + 1) (omega arith, refl, refl) tt room
-      ∙ ap (λ (l : List Made). line_by_line 0 (length (own_in layout report who from) + length (own_in layout report who to) + 1) (seen page is_load 0 l) (seen store.page is_store 0 l)) (sym is.has.all)
-      ∙ ap (λ (l : List What). line_by_line 0 (length (own_in layout report who from) + length (own_in layout report who to) + 1) (copying.checks_by is_load 0 l) (seen store.page is_store 0 (deeds who view))) (sym from_is)
-      ∙ ap (λ (l : List What). line_by_line 0 (length (own_in layout report who from) + length (own_in layout report who to) + 1) (copying.checks_by is_load 0 (own_in layout report who from)) (copying.checks_by is_store 0 l)) (sym to_is)
-    where
-      layout : Layout
-      layout = script.layout
-
-      view : View
-      view = view_of last (seat who.cpu)
-
-      store : Request
-      store = store_by who thread to line word is.page is.process
-
-      page : Page
-      page = is.has.page
-
-      of_from : IsOf script.layout page from
-      of_from = declared-of script.layout (load_of store page from 0) is.has.own
-
-      of_to : IsOf script.layout store.page to
-      of_to = declared-of script.layout store is.has.names
-
-      differs : page ≡ store.page → ⊥
-      differs same = end.apart who from to thread line word page copied command of_from (subst (λ (p : Page). IsOf script.layout p to) (sym same) of_to)
-
-      from_is : own_in script.layout report who from ≡ map (λ (m : Made). m.entry.what) (in_page page (deeds who view))
-      from_is = own-deeds script copies seat last report end who inside from page is.has.own.page of_from
-
-      to_is : own_in script.layout report who to ≡ map (λ (m : Made). m.entry.what) (in_page store.page (deeds who view))
-      to_is = own-deeds script copies seat last report end who inside to store.page is.has.names.page of_to
-
-      room : long store.page (made_by is.has.runs ++ is.has.rest) < length (own_in script.layout report who from) + length (own_in script.layout report who to) + 1
-      room =
-          let same : long store.page (deeds who view) ≡ long store.page (made_by is.has.runs ++ is.has.rest) = ap (long store.page) is.has.all in
-          let to_long : length (own_in script.layout report who to) ≡ length (map (λ (m : Made). m.entry.what) (in_page store.page (deeds who view))) = ap (λ (l : List What). length l) to_is in
-          let mapped : length (map (λ (m : Made). m.entry.what) (in_page store.page (deeds who view))) ≡ long store.page (deeds who view) = length-map (in_page store.page (deeds who view)) (λ (m : Made). m.entry.what) in
-          omega (arith, same, to_long, mapped)
+      lines-of script copies seat last report end who inside (store_by who thread to line word is.page is.process) refl from word before is.has
+      (λ same. end.apart who from to thread line word is.has.page copied command (declared-of script.layout (load_of (store_by who thread to line word is.page is.process) is.has.page from 0) is.has.own)
+      (subst (λ (p : Page). IsOf script.layout p to) (sym same) (declared-of script.layout (store_by who thread to line word is.page is.process) is.has.names)))
+      is.last _ is.are is.left is.counted
