@@ -31,12 +31,15 @@ module _ (store : Request) (page : Page) (sub : Sub) where
   left-none : (rest : List Made) → rest ≡ [] → IsLeft (request_by store page sub) rest
   left-none rest is = record { way = []; behind = []; rest_is = is; such = λ a comes i m there. absurd (none-some m there); unchecked = refl }
 
+  such-of : (rest : List Made) → IsBehind store page sub rest → (a : Request) → request_by store page sub ≡ Some a → EachMember (IsBetween a) rest
+  such-of rest b a comes = subst (λ (x : Request). EachMember (IsBetween x) rest) (same_Some b.access a (sym b.access_is ∙ comes)) b.such
+
   left-behind : (rest : List Made) → IsBehind store page sub rest → IsLeft (request_by store page sub) rest
   left-behind rest b = record {
     way = rest;
     behind = [];
     rest_is = sym (append-nil rest);
-    such = λ a comes. subst (λ (x : Request). EachMember (IsBetween x) rest) (same_Some b.access a (sym b.access_is ∙ comes)) b.such;
+    such = such-of rest b;
     unchecked = refl;
   }
 
@@ -45,7 +48,7 @@ module _ (store : Request) (page : Page) (sub : Sub) where
     way = is.front;
     behind = is.last ∷ [];
     rest_is = is.rest_is;
-    such = (left-behind is.front is.behind).such;
+    such = such-of is.front is.behind;
     unchecked = ap (λ (b : Bool). length (cond b (is.last ∷ []) [])) (ap is_check is.refused.2 ∙ no-check is.behind.access.kind is.behind.access.slot is.behind.access.line is.behind.access.thread);
   }
 

@@ -15,7 +15,6 @@ use Rattle.hwp_law_run.specs.hwp_page.declared.At.{At}
 use Rattle.hwp_law_run.specs.hwp_page.declared.Met.TheVariants.{Word}
 use Rattle.hwp_law_run.specs.hwp_page.declared.What.{What}
 use Rattle.hwp_law_run.specs.hwp_page.declared.What.TheVariants as entries
-use Rattle.hwp_law_run.specs.hwp_page.Step.{IsOf}
 use Rattle.hwp_law_run.specs.hwp_core_rule.declared.Made.{Made}
 use Rattle.hwp_law_run.specs.hwp_core_rule.declared.State.{State}
 use Rattle.hwp_law_run.specs.hwp_core_rule.declared.View.{View}
@@ -69,9 +68,6 @@ of-command script copies seat last report end who command is = which (slice_get 
     which (Some list) some at = command-of script copies seat last report end who list command some at
 
 module _ (script : Script) (copies : Who → Option VSlot) (seat : Cpu → ℕ) (last : State) (report : Report) (end : IsEnd script copies seat last report) where
-  abbrev view : Who → View
-  view who = view_of last (seat who.cpu)
-
   -- of the copy itself
   kept-by : (who : Who) → who.cpu.0 < script.layout.cpus → (from : VSlot) (word line : ℕ) (before : Banks) (store : Request) → store.who ≡ who → (has : HasCopied script.layout (view_of last (seat who.cpu)) store from word before) (at : At)
       → HasSwitched (sub_next store from word has.runs) has.runs has.rest at → line < line_limit → HasKept script.layout report who from store.slot store.line word line

@@ -1,5 +1,5 @@
 -- What the accesses of a finished copy leave on a line: the word that was stored there last is that of the load of the line, or the store's own.
-use Rattle.std.proofs.Common.{◌≡◌, ◌≢◌, ◌⊎◌, inl, inr, ℕ, zero, suc, ◌+◌, ◌<◌, ◌≤◌, ◌==◌, Bool, true, false, cond, if◌then◌else◌, nat_lt, List, [], ◌∷◌, ◌++◌, Option, None, Some, filter_map, map, slice_get, refl, sym, ap, ◌∙◌, subst, arith, true≢false}
+use Rattle.std.proofs.Common.{◌≡◌, ◌≢◌, ◌⊎◌, inl, inr, ℕ, zero, suc, ◌+◌, ◌<◌, ◌≤◌, ◌==◌, Bool, true, false, cond, if◌then◌else◌, nat_lt, List, [], ◌∷◌, ◌++◌, Option, None, Some, filter_map, length, map, slice_get, refl, sym, ap, ◌∙◌, subst, arith, true≢false}
 use Rattle.std.specs.List.{cons_option}
 use Rattle.std.proofs.lemmas.Bool.{both_ways, cases_eq, cases_lt, eq-eqb, false_from_ne_true, lt-ltb, ne_eqb}
 use Rattle.std.proofs.lemmas.Option.{none-some}
@@ -217,7 +217,7 @@ module _ (k : ℕ) (within : k < line_limit) (layout : Layout) (view : View) (st
   }
     where
       entry : (m : List Made) → SomeMember (IsLoaded page c.v k r.word) ((run.before ++ run.last ∷ []) ++ m)
-      entry m = (_, run.last, at_longer (run.before ++ run.last ∷ []) m _ run.last (at_last run.before run.last), record { mask = run.mask; page_is = run.answers.0; what_is = run.answers.2 })
+      entry m = (length run.before, run.last, at_longer (run.before ++ run.last ∷ []) m (length run.before) run.last (at_last run.before run.last), record { mask = run.mask; page_is = run.answers.0; what_is = run.answers.2 })
 
   -- an earlier access
   earlier : (c : Cow) (r : Run) (l : List Made) → IsKept k c page l → IsKept k c page (r.made ++ l)
