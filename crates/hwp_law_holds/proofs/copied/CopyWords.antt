@@ -1,5 +1,5 @@
 -- Each store that copied a page and was answered `stored` kept the words of the page.
-use Rattle.std.proofs.Common.{◌≡◌, ℕ, ◌==◌, Bool, List, Option, None, Some, if◌then◌else◌, refl, ap, ◌∙◌}
+use Rattle.std.proofs.Common.{◌≡◌, ℕ, Bool, List, Option, None, Some, if◌then◌else◌, refl, ap, ◌∙◌}
 use Rattle.std.proofs.lemmas.Bool.{eq-eqb}
 use Rattle.hwp_law_records.specs.hwp_geom.declared.Cpu.{Cpu}
 use Rattle.hwp_law_records.specs.hwp_geom.declared.VSlot.{VSlot}

@@ -1,6 +1,6 @@
 -- What stands behind the accesses of a copy that went well, whatever it was answered: entries on the way of the access that comes, and
 -- behind them no machine check.
-use Rattle.std.proofs.Common.{◌≡◌, ◌⊎◌, inl, inr, ℕ, Bool, true, false, cond, List, [], ◌∷◌, ◌++◌, Option, Some, length, append-nil, refl, sym, ap, ◌∙◌, subst}
+use Rattle.std.proofs.Common.{◌≡◌, inl, inr, ℕ, Bool, false, cond, List, [], ◌∷◌, Some, length, append-nil, refl, sym, ap, ◌∙◌, subst}
 use Rattle.std.proofs.lemmas.Option.{none-some, same_Some}
 use Rattle.hwp_law_run.specs.hwp_geom.declared.Layout.{Layout}
 use Rattle.hwp_law_run.specs.hwp_geom.declared.Page.{Page}
