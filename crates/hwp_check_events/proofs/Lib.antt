@@ -1,3 +1,4 @@
+mod CopyLaws
 mod AccessLaws
 mod AccessScans
 mod RaiseLaws
