@@ -1,4 +1,5 @@
 pub mod AnswersByRow
+pub mod ActedLosses
 pub mod Lawful
 pub mod OfflinedFaults
 pub mod InText

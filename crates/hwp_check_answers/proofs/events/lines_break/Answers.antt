@@ -2,4 +2,4 @@ use Rattle.hwp_check_answers.proofs.Reports.{breaks}
 use Rattle.hwp_check_answers.proofs.events.lines_break.Goals as goal
 
 pub returns : goal.returns
-returns c = breaks c.args.script.now c.args.report.now c.requires c.small_masks.ensures
+returns c = breaks c.args.script.now (copies_in c.args.copies.now) c.args.report.now c.requires c.small_masks.ensures
