@@ -32,6 +32,11 @@ at-end : {X : Type 0} (xs : List X) (x : X) (i : ℕ) → i ≡ length xs → sl
 at-end xs x i is =
     slice_get-get_or (xs ++ x ∷ []) i x (let l : length (xs ++ x ∷ []) ≡ length xs + 1 = length_push xs x in omega (arith, l, is)) ∙ ap Some (get_or_push xs x x i is)
 
+-- the list that was read at a number
+pub read-list : {X : Type 0} (lists read : List (List X)) (n : ℕ) (d item here : List X) → read ≡ lists → n < length lists → item ≡ get_or read n d → here ≡ item → slice_get lists n ≡ Some here
+read-list lists read n d item here read_is within item_is here_is =
+    slice_get-get_or lists n d within ∙ ap Some (sym (here_is ∙ item_is ∙ ap (λ (l : List (List _)). get_or l n d) read_is))
+
 -- ---- one list
 
 pub next-acted : (layout : Layout) (pairs : List (Command × Answer)) (commands : List Command) (n : ℕ) (list : List Command) (c new : Command) → AreActed layout pairs commands n list

@@ -11,7 +11,7 @@ use Rattle.hwp_check_evidence.specs.hwp_law.Events.{AreEvents}
 use Rattle.hwp_check_rules.specs.AnswerFaults.{IsAnswerFault, IsEventWrong, IsLineWrong, IsRowFault}
 use Rattle.hwp_check_rules.specs.Answered.{is_event}
 use Rattle.hwp_check_rules.specs.hwp_law.Lines.{seq_of}
-use Rattle.hwp_check_rules.specs.Firsts.{IsLeast, soonest, IsFirstFault}
+use Rattle.hwp_check_rules.specs.Firsts.{IsLeast, soonest, IsFirstFault, IsClear}
 use Rattle.hwp_check_rules.specs.Rules.{AnswersFit, ShapeFits, HistoriesFit}
 use Rattle.hwp_check_rules.specs.declared.Rule.TheVariants.{Answers}
 use Rattle.hwp_check_answers.specs.Facts.{IsBadOf, at_number}
@@ -160,7 +160,7 @@ module _ (script : Script) (copies : Who → Option VSlot) (report : Report) whe
     }
 
     pub all_lines : (of-answers of-events of-offlined : Option ℕ) → MatchOption of-answers (AreAllRight script copies report) (IsLeast (IsAnswerLine script copies report)) → MatchOption of-events (AreEvents script copies report) (IsLeast (IsEventLine script copies report))
-        → MatchOption of-offlined (AreAllOfflined script report) (IsLeast (IsOfflinedLine script report)) → MatchOption (soonest (soonest of-answers of-events) of-offlined) (AnswersFit script copies report) (IsFirstFault (AnswersFit script copies report) (IsAnswerFault script copies report))
+        → MatchOption of-offlined (AreAllOfflined script report) (IsLeast (IsOfflinedLine script report)) → MatchOption (soonest (soonest of-answers of-events) of-offlined) (IsClear (AnswersFit script copies report) (IsAnswerFault script copies report)) (IsFirstFault (AnswersFit script copies report) (IsAnswerFault script copies report))
     all_lines of-answers of-events of-offlined answers events offlined =
         by (soonest (soonest of-answers of-events) of-offlined)
         (two (λ line. IsAnswerLine script copies report line ⊎ IsEventLine script copies report line) (IsOfflinedLine script report) (AreAllRight script copies report × AreEvents script copies report) (AreAllOfflined script report) (soonest of-answers of-events) of-offlined
@@ -172,8 +172,8 @@ module _ (script : Script) (copies : Who → Option VSlot) (report : Report) whe
         none-offlined all line is = no_offlined script report (valid.one_each ∙ sym shape.cpus) all line is
 
         by : (found : Option ℕ) → Of (λ line. (IsAnswerLine script copies report line ⊎ IsEventLine script copies report line) ⊎ IsOfflinedLine script report line) ((AreAllRight script copies report × AreEvents script copies report) × AreAllOfflined script report) found
-            → MatchOption found (AnswersFit script copies report) (IsFirstFault (AnswersFit script copies report) (IsAnswerFault script copies report))
-        by None all = fits all.0.0 all.0.1 all.1
+            → MatchOption found (IsClear (AnswersFit script copies report) (IsAnswerFault script copies report)) (IsFirstFault (AnswersFit script copies report) (IsAnswerFault script copies report))
+        by None all = let fit : AnswersFit script copies report = fits all.0.0 all.0.1 all.1 in record { fits = fit; none = λ line fault. no-line fit line (fault-line line fault) }
         by (Some line) least = broken-by line (turned line least.at) (λ other is. least.first other (back other is))
           where
             turned : (line : ℕ) → (IsAnswerLine script copies report line ⊎ IsEventLine script copies report line) ⊎ IsOfflinedLine script report line → IsLine line

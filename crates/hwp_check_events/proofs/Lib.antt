@@ -15,3 +15,4 @@ mod TableLaws
 mod WalkLaws
 mod WalkSteps
 pub mod Verdicts
+pub use Rattle.hwp_check_acting.proofs as of_hwp_check_acting

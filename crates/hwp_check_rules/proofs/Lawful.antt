@@ -27,10 +27,10 @@ use Rattle.hwp_check_rules.proofs.ActedLosses.{acted-losses, acted-many, losses-
 use Rattle.hwp_law.specs.Lines.{answered}
 use Rattle.hwp_law.specs.Losses.{IsNumber, LossesAgree, tells_number}
 use Rattle.hwp_law.specs.PageHistory.{IsHistory}
-use Rattle.hwp_check_rules.specs.Rules.{AnswersFit, CountFits, FramesFit, HistoriesFit, LossesFit, MarksFit, SeenFit, ShapeFits, StopFits}
+use Rattle.hwp_check_rules.specs.Rules.{AnswersFit, FramesFit, HistoriesFit, LossesFit, MarksFit, SeenFit, ShapeFits, StopFits}
 use Rattle.hwp_check_rules.specs.declared.verdicts.Rule.{Rule}
 use Rattle.hwp_check_rules.specs.declared.verdicts.Rule.TheVariants.{Shape, Histories, Answers, Seen, Marks, Count, Losses, Stop, Frames}
-use Rattle.hwp_check_rules.specs.Verdicts.{Holds}
+use Rattle.hwp_check_rules.specs.Verdicts.{Fits, Holds}
 use Rattle.hwp_check_rules.proofs.AnswersByRow.{by-rows, rows-by, told-of}
 use Rattle.hwp_law.specs.hwp_geom.declared.VSlot.{VSlot}
 use Rattle.hwp_law.specs.hwp_geom.declared.Who.{Who}
@@ -59,18 +59,6 @@ record IsLawfulBy (script : Script) (copies : Who → Option VSlot) (report : Re
   answers : LawAnswers script copies report
   frames : LawFrames script report
   losses : LossesAgree script report
-
--- the rules by a script
-abbrev Fits : Rule → Script → (Who → Option VSlot) → Report → Type 0
-Fits Shape script copies report = ShapeFits script report
-Fits Histories script copies report = HistoriesFit script copies report
-Fits Answers script copies report = AnswersFit script copies report
-Fits Seen script copies report = SeenFit script report
-Fits Marks script copies report = MarksFit script report
-Fits Count script copies report = CountFits report
-Fits Losses script copies report = LossesFit script report
-Fits Stop script copies report = StopFits script report
-Fits Frames script copies report = FramesFit script report
 
 module _ (script : Script) (copies : Who → Option VSlot) (report : Report) where
   -- what the law says of a script that has as many lists as processors, where stores copy so

@@ -5,6 +5,7 @@ use Rattle.hwp_check_answers.specs.Walk.{AreSoundLines, IsUnsoundLine}
 use Rattle.hwp_check_answers.proofs.OrderLaws.{next-line, none-of, within-report}
 use Rattle.hwp_check_answers.proofs.SiftLaws.{all_sound, cpus_fit, found_answer, list_there, none_sound, sound_more}
 use Rattle.hwp_check_answers.proofs.sifting.unsound_answers.Goals as goal
+use Rattle.hwp_check_rules.specs.hwp_check_acting.ActedOn.{copies_in}
 
 -- what was found of a processor whose heading stands at `heading`
 abbrev Sifted : ProcessorValue → ℕ → Option ℕ → Type 0
