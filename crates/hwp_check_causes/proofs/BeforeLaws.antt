@@ -40,6 +40,6 @@ module _ (layout : Layout) (list : List Command) (flags : List Bool) where
       | inl low ↦ get_or_append_left policies (policy ∷ []) Default i (subst (λ (k : ℕ). i < k) (sym are.many) low) ∙ are.each i low
       | inr high ↦
           let same : i ≡ n = omega (arith, within, high) in
-          get_or_push policies policy Default i (same ∙ sym are.many) ∙ is ∙ ap (policy_of layout list flags) (sym same)
+          get_or_push policies policy Default i (are.many ∙ sym same) ∙ is ∙ ap (policy_of layout list flags) (sym same)
     ];
   }

@@ -2,7 +2,7 @@
 use Rattle.std.proofs.Common.{◌≡◌, ℕ, zero, suc, ◌+◌, ◌-◌, ◌<◌, ◌≤◌, ◌==◌, Bool, true, false, List, [], ◌∷◌, ◌++◌, Option, Some, None, cond, drop, filter, get_or, length, map, option_and_then, replicate, slice_get, unwrap_or, IfOk, inl, inr, refl, sym, ap, subst, ◌∙◌, arith}
 use Rattle.std.specs.Option.{option_map_or}
 use Rattle.std.proofs.lemmas.Bool.{cases_lt}
-use Rattle.std.proofs.lemmas.List.{append-nil, get_or_append_left, get_or_past, get_or_push, length-replicate, length_push, length-append, get_or-append-add, get_or-replicate, append_assoc}
+use Rattle.std.proofs.lemmas.List.{append-nil, drop_all, drop_more, get_or_append_left, get_or_past, get_or_push, length-replicate, length_push, length-append, get_or-append-add, get_or-replicate, append_assoc}
 use Rattle.std.proofs.lemmas.Option.{none-some, same_Some}
 use Rattle.hwp_banks.specs.hwp_geom.declared.Cpu.{Cpu}
 use Rattle.hwp_banks.specs.hwp_geom.declared.VSlot.{VSlot}
@@ -19,7 +19,8 @@ use Rattle.hwp_law.specs.Copies.{copy_checks, own_in, checks_by, is_load, is_sto
 use Rattle.hwp_law.specs.Events.{store_lines}
 use Rattle.hwp_check_acting.specs.ActedOn.{copies_in}
 use Rattle.hwp_check_events.specs.Accesses.{lines_met}
-use Rattle.hwp_check_events.specs.Copied.{AreCopied, copied_by, copied_from, entries_through, own_whats}
+use Rattle.hwp_check_events.specs.Copied.{AreCopied, checks_in, copied_by, copied_from, entries_through, is_counted, own_whats, pair_of}
+use Rattle.hwp_check_events.specs.declared.copied.CopyCheck.{CopyCheck}
 use Rattle.hwp_check_events.specs.declared.known.Checks.{Checks}
 use Rattle.std.specs.List.{flat_map, range_with_len}
 use Rattle.std.proofs.lemmas.Grind.{flat_map-append}
@@ -75,7 +76,7 @@ copied-more layout copies report cpu list n lists c new many are there is = λ s
   | inl low ↦ get_or_append_left lists (new ∷ []) [] seq (omega (arith, many, low)) ∙ are seq d low other
   | inr high ↦
       let same : seq ≡ n = omega (arith, within, high) in
-      get_or_push lists new [] seq (same ∙ sym many) ∙ is ∙ ap (λ (k : ℕ). copied_by layout copies report (record { cpu = cpu; seq = k }) c) (sym same)
+      get_or_push lists new [] seq (many ∙ sym same) ∙ is ∙ ap (λ (k : ℕ). copied_by layout copies report (record { cpu = cpu; seq = k }) c) (sym same)
       ∙ ap (copied_by layout copies report (record { cpu = cpu; seq = seq })) (same_Some c d (sym there ∙ ap (slice_get list) (sym same) ∙ other))
 ]
 
@@ -131,16 +132,9 @@ copy-is layout report who from to loads stores a b bound lines loads_are stores_
         let t : length (own_in layout report who to) ≡ length (own_whats who (entries_through layout report to)) = ap (λ (l : List What). length l) (own-through layout report who to) in
         omega (arith, f, t, a_is, b_is, bound_is)
 
--- one entry more
-abbrev entry_checks : (What → Bool) → ℕ → What → List (ℕ × ℕ)
-entry_checks test n (entries.Mce slot line mask) = (n, line) ∷ []
-entry_checks test n what = []
+-- ---- one entry more
 
-abbrev counted_more : (What → Bool) → What → ℕ
-counted_more test (entries.Mce slot line mask) = 0
-counted_more test what = from_bool (test what)
-
-pub checks-split : (test : What → Bool) (n : ℕ) (what : What) (rest : List What) → checks_by test n (what ∷ rest) ≡ entry_checks test n what ++ checks_by test (n + counted_more test what) rest
+checks-split : (test : What → Bool) (n : ℕ) (what : What) (rest : List What) → checks_by test n (what ∷ rest) ≡ checks_in n what ++ checks_by test (n + from_bool (is_counted test what)) rest
 checks-split test n (entries.Mce slot line mask) rest = let same : n ≡ n + 0 = omega arith in ap (λ (k : ℕ). (n, line) ∷ checks_by test k rest) same
 checks-split test n (entries.Load slot line met) rest = refl
 checks-split test n (entries.Store slot line met) rest = refl
@@ -152,3 +146,77 @@ checks-split test n entries.Sync rest = refl
 checks-split test n entries.Out rest = refl
 checks-split test n (entries.Fail situation required seen signals) rest = refl
 checks-split test n entries.Soft rest = refl
+
+pub one_more : (old : List CopyCheck) (n line : ℕ) → map pair_of (old ++ record { before = n; line = line } ∷ []) ≡ map pair_of old ++ (n, line) ∷ []
+one_more [] n line = refl
+one_more (c ∷ cs) n line = ap (λ (l : List (ℕ × ℕ)). pair_of c ∷ l) (one_more cs n line)
+
+next-by : (test : What → Bool) (n : ℕ) (what : What) (rest : List What) (b : Bool) (old : List (ℕ × ℕ))
+    → (old ++ cond b (checks_in n what) []) ++ checks_by test (n + from_bool (cond b (is_counted test what) false)) rest ≡ old ++ checks_by test n (cond b (what ∷ rest) rest)
+next-by test n what rest true old = append_assoc old (checks_in n what) (checks_by test (n + from_bool (is_counted test what)) rest) ∙ ap (λ (l : List (ℕ × ℕ)). old ++ l) (sym (checks-split test n what rest))
+next-by test n what rest false old = let same : n + 0 ≡ n = omega arith in ap (λ (l : List (ℕ × ℕ)). l ++ checks_by test (n + 0) rest) (append-nil old) ∙ ap (λ (k : ℕ). old ++ checks_by test k rest) same
+
+own-split : (who : Who) (e : Entry) (rest : List Entry) → own_whats who (e ∷ rest) ≡ cond (is_same_command who e.who) (e.what ∷ own_whats who rest) (own_whats who rest)
+own-split who e rest = by (is_same_command who e.who)
+  where
+    by : (b : Bool) → map (λ (x : Entry). x.what) (cond b (e ∷ filter (λ (x : Entry). is_same_command who x.who) rest) (filter (λ (x : Entry). is_same_command who x.who) rest)) ≡ cond b (e.what ∷ own_whats who rest) (own_whats who rest)
+    by true = refl
+    by false = refl
+
+module _ (who : Who) (entries : List Entry) where
+  -- a machine check is gathered, or an entry counted
+  pub gathered-next : (test : What → Bool) (i n : ℕ) (e : Entry) (old new : List (ℕ × ℕ)) (more : Bool) (all : List (ℕ × ℕ)) → i < length entries → old ++ checks_by test n (own_whats who (drop i entries)) ≡ all
+      → new ≡ old ++ cond (is_same_command who (get_or entries i e).who) (checks_in n (get_or entries i e).what) [] → more ≡ cond (is_same_command who (get_or entries i e).who) (is_counted test (get_or entries i e).what) false
+      → new ++ checks_by test (n + from_bool more) (own_whats who (drop (i + 1) entries)) ≡ all
+  gathered-next test i n e old new more all within was new_is more_is =
+      let x = get_or entries i e in
+      let rest = own_whats who (drop (i + 1) entries) in
+      ap (λ (l : List (ℕ × ℕ)). l ++ checks_by test (n + from_bool more) rest) new_is
+      ∙ ap (λ (b : Bool). (old ++ cond (is_same_command who x.who) (checks_in n x.what) []) ++ checks_by test (n + from_bool b) rest) more_is
+      ∙ next-by test n x.what rest (is_same_command who x.who) old
+      ∙ ap (λ (l : List What). old ++ checks_by test n l) (sym (own-split who x (drop (i + 1) entries)))
+      ∙ ap (λ (l : List Entry). old ++ checks_by test n (own_whats who l)) (sym (drop_more entries i e within)) ∙ was
+
+  pub gathered-all : (test : What → Bool) (i n : ℕ) (old all : List (ℕ × ℕ)) → length entries ≤ i → old ++ checks_by test n (own_whats who (drop i entries)) ≡ all → old ≡ all
+  gathered-all test i n old all past was =
+      sym (append-nil old) ∙ sym (ap (λ (l : List Entry). old ++ checks_by test n (own_whats who l)) (drop_all i entries past)) ∙ was
+
+  pub count-next : (i own : ℕ) (e : Entry) → i < length entries → own + length (own_whats who (drop i entries)) ≡ length (own_whats who entries)
+      → own + from_bool (is_same_command who (get_or entries i e).who) + length (own_whats who (drop (i + 1) entries)) ≡ length (own_whats who entries)
+  count-next i own e within was =
+      let x = get_or entries i e in
+      let next : length (own_whats who (drop i entries)) ≡ length (cond (is_same_command who x.who) (x.what ∷ own_whats who (drop (i + 1) entries)) (own_whats who (drop (i + 1) entries))) =
+      ap (λ (l : List Entry). length (own_whats who l)) (drop_more entries i e within) ∙ ap (λ (l : List What). length l) (own-split who x (drop (i + 1) entries)) in
+      let one : length (cond (is_same_command who x.who) (x.what ∷ own_whats who (drop (i + 1) entries)) (own_whats who (drop (i + 1) entries))) ≡ from_bool (is_same_command who x.who) + length (own_whats who (drop (i + 1) entries)) =
+      by (is_same_command who x.who) x.what (own_whats who (drop (i + 1) entries)) in
+      omega (arith, next, one, was)
+    where
+      by : (b : Bool) (w : What) (l : List What) → length (cond b (w ∷ l) l) ≡ from_bool b + length l
+      by true w l = omega arith
+      by false w l = omega arith
+
+  pub count-all : (i own : ℕ) → length entries ≤ i → own + length (own_whats who (drop i entries)) ≡ length (own_whats who entries) → own ≡ length (own_whats who entries)
+  count-all i own past was =
+      let none : length (own_whats who (drop i entries)) ≡ 0 = ap (λ (l : List Entry). length (own_whats who l)) (drop_all i entries past) in
+      omega (arith, none, was)
+
+-- ---- the lines with so many before
+
+lines-split : (n : ℕ) (c : ℕ × ℕ) (rest : List (ℕ × ℕ)) → lines_at n (c ∷ rest) ≡ lines_at n (c ∷ []) ++ lines_at n rest
+lines-split n c rest = by (c.0 == n)
+  where
+    by : (b : Bool) → map (λ (x : ℕ × ℕ). x.1) (cond b (c ∷ filter (λ (x : ℕ × ℕ). x.0 == n) rest) (filter (λ (x : ℕ × ℕ). x.0 == n) rest)) ≡ map (λ (x : ℕ × ℕ). x.1) (cond b (c ∷ []) []) ++ lines_at n rest
+    by true = refl
+    by false = refl
+
+module _ (n : ℕ) (checks : List CopyCheck) where
+  pub at-next : (i : ℕ) (c : CopyCheck) (old new all : List ℕ) → i < length checks → old ++ lines_at n (map pair_of (drop i checks)) ≡ all → new ≡ old ++ lines_at n (pair_of (get_or checks i c) ∷ [])
+      → new ++ lines_at n (map pair_of (drop (i + 1) checks)) ≡ all
+  at-next i c old new all within was is =
+      let x = get_or checks i c in
+      let rest = map pair_of (drop (i + 1) checks) in
+      ap (λ (l : List ℕ). l ++ lines_at n rest) is ∙ append_assoc old (lines_at n (pair_of x ∷ [])) (lines_at n rest) ∙ ap (λ (l : List ℕ). old ++ l) (sym (lines-split n (pair_of x) rest))
+      ∙ ap (λ (l : List CopyCheck). old ++ lines_at n (map pair_of l)) (sym (drop_more checks i c within)) ∙ was
+
+  pub at-all : (i : ℕ) (old all : List ℕ) → length checks ≤ i → old ++ lines_at n (map pair_of (drop i checks)) ≡ all → old ≡ all
+  at-all i old all past was = sym (append-nil old) ∙ sym (ap (λ (l : List CopyCheck). old ++ lines_at n (map pair_of l)) (drop_all i checks past)) ∙ was

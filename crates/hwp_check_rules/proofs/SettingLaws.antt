@@ -95,6 +95,9 @@ module _ (layout : Layout) where
       ∙ sym (settings-flags thread list rows flags (length list) each are)
       ∙ ap (settings layout thread) (take_all {A = Command × Answer} (length list) (answered list rows) (zip-most list (answers_in rows)))
 
+  pub all-taken : (list : List Command) (flags : List Bool) (n : ℕ) → length list ≤ n → take n (by_flags list flags) ≡ by_flags list flags
+  all-taken list flags n past = let most : length (by_flags list flags) ≤ length list = zip-most list (map flag_answer flags) in take_all {A = Command × Answer} n (by_flags list flags) (omega (arith, most, past))
+
   -- ---- one command more
 
   module _ (list : List Command) (flags : List Bool) (each : length flags ≡ length list) where
@@ -128,24 +131,28 @@ module _ (layout : Layout) where
         ap (λ (s : ℕ → List Policy). s thread.0) (behind-next n c f within)
         ∙ ap (λ (o : Option Policy). settings layout thread (take n pairs) ++ cons_option o []) (sym (set-at thread n c f within))
 
+    -- the default where a list is read
+    any-command : Command
+    any-command = commands.RaiseKernel false false
+
     one-list : (o : Option Policy) → cons_option o [] ≡ option_to_list o
     one-list None = refl
     one-list (Some policy) = refl
 
-    pub policies-more : (thread : Thread) (n : ℕ) (c : Command) (f : Bool) (old new : List Policy) (o : Option Policy) → n < length list → old ≡ settings layout thread (take n pairs) → o ≡ set_if layout thread list flags n
+    pub policies-more : (thread : Thread) (n : ℕ) (old new : List Policy) (o : Option Policy) → n < length list → old ≡ settings layout thread (take n pairs) → o ≡ set_if layout thread list flags n
         → new ≡ old ++ option_to_list o → new ≡ settings layout thread (take (n + 1) pairs)
-    policies-more thread n c f old new o within old_is o_is is =
+    policies-more thread n old new o within old_is o_is is =
         is ∙ ap (λ (l : List Policy). l ++ option_to_list o) old_is ∙ ap (λ (l : List Policy). settings layout thread (take n pairs) ++ l) (sym (one-list o) ∙ ap (λ (q : Option Policy). cons_option q []) o_is)
-        ∙ sym (settings-next thread n c f within)
+        ∙ sym (settings-next thread n any-command false within)
 
     option-length : (o : Option Policy) → length (cons_option o []) ≡ from_bool (is_some o)
     option-length None = refl
     option-length (Some policy) = refl
 
-    pub count-more : (thread : Thread) (n : ℕ) (c : Command) (f : Bool) (count more : ℕ) → n < length list → count ≡ length (settings layout thread (take n pairs)) → more ≡ from_bool (is_some (set_if layout thread list flags n))
+    pub count-more : (thread : Thread) (n : ℕ) (count more : ℕ) → n < length list → count ≡ length (settings layout thread (take n pairs)) → more ≡ from_bool (is_some (set_if layout thread list flags n))
         → count + more ≡ length (settings layout thread (take (n + 1) pairs))
-    count-more thread n c f count more within was one =
-        let all : length (settings layout thread (take (n + 1) pairs)) ≡ length (settings layout thread (take n pairs) ++ cons_option (set_if layout thread list flags n) []) = ap (λ (l : List Policy). length l) (settings-next thread n c f within) in
+    count-more thread n count more within was one =
+        let all : length (settings layout thread (take (n + 1) pairs)) ≡ length (settings layout thread (take n pairs) ++ cons_option (set_if layout thread list flags n) []) = ap (λ (l : List Policy). length l) (settings-next thread n any-command false within) in
         let both : length (settings layout thread (take n pairs) ++ cons_option (set_if layout thread list flags n) []) ≡ length (settings layout thread (take n pairs)) + length (cons_option (set_if layout thread list flags n) []) =
         length-append (settings layout thread (take n pairs)) (cons_option (set_if layout thread list flags n) []) in
         let own : length (cons_option (set_if layout thread list flags n) []) ≡ from_bool (is_some (set_if layout thread list flags n)) = option-length (set_if layout thread list flags n) in
@@ -158,9 +165,16 @@ module _ (layout : Layout) where
         | inl low ↦ get_or_append_left counts (count ∷ []) 0 k (let m : length counts ≡ n = are.many in omega (arith, m, low)) ∙ are.each k low
         | inr high ↦
             let same : k ≡ n = omega (arith, within, high) in
-            get_or_push counts count 0 k (same ∙ sym are.many) ∙ is ∙ ap (λ (i : ℕ). length (settings layout thread (take i pairs))) (sym same)
+            get_or_push counts count 0 k (are.many ∙ sym same) ∙ is ∙ ap (λ (i : ℕ). length (settings layout thread (take i pairs))) (sym same)
       ];
     }
+
+    pub counts-none : (thread : Thread) (counts : List ℕ) → counts ≡ [] → (0 ≤ 0) × AreCounts layout thread list flags 0 counts × (0 ≡ length (settings layout thread (take 0 pairs)))
+    counts-none thread counts is = (
+      omega arith,
+      subst (AreCounts layout thread list flags 0) (sym is) (record { many = refl; each = λ k within. absurd (omega (arith, within)) }),
+      refl,
+    )
 
     -- ---- what a command does to the policy of a thread
 

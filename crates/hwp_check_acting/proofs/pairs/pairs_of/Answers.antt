@@ -1,4 +1,4 @@
-use Rattle.std.proofs.Common.{◌≡◌, ◌≤◌, ◌+◌, ℕ, List, get_or, length, sym, ap, ◌∙◌, take, arith}
+use Rattle.std.proofs.Common.{◌≡◌, ◌≤◌, ◌+◌, ℕ, List, length, sym, ap, ◌∙◌, take, arith}
 use Rattle.std.specs.List.{zip}
 use Rattle.hwp_law.specs.hwp_report_text.declared.Answer.{Answer}
 use Rattle.hwp_law.specs.hwp_script_read.declared.Command.{Command}
@@ -8,7 +8,8 @@ use Rattle.hwp_check_acting.proofs.pairs.pairs_of.Goals as goal
 pub loop-number-preserved : goal.loop-number-preserved
 loop-number-preserved c =
     c.in_ok-push.ensures.items
-    ∙ next-pair c.args.commands.now c.in_ok-answers.answers.items c.loop-number.number (get_or c.args.commands.now c.loop-number.number _) (get_or c.in_ok-answers.answers.items c.loop-number.number _) c.loop-number.pairs.items (omega arith) (omega arith) c.loop-number.invariant
+    ∙ next-pair c.args.commands.now c.in_ok-answers.answers.items c.loop-number.number c.index-commands-number.result _ c.index.result.now _ c.loop-number.pairs.items (omega arith) (omega arith) c.loop-number.invariant
+    c.index-commands-number.is c.index.ensures
 
 pub returns : goal.returns
 returns c =

@@ -4,4 +4,4 @@ use Rattle.hwp_check_events.specs.Copied.{AreCopied}
 use Rattle.hwp_check_events.proofs.copied.copied_of.Given as goal
 
 abbrev pub invariant-loop-number : goal.invariant-loop-number
-invariant-loop-number l = (length l.lists ≡ l.number) × AreCopied l.fn.layout (copies_in l.fn.copies) l.fn.report l.fn.cpu l.fn.commands l.number l.lists
+invariant-loop-number l = (length l.lists.items ≡ l.number) × AreCopied l.fn.layout (copies_in l.fn.copies) l.fn.report l.fn.cpu l.fn.commands l.number l.lists.items

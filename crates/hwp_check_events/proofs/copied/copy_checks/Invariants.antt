@@ -5,4 +5,4 @@ use Rattle.hwp_check_events.specs.Copied.{pair_of}
 use Rattle.hwp_check_events.proofs.copied.copy_checks.Given as goal
 
 abbrev pub invariant-loop-n : goal.invariant-loop-n
-invariant-loop-n l = l.lines.items ≡ flat_map (λ n. lines_at n (map pair_of l.loads.checks.items) ++ lines_at n (map pair_of l.stores.checks.items)) (range_with_len 0 l.n)
+invariant-loop-n l = l.lines.items ≡ flat_map (λ n. lines_at n (map pair_of l.loads.items) ++ lines_at n (map pair_of l.stores.items)) (range_with_len 0 l.n)
