@@ -7,9 +7,9 @@ use std::alloc::Global;
 use std::process::Abort;
 
 /// A script of two processors up to its schedule's words that go through all orders, and how its report begins.
-struct Race {
-    front: &'static str,
-    head: &'static str,
+pub struct Race {
+    pub front: &'static str,
+    pub head: &'static str,
 }
 
 /// The script of a race, where the next turns are the bits of the number: 0 is a turn of processor 0.
@@ -45,7 +45,7 @@ fn gives_legal(rt: &impl Abort, alloc: Global, script: &str, head: &str) {
 }
 
 /// Each order of so many turns gives a report that is legal.
-fn all_legal(rt: &impl Abort, alloc: Global, races: &[Race], turns: u32, orders: u32) {
+pub fn all_legal(rt: &impl Abort, alloc: Global, races: &[Race], turns: u32, orders: u32) {
     for race in races {
         for number in 0..orders {
             let script = scheduled(rt, alloc, race.front, turns, number);
