@@ -7,9 +7,9 @@ use std::alloc::Global;
 use std::process::Abort;
 
 /// A script of two processors up to its schedule's words that go through all orders, and how its report begins.
-pub struct Race {
-    pub front: &'static str,
-    pub head: &'static str,
+struct Race {
+    front: &'static str,
+    head: &'static str,
 }
 
 /// The script of a race, where the next turns are the bits of the number: 0 is a turn of processor 0.
@@ -37,7 +37,7 @@ pub fn are_legal(rt: &impl Abort, alloc: Global, script: &str, report: &[u8]) {
 }
 
 /// The report that a script gives begins so, and is legal.
-fn gives_legal(rt: &impl Abort, alloc: Global, script: &str, head: &str) {
+pub fn gives_legal(rt: &impl Abort, alloc: Global, script: &str, head: &str) {
     let out = report_of(rt, alloc, script);
     let report = out.bytes();
     assert!(rt; report.starts_with(head.as_bytes()));
@@ -45,7 +45,7 @@ fn gives_legal(rt: &impl Abort, alloc: Global, script: &str, head: &str) {
 }
 
 /// Each order of so many turns gives a report that is legal.
-pub fn all_legal(rt: &impl Abort, alloc: Global, races: &[Race], turns: u32, orders: u32) {
+fn all_legal(rt: &impl Abort, alloc: Global, races: &[Race], turns: u32, orders: u32) {
     for race in races {
         for number in 0..orders {
             let script = scheduled(rt, alloc, race.front, turns, number);
