@@ -44,7 +44,7 @@ impl Processor {
         let layout = layout.clone()?;
         let list = List::from_vec(Vec::from_slice(alloc, commands)?);
         let rows = Vec::with_capacity(alloc, commands.len())?;
-        let mut local = Local::new(alloc, layout.files, has_watch(commands), layout.frames)?;
+        let mut local = Local::new(alloc, &layout, has_watch(commands))?;
         let course = first(alloc, &layout, cpu, commands, &mut local);
         Ok(Processor {
             alloc,
@@ -96,6 +96,7 @@ impl Processor {
         let number = self.rows.len();
         self.rows.push_reserved(row);
         let commands = self.commands.as_slice();
+        self.local.cows.told(&self.layout, &commands[number], answer);
         begin_next(
             self.alloc,
             &self.layout,
@@ -135,7 +136,9 @@ fn first(
         return None;
     };
     let who = Who { cpu, seq: 0 };
-    Some(Course::new(alloc, layout, who, *command, local))
+    let copies = local.cows.copied_from(command);
+    let acting = local.cows.acting(layout, command);
+    Some(Course::new(alloc, layout, who, acting, copies, local))
 }
 
 /// The command of this number begins in the same way, in place of the one that runs; past the last none runs.
@@ -163,8 +166,10 @@ fn begin_next(
         cpu,
         seq: number as u32,
     };
+    let copies = local.cows.copied_from(command);
+    let acting = local.cows.acting(layout, command);
     match course {
-        Some(running) => running.begin_next(alloc, layout, who, *command, local),
+        Some(running) => running.begin_next(alloc, layout, who, acting, copies, local),
         None => unreachable!(),
     }
 }
