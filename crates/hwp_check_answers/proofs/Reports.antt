@@ -9,7 +9,7 @@ use Rattle.hwp_check_evidence.specs.hwp_geom.declared.Cpu.{Cpu}
 use Rattle.hwp_check_evidence.specs.hwp_page.declared.Entry.{Entry}
 use Rattle.hwp_check_evidence.specs.hwp_page.declared.What.{What}
 use Rattle.hwp_check_evidence.specs.hwp_page.declared.What.TheVariants as entries
-use Rattle.hwp_check_evidence.specs.hwp_script_read.Valid.{IsValid}
+use Rattle.hwp_check_rules.specs.hwp_check_acting.Scripts.{IsDeclared}
 use Rattle.hwp_check_evidence.specs.hwp_script_read.declared.Command.{Command}
 use Rattle.hwp_check_evidence.specs.hwp_script_read.declared.Script.{Script}
 use Rattle.hwp_check_evidence.specs.hwp_report_text.declared.CpuLine.{CpuLine}
@@ -59,7 +59,7 @@ row-fits (Some row) line many last few within room = let f : row < many = few ro
 abbrev pub LegalBelow : Script → Report → ℕ → Type 0
 LegalBelow script report n = (cpu : Cpu) (list : List Command) → cpu.0 < n → slice_get script.lists cpu.0 ≡ Some list → AreEventsFrom script report cpu 0 list empty_banks
 
-module _ (script : Script) (report : Report) (valid : IsValid script) (all : All (λ (l : FrameLine). (l.bad.0 < 2 ^ 64) × (l.weak.0 < 2 ^ 64)) report.frames) where
+module _ (script : Script) (report : Report) (valid : IsDeclared script) (all : All (λ (l : FrameLine). (l.bad.0 < 2 ^ 64) × (l.weak.0 < 2 ^ 64)) report.frames) where
   abbrev Law : Cpu → List Command → Type 0
   Law cpu list = AreEventsFrom script report cpu 0 list empty_banks
 

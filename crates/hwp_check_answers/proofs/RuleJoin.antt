@@ -1,7 +1,7 @@
 -- The first of the lines of answers and of events that are wrong is the first that breaks the rule of answers.
 use Rattle.std.proofs.Common.{◌≡◌, ◌⊎◌, inl, inr, ℕ, ◌≤◌, min, true, Option, Some, None, MatchOption, slice_get, take, refl, sym, ◌∙◌, subst, true≢false, arith}
 use Rattle.std.proofs.lemmas.Bool.{cases_lt}
-use Rattle.hwp_check_evidence.specs.hwp_script_read.Valid.{IsValid}
+use Rattle.hwp_check_rules.specs.hwp_check_acting.Scripts.{IsDeclared}
 use Rattle.hwp_check_evidence.specs.hwp_script_read.declared.Command.{Command}
 use Rattle.hwp_check_evidence.specs.hwp_script_read.declared.Script.{Script}
 use Rattle.hwp_check_evidence.specs.hwp_report_text.declared.CpuLine.{CpuLine}
@@ -11,10 +11,9 @@ use Rattle.hwp_check_evidence.specs.hwp_law.Events.{AreEvents}
 use Rattle.hwp_check_rules.specs.AnswerFaults.{IsAnswerFault, IsEventWrong, IsLineWrong, IsRowFault}
 use Rattle.hwp_check_rules.specs.Answered.{is_event}
 use Rattle.hwp_check_rules.specs.hwp_law.Lines.{seq_of}
-use Rattle.hwp_check_rules.specs.Firsts.{IsLeast, soonest}
+use Rattle.hwp_check_rules.specs.Firsts.{IsLeast, soonest, IsFirstFault}
 use Rattle.hwp_check_rules.specs.Rules.{AnswersFit}
 use Rattle.hwp_check_rules.specs.declared.Rule.TheVariants.{Answers, Shape}
-use Rattle.hwp_check_rules.specs.Verdicts.{HoldBelow, IsBroken}
 use Rattle.hwp_check_answers.specs.Facts.{IsBadOf, at_number}
 use Rattle.hwp_check_answers.specs.Joining.{BreakEvents, IsEventLine, IsWrongEvent}
 use Rattle.hwp_check_answers.specs.Offlining.{AreAllOfflined, IsOfflinedLine}
@@ -114,7 +113,7 @@ module _ (script : Script) (report : Report) where
         wrong = inr (w.command, w.made, inl w.undue);
       })
 
-  module _ (valid : IsValid script) (below : HoldBelow 3 script report) (breaks : BreakEvents script report) where
+  module _ (valid : IsDeclared script) (below : HoldBelow 3 script report) (breaks : BreakEvents script report) where
     fits : AreAllRight script report → AreEvents script report → AreAllOfflined script report → AnswersFit script report
     fits all events offlined = record {
       answered = all_answered script report valid below all offlined;
@@ -130,7 +129,7 @@ module _ (script : Script) (report : Report) where
     no-line fit line (inr (inl of-events)) = breaks fit.events line of-events
     no-line fit line (inr (inr of-offlined)) = offlined_breaks script report fit line of-offlined
 
-    broken-by : (line : ℕ) → IsLine line → ((other : ℕ) → IsLine other → line ≤ other) → IsBroken Answers script report line
+    broken-by : (line : ℕ) → IsLine line → ((other : ℕ) → IsLine other → line ≤ other) → IsFirstFault (AnswersFit script report) (IsAnswerFault script report) line
     broken-by line at first = record { broken = λ fit. no-line fit line at; at = line-fault line at; first = λ other fault. first other (fault-line other fault) }
 
     -- the lower of two first lines is the first of both kinds
@@ -158,7 +157,7 @@ module _ (script : Script) (report : Report) where
     }
 
     pub all_lines : (of-answers of-events of-offlined : Option ℕ) → MatchOption of-answers (AreAllRight script report) (IsLeast (IsAnswerLine script report)) → MatchOption of-events (AreEvents script report) (IsLeast (IsEventLine script report))
-        → MatchOption of-offlined (AreAllOfflined script report) (IsLeast (IsOfflinedLine script report)) → MatchOption (soonest (soonest of-answers of-events) of-offlined) (AnswersFit script report) (IsBroken Answers script report)
+        → MatchOption of-offlined (AreAllOfflined script report) (IsLeast (IsOfflinedLine script report)) → MatchOption (soonest (soonest of-answers of-events) of-offlined) (AnswersFit script report) (IsFirstFault (AnswersFit script report) (IsAnswerFault script report))
     all_lines of-answers of-events of-offlined answers events offlined =
         by (soonest (soonest of-answers of-events) of-offlined)
         (two (λ line. IsAnswerLine script report line ⊎ IsEventLine script report line) (IsOfflinedLine script report) (AreAllRight script report × AreEvents script report) (AreAllOfflined script report) (soonest of-answers of-events) of-offlined
@@ -170,7 +169,7 @@ module _ (script : Script) (report : Report) where
         none-offlined all line is = no_offlined script report (valid.one_each ∙ sym (below Shape (omega arith)).cpus) all line is
 
         by : (found : Option ℕ) → Of (λ line. (IsAnswerLine script report line ⊎ IsEventLine script report line) ⊎ IsOfflinedLine script report line) ((AreAllRight script report × AreEvents script report) × AreAllOfflined script report) found
-            → MatchOption found (AnswersFit script report) (IsBroken Answers script report)
+            → MatchOption found (AnswersFit script report) (IsFirstFault (AnswersFit script report) (IsAnswerFault script report))
         by None all = fits all.0.0 all.0.1 all.1
         by (Some line) least = broken-by line (turned line least.at) (λ other is. least.first other (back other is))
           where

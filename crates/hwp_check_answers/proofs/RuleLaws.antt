@@ -8,7 +8,7 @@ use Rattle.hwp_check_evidence.specs.hwp_geom.declared.Proc.{Proc}
 use Rattle.hwp_check_evidence.specs.hwp_geom.declared.Who.{Who}
 use Rattle.hwp_check_evidence.specs.hwp_page.declared.At.{At}
 use Rattle.hwp_check_evidence.specs.hwp_page.declared.Entry.{Entry}
-use Rattle.hwp_check_evidence.specs.hwp_script_read.Valid.{IsValid}
+use Rattle.hwp_check_rules.specs.hwp_check_acting.Scripts.{IsDeclared}
 use Rattle.hwp_check_evidence.specs.hwp_script_read.declared.Command.{Command}
 use Rattle.hwp_check_evidence.specs.hwp_script_read.declared.Script.{Script}
 use Rattle.hwp_check_evidence.specs.hwp_report_text.declared.Answer.{Answer}
@@ -31,7 +31,6 @@ use Rattle.hwp_check_rules.proofs.OfflinedFaults.{lines-offlined}
 use Rattle.hwp_check_rules.specs.AnswerFaults.{IsDue}
 use Rattle.hwp_check_rules.specs.Answered.{AreAnswered, HasAnswer, is_answer}
 use Rattle.hwp_check_rules.specs.declared.Rule.TheVariants.{Histories, Shape}
-use Rattle.hwp_check_rules.specs.Verdicts.{HoldBelow}
 use Rattle.hwp_check_answers.specs.Disorders.{AreOrderly}
 use Rattle.hwp_check_answers.specs.Facts.{at_number}
 use Rattle.hwp_check_answers.specs.Judging.{IsGood}
@@ -93,7 +92,7 @@ earlier-before commands rows i j seq later answer last orderly one other low = e
       ]
 ]
 
-module _ (script : Script) (report : Report) (valid : IsValid script) (below : HoldBelow 3 script report) where
+module _ (script : Script) (report : Report) (valid : IsDeclared script) (below : HoldBelow 3 script report) where
   many : length script.lists ≡ length report.cpus
   many = valid.one_each ∙ sym (below Shape (omega arith)).cpus
 

@@ -14,7 +14,6 @@ use Rattle.hwp_check_evidence.proofs.ListItems.{item_at}
 use Rattle.hwp_check_rules.specs.hwp_law.Lines.{seq_of}
 use Rattle.hwp_check_rules.specs.Standing.{cpu_line}
 use Rattle.hwp_check_rules.specs.declared.Rule.TheVariants.{Shape}
-use Rattle.hwp_check_rules.specs.Verdicts.{HoldBelow}
 use Rattle.hwp_check_answers.specs.Facts.{IsBadOf, IsGoodOf}
 use Rattle.hwp_check_answers.specs.Placing.{AreInPlace, IsFirstOut}
 use Rattle.hwp_check_answers.specs.Sifting.{AreAllSound, AreSound, IsBehind, IsCut, IsFirstAnswer, IsUnsound, IsWrongLine}

@@ -21,16 +21,16 @@ use Rattle.hwp_check_scrub.specs.declared.Reach.{Reach}
 use Rattle.hwp_check_event_line.specs.declared.Faults.{Faults}
 
 -- where a command found `raw` in bank 1, and leaves `left` there: the first of its lines that is wrong, and whether it lacks some
-pub record IsJudged (script : Script) (report : Report) (who : Who) (command : Command) (raw left : Option Event) (lines : List EventLine) (faults : Faults) : Type 0 where
-  pub scanned : IsScanned (IsRightLine script report who command raw lines) lines faults.wrong
-  pub lacks : MatchBool faults.lacks (Lacks script report who command raw lines) (Lacks script report who command raw lines → ⊥)
-  pub left_is : left ≡ leaves script report who command raw lines
+pub record IsJudged (script : Script) (copies : Who → Option VSlot) (report : Report) (who : Who) (command : Command) (raw left : Option Event) (lines : List EventLine) (faults : Faults) : Type 0 where
+  pub scanned : IsScanned (IsRightLine script copies report who command raw lines) lines faults.wrong
+  pub lacks : MatchBool faults.lacks (Lacks script copies report who command raw lines) (Lacks script copies report who command raw lines → ⊥)
+  pub left_is : left ≡ leaves script copies report who command raw lines
 
 -- the same of an access whose machine checks arrive so, and of a scrub
-pub record IsAccessJudged (script : Script) (report : Report) (who : Who) (how : Arrival) (origin : Origin) (at : ℕ) (raw left : Option Event) (lines : List EventLine) (faults : Faults) : Type 0 where
-  pub scanned : IsScanned (IsAccessLine script report who how (access_of report who origin at raw) lines) lines faults.wrong
-  pub lacks : MatchBool faults.lacks (length lines < asked_by_access (access_of report who origin at raw)) (length lines < asked_by_access (access_of report who origin at raw) → ⊥)
-  pub left_is : left ≡ cond (entries_of report who is_check == 0) raw None
+pub record IsAccessJudged (script : Script) (report : Report) (who : Who) (how : Arrival) (origin : Origin) (at : List ℕ) (raw left : Option Event) (lines : List EventLine) (faults : Faults) : Type 0 where
+  pub scanned : IsScanned (IsAccessLine script report who how (access_of origin at raw) lines) lines faults.wrong
+  pub lacks : MatchBool faults.lacks (length lines < asked_by_access (access_of origin at raw)) (length lines < asked_by_access (access_of origin at raw) → ⊥)
+  pub left_is : left ≡ cond (length at == 0) raw None
 
 -- how far a scrub comes
 abbrev pub end_of : Script → Report → Who → Frame → Frame → Option Event → List EventLine → Reach

@@ -1,0 +1,3 @@
+mod CowSteps
+mod ActedLists
+pub mod DeclaredLaws
