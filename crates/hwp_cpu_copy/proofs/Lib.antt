@@ -1,4 +1,5 @@
 pub mod AskedSame
+pub mod FreeHomes
 pub mod FreeOwes
 pub mod FreeLists
 pub mod RunLaws

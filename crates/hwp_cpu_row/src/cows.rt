@@ -3,7 +3,7 @@ ghost use Rattle.std.specs.List.{list_any};
 ghost use Rattle.std.specs.Option.{option_map_or};
 ghost use Rattle.hwp_cpu_check.specs.hwp_law_commands.Cows.{own_page, twin_or};
 ghost use Rattle.hwp_cpu_check.specs.hwp_script_read.Forks.{freezes};
-ghost use Rattle.hwp_cpu_row.specs.Cows.{acting_in, copied_by, copied_in, cow_in, first_cows, freezes_at, frozen_from, frozen_in, switched_by, switched_in, through_in, told_in, written_in};
+ghost use Rattle.hwp_cpu_row.specs.CowLists.{acting_in, copied_by, copied_in, cow_in, first_cows, freezes_at, frozen_by, frozen_from, frozen_in, switched_by, switched_in, through_in, told_in, written_in};
 
 use hwp_cpu_check::{Answer, Command, Layout, OutOfMemory, Page, Proc, Thread, VSlot};
 use std::alloc::Global;
@@ -194,11 +194,18 @@ fn freeze(layout: &Layout, thread: Thread, cows: &mut Vec<Cow>)
     ensures { cows.new.items ≡ frozen_from layout.now thread 0 cows.old.items }
 {
     for number in 0..cows.len() {
-        let cow = cows[number];
-        cows[number] = Cow {
-            frozen: cow.frozen || freezes_slot(layout, thread, number),
-            switched: cow.switched,
-        };
+        let freezes = freezes_slot(layout, thread, number);
+        cows[number] = frozen(freezes, cows[number]);
+    }
+}
+
+/// The same of one translation, if the fork freezes it.
+fn frozen(freezes: bool, cow: Cow) -> Cow
+    ensures { result ≡ frozen_by freezes cow }
+{
+    Cow {
+        frozen: cow.frozen || freezes,
+        switched: cow.switched,
     }
 }
 
