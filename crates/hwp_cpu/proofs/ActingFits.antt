@@ -1,20 +1,23 @@
 -- The command that a processor acts on is one of the processor, as the script's own is: a twin is of the same process as the translation for
 -- which it stands.
-use Rattle.std.proofs.Common.{◌≡◌, ◌≢◌, ℕ, ◌<◌, ◌&&◌, not, Bool, true, false, List, Option, Some, None, length, slice_get, if◌then◌else◌, refl, sym, ap, ◌∙◌, subst}
+use Rattle.std.proofs.Common.{◌≡◌, ◌≢◌, ℕ, zero, suc, ◌<◌, ◌&&◌, not, All, Bool, true, false, List, [], ◌∷◌, Option, Some, None, length, slice_get, if◌then◌else◌, refl, sym, ap, ◌∙◌, subst}
 use Rattle.std.specs.Prelude.{IsSomeAnd, unwrap_or}
-use Rattle.std.proofs.lemmas.Option.{slice_get_within}
+use Rattle.std.proofs.lemmas.Option.{none-some, same_Some, slice_get_within}
 use Rattle.hwp_cpu_course.specs.hwp_cpu_row.hwp_geom.declared.Layout.{Layout}
 use Rattle.hwp_cpu_course.specs.hwp_cpu_row.hwp_geom.declared.Thread.{Thread}
 use Rattle.hwp_cpu_course.specs.hwp_cpu_row.hwp_geom.declared.ThreadDecl.{ThreadDecl}
 use Rattle.hwp_cpu_course.specs.hwp_cpu_row.hwp_geom.declared.TransDecl.{TransDecl}
 use Rattle.hwp_cpu_course.specs.hwp_cpu_row.hwp_geom.declared.VSlot.{VSlot}
 use Rattle.hwp_cpu_course.specs.hwp_cpu_row.hwp_geom.Layout.{twin_of}
+use Rattle.hwp_cpu_course.specs.hwp_cpu_row.hwp_geom.declared.Who.{Who}
+use Rattle.hwp_cpu_course.specs.hwp_cpu_row.hwp_core_rule.declared.View.{View}
 use Rattle.hwp_cpu_course.specs.hwp_cpu_row.hwp_script_lines.declared.Command.{Command}
 use Rattle.hwp_cpu_course.specs.hwp_cpu_row.hwp_script_lines.declared.Command.TheVariants as commands
 use Rattle.hwp_cpu_course.specs.hwp_cpu_row.hwp_script_read.Valid.{ArePaired, AreTwinsFit, IsAccess, IsAnon, IsCommandOf}
 use Rattle.hwp_cpu_course.specs.hwp_cpu_row.hwp_law_commands.Cows.{Cow, twin_or}
 use Rattle.hwp_cpu_course.specs.hwp_cpu_row.CowLists.{acting_in, copied_in, cow_in}
 use Rattle.hwp_cpu_course.specs.hwp_cpu_command.Begins.{CanCopy}
+use Rattle.hwp_cpu_course.specs.hwp_cpu_command.Runs.{CanFork}
 
 module _ (layout : Layout) (twins : AreTwinsFit layout) where
   paired-access : (cpu : ℕ) (ot : Option ThreadDecl) (ov ow : Option TransDecl) → IsSomeAnd ot (λ (t : ThreadDecl). (t.cpu.0 ≡ cpu) × IsSomeAnd ov (λ (v : TransDecl). v.process ≡ t.process))
@@ -63,3 +66,18 @@ copied-fits layout cpu cows (commands.Store thread slot line word) has = by ((co
     by true = has.0
     by false = tt
 copied-fits layout cpu cows command has = tt
+
+-- a fork is acted on as it stands
+pub fork-acted : {view : View} {who : Who} (layout : Layout) (cows : List Cow) (own : Command) → CanFork layout view who own → CanFork layout view who (acting_in layout cows own)
+fork-acted layout cows (commands.Load thread slot line) can = tt
+fork-acted layout cows (commands.Fetch thread slot line) can = tt
+fork-acted layout cows (commands.KLoad thread slot line) can = tt
+fork-acted layout cows (commands.Store thread slot line word) can = tt
+fork-acted layout cows (commands.Free slot) can = tt
+fork-acted layout cows own can = can
+
+-- a command of a list of which all fit
+pub at-least : {P : Command → Type 0} (l : List Command) (n : ℕ) (own : Command) → All P l → slice_get l n ≡ Some own → P own
+at-least [] n own all there = absurd (none-some own there)
+at-least {P} (c ∷ cs) zero own all there = subst P (same_Some c own there) all.0
+at-least (c ∷ cs) (suc n) own all there = at-least cs n own all.1 there

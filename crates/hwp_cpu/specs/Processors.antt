@@ -1,6 +1,6 @@
 -- The commands of one processor as one task: in all that it plans, shows and needs it is the command that runs, with the frames that are
 -- taken out of use beside it, until that is answered; then the next one begins.
-use Rattle.std.specs.Prelude.{◌≡◌, ℕ, ◌+◌, ◌-◌, ◌*◌, ◌<◌, ◌≤◌, Bool, false, List, [], ◌∷◌, ◌++◌, Option, Some, None, All, length, option_map, slice_get, vec_capacity}
+use Rattle.std.specs.Prelude.{◌≡◌, ℕ, ◌+◌, ◌-◌, ◌*◌, ◌<◌, ◌≤◌, Bool, false, List, [], ◌∷◌, ◌++◌, Option, Some, None, All, count_by, length, option_map, slice_get, vec_capacity}
 use Rattle.std.specs.Arc.{arc_value}
 use Rattle.std.specs.List.{list_any}
 use Rattle.hwp_cpu_course.specs.hwp_cpu_row.hwp_geom.declared.Cpu.{Cpu}
@@ -12,6 +12,7 @@ use Rattle.hwp_cpu_course.specs.hwp_cpu_row.hwp_geom.Limits.{command_limit}
 use Rattle.hwp_cpu_course.specs.hwp_cpu_row.hwp_page.History.{BodyValue}
 use Rattle.hwp_cpu_course.specs.hwp_cpu_row.hwp_script_lines.declared.Command.{Command}
 use Rattle.hwp_cpu_course.specs.hwp_cpu_row.hwp_law_commands.Commands.{is_watch}
+use Rattle.hwp_cpu_course.specs.hwp_cpu_row.hwp_script_read.Forks.{is_fork_of}
 use Rattle.hwp_cpu_course.specs.hwp_cpu_row.hwp_script_read.Valid.{AreForksFit, AreTwinsFit, IsCommandOf}
 use Rattle.hwp_cpu_course.specs.hwp_cpu_row.hwp_report_text.declared.Answer.{Answer}
 use Rattle.hwp_cpu_course.specs.hwp_cpu_row.hwp_core_rule.declared.Step.{Step}
@@ -33,6 +34,10 @@ use Rattle.hwp_cpu.specs.declared.processor.Processor.{Processor}
 abbrev pub at_number : Cpu → ℕ → Who
 at_number cpu n = record { cpu = cpu; seq = n }
 
+-- no process is forked twice
+abbrev pub AreForkedOnce : List Command → Type 0
+AreForkedOnce list = (process : ℕ) → count_by (is_fork_of process) list ≤ 1
+
 -- commands of the processor, which name what the layout declares, no more than a script has; its forks and the layout's twins are such as
 -- there may be
 pub record AreCommands (layout : Layout) (cpu : Cpu) (list : List Command) : Type 0 where
@@ -40,6 +45,7 @@ pub record AreCommands (layout : Layout) (cpu : Cpu) (list : List Command) : Typ
   pub few : length list ≤ command_limit
   pub twins : AreTwinsFit layout
   pub forks : AreForksFit layout cpu.0 list
+  pub once : AreForkedOnce list
 
 -- the processor can run its commands, and has memory for a row of each
 pub record IsReady (p : Processor) : Type 0 where

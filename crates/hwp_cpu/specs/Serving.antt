@@ -61,7 +61,7 @@ use Rattle.hwp_cpu_course.specs.hwp_cpu_command.Stays.{EndsAtOnce, HasGivenUp, H
 use Rattle.hwp_cpu_course.specs.declared.Course.{Course}
 use Rattle.hwp_cpu_course.specs.Courses as courses
 use Rattle.hwp_cpu_course.specs.Courses.{is_abandoned, part}
-use Rattle.hwp_cpu_causes.specs.Beside.{ArePrior, CanCollect, DoesSo, IsOwnServed}
+use Rattle.hwp_cpu_causes.specs.Beside.{ArePriorWith, CanCollect, DoesSo, IsOwnServed}
 use Rattle.hwp_cpu_causes.specs.hwp_law_served.Causes.{HasOnlyMet}
 use Rattle.hwp_cpu_causes.specs.hwp_law_served.Accounts.{IsNote, act_marking, failures, markings, policies_set}
 use Rattle.hwp_cpu_causes.specs.hwp_law_served.Handles.{KnowsNumbers, answers_by, number_at}
@@ -168,12 +168,6 @@ HasToldAll watching (kinds.Instruction i) noted = collects watching ≡ true →
 HasToldAll watching (kinds.Copying y) noted = collects watching ≡ true → noted ≡ length y.instruction.lines.told
 HasToldAll watching j noted = noted ≡ 0
 
--- the entries of the command that may stand before its own task's: a copy is one task from its beginning, and has what was made beside it
--- among its own
-abbrev pub ArePriorWith : Layout → Command → Option VSlot → List Made → Type 0
-ArePriorWith layout command None base = ArePrior layout command base
-ArePriorWith layout command (Some from) base = base ≡ []
-
 -- where pages left frames that were taken out of use beside it
 abbrev pub left_so_far : List Made → View → Job → List At
 left_so_far base view (kinds.Copying y) = left_by y.store.who view
@@ -216,7 +210,7 @@ pub record HasAnswered (layout : Layout) (view : View) (cpu : Cpu) (list : List 
   pub collects : CanCollect command
   pub some : told_of j ≢ []
   pub served : IsOwnServed layout (answers_by list rows) None view (at_number cpu (length rows)) command j answer local.banks
-  pub does : DoesSo command j answer
+  pub does : DoesSo layout (answers_by list rows) command j answer
 
 abbrev pub Rests : Layout → View → Cpu → List Command → List Row → Local → Command → Job → Type 0
 Rests layout view cpu list rows local command j = Pauses layout view (at_number cpu (length rows)) command j ⊎ HasAnswered layout view cpu list rows local command j

@@ -211,8 +211,8 @@ starts_scrub _ = false
 not-stopping : (j : Job) → EndsStopped j → IsStopping j → ⊥
 not-stopping (jobs.Instruction i) (inl (a, start, look, none)) (frame, h, handles, stop) = true≢false (sym (ap starts_access start) ∙ ap starts_access handles)
 not-stopping (jobs.Instruction i) (inr stopped) (frame, h, handles, stop) = none-some answers.Stopped (sym (ap (λ (x : InstructionAt). option_map instruction_answer (instructions.answer_at x)) handles) ∙ stopped)
-not-stopping (jobs.Copying c) (inl (at, fresh, a, start, look, none)) (own, frame, h, handles, stop) = true≢false (sym (ap starts_access start) ∙ ap starts_access handles)
-not-stopping (jobs.Copying c) (inr stopped) (own, frame, h, handles, stop) =
+not-stopping (jobs.Copying c) (inl (at, fresh, (a, start, look, none))) (own, (frame, h, handles, stop)) = true≢false (sym (ap starts_access start) ∙ ap starts_access handles)
+not-stopping (jobs.Copying c) (inr stopped) (own, (frame, h, handles, stop)) =
     none-some answers.Stopped (sym (ap (λ (x : CopyingAt). option_map instruction_answer (copyings.answer_at c.instruction x)) own ∙ ap (λ (x : InstructionAt). option_map instruction_answer (instructions.answer_at x)) handles) ∙ stopped)
 not-stopping (jobs.Raise r) (inl (start, none)) (h, handles, stop) = true≢false (sym (ap starts_raise start) ∙ ap starts_raise handles)
 not-stopping (jobs.Raise r) (inr stopped) (h, handles, stop) = none-some answers.Stopped (sym (ap (λ (x : RaiseAt). option_map (raise_answer (length r.lines.told)) (raises.answer_at x)) handles) ∙ stopped)
@@ -322,7 +322,7 @@ module _ {layout : Layout} {old new : View} {j after : Job} (s : Stepped layout 
 -- the step of a command that has yet to look is the load of the stop word
 pub look-first : (j : Job) → IsAtStop j → plan j ≡ Some (steps.Load places.Stop)
 look-first (jobs.Instruction i) (a, start, look, none) = ap instructions.plan_at start ∙ ap (accesses.plan_at a.request) look
-look-first (jobs.Copying c) (own, fresh, a, start, look, none) = ap (copyings.plan_at c.instruction) own ∙ ap instructions.plan_at start ∙ ap (accesses.plan_at a.request) look
+look-first (jobs.Copying c) (own, fresh, (a, start, look, none)) = ap (copyings.plan_at c.instruction) own ∙ ap instructions.plan_at start ∙ ap (accesses.plan_at a.request) look
 look-first (jobs.Evict e) start = ap evicts.plan_at start
 look-first (jobs.Fsync f) start = ap (fsyncs.plan_at f.file) start
 look-first (jobs.Prctl p) start = ap (prctls.plan_at p.thread p.process) start

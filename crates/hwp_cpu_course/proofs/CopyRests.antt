@@ -1,6 +1,5 @@
 -- A copy at its pause, behind it and where it gives up, as its access is there.
-use Rattle.std.proofs.Common.{◌≡◌, Bool, true, false, ℕ, ◌≤◌, Option, Some, None, is_some, refl, sym, ap, ◌∙◌, subst, arith}
-use Rattle.std.proofs.lemmas.Option.{none-some}
+use Rattle.std.proofs.Common.{◌≡◌, Bool, true, false, true≢false, ℕ, ◌≤◌, Option, Some, None, is_some, refl, sym, ap, ◌∙◌, subst, arith}
 use Rattle.hwp_cpu_row.specs.hwp_geom.declared.Layout.{Layout}
 use Rattle.hwp_cpu_row.specs.hwp_page.History.{BodyValue}
 use Rattle.hwp_cpu_row.specs.hwp_page.declared.At.{At}
@@ -22,15 +21,6 @@ use Rattle.hwp_cpu_command_laws.specs.hwp_cpu_command.hwp_cpu_copy.hwp_fork.decl
 use Rattle.hwp_cpu_command_laws.specs.hwp_cpu_command.hwp_cpu_copy.hwp_fork.declared.cow.CowAt.{CowAt}
 use Rattle.hwp_cpu_command_laws.specs.hwp_cpu_command.hwp_cpu_copy.hwp_fork.declared.cow.CowAt.TheVariants as cow_at
 use Rattle.hwp_cpu_command_laws.specs.hwp_cpu_command.hwp_cpu_copy.hwp_fork.Cows as cows
-
--- where it pauses, its access does
-pub copy-at-pause : (c : Copying) {p : Pause} → copyings.pause c ≡ Some p → (c.at ≡ copying_at.Access) × (instructions.pause c.instruction ≡ Some p)
-copy-at-pause c {p} = which c.at refl
-  where
-    which : (x : CopyingAt) → c.at ≡ x → copyings.pause_at c.instruction x ≡ Some p → (c.at ≡ copying_at.Access) × (instructions.pause c.instruction ≡ Some p)
-    which copying_at.Access own is = (own, is)
-    which (copying_at.Free e stored) own is = absurd (none-some p is)
-    which (copying_at.Over answer) own is = absurd (none-some p is)
 
 -- behind its pause
 pub copy-behind : (c : Copying) (p : Pause) → c.at ≡ copying_at.Access → c.instruction.at ≡ instruction_at.Paused p

@@ -50,7 +50,8 @@ use Rattle.hwp_cpu_command_laws.specs.hwp_cpu_command.Answers.{soft_answer}
 use Rattle.hwp_cpu_course.specs.declared.course.Course.{Course}
 use Rattle.hwp_cpu_course.specs.Dues.{DueValue, HasCollected, next_due}
 use Rattle.hwp_cpu_course.specs.Courses.{AfterCollectingBy, AfterOwn, AfterOwnBy, AfterOwnIf, AfterRestBy, AfterSoft, Fits, FitsOf, FitsOwn, HasPassed, IsGoing, NextOf, RestsNow, answer, answer_of, bare_of, behind_cost, cost, cost_behind, cost_of, due_room, flat, gives_up, going_on, has_more, own_cost, part_of, passed, rests, soft_weight, task as course-task, turn_on, with_result}
-use Rattle.hwp_cpu_course.proofs.CopyRests.{copy-at-pause, few-behind}
+use Rattle.hwp_cpu_command_laws.proofs.of_hwp_cpu_command.of_hwp_cpu_copy.CopyResting.{at-pause as copy-at-pause}
+use Rattle.hwp_cpu_course.proofs.CopyRests.{few-behind}
 use Rattle.hwp_cpu_course.proofs.CourseLaws.{abandoned-stays, over-stays, told-some}
 use Rattle.hwp_cpu_course.proofs.DueLaws.{notes-few}
 use Rattle.hwp_cpu_course.proofs.PauseOwns.{pause-owns}

@@ -51,7 +51,8 @@ use Rattle.hwp_cpu_command_laws.proofs.of_hwp_cpu_command.of_hwp_soft.SoftRank.{
 use Rattle.hwp_cpu_course.specs.declared.course.Course.{Course}
 use Rattle.hwp_cpu_course.specs.Dues.{next_due}
 use Rattle.hwp_cpu_course.specs.Courses.{RestsNow, behind_cost, cost, cost_behind, flat, gives_up, gives_up_access, gives_up_copy, going_on, own_cost, rests, soft_weight}
-use Rattle.hwp_cpu_course.proofs.CopyRests.{copy-at-pause, copy-behind, copy-gives-over}
+use Rattle.hwp_cpu_command_laws.proofs.of_hwp_cpu_command.of_hwp_cpu_copy.CopyResting.{at-pause as copy-at-pause}
+use Rattle.hwp_cpu_course.proofs.CopyRests.{copy-behind, copy-gives-over}
 use Rattle.hwp_cpu_course.proofs.RestLaws.{some-of}
 use Rattle.hwp_cpu_course.proofs.ToldSince.{most}
 

@@ -39,7 +39,8 @@ use Rattle.hwp_cpu_command_laws.specs.hwp_cpu_command.hwp_scrub.Fits as scrub_fi
 use Rattle.hwp_cpu_command_laws.specs.hwp_cpu_command.hwp_scrub.Scrubs as scrubs
 use Rattle.hwp_cpu_course.specs.declared.course.Course.{Course}
 use Rattle.hwp_cpu_course.specs.Courses.{FitsOwn, HasPassed, RestsNow, gives_up, rests}
-use Rattle.hwp_cpu_course.proofs.CopyRests.{copy-at-pause, copy-behind}
+use Rattle.hwp_cpu_command_laws.proofs.of_hwp_cpu_command.of_hwp_cpu_copy.CopyResting.{at-pause as copy-at-pause}
+use Rattle.hwp_cpu_course.proofs.CopyRests.{copy-behind}
 use Rattle.hwp_cpu_course.proofs.PartBegins.{on-turn}
 
 -- ---- where it rests
@@ -91,7 +92,7 @@ paused-rest base layout view i p fits is = record { on_turn = fits.on_turn; hand
     has = subst (instruction_fits.FitsAt base layout view i fits.checks) (at-pause i.at is) fits.at
 
 copy-rest : (base : List Made) (layout : Layout) (view : View) (c : Copying) (p : Pause) → copying_fits.FitsFrom base layout view c → copyings.pause c ≡ Some p → AtRest layout view (kinds.Copying c)
-copy-rest base layout view c p fits is = record { on_turn = fits.on_turn; hand_is = has.hand_is; now = inr ((p, base, copy-resting.rests c p fits is), has.paid); paid = inl has.paid; told_paid = λ told. has.paid }
+copy-rest base layout view c p fits is = record { on_turn = fits.on_turn; hand_is = (paused c.instruction p access.instruction own.1).hand_is; now = inr ((p, base, copy-resting.rests c p fits is), paid); paid = inl paid; told_paid = λ told. paid }
   where
     own : (c.at ≡ copying_at.Access) × (instructions.pause c.instruction ≡ Some p)
     own = copy-at-pause c is
@@ -99,7 +100,9 @@ copy-rest base layout view c p fits is = record { on_turn = fits.on_turn; hand_i
     access : copying_fits.IsAccessing base layout view c fits.runs
     access = subst (copying_fits.FitsAt base layout view c fits.runs) own.0 fits.at
 
-    has = paused c.instruction p access.instruction own.1
+    paid : view.owed.losses ≡ []
+    paid = (paused c.instruction p access.instruction own.1).paid
+
 
 pub some-of : {A : Type 0} (o : Option A) → is_some o ≡ true → (x : A) × (o ≡ Some x)
 some-of None is = absurd (both_ways true (sym is) refl)

@@ -35,7 +35,7 @@ use Rattle.hwp_cpu_row.proofs.of_hwp_core_task.MadeEntries.{Lists, PutsNone, fra
 use Rattle.hwp_cpu_row.proofs.of_hwp_core_task.OwedLosses.{frame-owes, losses-same, page-owes}
 use Rattle.hwp_cpu_row.proofs.of_hwp_core_task.StepLeaves.{content_of}
 use Rattle.hwp_cpu_command_laws.specs.hwp_cpu_command.hwp_cpu_access.Fits.{checks_in, checks_made}
-use Rattle.hwp_cpu_command_laws.proofs.of_hwp_cpu_command.of_hwp_cpu_access.CommandGrows.{made-more}
+use Rattle.hwp_cpu_command_laws.proofs.of_hwp_cpu_command.of_hwp_cpu_access.CommandGrows.{More, made-more}
 use Rattle.hwp_cpu_command_laws.specs.hwp_cpu_command.hwp_law_commands.Commands.{is_check}
 use Rattle.hwp_cpu_command_laws.specs.hwp_cpu_command.hwp_soft_move.declared.relocate.Relocate.{Relocate}
 use Rattle.hwp_cpu_command_laws.specs.hwp_cpu_command.hwp_soft_move.declared.relocate.RelocateAt.{RelocateAt}
@@ -171,6 +171,7 @@ pub soft-grows : {base : List Made} {layout : Layout} {who : Who} {old new : Vie
     → (more : List Made) × (deeds who new ≡ deeds who old ++ more) × EachMember IsLeaving more
 soft-grows {base} {layout} {who} {old} {new} {step} before after made = (more, grown, each-behind before.more more (subst (EachMember IsLeaving) same after.leaving))
   where
+    all : More old new
     all = made-more step made
 
     more : List Made

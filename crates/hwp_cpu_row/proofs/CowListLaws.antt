@@ -67,7 +67,7 @@ module _ (layout : Layout) (thread : Thread) where
       ap (λ (l : List Cow). frozen_by (freezes_at layout thread m) x ∷ l) (frozen-more (m + 1) cs c ∙ ap (λ (n : ℕ). frozen_from layout thread (m + 1) cs ++ frozen_by (freezes_at layout thread n) c ∷ []) same)
 
   -- what the loop has made of the list so far
-  pub frozen-next : (n : ℕ) (now old : List Cow) (c made : Cow) → now ≡ frozen_from layout thread 0 (take n old) ++ drop n old → n < length old → c ≡ get_or now n own_page → made ≡ frozen_by (freezes_at layout thread n) c
+  frozen-next : (n : ℕ) (now old : List Cow) (c made : Cow) → now ≡ frozen_from layout thread 0 (take n old) ++ drop n old → n < length old → c ≡ get_or now n own_page → made ≡ frozen_by (freezes_at layout thread n) c
       → set now n made ≡ frozen_from layout thread 0 (take (n + 1) old) ++ drop (n + 1) old
   frozen-next n now old c made are within was is =
       let front : List Cow = frozen_from layout thread 0 (take n old) in
@@ -80,6 +80,10 @@ module _ (layout : Layout) (thread : Thread) where
       ∙ ap (λ (x : Cow). front ++ x ∷ drop (n + 1) old) new
       ∙ sym (append_assoc front (frozen_by (freezes_at layout thread (0 + length (take n old))) (get_or old n own_page) ∷ []) (drop (n + 1) old))
       ∙ ap (λ (l : List Cow). l ++ drop (n + 1) old) (sym (frozen-more 0 (take n old) (get_or old n own_page)) ∙ ap (frozen_from layout thread 0) (sym (take_more old n own_page within)))
+
+  pub frozen-step : (n : ℕ) (now old new : List Cow) (freezes : Bool) → now ≡ frozen_from layout thread 0 (take n old) ++ drop n old → n < length old → freezes ≡ freezes_at layout thread n → new ≡ set now n (frozen_by freezes (get_or now n own_page))
+      → new ≡ frozen_from layout thread 0 (take (n + 1) old) ++ drop (n + 1) old
+  frozen-step n now old new freezes are within so is = is ∙ frozen-next n now old (get_or now n own_page) (frozen_by freezes (get_or now n own_page)) are within refl (ap (λ (b : Bool). frozen_by b (get_or now n own_page)) so)
 
   pub frozen-whole : (n : ℕ) (now old : List Cow) → now ≡ frozen_from layout thread 0 (take n old) ++ drop n old → length old ≤ n → now ≡ frozen_from layout thread 0 old
   frozen-whole n now old are past =
@@ -150,14 +154,14 @@ pub switched-is : (cows : List Cow) (n m : ℕ) → get_or (set cows n (switched
     ≡ record (get_or cows m own_page) { switched = (get_or cows m own_page).switched || ((get_or cows m own_page).frozen && (n == m)) }
 switched-is cows n m = elim (cases_eq m n) [
   | inr apart ↦
-    let other : (n == m) ≡ false = ne_eqb n m (λ same. apart (sym same)) in
-    get_or-set_other cows n m (switched_by (get_or cows n own_page)) own_page apart
-    ∙ sym (ap (λ (b : Bool). record (get_or cows m own_page) { switched = (get_or cows m own_page).switched || ((get_or cows m own_page).frozen && b) }) other
-    ∙ ap (λ (b : Bool). record (get_or cows m own_page) { switched = (get_or cows m own_page).switched || b }) (and-none (get_or cows m own_page).frozen)
-    ∙ ap (λ (b : Bool). record (get_or cows m own_page) { switched = b }) (or-none (get_or cows m own_page).switched))
+      let other : (n == m) ≡ false = ne_eqb n m (λ same. apart (sym same)) in
+      get_or-set_other cows n m (switched_by (get_or cows n own_page)) own_page apart
+      ∙ sym (ap (λ (b : Bool). record (get_or cows m own_page) { switched = (get_or cows m own_page).switched || ((get_or cows m own_page).frozen && b) }) other
+      ∙ ap (λ (b : Bool). record (get_or cows m own_page) { switched = (get_or cows m own_page).switched || b }) (and-none (get_or cows m own_page).frozen)
+      ∙ ap (λ (b : Bool). record (get_or cows m own_page) { switched = b }) (or-none (get_or cows m own_page).switched))
   | inl same ↦ subst (λ (k : ℕ). get_or (set cows n (switched_by (get_or cows n own_page))) k own_page ≡ record (get_or cows k own_page) { switched = (get_or cows k own_page).switched || ((get_or cows k own_page).frozen && (n == k)) }) (sym same)
-    (own n ∙ sym (ap (λ (b : Bool). record (get_or cows n own_page) { switched = (get_or cows n own_page).switched || ((get_or cows n own_page).frozen && b) }) (eq-eqb n n refl)
-    ∙ ap (λ (b : Bool). record (get_or cows n own_page) { switched = (get_or cows n own_page).switched || b }) (and-all (get_or cows n own_page).frozen)))
+      (own n ∙ sym (ap (λ (b : Bool). record (get_or cows n own_page) { switched = (get_or cows n own_page).switched || ((get_or cows n own_page).frozen && b) }) (eq-eqb n n refl)
+      ∙ ap (λ (b : Bool). record (get_or cows n own_page) { switched = (get_or cows n own_page).switched || b }) (and-all (get_or cows n own_page).frozen)))
 ]
   where
     own : (k : ℕ) → get_or (set cows k (switched_by (get_or cows k own_page))) k own_page ≡ switched_by (get_or cows k own_page)

@@ -1,4 +1,4 @@
-ghost use Rattle.std.specs.Prelude.{◌≡◌, ◌&&◌, ◌==◌, false, get_or, is_some, IfOk, slice_get, slice_set};
+ghost use Rattle.std.specs.Prelude.{◌≡◌, ◌&&◌, ◌==◌, false, get_or, is_some, vec_len, IfOk, slice_get, slice_set};
 ghost use Rattle.std.specs.List.{list_any};
 ghost use Rattle.std.specs.Option.{option_map_or};
 ghost use Rattle.hwp_cpu_check.specs.hwp_law_commands.Cows.{own_page, twin_or};
@@ -195,17 +195,21 @@ fn freeze(layout: &Layout, thread: Thread, cows: &mut Vec<Cow>)
 {
     for number in 0..cows.len() {
         let freezes = freezes_slot(layout, thread, number);
-        cows[number] = frozen(freezes, cows[number]);
+        freeze_one(cows, number, freezes);
     }
 }
 
 /// The same of one translation, if the fork freezes it.
-fn frozen(freezes: bool, cow: Cow) -> Cow
-    ensures { result ≡ frozen_by freezes cow }
+fn freeze_one(cows: &mut Vec<Cow>, number: usize, freezes: bool)
+    ensures items { cows.new.items ≡ slice_set cows.old.items number (frozen_by freezes (get_or cows.old.items number own_page)) }
+    ensures len { vec_len cows.new ≡ vec_len cows.old }
 {
-    Cow {
-        frozen: cow.frozen || freezes,
-        switched: cow.switched,
+    if number < cows.len() {
+        let cow = cows[number];
+        cows[number] = Cow {
+            frozen: cow.frozen || freezes,
+            switched: cow.switched,
+        };
     }
 }
 

@@ -1,0 +1,2 @@
+pub mod CopyCaused
+pub mod LossesActed

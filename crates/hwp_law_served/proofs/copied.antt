@@ -1,0 +1,13 @@
+pub mod Uncopied
+pub mod RunFacts
+pub mod CopyStays
+pub mod CopyTells
+pub mod CopyEntries
+pub mod StoredLast
+pub mod CopyPlaces
+pub mod EndedThrough
+pub mod CopyLines
+pub mod EarlierSame
+pub mod NumbersActed
+pub mod Acted
+pub mod MadeOrder
