@@ -1,5 +1,5 @@
 -- The script that was acted on, list by list, and the copies of its commands.
-use Rattle.std.proofs.Common.{◌≡◌, ℕ, zero, suc, ◌+◌, ◌<◌, List, [], ◌∷◌, ◌++◌, Option, Some, None, get_or, length, option_and_then, option_map, slice_get, take, unwrap_or, inl, inr, refl, sym, ap, subst, ◌∙◌, arith}
+use Rattle.std.proofs.Common.{◌≡◌, ℕ, zero, suc, ◌+◌, ◌<◌, ◌≤◌, List, [], ◌∷◌, ◌++◌, Option, Some, None, get_or, length, option_and_then, option_map, slice_get, take, unwrap_or, inl, inr, refl, sym, ap, subst, ◌∙◌, arith}
 use Rattle.std.specs.List.{zip}
 use Rattle.std.proofs.Math.Path.{fun_ext}
 use Rattle.std.proofs.lemmas.Bool.{cases_lt}
@@ -30,7 +30,12 @@ at-left xs x i within =
 
 at-end : {X : Type 0} (xs : List X) (x : X) (i : ℕ) → i ≡ length xs → slice_get (xs ++ x ∷ []) i ≡ Some x
 at-end xs x i is =
-    slice_get-get_or (xs ++ x ∷ []) i x (let l : length (xs ++ x ∷ []) ≡ length xs + 1 = length_push xs x in omega (arith, l, is)) ∙ ap Some (get_or_push xs x x i is)
+    slice_get-get_or (xs ++ x ∷ []) i x (let l : length (xs ++ x ∷ []) ≡ length xs + 1 = length_push xs x in omega (arith, l, is)) ∙ ap Some (get_or_push xs x x i (sym is))
+
+-- the list that was read at a number
+pub read-list : {X : Type 0} (lists read : List (List X)) (n : ℕ) (d item here : List X) → read ≡ lists → n < length lists → item ≡ get_or read n d → here ≡ item → slice_get lists n ≡ Some here
+read-list lists read n d item here read_is within item_is here_is =
+    slice_get-get_or lists n d within ∙ ap Some (sym (here_is ∙ item_is ∙ ap (λ (l : List (List _)). get_or l n d) read_is))
 
 -- ---- one list
 
@@ -55,7 +60,7 @@ next-copied layout pairs commands n list c new are there is = record {
     | inl low ↦ get_or_append_left list (new ∷ []) None i (let m : length list ≡ n = are.many in omega (arith, m, low)) ∙ are.each i low
     | inr high ↦
         let same : i ≡ n = omega (arith, within, high) in
-        get_or_push list new None i (same ∙ sym are.many) ∙ is ∙ sym (ap (λ (o : Option Command). option_and_then (copied_from layout (take n pairs)) o) there)
+        get_or_push list new None i (are.many ∙ sym same) ∙ is ∙ sym (ap (λ (o : Option Command). option_and_then (copied_from layout (take n pairs)) o) there)
         ∙ ap (λ (k : ℕ). option_and_then (copied_from layout (take k pairs)) (slice_get commands k)) (sym same)
   ];
 }

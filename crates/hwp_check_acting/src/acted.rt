@@ -1,4 +1,4 @@
-ghost use Rattle.std.specs.Prelude.{◌≡◌, [], IfOk, length, slice_get, take, unwrap_or};
+ghost use Rattle.std.specs.Prelude.{◌≡◌, [], ◌∷◌, ◌++◌, IfOk, OnOk, length, slice_get, take, unwrap_or};
 ghost use Rattle.std.specs.List.{list_any};
 ghost use Rattle.hwp_law.specs.Acting.{acting_script, copied_at};
 ghost use Rattle.hwp_law.specs.hwp_law_commands.Commands.{has_fork, is_fork};
@@ -66,6 +66,14 @@ fn before(pairs: &[(Command, Answer)], number: usize) -> &[(Command, Answer)]
     }
 }
 
+/// Adds an item at a list's end.
+fn add<T: Drop>(list: &mut List<T>, item: T) -> Result<(), OutOfMemory>
+    ensures { OnOk result (list.new ≡ list.old ++ item ∷ []) }
+{
+    list.push(item)?;
+    Ok(())
+}
+
 /// What a processor with these commands and answers acted on.
 fn acting_list(
     alloc: Global,
@@ -77,7 +85,7 @@ fn acting_list(
 {
     let mut list = List::new(alloc);
     for number in 0..commands.len() {
-        list.push(acting(layout, before(pairs, number), &commands[number]))?;
+        add(&mut list, acting(layout, before(pairs, number), &commands[number]))?;
     }
     Ok(list)
 }
@@ -93,7 +101,7 @@ fn copies_list(
 {
     let mut list = List::new(alloc);
     for number in 0..commands.len() {
-        list.push(copied_from(layout, before(pairs, number), &commands[number]))?;
+        add(&mut list, copied_from(layout, before(pairs, number), &commands[number]))?;
     }
     Ok(list)
 }
@@ -121,8 +129,10 @@ fn acted_lists(
     for number in 0..script.lists.len() {
         let commands = script.lists.as_slice()[number].as_slice();
         let pairs = pairs_of(alloc, commands, rows_at(report, number))?;
-        lists.push(acting_list(alloc, &script.layout, commands, pairs.as_slice())?)?;
-        copies.push(copies_list(alloc, &script.layout, commands, pairs.as_slice())?)?;
+        let list = acting_list(alloc, &script.layout, commands, pairs.as_slice())?;
+        add(&mut lists, list)?;
+        let own = copies_list(alloc, &script.layout, commands, pairs.as_slice())?;
+        add(&mut copies, own)?;
     }
     Ok((lists, copies))
 }

@@ -84,6 +84,11 @@ pub record HasStoreBehind (report : Report) (who : Who) (at : At) : Type 0 where
   pub behind : at.entry < later.entry
   pub stores : is_store entry.what ≡ true
 
+-- the command stores behind the place that its answer names by `stored`
+abbrev pub StoresPast : Report → Who → Answer → Type 0
+StoresPast report who (answers.Stored at) = HasStoreBehind report who at
+StoresPast report who answer = ⊥
+
 -- nothing is wrong about an answer
 pub record IsGood (script : Script) (copies : Who → Option VSlot) (report : Report) (before : List CpuLine) (who : Who) (command : Command) (answer : Answer) : Type 0 where
   pub right : IsRight script report who command answer

@@ -1,6 +1,6 @@
 ghost use Rattle.std.specs.Prelude.{◌<◌, ◌^◌, IfOk, MatchOption};
 ghost use Rattle.hwp_check_rules.specs.hwp_check_acting.Scripts.{IsDeclared};
-ghost use Rattle.hwp_check_rules.specs.Firsts.{IsLeast, IsFirstFault};
+ghost use Rattle.hwp_check_rules.specs.Firsts.{IsLeast, IsFirstFault, IsClear};
 ghost use Rattle.hwp_check_rules.specs.Standing.{last_line};
 ghost use Rattle.hwp_check_evidence.specs.hwp_law.Events.{AreEvents};
 ghost use Rattle.hwp_check_answers.specs.Joining.{BreakEvents, IsEventLine};
@@ -53,7 +53,7 @@ pub(crate) fn first_of_all(
     requires events { MatchOption events (AreEvents script.now (copies_in copies.now) report.now) (IsLeast (IsEventLine script.now (copies_in copies.now) report.now)) }
     requires offlined { MatchOption offlined (AreAllOfflined script.now report.now) (IsLeast (IsOfflinedLine script.now report.now)) }
     requires breaks { BreakEvents script.now (copies_in copies.now) report.now }
-    ensures { MatchOption result (AnswersFit script.now (copies_in copies.now) report.now) (IsFirstFault (AnswersFit script.now (copies_in copies.now) report.now) (IsAnswerFault script.now (copies_in copies.now) report.now)) }
+    ensures { MatchOption result (IsClear (AnswersFit script.now (copies_in copies.now) report.now) (IsAnswerFault script.now (copies_in copies.now) report.now)) (IsFirstFault (AnswersFit script.now (copies_in copies.now) report.now) (IsAnswerFault script.now (copies_in copies.now) report.now)) }
 {
     let _script = script;
     let _copies = copies;

@@ -4,7 +4,7 @@ ghost use Rattle.hwp_check_evidence.specs.hwp_law.Endings.{IsOver};
 ghost use Rattle.hwp_check_evidence.specs.hwp_law.States.{IsInWindow, state_named};
 ghost use Rattle.hwp_check_evidence.specs.Ends.{HadEnded};
 ghost use Rattle.hwp_check_rules.specs.AnswerFaults.{IsNotLast, IsOutside, IsRevived, IsUnnamed};
-ghost use Rattle.hwp_check_answers.specs.Judging.{HadGone, HasStoreBehind, is_own_store};
+ghost use Rattle.hwp_check_answers.specs.Judging.{HadGone, HasStoreBehind, StoresPast, is_own_store};
 ghost use Rattle.std.specs.List.{list_any};
 ghost use Rattle.hwp_check_answers.specs.Walk.{IsRightlyGiven, IsWronglyGiven};
 
@@ -153,16 +153,24 @@ fn has_store_behind(report: &Report, who: Who, at: At) -> bool
     }
 }
 
+/// Whether the command stores behind the place that its answer names by `stored`.
+fn stores_past(given: &GivenAnswer<'_>) -> bool
+    ensures { IsTrue result ↔ StoresPast given.now.report given.now.who given.now.answer }
+{
+    match given.answer {
+        Answer::Stored(at) => has_store_behind(given.case.report(), given.case.who(), *at),
+        _ => false,
+    }
+}
+
 /// Whether the command copied a page, and stores behind the place that its answer names.
 #[tactic(auto, using(crate::proofs::LastLaws::not_last, crate::proofs::LastLaws::last_not))]
 fn is_not_last(given: &GivenAnswer<'_>) -> bool
     ensures { IsTrue result ↔ IsNotLast given.now.copies given.now.report given.now.who given.now.answer }
 {
-    match (copy_of(given.copies, given.case.who()), given.answer) {
-        (Some(_), Answer::Stored(at)) => {
-            has_store_behind(given.case.report(), given.case.who(), *at)
-        }
-        _ => false,
+    match copy_of(given.copies, given.case.who()) {
+        Some(_) => stores_past(given),
+        None => false,
     }
 }
 

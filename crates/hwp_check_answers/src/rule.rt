@@ -1,7 +1,7 @@
 ghost use Rattle.std.specs.Prelude.{◌<◌, ◌^◌, IfOk, MatchOption};
 ghost use Rattle.hwp_check_rules.specs.hwp_check_acting.Scripts.{IsDeclared};
 ghost use Rattle.hwp_check_rules.specs.Standing.{last_line};
-ghost use Rattle.hwp_check_rules.specs.Firsts.{IsFirstFault};
+ghost use Rattle.hwp_check_rules.specs.Firsts.{IsFirstFault, IsClear};
 ghost use Rattle.hwp_check_rules.specs.Rules.{AnswersFit, ShapeFits, HistoriesFit};
 ghost use Rattle.hwp_check_rules.specs.AnswerFaults.{IsAnswerFault};
 ghost use Rattle.hwp_check_rules.specs.hwp_check_acting.ActedOn.{copies_in};
@@ -23,7 +23,7 @@ pub fn answers_fault(
     requires room { last_line report.now < 2 ^ 64 }
     requires shape { ShapeFits script.now report.now }
     requires histories { HistoriesFit script.now (copies_in copies.now) report.now }
-    ensures { IfOk result (λ found. MatchOption found (AnswersFit script.now (copies_in copies.now) report.now) (IsFirstFault (AnswersFit script.now (copies_in copies.now) report.now) (IsAnswerFault script.now (copies_in copies.now) report.now))) }
+    ensures { IfOk result (λ found. MatchOption found (IsClear (AnswersFit script.now (copies_in copies.now) report.now) (IsAnswerFault script.now (copies_in copies.now) report.now)) (IsFirstFault (AnswersFit script.now (copies_in copies.now) report.now) (IsAnswerFault script.now (copies_in copies.now) report.now))) }
 {
     let lines = answer_lines(alloc, script, copies, report)?;
     let events = event_lines(alloc, script, copies, report)?;

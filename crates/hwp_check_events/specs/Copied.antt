@@ -1,5 +1,5 @@
 -- The machine checks of stores that copied a page, gathered from the histories.
-use Rattle.std.specs.Prelude.{◌≡◌, ℕ, ◌<◌, Bool, List, [], Option, Some, filter, get_or, length, map, slice_get, unwrap_or}
+use Rattle.std.specs.Prelude.{◌≡◌, ℕ, ◌<◌, Bool, false, List, [], ◌∷◌, Option, Some, filter, get_or, length, map, slice_get, unwrap_or}
 use Rattle.std.specs.Option.{option_map_or}
 use Rattle.hwp_banks.specs.hwp_geom.declared.Cpu.{Cpu}
 use Rattle.hwp_banks.specs.hwp_geom.declared.Who.{Who}
@@ -8,15 +8,15 @@ use Rattle.hwp_law.specs.hwp_geom.declared.TransDecl.{TransDecl}
 use Rattle.hwp_law.specs.hwp_geom.declared.VSlot.{VSlot}
 use Rattle.hwp_law.specs.hwp_page.declared.Entry.{Entry}
 use Rattle.hwp_law.specs.hwp_page.declared.What.{What}
+use Rattle.hwp_law.specs.hwp_page.declared.What.TheVariants as entries
 use Rattle.hwp_law.specs.hwp_report_text.declared.Report.{Report}
 use Rattle.hwp_law.specs.hwp_script_read.declared.Command.{Command}
 use Rattle.hwp_law.specs.hwp_script_read.declared.Command.TheVariants as commands
-use Rattle.hwp_law.specs.Copies.{checks_by, copy_checks, is_load, is_store}
+use Rattle.hwp_law.specs.Copies.{copy_checks, is_load, is_store}
 use Rattle.hwp_law.specs.Lines.{is_same_command}
 use Rattle.hwp_check_events.specs.declared.copied.CopyCheck.{CopyCheck}
 use Rattle.hwp_check_events.specs.declared.copied.Counted.{Counted}
 use Rattle.hwp_check_events.specs.declared.copied.Counted.TheVariants.{Loads, Stores}
-use Rattle.hwp_check_events.specs.declared.copied.Gathered.{Gathered}
 
 -- the entries that are counted before a machine check
 abbrev pub test_of : Counted → What → Bool
@@ -30,10 +30,14 @@ pair_of c = (c.before, c.line)
 abbrev pub own_whats : Who → List Entry → List What
 own_whats who entries = map (λ (e : Entry). e.what) (filter (λ (e : Entry). is_same_command who e.who) entries)
 
--- its machine checks there, each with the number of counted entries before it, and how many entries it has
-pub record IsGathered (test : What → Bool) (who : Who) (entries : List Entry) (gathered : Gathered) : Type 0 where
-  pub checks : map pair_of gathered.checks.items ≡ checks_by test 0 (own_whats who entries)
-  pub own : gathered.own ≡ length (own_whats who entries)
+-- the machine check that an entry is, with so many counted entries before it; and whether it is counted itself
+abbrev pub checks_in : ℕ → What → List (ℕ × ℕ)
+checks_in n (entries.Mce slot line mask) = (n, line) ∷ []
+checks_in n what = []
+
+abbrev pub is_counted : (What → Bool) → What → Bool
+is_counted test (entries.Mce slot line mask) = false
+is_counted test what = test what
 
 -- the entries of the page of a translation
 abbrev pub entries_through : Layout → Report → VSlot → List Entry

@@ -1,8 +1,8 @@
-ghost use Rattle.std.specs.Prelude.{◌≡◌, ◌<◌, ◌^◌, ◌++◌, [], IfOk, OnOk, get_or, length, map};
-ghost use Rattle.hwp_law.specs.Copies.{copy_checks, lines_at};
+ghost use Rattle.std.specs.Prelude.{◌≡◌, ◌<◌, ◌≤◌, ◌^◌, ◌++◌, ◌∷◌, [], false, IfOk, OnOk, get_or, length, map};
+ghost use Rattle.hwp_law.specs.Copies.{checks_by, copy_checks, lines_at};
 ghost use Rattle.hwp_law.specs.Lines.{is_same_command};
 ghost use Rattle.hwp_check_acting.specs.ActedOn.{copies_in};
-ghost use Rattle.hwp_check_events.specs.Copied.{AreCopied, IsGathered, copied_by, entries_through, pair_of, test_of};
+ghost use Rattle.hwp_check_events.specs.Copied.{AreCopied, checks_in, copied_by, entries_through, is_counted, own_whats, pair_of, test_of};
 
 use hwp_check_acting::copy_of;
 use hwp_law::{Command, Cpu, Entry, Layout, Line, List, OutOfMemory, Report, VSlot, What, Who};
@@ -13,13 +13,6 @@ use std::alloc::Global;
 pub struct CopyCheck {
     pub before: u64,
     pub line: Line,
-}
-
-/// The machine checks of a copy in one page, and how many entries it has there.
-#[derive(Drop)]
-pub struct Gathered {
-    pub checks: Vec<CopyCheck>,
-    pub own: u64,
 }
 
 /// Which entries are counted before a machine check.
@@ -46,32 +39,76 @@ fn counts(counted: Counted, what: &What) -> bool
     }
 }
 
-/// The machine checks of the command among the entries of a page, with those that are counted before each.
+/// Notes an entry of the command, with so many counted entries before it: its line, where it is a machine check. The result is whether it is
+/// counted itself.
+#[tactic(auto, using(crate::proofs::CopyLaws::one_more))]
+fn note_own(
+    checks: &mut Vec<CopyCheck>,
+    counted: Counted,
+    before: u64,
+    what: &What,
+) -> Result<bool, OutOfMemory>
+    ensures checks { OnOk result (map pair_of checks.new.items ≡ map pair_of checks.old.items ++ checks_in before what.now) }
+    ensures counted { IfOk result (λ is. is ≡ is_counted (test_of counted) what.now) }
+{
+    match what {
+        What::Mce { line, .. } => {
+            checks.push(CopyCheck {
+                before,
+                line: *line,
+            })?;
+            Ok(false)
+        }
+        _ => Ok(counts(counted, what)),
+    }
+}
+
+/// The same of any entry: one of another command is neither noted nor counted.
+fn note(
+    checks: &mut Vec<CopyCheck>,
+    counted: Counted,
+    who: Who,
+    before: u64,
+    entry: &Entry,
+) -> Result<bool, OutOfMemory>
+    ensures checks { OnOk result (map pair_of checks.new.items ≡ map pair_of checks.old.items ++ (if is_same_command who entry.now.who then checks_in before entry.now.what else [])) }
+    ensures counted { IfOk result (λ is. is ≡ (if is_same_command who entry.now.who then is_counted (test_of counted) entry.now.what else false)) }
+{
+    if is_same_command(who, entry.who) {
+        note_own(checks, counted, before, &entry.what)
+    } else {
+        Ok(false)
+    }
+}
+
+/// The machine checks of the command among the entries of a page, with how many are counted before each.
 fn gather(
     alloc: Global,
     counted: Counted,
     who: Who,
     entries: &[Entry],
-) -> Result<Gathered, OutOfMemory>
-    ensures { IfOk result (IsGathered (test_of counted) who entries.now) }
+) -> Result<Vec<CopyCheck>, OutOfMemory>
+    ensures { IfOk result (λ checks. map pair_of checks.items ≡ checks_by (test_of counted) 0 (own_whats who entries.now)) }
 {
     let mut checks = Vec::new(alloc);
-    let mut own = 0;
     let mut before = 0;
     for entry in entries {
-        if is_same_command(who, entry.who) {
-            own += 1;
-            if let What::Mce { line, .. } = &entry.what {
-                checks.push(CopyCheck {
-                    before,
-                    line: *line,
-                })?;
-            } else if counts(counted, &entry.what) {
-                before += 1;
-            }
-        }
+        let more = note(&mut checks, counted, who, before, entry)?;
+        before += u64::from(more);
     }
-    Ok(Gathered { checks, own })
+    Ok(checks)
+}
+
+/// How many of the entries are the command's.
+fn own_count(who: Who, entries: &[Entry]) -> u64
+    ensures own { result ≡ length (own_whats who entries.now) }
+    ensures few { result ≤ length entries.now }
+{
+    let mut own = 0;
+    for entry in entries {
+        own += u64::from(is_same_command(who, entry.who));
+    }
+    own
 }
 
 /// The entries of the page of a translation.
@@ -87,14 +124,22 @@ fn entries_through<'a>(layout: &Layout, report: &'a Report, slot: VSlot) -> &'a 
     }
 }
 
+/// Adds the line of the machine check, if it has so many entries before it.
+fn add_one(out: &mut Vec<Line>, n: u64, check: CopyCheck) -> Result<(), OutOfMemory>
+    ensures { OnOk result (out.new.items ≡ out.old.items ++ lines_at n (pair_of check ∷ [])) }
+{
+    if check.before == n {
+        out.push(check.line)?;
+    }
+    Ok(())
+}
+
 /// Adds the lines of those machine checks that have so many entries before them.
 fn add_at(out: &mut Vec<Line>, n: u64, checks: &[CopyCheck]) -> Result<(), OutOfMemory>
     ensures { OnOk result (out.new.items ≡ out.old.items ++ lines_at n (map pair_of checks.now)) }
 {
     for check in checks {
-        if check.before == n {
-            out.push(check.line)?;
-        }
+        add_one(out, n, *check)?;
     }
     Ok(())
 }
@@ -110,12 +155,14 @@ fn copy_checks(
 ) -> Result<List<Line>, OutOfMemory>
     ensures { IfOk result (λ lines. lines ≡ copy_checks layout.now report.now who from to) }
 {
-    let loads = gather(alloc, Counted::Loads, who, entries_through(layout, report, from))?;
-    let stores = gather(alloc, Counted::Stores, who, entries_through(layout, report, to))?;
+    let copied = entries_through(layout, report, from);
+    let own = entries_through(layout, report, to);
+    let loads = gather(alloc, Counted::Loads, who, copied)?;
+    let stores = gather(alloc, Counted::Stores, who, own)?;
     let mut lines = Vec::new(alloc);
-    for n in 0..loads.own + stores.own + 1 {
-        add_at(&mut lines, n, loads.checks.as_slice())?;
-        add_at(&mut lines, n, stores.checks.as_slice())?;
+    for n in 0..own_count(who, copied) + own_count(who, own) + 1 {
+        add_at(&mut lines, n, loads.as_slice())?;
+        add_at(&mut lines, n, stores.as_slice())?;
     }
     Ok(List::from_vec(lines))
 }
@@ -152,10 +199,10 @@ pub(crate) fn copied_of(
     requires few { length commands.now < 2 ^ 32 }
     ensures { IfOk result (AreCopied layout.now (copies_in copies.now) report.now cpu commands.now (length commands.now)) }
 {
-    let mut lists = List::new(alloc);
     if copies.is_empty() {
-        return Ok(lists);
+        return Ok(List::new(alloc));
     }
+    let mut lists = Vec::new(alloc);
     for number in 0..commands.len() {
         let who = Who {
             cpu,
@@ -164,7 +211,7 @@ pub(crate) fn copied_of(
         let command = &commands[number];
         lists.push(copied_by(alloc, layout, copies, report, who, command)?)?;
     }
-    Ok(lists)
+    Ok(List::from_vec(lists))
 }
 
 /// The list with the number, or an empty one.

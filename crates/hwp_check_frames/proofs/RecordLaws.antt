@@ -20,14 +20,14 @@ use Rattle.hwp_check_rules.specs.hwp_law.Lines.{is_same_command, marks_of, rows_
 use Rattle.hwp_check_rules.specs.hwp_law.Records.{IsAnswered, IsFound, IsFrameRecord, IsMarkAt, hardware_act, hardware_marks, how_in, is_by_hardware, line_results, result_lines, who_in}
 use Rattle.hwp_check_rules.specs.hwp_law_commands.Outcomes.{outcome_act}
 use Rattle.hwp_check_rules.specs.MarkFaults.{HasNoEvent, IsEventBeyond, IsMisfound, IsUnsaid}
-use Rattle.hwp_check_frames.specs.MarkScans.{AreRightMarks, FindsRight, FrameFits, HasEvent, IsClear, IsFrameFaultAt, IsRecordFault, IsRecordWrong, IsRightMark, IsWrongMark, NoneBeyond, RecordFits, RecordsFit, results_in}
+use Rattle.hwp_check_frames.specs.MarkScans.{AreRightMarks, FindsRight, FrameFits, HasEvent, IsFrameFaultAt, IsRecordFault, IsRecordWrong, IsRightMark, IsWrongMark, NoneBeyond, RecordFits, RecordsFit, results_in}
 use Rattle.hwp_check_rules.specs.Rules.{ShapeFits}
 use Rattle.hwp_check_rules.specs.Standing.{frame_height, frame_line, last_line}
 use Rattle.hwp_check_rules.specs.declared.Rule.TheVariants.{Shape}
 use Rattle.hwp_check_frames.proofs.Results.{act-at, acts-many, agree, none-beyond, own, results-are, results-many, some-beyond}
 use Rattle.hwp_check_frames.proofs.SoftLaws.{all-said, not-said, said-all, said-not}
 use Rattle.hwp_check_frames.proofs.FramePlaces.{and-both, and-left, and-right, frame-next, frame-rises, marks-are, same-self, same-who, shown-in}
-use Rattle.hwp_check_rules.specs.Firsts.{IsFirstFault}
+use Rattle.hwp_check_rules.specs.Firsts.{IsFirstFault, IsClear}
 
 finds-from : (kernel : Bool) (mark : MarkLine) → FindsRight kernel mark → (how : How) → how_in mark ≡ Some how → IsFound kernel how
 finds-from kernel (marks.Poisoned cycle who h) found how is = subst (λ (x : How). IsFound kernel x) (same_Some _ _ is) found

@@ -2,9 +2,9 @@ ghost use Rattle.std.specs.Prelude.{◌<◌, ◌+◌, ◌^◌, length, IfOk, Mat
 ghost use Rattle.hwp_check_rules.specs.hwp_check_acting.Scripts.{IsDeclared};
 ghost use Rattle.hwp_check_rules.specs.hwp_law.Lines.{marks_of};
 ghost use Rattle.hwp_check_frames.specs.Index.{IsIndex};
-ghost use Rattle.hwp_check_frames.specs.MarkScans.{AreRightMarks, FrameFits, IsClear, IsFirstWrongMark, IsFrameFaultAt, IsRecordFault, NoneBeyond, RecordsFit, SomeBeyond};
+ghost use Rattle.hwp_check_frames.specs.MarkScans.{AreRightMarks, FrameFits, IsFirstWrongMark, IsFrameFaultAt, IsRecordFault, NoneBeyond, RecordsFit, SomeBeyond};
 ghost use Rattle.hwp_check_rules.specs.Standing.{last_line};
-ghost use Rattle.hwp_check_rules.specs.Firsts.{IsFirstFault};
+ghost use Rattle.hwp_check_rules.specs.Firsts.{IsFirstFault, IsClear};
 ghost use Rattle.hwp_check_rules.specs.Rules.{ShapeFits};
 
 use crate::index::Index;

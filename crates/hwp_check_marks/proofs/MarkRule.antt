@@ -21,12 +21,12 @@ use Rattle.hwp_check_rules.specs.hwp_law.Lines.{is_same_command, marks_of}
 use Rattle.hwp_check_rules.specs.hwp_law.Pairings.{AreRecorded, entries_of, finds, has_page, is_failure, is_failure_mark, is_move_mark, is_required, is_soft, is_soft_mark, is_urgent, marks_in, soft_lines, urgent_from}
 use Rattle.hwp_check_rules.specs.hwp_law.Places.{entry_at}
 use Rattle.hwp_check_rules.specs.hwp_law.Records.{IsAnswered, IsMarkAt, hardware_marks, how_in, is_by_hardware, result_lines, who_in}
-use Rattle.hwp_check_rules.specs.Firsts.{sooner, soonest, IsFirstFault}
+use Rattle.hwp_check_rules.specs.Firsts.{sooner, soonest, IsFirstFault, IsClear}
 use Rattle.hwp_check_rules.specs.MarkFaults.{HasNoEvent, IsMarkFault, IsMarkLacking, IsMisfound, IsMisrequired, IsSoftBeyond, IsUnsaid, LacksMarks, home_of}
 use Rattle.hwp_check_rules.specs.Rules.{MarksFit}
 use Rattle.hwp_check_rules.specs.Standing.{entry_line, frame_line}
 use Rattle.hwp_check_rules.specs.declared.Rule.TheVariants.{Marks}
-use Rattle.hwp_check_frames.specs.MarkScans.{IsClear, IsRecordFault, RecordsFit}
+use Rattle.hwp_check_frames.specs.MarkScans.{IsRecordFault, RecordsFit}
 use Rattle.hwp_check_marks.specs.Unpaired.{AllFew, IsExtra, IsTooMany}
 use Rattle.hwp_check_marks.specs.Walks.{IsLowest}
 use Rattle.hwp_check_marks.proofs.LackLaws.{SomeEntryIn, some-entry}

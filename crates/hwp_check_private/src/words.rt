@@ -1,6 +1,6 @@
-ghost use Rattle.std.specs.Prelude.{◌≡◌, ◌<◌, length, option_map};
+ghost use Rattle.std.specs.Prelude.{◌≡◌, ◌<◌, length, option_map, unwrap_or};
 ghost use Rattle.hwp_check_rules.specs.hwp_law.Private.{freeze_from, loaded, private_word, word_at_fork, word_before, word_in, word_stored};
-ghost use Rattle.hwp_check_private.specs.Words.{entries_through, last_before, last_stored, pair_in};
+ghost use Rattle.hwp_check_private.specs.Words.{entries_through, last_before, last_stored, pair_in, word_if};
 
 use hwp_check_rules::{
     Answer, Command, Cpu, Entry, Layout, Line, Met, Report, VSlot, What, freezes_slot,
@@ -42,12 +42,22 @@ pub(crate) fn frozen_at(
     None
 }
 
-/// The word that a command with this answer stored there, if it stored one.
-fn word_stored(spot: Spot, command: Command, answer: Answer) -> Option<u64>
-    ensures { result ≡ word_stored spot.slot spot.line (command, answer) }
+/// The word, or the last one where there is none.
+fn word_or(word: Option<u64>, last: u64) -> u64
+    ensures { result ≡ unwrap_or word last }
 {
-    match (command, answer) {
-        (Command::Store { slot, line, word, .. }, Answer::Stored(_)) => {
+    match word {
+        Some(word) => word,
+        None => last,
+    }
+}
+
+/// The word, if it was stored through the translation on the line, and the answer says so.
+fn word_if(spot: Spot, slot: VSlot, line: Line, word: u64, answer: Answer) -> Option<u64>
+    ensures { result ≡ word_if spot.slot spot.line slot line word answer }
+{
+    match answer {
+        Answer::Stored(_) => {
             if slot.0 == spot.slot.0 && line.get() == spot.line.get() {
                 Some(word)
             } else {
@@ -58,15 +68,26 @@ fn word_stored(spot: Spot, command: Command, answer: Answer) -> Option<u64>
     }
 }
 
+/// The word that a command with this answer stored there, if it stored one.
+#[tactic(auto, using(crate::proofs::WordLaws::stored_if))]
+fn word_stored(spot: Spot, command: Command, answer: Answer) -> Option<u64>
+    ensures { result ≡ word_stored spot.slot spot.line (command, answer) }
+{
+    match command {
+        Command::Store {
+            slot, line, word, ..
+        } => word_if(spot, slot, line, word, answer),
+        _ => None,
+    }
+}
+
 /// The word that the last of some commands stored there, or this one where none did.
 fn last_stored(spot: Spot, first: u64, pairs: &[(Command, Answer)]) -> u64
     ensures { result ≡ last_stored spot.slot spot.line first pairs.now }
 {
     let mut last = first;
     for pair in pairs {
-        if let Some(word) = word_stored(spot, pair.0, pair.1) {
-            last = word;
-        }
+        last = word_or(word_stored(spot, pair.0, pair.1), last);
     }
     last
 }
@@ -102,9 +123,7 @@ fn last_before(cpu: Cpu, number: u64, line: Line, entries: &[Entry]) -> u64
 {
     let mut last = 0;
     for entry in entries {
-        if let Some(word) = word_before(cpu, number, line, entry) {
-            last = word;
-        }
+        last = word_or(word_before(cpu, number, line, entry), last);
     }
     last
 }

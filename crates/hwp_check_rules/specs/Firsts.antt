@@ -12,6 +12,11 @@ pub record IsFirstFault (Kept : Type 0) (IsWrong : ℕ → Type 0) (line : ℕ) 
   pub at : IsWrong line
   pub first : (other : ℕ) → IsWrong other → line ≤ other
 
+-- nothing breaks a rule, and it holds
+pub record IsClear (Fits : Type 0) (IsFault : ℕ → Type 0) : Type 0 where
+  pub fits : Fits
+  pub none : (line : ℕ) → IsFault line → ⊥
+
 -- the lower of a line that was found so far, if one was, and one more
 abbrev pub sooner : Option ℕ → ℕ → Option ℕ
 sooner None line = Some line

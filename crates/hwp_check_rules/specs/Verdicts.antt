@@ -1,5 +1,5 @@
 -- The verdict on a report: legal, or the lowest rule that is broken with the first line that breaks it.
-use Rattle.std.specs.Prelude.{ℕ, ◌<◌, ◌≤◌}
+use Rattle.std.specs.Prelude.{ℕ, ◌<◌, ◌≤◌, Option, ◌⊎◌}
 use Rattle.hwp_law.specs.hwp_script_read.declared.Script.{Script}
 use Rattle.hwp_law.specs.hwp_report_text.declared.Report.{Report}
 use Rattle.hwp_law.specs.Law.{IsLawful}
@@ -14,6 +14,8 @@ use Rattle.hwp_check_rules.specs.Rules.{AnswersFit, CountFits, FramesFit, Histor
 use Rattle.hwp_law.specs.Acting.{acting_script, copied_at}
 use Rattle.hwp_law.specs.Private.{ArePrivate}
 use Rattle.hwp_check_rules.specs.Firsts.{IsFirstFault}
+use Rattle.hwp_law.specs.hwp_geom.declared.VSlot.{VSlot}
+use Rattle.hwp_law.specs.hwp_geom.declared.Who.{Who}
 
 -- the numbers of the rules
 abbrev pub number : Rule → ℕ
@@ -27,29 +29,37 @@ number Losses = 7
 number Stop = 8
 number Frames = 9
 
--- the rule holds, as the law judges a report: by the script that its processors acted on
-abbrev pub Holds : Rule → Script → Report → Type 0
-Holds Shape script report = ShapeFits (acting_script script report) report
-Holds Histories script report = HistoriesFit (acting_script script report) (copied_at script report) report
-Holds Answers script report = AnswersFit (acting_script script report) (copied_at script report) report × ArePrivate script report
-Holds Seen script report = SeenFit (acting_script script report) report
-Holds Marks script report = MarksFit (acting_script script report) report
-Holds Count script report = CountFits report
-Holds Losses script report = LossesFit (acting_script script report) report
-Holds Stop script report = StopFits (acting_script script report) report
-Holds Frames script report = FramesFit (acting_script script report) report
+-- the rule holds by this script, where stores copy so; and the line breaks it
+abbrev pub Fits : Rule → Script → (Who → Option VSlot) → Report → Type 0
+Fits Shape script copies report = ShapeFits script report
+Fits Histories script copies report = HistoriesFit script copies report
+Fits Answers script copies report = AnswersFit script copies report
+Fits Seen script copies report = SeenFit script report
+Fits Marks script copies report = MarksFit script report
+Fits Count script copies report = CountFits report
+Fits Losses script copies report = LossesFit script report
+Fits Stop script copies report = StopFits script report
+Fits Frames script copies report = FramesFit script report
 
--- the line breaks the rule
+abbrev pub IsFaultBy : Rule → Script → (Who → Option VSlot) → Report → ℕ → Type 0
+IsFaultBy Shape script copies report line = IsShapeFault script report line
+IsFaultBy Histories script copies report line = IsHistoryFault script copies report line
+IsFaultBy Answers script copies report line = IsAnswerFault script copies report line
+IsFaultBy Seen script copies report line = IsSeenFault script report line
+IsFaultBy Marks script copies report line = IsMarkFault script report line
+IsFaultBy Count script copies report line = IsCountFault report line
+IsFaultBy Losses script copies report line = IsLossFault script report line
+IsFaultBy Stop script copies report line = IsStopFault script report line
+IsFaultBy Frames script copies report line = IsFrameFault script report line
+
+-- a report is judged by the script that its processors acted on; and the rule of answers is also that of private words
+abbrev pub Holds : Rule → Script → Report → Type 0
+Holds Answers script report = AnswersFit (acting_script script report) (copied_at script report) report × ArePrivate script report
+Holds rule script report = Fits rule (acting_script script report) (copied_at script report) report
+
 abbrev pub IsFault : Rule → Script → Report → ℕ → Type 0
-IsFault Shape script report line = IsShapeFault (acting_script script report) report line
-IsFault Histories script report line = IsHistoryFault (acting_script script report) (copied_at script report) report line
 IsFault Answers script report line = IsAnswerFault (acting_script script report) (copied_at script report) report line ⊎ IsPrivateFault script report line
-IsFault Seen script report line = IsSeenFault (acting_script script report) report line
-IsFault Marks script report line = IsMarkFault (acting_script script report) report line
-IsFault Count script report line = IsCountFault report line
-IsFault Losses script report line = IsLossFault (acting_script script report) report line
-IsFault Stop script report line = IsStopFault (acting_script script report) report line
-IsFault Frames script report line = IsFrameFault (acting_script script report) report line
+IsFault rule script report line = IsFaultBy rule (acting_script script report) (copied_at script report) report line
 
 -- the rules of lower numbers hold
 abbrev pub HoldBelow : ℕ → Script → Report → Type 0
