@@ -1,4 +1,4 @@
--- When a layout is sound, which pages of it are locked, and which translations have a twin.
+-- When a layout is sound, which pages of it are locked, which translations have a twin, and which processes are guests.
 use Rattle.std.specs.Prelude.{◌≡◌, ◌<◌, ◌≤◌, ◌==◌, Bool, false, length, get_or, All, Option, None, Some, is_some}
 use Rattle.std.specs.List.{list_any}
 use Rattle.hwp_geom.specs.declared.layout.Layout.{Layout}
@@ -7,6 +7,7 @@ use Rattle.hwp_geom.specs.declared.layout.TransDecl.{TransDecl}
 use Rattle.hwp_geom.specs.declared.layout.PageKind.{PageKind}
 use Rattle.hwp_geom.specs.declared.layout.PageKind.TheVariants.{Anon, File}
 use Rattle.hwp_geom.specs.declared.numbers.Page.{Page}
+use Rattle.hwp_geom.specs.declared.numbers.Proc.{Proc}
 use Rattle.hwp_geom.specs.declared.numbers.VSlot.{VSlot}
 use Rattle.hwp_geom.specs.Limits.{cpu_limit, frame_limit, file_limit, process_limit, thread_limit, page_limit, translation_limit, cpu_limit_of, frame_limit_of, page_limit_of, translation_limit_of}
 
@@ -28,7 +29,7 @@ pub record IsWithin (layout : Layout) : Type 0 where
   pub trans : length layout.trans ≤ translation_limit_of layout.version
 
 -- the numbers are within the limits, what a declaration names is declared, and of each page it is said whether it is locked, of each translation
--- which twin it has, if any
+-- which twin it has, if any, and of each process whether it is a guest
 pub record IsSound (layout : Layout) : Type 0 where
   pub some_cpu : 1 ≤ layout.cpus
   pub cpus : layout.cpus ≤ cpu_limit
@@ -47,10 +48,15 @@ pub record IsSound (layout : Layout) : Type 0 where
   pub locked : length layout.locked ≡ length layout.pages
   pub twins : length layout.twins ≡ length layout.trans
   pub twin_names : All (IsTwinDeclared layout) layout.twins
+  pub guests : length layout.guests ≡ layout.procs
 
 -- whether a page is locked; no page without a declaration is
 abbrev pub is_locked : Layout → Page → Bool
 is_locked layout page = get_or layout.locked page.0 false
+
+-- whether a process is a guest; no process without a declaration is
+abbrev pub is_guest : Layout → Proc → Bool
+is_guest layout process = get_or layout.guests process.0 false
 
 -- the private twin of a translation, if it has one: behind a fork it stands for the translation, once that was stored through
 abbrev pub twin_of : Layout → VSlot → Option VSlot

@@ -1,5 +1,5 @@
 ghost use Rattle.std.specs.Prelude.{◌≡◌, IfOk};
-ghost use Rattle.hwp_geom.specs.Layout.{has_twin, is_locked, is_slot, is_twin, twin_of};
+ghost use Rattle.hwp_geom.specs.Layout.{has_twin, is_guest, is_locked, is_slot, is_twin, twin_of};
 ghost use Rattle.hwp_geom.specs.Limits.{cpu_limit, frame_limit, file_limit, process_limit, thread_limit, page_limit, translation_limit, command_limit};
 
 use crate::OutOfMemory;
@@ -62,7 +62,8 @@ pub struct TransDecl {
 /// What a script declares of the machine. `kernel` has a value for each frame, `locked` one for each page: a locked page is never
 /// dropped or swapped out on request. `recovery` and `early` are the settings `vm.memory_failure_recovery` and
 /// `vm.memory_failure_early_kill` (Linux hwpoison.rst). `twins` has a value for each translation: the private one that stands for it
-/// once it is stored through behind a fork (copy on write).
+/// once it is stored through behind a fork (copy on write). `guests` has a value for each process: one that is a guest gets its machine
+/// checks from its host.
 #[derive(Drop)]
 pub struct Layout {
     pub version: Version,
@@ -78,6 +79,7 @@ pub struct Layout {
     pub trans: List<TransDecl>,
     pub locked: List<bool>,
     pub twins: List<Option<VSlot>>,
+    pub guests: List<bool>,
 }
 
 impl Layout {
@@ -99,6 +101,7 @@ impl Layout {
             trans: self.trans.copy(alloc)?,
             locked: self.locked.copy(alloc)?,
             twins: self.twins.copy(alloc)?,
+            guests: self.guests.copy(alloc)?,
         })
     }
 
@@ -108,6 +111,16 @@ impl Layout {
     {
         match self.locked.as_slice().get(usize::from(page.0)) {
             Some(locked) => *locked,
+            None => false,
+        }
+    }
+
+    /// Whether the process is a guest.
+    pub fn is_guest(&self, process: Proc) -> bool
+        ensures { result ≡ is_guest self.now process }
+    {
+        match self.guests.as_slice().get(usize::from(process.0)) {
+            Some(guest) => *guest,
             None => false,
         }
     }

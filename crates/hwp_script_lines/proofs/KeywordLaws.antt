@@ -33,6 +33,7 @@ is_one keywords.Recovery h ws = record { shape = λ h. h; long = λ h. h; number
 is_one keywords.Early h ws = record { shape = λ h. h; long = λ h. h; numbers = λ h. h; all = λ h. h; kind = λ n. refl; fits = λ n l. l; same = λ n e. e }
 is_one keywords.File h ws = record { shape = λ h. h; long = λ h. h; numbers = λ h. h; all = λ h. h; kind = λ n. refl; fits = λ n l. l; same = λ n e. e }
 is_one keywords.Proc h ws = record { shape = λ h. h; long = λ h. h; numbers = λ h. h; all = λ h. h; kind = λ n. refl; fits = λ n l. l; same = λ n e. e }
+is_one keywords.Guest h ws = record { shape = λ h. h; long = λ h. h; numbers = λ h. h; all = λ h. h; kind = λ n. refl; fits = λ n l. l; same = λ n e. e }
 is_one keywords.Cpu h ws = record { shape = λ h. h; long = λ h. h; numbers = λ h. h; all = λ h. h; kind = λ n. refl; fits = λ n l. l; same = λ n e. e }
 is_one keywords.Hwp h ws = absurd (cc h)
 is_one keywords.Thread h ws = absurd (cc h)
@@ -76,6 +77,7 @@ no_line w ws none (forms.Recovery n) h = absurd (cc h.kind)
 no_line w ws none (forms.Early n) h = absurd (cc h.kind)
 no_line w ws none (forms.File n) h = absurd (cc h.kind)
 no_line w ws none (forms.Proc n) h = absurd (cc h.kind)
+no_line w ws none (forms.Guest n) h = absurd (cc h.kind)
 no_line w ws none (forms.Cpu n) h = absurd (cc h.kind)
 
 pub command_misfit : (w : CommandWord) (ws : List (List ℕ)) (e : Misfit) → IsCommandMisfit w ws e → IsSentenceMisfit (command_keyword w) ws e

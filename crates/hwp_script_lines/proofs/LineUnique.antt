@@ -130,6 +130,7 @@ form_at turns keywords.Recovery ws = forms.Recovery (value ws 0)
 form_at turns keywords.Early ws = forms.Early (value ws 0)
 form_at turns keywords.File ws = forms.File (value ws 0)
 form_at turns keywords.Proc ws = forms.Proc (value ws 0)
+form_at turns keywords.Guest ws = forms.Guest (value ws 0)
 form_at turns keywords.Cpu ws = forms.Cpu (value ws 0)
 
 handler_found : (h : Bool) → (length (handler_text h) == 7) ≡ h
@@ -185,6 +186,7 @@ form_found turns ws (forms.Recovery n) one h e = ap forms.Recovery (value_is ws 
 form_found turns ws (forms.Early n) one h e = ap forms.Early (value_is ws 0 n h (ap (λ us. get_or us 0 []) e))
 form_found turns ws (forms.File n) one h e = ap forms.File (value_is ws 0 n h (ap (λ us. get_or us 0 []) e))
 form_found turns ws (forms.Proc n) one h e = ap forms.Proc (value_is ws 0 n h (ap (λ us. get_or us 0 []) e))
+form_found turns ws (forms.Guest n) one h e = ap forms.Guest (value_is ws 0 n h (ap (λ us. get_or us 0 []) e))
 form_found turns ws (forms.Cpu n) one h e = ap forms.Cpu (value_is ws 0 n h (ap (λ us. get_or us 0 []) e))
 
 turns_unique : (ws : List (List ℕ)) (turns : List Go) (g : ScriptLine) → Pairs IsTurn ws turns → AreRestWords ws g → keyword g ≡ keywords.Schedule
@@ -205,6 +207,7 @@ turns_unique ws turns (forms.Recovery n) h k e = absurd (cc e)
 turns_unique ws turns (forms.Early n) h k e = absurd (cc e)
 turns_unique ws turns (forms.File n) h k e = absurd (cc e)
 turns_unique ws turns (forms.Proc n) h k e = absurd (cc e)
+turns_unique ws turns (forms.Guest n) h k e = absurd (cc e)
 turns_unique ws turns (forms.Cpu n) h k e = absurd (cc e)
 
 -- the turns of a line are those of any line of these words
@@ -226,6 +229,7 @@ turns_agree ws (forms.Recovery n) g same h k e = absurd (cc (same ∙ e))
 turns_agree ws (forms.Early n) g same h k e = absurd (cc (same ∙ e))
 turns_agree ws (forms.File n) g same h k e = absurd (cc (same ∙ e))
 turns_agree ws (forms.Proc n) g same h k e = absurd (cc (same ∙ e))
+turns_agree ws (forms.Guest n) g same h k e = absurd (cc (same ∙ e))
 turns_agree ws (forms.Cpu n) g same h k e = absurd (cc (same ∙ e))
 
 pub sentence_unique : (k : Keyword) (ws : List (List ℕ)) (f g : ScriptLine) → IsSentence k ws f → IsSentence k ws g → f ≡ g

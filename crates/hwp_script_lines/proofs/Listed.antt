@@ -88,10 +88,10 @@ word_listed words.Fork = (20, omega arith, refl)
 abbrev pub all_heads : List Keyword
 all_heads =
     keywords.Hwp ∷ keywords.Cpus ∷ keywords.Frames ∷ keywords.Kernel ∷ keywords.Recovery ∷ keywords.Early ∷ keywords.File ∷ keywords.Proc ∷
-    keywords.Thread ∷ keywords.Page ∷ keywords.Trans ∷ keywords.Cow ∷ keywords.Cpu ∷ keywords.Schedule ∷ keywords.End ∷ []
+    keywords.Thread ∷ keywords.Guest ∷ keywords.Page ∷ keywords.Trans ∷ keywords.Cow ∷ keywords.Cpu ∷ keywords.Schedule ∷ keywords.End ∷ []
 
 -- each first word has a place in the list, or is a command's
-pub head_listed : (k : Keyword) → ((i : ℕ) × (i < 15) × (get_or all_heads i keywords.Hwp ≡ k)) ⊎ ((w : CommandWord) × (k ≡ keywords.Command w))
+pub head_listed : (k : Keyword) → ((i : ℕ) × (i < 16) × (get_or all_heads i keywords.Hwp ≡ k)) ⊎ ((w : CommandWord) × (k ≡ keywords.Command w))
 head_listed keywords.Hwp = inl (0, omega arith, refl)
 head_listed keywords.Cpus = inl (1, omega arith, refl)
 head_listed keywords.Frames = inl (2, omega arith, refl)
@@ -101,21 +101,22 @@ head_listed keywords.Early = inl (5, omega arith, refl)
 head_listed keywords.File = inl (6, omega arith, refl)
 head_listed keywords.Proc = inl (7, omega arith, refl)
 head_listed keywords.Thread = inl (8, omega arith, refl)
-head_listed keywords.Page = inl (9, omega arith, refl)
-head_listed keywords.Trans = inl (10, omega arith, refl)
-head_listed keywords.Cow = inl (11, omega arith, refl)
-head_listed keywords.Cpu = inl (12, omega arith, refl)
-head_listed keywords.Schedule = inl (13, omega arith, refl)
-head_listed keywords.End = inl (14, omega arith, refl)
+head_listed keywords.Guest = inl (9, omega arith, refl)
+head_listed keywords.Page = inl (10, omega arith, refl)
+head_listed keywords.Trans = inl (11, omega arith, refl)
+head_listed keywords.Cow = inl (12, omega arith, refl)
+head_listed keywords.Cpu = inl (13, omega arith, refl)
+head_listed keywords.Schedule = inl (14, omega arith, refl)
+head_listed keywords.End = inl (15, omega arith, refl)
 head_listed (keywords.Command w) = inr (w, refl)
 
-no_head-at : (word : List ℕ) (i : ℕ) → 15 ≤ i → IsNoneOf (λ k. word ≡ keyword_text k) all_heads i → ((w : CommandWord) → word ≡ command_text w → ⊥)
-    → (k : Keyword) → word ≡ keyword_text k → ((j : ℕ) × (j < 15) × (get_or all_heads j keywords.Hwp ≡ k)) ⊎ ((w : CommandWord) × (k ≡ keywords.Command w)) → ⊥
+no_head-at : (word : List ℕ) (i : ℕ) → 16 ≤ i → IsNoneOf (λ k. word ≡ keyword_text k) all_heads i → ((w : CommandWord) → word ≡ command_text w → ⊥)
+    → (k : Keyword) → word ≡ keyword_text k → ((j : ℕ) × (j < 16) × (get_or all_heads j keywords.Hwp ≡ k)) ⊎ ((w : CommandWord) × (k ≡ keywords.Command w)) → ⊥
 no_head-at word i all heads none k e (inl listed) =
     none-at (λ k. word ≡ keyword_text k) all_heads i listed.0 keywords.Hwp (omega arith) heads (omega arith) (e ∙ ap keyword_text (sym listed.2))
 no_head-at word i all heads none k e (inr order) = none order.0 (e ∙ ap keyword_text order.1)
 
 -- a word that is neither in the list nor a command's is no first word
-pub no_head : (word : List ℕ) (i : ℕ) → 15 ≤ i → IsNoneOf (λ k. word ≡ keyword_text k) all_heads i → ((w : CommandWord) → word ≡ command_text w → ⊥)
+pub no_head : (word : List ℕ) (i : ℕ) → 16 ≤ i → IsNoneOf (λ k. word ≡ keyword_text k) all_heads i → ((w : CommandWord) → word ≡ command_text w → ⊥)
     → (k : Keyword) → word ≡ keyword_text k → ⊥
 no_head word i all heads none k e = no_head-at word i all heads none k e (head_listed k)

@@ -32,6 +32,7 @@ keyword_found keywords.Recovery = refl
 keyword_found keywords.Early = refl
 keyword_found keywords.File = refl
 keyword_found keywords.Proc = refl
+keyword_found keywords.Guest = refl
 keyword_found keywords.Thread = refl
 keyword_found keywords.Page = refl
 keyword_found keywords.Trans = refl

@@ -68,6 +68,7 @@ printable-keyword keywords.Recovery = plain (keyword_text keywords.Recovery) ref
 printable-keyword keywords.Early = plain (keyword_text keywords.Early) refl
 printable-keyword keywords.File = plain (keyword_text keywords.File) refl
 printable-keyword keywords.Proc = plain (keyword_text keywords.Proc) refl
+printable-keyword keywords.Guest = plain (keyword_text keywords.Guest) refl
 printable-keyword keywords.Thread = plain (keyword_text keywords.Thread) refl
 printable-keyword keywords.Page = plain (keyword_text keywords.Page) refl
 printable-keyword keywords.Trans = plain (keyword_text keywords.Trans) refl
@@ -280,6 +281,7 @@ form_rest ws (forms.Recovery n) h e = let all = one ws n (h, e) in record { prin
 form_rest ws (forms.Early n) h e = let all = one ws n (h, e) in record { printable = numbers_printable ws all; shape = ap length e; numbers = all }
 form_rest ws (forms.File n) h e = let all = one ws n (h, e) in record { printable = numbers_printable ws all; shape = ap length e; numbers = all }
 form_rest ws (forms.Proc n) h e = let all = one ws n (h, e) in record { printable = numbers_printable ws all; shape = ap length e; numbers = all }
+form_rest ws (forms.Guest n) h e = let all = one ws n (h, e) in record { printable = numbers_printable ws all; shape = ap length e; numbers = all }
 form_rest ws (forms.Cpu n) h e = let all = one ws n (h, e) in record { printable = numbers_printable ws all; shape = ap length e; numbers = all }
 form_rest ws (forms.Trans m n p) h e =
     let all = three ws m n p (h.0, h.1, h.2, e) in record { printable = numbers_printable ws all; shape = ap length e; numbers = all }

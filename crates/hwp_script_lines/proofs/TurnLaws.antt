@@ -123,6 +123,7 @@ no_schedule ws none (forms.Recovery n) h = absurd (cc h.kind)
 no_schedule ws none (forms.Early n) h = absurd (cc h.kind)
 no_schedule ws none (forms.File n) h = absurd (cc h.kind)
 no_schedule ws none (forms.Proc n) h = absurd (cc h.kind)
+no_schedule ws none (forms.Guest n) h = absurd (cc h.kind)
 no_schedule ws none (forms.Cpu n) h = absurd (cc h.kind)
 
 -- all words have numbers, and one is over its limit

@@ -147,6 +147,7 @@ has_one_number keywords.Recovery = true
 has_one_number keywords.Early = true
 has_one_number keywords.File = true
 has_one_number keywords.Proc = true
+has_one_number keywords.Guest = true
 has_one_number keywords.Cpu = true
 has_one_number k = false
 
@@ -159,5 +160,6 @@ form_with keywords.Recovery n = forms.Recovery n
 form_with keywords.Early n = forms.Early n
 form_with keywords.File n = forms.File n
 form_with keywords.Proc n = forms.Proc n
+form_with keywords.Guest n = forms.Guest n
 form_with keywords.Cpu n = forms.Cpu n
 form_with k n = forms.End

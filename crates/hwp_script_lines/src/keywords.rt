@@ -18,6 +18,7 @@ pub(crate) enum Keyword {
     File,
     Proc,
     Thread,
+    Guest,
     Page,
     Trans,
     Cow,
@@ -79,7 +80,7 @@ const COMMAND_WORDS: [CommandWord; 21] = [
 ];
 
 /// The first words of all other lines.
-const HEADS: [Keyword; 15] = [
+const HEADS: [Keyword; 16] = [
     Keyword::Hwp,
     Keyword::Cpus,
     Keyword::Frames,
@@ -89,6 +90,7 @@ const HEADS: [Keyword; 15] = [
     Keyword::File,
     Keyword::Proc,
     Keyword::Thread,
+    Keyword::Guest,
     Keyword::Page,
     Keyword::Trans,
     Keyword::Cow,
@@ -171,6 +173,7 @@ impl Keyword {
             Keyword::File => "file",
             Keyword::Proc => "proc",
             Keyword::Thread => "thread",
+            Keyword::Guest => "guest",
             Keyword::Page => "page",
             Keyword::Trans => "trans",
             Keyword::Cow => "cow",
@@ -187,7 +190,7 @@ impl Keyword {
     {
         match self {
             Keyword::Page => count == 3 || count == 6,
-            Keyword::Cow => true,
+            Keyword::Cow | Keyword::Guest => true,
             Keyword::Command(word) => word.is_newer(),
             _ => false,
         }

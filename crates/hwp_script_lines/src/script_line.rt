@@ -38,6 +38,8 @@ pub enum ScriptLine {
         cpu: u64,
         handler: bool,
     },
+    /// `guest P`: a process that is a guest.
+    Guest(u64),
     /// `page Q anon` or `page Q file N fill X`: a page, and what stands behind it; in version 2 also with `locked` at the end.
     Page {
         page: u64,

@@ -168,6 +168,7 @@ fn numbered_form(keyword: Keyword, number: u64) -> ScriptLine
         Keyword::Early => ScriptLine::Early(number),
         Keyword::File => ScriptLine::File(number),
         Keyword::Proc => ScriptLine::Proc(number),
+        Keyword::Guest => ScriptLine::Guest(number),
         Keyword::Cpu => ScriptLine::Cpu(number),
         _ => unreachable!(),
     }
