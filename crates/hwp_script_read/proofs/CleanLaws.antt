@@ -2,16 +2,17 @@
 use Rattle.std.proofs.Common.{ℕ, Bool, true, false, ◌≡◌, ◌<◌, ◌≤◌, List, [], ◌∷◌, length, inl, inr, zero, suc, refl, arith, ap, rules, Option, None, Some, ◌+◌}
 use Rattle.std.specs.Prelude.{slice_get, option_and_then, IsSome, IsSomeAnd}
 use Rattle.std.proofs.lemmas.Bool.{false_from_ne_true}
-use Rattle.hwp_script_lines.specs.hwp_geom.Layout.{has_twin, is_twin}
+use Rattle.hwp_script_lines.specs.hwp_geom.Layout.{has_twin, is_guest, is_twin}
 use Rattle.hwp_script_lines.specs.hwp_geom.declared.PageKind.{PageKind}
 use Rattle.hwp_script_lines.specs.hwp_geom.declared.TransDecl.{TransDecl}
 use Rattle.hwp_script_read.specs.Limits.{schedule_limit}
 use Rattle.hwp_script_lines.specs.hwp_geom.Limits.{command_limit, cpu_limit, frame_limit, page_limit, translation_limit, cpu_limit_of, frame_limit_of, page_limit_of, translation_limit_of}
 use Rattle.hwp_script_lines.specs.hwp_geom.declared.Version.{Version}
 use Rattle.hwp_script_lines.specs.hwp_geom.declared.Version.TheVariants as versions
-use Rattle.hwp_script_read.specs.Context.{version_in, cpus_in, frames_in, recovery_in, early_in, files_in, procs_in, threads_in, pages_in, trans_in, names_in, slot_of, commands_in, go_in, place_in, group, highest}
+use Rattle.hwp_script_read.specs.Context.{version_in, cpus_in, frames_in, recovery_in, early_in, files_in, procs_in, threads_in, pages_in, trans_in, names_in, process_of, slot_of, commands_in, go_in, place_in, group, highest}
 use Rattle.hwp_script_read.specs.Collects.{commands_of}
 use Rattle.hwp_script_read.specs.Forks.{actor, has_shared_page, is_again, is_wrong_fork, names_twin}
+use Rattle.hwp_script_read.specs.Guests.{is_no_guest}
 use Rattle.hwp_script_read.specs.Reasons.{IsMisplaced, IsElsewhere, IsBackingOver, IsBackingUndeclared, IsUndeclared, IsNoPair, IsNewer, IsBeyond, top_cpu, IsClean}
 use Rattle.hwp_script_lines.specs.declared.Backing.{Backing}
 use Rattle.hwp_script_lines.specs.declared.Go.{Go}
@@ -168,7 +169,7 @@ clean_thread {above} {t} {p} {c} {b} h =
     }
 
 pub record IsPageClean (above : List ScriptLine) (q : ℕ) (b : Backing) (locked : Bool) : Type 0 where
-  pub placed : IsPlaced above 9
+  pub placed : IsPlaced above 10
   pub older : version_in above ≡ versions.One → locked ≡ false
   pub few : q < page_limit_of (version_in above)
   pub next : q ≡ length (pages_in above)
@@ -185,7 +186,7 @@ clean_page {above} {q} {b} {locked} h =
     let twice = h.none whys.Twice in
     let gap : length (pages_in above) < q → ⊥ = λ e. h.none whys.WrongPlace (inr e) in
     record {
-      placed = placed above 9 (λ e. h.none whys.WrongPlace (inl e));
+      placed = placed above 10 (λ e. h.none whys.WrongPlace (inl e));
       older = λ one. not_true locked (λ e. h.none whys.UnknownWord (one, e));
       few = omega arith;
       next = omega arith;
@@ -194,7 +195,7 @@ clean_page {above} {q} {b} {locked} h =
     }
 
 pub record IsTransClean (above : List ScriptLine) (v p q : ℕ) : Type 0 where
-  pub placed : IsPlaced above 10
+  pub placed : IsPlaced above 11
   pub few : v < translation_limit_of (version_in above)
   pub next : v ≡ length (trans_in above)
   pub process : p < procs_in above
@@ -212,7 +213,7 @@ clean_trans {above} {v} {p} {q} h =
     let twice = h.none whys.Twice in
     let gap : length (trans_in above) < v → ⊥ = λ e. h.none whys.WrongPlace (inr e) in
     record {
-      placed = placed above 10 (λ e. h.none whys.WrongPlace (inl e));
+      placed = placed above 11 (λ e. h.none whys.WrongPlace (inl e));
       few = omega arith;
       next = omega arith;
       process = omega arith;
@@ -221,8 +222,29 @@ clean_trans {above} {v} {p} {q} h =
       low_page = omega arith;
     }
 
+pub record IsGuestClean (above : List ScriptLine) (p : ℕ) : Type 0 where
+  pub placed : IsPlaced above 9
+  pub newer : version_in above ≡ versions.One → ⊥
+  pub few : p < 16
+  pub declared : p < procs_in above
+  pub fresh : is_guest (names_in above) (process_of p) ≡ false
+  pub fit : is_no_guest (threads_in above) p ≡ false
+
+pub clean_guest : {above : List ScriptLine} {p : ℕ} → IsClean above (forms.Guest p) → IsGuestClean above p
+clean_guest {above} {p} h =
+    let over = h.none whys.OverLimit in
+    let none = h.none whys.Undeclared in
+    record {
+      placed = placed above 9 (λ e. h.none whys.WrongPlace (inl e));
+      newer = h.none whys.UnknownWord;
+      few = omega arith;
+      declared = omega arith;
+      fresh = false_from_ne_true _ (h.none whys.Twice);
+      fit = false_from_ne_true _ (λ e. h.none whys.WrongPlace (inr e));
+    }
+
 pub record IsCowClean (above : List ScriptLine) (v w : ℕ) : Type 0 where
-  pub placed : IsPlaced above 11
+  pub placed : IsPlaced above 12
   pub newer : version_in above ≡ versions.One → ⊥
   pub low : v < translation_limit_of (version_in above)
   pub low_twin : w < translation_limit_of (version_in above)
@@ -238,7 +260,7 @@ clean_cow {above} {v} {w} h =
     let over : translation_limit_of (version_in above) ≤ v → ⊥ = λ e. h.none whys.OverLimit (inl e) in
     let over_twin : translation_limit_of (version_in above) ≤ w → ⊥ = λ e. h.none whys.OverLimit (inr e) in
     record {
-      placed = placed above 11 (λ e. h.none whys.WrongPlace (inl e));
+      placed = placed above 12 (λ e. h.none whys.WrongPlace (inl e));
       newer = h.none whys.UnknownWord;
       low = omega arith;
       low_twin = omega arith;
@@ -260,7 +282,7 @@ pub cow_declared : {above : List ScriptLine} {v w : ℕ} → IsClean above (form
 cow_declared {above} {v} {w} h = first_declared (pages_in above) (trans_in above) v (slice_get (trans_in above) w) (clean_cow h).paired
 
 pub record IsCpuClean (above : List ScriptLine) (c : ℕ) : Type 0 where
-  pub placed : IsPlaced above 12
+  pub placed : IsPlaced above 13
   pub cpu : c < cpus_in above
   pub low : c < cpu_limit_of (version_in above)
 
@@ -268,10 +290,10 @@ pub clean_cpu : {above : List ScriptLine} {c : ℕ} → IsClean above (forms.Cpu
 clean_cpu {above} {c} h =
     let over = h.none whys.OverLimit in
     let none = h.none whys.Undeclared in
-    record { placed = placed above 12 (h.none whys.WrongPlace); cpu = omega arith; low = omega arith }
+    record { placed = placed above 13 (h.none whys.WrongPlace); cpu = omega arith; low = omega arith }
 
 pub record IsCommandClean (above : List ScriptLine) (c : Command) : Type 0 where
-  pub placed : IsPlaced above 12
+  pub placed : IsPlaced above 13
   pub older : version_in above ≡ versions.One → IsNewer c → ⊥
   pub few : commands_in above < command_limit
   pub low : IsBeyond (version_in above) c → ⊥
@@ -285,7 +307,7 @@ pub clean_command : {above : List ScriptLine} {c : Command} → IsClean above (f
 clean_command {above} {c} h =
     let many : command_limit ≤ commands_in above → ⊥ = λ e. h.none whys.OverLimit (inl e) in
     record {
-      placed = placed above 12 (λ e. h.none whys.WrongPlace (inl e));
+      placed = placed above 13 (λ e. h.none whys.WrongPlace (inl e));
       older = λ one new. h.none whys.UnknownWord (one, new);
       few = omega arith;
       low = λ e. h.none whys.OverLimit (inr e);
@@ -297,7 +319,7 @@ clean_command {above} {c} h =
     }
 
 pub record IsScheduleClean (above : List ScriptLine) (ws : List Go) : Type 0 where
-  pub placed : IsPlaced above 13
+  pub placed : IsPlaced above 14
   pub few : length (go_in above) + length ws ≤ schedule_limit
   pub low : top_cpu ws < cpu_limit_of (version_in above)
   pub cpus : top_cpu ws < cpus_in above
@@ -307,10 +329,10 @@ clean_schedule {above} {ws} h =
     let many : schedule_limit < length (go_in above) + length ws → ⊥ = λ e. h.none whys.OverLimit (inl e) in
     let high : cpu_limit_of (version_in above) ≤ top_cpu ws → ⊥ = λ e. h.none whys.OverLimit (inr e) in
     let none = h.none whys.Undeclared in
-    record { placed = placed above 13 (h.none whys.WrongPlace); few = omega arith; low = omega arith; cpus = omega arith }
+    record { placed = placed above 14 (h.none whys.WrongPlace); few = omega arith; low = omega arith; cpus = omega arith }
 
-pub clean_end : {above : List ScriptLine} → IsClean above forms.End → IsPlaced above 13
-clean_end {above} h = placed above 13 (h.none whys.WrongPlace)
+pub clean_end : {above : List ScriptLine} → IsClean above forms.End → IsPlaced above 14
+clean_end {above} h = placed above 14 (h.none whys.WrongPlace)
 
 -- the numbers of clean lines are within the limits of all versions
 pub small_cpus : {above : List ScriptLine} {n : ℕ} → IsClean above (forms.Cpus n) → n ≤ cpu_limit
@@ -339,6 +361,7 @@ clean_late above (forms.Early b) k = (clean_early k).placed.late
 clean_late above (forms.File n) k = (clean_file k).placed.late
 clean_late above (forms.Proc p) k = (clean_proc k).placed.late
 clean_late above (forms.Thread t p c b) k = (clean_thread k).placed.late
+clean_late above (forms.Guest p) k = (clean_guest k).placed.late
 clean_late above (forms.Page q b l) k = (clean_page k).placed.late
 clean_late above (forms.Trans v p q) k = (clean_trans k).placed.late
 clean_late above (forms.Cow v w) k = (clean_cow k).placed.late

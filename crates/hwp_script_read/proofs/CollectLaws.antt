@@ -31,12 +31,12 @@ pub no_command : (p : Option ℕ) (c : ℕ) (f : ScriptLine) → command_of f �
 no_command None c f e = refl
 no_command (Some q) c f e = rw e (none_kept (q == c))
 
-not_command : (f : ScriptLine) → group f ≤ 11 → command_of f ≡ None
+not_command : (f : ScriptLine) → group f ≤ 12 → command_of f ≡ None
 not_command (forms.Command c) l = absurd (omega (arith, l))
 not_command f l = refl
 
 -- lines of low groups have no commands
-pub none_from : (p : Option ℕ) (c : ℕ) (xs : List ScriptLine) → highest xs ≤ 11 → commands_from p c xs ≡ []
+pub none_from : (p : Option ℕ) (c : ℕ) (xs : List ScriptLine) → highest xs ≤ 12 → commands_from p c xs ≡ []
 none_from p c [] l = refl
 none_from p c (x ∷ xs) l = rw (no_command p c x (not_command x (omega (arith, l)))) (none_from (place_after p x) c xs (omega (arith, l)))
 

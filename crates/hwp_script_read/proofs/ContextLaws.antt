@@ -1,11 +1,11 @@
 -- What one more line adds to what the lines declare.
-use Rattle.std.proofs.Common.{ℕ, ◌≡◌, ◌+◌, ◌++◌, max, List, [], ◌∷◌, length, Option, Some, None, ap, ◌∙◌, refl, arith}
+use Rattle.std.proofs.Common.{ℕ, ◌≡◌, ◌+◌, ◌++◌, Bool, true, false, max, List, [], ◌∷◌, length, Option, Some, None, ap, ◌∙◌, refl, arith}
 use Rattle.std.specs.Prelude.{sum, fold, filter_map, flat_map, slice_get}
 use Rattle.std.proofs.lemmas.List.{append-nil, length_push, length-set}
 use Rattle.std.proofs.lemmas.List.Elements.{filter_map-append}
 use Rattle.std.proofs.lemmas.List.Sums.{fold-append}
 use Rattle.std.proofs.lemmas.Grind.{flat_map-append}
-use Rattle.hwp_script_read.specs.Context.{version_after, locked_of, version_in, locked_in, cpus_of, frames_of, kernel_of, recovery_of, early_of, file_of, proc_of, thread_of, page_of, trans_of, cpu_of, command_of, words_of, cpus_in, frames_in, kernel_in, recovery_in, early_in, files_in, procs_in, threads_in, pages_in, trans_in, twins_after, twins_in, names_in, slot_of, lists_in, commands_in, go_in, place_in, place_after, group, highest}
+use Rattle.hwp_script_read.specs.Context.{version_after, locked_of, version_in, locked_in, cpus_of, frames_of, kernel_of, recovery_of, early_of, file_of, proc_of, thread_of, page_of, trans_of, cpu_of, command_of, words_of, cpus_in, frames_in, kernel_in, recovery_in, early_in, files_in, procs_in, threads_in, pages_in, trans_in, twins_after, twins_in, guests_after, guests_in, names_in, slot_of, lists_in, commands_in, go_in, place_in, place_after, group, highest}
 use Rattle.hwp_script_read.specs.Sums.{Sums, names_of}
 use Rattle.hwp_script_read.specs.declared.context.Summary.{Summary}
 use Rattle.hwp_script_lines.specs.hwp_geom.declared.VSlot.{VSlot}
@@ -75,6 +75,7 @@ pub record IsPushed (above : List ScriptLine) (f : ScriptLine) : Type 0 where
   pub trans : trans_in (above ++ f ∷ []) ≡ onto (trans_of f) (trans_in above)
   pub locked : locked_in (above ++ f ∷ []) ≡ onto (locked_of f) (locked_in above)
   pub twins : twins_in (above ++ f ∷ []) ≡ twins_after (twins_in above) f
+  pub guests : guests_in (above ++ f ∷ []) ≡ guests_after (guests_in above) f
   pub lists : lists_in (above ++ f ∷ []) ≡ onto (cpu_of f) (lists_in above)
   pub place : place_in (above ++ f ∷ []) ≡ place_after (place_in above) f
   pub commands : commands_in (above ++ f ∷ []) ≡ more (command_of f) (commands_in above)
@@ -96,6 +97,7 @@ pushed above f = record {
   trans = filter_map-push trans_of above f _ refl;
   locked = filter_map-push locked_of above f _ refl;
   twins = fold-append twins_after [] above (f ∷ []);
+  guests = fold-append guests_after [] above (f ∷ []);
   lists = filter_map-push cpu_of above f _ refl;
   place = fold-append place_after None above (f ∷ []);
   commands = ap length (filter_map-push command_of above f _ refl) ∙ length-onto (command_of f) (filter_map command_of above);
@@ -112,6 +114,16 @@ twins-many ts (f ∷ fs) = twins-many ts fs
 pub twins-long : (fs : List ScriptLine) → length (twins_in fs) ≡ length (trans_in fs)
 twins-long fs = omega (arith, twins-many [] fs)
 
+-- each process has a place among the guests
+guests-many : (gs : List Bool) (fs : List ScriptLine) → length (fold guests_after gs fs) ≡ length gs + length (filter_map proc_of fs)
+guests-many gs [] = omega arith
+guests-many gs (forms.Proc p ∷ fs) = omega (arith, guests-many (gs ++ false ∷ []) fs, length_push gs false)
+guests-many gs (forms.Guest p ∷ fs) = omega (arith, guests-many (guests_after gs (forms.Guest p)) fs, length-set gs p true)
+guests-many gs (f ∷ fs) = guests-many gs fs
+
+pub guests-long : (fs : List ScriptLine) → length (guests_in fs) ≡ procs_in fs
+guests-long fs = omega (arith, guests-many [] fs)
+
 -- a summary keeps the names that the lines declare
 pub names-kept : {above : List ScriptLine} {s : Summary} → Sums above s → names_of s ≡ names_in above
-names-kept {above} {s} h = rw (h.version, h.cpus, h.frames, h.files, h.procs, h.threads, h.pages, h.trans, h.locked, h.twins) refl
+names-kept {above} {s} h = rw (h.version, h.cpus, h.frames, h.files, h.procs, h.threads, h.pages, h.trans, h.locked, h.twins, h.guests) refl

@@ -81,7 +81,7 @@ used_step above (forms.Schedule ws) c k h =
 used_step above forms.End c k h =
     quiet_used above forms.End c (names_late above forms.End (omega arith)) (commands_of-push above forms.End c ∙ rw (no_command (place_in above) c forms.End refl) (append-nil (commands_of above c))) h
 used_step above f c k h =
-    let low : highest (above ++ f ∷ []) ≤ 11 = omega (arith, (pushed above f).group, clean_late above f k) in
+    let low : highest (above ++ f ∷ []) ≤ 12 = omega (arith, (pushed above f).group, clean_late above f k) in
     let none : commands_of (above ++ f ∷ []) c ≡ [] = none_from None c (above ++ f ∷ []) low in
     subst (AreWellUsed (names_in (above ++ f ∷ [])) c) (sym none) (none_used (names_in (above ++ f ∷ [])) c)
 

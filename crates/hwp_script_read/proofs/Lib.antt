@@ -8,6 +8,7 @@ pub mod JudgeLaws
 pub mod NameLaws
 pub mod TwinLaws
 pub mod ForkLaws
+pub mod GuestLaws
 pub mod TallyLaws
 pub mod FitLaws
 pub mod ValidLaws

@@ -36,9 +36,9 @@ marks_same (x ∷ xs) (y ∷ ys) h =
     let here : x ≡ y = first_mark x y (h.each 0).0 (h.each 0).1 in
     let rest : xs ≡ ys = marks_same xs ys (record { long = omega (arith, h.long); each = λ i. h.each (suc i) }) in cc
 
-abbrev laid_out : Version → ℕ → ℕ → List Bool → Bool → Bool → ℕ → ℕ → List ThreadDecl → List PageKind → List TransDecl → List Bool → List (Option VSlot) → Layout
-laid_out v c f k r e n p ts qs vs ls ws =
-    record { version = v; cpus = c; frames = f; kernel = k; recovery = r; early = e; files = n; procs = p; threads = ts; pages = qs; trans = vs; locked = ls; twins = ws }
+abbrev laid_out : Version → ℕ → ℕ → List Bool → Bool → Bool → ℕ → ℕ → List ThreadDecl → List PageKind → List TransDecl → List Bool → List (Option VSlot) → List Bool → Layout
+laid_out v c f k r e n p ts qs vs ls ws gs =
+    record { version = v; cpus = c; frames = f; kernel = k; recovery = r; early = e; files = n; procs = p; threads = ts; pages = qs; trans = vs; locked = ls; twins = ws; guests = gs }
 
 abbrev script_made : Layout → List (List Command) → List Go → Script
 script_made l lists go = record { layout = l; lists = lists; go = go }
@@ -61,11 +61,12 @@ collected_once fs s t h k =
     let trans : t.layout.trans ≡ s.layout.trans = k.trans ∙ sym h.trans in
     let locked : t.layout.locked ≡ s.layout.locked = k.locked ∙ sym h.locked in
     let twins : t.layout.twins ≡ s.layout.twins = k.twins ∙ sym h.twins in
+    let guests : t.layout.guests ≡ s.layout.guests = k.guests ∙ sym h.guests in
     let lists : t.lists ≡ s.lists = k.lists ∙ sym h.lists in
     let go : t.go ≡ s.go = k.go ∙ sym h.go in
-    let same : script_made (laid_out t.layout.version t.layout.cpus t.layout.frames t.layout.kernel t.layout.recovery t.layout.early t.layout.files t.layout.procs t.layout.threads t.layout.pages t.layout.trans t.layout.locked t.layout.twins) t.lists t.go
-    ≡ script_made (laid_out s.layout.version s.layout.cpus s.layout.frames s.layout.kernel s.layout.recovery s.layout.early s.layout.files s.layout.procs s.layout.threads s.layout.pages s.layout.trans s.layout.locked s.layout.twins) s.lists s.go =
-    rw (version, cpus, frames, kernel, recovery, early, files, procs, threads, pages, trans, locked, twins, lists, go) refl in same
+    let same : script_made (laid_out t.layout.version t.layout.cpus t.layout.frames t.layout.kernel t.layout.recovery t.layout.early t.layout.files t.layout.procs t.layout.threads t.layout.pages t.layout.trans t.layout.locked t.layout.twins t.layout.guests) t.lists t.go
+    ≡ script_made (laid_out s.layout.version s.layout.cpus s.layout.frames s.layout.kernel s.layout.recovery s.layout.early s.layout.files s.layout.procs s.layout.threads s.layout.pages s.layout.trans s.layout.locked s.layout.twins s.layout.guests) s.lists s.go =
+    rw (version, cpus, frames, kernel, recovery, early, files, procs, threads, pages, trans, locked, twins, guests, lists, go) refl in same
 
 pub one_script : (bytes : List ℕ) (s t : Script) → Reads bytes s → Reads bytes t → t ≡ s
 one_script bytes s t h k =

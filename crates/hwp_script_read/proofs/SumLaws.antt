@@ -5,7 +5,7 @@ use Rattle.std.specs.List.{range_with_len}
 use Rattle.std.proofs.lemmas.List.Elements.{Contains-push, Contains-append_left, Contains-push_cases}
 use Rattle.std.proofs.lemmas.List.FromFn.{length-map-range_with_len}
 use Rattle.std.proofs.lemmas.Bool.{cases_eq}
-use Rattle.hwp_script_read.specs.Context.{version_after, locked_of, cpus_of, frames_of, kernel_of, recovery_of, early_of, file_of, proc_of, thread_of, page_of, trans_of, cpu_of, command_of, words_of, place_after, twins_after, cpus_in, frames_in, kernel_in, group as group_of, highest}
+use Rattle.hwp_script_read.specs.Context.{version_after, locked_of, cpus_of, frames_of, kernel_of, recovery_of, early_of, file_of, proc_of, thread_of, page_of, trans_of, cpu_of, command_of, words_of, place_after, twins_after, guests_after, cpus_in, frames_in, kernel_in, group as group_of, highest}
 use Rattle.hwp_script_read.specs.Collects.{commands_of}
 use Rattle.hwp_script_read.specs.Sums.{Sums}
 use Rattle.hwp_script_read.specs.declared.context.Summary.{Summary}
@@ -25,8 +25,9 @@ pub next_sums : (above : List ScriptLine) (f : ScriptLine) (s t : Summary) → S
     → t.procs ≡ more (proc_of f) s.procs → t.threads ≡ onto (thread_of f) s.threads → t.pages ≡ onto (page_of f) s.pages
     → t.trans ≡ onto (trans_of f) s.trans → t.begun ≡ onto (cpu_of f) s.begun → t.place ≡ place_after s.place f
     → t.commands ≡ more (command_of f) s.commands → t.go ≡ s.go ++ words_of f → IfSome t.place (λ (p : ℕ). p < t.cpus)
-    → t.lists.items ≡ lists_after f s.place t.cpus s.lists.items → t.twins.items ≡ twins_after s.twins.items f → Sums (above ++ f ∷ []) t
-next_sums above f s t h late group version locked cpus frames marks kernel recovery early files procs threads pages trans begun place commands go within lists twins =
+    → t.lists.items ≡ lists_after f s.place t.cpus s.lists.items → t.twins.items ≡ twins_after s.twins.items f
+    → t.guests.items ≡ guests_after s.guests.items f → Sums (above ++ f ∷ []) t
+next_sums above f s t h late group version locked cpus frames marks kernel recovery early files procs threads pages trans begun place commands go within lists twins guests =
     let p = pushed above f in
     let many : t.cpus ≡ cpus_in (above ++ f ∷ []) = cpus ∙ ap (plus (cpus_of f)) h.cpus ∙ sym p.cpus in
     record {
@@ -45,6 +46,7 @@ next_sums above f s t h late group version locked cpus frames marks kernel recov
       trans = trans ∙ ap (onto (trans_of f)) h.trans ∙ sym p.trans;
       locked = locked ∙ ap (onto (locked_of f)) h.locked ∙ sym p.locked;
       twins = twins ∙ ap (λ ts. twins_after ts f) h.twins ∙ sym p.twins;
+      guests = guests ∙ ap (λ gs. guests_after gs f) h.guests ∙ sym p.guests;
       begun = begun ∙ ap (onto (cpu_of f)) h.begun ∙ sym p.lists;
       place = place ∙ ap (λ at. place_after at f) h.place ∙ sym p.place;
       within = within;

@@ -149,22 +149,22 @@ bare_fit l h = record {
 -- ---- along lines
 
 -- lines of low groups give no translation a twin
-none_early : (ts : List (Option VSlot)) (fs : List ScriptLine) → highest fs ≤ 10 → All IsNone ts → All IsNone (fold twins_after ts fs)
+none_early : (ts : List (Option VSlot)) (fs : List ScriptLine) → highest fs ≤ 11 → All IsNone ts → All IsNone (fold twins_after ts fs)
 none_early ts [] l h = h
 none_early ts (forms.Trans v p q ∷ fs) l h = none_early (ts ++ None ∷ []) fs (omega (arith, l)) (All-push IsNone ts None h refl)
 none_early ts (forms.Cow v w ∷ fs) l h = absurd (omega (arith, l))
 none_early ts (f ∷ fs) l h = none_early ts fs (omega (arith, l)) h
 
 -- a line of a high group declares no name
-pub names_late : (above : List ScriptLine) (f : ScriptLine) → 12 ≤ group f → names_in (above ++ f ∷ []) ≡ names_in above
-names_late above (forms.Cpu c) l = let p = pushed above (forms.Cpu c) in rw (p.version, p.cpus, p.frames, p.files, p.procs, p.threads, p.pages, p.trans, p.locked, p.twins) refl
-names_late above (forms.Command c) l = let p = pushed above (forms.Command c) in rw (p.version, p.cpus, p.frames, p.files, p.procs, p.threads, p.pages, p.trans, p.locked, p.twins) refl
-names_late above (forms.Schedule ws) l = let p = pushed above (forms.Schedule ws) in rw (p.version, p.cpus, p.frames, p.files, p.procs, p.threads, p.pages, p.trans, p.locked, p.twins) refl
-names_late above forms.End l = let p = pushed above forms.End in rw (p.version, p.cpus, p.frames, p.files, p.procs, p.threads, p.pages, p.trans, p.locked, p.twins) refl
+pub names_late : (above : List ScriptLine) (f : ScriptLine) → 13 ≤ group f → names_in (above ++ f ∷ []) ≡ names_in above
+names_late above (forms.Cpu c) l = let p = pushed above (forms.Cpu c) in rw (p.version, p.cpus, p.frames, p.files, p.procs, p.threads, p.pages, p.trans, p.locked, p.twins, p.guests) refl
+names_late above (forms.Command c) l = let p = pushed above (forms.Command c) in rw (p.version, p.cpus, p.frames, p.files, p.procs, p.threads, p.pages, p.trans, p.locked, p.twins, p.guests) refl
+names_late above (forms.Schedule ws) l = let p = pushed above (forms.Schedule ws) in rw (p.version, p.cpus, p.frames, p.files, p.procs, p.threads, p.pages, p.trans, p.locked, p.twins, p.guests) refl
+names_late above forms.End l = let p = pushed above forms.End in rw (p.version, p.cpus, p.frames, p.files, p.procs, p.threads, p.pages, p.trans, p.locked, p.twins, p.guests) refl
 names_late above f l = absurd (omega (arith, l))
 
 names_cow : (above : List ScriptLine) (v w : ℕ) → names_in (above ++ forms.Cow v w ∷ []) ≡ with_twin (names_in above) (slot_of v) (slot_of w)
-names_cow above v w = let p = pushed above (forms.Cow v w) in rw (p.version, p.cpus, p.frames, p.files, p.procs, p.threads, p.pages, p.trans, p.locked, p.twins) refl
+names_cow above v w = let p = pushed above (forms.Cow v w) in rw (p.version, p.cpus, p.frames, p.files, p.procs, p.threads, p.pages, p.trans, p.locked, p.twins, p.guests) refl
 
 same_proc : (p q : Proc) → (p.0 ≢ q.0 → ⊥) → p ≡ q
 same_proc p q h = ⊎_elim (λ (e : p.0 ≡ q.0). let P : ℕ → Proc = λ n. record { 0 = n } in ap P e) (λ (n : p.0 ≢ q.0). absurd (h n)) (cases_eq p.0 q.0)
@@ -193,7 +193,7 @@ twins_step above (forms.Command c) h k = subst AreTwinsFit (sym (names_late abov
 twins_step above (forms.Schedule ws) h k = subst AreTwinsFit (sym (names_late above (forms.Schedule ws) (omega arith))) h
 twins_step above forms.End h k = subst AreTwinsFit (sym (names_late above forms.End (omega arith))) h
 twins_step above f h k =
-    let low : highest (above ++ f ∷ []) ≤ 10 = omega (arith, (pushed above f).group, clean_late above f k) in
+    let low : highest (above ++ f ∷ []) ≤ 11 = omega (arith, (pushed above f).group, clean_late above f k) in
     none_fit (names_in (above ++ f ∷ [])) (λ v. none_at (twins_in (above ++ f ∷ [])) v.0 (none_early [] (above ++ f ∷ []) low (All-nil IsNone)))
 
 -- in version One no translation has a twin

@@ -20,7 +20,7 @@ use Rattle.hwp_script_lines.specs.Grammar.{Fits}
 use Rattle.hwp_script_lines.specs.declared.ScriptLine.{ScriptLine}
 use Rattle.hwp_script_lines.specs.declared.ScriptLine.TheVariants as forms
 use Rattle.hwp_script_lines.specs.declared.Go.{Go}
-use Rattle.hwp_script_read.specs.Context.{version_in, version_after, locked_of, locked_in, cpus_of, frames_of, file_of, proc_of, thread_of, page_of, trans_of, command_of, words_of, names_in, twins_in, cpus_in, frames_in, files_in, procs_in, threads_in, pages_in, trans_in, commands_in, go_in, place_in, place_after}
+use Rattle.hwp_script_read.specs.Context.{version_in, version_after, locked_of, locked_in, cpus_of, frames_of, file_of, proc_of, thread_of, page_of, trans_of, command_of, words_of, names_in, twins_in, guests_in, cpus_in, frames_in, files_in, procs_in, threads_in, pages_in, trans_in, commands_in, go_in, place_in, place_after}
 use Rattle.hwp_script_read.specs.Reasons.{IsClean, AreClean, IsNewer, top_cpu}
 use Rattle.hwp_script_read.specs.Collects.{command_at, commands_from, commands_of, IsEnded, Collects}
 use Rattle.hwp_script_read.specs.Forks.{is_wrong_fork}
@@ -28,10 +28,11 @@ use Rattle.hwp_script_read.specs.Valid.{IsCommandOf, AreLists, AreTwinsFit, AreF
 use Rattle.hwp_script_read.specs.Reads.{Reads}
 use Rattle.hwp_script_read.specs.declared.script.Script.{Script}
 use Rattle.hwp_script_lines.specs.declared.Command.{Command}
-use Rattle.hwp_script_read.proofs.ContextLaws.{onto, plus, more, pushed, twins-long}
+use Rattle.hwp_script_read.proofs.ContextLaws.{onto, plus, more, pushed, twins-long, guests-long}
 use Rattle.hwp_script_read.proofs.CleanLaws.{cpu_most, frame_most, page_most, trans_most, none_above, clean_cpus, clean_frames, clean_file, clean_proc, clean_thread, clean_page, clean_trans, clean_command, clean_schedule, clean_end}
 use Rattle.hwp_script_read.proofs.CollectLaws.{commands_of-push}
 use Rattle.hwp_script_read.proofs.TwinLaws.{IsNone, bare, bare_fit, none_fit, twins_declared, twins_step, untwinned_step}
+use Rattle.hwp_script_read.proofs.GuestLaws.{AreFit, IsNot, guests_step, layout_fit, nobody_fit, unguested_step}
 use Rattle.hwp_script_read.proofs.ForkLaws.{AreWellUsed, bare_fork, list_at, none_used, used_step}
 use Rattle.hwp_script_read.proofs.TallyLaws.{few_listed, forks_listed, lines_weight, one_fork, once_step}
 use Rattle.hwp_script_read.proofs.FitLaws.{lines_fit, all_fills, all_words}
@@ -184,6 +185,8 @@ pub record IsDeclared (fs : List ScriptLine) : Type 0 where
   pub lock_each : length (locked_in fs) ≡ length (pages_in fs)
   pub untwinned : version_in fs ≡ versions.One → All IsNone (twins_in fs)
   pub twins : AreTwinsFit (names_in fs)
+  pub unguested : version_in fs ≡ versions.One → All IsNot (guests_in fs)
+  pub guests : AreFit (threads_in fs) (guests_in fs)
   pub used : (c : ℕ) → AreWellUsed (names_in fs) c (commands_of fs c)
   pub once : (p : ℕ) → lines_weight (one_fork p) fs ≤ 1
   pub own : (c : ℕ) → All (IsCommandOf (names_in fs) c) (commands_of fs c)
@@ -208,6 +211,8 @@ declared_none = record {
   lock_each = refl;
   untwinned = λ one. All-nil IsNone;
   twins = none_fit (names_in []) (λ v. refl);
+  unguested = λ one. All-nil IsNot;
+  guests = nobody_fit [] [] (All-nil IsNot);
   used = λ c. none_used (names_in []) c;
   once = λ p. omega arith;
   own = λ c. All-nil (IsCommandOf (names_in []) c);
@@ -244,6 +249,8 @@ declared_step above f h k fits =
       lock_each = rw (p.locked, p.pages) (lock_each_step above f h.lock_each);
       untwinned = λ one. rw p.twins (untwinned_step above f h.untwinned k (sym p.version ∙ one));
       twins = twins_step above f h.twins k;
+      unguested = λ one. rw p.guests (unguested_step above f h.unguested k (sym p.version ∙ one));
+      guests = rw (p.threads, p.guests) (guests_step above f h.guests k);
       used = λ c. used_step above f c k (h.used c);
       once = λ q. once_step above f q k (h.once q);
       own = λ c. rw (commands_of-push above f c)
@@ -277,7 +284,7 @@ all_lists P fs a (suc n) h = All-cons (All P) (commands_of fs a) (map (commands_
 
 -- a layout that lines declare, without its settings and its kernel's frames, is made of the names
 names_are : (fs : List ScriptLine) (s : Script) → Collects fs s → names_in fs ≡ bare s.layout
-names_are fs s h = rw (h.version, h.cpus, h.frames, h.files, h.procs, h.threads, h.pages, h.trans, h.locked, h.twins) refl
+names_are fs s h = rw (h.version, h.cpus, h.frames, h.files, h.procs, h.threads, h.pages, h.trans, h.locked, h.twins, h.guests) refl
 
 -- what the commands of the lines say of the names, those of the script say of its layout
 used : (fs : List ScriptLine) (s : Script) → IsDeclared fs → Collects fs s → (c : ℕ) → AreWellUsed (bare s.layout) c (commands_of fs c)
@@ -337,6 +344,7 @@ valid fs s clean ended h fit =
       older = λ one. record {
         unlocked = rw h.locked (d.unlocked (sym h.version ∙ one));
         untwinned = rw h.twins (d.untwinned (sym h.version ∙ one));
+        unguested = rw h.guests (d.unguested (sym h.version ∙ one));
         commands = rw h.lists (all_lists IsOld fs 0 (cpus_in fs) (λ c. d.old c (sym h.version ∙ one)));
       };
       sound = record {
@@ -359,6 +367,7 @@ valid fs s clean ended h fit =
         locked = rw (h.locked, h.pages) d.lock_each;
         twins = rw (h.twins, h.trans) (twins-long fs);
         twin_names = twins_declared s.layout twins;
+        guests = rw (h.guests, h.procs) (guests-long fs);
         thread_names = rw (h.threads, h.procs, h.cpus) d.thread_names;
         page_names = rw h.pages (All-weaker (IsBacked (names_in fs)) (IsBacked s.layout) (backed_kept (names_in fs) s.layout grows.files) (pages_in fs) d.page_names);
         trans_names = rw (h.trans, h.procs, h.pages) d.trans_names;
@@ -372,6 +381,7 @@ valid fs s clean ended h fit =
       fills = rw h.pages (all_fills fs fit);
       words = rw h.lists (all_words fs 0 (cpus_in fs) fit);
       twins = twins;
+      guests = layout_fit s.layout (rw (h.threads, h.guests) d.guests);
       own = rw h.lists (all_lists (NamesNoTwin s.layout) fs 0 (cpus_in fs) (λ c. (used fs s d h c).own));
       forks = fork_fits fs s d h;
       once = λ p. rw h.lists (omega (arith, forks_listed p fs (cpus_in fs), d.once p));

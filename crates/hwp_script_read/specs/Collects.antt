@@ -6,7 +6,7 @@ use Rattle.hwp_script_read.specs.declared.script.Script.{Script}
 use Rattle.hwp_script_lines.specs.declared.Command.{Command}
 use Rattle.hwp_script_lines.specs.declared.ScriptLine.{ScriptLine}
 use Rattle.hwp_script_lines.specs.declared.ScriptLine.TheVariants as forms
-use Rattle.hwp_script_read.specs.Context.{command_of, place_after, version_in, cpus_in, frames_in, kernel_in, recovery_in, early_in, files_in, procs_in, threads_in, pages_in, locked_in, trans_in, twins_in, go_in}
+use Rattle.hwp_script_read.specs.Context.{command_of, place_after, version_in, cpus_in, frames_in, kernel_in, recovery_in, early_in, files_in, procs_in, threads_in, pages_in, locked_in, trans_in, twins_in, guests_in, go_in}
 
 -- the command that a line is, if it stands in the list of processor c
 abbrev pub command_at : Option ℕ → ℕ → ScriptLine → Option Command
@@ -47,5 +47,6 @@ pub record Collects (fs : List ScriptLine) (s : Script) : Type 0 where
   pub trans : s.layout.trans ≡ trans_in fs
   pub locked : s.layout.locked ≡ locked_in fs
   pub twins : s.layout.twins ≡ twins_in fs
+  pub guests : s.layout.guests ≡ guests_in fs
   pub lists : s.lists ≡ map (commands_of fs) (range_with_len 0 (cpus_in fs))
   pub go : s.go ≡ go_in fs

@@ -2,6 +2,7 @@
 use Rattle.std.specs.Prelude.{ℕ, ◌==◌, ◌++◌, Bool, true, false, max, length, sum, fold, filter_map, flat_map, slice_get, Option, Some, None, List, [], ◌∷◌}
 use Rattle.std.specs.List.{slice_set}
 use Rattle.hwp_script_lines.specs.hwp_geom.declared.Layout.{Layout}
+use Rattle.hwp_script_lines.specs.hwp_geom.declared.Proc.{Proc}
 use Rattle.hwp_script_lines.specs.hwp_geom.declared.VSlot.{VSlot}
 use Rattle.hwp_script_lines.specs.hwp_geom.declared.ThreadDecl.{ThreadDecl}
 use Rattle.hwp_script_lines.specs.hwp_geom.declared.TransDecl.{TransDecl}
@@ -158,6 +159,20 @@ twins_after twins f = twins
 abbrev pub twins_in : List ScriptLine → List (Option VSlot)
 twins_in above = fold twins_after [] above
 
+-- the process of this number
+abbrev pub process_of : ℕ → Proc
+process_of process = record { 0 = process }
+
+-- for each process whether it is a guest, after a line, from those before it: at first it is none
+abbrev pub guests_after : List Bool → ScriptLine → List Bool
+guests_after guests (forms.Proc p) = guests ++ false ∷ []
+guests_after guests (forms.Guest p) = slice_set guests p true
+guests_after guests f = guests
+
+-- for each process whether it is a guest, by their numbers
+abbrev pub guests_in : List ScriptLine → List Bool
+guests_in above = fold guests_after [] above
+
 -- the names that lines declare, as a layout; of the settings and of the kernel's frames it says nothing
 abbrev pub names_in : List ScriptLine → Layout
 names_in above = record {
@@ -174,6 +189,7 @@ names_in above = record {
   trans = trans_in above;
   locked = locked_in above;
   twins = twins_in above;
+  guests = guests_in above;
 }
 
 -- the processors whose lists have begun
@@ -210,13 +226,14 @@ group (forms.Early b) = 5
 group (forms.File n) = 6
 group (forms.Proc p) = 7
 group (forms.Thread t p c h) = 8
-group (forms.Page q b locked) = 9
-group (forms.Trans v p q) = 10
-group (forms.Cow v w) = 11
-group (forms.Cpu c) = 12
-group (forms.Command c) = 12
-group (forms.Schedule ws) = 13
-group forms.End = 14
+group (forms.Guest p) = 9
+group (forms.Page q b locked) = 10
+group (forms.Trans v p q) = 11
+group (forms.Cow v w) = 12
+group (forms.Cpu c) = 13
+group (forms.Command c) = 13
+group (forms.Schedule ws) = 14
+group forms.End = 15
 
 -- the highest group
 abbrev pub highest : List ScriptLine → ℕ

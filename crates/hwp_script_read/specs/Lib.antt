@@ -1,6 +1,7 @@
 pub mod Limits
 pub mod Context
 pub mod Forks
+pub mod Guests
 pub mod Collects
 pub mod Reasons
 pub mod Sums

@@ -1,6 +1,6 @@
 -- The reasons to refuse a line, after the lines above it.
 use Rattle.std.specs.Prelude.{◌≡◌, ◌≢◌, ℕ, true, ◌+◌, ◌<◌, ◌≤◌, ◌⊎◌, max, length, Contains, IsSome, IsSomeAnd, slice_get, option_and_then, Option, Some, None, List, [], ◌∷◌, take}
-use Rattle.hwp_script_lines.specs.hwp_geom.Layout.{has_twin, is_twin}
+use Rattle.hwp_script_lines.specs.hwp_geom.Layout.{has_twin, is_guest, is_twin}
 use Rattle.hwp_script_lines.specs.hwp_geom.declared.ThreadDecl.{ThreadDecl}
 use Rattle.hwp_script_lines.specs.hwp_geom.declared.TransDecl.{TransDecl}
 use Rattle.hwp_script_lines.specs.hwp_geom.declared.PageKind.{PageKind}
@@ -16,9 +16,10 @@ use Rattle.hwp_script_lines.specs.declared.Go.{Go}
 use Rattle.hwp_script_lines.specs.declared.Command.{Command}
 use Rattle.hwp_script_lines.specs.declared.Command.TheVariants as commands
 use Rattle.hwp_script_read.specs.Limits.{schedule_limit}
-use Rattle.hwp_script_read.specs.Context.{version_in, cpus_in, frames_in, kernel_in, recovery_in, early_in, files_in, procs_in, threads_in, pages_in, trans_in, names_in, lists_in, commands_in, go_in, place_in, slot_of, highest}
+use Rattle.hwp_script_read.specs.Context.{version_in, cpus_in, frames_in, kernel_in, recovery_in, early_in, files_in, procs_in, threads_in, pages_in, trans_in, names_in, lists_in, commands_in, go_in, place_in, process_of, slot_of, highest}
 use Rattle.hwp_script_read.specs.Collects.{commands_of}
 use Rattle.hwp_script_read.specs.Forks.{actor, has_shared_page, is_again, is_wrong_fork, names_twin}
+use Rattle.hwp_script_read.specs.Guests.{is_no_guest}
 use Rattle.hwp_script_read.specs.declared.why.Why.{Why}
 use Rattle.hwp_script_read.specs.declared.why.Why.TheVariants as whys
 
@@ -161,33 +162,38 @@ Applies above (forms.Thread t p c h) whys.OverLimit = (thread_limit ≤ t) ⊎ (
 Applies above (forms.Thread t p c h) whys.Undeclared = (procs_in above ≤ p) ⊎ (cpus_in above ≤ c)
 Applies above (forms.Thread t p c h) whys.Twice = t < length (threads_in above)
 Applies above (forms.Thread t p c h) whys.WrongPlace = IsMisplaced above 8 ⊎ (length (threads_in above) < t)
+Applies above (forms.Guest p) whys.UnknownWord = version_in above ≡ versions.One
+Applies above (forms.Guest p) whys.OverLimit = process_limit ≤ p
+Applies above (forms.Guest p) whys.Undeclared = procs_in above ≤ p
+Applies above (forms.Guest p) whys.Twice = is_guest (names_in above) (process_of p) ≡ true
+Applies above (forms.Guest p) whys.WrongPlace = IsMisplaced above 9 ⊎ (is_no_guest (threads_in above) p ≡ true)
 Applies above (forms.Page q b locked) whys.UnknownWord = (version_in above ≡ versions.One) × (locked ≡ true)
 Applies above (forms.Page q b locked) whys.OverLimit = (page_limit_of (version_in above) ≤ q) ⊎ IsBackingOver b
 Applies above (forms.Page q b locked) whys.Undeclared = IsBackingUndeclared above b
 Applies above (forms.Page q b locked) whys.Twice = q < length (pages_in above)
-Applies above (forms.Page q b locked) whys.WrongPlace = IsMisplaced above 9 ⊎ (length (pages_in above) < q)
+Applies above (forms.Page q b locked) whys.WrongPlace = IsMisplaced above 10 ⊎ (length (pages_in above) < q)
 Applies above (forms.Trans v p q) whys.OverLimit = (translation_limit_of (version_in above) ≤ v) ⊎ (process_limit ≤ p) ⊎ (page_limit_of (version_in above) ≤ q)
 Applies above (forms.Trans v p q) whys.Undeclared = (procs_in above ≤ p) ⊎ (length (pages_in above) ≤ q)
 Applies above (forms.Trans v p q) whys.Twice = v < length (trans_in above)
-Applies above (forms.Trans v p q) whys.WrongPlace = IsMisplaced above 10 ⊎ (length (trans_in above) < v)
+Applies above (forms.Trans v p q) whys.WrongPlace = IsMisplaced above 11 ⊎ (length (trans_in above) < v)
 Applies above (forms.Cow v w) whys.UnknownWord = version_in above ≡ versions.One
 Applies above (forms.Cow v w) whys.OverLimit = (translation_limit_of (version_in above) ≤ v) ⊎ (translation_limit_of (version_in above) ≤ w)
 Applies above (forms.Cow v w) whys.Undeclared = IsNoPair (pages_in above) (slice_get (trans_in above) v) (slice_get (trans_in above) w)
 Applies above (forms.Cow v w) whys.Twice = (has_twin (names_in above) (slot_of v) ≡ true) ⊎ (is_twin (names_in above) (slot_of w) ≡ true)
-Applies above (forms.Cow v w) whys.WrongPlace = IsMisplaced above 11 ⊎ IsNoTwin above v w
+Applies above (forms.Cow v w) whys.WrongPlace = IsMisplaced above 12 ⊎ IsNoTwin above v w
 Applies above (forms.Cpu c) whys.OverLimit = cpu_limit_of (version_in above) ≤ c
 Applies above (forms.Cpu c) whys.Undeclared = cpus_in above ≤ c
 Applies above (forms.Cpu c) whys.Twice = Contains (lists_in above) c
-Applies above (forms.Cpu c) whys.WrongPlace = IsMisplaced above 12
+Applies above (forms.Cpu c) whys.WrongPlace = IsMisplaced above 13
 Applies above (forms.Command c) whys.UnknownWord = (version_in above ≡ versions.One) × IsNewer c
 Applies above (forms.Command c) whys.OverLimit = (command_limit ≤ commands_in above) ⊎ IsBeyond (version_in above) c
 Applies above (forms.Command c) whys.Undeclared = IsUndeclared above c
 Applies above (forms.Command c) whys.WrongPlace =
-    IsMisplaced above 12 ⊎ IsElsewhere (place_in above) (option_and_then (λ t. slice_get (threads_in above) t) (actor c)) ⊎ IsMisused above c
+    IsMisplaced above 13 ⊎ IsElsewhere (place_in above) (option_and_then (λ t. slice_get (threads_in above) t) (actor c)) ⊎ IsMisused above c
 Applies above (forms.Schedule ws) whys.OverLimit = (schedule_limit < length (go_in above) + length ws) ⊎ (cpu_limit_of (version_in above) ≤ top_cpu ws)
 Applies above (forms.Schedule ws) whys.Undeclared = cpus_in above ≤ top_cpu ws
-Applies above (forms.Schedule ws) whys.WrongPlace = IsMisplaced above 13
-Applies above forms.End whys.WrongPlace = IsMisplaced above 13
+Applies above (forms.Schedule ws) whys.WrongPlace = IsMisplaced above 14
+Applies above forms.End whys.WrongPlace = IsMisplaced above 14
 Applies above f w = ⊥
 
 -- no reason applies to the line

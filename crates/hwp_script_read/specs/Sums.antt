@@ -4,7 +4,7 @@ use Rattle.std.specs.List.{range_with_len}
 use Rattle.hwp_script_lines.specs.hwp_geom.declared.Layout.{Layout}
 use Rattle.hwp_script_lines.specs.declared.ScriptLine.{ScriptLine}
 use Rattle.hwp_script_read.specs.declared.context.Summary.{Summary}
-use Rattle.hwp_script_read.specs.Context.{version_in, cpus_in, frames_in, kernel_in, recovery_in, early_in, files_in, procs_in, threads_in, pages_in, locked_in, trans_in, twins_in, lists_in, commands_in, go_in, place_in, highest}
+use Rattle.hwp_script_read.specs.Context.{version_in, cpus_in, frames_in, kernel_in, recovery_in, early_in, files_in, procs_in, threads_in, pages_in, locked_in, trans_in, twins_in, guests_in, lists_in, commands_in, go_in, place_in, highest}
 use Rattle.hwp_script_read.specs.Collects.{commands_of}
 
 -- the summary is that of these lines
@@ -24,6 +24,7 @@ pub record Sums (above : List ScriptLine) (s : Summary) : Type 0 where
   pub trans : s.trans ≡ trans_in above
   pub locked : s.locked ≡ locked_in above
   pub twins : s.twins.items ≡ twins_in above
+  pub guests : s.guests.items ≡ guests_in above
   pub begun : s.begun ≡ lists_in above
   pub place : s.place ≡ place_in above
   pub within : IfSome s.place (λ (p : ℕ). p < s.cpus)
@@ -47,4 +48,5 @@ names_of s = record {
   trans = s.trans;
   locked = s.locked;
   twins = s.twins.items;
+  guests = s.guests.items;
 }

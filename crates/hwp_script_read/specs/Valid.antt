@@ -1,8 +1,9 @@
 -- What every script has that some text gives.
-use Rattle.std.specs.Prelude.{◌≡◌, ◌≢◌, ℕ, Bool, false, ◌<◌, ◌≤◌, ◌+◌, ◌^◌, length, take, sum_by, count_by, All, IsSomeAnd, slice_get, Option, Some, None, List, [], ◌∷◌}
-use Rattle.hwp_script_lines.specs.hwp_geom.Layout.{IsSound, has_twin, is_twin, twin_of}
+use Rattle.std.specs.Prelude.{◌≡◌, ◌≢◌, ℕ, Bool, true, false, ◌<◌, ◌≤◌, ◌+◌, ◌^◌, length, take, sum_by, count_by, All, IsSomeAnd, slice_get, Option, Some, None, List, [], ◌∷◌}
+use Rattle.hwp_script_lines.specs.hwp_geom.Layout.{IsSound, has_twin, is_guest, is_twin, twin_of}
 use Rattle.hwp_script_lines.specs.hwp_geom.Limits.{line_limit, command_limit}
 use Rattle.hwp_script_lines.specs.hwp_geom.declared.Layout.{Layout}
+use Rattle.hwp_script_lines.specs.hwp_geom.declared.Proc.{Proc}
 use Rattle.hwp_script_lines.specs.hwp_geom.declared.Thread.{Thread}
 use Rattle.hwp_script_lines.specs.hwp_geom.declared.VSlot.{VSlot}
 use Rattle.hwp_script_lines.specs.hwp_geom.declared.Version.TheVariants as versions
@@ -16,6 +17,7 @@ use Rattle.hwp_script_lines.specs.declared.Go.{Go}
 use Rattle.hwp_script_lines.specs.declared.Command.{Command}
 use Rattle.hwp_script_lines.specs.declared.Command.TheVariants as commands
 use Rattle.hwp_script_read.specs.Forks.{has_shared_page, is_fork_of, is_wrong_fork, names_twin}
+use Rattle.hwp_script_read.specs.Guests.{is_no_guest}
 use Rattle.hwp_script_read.specs.Limits.{schedule_limit}
 use Rattle.hwp_script_read.specs.Reasons.{IsNewer}
 
@@ -100,6 +102,10 @@ pub record AreTwinsFit (layout : Layout) : Type 0 where
   pub each : (slot twin : VSlot) → twin_of layout slot ≡ Some twin → IsTwinFit layout slot twin
   pub one : (slot other twin : VSlot) → twin_of layout slot ≡ Some twin → twin_of layout other ≡ Some twin → slot ≡ other
 
+-- all threads of a guest run on one processor, and each has a handler
+pub record AreGuestsFit (layout : Layout) : Type 0 where
+  pub each : (process : Proc) → is_guest layout process ≡ true → is_no_guest layout.threads process.0 ≡ false
+
 -- the command names no twin as its translation
 abbrev pub NamesNoTwin : Layout → Command → Type 0
 NamesNoTwin layout command = names_twin layout command ≡ false
@@ -112,14 +118,16 @@ AreForksFit layout cpu list = (n : ℕ) (command : Command) → slice_get list n
 abbrev pub IsEachForkedOnce : List (List Command) → Type 0
 IsEachForkedOnce lists = (process : ℕ) → sum_by (count_by (is_fork_of process)) lists ≤ 1
 
--- no page is locked, no translation has a twin, and no command is one that version Two alone has
+-- no page is locked, no translation has a twin, no process is a guest, and no command is one that version Two alone has
 pub record IsOlder (script : Script) : Type 0 where
   pub unlocked : All (λ (l : Bool). l ≡ false) script.layout.locked
   pub untwinned : All (λ (t : Option VSlot). t ≡ None) script.layout.twins
+  pub unguested : All (λ (g : Bool). g ≡ false) script.layout.guests
   pub commands : All (All (λ (c : Command). IsNewer c → ⊥)) script.lists
 
--- a script that some text gives: in version One it has no `open`, no `watch`, no `fork`, no locked page and no twin; its layout is sound, it has a list of each processor's
--- commands, and a schedule of its processors; its twins are private, and each fork may stand where it does
+-- a script that some text gives: in version One it has no `open`, no `watch`, no `fork`, no locked page, no twin and no guest; its layout is sound, it has a list of each processor's
+-- commands, and a schedule of its processors; its twins are private, each fork may stand where it does, and
+-- its guests run on one processor each
 pub record IsValid (script : Script) : Type 0 where
   pub older : script.layout.version ≡ versions.One → IsOlder script
   pub sound : IsSound script.layout
@@ -131,6 +139,7 @@ pub record IsValid (script : Script) : Type 0 where
   pub fills : All HasFill script.layout.pages
   pub words : All (All HasWords) script.lists
   pub twins : AreTwinsFit script.layout
+  pub guests : AreGuestsFit script.layout
   pub own : All (All (NamesNoTwin script.layout)) script.lists
   pub forks : (cpu : ℕ) (list : List Command) → slice_get script.lists cpu ≡ Some list → AreForksFit script.layout cpu list
   pub once : IsEachForkedOnce script.lists

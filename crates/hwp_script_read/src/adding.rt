@@ -21,12 +21,12 @@ fn no_marks(alloc: Global, frames: u64) -> Result<Vec<bool>, OutOfMemory>
     Ok(vec![in alloc; false; frames as usize]?)
 }
 
-/// Marks a frame as the kernel's.
-fn mark(marks: &mut Vec<bool>, frame: u64)
-    requires { frame < length marks.old.items }
-    ensures { marks.new.items ≡ slice_set marks.old.items frame true }
+/// Marks the item of this number.
+fn mark(marks: &mut Vec<bool>, number: u64)
+    requires { number < length marks.old.items }
+    ensures { marks.new.items ≡ slice_set marks.old.items number true }
 {
-    marks[frame as usize] = true;
+    marks[number as usize] = true;
 }
 
 /// Gives a translation its twin.
@@ -155,13 +155,15 @@ impl Summary {
     }
 
     #[tactic(auto, using(crate::proofs::CleanLaws::clean_proc))]
-    fn add_proc(&mut self, above: &[ScriptLine], process: u64)
+    fn add_proc(&mut self, above: &[ScriptLine], process: u64) -> Result<(), OutOfMemory>
         requires sums { Sums above.now self.old }
         requires clean { IsClean above.now (ScriptLine.Proc process) }
-        ensures { Sums (above.now ++ ScriptLine.Proc process ∷ []) self.new }
+        ensures { OnOk result (Sums (above.now ++ ScriptLine.Proc process ∷ []) self.new) }
     {
         self.group = 7;
         self.procs += 1;
+        self.guests.push(false)?;
+        Ok(())
     }
 
     #[tactic(auto, using(crate::proofs::CleanLaws::clean_thread, crate::proofs::CleanLaws::small_thread))]
@@ -186,6 +188,16 @@ impl Summary {
         Ok(())
     }
 
+    #[tactic(auto, using(crate::proofs::CleanLaws::clean_guest))]
+    fn add_guest(&mut self, above: &[ScriptLine], process: u64)
+        requires sums { Sums above.now self.old }
+        requires clean { IsClean above.now (ScriptLine.Guest process) }
+        ensures { Sums (above.now ++ ScriptLine.Guest process ∷ []) self.new }
+    {
+        self.group = 9;
+        mark(&mut self.guests, process);
+    }
+
     #[tactic(auto, using(crate::proofs::CleanLaws::clean_page))]
     fn add_page(
         &mut self,
@@ -198,7 +210,7 @@ impl Summary {
         requires clean { IsClean above.now (ScriptLine.Page page backing locked) }
         ensures { OnOk result (Sums (above.now ++ ScriptLine.Page page backing locked ∷ []) self.new) }
     {
-        self.group = 9;
+        self.group = 10;
         self.pages.push(page_kind(backing))?;
         self.locked.push(locked)?;
         Ok(())
@@ -216,7 +228,7 @@ impl Summary {
         requires clean { IsClean above.now (ScriptLine.Trans slot process page) }
         ensures { OnOk result (Sums (above.now ++ ScriptLine.Trans slot process page ∷ []) self.new) }
     {
-        self.group = 10;
+        self.group = 11;
         self.trans.push(TransDecl {
             process: Proc(process as u8),
             page: Page(page as u16),
@@ -231,7 +243,7 @@ impl Summary {
         requires clean { IsClean above.now (ScriptLine.Cow slot twin) }
         ensures { Sums (above.now ++ ScriptLine.Cow slot twin ∷ []) self.new }
     {
-        self.group = 11;
+        self.group = 12;
         set_twin(&mut self.twins, slot, twin);
     }
 
@@ -241,7 +253,7 @@ impl Summary {
         requires clean { IsClean above.now (ScriptLine.Cpu cpu) }
         ensures { OnOk result (Sums (above.now ++ ScriptLine.Cpu cpu ∷ []) self.new) }
     {
-        self.group = 12;
+        self.group = 13;
         self.place = Some(cpu);
         self.begun.push(cpu)?;
         Ok(())
@@ -253,7 +265,7 @@ impl Summary {
         requires clean { IsClean above.now (ScriptLine.Command command.now) }
         ensures { OnOk result (Sums (above.now ++ ScriptLine.Command command.now ∷ []) self.new) }
     {
-        self.group = 12;
+        self.group = 13;
         self.commands += 1;
         push_command(&mut self.lists, self.place, *command)?;
         Ok(())
@@ -270,7 +282,7 @@ impl Summary {
         requires clean { IsClean above.now (ScriptLine.Schedule words.now) }
         ensures { OnOk result (Sums (above.now ++ ScriptLine.Schedule words.now ∷ []) self.new) }
     {
-        self.group = 13;
+        self.group = 14;
         self.place = None;
         push_words(alloc, &mut self.go, words)?;
         Ok(())
@@ -282,7 +294,7 @@ impl Summary {
         requires clean { IsClean above.now (ScriptLine.End) }
         ensures { Sums (above.now ++ ScriptLine.End ∷ []) self.new }
     {
-        self.group = 14;
+        self.group = 15;
         self.place = None;
     }
 
@@ -305,13 +317,14 @@ impl Summary {
             ScriptLine::Recovery(value) => self.add_recovery(above, *value),
             ScriptLine::Early(value) => self.add_early(above, *value),
             ScriptLine::File(file) => self.add_file(above, *file),
-            ScriptLine::Proc(process) => self.add_proc(above, *process),
+            ScriptLine::Proc(process) => return self.add_proc(above, *process),
             ScriptLine::Thread {
                 thread,
                 process,
                 cpu,
                 handler,
             } => return self.add_thread(above, *thread, *process, *cpu, *handler),
+            ScriptLine::Guest(process) => self.add_guest(above, *process),
             ScriptLine::Page {
                 page,
                 backing,

@@ -167,7 +167,7 @@ pub(crate) fn command_fault(
         Some(Why::OverLimit)
     } else if is_undeclared(summary, above, command) {
         Some(Why::Undeclared)
-    } else if is_misplaced(summary, above, 12)
+    } else if is_misplaced(summary, above, 13)
         || is_elsewhere(summary, actor_of(command))
         || is_misused(summary, above, command)
     {

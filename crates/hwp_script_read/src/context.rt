@@ -36,6 +36,8 @@ pub(crate) struct Summary {
     pub trans: List<TransDecl>,
     /// For each translation its twin, if it has one.
     pub twins: Vec<Option<VSlot>>,
+    /// For each process, whether it is a guest.
+    pub guests: Vec<bool>,
     /// The processors whose lists have begun.
     pub begun: List<u64>,
     /// The processor in whose list the next line stands.
@@ -68,6 +70,7 @@ impl Summary {
             locked: List::new(alloc),
             trans: List::new(alloc),
             twins: Vec::new(alloc),
+            guests: Vec::new(alloc),
             begun: List::new(alloc),
             place: None,
             commands: 0,
@@ -143,6 +146,7 @@ impl Summary {
                 trans: self.trans,
                 locked: self.locked,
                 twins: List::from_vec(self.twins),
+                guests: List::from_vec(self.guests),
             },
             lists: List::from_vec(self.lists),
             go: self.go,

@@ -67,7 +67,7 @@ pub(crate) fn cow_fault(
         Some(Why::Undeclared)
     } else if is_taken(summary, above, slot, twin) {
         Some(Why::Twice)
-    } else if is_misplaced(summary, above, 11) || is_no_twin(summary, above, slot, twin) {
+    } else if is_misplaced(summary, above, 12) || is_no_twin(summary, above, slot, twin) {
         Some(Why::WrongPlace)
     } else {
         None

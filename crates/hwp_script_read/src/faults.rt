@@ -6,6 +6,7 @@ ghost use Rattle.hwp_script_read.specs.Sums.{Sums};
 use crate::commands::command_fault;
 use crate::context::Summary;
 use crate::cows::cow_fault;
+use crate::guests::guest_fault;
 use crate::script::MAX_SCHEDULE;
 use crate::why::Why;
 use hwp_script_lines::{Backing, Go, MAX_FILES, MAX_PROCS, MAX_THREADS, ScriptLine};
@@ -227,7 +228,7 @@ fn page_fault(
         Some(Why::Undeclared)
     } else if page < pages {
         Some(Why::Twice)
-    } else if is_misplaced(summary, above, 9) || page > pages {
+    } else if is_misplaced(summary, above, 10) || page > pages {
         Some(Why::WrongPlace)
     } else {
         None
@@ -255,7 +256,7 @@ fn trans_fault(
         Some(Why::Undeclared)
     } else if slot < slots {
         Some(Why::Twice)
-    } else if is_misplaced(summary, above, 10) || slot > slots {
+    } else if is_misplaced(summary, above, 11) || slot > slots {
         Some(Why::WrongPlace)
     } else {
         None
@@ -273,7 +274,7 @@ fn cpu_fault(summary: &Summary, above: &[ScriptLine], cpu: u64) -> Option<Why>
         Some(Why::Undeclared)
     } else if summary.has_list(cpu) {
         Some(Why::Twice)
-    } else if is_misplaced(summary, above, 12) {
+    } else if is_misplaced(summary, above, 13) {
         Some(Why::WrongPlace)
     } else {
         None
@@ -297,7 +298,7 @@ fn schedule_fault(summary: &Summary, above: &[ScriptLine], words: &[Go]) -> Opti
         Some(Why::OverLimit)
     } else if highest >= summary.cpus {
         Some(Why::Undeclared)
-    } else if is_misplaced(summary, above, 13) {
+    } else if is_misplaced(summary, above, 14) {
         Some(Why::WrongPlace)
     } else {
         None
@@ -309,7 +310,7 @@ fn end_fault(summary: &Summary, above: &[ScriptLine]) -> Option<Why>
     requires some { 0 < length above.now }
     ensures { MatchOption result (IsClean above.now ScriptLine.End) (λ why. IsLowest above.now ScriptLine.End why) }
 {
-    if is_misplaced(summary, above, 13) {
+    if is_misplaced(summary, above, 14) {
         Some(Why::WrongPlace)
     } else {
         None
@@ -339,6 +340,7 @@ pub(crate) fn fault(summary: &Summary, above: &[ScriptLine], form: &ScriptLine) 
             cpu,
             handler,
         } => thread_fault(summary, above, *thread, *process, *cpu, *handler),
+        ScriptLine::Guest(process) => guest_fault(summary, above, *process),
         ScriptLine::Page {
             page,
             backing,

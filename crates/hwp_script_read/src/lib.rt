@@ -7,6 +7,7 @@ mod context;
 mod cows;
 mod faults;
 mod forks;
+mod guests;
 mod judging;
 mod reading;
 mod script;

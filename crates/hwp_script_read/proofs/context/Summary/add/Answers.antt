@@ -10,4 +10,4 @@ returns-in-Header c =
     let first = clean_header _ c.in-Header.version (rw c.in-Header.is at c.requires.clean) in
     rw c.in-Header.is
     (next_sums _ (forms.Header c.in-Header.version) _ _ c.requires.sums (omega arith) (omega (arith, c.requires.sums.group)) refl refl refl refl refl (same_marks c.requires.sums)
-    refl refl refl refl refl refl refl refl refl refl (sym (append-nil _)) c.requires.sums.within refl refl)
+    refl refl refl refl refl refl refl refl refl refl (sym (append-nil _)) c.requires.sums.within refl refl refl)

@@ -15,4 +15,4 @@ pub returns : goal.returns
 returns c =
     let k = clean_command c.requires.clean in
     next_sums _ (forms.Command c.args.command.now) _ _ c.requires.sums (k.placed.late)
-    refl refl refl refl refl refl (same_marks c.requires.sums) refl refl refl refl refl refl refl refl refl refl (sym (append-nil _)) c.requires.sums.within c.in_ok-push_command.ensures refl
+    refl refl refl refl refl refl (same_marks c.requires.sums) refl refl refl refl refl refl refl refl refl refl (sym (append-nil _)) c.requires.sums.within c.in_ok-push_command.ensures refl refl

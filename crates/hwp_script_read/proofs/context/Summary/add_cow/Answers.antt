@@ -16,4 +16,4 @@ pub returns : goal.returns
 returns c =
     let k = clean_cow c.requires.clean in
     next_sums _ (forms.Cow c.args.slot c.args.twin) _ _ c.requires.sums (k.placed.late)
-    refl refl refl refl refl refl (same_marks c.requires.sums) refl refl refl refl refl refl refl refl refl refl (sym (append-nil _)) c.requires.sums.within refl c.set_twin.ensures
+    refl refl refl refl refl refl (same_marks c.requires.sums) refl refl refl refl refl refl refl refl refl refl (sym (append-nil _)) c.requires.sums.within refl c.set_twin.ensures refl

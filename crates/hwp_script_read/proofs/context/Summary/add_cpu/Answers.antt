@@ -9,4 +9,4 @@ pub returns : goal.returns
 returns c =
     let k = clean_cpu c.requires.clean in
     next_sums _ (forms.Cpu c.args.cpu) _ _ c.requires.sums (k.placed.late)
-    refl refl refl refl refl refl (same_marks c.requires.sums) refl refl refl refl refl refl refl c.in_ok-push.ensures refl refl (sym (append-nil _)) (omega (arith, k.cpu, c.requires.sums.cpus)) refl refl
+    refl refl refl refl refl refl (same_marks c.requires.sums) refl refl refl refl refl refl refl c.in_ok-push.ensures refl refl (sym (append-nil _)) (omega (arith, k.cpu, c.requires.sums.cpus)) refl refl refl

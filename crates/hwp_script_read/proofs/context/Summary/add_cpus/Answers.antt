@@ -9,4 +9,4 @@ pub returns : goal.returns
 returns c =
     let k = clean_cpus c.requires.clean in
     next_sums _ (forms.Cpus c.args.n) _ _ c.requires.sums (k.late)
-    refl refl refl (omega (arith, c.requires.sums.cpus, k.first)) refl refl (same_marks c.requires.sums) refl refl refl refl refl refl refl refl refl refl (sym (append-nil _)) (within_more _ _ _ (omega (arith, c.requires.sums.cpus, k.first)) c.requires.sums.within) c.in_ok-self.ensures refl
+    refl refl refl (omega (arith, c.requires.sums.cpus, k.first)) refl refl (same_marks c.requires.sums) refl refl refl refl refl refl refl refl refl refl (sym (append-nil _)) (within_more _ _ _ (omega (arith, c.requires.sums.cpus, k.first)) c.requires.sums.within) c.in_ok-self.ensures refl refl

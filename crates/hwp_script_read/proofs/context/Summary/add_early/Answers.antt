@@ -9,4 +9,4 @@ pub returns : goal.returns
 returns c =
     let k = clean_early c.requires.clean in
     next_sums _ (forms.Early c.args.value) _ _ c.requires.sums (k.placed.late)
-    refl refl refl refl refl refl (same_marks c.requires.sums) refl (rw (c.requires.sums.early, k.first) refl) refl refl refl refl refl refl refl refl (sym (append-nil _)) c.requires.sums.within refl refl
+    refl refl refl refl refl refl (same_marks c.requires.sums) refl (rw (c.requires.sums.early, k.first) refl) refl refl refl refl refl refl refl refl (sym (append-nil _)) c.requires.sums.within refl refl refl

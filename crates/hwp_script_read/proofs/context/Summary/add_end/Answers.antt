@@ -9,4 +9,4 @@ pub returns : goal.returns
 returns c =
     let k = clean_end c.requires.clean in
     next_sums _ (forms.End) _ _ c.requires.sums (omega (arith, k.late))
-    refl refl refl refl refl refl (same_marks c.requires.sums) refl refl refl refl refl refl refl refl refl refl (sym (append-nil _)) tt refl refl
+    refl refl refl refl refl refl (same_marks c.requires.sums) refl refl refl refl refl refl refl refl refl refl (sym (append-nil _)) tt refl refl refl

@@ -9,4 +9,4 @@ pub returns : goal.returns
 returns c =
     let k = clean_file c.requires.clean in
     next_sums _ (forms.File c.args.file) _ _ c.requires.sums (k.placed.late)
-    refl refl refl refl refl refl (same_marks c.requires.sums) refl refl refl refl refl refl refl refl refl refl (sym (append-nil _)) c.requires.sums.within refl refl
+    refl refl refl refl refl refl (same_marks c.requires.sums) refl refl refl refl refl refl refl refl refl refl (sym (append-nil _)) c.requires.sums.within refl refl refl

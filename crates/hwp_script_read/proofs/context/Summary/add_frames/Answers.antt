@@ -10,4 +10,4 @@ returns c =
     let k = clean_frames c.requires.clean in
     next_sums _ (forms.Frames c.args.n) _ _ c.requires.sums (k.late)
     refl refl refl refl (omega (arith, c.requires.sums.frames, k.first)) (rw (c.in_ok-self.ensures, length-replicate) (omega (arith, c.requires.sums.marks, k.first)))
-    (rw c.in_ok-self.ensures (no_marks c.args.n c.requires.sums k.first)) refl refl refl refl refl refl refl refl refl refl (sym (append-nil _)) c.requires.sums.within refl refl
+    (rw c.in_ok-self.ensures (no_marks c.args.n c.requires.sums k.first)) refl refl refl refl refl refl refl refl refl refl (sym (append-nil _)) c.requires.sums.within refl refl refl

@@ -10,4 +10,4 @@ returns c =
     let k = clean_kernel c.requires.clean in
     next_sums _ (forms.Kernel c.args.frame) _ _ c.requires.sums (k.placed.late)
     refl refl refl refl refl (ap length c.mark.ensures ∙ length-set c.args.self.now.kernel.items c.args.frame true)
-    (rw c.mark.ensures (one_mark c.args.frame c.requires.sums k.declared)) refl refl refl refl refl refl refl refl refl refl (sym (append-nil _)) c.requires.sums.within refl refl
+    (rw c.mark.ensures (one_mark c.args.frame c.requires.sums k.declared)) refl refl refl refl refl refl refl refl refl refl (sym (append-nil _)) c.requires.sums.within refl refl refl

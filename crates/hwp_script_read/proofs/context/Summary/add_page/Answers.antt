@@ -9,4 +9,4 @@ pub returns : goal.returns
 returns c =
     let k = clean_page c.requires.clean in
     next_sums _ (forms.Page c.args.page c.args.backing c.args.locked) _ _ c.requires.sums (k.placed.late)
-    refl refl c.in_ok-push-2.ensures refl refl refl (same_marks c.requires.sums) refl refl refl refl refl (cc (c.page_kind.ensures, c.in_ok-push.ensures)) refl refl refl refl (sym (append-nil _)) c.requires.sums.within refl refl
+    refl refl c.in_ok-push-2.ensures refl refl refl (same_marks c.requires.sums) refl refl refl refl refl (cc (c.page_kind.ensures, c.in_ok-push.ensures)) refl refl refl refl (sym (append-nil _)) c.requires.sums.within refl refl refl

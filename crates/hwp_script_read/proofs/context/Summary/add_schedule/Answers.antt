@@ -8,4 +8,4 @@ pub returns : goal.returns
 returns c =
     let k = clean_schedule c.requires.clean in
     next_sums _ (forms.Schedule c.args.words.now) _ _ c.requires.sums (k.placed.late)
-    refl refl refl refl refl refl (same_marks c.requires.sums) refl refl refl refl refl refl refl refl refl refl c.in_ok-push_words.ensures tt refl refl
+    refl refl refl refl refl refl (same_marks c.requires.sums) refl refl refl refl refl refl refl refl refl refl c.in_ok-push_words.ensures tt refl refl refl

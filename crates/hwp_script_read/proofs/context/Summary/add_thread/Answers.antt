@@ -9,4 +9,4 @@ pub returns : goal.returns
 returns c =
     let k = clean_thread c.requires.clean in
     next_sums _ (forms.Thread c.args.thread c.args.process c.args.cpu c.args.handler) _ _ c.requires.sums (k.placed.late)
-    refl refl refl refl refl refl (same_marks c.requires.sums) refl refl refl refl c.in_ok-push.ensures refl refl refl refl refl (sym (append-nil _)) c.requires.sums.within refl refl
+    refl refl refl refl refl refl (same_marks c.requires.sums) refl refl refl refl c.in_ok-push.ensures refl refl refl refl refl (sym (append-nil _)) c.requires.sums.within refl refl refl

@@ -9,4 +9,4 @@ pub returns : goal.returns
 returns c =
     let k = clean_trans c.requires.clean in
     next_sums _ (forms.Trans c.args.slot c.args.process c.args.page) _ _ c.requires.sums (k.placed.late)
-    refl refl refl refl refl refl (same_marks c.requires.sums) refl refl refl refl refl refl c.in_ok-push.ensures refl refl refl (sym (append-nil _)) c.requires.sums.within refl c.in_ok-push-2.ensures.items
+    refl refl refl refl refl refl (same_marks c.requires.sums) refl refl refl refl refl refl c.in_ok-push.ensures refl refl refl (sym (append-nil _)) c.requires.sums.within refl c.in_ok-push-2.ensures.items refl
