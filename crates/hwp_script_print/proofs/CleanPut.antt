@@ -13,7 +13,7 @@ use Rattle.hwp_script_read.specs.hwp_script_lines.declared.ScriptLine.{ScriptLin
 use Rattle.hwp_script_read.specs.hwp_script_lines.declared.ScriptLine.TheVariants as forms
 use Rattle.hwp_script_read.specs.declared.Why.{Why}
 use Rattle.hwp_script_read.specs.declared.Why.TheVariants as whys
-use Rattle.hwp_script_read.proofs.CleanLaws.{IsPlaced, IsCpusClean, IsFramesClean, IsKernelClean, IsRecoveryClean, IsEarlyClean, IsFileClean, IsProcClean, IsThreadClean, IsPageClean, IsTransClean, IsCowClean, IsCpuClean, IsCommandClean, IsScheduleClean}
+use Rattle.hwp_script_read.proofs.CleanLaws.{IsPlaced, IsCpusClean, IsFramesClean, IsKernelClean, IsRecoveryClean, IsEarlyClean, IsFileClean, IsProcClean, IsThreadClean, IsPageClean, IsTransClean, IsGuestClean, IsCowClean, IsCpuClean, IsCommandClean, IsScheduleClean}
 use Rattle.hwp_script_read.proofs.TwinLaws.{clash}
 
 not_misplaced : {above : List ScriptLine} {g : ℕ} → IsPlaced above g → IsMisplaced above g → ⊥
@@ -157,6 +157,19 @@ no_trans l h w e = e
 pub put_trans : {above : List ScriptLine} {v p q : ℕ} → 0 < length above → IsTransClean above v p q → IsClean above (forms.Trans v p q)
 put_trans l h = record { none = no_trans l h }
 
+no_guest : {above : List ScriptLine} {p : ℕ} → 0 < length above → IsGuestClean above p → (w : Why) → Applies above (forms.Guest p) w → ⊥
+no_guest l h whys.BadHeader e = omega (arith, l, e)
+no_guest l h whys.UnknownWord e = h.newer e
+no_guest {above} {p} l h whys.OverLimit e = let big : 16 ≤ p = e in omega (arith, h.few, big)
+no_guest l h whys.Undeclared e = omega (arith, h.declared, e)
+no_guest l h whys.Twice e = clash _ e h.fresh
+no_guest l h whys.WrongPlace (inl e) = not_misplaced h.placed e
+no_guest l h whys.WrongPlace (inr e) = clash _ e h.fit
+no_guest l h w e = e
+
+pub put_guest : {above : List ScriptLine} {p : ℕ} → 0 < length above → IsGuestClean above p → IsClean above (forms.Guest p)
+put_guest l h = record { none = no_guest l h }
+
 no_cow : {above : List ScriptLine} {v t : ℕ} → 0 < length above → IsCowClean above v t → (w : Why) → Applies above (forms.Cow v t) w → ⊥
 no_cow l h whys.BadHeader e = omega (arith, l, e)
 no_cow l h whys.UnknownWord e = h.newer e
@@ -212,10 +225,10 @@ no_schedule l h w e = e
 pub put_schedule : {above : List ScriptLine} {ws : List Go} → 0 < length above → IsScheduleClean above ws → IsClean above (forms.Schedule ws)
 put_schedule l h = record { none = no_schedule l h }
 
-no_end : {above : List ScriptLine} → 0 < length above → IsPlaced above 13 → (w : Why) → Applies above forms.End w → ⊥
+no_end : {above : List ScriptLine} → 0 < length above → IsPlaced above 14 → (w : Why) → Applies above forms.End w → ⊥
 no_end l h whys.BadHeader e = omega (arith, l, e)
 no_end l h whys.WrongPlace e = not_misplaced h e
 no_end l h w e = e
 
-pub put_end : {above : List ScriptLine} → 0 < length above → IsPlaced above 13 → IsClean above forms.End
+pub put_end : {above : List ScriptLine} → 0 < length above → IsPlaced above 14 → IsClean above forms.End
 put_end l h = record { none = no_end l h }

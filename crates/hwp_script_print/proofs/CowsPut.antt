@@ -115,7 +115,7 @@ pub record AreSlotsOf (k : Known) (l : Layout) : Type 0 where
   pub pages : k.pages ≡ l.pages
   pub trans : k.trans ≡ l.trans
 
-clean : {fs : List ScriptLine} (k : Known) (l : Layout) (done : List (Option VSlot)) (w : VSlot) (rest : List (Option VSlot)) → IsMade fs 11 (record k { twins = put_so_far done (Some w ∷ rest) })
+clean : {fs : List ScriptLine} (k : Known) (l : Layout) (done : List (Option VSlot)) (w : VSlot) (rest : List (Option VSlot)) → IsMade fs 12 (record k { twins = put_so_far done (Some w ∷ rest) })
     → AreSlotsOf k l → IsNext l done w rest → 0 < k.cpus → 0 < k.frames → (k.version ≡ versions.One → All IsNone (Some w ∷ rest)) → IsCowClean fs (length done) w.0
 clean {fs} k l done w rest h laid n c f older =
     let version : version_in fs ≡ l.version = ap (λ (x : Known). x.version) h.same ∙ laid.version in
@@ -139,12 +139,12 @@ clean {fs} k l done w rest h laid n c f older =
       alone = rw trans is.alone;
     }
 
-pub made_cows : {fs : List ScriptLine} (k : Known) (l : Layout) (done rest : List (Option VSlot)) → IsMade fs 11 (record k { twins = put_so_far done rest }) → AreSlotsOf k l → AreTwinsFit l
+pub made_cows : {fs : List ScriptLine} (k : Known) (l : Layout) (done rest : List (Option VSlot)) → IsMade fs 12 (record k { twins = put_so_far done rest }) → AreSlotsOf k l → AreTwinsFit l
     → done ++ rest ≡ l.twins → 0 < k.cpus → 0 < k.frames → (k.version ≡ versions.One → All IsNone rest)
-    → IsMade (fs ++ numbered cow_forms (length done) rest) 11 (record k { twins = done ++ rest })
+    → IsMade (fs ++ numbered cow_forms (length done) rest) 12 (record k { twins = done ++ rest })
 made_cows k l done [] h laid fit all c f older = made_nil h
 made_cows {fs} k l done (None ∷ rest) h laid fit all c f older =
-    let next : IsMade fs 11 (record k { twins = put_so_far (done ++ None ∷ []) rest }) = rw (append_assoc done (None ∷ []) (nones (length rest))) h in
+    let next : IsMade fs 12 (record k { twins = put_so_far (done ++ None ∷ []) rest }) = rw (append_assoc done (None ∷ []) (nones (length rest))) h in
     let made = made_cows k l (done ++ None ∷ []) rest next laid fit (append_assoc done (None ∷ []) rest ∙ all) c f (λ one. All-tail IsNone None rest (older one)) in
     rw (length_push, append_assoc done (None ∷ []) rest) at made
 made_cows {fs} k l done (Some w ∷ rest) h laid fit all c f older =
@@ -153,8 +153,8 @@ made_cows {fs} k l done (Some w ∷ rest) h laid fit all c f older =
     let most : translation_limit_of (version_in fs) ≤ translation_limit = trans_most (version_in fs) in
     let twins : set (put_so_far done (Some w ∷ rest)) (length done) (Some w) ≡ put_so_far (done ++ Some w ∷ []) rest =
     set_at done None (Some w) (nones (length rest)) ∙ sym (append_assoc done (Some w ∷ []) (nones (length rest))) in
-    let pushed : IsMade (fs ++ forms.Cow (length done) w.0 ∷ []) 11 (record k { twins = put_so_far (done ++ Some w ∷ []) rest }) =
-    subst (λ (ts : List (Option VSlot)). IsMade (fs ++ forms.Cow (length done) w.0 ∷ []) 11 (record k { twins = ts })) twins
+    let pushed : IsMade (fs ++ forms.Cow (length done) w.0 ∷ []) 12 (record k { twins = put_so_far (done ++ Some w ∷ []) rest }) =
+    subst (λ (ts : List (Option VSlot)). IsMade (fs ++ forms.Cow (length done) w.0 ∷ []) 12 (record k { twins = ts })) twins
     (made_push (forms.Cow (length done) w.0) h (omega arith) (plain (omega (arith, is.low, most), omega (arith, is.low_twin, most)) refl) (put_cow h.some is)) in
     let made = made_cows k l (done ++ Some w ∷ []) rest pushed laid fit (append_assoc done (Some w ∷ []) rest ∙ all) c f (λ one. All-tail IsNone (Some w) rest (older one)) in
     made_then fs (forms.Cow (length done) w.0) (numbered cow_forms (length done + 1) rest) (rw (length_push, append_assoc done (Some w ∷ []) rest) at made)

@@ -4,6 +4,7 @@ pub mod WordsPut
 pub mod ReadBack
 pub mod CleanPut
 pub mod Sections
+pub mod GuestsPut
 pub mod CowsPut
 pub mod ListsPut
 pub mod RowsPut

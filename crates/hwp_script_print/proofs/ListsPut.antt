@@ -21,7 +21,7 @@ use Rattle.hwp_script_read.specs.hwp_script_lines.declared.ScriptLine.{ScriptLin
 use Rattle.hwp_script_read.specs.hwp_script_lines.declared.ScriptLine.TheVariants as forms
 use Rattle.hwp_script_read.specs.hwp_script_lines.declared.Command.{Command}
 use Rattle.hwp_script_read.specs.hwp_script_lines.declared.Command.TheVariants as commands
-use Rattle.hwp_script_read.specs.Context.{version_in, cpus_in, frames_in, files_in, procs_in, threads_in, pages_in, locked_in, trans_in, twins_in, names_in, lists_in, commands_in, place_in}
+use Rattle.hwp_script_read.specs.Context.{version_in, cpus_in, frames_in, files_in, procs_in, threads_in, pages_in, locked_in, trans_in, twins_in, guests_in, names_in, lists_in, commands_in, place_in}
 use Rattle.hwp_script_read.specs.Collects.{command_at, commands_from, commands_of}
 use Rattle.hwp_script_read.specs.Forks.{actor, is_again, is_wrong_fork, names_twin}
 use Rattle.hwp_script_read.specs.Reasons.{IsClean, IsNewer, IsBeyond, IsForeign, IsNoFilePage, IsNoAnonPage, IsUndeclared, IsElsewhere}
@@ -49,6 +49,7 @@ pub record IsLaidOut (k : Known) (l : Layout) : Type 0 where
   pub trans : k.trans ≡ l.trans
   pub locked : k.locked ≡ l.locked
   pub twins : k.twins ≡ l.twins
+  pub guests : k.guests ≡ l.guests
 
 pub record AreAbove (fs : List ScriptLine) (l : Layout) : Type 0 where
   pub version : version_in fs ≡ l.version
@@ -61,6 +62,7 @@ pub record AreAbove (fs : List ScriptLine) (l : Layout) : Type 0 where
   pub trans : trans_in fs ≡ l.trans
   pub locked : locked_in fs ≡ l.locked
   pub twins : twins_in fs ≡ l.twins
+  pub guests : guests_in fs ≡ l.guests
 
 above_made : {fs : List ScriptLine} {g : ℕ} {k : Known} {l : Layout} → IsMade fs g k → IsLaidOut k l → AreAbove fs l
 above_made {fs} {g} {k} {l} h laid = record {
@@ -74,11 +76,12 @@ above_made {fs} {g} {k} {l} h laid = record {
   trans = ap (λ (x : Known). x.trans) h.same ∙ laid.trans;
   locked = ap (λ (x : Known). x.locked) h.same ∙ laid.locked;
   twins = ap (λ (x : Known). x.twins) h.same ∙ laid.twins;
+  guests = ap (λ (x : Known). x.guests) h.same ∙ laid.guests;
 }
 
 -- the names that they declare are those of the layout
 names_above : {fs : List ScriptLine} {l : Layout} → AreAbove fs l → names_in fs ≡ bare l
-names_above {fs} {l} a = rw (a.version, a.cpus, a.frames, a.files, a.procs, a.threads, a.pages, a.trans, a.locked, a.twins) refl
+names_above {fs} {l} a = rw (a.version, a.cpus, a.frames, a.files, a.procs, a.threads, a.pages, a.trans, a.locked, a.twins, a.guests) refl
 
 -- what stands in a list stands below its length
 some_within : {A : Type 0} (P : A → Type 0) (xs : List A) (i : ℕ) → IsSomeAnd (slice_get xs i) P → i < length xs
@@ -293,14 +296,14 @@ abbrev pub IsOld : Command → Type 0
 IsOld c = IsNewer c → ⊥
 
 -- the commands of a list
-pub made_commands : {fs : List ScriptLine} (k : Known) (l : Layout) (c n : ℕ) (cmds : List Command) → IsMade fs 12 (record k { commands = n }) → IsLaidOut k l → 0 < k.cpus → 0 < k.frames
+pub made_commands : {fs : List ScriptLine} (k : Known) (l : Layout) (c n : ℕ) (cmds : List Command) → IsMade fs 13 (record k { commands = n }) → IsLaidOut k l → 0 < k.cpus → 0 < k.frames
     → k.place ≡ Some c → All (IsCommandOf l c) cmds → (l.version ≡ versions.One → All IsOld cmds) → All HasWords cmds → n + length cmds ≤ command_limit
     → (done : List Command) → commands_of fs c ≡ done → All (NamesNoTwin l) cmds → AreForksFit l c (done ++ cmds) → ((p : ℕ) → lines_weight (one_fork p) fs + weight (one_fork p) cmds ≤ 1)
-    → IsMade (fs ++ map forms.Command cmds) 12 (record k { commands = n + length cmds })
+    → IsMade (fs ++ map forms.Command cmds) 13 (record k { commands = n + length cmds })
 made_commands k l c n [] h laid some_c some_f here own old words few done list untwinned forks once = let e : n + zero ≡ n = omega arith in rw e (made_nil h)
 made_commands {fs} k l c n (cmd ∷ cmds) h laid some_c some_f here own old words few done list untwinned forks once =
     let own_it = All-head (IsCommandOf l c) cmd cmds own in
-    let above = above_made {k = record k { commands = n }} {l = l} h (record { sound = laid.sound; version = laid.version; cpus = laid.cpus; frames = laid.frames; files = laid.files; procs = laid.procs; threads = laid.threads; pages = laid.pages; trans = laid.trans; locked = laid.locked; twins = laid.twins }) in
+    let above = above_made {k = record k { commands = n }} {l = l} h (record { sound = laid.sound; version = laid.version; cpus = laid.cpus; frames = laid.frames; files = laid.files; procs = laid.procs; threads = laid.threads; pages = laid.pages; trans = laid.trans; locked = laid.locked; twins = laid.twins; guests = laid.guests }) in
     let names = names_above above in
     let count : commands_in fs ≡ n = ap (λ (x : Known). x.commands) h.same in
     let place : place_in fs ≡ Some c = ap (λ (x : Known). x.place) h.same ∙ here in
@@ -334,10 +337,10 @@ placed_at p m [] = p
 placed_at p m (list ∷ lists) = placed_at (Some m) (m + 1) lists
 
 pub made_lists : {fs : List ScriptLine} (k : Known) (l : Layout) (done : List ℕ) (p : Option ℕ) (n m : ℕ) (lists : List (List Command))
-    → IsMade fs 12 (record k { lists = done; place = p; commands = n }) → IsLaidOut k l → 0 < k.cpus → 0 < k.frames
+    → IsMade fs 13 (record k { lists = done; place = p; commands = n }) → IsLaidOut k l → 0 < k.cpus → 0 < k.frames
     → All (λ i. i < m) done → m + length lists ≤ k.cpus → k.cpus ≤ cpu_limit_of k.version → AreLists l m lists → (l.version ≡ versions.One → All (All IsOld) lists) → All (All HasWords) lists → n + sum_by length lists ≤ command_limit
     → All (All (NamesNoTwin l)) lists → ((i : ℕ) (list : List Command) → slice_get lists i ≡ Some list → AreForksFit l (m + i) list) → ((p : ℕ) → lines_weight (one_fork p) fs + total (one_fork p) lists ≤ 1)
-    → IsMade (fs ++ numbered list_forms m lists) 12 (record k { lists = done ++ range_with_len m (length lists); place = placed_at p m lists; commands = n + sum_by length lists })
+    → IsMade (fs ++ numbered list_forms m lists) 13 (record k { lists = done ++ range_with_len m (length lists); place = placed_at p m lists; commands = n + sum_by length lists })
 made_lists k l done p n m [] h laid some_c some_f low l_c few_c own old words few untwinned forks once =
     let e : n + zero ≡ n = omega arith in rw (append-nil done, e) (made_nil h)
 made_lists {fs} k l done p n m (list ∷ lists) h laid some_c some_f low l_c few_c own old words few untwinned forks once =
@@ -350,7 +353,7 @@ made_lists {fs} k l done p n m (list ∷ lists) h laid some_c some_f low l_c few
     let clean : IsClean fs (forms.Cpu m) = put_cpu h.some (record { placed = placed h some_c some_f; cpu = omega arith; low = rw version (omega arith) }) not_listed in
     let head = made_push (forms.Cpu m) h (omega arith) (plain (omega arith) refl) clean in
     let one = made_commands (record k { lists = done ++ m ∷ []; place = Some m }) l m n list head
-    (record { sound = laid.sound; version = laid.version; cpus = laid.cpus; frames = laid.frames; files = laid.files; procs = laid.procs; threads = laid.threads; pages = laid.pages; trans = laid.trans; locked = laid.locked; twins = laid.twins })
+    (record { sound = laid.sound; version = laid.version; cpus = laid.cpus; frames = laid.frames; files = laid.files; procs = laid.procs; threads = laid.threads; pages = laid.pages; trans = laid.trans; locked = laid.locked; twins = laid.twins; guests = laid.guests })
     some_c some_f refl own.0 (λ one. All-head (All IsOld) list lists (old one)) (All-head (All HasWords) list lists words) (omega arith)
     [] (list_begun fs m not_listed) (All-head (All (NamesNoTwin l)) list lists untwinned) (let at : m + 0 ≡ m = omega arith in rw at at (forks 0 list refl))
     (λ p. omega (arith, once p, lines-push (one_fork p) fs (forms.Cpu m))) in

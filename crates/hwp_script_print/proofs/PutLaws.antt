@@ -9,7 +9,7 @@ use Rattle.hwp_script_print.specs.Printed.{forms_text}
 use Rattle.hwp_script_read.specs.hwp_script_lines.declared.ScriptLine.{ScriptLine}
 use Rattle.hwp_script_read.specs.hwp_script_lines.declared.ScriptLine.TheVariants as forms
 use Rattle.hwp_script_read.specs.declared.Script.{Script}
-use Rattle.hwp_script_print.specs.Text.{numbered, counted, head_forms, kernel_forms, setting_forms, file_form, proc_form, thread_forms, page_forms, trans_forms, cow_forms, list_forms, go_row, rows_of, script_text}
+use Rattle.hwp_script_print.specs.Text.{numbered, counted, head_forms, kernel_forms, setting_forms, file_form, proc_form, thread_forms, guest_forms, page_forms, trans_forms, cow_forms, list_forms, go_row, rows_of, script_text}
 
 pub forms_text-append : (xs ys : List ScriptLine) → forms_text (xs ++ ys) ≡ forms_text xs ++ forms_text ys
 forms_text-append xs ys = flat_map-append (λ f. line (form_words f)) xs ys
@@ -57,27 +57,28 @@ put_counted form_of old now new i e f =
 forms_text-one : (f : ScriptLine) → forms_text (f ∷ []) ≡ line (form_words f)
 forms_text-one f = append-nil (line (form_words f))
 
-text_parts : (a b c d e f g h i j k : List ScriptLine) (z : ScriptLine) → forms_text (a ++ b ++ c ++ d ++ e ++ f ++ g ++ h ++ i ++ j ++ k ++ z ∷ [])
-    ≡ forms_text a ++ forms_text b ++ forms_text c ++ forms_text d ++ forms_text e ++ forms_text f ++ forms_text g ++ forms_text h ++ forms_text i ++ forms_text j ++ forms_text k ++ line (form_words z)
-text_parts a b c d e f g h i j k z = simp (forms_text-append, forms_text-one)
+text_parts : (a b c d e f g h i j k l : List ScriptLine) (z : ScriptLine) → forms_text (a ++ b ++ c ++ d ++ e ++ f ++ g ++ h ++ i ++ j ++ k ++ l ++ z ∷ [])
+    ≡ forms_text a ++ forms_text b ++ forms_text c ++ forms_text d ++ forms_text e ++ forms_text f ++ forms_text g ++ forms_text h ++ forms_text i ++ forms_text j ++ forms_text k ++ forms_text l ++ line (form_words z)
+text_parts a b c d e f g h i j k l z = simp (forms_text-append, forms_text-one)
 
 -- the text of a script, part by part
-pub script_parts : (s : Script) (a b c d e f g h i j k l m : List ℕ) → a ≡ []
+pub script_parts : (s : Script) (a b c d e f g h i j k l m n : List ℕ) → a ≡ []
     → b ≡ a ++ forms_text (head_forms s.layout.version s.layout.cpus s.layout.frames)
     → c ≡ b ++ forms_text (numbered kernel_forms 0 s.layout.kernel)
     → d ≡ c ++ forms_text (setting_forms s.layout.recovery s.layout.early)
     → e ≡ d ++ forms_text (counted file_form s.layout.files)
     → f ≡ e ++ forms_text (counted proc_form s.layout.procs)
     → g ≡ f ++ forms_text (numbered thread_forms 0 s.layout.threads)
-    → h ≡ g ++ forms_text (numbered (page_forms s.layout.locked) 0 s.layout.pages)
-    → i ≡ h ++ forms_text (numbered trans_forms 0 s.layout.trans)
-    → j ≡ i ++ forms_text (numbered cow_forms 0 s.layout.twins)
-    → k ≡ j ++ forms_text (numbered list_forms 0 s.lists)
-    → l ≡ k ++ forms_text (counted (go_row s.go) (rows_of (length s.go)))
-    → m ≡ l ++ line (form_words forms.End) → m ≡ script_text s
-script_parts s a b c d e f g h i j k l m ea eb ec ed ee ef eg eh ei ej ek el em =
-    em ∙ rw (el, ek, ej, ei, eh, eg, ef, ee, ed, ec, eb, ea) (sym (text_parts (head_forms s.layout.version s.layout.cpus s.layout.frames) (numbered kernel_forms 0 s.layout.kernel)
-    (setting_forms s.layout.recovery s.layout.early) (counted file_form s.layout.files) (counted proc_form s.layout.procs) (numbered thread_forms 0 s.layout.threads)
+    → h ≡ g ++ forms_text (numbered guest_forms 0 s.layout.guests)
+    → i ≡ h ++ forms_text (numbered (page_forms s.layout.locked) 0 s.layout.pages)
+    → j ≡ i ++ forms_text (numbered trans_forms 0 s.layout.trans)
+    → k ≡ j ++ forms_text (numbered cow_forms 0 s.layout.twins)
+    → l ≡ k ++ forms_text (numbered list_forms 0 s.lists)
+    → m ≡ l ++ forms_text (counted (go_row s.go) (rows_of (length s.go)))
+    → n ≡ m ++ line (form_words forms.End) → n ≡ script_text s
+script_parts s a b c d e f g h i j k l m n ea eb ec ed ee ef eg eh ei ej ek el em en =
+    en ∙ rw (em, el, ek, ej, ei, eh, eg, ef, ee, ed, ec, eb, ea) (sym (text_parts (head_forms s.layout.version s.layout.cpus s.layout.frames) (numbered kernel_forms 0 s.layout.kernel)
+    (setting_forms s.layout.recovery s.layout.early) (counted file_form s.layout.files) (counted proc_form s.layout.procs) (numbered thread_forms 0 s.layout.threads) (numbered guest_forms 0 s.layout.guests)
     (numbered (page_forms s.layout.locked) 0 s.layout.pages) (numbered trans_forms 0 s.layout.trans) (numbered cow_forms 0 s.layout.twins) (numbered list_forms 0 s.lists) (counted (go_row s.go) (rows_of (length s.go))) forms.End))
 
 -- the words from one place to another, where 50 or fewer follow

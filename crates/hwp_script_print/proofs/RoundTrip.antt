@@ -17,17 +17,19 @@ use Rattle.hwp_script_read.specs.Context.{cpus_in, commands_in, place_after}
 use Rattle.hwp_script_read.specs.Collects.{Collects, IsEnded, commands_of, commands_from}
 use Rattle.hwp_script_read.specs.Limits.{script_limit}
 use Rattle.hwp_script_read.specs.Reads.{Reads}
-use Rattle.hwp_script_read.specs.Valid.{AreTwinsFit, IsValid, HasFill}
+use Rattle.hwp_script_read.specs.Valid.{AreGuestsFit, AreTwinsFit, IsValid, HasFill}
 use Rattle.hwp_script_read.specs.Forks.{is_fork_of}
 use Rattle.hwp_script_read.specs.hwp_script_lines.declared.Command.{Command}
 use Rattle.hwp_script_read.proofs.TwinLaws.{IsNone}
+use Rattle.hwp_script_read.proofs.GuestLaws.{IsNot, fit_layout}
 use Rattle.hwp_script_read.proofs.TallyLaws.{lines_weight, one_fork, sum-weight, total-sum}
 use Rattle.hwp_script_read.proofs.CleanLists.{slice_get-append_at}
-use Rattle.hwp_script_print.specs.Text.{numbered, counted, head_forms, kernel_forms, setting_forms, file_form, proc_form, thread_forms, page_forms, trans_forms, cow_forms, list_forms, go_row, rows_of, script_forms, script_text}
+use Rattle.hwp_script_print.specs.Text.{numbered, counted, head_forms, kernel_forms, setting_forms, file_form, proc_form, thread_forms, guest_forms, page_forms, trans_forms, cow_forms, list_forms, go_row, rows_of, script_forms, script_text}
 use Rattle.hwp_script_print.specs.Round.{IsTextOf}
 use Rattle.hwp_script_print.proofs.CleanPut.{put_end}
 use Rattle.hwp_script_print.proofs.ReadBack.{lines_at, text_read, forms_read}
-use Rattle.hwp_script_print.proofs.Sections.{Known, IsMade, nothing, marked, marks_from, HasFile, made_head, made_kernel, made_settings, made_files, made_procs, made_threads, made_pages, made_trans, made_later, made_push, placed, plain}
+use Rattle.hwp_script_print.proofs.Sections.{Known, IsMade, nothing, noes, marked, marks_from, HasFile, made_head, made_kernel, made_settings, made_files, made_procs, made_threads, made_pages, made_trans, made_later, made_push, placed, plain}
+use Rattle.hwp_script_print.proofs.GuestsPut.{made_hosted}
 use Rattle.hwp_script_print.proofs.CowsPut.{made_cows}
 use Rattle.hwp_script_print.proofs.ListsPut.{made_lists, placed_at}
 use Rattle.hwp_script_print.proofs.RowsPut.{made_rows}
@@ -38,7 +40,7 @@ use Rattle.hwp_script_read.proofs.OneScript.{one_script}
 abbrev layout_forms : Layout → List ScriptLine
 layout_forms l =
     head_forms l.version l.cpus l.frames ++ numbered kernel_forms 0 l.kernel ++ setting_forms l.recovery l.early ++ counted file_form l.files
-    ++ counted proc_form l.procs ++ numbered thread_forms 0 l.threads ++ numbered (page_forms l.locked) 0 l.pages ++ numbered trans_forms 0 l.trans ++ numbered cow_forms 0 l.twins
+    ++ counted proc_form l.procs ++ numbered thread_forms 0 l.threads ++ numbered guest_forms 0 l.guests ++ numbered (page_forms l.locked) 0 l.pages ++ numbered trans_forms 0 l.trans ++ numbered cow_forms 0 l.twins
 
 -- what they declare
 abbrev declared : Layout → Known
@@ -56,6 +58,7 @@ declared l = record nothing {
   locked = marks_from l.locked 0 l.pages;
   trans = l.trans;
   twins = l.twins;
+  guests = l.guests;
 }
 
 has_file : (l : Layout) (kind : PageKind) → IsBacked l kind → HasFill kind → HasFile l.files kind
@@ -87,21 +90,22 @@ marks_are_all : (l : Layout) → IsSound l → marks_from l.locked 0 l.pages ≡
 marks_are_all l s = marks_at l.locked 0 l.pages l.locked s.locked (λ i. let e : 0 + i ≡ i = omega arith in rw e refl)
 
 made_layout : (l : Layout) → IsSound l → (l.version ≡ versions.One → All (λ (b : Bool). b ≡ false) l.locked) → All HasFill l.pages
-    → AreTwinsFit l → (l.version ≡ versions.One → All IsNone l.twins) → IsMade (layout_forms l) 11 (declared l)
-made_layout l s older fills twins untwinned =
+    → AreTwinsFit l → (l.version ≡ versions.One → All IsNone l.twins) → AreGuestsFit l → (l.version ≡ versions.One → All IsNot l.guests) → IsMade (layout_forms l) 12 (declared l)
+made_layout l s older fills twins untwinned guests unguested =
     let f = s.within in
     let head = made_head l.version l.cpus l.frames s.some_cpu f.cpus s.some_frame f.frames in
     let kernel = made_kernel (record nothing { version = l.version; cpus = l.cpus; frames = l.frames }) [] 0 l.kernel (made_later 3 head (omega arith)) s.some_cpu s.some_frame f.frames
     (All-nil (λ m. m < 0)) (omega (arith, s.kernel)) in
     let settings = made_settings (record nothing { version = l.version; cpus = l.cpus; frames = l.frames; kernel = marked 0 l.kernel }) l.recovery l.early (made_later 5 kernel (omega arith)) kernel.late s.some_cpu s.some_frame in
-    let files = made_files (record (declared l) { procs = 0; threads = []; pages = []; locked = []; trans = []; twins = [] }) 0 l.files (made_later 6 settings (omega arith)) s.some_cpu s.some_frame (no_more l.files 16 s.files) in
+    let files = made_files (record (declared l) { procs = 0; threads = []; pages = []; locked = []; trans = []; twins = []; guests = [] }) 0 l.files (made_later 6 settings (omega arith)) s.some_cpu s.some_frame (no_more l.files 16 s.files) in
     let procs = made_procs (record (declared l) { threads = []; pages = []; locked = []; trans = []; twins = [] }) 0 l.procs (made_later 7 (rw (from_none l.files) at files) (omega arith)) s.some_cpu s.some_frame (no_more l.procs 16 s.procs) in
-    let threads = made_threads (record (declared l) { pages = []; locked = []; trans = []; twins = [] }) [] l.threads (made_later 8 (rw (from_none l.procs) at procs) (omega arith)) s.some_cpu s.some_frame f.cpus s.procs (no_more (length l.threads) 32 s.threads) s.thread_names in
-    let pages = made_pages (record (declared l) { trans = []; twins = [] }) l.locked [] l.pages [] (made_later 9 threads (omega arith)) s.some_cpu s.some_frame s.files (no_more (length l.pages) (page_limit_of l.version) f.pages) (have_files l l.pages s.page_names fills)
+    let threads = made_threads (record (declared l) { pages = []; locked = []; trans = []; twins = []; guests = noes l.procs }) [] l.threads (made_later 8 (rw (from_none l.procs) at procs) (omega arith)) s.some_cpu s.some_frame f.cpus s.procs (no_more (length l.threads) 32 s.threads) s.thread_names in
+    let hosted = made_hosted (record (declared l) { pages = []; locked = []; trans = []; twins = [] }) l.guests l.procs (sym s.guests) (made_later 9 threads (omega arith)) (fit_layout l guests) s.guests s.procs s.some_cpu s.some_frame unguested in
+    let pages = made_pages (record (declared l) { trans = []; twins = [] }) l.locked [] l.pages [] (made_later 10 hosted (omega arith)) s.some_cpu s.some_frame s.files (no_more (length l.pages) (page_limit_of l.version) f.pages) (have_files l l.pages s.page_names fills)
     (λ one. rw (marks_are_all l s) (older one)) in
-    let trans = made_trans (declared l) [] l.trans (made_later 10 pages (omega arith)) s.some_cpu s.some_frame s.procs f.pages (no_more (length l.trans) (translation_limit_of l.version) f.trans) s.trans_names in
+    let trans = made_trans (declared l) [] l.trans (made_later 11 pages (omega arith)) s.some_cpu s.some_frame s.procs f.pages (no_more (length l.trans) (translation_limit_of l.version) f.trans) s.trans_names in
     let many : 0 + length l.trans ≡ length l.twins = omega (arith, s.twins) in
-    made_cows (declared l) l [] l.twins (made_later 11 (rw many at trans) (omega arith)) (record { sound = s; version = refl; pages = refl; trans = refl }) twins refl s.some_cpu s.some_frame untwinned
+    made_cows (declared l) l [] l.twins (made_later 12 (rw many at trans) (omega arith)) (record { sound = s; version = refl; pages = refl; trans = refl }) twins refl s.some_cpu s.some_frame untwinned
 
 -- what all lines of a script declare
 abbrev said : Script → Known
@@ -111,8 +115,8 @@ all_rows : (n : ℕ) → n ≤ (0 + rows_of n) * 50
 all_rows n = omega arith
 
 -- the declarations of a valid script
-made_of : (s : Script) → IsValid s → IsMade (layout_forms s.layout) 11 (declared s.layout)
-made_of s v = made_layout s.layout v.sound (λ one. (v.older one).unlocked) v.fills v.twins (λ one. (v.older one).untwinned)
+made_of : (s : Script) → IsValid s → IsMade (layout_forms s.layout) 12 (declared s.layout)
+made_of s v = made_layout s.layout v.sound (λ one. (v.older one).unlocked) v.fills v.twins (λ one. (v.older one).untwinned) v.guests (λ one. (v.older one).unguested)
 
 no_commands : (s : Script) → IsValid s → commands_in (layout_forms s.layout) ≡ 0
 no_commands s v = ap (λ (x : Known). x.commands) (made_of s v).same
@@ -122,17 +126,17 @@ no_forks w [] h = refl
 no_forks w (forms.Command c ∷ fs) h = absurd (omega (arith, h))
 no_forks w (f ∷ fs) h = omega (arith, no_forks w fs h)
 
-made_script : (s : Script) → IsValid s → IsMade (script_forms s) 14 (said s)
+made_script : (s : Script) → IsValid s → IsMade (script_forms s) 15 (said s)
 made_script s v =
     let sound = v.sound in
     let layout = made_of s v in
-    let lists = made_lists (declared s.layout) s.layout [] None 0 0 s.lists (made_later 12 layout (omega arith))
-    (record { sound = sound; version = refl; cpus = refl; frames = refl; files = refl; procs = refl; threads = refl; pages = refl; trans = refl; locked = marks_are_all s.layout sound; twins = refl }) sound.some_cpu sound.some_frame
+    let lists = made_lists (declared s.layout) s.layout [] None 0 0 s.lists (made_later 13 layout (omega arith))
+    (record { sound = sound; version = refl; cpus = refl; frames = refl; files = refl; procs = refl; threads = refl; pages = refl; trans = refl; locked = marks_are_all s.layout sound; twins = refl; guests = refl }) sound.some_cpu sound.some_frame
     (All-nil (λ i. i < 0)) (omega (arith, v.one_each)) sound.within.cpus v.lists (λ one. (v.older one).commands) v.words (no_more (sum_by length s.lists) command_limit v.few)
     v.own (λ i list e. let at : 0 + i ≡ i = omega arith in rw at (v.forks i list e)) (λ p. omega (arith, no_forks (one_fork p) (layout_forms s.layout) (no_commands s v), v.once p, total-sum (one_fork p) (count_by (is_fork_of p)) (sum-weight (one_fork p)) s.lists)) in
-    let rows = made_rows (record (said s) { go = [] }) s.go (placed_at None 0 s.lists) 0 (rows_of (length s.go)) (made_later 13 (rw (from_none (sum_by length s.lists)) at lists) (omega arith))
+    let rows = made_rows (record (said s) { go = [] }) s.go (placed_at None 0 s.lists) 0 (rows_of (length s.go)) (made_later 14 (rw (from_none (sum_by length s.lists)) at lists) (omega arith))
     sound.some_cpu sound.some_frame sound.within.cpus v.go v.few_go (omega arith) in
-    let end = made_push forms.End (made_later 14 rows (omega arith)) (omega arith) (plain tt refl) (put_end rows.some (placed rows sound.some_cpu sound.some_frame)) in
+    let end = made_push forms.End (made_later 15 rows (omega arith)) (omega arith) (plain tt refl) (put_end rows.some (placed rows sound.some_cpu sound.some_frame)) in
     rw (take_all ((0 + rows_of (length s.go)) * 50) s.go (all_rows (length s.go))) at end
 
 -- the marks are those of the frames of the kernel
@@ -174,7 +178,7 @@ map_same : {A B : Type 0} (g h : A → B) (xs : List A) → ((x : A) → g x ≡
 map_same g h [] e = refl
 map_same g h (x ∷ xs) e = let here : g x ≡ h x = e x in let rest = map_same g h xs e in cc
 
-lists_said : (s : Script) → IsValid s → IsMade (script_forms s) 14 (said s) → commands_in (layout_forms s.layout) ≡ 0
+lists_said : (s : Script) → IsValid s → IsMade (script_forms s) 15 (said s) → commands_in (layout_forms s.layout) ≡ 0
     → s.lists ≡ map (commands_of (script_forms s)) (range_with_len 0 (cpus_in (script_forms s)))
 lists_said s v made front =
     let place = fold place_after None (layout_forms s.layout) in
@@ -204,6 +208,7 @@ script_back s v =
       trans = sym (ap (λ (x : Known). x.trans) made.same);
       locked = sym (ap (λ (x : Known). x.locked) made.same ∙ marks_are_all s.layout v.sound);
       twins = sym (ap (λ (x : Known). x.twins) made.same);
+      guests = sym (ap (λ (x : Known). x.guests) made.same);
       lists = lists_said s v made front;
       go = sym (ap (λ (x : Known). x.go) made.same);
     }

@@ -49,9 +49,9 @@ abbrev pub placed_rows : Option ℕ → ℕ → Option ℕ
 placed_rows p zero = p
 placed_rows p (suc n) = placed_rows None n
 
-pub made_rows : {fs : List ScriptLine} (k : Known) (go : List Go) (p : Option ℕ) (i n : ℕ) → IsMade fs 13 (record k { place = p; go = take (i * 50) go })
+pub made_rows : {fs : List ScriptLine} (k : Known) (go : List Go) (p : Option ℕ) (i n : ℕ) → IsMade fs 14 (record k { place = p; go = take (i * 50) go })
     → 0 < k.cpus → 0 < k.frames → k.cpus ≤ cpu_limit_of k.version → All (IsGoBelow k.cpus) go → length go ≤ schedule_limit → i + n ≤ rows_of (length go)
-    → IsMade (fs ++ map (go_row go) (range_with_len i n)) 13 (record k { place = placed_rows p n; go = take ((i + n) * 50) go })
+    → IsMade (fs ++ map (go_row go) (range_with_len i n)) 14 (record k { place = placed_rows p n; go = take ((i + n) * 50) go })
 made_rows k go p i zero h some_c some_f few_c own few l = let e : i + zero ≡ i = omega arith in rw e (made_nil h)
 made_rows {fs} k go p i (suc n) h some_c some_f few_c own few l =
     let row = take 50 (drop (i * 50) go) in
@@ -71,7 +71,7 @@ made_rows {fs} k go p i (suc n) h some_c some_f few_c own few l =
       cpus = rw cpus below;
     }) in
     let whole : IsWhole (go_row go i) = record { fits = rw many (omega arith); turns = turns_low k.cpus row few_any own_row } in
-    let made : IsMade (fs ++ go_row go i ∷ []) 13 (record k { place = None; go = take ((i + 1) * 50) go }) =
+    let made : IsMade (fs ++ go_row go i ∷ []) 14 (record k { place = None; go = take ((i + 1) * 50) go }) =
     rw (row_after go i) at (made_push (go_row go i) h (omega arith) whole clean) in
     let rest = made_rows {fs = fs ++ go_row go i ∷ []} k go None (i + 1) n made some_c some_f few_c own few (omega arith) in
     let e : i + suc n ≡ i + 1 + n = omega arith in

@@ -15,7 +15,7 @@ use Rattle.hwp_script_read.specs.hwp_geom.declared.PageKind.TheVariants as kinds
 use Rattle.hwp_script_read.specs.hwp_script_lines.declared.ScriptLine.{ScriptLine}
 use Rattle.hwp_script_read.specs.hwp_script_lines.declared.Go.{Go}
 use Rattle.hwp_script_read.specs.hwp_script_lines.declared.ScriptLine.TheVariants as forms
-use Rattle.hwp_script_read.specs.Context.{version_after, version_in, locked_of, locked_in, cpus_of, frames_of, kernel_of, recovery_of, early_of, file_of, proc_of, thread_of, page_of, trans_of, cpu_of, command_of, words_of, kind_of, cpus_in, frames_in, kernel_in, recovery_in, early_in, files_in, procs_in, threads_in, pages_in, trans_in, twins_after, twins_in, lists_in, commands_in, go_in, place_in, place_after, group, highest}
+use Rattle.hwp_script_read.specs.Context.{version_after, version_in, locked_of, locked_in, cpus_of, frames_of, kernel_of, recovery_of, early_of, file_of, proc_of, thread_of, page_of, trans_of, cpu_of, command_of, words_of, kind_of, cpus_in, frames_in, kernel_in, recovery_in, early_in, files_in, procs_in, threads_in, pages_in, trans_in, twins_after, twins_in, guests_after, guests_in, lists_in, commands_in, go_in, place_in, place_after, group, highest}
 use Rattle.hwp_script_read.specs.Reasons.{IsClean, AreClean, IsBackingOver, IsBackingUndeclared}
 use Rattle.hwp_script_read.proofs.ContextLaws.{onto, plus, more, either, pushed}
 use Rattle.hwp_script_read.proofs.CleanLaws.{IsPlaced, cpu_most, frame_most, page_most, trans_most}
@@ -41,6 +41,7 @@ pub record Known : Type 0 where
   pub locked : List Bool
   pub trans : List TransDecl
   pub twins : List (Option VSlot)
+  pub guests : List Bool
   pub lists : List ℕ
   pub place : Option ℕ
   pub commands : ℕ
@@ -61,6 +62,7 @@ known fs = record {
   locked = locked_in fs;
   trans = trans_in fs;
   twins = twins_in fs;
+  guests = guests_in fs;
   lists = lists_in fs;
   place = place_in fs;
   commands = commands_in fs;
@@ -91,6 +93,7 @@ next k f = record {
   locked = onto (locked_of f) k.locked;
   trans = onto (trans_of f) k.trans;
   twins = twins_after k.twins f;
+  guests = guests_after k.guests f;
   lists = onto (cpu_of f) k.lists;
   place = place_after k.place f;
   commands = more (command_of f) k.commands;
@@ -100,7 +103,7 @@ next k f = record {
 known_push : (fs : List ScriptLine) (f : ScriptLine) → known (fs ++ f ∷ []) ≡ next (known fs) f
 known_push fs f =
     let p = pushed fs f in
-    rw (p.version, p.locked, p.cpus, p.frames, p.kernel, p.recovery, p.early, p.files, p.procs, p.threads, p.pages, p.trans, p.twins, p.lists, p.place, p.commands, p.go, go_more-is) refl
+    rw (p.version, p.locked, p.cpus, p.frames, p.kernel, p.recovery, p.early, p.files, p.procs, p.threads, p.pages, p.trans, p.twins, p.guests, p.lists, p.place, p.commands, p.go, go_more-is) refl
 
 -- the lines are clean, of groups up to g, and declare this
 pub record IsMade (fs : List ScriptLine) (g : ℕ) (k : Known) : Type 0 where
@@ -154,6 +157,7 @@ nothing = record {
   locked = [];
   trans = [];
   twins = [];
+  guests = [];
   lists = [];
   place = None;
   commands = 0;
@@ -224,13 +228,20 @@ made_files {fs} k m (suc n) h c f l =
     let e : m + suc n ≡ (m + 1) + n = omega arith in
     rw e (made_then fs (forms.File m) (map file_form (range_with_len (m + 1) n)) (made_files k (m + 1) n (made_push (forms.File m) h (omega arith) (plain (omega arith) refl) clean) c f (omega arith)))
 
-pub made_procs : {fs : List ScriptLine} (k : Known) (m n : ℕ) → IsMade fs 7 (record k { procs = m }) → 0 < k.cpus → 0 < k.frames → m + n ≤ 16
-    → IsMade (fs ++ map proc_form (range_with_len m n)) 7 (record k { procs = m + n })
+-- no guests among so many processes
+abbrev pub noes : ℕ → List Bool
+noes n = replicate n false
+
+pub made_procs : {fs : List ScriptLine} (k : Known) (m n : ℕ) → IsMade fs 7 (record k { procs = m; guests = noes m }) → 0 < k.cpus → 0 < k.frames → m + n ≤ 16
+    → IsMade (fs ++ map proc_form (range_with_len m n)) 7 (record k { procs = m + n; guests = noes (m + n) })
 made_procs k m zero h c f l = let e : m + zero ≡ m = omega arith in rw e (made_nil h)
 made_procs {fs} k m (suc n) h c f l =
     let clean : IsClean fs (forms.Proc m) = put_proc h.some (record { placed = placed h c f; few = omega arith; next = sym (ap (λ (x : Known). x.procs) h.same) }) in
     let e : m + suc n ≡ (m + 1) + n = omega arith in
-    rw e (made_then fs (forms.Proc m) (map proc_form (range_with_len (m + 1) n)) (made_procs k (m + 1) n (made_push (forms.Proc m) h (omega arith) (plain (omega arith) refl) clean) c f (omega arith)))
+    let made : IsMade (fs ++ forms.Proc m ∷ []) 7 (record k { procs = m + 1; guests = noes (m + 1) }) =
+    subst (λ (gs : List Bool). IsMade (fs ++ forms.Proc m ∷ []) 7 (record k { procs = m + 1; guests = gs })) (replicate_more m false)
+    (made_push (forms.Proc m) h (omega arith) (plain (omega arith) refl) clean) in
+    rw e (made_then fs (forms.Proc m) (map proc_form (range_with_len (m + 1) n)) (made_procs k (m + 1) n made c f (omega arith)))
 
 -- the threads, the pages and the translations
 pub made_threads : {fs : List ScriptLine} (k : Known) (done ts : List ThreadDecl) → IsMade fs 8 (record k { threads = done }) → 0 < k.cpus → 0 < k.frames
@@ -283,9 +294,9 @@ abbrev pub marks_from : List Bool → ℕ → List PageKind → List Bool
 marks_from locked n [] = []
 marks_from locked n (q ∷ qs) = get_or locked n false ∷ marks_from locked (n + 1) qs
 
-pub made_pages : {fs : List ScriptLine} (k : Known) (locked : List Bool) (done qs : List PageKind) (marks : List Bool) → IsMade fs 9 (record k { pages = done; locked = marks }) → 0 < k.cpus → 0 < k.frames
+pub made_pages : {fs : List ScriptLine} (k : Known) (locked : List Bool) (done qs : List PageKind) (marks : List Bool) → IsMade fs 10 (record k { pages = done; locked = marks }) → 0 < k.cpus → 0 < k.frames
     → k.files ≤ 16 → length done + length qs ≤ page_limit_of k.version → All (HasFile k.files) qs → (k.version ≡ versions.One → All (λ (l : Bool). l ≡ false) (marks_from locked (length done) qs))
-    → IsMade (fs ++ numbered (page_forms locked) (length done) qs) 9 (record k { pages = done ++ qs; locked = marks ++ marks_from locked (length done) qs })
+    → IsMade (fs ++ numbered (page_forms locked) (length done) qs) 10 (record k { pages = done ++ qs; locked = marks ++ marks_from locked (length done) qs })
 made_pages k locked done [] marks h c f few l files older = rw (append-nil done, append-nil marks) (made_nil h)
 made_pages {fs} k locked done (q ∷ qs) marks h c f few l files older =
     let file = All-head (HasFile k.files) q qs files in
@@ -301,7 +312,7 @@ made_pages {fs} k locked done (q ∷ qs) marks h c f few l files older =
       low = no_over k.files q file few;
       backed = no_undeclared fs k.files q file (ap (λ (x : Known). x.files) h.same);
     }) in
-    let made : IsMade (fs ++ forms.Page (length done) (backing_of q) mark ∷ []) 9 (record k { pages = done ++ q ∷ []; locked = marks ++ mark ∷ [] }) =
+    let made : IsMade (fs ++ forms.Page (length done) (backing_of q) mark ∷ []) 10 (record k { pages = done ++ q ∷ []; locked = marks ++ mark ∷ [] }) =
     rw kind_back at (made_push (forms.Page (length done) (backing_of q) mark) h (omega arith) (plain (page_fits k.files (length done) q mark file few (omega arith)) refl) clean) in
     let rest = made_pages k locked (done ++ q ∷ []) qs (marks ++ mark ∷ []) made c f few (rw length_push (omega arith)) (All-tail (HasFile k.files) q qs files)
     (λ one. rw length_push (All-tail (λ (l : Bool). l ≡ false) mark (marks_from locked (length done + 1) qs) (older one))) in
@@ -316,9 +327,9 @@ nones n = replicate n None
 untwinned : (done : List TransDecl) (v : TransDecl) → nones (length done) ++ None ∷ [] ≡ nones (length (done ++ v ∷ []))
 untwinned done v = replicate_more (length done) None ∙ ap nones (sym (length_push done v))
 
-pub made_trans : {fs : List ScriptLine} (k : Known) (done vs : List TransDecl) → IsMade fs 10 (record k { trans = done; twins = nones (length done) }) → 0 < k.cpus → 0 < k.frames
+pub made_trans : {fs : List ScriptLine} (k : Known) (done vs : List TransDecl) → IsMade fs 11 (record k { trans = done; twins = nones (length done) }) → 0 < k.cpus → 0 < k.frames
     → k.procs ≤ 16 → length k.pages ≤ page_limit_of k.version → length done + length vs ≤ translation_limit_of k.version → All (IsNamedTrans k.procs (length k.pages)) vs
-    → IsMade (fs ++ numbered trans_forms (length done) vs) 10 (record k { trans = done ++ vs; twins = nones (length done + length vs) })
+    → IsMade (fs ++ numbered trans_forms (length done) vs) 11 (record k { trans = done ++ vs; twins = nones (length done + length vs) })
 made_trans k done [] h c f few_p few_q l names = let e : length done + 0 ≡ length done = omega arith in rw (append-nil done, e) (made_nil h)
 made_trans {fs} k done (v ∷ vs) h c f few_p few_q l names =
     let named = All-head (IsNamedTrans k.procs (length k.pages)) v vs names in
@@ -337,8 +348,8 @@ made_trans {fs} k done (v ∷ vs) h c f few_p few_q l names =
       page = omega (arith, named.1, pages);
       low_page = rw version (omega (arith, named.1));
     }) in
-    let made : IsMade (fs ++ forms.Trans (length done) v.process.0 v.page.0 ∷ []) 10 (record k { trans = done ++ v ∷ []; twins = nones (length (done ++ v ∷ [])) }) =
-    subst (λ (ts : List (Option VSlot)). IsMade (fs ++ forms.Trans (length done) v.process.0 v.page.0 ∷ []) 10 (record k { trans = done ++ v ∷ []; twins = ts })) (untwinned done v)
+    let made : IsMade (fs ++ forms.Trans (length done) v.process.0 v.page.0 ∷ []) 11 (record k { trans = done ++ v ∷ []; twins = nones (length (done ++ v ∷ [])) }) =
+    subst (λ (ts : List (Option VSlot)). IsMade (fs ++ forms.Trans (length done) v.process.0 v.page.0 ∷ []) 11 (record k { trans = done ++ v ∷ []; twins = ts })) (untwinned done v)
     (made_push (forms.Trans (length done) v.process.0 v.page.0) h (omega arith) (plain (omega arith, omega (arith, named.0), omega (arith, named.1)) refl) clean) in
     let many : length done + 1 + length vs ≡ length done + length (v ∷ vs) = omega arith in
     let rest = made_trans k (done ++ v ∷ []) vs made c f few_p few_q

@@ -56,6 +56,11 @@ proc_form n = forms.Proc n
 abbrev pub thread_forms : ℕ → ThreadDecl → List ScriptLine
 thread_forms n t = forms.Thread n t.process.0 t.cpu.0 t.handler ∷ []
 
+-- the line of a guest
+abbrev pub guest_forms : ℕ → Bool → List ScriptLine
+guest_forms n true = forms.Guest n ∷ []
+guest_forms n false = []
+
 -- a page, locked if the list of locked pages says so
 abbrev pub page_forms : List Bool → ℕ → PageKind → List ScriptLine
 page_forms locked n kind = forms.Page n (backing_of kind) (get_or locked n false) ∷ []
@@ -90,6 +95,7 @@ script_forms s =
     ++ counted file_form s.layout.files
     ++ counted proc_form s.layout.procs
     ++ numbered thread_forms 0 s.layout.threads
+    ++ numbered guest_forms 0 s.layout.guests
     ++ numbered (page_forms s.layout.locked) 0 s.layout.pages
     ++ numbered trans_forms 0 s.layout.trans
     ++ numbered cow_forms 0 s.layout.twins

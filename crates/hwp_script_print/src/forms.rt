@@ -30,6 +30,7 @@ pub fn put_form(out: &mut String, form: &ScriptLine) -> Result<(), OutOfMemory>
             cpu,
             handler,
         } => put_thread(out, *thread, *process, *cpu, *handler),
+        ScriptLine::Guest(process) => put_number(out, "guest", *process),
         ScriptLine::Page {
             page,
             backing,

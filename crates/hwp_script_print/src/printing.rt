@@ -5,7 +5,7 @@ ghost use Rattle.hwp_script_print.specs.Printed.{forms_text};
 ghost use Rattle.hwp_script_read.specs.Limits.{script_limit};
 ghost use Rattle.hwp_script_read.specs.Valid.{IsValid};
 ghost use Rattle.hwp_script_print.specs.Round.{IsTextOf};
-ghost use Rattle.hwp_script_print.specs.Text.{backing_of, head_forms, kernel_forms, setting_forms, thread_forms, page_forms, trans_forms, cow_forms, list_forms, go_row, numbered, counted, file_form, proc_form, rows_of, script_text};
+ghost use Rattle.hwp_script_print.specs.Text.{backing_of, head_forms, kernel_forms, setting_forms, thread_forms, guest_forms, page_forms, trans_forms, cow_forms, list_forms, go_row, numbered, counted, file_form, proc_form, rows_of, script_text};
 
 use crate::put_form;
 use hwp_script_read::{
@@ -31,6 +31,7 @@ pub fn print(alloc: Global, script: &Script) -> Result<Text, OutOfMemory>
     put_files(&mut out, layout.files)?;
     put_procs(&mut out, layout.procs)?;
     put_threads(&mut out, layout.threads.as_slice())?;
+    put_guests(&mut out, layout.guests.as_slice())?;
     put_pages(&mut out, layout.pages.as_slice(), layout.locked.as_slice())?;
     put_trans(&mut out, layout.trans.as_slice())?;
     put_cows(&mut out, layout.twins.as_slice())?;
@@ -112,6 +113,24 @@ fn put_thread(out: &mut String, number: usize, thread: ThreadDecl) -> Result<(),
         handler: thread.handler,
     };
     put_form(out, &form)?;
+    Ok(())
+}
+
+fn put_guests(out: &mut String, guests: &[bool]) -> Result<(), OutOfMemory>
+    ensures { OnOk result (string_bytes out.new ≡ string_bytes out.old ++ forms_text (numbered guest_forms 0 guests.now)) }
+{
+    for (number, is_guest) in guests.iter().enumerate() {
+        put_guest(out, number, *is_guest)?;
+    }
+    Ok(())
+}
+
+fn put_guest(out: &mut String, number: usize, is_guest: bool) -> Result<(), OutOfMemory>
+    ensures { OnOk result (string_bytes out.new ≡ string_bytes out.old ++ forms_text (guest_forms number is_guest)) }
+{
+    if is_guest {
+        put_form(out, &ScriptLine::Guest(number as u64))?;
+    }
     Ok(())
 }
 
