@@ -22,11 +22,12 @@ use Rattle.hwp_script_read.specs.Forks.{is_fork_of, is_wrong_fork, slot_named}
 use Rattle.hwp_script_read.specs.Valid.{AreForksFit, AreLists, HasFill, HasWords, IsCommandOf, IsEachForkedOnce, IsValid, NamesNoTwin}
 use Rattle.hwp_script_read.proofs.TallyLaws.{one_fork, sum-weight, total, total-sum, weight}
 use Rattle.hwp_script_read.proofs.TwinLaws.{IsNone, none_at, none_fit}
+use Rattle.hwp_script_read.proofs.GuestLaws.{IsNot, layout_fit, nobody_fit}
 use Rattle.rand_pcg.specs.Lcg.{Lcg}
 use Rattle.hwp_script.specs.Commands.{command}
 use Rattle.hwp_script.specs.Draws.{word}
 use Rattle.hwp_script.specs.Generated.{commands_of, generated, go, lists, many, seeded}
-use Rattle.hwp_script.specs.Machine.{is_kernel, is_locked, machine, page_kind, thread_decl, trans_decl, twin_decl}
+use Rattle.hwp_script.specs.Machine.{is_guest, is_kernel, is_locked, machine, page_kind, thread_decl, trans_decl, twin_decl}
 use Rattle.hwp_script.proofs.CommandFits.{command-fits}
 use Rattle.hwp_script.proofs.Made.{first-all, first-length, many-all, many-length}
 
@@ -70,6 +71,7 @@ sound = record {
   };
   locked = first-length is_locked 40 ∙ sym (first-length page_kind 40);
   twins = first-length twin_decl 80 ∙ sym (first-length trans_decl 80);
+  guests = first-length is_guest 4;
   twin_names = first-all (IsTwinDeclared machine) twin_decl 80 (λ v less. tt);
   thread_names = first-all (λ (t : ThreadDecl). (t.process.0 < 4) × (t.cpu.0 < 4)) thread_decl 8 (λ i less. (mod-lt i (omega arith), mod-lt i (omega arith)));
   page_names = first-all (IsBacked machine) page_kind 40 (λ q less. backed q);
@@ -77,7 +79,10 @@ sound = record {
       (λ v less. (mod-lt (v + v / 40) (omega arith), subst (λ (n : ℕ). v % 40 < n) (sym (first-length page_kind 40)) (mod-lt v (omega arith))));
 }
 
--- ---- twins and forks
+-- ---- guests, twins and forks
+
+no-guests : All IsNot machine.guests
+no-guests = first-all IsNot is_guest 4 (λ p less. refl)
 
 no-twins : All IsNone machine.twins
 no-twins = first-all IsNone twin_decl 80 (λ v less. refl)
@@ -172,7 +177,7 @@ generated-valid seed =
     let drawn = all-drawn (seeded seed) in
     let rest = (lists 4 (seeded seed)).1 in
     record {
-      older = λ one. record { unlocked = first-all (λ (l : Bool). l ≡ false) is_locked 40 (λ q less. refl); untwinned = no-twins; commands = drawn.older };
+      older = λ one. record { unlocked = first-all (λ (l : Bool). l ≡ false) is_locked 40 (λ q less. refl); untwinned = no-twins; unguested = no-guests; commands = drawn.older };
       sound = sound;
       one_each = drawn.count;
       lists = drawn.are;
@@ -182,6 +187,7 @@ generated-valid seed =
       fills = first-all HasFill page_kind 40 filled;
       words = drawn.words;
       twins = none_fit machine (λ v. none_at machine.twins v.0 no-twins);
+      guests = layout_fit machine (nobody_fit machine.threads machine.guests no-guests);
       own = own-slots (lists 4 (seeded seed)).0;
       forks = forks-fit (lists 4 (seeded seed)).0 drawn.older;
       once = forked-once (lists 4 (seeded seed)).0 drawn.older;

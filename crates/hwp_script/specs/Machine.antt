@@ -37,6 +37,10 @@ is_locked page = false
 abbrev pub twin_decl : ℕ → Option VSlot
 twin_decl slot = None
 
+-- no process is a guest
+abbrev pub is_guest : ℕ → Bool
+is_guest process = false
+
 -- the machine, of version One: recovery is on, and no process is killed early
 abbrev pub machine : Layout
 machine = record {
@@ -53,4 +57,5 @@ machine = record {
   trans = first trans_decl 80;
   locked = first is_locked 40;
   twins = first twin_decl 80;
+  guests = first is_guest 4;
 }

@@ -1,5 +1,5 @@
 ghost use Rattle.std.specs.Prelude.{◌≡◌, ◌<◌, IfOk};
-ghost use Rattle.hwp_script.specs.Machine.{first, is_kernel, is_locked, machine, page_kind, thread_decl, trans_decl, twin_decl};
+ghost use Rattle.hwp_script.specs.Machine.{first, is_guest, is_kernel, is_locked, machine, page_kind, thread_decl, trans_decl, twin_decl};
 
 use hwp_script_read::{
     Cpu, FileNo, Layout, List, OutOfMemory, Page, PageKind, Proc, ThreadDecl, TransDecl, VSlot,
@@ -25,6 +25,7 @@ pub(crate) fn machine(alloc: Global) -> Result<Layout, OutOfMemory>
         trans: translations(alloc)?,
         locked: locked(alloc)?,
         twins: twins(alloc)?,
+        guests: guests(alloc)?,
     })
 }
 
@@ -97,6 +98,17 @@ fn twins(alloc: Global) -> Result<List<Option<VSlot>>, OutOfMemory>
         twins.push(None)?;
     }
     Ok(twins)
+}
+
+/// No process is a guest.
+fn guests(alloc: Global) -> Result<List<bool>, OutOfMemory>
+    ensures { IfOk result (λ guests. guests ≡ first is_guest 4) }
+{
+    let mut guests = List::new(alloc);
+    for _process in 0..4u8 {
+        guests.push(false)?;
+    }
+    Ok(guests)
 }
 
 fn translations(alloc: Global) -> Result<List<TransDecl>, OutOfMemory>
