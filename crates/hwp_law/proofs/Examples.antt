@@ -47,6 +47,7 @@ layout = record {
   trans = (record { process = record { 0 = 0 }; page = record { 0 = 0 } }) ∷ [];
   locked = false ∷ [];
   twins = None ∷ [];
+  guests = false ∷ [];
 }
 
 -- `store 0 0 5 77`, `bad 0 5`, `load 0 0 5`, `load 0 0 6`

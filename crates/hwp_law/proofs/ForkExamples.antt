@@ -96,6 +96,7 @@ shared = record {
   trans = leading 0 0 ∷ leading 1 0 ∷ leading 0 1 ∷ leading 1 2 ∷ [];
   locked = false ∷ false ∷ false ∷ [];
   twins = Some (slot 2) ∷ Some (slot 3) ∷ None ∷ None ∷ [];
+  guests = false ∷ false ∷ [];
 }
 
 -- `store 0 0 5 77`, `fork 0 1`, `store 1 1 5 88`, `load 0 0 5`, and `load 1 1 5` through a translation, which here is 1

@@ -58,10 +58,12 @@ pub record IsSigbus (report : Report) (who : Who) (command : Command) (at : At) 
   pub own : entry.who ≡ who
   pub sends : IsSomeAnd (current_thread command) (λ (thread : Thread). SendsSigbus thread entry.what)
 
--- an answer that each access may have beside its own
+-- an answer that each access may have beside its own; when its guest doesn't admit it, the rule of guests says
 abbrev pub IsAccessAnswer : Script → Report → Who → Command → Answer → Type 0
 IsAccessAnswer script report who command (answers.Sigbus at) = IsSigbus report who command at
 IsAccessAnswer script report who command (answers.Gone page) = IsGone script report who page
+IsAccessAnswer script report who command answers.GuestBad = Unit {0}
+IsAccessAnswer script report who command answers.GuestStopped = Unit {0}
 IsAccessAnswer script report who command answer = IsAnswer script report.pages report.stop who command answer
 
 -- the lines are some, and all of them bad
@@ -168,13 +170,20 @@ abbrev pub IsPastEvents : List CpuLine → Type 0
 IsPastEvents (lines.Event event ∷ rest) = ⊥
 IsPastEvents _ = Unit {0}
 
+-- the next line is that of an answer
+abbrev pub IsAtAnswer : List CpuLine → Type 0
+IsAtAnswer (lines.Answer seq answer ∷ rest) = Unit {0}
+IsAtAnswer _ = ⊥
+
 -- the commands from number n on have exactly one answer each, in order, and the report shows its cause. Before it stand first the
--- command's event lines, and then those of frames that it took out of use
+-- command's event lines, then those of frames that it took out of use, and then one of a guest's machine check at most
 abbrev pub AreCaused : Script → Report → Cpu → ℕ → List Command → List CpuLine → Type 0
 AreCaused script report cpu n [] [] = Unit {0}
 AreCaused script report cpu n (command ∷ commands) (lines.Event event ∷ rest) = (event.seq ≡ n) × AreCaused script report cpu n (command ∷ commands) rest
 AreCaused script report cpu n (command ∷ commands) (lines.Offlined line ∷ rest) =
     (line.seq ≡ n) × IsPastEvents rest × AreCaused script report cpu n (command ∷ commands) rest
+AreCaused script report cpu n (command ∷ commands) (lines.Guest line ∷ rest) =
+    (line.seq ≡ n) × IsAtAnswer rest × AreCaused script report cpu n (command ∷ commands) rest
 AreCaused script report cpu n (command ∷ commands) (lines.Answer seq answer ∷ rest) =
     (seq ≡ n) × IsCaused script report (record { cpu = cpu; seq = n }) command answer × IsHeeded report (record { cpu = cpu; seq = n }) answer × AreCaused script report cpu (n + 1) commands rest
 AreCaused script report cpu n _ _ = ⊥

@@ -20,6 +20,7 @@ use Rattle.hwp_law.specs.Events.{AreEvents}
 use Rattle.hwp_law.specs.Endings.{EndingsStay}
 use Rattle.hwp_law.specs.Entries.{AreMadeBy}
 use Rattle.hwp_law.specs.Frames.{IsFrameLine, poisoned_count}
+use Rattle.hwp_law.specs.Guests.{AreGuestsKept}
 use Rattle.hwp_law.specs.Halts.{StopAgrees}
 use Rattle.hwp_law.specs.History.{AreOrdered}
 use Rattle.hwp_law.specs.Losses.{LossesAgree}
@@ -61,7 +62,8 @@ pub record FramesFit (script : Script) (report : Report) : Type 0 where
   pub recorded : (who : Who) → AreRecorded script report who
   pub count : report.count ≡ poisoned_count report.frames
 
--- the report is one of a run of the script: it is judged by what the processors acted on, and by what forked processes read
+-- the report is one of a run of the script: it is judged by what the processors acted on, by what forked processes read, and by what
+-- guests were told
 pub record IsLawful (script : Script) (report : Report) : Type 0 where
   pub shape : HasShape script report
   pub histories : HistoriesFit (acting_script script report) (copied_at script report) report
@@ -69,3 +71,4 @@ pub record IsLawful (script : Script) (report : Report) : Type 0 where
   pub frames : FramesFit (acting_script script report) report
   pub losses : LossesAgree script report
   pub private : ArePrivate script report
+  pub guests : AreGuestsKept script report

@@ -21,6 +21,7 @@ pub mod Causes
 pub mod Acting
 pub mod Copies
 pub mod Private
+pub mod Guests
 pub mod Offlined
 pub mod Law
 pub use Rattle.hwp_law_commands.specs.hwp_banks as hwp_banks

@@ -8,6 +8,7 @@ use Rattle.hwp_law_commands.specs.hwp_report_text.declared.CpuLine.{CpuLine}
 use Rattle.hwp_law_commands.specs.hwp_report_text.declared.CpuLine.TheVariants as lines
 use Rattle.hwp_law_commands.specs.hwp_report_text.declared.EventLine.{EventLine}
 use Rattle.hwp_law_commands.specs.hwp_report_text.declared.FrameLine.{FrameLine}
+use Rattle.hwp_law_commands.specs.hwp_report_text.declared.GuestLine.{GuestLine}
 use Rattle.hwp_law_commands.specs.hwp_report_text.declared.MarkLine.{MarkLine}
 use Rattle.hwp_law_commands.specs.hwp_report_text.declared.OfflinedLine.{OfflinedLine}
 use Rattle.hwp_law_commands.specs.hwp_report_text.declared.Report.{Report}
@@ -28,6 +29,12 @@ offlined_in (lines.Event event) = None
 offlined_in (lines.Offlined line) = Some line
 offlined_in (lines.Guest line) = None
 offlined_in (lines.Answer seq answer) = None
+
+abbrev pub guest_in : CpuLine → Option GuestLine
+guest_in (lines.Event event) = None
+guest_in (lines.Offlined line) = None
+guest_in (lines.Guest line) = Some line
+guest_in (lines.Answer seq answer) = None
 
 abbrev pub answer_in : CpuLine → Option AnswerLine
 answer_in (lines.Event event) = None
@@ -63,6 +70,13 @@ offlined_among rows seq = filter (λ (l : OfflinedLine). seq == l.seq) (filter_m
 
 abbrev pub offlined_of : Report → Who → List OfflinedLine
 offlined_of report who = offlined_among (rows_of report who) who.seq
+
+-- the guests' lines of a command, in order
+abbrev pub guests_among : List CpuLine → ℕ → List GuestLine
+guests_among rows seq = filter (λ (l : GuestLine). seq == l.seq) (filter_map guest_in rows)
+
+abbrev pub guests_told : Report → Who → List GuestLine
+guests_told report who = guests_among (rows_of report who) who.seq
 
 -- the answer of a command
 abbrev pub answer_among : List CpuLine → ℕ → Option Answer
