@@ -39,6 +39,8 @@ script_with list = record {
     pages = File file 9 ∷ [];
     trans = [];
     locked = false ∷ [];
+    twins = [];
+    guests = [];
   };
   lists = (commands.Inject (record { 0 = 0 }) ∷ commands.Fsync file ∷ commands.Fsync file ∷ []) ∷ list ∷ [];
   go = [];

@@ -31,6 +31,8 @@ fn two_processors(rt: &impl Abort, alloc: Global) -> Layout
         pages: List::new(alloc),
         trans: List::new(alloc),
         locked: List::new(alloc),
+        twins: List::new(alloc),
+        guests: List::new(alloc),
     }
 }
 
