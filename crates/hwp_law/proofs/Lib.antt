@@ -8,6 +8,7 @@ pub mod WatchExamples
 pub mod WatchForgeries
 pub mod ForkExamples
 pub mod ForkForgeries
+pub mod GuestExamples
 pub mod OfflinedLaws
 pub mod CheckRuns
 pub use Rattle.hwp_law_commands.proofs.of_hwp_page as of_hwp_page
