@@ -1,18 +1,15 @@
 -- Two reports of a guest, by hand. In the first a load of the guest meets a bad line: the guest is told, the frame is bad for it, its next load
 -- there is answered at once, and it goes on elsewhere. In the second a load in kernel mode meets the lost page, and the guest is stopped.
-use Rattle.std.proofs.Common.{◌≡◌, ◌≢◌, ℕ, suc, zero, ◌==◌, Bool, true, false, List, [], ◌∷◌, ◌++◌, Option, Some, None, refl, sym, ap, subst, ◌∙◌, inl, true≢false}
+use Rattle.std.proofs.Common.{◌≡◌, ◌≢◌, ℕ, suc, zero, ◌==◌, Bool, true, false, List, [], ◌∷◌, Option, Some, None, refl, sym, ap, subst, ◌∙◌, inl, lit<, true≢false}
 use Rattle.std.specs.Prelude.{slice_get}
 use Rattle.std.specs.List.{list_any}
 use Rattle.std.proofs.lemmas.Bool.{or_parts}
 use Rattle.std.proofs.lemmas.Option.{none-some, same_Some}
 use Rattle.hwp_law_commands.specs.hwp_geom.declared.Layout.{Layout}
-use Rattle.hwp_law_commands.specs.hwp_geom.declared.Mask.{Mask}
 use Rattle.hwp_law_commands.specs.hwp_geom.declared.PageKind.TheVariants.{Anon}
-use Rattle.hwp_law_commands.specs.hwp_geom.declared.Proc.{Proc}
 use Rattle.hwp_law_commands.specs.hwp_geom.declared.Version.TheVariants.{Two}
 use Rattle.hwp_law_commands.specs.hwp_geom.declared.Who.{Who}
 use Rattle.hwp_law_commands.specs.hwp_kill.declared.Code.TheVariants.{Ar}
-use Rattle.hwp_law_commands.specs.hwp_page.declared.At.{At}
 use Rattle.hwp_law_commands.specs.hwp_page.declared.Entry.{Entry}
 use Rattle.hwp_law_commands.specs.hwp_page.declared.Met.TheVariants.{Word, Sigbus}
 use Rattle.hwp_law_commands.specs.hwp_page.declared.Outcome.TheVariants as outcomes
@@ -26,7 +23,6 @@ use Rattle.hwp_law_commands.specs.hwp_report_text.declared.Answer.{Answer}
 use Rattle.hwp_law_commands.specs.hwp_report_text.declared.Answer.TheVariants as answers
 use Rattle.hwp_law_commands.specs.hwp_report_text.declared.CpuLine.{CpuLine}
 use Rattle.hwp_law_commands.specs.hwp_report_text.declared.CpuLine.TheVariants as lines
-use Rattle.hwp_law_commands.specs.hwp_report_text.declared.FrameLine.{FrameLine}
 use Rattle.hwp_law_commands.specs.hwp_report_text.declared.GuestLine.{GuestLine}
 use Rattle.hwp_law_commands.specs.hwp_report_text.declared.How.TheVariants as hows
 use Rattle.hwp_law_commands.specs.hwp_report_text.declared.MarkLine.TheVariants as marks
@@ -270,7 +266,7 @@ all_caused = (
         tt,
         (
           refl,
-          record { entry = record { who = command 2; what = entries.Fail situations.AnonOnly (Some (thread 0)) [] ((record { process = record { 0 = 0 }; thread = thread 0; code = Ar; slot = slot 0 }) ∷ []) }; there = refl; own = refl; sends = inl (refl, refl) },
+          record { entry = record { who = command 2; what = entries.Fail situations.AnonOnly (Some (thread 0)) [] ((record { process = record { 0 = 0 }; thread = thread 0; code = Ar; slot = slot 0 }) ∷ []) }; there = refl; own = refl; sends = (0, record { process = record { 0 = 0 }; thread = thread 0; code = Ar; slot = slot 0 }, lit< tt, refl, (refl, refl)) },
           unheeded,
           (refl, tt, unheeded, (refl, (record { 0 = 0 }, refl), unheeded, tt)),
         ),
