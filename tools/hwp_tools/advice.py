@@ -238,7 +238,7 @@ def _declaring(here: At, slot: str, number: int) -> int:
 
 
 def _twice(here: At) -> Optional[Advice]:
-    if here.words[0] == "cow":
+    if here.words[0] in ("cow", "guest"):
         return Advice(here.starts[here.refused.word], here.refused.text, "leave one of the two lines out")
     own = here.words[:2] if here.words[0] in (*NUMBERED, "kernel", "cpu") else here.words[:1]
     above = (number for number, line in enumerate(here.lines, 1) if words_of(line)[: len(own)] == own)
@@ -268,10 +268,12 @@ def _wrong_place(here: At) -> Optional[Advice]:
 
 
 def _other_place(here: At) -> str:
-    """What to write where a twin, a command of a thread, or a fork stands at a wrong place."""
+    """What to write where a guest, a twin, a command of a thread, or a fork stands at a wrong place."""
     above, first, number = here.refused.above, here.words[0], int(here.word)
     if first == "cow":
         return "give each translation a twin that has its page alone, no `cow` line of its own, and no other translation"
+    if first == "guest":
+        return "declare each thread of a guest with `handler`, and all on one processor"
     slot = _named(here)[0]
     if slot == "trans":
         return f"write `{above.twins.index(number)}`, the translation whose twin it is"

@@ -36,6 +36,7 @@ FORMS = {
     "file": _form("with the number N of the file, from 0 on", "file N"),
     "proc": _form("with the number P of the process, from 0 on", "proc P"),
     "thread": _form("with a thread T of process P on processor C", "thread T P C handler", "thread T P C nohandler"),
+    "guest": _form("with a process P, behind `hwp 2`", "guest P"),
     "page": _form(
         "with a page Q, or one of file N whose words are all X; behind `hwp 2` also with `locked` at the end",
         "page Q anon",
@@ -70,7 +71,7 @@ FORMS = {
     "watch": _form("with a threshold T from 1 to 1000 and a window W from 1 to 64, behind `hwp 2`", "watch T W"),
     "fork": _form("with a thread T, and the process P that its process makes its child, behind `hwp 2`", "fork T P"),
 }
-GROUPS_TOLD = "cpus, frames, kernel, recovery, early, file, proc, thread, page, trans, cow, cpu with its commands, schedule, end"
+GROUPS_TOLD = "cpus, frames, kernel, recovery, early, file, proc, thread, guest, page, trans, cow, cpu with its commands, schedule, end"
 assert set(FORMS) == {*SHAPES, "schedule", "hwp"} and set(COMMANDS) <= set(FORMS)
 
 

@@ -215,6 +215,34 @@ FORK_MISTAKES: list[tuple[int, Optional[str], int, int, str, str]] = [
     (18, "trans 4 0 0", 23, 8, "WrongPlace", "translation 4 to page 0 has no `cow` line"),
     (18, "trans 4 2 0", 23, 8, "WrongPlace", "translation 4 to page 0 is of process 2"),
 ]
+# A script with a guest.
+GUESTS = """hwp 2
+cpus 2
+frames 2
+proc 0
+proc 1
+thread 0 0 0 handler
+thread 1 1 1 handler
+thread 2 0 0 handler
+guest 0
+page 0 anon
+trans 0 0 0
+cpu 0
+store 0 0 5 77
+end
+"""
+# The same of GUESTS.
+GUEST_MISTAKES: list[tuple[int, Optional[str], int, int, str, str]] = [
+    (1, "hwp 1", 9, 1, "UnknownWord", "write `hwp 2` as the first line"),
+    (9, "guest", 9, 6, "UnknownWord", "words are missing"),
+    (9, "guest x", 9, 7, "BadNumber", "write `guest P`"),
+    (9, "guest 16", 9, 7, "OverLimit", "0 to 15"),
+    (9, "guest 2", 9, 7, "Undeclared", "by `proc P`"),
+    (10, "guest 0", 10, 7, "Twice", "process 0 is a guest already"),
+    (8, "thread 2 0 0 nohandler", 9, 7, "WrongPlace", "thread 2 of process 0 has no handler"),
+    (8, "thread 2 0 1 handler", 9, 7, "WrongPlace", "threads 0 and 2 of process 0 run on two processors"),
+    (9, "page 0 anon\nguest 0", 10, 1, "WrongPlace", "stands below `page` (line 9)"),
+]
 # The tables of refused scripts in the tests of the program's reader: what is put in place of what, or which line is another, the line
 # that is named, and the reason.
 READER_TESTS = HOME / "crates" / "hwp_test_texts" / "src" / "scripts.rt"
@@ -237,6 +265,7 @@ class Lint(unittest.TestCase):
         newer = BASE.replace("hwp 1", "hwp 2")
         mistakes = [(BASE, *mistake) for mistake in MISTAKES] + [(newer, *mistake) for mistake in NEWER_MISTAKES]
         mistakes += [(FORKS, *mistake) for mistake in FORK_MISTAKES]
+        mistakes += [(GUESTS, *mistake) for mistake in GUEST_MISTAKES]
         for base, number, text, line, column, why, says in mistakes:
             with self.subTest(base=base[:5], number=number, text=text):
                 fault = fault_of(changed(number, text, base))
@@ -247,6 +276,7 @@ class Lint(unittest.TestCase):
 
     def test_limits_of_a_script_are_told(self) -> None:
         self.assertIsNone(fault_of(FORKS.encode()))
+        self.assertIsNone(fault_of(GUESTS.encode()))
         for head, page, ask in (("hwp 1", "anon", "fsync"), ("hwp 2", "anon", "fsync"), ("hwp 2", "anon locked", "open")):
             script = BASE.replace("hwp 1", head).replace("page 0 anon", f"page 0 {page}").replace("fsync 0", f"{ask} 0")
             self.assertIsNone(fault_of(script.encode()))

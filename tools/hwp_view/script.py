@@ -20,6 +20,7 @@ SETTINGS = {
     "file": "file",
     "proc": "proc",
     "thread": "thread proc cpu 'handler|thread proc cpu 'nohandler",
+    "guest": "proc",
     "page": "page 'anon|page 'file file 'fill word|page 'anon 'locked|page 'file file 'fill word 'locked",
     "trans": "trans proc page",
     "cow": "trans trans",
@@ -70,9 +71,9 @@ OLD_LIMITS = {
 NEW_LIMITS = {**OLD_LIMITS, "cpus": (1, 16), "frames": (1, 4096), "frame": (0, 4095), "cpu": (0, 15), "page": (0, 4095), "trans": (0, 4095)}
 LIMITS = {1: OLD_LIMITS, 2: NEW_LIMITS}
 GROUPS = {
-    name: n for n, name in enumerate("cpus frames kernel recovery early file proc thread page trans cow cpu".split(), 1)
+    name: n for n, name in enumerate("cpus frames kernel recovery early file proc thread guest page trans cow cpu".split(), 1)
 }
-COMMAND_GROUP, SCHEDULE_GROUP, END_GROUP = 12, 13, 14
+COMMAND_GROUP, SCHEDULE_GROUP, END_GROUP = 13, 14, 15
 NUMBERED = frozenset("file proc thread page trans".split())
 CALLED = {"proc": "process", "trans": "translation", "cpu": "processor"}
 KINDS = frozenset(
@@ -146,6 +147,7 @@ class Script:
     pages: list[Page] = field(default_factory=list)
     translations: list[Translation] = field(default_factory=list)
     twins: list[Optional[int]] = field(default_factory=list)
+    guests: list[bool] = field(default_factory=list)
     commands: list[list[Command]] = field(default_factory=list)
     schedule: list[str] = field(default_factory=list)
     opening: list[str] = field(default_factory=list)
@@ -272,6 +274,8 @@ class _Reader:
         if once.get(first) or (first in NUMBERED and number < script.declared(first)):
             named = f"{first} {number}" if first in (*NUMBERED, "kernel", "cpu") else first
             self.refuse("Twice", f"`{named}` stands above already")
+        if first == "guest" and script.guests[number]:
+            self.refuse("Twice", f"process {number} is a guest already", 1)
         if first == "cow" and script.twins[number] is not None:
             self.refuse("Twice", f"translation {number} has a twin already", 1)
         if first == "cow" and numbers[1] in script.twins:
@@ -289,10 +293,21 @@ class _Reader:
             self.refuse("WrongPlace", f"`{first}` stands before `cpus` and `frames`")
         if first in NUMBERED and numbers[0] > self.script.declared(first):
             self.refuse("WrongPlace", f"{first} {numbers[0]} skips {first} {self.script.declared(first)}", 1)
+        if first == "guest":
+            self.check_guest(numbers[0])
         if first == "cow":
             self.refuse_if("WrongPlace", no_twin(self.script, *numbers))
         if first in COMMANDS:
             self.check_list(first, found, numbers)
+
+    def check_guest(self, process: int) -> None:
+        """WrongPlace: a guest with a thread that has no handler, or with threads on two processors."""
+        own = [(number, thread) for number, thread in enumerate(self.script.threads) if thread.process == process]
+        for number, thread in own:
+            if not thread.handler:
+                self.refuse("WrongPlace", f"thread {number} of process {process} has no handler", 1)
+            if thread.cpu != own[0][1].cpu:
+                self.refuse("WrongPlace", f"threads {own[0][0]} and {number} of process {process} run on two processors", 1)
 
     def check_list(self, first: str, found: Fitted, numbers: tuple[int, ...]) -> None:
         """WrongPlace: a command that may not stand in the list of this processor, or not there."""
@@ -322,6 +337,8 @@ class _Reader:
             script.kernel.add(numbers[0])
         elif first in ("file", "proc"):
             setattr(script, first + "s", numbers[0] + 1)
+            if first == "proc":
+                script.guests.append(False)
         elif first == "thread":
             script.threads.append(Thread(numbers[1], numbers[2], words[-1] == "handler"))
         elif first == "page":
@@ -330,6 +347,8 @@ class _Reader:
         elif first == "trans":
             script.translations.append(Translation(numbers[1], numbers[2]))
             script.twins.append(None)
+        elif first == "guest":
+            script.guests[numbers[0]] = True
         elif first == "cow":
             script.twins[numbers[0]] = numbers[1]
         elif first == "cpu":
@@ -374,7 +393,7 @@ class _Reader:
 
 def is_newer(words: list[str]) -> bool:
     """Whether the words of a line have a shape of version 2 alone."""
-    return words[0] in ("open", "watch", "cow", "fork") or (words[0] == "page" and len(words) in (4, 7))
+    return words[0] in ("open", "watch", "cow", "guest", "fork") or (words[0] == "page" and len(words) in (4, 7))
 
 
 def _has_turn_shape(word: str) -> bool:
