@@ -2,6 +2,7 @@ pub mod ReadStops
 pub mod Nesteds
 pub mod Prctls
 pub mod Forks
+pub mod Denieds
 pub mod Spoils
 pub use Rattle.hwp_core_task.specs.hwp_core_rule as hwp_core_rule
 pub use Rattle.hwp_core_task.specs as hwp_core_task
