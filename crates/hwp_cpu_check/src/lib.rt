@@ -19,8 +19,8 @@ pub use hwp_claim_frame::{
     is_stopped, lowest_bit,
 };
 pub use hwp_law_commands::{
-    Acted, Answer, Collector, Command, CpuLine, Decision, EventLine, FrameLine, How, MAX_SCRIPT,
-    MarkLine, McgBits, Noted, OfflineResult, OfflinedLine, PrctlArgs, Report, Script, Stop,
+    Acted, Answer, Collector, Command, CpuLine, Decision, EventLine, FrameLine, GuestLine, How,
+    MAX_SCRIPT, MarkLine, McgBits, Noted, OfflineResult, OfflinedLine, PrctlArgs, Report, Script, Stop,
     StopCause, Version, Whereabouts, grade, handle, is_text, kind_name, policy_word, print,
     read_number,
 };

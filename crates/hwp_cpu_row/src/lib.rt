@@ -3,10 +3,12 @@
 #![tactic(auto)]
 
 mod cows;
+mod guests;
 mod local;
 mod row;
 
 pub use cows::{Cow, Cows};
+pub use guests::Guests;
 pub use hwp_cpu_check::{
     Acted, Answer, BANKS, Bank, Board, Body, CacheWord, Collector, Command, CounterWord, Cpu,
     CpuLine, Decision, Entry, Event, EventLine, EventOutcome, FailAnswer, FileNo, Found, Frame,

@@ -1,0 +1,75 @@
+-- What a processor remembers of guests: a list that says of each process what it is as a guest. What it makes of a command is what
+-- hwp_law_commands/specs/Guests says, with the list for the earlier commands and their answers.
+use Rattle.std.specs.Prelude.{◌≡◌, ℕ, ◌<◌, Bool, true, List, [], length, replicate, get_or, slice_set, Option, None, Some, option_and_then, option_map, if◌then◌else◌}
+use Rattle.std.specs.List.{list_any}
+use Rattle.std.specs.Option.{option_map_or}
+use Rattle.hwp_cpu_check.specs.hwp_geom.Layout.{is_guest}
+use Rattle.hwp_cpu_check.specs.hwp_geom.Limits.{translation_limit}
+use Rattle.hwp_cpu_check.specs.hwp_geom.declared.Layout.{Layout}
+use Rattle.hwp_cpu_check.specs.hwp_geom.declared.Mode.{Mode}
+use Rattle.hwp_cpu_check.specs.hwp_geom.declared.Proc.{Proc}
+use Rattle.hwp_cpu_check.specs.hwp_geom.declared.Thread.{Thread}
+use Rattle.hwp_cpu_check.specs.hwp_geom.declared.VSlot.{VSlot}
+use Rattle.hwp_cpu_check.specs.hwp_script_lines.declared.Command.{Command}
+use Rattle.hwp_cpu_check.specs.hwp_report_text.declared.Answer.{Answer}
+use Rattle.hwp_cpu_check.specs.hwp_report_text.declared.Answer.TheVariants as answers
+use Rattle.hwp_cpu_check.specs.hwp_report_text.declared.GuestLine.{GuestLine}
+use Rattle.hwp_guest.specs.declared.Access.{Access}
+use Rattle.hwp_guest.specs.declared.Admit.TheVariants as admissions
+use Rattle.hwp_guest.specs.GuestState.{GuestState, admitted, after}
+use Rattle.hwp_cpu_check.specs.hwp_law_commands.Commands.{process_of_thread}
+use Rattle.hwp_cpu_check.specs.hwp_law_commands.Guests.{GuestAccess, denial, guest_access, guest_line, guest_of, new_guest}
+
+-- what the list says of a process; one that it doesn't hold is as at first
+abbrev pub guest_in : List GuestState → Proc → GuestState
+guest_in guests process = get_or guests process.0 new_guest
+
+-- the list says of each guest what these commands with their answers made of it
+abbrev pub KnowsGuests : Layout → List (Command × Answer) → List GuestState → Type 0
+KnowsGuests layout earlier guests = (process : Proc) → is_guest layout process ≡ true → guest_in guests process ≡ guest_of layout earlier process
+
+-- at first no guest has a bad frame; where no process is a guest the list is empty, and stays so
+abbrev pub has_guests : Layout → Bool
+has_guests layout = list_any (λ (guest : Bool). guest) layout.guests
+
+abbrev pub first_guests : Layout → List GuestState
+first_guests layout = if has_guests layout then replicate layout.procs new_guest else []
+
+-- it has a place for each guest
+abbrev pub AreGuestsOf : Layout → List GuestState → Type 0
+AreGuestsOf layout guests = (process : Proc) → is_guest layout process ≡ true → process.0 < length guests
+
+-- ---- a command and its answer
+
+-- the access of a thread through this translation, where the thread is one of a guest
+abbrev pub access_by : Layout → Thread → VSlot → ℕ → Access → Mode → Option GuestAccess
+access_by layout thread slot line kind mode =
+    option_and_then (λ (process : Proc). if is_guest layout process then Some (record { process = process; slot = slot; line = line; kind = kind; mode = mode }) else None)
+    (process_of_thread layout thread)
+
+-- the answer of a command whose access its guest doesn't admit
+abbrev pub denied_in : Layout → List GuestState → Command → Option Answer
+denied_in layout guests command = option_and_then (λ (a : GuestAccess). denial (admitted (guest_in guests a.process) a.slot.0)) (guest_access layout command)
+
+-- a guest meets a bad line by this access: the list holds it, it admits the access, and the guest frame is one that there can be
+pub record CanMeet (guests : List GuestState) (a : GuestAccess) : Type 0 where
+  pub there : a.process.0 < length guests
+  pub admitted_is : admitted (guest_in guests a.process) a.slot.0 ≡ admissions.Yes
+  pub within : a.slot.0 < translation_limit
+
+-- the command's access, if it is one of a guest, can meet a bad line
+abbrev pub MayMeet : Layout → List GuestState → Command → Type 0
+MayMeet layout guests command = (a : GuestAccess) → guest_access layout command ≡ Some a → CanMeet guests a
+
+abbrev pub met_in : List GuestState → GuestAccess → List GuestState
+met_in guests a = slice_set guests a.process.0 (after a.mode a.slot.0 (guest_in guests a.process))
+
+-- the list after the command was answered so: an access of a guest that was answered by SIGBUS had met a bad line
+abbrev pub told_in : Layout → Command → Answer → List GuestState → List GuestState
+told_in layout command (answers.Sigbus at) guests = option_map_or (met_in guests) (guest_access layout command) guests
+told_in layout command answer guests = guests
+
+-- the guest's line of the command
+abbrev pub line_in : Layout → ℕ → Command → Answer → Option GuestLine
+line_in layout seq command (answers.Sigbus at) = option_map (guest_line seq) (guest_access layout command)
+line_in layout seq command answer = None

@@ -1,0 +1,212 @@
+ghost use Rattle.std.specs.Prelude.{◌≡◌, None, Some, replicate, IfOk};
+ghost use Rattle.std.specs.Option.{option_map};
+ghost use Rattle.hwp_guest.specs.GuestState.{admitted};
+ghost use Rattle.hwp_guest.specs.Guests.{outcome};
+ghost use Rattle.hwp_cpu_check.specs.hwp_law_commands.Guests.{denial, guest_access, guest_line, new_guest, stops};
+ghost use Rattle.hwp_cpu_row.specs.GuestLists.{CanMeet, MayMeet, access_by, denied_in, first_guests, guest_in, has_guests, line_in, met_in, told_in};
+
+use hwp_cpu_check::{
+    Answer, Command, GuestLine, Layout, Line, Mode, OutOfMemory, Proc, Thread, VSlot,
+};
+use hwp_guest::{Access, Admit, Guest, Taken};
+use std::alloc::Global;
+use std::marker::Model;
+
+/// An access by a thread of a guest (this project's rule).
+#[derive(Clone, Copy)]
+struct GuestAccess {
+    process: Proc,
+    slot: VSlot,
+    line: Line,
+    kind: Access,
+    mode: Mode,
+}
+
+impl Model for GuestAccess {
+    ghost use Rattle.hwp_cpu_check.specs.hwp_law_commands.Guests.{GuestAccess as LawAccess};
+
+    ghost Value = { LawAccess };
+
+    ghost view = { λ a. record { process = a.process; slot = a.slot; line = a.line; kind = a.kind; mode = a.mode } };
+
+    ghost inverse = { λ a. record { process = a.process; slot = a.slot; line = a.line; kind = a.kind; mode = a.mode } };
+}
+
+/// Of each process what it is as a guest. Where no process is a guest the list is empty, and takes no memory. Clauses see the list.
+#[derive(Drop)]
+pub struct Guests {
+    guests: Vec<Guest>,
+}
+
+impl Model for Guests {
+    ghost use Rattle.std.specs.Prelude.{List};
+    ghost use Rattle.hwp_guest.specs.GuestState.{GuestState};
+
+    ghost Value = { List GuestState };
+
+    ghost view = { λ g. g.guests.items };
+}
+
+impl Guests {
+    /// At first no guest has a bad frame.
+    ///
+    /// # Errors
+    /// `OutOfMemory` where a process is a guest, and there is no room.
+    pub fn new(alloc: Global, layout: &Layout) -> Result<Guests, OutOfMemory>
+        ensures { IfOk result (λ g. g ≡ first_guests layout.now) }
+    {
+        if !has_guests(layout) {
+            return Ok(Guests {
+                guests: Vec::new(alloc),
+            });
+        }
+        Ok(Guests {
+            guests: new_guests(alloc, layout.procs)?,
+        })
+    }
+
+    /// Whether the process admits an access through the translation.
+    fn admits(&self, process: Proc, slot: VSlot) -> Admit
+        ensures { result ≡ admitted (guest_in self.now process) slot.0 }
+    {
+        match self.guests.get(usize::from(process.0)) {
+            Some(guest) => guest.admits(slot),
+            None => Admit::Yes,
+        }
+    }
+
+    /// The answer of a command whose access its guest doesn't admit.
+    pub fn denied(&self, layout: &Layout, command: &Command) -> Option<Answer>
+        ensures { result ≡ denied_in layout.now self.now command.now }
+    {
+        let Some(access) = guest_access(layout, command) else {
+            return None;
+        };
+        denial(self.admits(access.process, access.slot))
+    }
+
+    /// The command got this answer: an access of a guest that was answered by SIGBUS is a machine check of the guest, whose line it is.
+    pub fn told(
+        &mut self,
+        layout: &Layout,
+        seq: u32,
+        command: &Command,
+        answer: Answer,
+    ) -> Option<GuestLine>
+        requires { MayMeet layout.now self.old command.now }
+        ensures line { result ≡ line_in layout.now seq command.now answer }
+        ensures state { self.new ≡ told_in layout.now command.now answer self.old }
+    {
+        let Answer::Sigbus(_) = answer else {
+            return None;
+        };
+        let Some(access) = guest_access(layout, command) else {
+            return None;
+        };
+        Some(self.meet(seq, access))
+    }
+
+    /// A guest meets a bad line by this access.
+    fn meet(&mut self, seq: u32, access: GuestAccess) -> GuestLine
+        requires { CanMeet self.old access }
+        ensures line { result ≡ guest_line seq access }
+        ensures state { self.new ≡ met_in self.old access }
+    {
+        let guest = &mut self.guests[usize::from(access.process.0)];
+        let (event, grade, taken) = guest.take(access.slot, access.line, access.kind, access.mode);
+        GuestLine {
+            seq,
+            bank: 0,
+            status: event.status.0,
+            addr: event.addr,
+            misc: event.misc,
+            row: grade.row,
+            stops: stops(taken),
+        }
+    }
+}
+
+/// So many guests that go on, without a bad frame.
+fn new_guests(alloc: Global, procs: u8) -> Result<Vec<Guest>, OutOfMemory>
+    ensures { IfOk result (λ guests. guests.items ≡ replicate procs new_guest) }
+{
+    let mut guests = Vec::new(alloc);
+    for _process in 0..procs {
+        guests.push(Guest::new())?;
+    }
+    Ok(guests)
+}
+
+/// Whether a process is a guest.
+fn has_guests(layout: &Layout) -> bool
+    ensures { result ≡ has_guests layout.now }
+{
+    layout.guests.as_slice().iter().any(|guest| *guest)
+}
+
+/// Whether a machine check stopped the guest.
+fn stops(taken: Taken) -> bool
+    ensures { result ≡ stops taken }
+{
+    match taken {
+        Taken::Bad => false,
+        Taken::Stop => true,
+    }
+}
+
+/// The answer of an access that its guest doesn't admit.
+fn denial(admit: Admit) -> Option<Answer>
+    ensures { result ≡ denial admit }
+{
+    match admit {
+        Admit::Yes => None,
+        Admit::Bad => Some(Answer::GuestBad),
+        Admit::Stopped => Some(Answer::GuestStopped),
+    }
+}
+
+/// The access of a thread through this translation, where the thread is one of a guest.
+fn access_by(
+    layout: &Layout,
+    thread: Thread,
+    slot: VSlot,
+    line: Line,
+    kind: Access,
+    mode: Mode,
+) -> Option<GuestAccess>
+    ensures { result ≡ access_by layout.now thread slot line kind mode }
+{
+    let Some(declared) = layout.threads.as_slice().get(usize::from(thread.0)) else {
+        return None;
+    };
+    let process = declared.process;
+    if layout.is_guest(process) {
+        Some(GuestAccess {
+            process,
+            slot,
+            line,
+            kind,
+            mode,
+        })
+    } else {
+        None
+    }
+}
+
+/// The access of a command, where its thread is one of a guest.
+fn guest_access(layout: &Layout, command: &Command) -> Option<GuestAccess>
+    ensures { result ≡ guest_access layout.now command.now }
+{
+    match *command {
+        Command::Load { thread, slot, line } | Command::Store { thread, slot, line, .. } => {
+            access_by(layout, thread, slot, line, Access::Plain, Mode::User)
+        }
+        Command::Fetch { thread, slot, line } => {
+            access_by(layout, thread, slot, line, Access::Fetch, Mode::User)
+        }
+        Command::KLoad { thread, slot, line } => {
+            access_by(layout, thread, slot, line, Access::Plain, Mode::Kernel)
+        }
+        _ => None,
+    }
+}
