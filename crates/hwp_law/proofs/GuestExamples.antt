@@ -1,7 +1,8 @@
 -- Two reports of a guest, by hand. In the first a load of the guest meets a bad line: the guest is told, the frame is bad for it, its next load
 -- there is answered at once, and it goes on elsewhere. In the second a load in kernel mode meets the lost page, and the guest is stopped.
-use Rattle.std.proofs.Common.{◌≡◌, ◌≢◌, ℕ, suc, zero, ◌==◌, Bool, true, false, List, [], ◌∷◌, Option, Some, None, refl, sym, ap, subst, ◌∙◌, inl, lit<, true≢false}
+use Rattle.std.proofs.Common.{◌≡◌, ◌≢◌, ℕ, suc, zero, ◌==◌, Bool, true, false, List, [], ◌∷◌, Option, Some, None, if◌then◌else◌, refl, sym, ap, subst, ◌∙◌, inl, lit<, true≢false}
 use Rattle.std.specs.Prelude.{slice_get}
+use Rattle.std.specs.FinSet as set
 use Rattle.std.specs.List.{list_any}
 use Rattle.std.proofs.lemmas.Bool.{or_parts}
 use Rattle.std.proofs.lemmas.Option.{none-some, same_Some}
@@ -29,7 +30,9 @@ use Rattle.hwp_law_commands.specs.hwp_report_text.declared.MarkLine.TheVariants 
 use Rattle.hwp_law_commands.specs.hwp_report_text.declared.Report.{Report}
 use Rattle.hwp_law_commands.specs.hwp_report_text.declared.Whereabouts.TheVariants as places
 use Rattle.hwp_law_commands.specs.Commands.{command_at}
-use Rattle.hwp_law_commands.specs.Guests.{denied, guest_lines}
+use Rattle.hwp_law_commands.specs.Guests.{denial, denied, guest_lines}
+use Rattle.hwp_law_commands.specs.hwp_guest.declared.Admit.TheVariants as admissions
+use Rattle.hwp_law_commands.proofs.GuestLaws.{bad-more, none-bad}
 use Rattle.hwp_law.specs.Acting.{acting_script}
 use Rattle.hwp_law.specs.Causes.{AreCaused}
 use Rattle.hwp_law.specs.Guests.{AreGuestsKept, DoesNothing, IsDenied}
@@ -80,21 +83,25 @@ told_so seq status addr row stops = record { seq = seq; bank = 0; status = statu
 abbrev met : Command → Command × Answer
 met c = (c, answers.Sigbus (place 0 4))
 
+-- the answer of an access of a guest that isn't stopped, by whether the frame is bad
+abbrev denial_by : Bool → Option Answer
+denial_by bad = denial (if bad then admissions.Bad else admissions.Yes)
+
 -- the frame of the translation is bad behind a load, a fetch or a store that met a bad line, and no other is; another answer leaves it good
 pub bad_behind_load : denied hosted (met (load 1 5) ∷ []) (store 1 6 3) ≡ Some answers.GuestBad
-bad_behind_load = refl
+bad_behind_load = ap denial_by (bad-more set.empty 1 1)
 
 pub bad_behind_fetch : denied hosted (met (fetch 1 5) ∷ []) (load 1 0) ≡ Some answers.GuestBad
-bad_behind_fetch = refl
+bad_behind_fetch = ap denial_by (bad-more set.empty 1 1)
 
 pub bad_behind_store : denied hosted (met (store 1 5 9) ∷ []) (fetch 1 0) ≡ Some answers.GuestBad
-bad_behind_store = refl
+bad_behind_store = ap denial_by (bad-more set.empty 1 1)
 
 pub good_elsewhere : denied hosted (met (load 1 5) ∷ []) (load 0 5) ≡ None
-good_elsewhere = refl
+good_elsewhere = ap denial_by (bad-more set.empty 1 0 ∙ none-bad 0)
 
 pub good_behind_word : denied hosted ((load 1 5, answers.Value 0 (place 1 2)) ∷ []) (load 1 5) ≡ None
-good_behind_word = refl
+good_behind_word = ap denial_by (none-bad 1)
 
 -- in kernel mode it is stopped, also where its frame was bad
 pub stopped_behind_kload : denied hosted (met (kload 1 5) ∷ []) (load 0 0) ≡ Some answers.GuestStopped
@@ -134,19 +141,20 @@ is_denial (Some answers.GuestStopped) = true
 is_denial answer = false
 
 not_denied : (report : Report) (who : Who) → is_denial (answer_of report who) ≡ false → IsDenied report who None
-not_denied report who no = (λ is. true≢false (sym (ap is_denial is) ∙ no), λ is. true≢false (sym (ap is_denial is) ∙ no))
+not_denied report who other = (λ is. true≢false (sym (ap is_denial is) ∙ other), λ is. true≢false (sym (ap is_denial is) ∙ other))
 
 none-made : (n : ℕ) → (n == n) ≡ true → (es : List Entry) → list_any (λ (e : Entry). e.who.seq == n) es ≡ false → (i : ℕ) (e : Entry) → slice_get es i ≡ Some e → e.who ≢ command n
-none-made n self [] no i e there = absurd (none-some e there)
-none-made n self (x ∷ xs) no zero e there = λ own.
-    let parts = or_parts (x.who.seq == n) (list_any (λ (y : Entry). y.who.seq == n) xs) no in
+none-made n self [] none i e there = absurd (none-some e there)
+none-made n self (x ∷ xs) none zero e there = λ own.
+    let parts = or_parts (x.who.seq == n) (list_any (λ (y : Entry). y.who.seq == n) xs) none in
     true≢false (sym self ∙ sym (ap (λ (w : Who). w.seq == n) own) ∙ ap (λ (y : Entry). y.who.seq == n) (sym (same_Some x e there)) ∙ parts.0)
-none-made n self (x ∷ xs) no (suc i) e there = none-made n self xs (or_parts (x.who.seq == n) (list_any (λ (y : Entry). y.who.seq == n) xs) no).1 i e there
+none-made n self (x ∷ xs) none (suc i) e there = none-made n self xs (or_parts (x.who.seq == n) (list_any (λ (y : Entry). y.who.seq == n) xs) none).1 i e there
 
 -- said of the command that stands there
-as_denied : (script : Script) (report : Report) (who : Who) (c : Command) → IsDenied report who (denied script.layout (answered_before script report who) c)
+as_denied : (script : Script) (report : Report) (who : Who) (c : Command) (o : Option Answer) → denied script.layout (answered_before script report who) c ≡ o → IsDenied report who o
     → (d : Command) → ◌≡◌ {A = Option Command} (Some c) (Some d) → IsDenied report who (denied script.layout (answered_before script report who) d)
-as_denied script report who c is d there = subst (λ (x : Command). IsDenied report who (denied script.layout (answered_before script report who) x)) (same_Some c d there) is
+as_denied script report who c o due is d there =
+    subst (λ (x : Command). IsDenied report who (denied script.layout (answered_before script report who) x)) (same_Some c d there) (subst (IsDenied report who) (sym due) is)
 
 as_told : (layout : Layout) (report : Report) (who : Who) (c : Command) (a : Answer) → guests_told report who ≡ guest_lines layout who.seq c a
     → (d : Command) (b : Answer) → ◌≡◌ {A = Option Command} (Some c) (Some d) → ◌≡◌ {A = Option Answer} (Some a) (Some b) → guests_told report who ≡ guest_lines layout who.seq d b
@@ -223,11 +231,11 @@ nothing : DoesNothing report (command 3)
 nothing = record { unmade = λ at e there. unmade at.page.0 at.entry e there; untold = refl }
 
 each_denied : (cpu n : ℕ) → AreDenied script report cpu n
-each_denied zero zero = as_denied script report (command 0) (store 0 5 77) (not_denied report (command 0) refl)
-each_denied zero (suc zero) = as_denied script report (command 1) (commands.Bad (record { 0 = 0 }) 5) (not_denied report (command 1) refl)
-each_denied zero (suc (suc zero)) = as_denied script report (command 2) (load 0 5) (not_denied report (command 2) refl)
-each_denied zero (suc (suc (suc zero))) = as_denied script report (command 3) (load 0 6) (inl refl, nothing)
-each_denied zero (suc (suc (suc (suc zero)))) = as_denied script report (command 4) (load 1 0) (not_denied report (command 4) refl)
+each_denied zero zero = as_denied script report (command 0) (store 0 5 77) None (ap denial_by (none-bad 0)) (not_denied report (command 0) refl)
+each_denied zero (suc zero) = as_denied script report (command 1) (commands.Bad (record { 0 = 0 }) 5) None refl (not_denied report (command 1) refl)
+each_denied zero (suc (suc zero)) = as_denied script report (command 2) (load 0 5) None (ap denial_by (none-bad 0)) (not_denied report (command 2) refl)
+each_denied zero (suc (suc (suc zero))) = as_denied script report (command 3) (load 0 6) (Some answers.GuestBad) (ap denial_by (bad-more set.empty 0 0)) (inl refl, nothing)
+each_denied zero (suc (suc (suc (suc zero)))) = as_denied script report (command 4) (load 1 0) None (ap denial_by (bad-more set.empty 0 1 ∙ none-bad 1)) (not_denied report (command 4) refl)
 each_denied zero (suc (suc (suc (suc (suc n))))) = λ d there. absurd (none-some d there)
 each_denied (suc cpu) n = λ d there. absurd (none-some d there)
 
@@ -319,10 +327,10 @@ later_nothing : DoesNothing later_report (command 3)
 later_nothing = record { unmade = λ at e there. later_unmade at.page.0 at.entry e there; untold = refl }
 
 later_denied : (cpu n : ℕ) → AreDenied later_script later_report cpu n
-later_denied zero zero = as_denied later_script later_report (command 0) (store 0 5 77) (not_denied later_report (command 0) refl)
-later_denied zero (suc zero) = as_denied later_script later_report (command 1) (commands.Inject (record { 0 = 0 })) (not_denied later_report (command 1) refl)
-later_denied zero (suc (suc zero)) = as_denied later_script later_report (command 2) (kload 0 5) (not_denied later_report (command 2) refl)
-later_denied zero (suc (suc (suc zero))) = as_denied later_script later_report (command 3) (load 1 0) (inl refl, later_nothing)
+later_denied zero zero = as_denied later_script later_report (command 0) (store 0 5 77) None (ap denial_by (none-bad 0)) (not_denied later_report (command 0) refl)
+later_denied zero (suc zero) = as_denied later_script later_report (command 1) (commands.Inject (record { 0 = 0 })) None refl (not_denied later_report (command 1) refl)
+later_denied zero (suc (suc zero)) = as_denied later_script later_report (command 2) (kload 0 5) None (ap denial_by (none-bad 0)) (not_denied later_report (command 2) refl)
+later_denied zero (suc (suc (suc zero))) = as_denied later_script later_report (command 3) (load 1 0) (Some answers.GuestStopped) refl (inl refl, later_nothing)
 later_denied zero (suc (suc (suc (suc n)))) = λ d there. absurd (none-some d there)
 later_denied (suc cpu) n = λ d there. absurd (none-some d there)
 
