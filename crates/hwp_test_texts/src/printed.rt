@@ -83,6 +83,20 @@ fn twins_are_printed_in_the_order_of_their_translations(rt: HostRuntime) {
     is_spelled(&rt, rt.alloc(), FORKING, FORKING);
 }
 
+/// A script with two guests, as it is printed.
+const HOSTING: &str =
+    "hwp 2\ncpus 1\nframes 3\nrecovery 1\nearly 0\nproc 0\nproc 1\nproc 2\nthread 0 0 0 handler\nthread 1 1 0 nohandler\nthread 2 0 0 handler\nguest 0\nguest 2\npage 0 anon\ntrans 0 0 0\ncpu 0\nstore 0 0 5 77\nend\n";
+
+/// The same script, in other spellings.
+const SPELLED_HOSTING: &str =
+    "hwp 2\ncpus 1\nframes 3\nproc 0\nproc 1\nproc 2\nthread 0 0 0 handler\nthread 1 1 0 nohandler\nthread 2 0 0 handler\n guest  2 \n# the first\nguest 0\npage 0 anon\ntrans 0 0 0\ncpu 0\nstore 0 0 5 77\nend\n";
+
+#[test]
+fn guests_are_printed_in_the_order_of_their_processes(rt: HostRuntime) {
+    is_spelled(&rt, rt.alloc(), SPELLED_HOSTING, HOSTING);
+    is_spelled(&rt, rt.alloc(), HOSTING, HOSTING);
+}
+
 /// The parts one after another, each so often.
 fn repeated(rt: &impl Abort, alloc: Global, parts: &[(&str, u32)]) -> String {
     let mut text = String::new(alloc);

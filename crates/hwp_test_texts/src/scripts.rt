@@ -173,6 +173,37 @@ fn a_fork_is_of_two_processes_and_twins_are_private(rt: HostRuntime) {
     );
 }
 
+/// A script with a guest.
+const HOSTED: &str =
+    "hwp 2\ncpus 2\nframes 3\nproc 0\nproc 1\nthread 0 0 0 handler\nthread 1 1 1 nohandler\nthread 2 0 0 handler\nguest 0\npage 0 anon\ntrans 0 0 0\ncpu 0\nstore 0 0 5 77\nend\n";
+
+#[test]
+fn a_guest_runs_on_one_processor_with_handlers(rt: HostRuntime) {
+    let script = read(rt.alloc(), HOSTED.as_bytes())
+        .ok()
+        .expect(&rt, "a script");
+    assert!(&rt; matches!(script.layout.guests.as_slice(), [true, false]));
+    drop(script);
+    refused(
+        &rt,
+        rt.alloc(),
+        HOSTED,
+        &[
+            ("hwp 2", "hwp 1", 9, Why::UnknownWord),
+            ("guest 0", "guest", 9, Why::UnknownWord),
+            ("guest 0", "guest x", 9, Why::BadNumber),
+            ("guest 0", "guest 16", 9, Why::OverLimit),
+            ("guest 0", "guest 2", 9, Why::Undeclared),
+            ("guest 0", "guest 0\nguest 0", 10, Why::Twice),
+            ("guest 0", "guest 1", 9, Why::WrongPlace),
+            ("thread 2 0 0 handler", "thread 2 0 0 nohandler", 9, Why::WrongPlace),
+            ("thread 2 0 0 handler", "thread 2 0 1 handler", 9, Why::WrongPlace),
+            ("page 0 anon", "thread 3 1 1 handler", 10, Why::WrongPlace),
+            ("cpu 0\n", "cpu 0\nguest 1\n", 13, Why::WrongPlace),
+        ],
+    );
+}
+
 #[test]
 fn a_watch_has_a_threshold_and_a_window(rt: HostRuntime) {
     refused(
