@@ -255,7 +255,7 @@ own_of (jobs.Unpoison u) = option_and_then (revived_by u.frame) (unpoisons.answe
 own_of _ = None
 
 abbrev pub row : List EventOutcome → List Offlining → Option FrameChange → Answer → Row
-row told offlined own answer = record { told = told; offlined = offlined; own = own; answer = answer }
+row told offlined own answer = record { told = told; offlined = offlined; own = own; guest = None; answer = answer }
 
 -- its row, with the frames that were taken out of use beside it
 abbrev pub row_of : Job → Answer → List Offlining → Row

@@ -288,6 +288,7 @@ fn row(
         told,
         offlined,
         own,
+        guest: None,
         answer,
     }
 }

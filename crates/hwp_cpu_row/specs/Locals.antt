@@ -11,6 +11,7 @@ use Rattle.hwp_cpu_check.specs.hwp_law_commands.Watched.{Watched, offlining}
 use Rattle.hwp_cpu_row.specs.declared.local.Local.{Local}
 use Rattle.hwp_cpu_row.specs.declared.local.Watching.{Watching}
 use Rattle.hwp_cpu_row.specs.CowLists.{first_cows}
+use Rattle.hwp_cpu_row.specs.GuestLists.{first_guests}
 
 -- a collector for so many frames that doesn't collect
 abbrev pub IsOff : ℕ → Watching → Type 0
@@ -22,12 +23,14 @@ HasRoom frames true (Some w) = IsOff frames w
 HasRoom frames false None = Unit {0}
 HasRoom frames _ _ = ⊥
 
--- at first: its banks are empty, the handle of each file has the number 0, nothing is collected, and no translation is frozen
+-- at first: its banks are empty, the handle of each file has the number 0, nothing is collected, no translation is frozen, and no guest has a bad
+-- frame
 pub record IsFirst (layout : Layout) (watches : Bool) (l : Local) : Type 0 where
   pub banks : l.banks ≡ empty_banks
   pub handles : l.handles ≡ replicate layout.files 0
   pub watching : HasRoom layout.frames watches l.watching
   pub cows : l.cows ≡ first_cows layout
+  pub guests : l.guests ≡ first_guests layout
 
 -- the number of the file's handle
 abbrev pub number_in : List ℕ → FileNo → ℕ

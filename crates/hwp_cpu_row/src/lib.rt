@@ -12,7 +12,7 @@ pub use guests::Guests;
 pub use hwp_cpu_check::{
     Acted, Answer, BANKS, Bank, Board, Body, CacheWord, Collector, Command, CounterWord, Cpu,
     CpuLine, Decision, Entry, Event, EventLine, EventOutcome, FailAnswer, FileNo, Found, Frame,
-    FrameLine, FrameWord, Held, How, Inject, Kind, Layout, List, MAX_SCRIPT, MarkLine, Mask,
+    FrameLine, FrameWord, GuestLine, Held, How, Inject, Kind, Layout, List, MAX_SCRIPT, MarkLine, Mask,
     McgBits, Mode, Noted, OfflineResult, OfflinedLine, Ops, Origin, OutOfMemory, Page, PageWord,
     PolicyWord, PrctlArgs, ProcessWord, Pte, Ranked, Report, Scheduled, Script, SharedWord, Status,
     Step, Stop, StopCause, StopWord, Task, Text, Turn, VSlot, Version, Whereabouts, Who, handle,

@@ -2,6 +2,7 @@ ghost use Rattle.std.specs.Prelude.{◌≡◌, replicate, slice_set, IfOk};
 ghost use Rattle.hwp_cpu_row.specs.Locals.{IsFirst, IsOff, number_in};
 
 use crate::cows::Cows;
+use crate::guests::Guests;
 use hwp_cpu_check::{BANKS, Bank, Collector, FileNo, Layout, OutOfMemory, no_events};
 use std::alloc::Global;
 use std::marker::Model;
@@ -81,10 +82,12 @@ pub struct Local {
     pub watching: Option<Watching>,
     /// Which translations are frozen and switched.
     pub cows: Cows,
+    /// What each guest is, where there are guests.
+    pub guests: Guests,
 }
 
 impl Local {
-    /// Nothing is in the banks, the handle of each file of the layout has the number 0, and no translation is frozen. If the processor
+    /// Nothing is in the banks, the handle of each file of the layout has the number 0, no translation is frozen, and no guest has a bad frame. If the processor
     /// watches, there is room for a collector of the layout's frames, which doesn't collect yet.
     pub fn new(alloc: Global, layout: &Layout, watches: bool) -> Result<Local, OutOfMemory>
         ensures { IfOk result (λ l. IsFirst layout.now watches l) }
@@ -99,6 +102,7 @@ impl Local {
             handles: Handles::new(alloc, layout.files)?,
             watching,
             cows: Cows::new(alloc, layout)?,
+            guests: Guests::new(alloc, layout)?,
         })
     }
 }

@@ -1,4 +1,4 @@
-use hwp_cpu_check::{Answer, EventOutcome, Found, Frame, List, OfflineResult};
+use hwp_cpu_check::{Answer, EventOutcome, Found, Frame, GuestLine, List, OfflineResult};
 
 /// What a command did to a frame itself, beside the failures that its machine checks told (this project's rule).
 #[derive(Clone, Copy)]
@@ -43,5 +43,7 @@ pub struct Row {
     pub offlined: List<Offlining>,
     /// What it did to a frame itself.
     pub own: Option<FrameChange>,
+    /// The machine check of a guest that its access brought about. The line's number is that of the command.
+    pub guest: Option<GuestLine>,
     pub answer: Answer,
 }

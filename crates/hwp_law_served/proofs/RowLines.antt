@@ -1,7 +1,8 @@
--- The lines of a processor's rows: where the answer of each stands, and what a report says of a command by them: its answer, its events
--- and the frames that were taken out of use beside it.
+-- The lines of a processor's rows: where the answer of each stands, and what a report says of a command by them: its answer, its events,
+-- the frames that were taken out of use beside it, and the machine check of a guest.
 use Rattle.std.proofs.Common.{◌≡◌, ◌≢◌, ◌⊎◌, ℕ, zero, suc, ◌+◌, ◌<◌, ◌==◌, Bool, true, false, cond, List, [], ◌∷◌, ◌++◌, Option, Some, None, filter, filter_map, length, map, option_and_then, option_map, slice_get, unwrap_or, refl, sym, ap, ◌∙◌, subst, arith, inl, inr, append-nil, true≢false}
 use Rattle.std.specs.List.{find, zip}
+use Rattle.std.specs.Prelude.{option_to_list}
 use Rattle.std.proofs.lemmas.Bool.{eq-eqb, ne_eqb}
 use Rattle.std.proofs.lemmas.List.Elements.{filter-append, filter_map-append}
 use Rattle.std.proofs.lemmas.Option.{none-some, same_Some, slice_get_within}
@@ -16,17 +17,18 @@ use Rattle.hwp_law_run.specs.hwp_report_text.declared.Answer.{Answer}
 use Rattle.hwp_law_run.specs.hwp_report_text.declared.CpuLine.{CpuLine}
 use Rattle.hwp_law_run.specs.hwp_report_text.declared.CpuLine.TheVariants as lines
 use Rattle.hwp_law_run.specs.hwp_report_text.declared.EventLine.{EventLine}
+use Rattle.hwp_law_run.specs.hwp_report_text.declared.GuestLine.{GuestLine}
 use Rattle.hwp_law_run.specs.hwp_report_text.declared.OfflinedLine.{OfflinedLine}
 use Rattle.hwp_law_run.specs.hwp_report_text.declared.Report.{Report}
 use Rattle.hwp_law_run.proofs.of_hwp_core_rule.Lists.{at_map}
 use Rattle.hwp_law_run.proofs.of_hwp_law.Rows.{same_answer}
-use Rattle.hwp_law_run.specs.hwp_law.Lines.{AnswerLine, answer_among, answer_in, answer_of, answered, event_in, events_among, events_of, offlined_among, offlined_in, offlined_of, rows_of}
+use Rattle.hwp_law_run.specs.hwp_law.Lines.{AnswerLine, answer_among, answer_in, answer_of, answered, event_in, events_among, events_of, guest_in, guests_among, guests_told, offlined_among, offlined_in, offlined_of, rows_of}
 use Rattle.hwp_law_run.specs.hwp_law.Policies.{answered_on}
 use Rattle.hwp_cpu_row.specs.declared.Offlining.{Offlining}
 use Rattle.hwp_cpu_row.specs.declared.Row.{Row}
 use Rattle.hwp_cpu_row.specs.hwp_cpu_check.declared.EventOutcome.{EventOutcome}
 use Rattle.hwp_law_served.specs.Handles.{answers_by}
-use Rattle.hwp_law_served.specs.Rows.{event_line, lines_from, offlined_at, offlined_line, row_lines}
+use Rattle.hwp_law_served.specs.Rows.{end_lines, event_line, guest_at, lines_from, offlined_at, offlined_line, row_lines}
 use Rattle.hwp_law_served.specs.hwp_cpu_row.Acts.{event_at}
 use Rattle.hwp_law_served.specs.Runs.{row_at}
 use Rattle.hwp_law_served.proofs.RunEnds.{IsEnd, IsOf, list-of, rows-of-lines, served-of}
@@ -70,18 +72,31 @@ abbrev is_answer : CpuLine → Bool
 is_answer (lines.Answer seq answer) = true
 is_answer line = false
 
--- a row has one answer, which stands last
-in-rest : (seq : ℕ) (answer : Answer) (offlined : List Offlining) (i m : ℕ) (a : Answer) → slice_get (map (offlined_line seq) offlined ++ lines.Answer seq answer ∷ []) i ≡ Some (lines.Answer m a) → (i ≡ length offlined) × (seq ≡ m) × (answer ≡ a)
-in-rest seq answer [] zero m a there = let same = same_answer seq m answer a (same_Some (lines.Answer seq answer) (lines.Answer m a) there) in (refl, same.0, same.1)
-in-rest seq answer [] (suc i) m a there = absurd (none-some (lines.Answer m a) there)
-in-rest seq answer (o ∷ os) zero m a there = absurd (true≢false (sym (ap is_answer (same_Some (offlined_line seq o) (lines.Answer m a) there))))
-in-rest seq answer (o ∷ os) (suc i) m a there = let later = in-rest seq answer os i m a there in (omega (arith, later.0), later.1, later.2)
+-- how many lines stand between those of frames and the answer
+abbrev guest_count : Option GuestLine → ℕ
+guest_count None = 0
+guest_count (Some line) = 1
 
-in-row : (seq : ℕ) (answer : Answer) (offlined : List Offlining) (told : List EventOutcome) (i m : ℕ) (a : Answer) → slice_get (map (event_line seq) told ++ (map (offlined_line seq) offlined ++ lines.Answer seq answer ∷ [])) i ≡ Some (lines.Answer m a)
-    → (i ≡ length told + length offlined) × (seq ≡ m) × (answer ≡ a)
-in-row seq answer offlined [] i m a there = let is = in-rest seq answer offlined i m a there in (omega (arith, is.0), is.1, is.2)
-in-row seq answer offlined (t ∷ ts) zero m a there = absurd (true≢false (sym (ap is_answer (same_Some (event_line seq t) (lines.Answer m a) there))))
-in-row seq answer offlined (t ∷ ts) (suc i) m a there = let later = in-row seq answer offlined ts i m a there in (omega (arith, later.0), later.1, later.2)
+in-end : (seq : ℕ) (answer : Answer) (guest : Option GuestLine) (i m : ℕ) (a : Answer) → slice_get (end_lines seq guest answer) i ≡ Some (lines.Answer m a) → (i ≡ guest_count guest) × (seq ≡ m) × (answer ≡ a)
+in-end seq answer None zero m a there = let same = same_answer seq m answer a (same_Some (lines.Answer seq answer) (lines.Answer m a) there) in (refl, same.0, same.1)
+in-end seq answer None (suc i) m a there = absurd (none-some (lines.Answer m a) there)
+in-end seq answer (Some line) zero m a there = absurd (true≢false (sym (ap is_answer (same_Some (lines.Guest (guest_at seq line)) (lines.Answer m a) there))))
+in-end seq answer (Some line) (suc zero) m a there = let same = same_answer seq m answer a (same_Some (lines.Answer seq answer) (lines.Answer m a) there) in (refl, same.0, same.1)
+in-end seq answer (Some line) (suc (suc i)) m a there = absurd (none-some (lines.Answer m a) there)
+
+-- a row has one answer, which stands last
+in-rest : (seq : ℕ) (answer : Answer) (guest : Option GuestLine) (offlined : List Offlining) (i m : ℕ) (a : Answer) → slice_get (map (offlined_line seq) offlined ++ end_lines seq guest answer) i ≡ Some (lines.Answer m a)
+    → (i ≡ length offlined + guest_count guest) × (seq ≡ m) × (answer ≡ a)
+in-rest seq answer guest [] i m a there = let is = in-end seq answer guest i m a there in (omega (arith, is.0), is.1, is.2)
+in-rest seq answer guest (o ∷ os) zero m a there = absurd (true≢false (sym (ap is_answer (same_Some (offlined_line seq o) (lines.Answer m a) there))))
+in-rest seq answer guest (o ∷ os) (suc i) m a there = let later = in-rest seq answer guest os i m a there in (omega (arith, later.0), later.1, later.2)
+
+in-row : (seq : ℕ) (answer : Answer) (guest : Option GuestLine) (offlined : List Offlining) (told : List EventOutcome) (i m : ℕ) (a : Answer)
+    → slice_get (map (event_line seq) told ++ (map (offlined_line seq) offlined ++ end_lines seq guest answer)) i ≡ Some (lines.Answer m a)
+    → (i ≡ length told + (length offlined + guest_count guest)) × (seq ≡ m) × (answer ≡ a)
+in-row seq answer guest offlined [] i m a there = let is = in-rest seq answer guest offlined i m a there in (omega (arith, is.0), is.1, is.2)
+in-row seq answer guest offlined (t ∷ ts) zero m a there = absurd (true≢false (sym (ap is_answer (same_Some (event_line seq t) (lines.Answer m a) there))))
+in-row seq answer guest offlined (t ∷ ts) (suc i) m a there = let later = in-row seq answer guest offlined ts i m a there in (omega (arith, later.0), later.1, later.2)
 
 -- the row of an answer's line, among those of the commands from number n on
 pub record HasLine (n : ℕ) (rows : List Row) (m : ℕ) (answer : Answer) : Type 0 where
@@ -97,19 +112,24 @@ row-of-line n (row ∷ rows) i m answer there = which (either (row_lines n row) 
   where
     which : Either (row_lines n row) (lines_from (n + 1) rows) i (lines.Answer m answer) → ((j : ℕ) → slice_get (lines_from (n + 1) rows) j ≡ Some (lines.Answer m answer) → HasLine (n + 1) rows m answer) → HasLine n (row ∷ rows) m answer
     which (inl (first, inside)) more =
-        let is = in-row n row.answer row.offlined row.told i m answer first in
+        let is = in-row n row.answer row.guest row.offlined row.told i m answer first in
         record { k = 0; number = omega (arith, is.1); row = row; row_is = refl; answer_is = is.2 }
     which (inr (j, at, second)) more =
         let later = more j second in
         record { k = suc later.k; number = omega (arith, later.number); row = later.row; row_is = later.row_is; answer_is = later.answer_is }
 
 -- the line of a row's answer
+at-end : (n : ℕ) (guest : Option GuestLine) (answer : Answer) → (i : ℕ) × (slice_get (end_lines n guest answer) i ≡ Some (lines.Answer n answer))
+at-end n None answer = (0, refl)
+at-end n (Some line) answer = (1, refl)
+
 pub answer-line : (n : ℕ) (rows : List Row) (k m : ℕ) (row : Row) → slice_get rows k ≡ Some row → m ≡ n + k → (i : ℕ) × (slice_get (lines_from n rows) i ≡ Some (lines.Answer m row.answer))
 answer-line n [] k m row there at = absurd (none-some row there)
 answer-line n (r ∷ rows) zero m row there at =
     let same : n ≡ m = omega arith in
-    let own = behind (map (offlined_line n) r.offlined) (lines.Answer n r.answer ∷ []) 0 (lines.Answer m row.answer) (ap (λ (x : Row). Some (lines.Answer n x.answer)) (same_Some r row there) ∙ ap (λ (i : ℕ). Some (lines.Answer i row.answer)) same) in
-    let here = behind (map (event_line n) r.told) (map (offlined_line n) r.offlined ++ lines.Answer n r.answer ∷ []) own.0 (lines.Answer m row.answer) own.1 in
+    let last = at-end n r.guest r.answer in
+    let own = behind (map (offlined_line n) r.offlined) (end_lines n r.guest r.answer) last.0 (lines.Answer m row.answer) (last.1 ∙ ap (λ (x : Row). Some (lines.Answer n x.answer)) (same_Some r row there) ∙ ap (λ (i : ℕ). Some (lines.Answer i row.answer)) same) in
+    let here = behind (map (event_line n) r.told) (map (offlined_line n) r.offlined ++ end_lines n r.guest r.answer) own.0 (lines.Answer m row.answer) own.1 in
     (here.0, first-of (row_lines n r) (lines_from (n + 1) rows) here.0 (lines.Answer m row.answer) here.1)
 answer-line n (r ∷ rows) (suc k) m row there at =
     let later = answer-line (n + 1) rows k m row there (omega arith) in
@@ -122,7 +142,7 @@ offlined-there n (r ∷ rows) zero m row j o there at one =
     let same : n ≡ m = omega arith in
     let mine : slice_get r.offlined j ≡ Some o = ap (λ (x : Row). slice_get x.offlined j) (same_Some r row there) ∙ one in
     let line : slice_get (map (offlined_line n) r.offlined) j ≡ Some (offlined_line m o) = at_map (offlined_line n) r.offlined j o mine ∙ ap (λ (i : ℕ). Some (offlined_line i o)) same in
-    let here = behind (map (event_line n) r.told) (map (offlined_line n) r.offlined ++ lines.Answer n r.answer ∷ []) j (offlined_line m o) (first-of (map (offlined_line n) r.offlined) (lines.Answer n r.answer ∷ []) j (offlined_line m o) line) in
+    let here = behind (map (event_line n) r.told) (map (offlined_line n) r.offlined ++ end_lines n r.guest r.answer) j (offlined_line m o) (first-of (map (offlined_line n) r.offlined) (end_lines n r.guest r.answer) j (offlined_line m o) line) in
     (here.0, first-of (row_lines n r) (lines_from (n + 1) rows) here.0 (offlined_line m o) here.1)
 offlined-there n (r ∷ rows) (suc k) m row j o there at one =
     let later = offlined-there (n + 1) rows k m row j o there (omega arith) one in
@@ -136,11 +156,11 @@ answers-rise n (row ∷ rows) i j m l a b less first second = which (either (row
     which : Either (row_lines n row) (lines_from (n + 1) rows) i (lines.Answer m a) → Either (row_lines n row) (lines_from (n + 1) rows) j (lines.Answer l b)
         → ((k h : ℕ) → k < h → slice_get (lines_from (n + 1) rows) k ≡ Some (lines.Answer m a) → slice_get (lines_from (n + 1) rows) h ≡ Some (lines.Answer l b) → m < l) → m < l
     which (inl (one, inside)) (inl (other, within)) more =
-        let is = in-row n row.answer row.offlined row.told i m a one in
-        let at = in-row n row.answer row.offlined row.told j l b other in
+        let is = in-row n row.answer row.guest row.offlined row.told i m a one in
+        let at = in-row n row.answer row.guest row.offlined row.told j l b other in
         absurd (omega (arith, is.0, at.0, less))
     which (inl (one, inside)) (inr (k, at, other)) more =
-        let is = in-row n row.answer row.offlined row.told i m a one in
+        let is = in-row n row.answer row.guest row.offlined row.told i m a one in
         let later = row-of-line (n + 1) rows k l b other in
         omega (arith, is.1, later.number)
     which (inr (k, at, one)) (inl (other, within)) more = absurd (omega (arith, at, within, less))
@@ -151,33 +171,61 @@ answers-rise n (row ∷ rows) i j m l a b less first second = which (either (row
 answers-in : (n : ℕ) (row : Row) → filter_map answer_in (row_lines n row) ≡ record { seq = n; answer = row.answer } ∷ []
 answers-in n row = by row.told
   where
-    rest : (offlined : List Offlining) → filter_map answer_in (map (offlined_line n) offlined ++ lines.Answer n row.answer ∷ []) ≡ record { seq = n; answer = row.answer } ∷ []
-    rest [] = refl
+    last : (guest : Option GuestLine) → filter_map answer_in (end_lines n guest row.answer) ≡ record { seq = n; answer = row.answer } ∷ []
+    last None = refl
+    last (Some line) = refl
+
+    rest : (offlined : List Offlining) → filter_map answer_in (map (offlined_line n) offlined ++ end_lines n row.guest row.answer) ≡ record { seq = n; answer = row.answer } ∷ []
+    rest [] = last row.guest
     rest (o ∷ os) = rest os
 
-    by : (told : List EventOutcome) → filter_map answer_in (map (event_line n) told ++ (map (offlined_line n) row.offlined ++ lines.Answer n row.answer ∷ [])) ≡ record { seq = n; answer = row.answer } ∷ []
+    by : (told : List EventOutcome) → filter_map answer_in (map (event_line n) told ++ (map (offlined_line n) row.offlined ++ end_lines n row.guest row.answer)) ≡ record { seq = n; answer = row.answer } ∷ []
     by [] = rest row.offlined
     by (t ∷ ts) = by ts
 
 events-in : (n : ℕ) (row : Row) → filter_map event_in (row_lines n row) ≡ map (event_at n) row.told
 events-in n row = by row.told
   where
-    rest : (offlined : List Offlining) → filter_map event_in (map (offlined_line n) offlined ++ lines.Answer n row.answer ∷ []) ≡ []
-    rest [] = refl
+    last : (guest : Option GuestLine) → filter_map event_in (end_lines n guest row.answer) ≡ []
+    last None = refl
+    last (Some line) = refl
+
+    rest : (offlined : List Offlining) → filter_map event_in (map (offlined_line n) offlined ++ end_lines n row.guest row.answer) ≡ []
+    rest [] = last row.guest
     rest (o ∷ os) = rest os
 
-    by : (told : List EventOutcome) → filter_map event_in (map (event_line n) told ++ (map (offlined_line n) row.offlined ++ lines.Answer n row.answer ∷ [])) ≡ map (event_at n) told
+    by : (told : List EventOutcome) → filter_map event_in (map (event_line n) told ++ (map (offlined_line n) row.offlined ++ end_lines n row.guest row.answer)) ≡ map (event_at n) told
     by [] = rest row.offlined
     by (t ∷ ts) = ap (λ (l : List EventLine). event_at n t ∷ l) (by ts)
 
 offlined-in : (n : ℕ) (row : Row) → filter_map offlined_in (row_lines n row) ≡ map (offlined_at n) row.offlined
 offlined-in n row = by row.told
   where
-    rest : (offlined : List Offlining) → filter_map offlined_in (map (offlined_line n) offlined ++ lines.Answer n row.answer ∷ []) ≡ map (offlined_at n) offlined
-    rest [] = refl
+    last : (guest : Option GuestLine) → filter_map offlined_in (end_lines n guest row.answer) ≡ []
+    last None = refl
+    last (Some line) = refl
+
+    rest : (offlined : List Offlining) → filter_map offlined_in (map (offlined_line n) offlined ++ end_lines n row.guest row.answer) ≡ map (offlined_at n) offlined
+    rest [] = last row.guest
     rest (o ∷ os) = ap (λ (l : List OfflinedLine). offlined_at n o ∷ l) (rest os)
 
-    by : (told : List EventOutcome) → filter_map offlined_in (map (event_line n) told ++ (map (offlined_line n) row.offlined ++ lines.Answer n row.answer ∷ [])) ≡ map (offlined_at n) row.offlined
+    by : (told : List EventOutcome) → filter_map offlined_in (map (event_line n) told ++ (map (offlined_line n) row.offlined ++ end_lines n row.guest row.answer)) ≡ map (offlined_at n) row.offlined
+    by [] = rest row.offlined
+    by (t ∷ ts) = by ts
+
+-- and the guest's line, if there is one
+guests-in : (n : ℕ) (row : Row) → filter_map guest_in (row_lines n row) ≡ map (guest_at n) (option_to_list row.guest)
+guests-in n row = by row.told
+  where
+    last : (guest : Option GuestLine) → filter_map guest_in (end_lines n guest row.answer) ≡ map (guest_at n) (option_to_list guest)
+    last None = refl
+    last (Some line) = refl
+
+    rest : (offlined : List Offlining) → filter_map guest_in (map (offlined_line n) offlined ++ end_lines n row.guest row.answer) ≡ map (guest_at n) (option_to_list row.guest)
+    rest [] = last row.guest
+    rest (o ∷ os) = rest os
+
+    by : (told : List EventOutcome) → filter_map guest_in (map (event_line n) told ++ (map (offlined_line n) row.offlined ++ end_lines n row.guest row.answer)) ≡ map (guest_at n) (option_to_list row.guest)
     by [] = rest row.offlined
     by (t ∷ ts) = by ts
 
@@ -264,6 +312,9 @@ events-at = kind-at event_in (λ (l : EventLine). l.seq) event_at (λ (r : Row).
 pub offlined-among : (n : ℕ) (rows : List Row) (k m : ℕ) (row : Row) → slice_get rows k ≡ Some row → m ≡ n + k → offlined_among (lines_from n rows) m ≡ map (offlined_at m) row.offlined
 offlined-among = kind-at offlined_in (λ (l : OfflinedLine). l.seq) offlined_at (λ (r : Row). r.offlined) offlined-in (λ n o. refl)
 
+guests-at : (n : ℕ) (rows : List Row) (k m : ℕ) (row : Row) → slice_get rows k ≡ Some row → m ≡ n + k → guests_among (lines_from n rows) m ≡ map (guest_at m) (option_to_list row.guest)
+guests-at = kind-at guest_in (λ (l : GuestLine). l.seq) guest_at (λ (r : Row). option_to_list r.guest) guests-in (λ n l. refl)
+
 events-past : (n : ℕ) (rows : List Row) (k m : ℕ) → slice_get rows k ≡ None → m ≡ n + k → events_among (lines_from n rows) m ≡ []
 events-past = kind-past event_in (λ (l : EventLine). l.seq) event_at (λ (r : Row). r.told) events-in (λ n t. refl)
 
@@ -276,6 +327,11 @@ module _ (script : Script) (copies : Who → Option VSlot) (seat : Cpu → ℕ) 
   answer-told view who of =
       ap (λ (o : Option (List CpuLine)). answer_among (unwrap_or o []) who.seq) (served-of script copies seat last report end who.cpu of.list of.own of.list_is of.own_is).1
       ∙ answer-at 0 of.own who.seq who.seq of.row of.row_is (omega arith)
+
+  pub guest-told : (view : View) (who : Who) (of : IsOf script copies end.rows view who) → guests_told report who ≡ map (guest_at who.seq) (option_to_list of.row.guest)
+  guest-told view who of =
+      ap (λ (o : Option (List CpuLine)). guests_among (unwrap_or o []) who.seq) (served-of script copies seat last report end who.cpu of.list of.own of.list_is of.own_is).1
+      ∙ guests-at 0 of.own who.seq who.seq of.row of.row_is (omega arith)
 
   pub events-told : (view : View) (who : Who) (of : IsOf script copies end.rows view who) → events_of report who ≡ map (event_at who.seq) of.row.told
   events-told view who of =

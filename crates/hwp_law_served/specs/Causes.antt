@@ -330,6 +330,10 @@ IsTableCaused layout earlier view who (commands.Bad frame line) answers.Done = H
 IsTableCaused layout earlier view who (commands.Weak frame line) answers.Done = HasSpoiledLine view who frame line damages.Weak
 IsTableCaused layout earlier view who _ _ = ⊥
 
+-- a guest didn't admit the command's access: the process goes on, and the command made no entry
+abbrev pub WasDenied : Layout → View → Who → Command → Type 0
+WasDenied layout view who command = HasMadeNone view who × IsSomeAnd (access_of command) (λ (a : Access). SawProcess layout view who a.thread 0)
+
 -- the answer of a command among all of its processor's has its cause in what the processor knows of the command: by what the
 -- command told of its machine checks, by what it did to a frame itself, and by its answer
 abbrev pub IsAnswerCaused : Layout → List (Command × Answer) → View → Who → Command → List EventOutcome → Option FrameChange → Answer → Type 0
@@ -343,6 +347,8 @@ IsAnswerCaused layout earlier view who (commands.Soft frame) told own answer = I
 IsAnswerCaused layout earlier view who (commands.Unpoison frame) told own answer = HasMadeNone view who × IsUnpoisonCaused layout view who frame own answer
 IsAnswerCaused layout earlier view who command told own (answers.Sigbus at) =
     IsTableCaused layout earlier view who command (answers.Sigbus at) ⊎ IsSomeAnd (access_of command) (λ (a : Access). WasSignalled layout view who command a.thread told at)
+IsAnswerCaused layout earlier view who command told own answers.GuestBad = WasDenied layout view who command
+IsAnswerCaused layout earlier view who command told own answers.GuestStopped = WasDenied layout view who command
 IsAnswerCaused layout earlier view who command told own answer = IsTableCaused layout earlier view who command answer
 
 -- of a command that copies a page first, from this translation: a store

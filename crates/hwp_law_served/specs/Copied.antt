@@ -116,6 +116,8 @@ IsCopyEnded layout view store page sub runs rest told (answers.Sigbus at) = IsGo
 IsCopyEnded layout view store page sub runs rest told answers.NoFrame = IsGoing layout view store × FoundNone layout view store page sub rest
 IsCopyEnded layout view store page sub runs rest told (answers.Gone ended) = FoundEnded layout view store page sub rest ended
 IsCopyEnded layout view store page sub runs rest told answers.Stopped = WasStopped view store page sub rest
+IsCopyEnded layout view store page sub runs rest told answers.GuestBad = IsGoing layout view store × (runs ≡ []) × (rest ≡ [])
+IsCopyEnded layout view store page sub runs rest told answers.GuestStopped = IsGoing layout view store × (runs ≡ []) × (rest ≡ [])
 IsCopyEnded layout view store page sub runs rest told _ = ⊥
 
 pub record IsCopyCaused (layout : Layout) (view : View) (who : Who) (thread : Thread) (from to : VSlot) (line word : ℕ) (before : Banks) (told : List EventOutcome) (answer : Answer) : Type 0 where

@@ -5,6 +5,7 @@ pub mod Handles
 pub mod Offlinings
 pub mod Told
 pub mod Rows
+pub mod Guests
 pub mod Served
 pub mod Runs
 pub mod Owed

@@ -1,12 +1,14 @@
 -- The rows of a processor, one for each command that is answered: the lines of the report and the notes of frames that they make.
-use Rattle.std.specs.Prelude.{ℕ, ◌+◌, ◌==◌, Bool, true, false, List, [], ◌∷◌, ◌++◌, Option, option_map, map, filter, filter_map, flat_map}
+use Rattle.std.specs.Prelude.{ℕ, ◌+◌, ◌==◌, Bool, true, false, List, [], ◌∷◌, ◌++◌, Option, Some, None, option_map, map, filter, filter_map, flat_map}
 use Rattle.std.specs.List.{cons_option}
 use Rattle.hwp_law_run.specs.hwp_geom.declared.Cpu.{Cpu}
 use Rattle.hwp_law_run.specs.hwp_geom.declared.Frame.{Frame}
 use Rattle.hwp_law_run.specs.hwp_geom.declared.Who.{Who}
 use Rattle.hwp_law_run.specs.hwp_page.Situations.{outcome_of}
+use Rattle.hwp_law_run.specs.hwp_report_text.declared.Answer.{Answer}
 use Rattle.hwp_law_run.specs.hwp_report_text.declared.CpuLine.{CpuLine}
 use Rattle.hwp_law_run.specs.hwp_report_text.declared.CpuLine.TheVariants as lines
+use Rattle.hwp_law_run.specs.hwp_report_text.declared.GuestLine.{GuestLine}
 use Rattle.hwp_law_run.specs.hwp_report_text.declared.How.{How}
 use Rattle.hwp_law_run.specs.hwp_report_text.declared.How.TheVariants as hows
 use Rattle.hwp_law_run.specs.hwp_report_text.declared.MarkLine.{MarkLine}
@@ -33,9 +35,17 @@ offlined_at seq o = record { seq = seq; frame = o.frame; result = o.result }
 abbrev pub offlined_line : ℕ → Offlining → CpuLine
 offlined_line seq o = lines.Offlined (offlined_at seq o)
 
--- the events first, then the frames that were taken out of use, and then the answer
+-- the line of a guest's machine check, if there was one, and then the answer
+abbrev pub guest_at : ℕ → GuestLine → GuestLine
+guest_at seq line = record line { seq = seq }
+
+abbrev pub end_lines : ℕ → Option GuestLine → Answer → List CpuLine
+end_lines seq None answer = lines.Answer seq answer ∷ []
+end_lines seq (Some line) answer = lines.Guest (guest_at seq line) ∷ lines.Answer seq answer ∷ []
+
+-- the events first, then the frames that were taken out of use, and then the guest's line and the answer
 abbrev pub row_lines : ℕ → Row → List CpuLine
-row_lines seq row = map (event_line seq) row.told ++ (map (offlined_line seq) row.offlined ++ lines.Answer seq row.answer ∷ [])
+row_lines seq row = map (event_line seq) row.told ++ (map (offlined_line seq) row.offlined ++ end_lines seq row.guest row.answer)
 
 -- of the commands from number n on
 abbrev pub lines_from : ℕ → List Row → List CpuLine

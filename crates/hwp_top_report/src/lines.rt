@@ -1,9 +1,10 @@
 ghost use Rattle.std.specs.Prelude.{◌≡◌, ◌++◌, map, IfOk, OnOk};
-ghost use Rattle.hwp_cpu.specs.hwp_law_served.Rows.{event_line, lines_from, offlined_line, row_lines};
+ghost use Rattle.hwp_cpu.specs.hwp_law_served.Rows.{end_lines, event_line, guest_at, lines_from, offlined_line, row_lines};
 ghost use Rattle.hwp_top_report.specs.Closing.{AreTellable, IsTellable, lines_of_all};
 
 use hwp_cpu_row::{
-    CpuLine, EventLine, EventOutcome, List, OfflinedLine, Offlining, OutOfMemory, Row,
+    Answer, CpuLine, EventLine, EventOutcome, GuestLine, List, OfflinedLine, Offlining,
+    OutOfMemory, Row,
 };
 use std::alloc::Global;
 
@@ -22,7 +23,8 @@ pub(crate) fn all_lines(
     Ok(List::from_vec(cpus))
 }
 
-/// The lines of a processor: for each command its events, the frames that were taken out of use beside it, and then its answer.
+/// The lines of a processor: for each command its events, the frames that were taken out of use beside it, the machine check
+/// of a guest, and then its answer.
 fn lines_of(alloc: Global, rows: &[Row]) -> Result<List<CpuLine>, OutOfMemory>
     requires tellable { IsTellable rows.now }
     ensures { IfOk result (λ lines. lines ≡ lines_from 0 rows.now) }
@@ -38,14 +40,32 @@ fn lines_of(alloc: Global, rows: &[Row]) -> Result<List<CpuLine>, OutOfMemory>
 fn add_row(lines: &mut Vec<CpuLine>, seq: u32, row: &Row) -> Result<(), OutOfMemory>
     ensures { OnOk result (lines.new.items ≡ lines.old.items ++ row_lines seq row.now) }
 {
-    let answer = CpuLine::Answer {
-        seq,
-        answer: row.answer,
-    };
     add_events(lines, seq, row.told.as_slice())?;
     add_offlined(lines, seq, row.offlined.as_slice())?;
-    lines.push(answer)?;
+    add_end(lines, seq, row.guest, row.answer)
+}
+
+/// Adds the line of a guest's machine check, if there was one, and that of the answer.
+fn add_end(
+    lines: &mut Vec<CpuLine>,
+    seq: u32,
+    guest: Option<GuestLine>,
+    answer: Answer,
+) -> Result<(), OutOfMemory>
+    ensures { OnOk result (lines.new.items ≡ lines.old.items ++ end_lines seq guest answer) }
+{
+    if let Some(line) = guest {
+        lines.push(CpuLine::Guest(guest_at(seq, line)))?;
+    }
+    lines.push(CpuLine::Answer { seq, answer })?;
     Ok(())
+}
+
+/// The line with this number.
+fn guest_at(seq: u32, line: GuestLine) -> GuestLine
+    ensures { result ≡ guest_at seq line }
+{
+    GuestLine { seq, ..line }
 }
 
 /// Adds a line for each event.

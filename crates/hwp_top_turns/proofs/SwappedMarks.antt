@@ -38,10 +38,10 @@ event frame situation = record {
 
 -- the rows of `bad 0 0`, `bad 1 0` and the scrub: the first two note nothing
 abbrev done : Row
-done = record { told = []; offlined = []; own = None; answer = answers.Done }
+done = record { told = []; offlined = []; own = None; guest = None; answer = answers.Done }
 
 abbrev scrubbed : Row
-scrubbed = record { told = event (record { 0 = 0 }) situations.FileClean ∷ event (record { 0 = 1 }) situations.AnonOnly ∷ []; offlined = []; own = None; answer = answers.Scrubbed 2 }
+scrubbed = record { told = event (record { 0 = 0 }) situations.FileClean ∷ event (record { 0 = 1 }) situations.AnonOnly ∷ []; offlined = []; own = None; guest = None; answer = answers.Scrubbed 2 }
 
 abbrev rows : List (List Row)
 rows = (done ∷ done ∷ scrubbed ∷ []) ∷ []
