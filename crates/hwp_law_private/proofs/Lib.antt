@@ -1,14 +1,14 @@
-pub mod AnswerLines
-pub mod Contents
-pub mod Forked
-pub mod Freezes
-pub mod GivenAnswers
-pub mod Keeps
-pub mod MadeStores
-pub mod OwnPage
-pub mod PageWords
+mod Words
+mod Contents
+mod AnswerLines
+mod Freezes
+mod Shares
+mod MadeStores
+mod GivenAnswers
+mod PageWords
+mod Forked
+mod OwnPage
+mod TwinPage
+mod Keeps
+mod WordExamples
 pub mod Private
-pub mod Shares
-pub mod TwinPage
-pub mod WordExamples
-pub mod Words
