@@ -1,5 +1,5 @@
 -- Where a fork begins, no thread of the child has set a policy, each is one of the processor, and none is the one that forks.
-use Rattle.std.proofs.Common.{◌≡◌, ◌≢◌, ℕ, zero, suc, ◌+◌, ◌<◌, ◌≤◌, ◌==◌, ◌&&◌, ◌||◌, not, Bool, true, false, cond, true≢false, List, [], ◌∷◌, ◌++◌, Option, Some, None, length, map, slice_get, take, count_by, append-nil, refl, sym, ap, ◌∙◌, subst, arith}
+use Rattle.std.proofs.Common.{◌≡◌, ◌≢◌, ℕ, zero, suc, ◌+◌, ◌≤◌, ◌==◌, ◌&&◌, ◌||◌, not, Bool, true, false, cond, true≢false, List, [], ◌∷◌, ◌++◌, Option, Some, None, length, map, slice_get, take, count_by, append-nil, refl, sym, ap, ◌∙◌, subst, arith}
 use Rattle.std.specs.List.{cons_option, list_any, zip}
 use Rattle.std.specs.Option.{option_map_or}
 use Rattle.std.specs.Prelude.{IsSomeAnd}
@@ -12,7 +12,6 @@ use Rattle.hwp_cpu_course.specs.hwp_cpu_row.hwp_geom.declared.Layout.{Layout}
 use Rattle.hwp_cpu_course.specs.hwp_cpu_row.hwp_geom.declared.Proc.{Proc}
 use Rattle.hwp_cpu_course.specs.hwp_cpu_row.hwp_geom.declared.Thread.{Thread}
 use Rattle.hwp_cpu_course.specs.hwp_cpu_row.hwp_geom.declared.ThreadDecl.{ThreadDecl}
-use Rattle.hwp_cpu_course.specs.hwp_cpu_row.hwp_geom.declared.Who.{Who}
 use Rattle.hwp_cpu_course.specs.hwp_cpu_command.hwp_kill.declared.Policy.{Policy}
 use Rattle.hwp_cpu_course.specs.hwp_cpu_row.hwp_script_lines.declared.Command.{Command}
 use Rattle.hwp_cpu_course.specs.hwp_cpu_row.hwp_script_lines.declared.Command.TheVariants as commands
@@ -36,18 +35,18 @@ use Rattle.hwp_cpu.specs.Processors.{AreForkedOnce, at_number}
 -- none passes the test, so a member doesn't
 none-passes : {A : Type 0} (test : A → Bool) (l : List A) (i : ℕ) (x : A) → list_any test l ≡ false → slice_get l i ≡ Some x → test x ≡ false
 none-passes test [] i x none there = absurd (none-some x there)
-none-passes test (y ∷ ys) zero x none there = subst (λ (z : _). test z ≡ false) (same_Some y x there) (both-false (test y) (list_any test ys) none).0
+none-passes test (y ∷ ys) zero x none there = subst (λ (z : A). test z ≡ false) (same_Some y x there) (both-false (test y) (list_any test ys) none).0
 none-passes test (y ∷ ys) (suc i) x none there = none-passes test ys i x (both-false (test y) (list_any test ys) none).1 there
 
 -- a member that passes counts
 one-counts : {A : Type 0} (test : A → Bool) (l : List A) (i : ℕ) (x : A) → slice_get l i ≡ Some x → test x ≡ true → 1 ≤ count_by test l
 one-counts test [] i x there passes = absurd (none-some x there)
 one-counts test (y ∷ ys) zero x there passes =
-    let all : count_by test (y ∷ ys) ≡ cond (test y) 1 0 + count_by test ys = sum_by-cons (λ (z : _). cond (test z) 1 0) y ys in
-    let here : cond (test y) 1 0 ≡ 1 = ap (λ (b : Bool). cond b 1 0) (ap test (same_Some y x there) ∙ passes) in
+    let all : count_by test (y ∷ ys) ≡ cond {A = ℕ} (test y) 1 0 + count_by test ys = sum_by-cons (λ (z : A). cond {A = ℕ} (test z) 1 0) y ys in
+    let here : cond {A = ℕ} (test y) 1 0 ≡ 1 = ap (λ (b : Bool). cond {A = ℕ} b 1 0) (ap test (same_Some y x there) ∙ passes) in
     omega (arith, all, here)
 one-counts test (y ∷ ys) (suc i) x there passes =
-    let all : count_by test (y ∷ ys) ≡ cond (test y) 1 0 + count_by test ys = sum_by-cons (λ (z : _). cond (test z) 1 0) y ys in
+    let all : count_by test (y ∷ ys) ≡ cond {A = ℕ} (test y) 1 0 + count_by test ys = sum_by-cons (λ (z : A). cond {A = ℕ} (test z) 1 0) y ys in
     let later : 1 ≤ count_by test ys = one-counts test ys i x there passes in
     omega (arith, all, later)
 
@@ -55,17 +54,17 @@ one-counts test (y ∷ ys) (suc i) x there passes =
 none-before : {A : Type 0} (test : A → Bool) (l : List A) (n : ℕ) (x : A) → slice_get l n ≡ Some x → test x ≡ true → count_by test l ≤ 1 → list_any test (take n l) ≡ false
 none-before test [] n x there passes few = absurd (none-some x there)
 none-before test (y ∷ ys) zero x there passes few = refl
-none-before test (y ∷ ys) (suc n) x there passes few = which (test y) refl
+none-before test (y ∷ ys) (suc n) x there passes few = which (test y) refl (λ fewer. none-before test ys n x there passes fewer)
   where
-    all : count_by test (y ∷ ys) ≡ cond (test y) 1 0 + count_by test ys
-    all = sum_by-cons (λ (z : _). cond (test z) 1 0) y ys
+    all : count_by test (y ∷ ys) ≡ cond {A = ℕ} (test y) 1 0 + count_by test ys
+    all = sum_by-cons (λ (z : A). cond {A = ℕ} (test z) 1 0) y ys
 
     later : 1 ≤ count_by test ys
     later = one-counts test ys n x there passes
 
-    which : (b : Bool) → test y ≡ b → (test y || list_any test (take n ys)) ≡ false
-    which true is = let here : cond (test y) 1 0 ≡ 1 = ap (λ (b : Bool). cond b 1 0) is in absurd (omega (arith, all, later, here, few))
-    which false is = ap (λ (b : Bool). b || list_any test (take n ys)) is ∙ none-before test ys n x there passes (omega (arith, all, few))
+    which : (b : Bool) → test y ≡ b → (count_by test ys ≤ 1 → list_any test (take n ys) ≡ false) → (test y || list_any test (take n ys)) ≡ false
+    which true is rest = let here : cond {A = ℕ} (test y) 1 0 ≡ 1 = ap (λ (b : Bool). cond {A = ℕ} b 1 0) is in absurd (omega (arith, all, later, here, few))
+    which false is rest = let here : cond {A = ℕ} (test y) 1 0 ≡ 0 = ap (λ (b : Bool). cond {A = ℕ} b 1 0) is in ap (λ (b : Bool). b || list_any test (take n ys)) is ∙ rest (omega (arith, all, here, few))
 
 -- ---- a child whose threads no command used, and which none forked
 
@@ -81,12 +80,12 @@ module _ (layout : Layout) (child : Proc) (t : ℕ) (own : is_thread_of layout c
   sets-none : (set : ℕ → List Policy) (command : Command) (answer : Answer) → is_used_by layout child.0 command ≡ false → is_fork_of child.0 command ≡ false → setting_of layout set t command answer ≡ None
   sets-none set (commands.Prctl other args) answers.Done unused unforked = which (other.0 == t) refl
     where
-      which : (b : Bool) → (other.0 == t) ≡ b → cond b _ None ≡ None
+      which : (b : Bool) → (other.0 == t) ≡ b → cond b (policy_set (arguments args)) None ≡ None
       which true is = absurd (true≢false (sym (ap (is_thread_of layout child.0) (eqb-true other.0 t is) ∙ own) ∙ unused))
       which false is = refl
   sets-none set (commands.Fork parent process) answers.Done unused unforked = which (is_thread_of layout process.0 t) refl
     where
-      which : (b : Bool) → is_thread_of layout process.0 t ≡ b → cond b _ None ≡ None
+      which : (b : Bool) → is_thread_of layout process.0 t ≡ b → cond b (Some (last_policy (set parent.0))) None ≡ None
       which true is = absurd (true≢false (sym (eq-eqb process.0 child.0 (one-process process.0 (slice_get layout.threads t) own is)) ∙ unforked))
       which false is = refl
   sets-none set command answer unused unforked = refl
@@ -103,7 +102,8 @@ module _ (layout : Layout) (child : Proc) (t : ℕ) (own : is_thread_of layout c
 
 -- the commands that are answered are the first of the list
 zip-front : (l : List Command) (given : List Answer) → zip l given ≡ zip (take (length given) l) given
-zip-front [] given = refl
+zip-front [] [] = refl
+zip-front [] (a ∷ rest) = refl
 zip-front (c ∷ cs) [] = refl
 zip-front (c ∷ cs) (a ∷ rest) = ap (λ (m : List (Command × Answer)). (c, a) ∷ m) (zip-front cs rest)
 

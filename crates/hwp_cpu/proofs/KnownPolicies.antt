@@ -74,17 +74,14 @@ counted-starts before view j start all thread =
 -- a policy that each thread of a process got is one of each of them, and of no other thread
 given-none : (thread : Thread) (policy : Policy) (process : Proc) (n : ℕ) (ts : List ThreadDecl) → thread.0 < n → of_thread thread (map (λ (t : Thread). (t, policy)) (threads_of process n ts)) ≡ []
 given-none thread policy process n [] less = refl
-given-none thread policy process n (t ∷ ts) less = which (t.process.0 == process.0)
+given-none thread policy process n (t ∷ ts) less = which (t.process.0 == process.0) (given-none thread policy process (n + 1) ts (omega (arith, less)))
   where
-    rest : of_thread thread (map (λ (x : Thread). (x, policy)) (threads_of process (n + 1) ts)) ≡ []
-    rest = given-none thread policy process (n + 1) ts (omega (arith, less))
-
     other : (n == thread.0) ≡ false
     other = ne_eqb n thread.0 (λ same. absurd (omega (arith, less, same)))
 
-    which : (b : Bool) → of_thread thread (map (λ (x : Thread). (x, policy)) (cond b (record { 0 = n } ∷ threads_of process (n + 1) ts) (threads_of process (n + 1) ts))) ≡ []
-    which true = ap (λ (b : Bool). cons_option (cond b (Some policy) None) (of_thread thread (map (λ (x : Thread). (x, policy)) (threads_of process (n + 1) ts)))) other ∙ rest
-    which false = rest
+    which : (b : Bool) → of_thread thread (map (λ (x : Thread). (x, policy)) (threads_of process (n + 1) ts)) ≡ [] → of_thread thread (map (λ (x : Thread). (x, policy)) (cond b (record { 0 = n } ∷ threads_of process (n + 1) ts) (threads_of process (n + 1) ts))) ≡ []
+    which true rest = ap (λ (b : Bool). cons_option (cond b (Some policy) None) (of_thread thread (map (λ (x : Thread). (x, policy)) (threads_of process (n + 1) ts)))) other ∙ rest
+    which false rest = rest
 
 abbrev is_of : Proc → Option ThreadDecl → Bool
 is_of process o = option_map_or (λ (t : ThreadDecl). t.process.0 == process.0) o false
@@ -103,17 +100,15 @@ given-one thread policy process n (t ∷ ts) zero is = which (t.process.0 == pro
     which : (b : Bool) → of_thread thread (map (λ (x : Thread). (x, policy)) (cond b (record { 0 = n } ∷ threads_of process (n + 1) ts) (threads_of process (n + 1) ts))) ≡ cons_option (cond b (Some policy) None) []
     which true = ap (λ (b : Bool). cons_option (cond b (Some policy) None) (of_thread thread (map (λ (x : Thread). (x, policy)) (threads_of process (n + 1) ts)))) own ∙ ap (λ (l : List Policy). policy ∷ l) rest
     which false = rest
-given-one thread policy process n (t ∷ ts) (suc m) is = which (t.process.0 == process.0)
+given-one thread policy process n (t ∷ ts) (suc m) is = which (t.process.0 == process.0) (given-one thread policy process (n + 1) ts m (omega (arith, is)))
   where
-    rest : of_thread thread (map (λ (x : Thread). (x, policy)) (threads_of process (n + 1) ts)) ≡ cons_option (cond (is_of process (slice_get ts m)) (Some policy) None) []
-    rest = given-one thread policy process (n + 1) ts m (omega (arith, is))
-
     other : (n == thread.0) ≡ false
     other = ne_eqb n thread.0 (λ same. absurd (omega (arith, is, same)))
 
-    which : (b : Bool) → of_thread thread (map (λ (x : Thread). (x, policy)) (cond b (record { 0 = n } ∷ threads_of process (n + 1) ts) (threads_of process (n + 1) ts))) ≡ cons_option (cond (is_of process (slice_get ts m)) (Some policy) None) []
-    which true = ap (λ (b : Bool). cons_option (cond b (Some policy) None) (of_thread thread (map (λ (x : Thread). (x, policy)) (threads_of process (n + 1) ts)))) other ∙ rest
-    which false = rest
+    which : (b : Bool) → of_thread thread (map (λ (x : Thread). (x, policy)) (threads_of process (n + 1) ts)) ≡ cons_option (cond (is_of process (slice_get ts m)) (Some policy) None) []
+        → of_thread thread (map (λ (x : Thread). (x, policy)) (cond b (record { 0 = n } ∷ threads_of process (n + 1) ts) (threads_of process (n + 1) ts))) ≡ cons_option (cond (is_of process (slice_get ts m)) (Some policy) None) []
+    which true rest = ap (λ (b : Bool). cons_option (cond b (Some policy) None) (of_thread thread (map (λ (x : Thread). (x, policy)) (threads_of process (n + 1) ts)))) other ∙ rest
+    which false rest = rest
 
 -- what a command has set for the thread is what its answer says
 by-answer : (layout : Layout) (earlier : List (Command × Answer)) (thread : Thread) (command : Command) (answer : Answer)

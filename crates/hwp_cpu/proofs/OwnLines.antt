@@ -116,6 +116,10 @@ free-told y e stored (Some evict_answers.Stopped) = refl
 free-told y e stored (Some (evict_answers.Done place)) = refl
 free-told y e stored (Some (evict_answers.Refused refusal place)) = refl
 
+-- with its access after a step
+abbrev accessed : Copying → Instruction → Copying
+accessed y i = record (copyings.bare_at y copying_at.Access) { instruction = i }
+
 module _ {base : List Made} (layout : Layout) (old new : View) (y : Copying) (k : Job) (fits : copying_fits.FitsFrom base layout old y) (made : Stepped layout old new (kinds.Copying y) k) where
   abbrev went : Copying
   went = made.follows.0
@@ -145,14 +149,11 @@ module _ {base : List Made} (layout : Layout) (old new : View) (y : Copying) (k 
           who-is : y.instruction.request.who ≡ y.store.who
           who-is = (request-who y.store y.page (cows.sub_of y.cow) has.request_is).0
 
-          abbrev then : Copying
-          then = record (copyings.bare_at y copying_at.Access) { instruction = next.instruction }
-
           same-told : went.instruction.lines.told ≡ next.instruction.lines.told
-          same-told = ap (λ (x : Copying). x.instruction.lines.told) next.next_is ∙ access-told then (instructions.answer next.instruction)
+          same-told = ap (λ (x : Copying). x.instruction.lines.told) next.next_is ∙ access-told (accessed y next.instruction) (instructions.answer next.instruction)
 
           -- where the access pauses the copy does
-          paused-so : (o : Option InstructionAnswer) → instructions.answer next.instruction ≡ o → is_some (instructions.pause next.instruction) ≡ true → is_some (copyings.pause (copyings.after_access then o)) ≡ true
+          paused-so : (o : Option InstructionAnswer) → instructions.answer next.instruction ≡ o → is_some (instructions.pause next.instruction) ≡ true → is_some (copyings.pause (copyings.after_access (accessed y next.instruction) o)) ≡ true
           paused-so (Some x) is pauses = absurd (both-none next.instruction.at is pauses)
             where
               both-none : (z : InstructionAt) → instructions.answer_at z ≡ Some x → is_some (instructions.pause_at z) ≡ true → ⊥

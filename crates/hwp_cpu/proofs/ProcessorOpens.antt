@@ -139,7 +139,7 @@ module _ (layout : Layout) (cpu : Cpu) (list : List Command) (are : AreCommands 
 
     -- nothing is frozen, so it is the script's own
     forks-so : CanFork layout view (at_number cpu 0) command
-    forks-so = fork-acted layout at-first.cows own (can-fork layout cpu list [] are.forks are.once view unset own there (at-least list 0 own are.named there))
+    forks-so = fork-acted layout view (at_number cpu 0) at-first.cows own (can-fork layout cpu list [] are.forks are.once view unset own there (at-least layout cpu.0 list 0 own are.named there))
 
     start : IsAtStop c.own
     start = begins-stop layout (at_number cpu 0) command copies at-first.banks (collects at-first.watching) c.own begins.begins

@@ -18,7 +18,6 @@ use Rattle.hwp_cpu_course.specs.hwp_cpu_command.hwp_cpu_raise.declared.Log.{Log}
 use Rattle.hwp_cpu_course.specs.Courses.{begin, IsOfMachine}
 use Rattle.hwp_cpu_causes.specs.hwp_law_served.Offlinings.{KnowsDue, left_among, watched_at, AreDue, watched_along}
 use Rattle.hwp_cpu.specs.Serving.{noting, HasToldAll, OwnGoesOn, KeepsWatch, left_so_far}
-use Rattle.hwp_cpu_causes.specs.Beside.{ArePriorWith}
 use Rattle.hwp_cpu_course.specs.hwp_cpu_command.Runs.{Runs}
 use Rattle.hwp_cpu_course.specs.hwp_cpu_row.hwp_law_commands.Commands.{is_watch}
 use Rattle.std.proofs.lemmas.List.{take-append-le, take_all, length-append, length-map, length-replicate, get_or-replicate}
@@ -36,7 +35,7 @@ use Rattle.hwp_cpu_course.specs.hwp_cpu_row.hwp_report_text.declared.Answer.{Ans
 use Rattle.std.proofs.lemmas.Bool.{cases_lt}
 use Rattle.hwp_cpu_course.specs.hwp_cpu_row.declared.Watching.{Watching}
 use Rattle.hwp_cpu_course.specs.hwp_cpu_command.Jobs.{told_of}
-use Rattle.hwp_cpu_causes.proofs.OnTheWay.{prior-begins}
+use Rattle.hwp_cpu.proofs.Collecting.{prior-first}
 use Rattle.hwp_cpu_course.specs.hwp_cpu_row.Locals.{IsWatching}
 use Rattle.hwp_cpu_course.specs.hwp_cpu_command.declared.job.Job.{Job}
 use Rattle.hwp_cpu_course.specs.declared.Course.{Course}
@@ -230,18 +229,13 @@ watch-starts layout view who list watched c watching is start watches room = sub
     none-noted None at = at
     none-noted (Some v) at = subst (λ (y : Watched). IsWatching layout.frames (Some y) watching) (sym (told-none v)) at
 
--- no entry stands before its own task's
-pub prior-none : (layout : Layout) (command : Command) (copies : Option VSlot) → ArePriorWith layout command copies []
-prior-none layout command None = prior-begins layout command
-prior-none layout command (Some from) = refl
-
 -- its own task fits, and no frame is due
 pub own-starts : (layout : Layout) (view : View) (command : Command) (copies : Option VSlot) (c : Course) (watching : Option Watching) → c ≡ begin c.own watching layout.frames → IsAtStop c.own → jobs.FitsFrom [] layout view c.own → HasMadeNone view (jobs.who c.own)
     → OwnGoesOn layout view command copies c
 own-starts layout view command copies c watching is start fits made = subst (OwnGoesOn layout view command copies) (sym is) (record {
   base = [];
   fits = fits;
-  prior = prior-none layout command copies;
+  prior = prior-first layout command copies;
   left = none-left c.own made;
   all = refl;
   told = none-told c.own start;
