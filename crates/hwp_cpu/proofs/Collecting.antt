@@ -1,4 +1,6 @@
 -- The commands behind whose answer frames may be due: a machine check that was raised, and a scrub.
+use Rattle.hwp_cpu_causes.proofs.OnTheWay.{prior-begins}
+use Rattle.hwp_cpu_causes.specs.Beside.{ArePriorWith, CanCollect}
 use Rattle.hwp_cpu.specs.Serving.{left_so_far}
 use Rattle.hwp_cpu_course.specs.hwp_cpu_row.hwp_core_rule.declared.Made.{Made}
 use Rattle.hwp_cpu_course.proofs.of_hwp_cpu_command.OfKind.{of-copying, of-fork, of-instruction, of-evict, of-soft, of-inject, of-scrub, of-prctl, of-nested, of-fsync, of-unpoison, of-raise, of-spoil, of-log}
@@ -23,7 +25,6 @@ use Rattle.hwp_cpu_course.specs.hwp_cpu_row.hwp_geom.declared.VSlot.{VSlot}
 use Rattle.hwp_cpu_course.specs.hwp_cpu_command.hwp_cpu_copy.declared.Copying.{Copying}
 use Rattle.hwp_cpu_course.specs.hwp_cpu_command.hwp_cpu_access.declared.Instruction.{Instruction}
 use Rattle.hwp_cpu_course.specs.hwp_cpu_row.hwp_cpu_check.declared.EventOutcome.{EventOutcome}
-use Rattle.hwp_cpu_causes.specs.Beside.{ArePriorWith, CanCollect}
 use Rattle.std.proofs.lemmas.Bool.{both_ways}
 use Rattle.hwp_cpu_course.specs.hwp_cpu_row.hwp_geom.declared.Who.{Who}
 use Rattle.hwp_cpu_course.specs.hwp_cpu_row.hwp_core_rule.declared.View.{View}
@@ -192,3 +193,8 @@ collect-halted layout earlier view who (commands.RaiseUser thread ripv eipv) tol
 collect-halted layout earlier view who (commands.RaiseKernel ripv eipv) told own can caused = halts layout view who (commands.RaiseKernel ripv eipv) caused
 collect-halted layout earlier view who (commands.Scrub first last) told own can caused = halts layout view who (commands.Scrub first last) caused
 collect-halted layout earlier view who command told own can caused = absurd can
+
+-- no entry stands before its own task's
+pub prior-at-first : (layout : Layout) (command : Command) (copies : Option VSlot) → ArePriorWith layout command copies []
+prior-at-first layout command None = prior-begins layout command
+prior-at-first layout command (Some from) = refl

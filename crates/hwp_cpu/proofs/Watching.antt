@@ -35,7 +35,7 @@ use Rattle.hwp_cpu_course.specs.hwp_cpu_row.hwp_report_text.declared.Answer.{Ans
 use Rattle.std.proofs.lemmas.Bool.{cases_lt}
 use Rattle.hwp_cpu_course.specs.hwp_cpu_row.declared.Watching.{Watching}
 use Rattle.hwp_cpu_course.specs.hwp_cpu_command.Jobs.{told_of}
-use Rattle.hwp_cpu.proofs.Collecting.{prior-first}
+use Rattle.hwp_cpu.proofs.Collecting.{prior-at-first}
 use Rattle.hwp_cpu_course.specs.hwp_cpu_row.Locals.{IsWatching}
 use Rattle.hwp_cpu_course.specs.hwp_cpu_command.declared.job.Job.{Job}
 use Rattle.hwp_cpu_course.specs.declared.Course.{Course}
@@ -235,7 +235,7 @@ pub own-starts : (layout : Layout) (view : View) (command : Command) (copies : O
 own-starts layout view command copies c watching is start fits made = subst (OwnGoesOn layout view command copies) (sym is) (record {
   base = [];
   fits = fits;
-  prior = prior-first layout command copies;
+  prior = prior-at-first layout command copies;
   left = none-left c.own made;
   all = refl;
   told = none-told c.own start;
