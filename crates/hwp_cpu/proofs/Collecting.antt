@@ -17,7 +17,6 @@ use Rattle.hwp_cpu_course.specs.hwp_cpu_row.hwp_geom.declared.FileNo.{FileNo}
 use Rattle.hwp_cpu_course.specs.hwp_cpu_command.Jobs.{told_of}
 use Rattle.hwp_cpu_course.specs.hwp_cpu_row.hwp_script_lines.declared.Command.{Command}
 use Rattle.hwp_cpu_course.specs.hwp_cpu_command.Runs.{Runs}
-use Rattle.hwp_cpu_causes.proofs.OnTheWay.{prior-begins}
 use Rattle.hwp_cpu_causes.proofs.HandleNumbers.{IsNumbered}
 use Rattle.hwp_cpu_course.specs.hwp_cpu_command.Stays.{IsHalted}
 use Rattle.hwp_cpu_course.specs.hwp_cpu_row.hwp_geom.declared.Layout.{Layout}
@@ -72,11 +71,6 @@ copy-kind layout who command from j runs = absurd runs
 pub tells-kind : (layout : Layout) (who : Who) (command : Command) (copies : Option VSlot) (j : Job) → Runs layout who command copies j → CanCollect command ⊎ (IsAccess j ⊎ (told_of j ≡ []))
 tells-kind layout who command None j runs = plain-kind layout who command j runs
 tells-kind layout who command (Some from) j runs = inr (inl (inr (copy-kind layout who command from j runs)))
-
--- no entry stands before its own task's
-pub prior-first : (layout : Layout) (command : Command) (copies : Option VSlot) → ArePriorWith layout command copies []
-prior-first layout command None = prior-begins layout command
-prior-first layout command (Some from) = refl
 
 -- it takes no frame out of use itself
 pub copy-leaves-none : (layout : Layout) (who : Who) (command : Command) (from : VSlot) (j : Job) (a : Answer) → Runs layout who command (Some from) j → left_itself command a ≡ None
@@ -161,11 +155,6 @@ collect-fails layout who (commands.RaiseUser thread ripv eipv) j runs can = ap c
 collect-fails layout who (commands.RaiseKernel ripv eipv) j runs can = ap can_fail (of-raise j runs.job_is).1
 collect-fails layout who (commands.Scrub first last) j runs can = ap can_fail (of-scrub j runs.job_is).1
 collect-fails layout who command j runs can = absurd can
-
--- no entry stands before its own task's
-pub prior-first : (layout : Layout) (command : Command) (copies : Option VSlot) → ArePriorWith layout command copies []
-prior-first layout command None = prior-begins layout command
-prior-first layout command (Some from) = refl
 
 -- it takes no frame out of use itself
 pub collect-left : (command : Command) (a : Answer) → CanCollect command → left_itself command a ≡ None

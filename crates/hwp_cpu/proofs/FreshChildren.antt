@@ -2,7 +2,7 @@
 use Rattle.std.specs.Prelude.{⊥, IsSomeAnd}
 use Rattle.hwp_cpu_course.specs.hwp_cpu_command.hwp_kill.Prctl.{policy_set}
 use Rattle.hwp_cpu_course.specs.hwp_cpu_row.hwp_law_commands.Settings.{arguments, last_policy, set_after, set_behind, setting_of, settings, unset}
-use Rattle.std.proofs.Common.{◌≡◌, ◌≢◌, ℕ, zero, suc, ◌+◌, ◌<◌, ◌≤◌, ◌==◌, ◌&&◌, ◌||◌, not, Bool, true, false, cond, true≢false, List, [], ◌∷◌, ◌++◌, Option, Some, None, length, map, slice_get, take, count_by, append-nil, refl, sym, ap, ◌∙◌, subst, arith}
+use Rattle.std.proofs.Common.{◌≡◌, ◌≢◌, ℕ, zero, suc, ◌+◌, ◌≤◌, ◌==◌, ◌&&◌, ◌||◌, not, Bool, true, false, cond, true≢false, List, [], ◌∷◌, ◌++◌, Option, Some, None, length, map, slice_get, take, count_by, append-nil, refl, sym, ap, ◌∙◌, subst, arith}
 use Rattle.std.specs.List.{cons_option, list_any, zip}
 use Rattle.std.specs.Option.{option_map_or}
 use Rattle.std.proofs.lemmas.Bool.{eq-eqb, eqb-true, not-false}
@@ -36,7 +36,7 @@ use Rattle.hwp_cpu.specs.Processors.{AreForkedOnce, at_number}
 -- none passes the test, so a member doesn't
 none-passes : {A : Type 0} (test : A → Bool) (l : List A) (i : ℕ) (x : A) → list_any test l ≡ false → slice_get l i ≡ Some x → test x ≡ false
 none-passes test [] i x none there = absurd (none-some x there)
-none-passes test (y ∷ ys) zero x none there = subst (λ (z : A). test z ≡ false) (same_Some y x there) (both-false (test y) (list_any test ys) none).0
+none-passes test (y ∷ ys) zero x none there = subst (λ (z : _). test z ≡ false) (same_Some y x there) (both-false (test y) (list_any test ys) none).0
 none-passes test (y ∷ ys) (suc i) x none there = none-passes test ys i x (both-false (test y) (list_any test ys) none).1 there
 
 -- what a member adds to the count of those that pass
