@@ -187,6 +187,9 @@ module _ (layout : Layout) (old new : View) (cpu : Cpu) (list : List Command) (r
           by (inr (m, more, beside)) = copy-resting.resting-stays paused.copying paused.pause paused.rests (made-by paused.copying.store.who own-copy) (m ∷ []) (subst (λ (w : Who). deeds w new ≡ deeds w old ++ m ∷ []) (sym own-copy) more)
               (each-push (λ (x : Made). x.entry.what ≡ entries.Soft) [] m (soft-so m.entry.what beside) (λ i x there. absurd (none-some x there)))
 
+      own-request : (paused : IsPaused layout old at command c.own) → paused.instruction.request.who ≡ at
+      own-request paused = sym (ap jobs.who paused.is) ∙ runs-who layout at command copies c.own way.runs
+
       pauses-on : Pauses layout old at command c.own → Pauses layout new at command c.own
       pauses-on (inl paused) = inl (record {
         instruction = paused.instruction;
@@ -197,9 +200,6 @@ module _ (layout : Layout) (old new : View) (cpu : Cpu) (list : List Command) (r
         met = met-beside layout command adds paused.met;
       })
       pauses-on (inr paused) = inr (copy-on paused)
-
-      own-request : (paused : IsPaused layout old at command c.own) → paused.instruction.request.who ≡ at
-      own-request paused = sym (ap jobs.who paused.is) ∙ runs-who layout at command copies c.own way.runs
 
   -- ---- it goes on
 

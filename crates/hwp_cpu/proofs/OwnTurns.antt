@@ -9,6 +9,7 @@ use Rattle.hwp_cpu.specs.Serving.{left_so_far, noted_by, GoesOn, task, marked_so
 use Rattle.hwp_cpu.proofs.OwnRests.{copy-holds, copy-known, left-still, pause-holds, answer-known, own-on, HoldsNone, AnswerKnown, pause-known, fits-still}
 use Rattle.hwp_cpu_course.specs.Courses.{going_on, answer, part_of, IsGoingOn, told_since, AfterCollecting, AfterCollectingBy, AfterRest, AfterRestBy, FitsOf, FitsOwn, HasRefused, IsGoing, answer_of, has_more, rests, AfterOwnIf, AfterOwnBy, AfterOwn, passed}
 use Rattle.hwp_cpu_causes.specs.Beside.{ArePriorWith, CanCollect, IsOwnServed}
+use Rattle.hwp_cpu_causes.specs.hwp_law_served.Handles.{answers_by}
 use Rattle.hwp_cpu_course.specs.hwp_cpu_row.Locals.{collects}
 use Rattle.std.specs.List.{cons_option}
 use Rattle.hwp_cpu_course.specs.hwp_cpu_row.hwp_core_rule.declared.View.{View}

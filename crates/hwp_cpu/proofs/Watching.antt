@@ -21,6 +21,7 @@ use Rattle.hwp_cpu.specs.Serving.{noting, HasToldAll, OwnGoesOn, KeepsWatch, lef
 use Rattle.hwp_cpu_course.specs.hwp_cpu_command.Runs.{Runs}
 use Rattle.hwp_cpu_course.specs.hwp_cpu_row.hwp_law_commands.Commands.{is_watch}
 use Rattle.std.proofs.lemmas.List.{take-append-le, take_all, length-append, length-map, length-replicate, get_or-replicate}
+use Rattle.hwp_cpu_course.specs.hwp_cpu_row.hwp_law_commands.Cows.{acting}
 use Rattle.hwp_cpu_course.specs.hwp_cpu_row.hwp_law_commands.Watched.{told, due, Watched, watched_after}
 use Rattle.hwp_cpu_causes.specs.hwp_law_served.hwp_banks.declared.Event.{Event}
 use Rattle.hwp_cpu_course.specs.hwp_cpu_row.hwp_cec.Counters.{StandsFor, begun, next_row, rounded}
@@ -66,6 +67,15 @@ watched-more layout list rows command row there =
     ap (λ (l : List Row). watched_along layout list l None) (take_all (length (rows ++ row ∷ [])) (rows ++ row ∷ []) (omega arith))
     ∙ along-more layout list rows command row None there
     ∙ ap (λ (l : List Row). watched_after command row.answer (told_notes layout row.told) (watched_along layout list l None)) (sym (take_all (length rows) rows (omega arith)))
+
+-- a command is acted on where the collector is left the same
+pub watched-acted : (layout : Layout) (earlier : List (Command × Answer)) (command : Command) (a : Answer) (notes : List Frame) (before : Option Watched) → watched_after (acting layout earlier command) a notes before ≡ watched_after command a notes before
+watched-acted layout earlier (commands.Load thread slot line) a notes before = refl
+watched-acted layout earlier (commands.Fetch thread slot line) a notes before = refl
+watched-acted layout earlier (commands.KLoad thread slot line) a notes before = refl
+watched-acted layout earlier (commands.Store thread slot line word) a notes before = refl
+watched-acted layout earlier (commands.Free slot) a notes before = refl
+watched-acted layout earlier command a notes before = refl
 
 -- and the frames of its row are those that were due
 pub due-more : (layout : Layout) (list : List Command) (rows : List Row) (row : Row) → KnowsDue layout list rows → AreDue layout (watched_at layout list rows (length rows)) row → KnowsDue layout list (rows ++ row ∷ [])
