@@ -227,7 +227,7 @@ module _ (layout : Layout) (new : View) (cpu : Cpu) (list : List Command) (rows 
     stays = stays-more rows row now.way.serves.stays (λ some. only-stopped c.own (now.way.stopped some).0 now.known.answered);
     halted = λ some. by (stopped-was rows row some);
     numbers = numbers-more layout new cpu list rows own row now.way.next.there now.way.serves.numbers
-        (λ file told. numbers-known file (sym (tells-acted layout earlier file own a) ∙ told));
+        (λ file told. numbers-known file (tells-acted layout earlier file own a ∙ told));
     handles_are = handles_are;
     due = due-more layout list rows row now.way.serves.due due-now;
   }
