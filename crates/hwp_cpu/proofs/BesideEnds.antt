@@ -28,7 +28,7 @@ use Rattle.hwp_cpu_course.specs.hwp_cpu_row.hwp_law_commands.Watched.{due, Watch
 use Rattle.hwp_cpu_course.specs.declared.Course.{Course}
 use Rattle.hwp_cpu_course.proofs.of_hwp_cpu_command_laws.Beside.{job-at-pause, answered-unmarked}
 use Rattle.std.proofs.lemmas.Option.{none-some, same_Some}
-use Rattle.std.proofs.Common.{None, arith, inl, suc, true, ◌++◌, subst, option_map, ◌∷◌, zero, refl, not, Option, ◌+◌, map, cond, ◌≡◌, false, ap, Bool, true≢false, inr, append-nil, filter, Some, slice_get, sym, ℕ, List, length, ◌∙◌, [], nat_lt, ◌⊎◌}
+use Rattle.std.proofs.Common.{None, is_some, arith, inl, suc, true, ◌++◌, subst, option_map, ◌∷◌, zero, refl, not, Option, ◌+◌, map, cond, ◌≡◌, false, ap, Bool, true≢false, inr, append-nil, filter, Some, slice_get, sym, ℕ, List, length, ◌∙◌, [], nat_lt, ◌⊎◌}
 use Rattle.hwp_cpu_course.proofs.of_hwp_cpu_row.of_hwp_core_rule.Lists.{each-push}
 use Rattle.hwp_cpu_course.specs.hwp_cpu_row.hwp_geom.declared.Frame.{Frame}
 use Rattle.hwp_cpu.proofs.BesideTurns.{at_rest}
@@ -97,6 +97,11 @@ said-so (soft_answers.HasBad mask) foreign = refl
 said-so soft_answers.NoFrame foreign = refl
 said-so (soft_answers.TakenFree cycle) foreign = refl
 said-so (soft_answers.Moved to at cycle) foreign = refl
+
+-- an entry by which a page left its frame beside the command
+soft-so : (what : What) → is_soft what ≡ true → what ≡ entries.Soft
+soft-so entries.Soft is = refl
+soft-so what is = absurd (true≢false (sym is))
 
 -- where it pauses
 pub pauses-so : (layout : Layout) (view : View) (who : Who) (command : Command) (j : Job) → Pauses layout view who command j → jobs.pauses j ≡ true
@@ -183,10 +188,6 @@ module _ (layout : Layout) (old new : View) (cpu : Cpu) (list : List Command) (r
           by (inl same) = copy-resting.resting-stays paused.copying paused.pause paused.rests (made-by paused.copying.store.who own-copy) [] (subst (λ (w : Who). deeds w new ≡ deeds w old ++ []) (sym own-copy) (same ∙ sym (append-nil (deeds at old)))) (λ i m there. absurd (none-some m there))
           by (inr (m, more, beside)) = copy-resting.resting-stays paused.copying paused.pause paused.rests (made-by paused.copying.store.who own-copy) (m ∷ []) (subst (λ (w : Who). deeds w new ≡ deeds w old ++ m ∷ []) (sym own-copy) more)
               (each-push (λ (x : Made). x.entry.what ≡ entries.Soft) [] m (soft-so m.entry.what beside) (λ i x there. absurd (none-some x there)))
-
-      soft-so : (what : What) → is_soft what ≡ true → what ≡ entries.Soft
-      soft-so entries.Soft is = refl
-      soft-so what is = absurd (true≢false (sym is))
 
       pauses-on : Pauses layout old at command c.own → Pauses layout new at command c.own
       pauses-on (inl paused) = inl (record {

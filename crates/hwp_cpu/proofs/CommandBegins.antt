@@ -60,7 +60,7 @@ use Rattle.hwp_cpu_causes.proofs.HandleNumbers.{tells-inside}
 use Rattle.hwp_cpu_causes.proofs.RowServed.{row-served}
 use Rattle.hwp_cpu.specs.Processors.{AreCommands, BeginsAt, at_number, left_of, told_local}
 use Rattle.hwp_cpu.specs.Serving.{IsActedOn, Remembers, AreNumbered, FitsAt, HasAccount, HasStopped, HasStoppedIt, IsDone, IsListed, IsRunning, Serves, IsUnderWay, marked_beside, marked_so_far, GivesUp, GoesOn}
-use Rattle.hwp_cpu.proofs.ProcessorKeeps.{can, own}
+use Rattle.hwp_cpu.proofs.ProcessorKeeps.{can}
 use Rattle.hwp_cpu.proofs.ProcessorNotes.{account-starts, noted-end, noted-starts, owes-nothing, spoils-end, unmarked-starts}
 use Rattle.hwp_cpu.proofs.KnownPolicies.{answers-more, counted-ends, counted-starts, setting-left}
 use Rattle.hwp_cpu.proofs.Revivals.{revival-left}

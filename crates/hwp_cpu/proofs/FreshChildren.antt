@@ -1,5 +1,5 @@
 -- Where a fork begins, no thread of the child has set a policy, each is one of the processor, and none is the one that forks.
-use Rattle.std.specs.Prelude.{⊥, IsSomeAnd}
+use Rattle.std.specs.Prelude.{IsSomeAnd}
 use Rattle.hwp_cpu_course.specs.hwp_cpu_command.hwp_kill.Prctl.{policy_set}
 use Rattle.hwp_cpu_course.specs.hwp_cpu_row.hwp_law_commands.Settings.{arguments, last_policy, set_after, set_behind, setting_of, settings, unset}
 use Rattle.std.proofs.Common.{◌≡◌, ◌≢◌, ℕ, zero, suc, ◌+◌, ◌<◌, ◌≤◌, ◌==◌, ◌&&◌, ◌||◌, not, Bool, true, false, cond, true≢false, List, [], ◌∷◌, ◌++◌, Option, Some, None, length, map, slice_get, take, count_by, append-nil, refl, sym, ap, ◌∙◌, subst, arith}
